@@ -1,0 +1,3 @@
+pub mod LossesLemmas
+pub mod CodesLemmas
+pub mod NumbersLemmas

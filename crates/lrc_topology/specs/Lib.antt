@@ -1,0 +1,4 @@
+pub use Rattle.lrc_code.specs.Order
+pub use Rattle.lrc_code.specs.Codes
+pub use Rattle.lrc_code.specs.Losses
+pub mod Nodes
