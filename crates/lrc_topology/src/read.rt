@@ -1,7 +1,8 @@
 ghost use Rattle.std.specs.Prelude.{◌≡◌, ◌≤◌, ◌≤ℤ◌, pos, ℕ, [], IfOk, IfErr, Some, None, map, filter_map, is_none, option_and_then, option_map, OnOk, not, true, false, IfSome, IfNone};
 ghost use Rattle.toml.specs.Data.{get, as_integer};
 ghost use Rattle.toml.specs.View.{view, items_view};
-ghost use Rattle.lrc_topology.specs.Nodes.{whole_number, fields_of, first_place, node_of, first_repeated, nodes_of, IsFirstFault};
+ghost use Rattle.lrc_topology.specs.Nodes.{first_repeated};
+ghost use Rattle.lrc_topology.specs.Documents.{whole_number, fields_of, first_place, node_of, nodes_of, IsFirstFault};
 
 use crate::{NodeInfo, TopologyError};
 use indexmap::IndexMap;
