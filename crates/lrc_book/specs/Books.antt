@@ -1,0 +1,21 @@
+-- What contracts see of a book.
+use Rattle.std.specs.Prelude.{ℕ, Bool, List}
+use Rattle.lrc_topology.specs.declared.NodeInfo.{NodeInfo}
+use Rattle.lrc_book.specs.declared.entry.Entry.{Entry}
+use Rattle.lrc_book.specs.States.{State}
+use Rattle.lrc_book.specs.Histories.{World, world_after, state_after}
+
+-- a book over these nodes, with at most so many entries; `ready`: it has room for one more command of any kind
+pub record BookView : Type 0 where
+  pub nodes : List NodeInfo
+  pub limit : ℕ
+  pub history : List Entry
+  pub ready : Bool
+
+-- the world after the book's history
+abbrev pub world_of : BookView → World
+world_of b = world_after b.nodes b.history
+
+-- the state after the book's history
+abbrev pub state_of : BookView → State
+state_of b = state_after b.nodes b.history

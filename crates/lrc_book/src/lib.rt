@@ -1,0 +1,11 @@
+//! The book of placements: commands, their replies, and the history of both.
+#![tactic(auto)]
+
+mod command;
+mod entry;
+mod reply;
+
+pub use command::Command;
+pub use entry::Entry;
+pub use lrc_topology::{Held, Seat};
+pub use reply::{Refusal, Reply};

@@ -1,0 +1,22 @@
+use lrc_code::Fragment;
+use lrc_topology::Seat;
+
+/// Why a command was refused. A refused command changes nothing but the history.
+#[derive(Clone, Copy, Debug, PartialEq, Eq)]
+pub enum Refusal {
+    /// There is no such stripe.
+    UnknownStripe,
+    /// The stripe is there already.
+    StripeExists,
+    /// The choice rule finds no node for this fragment.
+    NoLawfulNode(Fragment),
+}
+
+/// What the book answers to a command.
+#[derive(Clone, Copy, Debug, PartialEq, Eq)]
+pub enum Reply {
+    /// The homes of fragments 0 to 15.
+    Placed([Seat; 16]),
+    Dropped,
+    Refused(Refusal),
+}
