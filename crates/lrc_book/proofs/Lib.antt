@@ -1,0 +1,4 @@
+pub mod ListLemmas
+pub mod ChoiceLemmas
+pub mod StepLemmas
+pub mod WorldLemmas

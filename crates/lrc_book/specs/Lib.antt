@@ -8,3 +8,4 @@ pub mod Placement
 pub mod Steps
 pub mod Histories
 pub mod Books
+pub mod Changes
