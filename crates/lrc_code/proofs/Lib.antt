@@ -1,3 +1,5 @@
 pub mod LossesLemmas
 pub mod CodesLemmas
 pub mod NumbersLemmas
+pub mod Below
+pub mod SourcesLemmas
