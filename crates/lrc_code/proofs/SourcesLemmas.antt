@@ -6,7 +6,7 @@ use Rattle.std.proofs.lemmas.List.Filters.{length-filter_more}
 use Rattle.std.proofs.lemmas.List.Sums.{length-filter, sum_by_more_le}
 use Rattle.std.specs.List.{list_any}
 use Rattle.std.proofs.lemmas.Option.{same_Some}
-use Rattle.std.proofs.lemmas.Bool.{eqb-true, or_cases, cases_Bool}
+use Rattle.std.proofs.lemmas.Bool.{eqb-true, or_cases, cases_Bool, agree_below, agree_below_at}
 use Rattle.std.proofs.Math.Bool.{and-false}
 use Rattle.lrc_code.specs.declared.codes.Code.TheVariants.{Wide}
 use Rattle.lrc_code.specs.declared.codes.Class.{Class}
@@ -16,7 +16,6 @@ use denote.Enum.Bare.{sameb}
 use Rattle.lrc_code.specs.declared.numbers.Fragment.{Fragment}
 use Rattle.lrc_code.specs.Codes.{fragments, class_of, same_class, is_local_class, others}
 use Rattle.lrc_code.specs.Losses.{FragmentSet, is_local, local_sources}
-use Rattle.lrc_code.proofs.Below.{passes_below, each_passes}
 
 -- the second is another member of the first one's class
 abbrev pub is_other : Fragment → Fragment → Bool
@@ -64,14 +63,17 @@ pub record AreOthersSoFar (f : Fragment) (all sources : List Fragment) (count i 
 counts_of : ℕ → ℕ
 counts_of n = count_by (λ g. same_class (class_of Wide n) (class_of Wide g.value) && not (nat_eq n g.value)) (fragments Wide)
 
-six_each : passes_below (λ n. not (is_local_class (class_of Wide n)) || nat_eq (counts_of n) 6) 16 ≡ true
-unfolding counts_of
+has_six : ℕ → Bool
+has_six n = not (is_local_class (class_of Wide n)) || nat_eq (counts_of n) 6
+
+six_each : agree_below has_six (λ n. true) 16 ≡ true
+unfolding counts_of has_six
 six_each = refl
 
 -- a local group has six others
 pub six_others : (f : Fragment) → is_local_class (class_of Wide f.value) ≡ true → count_by (is_other f) (fragments Wide) ≡ 6
-unfolding counts_of
-six_others f is_in = elim (or_cases (not (is_local_class (class_of Wide f.value))) (nat_eq (counts_of f.value) 6) (each_passes (λ n. not (is_local_class (class_of Wide n)) || nat_eq (counts_of n) 6) 16 six_each f.value f.in_range)) [
+unfolding counts_of has_six
+six_others f is_in = elim (or_cases (not (is_local_class (class_of Wide f.value))) (nat_eq (counts_of f.value) 6) (agree_below_at has_six (λ n. true) 16 f.value six_each f.in_range)) [
   | inl out ↦ absurd (let e : not true ≡ true = rw is_in at out in cc)
   | inr six ↦ eqb-true _ _ six
 ]

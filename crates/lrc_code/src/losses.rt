@@ -1,8 +1,8 @@
-ghost use Rattle.std.specs.Prelude.{◌≡◌, ℕ, ◌<◌, ◌≤◌, ◌↔◌, ◌^◌, ◌||◌, if◌then◌else◌, IsTrue, nat_eq, All, length, Option, map, option_map};
+ghost use Rattle.std.specs.Prelude.{◌≡◌, ℕ, ◌<◌, ◌≤◌, ◌↔◌, ◌^◌, ◌||◌, if◌then◌else◌, IsTrue, nat_eq, All, length, IsSome, IfSome, Option, map, option_map};
 ghost use Rattle.std.specs.List.{list_any};
 ghost use Rattle.lrc_code.specs.declared.codes.Code.TheVariants.{Wide};
 ghost use Rattle.lrc_code.specs.Codes.{members, class_of, is_local_class, others};
-ghost use Rattle.lrc_code.specs.Losses.{losses_in, excess, IsRecoverable, bits_set, margin_of, local_sources};
+ghost use Rattle.lrc_code.specs.Losses.{losses_in, excess, IsRecoverable, IsMargin, bits_set, margin_of, local_sources};
 
 use crate::{Class, Fragment};
 
@@ -117,7 +117,9 @@ impl LossMask {
     /// How many further losses the stripe withstands, whichever they are, at most the number of fragments that
     /// are left; `None` where the losses are not recoverable.
     pub fn margin(self) -> Option<u8>
-        ensures { result ≡ margin_of Wide (bits_set self.bits) }
+        ensures margin { IfSome result (IsMargin Wide (bits_set self.bits)) }
+        ensures recoverable { IsSome result ↔ IsRecoverable Wide (bits_set self.bits) }
+        ensures value { result ≡ margin_of Wide (bits_set self.bits) }
     {
         let excess = self.excess();
         if excess > 2 {
