@@ -3,4 +3,5 @@ pub mod CodesLemmas
 pub mod NumbersLemmas
 pub mod SubsetsLemmas
 pub mod MarginLemmas
+pub mod OrderLemmas
 pub mod SourcesLemmas
