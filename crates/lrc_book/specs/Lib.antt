@@ -8,3 +8,5 @@ pub mod Placement
 pub mod Steps
 pub mod Histories
 pub mod Books
+pub mod Choices
+pub mod Goodness

@@ -3,6 +3,7 @@
 
 mod command;
 mod entry;
+pub mod laws;
 mod reply;
 
 pub use command::Command;
