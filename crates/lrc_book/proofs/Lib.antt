@@ -1,0 +1,4 @@
+pub mod MemberLemmas
+pub mod LeastLemmas
+pub mod NodeLemmas
+pub mod ChoiceLemmas
