@@ -72,11 +72,14 @@ clashes-apart code f n g m apart =
 
 -- ---- a seat that bars a node, and one that does not
 
-same_stripe : (s t : StripeNo) → s.value ≡ t.value → s ≡ t
-same_stripe s t e = subst (λ n. (h : n < 4096) → s ≡ record { value = n; in_range = h }) e (λ h. ap (λ (g : s.value < 4096). record { value = s.value; in_range = g }) (stripe_bound s.value s.in_range h)) t.in_range
-  where
-    stripe_bound : (n : ℕ) → IsProp (n < 4096)
-    stripe_bound n = le_prop
+stripe_bound : (n : ℕ) → IsProp (n < 4096)
+stripe_bound n = le_prop
+
+-- a stripe is its number
+pub same_stripe : (s t : StripeNo) → s.value ≡ t.value → s ≡ t
+same_stripe s t e =
+    subst (λ n. (h : n < 4096) → s ≡ record { value = n; in_range = h }) e
+    (λ h. ap (λ (g : s.value < 4096). record { value = s.value; in_range = g }) (stripe_bound s.value s.in_range h)) t.in_range
 
 unclashed : (code : Code) (f g : Fragment) (n : NodeInfo) (o : Option NodeInfo) → option_map_or (λ m. clashes code f n g m) o false ≡ false → IfSome o (λ m. AreApart code f n g m)
 unclashed code f g n None e = tt
