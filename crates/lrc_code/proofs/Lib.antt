@@ -1,3 +1,6 @@
 pub mod LossesLemmas
 pub mod CodesLemmas
 pub mod NumbersLemmas
+pub mod SubsetsLemmas
+pub mod MarginLemmas
+pub mod SourcesLemmas
