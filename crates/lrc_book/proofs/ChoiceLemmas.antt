@@ -1,11 +1,11 @@
 -- The rule's tests say what the choice in words says.
-use Rattle.std.proofs.Common.{◌≡◌, ◌≢◌, ◌↔◌, ℕ, zero, suc, ◌+◌, ◌<◌, Bool, true, false, not, ◌&&◌, ◌||◌, nat_eq, eqb, List, [], ◌∷◌, filter, Option, Some, None, is_some, option_map, option_and_then, IfSome, arith, refl, sym, ap, ◌∙◌, subst, inl, inr, ◌⊎◌}
-use Rattle.std.specs.List.{All, Contains, list_any}
+use Rattle.std.proofs.Common.{◌≡◌, ℕ, ◌<◌, true, false, not, ◌&&◌, eqb, List, filter, Option, Some, None, is_some, option_map, option_and_then, IfSome, arith, refl, sym, ap, ◌∙◌, subst, inl, inr}
+use Rattle.std.specs.List.{Contains, list_any}
 use Rattle.std.specs.Option.{option_map_or}
-use Rattle.std.proofs.lemmas.Bool.{cases_Bool, cases_eq, cases_order, eqb-true, eqb-false, eq-eqb, ne_eqb, and_parts, and_from, and_left, or_parts, or_from, not-true, not_from_false}
+use Rattle.std.proofs.lemmas.Bool.{cases_Bool, cases_eq, cases_order, eqb-true, eqb-false, eq-eqb, ne_eqb, and_parts, and_from, or_parts, or_from, not-true, not_from_false}
 use Rattle.std.proofs.lemmas.Option.{same_Some, option_and_then_some}
 use Rattle.std.specs.Coded.{le_prop}
-use Rattle.std.proofs.lemmas.List.Elements.{All-nil, All-contains, All-weaker}
+use Rattle.std.proofs.lemmas.List.Elements.{All-contains, All-weaker}
 use Rattle.lrc_code.specs.declared.codes.Code.{Code}
 use Rattle.lrc_code.specs.declared.codes.Class.{Class}
 use Rattle.lrc_code.specs.declared.codes.Class.TheVariants.{A, B, G}
@@ -15,13 +15,12 @@ use Rattle.lrc_code.specs.declared.numbers.NodeNo.{NodeNo}
 use Rattle.lrc_code.specs.declared.numbers.FaultNo.{FaultNo}
 use Rattle.lrc_code.specs.declared.numbers.UpgradeNo.{UpgradeNo}
 use Rattle.lrc_code.specs.Codes.{class_of, same_class}
-use Rattle.lrc_code.specs.Order.{least}
 use Rattle.lrc_code.proofs.NumbersLemmas.{same_fragment}
 use Rattle.lrc_topology.specs.declared.NodeInfo.{NodeInfo}
 use Rattle.lrc_topology.specs.declared.seat.Seat.{Seat}
 use Rattle.lrc_topology.specs.declared.seat.Held.{Held}
 use Rattle.lrc_topology.specs.Nodes.{AreNodes, node_at}
-use Rattle.lrc_topology.specs.Seats.{free_slot, free_seat, is_lighter, is_taken, first_slot}
+use Rattle.lrc_topology.specs.Seats.{free_slot, free_seat, is_lighter, is_taken}
 use Rattle.lrc_book.specs.States.{State, code_of, seats_of, taken_seats, is_eligible}
 use Rattle.lrc_book.specs.Placement.{clashes, bars, fits, chosen, chosen_node}
 use Rattle.lrc_book.specs.Choices.{AreApart, IsApartFrom, IsFree, IsEligible, IsFitting, IsChoice}
@@ -57,9 +56,9 @@ apart-clashes code f n g m e =
     record {
       faults = λ same. eqb-false n.fault.value m.fault.value parts.0 (ap (λ (d : FaultNo). d.value) same);
       upgrades = λ class same. (
-        let hit : eqb n.upgrade.value m.upgrade.value ≡ false = rw (same_class-from (class_of code f.value) (class_of code g.value) class) at parts.1 in
-        eqb-false n.upgrade.value m.upgrade.value hit (ap (λ (d : UpgradeNo). d.value) same)
-      );
+          let hit : eqb n.upgrade.value m.upgrade.value ≡ false = rw (same_class-from (class_of code f.value) (class_of code g.value) class) at parts.1 in
+          eqb-false n.upgrade.value m.upgrade.value hit (ap (λ (d : UpgradeNo). d.value) same)
+          );
     }
 
 pub clashes-apart : (code : Code) (f : Fragment) (n : NodeInfo) (g : Fragment) (m : NodeInfo) → AreApart code f n g m → clashes code f n g m ≡ false

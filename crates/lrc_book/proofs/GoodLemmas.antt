@@ -1,8 +1,8 @@
 -- Each command leaves a good state.
-use Rattle.std.proofs.Common.{◌≡◌, ◌≢◌, ℕ, zero, suc, ◌+◌, ◌<◌, Bool, true, false, not, cond, ◌&&◌, ◌||◌, nat_eq, eqb, List, [], ◌∷◌, ◌++◌, map, filter, fold, length, drop, Option, Some, None, Result, Ok, Err, IfSome, IsSomeAnd, arith, refl, sym, ap, ◌∙◌, subst, inl, inr, ◌⊎◌}
+use Rattle.std.proofs.Common.{◌≡◌, ◌≢◌, ◌<◌, Bool, true, false, not, ◌&&◌, eqb, List, [], ◌∷◌, ◌++◌, map, filter, fold, Option, Some, None, Result, Ok, Err, IfSome, IsSomeAnd, arith, refl, sym, ap, ◌∙◌, subst}
 use Rattle.std.specs.List.{All, AllPairs, Contains, list_any}
 use Rattle.std.specs.Option.{option_map_or}
-use Rattle.std.proofs.lemmas.Bool.{cases_Bool, eqb-true, eq-eqb, ne_eqb, eqb-false, not_from_false, not-true, and_parts}
+use Rattle.std.proofs.lemmas.Bool.{eq-eqb, eqb-false, not-true, and_parts}
 use Rattle.std.proofs.lemmas.Option.{IfSome_then}
 use Rattle.std.proofs.lemmas.List.{map-append}
 use Rattle.std.proofs.lemmas.List.Elements.{All-nil, All-cons, All-head, All-tail, All-push, All-weaker, All-filter, All-map, All-contains, Contains-append_left, Contains-push}
@@ -25,15 +25,15 @@ use Rattle.lrc_book.specs.declared.reply.Reply.TheVariants.{Dropped}
 use Rattle.lrc_book.specs.declared.reply.Refusal.{Refusal}
 use Rattle.lrc_book.specs.declared.reply.Refusal.TheVariants as refusal
 use Rattle.lrc_book.specs.declared.entry.Entry.{Entry}
-use Rattle.lrc_book.specs.States.{State, opening, has_stripe, code_of, seats_of, taken_seats}
+use Rattle.lrc_book.specs.States.{State, opening, has_stripe, code_of, taken_seats}
 use Rattle.lrc_book.specs.Placement.{chosen, with_home, place_next, placed}
-use Rattle.lrc_book.specs.Steps.{Outcome, refused, refuse_if, with_stripe, place_answer, place_outcome, is_other, without_stripe, drop_outcome, step}
-use Rattle.lrc_book.specs.Histories.{World, first_world, next_world, world_after, state_after}
-use Rattle.lrc_book.specs.Choices.{AreApart, IsApartFrom, IsFree, IsFitting, IsChoice}
+use Rattle.lrc_book.specs.Steps.{Outcome, refuse_if, with_stripe, place_answer, place_outcome, is_other, without_stripe, drop_outcome, step}
+use Rattle.lrc_book.specs.Histories.{World, first_world, next_world, state_after}
+use Rattle.lrc_book.specs.Choices.{AreApart, IsApartFrom, IsChoice}
 use Rattle.lrc_book.specs.Goodness.{IsStanding, KeepApart, IsGood}
-use Rattle.lrc_book.proofs.MemberLemmas.{All-list_any, Contains-here, Contains-later, All-members, member-filter, filter-member, AllPairs-head, AllPairs-tail, list_any-member}
+use Rattle.lrc_book.proofs.MemberLemmas.{All-list_any, All-members, member-filter, filter-member, AllPairs-head, AllPairs-tail, list_any-member}
 use Rattle.lrc_book.proofs.NodeLemmas.{node_at-member, seat_on}
-use Rattle.lrc_book.proofs.ChoiceLemmas.{same_stripe, chosen-choice}
+use Rattle.lrc_book.proofs.ChoiceLemmas.{chosen-choice}
 
 -- ---- lists
 

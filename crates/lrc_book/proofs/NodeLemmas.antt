@@ -1,59 +1,29 @@
 -- Nodes with numbers of their own, and the slots and loads of one.
-use Rattle.std.proofs.Common.{◌≡◌, ◌≢◌, ℕ, zero, suc, ◌+◌, ◌<◌, ◌≤◌, Bool, true, false, ◌&&◌, ◌||◌, nat_eq, nat_lt, eqb, ltb, List, [], ◌∷◌, ◌++◌, map, length, get_or, Option, Some, None, arith, refl, sym, ap, ap₂, ◌∙◌, subst, inl, inr, ◌⊎◌}
-use Rattle.std.specs.List.{All, AllPairs, Contains, list_any}
-use Rattle.std.proofs.lemmas.Bool.{cases_Bool, cases_eq, cases_order, eqb-true, eqb-false, eq-eqb, ne_eqb, and_parts, or_parts, lt-ltb, le-ltb, ltb-true, ltb-false, or_cases}
+use Rattle.std.proofs.Common.{◌≡◌, ◌≢◌, ℕ, zero, suc, ◌+◌, ◌<◌, ◌≤◌, Bool, true, false, ◌&&◌, ◌||◌, nat_eq, eqb, ltb, List, [], ◌∷◌, Some, None, arith, refl, sym, ap, ap₂, ◌∙◌, subst, inl, inr, ◌⊎◌}
+use Rattle.std.specs.List.{AllPairs, Contains}
+use Rattle.std.proofs.lemmas.Bool.{cases_Bool, cases_eq, cases_order, eqb-true, eq-eqb, ne_eqb, and_parts}
 use Rattle.std.proofs.lemmas.Bool.Decides.{nat_tests}
 use Rattle.std.proofs.lemmas.Option.{same_Some}
-use Rattle.std.proofs.lemmas.List.Elements.{All-nil, All-cons, All-head, All-tail, All-weaker, All-contains}
-use Rattle.std.proofs.lemmas.List.Folds.{list_any-append}
-use Rattle.std.proofs.lemmas.List.Kept.{AllPairs-cons}
+use Rattle.std.proofs.lemmas.List.Elements.{All-contains}
 use Rattle.lrc_code.specs.declared.numbers.NodeNo.{NodeNo}
 use Rattle.lrc_topology.specs.declared.NodeInfo.{NodeInfo}
 use Rattle.lrc_topology.specs.declared.seat.Seat.{Seat}
-use Rattle.lrc_topology.specs.Nodes.{AreNodes, node_at, first_repeated}
-use Rattle.lrc_topology.specs.Seats.{load_of, is_taken, first_slot, free_slot, free_seat, is_lighter}
-use Rattle.lrc_book.proofs.MemberLemmas.{Contains-here, Contains-later, Contains-cases, not-Contains-nil, list_any-member, member-list_any, find-member, AllPairs-head, AllPairs-tail}
-
--- numbers that are not seen before do not repeat later
-unseen : (seen : List ℕ) (nodes : List NodeInfo) → first_repeated seen (map (λ n. n.number.value) nodes) ≡ None → All (λ n. list_any (nat_eq n.number.value) seen ≡ false) nodes
-unseen seen [] e = All-nil (λ n. list_any (nat_eq n.number.value) seen ≡ false)
-unseen seen (x ∷ xs) e = elim (cases_Bool (list_any (nat_eq x.number.value) seen)) [
-  | inl hit ↦ absurd (let f : Some x.number.value ≡ None = rw hit at e in cc)
-  | inr miss ↦
-      let rest : first_repeated (seen ++ x.number.value ∷ []) (map (λ n. n.number.value) xs) ≡ None = rw miss at e in
-      All-cons (λ n. list_any (nat_eq n.number.value) seen ≡ false) x xs miss
-      (All-weaker _ (λ (n : NodeInfo). list_any (nat_eq n.number.value) seen ≡ false) (λ n h. (or_parts _ _ (sym (list_any-append (nat_eq n.number.value) seen (x.number.value ∷ [])) ∙ h)).0) xs (unseen (seen ++ x.number.value ∷ []) xs rest))
-]
-
-apart-from : (seen : List ℕ) (nodes : List NodeInfo) → first_repeated seen (map (λ n. n.number.value) nodes) ≡ None → AllPairs (λ m n. m.number.value ≢ n.number.value) nodes
-apart-from seen [] e = λ i j d below within. absurd (omega arith)
-apart-from seen (x ∷ xs) e = elim (cases_Bool (list_any (nat_eq x.number.value) seen)) [
-  | inl hit ↦ absurd (let f : Some x.number.value ≡ None = rw hit at e in cc)
-  | inr miss ↦
-      let rest : first_repeated (seen ++ x.number.value ∷ []) (map (λ n. n.number.value) xs) ≡ None = rw miss at e in
-      AllPairs-cons (λ (m n : NodeInfo). m.number.value ≢ n.number.value) x xs
-      (All-weaker _ (λ (n : NodeInfo). x.number.value ≢ n.number.value) (λ n h same.
-      let late = (or_parts (eqb n.number.value x.number.value) false (or_parts _ _ (sym (list_any-append (nat_eq n.number.value) seen (x.number.value ∷ [])) ∙ h)).1).0 in
-      eqb-false n.number.value x.number.value late (sym same)) xs (unseen (seen ++ x.number.value ∷ []) xs rest))
-      (apart-from (seen ++ x.number.value ∷ []) xs rest)
-]
-
--- no two nodes have one number
-pub distinct-numbers : (nodes : List NodeInfo) → AreNodes nodes → AllPairs (λ m n. m.number.value ≢ n.number.value) nodes
-distinct-numbers nodes known = apart-from [] nodes known.distinct
+use Rattle.lrc_topology.specs.Nodes.{AreNodes, node_at}
+use Rattle.lrc_topology.specs.Seats.{load_of, is_taken, first_slot, is_lighter}
+use Rattle.lrc_book.proofs.MemberLemmas.{Contains-cases, not-Contains-nil, list_any-member, member-list_any, find-member, AllPairs-head, AllPairs-tail}
 
 -- a node is the one that is found by its number
-found-in : (nodes : List NodeInfo) → AllPairs (λ m n. m.number.value ≢ n.number.value) nodes → (n : NodeInfo) → Contains nodes n → node_at nodes n.number ≡ Some n
-found-in [] apart n h = absurd (not-Contains-nil n h)
-found-in (x ∷ xs) apart n h = elim (Contains-cases x n xs h) [
+node_at-found : (nodes : List NodeInfo) → AllPairs (λ m n. m.number.value ≢ n.number.value) nodes → (n : NodeInfo) → Contains nodes n → node_at nodes n.number ≡ Some n
+node_at-found [] apart n h = absurd (not-Contains-nil n h)
+node_at-found (x ∷ xs) apart n h = elim (Contains-cases x n xs h) [
   | inl same ↦ subst (λ y. node_at (x ∷ xs) y.number ≡ Some y) same (rw (eq-eqb x.number.value x.number.value refl) refl)
   | inr more ↦
       let other = All-contains (λ (m : NodeInfo). x.number.value ≢ m.number.value) xs n (AllPairs-head (λ (m n : NodeInfo). m.number.value ≢ n.number.value) x xs apart) more in
-      rw (ne_eqb n.number.value x.number.value (λ e. other (sym e))) (found-in xs (AllPairs-tail (λ (m n : NodeInfo). m.number.value ≢ n.number.value) x xs apart) n more)
+      rw (ne_eqb n.number.value x.number.value (λ e. other (sym e))) (node_at-found xs (AllPairs-tail (λ (m n : NodeInfo). m.number.value ≢ n.number.value) x xs apart) n more)
 ]
 
 pub node_at-member : (nodes : List NodeInfo) → AreNodes nodes → (n : NodeInfo) → Contains nodes n → node_at nodes n.number ≡ Some n
-node_at-member nodes known n h = found-in nodes (distinct-numbers nodes known) n h
+node_at-member nodes known n h = node_at-found nodes known.distinct n h
 
 -- what is found by a number is a node of it
 pub member-node_at : (nodes : List NodeInfo) (number : NodeNo) (n : NodeInfo) → node_at nodes number ≡ Some n → Contains nodes n × (number ≡ n.number)
@@ -91,11 +61,15 @@ first_slot-found taken slot zero k e = absurd (cc)
 first_slot-found taken slot (suc left) k e = elim (cases_Bool (taken slot)) [
   | inl hit ↦
       let f : first_slot taken (slot + 1) left ≡ Some k = rw hit at e in
-      let h = first_slot-found taken (slot + 1) left k f in
-      (omega (arith, h.0), omega (arith, h.1), h.2, λ j from below. elim (cases_eq slot j) [
-        | inl same ↦ rw (← same) hit
-        | inr other ↦ h.3 j (omega (arith, from, other)) below
-      ])
+      let h = first_slot-found taken (slot + 1) left k f in (
+        omega (arith, h.0),
+        omega (arith, h.1),
+        h.2,
+        λ j from below. elim (cases_eq slot j) [
+          | inl same ↦ rw (← same) hit
+          | inr other ↦ h.3 j (omega (arith, from, other)) below
+        ],
+      )
   | inr miss ↦
       let f : Some slot ≡ Some k = rw miss at e in
       let same = same_Some slot k f in
