@@ -9,3 +9,5 @@ pub mod Steps
 pub mod Histories
 pub mod Books
 pub mod Changes
+pub mod Choices
+pub mod Goodness

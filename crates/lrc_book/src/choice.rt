@@ -56,7 +56,7 @@ fn has_seat(held: &[Held], node: NodeNo, slot: u16) -> bool
         .any(|home| home.seat.node == node && home.seat.slot == slot)
 }
 
-#[tactic(auto, using(crate::proofs::ChoiceLemmas::is_taken_both))]
+#[tactic(auto, using(crate::proofs::PlanningLemmas::is_taken_both))]
 fn is_slot_taken(homes: &[Held], planned: &[Held], node: NodeNo, slot: u16) -> bool
     ensures { result ≡ is_taken (map (λ h. h.seat) (homes.now ++ planned.now)) node slot }
 {

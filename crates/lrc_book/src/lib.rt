@@ -6,6 +6,7 @@ mod changes;
 mod choice;
 mod command;
 mod entry;
+pub mod laws;
 mod plan;
 mod planning;
 mod reply;

@@ -1,6 +1,6 @@
 use Rattle.std.proofs.Common.{◌++◌, map, sym, ◌∙◌}
 use Rattle.lrc_topology.specs.Seats.{is_taken}
-use Rattle.lrc_book.proofs.ChoiceLemmas.{first_slot-taken, first_slot-free}
+use Rattle.lrc_book.proofs.PlanningLemmas.{first_slot-taken, first_slot-free}
 use Rattle.lrc_book.proofs.choice.least_free_slot.Goals as goal
 
 pub returns-then-not-is_slot_taken : goal.returns-then-not-is_slot_taken

@@ -1,6 +1,6 @@
 use Rattle.std.proofs.Common.{◌++◌, ◌<◌, length, take, arith, refl, sym, ◌∙◌, length-set}
 use Rattle.lrc_book.specs.Changes.{of_homes}
-use Rattle.lrc_book.proofs.ChoiceLemmas.{placing-start, placing-none, placing-more, planned-more}
+use Rattle.lrc_book.proofs.PlanningLemmas.{placing-start, placing-none, placing-more, planned-more}
 use Rattle.lrc_book.proofs.planning.plan_seats.Goals as goal
 
 pub loop-i-init : goal.loop-i-init
