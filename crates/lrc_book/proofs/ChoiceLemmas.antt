@@ -21,7 +21,9 @@ use Rattle.lrc_topology.specs.declared.seat.Seat.{Seat}
 use Rattle.lrc_topology.specs.declared.seat.Held.{Held}
 use Rattle.lrc_topology.specs.Nodes.{AreNodes, node_at}
 use Rattle.lrc_topology.specs.Seats.{free_slot, free_seat, is_lighter, is_taken}
-use Rattle.lrc_book.specs.States.{State, code_of, seats_of, taken_seats, is_eligible}
+use Rattle.lrc_book.specs.declared.mode.Mode.{Mode}
+use Rattle.lrc_book.specs.declared.mode.Mode.TheVariants.{Active, Gone}
+use Rattle.lrc_book.specs.States.{mode_of, is_active, is_online, takes_seats, State, code_of, seats_of, taken_seats, is_eligible}
 use Rattle.lrc_book.specs.Placement.{clashes, bars, fits, chosen, chosen_node}
 use Rattle.lrc_book.specs.Choices.{AreApart, IsApartFrom, IsFree, IsEligible, IsFitting, IsChoice}
 use Rattle.lrc_book.proofs.MemberLemmas.{filter-member, member-filter, All-list_any, list_any-All, not-Contains-nil}
@@ -107,25 +109,38 @@ module _ (nodes : List NodeInfo) (st : State) (s : StripeNo) (f : Fragment) (n :
 
 -- ---- a node that takes seats
 
+pub active-mode : (m : Mode) → is_active m ≡ true → m ≡ Active
+active-mode Active e = refl
+active-mode Gone e = absurd (cc)
+
+pub mode-active : (m : Mode) → m ≡ Active → is_active m ≡ true
+mode-active Active e = refl
+mode-active Gone e = absurd (cc)
+
 free-from : (st : State) (n : NodeInfo) (k : ℕ) → k < n.slots → is_taken (taken_seats st) n.number k ≡ false → IsFree st n k
 free-from st n k within e = record { within = within; free = λ h. (let hit = member-taken (taken_seats st) n.number k h in let both : true ≡ false = sym hit ∙ e in cc) }
 
-eligible-found : (st : State) (n : NodeInfo) (o : Option ℕ) → free_slot (taken_seats st) n ≡ o → is_some o ≡ true → IsEligible st n
-eligible-found st n None e is = absurd (cc)
-eligible-found st n (Some k) e is =
+room-found : (st : State) (n : NodeInfo) (o : Option ℕ) → free_slot (taken_seats st) n ≡ o → is_some o ≡ true → (slot : ℕ) × IsFree st n slot
+room-found st n None e is = absurd (cc)
+room-found st n (Some k) e is =
     let h = first_slot-found (is_taken (taken_seats st) n.number) 0 n.slots k e in (k, free-from st n k (omega (arith, h.1)) h.2)
 
 pub eligible-words : (st : State) (n : NodeInfo) → is_eligible st n ≡ true → IsEligible st n
-eligible-words st n e = eligible-found st n (free_slot (taken_seats st) n) refl e
+eligible-words st n e =
+    let parts = and_parts (takes_seats st n) (is_some (free_slot (taken_seats st) n)) e in
+    let takes = and_parts (is_active (mode_of st n.number)) (is_online st n) parts.0 in
+    record { active = active-mode (mode_of st n.number) takes.0; online = takes.1; room = room-found st n (free_slot (taken_seats st) n) refl parts.1 }
 
-all-taken : (st : State) (n : NodeInfo) (o : Option ℕ) → free_slot (taken_seats st) n ≡ o → IsEligible st n → is_some o ≡ true
+all-taken : (st : State) (n : NodeInfo) (o : Option ℕ) → free_slot (taken_seats st) n ≡ o → (slot : ℕ) × IsFree st n slot → is_some o ≡ true
 all-taken st n (Some k) e h = refl
 all-taken st n None e h =
     let hit = first_slot-none (is_taken (taken_seats st) n.number) 0 n.slots e h.0 (omega arith) (omega (arith, h.1.within)) in
     absurd (h.1.free (taken-member (taken_seats st) n.number h.0 hit))
 
 pub words-eligible : (st : State) (n : NodeInfo) → IsEligible st n → is_eligible st n ≡ true
-words-eligible st n h = all-taken st n (free_slot (taken_seats st) n) refl h
+words-eligible st n h =
+    and_from (takes_seats st n) _ (and_from (is_active (mode_of st n.number)) _ (mode-active (mode_of st n.number) h.active) h.online)
+    (all-taken st n (free_slot (taken_seats st) n) refl h.room)
 
 -- ---- a node that fits
 
@@ -214,7 +229,7 @@ module _ (nodes : List NodeInfo) (st : State) (s : StripeNo) (f : Fragment) wher
   choice-chosen seat known choice = found-choice seat choice known (chosen_node nodes st s f) refl
 
   no-slot : (n : NodeInfo) → IsEligible st n → (o : Option ℕ) → free_slot (taken_seats st) n ≡ o → option_map (seat_on n.number) o ≡ None → ⊥
-  no-slot n eligible None found e = absurd (let is = all-taken st n None found eligible in cc)
+  no-slot n eligible None found e = absurd (let is = all-taken st n None found eligible.room in cc)
   no-slot n eligible (Some k) found e = cc
 
   no-node : (o : Option NodeInfo) → chosen_node nodes st s f ≡ o → option_and_then (free_seat (taken_seats st)) o ≡ None → (n : NodeInfo) → IsFitting nodes st s f n → ⊥

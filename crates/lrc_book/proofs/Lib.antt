@@ -1,5 +1,4 @@
 pub mod ListLemmas
-pub mod PlanningLemmas
 pub mod StepLemmas
 pub mod WorldLemmas
 pub mod MemberLemmas

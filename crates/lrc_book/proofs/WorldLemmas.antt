@@ -51,21 +51,3 @@ kept_push nodes limit h kept e k room is = record {
   few = rw (length-append h (e ∷ [])) (omega (arith, room));
   limited = k.limited;
 }
-
-length-held_at : (s : StripeNo) (fs : List Fragment) (seats : List Seat) → length (held_at s fs seats) ≤ length fs
-length-held_at s [] seats = lit≤ tt
-length-held_at s (f ∷ fs) [] = omega arith
-length-held_at s (f ∷ fs) (x ∷ xs) = let rest = length-held_at s fs xs in omega (arith, rest)
-
--- a call adds sixteen homes at most
-homes-changed : (st : State) (c : Command) (r : Reply) → length (changed_by st c r).homes ≤ length st.homes + 16
-homes-changed st (Place s) (Placed seats) = let few = length-held_at s (fragments Wide) seats in omega (arith, few, length-append st.homes (held_at s (fragments Wide) seats))
-homes-changed st (Place s) Dropped = omega arith
-homes-changed st (Place s) (Refused r) = omega arith
-homes-changed st (Drop s) Dropped = let count = length-filter (λ (h : Held). is_other s h.stripe) st.homes in let few = count_by-le-length (λ (h : Held). is_other s h.stripe) st.homes in omega (arith, count, few)
-homes-changed st (Drop s) (Placed seats) = omega arith
-homes-changed st (Drop s) (Refused r) = omega arith
-
--- a book never has more homes than sixteen for each entry
-pub few_homes-push : (h : List Entry) (kept : State) (e : Entry) → length kept.homes ≤ 16 * length h → length (changed_by kept e.command e.reply).homes ≤ 16 * length (h ++ e ∷ [])
-few_homes-push h kept e few = let more = homes-changed kept e.command e.reply in omega (arith, few, more, length-append h (e ∷ []))

@@ -7,11 +7,11 @@ use Rattle.lrc_code.specs.Codes.{fragments}
 use Rattle.lrc_topology.specs.declared.seat.Seat.{Seat}
 use Rattle.lrc_topology.specs.declared.seat.Held.{Held}
 use Rattle.lrc_book.specs.declared.command.Command.{Command}
-use Rattle.lrc_book.specs.declared.command.Command.TheVariants.{Place, Drop}
+use Rattle.lrc_book.specs.declared.command.Command.TheVariants.{Place, Drop, Fail, Down, Up, Join}
 use Rattle.lrc_book.specs.declared.reply.Reply.{Reply}
-use Rattle.lrc_book.specs.declared.reply.Reply.TheVariants.{Placed, Dropped, Refused}
+use Rattle.lrc_book.specs.declared.reply.Reply.TheVariants.{Placed, Dropped, Changed}
 use Rattle.lrc_book.specs.States.{State}
-use Rattle.lrc_book.specs.Steps.{with_stripe, without_stripe}
+use Rattle.lrc_book.specs.Steps.{without_stripe, emptied, with_gone, with_down, without_down, without_gone}
 
 -- each of these fragments of a stripe on the seat at its place
 abbrev pub held_at : StripeNo → List Fragment → List Seat → List Held
@@ -25,12 +25,9 @@ with_placed st s seats = record st { stripes = st.stripes ++ s ∷ []; homes = s
 -- the state that a command with this reply leaves
 abbrev pub changed_by : State → Command → Reply → State
 changed_by st (Place s) (Placed seats) = with_placed st s seats
-changed_by st (Place s) Dropped = st
-changed_by st (Place s) (Refused r) = st
 changed_by st (Drop s) Dropped = without_stripe st s
-changed_by st (Drop s) (Placed seats) = st
-changed_by st (Drop s) (Refused r) = st
-
--- a state with these homes: the choice of a seat reads nothing else of a state
-abbrev pub of_homes : List Held → State
-of_homes homes = record { stripes = []; homes = homes }
+changed_by st (Fail n) Changed = with_gone (emptied st n) n
+changed_by st (Down n) Changed = with_down st n
+changed_by st (Up n) Changed = without_down st n
+changed_by st (Join n) Changed = without_gone st n
+changed_by st _ _ = st

@@ -3,6 +3,7 @@ pub use Rattle.lrc_code.specs.Codes
 pub use Rattle.lrc_code.specs.Losses
 pub use Rattle.lrc_topology.specs.Nodes
 pub use Rattle.lrc_topology.specs.Seats
+pub use Rattle.lrc_stripes.specs.Levels
 pub mod States
 pub mod Placement
 pub mod Steps
