@@ -206,23 +206,27 @@ module _ (nodes : List NodeInfo) (st : State) (s : StripeNo) (f : Fragment) wher
         absurd (let behind = not_before n choice.node e choice.fitting in let both : true ≡ false = sym before ∙ behind in cc)
   ]
 
-  least-slot : (seat : Seat) (choice : IsChoice nodes st s f seat) → (o : Option ℕ) → free_slot (taken_seats st) choice.node ≡ o → option_map (seat_on choice.node.number) o ≡ Some seat
+  least-slot : (seat : Seat) (choice : IsChoice nodes st s f seat) → (o : Option ℕ) → free_slot (taken_seats st) choice.node ≡ o → o ≡ Some seat.slot
   least-slot seat choice None found =
       let hit = first_slot-none (is_taken (taken_seats st) choice.node.number) 0 choice.node.slots found seat.slot (omega arith) (omega (arith, choice.free.within)) in
       absurd (choice.free.free (taken-member (taken_seats st) choice.node.number seat.slot hit))
   least-slot seat choice (Some k) found =
       let h = first_slot-found (is_taken (taken_seats st) choice.node.number) 0 choice.node.slots k found in
-      let slot : k ≡ seat.slot = elim (cases_order k seat.slot) [
+      ap Some (elim (cases_order k seat.slot) [
         | inl same ↦ same
         | inr (inl below) ↦ absurd (let hit = member-taken (taken_seats st) choice.node.number k (choice.least k below) in let both : true ≡ false = sym hit ∙ h.2 in cc)
         | inr (inr above) ↦ absurd (choice.free.free (taken-member (taken_seats st) choice.node.number seat.slot (h.3 seat.slot (omega arith) above)))
-      ] in
-      ap Some (ap (seat_on choice.node.number) slot ∙ ap (λ (n : NodeNo). seat_on n seat.slot) (sym choice.on))
+      ])
+
+  -- the slot of a choice is the least free one of its node
+  pub choice-slot : (seat : Seat) (choice : IsChoice nodes st s f seat) → free_slot (taken_seats st) choice.node ≡ Some seat.slot
+  choice-slot seat choice = least-slot seat choice (free_slot (taken_seats st) choice.node) refl
 
   found-choice : (seat : Seat) → IsChoice nodes st s f seat → AreNodes nodes → (o : Option NodeInfo) → chosen_node nodes st s f ≡ o → option_and_then (free_seat (taken_seats st)) o ≡ Some seat
   found-choice seat choice known None e = absurd (none-fits e choice.node choice.fitting)
   found-choice seat choice known (Some n) e =
-      ap (free_seat (taken_seats st)) (same-choice seat choice known n e) ∙ least-slot seat choice (free_slot (taken_seats st) choice.node) refl
+      ap (free_seat (taken_seats st)) (same-choice seat choice known n e) ∙ ap (option_map (seat_on choice.node.number)) (choice-slot seat choice)
+      ∙ ap (λ (n : NodeNo). Some (seat_on n seat.slot)) (sym choice.on)
 
   pub choice-chosen : (seat : Seat) → AreNodes nodes → IsChoice nodes st s f seat → chosen nodes st s f ≡ Some seat
   unfolding chosen

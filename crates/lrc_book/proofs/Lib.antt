@@ -6,3 +6,5 @@ pub mod LeastLemmas
 pub mod NodeLemmas
 pub mod ChoiceLemmas
 pub mod GoodLemmas
+pub mod TieLemmas
+pub mod PlanLemmas

@@ -12,3 +12,4 @@ pub mod Books
 pub mod Changes
 pub mod Choices
 pub mod Goodness
+pub mod Ties
