@@ -1,0 +1,5 @@
+pub use Rattle.lrc_topology.specs.Nodes
+pub use Rattle.lrc_topology.specs.Seats
+pub mod Slots
+pub mod Choices
+pub mod Tables
