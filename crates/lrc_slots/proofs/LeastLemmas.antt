@@ -77,3 +77,52 @@ module _ {X : Type 0} (before after : X → X → Bool) (P : X → Type 0) (agre
   pub least-agree : (xs : List X) → AllByRecursion P xs → least before xs ≡ least after xs
   least-agree [] all = refl
   least-agree (x ∷ xs) all = least_from-agree x xs all.0 all.1
+
+-- ---- a list that is left by a test
+
+pub all-passes : {X : Type 0} (test : X → Bool) (xs : List X) → AllByRecursion (λ x. test x ≡ true) (filter test xs)
+all-passes test [] = tt
+all-passes test (x ∷ xs) = elim (cases_Bool (test x)) [
+  | inl hit ↦ rw hit (hit, all-passes test xs)
+  | inr miss ↦ rw miss (all-passes test xs)
+]
+
+-- what is true of each that is left is true of each that passes
+pub all-filtered : {X : Type 0} (test : X → Bool) (P : X → Type 0) (xs : List X) → AllByRecursion P (filter test xs) → AllByRecursion (λ x. test x ≡ true → P x) xs
+all-filtered test P [] all = tt
+all-filtered test P (x ∷ xs) all = elim (cases_Bool (test x)) [
+  | inl hit ↦ let kept : P x × AllByRecursion P (filter test xs) = rw hit at all in (λ _. kept.0, all-filtered test P xs kept.1)
+  | inr miss ↦ (λ hit. absurd (let e : true ≡ false = sym hit ∙ miss in cc), all-filtered test P xs (rw miss at all))
+]
+
+-- nothing is left where nothing passes
+pub filter-none : {X : Type 0} (test : X → Bool) (xs : List X) → AllByRecursion (λ x. test x ≡ false) xs → filter test xs ≡ []
+filter-none test [] all = refl
+filter-none test (x ∷ xs) all = rw all.0 (filter-none test xs all.1)
+
+module _ {X : Type 0} (before : X → X → Bool) where
+  fold-some : (best : X) (xs : List X) → fold (better before) (Some best) xs ≡ None → ⊥
+  fold-some best [] e = cc
+  fold-some best (x ∷ xs) e = elim (cases_Bool (before x best)) [
+    | inl first ↦ fold-some x xs (rw first at e)
+    | inr later ↦ fold-some best xs (rw later at e)
+  ]
+
+  -- only an empty list has no least element
+  pub least-none : (xs : List X) → least before xs ≡ None → xs ≡ []
+  least-none [] e = refl
+  least-none (x ∷ xs) e = absurd (fold-some x xs e)
+
+  module _ (irrefl : (a : X) → before a a ≡ false) (asym : (a b : X) → before a b ≡ true → before b a ≡ false)
+      (trans : (a b c : X) → before b a ≡ false → before c b ≡ false → before c a ≡ false) where
+    least_from : (best r : X) (xs : List X) → fold (better before) (Some best) xs ≡ Some r → (before best r ≡ false) × AllByRecursion (λ y. before y r ≡ false) xs
+    least_from best r [] e = let same = same_Some _ _ e in (subst (λ x. before best x ≡ false) same (irrefl best), tt)
+    least_from best r (y ∷ ys) e = elim (cases_Bool (before y best)) [
+      | inl first ↦ let h = least_from y r ys (rw first at e) in (trans r y best h.0 (asym y best first), (h.0, h.1))
+      | inr later ↦ let h = least_from best r ys (rw later at e) in (h.0, (trans r best y h.0 later, h.1))
+    ]
+
+    -- none of the list comes before the least
+    pub least-first : (r : X) (xs : List X) → least before xs ≡ Some r → AllByRecursion (λ y. before y r ≡ false) xs
+    least-first r [] e = tt
+    least-first r (x ∷ xs) e = least_from x r xs e

@@ -5,3 +5,4 @@ pub mod TableLemmas
 pub mod LeastLemmas
 pub mod NodeLemmas
 pub mod ChoiceLemmas
+pub mod LawLemmas

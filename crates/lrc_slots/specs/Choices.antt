@@ -44,3 +44,22 @@ next_node t b = least (is_chosen_before t) (filter (may_take t b) t.nodes)
 -- its number
 abbrev pub next_number : Slots → Barred → Option NodeNo
 next_number t b = option_map (λ n. n.number) (next_node t b)
+
+-- ---- what the choice means
+
+-- the node is eligible, has a free slot and is in no barred domain
+pub record MayTake (t : Slots) (b : Barred) (n : NodeInfo) : Type 0 where
+  pub eligible : IsTrue (t.eligible n.number)
+  pub room : (k : ℕ) × (k < n.slots) × IsFalse (t.taken n.number k)
+  pub fault : IsFalse (b.faults n.fault)
+  pub upgrade : IsFalse (b.upgrades n.upgrade)
+
+-- the first node has less load than the second, or as much and a lower number
+abbrev pub IsChosenBefore : Slots → NodeInfo → NodeInfo → Type 0
+IsChosenBefore t n m = (taken_count t n < taken_count t m) ⊎ ((taken_count t n ≡ taken_count t m) × (n.number.value < m.number.value))
+
+-- the node is one of the table that may take a seat, and is chosen before every other such node
+pub record IsNext (t : Slots) (b : Barred) (n : NodeInfo) : Type 0 where
+  pub listed : Contains t.nodes n
+  pub allowed : MayTake t b n
+  pub first : (m : NodeInfo) → Contains t.nodes m → MayTake t b m → m.number ≢ n.number → IsChosenBefore t n m

@@ -1,5 +1,5 @@
 -- Which slots of which nodes are taken, and which nodes are set eligible.
-use Rattle.std.specs.Prelude.{ℕ, Bool, true, false, not, ◌&&◌, ◌||◌, if◌then◌else◌, nat_eq, List, count_by, Option, Some, None, option_and_then}
+use Rattle.std.specs.Prelude.{ℕ, ◌<◌, Bool, true, false, not, ◌&&◌, ◌||◌, if◌then◌else◌, nat_eq, List, count_by, Option, Some, None, option_and_then, IsTrue, IsFalse}
 use Rattle.std.specs.List.{range_with_len}
 use Rattle.std.specs.Option.{option_map_or}
 use Rattle.lrc_code.specs.declared.numbers.NodeNo.{NodeNo}
@@ -20,6 +20,12 @@ all_free nodes = record { nodes = nodes; eligible = λ n. true; taken = λ n k. 
 -- the least free slot of a node
 abbrev pub least_free : Slots → NodeInfo → Option ℕ
 least_free t n = first_slot (t.taken n.number) 0 n.slots
+
+-- the slot is free, and each one below it is taken
+pub record IsLeastFree (t : Slots) (n : NodeInfo) (k : ℕ) : Type 0 where
+  pub within : k < n.slots
+  pub free : IsFalse (t.taken n.number k)
+  pub below : (j : ℕ) → j < k → IsTrue (t.taken n.number j)
 
 -- how many slots of a node are taken
 abbrev pub taken_count : Slots → NodeInfo → ℕ
