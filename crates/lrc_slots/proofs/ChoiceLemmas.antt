@@ -4,13 +4,13 @@ use Rattle.std.specs.List.{AllByRecursion, count_by, range_with_len}
 use Rattle.lrc_code.specs.declared.numbers.NodeNo.{NodeNo}
 use Rattle.lrc_code.specs.Order.{least}
 use Rattle.lrc_topology.specs.declared.NodeInfo.{NodeInfo}
-use Rattle.lrc_topology.specs.Nodes.{AreNodes, first_repeated, node_at}
+use Rattle.lrc_topology.specs.Nodes.{AreNodes, node_at}
 use Rattle.lrc_topology.specs.Seats.{first_slot}
 use Rattle.lrc_slots.specs.Slots.{Slots, taken_count}
 use Rattle.lrc_slots.specs.Choices.{Barred, may_take, comes_before, is_chosen_before, next_node, next_number}
 use Rattle.lrc_slots.specs.Tables.{Row, Table, row_at, seen, alone, is_marked, is_open, precedes}
 use Rattle.lrc_slots.proofs.LeastLemmas.{all-weaken, all-filter, filter-map, filter-agree, least-all, least-map, least-agree}
-use Rattle.lrc_slots.proofs.NodeLemmas.{all-found}
+use Rattle.lrc_slots.proofs.NodeLemmas.{all-found, pairs-map}
 use Rattle.lrc_slots.proofs.TableLemmas.{seen-nodes, node-alone, taken-alone, eligible-alone}
 
 numbers-rows : (rows : Table) → map (λ (r : Row). r.node.number.value) rows ≡ map (λ (n : NodeInfo). n.number.value) (map (λ r. r.node) rows)
@@ -19,7 +19,7 @@ numbers-rows (r ∷ rows) = ap (λ ns. r.node.number.value ∷ ns) (numbers-rows
 
 -- each row is the one that is found by its number
 pub rows-found : (rows : Table) → AreNodes (map (λ r. r.node) rows) → AllByRecursion (λ r. row_at rows r.node.number ≡ Some r) rows
-rows-found rows known = all-found (λ (r : Row). r.node.number.value) rows (rw (numbers-rows rows) known.distinct)
+rows-found rows known = all-found (λ (r : Row). r.node.number.value) rows (rw (numbers-rows rows) (pairs-map (λ (n : NodeInfo). n.number.value) (map (λ r. r.node) rows) known.distinct))
 
 -- a row that is found may take a seat where its node may
 open-row : (rows : Table) (b : Barred) (r : Row) → row_at rows r.node.number ≡ Some r → may_take (seen rows) b r.node ≡ is_open b r
