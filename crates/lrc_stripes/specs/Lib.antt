@@ -5,3 +5,4 @@ pub use Rattle.lrc_topology.specs.Nodes
 pub use Rattle.lrc_topology.specs.Seats
 pub mod Levels
 pub mod Stored
+pub mod Tables

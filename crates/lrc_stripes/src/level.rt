@@ -28,7 +28,7 @@ impl Level {
         }
         match missing.margin() {
             None => Level::Unavailable,
-            Some(_) if missing.bits == 0 => Level::Whole,
+            Some(_) if missing.bits() == 0 => Level::Whole,
             Some(margin) => Level::AtRisk(margin),
         }
     }
