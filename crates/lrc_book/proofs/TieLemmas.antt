@@ -112,15 +112,10 @@ bars-domains nodes st s f n (h ∷ hs) =
     or_four (bars_fault nodes s f n.fault h) (bars_upgrade nodes (code_of st s) s f n.upgrade h) _ _
     ∙ rw (bars-domains nodes st s f n hs) (ap (λ b. b || list_any (bars nodes st s f n) hs) (bars-parts (is_beside s f h) (node_at nodes h.seat.node) n (same_class (class_of (code_of st s) f.value) (class_of (code_of st s) h.fragment.value))))
 
-and-assoc : (a b c : Bool) → (a && (b && c)) ≡ ((a && b) && c)
-and-assoc true b c = refl
-and-assoc false b c = refl
-
 -- the table's test of a node is whether it is eligible and in no barred domain
 pub may_take-eligible : (nodes : List NodeInfo) (st : State) (b : Barred) (n : NodeInfo) → node_at nodes n.number ≡ Some n → may_take (table_of nodes st) b n ≡ (is_eligible st n && not (b.faults n.fault || b.upgrades n.upgrade))
 may_take-eligible nodes st b n found =
     ap (λ (o : Option NodeInfo). option_map_or (takes_seats st) o true && is_some (free_slot (taken_seats st) n) && not (b.faults n.fault || b.upgrades n.upgrade)) found
-    ∙ and-assoc (takes_seats st n) (is_some (free_slot (taken_seats st) n)) (not (b.faults n.fault || b.upgrades n.upgrade))
 
 -- and so it is the rule's
 pub may_take-fits : (nodes : List NodeInfo) (st : State) (s : StripeNo) (f : Fragment) (n : NodeInfo) → node_at nodes n.number ≡ Some n → may_take (table_of nodes st) (bars_of nodes st s f) n ≡ fits nodes st s f n
