@@ -8,3 +8,4 @@ pub mod ChoiceLemmas
 pub mod GoodLemmas
 pub mod TieLemmas
 pub mod PlanLemmas
+pub mod PlanningLemmas

@@ -11,13 +11,14 @@ use Rattle.lrc_code.specs.Codes.{class_of, same_class}
 use Rattle.lrc_topology.specs.declared.NodeInfo.{NodeInfo}
 use Rattle.lrc_topology.specs.declared.seat.Seat.{Seat}
 use Rattle.lrc_topology.specs.declared.seat.Held.{Held}
-use Rattle.lrc_topology.specs.Nodes.{node_at}
+use Rattle.lrc_topology.specs.Nodes.{AreNodes, node_at}
 use Rattle.lrc_topology.specs.Seats.{is_taken}
 use Rattle.lrc_code.specs.declared.numbers.NodeNo.{NodeNo}
 use Rattle.lrc_slots.specs.Slots.{Slots, least_free_at}
 use Rattle.lrc_stripes.specs.Levels.{homes_of}
 use Rattle.lrc_stripes.specs.Stored.{Stored}
 use Rattle.lrc_slots.specs.Choices.{Barred, next_number}
+use Rattle.lrc_book.specs.Goodness.{IsGood}
 use Rattle.lrc_book.specs.States.{State, has_stripe, code_of, seats_of, taken_seats, takes_seats, online_at}
 
 -- the nodes that take seats are eligible, and the seats of the state are taken
@@ -29,12 +30,18 @@ abbrev pub stored_of : List NodeInfo → State → ℕ → Stored
 stored_of nodes st spare =
     record { nodes = nodes; stripes = has_stripe st; homes = λ s. homes_of st.homes s; online = online_at nodes st; spare = spare }
 
--- what is kept of a state: the slot table, the stripes, and the nodes that are gone or down
-pub record IsTied (nodes : List NodeInfo) (st : State) (table : Slots) (stripes : Stored) (gone down : List NodeNo) : Type 0 where
+-- this is the slot table of a good state over these nodes
+pub record IsTableOf (nodes : List NodeInfo) (st : State) (table : Slots) : Type 0 where
+  pub known : AreNodes nodes
+  pub good : IsGood nodes st
+  pub is : table ≡ table_of nodes st
+
+-- the slot table and the stripes are those of a good state over these nodes
+pub record AreOf (nodes : List NodeInfo) (st : State) (table : Slots) (stripes : Stored) : Type 0 where
+  pub known : AreNodes nodes
+  pub good : IsGood nodes st
   pub table_is : table ≡ table_of nodes st
   pub stripes_is : stripes ≡ stored_of nodes st stripes.spare
-  pub gone_is : gone ≡ st.gone
-  pub down_is : down ≡ st.down
 
 -- ---- barred domains
 

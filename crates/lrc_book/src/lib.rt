@@ -1,10 +1,13 @@
 //! The book of placements: commands, their replies, and the history of both.
 #![tactic(auto)]
 
+mod changes;
 mod command;
 mod entry;
 pub mod laws;
 mod mode;
+mod plan;
+mod planning;
 mod reply;
 
 pub use command::Command;

@@ -1,0 +1,88 @@
+-- The seats of a stripe planned one after the other.
+use Rattle.std.proofs.Common.{◌≡◌, ◌≢◌, ℕ, ◌+◌, ◌<◌, true, not, ◌&&◌, nat_eq, List, [], ◌∷◌, ◌++◌, length, get_or, set, take, drop, fold, Option, Some, None, Result, Ok, Err, arith, refl, subst, sym, ap, ◌∙◌, append_assoc, append-nil, length-take}
+use Rattle.std.specs.List.{All, AllPairs}
+use Rattle.std.proofs.lemmas.Bool.{eq-eqb, ne_eqb}
+use Rattle.std.proofs.lemmas.List.{drop_more, take_more, take_more_set, get_or-take, get_or_default}
+use Rattle.std.proofs.lemmas.List.Elements.{All-nil, All-cons, All-head, All-tail}
+use Rattle.std.specs.Option.{option_map_or}
+use Rattle.std.proofs.lemmas.List.Folds.{fold_stays}
+use Rattle.lrc_code.specs.declared.codes.Code.TheVariants.{Wide}
+use Rattle.lrc_code.specs.declared.numbers.StripeNo.{StripeNo}
+use Rattle.lrc_code.specs.declared.numbers.Fragment.{Fragment}
+use Rattle.lrc_code.specs.Codes.{fragments}
+use Rattle.lrc_topology.specs.declared.NodeInfo.{NodeInfo}
+use Rattle.lrc_topology.specs.declared.seat.Seat.{Seat}
+use Rattle.lrc_topology.specs.declared.seat.Held.{Held}
+use Rattle.lrc_book.specs.States.{State}
+use Rattle.lrc_book.specs.Placement.{chosen, with_home, place_next, placed}
+use Rattle.lrc_book.specs.Changes.{held_at}
+use Rattle.lrc_book.specs.Ties.{is_beside, with_homes}
+use Rattle.lrc_code.proofs.NumbersLemmas.{same_fragment}
+use Rattle.lrc_book.proofs.ListLemmas.{held_at-push}
+use Rattle.lrc_book.proofs.GoodLemmas.{fragments-distinct}
+
+-- what the placement goes on with, by what was chosen
+abbrev turn : StripeNo → State → Fragment → Option Seat → Result State Fragment
+turn s st f o = option_map_or (λ seat. Ok (with_home st s f seat)) o (Err f)
+
+module _ (nodes : List NodeInfo) (s : StripeNo) (st : State) (fs : List Fragment) (i : ℕ) (d : Fragment) (within : i < length fs) where
+  -- the first fragment that finds no seat ends the placement
+  pub placing-none : None ≡ chosen nodes st s (get_or fs i d) → fold (place_next nodes s) (Ok st) (drop i fs) ≡ Err (get_or fs i d)
+  placing-none none =
+      rw (drop_more fs i d within) (subst (λ (o : Option Seat). fold (place_next nodes s) (turn s st (get_or fs i d) o) (drop (i + 1) fs) ≡ Err (get_or fs i d)) none
+      (fold_stays (place_next nodes s) (Err (get_or fs i d)) (λ x. refl) (drop (i + 1) fs)))
+
+  -- a fragment that finds one gets its home
+  pub placing-some : (seat : Seat) → Some seat ≡ chosen nodes st s (get_or fs i d)
+      → fold (place_next nodes s) (Ok st) (drop i fs) ≡ fold (place_next nodes s) (Ok (with_home st s (get_or fs i d) seat)) (drop (i + 1) fs)
+  placing-some seat some =
+      rw (drop_more fs i d within) (subst (λ (o : Option Seat). fold (place_next nodes s) (turn s st (get_or fs i d) o) (drop (i + 1) fs)
+      ≡ fold (place_next nodes s) (Ok (with_home st s (get_or fs i d) seat)) (drop (i + 1) fs)) some refl)
+
+-- nothing is planned at first
+pub placing-start : (nodes : List NodeInfo) (st : State) (s : StripeNo) (fs : List Fragment) → fs ≡ fragments Wide → fold (place_next nodes s) (Ok (with_homes st [])) fs ≡ placed nodes st s
+unfolding placed
+placing-start nodes st s fs e =
+    ap (λ (hs : List Held). fold (place_next nodes s) (Ok (record st { homes = hs })) fs) (append-nil st.homes) ∙ ap (λ (gs : List Fragment). fold (place_next nodes s) (Ok st) gs) e
+
+module _ (s : StripeNo) (planned : List Held) (fs : List Fragment) (i : ℕ) (d : Fragment) (within : i < length fs) (there : i < length planned) (seat : Seat) where
+  abbrev home : Held
+  home = record { stripe = s; fragment = get_or fs i d; seat = seat }
+
+  -- one more fragment is planned
+  pub placing-more : (nodes : List NodeInfo) (st : State) (whole : Result State Fragment) → Some seat ≡ chosen nodes (with_homes st (take i planned)) s (get_or fs i d)
+      → fold (place_next nodes s) (Ok (with_homes st (take i planned))) (drop i fs) ≡ whole
+      → fold (place_next nodes s) (Ok (with_homes st (take (i + 1) (set planned i home)))) (drop (i + 1) fs) ≡ whole
+  placing-more nodes st whole some so_far =
+      rw (take_more_set planned i home there, ← append_assoc) (sym (placing-some nodes s (with_homes st (take i planned)) fs i d within seat some) ∙ so_far)
+
+  pub planned-more : (seats : List Seat) → i < length seats → take i planned ≡ held_at s (take i fs) (take i seats)
+      → take (i + 1) (set planned i home) ≡ held_at s (take (i + 1) fs) (take (i + 1) (set seats i seat))
+  planned-more seats room so_far =
+      let same : length (take i fs) ≡ length (take i seats) = let a = length-take i fs in let b = length-take i seats in omega (arith, a, b) in
+      rw (take_more_set planned i home there, take_more_set seats i seat room, take_more fs i d within, so_far) (sym (held_at-push s (take i fs) (take i seats) (get_or fs i d) seat same))
+
+-- ---- the planned homes are those of other fragments
+
+-- homes of fragments that differ from this one
+held-beside : (s : StripeNo) (f : Fragment) (fs : List Fragment) (seats : List Seat) → All (λ g. g.value ≢ f.value) fs → All (λ h. is_beside s f h ≡ true) (held_at s fs seats)
+held-beside s f [] seats all = All-nil (λ h. is_beside s f h ≡ true)
+held-beside s f (g ∷ gs) [] all = All-nil (λ h. is_beside s f h ≡ true)
+held-beside s f (g ∷ gs) (x ∷ xs) all =
+    All-cons (λ h. is_beside s f h ≡ true) (record { stripe = s; fragment = g; seat = x }) (held_at s gs xs)
+    (rw (eq-eqb s.value s.value refl, ne_eqb g.value f.value (All-head (λ (k : Fragment). k.value ≢ f.value) g gs all)) refl)
+    (held-beside s f gs xs (All-tail (λ (k : Fragment). k.value ≢ f.value) g gs all))
+
+-- the fragments before one differ from it
+earlier-differ : (fs : List Fragment) (i : ℕ) (f : Fragment) → AllPairs (λ f g. f ≢ g) fs → i < length fs → f ≡ get_or fs i f → All (λ g. g.value ≢ f.value) (take i fs)
+earlier-differ fs i f pairs within is = λ k d below. (λ same.
+    let short : k < i = let l = length-take i fs in omega (arith, below, l) in
+    let here : get_or (take i fs) k d ≡ get_or fs k d = get_or-take i fs k d short in
+    pairs k i d short within (same_fragment (get_or fs k d) (get_or fs i d) (ap (λ (g : Fragment). g.value) (sym here) ∙ same ∙ ap (λ (g : Fragment). g.value) (is ∙ get_or_default fs i f d within))))
+
+-- the planned homes are those of the stripe's other fragments
+pub planned-beside : (s : StripeNo) (fs : List Fragment) (planned : List Held) (seats : List Seat) (i : ℕ) (f : Fragment) → fs ≡ fragments Wide → i < length fs → f ≡ get_or fs i f
+    → take i planned ≡ held_at s (take i fs) (take i seats) → All (λ h. is_beside s f h ≡ true) (take i planned)
+planned-beside s fs planned seats i f all within is planned_is =
+    subst (All (λ h. is_beside s f h ≡ true)) (sym planned_is)
+    (held-beside s f (take i fs) (take i seats) (earlier-differ fs i f (subst (AllPairs (λ f g. f ≢ g)) (sym all) (fragments-distinct Wide)) within is))

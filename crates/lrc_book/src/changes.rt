@@ -1,0 +1,56 @@
+//! What a command changes of the table, the stripes and the modes of nodes. Room was made before, so nothing here
+//! fails.
+
+ghost use Rattle.std.specs.Prelude.{◌≡◌, ◌≤◌, [], true, false};
+ghost use Rattle.lrc_code.specs.declared.codes.Code.TheVariants.{Wide};
+ghost use Rattle.lrc_code.specs.Codes.{fragments};
+ghost use Rattle.lrc_slots.specs.Tables.{seen as slots_of};
+ghost use Rattle.lrc_stripes.specs.Tables.{seen as stored_in};
+ghost use Rattle.lrc_book.specs.States.{State, has_stripe};
+ghost use Rattle.lrc_book.specs.Steps.{without_stripe};
+ghost use Rattle.lrc_book.specs.Changes.{AreChosen, with_placed};
+ghost use Rattle.lrc_book.specs.Ties.{table_of, stored_of, AreOf};
+
+use crate::Seat;
+use lrc_code::{Fragment, StripeNo};
+use lrc_slots::SlotTable;
+use lrc_stripes::Stripes;
+
+/// Adds a stripe, and takes for each fragment the seat that is chosen for it.
+pub(crate) fn place_stripe(
+    table: &mut SlotTable,
+    stripes: &mut Stripes,
+    stripe: StripeNo,
+    seats: &[Seat; 16],
+)
+    ghost st: { State }
+    requires kept { AreOf (slots_of table.old).nodes st (slots_of table.old) (stored_in stripes.old) }
+    requires absent { has_stripe st stripe ≡ false }
+    requires room { 1 ≤ (stored_in stripes.old).spare }
+    requires seats { AreChosen (slots_of table.old).nodes (with_placed st stripe []) stripe (fragments Wide) seats.now }
+    ensures table { slots_of table.new ≡ table_of (slots_of table.old).nodes (with_placed st stripe seats.now) }
+    ensures stripes { stored_in stripes.new ≡ stored_of (slots_of table.old).nodes (with_placed st stripe seats.now) (stored_in stripes.new).spare }
+{
+    stripes.add(stripe);
+    for (i, fragment) in Fragment::all().iter().enumerate() {
+        let seat = seats[i];
+        let _slot = table.take(seat.node);
+        stripes.set_home(stripe, *fragment, seat);
+    }
+}
+
+/// Takes a stripe out, and gives the seats of its homes back.
+pub(crate) fn drop_stripe(table: &mut SlotTable, stripes: &mut Stripes, stripe: StripeNo)
+    ghost st: { State }
+    requires kept { AreOf (slots_of table.old).nodes st (slots_of table.old) (stored_in stripes.old) }
+    requires there { has_stripe st stripe ≡ true }
+    ensures table { slots_of table.new ≡ table_of (slots_of table.old).nodes (without_stripe st stripe) }
+    ensures stripes { stored_in stripes.new ≡ stored_of (slots_of table.old).nodes (without_stripe st stripe) (stored_in stripes.new).spare }
+{
+    for fragment in Fragment::all() {
+        if let Some(seat) = stripes.home(stripe, fragment) {
+            table.free(seat.node, seat.slot);
+        }
+    }
+    stripes.remove(stripe);
+}
