@@ -1,18 +1,20 @@
 -- What the definitions mean: the least free slot, and the node that takes the next seat.
-use Rattle.std.proofs.Common.{◌≡◌, ◌≢◌, ℕ, ◌<◌, ◌≤◌, ◌+◌, ◌↔◌, ◌⊎◌, Bool, true, false, not, ◌&&◌, ◌||◌, eqb, ltb, List, [], filter, Option, Some, None, is_some, arith, refl, sym, ap, ◌∙◌, inl, inr, IsTrue, IsFalse}
+use Rattle.std.proofs.Common.{◌≡◌, ℕ, ◌<◌, ◌↔◌, ◌⊎◌, true, false, not, ◌&&◌, ◌||◌, eqb, ltb, List, filter, Option, Some, None, is_some, arith, refl, sym, ap, ◌∙◌, inl, inr, IsTrue}
 use Rattle.std.proofs.lemmas.Bool.{cases_Bool, cases_eq, and_parts, and_from, or_parts, or_from, not-true, not_from_false, false_from_ne_true}
 use Rattle.std.proofs.lemmas.Bool.Decides.{nat_tests}
-use Rattle.std.proofs.lemmas.List.Elements.{All-contains, All-contains_itself, Contains-get_or, All-from_recursion, recursion_from_All}
-use Rattle.std.proofs.lemmas.Option.{same_Some}
+use Rattle.std.proofs.lemmas.List.Elements.{All-contains, Contains-get_or, All-from_recursion, recursion_from_All}
+use Rattle.std.specs.Cmp.{IsStrictWeakOrder}
 use Rattle.std.specs.List.{AllByRecursion, Contains}
 use Rattle.lrc_code.specs.declared.numbers.NodeNo.{NodeNo}
 use Rattle.lrc_code.specs.Order.{least}
 use Rattle.lrc_topology.specs.declared.NodeInfo.{NodeInfo}
 use Rattle.lrc_topology.specs.Nodes.{AreNodes, node_at}
 use Rattle.lrc_slots.specs.Slots.{Slots, least_free, taken_count, IsLeastFree}
-use Rattle.lrc_slots.specs.Choices.{Barred, may_take, comes_before, is_chosen_before, next_node, MayTake, IsChosenBefore, IsNext}
+use Rattle.lrc_slots.specs.Barred.{Barred}
+use Rattle.lrc_slots.specs.Next.{may_take, is_chosen_before, next_node, MayTake, IsNext}
 use Rattle.lrc_slots.proofs.CountLemmas.{first_slot-found, first_slot-none, first_slot-is, first_slot-all}
-use Rattle.lrc_slots.proofs.LeastLemmas.{all-passes, all-filter, all-filtered, filter-none, least-all, least-none, least-first}
+use Rattle.lrc_slots.proofs.LeastLemmas.{all-passes, all-filtered, filter-none}
+use Rattle.lrc_code.proofs.OrderLemmas.{all_kept, each_listed, least-all, least-none, least-first}
 use Rattle.lrc_slots.proofs.NodeLemmas.{all_found, same_node}
 
 -- ---- the least free slot
@@ -59,9 +61,6 @@ MayTake-may_take t b n h =
 
 -- ---- the order
 
-before-irrefl : (a m : ℕ) → (ltb a a || (eqb a a && ltb m m)) ≡ false
-before-irrefl a m = grind (arith, nat_tests)
-
 before-asym : (a m b n : ℕ) → (ltb a b || (eqb a b && ltb m n)) ≡ true → (ltb b a || (eqb b a && ltb n m)) ≡ false
 before-asym a m b n h = grind (arith, nat_tests)
 
@@ -75,10 +74,11 @@ before-other a m b n h differ = elim (cases_Bool (ltb b a)) [
   | inr more ↦ inr (grind (arith, nat_tests, more, h), grind (arith, nat_tests, more, h, differ))
 ]
 
-first-of : (t : Slots) (r : NodeInfo) (xs : List NodeInfo) → least (is_chosen_before t) xs ≡ Some r → AllByRecursion (λ y. is_chosen_before t y r ≡ false) xs
-first-of t r xs e =
-    least-first (is_chosen_before t) (λ a. before-irrefl (taken_count t a) a.number.value) (λ a b. before-asym (taken_count t a) a.number.value (taken_count t b) b.number.value)
-    (λ a b c. before-trans (taken_count t a) a.number.value (taken_count t b) b.number.value (taken_count t c) c.number.value) r xs e
+chosen-order : (t : Slots) → IsStrictWeakOrder (is_chosen_before t)
+chosen-order t = record {
+  one_way = λ a b. before-asym (taken_count t a) a.number.value (taken_count t b) b.number.value;
+  chain = λ a b c h k. before-trans (taken_count t c) c.number.value (taken_count t b) b.number.value (taken_count t a) a.number.value k h;
+}
 
 -- ---- the next node
 
@@ -88,7 +88,7 @@ at-each P xs x all listed = All-contains P xs x (All-from_recursion P xs all) li
 pub next_node-none : (t : Slots) (b : Barred) → (next_node t b ≡ None) ↔ ((n : NodeInfo) → Contains t.nodes n → ¬ MayTake t b n)
 next_node-none t b = (
   λ e n listed h.
-      let left = least-none (is_chosen_before t) (filter (may_take t b) t.nodes) e in
+      let left = (least-none (is_chosen_before t) (filter (may_take t b) t.nodes)).0 e in
       let all : AllByRecursion (λ x. ⊥) (filter (may_take t b) t.nodes) = rw left tt in
       at-each (λ n. may_take t b n ≡ true → ⊥) t.nodes n (all-filtered (may_take t b) (λ x. ⊥) t.nodes all) listed (MayTake-may_take t b n h),
   λ none. let all : AllByRecursion (λ n. may_take t b n ≡ false) t.nodes =
@@ -100,10 +100,10 @@ pub next_node-IsNext : (t : Slots) (b : Barred) (n : NodeInfo) → next_node t b
 next_node-IsNext t b n e =
     let test = may_take t b in
     record {
-      listed = least-all (is_chosen_before t) (Contains t.nodes) n (filter test t.nodes) (all-filter test _ t.nodes (recursion_from_All _ t.nodes (All-contains_itself t.nodes))) e;
+      listed = least-all (is_chosen_before t) (Contains t.nodes) n (filter test t.nodes) (all_kept _ test t.nodes (each_listed t.nodes)) e;
       allowed = may_take-MayTake t b n (least-all (is_chosen_before t) (λ x. test x ≡ true) n (filter test t.nodes) (all-passes test t.nodes) e);
       first = λ m listed h differ.
-          let later = at-each (λ y. test y ≡ true → is_chosen_before t y n ≡ false) t.nodes m (all-filtered test _ t.nodes (first-of t n (filter test t.nodes) e)) listed (MayTake-may_take t b m h) in
+          let later = at-each (λ y. test y ≡ true → is_chosen_before t y n ≡ false) t.nodes m (all-filtered test _ t.nodes (least-first (is_chosen_before t) (chosen-order t) n (filter test t.nodes) e)) listed (MayTake-may_take t b m h) in
           before-other (taken_count t m) m.number.value (taken_count t n) n.number.value later (λ same. differ (same_node m.number n.number same));
     }
 

@@ -1,19 +1,18 @@
 -- What the rows of a table stand for, and what a write to one row changes.
-use Rattle.std.proofs.Common.{◌≡◌, ℕ, ◌<◌, ◌≤◌, Bool, true, false, not, ◌&&◌, ◌||◌, cond, eqb, ltb, List, [], ◌∷◌, ◌++◌, map, length, get_or, set, replicate, Option, Some, None, IsSome, is_some, option_map, arith, refl, sym, ap, ap₂, ◌∙◌, subst, inl, inr, ◌⊎◌}
+use Rattle.std.proofs.Common.{◌≡◌, ℕ, ◌<◌, ◌≤◌, Bool, true, false, cond, eqb, List, [], ◌∷◌, ◌++◌, map, length, get_or, set, Option, Some, None, IsSome, option_map, refl, sym, ap, ◌∙◌, inl, inr}
 use Rattle.std.proofs.Math.Path.{fun_ext}
 use Rattle.std.proofs.Math.Seq.{map-set_same}
-use Rattle.std.proofs.lemmas.Bool.{cases_Bool, cases_lt, cases_eq, eqb-true, eqb-false, eq-eqb, ne_eqb, lt-ltb, le-ltb}
+use Rattle.std.proofs.lemmas.Bool.{cases_Bool, cases_lt, cases_eq, eqb-true, eq-eqb, ne_eqb, lt-ltb, le-ltb}
 use Rattle.std.proofs.lemmas.List.{append-nil, get_or_past}
 use Rattle.std.proofs.lemmas.List.Folds.{find_at, find-set, find_past}
-use Rattle.std.proofs.lemmas.List.Sums.{passes_at_first}
 use Rattle.std.proofs.lemmas.Option.{same_Some, slice_get_within, get_or_from_slice_get, slice_get_read, slice_get_past}
-use Rattle.std.specs.List.{find, position, position_or_len, count_by, range_with_len, AllByRecursion}
+use Rattle.std.specs.List.{position_or_len, count_by, range_with_len, AllByRecursion}
 use Rattle.std.specs.Option.{option_map_or}
 use Rattle.lrc_code.specs.declared.numbers.NodeNo.{NodeNo}
 use Rattle.lrc_topology.specs.declared.NodeInfo.{NodeInfo}
 use Rattle.lrc_topology.specs.Nodes.{node_at, IsInRange}
 use Rattle.lrc_topology.specs.Seats.{first_slot}
-use Rattle.lrc_slots.specs.Slots.{Slots, all_free, least_free, least_free_at, taken_count, load_at, is_seat, taken_with, with_taken, with_free, with_eligible}
+use Rattle.lrc_slots.specs.Slots.{Slots, all_free, least_free, least_free_at, taken_count, load_at, with_taken, with_free, with_eligible}
 use Rattle.lrc_slots.specs.Tables.{Row, Table, is_of, row_at, place_of, is_marked, seen, fresh_row, alone}
 use Rattle.lrc_slots.proofs.NodeLemmas.{same_node}
 use Rattle.lrc_slots.proofs.MarkLemmas.{get_or-set_true, or-false, and-true, get_or-set_false, get_or-replicate_same}

@@ -1,11 +1,12 @@
 -- What contracts see of a slot table and of barred domains: lists, and what these stand for.
-use Rattle.std.specs.Prelude.{◌≡◌, ℕ, Bool, true, false, nat_eq, List, [], ◌∷◌, length, map, find, get_or, replicate, Option}
+use Rattle.std.specs.Prelude.{ℕ, Bool, true, false, nat_eq, List, [], ◌∷◌, map, find, get_or, replicate, Option}
 use Rattle.std.specs.List.{position}
 use Rattle.std.specs.Option.{option_map_or}
 use Rattle.lrc_code.specs.declared.numbers.NodeNo.{NodeNo}
 use Rattle.lrc_topology.specs.declared.NodeInfo.{NodeInfo}
 use Rattle.lrc_slots.specs.Slots.{Slots, taken_count}
-use Rattle.lrc_slots.specs.Choices.{Barred, may_take, comes_before}
+use Rattle.lrc_slots.specs.Barred.{Barred}
+use Rattle.lrc_slots.specs.Next.{may_take, comes_before}
 
 -- a node of a table, whether it is set eligible, and for each of its slots in turn whether it is taken
 pub record Row : Type 0 where

@@ -5,7 +5,8 @@ ghost use Rattle.std.specs.List.{Contains};
 ghost use Rattle.lrc_topology.specs.declared.NodeInfo.{NodeInfo};
 ghost use Rattle.lrc_topology.specs.Nodes.{AreNodes};
 ghost use Rattle.lrc_slots.specs.Slots.{Slots, least_free, IsLeastFree};
-ghost use Rattle.lrc_slots.specs.Choices.{Barred, MayTake, IsNext, next_node};
+ghost use Rattle.lrc_slots.specs.Barred.{Barred};
+ghost use Rattle.lrc_slots.specs.Next.{MayTake, IsNext, next_node};
 
 /// The chosen node is the one of the nodes that may take a seat that is chosen before every other: less load, or as
 /// much and a lower number. The numbers of nodes differ, so there is at most one such node.

@@ -5,6 +5,8 @@ pub mod laws;
 mod row;
 mod table;
 mod taken;
+#[cfg(test)]
+mod tests;
 
 pub use table::SlotTable;
 pub use taken::Taken;

@@ -3,7 +3,7 @@ ghost use Rattle.lrc_code.specs.declared.fault.Fault.TheVariants.{OutOfMemory};
 ghost use Rattle.lrc_code.specs.Order.{least};
 ghost use Rattle.lrc_topology.specs.Nodes.{AreNodes, node_at};
 ghost use Rattle.lrc_slots.specs.Slots.{all_free, least_free_at, load_at, with_taken, with_free, with_eligible};
-ghost use Rattle.lrc_slots.specs.Choices.{next_number};
+ghost use Rattle.lrc_slots.specs.Next.{next_number};
 ghost use Rattle.lrc_slots.specs.Tables.{seen, barred, place_of, is_open, precedes};
 
 use crate::row::NodeSlots;

@@ -1,5 +1,5 @@
 ghost use Rattle.std.specs.Prelude.{◌≡◌};
-ghost use Rattle.lrc_slots.specs.Choices.{no_bars, with_fault, with_upgrade};
+ghost use Rattle.lrc_slots.specs.Barred.{no_bars, with_fault, with_upgrade};
 ghost use Rattle.lrc_slots.specs.Tables.{barred};
 
 use lrc_code::{FaultNo, UpgradeNo};

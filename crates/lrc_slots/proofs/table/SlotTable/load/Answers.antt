@@ -1,4 +1,4 @@
-use Rattle.std.proofs.Common.{◌≤◌, arith, sym, ◌∙◌}
+use Rattle.std.proofs.Common.{arith, sym, ◌∙◌}
 use Rattle.lrc_slots.proofs.TableLemmas.{row_at-place, load-alone, slots-few}
 use Rattle.lrc_slots.proofs.table.SlotTable.load.Goals as goal
 

@@ -1,5 +1,3 @@
-use Rattle.std.proofs.Common.{◌≡◌, map, ap}
-use Rattle.lrc_slots.specs.Tables.{seen, fresh_row}
 use Rattle.lrc_slots.proofs.TableLemmas.{fresh-all, nodes-fresh, seen-fresh}
 use Rattle.lrc_slots.proofs.table.SlotTable.new.Goals as goal
 

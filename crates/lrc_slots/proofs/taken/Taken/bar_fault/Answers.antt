@@ -1,4 +1,4 @@
-use Rattle.std.proofs.Common.{◌<◌, length, arith}
+use Rattle.std.proofs.Common.{arith}
 use Rattle.lrc_slots.proofs.BarLemmas.{barred-fault}
 use Rattle.lrc_slots.proofs.taken.Taken.bar_fault.Goals as goal
 
