@@ -27,8 +27,8 @@ use Rattle.lrc_book.specs.States.{mode_of, is_active, is_online, takes_seats, St
 use Rattle.lrc_book.specs.Placement.{clashes, bars, fits, chosen, chosen_node}
 use Rattle.lrc_book.specs.Choices.{AreApart, IsApartFrom, IsFree, IsEligible, IsFitting, IsChoice}
 use Rattle.lrc_book.proofs.MemberLemmas.{filter-member, member-filter, All-list_any, list_any-All, not-Contains-nil}
-use Rattle.lrc_book.proofs.LeastLemmas.{least-member, least-none, least-first}
-use Rattle.lrc_book.proofs.NodeLemmas.{same_node, seat_on, taken-member, member-taken, first_slot-found, first_slot-none, lighter-irrefl, lighter-asym, lighter-trans, lighter-total, lighter-from}
+use Rattle.lrc_code.proofs.OrderLemmas.{least-listed, least-none, least-none_before}
+use Rattle.lrc_book.proofs.NodeLemmas.{same_node, seat_on, taken-member, member-taken, first_slot-found, first_slot-none, lighter-order, lighter-total, lighter-from}
 
 -- ---- two nodes
 
@@ -164,18 +164,18 @@ module _ (nodes : List NodeInfo) (st : State) (s : StripeNo) (f : Fragment) (n :
 module _ (nodes : List NodeInfo) (st : State) (s : StripeNo) (f : Fragment) where
   pub node-fits : (n : NodeInfo) → chosen_node nodes st s f ≡ Some n → IsFitting nodes st s f n
   node-fits n e =
-      let m = filter-member (fits nodes st s f) nodes n (least-member (is_lighter (taken_seats st)) n (filter (fits nodes st s f) nodes) e) in
+      let m = filter-member (fits nodes st s f) nodes n (least-listed (is_lighter (taken_seats st)) n (filter (fits nodes st s f) nodes) e) in
       fits-words nodes st s f n m.0 m.1
 
   not_before : (n m : NodeInfo) → chosen_node nodes st s f ≡ Some n → IsFitting nodes st s f m → is_lighter (taken_seats st) m n ≡ false
   not_before n m e fitting =
       All-contains (λ y. is_lighter (taken_seats st) y n ≡ false) (filter (fits nodes st s f) nodes) m
-      (least-first (is_lighter (taken_seats st)) (lighter-irrefl (taken_seats st)) (lighter-asym (taken_seats st)) (lighter-trans (taken_seats st)) n (filter (fits nodes st s f) nodes) e)
+      (least-none_before (is_lighter (taken_seats st)) (lighter-order (taken_seats st)) n (filter (fits nodes st s f) nodes) e)
       (member-filter (fits nodes st s f) nodes m fitting.known (words-fits nodes st s f m fitting))
 
   none-fits : chosen_node nodes st s f ≡ None → (n : NodeInfo) → IsFitting nodes st s f n → ⊥
   none-fits e n fitting =
-      not-Contains-nil n (subst (λ xs. Contains xs n) (least-none (is_lighter (taken_seats st)) (filter (fits nodes st s f) nodes) e)
+      not-Contains-nil n (subst (λ xs. Contains xs n) ((least-none (is_lighter (taken_seats st)) (filter (fits nodes st s f) nodes)).0 e)
       (member-filter (fits nodes st s f) nodes n fitting.known (words-fits nodes st s f n fitting)))
 
   on-slot : (seat : Seat) (n : NodeInfo) (o : Option ℕ) → AreNodes nodes → chosen_node nodes st s f ≡ Some n → free_slot (taken_seats st) n ≡ o → option_map (seat_on n.number) o ≡ Some seat → IsChoice nodes st s f seat

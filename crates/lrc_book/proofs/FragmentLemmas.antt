@@ -19,7 +19,7 @@ use Rattle.lrc_topology.specs.declared.seat.Seat.{Seat}
 use Rattle.lrc_topology.specs.declared.seat.Held.{Held}
 use Rattle.lrc_topology.specs.Seats.{is_taken}
 use Rattle.lrc_slots.specs.Slots.{Slots}
-use Rattle.lrc_book.specs.States.{home_of}
+use Rattle.lrc_stripes.specs.Levels.{home_of}
 use Rattle.lrc_book.specs.Steps.{is_other}
 use Rattle.lrc_book.specs.Ties.{is_beside, bars_fault, bars_upgrade, bars_in}
 use Rattle.lrc_book.proofs.MemberLemmas.{All-members, Contains-here, Contains-later, Contains-cases, not-Contains-nil, find-member, filter-member, member-filter, list_any-member, member-list_any, AllPairs-head, AllPairs-tail}

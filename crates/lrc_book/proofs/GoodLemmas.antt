@@ -50,7 +50,7 @@ module _ {X Y : Type 0} (R : Y → Y → Type 0) (f : X → Y) where
   pairs-map (x ∷ xs) pairs =
       AllPairs-cons R (f x) (map f xs) (All-map (R (f x)) f xs (AllPairs-head (λ x y. R (f x) (f y)) x xs pairs)) (pairs-map xs (AllPairs-tail (λ x y. R (f x) (f y)) x xs pairs))
 
-  pairs-unmap : (xs : List X) → AllPairs R (map f xs) → AllPairs (λ x y. R (f x) (f y)) xs
+  pub pairs-unmap : (xs : List X) → AllPairs R (map f xs) → AllPairs (λ x y. R (f x) (f y)) xs
   pairs-unmap [] pairs = λ i j d below within. absurd (omega arith)
   pairs-unmap (x ∷ xs) pairs =
       AllPairs-cons (λ x y. R (f x) (f y)) x xs (All-unmap (R (f x)) f xs (AllPairs-head R (f x) (map f xs) pairs)) (pairs-unmap xs (AllPairs-tail R (f x) (map f xs) pairs))
@@ -171,16 +171,17 @@ refused-good : (nodes : List NodeInfo) (st : State) (met : Bool) (r : Refusal) (
 refused-good nodes st true r other good next = good
 refused-good nodes st false r other good next = next refl
 
-module _ (nodes : List NodeInfo) (known : AreNodes nodes) (st : State) (s : StripeNo) where
-  not_there : has_stripe st s ≡ false → (t : StripeNo) → Contains st.stripes t → t ≢ s
-  not_there e t here same =
-      let hit = list_any-member (λ (u : StripeNo). eqb s.value u.value) st.stripes t here (eq-eqb s.value t.value (ap (λ (x : StripeNo). x.value) (sym same))) in
-      let both : true ≡ false = sym hit ∙ e in cc
+-- a stripe that is not there is none of the stripes
+pub not_there : (st : State) (s : StripeNo) → has_stripe st s ≡ false → (t : StripeNo) → Contains st.stripes t → t ≢ s
+not_there st s e t here same =
+    let hit = list_any-member (λ (u : StripeNo). eqb s.value u.value) st.stripes t here (eq-eqb s.value t.value (ap (λ (x : StripeNo). x.value) (sym same))) in
+    let both : true ≡ false = sym hit ∙ e in cc
 
+module _ (nodes : List NodeInfo) (known : AreNodes nodes) (st : State) (s : StripeNo) where
   -- a stripe that was not there, with no homes yet
   pub stripe-good : (code : Code) → IsGood nodes st → has_stripe st s ≡ false → IsGood nodes (with_stripe st code s)
   stripe-good Wide good e = record {
-    stripes = pairs-push (λ s t. s ≢ t) st.stripes s good.stripes (All-members (λ t. t ≢ s) st.stripes (not_there e));
+    stripes = pairs-push (λ s t. s ≢ t) st.stripes s good.stripes (All-members (λ t. t ≢ s) st.stripes (not_there st s e));
     single = good.single;
     standing = good.standing;
     lawful = good.lawful;
@@ -194,7 +195,7 @@ module _ (nodes : List NodeInfo) (known : AreNodes nodes) (st : State) (s : Stri
     there = Contains-push st.stripes s;
     distinct = fragments-distinct (code_of (with_stripe st Wide s) s);
     absent = All-members (HasNone s st.homes) (fragments (code_of (with_stripe st Wide s) s))
-        (λ f here. All-weaker (λ h. Contains st.stripes h.stripe) (λ h. h.stripe ≡ s → h.fragment ≢ f) (λ h there stripe. absurd (not_there e h.stripe there stripe)) st.homes good.there);
+        (λ f here. All-weaker (λ h. Contains st.stripes h.stripe) (λ h. h.stripe ≡ s → h.fragment ≢ f) (λ h there stripe. absurd (not_there st s e h.stripe there stripe)) st.homes good.there);
   }
 
   -- all fragments of a new stripe placed

@@ -2,10 +2,12 @@ pub mod ListLemmas
 pub mod StepLemmas
 pub mod WorldLemmas
 pub mod MemberLemmas
-pub mod LeastLemmas
 pub mod NodeLemmas
 pub mod ChoiceLemmas
 pub mod GoodLemmas
 pub mod TieLemmas
+pub mod TableLemmas
+pub mod BarLemmas
 pub mod PlanLemmas
 pub mod PlanningLemmas
+pub mod FragmentLemmas

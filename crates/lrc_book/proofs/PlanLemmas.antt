@@ -1,12 +1,10 @@
 -- The seat that a table gives is the one that the rule chooses, also beside planned homes that the table does not have.
 use Rattle.std.proofs.Common.{length, get_or, take, ◌≡◌, ◌≢◌, ℕ, zero, suc, ◌+◌, ◌<◌, ◌≤◌, Bool, true, false, not, cond, ◌&&◌, ◌||◌, nat_eq, eqb, List, [], ◌∷◌, ◌++◌, map, filter, fold, Option, Some, None, is_some, option_map, option_and_then, arith, zero-add, append-nil, refl, sym, ap, ap₂, ◌∙◌, subst, inl, inr}
 use Rattle.std.proofs.Math.Path.{fun_ext}
-use Rattle.std.specs.List.{All, AllPairs, Contains, list_any, count_by, range_with_len}
-use Rattle.std.specs.Option.{option_map_or}
-use Rattle.std.proofs.lemmas.Bool.{cases_Bool, cases_eq, eqb-true, eqb-false, eq-eqb, ne_eqb, and_parts, or_parts, and_right, not-true, false_from_ne_true}
-use Rattle.std.proofs.lemmas.Option.{same_Some}
+use Rattle.std.specs.List.{All, AllPairs, list_any, count_by, range_with_len}
+use Rattle.std.proofs.lemmas.Bool.{cases_Bool, eqb-true, eq-eqb, and_parts, or_parts, and_right, not-true}
 use Rattle.std.proofs.lemmas.List.{map-append}
-use Rattle.std.proofs.lemmas.List.Elements.{All-nil, All-cons, All-head, All-tail, All-weaker, All-contains, All-map}
+use Rattle.std.proofs.lemmas.List.Elements.{All-nil, All-cons, All-head, All-tail, All-weaker, All-map}
 use Rattle.std.proofs.lemmas.List.Sums.{sum_by-cons}
 use Rattle.std.proofs.lemmas.List.Folds.{list_any-append, list_any_more, list_any_none}
 use Rattle.lrc_code.specs.declared.codes.Code.{Code}
@@ -23,15 +21,17 @@ use Rattle.lrc_topology.specs.declared.seat.Held.{Held}
 use Rattle.lrc_topology.specs.Nodes.{AreNodes, node_at}
 use Rattle.lrc_topology.specs.Seats.{load_of, is_taken, first_slot, free_slot, free_seat, is_lighter}
 use Rattle.lrc_slots.specs.Slots.{Slots, least_free, least_free_at, taken_count}
-use Rattle.lrc_slots.specs.Choices.{Barred, may_take, is_chosen_before, next_node, next_number}
+use Rattle.lrc_slots.specs.Barred.{Barred}
+use Rattle.lrc_slots.specs.Next.{may_take, is_chosen_before, next_node, next_number}
 use Rattle.lrc_book.specs.States.{State, has_stripe, code_of, seats_of, taken_seats, takes_seats, is_eligible}
 use Rattle.lrc_book.specs.Placement.{clashes, bars, fits, chosen, chosen_node}
 use Rattle.lrc_book.specs.Goodness.{IsGood}
 use Rattle.lrc_book.specs.Ties.{table_of, is_beside, bars_fault, bars_upgrade, bars_of, bars_in, with_held, next_seat, with_homes}
 use Rattle.lrc_book.proofs.MemberLemmas.{All-members, filter-member, list_any-member}
-use Rattle.lrc_book.proofs.LeastLemmas.{least-member}
+use Rattle.lrc_code.proofs.OrderLemmas.{least-listed}
 use Rattle.lrc_book.proofs.NodeLemmas.{node_at-member, seat_on}
 use Rattle.lrc_book.proofs.ChoiceLemmas.{chosen-choice, choice-slot}
+use Rattle.lrc_book.proofs.BarLemmas.{bars_in-skip, absent-beside}
 use Rattle.lrc_book.proofs.TieLemmas.{HasSlot, standing-slots, load-seats, bars-domains, may_take-eligible}
 
 -- ---- lists
@@ -156,7 +156,7 @@ module _ (nodes : List NodeInfo) (st : State) (new : List Held) (s : StripeNo) (
         → option_and_then (λ n. option_map (seat_on n) (least_free_at (table_of nodes st) n)) (option_map (λ n. n.number) o) ≡ option_and_then (free_seat (taken_seats (with_homes st new))) o
     seat-planned None e = refl
     seat-planned (Some x) e =
-        let m = filter-member (fits nodes (with_homes st new) s f) nodes x (least-member (is_lighter (taken_seats (with_homes st new))) x (filter (fits nodes (with_homes st new) s f) nodes) e) in
+        let m = filter-member (fits nodes (with_homes st new) s f) nodes x (least-listed (is_lighter (taken_seats (with_homes st new))) x (filter (fits nodes (with_homes st new) s f) nodes) e) in
         let found = node_at-member nodes known x m.0 in
         let slots = clear-taken x found (clear-fits x m.1) in
         ap (λ o. option_map (seat_on x.number) (option_and_then (least_free (table_of nodes st)) o)) found
@@ -194,40 +194,9 @@ chosen-first_free nodes st s f seat known e =
     ap (least_free_at (table_of nodes st)) choice.on ∙ ap (option_and_then (least_free (table_of nodes st))) (node_at-member nodes known choice.node choice.fitting.known)
     ∙ choice-slot nodes st s f seat choice
 
--- what one more seat bars
-pub bars_in-more : (nodes : List NodeInfo) (code : Code) (s : StripeNo) (f : Fragment) (hs : List Held) (i : ℕ) (d : Held) → i < length hs
-    → bars_in nodes code s f (take (i + 1) hs) ≡ with_held nodes code s f (bars_in nodes code s f (take i hs)) (get_or hs i d)
-bars_in-more nodes code s f hs i d within =
-    ap₂ (λ (a : FaultNo → Bool) (b : UpgradeNo → Bool). record { faults = a; upgrades = b })
-    (fun_ext (λ d'. list_any_more (bars_fault nodes s f d') hs i d within)) (fun_ext (λ d'. list_any_more (bars_upgrade nodes code s f d') hs i d within))
-
--- seats that are not of the stripe's other fragments bar nothing
-off-fault : (nodes : List NodeInfo) (s : StripeNo) (f : Fragment) (d : FaultNo) (h : Held) → is_beside s f h ≡ false → bars_fault nodes s f d h ≡ false
-off-fault nodes s f d h off = rw off refl
-
-off-upgrade : (nodes : List NodeInfo) (code : Code) (s : StripeNo) (f : Fragment) (d : UpgradeNo) (h : Held) → is_beside s f h ≡ false → bars_upgrade nodes code s f d h ≡ false
-off-upgrade nodes code s f d h off = rw off refl
-
-off-front : (p : Held → Bool) (xs ys : List Held) → All (λ h. p h ≡ false) xs → list_any p (xs ++ ys) ≡ list_any p ys
-off-front p xs ys off = list_any-append p xs ys ∙ ap (λ b. b || list_any p ys) (list_any_none p xs off)
-
-pub bars_in-off : (nodes : List NodeInfo) (code : Code) (s : StripeNo) (f : Fragment) (xs ys : List Held) → All (λ h. is_beside s f h ≡ false) xs → bars_in nodes code s f (xs ++ ys) ≡ bars_in nodes code s f ys
-bars_in-off nodes code s f xs ys off =
-    ap₂ (λ (a : FaultNo → Bool) (b : UpgradeNo → Bool). record { faults = a; upgrades = b })
-    (fun_ext (λ d. off-front (bars_fault nodes s f d) xs ys (All-weaker _ (λ h. bars_fault nodes s f d h ≡ false) (off-fault nodes s f d) xs off)))
-    (fun_ext (λ d. off-front (bars_upgrade nodes code s f d) xs ys (All-weaker _ (λ h. bars_upgrade nodes code s f d h ≡ false) (off-upgrade nodes code s f d) xs off)))
-
--- a stripe that is not there has no homes
-pub absent-homes : (nodes : List NodeInfo) (st : State) (s : StripeNo) (f : Fragment) → IsGood nodes st → has_stripe st s ≡ false → All (λ h. is_beside s f h ≡ false) st.homes
-absent-homes nodes st s f good absent =
-    All-weaker (λ h. Contains st.stripes h.stripe) (λ h. is_beside s f h ≡ false) (λ h there.
-    ap (λ b. b && not (nat_eq h.fragment.value f.value)) (ne_eqb h.stripe.value s.value (λ e. (
-    let hit = list_any-member (λ (t : StripeNo). nat_eq s.value t.value) st.stripes h.stripe there (eq-eqb s.value h.stripe.value (sym e)) in
-    let both : true ≡ false = sym hit ∙ absent in cc)))) st.homes good.there
-
 -- Over the table of a state in which the stripe is not there yet, with the domains of its planned homes barred, the seat is the one that is chosen beside these.
 pub beside-chosen : (nodes : List NodeInfo) (st : State) (new : List Held) (s : StripeNo) (f : Fragment) → AreNodes nodes → IsGood nodes st → has_stripe st s ≡ false → All (λ h. is_beside s f h ≡ true) new
     → next_seat (table_of nodes st) (bars_in nodes Wide s f new) ≡ chosen nodes (with_homes st new) s f
 beside-chosen nodes st new s f known good absent mine =
-    ap (next_seat (table_of nodes st)) (sym (bars_in-off nodes Wide s f st.homes new (absent-homes nodes st s f good absent)))
+    ap (next_seat (table_of nodes st)) (sym (bars_in-skip nodes Wide s f st.homes new (absent-beside nodes st s f good absent)))
     ∙ planned-chosen nodes st new s f mine known good.single (standing-slots nodes st (taken_seats st) good.standing)

@@ -1,9 +1,7 @@
 -- The seats of a stripe planned one after the other.
 use Rattle.std.proofs.Common.{◌≡◌, ◌≢◌, ℕ, ◌+◌, ◌<◌, true, not, ◌&&◌, nat_eq, List, [], ◌∷◌, ◌++◌, length, get_or, set, take, drop, fold, Option, Some, None, Result, Ok, Err, arith, refl, subst, sym, ap, ◌∙◌, append_assoc, append-nil, length-take}
-use Rattle.std.specs.List.{All, AllPairs}
-use Rattle.std.proofs.lemmas.Bool.{eq-eqb, ne_eqb}
-use Rattle.std.proofs.lemmas.List.{drop_more, take_more, take_more_set, get_or-take, get_or_default}
-use Rattle.std.proofs.lemmas.List.Elements.{All-nil, All-cons, All-head, All-tail}
+use Rattle.std.specs.List.{All}
+use Rattle.std.proofs.lemmas.List.{drop_more, take_more, take_more_set}
 use Rattle.std.specs.Option.{option_map_or}
 use Rattle.std.proofs.lemmas.List.Folds.{fold_stays}
 use Rattle.lrc_code.specs.declared.codes.Code.TheVariants.{Wide}
@@ -17,9 +15,8 @@ use Rattle.lrc_book.specs.States.{State}
 use Rattle.lrc_book.specs.Placement.{chosen, with_home, place_next, placed}
 use Rattle.lrc_book.specs.Changes.{held_at}
 use Rattle.lrc_book.specs.Ties.{is_beside, with_homes}
-use Rattle.lrc_code.proofs.NumbersLemmas.{same_fragment}
 use Rattle.lrc_book.proofs.ListLemmas.{held_at-push}
-use Rattle.lrc_book.proofs.GoodLemmas.{fragments-distinct}
+use Rattle.lrc_book.proofs.BarLemmas.{held_at-beside, earlier-fragments}
 
 -- what the placement goes on with, by what was chosen
 abbrev turn : StripeNo → State → Fragment → Option Seat → Result State Fragment
@@ -64,25 +61,8 @@ module _ (s : StripeNo) (planned : List Held) (fs : List Fragment) (i : ℕ) (d 
 
 -- ---- the planned homes are those of other fragments
 
--- homes of fragments that differ from this one
-held-beside : (s : StripeNo) (f : Fragment) (fs : List Fragment) (seats : List Seat) → All (λ g. g.value ≢ f.value) fs → All (λ h. is_beside s f h ≡ true) (held_at s fs seats)
-held-beside s f [] seats all = All-nil (λ h. is_beside s f h ≡ true)
-held-beside s f (g ∷ gs) [] all = All-nil (λ h. is_beside s f h ≡ true)
-held-beside s f (g ∷ gs) (x ∷ xs) all =
-    All-cons (λ h. is_beside s f h ≡ true) (record { stripe = s; fragment = g; seat = x }) (held_at s gs xs)
-    (rw (eq-eqb s.value s.value refl, ne_eqb g.value f.value (All-head (λ (k : Fragment). k.value ≢ f.value) g gs all)) refl)
-    (held-beside s f gs xs (All-tail (λ (k : Fragment). k.value ≢ f.value) g gs all))
-
--- the fragments before one differ from it
-earlier-differ : (fs : List Fragment) (i : ℕ) (f : Fragment) → AllPairs (λ f g. f ≢ g) fs → i < length fs → f ≡ get_or fs i f → All (λ g. g.value ≢ f.value) (take i fs)
-earlier-differ fs i f pairs within is = λ k d below. (λ same.
-    let short : k < i = let l = length-take i fs in omega (arith, below, l) in
-    let here : get_or (take i fs) k d ≡ get_or fs k d = get_or-take i fs k d short in
-    pairs k i d short within (same_fragment (get_or fs k d) (get_or fs i d) (ap (λ (g : Fragment). g.value) (sym here) ∙ same ∙ ap (λ (g : Fragment). g.value) (is ∙ get_or_default fs i f d within))))
-
--- the planned homes are those of the stripe's other fragments
-pub planned-beside : (s : StripeNo) (fs : List Fragment) (planned : List Held) (seats : List Seat) (i : ℕ) (f : Fragment) → fs ≡ fragments Wide → i < length fs → f ≡ get_or fs i f
-    → take i planned ≡ held_at s (take i fs) (take i seats) → All (λ h. is_beside s f h ≡ true) (take i planned)
-planned-beside s fs planned seats i f all within is planned_is =
-    subst (All (λ h. is_beside s f h ≡ true)) (sym planned_is)
-    (held-beside s f (take i fs) (take i seats) (earlier-differ fs i f (subst (AllPairs (λ f g. f ≢ g)) (sym all) (fragments-distinct Wide)) within is))
+pub planned-beside : (s : StripeNo) (planned : List Held) (seats : List Seat) (i : ℕ) (d : Fragment) → i < length (fragments Wide) → take i planned ≡ held_at s (take i (fragments Wide)) (take i seats)
+    → All (λ h. is_beside s (get_or (fragments Wide) i d) h ≡ true) (take i planned)
+planned-beside s planned seats i d within planned_is =
+    subst (All (λ h. is_beside s (get_or (fragments Wide) i d) h ≡ true)) (sym planned_is)
+    (held_at-beside s (get_or (fragments Wide) i d) (take i (fragments Wide)) (take i seats) (earlier-fragments Wide i d within))

@@ -1,7 +1,8 @@
 -- How the slot table and the barred domains follow the state.
-use Rattle.std.proofs.Common.{◌≡◌, ◌≢◌, ℕ, ◌+◌, ◌<◌, ◌≤◌, Bool, true, false, not, cond, ◌&&◌, ◌||◌, nat_eq, eqb, List, [], ◌∷◌, ◌++◌, map, filter, length, take, get_or, Some, arith, append-nil, refl, sym, ap, ◌∙◌, subst, inl, inr}
+use Rattle.std.proofs.Common.{◌≡◌, ◌≢◌, ℕ, ◌+◌, ◌<◌, ◌≤◌, Bool, true, false, not, cond, ◌&&◌, ◌||◌, nat_eq, eqb, List, [], ◌∷◌, ◌++◌, map, filter, length, take, get_or, Option, Some, None, arith, append-nil, refl, sym, ap, ◌∙◌, subst, inl, inr}
 use Rattle.std.proofs.Math.Path.{fun_ext}
 use Rattle.std.specs.List.{All, AllPairs, Contains, list_any}
+use Rattle.std.specs.Option.{option_map_or}
 use Rattle.std.proofs.lemmas.Bool.{cases_Bool, eqb-true, and_parts}
 use Rattle.std.proofs.lemmas.List.{map-append, take_all, get_or-take, length-take, get_or_default}
 use Rattle.std.proofs.lemmas.List.Elements.{All-filter, All-weaker, All-map, Contains-get_or, filter_more}
@@ -12,9 +13,10 @@ use Rattle.lrc_code.specs.declared.numbers.Fragment.{Fragment}
 use Rattle.lrc_topology.specs.declared.NodeInfo.{NodeInfo}
 use Rattle.lrc_topology.specs.declared.seat.Seat.{Seat}
 use Rattle.lrc_topology.specs.declared.seat.Held.{Held}
+use Rattle.lrc_topology.specs.Nodes.{node_at}
 use Rattle.lrc_topology.specs.Seats.{is_taken}
 use Rattle.lrc_slots.specs.Slots.{Slots, all_free, is_seat, with_taken, with_free}
-use Rattle.lrc_book.specs.States.{State, opening, seats_of, taken_seats}
+use Rattle.lrc_book.specs.States.{State, opening, seats_of, taken_seats, takes_seats}
 use Rattle.lrc_book.specs.Placement.{with_home}
 use Rattle.lrc_book.specs.Steps.{is_other, without_stripe}
 use Rattle.lrc_book.specs.Ties.{table_of}
@@ -55,12 +57,16 @@ abbrev pub table_on : Slots → List Held → Slots
 table_on t held = record t { taken = is_taken (map (λ h. h.seat) held) }
 
 -- a state's table is such a one
-pub table-seats : (nodes : List NodeInfo) (st : State) → table_of nodes st ≡ table_on (all_free nodes) (seats_of st)
+pub table-seats : (nodes : List NodeInfo) (st : State) → table_of nodes st ≡ table_on (table_of nodes st) (seats_of st)
 table-seats nodes st = refl
+
+at-opening : (o : Option NodeInfo) → true ≡ option_map_or (takes_seats opening) o true
+at-opening None = refl
+at-opening (Some n) = refl
 
 -- the opening state has the table of which nothing is taken
 pub table-opening : (nodes : List NodeInfo) → all_free nodes ≡ table_of nodes opening
-table-opening nodes = refl
+table-opening nodes = ap (λ (eligible : NodeNo → Bool). record (all_free nodes) { eligible = eligible }) (fun_ext (λ n. at-opening (node_at nodes n)))
 
 -- ---- one seat more, or less
 

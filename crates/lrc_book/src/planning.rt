@@ -4,7 +4,7 @@ ghost use Rattle.std.specs.Prelude.{◌≡◌, ◌++◌, [], Ok, Err, IfOk, IfEr
 ghost use Rattle.std.specs.List.{All};
 ghost use Rattle.lrc_code.specs.declared.codes.Code.TheVariants.{Wide};
 ghost use Rattle.lrc_code.specs.Codes.{fragments, same_class};
-ghost use Rattle.lrc_slots.specs.Choices.{no_bars};
+ghost use Rattle.lrc_slots.specs.Barred.{no_bars};
 ghost use Rattle.lrc_slots.specs.Tables.{seen, barred};
 ghost use Rattle.lrc_book.specs.States.{State, has_stripe};
 ghost use Rattle.lrc_book.specs.Placement.{placed, chosen};

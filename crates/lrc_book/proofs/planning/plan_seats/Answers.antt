@@ -1,6 +1,7 @@
-use Rattle.std.proofs.Common.{true, subst, ◌≡◌, ◌++◌, ◌<◌, length, take, arith, refl, sym, ◌∙◌, length-set}
+use Rattle.std.proofs.Common.{true, List, get_or, ap, subst, ◌≡◌, ◌++◌, ◌<◌, length, take, arith, refl, sym, ◌∙◌, length-set}
 use Rattle.std.specs.List.{All}
 use Rattle.lrc_code.specs.declared.numbers.Fragment.{Fragment}
+use Rattle.lrc_book.specs.Changes.{held_at}
 use Rattle.lrc_book.specs.Ties.{is_beside, with_homes}
 use Rattle.lrc_book.proofs.PlanningLemmas.{placing-start, placing-none, placing-more, planned-more, planned-beside}
 use Rattle.lrc_book.proofs.planning.plan_seats.Goals as goal
@@ -21,8 +22,9 @@ seat_for-requires g c =
       c.requires.0,
       (
         c.requires.1,
-        subst (λ (f : Fragment). All (λ h. is_beside c.args.stripe f h ≡ true) (take c.loop-i.i c.loop-i.planned)) c.fragment-item.is
-            (planned-beside c.args.stripe c.all.result c.loop-i.planned c.loop-i.seats c.loop-i.i c.fragment-item.result c.loop-i.invariant.all within c.fragment-item.is c.loop-i.invariant.planned),
+        subst (λ (fs : List Fragment). All (λ h. is_beside c.args.stripe (get_or fs c.loop-i.i c.fragment-item.result) h ≡ true) (take c.loop-i.i c.loop-i.planned)) (sym c.loop-i.invariant.all)
+            (planned-beside c.args.stripe c.loop-i.planned c.loop-i.seats c.loop-i.i c.fragment-item.result (omega arith)
+            (c.loop-i.invariant.planned ∙ ap (λ (fs : List Fragment). held_at c.args.stripe (take c.loop-i.i fs) (take c.loop-i.i c.loop-i.seats)) c.loop-i.invariant.all)),
       ),
     )
 
