@@ -5,7 +5,7 @@ use Rattle.std.specs.List.{All, AllPairs, Contains, list_any, filter_map, cons_o
 use Rattle.std.specs.Option.{option_to_list}
 use Rattle.std.proofs.lemmas.Bool.{cases_Bool, eqb-true, eq-eqb, and_parts, false_from_ne_true}
 use Rattle.std.proofs.lemmas.Option.{same_Some}
-use Rattle.std.proofs.lemmas.List.{take_more, get_or-map}
+use Rattle.std.proofs.lemmas.List.{take_more, get_or-map, map-append, append-nil}
 use Rattle.std.proofs.lemmas.List.FromFn.{get_or-range_with_len}
 use Rattle.std.proofs.lemmas.List.Elements.{All-contains, All-map, filter_map-append}
 use Rattle.lrc_code.specs.declared.codes.Code.TheVariants.{Wide}
@@ -21,13 +21,13 @@ use Rattle.lrc_topology.specs.Seats.{is_taken}
 use Rattle.lrc_slots.specs.Slots.{Slots}
 use Rattle.lrc_stripes.specs.Levels.{home_of}
 use Rattle.lrc_book.specs.Steps.{is_other}
-use Rattle.lrc_book.specs.Ties.{is_beside, bars_fault, bars_upgrade, bars_in}
+use Rattle.lrc_book.specs.Ties.{is_beside, bars_fault, bars_upgrade, bars_in, given_back}
 use Rattle.lrc_book.proofs.MemberLemmas.{All-members, Contains-here, Contains-later, Contains-cases, not-Contains-nil, find-member, filter-member, member-filter, list_any-member, member-list_any, AllPairs-head, AllPairs-tail}
 use Rattle.lrc_book.proofs.NodeLemmas.{member-taken}
 use Rattle.lrc_book.proofs.ChoiceLemmas.{same_stripe}
 use Rattle.lrc_book.proofs.GoodLemmas.{held_on, pairs-unmap}
 use Rattle.lrc_book.proofs.TieLemmas.{not_taken}
-use Rattle.lrc_book.proofs.TableLemmas.{map-member, taken-held, table_on, table_less, table_less-all}
+use Rattle.lrc_book.proofs.TableLemmas.{map-member, taken-held, table_on, table_less, table_less-push, table_less-all}
 use Rattle.lrc_book.proofs.BarLemmas.{same_bars}
 
 -- ---- lists
@@ -211,3 +211,15 @@ module _ (homes : List Held) (s : StripeNo) (once : AllPairs (λ h g. h.stripe �
         let apart : x ≡ h → ⊥ = λ one. All-contains (λ g. g ≢ f) fs x.fragment other m.2 (ap (λ (y : Held). y.fragment) one ∙ fragment) in
         pairs-members (λ h g. h.seat ≢ g.seat) homes (λ x y r e. r (sym e)) pairs x h m.0 home.0 apart (sym equal ∙ sym same)))) in
         rw (here, alone) refl
+
+-- one fragment's seat more is given back, if it has one
+pub given_back-more : (t : Slots) (homes : ℕ → Option Seat) (s : StripeNo) (fs : List Fragment) (i : ℕ) (d : Fragment) → i < length fs
+    → given_back (table_less t (map (λ h. h.seat) (held_by homes s (take i fs)))) (homes (get_or fs i d).value) ≡ table_less t (map (λ h. h.seat) (held_by homes s (take (i + 1) fs)))
+given_back-more t homes s fs i d within =
+    given_back-one t (held_by homes s (take i fs)) s (get_or fs i d) (homes (get_or fs i d).value) ∙ ap (λ (hs : List Held). table_less t (map (λ h. h.seat) hs)) (sym (held_by-more homes s fs i d within))
+  where
+    given_back-one : (t : Slots) (held : List Held) (s : StripeNo) (f : Fragment) (o : Option Seat)
+        → given_back (table_less t (map (λ h. h.seat) held)) o ≡ table_less t (map (λ h. h.seat) (held ++ option_to_list (option_map (held_on s f) o)))
+    given_back-one t held s f None = ap (λ (hs : List Held). table_less t (map (λ h. h.seat) hs)) (sym (append-nil held))
+    given_back-one t held s f (Some seat) =
+        table_less-push t (map (λ h. h.seat) held) seat ∙ ap (table_less t) (sym (map-append (λ (h : Held). h.seat) held (held_on s f seat ∷ [])))

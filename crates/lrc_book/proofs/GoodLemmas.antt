@@ -72,7 +72,7 @@ held_on s f seat = record { stripe = s; fragment = f; seat = seat }
 
 module _ (nodes : List NodeInfo) (known : AreNodes nodes) (st : State) (s : StripeNo) (f : Fragment) (seat : Seat) where
   -- a seat that is chosen is none of those that are held
-  choice-new : IsChoice nodes st s f seat → All (λ a. a ≢ seat) (taken_seats st)
+  pub choice-new : IsChoice nodes st s f seat → All (λ a. a ≢ seat) (taken_seats st)
   choice-new choice =
       All-members (λ a. a ≢ seat) (taken_seats st) (λ a here same. choice.free.free (subst (Contains (taken_seats st)) (same ∙ ap (λ n. seat_on n seat.slot) choice.on) here))
 
@@ -125,7 +125,7 @@ pub record IsPlacing (nodes : List NodeInfo) (s : StripeNo) (st : State) (rest :
   pub absent : All (HasNone s st.homes) rest
 
 module _ (nodes : List NodeInfo) (known : AreNodes nodes) (s : StripeNo) where
-  placing-some : (st : State) (f : Fragment) (fs : List Fragment) (seat : Seat) → IsPlacing nodes s st (f ∷ fs) → chosen nodes st s f ≡ Some seat → IsPlacing nodes s (with_home st s f seat) fs
+  pub placing-some : (st : State) (f : Fragment) (fs : List Fragment) (seat : Seat) → IsPlacing nodes s st (f ∷ fs) → chosen nodes st s f ≡ Some seat → IsPlacing nodes s (with_home st s f seat) fs
   placing-some st f fs seat p e =
       let absent = All-head (HasNone s st.homes) f fs p.absent in
       record {

@@ -11,3 +11,5 @@ pub mod BarLemmas
 pub mod PlanLemmas
 pub mod PlanningLemmas
 pub mod FragmentLemmas
+pub mod StoredLemmas
+pub mod PlacingLemmas

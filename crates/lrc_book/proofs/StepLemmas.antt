@@ -23,7 +23,7 @@ use Rattle.lrc_book.specs.declared.entry.Entry.{Entry}
 use Rattle.lrc_book.specs.States.{State, has_stripe, mode_of, is_gone, is_down}
 use Rattle.lrc_book.specs.Placement.{chosen, with_home, place_next, placed}
 use Rattle.lrc_book.specs.Steps.{Outcome, refuse_if, with_stripe, without_stripe, place_answer, place_outcome, drop_outcome, fail_outcome, down_outcome, up_outcome, join_outcome, step}
-use Rattle.lrc_book.specs.Changes.{held_at, with_placed, changed_by}
+use Rattle.lrc_book.specs.Changes.{held_at, AreChosen, with_placed, changed_by}
 
 -- ---- placing
 
@@ -104,16 +104,18 @@ module _ (nodes : List NodeInfo) (st : State) (s : StripeNo) where
 
 -- ---- what a step changes
 
--- a placement adds homes of the fragments in their order
-pub record IsGrown (s : StripeNo) (fs : List Fragment) (st done : State) : Type 0 where
+-- a placement adds homes of the fragments in their order, on the seats that are chosen for them
+pub record IsGrown (nodes : List NodeInfo) (s : StripeNo) (fs : List Fragment) (st done : State) : Type 0 where
   pub seats : List Seat
   pub all : length seats ≡ length fs
+  pub chosen_are : AreChosen nodes st s fs seats
   pub is : done ≡ record st { homes = st.homes ++ held_at s fs seats }
 
-grown-more : (s : StripeNo) (f : Fragment) (fs : List Fragment) (st done : State) (seat : Seat) → IsGrown s fs (with_home st s f seat) done → IsGrown s (f ∷ fs) st done
-grown-more s f fs st done seat g = record {
+grown-more : (nodes : List NodeInfo) (s : StripeNo) (f : Fragment) (fs : List Fragment) (st done : State) (seat : Seat) → chosen nodes st s f ≡ Some seat → IsGrown nodes s fs (with_home st s f seat) done → IsGrown nodes s (f ∷ fs) st done
+grown-more nodes s f fs st done seat here g = record {
   seats = seat ∷ g.seats;
   all = omega (arith, g.all);
+  chosen_are = (here, g.chosen_are);
   is = g.is ∙ ap (λ (hs : List Held). record st { homes = hs }) (append_assoc st.homes (record { stripe = s; fragment = f; seat = seat } ∷ []) (held_at s fs g.seats));
 }
 
@@ -122,19 +124,19 @@ never-ends nodes s fs f done e = let stays = sym (fold_stays (place_next nodes s
 
 grown-turn :
     (nodes : List NodeInfo) (s : StripeNo) (f : Fragment) (fs : List Fragment) (st done : State) (o : Option Seat)
-    → ((next : State) → fold (place_next nodes s) (Ok next) fs ≡ Ok done → IsGrown s fs next done)
-    → fold (place_next nodes s) (turn s st f o) fs ≡ Ok done → IsGrown s (f ∷ fs) st done
-grown-turn nodes s f fs st done (Some seat) rest e = grown-more s f fs st done seat (rest (with_home st s f seat) e)
-grown-turn nodes s f fs st done None rest e = absurd (never-ends nodes s fs f done e)
+    → chosen nodes st s f ≡ o → ((next : State) → fold (place_next nodes s) (Ok next) fs ≡ Ok done → IsGrown nodes s fs next done)
+    → fold (place_next nodes s) (turn s st f o) fs ≡ Ok done → IsGrown nodes s (f ∷ fs) st done
+grown-turn nodes s f fs st done (Some seat) here rest e = grown-more nodes s f fs st done seat here (rest (with_home st s f seat) e)
+grown-turn nodes s f fs st done None here rest e = absurd (never-ends nodes s fs f done e)
 
 same_ok : (st done : State) → ◌≡◌ {A = Result State Fragment} (Ok st) (Ok done) → st ≡ done
 same_ok st done e = cc
 
-placing-grown : (nodes : List NodeInfo) (s : StripeNo) (fs : List Fragment) (st done : State) → fold (place_next nodes s) (Ok st) fs ≡ Ok done → IsGrown s fs st done
-placing-grown nodes s [] st done e = record { seats = []; all = refl; is = sym (same_ok st done e) ∙ ap (λ (hs : List Held). record st { homes = hs }) (sym (append-nil st.homes)) }
-placing-grown nodes s (f ∷ fs) st done e = grown-turn nodes s f fs st done (chosen nodes st s f) (λ next. placing-grown nodes s fs next done) e
+placing-grown : (nodes : List NodeInfo) (s : StripeNo) (fs : List Fragment) (st done : State) → fold (place_next nodes s) (Ok st) fs ≡ Ok done → IsGrown nodes s fs st done
+placing-grown nodes s [] st done e = record { seats = []; all = refl; chosen_are = tt; is = sym (same_ok st done e) ∙ ap (λ (hs : List Held). record st { homes = hs }) (sym (append-nil st.homes)) }
+placing-grown nodes s (f ∷ fs) st done e = grown-turn nodes s f fs st done (chosen nodes st s f) refl (λ next. placing-grown nodes s fs next done) e
 
-answer-changed : (nodes : List NodeInfo) (st : State) (s : StripeNo) (r : Result State Fragment) → ((done : State) → r ≡ Ok done → IsGrown s (fragments Wide) (with_stripe st Wide s) done)
+answer-changed : (nodes : List NodeInfo) (st : State) (s : StripeNo) (r : Result State Fragment) → ((done : State) → r ≡ Ok done → IsGrown nodes s (fragments Wide) (with_stripe st Wide s) done)
     → (place_answer st s r).1 ≡ changed_by st (Place s) (place_answer st s r).0
 answer-changed nodes st s (Err f) grown = refl
 answer-changed nodes st s (Ok done) grown =
@@ -146,7 +148,7 @@ place-passed : (nodes : List NodeInfo) (st : State) (s : StripeNo) → has_strip
 unfolding place_outcome
 place-passed nodes st s absent = passed-if _ _ st _ absent
 
-placed-grown : (nodes : List NodeInfo) (st : State) (s : StripeNo) (done : State) → placed nodes (with_stripe st Wide s) s ≡ Ok done → IsGrown s (fragments Wide) (with_stripe st Wide s) done
+placed-grown : (nodes : List NodeInfo) (st : State) (s : StripeNo) (done : State) → placed nodes (with_stripe st Wide s) s ≡ Ok done → IsGrown nodes s (fragments Wide) (with_stripe st Wide s) done
 unfolding placed
 placed-grown nodes st s done e = placing-grown nodes s (fragments Wide) (with_stripe st Wide s) done e
 

@@ -1,5 +1,5 @@
 -- The slot table and the stripes that belong to a state, and the domains that are barred for a fragment.
-use Rattle.std.specs.Prelude.{◌≡◌, ℕ, Bool, true, false, not, ◌&&◌, ◌||◌, nat_eq, List, ◌++◌, Option, option_map, option_and_then}
+use Rattle.std.specs.Prelude.{◌≡◌, ℕ, Bool, true, false, not, ◌&&◌, ◌||◌, nat_eq, List, ◌++◌, Option, Some, None, option_map, option_and_then}
 use Rattle.std.specs.List.{list_any}
 use Rattle.std.specs.Option.{option_map_or}
 use Rattle.lrc_code.specs.declared.codes.Code.{Code}
@@ -14,7 +14,7 @@ use Rattle.lrc_topology.specs.declared.seat.Held.{Held}
 use Rattle.lrc_topology.specs.Nodes.{AreNodes, node_at}
 use Rattle.lrc_topology.specs.Seats.{is_taken}
 use Rattle.lrc_code.specs.declared.numbers.NodeNo.{NodeNo}
-use Rattle.lrc_slots.specs.Slots.{Slots, least_free_at}
+use Rattle.lrc_slots.specs.Slots.{Slots, least_free_at, with_free}
 use Rattle.lrc_stripes.specs.Levels.{homes_of}
 use Rattle.lrc_stripes.specs.Stored.{Stored}
 use Rattle.lrc_slots.specs.Barred.{Barred}
@@ -43,6 +43,11 @@ pub record AreOf (nodes : List NodeInfo) (st : State) (table : Slots) (stripes :
   pub good : IsGood nodes st
   pub table_is : table ≡ table_of nodes st
   pub stripes_is : stripes ≡ stored_of nodes st stripes.spare
+
+-- the seat given back, if there is one
+abbrev pub given_back : Slots → Option Seat → Slots
+given_back t (Some seat) = with_free t seat.node seat.slot
+given_back t None = t
 
 -- ---- barred domains
 

@@ -1,15 +1,16 @@
 //! What a command changes of the table, the stripes and the modes of nodes. Room was made before, so nothing here
 //! fails.
 
-ghost use Rattle.std.specs.Prelude.{◌≡◌, ◌≤◌, [], true, false};
+ghost use Rattle.std.specs.Prelude.{◌≡◌, ◌≤◌, true, false, IsTrue};
+ghost use Rattle.std.specs.Option.{ForSome};
 ghost use Rattle.lrc_code.specs.declared.codes.Code.TheVariants.{Wide};
 ghost use Rattle.lrc_code.specs.Codes.{fragments};
 ghost use Rattle.lrc_slots.specs.Tables.{seen as slots_of};
 ghost use Rattle.lrc_stripes.specs.Tables.{seen as stored_in};
 ghost use Rattle.lrc_book.specs.States.{State, has_stripe};
-ghost use Rattle.lrc_book.specs.Steps.{without_stripe};
+ghost use Rattle.lrc_book.specs.Steps.{with_stripe, without_stripe};
 ghost use Rattle.lrc_book.specs.Changes.{AreChosen, with_placed};
-ghost use Rattle.lrc_book.specs.Ties.{table_of, stored_of, AreOf};
+ghost use Rattle.lrc_book.specs.Ties.{table_of, stored_of, given_back, AreOf};
 
 use crate::Seat;
 use lrc_code::{Fragment, StripeNo};
@@ -27,7 +28,7 @@ pub(crate) fn place_stripe(
     requires kept { AreOf (slots_of table.old).nodes st (slots_of table.old) (stored_in stripes.old) }
     requires absent { has_stripe st stripe ≡ false }
     requires room { 1 ≤ (stored_in stripes.old).spare }
-    requires seats { AreChosen (slots_of table.old).nodes (with_placed st stripe []) stripe (fragments Wide) seats.now }
+    requires seats { AreChosen (slots_of table.old).nodes (with_stripe st Wide stripe) stripe (fragments Wide) seats.now }
     ensures table { slots_of table.new ≡ table_of (slots_of table.old).nodes (with_placed st stripe seats.now) }
     ensures stripes { stored_in stripes.new ≡ stored_of (slots_of table.old).nodes (with_placed st stripe seats.now) (stored_in stripes.new).spare }
 {
@@ -39,6 +40,17 @@ pub(crate) fn place_stripe(
     }
 }
 
+/// Gives the seat of a home back, if there is one.
+pub(crate) fn give_back(table: &mut SlotTable, home: Option<Seat>)
+    requires { ForSome home (λ seat. IsTrue ((slots_of table.old).taken seat.node seat.slot)) }
+    ensures { slots_of table.new ≡ given_back (slots_of table.old) home }
+{
+    match home {
+        Some(seat) => table.free(seat.node, seat.slot),
+        None => {}
+    }
+}
+
 /// Takes a stripe out, and gives the seats of its homes back.
 pub(crate) fn drop_stripe(table: &mut SlotTable, stripes: &mut Stripes, stripe: StripeNo)
     ghost st: { State }
@@ -47,10 +59,8 @@ pub(crate) fn drop_stripe(table: &mut SlotTable, stripes: &mut Stripes, stripe: 
     ensures table { slots_of table.new ≡ table_of (slots_of table.old).nodes (without_stripe st stripe) }
     ensures stripes { stored_in stripes.new ≡ stored_of (slots_of table.old).nodes (without_stripe st stripe) (stored_in stripes.new).spare }
 {
-    for fragment in Fragment::all() {
-        if let Some(seat) = stripes.home(stripe, fragment) {
-            table.free(seat.node, seat.slot);
-        }
+    for fragment in Fragment::all().iter() {
+        give_back(table, stripes.home(stripe, *fragment));
     }
     stripes.remove(stripe);
 }
