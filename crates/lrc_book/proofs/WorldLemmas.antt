@@ -40,14 +40,3 @@ legal_append nodes w (x ∷ xs) ys a b = (a.0, legal_append nodes (next_world no
 
 pub legal_push : (nodes : List NodeInfo) (h : List Entry) (e : Entry) → IsLegal nodes h → (outcome_in nodes (world_after nodes h) e.session e.command).0 ≡ e.reply → IsLegal nodes (h ++ e ∷ [])
 legal_push nodes h e legal is = legal_append nodes first_world h (e ∷ []) legal (is, tt)
-
--- a step that is made and recorded keeps what is kept
-pub kept_push : (nodes : List NodeInfo) (limit : ℕ) (h : List Entry) (kept : State) (e : Entry) → IsKept nodes limit h kept → length h < limit
-    → (outcome_in nodes (world_after nodes h) e.session e.command).0 ≡ e.reply → IsKept nodes limit (h ++ e ∷ []) (changed_by kept e.command e.reply)
-kept_push nodes limit h kept e k room is = record {
-  current = ap (λ (w : World). w.state) (world_push nodes h e) ∙ step-changed nodes (world_after nodes h).past (state_after nodes h) e.session e.command
-      ∙ ap (changed_by (state_after nodes h) e.command) is ∙ ap (λ (st : State). changed_by st e.command e.reply) k.current;
-  legal = legal_push nodes h e k.legal is;
-  few = rw (length-append h (e ∷ [])) (omega (arith, room));
-  limited = k.limited;
-}
