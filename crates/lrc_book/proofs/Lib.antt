@@ -11,3 +11,4 @@ pub mod BarLemmas
 pub mod PlanLemmas
 pub mod PlanningLemmas
 pub mod FragmentLemmas
+pub mod StoredLemmas
