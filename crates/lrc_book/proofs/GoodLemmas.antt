@@ -1,11 +1,11 @@
 -- Each command leaves a good state.
-use Rattle.std.proofs.Common.{inl, inr, ℕ, if◌then◌else◌, is_none, ◌≡◌, ◌≢◌, ◌<◌, Bool, true, false, not, ◌&&◌, eqb, List, [], ◌∷◌, ◌++◌, map, filter, fold, Option, Some, None, Result, Ok, Err, IfSome, IsSomeAnd, arith, refl, sym, ap, ◌∙◌, subst}
+use Rattle.std.proofs.Common.{inl, inr, ◌||◌, ℕ, if◌then◌else◌, is_none, ◌≡◌, ◌≢◌, ◌<◌, Bool, true, false, not, ◌&&◌, eqb, List, [], ◌∷◌, ◌++◌, map, filter, fold, Option, Some, None, Result, Ok, Err, IfSome, IsSomeAnd, arith, refl, sym, ap, ◌∙◌, subst}
 use Rattle.std.specs.List.{All, AllPairs, Contains, list_any}
 use Rattle.std.specs.Option.{option_map_or}
-use Rattle.std.proofs.lemmas.Bool.{cases_Bool, ne_eqb, eq-eqb, eqb-false, not-true, and_parts}
+use Rattle.std.proofs.lemmas.Bool.{cases_Bool, ne_eqb, eq-eqb, eqb-false, not-true, and_parts, or_parts}
 use Rattle.std.proofs.lemmas.Option.{IfSome_then}
 use Rattle.std.proofs.lemmas.List.{map-append}
-use Rattle.std.proofs.lemmas.List.Elements.{All-nil, All-cons, All-head, All-tail, All-push, All-weaker, All-filter, All-map, All-contains, Contains-append_left, Contains-push}
+use Rattle.std.proofs.lemmas.List.Elements.{All-nil, All-cons, All-head, All-tail, All-push, All-weaker, All-filter, All-map, All-contains, Contains-append_left, Contains-push, Contains-push_cases}
 use Rattle.std.proofs.lemmas.List.Folds.{fold_stays, list_any-append}
 use Rattle.std.proofs.lemmas.List.Quantifiers.{all_pairs_push}
 use Rattle.std.proofs.lemmas.List.Kept.{AllPairs-cons, AllPairs-filter}
@@ -113,6 +113,7 @@ module _ (nodes : List NodeInfo) (known : AreNodes nodes) (st : State) (s : Stri
         lawful = pairs-push (KeepApart nodes st) st.homes y good.lawful (All-weaker (IsApartFrom nodes st s f choice.node) (λ h. KeepApart nodes st h y) (choice-apart choice) st.homes choice.fitting.lawful);
         one_home = pairs-push (λ h g. h.stripe ≡ g.stripe → h.fragment ≢ g.fragment) st.homes y good.one_home absent;
         there = All-push (λ h. Contains st.stripes h.stripe) st.homes y good.there there;
+        reachable = good.reachable;
       }
 
 -- ---- placing
@@ -187,6 +188,7 @@ module _ (nodes : List NodeInfo) (known : AreNodes nodes) (st : State) (s : Stri
     lawful = good.lawful;
     one_home = good.one_home;
     there = All-weaker (λ h. Contains st.stripes h.stripe) (λ h. Contains (st.stripes ++ s ∷ []) h.stripe) (λ h here. Contains-append_left st.stripes (s ∷ []) h.stripe here) st.homes good.there;
+    reachable = good.reachable;
   }
 
   pub stripe-placing : (code : Code) → IsGood nodes st → has_stripe st s ≡ false → IsPlacing nodes s (with_stripe st code s) (fragments (code_of (with_stripe st code s) s))
@@ -228,6 +230,7 @@ module _ (nodes : List NodeInfo) (known : AreNodes nodes) (st : State) (s : Stri
         there = All-members (λ h. Contains (filter (is_other s) st.stripes) h.stripe) (filter kept st.homes)
             (λ h here. let m = filter-member kept st.homes h here in
             member-filter (is_other s) st.stripes h.stripe (All-contains (λ g. Contains st.stripes g.stripe) st.homes h good.there m.0) m.1);
+        reachable = good.reachable;
       }
 
   pub drop-good : IsGood nodes st → IsGood nodes (drop_outcome st s).1
@@ -242,6 +245,10 @@ not_gone numbers m miss gone = (let active : Active ≡ Gone = rw miss at gone i
 
 gone-number : (st : State) (m : NodeNo) → mode_of st m ≢ Gone → has_number st.gone m ≡ false
 gone-number st m present = elim (cases_Bool (has_number st.gone m)) [ inl hit ↦ absurd (present (rw hit refl)) | inr miss ↦ miss ]
+
+-- the same of the test of its mode
+pub active-number : (st : State) (m : NodeNo) → is_gone (mode_of st m) ≡ false → has_number st.gone m ≡ false
+active-number st m e = elim (cases_Bool (has_number st.gone m)) [ inl hit ↦ (let both : true ≡ false = rw hit at e in cc) | inr miss ↦ miss ]
 
 standing-by : (nodes : List NodeInfo) (o : Option NodeInfo) (slot : ℕ) (P Q : Type 0) → IsSomeAnd o (λ n. (slot < n.slots) × P) → Q → IsSomeAnd o (λ n. (slot < n.slots) × Q)
 standing-by nodes (Some n) slot P Q standing q = (standing.0, q)
@@ -261,10 +268,11 @@ fewer-numbers numbers n m miss =
     list_any-All (λ (k : NodeNo). eqb m.value k.value) (without_number numbers n)
     (All-filter (λ (k : NodeNo). not (eqb n.value k.value)) (λ k. eqb m.value k.value ≡ false) numbers (All-list_any (λ (k : NodeNo). eqb m.value k.value) numbers miss))
 
--- a change of modes leaves a good state, where no seat's node is gone afterwards
+-- a change of modes leaves a good state, where no seat's node is gone afterwards, and no node that is down
 modes-good : (nodes : List NodeInfo) (st : State) (gone down : List NodeNo) → IsGood nodes st
-    → ((seat : Seat) → Contains (taken_seats st) seat → has_number gone seat.node ≡ false) → IsGood nodes (record st { gone = gone; down = down })
-modes-good nodes st gone down good present =
+    → ((seat : Seat) → Contains (taken_seats st) seat → has_number gone seat.node ≡ false) → ((m : NodeNo) → Contains down m → has_number gone m ≡ false)
+    → IsGood nodes (record st { gone = gone; down = down })
+modes-good nodes st gone down good present reachable =
     let st' = record st { gone = gone; down = down } in
     record {
       stripes = good.stripes;
@@ -275,6 +283,7 @@ modes-good nodes st gone down good present =
       lawful = good.lawful;
       one_home = good.one_home;
       there = good.there;
+      reachable = All-members (λ m. mode_of st' m ≢ Gone) down (λ m here. not_gone gone m (reachable m here));
     }
 
 module _ (nodes : List NodeInfo) (st : State) (n : NodeNo) where
@@ -294,11 +303,20 @@ module _ (nodes : List NodeInfo) (st : State) (n : NodeNo) where
     lawful = AllPairs-filter (KeepApart nodes st) kept st.homes good.lawful;
     one_home = AllPairs-filter (λ h g. h.stripe ≡ g.stripe → h.fragment ≢ g.fragment) kept st.homes good.one_home;
     there = All-filter kept (λ h. Contains st.stripes h.stripe) st.homes good.there;
+    reachable = good.reachable;
   }
 
   -- a seat's node is not gone
   pub seat-present : IsGood nodes st → (seat : Seat) → Contains (taken_seats st) seat → has_number st.gone seat.node ≡ false
   seat-present good seat here = gone-number st seat.node (standing-present nodes st seat (All-contains (IsStanding nodes st) (taken_seats st) seat good.standing here))
+
+  -- nor is a node that is down
+  pub down-present : IsGood nodes st → (m : NodeNo) → Contains st.down m → has_number st.gone m ≡ false
+  down-present good m here = gone-number st m (All-contains (λ k. mode_of st k ≢ Gone) st.down m good.reachable here)
+
+  -- the numbers that are left of a list are others, and stood in it
+  left-number : (numbers : List NodeNo) (m : NodeNo) → Contains (without_number numbers n) m → Contains numbers m × (eqb n.value m.value ≡ false)
+  left-number numbers m here = let parts = filter-member (λ (k : NodeNo). not (eqb n.value k.value)) numbers m here in (parts.0, not-true _ parts.1)
 
   -- no home that is left stands on the node
   emptied-apart : All (λ (seat : Seat). eqb n.value seat.node.value ≡ false) (taken_seats (emptied st n))
@@ -317,24 +335,31 @@ module _ (nodes : List NodeInfo) (st : State) (n : NodeNo) where
       changed-good (is_gone (mode_of st n)) (with_gone (emptied st n) n) good (λ _.
       (let left = kept-good (λ h. not (stands_on n h)) good in
       modes-good nodes (emptied st n) (st.gone ++ n ∷ []) (without_number st.down n) left
-      (λ seat here. other-number seat.node (All-contains (λ (a : Seat). eqb n.value a.node.value ≡ false) (taken_seats (emptied st n)) seat emptied-apart here) (left-present good seat here))))
+      (λ seat here. other-number seat.node (All-contains (λ (a : Seat). eqb n.value a.node.value ≡ false) (taken_seats (emptied st n)) seat emptied-apart here) (left-present good seat here))
+      (λ m here. let parts = left-number st.down m here in other-number m parts.1 (down-present good m parts.0))))
     where
       left-present : IsGood nodes st → (seat : Seat) → Contains (taken_seats (emptied st n)) seat → has_number st.gone seat.node ≡ false
       left-present good seat here = gone-number (emptied st n) seat.node (standing-present nodes (emptied st n) seat (All-contains (IsStanding nodes (emptied st n)) (taken_seats (emptied st n)) seat (kept-good (λ h. not (stands_on n h)) good).standing here))
 
   pub down-good : IsGood nodes st → IsGood nodes (down_outcome nodes st n).1
   unfolding down_outcome
-  down-good good = changed-good _ (with_down st n) good (λ _. modes-good nodes st st.gone (st.down ++ n ∷ []) good (seat-present good))
+  down-good good =
+      changed-good (is_gone (mode_of st n) || is_down st n) (with_down st n) good (λ right.
+      modes-good nodes st st.gone (st.down ++ n ∷ []) good (seat-present good)
+      (λ m here. elim (Contains-push_cases st.down n m here) [
+        | inl old ↦ down-present good m old
+        | inr new ↦ subst (λ k. has_number st.gone k ≡ false) new (active-number st n (or_parts (is_gone (mode_of st n)) (is_down st n) right).0)
+      ]))
 
   pub up-good : IsGood nodes st → IsGood nodes (up_outcome nodes st n).1
   unfolding up_outcome
-  up-good good = changed-good _ (without_down st n) good (λ _. modes-good nodes st st.gone (without_number st.down n) good (seat-present good))
+  up-good good = changed-good _ (without_down st n) good (λ _. modes-good nodes st st.gone (without_number st.down n) good (seat-present good) (λ m here. down-present good m (left-number st.down m here).0))
 
   pub join-good : IsGood nodes st → IsGood nodes (join_outcome nodes st n).1
   unfolding join_outcome
   join-good good =
       changed-good _ (without_gone st n) good (λ _. modes-good nodes st (without_number st.gone n) st.down good
-      (λ seat here. fewer-numbers st.gone n seat.node (seat-present good seat here)))
+      (λ seat here. fewer-numbers st.gone n seat.node (seat-present good seat here)) (λ m here. fewer-numbers st.gone n m (down-present good m here)))
 
 -- ---- histories
 
@@ -346,6 +371,7 @@ opening-good nodes = record {
   lawful = λ i j d below within. absurd (omega arith);
   one_home = λ i j d below within. absurd (omega arith);
   there = All-nil (λ h. Contains opening.stripes h.stripe);
+  reachable = All-nil (λ n. mode_of opening n ≢ Gone);
 }
 
 -- Each command leaves a good state.

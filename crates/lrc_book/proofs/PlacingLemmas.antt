@@ -32,7 +32,7 @@ use Rattle.lrc_book.proofs.GoodLemmas.{HasNone, IsPlacing, placing-some, stripe-
 use Rattle.lrc_book.proofs.ListLemmas.{held_at-more}
 use Rattle.lrc_book.proofs.TableLemmas.{table-push}
 use Rattle.lrc_book.proofs.PlanLemmas.{chosen-first_free}
-use Rattle.lrc_book.proofs.StoredLemmas.{stored-stripe, stored-home, stored-free}
+use Rattle.lrc_book.proofs.StoredLemmas.{stored-stripe, stored-home, stored-apart}
 use Rattle.lrc_code.proofs.NumbersLemmas.{same_fragment}
 
 -- the state with the first so many fragments of a new stripe placed
@@ -53,7 +53,7 @@ placed-start nodes st s seats table before kept absent chosen_are =
     let none : with_stripe st Wide s ≡ placed_to st s (fragments Wide) seats 0 = ap (λ (hs : List Held). record st { stripes = st.stripes ++ s ∷ []; homes = hs }) (sym (append-nil st.homes)) in
     record {
       table_is = kept.table_is ∙ ap (λ (hs : List Held). table_of nodes (record st { stripes = st.stripes ++ s ∷ []; homes = hs })) (sym (append-nil st.homes));
-      stripes_is = ap (λ (x : Stored). stored.with_stripe x s) kept.stripes_is ∙ stored-stripe nodes st s before.spare kept.good absent ∙ ap (λ (x : State). stored_of nodes x (before.spare - 1)) none;
+      stripes_is = ap (λ (x : Stored). stored.with_stripe x s) kept.stripes_is ∙ stored-stripe nodes st before.spare s kept.good absent ∙ ap (λ (x : State). stored_of nodes x (before.spare - 1)) none;
       chosen_are = subst (λ (x : State). AreChosen nodes x s (fragments Wide) seats) none chosen_are;
       placing = subst (λ (x : State). IsPlacing nodes s x (fragments Wide)) none (stripe-placing nodes kept.known st s Wide kept.good absent);
     }
@@ -115,13 +115,13 @@ module _ (nodes : List NodeInfo) (known : AreNodes nodes) (st : State) (s : Stri
       ∙ lt-ltb seat.slot choice.node.slots choice.free.within
 
   pub seat-free : IsFree stripes seat
-  seat-free = subst (λ (x : Stored). IsFree x seat) (sym p.stripes_is) (stored-free nodes now stripes.spare seat (choice-new nodes known now s f seat choice))
+  seat-free = subst (λ (x : Stored). IsFree x seat) (sym p.stripes_is) (stored-apart nodes now stripes.spare seat (choice-new nodes known now s f seat choice))
 
   -- one more fragment placed
   pub placed-more : IsPlacedTo nodes st s (fragments Wide) seats (i + 1) (slots.with_taken table seat.node (Some seat.slot)) (stored.with_home stripes s f (Some seat))
   placed-more = record {
     table_is = ap (λ (t : Slots). slots.with_taken t seat.node (Some seat.slot)) p.table_is ∙ table-push nodes now s f seat ∙ ap (table_of nodes) next;
-    stripes_is = ap (λ (x : Stored). stored.with_home x s f (Some seat)) p.stripes_is ∙ stored-home nodes now s f seat stripes.spare (homeless-none now.homes s f (All-head (HasNone s now.homes) f (drop (i + 1) (fragments Wide)) placing-here.absent))
+    stripes_is = ap (λ (x : Stored). stored.with_home x s f (Some seat)) p.stripes_is ∙ stored-home nodes now stripes.spare s f seat (homeless-none now.homes s f (All-head (HasNone s now.homes) f (drop (i + 1) (fragments Wide)) placing-here.absent))
         ∙ ap (λ (x : State). stored_of nodes x stripes.spare) next;
     chosen_are = subst (λ (x : State). AreChosen nodes x s (drop (i + 1) (fragments Wide)) (drop (i + 1) seats)) next rest.1;
     placing = subst (λ (x : State). IsPlacing nodes s x (drop (i + 1) (fragments Wide))) next (placing-some nodes known s now f (drop (i + 1) (fragments Wide)) seat placing-here rest.0);

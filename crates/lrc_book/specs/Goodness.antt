@@ -18,7 +18,7 @@ KeepApart nodes st h g =
     h.stripe ≡ g.stripe → h.fragment ≢ g.fragment
     → IfSome (node_at nodes h.seat.node) (λ n. IfSome (node_at nodes g.seat.node) (λ m. AreApart (code_of st h.stripe) h.fragment n g.fragment m))
 
--- Each stripe is there once, each seat is held once and is a slot of a node that is not gone, placements are lawful, each fragment has one home at most, and held seats are those of stripes that are there.
+-- Each stripe is there once, each seat is held once and is a slot of a node that is not gone, placements are lawful, each fragment has one home at most, held seats are those of stripes that are there, and no node that is down is gone.
 pub record IsGood (nodes : List NodeInfo) (st : State) : Type 0 where
   pub stripes : AllPairs (λ s t. s ≢ t) st.stripes
   pub single : AllPairs (λ a b. a ≢ b) (taken_seats st)
@@ -26,3 +26,4 @@ pub record IsGood (nodes : List NodeInfo) (st : State) : Type 0 where
   pub lawful : AllPairs (KeepApart nodes st) (seats_of st)
   pub one_home : AllPairs (λ h g. h.stripe ≡ g.stripe → h.fragment ≢ g.fragment) st.homes
   pub there : All (λ h. Contains st.stripes h.stripe) (seats_of st)
+  pub reachable : All (λ n. mode_of st n ≢ Gone) st.down

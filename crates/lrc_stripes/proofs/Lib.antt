@@ -4,3 +4,6 @@ pub mod RowLemmas
 pub mod SeenLemmas
 pub mod KeptLemmas
 pub mod LevelLemmas
+pub mod FreeLemmas
+pub mod WalkLemmas
+pub mod PlaceLemmas

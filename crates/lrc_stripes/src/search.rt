@@ -1,9 +1,11 @@
 //! Look-ups in the lists of rows and of nodes.
 
 ghost use Rattle.std.specs.Prelude.{◌≡◌, ◌≤◌, ◌<◌, length};
+ghost use Rattle.std.specs.List.{list_any};
 ghost use Rattle.std.specs.Option.{option_copied};
-ghost use Rattle.lrc_stripes.specs.Tables.{row_at, place_of, site_at, site_place, online_in};
+ghost use Rattle.lrc_stripes.specs.Tables.{holds, row_at, place_of, site_at, site_place, online_in};
 
+use crate::Seat;
 use crate::row::{Row, Site};
 use lrc_code::{NodeNo, StripeNo};
 
@@ -55,4 +57,18 @@ pub(crate) fn is_online(sites: &[Site], node: NodeNo) -> bool
         Some(site) => !site.is_offline,
         None => false,
     }
+}
+
+/// Whether a fragment of one of the stripes has its home on the seat.
+pub(crate) fn is_held(rows: &[Row], seat: Seat) -> bool
+    ensures { result ≡ list_any (holds seat) rows.now }
+{
+    rows.iter().any(|row| holds(row, seat))
+}
+
+/// Whether one of the stripe's fragments has its home on the seat.
+fn holds(row: &Row, seat: Seat) -> bool
+    ensures { result ≡ holds seat row.now }
+{
+    row.homes.iter().any(|home| *home == Some(seat))
 }

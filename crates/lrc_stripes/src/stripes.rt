@@ -1,10 +1,10 @@
 ghost use Rattle.std.specs.Prelude.{◌≡◌, ◌≤◌, ◌↔◌, IsTrue, IsFalse, IfOk, IfErr, OnErr, OnOk, IsOk, None, Some};
 ghost use Rattle.lrc_code.specs.declared.fault.Fault.TheVariants.{OutOfMemory};
-ghost use Rattle.lrc_stripes.specs.Stored.{empty, with_stripe, without_stripe, with_home, with_offline, with_spare, missing_shown, level_shown, has_node, has_slot, IsFree};
+ghost use Rattle.lrc_stripes.specs.Stored.{empty, with_stripe, without_stripe, with_home, with_offline, with_spare, missing_shown, level_shown, has_node, has_slot, IsFree, AreHomesOn};
 ghost use Rattle.lrc_stripes.specs.Tables.{seen};
 
 use crate::row::{Row, Site};
-use crate::{Level, Seat, losses, search};
+use crate::{HomesOn, Level, Seat, losses, search};
 use lrc_code::{Fault, Fragment, LossMask, NodeNo, StripeNo};
 use lrc_topology::Topology;
 use std::alloc::Global;
@@ -166,6 +166,13 @@ impl Stripes {
         self.sites[place].is_offline = is_offline;
     }
 
+    /// The fragments with a home on a node, in rising order of stripe and fragment.
+    pub fn homes_on(&self, node: NodeNo) -> HomesOn<'_>
+        ensures { AreHomesOn (seen self.now) node result }
+    {
+        HomesOn::new(self.rows.as_slice(), node)
+    }
+
     /// Whether the store has a node of this number.
     pub fn has_node(&self, node: NodeNo) -> bool
         ensures { result ≡ has_node (seen self.now).nodes node }
@@ -181,6 +188,13 @@ impl Stripes {
             Some(site) => seat.slot < site.node.slots,
             None => false,
         }
+    }
+
+    /// Whether no home is on the seat.
+    pub fn is_free(&self, seat: Seat) -> bool
+        ensures { IsTrue result ↔ IsFree (seen self.now) seat }
+    {
+        !search::is_held(self.rows.as_slice(), seat)
     }
 
     /// Gives a fragment of a stripe this home, or none.

@@ -63,5 +63,5 @@ returns g c =
           ∙ table_less-stripe g.st.homes c.args.stripe c.requires.0.good.one_home (table_of nodes g.st) c.requires.0.good.single;
       stripes = c.remove.ensures.stripe
           ∙ ap (λ (x : Stored). with_spare (without_stripe x c.args.stripe) (stored_in c.remove.new.self).spare) c.requires.0.stripes_is
-          ∙ ap (λ (x : Stored). with_spare x (stored_in c.remove.new.self).spare) (stored-without nodes g.st c.args.stripe (stored_in c.args.stripes.now).spare);
+          ∙ ap (λ (x : Stored). with_spare x (stored_in c.remove.new.self).spare) (stored-without nodes g.st (stored_in c.args.stripes.now).spare c.args.stripe);
     }
