@@ -1,7 +1,7 @@
-ghost use Rattle.std.specs.Prelude.{◌≡◌, ◌↔◌, ◌<◌, ◌≤◌, ◌++◌, ◌∷◌, [], true, IfOk, IfErr, OnOk, OnErr, IsErrOf, length};
+ghost use Rattle.std.specs.Prelude.{◌≡◌, ◌||◌, ◌↔◌, ◌<◌, ◌≤◌, ◌++◌, ◌∷◌, [], true, IfOk, IfErr, OnOk, OnErr, IsErrOf, length};
 ghost use Rattle.lrc_code.specs.declared.codes.Code.TheVariants.{Wide};
 ghost use Rattle.lrc_code.specs.declared.fault.Fault.TheVariants as fault;
-ghost use Rattle.lrc_book.specs.States.{has_stripe, has_number, homes_shown, load_shown, level_shown, missing_shown, mode_shown};
+ghost use Rattle.lrc_book.specs.States.{State, has_stripe, has_number, homes_shown, load_shown, level_shown, missing_shown, mode_shown};
 ghost use Rattle.lrc_book.specs.Steps.{place_outcome, drop_outcome, fail_outcome, down_outcome, up_outcome, join_outcome};
 ghost use Rattle.lrc_book.specs.Histories.{outcome_in, IsLegal};
 ghost use Rattle.lrc_book.specs.Books.{world_of, state_of, IsStep, FaultFits};
@@ -142,6 +142,12 @@ impl Book {
         replies::contains(self.down.as_slice(), node)
     }
 
+    fn is_gone_or_down(&self, node: NodeNo) -> bool
+        ensures { result ≡ (has_number (state_of self.now).gone node || has_number (state_of self.now).down node) }
+    {
+        self.is_gone(node) || self.is_down(node)
+    }
+
     fn has_stripe(&self, stripe: StripeNo) -> bool
         ensures { result ≡ has_stripe (state_of self.now) stripe }
     {
@@ -163,6 +169,8 @@ impl Book {
     }
 
     fn place_reply(&self, stripe: StripeNo) -> Reply
+        ghost st: { State }
+        requires { state_of self.now ≡ st }
         ensures { result ≡ (place_outcome self.now.nodes (state_of self.now) Wide stripe).0 }
     {
         if self.has_stripe(stripe) {
@@ -194,8 +202,7 @@ impl Book {
     fn down_reply(&self, node: NodeNo) -> Reply
         ensures { result ≡ (down_outcome self.now.nodes (state_of self.now) node).0 }
     {
-        let is_wrong = self.is_gone(node) || self.is_down(node);
-        replies::node_reply(&self.topology, node, is_wrong)
+        replies::node_reply(&self.topology, node, self.is_gone_or_down(node))
     }
 
     fn up_reply(&self, node: NodeNo) -> Reply

@@ -7,3 +7,4 @@ pub mod LevelLemmas
 pub mod FreeLemmas
 pub mod WalkLemmas
 pub mod PlaceLemmas
+pub mod TieLemmas

@@ -1,4 +1,4 @@
--- Masks of fragments: how one is built fragment by fragment, and the number that it is.
+-- Masks of fragments, built fragment by fragment.
 use Rattle.std.proofs.Common.{◌≡◌, ℕ, zero, suc, ◌+◌, ◌*◌, ◌^◌, ◌/◌, ◌%◌, ◌<◌, ◌≤◌, ◌⊎◌, inl, inr, Bool, true, false, cond, ◌&&◌, ◌||◌, eqb, ltb, List, length, get_or, map, lit<, refl, sym, ap, ◌∙◌, arith, zero-add, not, Option, Some, None, is_some, is_none}
 use Rattle.std.proofs.Math.Path.{fun_ext}
 use Rattle.std.specs.Int.{bit_at}
@@ -10,7 +10,7 @@ use Rattle.std.proofs.lemmas.Nat.Bits.{bit_at-zero, bit_at-suc, bit_at_lowest, b
 use Rattle.lrc_code.specs.declared.codes.Code.TheVariants.{Wide}
 use Rattle.lrc_code.specs.declared.numbers.Fragment.{Fragment}
 use Rattle.lrc_code.specs.Codes.{fragments}
-use Rattle.lrc_code.specs.Losses.{FragmentSet, bits_set, bits_of}
+use Rattle.lrc_code.specs.Losses.{bits_set}
 
 -- the fragments are numbered by their places
 pub fragment-number : (i : ℕ) (d : Fragment) → i < 16 → (get_or (fragments Wide) i d).value ≡ i
@@ -46,59 +46,6 @@ module _ (m : ℕ → Bool) (i : ℕ) where
   -- the mask as it was, where the next fragment is not in the set
   pub mask-next_false : (bits : ℕ) → m i ≡ false → ((f : ℕ) → bits_set bits f ≡ (ltb f i && m f)) → (f : ℕ) → bits_set bits f ≡ (ltb f (i + 1) && m f)
   mask-next_false bits miss before f = before f ∙ below-next_false f miss
-
--- ---- the number of a mask
-
--- the number whose lowest bits are the first members of a test
-number_of : (ℕ → Bool) → ℕ → ℕ
-number_of m zero = 0
-number_of m (suc n) = cond (m 0) 1 0 + 2 * number_of (λ i. m (suc i)) n
-
-one_bit : (n : ℕ) → n < 2 → cond (eqb n 1) 1 0 ≡ n
-one_bit n few = elim (cases_eq n 1) [
-  | inl same ↦ rw (eq-eqb n 1 same) (sym same)
-  | inr other ↦ rw (ne_eqb n 1 other) (omega (arith, few, other))
-]
-
-number_of-bits_set : (n b : ℕ) → b < 2 ^ n → number_of (bits_set b) n ≡ b
-unfolding number_of
-number_of-bits_set zero b few = omega (arith, few)
-number_of-bits_set (suc n) b few =
-    let half : b / 2 < 2 ^ n = omega (arith, few) in
-    let rest : number_of (λ i. bits_set b (suc i)) n ≡ b / 2 = ap (λ m. number_of m n) (fun_ext (λ i. ap (λ x. eqb x 1) (bit_at-suc b i))) ∙ number_of-bits_set n (b / 2) half in
-    let first : cond (bits_set b 0) 1 0 ≡ b % 2 = one_bit (bit_at b 0) (bit_at-lt b 0) ∙ bit_at_lowest b in
-    rw (rest, first) (omega arith)
-
-pub cond-times : (b : Bool) (n : ℕ) → cond b n 0 ≡ n * cond b 1 0
-cond-times true n = omega arith
-cond-times false n = omega arith
-
-bits_of-number_of : (m : FragmentSet) → bits_of Wide m ≡ number_of m 16
-unfolding number_of
-bits_of-number_of m =
-    omega (
-      arith,
-      cond-times (m 0) 1,
-      cond-times (m 1) 2,
-      cond-times (m 2) 4,
-      cond-times (m 3) 8,
-      cond-times (m 4) 16,
-      cond-times (m 5) 32,
-      cond-times (m 6) 64,
-      cond-times (m 7) 128,
-      cond-times (m 8) 256,
-      cond-times (m 9) 512,
-      cond-times (m 10) 1024,
-      cond-times (m 11) 2048,
-      cond-times (m 12) 4096,
-      cond-times (m 13) 8192,
-      cond-times (m 14) 16384,
-      cond-times (m 15) 32768,
-    )
-
--- a mask is the number of its bits
-pub bits_of-bits_set : (b : ℕ) → b < 65536 → bits_of Wide (bits_set b) ≡ b
-bits_of-bits_set b few = bits_of-number_of (bits_set b) ∙ number_of-bits_set 16 b few
 
 -- of an answer of `is_none`
 pub is_none-answer : {X : Type 0} (o : Option X) (b : Bool) → is_some o ≡ not b → is_none o ≡ b

@@ -9,6 +9,7 @@ use Rattle.lrc_code.specs.declared.numbers.NodeNo.{NodeNo}
 use Rattle.lrc_code.specs.declared.numbers.Fragment.{Fragment}
 use Rattle.lrc_code.specs.declared.codes.Code.TheVariants.{Wide}
 use Rattle.lrc_code.specs.Losses.{FragmentSet, bits_set, bits_of}
+use Rattle.lrc_code.proofs.BitsLemmas.{bits_of-bits_set}
 use Rattle.lrc_topology.specs.declared.NodeInfo.{NodeInfo}
 use Rattle.lrc_topology.specs.declared.seat.Seat.{Seat}
 use Rattle.lrc_stripes.specs.declared.row.Row.{Row}
@@ -17,7 +18,6 @@ use Rattle.lrc_stripes.specs.declared.level.Level.{Level}
 use Rattle.lrc_stripes.specs.Levels.{homeless_in, missing_in, level_by}
 use Rattle.lrc_stripes.specs.Stored.{empty, with_stripe, without_stripe, with_home, with_offline, with_spare, same_stripe, has_node, has_slot, missing_shown, level_shown}
 use Rattle.lrc_stripes.specs.Tables.{Table, seen, site_of, site_at, site_place, online_in, row_at, row_homes, place_of, IsRising}
-use Rattle.lrc_stripes.proofs.MaskLemmas.{bits_of-bits_set}
 use Rattle.lrc_stripes.proofs.SiteLemmas.{nodes-at_first, online-at_first, nodes-set, online-set, node_at-sites}
 use Rattle.lrc_stripes.proofs.RowLemmas.{row_at-insert, row_at-remove, row_at-set, row_at-place}
 
@@ -133,7 +133,7 @@ pub missing_shown-there : (t : Table) (s : StripeNo) (r : Row) (bits : ℕ) → 
     → missing_shown (seen t) s ≡ Some (record { bits = bits })
 unfolding seen missing_shown
 missing_shown-there t s r bits few found set =
-    rw found (ap (λ (m : FragmentSet). Some (record { bits = bits_of Wide m })) (sym set) ∙ ap (λ (b : ℕ). Some (record { bits = b })) (bits_of-bits_set bits few))
+    rw found (ap (λ (m : FragmentSet). Some (record { bits = bits_of Wide m })) (sym set) ∙ ap (λ (b : ℕ). Some (record { bits = b })) (bits_of-bits_set Wide bits few))
 
 pub missing_shown-absent : (t : Table) (s : StripeNo) → row_at t.rows s ≡ None → missing_shown (seen t) s ≡ None
 unfolding seen missing_shown

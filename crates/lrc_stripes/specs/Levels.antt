@@ -1,10 +1,10 @@
 -- Missing fragments, levels and ranks, from homes and from the nodes that are online.
-use Rattle.std.specs.Prelude.{ℕ, Bool, true, false, not, ◌&&◌, ◌||◌, if◌then◌else◌, nat_lt, nat_eq, List, find, Option, Some, None, is_none, unwrap_or, option_map}
+use Rattle.std.specs.Prelude.{ℕ, ◌<◌, IsTrue, IsFalse, Bool, true, false, not, ◌&&◌, ◌||◌, if◌then◌else◌, nat_lt, nat_eq, List, find, Option, Some, None, is_none, unwrap_or, option_map}
 use Rattle.std.specs.Option.{option_map_or}
 use Rattle.lrc_code.specs.declared.codes.Code.{Code}
 use Rattle.lrc_code.specs.declared.numbers.StripeNo.{StripeNo}
 use Rattle.lrc_code.specs.declared.numbers.NodeNo.{NodeNo}
-use Rattle.lrc_code.specs.Codes.{has_fragment}
+use Rattle.lrc_code.specs.Codes.{has_fragment, fragment_count}
 use Rattle.lrc_code.specs.Losses.{FragmentSet, size_of, is_recoverable, margin_of}
 use Rattle.lrc_topology.specs.declared.seat.Seat.{Seat}
 use Rattle.lrc_topology.specs.declared.seat.Held.{Held}
@@ -47,7 +47,15 @@ level_at None some_missing = Unavailable
 level_at (Some margin) true = AtRisk margin
 level_at (Some margin) false = Whole
 
--- some fragment of the code is in the set
+-- one fragment of the code is in the set
+abbrev pub SomeMissing : Code → FragmentSet → Type 0
+SomeMissing code m = (f : ℕ) × (f < fragment_count code) × IsTrue (m f)
+
+-- none is
+abbrev pub NoneMissing : Code → FragmentSet → Type 0
+NoneMissing code m = (f : ℕ) → f < fragment_count code → IsFalse (m f)
+
+-- the test of SomeMissing
 abbrev pub has_some : Code → FragmentSet → Bool
 has_some code m = nat_lt 0 (size_of code m)
 

@@ -10,7 +10,7 @@ use lrc_code::LossMask;
 pub enum Level {
     /// No fragment is missing.
     Whole,
-    /// Some fragments are missing, and the stripe withstands this many further losses, from 0 to 3.
+    /// Some fragments are missing, and the stripe withstands this many further losses, from 0 to 2.
     AtRisk(u8),
     /// The missing fragments are more than the code repairs, and not all of them are lost.
     Unavailable,

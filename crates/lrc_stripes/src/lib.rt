@@ -2,6 +2,7 @@
 #![tactic(auto)]
 
 mod homes_on;
+pub mod laws;
 mod level;
 mod losses;
 mod row;
