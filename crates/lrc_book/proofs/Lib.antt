@@ -14,3 +14,4 @@ pub mod FragmentLemmas
 pub mod StoredLemmas
 pub mod PlacingLemmas
 pub mod ShownLemmas
+pub mod ToldLemmas

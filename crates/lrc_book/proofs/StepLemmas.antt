@@ -72,7 +72,7 @@ drop-front [] ys = refl
 drop-front (x ∷ xs) ys = drop-front xs ys
 
 -- the homes that were added stand on these seats
-seats-added : (s : StripeNo) (homes : List Held) (seats : List Seat) → length seats ≡ 16 → map (λ h. h.seat) (drop (length homes) (homes ++ held_at s (fragments Wide) seats)) ≡ seats
+pub seats-added : (s : StripeNo) (homes : List Held) (seats : List Seat) → length seats ≡ 16 → map (λ h. h.seat) (drop (length homes) (homes ++ held_at s (fragments Wide) seats)) ≡ seats
 seats-added s homes seats sixteen = rw (drop-front homes (held_at s (fragments Wide) seats)) (seats-held_at s (fragments Wide) seats sixteen)
 
 answer-placed : (st : State) (s : StripeNo) (seats : List Seat) → length seats ≡ 16 → place_answer st s (Ok (with_placed st s seats)) ≡ (Placed seats, with_placed st s seats)
@@ -144,11 +144,11 @@ answer-changed nodes st s (Ok done) grown =
     let added : map (λ h. h.seat) (drop (length st.homes) done.homes) ≡ g.seats = ap (λ (x : State). map (λ h. h.seat) (drop (length st.homes) x.homes)) g.is ∙ seats-added s st.homes g.seats g.all in
     g.is ∙ ap (with_placed st s) (sym added)
 
-place-passed : (nodes : List NodeInfo) (st : State) (s : StripeNo) → has_stripe st s ≡ false → place_outcome nodes st Wide s ≡ place_answer st s (placed nodes (with_stripe st Wide s) s)
+pub place-passed : (nodes : List NodeInfo) (st : State) (s : StripeNo) → has_stripe st s ≡ false → place_outcome nodes st Wide s ≡ place_answer st s (placed nodes (with_stripe st Wide s) s)
 unfolding place_outcome
 place-passed nodes st s absent = passed-if _ _ st _ absent
 
-placed-grown : (nodes : List NodeInfo) (st : State) (s : StripeNo) (done : State) → placed nodes (with_stripe st Wide s) s ≡ Ok done → IsGrown nodes s (fragments Wide) (with_stripe st Wide s) done
+pub placed-grown : (nodes : List NodeInfo) (st : State) (s : StripeNo) (done : State) → placed nodes (with_stripe st Wide s) s ≡ Ok done → IsGrown nodes s (fragments Wide) (with_stripe st Wide s) done
 unfolding placed
 placed-grown nodes st s done e = placing-grown nodes s (fragments Wide) (with_stripe st Wide s) done e
 

@@ -13,7 +13,9 @@ use Rattle.lrc_book.specs.declared.reply.Reply.TheVariants.{Placed, Dropped, Cha
 use Rattle.lrc_topology.specs.declared.NodeInfo.{NodeInfo}
 use Rattle.lrc_book.specs.States.{State}
 use Rattle.lrc_book.specs.Placement.{chosen, with_home}
-use Rattle.lrc_book.specs.Steps.{without_stripe, emptied, with_gone, with_down, without_down, without_gone}
+use Rattle.lrc_code.specs.declared.numbers.SessionNo.{SessionNo}
+use Rattle.lrc_book.specs.declared.entry.Entry.{Entry}
+use Rattle.lrc_book.specs.Steps.{step, without_stripe, emptied, with_gone, with_down, without_down, without_gone}
 
 -- each of these fragments of a stripe on the seat at its place
 abbrev pub held_at : StripeNo → List Fragment → List Seat → List Held
@@ -39,3 +41,9 @@ changed_by st (Down n) Changed = with_down st n
 changed_by st (Up n) Changed = without_down st n
 changed_by st (Join n) Changed = without_gone st n
 changed_by st _ _ = st
+
+-- the reply is the one that a session's command gets in this state, after some entries
+pub record IsAnswer (nodes : List NodeInfo) (st : State) (c : Command) (r : Reply) : Type 0 where
+  pub past : List Entry
+  pub session : SessionNo
+  pub told : (step nodes past st session c).0 ≡ r
