@@ -13,16 +13,16 @@ returns-then-not-recoverable c =
 pub returns-in-None : goal.returns-in-None
 returns-in-None c = 
     let told = is_recoverable-answer (bits_set c.args.homeless.bits) c.recoverable.result c.recoverable.ensures in
-    sym (level_by-held (bits_set c.args.homeless.bits) (bits_set c.args.missing.bits) None _ (told ∙ c.if-not-recoverable.false) (sym c.in-None.ensures) (refl {a = has_some Wide (bits_set c.args.missing.bits)}))
+    sym (level_by-held (bits_set c.args.homeless.bits) (bits_set c.args.missing.bits) None _ (told ∙ c.if-not-recoverable.false) (sym c.in-None.ensures.value) (refl {a = has_some Wide (bits_set c.args.missing.bits)}))
 
 pub returns-in-Some : goal.returns-in-Some
 returns-in-Some c =
     let told = is_recoverable-answer (bits_set c.args.homeless.bits) c.recoverable.result c.recoverable.ensures in
     let zero : has_some Wide (bits_set c.args.missing.bits) ≡ false = ap (λ (b : ℕ). has_some Wide (bits_set b)) (sym c.bits.ensures ∙ c.if-bits-eq0.true) ∙ has_some-zero in
-    sym (level_by-held (bits_set c.args.homeless.bits) (bits_set c.args.missing.bits) _ false (told ∙ c.if-not-recoverable.false) (sym c.in-Some.ensures) zero)
+    sym (level_by-held (bits_set c.args.homeless.bits) (bits_set c.args.missing.bits) _ false (told ∙ c.if-not-recoverable.false) (sym c.in-Some.ensures.value) zero)
 
 pub returns-in-Some-2 : goal.returns-in-Some-2
 returns-in-Some-2 c =
     let told = is_recoverable-answer (bits_set c.args.homeless.bits) c.recoverable.result c.recoverable.ensures in
     let some = has_some-bits c.args.missing.bits (rw (← c.bits.ensures) c.bits.type_inv) (λ e. c.if-bits-eq0.false (c.bits.ensures ∙ e)) in
-    sym (level_by-held (bits_set c.args.homeless.bits) (bits_set c.args.missing.bits) _ true (told ∙ c.if-not-recoverable.false) (sym c.in-Some.ensures) some)
+    sym (level_by-held (bits_set c.args.homeless.bits) (bits_set c.args.missing.bits) _ true (told ∙ c.if-not-recoverable.false) (sym c.in-Some.ensures.value) some)
