@@ -12,3 +12,4 @@ pub mod PlanLemmas
 pub mod PlanningLemmas
 pub mod FragmentLemmas
 pub mod StoredLemmas
+pub mod ModeLemmas

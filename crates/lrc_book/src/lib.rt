@@ -6,6 +6,7 @@ mod command;
 mod entry;
 pub mod laws;
 mod mode;
+mod nodes;
 mod plan;
 mod planning;
 mod reply;
