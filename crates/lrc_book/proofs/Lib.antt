@@ -13,3 +13,4 @@ pub mod PlanningLemmas
 pub mod FragmentLemmas
 pub mod StoredLemmas
 pub mod ModeLemmas
+pub mod EmptyLemmas
