@@ -101,7 +101,7 @@ home-found homes s f h e =
     (m.0, ap₂ (λ (t : StripeNo) (g : Fragment). held_on t g h.seat) (same_stripe h.stripe s (eqb-true _ _ parts.0)) (same_fragment h.fragment f (eqb-true _ _ parts.1)))
 
 -- where each fragment has one home at most, each home is the one that is found
-home-only : (homes : List Held) → AllPairs (λ h g. h.stripe ≡ g.stripe → h.fragment ≢ g.fragment) homes → (h : Held) → Contains homes h → home_of homes h.stripe h.fragment.value ≡ Some h
+pub home-only : (homes : List Held) → AllPairs (λ h g. h.stripe ≡ g.stripe → h.fragment ≢ g.fragment) homes → (h : Held) → Contains homes h → home_of homes h.stripe h.fragment.value ≡ Some h
 home-only [] single h here = absurd (not-Contains-nil h here)
 home-only (x ∷ xs) single h here = elim (Contains-cases x h xs here) [
   | inl same ↦ subst (λ (g : Held). home_of (x ∷ xs) g.stripe g.fragment.value ≡ Some g) same (rw (eq-eqb x.stripe.value x.stripe.value refl, eq-eqb x.fragment.value x.fragment.value refl) refl)

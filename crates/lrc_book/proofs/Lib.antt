@@ -1,3 +1,4 @@
+
 pub mod ListLemmas
 pub mod StepLemmas
 pub mod WorldLemmas
@@ -12,6 +13,8 @@ pub mod PlanLemmas
 pub mod PlanningLemmas
 pub mod FragmentLemmas
 pub mod StoredLemmas
+pub mod ModeLemmas
+pub mod EmptyLemmas
 pub mod PlacingLemmas
 pub mod ShownLemmas
 pub mod ToldLemmas

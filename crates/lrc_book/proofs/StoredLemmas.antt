@@ -54,7 +54,7 @@ module _ {X : Type 0} (test kept : X → Bool) where
     ]
   ]
 
-test-sym : (a b : ℕ) → eqb a b ≡ eqb b a
+pub test-sym : (a b : ℕ) → eqb a b ≡ eqb b a
 test-sym a b = elim (cases_Bool (eqb a b)) [
   | inl same ↦ same ∙ sym (eq-eqb b a (sym (eqb-true a b same)))
   | inr other ↦ other ∙ sym (ne_eqb b a (λ e. eqb-false a b other (sym e)))
@@ -78,6 +78,10 @@ same_homes t homes homes' b = ap (λ (h : StripeNo → ℕ → Option Seat). rec
 
 pub same_online : (t : Stored) (online online' : NodeNo → Bool) → ((n : NodeNo) → online n ≡ online' n) → ◌≡◌ {A = Stored} (record t { online = online }) (record t { online = online' })
 same_online t online online' b = ap (λ (p : NodeNo → Bool). record t { online = p }) (fun_ext b)
+
+-- what is stored of a state with some room is so with its own
+pub own-spare : (nodes : List NodeInfo) (st : State) (t : Stored) (spare : ℕ) → t ≡ stored_of nodes st spare → t ≡ stored_of nodes st t.spare
+own-spare nodes st t spare e = e ∙ ap (stored_of nodes st) (sym (ap (λ (u : Stored). u.spare) e))
 
 -- ---- stripes
 

@@ -156,13 +156,13 @@ module _ (code : Code) (homeless missing : FragmentSet) where
     | inl (not_held, is) ↦ (λ e. absurd (let x : Lost ≡ AtRisk u = sym is ∙ e in cc), λ all. absurd (not_held_is not_held all.0))
     | inr (inl (held, none, is)) ↦ (λ e. absurd (let x : Unavailable ≡ AtRisk u = sym is ∙ e in cc), λ all. absurd (no_margin_is none all.1.recoverable))
     | inr (inr (inl (t, held, margin, some, is))) ↦ (
-        λ e. let x : AtRisk t ≡ AtRisk u = sym is ∙ e in let same : t ≡ u = cc in (held_is held, rw (← same) (margin_is t margin), has_some-true code missing some),
-        λ all. is ∙ ap AtRisk (IsMargin-unique code missing t u (margin_is t margin) all.1),
-      )
+      λ e. let x : AtRisk t ≡ AtRisk u = sym is ∙ e in let same : t ≡ u = cc in (held_is held, rw (← same) (margin_is t margin), has_some-true code missing some),
+      λ all. is ∙ ap AtRisk (IsMargin-unique code missing t u (margin_is t margin) all.1),
+    )
     | inr (inr (inr (t, held, margin, none, is))) ↦ (
-        λ e. absurd (let x : Whole ≡ AtRisk u = sym is ∙ e in cc),
-        λ all. absurd (let x : true ≡ false = sym (has_some-from code missing all.2) ∙ none in cc),
-      )
+      λ e. absurd (let x : Whole ≡ AtRisk u = sym is ∙ e in cc),
+      λ all. absurd (let x : true ≡ false = sym (has_some-from code missing all.2) ∙ none in cc),
+    )
   ]
 
   -- a stripe that misses some withstands at most two more
@@ -176,9 +176,9 @@ module _ (code : Code) (homeless missing : FragmentSet) where
     | inl (not_held, is) ↦ (λ e. absurd (let x : Lost ≡ Whole = sym is ∙ e in cc), λ both. absurd (not_held_is not_held both.0))
     | inr (inl (held, none, is)) ↦ (λ e. absurd (let x : Unavailable ≡ Whole = sym is ∙ e in cc), λ both. absurd (no_margin_is none (none_recoverable code missing both.1)))
     | inr (inr (inl (t, held, margin, some, is))) ↦ (
-        λ e. absurd (let x : AtRisk t ≡ Whole = sym is ∙ e in cc),
-        λ both. absurd (let x : true ≡ false = sym some ∙ has_some-none code missing both.1 in cc),
-      )
+      λ e. absurd (let x : AtRisk t ≡ Whole = sym is ∙ e in cc),
+      λ both. absurd (let x : true ≡ false = sym some ∙ has_some-none code missing both.1 in cc),
+    )
     | inr (inr (inr (t, held, margin, none, is))) ↦ (λ e. (held_is held, has_some-false code missing none), λ both. is)
   ]
 
@@ -199,7 +199,7 @@ pub homeless-missing : (code : Code) (online : NodeNo → Bool) (homes : Homes) 
 homeless-missing code online homes f bare =
     let parts = and_parts (has_fragment code f) (is_none (homes f)) bare in
     and_from _ _ parts.0 (none_missing (homes f) parts.1)
-    where
-      none_missing : (home : Option Seat) → is_none home ≡ true → option_map_or (λ seat. not (online seat.node)) home true ≡ true
-      none_missing None e = refl
-      none_missing (Some seat) e = absurd (cc)
+  where
+    none_missing : (home : Option Seat) → is_none home ≡ true → option_map_or (λ seat. not (online seat.node)) home true ≡ true
+    none_missing None e = refl
+    none_missing (Some seat) e = absurd (cc)

@@ -106,7 +106,7 @@ module _ (n : NodeNo) where
   row_places-rise r =
       let among : Fragment → Fragment → Type 0 = λ f g. Rises (r.stripe, f) (r.stripe, g) in
       let each : AllPairs among (fragments Wide) = λ i j d below within.
-          or_right (ltb r.stripe.value r.stripe.value) _ (and_from _ _ (eq-eqb r.stripe.value r.stripe.value refl) (lt-ltb _ _ (fragments-rise i j d below within))) in
+      or_right (ltb r.stripe.value r.stripe.value) _ (and_from _ _ (eq-eqb r.stripe.value r.stripe.value refl) (lt-ltb _ _ (fragments-rise i j d below within))) in
       AllPairs-map Rises (λ f. let p : Place = (r.stripe, f) in p) (filter (sits_on n r) (fragments Wide)) (AllPairs-filter among (sits_on n r) (fragments Wide) each)
 
   -- a place of this row

@@ -13,3 +13,6 @@ pub use homes_on::HomesOn;
 pub use level::Level;
 pub use lrc_topology::{Held, Seat};
 pub use stripes::Stripes;
+
+#[cfg(test)]
+mod tests;

@@ -10,7 +10,7 @@ returns-then-not-recoverable c =
     sym (level_by-lost Wide (bits_set c.args.homeless.bits) (bits_set c.args.missing.bits) (sym c.recoverable.ensures.value ∙ c.if-not-recoverable.true))
 
 pub returns-in-None : goal.returns-in-None
-returns-in-None c = 
+returns-in-None c =
     sym (level_by-held Wide (bits_set c.args.homeless.bits) (bits_set c.args.missing.bits) None _
     (sym c.recoverable.ensures.value ∙ c.if-not-recoverable.false) (sym c.in-None.ensures.value) (refl {a = has_some Wide (bits_set c.args.missing.bits)}))
 
