@@ -1,5 +1,5 @@
 -- Slots gone through in turn: the first free one, and how many are taken.
-use Rattle.std.proofs.Common.{◌≡◌, ℕ, zero, suc, ◌+◌, ◌-◌, ◌<◌, ◌≤◌, Bool, true, false, cond, Some, None, arith, zero-add, refl, inl, inr}
+use Rattle.std.proofs.Common.{◌≡◌, ◌≢◌, ℕ, zero, suc, ◌+◌, ◌-◌, ◌<◌, ◌≤◌, Bool, true, false, cond, Some, None, arith, zero-add, refl, inl, inr}
 use Rattle.std.proofs.lemmas.Bool.{cases_Bool, cases_eq}
 use Rattle.std.proofs.lemmas.List.Sums.{sum_by-cons}
 use Rattle.std.proofs.lemmas.Option.{same_Some}
@@ -74,3 +74,30 @@ first_slot-all taken slot zero all = refl
 first_slot-all taken slot (suc left) all =
     let hit : taken slot ≡ true = all slot (omega arith) (omega arith) in
     rw hit (first_slot-all taken (slot + 1) left (λ j low high. all j (omega (arith, low)) (omega (arith, high))))
+
+-- ---- counts of two tests
+
+-- tests that agree on a range count the same in it
+pub count-agree : (t u : ℕ → Bool) (a n : ℕ) → ((j : ℕ) → a ≤ j → j < a + n → u j ≡ t j) → count_by u (range_with_len a n) ≡ count_by t (range_with_len a n)
+count-agree t u a zero agree = refl
+count-agree t u a (suc n) agree =
+    let more = count-agree t u (a + 1) n (λ j low high. agree j (omega (arith, low)) (omega (arith, high))) in
+    rw (sum_by-cons (λ j. cond (u j) 1 0) a (range_with_len (a + 1) n), sum_by-cons (λ j. cond (t j) 1 0) a (range_with_len (a + 1) n), agree a (omega arith) (omega arith)) (omega (arith, more))
+
+-- with one slot taken that was free, one more is counted
+pub count-one : (t u : ℕ → Bool) (k a n : ℕ) → a ≤ k → k < a + n → t k ≡ false → u k ≡ true → ((j : ℕ) → j ≢ k → u j ≡ t j)
+    → count_by u (range_with_len a n) ≡ count_by t (range_with_len a n) + 1
+count-one t u k a zero low high miss hit agree = absurd (omega (arith, low, high))
+count-one t u k a (suc n) low high miss hit agree =
+    let first = sum_by-cons (λ j. cond (u j) 1 0) a (range_with_len (a + 1) n) in
+    let second = sum_by-cons (λ j. cond (t j) 1 0) a (range_with_len (a + 1) n) in
+    elim (cases_eq a k) [
+      | inl same ↦
+          let here : u a ≡ true = rw same hit in
+          let there : t a ≡ false = rw same miss in
+          let rest = count-agree t u (a + 1) n (λ j from below. agree j (λ e. absurd (omega (arith, e, same, from)))) in
+          rw (first, second, here, there) (omega (arith, rest))
+      | inr other ↦
+          let rest = count-one t u k (a + 1) n (omega (arith, low, other)) (omega (arith, high)) miss hit agree in
+          rw (first, second, agree a other) (omega (arith, rest))
+    ]

@@ -38,7 +38,7 @@ some-known : (o : Option ℕ) → is_some o ≡ true → (k : ℕ) × (o ≡ Som
 some-known (Some k) e = (k, refl)
 some-known None e = absurd (cc)
 
-none-known : (o : Option ℕ) → is_some o ≡ false → o ≡ None
+pub none-known : (o : Option ℕ) → is_some o ≡ false → o ≡ None
 none-known None e = refl
 none-known (Some k) e = absurd (cc)
 
@@ -82,7 +82,7 @@ chosen-order t = record {
 
 -- ---- the next node
 
-at-each : {X : Type 0} (P : X → Type 0) (xs : List X) (x : X) → AllByRecursion P xs → Contains xs x → P x
+pub at-each : {X : Type 0} (P : X → Type 0) (xs : List X) (x : X) → AllByRecursion P xs → Contains xs x → P x
 at-each P xs x all listed = All-contains P xs x (All-from_recursion P xs all) listed
 
 pub next_node-none : (t : Slots) (b : Barred) → (next_node t b ≡ None) ↔ ((n : NodeInfo) → Contains t.nodes n → ¬ MayTake t b n)

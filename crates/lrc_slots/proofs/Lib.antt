@@ -6,3 +6,5 @@ pub mod LeastLemmas
 pub mod NodeLemmas
 pub mod ChoiceLemmas
 pub mod LawLemmas
+pub mod CallerLemmas
+pub mod SeatLemmas

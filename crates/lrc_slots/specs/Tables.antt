@@ -39,7 +39,7 @@ place_of rows n = position (is_of n) rows
 abbrev pub is_marked : Row → ℕ → Bool
 is_marked r k = get_or r.taken k false
 
--- the slots that a table stands for
+-- The slots that a table stands for. At a number that is no node's, nothing is taken, and the test of eligible nodes is met.
 unfoldable pub seen : Table → Slots
 seen rows = record {
   nodes = map (λ r. r.node) rows;

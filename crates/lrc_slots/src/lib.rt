@@ -1,8 +1,8 @@
-//! Which slots of the nodes are taken, and the node that takes the next seat.
+//! Which slots of the nodes are taken, and the node that takes the next seat. Only `SlotTable::new` takes memory.
 #![tactic(auto)]
 
 pub mod laws;
-mod row;
+mod node_slots;
 mod table;
 mod taken;
 #[cfg(test)]

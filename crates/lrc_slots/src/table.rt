@@ -6,14 +6,16 @@ ghost use Rattle.lrc_slots.specs.Slots.{all_free, least_free_at, load_at, with_t
 ghost use Rattle.lrc_slots.specs.Next.{next_number};
 ghost use Rattle.lrc_slots.specs.Tables.{seen, barred, place_of, is_open, precedes};
 
-use crate::row::NodeSlots;
-use crate::{Taken, row};
+use crate::Taken;
+use crate::node_slots::{NodeSlots, first_of};
 use lrc_code::{Fault, NodeNo};
 use lrc_topology::Topology;
 use std::alloc::Global;
 use std::marker::Model;
 
-/// The taken slots of the nodes, and the nodes that are eligible.
+/// The taken slots of the nodes of a topology, and which of the nodes are eligible.
+///
+/// Calls on a node ask for one of that topology; `Topology::node` is the test.
 #[derive(Drop)]
 pub struct SlotTable {
     rows: Vec<NodeSlots>,
@@ -70,7 +72,7 @@ impl SlotTable {
         Some(slot)
     }
 
-    /// Gives a taken slot back. `is_taken` is the test of what this asks for.
+    /// Gives a slot back that is taken; `is_taken` is the test.
     pub fn free(&mut self, node: NodeNo, slot: u16)
         requires { IsTrue ((seen self.old).taken node slot) }
         ensures { seen self.new ≡ with_free (seen self.old) node slot }
@@ -100,7 +102,8 @@ impl SlotTable {
         row.set_eligible(eligible);
     }
 
-    /// Whether a slot of a node is taken. No slot is of a node that there is not, nor beyond its last.
+    /// Whether a slot of a node is taken; `false` beyond the node's last slot, and for a node that is not of the
+    /// topology.
     pub fn is_taken(&self, node: NodeNo, slot: u16) -> bool
         ensures { result ≡ (seen self.now).taken node slot }
     {
@@ -131,20 +134,20 @@ impl SlotTable {
         let mut best: Option<&NodeSlots> = None;
         for row in self.rows.iter() {
             if row.may_take(taken) {
-                best = Some(row::first_of(best, row));
+                best = Some(first_of(best, row));
             }
         }
         best
     }
 
-    /// Where the row of a node stands.
+    /// Where the row of a node stands; `None` for a node that is not of the topology.
     fn position(&self, node: NodeNo) -> Option<usize>
         ensures { result ≡ place_of self.now node }
     {
         self.rows.iter().position(|row| node == row.number())
     }
 
-    /// The same of a node that there is.
+    /// The same for a node of the topology.
     fn place(&self, node: NodeNo) -> usize
         requires { IsSome (node_at (seen self.now).nodes node) }
         ensures value { place_of self.now node ≡ Some result }

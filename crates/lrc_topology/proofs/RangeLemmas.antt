@@ -4,7 +4,7 @@ use Rattle.std.specs.List.{AllByRecursion}
 use Rattle.std.proofs.lemmas.Bool.{false≢true, and_parts, leb-true}
 use Rattle.std.proofs.lemmas.Option.{cond_some, same_Some}
 use Rattle.lrc_topology.specs.Nodes.{IsInRange}
-use Rattle.lrc_topology.specs.Documents.{whole_number, number_from, node_of}
+use Rattle.lrc_topology.specs.Documents.{whole_number, number_from, and_then, node_of}
 use Rattle.lrc_topology.specs.declared.NodeInfo.{NodeInfo}
 use Rattle.toml.specs.Data.{Data}
 
@@ -23,8 +23,8 @@ from_range low high k key entry e = from_whole low high k (whole_number key entr
 
 -- the parts of a node made of four numbers
 parts : (a b c d : Option ℕ) (n : NodeInfo)
-    → option_and_then (λ number. option_and_then (λ fault. option_and_then (λ upgrade. option_map (λ slots.
-    record { number = record { value = number }; fault = record { value = fault }; upgrade = record { value = upgrade }; slots = slots }) d) c) b) a ≡ Some n
+    → and_then a (λ number. and_then b (λ fault. and_then c (λ upgrade. and_then d (λ slots.
+    Some (record { number = record { value = number }; fault = record { value = fault }; upgrade = record { value = upgrade }; slots = slots }))))) ≡ Some n
     → (a ≡ Some n.number.value) × (b ≡ Some n.fault.value) × (c ≡ Some n.upgrade.value) × (d ≡ Some n.slots)
 parts (Some number) (Some fault) (Some upgrade) (Some slots) n e = let same = same_Some _ _ e in rw (← same) (refl, refl, refl, refl)
 parts None b c d n e = absurd (cc)

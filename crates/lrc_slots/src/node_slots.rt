@@ -99,7 +99,7 @@ impl NodeSlots {
         self.eligible = eligible;
     }
 
-    /// Whether the node may take a seat that these domains are barred to.
+    /// Whether the node is eligible, has a free slot and is in no barred domain.
     pub(crate) fn may_take(&self, taken: &Taken) -> bool
         ensures { result ≡ is_open (barred taken.now) self.now }
     {

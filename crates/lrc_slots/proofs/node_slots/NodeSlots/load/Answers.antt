@@ -1,8 +1,8 @@
 use Rattle.std.proofs.Common.{◌<◌, arith, sym, ◌∙◌}
 use Rattle.lrc_slots.specs.Tables.{is_marked}
 use Rattle.lrc_slots.proofs.CountLemmas.{count-yes, count-no}
-use Rattle.lrc_slots.proofs.row.NodeSlots.load.Goals as goal
-use Rattle.lrc_slots.proofs.row.NodeSlots.load.Goals.{then-is_taken, else-is_taken}
+use Rattle.lrc_slots.proofs.node_slots.NodeSlots.load.Goals as goal
+use Rattle.lrc_slots.proofs.node_slots.NodeSlots.load.Goals.{then-is_taken, else-is_taken}
 
 pub loop-slot-preserved : goal.loop-slot-preserved
 loop-slot-preserved c =

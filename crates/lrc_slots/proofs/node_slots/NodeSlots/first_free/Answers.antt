@@ -1,7 +1,7 @@
 use Rattle.std.proofs.Common.{sym, ◌∙◌}
 use Rattle.lrc_slots.specs.Tables.{is_marked}
 use Rattle.lrc_slots.proofs.CountLemmas.{first_slot-taken}
-use Rattle.lrc_slots.proofs.row.NodeSlots.first_free.Goals as goal
+use Rattle.lrc_slots.proofs.node_slots.NodeSlots.first_free.Goals as goal
 
 pub loop-slot-preserved : goal.loop-slot-preserved
 loop-slot-preserved c =
