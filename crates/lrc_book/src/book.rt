@@ -7,7 +7,7 @@ ghost use Rattle.lrc_book.specs.Histories.{outcome_in, IsLegal};
 ghost use Rattle.lrc_book.specs.Books.{world_of, state_of, IsStep, FaultFits};
 
 use crate::plan::Plan;
-use crate::{Command, Entry, Level, Mode, Refusal, Reply, Seat, planning, replies};
+use crate::{Command, Entry, Level, Mode, Refusal, Reply, Seat, changes, planning, replies};
 use lrc_code::{Fault, LossMask, NodeNo, SessionNo, StripeNo};
 use lrc_slots::SlotTable;
 use lrc_stripes::Stripes;
@@ -247,5 +247,56 @@ impl Book {
         self.gone.reserve(1)?;
         self.down.reserve(1)?;
         Ok(())
+    }
+
+    /// Makes the step.
+    fn commit(&mut self, plan: Plan) -> Reply
+        requires ready { self.old.ready ≡ true }
+        requires room { length self.old.history < self.old.limit }
+        requires step { IsStep self.old plan.entry }
+        ensures reply { result ≡ plan.entry.reply }
+        ensures same { (self.new.nodes ≡ self.old.nodes) × (self.new.limit ≡ self.old.limit) }
+        ensures history { self.new.history ≡ self.old.history ++ plan.entry ∷ [] }
+    {
+        self.make(plan)
+    }
+
+    fn make(&mut self, plan: Plan) -> Reply
+        ghost st: { State }
+        requires state { state_of self.old ≡ st }
+        requires ready { self.old.ready ≡ true }
+        requires room { length self.old.history < self.old.limit }
+        requires step { IsStep self.old plan.entry }
+        ensures reply { result ≡ plan.entry.reply }
+        ensures same { (self.new.nodes ≡ self.old.nodes) × (self.new.limit ≡ self.old.limit) }
+        ensures history { self.new.history ≡ self.old.history ++ plan.entry ∷ [] }
+    {
+        let Entry {
+            session: _,
+            command,
+            reply,
+        } = plan.entry;
+        changes::change(
+            &mut self.table, &mut self.stripes, &mut self.gone, &mut self.down, command, &reply,
+        );
+        self.history.push_reserved(plan.entry);
+        reply
+    }
+
+    /// Makes one step of the placement object and adds its entry. A `Fault` changes nothing.
+    ///
+    /// # Errors
+    ///
+    /// `Fault::HistoryFull` where the history has as many entries as its limit; else only `Fault::OutOfMemory`.
+    pub fn call(&mut self, session: SessionNo, command: Command) -> Result<Reply, Fault>
+        ensures reply { IfOk result (λ r. r ≡ (outcome_in self.old.nodes (world_of self.old) session command).0) }
+        ensures entry { IfOk result (λ r. self.new.history ≡ self.old.history ++ record { session = session; command = command; reply = r } ∷ []) }
+        ensures same { (self.new.nodes ≡ self.old.nodes) × (self.new.limit ≡ self.old.limit) }
+        ensures full { IsErrOf result fault.HistoryFull ↔ (length self.old.history ≡ self.old.limit) }
+        ensures err { OnErr result (self.new.history ≡ self.old.history) }
+    {
+        let plan = self.decide(session, command)?;
+        self.prepare()?;
+        Ok(self.commit(plan))
     }
 }
