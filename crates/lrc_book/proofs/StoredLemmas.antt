@@ -1,5 +1,5 @@
 -- How what is stored of the stripes follows the state.
-use Rattle.std.proofs.Common.{◌≡◌, ◌≢◌, ℕ, ◌-◌, Bool, true, false, not, if◌then◌else◌, ◌&&◌, ◌||◌, nat_eq, eqb, List, [], ◌∷◌, ◌++◌, map, filter, find, Option, Some, None, option_map, is_some, refl, sym, ap, ◌∙◌, subst, inl, inr}
+use Rattle.std.proofs.Common.{◌≡◌, ◌≢◌, ℕ, ◌-◌, Bool, true, false, not, if◌then◌else◌, ◌&&◌, ◌||◌, nat_eq, eqb, List, [], ◌∷◌, map, filter, find, Option, Some, None, option_map, is_some, refl, sym, ap, ◌∙◌, subst, inl, inr}
 use Rattle.std.proofs.Math.Path.{fun_ext}
 use Rattle.std.specs.List.{All, Contains}
 use Rattle.std.specs.Option.{option_map_or, option_or}
@@ -154,8 +154,8 @@ module _ (nodes : List NodeInfo) (st : State) (spare : ℕ) (s : StripeNo) where
       go r g true hit =
           let parts = and_parts (eqb s.value r.value) (eqb f.value g) hit in
           let old : home_of st.homes r g ≡ None =
-              ap (λ v. find (λ (h : Held). eqb h.stripe.value v && eqb h.fragment.value g) st.homes) (sym (eqb-true s.value r.value parts.0))
-              ∙ (ap (λ v. find (λ (h : Held). eqb h.stripe.value s.value && eqb h.fragment.value v) st.homes) (sym (eqb-true f.value g parts.1)) ∙ none) in
+          ap (λ v. find (λ (h : Held). eqb h.stripe.value v && eqb h.fragment.value g) st.homes) (sym (eqb-true s.value r.value parts.0))
+          ∙ (ap (λ v. find (λ (h : Held). eqb h.stripe.value s.value && eqb h.fragment.value v) st.homes) (sym (eqb-true f.value g parts.1)) ∙ none) in
           rw (old, hit) refl
       go r g false miss = rw miss (or_held (home_of st.homes r g))
 
