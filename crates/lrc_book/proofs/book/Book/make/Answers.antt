@@ -37,12 +37,18 @@ change-requires g c =
       stripes_is = inv.stripes_is ∙ ap (λ (st : State). stored_of b.topology st stripes.spare) current;
     } in
     let answer : IsAnswer b.topology g.st e.command e.reply = subst (λ (st : State). IsAnswer b.topology st e.command e.reply) current
-        (record { past = (world_after b.topology b.history.items).past; session = e.session; told = told }) in (
+    (record { past = (world_after b.topology b.history.items).past; session = e.session; told = told }) in (
       subst (λ (ns : List NodeInfo). AreOf ns g.st table stripes) nodes_are are,
-      (inv.gone_is ∙ ap (λ (st : State). st.gone) current,
-      (inv.down_is ∙ ap (λ (st : State). st.down) current,
-      ((leb-true 1 stripes.spare first.1, leb-true (vec_len b.gone + 1) (vec_capacity b.gone) last.0, leb-true (vec_len b.down + 1) (vec_capacity b.down) last.1),
-      subst (λ (ns : List NodeInfo). IsAnswer ns g.st e.command e.reply) nodes_are answer))),
+      (
+        inv.gone_is ∙ ap (λ (st : State). st.gone) current,
+        (
+          inv.down_is ∙ ap (λ (st : State). st.down) current,
+          (
+            (leb-true 1 stripes.spare first.1, leb-true (vec_len b.gone + 1) (vec_capacity b.gone) last.0, leb-true (vec_len b.down + 1) (vec_capacity b.down) last.1),
+            subst (λ (ns : List NodeInfo). IsAnswer ns g.st e.command e.reply) nodes_are answer,
+          ),
+        ),
+      ),
     )
 
 pub invariant_of-self : goal.invariant_of-self
@@ -58,7 +64,7 @@ invariant_of-self g c =
     let room = rw (← c.self.view_is) at c.requires.1.1.0 in
     rw (c.push_reserved.ensures.items)
     (kept_push b.topology b.limit b.history.items e (slots_of b.table) (slots_of c.change.new.table) (stored_in b.stripes) (stored_in c.change.new.stripes)
-        b.gone.items b.down.items c.change.new.gone.items c.change.new.down.items inv room told (record {
+    b.gone.items b.down.items c.change.new.gone.items c.change.new.down.items inv room told (record {
       table_is = c.change.ensures.table ∙ ap (λ (ns : List NodeInfo). table_of ns st) nodes_are ∙ ap (table_of b.topology) after;
       stripes_is = c.change.ensures.stripes ∙ ap (λ (ns : List NodeInfo). stored_of ns st (stored_in c.change.new.stripes).spare) nodes_are
           ∙ ap (λ (x : State). stored_of b.topology x (stored_in c.change.new.stripes).spare) after;
