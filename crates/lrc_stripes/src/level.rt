@@ -10,11 +10,11 @@ use lrc_code::LossMask;
 pub enum Level {
     /// No fragment is missing.
     Whole,
-    /// Some fragments are missing, and the stripe withstands this many further losses, from 0 to 2.
+    /// Some fragments are missing, and the stripe withstands this many further losses, 0 to 2, whichever they are.
     AtRisk(u8),
-    /// The missing fragments are more than the code repairs, and not all of them are lost.
+    /// The missing fragments are not recoverable, but those without a home are.
     Unavailable,
-    /// The fragments without a home are more than the code repairs.
+    /// The fragments without a home are not recoverable.
     Lost,
 }
 
