@@ -2,5 +2,8 @@
 #![tactic(auto)]
 
 mod script;
+mod streams;
+mod texts;
 
 pub use script::{Cause, ScriptError};
+pub use streams::{Plain, RunFault, Sink, Source};
