@@ -1,1 +1,4 @@
 pub mod StreamLemmas
+pub mod Play
+mod RowsOfPlacing
+mod RowsOfHistories
