@@ -1,4 +1,6 @@
 pub mod StreamLemmas
-pub mod Play
+pub mod LineLemmas
+pub mod PlayLemmas
+pub mod Rows
 mod RowsOfPlacing
 mod RowsOfHistories

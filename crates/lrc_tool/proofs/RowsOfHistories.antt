@@ -4,7 +4,7 @@ use Rattle.lrc_book.specs.declared.command.Command.{Command}
 use Rattle.lrc_book.specs.Placement.{chosen, placed}
 use Rattle.lrc_book.specs.Steps.{place_outcome, drop_outcome}
 use Rattle.lrc_book.specs.Histories.{IsLegal, state_after}
-use Rattle.lrc_tool.proofs.Play.{place, remove, ten_domains, played}
+use Rattle.lrc_tool.proofs.Rows.{place, remove, ten_domains, played}
 
 abbrev script : List Command
 script = place 1 ∷ place 1 ∷ remove 2 ∷ remove 1 ∷ place 3 ∷ []

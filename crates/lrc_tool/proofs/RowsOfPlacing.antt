@@ -4,7 +4,7 @@ use Rattle.std.specs.Fmt.{digits}
 use Rattle.lrc_book.specs.States.{load}
 use Rattle.lrc_book.specs.Placement.{chosen, placed}
 use Rattle.lrc_book.specs.Steps.{place_outcome, drop_outcome}
-use Rattle.lrc_tool.proofs.Play.{node_number, place, remove, ten_domains, single_slots, six_domains, sixteen_nodes, twenty, played, printed}
+use Rattle.lrc_tool.proofs.Rows.{node_number, place, remove, ten_domains, single_slots, six_domains, sixteen_nodes, twenty, played, printed}
 
 -- fragment 12 passes over nodes 12 to 15, whose upgrade domains its class uses
 one_placed : printed ten_domains (place 1 ∷ []) ≡ codes "script 1\n1 placed 0:0 1:0 2:0 3:0 4:0 5:0 6:0 7:0 8:0 9:0 10:0 11:0 16:0 12:0 13:0 14:0\n"

@@ -3,5 +3,9 @@ pub use Rattle.lrc_topology.specs.Documents
 pub use Rattle.lrc_book.specs.Histories
 pub mod Scripts
 pub mod Bundles
+pub mod FirstBad
+pub mod ScriptOf
 pub mod Texts
 pub mod Streams
+pub mod Faults
+pub mod Outputs

@@ -6,7 +6,8 @@ ghost use Rattle.std.specs.Io.KnownBytes.{ReadConsumes, WriteAppends, Appends, K
 ghost use Rattle.lrc_tool.specs.Streams.{is_failed_write, is_read_fault, IsReadUpTo, AppendsPart};
 ghost use Rattle.lrc_tool.specs.declared.streams.RunFault.TheVariants as fault;
 
-use std::alloc::Global;
+use lrc_code::Fault;
+use std::alloc::{AllocError, Global};
 use std::io;
 use std::io::{Read, Write};
 use thiserror::Error;
@@ -22,6 +23,31 @@ pub enum RunFault {
     Read = 3,
     #[error("fault 4")]
     Write = 4,
+}
+
+impl From<AllocError> for RunFault {
+    ghost use Rattle.std.specs.Prelude.{◌≡◌};
+    ghost use Rattle.lrc_tool.specs.declared.streams.RunFault.TheVariants.{OutOfMemory};
+
+    ghost from_gives = { λ _ e. e ≡ OutOfMemory };
+
+    fn from(_error: AllocError) -> RunFault {
+        RunFault::OutOfMemory
+    }
+}
+
+impl From<Fault> for RunFault {
+    ghost use Rattle.std.specs.Prelude.{◌≡◌};
+    ghost use Rattle.lrc_tool.specs.Faults.{run_fault};
+
+    ghost from_gives = { λ fault e. e ≡ run_fault fault };
+
+    fn from(fault: Fault) -> RunFault {
+        match fault {
+            Fault::OutOfMemory => RunFault::OutOfMemory,
+            Fault::HistoryFull => RunFault::HistoryFull,
+        }
+    }
 }
 
 /// A reader that says whether one of its calls has failed.
