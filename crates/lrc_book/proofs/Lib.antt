@@ -1,0 +1,9 @@
+pub mod ListLemmas
+pub mod PlanningLemmas
+pub mod StepLemmas
+pub mod WorldLemmas
+pub mod MemberLemmas
+pub mod LeastLemmas
+pub mod NodeLemmas
+pub mod ChoiceLemmas
+pub mod GoodLemmas

@@ -8,3 +8,6 @@ pub mod Placement
 pub mod Steps
 pub mod Histories
 pub mod Books
+pub mod Changes
+pub mod Choices
+pub mod Goodness

@@ -1,3 +1,7 @@
 pub mod LossesLemmas
 pub mod CodesLemmas
 pub mod NumbersLemmas
+pub mod SubsetsLemmas
+pub mod MarginLemmas
+pub mod OrderLemmas
+pub mod SourcesLemmas

@@ -1,7 +1,8 @@
-ghost use Rattle.std.specs.Prelude.{◌≡◌, ℕ, ◌<◌, ◌≤◌, ◌↔◌, ◌^◌, ◌||◌, IsTrue, nat_eq, All, length, Option, map, option_map};
+ghost use Rattle.std.specs.Prelude.{◌≡◌, ℕ, ◌<◌, ◌≤◌, ◌↔◌, ◌^◌, ◌||◌, if◌then◌else◌, IsTrue, nat_eq, All, length, IsSome, IfSome, Option, map, option_map};
+ghost use Rattle.std.specs.List.{list_any};
 ghost use Rattle.lrc_code.specs.declared.codes.Code.TheVariants.{Wide};
-ghost use Rattle.lrc_code.specs.Codes.{members};
-ghost use Rattle.lrc_code.specs.Losses.{losses_in, excess, IsRecoverable, bits_set, margin_of};
+ghost use Rattle.lrc_code.specs.Codes.{members, class_of, is_local_class, others};
+ghost use Rattle.lrc_code.specs.Losses.{losses_in, excess, IsRecoverable, IsMargin, bits_set, margin_of, local_sources};
 
 use crate::{Class, Fragment};
 
@@ -21,6 +22,25 @@ fn members_of(class: Class) -> &'static [u8]
         Class::B => &MEMBERS_OF_B,
         Class::G => &MEMBERS_OF_G,
     }
+}
+
+// The six other members of the fragment's local group, in rising order; `None` for a global parity.
+fn others_in_group(fragment: Fragment) -> Option<[Fragment; 6]>
+    ensures { result ≡ (if is_local_class (class_of Wide fragment.value) then Some (others Wide fragment) else None) }
+{
+    let class = fragment.class();
+    if class == Class::G {
+        return None;
+    }
+    let mut others = [fragment; 6];
+    let mut count = 0;
+    for other in &Fragment::all() {
+        if class == other.class() && fragment != *other {
+            others[count] = *other;
+            count += 1;
+        }
+    }
+    Some(others)
 }
 
 /// A set of lost fragments of a stripe; fragment f is bit f, and fragment 0 is the lowest bit.
@@ -47,6 +67,12 @@ impl LossMask {
         ensures { result ≡ bits_set self.bits fragment.value }
     {
         (self.bits >> fragment.get()) & 1 == 1
+    }
+
+    fn contains_any(self, fragments: &[Fragment]) -> bool
+        ensures { result ≡ list_any (λ f. bits_set self.bits f.value) fragments.now }
+    {
+        fragments.iter().any(|fragment| self.contains(*fragment))
     }
 
     /// The same losses and this one.
@@ -91,7 +117,9 @@ impl LossMask {
     /// How many further losses the stripe withstands, whichever they are, at most the number of fragments that
     /// are left; `None` where the losses are not recoverable.
     pub fn margin(self) -> Option<u8>
-        ensures { result ≡ margin_of Wide (bits_set self.bits) }
+        ensures margin { IfSome result (IsMargin Wide (bits_set self.bits)) }
+        ensures recoverable { IsSome result ↔ IsRecoverable Wide (bits_set self.bits) }
+        ensures value { result ≡ margin_of Wide (bits_set self.bits) }
     {
         let excess = self.excess();
         if excess > 2 {
@@ -101,6 +129,19 @@ impl LossMask {
             Some(2 - excess)
         } else {
             Some(3 - self.class_losses(Class::G))
+        }
+    }
+
+    /// The fragments that alone rebuild this one: the six others of its local group, in rising order. `None` where
+    /// one of them is lost too, and for a global parity.
+    pub fn local_sources(self, fragment: Fragment) -> Option<[Fragment; 6]>
+        ensures { result ≡ local_sources Wide (bits_set self.bits) fragment }
+    {
+        let others = others_in_group(fragment)?;
+        if self.contains_any(&others) {
+            None
+        } else {
+            Some(others)
         }
     }
 }

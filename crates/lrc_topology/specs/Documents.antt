@@ -1,13 +1,16 @@
--- The nodes that a document lists, or the first of its faults.
-use Rattle.std.specs.Prelude.{◌≡◌, ℕ, ◌≤◌, ℤ, pos, nat_abs, int_le, codes, Bool, ◌&&◌, if◌then◌else◌, nat_lt, nat_eq, ◌+◌, List, [], ◌∷◌, ◌++◌, length, map, filter_map, Option, Some, None, is_none, option_map, option_and_then, IsUtf8}
-use Rattle.std.specs.List.{list_any, AllByRecursion}
+-- The nodes that a text lists, or the first of its faults.
+use Rattle.std.specs.Prelude.{◌≡◌, ℕ, ℤ, pos, int_le, nat_abs, codes, Bool, false, not, ◌&&◌, if◌then◌else◌, nat_lt, nat_eq, List, [], ◌∷◌, length, map, take, find, position, Option, Some, None, is_some, is_none, option_map, option_and_then, IsUtf8}
+use Rattle.std.specs.List.{list_any, slice_index_or, range_with_len}
 use Rattle.toml.specs.Data.{Data, Items, no_items, item, array, Members, get, get_member, as_integer}
 use Rattle.toml.specs.Parse.{parse_document}
 use Rattle.lrc_topology.specs.declared.NodeInfo.{NodeInfo}
-use Rattle.lrc_topology.specs.declared.read.Fields.{Fields}
-use Rattle.lrc_topology.specs.Nodes.{first_repeated}
-use Rattle.lrc_topology.specs.declared.TopologyError.{TopologyError}
-use Rattle.lrc_topology.specs.declared.TopologyError.TheVariants.{Syntax, NoNodes, BadField, OutOfRange, DoubleNode, TooMany, OutOfMemory}
+use Rattle.lrc_topology.specs.declared.error.TopologyError.{TopologyError}
+use Rattle.lrc_topology.specs.declared.error.TopologyError.TheVariants.{Syntax, NoNodes, BadField, OutOfRange, DoubleNode, TooMany, OutOfMemory}
+
+-- the text is UTF-8, and `toml` reads it as this document
+pub record IsReadAs (text : List ℕ) (document : Members) : Type 0 where
+  pub utf8 : IsUtf8 text
+  pub parsed : parse_document text ≡ Some document
 
 abbrev pub list_of : Items → List Data
 list_of no_items = []
@@ -17,76 +20,82 @@ abbrev pub array_items : Option Data → List Data
 array_items (Some (array items)) = list_of items
 array_items _ = []
 
--- the entries of the key `node`; none where it is absent or is no array
+-- the entries of the key `node`; none where it is absent, is no array or is empty
 abbrev pub entries_of : Members → List Data
 entries_of document = array_items (get_member (codes "node") document)
 
+-- the whole number at a key; none where the entry is no table, lacks the key or has something else there
 abbrev pub whole_number : List ℕ → Data → Option ℤ
 whole_number key entry = option_and_then as_integer (get key entry)
 
--- the four numbers of an entry, if it is a table that has them
-abbrev pub fields_of : Data → Option Fields
-fields_of entry =
+-- the entry is a table with a whole number at each of the four keys
+abbrev pub is_whole : Data → Bool
+is_whole entry =
+    is_some (whole_number (codes "number") entry) && is_some (whole_number (codes "fault") entry) && is_some (whole_number (codes "upgrade") entry) && is_some (whole_number (codes "slots") entry)
+
+-- the whole number at a key, where it is one from low to high
+abbrev pub number_from : ℕ → ℕ → List ℕ → Data → Option ℕ
+number_from low high key entry = option_and_then (λ z. if int_le (pos low) z && int_le z (pos high) then Some (nat_abs z) else None) (whole_number key entry)
+
+-- the node of an entry, where its four numbers are in their ranges
+abbrev pub node_of : Data → Option NodeInfo
+node_of entry =
     option_and_then (λ number. option_and_then (λ fault. option_and_then (λ upgrade. option_map (λ slots.
-    record { number = number; fault = fault; upgrade = upgrade; slots = slots })
-    (whole_number (codes "slots") entry)) (whole_number (codes "upgrade") entry)) (whole_number (codes "fault") entry)) (whole_number (codes "number") entry)
+    record { number = record { value = number }; fault = record { value = fault }; upgrade = record { value = upgrade }; slots = slots })
+    (number_from 1 256 (codes "slots") entry)) (number_from 0 255 (codes "upgrade") entry)) (number_from 0 255 (codes "fault") entry)) (number_from 0 65535 (codes "number") entry)
 
-abbrev pub is_between : ℤ → ℤ → ℤ → Bool
-is_between low high z = int_le low z && int_le z high
+-- both entries have a node, and the two have one number
+abbrev pub same_number : Option NodeInfo → Option NodeInfo → Bool
+same_number (Some m) (Some n) = nat_eq m.number.value n.number.value
+same_number _ _ = false
 
-abbrev pub is_in_range : Fields → Bool
-is_in_range f = is_between (pos 0) (pos 65535) f.number && (is_between (pos 0) (pos 255) f.fault && (is_between (pos 0) (pos 255) f.upgrade && is_between (pos 1) (pos 256) f.slots))
+-- the number at this position stands at an earlier position too
+abbrev pub is_repeat : List (Option NodeInfo) → ℕ → Bool
+is_repeat nodes p = list_any (same_number (slice_index_or nodes p None)) (take p nodes)
 
--- the node of these numbers, if each is in its range
-abbrev pub node_of : Fields → Option NodeInfo
-node_of f = if is_in_range f then Some (record { number = record { value = nat_abs f.number }; fault = record { value = nat_abs f.fault }; upgrade = record { value = nat_abs f.upgrade }; slots = nat_abs f.slots }) else None
+-- the node at the least position that repeats a number
+abbrev pub first_repeat : List (Option NodeInfo) → Option NodeInfo
+first_repeat nodes = option_and_then (λ p. slice_index_or nodes p None) (find (is_repeat nodes) (range_with_len 0 (length nodes)))
 
-abbrev pub nodes_of : List Data → List NodeInfo
-nodes_of entries = filter_map node_of (filter_map fields_of entries)
+-- there are no entries
+abbrev pub no_nodes : List Data → Option TopologyError
+no_nodes entries = if nat_eq (length entries) 0 then Some NoNodes else None
 
--- the least place that passes the test
-abbrev pub first_place : {X : Type 0} → (X → Bool) → List X → Option ℕ
-first_place test [] = None
-first_place test (x ∷ xs) = if test x then Some 0 else option_map (λ place. place + 1) (first_place test xs)
-
-abbrev pub or_else : {X : Type 0} → Option X → Option X → Option X
-or_else (Some x) other = Some x
-or_else None other = other
-
+-- the least position whose entry is not whole
 abbrev pub bad_field : List Data → Option TopologyError
-bad_field es = option_map BadField (first_place (λ d. is_none (fields_of d)) es)
+bad_field entries = option_map BadField (position (λ entry. not (is_whole entry)) entries)
 
-abbrev pub out_of_range : List Fields → Option TopologyError
-out_of_range fields = option_map OutOfRange (first_place (λ f. is_none (node_of f)) fields)
+-- the least position whose entry has a number out of its range
+abbrev pub out_of_range : List Data → Option TopologyError
+out_of_range entries = option_map OutOfRange (position (λ entry. is_none (node_of entry)) entries)
 
-abbrev pub double_node : List NodeInfo → Option TopologyError
-double_node nodes = option_map DoubleNode (first_repeated [] (map (λ n. n.number.value) nodes))
+-- the number at the least position that repeats an earlier one
+abbrev pub double_node : List Data → Option TopologyError
+double_node entries = option_map (λ node. DoubleNode node.number) (first_repeat (map node_of entries))
 
-abbrev pub too_many : List NodeInfo → Option TopologyError
-too_many nodes = if nat_lt 512 (length nodes) then Some TooMany else None
+-- more than 512 entries
+abbrev pub too_many : List Data → Option TopologyError
+too_many entries = if nat_lt 512 (length entries) then Some TooMany else None
 
-abbrev pub refusal_of_some : List Data → Option TopologyError
-refusal_of_some es = or_else (bad_field es) (or_else (out_of_range (filter_map fields_of es)) (or_else (double_node (nodes_of es)) (too_many (nodes_of es))))
+-- the first that there is
+abbrev pub first_of : {X : Type 0} → List (Option X) → Option X
+first_of [] = None
+first_of (Some x ∷ others) = Some x
+first_of (None ∷ others) = first_of others
 
--- The first check that fails, each over all entries before the next.
+-- the first check that fails, each over all entries before the next
 abbrev pub refusal : List Data → Option TopologyError
-refusal [] = Some NoNodes
-refusal (e ∷ es) = refusal_of_some (e ∷ es)
+refusal entries = first_of (no_nodes entries ∷ bad_field entries ∷ out_of_range entries ∷ double_node entries ∷ too_many entries ∷ [])
 
--- the check's error is this one, unless memory ran out
-abbrev pub IsFirstFault : TopologyError → Option TopologyError → Type 0
-IsFirstFault OutOfMemory fault = Unit {0}
-IsFirstFault e fault = fault ≡ Some e
-
--- these are the nodes of the text
+-- These are the nodes of the text: those of its entries, one by one, which pass all checks.
 pub record IsTopologyOf (text : List ℕ) (nodes : List NodeInfo) : Type 0 where
   pub document : Members
-  pub read : parse_document text ≡ Some document
+  pub read : IsReadAs text document
   pub accepted : refusal (entries_of document) ≡ None
-  pub listed : nodes ≡ nodes_of (entries_of document)
+  pub listed : map node_of (entries_of document) ≡ map Some nodes
 
--- the text is refused so
+-- The text is refused so: it is no TOML, or the check that fails first is this one. Memory may run out on any text.
 abbrev pub IsRefusedBy : List ℕ → TopologyError → Type 0
 IsRefusedBy text Syntax = IsUtf8 text → parse_document text ≡ None
 IsRefusedBy text OutOfMemory = Unit {0}
-IsRefusedBy text e = (document : Members) × (parse_document text ≡ Some document) × (refusal (entries_of document) ≡ Some e)
+IsRefusedBy text e = (document : Members) × IsReadAs text document × (refusal (entries_of document) ≡ Some e)

@@ -1,0 +1,248 @@
+-- Each command leaves a good state.
+use Rattle.std.proofs.Common.{◌≡◌, ◌≢◌, ◌<◌, Bool, true, false, not, ◌&&◌, eqb, List, [], ◌∷◌, ◌++◌, map, filter, fold, Option, Some, None, Result, Ok, Err, IfSome, IsSomeAnd, arith, refl, sym, ap, ◌∙◌, subst}
+use Rattle.std.specs.List.{All, AllPairs, Contains, list_any}
+use Rattle.std.specs.Option.{option_map_or}
+use Rattle.std.proofs.lemmas.Bool.{eq-eqb, eqb-false, not-true, and_parts}
+use Rattle.std.proofs.lemmas.Option.{IfSome_then}
+use Rattle.std.proofs.lemmas.List.{map-append}
+use Rattle.std.proofs.lemmas.List.Elements.{All-nil, All-cons, All-head, All-tail, All-push, All-weaker, All-filter, All-map, All-contains, Contains-append_left, Contains-push}
+use Rattle.std.proofs.lemmas.List.Folds.{fold_stays}
+use Rattle.std.proofs.lemmas.List.Quantifiers.{all_pairs_push}
+use Rattle.std.proofs.lemmas.List.Kept.{AllPairs-cons, AllPairs-filter}
+use Rattle.lrc_code.specs.declared.codes.Code.{Code}
+use Rattle.lrc_code.specs.declared.codes.Code.TheVariants.{Wide}
+use Rattle.lrc_code.specs.declared.numbers.StripeNo.{StripeNo}
+use Rattle.lrc_code.specs.declared.numbers.SessionNo.{SessionNo}
+use Rattle.lrc_code.specs.declared.numbers.Fragment.{Fragment}
+use Rattle.lrc_code.specs.Codes.{fragments}
+use Rattle.lrc_topology.specs.declared.NodeInfo.{NodeInfo}
+use Rattle.lrc_topology.specs.declared.seat.Seat.{Seat}
+use Rattle.lrc_topology.specs.declared.seat.Held.{Held}
+use Rattle.lrc_topology.specs.Nodes.{AreNodes, node_at}
+use Rattle.lrc_book.specs.declared.command.Command.{Command}
+use Rattle.lrc_book.specs.declared.command.Command.TheVariants.{Place, Drop}
+use Rattle.lrc_book.specs.declared.reply.Reply.TheVariants.{Dropped}
+use Rattle.lrc_book.specs.declared.reply.Refusal.{Refusal}
+use Rattle.lrc_book.specs.declared.reply.Refusal.TheVariants as refusal
+use Rattle.lrc_book.specs.declared.entry.Entry.{Entry}
+use Rattle.lrc_book.specs.States.{State, opening, has_stripe, code_of, taken_seats}
+use Rattle.lrc_book.specs.Placement.{chosen, with_home, place_next, placed}
+use Rattle.lrc_book.specs.Steps.{Outcome, refuse_if, with_stripe, place_answer, place_outcome, is_other, without_stripe, drop_outcome, step}
+use Rattle.lrc_book.specs.Histories.{World, first_world, next_world, state_after}
+use Rattle.lrc_book.specs.Choices.{AreApart, IsApartFrom, IsChoice}
+use Rattle.lrc_book.specs.Goodness.{IsStanding, KeepApart, IsGood}
+use Rattle.lrc_book.proofs.MemberLemmas.{All-list_any, All-members, member-filter, filter-member, AllPairs-head, AllPairs-tail, list_any-member}
+use Rattle.lrc_book.proofs.NodeLemmas.{node_at-member, seat_on}
+use Rattle.lrc_book.proofs.ChoiceLemmas.{chosen-choice}
+
+-- ---- lists
+
+All-unmap : {X Y : Type 0} (P : Y → Type 0) (f : X → Y) (xs : List X) → All P (map f xs) → All (λ x. P (f x)) xs
+All-unmap P f [] all = All-nil (λ x. P (f x))
+All-unmap P f (x ∷ xs) all = All-cons (λ y. P (f y)) x xs (All-head P (f x) (map f xs) all) (All-unmap P f xs (All-tail P (f x) (map f xs) all))
+
+module _ {X Y : Type 0} (R : Y → Y → Type 0) (f : X → Y) where
+  pairs-map : (xs : List X) → AllPairs (λ x y. R (f x) (f y)) xs → AllPairs R (map f xs)
+  pairs-map [] pairs = λ i j d below within. absurd (omega arith)
+  pairs-map (x ∷ xs) pairs =
+      AllPairs-cons R (f x) (map f xs) (All-map (R (f x)) f xs (AllPairs-head (λ x y. R (f x) (f y)) x xs pairs)) (pairs-map xs (AllPairs-tail (λ x y. R (f x) (f y)) x xs pairs))
+
+  pairs-unmap : (xs : List X) → AllPairs R (map f xs) → AllPairs (λ x y. R (f x) (f y)) xs
+  pairs-unmap [] pairs = λ i j d below within. absurd (omega arith)
+  pairs-unmap (x ∷ xs) pairs =
+      AllPairs-cons (λ x y. R (f x) (f y)) x xs (All-unmap (R (f x)) f xs (AllPairs-head R (f x) (map f xs) pairs)) (pairs-unmap xs (AllPairs-tail R (f x) (map f xs) pairs))
+
+pairs-push : {X : Type 0} (R : X → X → Type 0) (xs : List X) (y : X) → AllPairs R xs → All (λ x. R x y) xs → AllPairs R (xs ++ y ∷ [])
+pairs-push R xs y pairs all = all_pairs_push R xs y pairs all
+
+All-both : {X : Type 0} (P Q : X → Type 0) (xs : List X) → All P xs → All Q xs → All (λ x. P x × Q x) xs
+All-both P Q xs p q k d within = (p k d within, q k d within)
+
+-- none of the seats is one of this fragment of the stripe
+abbrev pub HasNone : StripeNo → List Held → Fragment → Type 0
+HasNone s seats f = All (λ h. h.stripe ≡ s → h.fragment ≢ f) seats
+
+-- ---- one more home
+
+abbrev pub held_on : StripeNo → Fragment → Seat → Held
+held_on s f seat = record { stripe = s; fragment = f; seat = seat }
+
+module _ (nodes : List NodeInfo) (known : AreNodes nodes) (st : State) (s : StripeNo) (f : Fragment) (seat : Seat) where
+  -- a seat that is chosen is none of those that are held
+  choice-new : IsChoice nodes st s f seat → All (λ a. a ≢ seat) (taken_seats st)
+  choice-new choice =
+      All-members (λ a. a ≢ seat) (taken_seats st) (λ a here same. choice.free.free (subst (Contains (taken_seats st)) (same ∙ ap (λ n. seat_on n seat.slot) choice.on) here))
+
+  choice-found : IsChoice nodes st s f seat → (n : NodeInfo) → Contains nodes n → seat.node ≡ n.number → node_at nodes seat.node ≡ Some n
+  choice-found choice n here on = ap (node_at nodes) on ∙ node_at-member nodes known n here
+
+  choice-standing : IsChoice nodes st s f seat → IsStanding nodes seat
+  choice-standing choice =
+      subst (λ o. IsSomeAnd o (λ (n : NodeInfo). seat.slot < n.slots)) (sym (choice-found choice choice.node choice.fitting.known choice.on)) choice.free.within
+
+  AreApart-sym : (code : Code) (g : Fragment) (n m : NodeInfo) → AreApart code f n g m → AreApart code g m f n
+  AreApart-sym code g n m apart = record { faults = λ e. apart.faults (sym e); upgrades = λ class e. apart.upgrades (sym class) (sym e) }
+
+  -- it is apart from the seats of the stripe's other fragments
+  choice-apart : (choice : IsChoice nodes st s f seat) (h : Held) → IsApartFrom nodes st s f choice.node h → KeepApart nodes st h (held_on s f seat)
+  choice-apart choice h apart stripe fragment =
+      IfSome_then (node_at nodes h.seat.node) (apart stripe fragment) (λ m a.
+      subst (λ o. IfSome o (λ n. AreApart (code_of st h.stripe) h.fragment m f n)) (sym (choice-found choice choice.node choice.fitting.known choice.on))
+      (subst (λ t. AreApart (code_of st t) h.fragment m f choice.node) (sym stripe) (AreApart-sym (code_of st s) h.fragment choice.node m a)))
+
+  -- a home on a chosen seat, for a fragment that has none
+  pub home-good : IsGood nodes st → IsChoice nodes st s f seat → Contains st.stripes s → HasNone s st.homes f → IsGood nodes (with_home st s f seat)
+  home-good good choice there absent =
+      let y = held_on s f seat in
+      let seats : map (λ (h : Held). h.seat) (st.homes ++ y ∷ []) ≡ map (λ (h : Held). h.seat) st.homes ++ seat ∷ [] = map-append (λ (h : Held). h.seat) st.homes (y ∷ []) in
+      record {
+        stripes = good.stripes;
+        single = subst (AllPairs (λ a b. a ≢ b)) (sym seats) (pairs-push (λ a b. a ≢ b) (taken_seats st) seat good.single (choice-new choice));
+        standing = subst (All (IsStanding nodes)) (sym seats) (All-push (IsStanding nodes) (taken_seats st) seat good.standing (choice-standing choice));
+        lawful = pairs-push (KeepApart nodes st) st.homes y good.lawful (All-weaker (IsApartFrom nodes st s f choice.node) (λ h. KeepApart nodes st h y) (choice-apart choice) st.homes choice.fitting.lawful);
+        one_home = pairs-push (λ h g. h.stripe ≡ g.stripe → h.fragment ≢ g.fragment) st.homes y good.one_home absent;
+        there = All-push (λ h. Contains st.stripes h.stripe) st.homes y good.there there;
+      }
+
+-- ---- placing
+
+-- what holds while the fragments of a stripe are placed: those that are left have no homes
+pub record IsPlacing (nodes : List NodeInfo) (s : StripeNo) (st : State) (rest : List Fragment) : Type 0 where
+  pub good : IsGood nodes st
+  pub there : Contains st.stripes s
+  pub distinct : AllPairs (λ f g. f ≢ g) rest
+  pub absent : All (HasNone s st.homes) rest
+
+module _ (nodes : List NodeInfo) (known : AreNodes nodes) (s : StripeNo) where
+  placing-some : (st : State) (f : Fragment) (fs : List Fragment) (seat : Seat) → IsPlacing nodes s st (f ∷ fs) → chosen nodes st s f ≡ Some seat → IsPlacing nodes s (with_home st s f seat) fs
+  placing-some st f fs seat p e =
+      let absent = All-head (HasNone s st.homes) f fs p.absent in
+      record {
+        good = home-good nodes known st s f seat p.good (chosen-choice nodes st s f seat known e) p.there absent;
+        there = p.there;
+        distinct = AllPairs-tail (λ f g. f ≢ g) f fs p.distinct;
+        absent = All-weaker (λ g. HasNone s st.homes g × (f ≢ g)) (HasNone s (st.homes ++ held_on s f seat ∷ []))
+            (λ g parts. All-push (λ h. h.stripe ≡ s → h.fragment ≢ g) st.homes (held_on s f seat) parts.0 (λ stripe same. parts.1 same)) fs
+            (All-both (HasNone s st.homes) (λ g. f ≢ g) fs (All-tail (HasNone s st.homes) f fs p.absent) (AllPairs-head (λ f g. f ≢ g) f fs p.distinct));
+      }
+
+  placing-next : (st : State) (f : Fragment) (fs : List Fragment) (final : State) → IsPlacing nodes s st (f ∷ fs)
+      → ((next : State) → IsPlacing nodes s next fs → fold (place_next nodes s) (Ok next) fs ≡ Ok final → IsGood nodes final) → (o : Option Seat) → chosen nodes st s f ≡ o
+      → fold (place_next nodes s) (option_map_or (λ seat. Ok (with_home st s f seat)) o (Err f)) fs ≡ Ok final → IsGood nodes final
+  placing-next st f fs final p again None none e = absurd (let stuck = fold_stays (place_next nodes s) (Err f) (λ x. refl) fs in let never : Err f ≡ Ok final = sym stuck ∙ e in cc)
+  placing-next st f fs final p again (Some seat) some e = again (with_home st s f seat) (placing-some st f fs seat p some) e
+
+  placing : (st : State) (fs : List Fragment) (final : State) → IsPlacing nodes s st fs → fold (place_next nodes s) (Ok st) fs ≡ Ok final → IsGood nodes final
+  placing st [] final p e = let same : st ≡ final = cc in subst (IsGood nodes) same p.good
+  placing st (f ∷ fs) final p e = placing-next st f fs final p (λ next q g. placing next fs final q g) (chosen nodes st s f) refl e
+
+are_distinct : List Fragment → Bool
+are_distinct [] = true
+are_distinct (f ∷ fs) = not (list_any (λ (g : Fragment). eqb f.value g.value) fs) && are_distinct fs
+
+distinct-from : (fs : List Fragment) → are_distinct fs ≡ true → AllPairs (λ f g. f ≢ g) fs
+unfolding are_distinct
+distinct-from [] e = λ i j d below within. absurd (omega arith)
+distinct-from (f ∷ fs) e =
+    let parts = and_parts (not (list_any (λ (g : Fragment). eqb f.value g.value) fs)) (are_distinct fs) e in
+    AllPairs-cons (λ f g. f ≢ g) f fs
+    (All-weaker _ (λ g. f ≢ g) (λ g other same. eqb-false f.value g.value other (ap (λ (x : Fragment). x.value) same)) fs (All-list_any (λ (g : Fragment). eqb f.value g.value) fs (not-true _ parts.0)))
+    (distinct-from fs parts.1)
+
+-- no two of a stripe's fragments are one
+pub fragments-distinct : (code : Code) → AllPairs (λ f g. f ≢ g) (fragments code)
+unfolding are_distinct
+fragments-distinct Wide = distinct-from (fragments Wide) refl
+
+-- ---- commands
+
+module _ (nodes : List NodeInfo) (known : AreNodes nodes) (st : State) (s : StripeNo) where
+  not_there : has_stripe st s ≡ false → (t : StripeNo) → Contains st.stripes t → t ≢ s
+  not_there e t here same =
+      let hit = list_any-member (λ (u : StripeNo). eqb s.value u.value) st.stripes t here (eq-eqb s.value t.value (ap (λ (x : StripeNo). x.value) (sym same))) in
+      let both : true ≡ false = sym hit ∙ e in cc
+
+  -- a stripe that was not there, with no homes yet
+  pub stripe-good : (code : Code) → IsGood nodes st → has_stripe st s ≡ false → IsGood nodes (with_stripe st code s)
+  stripe-good Wide good e = record {
+    stripes = pairs-push (λ s t. s ≢ t) st.stripes s good.stripes (All-members (λ t. t ≢ s) st.stripes (not_there e));
+    single = good.single;
+    standing = good.standing;
+    lawful = good.lawful;
+    one_home = good.one_home;
+    there = All-weaker (λ h. Contains st.stripes h.stripe) (λ h. Contains (st.stripes ++ s ∷ []) h.stripe) (λ h here. Contains-append_left st.stripes (s ∷ []) h.stripe here) st.homes good.there;
+  }
+
+  pub stripe-placing : (code : Code) → IsGood nodes st → has_stripe st s ≡ false → IsPlacing nodes s (with_stripe st code s) (fragments (code_of (with_stripe st code s) s))
+  stripe-placing Wide good e = record {
+    good = stripe-good Wide good e;
+    there = Contains-push st.stripes s;
+    distinct = fragments-distinct (code_of (with_stripe st Wide s) s);
+    absent = All-members (HasNone s st.homes) (fragments (code_of (with_stripe st Wide s) s))
+        (λ f here. All-weaker (λ h. Contains st.stripes h.stripe) (λ h. h.stripe ≡ s → h.fragment ≢ f) (λ h there stripe. absurd (not_there e h.stripe there stripe)) st.homes good.there);
+  }
+
+  -- all fragments of a new stripe placed
+  pub placed-good : (code : Code) (final : State) → IsGood nodes st → has_stripe st s ≡ false → placed nodes (with_stripe st code s) s ≡ Ok final → IsGood nodes final
+  unfolding placed
+  placed-good code final good e done = placing nodes known s (with_stripe st code s) (fragments (code_of (with_stripe st code s) s)) final (stripe-placing code good e) done
+
+  answer-good : (code : Code) (r : Result State Fragment) → IsGood nodes st → has_stripe st s ≡ false → placed nodes (with_stripe st code s) s ≡ r → IsGood nodes (place_answer st s r).1
+  answer-good code (Ok final) good e done = placed-good code final good e done
+  answer-good code (Err f) good e done = good
+
+  refused-good : (met : Bool) (r : Refusal) (other : Outcome) → IsGood nodes st → (met ≡ false → IsGood nodes other.1) → IsGood nodes (refuse_if met r st other).1
+  refused-good true r other good next = good
+  refused-good false r other good next = next refl
+
+  pub place-good : (code : Code) → IsGood nodes st → IsGood nodes (place_outcome nodes st code s).1
+  unfolding place_outcome
+  place-good code good =
+      refused-good (has_stripe st s) refusal.StripeExists (place_answer st s (placed nodes (with_stripe st code s) s)) good
+      (λ e. answer-good code (placed nodes (with_stripe st code s) s) good e refl)
+
+  -- the stripe and its homes taken out
+  pub without-good : IsGood nodes st → IsGood nodes (without_stripe st s)
+  without-good good =
+      let kept = λ (h : Held). is_other s h.stripe in
+      record {
+        stripes = AllPairs-filter (λ s t. s ≢ t) (is_other s) st.stripes good.stripes;
+        single = pairs-map (λ a b. a ≢ b) (λ (h : Held). h.seat) (filter kept st.homes)
+            (AllPairs-filter (λ h g. h.seat ≢ g.seat) kept st.homes (pairs-unmap (λ a b. a ≢ b) (λ (h : Held). h.seat) st.homes good.single));
+        standing = All-map (IsStanding nodes) (λ (h : Held). h.seat) (filter kept st.homes)
+            (All-filter kept (λ h. IsStanding nodes h.seat) st.homes (All-unmap (IsStanding nodes) (λ (h : Held). h.seat) st.homes good.standing));
+        lawful = AllPairs-filter (KeepApart nodes st) kept st.homes good.lawful;
+        one_home = AllPairs-filter (λ h g. h.stripe ≡ g.stripe → h.fragment ≢ g.fragment) kept st.homes good.one_home;
+        there = All-members (λ h. Contains (filter (is_other s) st.stripes) h.stripe) (filter kept st.homes)
+            (λ h here. let m = filter-member kept st.homes h here in
+            member-filter (is_other s) st.stripes h.stripe (All-contains (λ g. Contains st.stripes g.stripe) st.homes h good.there m.0) m.1);
+      }
+
+  pub drop-good : IsGood nodes st → IsGood nodes (drop_outcome st s).1
+  unfolding drop_outcome
+  drop-good good = refused-good (not (has_stripe st s)) refusal.UnknownStripe (Dropped, without_stripe st s) good (λ e. without-good good)
+
+-- ---- histories
+
+pub opening-good : (nodes : List NodeInfo) → IsGood nodes opening
+opening-good nodes = record {
+  stripes = λ i j d below within. absurd (omega arith);
+  single = λ i j d below within. absurd (omega arith);
+  standing = All-nil (IsStanding nodes);
+  lawful = λ i j d below within. absurd (omega arith);
+  one_home = λ i j d below within. absurd (omega arith);
+  there = All-nil (λ h. Contains opening.stripes h.stripe);
+}
+
+-- Each command leaves a good state.
+pub step-good : (nodes : List NodeInfo) → AreNodes nodes → (past : List Entry) (st : State) (session : SessionNo) (command : Command) → IsGood nodes st → IsGood nodes (step nodes past st session command).1
+step-good nodes known past st session (Place s) good = place-good nodes known st s Wide good
+step-good nodes known past st session (Drop s) good = drop-good nodes known st s good
+
+-- and so does each list of entries
+pub worlds-good : (nodes : List NodeInfo) → AreNodes nodes → (w : World) (history : List Entry) → IsGood nodes w.state → IsGood nodes (fold (next_world nodes) w history).state
+worlds-good nodes known w [] good = good
+worlds-good nodes known w (e ∷ es) good = worlds-good nodes known (next_world nodes w e) es (step-good nodes known w.past w.state e.session e.command good)
+
+pub state_after-good : (nodes : List NodeInfo) → AreNodes nodes → (history : List Entry) → IsGood nodes (state_after nodes history)
+state_after-good nodes known history = worlds-good nodes known first_world history (opening-good nodes)

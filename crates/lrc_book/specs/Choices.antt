@@ -1,0 +1,48 @@
+-- The choice rule in words: which nodes a fragment may go to, and which seat is chosen.
+use Rattle.std.specs.Prelude.{◌≡◌, ◌≢◌, ◌⊎◌, ℕ, ◌<◌, List, All, Contains, IfSome}
+use Rattle.lrc_code.specs.declared.codes.Code.{Code}
+use Rattle.lrc_code.specs.declared.numbers.StripeNo.{StripeNo}
+use Rattle.lrc_code.specs.declared.numbers.Fragment.{Fragment}
+use Rattle.lrc_code.specs.Codes.{class_of}
+use Rattle.lrc_topology.specs.declared.NodeInfo.{NodeInfo}
+use Rattle.lrc_topology.specs.declared.seat.Seat.{Seat}
+use Rattle.lrc_topology.specs.declared.seat.Held.{Held}
+use Rattle.lrc_topology.specs.Nodes.{node_at}
+use Rattle.lrc_book.specs.States.{State, code_of, seats_of, taken_seats, load}
+
+-- The nodes of two fragments of a stripe are apart: their fault domains differ, and where the fragments are of one class their upgrade domains differ too.
+pub record AreApart (code : Code) (f : Fragment) (n : NodeInfo) (g : Fragment) (m : NodeInfo) : Type 0 where
+  pub faults : n.fault ≢ m.fault
+  pub upgrades : class_of code f.value ≡ class_of code g.value → n.upgrade ≢ m.upgrade
+
+-- the fragment's node is apart from the one that the seat is on, where this is a seat of another fragment of the stripe
+abbrev pub IsApartFrom : List NodeInfo → State → StripeNo → Fragment → NodeInfo → Held → Type 0
+IsApartFrom nodes st s f n h = h.stripe ≡ s → h.fragment ≢ f → IfSome (node_at nodes h.seat.node) (λ m. AreApart (code_of st s) f n h.fragment m)
+
+-- the slot is one of the node's, and no seat is on it
+pub record IsFree (st : State) (n : NodeInfo) (slot : ℕ) : Type 0 where
+  pub within : slot < n.slots
+  pub free : ¬ (Contains (taken_seats st) (record { node = n.number; slot = slot }))
+
+-- the node takes seats: some slot of it is free
+abbrev pub IsEligible : State → NodeInfo → Type 0
+IsEligible st n = (slot : ℕ) × IsFree st n slot
+
+-- The fragment may go to the node: it is one of the store's, is eligible, and is apart from the nodes of the stripe's other fragments.
+pub record IsFitting (nodes : List NodeInfo) (st : State) (s : StripeNo) (f : Fragment) (n : NodeInfo) : Type 0 where
+  pub known : Contains nodes n
+  pub eligible : IsEligible st n
+  pub lawful : All (IsApartFrom nodes st s f n) (seats_of st)
+
+-- the first node is chosen before the second: less load, or as much and a lower number
+abbrev pub ComesBefore : State → NodeInfo → NodeInfo → Type 0
+ComesBefore st n m = (load st n.number < load st m.number) ⊎ ((load st n.number ≡ load st m.number) × (n.number.value < m.number.value))
+
+-- The seat is the least free slot of the fitting node that comes before every other fitting node.
+pub record IsChoice (nodes : List NodeInfo) (st : State) (s : StripeNo) (f : Fragment) (seat : Seat) : Type 0 where
+  pub node : NodeInfo
+  pub fitting : IsFitting nodes st s f node
+  pub first : (m : NodeInfo) → IsFitting nodes st s f m → m ≢ node → ComesBefore st node m
+  pub on : seat.node ≡ node.number
+  pub free : IsFree st node seat.slot
+  pub least : (slot : ℕ) → slot < seat.slot → Contains (taken_seats st) (record { node = node.number; slot = slot })

@@ -1,0 +1,32 @@
+//! Laws of the definitions, each the contract of a function that does nothing.
+
+ghost use Rattle.std.specs.Prelude.{◌≡◌, ◌↔◌, List, Some, None};
+ghost use Rattle.lrc_code.specs.declared.numbers.StripeNo.{StripeNo};
+ghost use Rattle.lrc_code.specs.declared.numbers.Fragment.{Fragment};
+ghost use Rattle.lrc_topology.specs.declared.NodeInfo.{NodeInfo};
+ghost use Rattle.lrc_topology.specs.declared.seat.Seat.{Seat};
+ghost use Rattle.lrc_topology.specs.Nodes.{AreNodes};
+ghost use Rattle.lrc_book.specs.declared.entry.Entry.{Entry};
+ghost use Rattle.lrc_book.specs.States.{State};
+ghost use Rattle.lrc_book.specs.Placement.{chosen};
+ghost use Rattle.lrc_book.specs.Choices.{IsFitting, IsChoice};
+ghost use Rattle.lrc_book.specs.Histories.{IsLegal, state_after};
+ghost use Rattle.lrc_book.specs.Goodness.{IsGood};
+
+/// The chosen seat is the least free slot of the node that comes before every other node that the fragment may go to.
+pub fn chosen_seats_come_first()
+    ensures { (nodes : List NodeInfo) (st : State) (s : StripeNo) (f : Fragment) (seat : Seat)
+        → AreNodes nodes → (chosen nodes st s f ≡ Some seat) ↔ IsChoice nodes st s f seat }
+{}
+
+/// No seat is chosen exactly where the fragment may go to no node.
+pub fn none_is_chosen_where_no_node_fits()
+    ensures { (nodes : List NodeInfo) (st : State) (s : StripeNo) (f : Fragment)
+        → (chosen nodes st s f ≡ None) ↔ ((n : NodeInfo) → ¬ (IsFitting nodes st s f n)) }
+{}
+
+/// After each legal history every placement is lawful, and every seat is held once and is a slot of a node.
+pub fn legal_histories_leave_good_states()
+    ensures { (nodes : List NodeInfo) (history : List Entry)
+        → AreNodes nodes → IsLegal nodes history → IsGood nodes (state_after nodes history) }
+{}

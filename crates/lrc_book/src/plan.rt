@@ -1,0 +1,7 @@
+use crate::Entry;
+
+/// A call that was decided and not yet made: the entry to come.
+#[derive(Clone, Copy, Debug, PartialEq, Eq)]
+pub(crate) struct Plan {
+    pub(crate) entry: Entry,
+}
