@@ -2,8 +2,8 @@
 use Rattle.std.specs.Prelude.{◌≡◌, ◌≢◌, ℕ, ◌≤◌, if◌then◌else◌, nat_lt, List, [], ◌∷◌, length, take, map, All, codes, Option, Some, None, Result, Ok, Err}
 use Rattle.std.specs.Io.KnownBytes.{Appends}
 use Rattle.lrc_topology.specs.declared.NodeInfo.{NodeInfo}
-use Rattle.lrc_topology.specs.declared.TopologyError.{TopologyError}
-use Rattle.lrc_topology.specs.declared.TopologyError.TheVariants.{OutOfMemory}
+use Rattle.lrc_topology.specs.declared.error.TopologyError.{TopologyError}
+use Rattle.lrc_topology.specs.declared.error.TopologyError.TheVariants.{OutOfMemory}
 use Rattle.lrc_topology.specs.Documents.{IsTopologyOf, IsRefusedBy}
 use Rattle.lrc_book.specs.declared.command.Command.{Command}
 use Rattle.lrc_book.specs.declared.entry.Entry.{Entry}

@@ -1,8 +1,8 @@
 -- The texts of replies, and of refusals of input.
 use Rattle.std.specs.Prelude.{ℕ, ◌+◌, List, [], ◌∷◌, ◌++◌, codes, decimal, map, flat_map}
 use Rattle.lrc_topology.specs.declared.seat.Seat.{Seat}
-use Rattle.lrc_topology.specs.declared.TopologyError.{TopologyError}
-use Rattle.lrc_topology.specs.declared.TopologyError.TheVariants.{Syntax, NoNodes, BadField, OutOfRange, DoubleNode, TooMany, OutOfMemory}
+use Rattle.lrc_topology.specs.declared.error.TopologyError.{TopologyError}
+use Rattle.lrc_topology.specs.declared.error.TopologyError.TheVariants.{Syntax, NoNodes, BadField, OutOfRange, DoubleNode, TooMany, OutOfMemory}
 use Rattle.lrc_book.specs.declared.reply.Reply.{Reply}
 use Rattle.lrc_book.specs.declared.reply.Reply.TheVariants.{Placed, Dropped, Refused}
 use Rattle.lrc_book.specs.declared.reply.Refusal.{Refusal}
@@ -54,7 +54,7 @@ topology_line Syntax = codes "topology 1\n"
 topology_line NoNodes = codes "topology 2\n"
 topology_line (BadField position) = codes "topology 3 " ++ decimal position ++ codes "\n"
 topology_line (OutOfRange position) = codes "topology 4 " ++ decimal position ++ codes "\n"
-topology_line (DoubleNode number) = codes "topology 5 " ++ decimal number ++ codes "\n"
+topology_line (DoubleNode number) = codes "topology 5 " ++ decimal number.value ++ codes "\n"
 topology_line TooMany = codes "topology 6\n"
 topology_line OutOfMemory = []
 

@@ -4,7 +4,7 @@ ghost use Rattle.lrc_tool.specs.declared.streams.RunFault.TheVariants as fault;
 
 use crate::streams::RunFault;
 use crate::texts::push_reply_line;
-use lrc_book::{Book, Command};
+use lrc_book::{Book, Command, HISTORY_LIMIT};
 use lrc_code::SessionNo;
 use lrc_topology::Topology;
 use std::alloc::Global;
@@ -16,7 +16,7 @@ pub(crate) fn play(
     commands: &[Command],
 ) -> Result<String, RunFault>
     // The history has room for them.
-    requires { length commands.now ≤ 1000000 }
+    requires { length commands.now ≤ HISTORY_LIMIT }
     ensures played { IfOk result (λ text. IsPlayed topology commands.now (string_bytes text)) }
     ensures err { IfErr result (λ e. e ≡ fault.OutOfMemory) }
 {

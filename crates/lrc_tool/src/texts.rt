@@ -76,7 +76,10 @@ pub(crate) fn push_topology_line(out: &mut String, error: TopologyError) -> Resu
         TopologyError::NoNodes => out.push_str("topology 2\n"),
         TopologyError::BadField(position) => write!(out, "topology 3 {position}\n"),
         TopologyError::OutOfRange(position) => write!(out, "topology 4 {position}\n"),
-        TopologyError::DoubleNode(number) => write!(out, "topology 5 {number}\n"),
+        TopologyError::DoubleNode(node) => {
+            let number = node.value;
+            write!(out, "topology 5 {number}\n")
+        }
         TopologyError::TooMany => out.push_str("topology 6\n"),
         TopologyError::OutOfMemory => Ok(()),
     }
