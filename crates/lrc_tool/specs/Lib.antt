@@ -1,5 +1,6 @@
 pub use Rattle.lrc_topology.specs.Nodes
 pub use Rattle.lrc_topology.specs.Documents
 pub use Rattle.lrc_book.specs.Histories
+pub mod Cuts
 pub mod Scripts
 pub mod Bundles
