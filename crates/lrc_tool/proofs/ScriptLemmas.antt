@@ -1,30 +1,55 @@
 -- Words, lines and what they are read as.
-use Rattle.std.proofs.Common.{◌≡◌, ◌≢◌, ℕ, suc, ◌+◌, nat_eq, nat_lt, count_by, ◌-◌, ◌*◌, ◌^◌, ◌<◌, ◌≤◌, Bool, true, false, not, ◌&&◌, ◌||◌, List, [], ◌∷◌, length, get_or, take, decimal, rules, Option, Some, None, refl, sym, ap, ◌∙◌, arith}
-use borrow.Author.Tests.{ltb-true, lt-ltb, le-ltb}
-use Rattle.std.specs.List.{list_all}
+use Rattle.std.proofs.Common.{◌≡◌, ◌≢◌, ℕ, suc, ◌+◌, nat_eq, nat_lt, count_by, ◌-◌, ◌*◌, ◌^◌, ◌<◌, ◌≤◌, Bool, true, false, not, ◌&&◌, ◌||◌, List, [], ◌∷◌, length, get_or, take, decimal, codes, ◌++◌, rules, Option, Some, None, refl, sym, ap, ◌∙◌, arith}
+use borrow.Author.Tests.{ltb-true, lt-ltb, le-ltb, eqb-true, eq-eqb}
+use Rattle.std.specs.List.{list_all, starts_with, join_with_byte}
+use Rattle.std.specs.Bool.{Decides}
+use Rattle.std.proofs.lemmas.List.{take_all}
+use Rattle.std.proofs.lemmas.Slice.Eq.{bytes_eq-Decides}
 use Rattle.std.specs.Char.{is_ascii_digit, digit_value}
 use Rattle.std.specs.Str.Parse.{digits_value}
 use Rattle.std.proofs.lemmas.Str.Parse.{IsNumeralModel, numerals_by_value}
 use Rattle.std.proofs.lemmas.Fmt.{decimal-digits_value}
 use Rattle.std.proofs.lemmas.Int.Digits.{digits_value_more}
 use Rattle.std.proofs.lemmas.List.Sums.{AllPass-from_list_all}
-use Rattle.lrc_tool.specs.declared.script.Cause.TheVariants.{OutOfRange}
+use Rattle.lrc_tool.specs.declared.script.Cause.TheVariants.{UnknownWord, OutOfRange, TooLong}
 use Rattle.std.proofs.lemmas.Bool.Decides.{nat_tests}
 use Rattle.std.specs.Borrow.{Bor}
-use Rattle.std.proofs.lemmas.List.Splits.{length-slice_split}
+use Rattle.std.proofs.lemmas.List.Splits.{length-slice_split, join_with_byte-slice_split}
 use Rattle.lrc_tool.specs.Cuts.{IsCut}
-use Rattle.lrc_tool.specs.Scripts.{is_number, argument_cause, words_of, words_behind}
+use Rattle.lrc_tool.specs.Scripts.{same_text, is_number, argument_cause, form_of, form_cause, words_cause, cause_of, is_passed_over, words_of, words_behind}
 use Rattle.lrc_tool.proofs.CutLemmas.{pieces_behind, slice_split-cut}
+
+-- ---- texts
+
+both : (a b : Bool) → (a && b) ≡ true → (a ≡ true) × (b ≡ true)
+both true b e = (refl, e)
+both false b e = cc
+
+not_so : (b : Bool) → (b ≡ true → ⊥) → b ≡ false
+not_so true never = absurd (never refl)
+not_so false never = refl
+
+same_text-Decides : (xs ys : List ℕ) → Decides (same_text xs ys) (xs ≡ ys)
+same_text-Decides xs ys =
+    let bytes = bytes_eq-Decides ys (take (length ys) xs) in
+    let forth : same_text xs ys ≡ true → xs ≡ ys = λ e.
+      let parts = both (nat_eq (length xs) (length ys)) (starts_with nat_eq xs ys) e in
+      let long = eqb-true (length xs) (length ys) parts.0 in
+      sym (bytes.0 parts.1 ∙ take_all (length ys) xs (omega (arith, long))) in
+    let back : xs ≡ ys → same_text xs ys ≡ true = λ e. rw (eq-eqb (length xs) (length ys) (ap length e)) (bytes.1 (sym e ∙ sym (take_all (length ys) xs (omega (arith, ap length e))))) in
+    (forth, back)
+
+pub same_text-true : (xs ys : List ℕ) → same_text xs ys ≡ true → xs ≡ ys
+same_text-true xs ys e = (same_text-Decides xs ys).0 e
+
+pub same_text-false : (xs ys : List ℕ) → xs ≢ ys → same_text xs ys ≡ false
+same_text-false xs ys ne = not_so (same_text xs ys) (λ e. ne (same_text-true xs ys e))
 
 -- ---- numbers
 
 -- a word that is not empty and has no zero in front of more is a number where it has digits alone
 pub is_number-digits : (word : List ℕ) → 0 < length word → (1 < length word → get_or word 0 0 ≢ 48) → list_all is_ascii_digit word ≡ is_number word
 is_number-digits word some first = grind (arith, nat_tests)
-
-both : (a b : Bool) → (a && b) ≡ true → (a ≡ true) × (b ≡ true)
-both true b e = (refl, e)
-both false b e = cc
 
 no_zero : (size first : ℕ) → (nat_eq size 1 || not (nat_eq first 48)) ≡ true → first ≡ 48 → size ≡ 1
 no_zero size first plain zero = grind (arith, nat_tests)
@@ -84,3 +109,33 @@ words_behind-more rest more line tail word there some cut one =
     let split = words_of-some tail.now in
     let count = ap length both ∙ ap (λ ws. suc (length ws)) split.2 in
     absurd (omega (arith, one, count))
+
+-- ---- commands
+
+-- the line of a word and one more
+pub line-one : (line word argument name text : List ℕ) (rest : Option (Bor (List ℕ))) → IsCut 32 line word rest → words_behind rest ≡ argument ∷ [] → word ≡ name → argument ≡ text → line ≡ name ++ 32 ∷ text
+line-one line word argument name text rest cut one named written =
+    let words = words_of-cut line word rest cut ∙ ap (λ ws. word ∷ ws) one in
+    sym (join_with_byte-slice_split 32 line) ∙ ap (join_with_byte 32) words ∙ ap (λ w. w ++ 32 ∷ argument) named ∙ ap (λ w. name ++ 32 ∷ w) written
+
+form_of-none : (word : List ℕ) → word ≢ codes "place" → word ≢ codes "drop" → form_of word ≡ None
+form_of-none word no_place no_drop = rw (same_text-false word (codes "place") no_place, same_text-false word (codes "drop") no_drop) refl
+
+pub words_cause-unknown : (line word : List ℕ) (rest : Option (Bor (List ℕ))) → IsCut 32 line word rest → word ≢ codes "place" → word ≢ codes "drop" → words_cause (words_of line) ≡ Some UnknownWord
+words_cause-unknown line word rest cut no_place no_drop =
+    ap words_cause (words_of-cut line word rest cut) ∙ ap (form_cause (words_behind rest)) (form_of-none word no_place no_drop)
+
+-- ---- lines
+
+pub cause_of-long : (line : List ℕ) → 1024 < length line → cause_of line ≡ Some TooLong
+unfolding cause_of
+cause_of-long line long = rw (lt-ltb 1024 (length line) long) refl
+
+module _ (line : List ℕ) (short : length line ≤ 1024) where
+  pub cause_of-passed : is_passed_over line ≡ true → cause_of line ≡ None
+  unfolding cause_of
+  cause_of-passed passed = rw (le-ltb 1024 (length line) short, passed) refl
+
+  pub cause_of-command : is_passed_over line ≡ false → cause_of line ≡ words_cause (words_of line)
+  unfolding cause_of
+  cause_of-command command = rw (le-ltb 1024 (length line) short, command) refl

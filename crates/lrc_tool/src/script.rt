@@ -99,10 +99,16 @@ fn parse_line(line: &[u8]) -> Result<Option<Command>, Cause>
     if line.len() > LINE_LIMIT {
         return Err(Cause::TooLong);
     }
-    if line.is_empty() || line[0] == b'#' {
+    if is_passed_over(line) {
         return Ok(None);
     }
     Ok(Some(parse_command(line)?))
+}
+
+fn is_passed_over(line: &[u8]) -> bool
+    ensures { result ≡ is_passed_over line.now }
+{
+    line.is_empty() || line[0] == b'#'
 }
 
 /// The command that a line is the line of.
@@ -111,10 +117,12 @@ fn parse_command(line: &[u8]) -> Result<Command, Cause>
     ensures cause { result_err result ≡ words_cause (words_of line.now) }
 {
     let (word, rest) = cut(line, b' ');
-    match word {
-        b"place" => Ok(Command::Place(parse_stripe(only_word(rest)?)?)),
-        b"drop" => Ok(Command::Drop(parse_stripe(only_word(rest)?)?)),
-        _ => Err(Cause::UnknownWord),
+    if word == b"place".as_slice() {
+        Ok(Command::Place(parse_stripe(only_word(rest)?)?))
+    } else if word == b"drop".as_slice() {
+        Ok(Command::Drop(parse_stripe(only_word(rest)?)?))
+    } else {
+        Err(Cause::UnknownWord)
     }
 }
 
