@@ -1,2 +1,4 @@
 pub mod CutLemmas
+pub mod PieceLemmas
 pub mod ScriptLemmas
+pub mod LineLemmas

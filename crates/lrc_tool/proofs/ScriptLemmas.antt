@@ -33,9 +33,9 @@ same_text-Decides : (xs ys : List ℕ) → Decides (same_text xs ys) (xs ≡ ys)
 same_text-Decides xs ys =
     let bytes = bytes_eq-Decides ys (take (length ys) xs) in
     let forth : same_text xs ys ≡ true → xs ≡ ys = λ e.
-      let parts = both (nat_eq (length xs) (length ys)) (starts_with nat_eq xs ys) e in
-      let long = eqb-true (length xs) (length ys) parts.0 in
-      sym (bytes.0 parts.1 ∙ take_all (length ys) xs (omega (arith, long))) in
+    let parts = both (nat_eq (length xs) (length ys)) (starts_with nat_eq xs ys) e in
+    let long = eqb-true (length xs) (length ys) parts.0 in
+    sym (bytes.0 parts.1 ∙ take_all (length ys) xs (omega (arith, long))) in
     let back : xs ≡ ys → same_text xs ys ≡ true = λ e. rw (eq-eqb (length xs) (length ys) (ap length e)) (bytes.1 (sym e ∙ sym (take_all (length ys) xs (omega (arith, ap length e))))) in
     (forth, back)
 

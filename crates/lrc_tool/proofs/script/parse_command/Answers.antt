@@ -1,4 +1,4 @@
-use Rattle.std.proofs.Common.{rules, arith, ◌≡◌, ◌≢◌, sym, codes}
+use Rattle.std.proofs.Common.{rules, sym, codes}
 use Rattle.lrc_tool.proofs.ScriptLemmas.{line-one, words_cause-unknown}
 use Rattle.lrc_tool.proofs.script.parse_command.Goals as goal
 

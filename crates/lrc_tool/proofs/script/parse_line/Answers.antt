@@ -1,5 +1,4 @@
-use Rattle.std.proofs.Common.{rules, arith, ◌≡◌, ◌≤◌, true, false, length, sym, ◌∙◌}
-use Rattle.lrc_tool.specs.Scripts.{is_passed_over}
+use Rattle.std.proofs.Common.{rules, sym, ◌∙◌}
 use Rattle.lrc_tool.proofs.ScriptLemmas.{cause_of-long, cause_of-passed, cause_of-command}
 use Rattle.lrc_tool.proofs.script.parse_line.Goals as goal
 
