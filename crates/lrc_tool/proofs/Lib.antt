@@ -1,5 +1,9 @@
-pub mod StreamLemmas
+pub mod CutLemmas
+pub mod PieceLemmas
+pub mod ScriptLemmas
 pub mod LineLemmas
+pub mod SizeLemmas
+pub mod StreamLemmas
 pub mod PlayLemmas
 pub mod ReadLemmas
 pub mod Rows

@@ -1,45 +1,41 @@
--- How many commands the lines of a text can be.
-use Rattle.std.proofs.Common.{◌≡◌, ℕ, suc, ◌+◌, ◌*◌, ◌≤◌, Bool, true, false, not, cond, nat_eq, List, [], ◌∷◌, ◌++◌, length, map, filter, codes, decimal, refl, ap, arith, length-append}
-use Rattle.std.specs.List.{slice_split, onto_first}
+-- One line more of a script.
+use Rattle.std.proofs.Common.{All, nat_lt, if◌then◌else◌, ◌≡◌, ℕ, ◌+◌, ◌<◌, ◌≤◌, Bool, true, false, Option, Some, None, List, [], ◌∷◌, ◌++◌, length, get_or, take, drop, map, refl, sym, ap, ◌∙◌, append-nil}
+use borrow.Author.Tests.{ltb-false}
+use Rattle.std.proofs.lemmas.List.{drop_more, take_more, map-append}
+use Rattle.std.proofs.lemmas.List.Elements.{All-push, filter-append}
 use Rattle.lrc_book.specs.declared.command.Command.{Command}
-use Rattle.lrc_book.specs.declared.command.Command.TheVariants.{Place, Drop}
-use Rattle.lrc_tool.specs.Scripts.{lines_of, is_passed_over, command_line, IsScript}
+use Rattle.lrc_tool.specs.declared.script.Cause.{Cause}
+use Rattle.lrc_tool.specs.declared.script.Cause.TheVariants.{TooLong}
+use Rattle.lrc_tool.specs.Scripts.{IsScript, is_passed_over, command_line, cause_of, first_bad}
 
--- the bytes of the lines, with one for the end of each
-abbrev size_of : List (List ℕ) → ℕ
-size_of [] = 0
-size_of (line ∷ lines) = length line + 1 + size_of lines
+short_if : (b : Bool) (other : Option Cause) → (if b then Some TooLong else other) ≡ None → b ≡ false
+short_if true other e = cc
+short_if false other e = refl
 
-size_of-cut : (b : Bool) (x : ℕ) (parts : List (List ℕ)) (n : ℕ) → size_of parts ≡ n + 1 → size_of (cond b ([] ∷ parts) (onto_first x parts)) ≡ suc n + 1
-size_of-cut true x parts n e = omega (arith, e)
-size_of-cut false x [] n e = absurd (omega (arith, e))
-size_of-cut false x (part ∷ parts) n e = omega (arith, e)
+-- a line without a cause is short
+pub cause_of-short : (line : List ℕ) → cause_of line ≡ None → length line ≤ 1024
+unfolding cause_of
+cause_of-short line good = ltb-false 1024 (length line) (short_if (nat_lt 1024 (length line)) _ good)
 
-size_of-slice_split : (p : ℕ → Bool) (xs : List ℕ) → size_of (slice_split p xs) ≡ length xs + 1
-size_of-slice_split p [] = refl
-size_of-slice_split p (x ∷ xs) = size_of-cut (p x) x (slice_split p xs) (length xs) (size_of-slice_split p xs)
+module _ (lines : List (List ℕ)) (i : ℕ) (line : List ℕ) (within : i < length lines) (here : line ≡ get_or lines i line) where
+  left : drop i lines ≡ line ∷ drop (i + 1) lines
+  left = drop_more lines i line within ∙ ap (λ l. l ∷ drop (i + 1) lines) (sym here)
 
-size_of-kept : (b : Bool) (line : List ℕ) (kept lines : List (List ℕ)) → size_of kept ≤ size_of lines → size_of (cond b (line ∷ kept) kept) ≤ size_of (line ∷ lines)
-size_of-kept true line kept lines h = omega (arith, h)
-size_of-kept false line kept lines h = omega (arith, h)
+  so_far : take (i + 1) lines ≡ take i lines ++ line ∷ []
+  so_far = take_more lines i line within ∙ ap (λ l. take i lines ++ l ∷ []) (sym here)
 
-size_of-filter : (p : List ℕ → Bool) (lines : List (List ℕ)) → size_of (filter p lines) ≤ size_of lines
-size_of-filter p [] = omega arith
-size_of-filter p (line ∷ lines) = size_of-kept (p line) line (filter p lines) lines (size_of-filter p lines)
+  pub first_bad-bad : (number : ℕ) (cause : Cause) → cause_of line ≡ Some cause → first_bad number (drop i lines) ≡ Some (record { line = number; cause = cause })
+  first_bad-bad number cause bad = rw (left, bad) refl
 
-length-command_line : (c : Command) → 5 ≤ length (command_line c)
-length-command_line (Place s) = omega (arith, length-append (codes "place ") (decimal s.value))
-length-command_line (Drop s) = omega (arith, length-append (codes "drop ") (decimal s.value))
+  pub first_bad-good : (number : ℕ) → cause_of line ≡ None → first_bad number (drop i lines) ≡ first_bad (number + 1) (drop (i + 1) lines)
+  first_bad-good number good = rw (left, good) refl
 
-size_of-commands : (cs : List Command) → 6 * length cs ≤ size_of (map command_line cs)
-size_of-commands [] = omega arith
-size_of-commands (c ∷ cs) = omega (arith, length-command_line c, size_of-commands cs)
+  module _ (commands : List Command) (before : IsScript (take i lines) commands) (good : cause_of line ≡ None) where
+    short : All (λ l. length l ≤ 1024) (take (i + 1) lines)
+    short = rw so_far (All-push (λ l. length l ≤ 1024) (take i lines) line before.short (cause_of-short line good))
 
--- a command's line and its end have at least six bytes
-pub few_commands : (text : List ℕ) (commands : List Command) → IsScript (lines_of text) commands → 6 * length commands ≤ length text + 1
-few_commands text commands script =
-    let all = size_of-slice_split (λ b. nat_eq b 10) text in
-    let kept = size_of-filter (λ line. not (is_passed_over line)) (lines_of text) in
-    let listed = ap size_of script.listed in
-    let made = size_of-commands commands in
-    omega (arith, all, kept, listed, made)
+    pub IsScript-passed : is_passed_over line ≡ true → IsScript (take (i + 1) lines) commands
+    IsScript-passed passed = record { short = short; listed = rw (so_far, filter-append, passed, append-nil) before.listed }
+
+    pub IsScript-command : (command : Command) → is_passed_over line ≡ false → line ≡ command_line command → IsScript (take (i + 1) lines) (commands ++ command ∷ [])
+    IsScript-command command kept is = record { short = short; listed = rw (so_far, filter-append, kept, map-append, before.listed) (ap (λ l. map command_line commands ++ l ∷ []) is) }

@@ -1,5 +1,5 @@
 -- Bundles: a topology, and the scripts behind it.
-use Rattle.std.specs.Prelude.{ℕ, ◌+◌, Bool, nat_eq, List, [], ◌∷◌, ◌++◌, length, codes, flat_map}
+use Rattle.std.specs.Prelude.{ℕ, ◌+◌, Bool, List, [], ◌∷◌, ◌++◌, length, codes, flat_map}
 use Rattle.std.specs.List.{slice_split}
 use Rattle.lrc_tool.specs.Scripts.{lines_of, same_text}
 

@@ -1,9 +1,9 @@
 pub use Rattle.lrc_topology.specs.Nodes
 pub use Rattle.lrc_topology.specs.Documents
 pub use Rattle.lrc_book.specs.Histories
+pub mod Cuts
 pub mod Scripts
 pub mod Bundles
-pub mod FirstBad
 pub mod ScriptOf
 pub mod Texts
 pub mod Streams

@@ -1,12 +1,14 @@
 -- Script lines: which command a line is, and why a line is bad.
-use Rattle.std.specs.Prelude.{◌≡◌, ℕ, ◌+◌, ◌≤◌, Bool, not, ◌&&◌, ◌||◌, if◌then◌else◌, nat_lt, nat_eq, List, [], ◌∷◌, ◌++◌, length, map, filter, find, All, slice_index, codes, decimal, Option, Some, None, option_map}
+use Rattle.std.specs.Prelude.{◌≡◌, ℕ, ◌+◌, ◌≤◌, Bool, true, false, not, ◌&&◌, ◌||◌, if◌then◌else◌, nat_lt, nat_eq, List, [], ◌∷◌, ◌++◌, length, map, filter, find, All, slice_index, codes, decimal, Option, Some, None, option_map}
 use Rattle.std.specs.List.{slice_split, list_all, starts_with}
-use Rattle.std.specs.Option.{option_map_or}
+use Rattle.std.specs.Borrow.{Bor}
 use Rattle.std.specs.Char.{is_ascii_digit}
 use Rattle.std.specs.Str.Parse.{digits_value}
 use Rattle.lrc_book.specs.declared.command.Command.{Command}
 use Rattle.lrc_book.specs.declared.command.Command.TheVariants.{Place, Drop}
 use Rattle.lrc_tool.specs.declared.script.Cause.{Cause}
+use Rattle.lrc_tool.specs.declared.script.ScriptError.{ScriptError}
+use Rattle.lrc_tool.specs.declared.script.ScriptError.TheVariants.{Bad, OutOfMemory}
 use Rattle.lrc_tool.specs.declared.script.Cause.TheVariants.{UnknownWord, WordCount, NotANumber, OutOfRange, TooLong}
 
 -- ---- lines
@@ -28,6 +30,11 @@ command_line (Drop s) = codes "drop " ++ decimal s.value
 pub record IsScript (lines : List (List ℕ)) (commands : List Command) : Type 0 where
   pub short : All (λ line. length line ≤ 1024) lines
   pub listed : filter (λ line. not (is_passed_over line)) lines ≡ map command_line commands
+
+-- what a line is read as: a command, or nothing where it is passed over
+abbrev pub IsReadAs : List ℕ → Option Command → Type 0
+IsReadAs line (Some command) = (is_passed_over line ≡ false) × (line ≡ command_line command)
+IsReadAs line None = is_passed_over line ≡ true
 
 -- ---- causes
 
@@ -68,6 +75,11 @@ arguments_cause _ _ = None
 abbrev pub words_of : List ℕ → List (List ℕ)
 words_of line = slice_split (λ b. nat_eq b 32) line
 
+-- the words of what stands behind the first word, if anything does
+abbrev pub words_behind : Option (Bor (List ℕ)) → List (List ℕ)
+words_behind None = []
+words_behind (Some rest) = words_of rest.now
+
 -- the cause of a line with these words behind the first
 abbrev pub form_cause : List (List ℕ) → Option Form → Option Cause
 form_cause words None = Some UnknownWord
@@ -90,3 +102,8 @@ pub record BadLine : Type 0 where
 abbrev pub first_bad : ℕ → List (List ℕ) → Option BadLine
 first_bad number [] = None
 first_bad number (line ∷ lines) = or_else (option_map (λ cause. record { line = number; cause = cause }) (cause_of line)) (first_bad (number + 1) lines)
+
+-- the error tells of this bad line, or of no line
+abbrev pub IsFirstBad : Option BadLine → ScriptError → Type 0
+IsFirstBad found (Bad line cause) = found ≡ Some (record { line = line; cause = cause })
+IsFirstBad found OutOfMemory = Unit {0}

@@ -2,6 +2,7 @@
 #![tactic(auto)]
 
 mod bundle;
+mod cut;
 mod output;
 mod play;
 mod program;

@@ -1,5 +1,5 @@
 use Rattle.std.proofs.Common.{length, ap, arith}
-use Rattle.lrc_tool.proofs.LineLemmas.{few_commands}
+use Rattle.lrc_tool.proofs.SizeLemmas.{few_commands}
 use Rattle.lrc_tool.proofs.output.script_output.Goals as goal
 
 pub play-requires : goal.play-requires
