@@ -9,6 +9,8 @@ mod program;
 mod script;
 mod status;
 mod streams;
+#[cfg(test)]
+mod tests;
 mod texts;
 
 pub use program::run;
