@@ -5,6 +5,7 @@ pub mod LineLemmas
 pub mod SizeLemmas
 pub mod StreamLemmas
 pub mod PlayLemmas
+pub mod OutputLemmas
 pub mod ReadLemmas
 pub mod Rows
 mod RowsOfPlacing

@@ -4,7 +4,6 @@ pub use Rattle.lrc_book.specs.Histories
 pub mod Cuts
 pub mod Scripts
 pub mod Bundles
-pub mod ScriptOf
 pub mod Texts
 pub mod Streams
 pub mod Faults

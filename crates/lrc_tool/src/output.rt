@@ -1,7 +1,7 @@
 ghost use Rattle.std.specs.Prelude.{◌≡◌, ◌≤◌, ◌+◌, [], ◌∷◌, length, string_bytes, IfOk, IfErr};
 ghost use Rattle.lrc_tool.specs.Texts.{topology_line, bad_line_text};
 ghost use Rattle.lrc_tool.specs.Outputs.{IsAnsweredAfter, ArePlayed, IsOutput};
-ghost use Rattle.lrc_tool.specs.ScriptOf.{script_of};
+ghost use Rattle.lrc_tool.specs.Bundles.{Script, IsTextOf};
 ghost use Rattle.lrc_tool.specs.declared.status.Status.TheVariants as ended;
 ghost use Rattle.lrc_tool.specs.declared.streams.RunFault.TheVariants as fault;
 
@@ -46,19 +46,19 @@ pub(crate) fn output_of(alloc: Global, bundle: &[u8]) -> Result<Output, RunFault
         Err(error) => return refused_topology(alloc, error),
     };
     match parts.scripts.as_slice() {
-        [script] => script_output(alloc, topology, script),
-        _ => Ok(Output {
+        [] => Ok(Output {
             text: String::new(alloc),
             status: Status::Done,
         }),
+        [script, ..] => script_output(alloc, topology, script),
     }
 }
 
 /// The output where the script, the only one of its bundle, is run over these nodes.
 fn script_output(alloc: Global, topology: Topology, script: &ScriptText) -> Result<Output, RunFault>
     // The script stands within its bundle.
-    requires { script.now.first_line + length script.now.text.now ≤ BUNDLE_LIMIT + 2 }
-    ensures output { IfOk result (λ o. IsAnsweredAfter ArePlayed (Ok topology) (script_of script.now ∷ []) (string_bytes o.text) o.status) }
+    requires { script.now.first_line + length script.now.text.now ≤ BUNDLE_LIMIT }
+    ensures output { IfOk result (λ o. (s : Script) → IsTextOf s script.now → IsAnsweredAfter ArePlayed (Ok topology) (s ∷ []) (string_bytes o.text) o.status) }
     ensures err { IfErr result (λ e. e ≡ fault.OutOfMemory) }
 {
     match parse_script(alloc, script.text, script.first_line) {
