@@ -2,3 +2,4 @@ pub mod CutLemmas
 pub mod PieceLemmas
 pub mod ScriptLemmas
 pub mod LineLemmas
+pub mod CauseLemmas

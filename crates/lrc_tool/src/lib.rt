@@ -2,6 +2,7 @@
 #![tactic(auto)]
 
 mod cut;
+pub mod laws;
 mod script;
 
 pub use script::{Cause, ScriptError, parse_script};
