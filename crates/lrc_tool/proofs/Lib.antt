@@ -3,3 +3,4 @@ pub mod PieceLemmas
 pub mod ScriptLemmas
 pub mod LineLemmas
 pub mod CauseLemmas
+pub mod FirstLemmas
