@@ -4,3 +4,4 @@ pub mod ScriptLemmas
 pub mod LineLemmas
 pub mod CauseLemmas
 pub mod FirstLemmas
+pub mod PartLemmas
