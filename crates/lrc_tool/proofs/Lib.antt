@@ -5,3 +5,4 @@ pub mod LineLemmas
 pub mod CauseLemmas
 pub mod FirstLemmas
 pub mod PartLemmas
+pub mod BundleLemmas
