@@ -12,7 +12,7 @@ differs b separator ne = grind (arith, nat_tests)
 same : (b : ℕ) → nat_eq b b ≡ true
 same b = grind (arith, nat_tests)
 
-has_none : (separator : ℕ) (first : List ℕ) → All (λ b. b ≢ separator) first → All (λ b. nat_eq b separator ≡ false) first
+pub has_none : (separator : ℕ) (first : List ℕ) → All (λ b. b ≢ separator) first → All (λ b. nat_eq b separator ≡ false) first
 has_none separator first none = λ k d within. differs (get_or first k d) separator (none k d within)
 
 -- the pieces of what stands behind a cut, if anything does

@@ -10,3 +10,7 @@ pub mod ReadLemmas
 pub mod Rows
 mod RowsOfPlacing
 mod RowsOfHistories
+pub mod CauseLemmas
+pub mod FirstLemmas
+pub mod PartLemmas
+pub mod BundleLemmas

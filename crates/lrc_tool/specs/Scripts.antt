@@ -1,5 +1,5 @@
 -- Script lines: which command a line is, and why a line is bad.
-use Rattle.std.specs.Prelude.{◌≡◌, ℕ, ◌+◌, ◌≤◌, Bool, true, false, not, ◌&&◌, ◌||◌, if◌then◌else◌, nat_lt, nat_eq, List, [], ◌∷◌, ◌++◌, length, map, filter, find, All, slice_index, codes, decimal, Option, Some, None, option_map}
+use Rattle.std.specs.Prelude.{◌≡◌, ℕ, ◌+◌, ◌≤◌, Bool, true, false, not, ◌&&◌, ◌||◌, if◌then◌else◌, nat_lt, nat_eq, List, [], ◌∷◌, ◌++◌, length, map, filter, find, All, slice_index, codes, decimal, Option, Some, None, option_map, IsSomeAnd, slice_get, take}
 use Rattle.std.specs.List.{slice_split, list_all, starts_with}
 use Rattle.std.specs.Borrow.{Bor}
 use Rattle.std.specs.Char.{is_ascii_digit}
@@ -102,6 +102,11 @@ pub record BadLine : Type 0 where
 abbrev pub first_bad : ℕ → List (List ℕ) → Option BadLine
 first_bad number [] = None
 first_bad number (line ∷ lines) = or_else (option_map (λ cause. record { line = number; cause = cause }) (cause_of line)) (first_bad (number + 1) lines)
+
+-- the line at this index is bad for this cause, and none before it is bad
+pub record IsFirstBadAt (lines : List (List ℕ)) (i : ℕ) (cause : Cause) : Type 0 where
+  pub bad : IsSomeAnd (slice_get lines i) (λ line. cause_of line ≡ Some cause)
+  pub good_before : All (λ line. cause_of line ≡ None) (take i lines)
 
 -- the error tells of this bad line, or of no line
 abbrev pub IsFirstBad : Option BadLine → ScriptError → Type 0

@@ -3,6 +3,7 @@
 
 mod bundle;
 mod cut;
+pub mod laws;
 mod output;
 mod play;
 mod program;
