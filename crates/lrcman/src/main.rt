@@ -1,6 +1,9 @@
 //! The program `lrcman`: its command line, its standard streams and its exit status.
 #![tactic(auto)]
 
+#[cfg(test)]
+mod tests;
+
 use clap::error::ErrorKind;
 use clap::{Command, Error};
 use lrc_tool::{Plain, RunFault, Status, run};
@@ -9,15 +12,29 @@ use std::process::ExitCode;
 use std::{env, io};
 
 /// What the command line asks for.
+#[derive(Clone, Copy, Debug, PartialEq, Eq)]
 enum Request {
     Run,
 }
 
-/// Why the program stops without a status.
+/// Why the program ends without a run's status: the line on standard error.
+#[derive(Clone, Copy, Debug, PartialEq, Eq, thiserror::Error)]
 enum Stop {
     /// The command line is refused.
+    #[error("usage: lrcman run")]
     Usage,
+    #[error("lrcman: {0}")]
     Fault(RunFault),
+}
+
+impl Stop {
+    /// The exit status.
+    fn status(self) -> u8 {
+        match self {
+            Stop::Usage => 2,
+            Stop::Fault(_) => 3,
+        }
+    }
 }
 
 impl From<RunFault> for Stop {
@@ -33,6 +50,7 @@ impl From<AllocError> for Stop {
 }
 
 impl From<io::Error> for Stop {
+    /// Why the words of the command line were not given.
     fn from(error: io::Error) -> Stop {
         match error.kind() {
             io::ErrorKind::OutOfMemory => Stop::Fault(RunFault::OutOfMemory),
@@ -43,6 +61,7 @@ impl From<io::Error> for Stop {
 }
 
 impl From<Error> for Stop {
+    /// Why the words of the command line were refused.
     fn from(error: Error) -> Stop {
         match error.kind() {
             ErrorKind::OutOfMemory => Stop::Fault(RunFault::OutOfMemory),
@@ -52,7 +71,7 @@ impl From<Error> for Stop {
     }
 }
 
-/// The words that the program knows.
+/// The command lines that the program takes.
 fn command_line<'a>(alloc: Global) -> Result<Command<'a>, Error> {
     let command = Command::new(alloc, "lrcman").subcommand(Command::new(alloc, "run"))?;
     Ok(command)
@@ -81,13 +100,9 @@ fn perform(rt: &HostRuntime) -> Result<Status, Stop> {
 fn main(rt: HostRuntime) -> ExitCode {
     match perform(&rt) {
         Ok(status) => ExitCode::from(status as u8),
-        Err(Stop::Usage) => {
-            let _ = eprintln!(&rt; "usage: lrcman run");
-            ExitCode::from(2)
-        }
-        Err(Stop::Fault(fault)) => {
-            let _ = eprintln!(&rt; "lrcman: {fault}");
-            ExitCode::from(3)
+        Err(stop) => {
+            let _ = eprintln!(&rt; "{stop}");
+            ExitCode::from(stop.status())
         }
     }
 }
