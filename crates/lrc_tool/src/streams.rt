@@ -119,11 +119,11 @@ impl<R: Read> Source for Plain<R> {
     ghost has_failed = { λ p. p.failed };
 
     fn read(&mut self, buf: &mut [u8]) -> io::Result<usize> {
-        let result = self.inner.read(buf);
-        if result.is_err() {
+        let given = self.inner.read(buf);
+        if given.is_err() {
             self.failed = true;
         }
-        result
+        given
     }
 
     fn failed(&self) -> bool {
@@ -137,27 +137,19 @@ impl<W: Write> Sink for Plain<W> {
     ghost has_failed = { λ p. p.failed };
 
     fn write(&mut self, buf: &[u8]) -> io::Result<usize> {
-        let result = self.inner.write(buf);
-        match result {
-            Ok(count) => {
-                if count == 0 && !buf.is_empty() {
-                    self.failed = true;
-                }
-                Ok(count)
-            }
-            Err(error) => {
-                self.failed = true;
-                Err(error)
-            }
+        let taken = self.inner.write(buf);
+        if matches!(taken, Ok(0)) && !buf.is_empty() || taken.is_err() {
+            self.failed = true;
         }
+        taken
     }
 
     fn flush(&mut self) -> io::Result<()> {
-        let result = self.inner.flush();
-        if result.is_err() {
+        let flushed = self.inner.flush();
+        if flushed.is_err() {
             self.failed = true;
         }
-        result
+        flushed
     }
 
     fn failed(&self) -> bool {
