@@ -21,12 +21,14 @@ use Rattle.lrc_topology.specs.declared.seat.Seat.{Seat}
 use Rattle.lrc_topology.specs.declared.seat.Held.{Held}
 use Rattle.lrc_topology.specs.Nodes.{AreNodes, node_at}
 use Rattle.lrc_topology.specs.Seats.{free_slot, free_seat, is_lighter, is_taken}
-use Rattle.lrc_book.specs.States.{State, code_of, seats_of, taken_seats, is_eligible}
+use Rattle.lrc_book.specs.declared.mode.Mode.{Mode}
+use Rattle.lrc_book.specs.declared.mode.Mode.TheVariants.{Active, Gone}
+use Rattle.lrc_book.specs.States.{mode_of, is_active, is_online, takes_seats, State, code_of, seats_of, taken_seats, is_eligible}
 use Rattle.lrc_book.specs.Placement.{clashes, bars, fits, chosen, chosen_node}
 use Rattle.lrc_book.specs.Choices.{AreApart, IsApartFrom, IsFree, IsEligible, IsFitting, IsChoice}
 use Rattle.lrc_book.proofs.MemberLemmas.{filter-member, member-filter, All-list_any, list_any-All, not-Contains-nil}
-use Rattle.lrc_book.proofs.LeastLemmas.{least-member, least-none, least-first}
-use Rattle.lrc_book.proofs.NodeLemmas.{same_node, seat_on, taken-member, member-taken, first_slot-found, first_slot-none, lighter-irrefl, lighter-asym, lighter-trans, lighter-total, lighter-from}
+use Rattle.lrc_code.proofs.OrderLemmas.{least-listed, least-none, least-none_before}
+use Rattle.lrc_book.proofs.NodeLemmas.{same_node, seat_on, taken-member, member-taken, first_slot-found, first_slot-none, lighter-order, lighter-total, lighter-from}
 
 -- ---- two nodes
 
@@ -107,25 +109,38 @@ module _ (nodes : List NodeInfo) (st : State) (s : StripeNo) (f : Fragment) (n :
 
 -- ---- a node that takes seats
 
+pub active-mode : (m : Mode) → is_active m ≡ true → m ≡ Active
+active-mode Active e = refl
+active-mode Gone e = absurd (cc)
+
+pub mode-active : (m : Mode) → m ≡ Active → is_active m ≡ true
+mode-active Active e = refl
+mode-active Gone e = absurd (cc)
+
 free-from : (st : State) (n : NodeInfo) (k : ℕ) → k < n.slots → is_taken (taken_seats st) n.number k ≡ false → IsFree st n k
 free-from st n k within e = record { within = within; free = λ h. (let hit = member-taken (taken_seats st) n.number k h in let both : true ≡ false = sym hit ∙ e in cc) }
 
-eligible-found : (st : State) (n : NodeInfo) (o : Option ℕ) → free_slot (taken_seats st) n ≡ o → is_some o ≡ true → IsEligible st n
-eligible-found st n None e is = absurd (cc)
-eligible-found st n (Some k) e is =
+room-found : (st : State) (n : NodeInfo) (o : Option ℕ) → free_slot (taken_seats st) n ≡ o → is_some o ≡ true → (slot : ℕ) × IsFree st n slot
+room-found st n None e is = absurd (cc)
+room-found st n (Some k) e is =
     let h = first_slot-found (is_taken (taken_seats st) n.number) 0 n.slots k e in (k, free-from st n k (omega (arith, h.1)) h.2)
 
 pub eligible-words : (st : State) (n : NodeInfo) → is_eligible st n ≡ true → IsEligible st n
-eligible-words st n e = eligible-found st n (free_slot (taken_seats st) n) refl e
+eligible-words st n e =
+    let parts = and_parts (takes_seats st n) (is_some (free_slot (taken_seats st) n)) e in
+    let takes = and_parts (is_active (mode_of st n.number)) (is_online st n) parts.0 in
+    record { active = active-mode (mode_of st n.number) takes.0; online = takes.1; room = room-found st n (free_slot (taken_seats st) n) refl parts.1 }
 
-all-taken : (st : State) (n : NodeInfo) (o : Option ℕ) → free_slot (taken_seats st) n ≡ o → IsEligible st n → is_some o ≡ true
+all-taken : (st : State) (n : NodeInfo) (o : Option ℕ) → free_slot (taken_seats st) n ≡ o → (slot : ℕ) × IsFree st n slot → is_some o ≡ true
 all-taken st n (Some k) e h = refl
 all-taken st n None e h =
     let hit = first_slot-none (is_taken (taken_seats st) n.number) 0 n.slots e h.0 (omega arith) (omega (arith, h.1.within)) in
     absurd (h.1.free (taken-member (taken_seats st) n.number h.0 hit))
 
 pub words-eligible : (st : State) (n : NodeInfo) → IsEligible st n → is_eligible st n ≡ true
-words-eligible st n h = all-taken st n (free_slot (taken_seats st) n) refl h
+words-eligible st n h =
+    and_from (takes_seats st n) _ (and_from (is_active (mode_of st n.number)) _ (mode-active (mode_of st n.number) h.active) h.online)
+    (all-taken st n (free_slot (taken_seats st) n) refl h.room)
 
 -- ---- a node that fits
 
@@ -149,18 +164,18 @@ module _ (nodes : List NodeInfo) (st : State) (s : StripeNo) (f : Fragment) (n :
 module _ (nodes : List NodeInfo) (st : State) (s : StripeNo) (f : Fragment) where
   pub node-fits : (n : NodeInfo) → chosen_node nodes st s f ≡ Some n → IsFitting nodes st s f n
   node-fits n e =
-      let m = filter-member (fits nodes st s f) nodes n (least-member (is_lighter (taken_seats st)) n (filter (fits nodes st s f) nodes) e) in
+      let m = filter-member (fits nodes st s f) nodes n (least-listed (is_lighter (taken_seats st)) n (filter (fits nodes st s f) nodes) e) in
       fits-words nodes st s f n m.0 m.1
 
   not_before : (n m : NodeInfo) → chosen_node nodes st s f ≡ Some n → IsFitting nodes st s f m → is_lighter (taken_seats st) m n ≡ false
   not_before n m e fitting =
       All-contains (λ y. is_lighter (taken_seats st) y n ≡ false) (filter (fits nodes st s f) nodes) m
-      (least-first (is_lighter (taken_seats st)) (lighter-irrefl (taken_seats st)) (lighter-asym (taken_seats st)) (lighter-trans (taken_seats st)) n (filter (fits nodes st s f) nodes) e)
+      (least-none_before (is_lighter (taken_seats st)) (lighter-order (taken_seats st)) n (filter (fits nodes st s f) nodes) e)
       (member-filter (fits nodes st s f) nodes m fitting.known (words-fits nodes st s f m fitting))
 
   none-fits : chosen_node nodes st s f ≡ None → (n : NodeInfo) → IsFitting nodes st s f n → ⊥
   none-fits e n fitting =
-      not-Contains-nil n (subst (λ xs. Contains xs n) (least-none (is_lighter (taken_seats st)) (filter (fits nodes st s f) nodes) e)
+      not-Contains-nil n (subst (λ xs. Contains xs n) ((least-none (is_lighter (taken_seats st)) (filter (fits nodes st s f) nodes)).0 e)
       (member-filter (fits nodes st s f) nodes n fitting.known (words-fits nodes st s f n fitting)))
 
   on-slot : (seat : Seat) (n : NodeInfo) (o : Option ℕ) → AreNodes nodes → chosen_node nodes st s f ≡ Some n → free_slot (taken_seats st) n ≡ o → option_map (seat_on n.number) o ≡ Some seat → IsChoice nodes st s f seat
@@ -191,30 +206,34 @@ module _ (nodes : List NodeInfo) (st : State) (s : StripeNo) (f : Fragment) wher
         absurd (let behind = not_before n choice.node e choice.fitting in let both : true ≡ false = sym before ∙ behind in cc)
   ]
 
-  least-slot : (seat : Seat) (choice : IsChoice nodes st s f seat) → (o : Option ℕ) → free_slot (taken_seats st) choice.node ≡ o → option_map (seat_on choice.node.number) o ≡ Some seat
+  least-slot : (seat : Seat) (choice : IsChoice nodes st s f seat) → (o : Option ℕ) → free_slot (taken_seats st) choice.node ≡ o → o ≡ Some seat.slot
   least-slot seat choice None found =
       let hit = first_slot-none (is_taken (taken_seats st) choice.node.number) 0 choice.node.slots found seat.slot (omega arith) (omega (arith, choice.free.within)) in
       absurd (choice.free.free (taken-member (taken_seats st) choice.node.number seat.slot hit))
   least-slot seat choice (Some k) found =
       let h = first_slot-found (is_taken (taken_seats st) choice.node.number) 0 choice.node.slots k found in
-      let slot : k ≡ seat.slot = elim (cases_order k seat.slot) [
+      ap Some (elim (cases_order k seat.slot) [
         | inl same ↦ same
         | inr (inl below) ↦ absurd (let hit = member-taken (taken_seats st) choice.node.number k (choice.least k below) in let both : true ≡ false = sym hit ∙ h.2 in cc)
         | inr (inr above) ↦ absurd (choice.free.free (taken-member (taken_seats st) choice.node.number seat.slot (h.3 seat.slot (omega arith) above)))
-      ] in
-      ap Some (ap (seat_on choice.node.number) slot ∙ ap (λ (n : NodeNo). seat_on n seat.slot) (sym choice.on))
+      ])
+
+  -- the slot of a choice is the least free one of its node
+  pub choice-slot : (seat : Seat) (choice : IsChoice nodes st s f seat) → free_slot (taken_seats st) choice.node ≡ Some seat.slot
+  choice-slot seat choice = least-slot seat choice (free_slot (taken_seats st) choice.node) refl
 
   found-choice : (seat : Seat) → IsChoice nodes st s f seat → AreNodes nodes → (o : Option NodeInfo) → chosen_node nodes st s f ≡ o → option_and_then (free_seat (taken_seats st)) o ≡ Some seat
   found-choice seat choice known None e = absurd (none-fits e choice.node choice.fitting)
   found-choice seat choice known (Some n) e =
-      ap (free_seat (taken_seats st)) (same-choice seat choice known n e) ∙ least-slot seat choice (free_slot (taken_seats st) choice.node) refl
+      ap (free_seat (taken_seats st)) (same-choice seat choice known n e) ∙ ap (option_map (seat_on choice.node.number)) (choice-slot seat choice)
+      ∙ ap (λ (n : NodeNo). Some (seat_on n seat.slot)) (sym choice.on)
 
   pub choice-chosen : (seat : Seat) → AreNodes nodes → IsChoice nodes st s f seat → chosen nodes st s f ≡ Some seat
   unfolding chosen
   choice-chosen seat known choice = found-choice seat choice known (chosen_node nodes st s f) refl
 
   no-slot : (n : NodeInfo) → IsEligible st n → (o : Option ℕ) → free_slot (taken_seats st) n ≡ o → option_map (seat_on n.number) o ≡ None → ⊥
-  no-slot n eligible None found e = absurd (let is = all-taken st n None found eligible in cc)
+  no-slot n eligible None found e = absurd (let is = all-taken st n None found eligible.room in cc)
   no-slot n eligible (Some k) found e = cc
 
   no-node : (o : Option NodeInfo) → chosen_node nodes st s f ≡ o → option_and_then (free_seat (taken_seats st)) o ≡ None → (n : NodeInfo) → IsFitting nodes st s f n → ⊥

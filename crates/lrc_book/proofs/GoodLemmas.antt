@@ -1,17 +1,18 @@
 -- Each command leaves a good state.
-use Rattle.std.proofs.Common.{◌≡◌, ◌≢◌, ◌<◌, Bool, true, false, not, ◌&&◌, eqb, List, [], ◌∷◌, ◌++◌, map, filter, fold, Option, Some, None, Result, Ok, Err, IfSome, IsSomeAnd, arith, refl, sym, ap, ◌∙◌, subst}
+use Rattle.std.proofs.Common.{inl, inr, ◌||◌, ℕ, if◌then◌else◌, is_none, ◌≡◌, ◌≢◌, ◌<◌, Bool, true, false, not, ◌&&◌, eqb, List, [], ◌∷◌, ◌++◌, map, filter, fold, Option, Some, None, Result, Ok, Err, IfSome, IsSomeAnd, arith, refl, sym, ap, ◌∙◌, subst}
 use Rattle.std.specs.List.{All, AllPairs, Contains, list_any}
 use Rattle.std.specs.Option.{option_map_or}
-use Rattle.std.proofs.lemmas.Bool.{eq-eqb, eqb-false, not-true, and_parts}
+use Rattle.std.proofs.lemmas.Bool.{cases_Bool, ne_eqb, eq-eqb, eqb-false, not-true, and_parts, or_parts}
 use Rattle.std.proofs.lemmas.Option.{IfSome_then}
 use Rattle.std.proofs.lemmas.List.{map-append}
-use Rattle.std.proofs.lemmas.List.Elements.{All-nil, All-cons, All-head, All-tail, All-push, All-weaker, All-filter, All-map, All-contains, Contains-append_left, Contains-push}
-use Rattle.std.proofs.lemmas.List.Folds.{fold_stays}
+use Rattle.std.proofs.lemmas.List.Elements.{All-nil, All-cons, All-head, All-tail, All-push, All-weaker, All-filter, All-map, All-contains, Contains-append_left, Contains-push, Contains-push_cases}
+use Rattle.std.proofs.lemmas.List.Folds.{fold_stays, list_any-append}
 use Rattle.std.proofs.lemmas.List.Quantifiers.{all_pairs_push}
 use Rattle.std.proofs.lemmas.List.Kept.{AllPairs-cons, AllPairs-filter}
 use Rattle.lrc_code.specs.declared.codes.Code.{Code}
 use Rattle.lrc_code.specs.declared.codes.Code.TheVariants.{Wide}
 use Rattle.lrc_code.specs.declared.numbers.StripeNo.{StripeNo}
+use Rattle.lrc_code.specs.declared.numbers.NodeNo.{NodeNo}
 use Rattle.lrc_code.specs.declared.numbers.SessionNo.{SessionNo}
 use Rattle.lrc_code.specs.declared.numbers.Fragment.{Fragment}
 use Rattle.lrc_code.specs.Codes.{fragments}
@@ -20,18 +21,20 @@ use Rattle.lrc_topology.specs.declared.seat.Seat.{Seat}
 use Rattle.lrc_topology.specs.declared.seat.Held.{Held}
 use Rattle.lrc_topology.specs.Nodes.{AreNodes, node_at}
 use Rattle.lrc_book.specs.declared.command.Command.{Command}
-use Rattle.lrc_book.specs.declared.command.Command.TheVariants.{Place, Drop}
-use Rattle.lrc_book.specs.declared.reply.Reply.TheVariants.{Dropped}
+use Rattle.lrc_book.specs.declared.command.Command.TheVariants.{Place, Drop, Fail, Down, Up, Join}
+use Rattle.lrc_book.specs.declared.reply.Reply.TheVariants.{Dropped, Changed}
 use Rattle.lrc_book.specs.declared.reply.Refusal.{Refusal}
 use Rattle.lrc_book.specs.declared.reply.Refusal.TheVariants as refusal
 use Rattle.lrc_book.specs.declared.entry.Entry.{Entry}
-use Rattle.lrc_book.specs.States.{State, opening, has_stripe, code_of, taken_seats}
+use Rattle.lrc_book.specs.declared.mode.Mode.{Mode}
+use Rattle.lrc_book.specs.declared.mode.Mode.TheVariants.{Active, Gone}
+use Rattle.lrc_book.specs.States.{State, opening, has_stripe, has_number, without_number, mode_of, is_gone, is_down, code_of, taken_seats}
 use Rattle.lrc_book.specs.Placement.{chosen, with_home, place_next, placed}
-use Rattle.lrc_book.specs.Steps.{Outcome, refuse_if, with_stripe, place_answer, place_outcome, is_other, without_stripe, drop_outcome, step}
+use Rattle.lrc_book.specs.Steps.{Outcome, refuse_if, with_stripe, place_answer, place_outcome, is_other, without_stripe, drop_outcome, node_outcome, stands_on, emptied, with_gone, with_down, without_down, without_gone, fail_outcome, down_outcome, up_outcome, join_outcome, step}
 use Rattle.lrc_book.specs.Histories.{World, first_world, next_world, state_after}
 use Rattle.lrc_book.specs.Choices.{AreApart, IsApartFrom, IsChoice}
 use Rattle.lrc_book.specs.Goodness.{IsStanding, KeepApart, IsGood}
-use Rattle.lrc_book.proofs.MemberLemmas.{All-list_any, All-members, member-filter, filter-member, AllPairs-head, AllPairs-tail, list_any-member}
+use Rattle.lrc_book.proofs.MemberLemmas.{list_any-All, All-list_any, All-members, member-filter, filter-member, AllPairs-head, AllPairs-tail, list_any-member}
 use Rattle.lrc_book.proofs.NodeLemmas.{node_at-member, seat_on}
 use Rattle.lrc_book.proofs.ChoiceLemmas.{chosen-choice}
 
@@ -47,7 +50,7 @@ module _ {X Y : Type 0} (R : Y → Y → Type 0) (f : X → Y) where
   pairs-map (x ∷ xs) pairs =
       AllPairs-cons R (f x) (map f xs) (All-map (R (f x)) f xs (AllPairs-head (λ x y. R (f x) (f y)) x xs pairs)) (pairs-map xs (AllPairs-tail (λ x y. R (f x) (f y)) x xs pairs))
 
-  pairs-unmap : (xs : List X) → AllPairs R (map f xs) → AllPairs (λ x y. R (f x) (f y)) xs
+  pub pairs-unmap : (xs : List X) → AllPairs R (map f xs) → AllPairs (λ x y. R (f x) (f y)) xs
   pairs-unmap [] pairs = λ i j d below within. absurd (omega arith)
   pairs-unmap (x ∷ xs) pairs =
       AllPairs-cons (λ x y. R (f x) (f y)) x xs (All-unmap (R (f x)) f xs (AllPairs-head R (f x) (map f xs) pairs)) (pairs-unmap xs (AllPairs-tail R (f x) (map f xs) pairs))
@@ -69,16 +72,24 @@ held_on s f seat = record { stripe = s; fragment = f; seat = seat }
 
 module _ (nodes : List NodeInfo) (known : AreNodes nodes) (st : State) (s : StripeNo) (f : Fragment) (seat : Seat) where
   -- a seat that is chosen is none of those that are held
-  choice-new : IsChoice nodes st s f seat → All (λ a. a ≢ seat) (taken_seats st)
+  pub choice-new : IsChoice nodes st s f seat → All (λ a. a ≢ seat) (taken_seats st)
   choice-new choice =
       All-members (λ a. a ≢ seat) (taken_seats st) (λ a here same. choice.free.free (subst (Contains (taken_seats st)) (same ∙ ap (λ n. seat_on n seat.slot) choice.on) here))
 
   choice-found : IsChoice nodes st s f seat → (n : NodeInfo) → Contains nodes n → seat.node ≡ n.number → node_at nodes seat.node ≡ Some n
   choice-found choice n here on = ap (node_at nodes) on ∙ node_at-member nodes known n here
 
-  choice-standing : IsChoice nodes st s f seat → IsStanding nodes seat
+  -- its node is not gone
+  choice-present : IsChoice nodes st s f seat → mode_of st seat.node ≢ Gone
+  choice-present choice gone = (
+      let active : mode_of st seat.node ≡ Active = ap (mode_of st) choice.on ∙ choice.fitting.eligible.active in
+      let both : Active ≡ Gone = sym active ∙ gone in cc
+      )
+
+  choice-standing : IsChoice nodes st s f seat → IsStanding nodes st seat
   choice-standing choice =
-      subst (λ o. IsSomeAnd o (λ (n : NodeInfo). seat.slot < n.slots)) (sym (choice-found choice choice.node choice.fitting.known choice.on)) choice.free.within
+      subst (λ o. IsSomeAnd o (λ (n : NodeInfo). (seat.slot < n.slots) × (mode_of st seat.node ≢ Gone))) (sym (choice-found choice choice.node choice.fitting.known choice.on))
+      (choice.free.within, choice-present choice)
 
   AreApart-sym : (code : Code) (g : Fragment) (n m : NodeInfo) → AreApart code f n g m → AreApart code g m f n
   AreApart-sym code g n m apart = record { faults = λ e. apart.faults (sym e); upgrades = λ class e. apart.upgrades (sym class) (sym e) }
@@ -98,10 +109,11 @@ module _ (nodes : List NodeInfo) (known : AreNodes nodes) (st : State) (s : Stri
       record {
         stripes = good.stripes;
         single = subst (AllPairs (λ a b. a ≢ b)) (sym seats) (pairs-push (λ a b. a ≢ b) (taken_seats st) seat good.single (choice-new choice));
-        standing = subst (All (IsStanding nodes)) (sym seats) (All-push (IsStanding nodes) (taken_seats st) seat good.standing (choice-standing choice));
+        standing = subst (All (IsStanding nodes st)) (sym seats) (All-push (IsStanding nodes st) (taken_seats st) seat good.standing (choice-standing choice));
         lawful = pairs-push (KeepApart nodes st) st.homes y good.lawful (All-weaker (IsApartFrom nodes st s f choice.node) (λ h. KeepApart nodes st h y) (choice-apart choice) st.homes choice.fitting.lawful);
         one_home = pairs-push (λ h g. h.stripe ≡ g.stripe → h.fragment ≢ g.fragment) st.homes y good.one_home absent;
         there = All-push (λ h. Contains st.stripes h.stripe) st.homes y good.there there;
+        reachable = good.reachable;
       }
 
 -- ---- placing
@@ -114,7 +126,7 @@ pub record IsPlacing (nodes : List NodeInfo) (s : StripeNo) (st : State) (rest :
   pub absent : All (HasNone s st.homes) rest
 
 module _ (nodes : List NodeInfo) (known : AreNodes nodes) (s : StripeNo) where
-  placing-some : (st : State) (f : Fragment) (fs : List Fragment) (seat : Seat) → IsPlacing nodes s st (f ∷ fs) → chosen nodes st s f ≡ Some seat → IsPlacing nodes s (with_home st s f seat) fs
+  pub placing-some : (st : State) (f : Fragment) (fs : List Fragment) (seat : Seat) → IsPlacing nodes s st (f ∷ fs) → chosen nodes st s f ≡ Some seat → IsPlacing nodes s (with_home st s f seat) fs
   placing-some st f fs seat p e =
       let absent = All-head (HasNone s st.homes) f fs p.absent in
       record {
@@ -156,21 +168,27 @@ fragments-distinct Wide = distinct-from (fragments Wide) refl
 
 -- ---- commands
 
-module _ (nodes : List NodeInfo) (known : AreNodes nodes) (st : State) (s : StripeNo) where
-  not_there : has_stripe st s ≡ false → (t : StripeNo) → Contains st.stripes t → t ≢ s
-  not_there e t here same =
-      let hit = list_any-member (λ (u : StripeNo). eqb s.value u.value) st.stripes t here (eq-eqb s.value t.value (ap (λ (x : StripeNo). x.value) (sym same))) in
-      let both : true ≡ false = sym hit ∙ e in cc
+refused-good : (nodes : List NodeInfo) (st : State) (met : Bool) (r : Refusal) (other : Outcome) → IsGood nodes st → (met ≡ false → IsGood nodes other.1) → IsGood nodes (refuse_if met r st other).1
+refused-good nodes st true r other good next = good
+refused-good nodes st false r other good next = next refl
 
+-- a stripe that is not there is none of the stripes
+pub not_there : (st : State) (s : StripeNo) → has_stripe st s ≡ false → (t : StripeNo) → Contains st.stripes t → t ≢ s
+not_there st s e t here same =
+    let hit = list_any-member (λ (u : StripeNo). eqb s.value u.value) st.stripes t here (eq-eqb s.value t.value (ap (λ (x : StripeNo). x.value) (sym same))) in
+    let both : true ≡ false = sym hit ∙ e in cc
+
+module _ (nodes : List NodeInfo) (known : AreNodes nodes) (st : State) (s : StripeNo) where
   -- a stripe that was not there, with no homes yet
   pub stripe-good : (code : Code) → IsGood nodes st → has_stripe st s ≡ false → IsGood nodes (with_stripe st code s)
   stripe-good Wide good e = record {
-    stripes = pairs-push (λ s t. s ≢ t) st.stripes s good.stripes (All-members (λ t. t ≢ s) st.stripes (not_there e));
+    stripes = pairs-push (λ s t. s ≢ t) st.stripes s good.stripes (All-members (λ t. t ≢ s) st.stripes (not_there st s e));
     single = good.single;
     standing = good.standing;
     lawful = good.lawful;
     one_home = good.one_home;
     there = All-weaker (λ h. Contains st.stripes h.stripe) (λ h. Contains (st.stripes ++ s ∷ []) h.stripe) (λ h here. Contains-append_left st.stripes (s ∷ []) h.stripe here) st.homes good.there;
+    reachable = good.reachable;
   }
 
   pub stripe-placing : (code : Code) → IsGood nodes st → has_stripe st s ≡ false → IsPlacing nodes s (with_stripe st code s) (fragments (code_of (with_stripe st code s) s))
@@ -179,7 +197,7 @@ module _ (nodes : List NodeInfo) (known : AreNodes nodes) (st : State) (s : Stri
     there = Contains-push st.stripes s;
     distinct = fragments-distinct (code_of (with_stripe st Wide s) s);
     absent = All-members (HasNone s st.homes) (fragments (code_of (with_stripe st Wide s) s))
-        (λ f here. All-weaker (λ h. Contains st.stripes h.stripe) (λ h. h.stripe ≡ s → h.fragment ≢ f) (λ h there stripe. absurd (not_there e h.stripe there stripe)) st.homes good.there);
+        (λ f here. All-weaker (λ h. Contains st.stripes h.stripe) (λ h. h.stripe ≡ s → h.fragment ≢ f) (λ h there stripe. absurd (not_there st s e h.stripe there stripe)) st.homes good.there);
   }
 
   -- all fragments of a new stripe placed
@@ -191,14 +209,10 @@ module _ (nodes : List NodeInfo) (known : AreNodes nodes) (st : State) (s : Stri
   answer-good code (Ok final) good e done = placed-good code final good e done
   answer-good code (Err f) good e done = good
 
-  refused-good : (met : Bool) (r : Refusal) (other : Outcome) → IsGood nodes st → (met ≡ false → IsGood nodes other.1) → IsGood nodes (refuse_if met r st other).1
-  refused-good true r other good next = good
-  refused-good false r other good next = next refl
-
   pub place-good : (code : Code) → IsGood nodes st → IsGood nodes (place_outcome nodes st code s).1
   unfolding place_outcome
   place-good code good =
-      refused-good (has_stripe st s) refusal.StripeExists (place_answer st s (placed nodes (with_stripe st code s) s)) good
+      refused-good nodes st (has_stripe st s) refusal.StripeExists (place_answer st s (placed nodes (with_stripe st code s) s)) good
       (λ e. answer-good code (placed nodes (with_stripe st code s) s) good e refl)
 
   -- the stripe and its homes taken out
@@ -209,18 +223,143 @@ module _ (nodes : List NodeInfo) (known : AreNodes nodes) (st : State) (s : Stri
         stripes = AllPairs-filter (λ s t. s ≢ t) (is_other s) st.stripes good.stripes;
         single = pairs-map (λ a b. a ≢ b) (λ (h : Held). h.seat) (filter kept st.homes)
             (AllPairs-filter (λ h g. h.seat ≢ g.seat) kept st.homes (pairs-unmap (λ a b. a ≢ b) (λ (h : Held). h.seat) st.homes good.single));
-        standing = All-map (IsStanding nodes) (λ (h : Held). h.seat) (filter kept st.homes)
-            (All-filter kept (λ h. IsStanding nodes h.seat) st.homes (All-unmap (IsStanding nodes) (λ (h : Held). h.seat) st.homes good.standing));
+        standing = All-map (IsStanding nodes st) (λ (h : Held). h.seat) (filter kept st.homes)
+            (All-filter kept (λ h. IsStanding nodes st h.seat) st.homes (All-unmap (IsStanding nodes st) (λ (h : Held). h.seat) st.homes good.standing));
         lawful = AllPairs-filter (KeepApart nodes st) kept st.homes good.lawful;
         one_home = AllPairs-filter (λ h g. h.stripe ≡ g.stripe → h.fragment ≢ g.fragment) kept st.homes good.one_home;
         there = All-members (λ h. Contains (filter (is_other s) st.stripes) h.stripe) (filter kept st.homes)
             (λ h here. let m = filter-member kept st.homes h here in
             member-filter (is_other s) st.stripes h.stripe (All-contains (λ g. Contains st.stripes g.stripe) st.homes h good.there m.0) m.1);
+        reachable = good.reachable;
       }
 
   pub drop-good : IsGood nodes st → IsGood nodes (drop_outcome st s).1
   unfolding drop_outcome
-  drop-good good = refused-good (not (has_stripe st s)) refusal.UnknownStripe (Dropped, without_stripe st s) good (λ e. without-good good)
+  drop-good good = refused-good nodes st (not (has_stripe st s)) refusal.UnknownStripe (Dropped, without_stripe st s) good (λ e. without-good good)
+
+-- ---- nodes
+
+-- a node that the test of gone ones misses is not gone
+not_gone : (numbers : List NodeNo) (m : NodeNo) → has_number numbers m ≡ false → (if has_number numbers m then Gone else Active) ≢ Gone
+not_gone numbers m miss gone = (let active : Active ≡ Gone = rw miss at gone in cc)
+
+gone-number : (st : State) (m : NodeNo) → mode_of st m ≢ Gone → has_number st.gone m ≡ false
+gone-number st m present = elim (cases_Bool (has_number st.gone m)) [ inl hit ↦ absurd (present (rw hit refl)) | inr miss ↦ miss ]
+
+-- the same of the test of its mode
+pub active-number : (st : State) (m : NodeNo) → is_gone (mode_of st m) ≡ false → has_number st.gone m ≡ false
+active-number st m e = elim (cases_Bool (has_number st.gone m)) [ inl hit ↦ (let both : true ≡ false = rw hit at e in cc) | inr miss ↦ miss ]
+
+standing-by : (nodes : List NodeInfo) (o : Option NodeInfo) (slot : ℕ) (P Q : Type 0) → IsSomeAnd o (λ n. (slot < n.slots) × P) → Q → IsSomeAnd o (λ n. (slot < n.slots) × Q)
+standing-by nodes (Some n) slot P Q standing q = (standing.0, q)
+standing-by nodes None slot P Q standing q = standing
+
+present-by : (o : Option NodeInfo) (slot : ℕ) (P : Type 0) → IsSomeAnd o (λ n. (slot < n.slots) × P) → P
+present-by (Some n) slot P standing = standing.1
+present-by None slot P standing = absurd standing
+
+-- the node of a standing seat is not gone
+pub standing-present : (nodes : List NodeInfo) (st : State) (seat : Seat) → IsStanding nodes st seat → mode_of st seat.node ≢ Gone
+standing-present nodes st seat standing = present-by (node_at nodes seat.node) seat.slot (mode_of st seat.node ≢ Gone) standing
+
+-- a number that is not in a list is in no part of it
+fewer-numbers : (numbers : List NodeNo) (n m : NodeNo) → has_number numbers m ≡ false → has_number (without_number numbers n) m ≡ false
+fewer-numbers numbers n m miss =
+    list_any-All (λ (k : NodeNo). eqb m.value k.value) (without_number numbers n)
+    (All-filter (λ (k : NodeNo). not (eqb n.value k.value)) (λ k. eqb m.value k.value ≡ false) numbers (All-list_any (λ (k : NodeNo). eqb m.value k.value) numbers miss))
+
+-- a change of modes leaves a good state, where no seat's node is gone afterwards, and no node that is down
+modes-good : (nodes : List NodeInfo) (st : State) (gone down : List NodeNo) → IsGood nodes st
+    → ((seat : Seat) → Contains (taken_seats st) seat → has_number gone seat.node ≡ false) → ((m : NodeNo) → Contains down m → has_number gone m ≡ false)
+    → IsGood nodes (record st { gone = gone; down = down })
+modes-good nodes st gone down good present reachable =
+    let st' = record st { gone = gone; down = down } in
+    record {
+      stripes = good.stripes;
+      single = good.single;
+      standing = All-members (IsStanding nodes st') (taken_seats st) (λ seat here.
+          let standing = All-contains (IsStanding nodes st) (taken_seats st) seat good.standing here in
+          standing-by nodes (node_at nodes seat.node) seat.slot (mode_of st seat.node ≢ Gone) (mode_of st' seat.node ≢ Gone) standing (not_gone gone seat.node (present seat here)));
+      lawful = good.lawful;
+      one_home = good.one_home;
+      there = good.there;
+      reachable = All-members (λ m. mode_of st' m ≢ Gone) down (λ m here. not_gone gone m (reachable m here));
+    }
+
+module _ (nodes : List NodeInfo) (st : State) (n : NodeNo) where
+  changed-good : (wrong : Bool) (changed : State) → IsGood nodes st → (wrong ≡ false → IsGood nodes changed) → IsGood nodes (node_outcome nodes st n wrong changed).1
+  changed-good wrong changed good next =
+      refused-good nodes st (is_none (node_at nodes n)) refusal.UnknownNode (refuse_if wrong refusal.WrongMode st (Changed, changed)) good
+      (λ known. refused-good nodes st wrong refusal.WrongMode (Changed, changed) good next)
+
+  -- some homes taken out
+  pub kept-good : (kept : Held → Bool) → IsGood nodes st → IsGood nodes (record st { homes = filter kept st.homes })
+  kept-good kept good = record {
+    stripes = good.stripes;
+    single = pairs-map (λ a b. a ≢ b) (λ (h : Held). h.seat) (filter kept st.homes)
+        (AllPairs-filter (λ h g. h.seat ≢ g.seat) kept st.homes (pairs-unmap (λ a b. a ≢ b) (λ (h : Held). h.seat) st.homes good.single));
+    standing = All-map (IsStanding nodes st) (λ (h : Held). h.seat) (filter kept st.homes)
+        (All-filter kept (λ h. IsStanding nodes st h.seat) st.homes (All-unmap (IsStanding nodes st) (λ (h : Held). h.seat) st.homes good.standing));
+    lawful = AllPairs-filter (KeepApart nodes st) kept st.homes good.lawful;
+    one_home = AllPairs-filter (λ h g. h.stripe ≡ g.stripe → h.fragment ≢ g.fragment) kept st.homes good.one_home;
+    there = All-filter kept (λ h. Contains st.stripes h.stripe) st.homes good.there;
+    reachable = good.reachable;
+  }
+
+  -- a seat's node is not gone
+  pub seat-present : IsGood nodes st → (seat : Seat) → Contains (taken_seats st) seat → has_number st.gone seat.node ≡ false
+  seat-present good seat here = gone-number st seat.node (standing-present nodes st seat (All-contains (IsStanding nodes st) (taken_seats st) seat good.standing here))
+
+  -- nor is a node that is down
+  pub down-present : IsGood nodes st → (m : NodeNo) → Contains st.down m → has_number st.gone m ≡ false
+  down-present good m here = gone-number st m (All-contains (λ k. mode_of st k ≢ Gone) st.down m good.reachable here)
+
+  -- the numbers that are left of a list are others, and stood in it
+  left-number : (numbers : List NodeNo) (m : NodeNo) → Contains (without_number numbers n) m → Contains numbers m × (eqb n.value m.value ≡ false)
+  left-number numbers m here = let parts = filter-member (λ (k : NodeNo). not (eqb n.value k.value)) numbers m here in (parts.0, not-true _ parts.1)
+
+  -- no home that is left stands on the node
+  emptied-apart : All (λ (seat : Seat). eqb n.value seat.node.value ≡ false) (taken_seats (emptied st n))
+  emptied-apart =
+      All-map (λ (seat : Seat). eqb n.value seat.node.value ≡ false) (λ (h : Held). h.seat) (filter (λ h. not (stands_on n h)) st.homes)
+      (All-members (λ h. eqb n.value h.seat.node.value ≡ false) (filter (λ h. not (stands_on n h)) st.homes) (λ h here. not-true _ (filter-member (λ h. not (stands_on n h)) st.homes h here).1))
+
+  other-number : (m : NodeNo) → eqb n.value m.value ≡ false → has_number st.gone m ≡ false → has_number (st.gone ++ n ∷ []) m ≡ false
+  other-number m apart miss =
+      let other : eqb m.value n.value ≡ false = ne_eqb m.value n.value (λ e. eqb-false n.value m.value apart (sym e)) in
+      rw (list_any-append (λ (k : NodeNo). eqb m.value k.value) st.gone (n ∷ []), miss, other) refl
+
+  pub fail-good : IsGood nodes st → IsGood nodes (fail_outcome nodes st n).1
+  unfolding fail_outcome
+  fail-good good =
+      changed-good (is_gone (mode_of st n)) (with_gone (emptied st n) n) good (λ _.
+      (let left = kept-good (λ h. not (stands_on n h)) good in
+      modes-good nodes (emptied st n) (st.gone ++ n ∷ []) (without_number st.down n) left
+      (λ seat here. other-number seat.node (All-contains (λ (a : Seat). eqb n.value a.node.value ≡ false) (taken_seats (emptied st n)) seat emptied-apart here) (left-present good seat here))
+      (λ m here. let parts = left-number st.down m here in other-number m parts.1 (down-present good m parts.0))))
+    where
+      left-present : IsGood nodes st → (seat : Seat) → Contains (taken_seats (emptied st n)) seat → has_number st.gone seat.node ≡ false
+      left-present good seat here = gone-number (emptied st n) seat.node (standing-present nodes (emptied st n) seat (All-contains (IsStanding nodes (emptied st n)) (taken_seats (emptied st n)) seat (kept-good (λ h. not (stands_on n h)) good).standing here))
+
+  pub down-good : IsGood nodes st → IsGood nodes (down_outcome nodes st n).1
+  unfolding down_outcome
+  down-good good =
+      changed-good (is_gone (mode_of st n) || is_down st n) (with_down st n) good (λ right.
+      modes-good nodes st st.gone (st.down ++ n ∷ []) good (seat-present good)
+      (λ m here. elim (Contains-push_cases st.down n m here) [
+        | inl old ↦ down-present good m old
+        | inr new ↦ subst (λ k. has_number st.gone k ≡ false) new (active-number st n (or_parts (is_gone (mode_of st n)) (is_down st n) right).0)
+      ]))
+
+  pub up-good : IsGood nodes st → IsGood nodes (up_outcome nodes st n).1
+  unfolding up_outcome
+  up-good good = changed-good _ (without_down st n) good (λ _. modes-good nodes st st.gone (without_number st.down n) good (seat-present good) (λ m here. down-present good m (left-number st.down m here).0))
+
+  pub join-good : IsGood nodes st → IsGood nodes (join_outcome nodes st n).1
+  unfolding join_outcome
+  join-good good =
+      changed-good _ (without_gone st n) good (λ _. modes-good nodes st (without_number st.gone n) st.down good
+      (λ seat here. fewer-numbers st.gone n seat.node (seat-present good seat here)) (λ m here. fewer-numbers st.gone n m (down-present good m here)))
 
 -- ---- histories
 
@@ -228,16 +367,21 @@ pub opening-good : (nodes : List NodeInfo) → IsGood nodes opening
 opening-good nodes = record {
   stripes = λ i j d below within. absurd (omega arith);
   single = λ i j d below within. absurd (omega arith);
-  standing = All-nil (IsStanding nodes);
+  standing = All-nil (IsStanding nodes opening);
   lawful = λ i j d below within. absurd (omega arith);
   one_home = λ i j d below within. absurd (omega arith);
   there = All-nil (λ h. Contains opening.stripes h.stripe);
+  reachable = All-nil (λ n. mode_of opening n ≢ Gone);
 }
 
 -- Each command leaves a good state.
 pub step-good : (nodes : List NodeInfo) → AreNodes nodes → (past : List Entry) (st : State) (session : SessionNo) (command : Command) → IsGood nodes st → IsGood nodes (step nodes past st session command).1
 step-good nodes known past st session (Place s) good = place-good nodes known st s Wide good
 step-good nodes known past st session (Drop s) good = drop-good nodes known st s good
+step-good nodes known past st session (Fail n) good = fail-good nodes st n good
+step-good nodes known past st session (Down n) good = down-good nodes st n good
+step-good nodes known past st session (Up n) good = up-good nodes st n good
+step-good nodes known past st session (Join n) good = join-good nodes st n good
 
 -- and so does each list of entries
 pub worlds-good : (nodes : List NodeInfo) → AreNodes nodes → (w : World) (history : List Entry) → IsGood nodes w.state → IsGood nodes (fold (next_world nodes) w history).state

@@ -1,9 +1,20 @@
+
 pub mod ListLemmas
-pub mod PlanningLemmas
 pub mod StepLemmas
 pub mod WorldLemmas
 pub mod MemberLemmas
-pub mod LeastLemmas
 pub mod NodeLemmas
 pub mod ChoiceLemmas
 pub mod GoodLemmas
+pub mod TieLemmas
+pub mod TableLemmas
+pub mod BarLemmas
+pub mod PlanLemmas
+pub mod PlanningLemmas
+pub mod FragmentLemmas
+pub mod StoredLemmas
+pub mod ModeLemmas
+pub mod EmptyLemmas
+pub mod PlacingLemmas
+pub mod ShownLemmas
+pub mod ToldLemmas

@@ -1,5 +1,6 @@
 -- Nodes with numbers of their own, and the slots and loads of one.
 use Rattle.std.proofs.Common.{◌≡◌, ◌≢◌, ℕ, zero, suc, ◌+◌, ◌<◌, ◌≤◌, Bool, true, false, ◌&&◌, ◌||◌, nat_eq, eqb, ltb, List, [], ◌∷◌, Some, None, arith, refl, sym, ap, ap₂, ◌∙◌, subst, inl, inr, ◌⊎◌}
+use Rattle.std.specs.Cmp.{IsStrictWeakOrder}
 use Rattle.std.specs.List.{AllPairs, Contains}
 use Rattle.std.proofs.lemmas.Bool.{cases_Bool, cases_eq, cases_order, eqb-true, eq-eqb, ne_eqb, and_parts}
 use Rattle.std.proofs.lemmas.Bool.Decides.{nat_tests}
@@ -93,9 +94,6 @@ first_slot-none taken slot (suc left) e j from below = elim (cases_Bool (taken s
 abbrev lex : ℕ → ℕ → ℕ → ℕ → Bool
 lex a m b n = ltb a b || (eqb a b && ltb m n)
 
-lex_irrefl : (a m : ℕ) → lex a m a m ≡ false
-lex_irrefl a m = grind (arith, nat_tests)
-
 lex_asym : (a m b n : ℕ) → lex a m b n ≡ true → lex b n a m ≡ false
 lex_asym a m b n h = grind (arith, nat_tests)
 
@@ -114,14 +112,12 @@ lex_from a m b n (inl less) = grind (arith, nat_tests)
 lex_from a m b n (inr (same, less)) = grind (arith, nat_tests)
 
 module _ (seats : List Seat) where
-  pub lighter-irrefl : (a : NodeInfo) → is_lighter seats a a ≡ false
-  lighter-irrefl a = lex_irrefl (load_of seats a.number) a.number.value
-
-  pub lighter-asym : (a b : NodeInfo) → is_lighter seats a b ≡ true → is_lighter seats b a ≡ false
-  lighter-asym a b = lex_asym (load_of seats a.number) a.number.value (load_of seats b.number) b.number.value
-
-  pub lighter-trans : (a b c : NodeInfo) → is_lighter seats b a ≡ false → is_lighter seats c b ≡ false → is_lighter seats c a ≡ false
-  lighter-trans a b c = lex_trans (load_of seats a.number) a.number.value (load_of seats b.number) b.number.value (load_of seats c.number) c.number.value
+  -- load and number put nodes in order
+  pub lighter-order : IsStrictWeakOrder (is_lighter seats)
+  lighter-order = record {
+    one_way = λ a b. lex_asym (load_of seats a.number) a.number.value (load_of seats b.number) b.number.value;
+    chain = λ a b c h k. lex_trans (load_of seats c.number) c.number.value (load_of seats b.number) b.number.value (load_of seats a.number) a.number.value k h;
+  }
 
   -- of two nodes with different numbers one comes first
   pub lighter-total : (a b : NodeInfo) → is_lighter seats b a ≡ false → a.number.value ≢ b.number.value

@@ -1,40 +1,22 @@
--- The search for a free slot and for the least node, and the seats of a stripe planned one after the other.
-use Rattle.std.proofs.Common.{◌≡◌, ℕ, suc, ◌+◌, ◌-◌, ◌<◌, Bool, true, false, not, ◌&&◌, ◌||◌, List, [], ◌∷◌, ◌++◌, length, get_or, set, take, drop, map, fold, nat_eq, Option, Some, None, Result, Ok, Err, arith, refl, subst, sym, ap, ◌∙◌, append_assoc, append-nil, length-take}
+-- The seats of a stripe planned one after the other.
+use Rattle.std.proofs.Common.{◌≡◌, ◌≢◌, ℕ, ◌+◌, ◌<◌, true, not, ◌&&◌, nat_eq, List, [], ◌∷◌, ◌++◌, length, get_or, set, take, drop, fold, Option, Some, None, Result, Ok, Err, arith, refl, subst, sym, ap, ◌∙◌, append_assoc, append-nil, length-take}
+use Rattle.std.specs.List.{All}
 use Rattle.std.proofs.lemmas.List.{drop_more, take_more, take_more_set}
-use Rattle.std.specs.List.{list_any}
 use Rattle.std.specs.Option.{option_map_or}
-use Rattle.std.proofs.lemmas.List.Folds.{fold_stays, list_any-append}
-use Rattle.lrc_topology.specs.declared.seat.Seat.{Seat}
-use Rattle.lrc_topology.specs.declared.seat.Held.{Held}
-use Rattle.lrc_topology.specs.Seats.{first_slot, is_taken}
-use Rattle.lrc_code.specs.declared.numbers.NodeNo.{NodeNo}
+use Rattle.std.proofs.lemmas.List.Folds.{fold_stays}
+use Rattle.lrc_code.specs.declared.codes.Code.TheVariants.{Wide}
 use Rattle.lrc_code.specs.declared.numbers.StripeNo.{StripeNo}
 use Rattle.lrc_code.specs.declared.numbers.Fragment.{Fragment}
+use Rattle.lrc_code.specs.Codes.{fragments}
 use Rattle.lrc_topology.specs.declared.NodeInfo.{NodeInfo}
+use Rattle.lrc_topology.specs.declared.seat.Seat.{Seat}
+use Rattle.lrc_topology.specs.declared.seat.Held.{Held}
 use Rattle.lrc_book.specs.States.{State}
 use Rattle.lrc_book.specs.Placement.{chosen, with_home, place_next, placed}
-use Rattle.lrc_book.specs.Changes.{of_homes, held_at}
-use Rattle.lrc_code.specs.declared.codes.Code.TheVariants.{Wide}
-use Rattle.lrc_code.specs.Codes.{fragments}
-use Rattle.lrc_book.proofs.ListLemmas.{list_any-map, held_at-push}
-
--- a taken slot is passed over
-pub first_slot-taken : (taken : ℕ → Bool) (slot slots : ℕ) → slot < slots → taken slot ≡ true → first_slot taken slot (slots - slot) ≡ first_slot taken (slot + 1) (slots - (slot + 1))
-first_slot-taken taken slot slots within t =
-    let left : slots - slot ≡ suc (slots - (slot + 1)) = omega arith in rw (left, t) refl
-
--- a free slot is the first one
-pub first_slot-free : (taken : ℕ → Bool) (slot slots : ℕ) → slot < slots → taken slot ≡ false → first_slot taken slot (slots - slot) ≡ Some slot
-first_slot-free taken slot slots within t =
-    let left : slots - slot ≡ suc (slots - (slot + 1)) = omega arith in rw (left, t) refl
-
-abbrev pub on_slot : NodeNo → ℕ → Held → Bool
-on_slot n slot h = nat_eq h.seat.node.value n.value && nat_eq h.seat.slot slot
-
--- a slot is taken by a home or by a planned one
-pub is_taken_both : (homes planned : List Held) (n : NodeNo) (slot : ℕ) → is_taken (map (λ h. h.seat) (homes ++ planned)) n slot ≡ (list_any (on_slot n slot) homes || list_any (on_slot n slot) planned)
-is_taken_both homes planned n slot =
-    list_any-map (λ (seat : Seat). nat_eq seat.node.value n.value && nat_eq seat.slot slot) (λ (h : Held). h.seat) (homes ++ planned) ∙ list_any-append (on_slot n slot) homes planned
+use Rattle.lrc_book.specs.Changes.{held_at}
+use Rattle.lrc_book.specs.Ties.{is_beside, with_homes}
+use Rattle.lrc_book.proofs.ListLemmas.{held_at-push}
+use Rattle.lrc_book.proofs.BarLemmas.{held_at-beside, earlier-fragments}
 
 -- what the placement goes on with, by what was chosen
 abbrev turn : StripeNo → State → Fragment → Option Seat → Result State Fragment
@@ -55,24 +37,32 @@ module _ (nodes : List NodeInfo) (s : StripeNo) (st : State) (fs : List Fragment
       ≡ fold (place_next nodes s) (Ok (with_home st s (get_or fs i d) seat)) (drop (i + 1) fs)) some refl)
 
 -- nothing is planned at first
-pub placing-start : (nodes : List NodeInfo) (homes : List Held) (s : StripeNo) (fs : List Fragment) → fs ≡ fragments Wide
-    → fold (place_next nodes s) (Ok (of_homes (homes ++ []))) fs ≡ placed nodes (of_homes homes) s
+pub placing-start : (nodes : List NodeInfo) (st : State) (s : StripeNo) (fs : List Fragment) → fs ≡ fragments Wide → fold (place_next nodes s) (Ok (with_homes st [])) fs ≡ placed nodes st s
 unfolding placed
-placing-start nodes homes s fs e = ap (λ (hs : List Held). fold (place_next nodes s) (Ok (of_homes hs)) fs) (append-nil homes) ∙ ap (λ (gs : List Fragment). fold (place_next nodes s) (Ok (of_homes homes)) gs) e
+placing-start nodes st s fs e =
+    ap (λ (hs : List Held). fold (place_next nodes s) (Ok (record st { homes = hs })) fs) (append-nil st.homes) ∙ ap (λ (gs : List Fragment). fold (place_next nodes s) (Ok st) gs) e
 
 module _ (s : StripeNo) (planned : List Held) (fs : List Fragment) (i : ℕ) (d : Fragment) (within : i < length fs) (there : i < length planned) (seat : Seat) where
   abbrev home : Held
   home = record { stripe = s; fragment = get_or fs i d; seat = seat }
 
   -- one more fragment is planned
-  pub placing-more : (nodes : List NodeInfo) (homes : List Held) (whole : Result State Fragment) → Some seat ≡ chosen nodes (of_homes (homes ++ take i planned)) s (get_or fs i d)
-      → fold (place_next nodes s) (Ok (of_homes (homes ++ take i planned))) (drop i fs) ≡ whole
-      → fold (place_next nodes s) (Ok (of_homes (homes ++ take (i + 1) (set planned i home)))) (drop (i + 1) fs) ≡ whole
-  placing-more nodes homes whole some so_far =
-      rw (take_more_set planned i home there, ← append_assoc) (sym (placing-some nodes s (of_homes (homes ++ take i planned)) fs i d within seat some) ∙ so_far)
+  pub placing-more : (nodes : List NodeInfo) (st : State) (whole : Result State Fragment) → Some seat ≡ chosen nodes (with_homes st (take i planned)) s (get_or fs i d)
+      → fold (place_next nodes s) (Ok (with_homes st (take i planned))) (drop i fs) ≡ whole
+      → fold (place_next nodes s) (Ok (with_homes st (take (i + 1) (set planned i home)))) (drop (i + 1) fs) ≡ whole
+  placing-more nodes st whole some so_far =
+      rw (take_more_set planned i home there, ← append_assoc) (sym (placing-some nodes s (with_homes st (take i planned)) fs i d within seat some) ∙ so_far)
 
   pub planned-more : (seats : List Seat) → i < length seats → take i planned ≡ held_at s (take i fs) (take i seats)
       → take (i + 1) (set planned i home) ≡ held_at s (take (i + 1) fs) (take (i + 1) (set seats i seat))
   planned-more seats room so_far =
       let same : length (take i fs) ≡ length (take i seats) = let a = length-take i fs in let b = length-take i seats in omega (arith, a, b) in
       rw (take_more_set planned i home there, take_more_set seats i seat room, take_more fs i d within, so_far) (sym (held_at-push s (take i fs) (take i seats) (get_or fs i d) seat same))
+
+-- ---- the planned homes are those of other fragments
+
+pub planned-beside : (s : StripeNo) (planned : List Held) (seats : List Seat) (i : ℕ) (d : Fragment) → i < length (fragments Wide) → take i planned ≡ held_at s (take i (fragments Wide)) (take i seats)
+    → All (λ h. is_beside s (get_or (fragments Wide) i d) h ≡ true) (take i planned)
+planned-beside s planned seats i d within planned_is =
+    subst (All (λ h. is_beside s (get_or (fragments Wide) i d) h ≡ true)) (sym planned_is)
+    (held_at-beside s (get_or (fragments Wide) i d) (take i (fragments Wide)) (take i seats) (earlier-fragments Wide i d within))

@@ -1,10 +1,12 @@
 -- What a step answers and changes, case by case.
-use Rattle.std.proofs.Common.{◌≡◌, ℕ, ◌+◌, ◌*◌, ◌≤◌, Bool, true, false, not, List, [], ◌∷◌, ◌++◌, length, map, drop, filter, fold, Option, Some, None, Result, Ok, Err, refl, sym, ap, ◌∙◌, subst, append_assoc, append-nil, length-append, arith}
+use Rattle.std.proofs.Common.{◌≡◌, ℕ, ◌+◌, ◌*◌, ◌≤◌, Bool, true, false, not, ◌||◌, is_none, List, [], ◌∷◌, ◌++◌, length, map, drop, filter, fold, Option, Some, None, Result, Ok, Err, refl, sym, ap, ◌∙◌, subst, append_assoc, append-nil, length-append, arith}
 use Rattle.std.specs.Option.{option_map_or}
 use Rattle.std.proofs.lemmas.List.{drop-append-le}
 use Rattle.std.proofs.lemmas.List.Folds.{fold_stays}
 use Rattle.lrc_code.specs.declared.codes.Code.TheVariants.{Wide}
 use Rattle.lrc_code.specs.declared.numbers.StripeNo.{StripeNo}
+use Rattle.lrc_code.specs.declared.numbers.NodeNo.{NodeNo}
+use Rattle.lrc_topology.specs.Nodes.{node_at}
 use Rattle.lrc_code.specs.declared.numbers.SessionNo.{SessionNo}
 use Rattle.lrc_code.specs.declared.numbers.Fragment.{Fragment}
 use Rattle.lrc_code.specs.Codes.{fragments}
@@ -12,15 +14,16 @@ use Rattle.lrc_topology.specs.declared.NodeInfo.{NodeInfo}
 use Rattle.lrc_topology.specs.declared.seat.Seat.{Seat}
 use Rattle.lrc_topology.specs.declared.seat.Held.{Held}
 use Rattle.lrc_book.specs.declared.command.Command.{Command}
-use Rattle.lrc_book.specs.declared.command.Command.TheVariants.{Place, Drop}
+use Rattle.lrc_book.specs.declared.command.Command.TheVariants.{Place, Drop, Fail, Down, Up, Join}
 use Rattle.lrc_book.specs.declared.reply.Reply.{Reply}
-use Rattle.lrc_book.specs.declared.reply.Reply.TheVariants.{Placed, Dropped, Refused}
+use Rattle.lrc_book.specs.declared.reply.Reply.TheVariants.{Placed, Dropped, Changed, Refused}
+use Rattle.lrc_book.specs.declared.reply.Refusal.{Refusal}
 use Rattle.lrc_book.specs.declared.reply.Refusal.TheVariants as refusal
 use Rattle.lrc_book.specs.declared.entry.Entry.{Entry}
-use Rattle.lrc_book.specs.States.{State, has_stripe}
+use Rattle.lrc_book.specs.States.{State, has_stripe, mode_of, is_gone, is_down}
 use Rattle.lrc_book.specs.Placement.{chosen, with_home, place_next, placed}
-use Rattle.lrc_book.specs.Steps.{Outcome, refuse_if, with_stripe, without_stripe, place_answer, place_outcome, drop_outcome, step}
-use Rattle.lrc_book.specs.Changes.{held_at, with_placed, changed_by, of_homes}
+use Rattle.lrc_book.specs.Steps.{Outcome, refuse_if, with_stripe, without_stripe, place_answer, place_outcome, drop_outcome, fail_outcome, down_outcome, up_outcome, join_outcome, step}
+use Rattle.lrc_book.specs.Changes.{held_at, AreChosen, with_placed, changed_by}
 
 -- ---- placing
 
@@ -51,10 +54,10 @@ placing-stripes nodes s stripes r [] = refl
 placing-stripes nodes s stripes r (f ∷ fs) =
     ap (λ (x : Result State Fragment). fold (place_next nodes s) x fs) (place_next-stripes nodes s stripes r f) ∙ placing-stripes nodes s stripes (place_next nodes s r f) fs
 
--- a placement is that of the homes alone
-pub placed-stripes : (nodes : List NodeInfo) (s : StripeNo) (st : State) → placed nodes st s ≡ restripe st.stripes (placed nodes (of_homes st.homes) s)
+-- a placement reads nothing of the stripes
+pub placed-stripes : (nodes : List NodeInfo) (s : StripeNo) (st : State) (stripes : List StripeNo) → placed nodes (record st { stripes = stripes }) s ≡ restripe stripes (placed nodes st s)
 unfolding placed
-placed-stripes nodes s st = placing-stripes nodes s st.stripes (Ok (of_homes st.homes)) (fragments Wide)
+placed-stripes nodes s st stripes = placing-stripes nodes s stripes (Ok st) (fragments Wide)
 
 -- ---- the seats of a placed stripe
 
@@ -69,7 +72,7 @@ drop-front [] ys = refl
 drop-front (x ∷ xs) ys = drop-front xs ys
 
 -- the homes that were added stand on these seats
-seats-added : (s : StripeNo) (homes : List Held) (seats : List Seat) → length seats ≡ 16 → map (λ h. h.seat) (drop (length homes) (homes ++ held_at s (fragments Wide) seats)) ≡ seats
+pub seats-added : (s : StripeNo) (homes : List Held) (seats : List Seat) → length seats ≡ 16 → map (λ h. h.seat) (drop (length homes) (homes ++ held_at s (fragments Wide) seats)) ≡ seats
 seats-added s homes seats sixteen = rw (drop-front homes (held_at s (fragments Wide) seats)) (seats-held_at s (fragments Wide) seats sixteen)
 
 answer-placed : (st : State) (s : StripeNo) (seats : List Seat) → length seats ≡ 16 → place_answer st s (Ok (with_placed st s seats)) ≡ (Placed seats, with_placed st s seats)
@@ -88,29 +91,31 @@ module _ (nodes : List NodeInfo) (st : State) (s : StripeNo) where
   unfolding place_outcome
   place-there there = refused-if _ _ st _ there
 
-  pub place-ok : (seats : List Seat) → has_stripe st s ≡ false → length seats ≡ 16 → placed nodes (of_homes st.homes) s ≡ Ok (of_homes (st.homes ++ held_at s (fragments Wide) seats))
+  pub place-ok : (seats : List Seat) → has_stripe st s ≡ false → length seats ≡ 16 → placed nodes st s ≡ Ok (record st { homes = st.homes ++ held_at s (fragments Wide) seats })
       → place_outcome nodes st Wide s ≡ (Placed seats, with_placed st s seats)
   unfolding place_outcome
   place-ok seats absent sixteen is =
-      passed-if _ _ st _ absent ∙ ap (place_answer st s) (placed-stripes nodes s (with_stripe st Wide s) ∙ ap (restripe (st.stripes ++ s ∷ [])) is) ∙ answer-placed st s seats sixteen
+      passed-if _ _ st _ absent ∙ ap (place_answer st s) (placed-stripes nodes s st (st.stripes ++ s ∷ []) ∙ ap (restripe (st.stripes ++ s ∷ [])) is) ∙ answer-placed st s seats sixteen
 
-  pub place-err : (f : Fragment) → has_stripe st s ≡ false → placed nodes (of_homes st.homes) s ≡ Err f → place_outcome nodes st Wide s ≡ (Refused (refusal.NoLawfulNode f), st)
+  pub place-err : (f : Fragment) → has_stripe st s ≡ false → placed nodes st s ≡ Err f → place_outcome nodes st Wide s ≡ (Refused (refusal.NoLawfulNode f), st)
   unfolding place_outcome
   place-err f absent is =
-      passed-if _ _ st _ absent ∙ ap (place_answer st s) (placed-stripes nodes s (with_stripe st Wide s) ∙ ap (restripe (st.stripes ++ s ∷ [])) is)
+      passed-if _ _ st _ absent ∙ ap (place_answer st s) (placed-stripes nodes s st (st.stripes ++ s ∷ []) ∙ ap (restripe (st.stripes ++ s ∷ [])) is)
 
 -- ---- what a step changes
 
--- a placement adds homes of the fragments in their order
-pub record IsGrown (s : StripeNo) (fs : List Fragment) (st done : State) : Type 0 where
+-- a placement adds homes of the fragments in their order, on the seats that are chosen for them
+pub record IsGrown (nodes : List NodeInfo) (s : StripeNo) (fs : List Fragment) (st done : State) : Type 0 where
   pub seats : List Seat
   pub all : length seats ≡ length fs
+  pub chosen_are : AreChosen nodes st s fs seats
   pub is : done ≡ record st { homes = st.homes ++ held_at s fs seats }
 
-grown-more : (s : StripeNo) (f : Fragment) (fs : List Fragment) (st done : State) (seat : Seat) → IsGrown s fs (with_home st s f seat) done → IsGrown s (f ∷ fs) st done
-grown-more s f fs st done seat g = record {
+grown-more : (nodes : List NodeInfo) (s : StripeNo) (f : Fragment) (fs : List Fragment) (st done : State) (seat : Seat) → chosen nodes st s f ≡ Some seat → IsGrown nodes s fs (with_home st s f seat) done → IsGrown nodes s (f ∷ fs) st done
+grown-more nodes s f fs st done seat here g = record {
   seats = seat ∷ g.seats;
   all = omega (arith, g.all);
+  chosen_are = (here, g.chosen_are);
   is = g.is ∙ ap (λ (hs : List Held). record st { homes = hs }) (append_assoc st.homes (record { stripe = s; fragment = f; seat = seat } ∷ []) (held_at s fs g.seats));
 }
 
@@ -119,19 +124,19 @@ never-ends nodes s fs f done e = let stays = sym (fold_stays (place_next nodes s
 
 grown-turn :
     (nodes : List NodeInfo) (s : StripeNo) (f : Fragment) (fs : List Fragment) (st done : State) (o : Option Seat)
-    → ((next : State) → fold (place_next nodes s) (Ok next) fs ≡ Ok done → IsGrown s fs next done)
-    → fold (place_next nodes s) (turn s st f o) fs ≡ Ok done → IsGrown s (f ∷ fs) st done
-grown-turn nodes s f fs st done (Some seat) rest e = grown-more s f fs st done seat (rest (with_home st s f seat) e)
-grown-turn nodes s f fs st done None rest e = absurd (never-ends nodes s fs f done e)
+    → chosen nodes st s f ≡ o → ((next : State) → fold (place_next nodes s) (Ok next) fs ≡ Ok done → IsGrown nodes s fs next done)
+    → fold (place_next nodes s) (turn s st f o) fs ≡ Ok done → IsGrown nodes s (f ∷ fs) st done
+grown-turn nodes s f fs st done (Some seat) here rest e = grown-more nodes s f fs st done seat here (rest (with_home st s f seat) e)
+grown-turn nodes s f fs st done None here rest e = absurd (never-ends nodes s fs f done e)
 
 same_ok : (st done : State) → ◌≡◌ {A = Result State Fragment} (Ok st) (Ok done) → st ≡ done
 same_ok st done e = cc
 
-placing-grown : (nodes : List NodeInfo) (s : StripeNo) (fs : List Fragment) (st done : State) → fold (place_next nodes s) (Ok st) fs ≡ Ok done → IsGrown s fs st done
-placing-grown nodes s [] st done e = record { seats = []; all = refl; is = sym (same_ok st done e) ∙ ap (λ (hs : List Held). record st { homes = hs }) (sym (append-nil st.homes)) }
-placing-grown nodes s (f ∷ fs) st done e = grown-turn nodes s f fs st done (chosen nodes st s f) (λ next. placing-grown nodes s fs next done) e
+placing-grown : (nodes : List NodeInfo) (s : StripeNo) (fs : List Fragment) (st done : State) → fold (place_next nodes s) (Ok st) fs ≡ Ok done → IsGrown nodes s fs st done
+placing-grown nodes s [] st done e = record { seats = []; all = refl; chosen_are = tt; is = sym (same_ok st done e) ∙ ap (λ (hs : List Held). record st { homes = hs }) (sym (append-nil st.homes)) }
+placing-grown nodes s (f ∷ fs) st done e = grown-turn nodes s f fs st done (chosen nodes st s f) refl (λ next. placing-grown nodes s fs next done) e
 
-answer-changed : (nodes : List NodeInfo) (st : State) (s : StripeNo) (r : Result State Fragment) → ((done : State) → r ≡ Ok done → IsGrown s (fragments Wide) (with_stripe st Wide s) done)
+answer-changed : (nodes : List NodeInfo) (st : State) (s : StripeNo) (r : Result State Fragment) → ((done : State) → r ≡ Ok done → IsGrown nodes s (fragments Wide) (with_stripe st Wide s) done)
     → (place_answer st s r).1 ≡ changed_by st (Place s) (place_answer st s r).0
 answer-changed nodes st s (Err f) grown = refl
 answer-changed nodes st s (Ok done) grown =
@@ -139,11 +144,11 @@ answer-changed nodes st s (Ok done) grown =
     let added : map (λ h. h.seat) (drop (length st.homes) done.homes) ≡ g.seats = ap (λ (x : State). map (λ h. h.seat) (drop (length st.homes) x.homes)) g.is ∙ seats-added s st.homes g.seats g.all in
     g.is ∙ ap (with_placed st s) (sym added)
 
-place-passed : (nodes : List NodeInfo) (st : State) (s : StripeNo) → has_stripe st s ≡ false → place_outcome nodes st Wide s ≡ place_answer st s (placed nodes (with_stripe st Wide s) s)
+pub place-passed : (nodes : List NodeInfo) (st : State) (s : StripeNo) → has_stripe st s ≡ false → place_outcome nodes st Wide s ≡ place_answer st s (placed nodes (with_stripe st Wide s) s)
 unfolding place_outcome
 place-passed nodes st s absent = passed-if _ _ st _ absent
 
-placed-grown : (nodes : List NodeInfo) (st : State) (s : StripeNo) (done : State) → placed nodes (with_stripe st Wide s) s ≡ Ok done → IsGrown s (fragments Wide) (with_stripe st Wide s) done
+pub placed-grown : (nodes : List NodeInfo) (st : State) (s : StripeNo) (done : State) → placed nodes (with_stripe st Wide s) s ≡ Ok done → IsGrown nodes s (fragments Wide) (with_stripe st Wide s) done
 unfolding placed
 placed-grown nodes st s done e = placing-grown nodes s (fragments Wide) (with_stripe st Wide s) done e
 
@@ -161,7 +166,36 @@ drop-changed : (st : State) (s : StripeNo) → (drop_outcome st s).1 ≡ changed
 unfolding drop_outcome
 drop-changed st s = drop-cases st s (has_stripe st s)
 
+node-cases : (nodes : List NodeInfo) (st changed : State) (c : Command) (known wrong : Bool) → changed_by st c Changed ≡ changed
+    → ((r : Refusal) → changed_by st c (Refused r) ≡ st)
+    → (refuse_if known refusal.UnknownNode st (refuse_if wrong refusal.WrongMode st (Changed, changed))).1
+    ≡ changed_by st c (refuse_if known refusal.UnknownNode st (refuse_if wrong refusal.WrongMode st (Changed, changed))).0
+node-cases nodes st changed c true wrong is refused = sym (refused refusal.UnknownNode)
+node-cases nodes st changed c false true is refused = sym (refused refusal.WrongMode)
+node-cases nodes st changed c false false is refused = sym is
+
+module _ (nodes : List NodeInfo) (st : State) (n : NodeNo) where
+  fail-changed : (fail_outcome nodes st n).1 ≡ changed_by st (Fail n) (fail_outcome nodes st n).0
+  unfolding fail_outcome
+  fail-changed = node-cases nodes st _ (Fail n) (is_none (node_at nodes n)) (is_gone (mode_of st n)) refl (λ r. refl)
+
+  down-changed : (down_outcome nodes st n).1 ≡ changed_by st (Down n) (down_outcome nodes st n).0
+  unfolding down_outcome
+  down-changed = node-cases nodes st _ (Down n) (is_none (node_at nodes n)) (is_gone (mode_of st n) || is_down st n) refl (λ r. refl)
+
+  up-changed : (up_outcome nodes st n).1 ≡ changed_by st (Up n) (up_outcome nodes st n).0
+  unfolding up_outcome
+  up-changed = node-cases nodes st _ (Up n) (is_none (node_at nodes n)) (not (is_down st n)) refl (λ r. refl)
+
+  join-changed : (join_outcome nodes st n).1 ≡ changed_by st (Join n) (join_outcome nodes st n).0
+  unfolding join_outcome
+  join-changed = node-cases nodes st _ (Join n) (is_none (node_at nodes n)) (not (is_gone (mode_of st n))) refl (λ r. refl)
+
 -- the state that a step leaves is told by the command and the reply
 pub step-changed : (nodes : List NodeInfo) (past : List Entry) (st : State) (session : SessionNo) (c : Command) → (step nodes past st session c).1 ≡ changed_by st c (step nodes past st session c).0
 step-changed nodes past st session (Place s) = place-changed nodes st s (has_stripe st s) refl
 step-changed nodes past st session (Drop s) = drop-changed st s
+step-changed nodes past st session (Fail n) = fail-changed nodes st n
+step-changed nodes past st session (Down n) = down-changed nodes st n
+step-changed nodes past st session (Up n) = up-changed nodes st n
+step-changed nodes past st session (Join n) = join-changed nodes st n

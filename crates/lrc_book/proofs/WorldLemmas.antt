@@ -40,32 +40,3 @@ legal_append nodes w (x ∷ xs) ys a b = (a.0, legal_append nodes (next_world no
 
 pub legal_push : (nodes : List NodeInfo) (h : List Entry) (e : Entry) → IsLegal nodes h → (outcome_in nodes (world_after nodes h) e.session e.command).0 ≡ e.reply → IsLegal nodes (h ++ e ∷ [])
 legal_push nodes h e legal is = legal_append nodes first_world h (e ∷ []) legal (is, tt)
-
--- a step that is made and recorded keeps what is kept
-pub kept_push : (nodes : List NodeInfo) (limit : ℕ) (h : List Entry) (kept : State) (e : Entry) → IsKept nodes limit h kept → length h < limit
-    → (outcome_in nodes (world_after nodes h) e.session e.command).0 ≡ e.reply → IsKept nodes limit (h ++ e ∷ []) (changed_by kept e.command e.reply)
-kept_push nodes limit h kept e k room is = record {
-  current = ap (λ (w : World). w.state) (world_push nodes h e) ∙ step-changed nodes (world_after nodes h).past (state_after nodes h) e.session e.command
-      ∙ ap (changed_by (state_after nodes h) e.command) is ∙ ap (λ (st : State). changed_by st e.command e.reply) k.current;
-  legal = legal_push nodes h e k.legal is;
-  few = rw (length-append h (e ∷ [])) (omega (arith, room));
-  limited = k.limited;
-}
-
-length-held_at : (s : StripeNo) (fs : List Fragment) (seats : List Seat) → length (held_at s fs seats) ≤ length fs
-length-held_at s [] seats = lit≤ tt
-length-held_at s (f ∷ fs) [] = omega arith
-length-held_at s (f ∷ fs) (x ∷ xs) = let rest = length-held_at s fs xs in omega (arith, rest)
-
--- a call adds sixteen homes at most
-homes-changed : (st : State) (c : Command) (r : Reply) → length (changed_by st c r).homes ≤ length st.homes + 16
-homes-changed st (Place s) (Placed seats) = let few = length-held_at s (fragments Wide) seats in omega (arith, few, length-append st.homes (held_at s (fragments Wide) seats))
-homes-changed st (Place s) Dropped = omega arith
-homes-changed st (Place s) (Refused r) = omega arith
-homes-changed st (Drop s) Dropped = let count = length-filter (λ (h : Held). is_other s h.stripe) st.homes in let few = count_by-le-length (λ (h : Held). is_other s h.stripe) st.homes in omega (arith, count, few)
-homes-changed st (Drop s) (Placed seats) = omega arith
-homes-changed st (Drop s) (Refused r) = omega arith
-
--- a book never has more homes than sixteen for each entry
-pub few_homes-push : (h : List Entry) (kept : State) (e : Entry) → length kept.homes ≤ 16 * length h → length (changed_by kept e.command e.reply).homes ≤ 16 * length (h ++ e ∷ [])
-few_homes-push h kept e few = let more = homes-changed kept e.command e.reply in omega (arith, few, more, length-append h (e ∷ []))

@@ -2,7 +2,12 @@
 use Rattle.std.specs.Prelude.{◌≡◌, ℕ, ◌<◌, ◌≤◌, Bool, List, length}
 use Rattle.lrc_code.specs.declared.fault.Fault.{Fault}
 use Rattle.lrc_code.specs.declared.fault.Fault.TheVariants.{OutOfMemory, HistoryFull}
+use Rattle.lrc_code.specs.declared.numbers.NodeNo.{NodeNo}
 use Rattle.lrc_topology.specs.declared.NodeInfo.{NodeInfo}
+use Rattle.lrc_topology.specs.Nodes.{AreNodes}
+use Rattle.lrc_slots.specs.Slots.{Slots}
+use Rattle.lrc_stripes.specs.Stored.{Stored}
+use Rattle.lrc_book.specs.Ties.{table_of, stored_of}
 use Rattle.lrc_book.specs.declared.entry.Entry.{Entry}
 use Rattle.lrc_book.specs.States.{State}
 use Rattle.lrc_book.specs.Histories.{World, world_after, state_after, outcome_in, IsLegal}
@@ -22,9 +27,13 @@ world_of b = world_after b.nodes b.history
 abbrev pub state_of : BookView → State
 state_of b = state_after b.nodes b.history
 
--- what a book keeps: the state after its history, which is legal and not longer than the limit
-pub record IsKept (nodes : List NodeInfo) (limit : ℕ) (history : List Entry) (kept : State) : Type 0 where
-  pub current : state_after nodes history ≡ kept
+-- what a book keeps: the slot table, the stripes and the modes of the state after its history, which is legal and not longer than the limit
+pub record IsKept (nodes : List NodeInfo) (limit : ℕ) (history : List Entry) (table : Slots) (stripes : Stored) (gone down : List NodeNo) : Type 0 where
+  pub known : AreNodes nodes
+  pub table_is : table ≡ table_of nodes (state_after nodes history)
+  pub stripes_is : stripes ≡ stored_of nodes (state_after nodes history) stripes.spare
+  pub gone_is : gone ≡ (state_after nodes history).gone
+  pub down_is : down ≡ (state_after nodes history).down
   pub legal : IsLegal nodes history
   pub few : length history ≤ limit
   pub limited : limit ≤ 1000000

@@ -1,5 +1,5 @@
 -- What a call changes of the state, told by its command and its reply.
-use Rattle.std.specs.Prelude.{List, [], ◌∷◌, ◌++◌}
+use Rattle.std.specs.Prelude.{◌≡◌, ⊤, List, [], ◌∷◌, ◌++◌, Some}
 use Rattle.lrc_code.specs.declared.numbers.StripeNo.{StripeNo}
 use Rattle.lrc_code.specs.declared.numbers.Fragment.{Fragment}
 use Rattle.lrc_code.specs.declared.codes.Code.TheVariants.{Wide}
@@ -7,16 +7,26 @@ use Rattle.lrc_code.specs.Codes.{fragments}
 use Rattle.lrc_topology.specs.declared.seat.Seat.{Seat}
 use Rattle.lrc_topology.specs.declared.seat.Held.{Held}
 use Rattle.lrc_book.specs.declared.command.Command.{Command}
-use Rattle.lrc_book.specs.declared.command.Command.TheVariants.{Place, Drop}
+use Rattle.lrc_book.specs.declared.command.Command.TheVariants.{Place, Drop, Fail, Down, Up, Join}
 use Rattle.lrc_book.specs.declared.reply.Reply.{Reply}
-use Rattle.lrc_book.specs.declared.reply.Reply.TheVariants.{Placed, Dropped, Refused}
+use Rattle.lrc_book.specs.declared.reply.Reply.TheVariants.{Placed, Dropped, Changed}
+use Rattle.lrc_topology.specs.declared.NodeInfo.{NodeInfo}
 use Rattle.lrc_book.specs.States.{State}
-use Rattle.lrc_book.specs.Steps.{with_stripe, without_stripe}
+use Rattle.lrc_book.specs.Placement.{chosen, with_home}
+use Rattle.lrc_code.specs.declared.numbers.SessionNo.{SessionNo}
+use Rattle.lrc_book.specs.declared.entry.Entry.{Entry}
+use Rattle.lrc_book.specs.Steps.{step, without_stripe, emptied, with_gone, with_down, without_down, without_gone}
 
 -- each of these fragments of a stripe on the seat at its place
 abbrev pub held_at : StripeNo → List Fragment → List Seat → List Held
 held_at s (f ∷ fs) (seat ∷ seats) = record { stripe = s; fragment = f; seat = seat } ∷ held_at s fs seats
 held_at s _ _ = []
+
+-- each of these fragments of a stripe has the seat at its place chosen for it, with those before it placed
+abbrev pub AreChosen : List NodeInfo → State → StripeNo → List Fragment → List Seat → Type 0
+AreChosen nodes st s [] [] = ⊤
+AreChosen nodes st s (f ∷ fs) (seat ∷ seats) = (chosen nodes st s f ≡ Some seat) × AreChosen nodes (with_home st s f seat) s fs seats
+AreChosen nodes st s _ _ = ⊥
 
 -- the stripe with its homes on these seats
 abbrev pub with_placed : State → StripeNo → List Seat → State
@@ -25,12 +35,15 @@ with_placed st s seats = record st { stripes = st.stripes ++ s ∷ []; homes = s
 -- the state that a command with this reply leaves
 abbrev pub changed_by : State → Command → Reply → State
 changed_by st (Place s) (Placed seats) = with_placed st s seats
-changed_by st (Place s) Dropped = st
-changed_by st (Place s) (Refused r) = st
 changed_by st (Drop s) Dropped = without_stripe st s
-changed_by st (Drop s) (Placed seats) = st
-changed_by st (Drop s) (Refused r) = st
+changed_by st (Fail n) Changed = with_gone (emptied st n) n
+changed_by st (Down n) Changed = with_down st n
+changed_by st (Up n) Changed = without_down st n
+changed_by st (Join n) Changed = without_gone st n
+changed_by st _ _ = st
 
--- a state with these homes: the choice of a seat reads nothing else of a state
-abbrev pub of_homes : List Held → State
-of_homes homes = record { stripes = []; homes = homes }
+-- the reply is the one that a session's command gets in this state, after some entries
+pub record IsAnswer (nodes : List NodeInfo) (st : State) (c : Command) (r : Reply) : Type 0 where
+  pub past : List Entry
+  pub session : SessionNo
+  pub told : (step nodes past st session c).0 ≡ r

@@ -1,5 +1,5 @@
 -- The choice rule in words: which nodes a fragment may go to, and which seat is chosen.
-use Rattle.std.specs.Prelude.{◌≡◌, ◌≢◌, ◌⊎◌, ℕ, ◌<◌, List, All, Contains, IfSome}
+use Rattle.std.specs.Prelude.{◌≡◌, ◌≢◌, ◌⊎◌, ℕ, ◌<◌, IsTrue, List, All, Contains, IfSome}
 use Rattle.lrc_code.specs.declared.codes.Code.{Code}
 use Rattle.lrc_code.specs.declared.numbers.StripeNo.{StripeNo}
 use Rattle.lrc_code.specs.declared.numbers.Fragment.{Fragment}
@@ -8,7 +8,8 @@ use Rattle.lrc_topology.specs.declared.NodeInfo.{NodeInfo}
 use Rattle.lrc_topology.specs.declared.seat.Seat.{Seat}
 use Rattle.lrc_topology.specs.declared.seat.Held.{Held}
 use Rattle.lrc_topology.specs.Nodes.{node_at}
-use Rattle.lrc_book.specs.States.{State, code_of, seats_of, taken_seats, load}
+use Rattle.lrc_book.specs.declared.mode.Mode.TheVariants.{Active}
+use Rattle.lrc_book.specs.States.{State, code_of, seats_of, taken_seats, load, mode_of, is_online}
 
 -- The nodes of two fragments of a stripe are apart: their fault domains differ, and where the fragments are of one class their upgrade domains differ too.
 pub record AreApart (code : Code) (f : Fragment) (n : NodeInfo) (g : Fragment) (m : NodeInfo) : Type 0 where
@@ -24,9 +25,11 @@ pub record IsFree (st : State) (n : NodeInfo) (slot : ℕ) : Type 0 where
   pub within : slot < n.slots
   pub free : ¬ (Contains (taken_seats st) (record { node = n.number; slot = slot }))
 
--- the node takes seats: some slot of it is free
-abbrev pub IsEligible : State → NodeInfo → Type 0
-IsEligible st n = (slot : ℕ) × IsFree st n slot
+-- The node takes seats: it is active and online, and some slot of it is free.
+pub record IsEligible (st : State) (n : NodeInfo) : Type 0 where
+  pub active : mode_of st n.number ≡ Active
+  pub online : IsTrue (is_online st n)
+  pub room : (slot : ℕ) × IsFree st n slot
 
 -- The fragment may go to the node: it is one of the store's, is eligible, and is apart from the nodes of the stripe's other fragments.
 pub record IsFitting (nodes : List NodeInfo) (st : State) (s : StripeNo) (f : Fragment) (n : NodeInfo) : Type 0 where

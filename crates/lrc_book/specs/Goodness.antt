@@ -4,12 +4,13 @@ use Rattle.lrc_topology.specs.declared.NodeInfo.{NodeInfo}
 use Rattle.lrc_topology.specs.declared.seat.Seat.{Seat}
 use Rattle.lrc_topology.specs.declared.seat.Held.{Held}
 use Rattle.lrc_topology.specs.Nodes.{node_at}
-use Rattle.lrc_book.specs.States.{State, code_of, seats_of, taken_seats}
+use Rattle.lrc_book.specs.declared.mode.Mode.TheVariants.{Gone}
+use Rattle.lrc_book.specs.States.{State, code_of, seats_of, taken_seats, mode_of}
 use Rattle.lrc_book.specs.Choices.{AreApart}
 
--- the seat is a slot of a node of the store
-abbrev pub IsStanding : List NodeInfo → Seat → Type 0
-IsStanding nodes seat = IsSomeAnd (node_at nodes seat.node) (λ n. seat.slot < n.slots)
+-- the seat is a slot of a node of the store that is not gone
+abbrev pub IsStanding : List NodeInfo → State → Seat → Type 0
+IsStanding nodes st seat = IsSomeAnd (node_at nodes seat.node) (λ n. (seat.slot < n.slots) × (mode_of st seat.node ≢ Gone))
 
 -- two seats, where they are of different fragments of one stripe, are on nodes apart
 abbrev pub KeepApart : List NodeInfo → State → Held → Held → Type 0
@@ -17,11 +18,12 @@ KeepApart nodes st h g =
     h.stripe ≡ g.stripe → h.fragment ≢ g.fragment
     → IfSome (node_at nodes h.seat.node) (λ n. IfSome (node_at nodes g.seat.node) (λ m. AreApart (code_of st h.stripe) h.fragment n g.fragment m))
 
--- Each stripe is there once, each seat is held once and is a slot of a node, placements are lawful, each fragment has one home at most, and held seats are those of stripes that are there.
+-- Each stripe is there once, each seat is held once and is a slot of a node that is not gone, placements are lawful, each fragment has one home at most, held seats are those of stripes that are there, and no node that is down is gone.
 pub record IsGood (nodes : List NodeInfo) (st : State) : Type 0 where
   pub stripes : AllPairs (λ s t. s ≢ t) st.stripes
   pub single : AllPairs (λ a b. a ≢ b) (taken_seats st)
-  pub standing : All (IsStanding nodes) (taken_seats st)
+  pub standing : All (IsStanding nodes st) (taken_seats st)
   pub lawful : AllPairs (KeepApart nodes st) (seats_of st)
   pub one_home : AllPairs (λ h g. h.stripe ≡ g.stripe → h.fragment ≢ g.fragment) st.homes
   pub there : All (λ h. Contains st.stripes h.stripe) (seats_of st)
+  pub reachable : All (λ n. mode_of st n ≢ Gone) st.down

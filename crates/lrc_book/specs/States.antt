@@ -1,24 +1,33 @@
 -- The state of the store, and what is read of it.
-use Rattle.std.specs.Prelude.{ℕ, Bool, ◌&&◌, if◌then◌else◌, nat_eq, List, [], map, find, Option, Some, None, option_map, is_some}
+use Rattle.std.specs.Prelude.{ℕ, Bool, true, false, not, ◌&&◌, if◌then◌else◌, nat_eq, List, [], map, filter, Option, Some, None, option_map, is_some}
 use Rattle.std.specs.List.{list_any}
+use Rattle.std.specs.Option.{option_map_or}
 use Rattle.lrc_code.specs.declared.codes.Code.{Code}
 use Rattle.lrc_code.specs.declared.codes.Code.TheVariants.{Wide}
+use Rattle.lrc_code.specs.declared.losses.LossMask.{LossMask}
 use Rattle.lrc_code.specs.declared.numbers.StripeNo.{StripeNo}
 use Rattle.lrc_code.specs.declared.numbers.NodeNo.{NodeNo}
 use Rattle.lrc_code.specs.Codes.{fragments}
+use Rattle.lrc_code.specs.Losses.{FragmentSet, bits_of}
 use Rattle.lrc_topology.specs.declared.NodeInfo.{NodeInfo}
 use Rattle.lrc_topology.specs.declared.seat.Seat.{Seat}
 use Rattle.lrc_topology.specs.declared.seat.Held.{Held}
 use Rattle.lrc_topology.specs.Nodes.{node_at}
 use Rattle.lrc_topology.specs.Seats.{load_of, free_slot}
+use Rattle.lrc_stripes.specs.declared.level.Level.{Level}
+use Rattle.lrc_stripes.specs.Levels.{home_of, homeless_of, missing_of, level_by, rank_by}
+use Rattle.lrc_book.specs.declared.mode.Mode.{Mode}
+use Rattle.lrc_book.specs.declared.mode.Mode.TheVariants.{Active, Gone}
 
--- all lists stand in the order in which things happened
+-- all lists stand in the order in which things happened; a node in none of the lists is active and not down
 pub record State : Type 0 where
   pub stripes : List StripeNo
   pub homes : List Held
+  pub gone : List NodeNo
+  pub down : List NodeNo
 
 abbrev pub opening : State
-opening = record { stripes = []; homes = [] }
+opening = record { stripes = []; homes = []; gone = []; down = [] }
 
 -- ---- stripes and seats
 
@@ -28,10 +37,6 @@ has_stripe st s = list_any (λ t. nat_eq s.value t.value) st.stripes
 -- the code of a stripe
 abbrev pub code_of : State → StripeNo → Code
 code_of st s = Wide
-
--- the home of the fragment of this number
-abbrev pub home_of : List Held → StripeNo → ℕ → Option Held
-home_of homes s f = find (λ h. nat_eq h.stripe.value s.value && nat_eq h.fragment.value f) homes
 
 -- the homes of fragments
 abbrev pub seats_of : State → List Held
@@ -43,9 +48,59 @@ taken_seats st = map (λ h. h.seat) (seats_of st)
 abbrev pub load : State → NodeNo → ℕ
 load st n = load_of (taken_seats st) n
 
--- the node takes seats: it has a free slot
+-- ---- nodes
+
+abbrev pub has_number : List NodeNo → NodeNo → Bool
+has_number numbers n = list_any (λ m. nat_eq n.value m.value) numbers
+
+abbrev pub without_number : List NodeNo → NodeNo → List NodeNo
+without_number numbers n = filter (λ m. not (nat_eq n.value m.value)) numbers
+
+abbrev pub mode_of : State → NodeNo → Mode
+mode_of st n = if has_number st.gone n then Gone else Active
+
+abbrev pub is_active : Mode → Bool
+is_active Active = true
+is_active Gone = false
+
+abbrev pub is_gone : Mode → Bool
+is_gone Active = false
+is_gone Gone = true
+
+abbrev pub is_down : State → NodeNo → Bool
+is_down st n = has_number st.down n
+
+-- the node is in the store and can be reached
+abbrev pub is_online : State → NodeInfo → Bool
+is_online st n = not (is_gone (mode_of st n.number)) && not (is_down st n.number)
+
+-- the node is active and online
+abbrev pub takes_seats : State → NodeInfo → Bool
+takes_seats st n = is_active (mode_of st n.number) && is_online st n
+
+-- the node takes seats, and has a free slot
 abbrev pub is_eligible : State → NodeInfo → Bool
-is_eligible st n = is_some (free_slot (taken_seats st) n)
+is_eligible st n = takes_seats st n && is_some (free_slot (taken_seats st) n)
+
+-- the node of this number is online
+abbrev pub online_at : List NodeInfo → State → NodeNo → Bool
+online_at nodes st n = option_map_or (is_online st) (node_at nodes n) false
+
+-- ---- missing fragments and levels
+
+-- the fragments of a stripe without a home
+abbrev pub homeless : State → StripeNo → FragmentSet
+homeless st s = homeless_of (code_of st s) st.homes s
+
+-- those, and the ones whose home node is not online
+abbrev pub missing : List NodeInfo → State → StripeNo → FragmentSet
+missing nodes st s = missing_of (code_of st s) (online_at nodes st) st.homes s
+
+abbrev pub level : List NodeInfo → State → StripeNo → Level
+level nodes st s = level_by (code_of st s) (homeless st s) (missing nodes st s)
+
+abbrev pub rank : List NodeInfo → State → StripeNo → ℕ
+rank nodes st s = rank_by (code_of st s) (missing nodes st s)
 
 -- ---- what is answered of a state
 
@@ -57,3 +112,15 @@ homes_shown st s =
 -- the load of a node; none where the store has no such node
 abbrev pub load_shown : List NodeInfo → State → NodeNo → Option ℕ
 load_shown nodes st n = option_map (λ m. load st m.number) (node_at nodes n)
+
+-- the level of a stripe; none where there is no such stripe
+abbrev pub level_shown : List NodeInfo → State → StripeNo → Option Level
+level_shown nodes st s = if has_stripe st s then Some (level nodes st s) else None
+
+-- the missing fragments of a stripe; none where there is no such stripe
+abbrev pub missing_shown : List NodeInfo → State → StripeNo → Option LossMask
+missing_shown nodes st s = if has_stripe st s then Some (record { bits = bits_of (code_of st s) (missing nodes st s) }) else None
+
+-- the mode of a node, and whether it is online; none where the store has no such node
+abbrev pub mode_shown : List NodeInfo → State → NodeNo → Option (Mode × Bool)
+mode_shown nodes st n = option_map (λ m. (mode_of st m.number, is_online st m)) (node_at nodes n)

@@ -1,20 +1,23 @@
 -- What each command answers and changes.
-use Rattle.std.specs.Prelude.{ℕ, Bool, not, if◌then◌else◌, nat_eq, List, [], ◌∷◌, ◌++◌, drop, length, map, filter, Result, Ok, Err}
+use Rattle.std.specs.Prelude.{ℕ, Bool, not, ◌||◌, if◌then◌else◌, nat_eq, List, [], ◌∷◌, ◌++◌, drop, length, map, filter, is_none, Result, Ok, Err}
 use Rattle.lrc_code.specs.declared.codes.Code.{Code}
 use Rattle.lrc_code.specs.declared.codes.Code.TheVariants.{Wide}
 use Rattle.lrc_code.specs.declared.numbers.StripeNo.{StripeNo}
+use Rattle.lrc_code.specs.declared.numbers.NodeNo.{NodeNo}
 use Rattle.lrc_code.specs.declared.numbers.SessionNo.{SessionNo}
 use Rattle.lrc_code.specs.declared.numbers.Fragment.{Fragment}
 use Rattle.lrc_topology.specs.declared.NodeInfo.{NodeInfo}
 use Rattle.lrc_topology.specs.declared.seat.Seat.{Seat}
+use Rattle.lrc_topology.specs.declared.seat.Held.{Held}
+use Rattle.lrc_topology.specs.Nodes.{node_at}
 use Rattle.lrc_book.specs.declared.command.Command.{Command}
-use Rattle.lrc_book.specs.declared.command.Command.TheVariants.{Place, Drop}
+use Rattle.lrc_book.specs.declared.command.Command.TheVariants.{Place, Drop, Fail, Down, Up, Join}
 use Rattle.lrc_book.specs.declared.reply.Reply.{Reply}
-use Rattle.lrc_book.specs.declared.reply.Reply.TheVariants.{Placed, Dropped, Refused}
+use Rattle.lrc_book.specs.declared.reply.Reply.TheVariants.{Placed, Dropped, Changed, Refused}
 use Rattle.lrc_book.specs.declared.reply.Refusal.{Refusal}
 use Rattle.lrc_book.specs.declared.reply.Refusal.TheVariants as refusal
 use Rattle.lrc_book.specs.declared.entry.Entry.{Entry}
-use Rattle.lrc_book.specs.States.{State, has_stripe, code_of}
+use Rattle.lrc_book.specs.States.{State, has_stripe, without_number, mode_of, is_gone, is_down, code_of}
 use Rattle.lrc_book.specs.Placement.{placed}
 
 -- what a step answers, and the state that it leaves
@@ -56,9 +59,54 @@ without_stripe st s = record st { stripes = filter (is_other s) st.stripes; home
 unfoldable pub drop_outcome : State → StripeNo → Outcome
 drop_outcome st s = refuse_if (not (has_stripe st s)) refusal.UnknownStripe st (Dropped, without_stripe st s)
 
+-- ---- nodes
+
+-- the change of a node that is known and whose mode is not wrong for it
+abbrev pub node_outcome : List NodeInfo → State → NodeNo → Bool → State → Outcome
+node_outcome nodes st n wrong changed =
+    refuse_if (is_none (node_at nodes n)) refusal.UnknownNode st
+    (refuse_if wrong refusal.WrongMode st
+    (Changed, changed))
+
+abbrev pub stands_on : NodeNo → Held → Bool
+stands_on n h = nat_eq n.value h.seat.node.value
+
+-- the homes on the node taken out
+abbrev pub emptied : State → NodeNo → State
+emptied st n = record st { homes = filter (λ h. not (stands_on n h)) st.homes }
+
+-- the node is out of the store, and not down
+abbrev pub with_gone : State → NodeNo → State
+with_gone st n = record st { gone = st.gone ++ n ∷ []; down = without_number st.down n }
+
+abbrev pub with_down : State → NodeNo → State
+with_down st n = record st { down = st.down ++ n ∷ [] }
+
+abbrev pub without_down : State → NodeNo → State
+without_down st n = record st { down = without_number st.down n }
+
+abbrev pub without_gone : State → NodeNo → State
+without_gone st n = record st { gone = without_number st.gone n }
+
+unfoldable pub fail_outcome : List NodeInfo → State → NodeNo → Outcome
+fail_outcome nodes st n = node_outcome nodes st n (is_gone (mode_of st n)) (with_gone (emptied st n) n)
+
+unfoldable pub down_outcome : List NodeInfo → State → NodeNo → Outcome
+down_outcome nodes st n = node_outcome nodes st n (is_gone (mode_of st n) || is_down st n) (with_down st n)
+
+unfoldable pub up_outcome : List NodeInfo → State → NodeNo → Outcome
+up_outcome nodes st n = node_outcome nodes st n (not (is_down st n)) (without_down st n)
+
+unfoldable pub join_outcome : List NodeInfo → State → NodeNo → Outcome
+join_outcome nodes st n = node_outcome nodes st n (not (is_gone (mode_of st n))) (without_gone st n)
+
 -- ---- the step
 
 -- what a session's command answers after these entries in this state, and the state that it leaves
 abbrev pub step : List NodeInfo → List Entry → State → SessionNo → Command → Outcome
 step nodes past st session (Place s) = place_outcome nodes st Wide s
 step nodes past st session (Drop s) = drop_outcome st s
+step nodes past st session (Fail n) = fail_outcome nodes st n
+step nodes past st session (Down n) = down_outcome nodes st n
+step nodes past st session (Up n) = up_outcome nodes st n
+step nodes past st session (Join n) = join_outcome nodes st n

@@ -1,10 +1,11 @@
 //! Laws of the definitions, each the contract of a function that does nothing.
 
-ghost use Rattle.std.specs.Prelude.{◌≡◌, ◌↔◌, List, Some, None};
+ghost use Rattle.std.specs.Prelude.{◌≡◌, ◌↔◌, IsTrue, List, All, Some, None};
 ghost use Rattle.lrc_code.specs.declared.numbers.StripeNo.{StripeNo};
 ghost use Rattle.lrc_code.specs.declared.numbers.Fragment.{Fragment};
 ghost use Rattle.lrc_topology.specs.declared.NodeInfo.{NodeInfo};
 ghost use Rattle.lrc_topology.specs.declared.seat.Seat.{Seat};
+ghost use Rattle.lrc_topology.specs.declared.seat.Held.{Held};
 ghost use Rattle.lrc_topology.specs.Nodes.{AreNodes};
 ghost use Rattle.lrc_book.specs.declared.entry.Entry.{Entry};
 ghost use Rattle.lrc_book.specs.States.{State};
@@ -12,6 +13,7 @@ ghost use Rattle.lrc_book.specs.Placement.{chosen};
 ghost use Rattle.lrc_book.specs.Choices.{IsFitting, IsChoice};
 ghost use Rattle.lrc_book.specs.Histories.{IsLegal, state_after};
 ghost use Rattle.lrc_book.specs.Goodness.{IsGood};
+ghost use Rattle.lrc_book.specs.Ties.{table_of, bars_of, is_beside, next_seat, with_homes};
 
 /// The chosen seat is the least free slot of the node that comes before every other node that the fragment may go to.
 pub fn chosen_seats_come_first()
@@ -29,4 +31,19 @@ pub fn none_is_chosen_where_no_node_fits()
 pub fn legal_histories_leave_good_states()
     ensures { (nodes : List NodeInfo) (history : List Entry)
         → AreNodes nodes → IsLegal nodes history → IsGood nodes (state_after nodes history) }
+{}
+
+/// Over the slot table of a good state, with the domains of the stripe's other fragments barred, the least free
+/// slot of the next node is the seat that the rule chooses.
+pub fn tables_give_the_chosen_seat()
+    ensures { (nodes : List NodeInfo) (st : State) (s : StripeNo) (f : Fragment)
+        → AreNodes nodes → IsGood nodes st → next_seat (table_of nodes st) (bars_of nodes st s f) ≡ chosen nodes st s f }
+{}
+
+/// Homes planned for other fragments of the stripe need not be in the table: with their domains barred it gives
+/// the seat that the rule chooses beside them.
+pub fn planned_homes_only_bar_domains()
+    ensures { (nodes : List NodeInfo) (st : State) (planned : List Held) (s : StripeNo) (f : Fragment)
+        → AreNodes nodes → IsGood nodes st → All (λ h. IsTrue (is_beside s f h)) planned
+        → next_seat (table_of nodes st) (bars_of nodes (with_homes st planned) s f) ≡ chosen nodes (with_homes st planned) s f }
 {}

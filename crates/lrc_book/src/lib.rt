@@ -3,16 +3,20 @@
 
 mod book;
 mod changes;
-mod choice;
 mod command;
 mod entry;
 pub mod laws;
+mod mode;
+mod nodes;
 mod plan;
 mod planning;
+mod replies;
 mod reply;
 
 pub use book::{Book, HISTORY_LIMIT};
 pub use command::Command;
 pub use entry::Entry;
+pub use lrc_stripes::Level;
 pub use lrc_topology::{Held, Seat};
+pub use mode::Mode;
 pub use reply::{Refusal, Reply};

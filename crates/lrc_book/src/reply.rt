@@ -10,6 +10,10 @@ pub enum Refusal {
     StripeExists,
     /// The choice rule finds no node for this fragment.
     NoLawfulNode(Fragment),
+    /// The store has no such node.
+    UnknownNode,
+    /// The node's mode, or whether it is down, does not allow the command.
+    WrongMode,
 }
 
 /// What the book answers to a command.
@@ -18,5 +22,7 @@ pub enum Reply {
     /// The homes of fragments 0 to 15.
     Placed([Seat; 16]),
     Dropped,
+    /// The node was changed.
+    Changed,
     Refused(Refusal),
 }

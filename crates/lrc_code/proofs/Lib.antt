@@ -4,4 +4,6 @@ pub mod NumbersLemmas
 pub mod SubsetsLemmas
 pub mod MarginLemmas
 pub mod OrderLemmas
+pub mod BitsLemmas
+pub mod AgreeLemmas
 pub mod SourcesLemmas

@@ -1,5 +1,5 @@
 -- Counting in classes, and the swap of one erased fragment for a parity.
-use Rattle.std.proofs.Common.{◌≡◌, ℕ, ◌+◌, ◌-◌, ◌*◌, ◌^◌, ◌%◌, ◌≤◌, ◌<◌, ◌↔◌, ◌⊎◌, if◌then◌else◌, Bool, true, false, cond, not, ◌&&◌, ◌||◌, eqb, leb, IsTrue, List, [], ◌∷◌, lit<, lit≤, zero-add, refl, inl, inr, arith, bit_or, count_by}
+use Rattle.std.proofs.Common.{◌≡◌, ℕ, ◌+◌, ◌-◌, ◌*◌, ◌^◌, ◌%◌, ◌≤◌, ◌<◌, ◌↔◌, ◌⊎◌, if◌then◌else◌, Bool, true, false, cond, not, ◌&&◌, ◌||◌, eqb, leb, IsTrue, List, [], ◌∷◌, lit<, zero-add, refl, inl, inr, arith, bit_or, count_by}
 use Rattle.std.specs.List.{list_all}
 use Rattle.std.proofs.lemmas.List.Sums.{sum_by-cons}
 use Rattle.std.specs.Int.{w16}
@@ -9,6 +9,7 @@ use Rattle.lrc_code.specs.declared.codes.Class.TheVariants.{A, B, G}
 use Rattle.lrc_code.specs.declared.codes.Code.{Code}
 use Rattle.lrc_code.specs.declared.codes.Code.TheVariants.{Wide}
 use Rattle.lrc_code.specs.Codes.{members, group_data}
+use Rattle.lrc_code.proofs.SubsetsLemmas.{count_by-within}
 use Rattle.lrc_code.specs.Losses.{bits_set, FragmentSet, losses_in, size_of, without, IsRecoverable, is_recoverable, excess, swap_count, after_swap}
 
 -- one bit set adds one member
@@ -52,19 +53,9 @@ size_of-without m t h =
       e 15 (lit< tt),
     )
 
-one_within : (x y : Bool) → (IsTrue y → IsTrue x) → cond y 1 0 ≤ cond x 1 0
-one_within true true h = lit≤ tt
-one_within true false h = lit≤ tt
-one_within false true h = absurd (let e : false ≡ true = h refl in cc)
-one_within false false h = lit≤ tt
-
 -- a part of a set loses no more in a local group
 pub losses_in-within : (m taken : FragmentSet) → ((f : ℕ) → f < 16 → IsTrue (taken f) → IsTrue (m f)) → (losses_in Wide A taken ≤ losses_in Wide A m) × (losses_in Wide B taken ≤ losses_in Wide B m)
-losses_in-within m t h =
-    let e : (f : ℕ) → f < 16 → cond (t f) 1 0 ≤ cond (m f) 1 0 = λ f l. one_within (m f) (t f) (h f l) in (
-      omega (arith, e 0 (lit< tt), e 1 (lit< tt), e 2 (lit< tt), e 3 (lit< tt), e 4 (lit< tt), e 5 (lit< tt), e 12 (lit< tt)),
-      omega (arith, e 6 (lit< tt), e 7 (lit< tt), e 8 (lit< tt), e 9 (lit< tt), e 10 (lit< tt), e 11 (lit< tt), e 13 (lit< tt)),
-    )
+losses_in-within m t h = (count_by-within m t 16 h (members Wide A) refl, count_by-within m t 16 h (members Wide B) refl)
 
 excess_bound : (a b c ta tb tg all taken left : ℕ) → left + taken ≡ all → all ≡ a + b + c → taken ≡ ta + tb + tg → ta ≤ 1 → tb ≤ 1 → tg ≡ 0 → ta ≤ a → tb ≤ b → left ≤ 2 → (a - 1) + (b - 1) + c ≤ 2
 excess_bound a b c ta tb tg all taken left e1 e2 e3 la lb lg wa wb l2 = omega arith

@@ -1,10 +1,8 @@
 -- The margin by counts is the greatest number of further losses that a set withstands.
-use Rattle.std.proofs.Common.{◌≡◌, ℕ, ◌+◌, ◌-◌, ◌<◌, ◌≤◌, ◌↔◌, ◌⊎◌, if◌then◌else◌, Bool, true, false, not, cond, ◌&&◌, ◌||◌, eqb, ltb, nat_lt, IsTrue, List, [], ◌∷◌, ◌++◌, Option, Some, None, IsSome, IfSome, length, count_by, lit≤, zero-add, refl, sym, ap, ◌∙◌, subst, inl, inr, arith}
+use Rattle.std.proofs.Common.{◌≡◌, ℕ, ◌+◌, ◌-◌, ◌<◌, ◌≤◌, ◌↔◌, ◌⊎◌, if◌then◌else◌, true, ltb, nat_lt, IsTrue, List, ◌++◌, Option, Some, None, IsSome, IfSome, count_by, lit≤, refl, sym, ap, ◌∙◌, subst, inl, inr, arith}
 use Rattle.std.specs.Bool.{IsFalse}
-use Rattle.std.specs.List.{list_all, list_any}
-use Rattle.std.proofs.lemmas.List.Sums.{sum_by-cons}
-use Rattle.std.proofs.lemmas.List.Folds.{list_any-append}
-use Rattle.std.proofs.lemmas.Bool.{cases_lt, cases_Bool, le-leb, leb-true, lt-ltb, le-ltb, and_parts, or_cases, and_from, or_left, or_right, agree_below, agree_below_at}
+use Rattle.std.specs.List.{list_all}
+use Rattle.std.proofs.lemmas.Bool.{cases_lt, cases_Bool, le-leb, leb-true, lt-ltb, le-ltb, or_cases}
 use Rattle.std.proofs.lemmas.Option.{same_Some}
 use Rattle.lrc_code.specs.declared.codes.Class.TheVariants.{A, B, G}
 use Rattle.lrc_code.specs.declared.codes.Code.{Code}
@@ -12,7 +10,7 @@ use Rattle.lrc_code.specs.declared.codes.Code.TheVariants.{Wide}
 use Rattle.lrc_code.specs.Codes.{members, fragment_count}
 use Rattle.lrc_code.specs.Losses.{FragmentSet, losses_in, size_of, joined, IsRecoverable, is_recoverable, excess, Withstands, IsMargin, margin_of}
 use Rattle.lrc_code.proofs.LossesLemmas.{size_of-classes, by_counts, by_test}
-use Rattle.lrc_code.proofs.SubsetsLemmas.{count_by-joined, count_by-not, count_by-elsewhere, apart_within, joined_within, SomeOutside, some_outside}
+use Rattle.lrc_code.proofs.SubsetsLemmas.{count_by-joined, count_by-within, count_by-not, count_by-elsewhere, apart_within, joined_within, SomeOutside, some_outside}
 
 -- ---- numbers alone
 
@@ -238,10 +236,10 @@ unfolding excess_of
 margin-greatest m few u left withstood = elim (cases_lt (margin_at m) u) [
   | inr within ↦ within
   | inl beyond ↦ absurd (
-    let most = losses-most m in
-    let counts = one_too_many 7 7 (losses_in Wide A m) (losses_in Wide B m) (losses_in Wide G m) u (lit≤ tt) (lit≤ tt) most.0 most.1 most.2 (rw (size_of-classes m) at left) few beyond in
-    too_many-withstood m u counts.in_a counts.in_b counts.in_g (further_of m counts.in_a counts.in_b counts.in_g counts.room_a counts.room_b counts.room_g) counts.total counts.too_many withstood
-  )
+      let most = losses-most m in
+      let counts = one_too_many 7 7 (losses_in Wide A m) (losses_in Wide B m) (losses_in Wide G m) u (lit≤ tt) (lit≤ tt) most.0 most.1 most.2 (rw (size_of-classes m) at left) few beyond in
+      too_many-withstood m u counts.in_a counts.in_b counts.in_g (further_of m counts.in_a counts.in_b counts.in_g counts.room_a counts.room_b counts.room_g) counts.total counts.too_many withstood
+      )
 ]
 
 margin-left : (a b c : ℕ) → excess_of a b c ≤ 2 → a ≤ 7 → b ≤ 7 → c ≤ 2 → margin_by a b c + (a + b + c) ≤ 16
@@ -312,3 +310,48 @@ margin_all_whole Wide m good whole =
 pub margin-clauses : (m : FragmentSet) (o : Option ℕ) → o ≡ margin_of Wide m → IfSome o (IsMargin Wide m) × (IsSome o ↔ IsRecoverable Wide m)
 margin-clauses m None e = (tt, (λ h. absurd (cc), λ good. absurd ((by_no_margin Wide m).0 (sym e) good)))
 margin-clauses m (Some t) e = let margin = (by_margin Wide m t).0 (sym e) in (margin, (λ h. margin.recoverable, λ good. refl))
+
+-- ---- sizes
+
+excess_within : (a b c d e g : ℕ) → a ≤ d → b ≤ e → c ≤ g → excess_of d e g ≤ 2 → excess_of a b c ≤ 2
+unfolding excess_of
+excess_within a b c d e g la lb lc few = omega (arith, la, lb, lc, few)
+
+-- a part of recoverable losses is recoverable
+pub recoverable_part : (code : Code) (m part : FragmentSet) → ((f : ℕ) → f < fragment_count code → IsTrue (part f) → IsTrue (m f)) → IsRecoverable code m → IsRecoverable code part
+unfolding excess_of
+recoverable_part Wide m part within good =
+    (by_counts Wide part).1
+    (excess_within (losses_in Wide A part) (losses_in Wide B part) (losses_in Wide G part) (losses_in Wide A m) (losses_in Wide B m) (losses_in Wide G m)
+    (count_by-within m part 16 within (members Wide A) refl) (count_by-within m part 16 within (members Wide B) refl) (count_by-within m part 16 within (members Wide G) refl) ((by_counts Wide m).0 good))
+
+-- three losses are recoverable
+pub three_recoverable : (code : Code) (m : FragmentSet) → size_of code m ≤ 3 → IsRecoverable code m
+three_recoverable Wide m few =
+    let most = losses-most m in
+    (by_counts Wide m).1 (let e = rw (size_of-classes m) at few in omega (arith, e, most.0, most.1, most.2))
+
+-- five are not
+pub recoverable_four : (code : Code) (m : FragmentSet) → IsRecoverable code m → size_of code m ≤ 4
+recoverable_four Wide m good = let few = (by_counts Wide m).0 good in rw (size_of-classes m) (omega (arith, few))
+
+margin_by-few : (a b c : ℕ) → margin_by a b c ≤ 3
+margin_by-few a b c = elim (cases_lt 0 (a + b)) [
+  | inl some ↦ let e = margin_some a b c some in omega (arith, e)
+  | inr none ↦ let e = margin_whole a b c none in omega (arith, e)
+]
+
+margin_by-two : (a b c : ℕ) → 0 < a + b + c → margin_by a b c ≤ 2
+margin_by-two a b c lost = elim (cases_lt 0 (a + b)) [
+  | inl some ↦ let e = margin_some a b c some in omega (arith, e)
+  | inr none ↦ let e = margin_whole a b c none in omega (arith, e, lost, none)
+]
+
+-- no margin is above three, and with any loss none is above two
+pub margin-few : (code : Code) (m : FragmentSet) (t : ℕ) → IsMargin code m t → t ≤ 3
+margin-few Wide m t margin = rw (IsMargin-unique Wide m t (margin_at m) margin (IsMargin-at m ((by_counts Wide m).0 margin.recoverable))) (margin_by-few (losses_in Wide A m) (losses_in Wide B m) (losses_in Wide G m))
+
+pub margin-two : (code : Code) (m : FragmentSet) (t : ℕ) → 0 < size_of code m → IsMargin code m t → t ≤ 2
+margin-two Wide m t lost margin =
+    rw (IsMargin-unique Wide m t (margin_at m) margin (IsMargin-at m ((by_counts Wide m).0 margin.recoverable)))
+    (margin_by-two (losses_in Wide A m) (losses_in Wide B m) (losses_in Wide G m) (rw (size_of-classes m) at lost))

@@ -1,12 +1,12 @@
 -- The other members of a local group, found one after the other.
-use Rattle.std.proofs.Common.{◌≡◌, ℕ, ◌+◌, ◌<◌, ◌≤◌, Bool, true, false, not, cond, ◌&&◌, ◌||◌, if◌then◌else◌, List, [], ◌∷◌, ◌++◌, Option, Some, None, filter, take, set, length, get_or, nat_eq, add-zero, refl, sym, ap, subst, ◌∙◌, inl, inr, arith, count_by}
+use Rattle.std.proofs.Common.{◌≡◌, ℕ, ◌+◌, ◌<◌, ◌≤◌, Bool, true, false, not, cond, ◌&&◌, ◌||◌, if◌then◌else◌, List, [], ◌∷◌, ◌++◌, Some, None, filter, take, set, length, get_or, nat_eq, add-zero, refl, sym, ap, ◌∙◌, inl, inr, arith, count_by}
 use Rattle.std.proofs.lemmas.List.{take_more_set, take_all, length-set, append-nil}
 use Rattle.std.proofs.lemmas.List.Elements.{filter_more}
 use Rattle.std.proofs.lemmas.List.Filters.{length-filter_more}
 use Rattle.std.proofs.lemmas.List.Sums.{length-filter, sum_by_more_le}
 use Rattle.std.specs.List.{list_any}
 use Rattle.std.proofs.lemmas.Option.{same_Some}
-use Rattle.std.proofs.lemmas.Bool.{eqb-true, or_cases, cases_Bool, agree_below, agree_below_at}
+use Rattle.std.proofs.lemmas.Bool.{eqb-true, or_cases, agree_below, agree_below_at}
 use Rattle.std.proofs.Math.Bool.{and-false}
 use Rattle.lrc_code.specs.declared.codes.Code.TheVariants.{Wide}
 use Rattle.lrc_code.specs.declared.codes.Class.{Class}
@@ -15,7 +15,7 @@ use Rattle.lrc_code.specs.contracts.codes.Class.{the_type}
 use denote.Enum.Bare.{sameb}
 use Rattle.lrc_code.specs.declared.numbers.Fragment.{Fragment}
 use Rattle.lrc_code.specs.Codes.{fragments, class_of, same_class, is_local_class, others}
-use Rattle.lrc_code.specs.Losses.{FragmentSet, is_local, local_sources}
+use Rattle.lrc_code.specs.Losses.{FragmentSet, local_sources}
 
 -- the second is another member of the first one's class
 abbrev pub is_other : Fragment → Fragment → Bool

@@ -2,7 +2,7 @@ ghost use Rattle.std.specs.Prelude.{◌≡◌, ℕ, ◌<◌, ◌≤◌, ◌↔�
 ghost use Rattle.std.specs.List.{list_any};
 ghost use Rattle.lrc_code.specs.declared.codes.Code.TheVariants.{Wide};
 ghost use Rattle.lrc_code.specs.Codes.{members, class_of, is_local_class, others};
-ghost use Rattle.lrc_code.specs.Losses.{losses_in, excess, IsRecoverable, IsMargin, bits_set, margin_of, local_sources};
+ghost use Rattle.lrc_code.specs.Losses.{losses_in, excess, IsRecoverable, is_recoverable, IsMargin, bits_set, margin_of, local_sources};
 
 use crate::{Class, Fragment};
 
@@ -109,7 +109,8 @@ impl LossMask {
 
     /// Whether the code rebuilds all of the lost fragments.
     pub fn recoverable(self) -> bool
-        ensures { IsTrue result ↔ IsRecoverable Wide (bits_set self.bits) }
+        ensures recoverable { IsTrue result ↔ IsRecoverable Wide (bits_set self.bits) }
+        ensures value { result ≡ is_recoverable Wide (bits_set self.bits) }
     {
         self.excess() <= 2
     }
@@ -120,6 +121,7 @@ impl LossMask {
         ensures margin { IfSome result (IsMargin Wide (bits_set self.bits)) }
         ensures recoverable { IsSome result ↔ IsRecoverable Wide (bits_set self.bits) }
         ensures value { result ≡ margin_of Wide (bits_set self.bits) }
+        ensures few { IfSome result (λ t. t ≤ 3) }
     {
         let excess = self.excess();
         if excess > 2 {

@@ -1,4 +1,4 @@
--- What one check answers, where memory may run out.
+-- What the passes of reading answer, where memory may run out. No public clause cites it.
 use Rattle.std.specs.Prelude.{◌≡◌, Option, Some}
 use Rattle.lrc_topology.specs.declared.error.TopologyError.{TopologyError}
 use Rattle.lrc_topology.specs.declared.error.TopologyError.TheVariants.{OutOfMemory}

@@ -2,8 +2,11 @@
 #![tactic(auto)]
 
 mod error;
+pub mod laws;
 mod read;
 mod seat;
+#[cfg(test)]
+mod tests;
 mod topology;
 
 pub use error::TopologyError;

@@ -1,4 +1,4 @@
-use Rattle.std.proofs.Common.{◌≡◌, ◌<◌, ◌≤◌, ◌∙◌, get_or, sym, refl, ap, arith, Some, length}
+use Rattle.std.proofs.Common.{◌∙◌, get_or, sym, refl, ap, Some}
 use Rattle.lrc_code.proofs.SourcesLemmas.{in_group, is_other-yes, is_other-class, is_other-itself, room_for_other, other-more, other-none, AreOthersSoFar-all}
 use Rattle.lrc_code.proofs.losses.others_in_group.Goals as goal
 use Rattle.lrc_code.proofs.losses.others_in_group.Goals.{then-eq-2+then-ne, else-eq-2, else-eq-2-via-then-eq-2+else-ne, else-eq-2-via-else-eq-2}

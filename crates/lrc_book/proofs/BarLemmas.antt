@@ -1,0 +1,115 @@
+-- The domains that are barred for a fragment, filled seat by seat.
+use Rattle.std.proofs.Common.{◌≡◌, ◌≢◌, ℕ, ◌+◌, ◌<◌, Bool, true, false, ◌&&◌, ◌||◌, nat_eq, List, [], ◌∷◌, ◌++◌, length, take, get_or, fold, Option, Some, None, append_assoc, append-nil, refl, sym, ap, ap₂, ◌∙◌}
+use Rattle.std.proofs.Math.Path.{fun_ext}
+use Rattle.std.specs.List.{All, Contains, list_any}
+use Rattle.std.specs.Option.{option_map_or}
+use Rattle.std.proofs.lemmas.Bool.{eq-eqb, ne_eqb}
+use Rattle.std.proofs.lemmas.List.{take_more}
+use Rattle.std.proofs.lemmas.List.Elements.{All-nil, All-cons, All-head, All-tail, All-weaker}
+use Rattle.std.proofs.lemmas.List.Folds.{list_any-append}
+use Rattle.lrc_code.specs.declared.codes.Code.{Code}
+use Rattle.lrc_code.specs.declared.numbers.StripeNo.{StripeNo}
+use Rattle.lrc_code.specs.declared.numbers.FaultNo.{FaultNo}
+use Rattle.lrc_code.specs.declared.numbers.UpgradeNo.{UpgradeNo}
+use Rattle.lrc_code.specs.declared.numbers.Fragment.{Fragment}
+use Rattle.lrc_code.specs.Codes.{fragments, class_of, same_class}
+use Rattle.lrc_code.proofs.NumbersLemmas.{same_fragment}
+use Rattle.lrc_topology.specs.declared.NodeInfo.{NodeInfo}
+use Rattle.lrc_topology.specs.declared.seat.Seat.{Seat}
+use Rattle.lrc_topology.specs.declared.seat.Held.{Held}
+use Rattle.lrc_topology.specs.Nodes.{node_at}
+use Rattle.lrc_slots.specs.Barred.{Barred, no_bars, with_fault, with_upgrade}
+use Rattle.lrc_book.specs.States.{State, has_stripe, seats_of}
+use Rattle.lrc_book.specs.Changes.{held_at}
+use Rattle.lrc_book.specs.Goodness.{IsGood}
+use Rattle.lrc_book.specs.Ties.{is_beside, bars_fault, bars_upgrade, bars_in, with_held}
+use Rattle.lrc_book.proofs.ChoiceLemmas.{same_stripe}
+use Rattle.lrc_book.proofs.GoodLemmas.{fragments-distinct, not_there}
+use Rattle.lrc_book.proofs.TableLemmas.{pairs-before}
+
+or_none : (b : Bool) → b ≡ (b || false)
+or_none true = refl
+or_none false = refl
+
+pub same_bars : (b c : Barred) → ((d : FaultNo) → b.faults d ≡ c.faults d) → ((d : UpgradeNo) → b.upgrades d ≡ c.upgrades d) → b ≡ c
+same_bars b c e f = ap₂ (λ g h. record { faults = g; upgrades = h }) (fun_ext e) (fun_ext f)
+
+-- ---- what one seat bars
+
+module _ (nodes : List NodeInfo) (code : Code) (s : StripeNo) (f : Fragment) (b : Barred) (h : Held) where
+  -- a seat of the fragment itself, or of another stripe, bars nothing
+  pub held-other : is_beside s f h ≡ false → b ≡ with_held nodes code s f b h
+  held-other e = same_bars b (with_held nodes code s f b h) (λ d. rw e (or_none (b.faults d))) (λ d. rw e (or_none (b.upgrades d)))
+
+  -- nor does one on a node that the store has not
+  pub held-absent : node_at nodes h.seat.node ≡ None → b ≡ with_held nodes code s f b h
+  held-absent none = same_bars b (with_held nodes code s f b h)
+      (λ d. or_none (b.faults d) ∙ ap (λ x. b.faults d || x) (nothing (is_beside s f h) (λ m. nat_eq d.value m.fault.value) (node_at nodes h.seat.node) none))
+      (λ d. or_none (b.upgrades d) ∙ ap (λ x. b.upgrades d || x) (nothing (is_beside s f h) (λ m. same_class (class_of code f.value) (class_of code h.fragment.value) && nat_eq d.value m.upgrade.value) (node_at nodes h.seat.node) none))
+    where
+      nothing : (beside : Bool) (test : NodeInfo → Bool) (o : Option NodeInfo) → o ≡ None → false ≡ (beside && option_map_or test o false)
+      nothing true test None e = refl
+      nothing false test None e = refl
+      nothing beside test (Some m) e = absurd (cc)
+
+  -- one of the same class bars both domains of its node
+  pub held-same : (m : NodeInfo) → is_beside s f h ≡ true → node_at nodes h.seat.node ≡ Some m → same_class (class_of code f.value) (class_of code h.fragment.value) ≡ true
+      → with_upgrade (with_fault b m.fault) m.upgrade ≡ with_held nodes code s f b h
+  held-same m e some same = same_bars (with_upgrade (with_fault b m.fault) m.upgrade) (with_held nodes code s f b h)
+      (λ d. rw (e, some) refl) (λ d. rw (e, some, same) refl)
+
+  -- one of another class bars the fault domain alone
+  pub held-apart : (m : NodeInfo) → is_beside s f h ≡ true → node_at nodes h.seat.node ≡ Some m → same_class (class_of code f.value) (class_of code h.fragment.value) ≡ false
+      → with_fault b m.fault ≡ with_held nodes code s f b h
+  held-apart m e some apart = same_bars (with_fault b m.fault) (with_held nodes code s f b h)
+      (λ d. rw (e, some) refl) (λ d. rw (e, some, apart) (or_none (b.upgrades d)))
+
+-- ---- what several seats bar
+
+module _ (nodes : List NodeInfo) (code : Code) (s : StripeNo) (f : Fragment) where
+  pub bars_in-nil : no_bars ≡ bars_in nodes code s f []
+  bars_in-nil = refl
+
+  or_last : (test : Held → Bool) (xs : List Held) (h : Held) → (list_any test xs || test h) ≡ list_any test (xs ++ h ∷ [])
+  or_last test xs h = ap (λ b. list_any test xs || b) (or_none (test h)) ∙ sym (list_any-append test xs (h ∷ []))
+
+  pub bars_in-push : (xs : List Held) (h : Held) → with_held nodes code s f (bars_in nodes code s f xs) h ≡ bars_in nodes code s f (xs ++ h ∷ [])
+  bars_in-push xs h = same_bars _ (bars_in nodes code s f (xs ++ h ∷ [])) (λ d. or_last (bars_fault nodes s f d) xs h) (λ d. or_last (bars_upgrade nodes code s f d) xs h)
+
+  -- one seat more of a list that is gone through
+  pub bars_in-more : (xs : List Held) (i : ℕ) (d : Held) → i < length xs → with_held nodes code s f (bars_in nodes code s f (take i xs)) (get_or xs i d) ≡ bars_in nodes code s f (take (i + 1) xs)
+  bars_in-more xs i d within = bars_in-push (take i xs) (get_or xs i d) ∙ ap (bars_in nodes code s f) (sym (take_more xs i d within))
+
+  -- a second list after a first
+  pub bars_in-fold : (xs ys : List Held) → fold (with_held nodes code s f) (bars_in nodes code s f xs) ys ≡ bars_in nodes code s f (xs ++ ys)
+  bars_in-fold xs [] = ap (bars_in nodes code s f) (sym (append-nil xs))
+  bars_in-fold xs (y ∷ ys) = ap (λ b. fold (with_held nodes code s f) b ys) (bars_in-push xs y) ∙ bars_in-fold (xs ++ y ∷ []) ys ∙ ap (bars_in nodes code s f) (append_assoc xs (y ∷ []) ys)
+
+  -- seats of other stripes may be left out
+  pub bars_in-skip : (xs ys : List Held) → All (λ h. is_beside s f h ≡ false) xs → bars_in nodes code s f (xs ++ ys) ≡ bars_in nodes code s f ys
+  bars_in-skip [] ys all = refl
+  bars_in-skip (x ∷ xs) ys all =
+      let first = All-head (λ h. is_beside s f h ≡ false) x xs all in
+      same_bars (bars_in nodes code s f (x ∷ (xs ++ ys))) (bars_in nodes code s f (xs ++ ys)) (λ d. rw first refl) (λ d. rw first refl)
+      ∙ bars_in-skip xs ys (All-tail (λ h. is_beside s f h ≡ false) x xs all)
+
+-- ---- which seats are beside a fragment
+
+-- a stripe that is not there has no seats
+pub absent-beside : (nodes : List NodeInfo) (st : State) (s : StripeNo) (f : Fragment) → IsGood nodes st → has_stripe st s ≡ false → All (λ h. is_beside s f h ≡ false) (seats_of st)
+absent-beside nodes st s f good e =
+    All-weaker (λ h. Contains st.stripes h.stripe) (λ h. is_beside s f h ≡ false)
+    (λ h there. rw (ne_eqb h.stripe.value s.value (λ same. not_there st s e h.stripe there (same_stripe h.stripe s same))) refl) (seats_of st) good.there
+
+-- seats of other fragments
+pub held_at-beside : (s : StripeNo) (f : Fragment) (fs : List Fragment) (seats : List Seat) → All (λ g. g ≢ f) fs → All (λ h. is_beside s f h ≡ true) (held_at s fs seats)
+held_at-beside s f [] seats other = All-nil (λ h. is_beside s f h ≡ true)
+held_at-beside s f (g ∷ gs) [] other = All-nil (λ h. is_beside s f h ≡ true)
+held_at-beside s f (g ∷ gs) (a ∷ as') other =
+    All-cons (λ h. is_beside s f h ≡ true) (record { stripe = s; fragment = g; seat = a }) (held_at s gs as')
+    (rw (eq-eqb s.value s.value refl, ne_eqb g.value f.value (λ same. All-head (λ g. g ≢ f) g gs other (same_fragment g f same))) refl)
+    (held_at-beside s f gs as' (All-tail (λ g. g ≢ f) g gs other))
+
+-- the fragments before one are others
+pub earlier-fragments : (code : Code) (i : ℕ) (d : Fragment) → i < length (fragments code) → All (λ g. g ≢ get_or (fragments code) i d) (take i (fragments code))
+earlier-fragments code i d within = pairs-before (λ f g. f ≢ g) (fragments code) i d (fragments-distinct code) within

@@ -1,0 +1,94 @@
+-- What a reply tells of the state that it was given in.
+use Rattle.std.proofs.Common.{◌≡◌, Bool, true, false, not, ◌||◌, List, map, drop, length, Option, Some, None, IsSome, is_none, Result, Ok, Err, refl, sym, ap, ◌∙◌, subst}
+use Rattle.lrc_code.specs.declared.codes.Code.TheVariants.{Wide}
+use Rattle.lrc_code.specs.declared.numbers.StripeNo.{StripeNo}
+use Rattle.lrc_code.specs.declared.numbers.NodeNo.{NodeNo}
+use Rattle.lrc_code.specs.declared.numbers.Fragment.{Fragment}
+use Rattle.lrc_code.specs.Codes.{fragments}
+use Rattle.lrc_topology.specs.declared.NodeInfo.{NodeInfo}
+use Rattle.lrc_topology.specs.declared.seat.Seat.{Seat}
+use Rattle.lrc_topology.specs.declared.seat.Held.{Held}
+use Rattle.lrc_topology.specs.Nodes.{node_at}
+use Rattle.lrc_book.specs.declared.mode.Mode.{Mode}
+use Rattle.lrc_book.specs.declared.mode.Mode.TheVariants.{Active, Gone}
+use Rattle.lrc_book.specs.declared.reply.Reply.TheVariants.{Placed, Dropped, Changed, Refused}
+use Rattle.lrc_book.specs.declared.reply.Refusal.TheVariants as refusal
+use Rattle.lrc_book.specs.States.{State, has_stripe, mode_of, is_gone, is_down}
+use Rattle.lrc_book.specs.Placement.{placed}
+use Rattle.lrc_book.specs.Steps.{Outcome, refuse_if, with_stripe, without_stripe, place_answer, place_outcome, drop_outcome, node_outcome, fail_outcome, down_outcome, up_outcome, join_outcome}
+use Rattle.lrc_book.specs.Changes.{AreChosen}
+use Rattle.lrc_book.proofs.StepLemmas.{place-passed, place-there, placed-grown, seats-added}
+
+-- a stripe was placed: it was not there, and each of its seats was chosen
+pub record ArePlaced (nodes : List NodeInfo) (st : State) (s : StripeNo) (seats : List Seat) : Type 0 where
+  pub absent : has_stripe st s ≡ false
+  pub chosen_are : AreChosen nodes (with_stripe st Wide s) s (fragments Wide) seats
+
+same_seats : (a b : List Seat) → Placed a ≡ Placed b → a ≡ b
+same_seats a b e = cc
+
+placed-by : (nodes : List NodeInfo) (st : State) (s : StripeNo) (seats : List Seat) (r : Result State Fragment) → placed nodes (with_stripe st Wide s) s ≡ r → (place_answer st s r).0 ≡ Placed seats
+    → AreChosen nodes (with_stripe st Wide s) s (fragments Wide) seats
+placed-by nodes st s seats (Err f) is e = absurd (let never : Refused (refusal.NoLawfulNode f) ≡ Placed seats = e in cc)
+placed-by nodes st s seats (Ok done) is e =
+    let g = placed-grown nodes st s done is in
+    let added : map (λ (h : Held). h.seat) (drop (length st.homes) done.homes) ≡ g.seats = ap (λ (x : State). map (λ (h : Held). h.seat) (drop (length st.homes) x.homes)) g.is ∙ seats-added s st.homes g.seats g.all in
+    subst (AreChosen nodes (with_stripe st Wide s) s (fragments Wide)) (sym added ∙ same_seats (map (λ (h : Held). h.seat) (drop (length st.homes) done.homes)) seats e) g.chosen_are
+
+there-by : (nodes : List NodeInfo) (st : State) (s : StripeNo) (seats : List Seat) (there : Bool) → has_stripe st s ≡ there → (place_outcome nodes st Wide s).0 ≡ Placed seats → ArePlaced nodes st s seats
+there-by nodes st s seats true hit e = absurd (let never : Refused refusal.StripeExists ≡ Placed seats = sym (ap (λ (o : Outcome). o.0) (place-there nodes st s hit)) ∙ e in cc)
+there-by nodes st s seats false miss e = record {
+  absent = miss;
+  chosen_are = placed-by nodes st s seats (placed nodes (with_stripe st Wide s) s) refl (sym (ap (λ (o : Outcome). o.0) (place-passed nodes st s miss)) ∙ e);
+}
+
+pub place-told : (nodes : List NodeInfo) (st : State) (s : StripeNo) (seats : List Seat) → (place_outcome nodes st Wide s).0 ≡ Placed seats → ArePlaced nodes st s seats
+place-told nodes st s seats e = there-by nodes st s seats (has_stripe st s) refl e
+
+drop-by : (st : State) (s : StripeNo) (there : Bool) → (refuse_if (not there) refusal.UnknownStripe st (Dropped, without_stripe st s)).0 ≡ Dropped → there ≡ true
+drop-by st s true e = refl
+drop-by st s false e = absurd (let never : Refused refusal.UnknownStripe ≡ Dropped = e in cc)
+
+-- a stripe was dropped: it was there
+pub drop-told : (st : State) (s : StripeNo) → (drop_outcome st s).0 ≡ Dropped → has_stripe st s ≡ true
+unfolding drop_outcome
+drop-told st s e = drop-by st s (has_stripe st s) e
+
+node-by : (st changed : State) (o : Option NodeInfo) (wrong : Bool) → (refuse_if (is_none o) refusal.UnknownNode st (refuse_if wrong refusal.WrongMode st (Changed, changed))).0 ≡ Changed → IsSome o × (wrong ≡ false)
+node-by st changed None wrong e = absurd (let never : Refused refusal.UnknownNode ≡ Changed = e in cc)
+node-by st changed (Some n) true e = absurd (let never : Refused refusal.WrongMode ≡ Changed = e in cc)
+node-by st changed (Some n) false e = (refl, refl)
+
+or-both : (a b : Bool) → (a || b) ≡ false → (a ≡ false) × (b ≡ false)
+or-both false false e = (refl, refl)
+or-both true b e = absurd (let never : true ≡ false = e in cc)
+or-both false true e = absurd (let never : true ≡ false = e in cc)
+
+not-false : (b : Bool) → not b ≡ false → b ≡ true
+not-false true e = refl
+not-false false e = absurd (let never : true ≡ false = e in cc)
+
+gone-is : (m : Mode) → is_gone m ≡ true → m ≡ Gone
+gone-is Gone e = refl
+gone-is Active e = absurd (let never : false ≡ true = e in cc)
+
+module _ (nodes : List NodeInfo) (st : State) (n : NodeNo) where
+  -- a node failed: it is known
+  pub fail-told : (fail_outcome nodes st n).0 ≡ Changed → IsSome (node_at nodes n)
+  unfolding fail_outcome
+  fail-told e = (node-by st _ (node_at nodes n) (is_gone (mode_of st n)) e).0
+
+  -- one went down: it is known
+  pub down-told : (down_outcome nodes st n).0 ≡ Changed → IsSome (node_at nodes n)
+  unfolding down_outcome
+  down-told e = (node-by st _ (node_at nodes n) (is_gone (mode_of st n) || is_down st n) e).0
+
+  -- one came up: it is known, and was down
+  pub up-told : (up_outcome nodes st n).0 ≡ Changed → IsSome (node_at nodes n) × (is_down st n ≡ true)
+  unfolding up_outcome
+  up-told e = let h = node-by st _ (node_at nodes n) (not (is_down st n)) e in (h.0, not-false (is_down st n) h.1)
+
+  -- one joined: it is known, and was gone
+  pub join-told : (join_outcome nodes st n).0 ≡ Changed → IsSome (node_at nodes n) × (mode_of st n ≡ Gone)
+  unfolding join_outcome
+  join-told e = let h = node-by st _ (node_at nodes n) (not (is_gone (mode_of st n))) e in (h.0, gone-is (mode_of st n) (not-false (is_gone (mode_of st n)) h.1))

@@ -1,0 +1,9 @@
+use Rattle.std.proofs.Common.{◌≡◌, filter, fold, drop, option_copied}
+use Rattle.lrc_code.specs.Order.{better, least}
+use Rattle.lrc_slots.specs.Tables.{barred, is_open, precedes}
+use Rattle.lrc_slots.proofs.table.SlotTable.first_open.Given as goal
+
+abbrev pub invariant-loop-row : goal.invariant-loop-row
+invariant-loop-row l =
+    fold (better precedes) (option_copied l.best) (filter (is_open (barred l.taken)) (drop l.row-index l.row-items))
+    ≡ least precedes (filter (is_open (barred l.taken)) l.row-items)

@@ -1,0 +1,70 @@
+-- What contracts see of a slot table and of barred domains: lists, and what these stand for.
+use Rattle.std.specs.Prelude.{ℕ, Bool, true, false, nat_eq, List, [], ◌∷◌, map, find, get_or, replicate, Option}
+use Rattle.std.specs.List.{position}
+use Rattle.std.specs.Option.{option_map_or}
+use Rattle.lrc_code.specs.declared.numbers.NodeNo.{NodeNo}
+use Rattle.lrc_topology.specs.declared.NodeInfo.{NodeInfo}
+use Rattle.lrc_slots.specs.Slots.{Slots, taken_count}
+use Rattle.lrc_slots.specs.Barred.{Barred}
+use Rattle.lrc_slots.specs.Next.{may_take, comes_before}
+
+-- a node of a table, whether it is set eligible, and for each of its slots in turn whether it is taken
+pub record Row : Type 0 where
+  pub node : NodeInfo
+  pub eligible : Bool
+  pub taken : List Bool
+
+-- a table: its nodes in turn
+abbrev pub Table : Type 0
+Table = List Row
+
+-- for each number of a domain in turn whether it is barred
+pub record Bars : Type 0 where
+  pub faults : List Bool
+  pub upgrades : List Bool
+
+-- the row is that of the node
+abbrev pub is_of : NodeNo → Row → Bool
+is_of n r = nat_eq n.value r.node.number.value
+
+-- the row of a node
+abbrev pub row_at : Table → NodeNo → Option Row
+row_at rows n = find (is_of n) rows
+
+-- where the row of a node stands
+abbrev pub place_of : Table → NodeNo → Option ℕ
+place_of rows n = position (is_of n) rows
+
+-- a slot of a row is taken; none is beyond the last
+abbrev pub is_marked : Row → ℕ → Bool
+is_marked r k = get_or r.taken k false
+
+-- The slots that a table stands for. At a number that is no node's, nothing is taken, and the test of eligible nodes is met.
+unfoldable pub seen : Table → Slots
+seen rows = record {
+  nodes = map (λ r. r.node) rows;
+  eligible = λ n. option_map_or (λ r. r.eligible) (row_at rows n) true;
+  taken = λ n k. option_map_or (λ r. is_marked r k) (row_at rows n) false;
+}
+
+-- the domains that the lists stand for
+unfoldable pub barred : Bars → Barred
+barred b = record { faults = λ d. get_or b.faults d.value false; upgrades = λ d. get_or b.upgrades d.value false }
+
+-- ---- one row
+
+-- a node that is eligible, with all slots free
+abbrev pub fresh_row : NodeInfo → Row
+fresh_row node = record { node = node; eligible = true; taken = replicate node.slots false }
+
+-- the slots that one row stands for
+abbrev pub alone : Row → Slots
+alone r = record { nodes = r.node ∷ []; eligible = λ n. r.eligible; taken = λ n k. is_marked r k }
+
+-- a row may take a seat
+abbrev pub is_open : Barred → Row → Bool
+is_open b r = may_take (alone r) b r.node
+
+-- the node of the first row is chosen before that of the second
+abbrev pub precedes : Row → Row → Bool
+precedes r s = comes_before (taken_count (alone r) r.node) r.node.number (taken_count (alone s) s.node) s.node.number

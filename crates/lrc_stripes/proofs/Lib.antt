@@ -1,0 +1,10 @@
+pub mod MaskLemmas
+pub mod SiteLemmas
+pub mod RowLemmas
+pub mod SeenLemmas
+pub mod KeptLemmas
+pub mod LevelLemmas
+pub mod FreeLemmas
+pub mod WalkLemmas
+pub mod PlaceLemmas
+pub mod TieLemmas

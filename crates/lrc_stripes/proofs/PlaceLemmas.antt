@@ -1,0 +1,161 @@
+-- The places that the rows list for a node are all its homes, in rising order.
+use Rattle.std.proofs.Common.{◌≡◌, ℕ, zero, suc, ◌+◌, ◌-◌, ◌<◌, ◌≤◌, ◌↔◌, ◌⊎◌, inl, inr, Bool, true, false, ◌&&◌, ◌||◌, nat_eq, nat_lt, eqb, ltb, List, [], ◌∷◌, ◌++◌, length, get_or, map, filter, drop, Option, Some, None, is_some, IsTrue, arith, refl, sym, ap, ap₂, ◌∙◌, subst}
+use Rattle.std.specs.List.{All, AllPairs, AllByRecursion, Contains, flat_map}
+use Rattle.std.specs.Option.{option_map_or}
+use Rattle.std.specs.Coded.{le_prop}
+use Rattle.std.proofs.lemmas.Bool.{cases_Bool, cases_eq, cases_lt, eq-eqb, ne_eqb, eqb-true, lt-ltb, or_left, or_right, and_from}
+use Rattle.std.proofs.lemmas.List.{get_or-map, get_or_append_left, get_or-append_right, length-map, length-append}
+use Rattle.std.proofs.lemmas.List.Elements.{All-nil, All-cons, All-append, All-map, All-filter, All-weaker, All-contains, All-get_or, filter_passes, Contains-append_left, Contains-append_right, Contains-append_cases, Contains-get_or}
+use Rattle.std.proofs.lemmas.List.Kept.{AllPairs-filter}
+use Rattle.lrc_code.specs.declared.codes.Code.TheVariants.{Wide}
+use Rattle.lrc_code.specs.declared.numbers.StripeNo.{StripeNo}
+use Rattle.lrc_code.specs.declared.numbers.NodeNo.{NodeNo}
+use Rattle.lrc_code.specs.declared.numbers.Fragment.{Fragment}
+use Rattle.lrc_code.specs.Codes.{fragments}
+use Rattle.lrc_code.proofs.NumbersLemmas.{same_fragment}
+use Rattle.lrc_topology.specs.declared.seat.Seat.{Seat}
+use Rattle.lrc_stripes.specs.declared.row.Row.{Row}
+use Rattle.lrc_stripes.specs.Stored.{Place, is_home_on, comes_before, AreHomesOn}
+use Rattle.lrc_stripes.specs.Tables.{Table, seen, sits_on, row_places, places_from, row_at, row_homes, IsRising}
+use Rattle.lrc_stripes.proofs.MaskLemmas.{fragment-number}
+use Rattle.lrc_stripes.proofs.RowLemmas.{AreAbove}
+use Rattle.lrc_stripes.proofs.WalkLemmas.{places_from-first}
+
+-- ---- lists
+
+AllPairs-map : {X Y : Type 0} (R : Y → Y → Type 0) (f : X → Y) (xs : List X) → AllPairs (λ a b. R (f a) (f b)) xs → AllPairs R (map f xs)
+AllPairs-map R f [] all i j d below within = absurd (omega (arith, within))
+AllPairs-map {X} {Y} R f (x ∷ xs) all i j d below within =
+    let w : j < length (x ∷ xs) = omega (arith, within, length-map (x ∷ xs) f) in
+    rw (get_or-map f (x ∷ xs) i x d (omega (arith, below, w)), get_or-map f (x ∷ xs) j x d w) (all i j x below w)
+
+-- two lists in turn, the one before the other
+AllPairs-append : {X : Type 0} (R : X → X → Type 0) (xs ys : List X) → AllPairs R xs → AllPairs R ys → All (λ x. All (R x) ys) xs → AllPairs R (xs ++ ys)
+AllPairs-append R xs ys first second across i j d below within =
+    let w : j < length xs + length ys = rw (← length-append xs ys) within in
+    elim (cases_lt j (length xs)) [
+      | inl left ↦ rw (get_or_append_left xs ys d i (omega (arith, below, left)), get_or_append_left xs ys d j left) (first i j d below left)
+      | inr right ↦ rw (get_or-append_right xs ys (length xs) j d refl right) (elim (cases_lt i (length xs)) [
+        | inl here ↦ rw (get_or_append_left xs ys d i here) (across i d here (j - length xs) d (omega (arith, w, right)))
+        | inr there ↦ rw (get_or-append_right xs ys (length xs) i d refl there) (second (i - length xs) (j - length xs) d (omega (arith, below, there)) (omega (arith, w, right)))
+      ])
+    ]
+
+Contains-here : {X : Type 0} (x : X) (xs : List X) → Contains (x ∷ xs) x
+Contains-here x xs = (0, omega arith, refl)
+
+Contains-cons_cases : {X : Type 0} (x y : X) (xs : List X) → Contains (x ∷ xs) y → (x ≡ y) ⊎ Contains xs y
+Contains-cons_cases x y xs (zero, within, at) = inl at
+Contains-cons_cases x y xs (suc k, within, at) = inr (k, omega (arith, within), at)
+
+Contains-later : {X : Type 0} (x y : X) (xs : List X) → Contains xs y → Contains (x ∷ xs) y
+Contains-later x y xs (k, within, at) = (suc k, omega (arith, within), at)
+
+Contains-filter : {X : Type 0} (p : X → Bool) (xs : List X) (x : X) → p x ≡ true → Contains xs x → Contains (filter p xs) x
+Contains-filter p [] x passes among = absurd (omega (arith, among.1))
+Contains-filter p (y ∷ ys) x passes among = elim (Contains-cons_cases y x ys among) [
+  | inl here ↦ let hit : p y ≡ true = rw here passes in rw hit (subst (λ z. Contains (y ∷ filter p ys) z) here (Contains-here y (filter p ys)))
+  | inr later ↦
+      let rest = Contains-filter p ys x passes later in
+      elim (cases_Bool (p y)) [ inl hit ↦ rw hit (Contains-later y x (filter p ys) rest) | inr miss ↦ rw miss rest ]
+]
+
+Contains-map : {X Y : Type 0} (f : X → Y) (xs : List X) (x : X) → Contains xs x → Contains (map f xs) (f x)
+Contains-map f [] x among = absurd (omega (arith, among.1))
+Contains-map f (y ∷ ys) x among = elim (Contains-cons_cases y x ys among) [
+  | inl here ↦ subst (λ z. Contains (f y ∷ map f ys) (f z)) here (Contains-here (f y) (map f ys))
+  | inr later ↦ Contains-later (f y) (f x) (map f ys) (Contains-map f ys x later)
+]
+
+-- ---- numbers
+
+one_bound : (n : ℕ) → IsProp (n < 4096)
+one_bound n = le_prop
+
+-- a stripe is its number
+pub same_number : (s t : StripeNo) → s.value ≡ t.value → s ≡ t
+same_number s t e =
+    subst (λ n. (h : n < 4096) → s ≡ record { value = n; in_range = h }) e
+    (λ h. ap (λ (b : s.value < 4096). let r : StripeNo = record { value = s.value; in_range = b } in r) (one_bound s.value s.in_range h)) t.in_range
+
+fragments-rise : AllPairs (λ (f g : Fragment). f.value < g.value) (fragments Wide)
+fragments-rise i j d below within =
+    let first = fragment-number i d (omega (arith, below, within)) in
+    let second = fragment-number j d within in
+    omega (arith, first, second, below)
+
+-- every fragment is one of all
+fragments-all : (f : Fragment) → Contains (fragments Wide) f
+fragments-all f = subst (Contains (fragments Wide)) (same_fragment _ f (fragment-number f.value f f.in_range)) (Contains-get_or (fragments Wide) f.value f f.in_range)
+
+-- ---- the places of one row, and of all
+
+abbrev Rises : Place → Place → Type 0
+Rises p q = IsTrue (comes_before p q)
+
+module _ (n : NodeNo) where
+  -- the places of rows
+  abbrev places : List Row → List Place
+  places rows = flat_map (row_places n 0) rows
+
+  -- the fragment has its home on the node, by these rows
+  abbrev on_node : List Row → Place → Bool
+  on_node rows p = option_map_or (λ seat. nat_eq n.value seat.node.value) (row_homes (row_at rows p.0) p.1.value) false
+
+  row_places-rise : (r : Row) → AllPairs Rises (row_places n 0 r)
+  row_places-rise r =
+      let among : Fragment → Fragment → Type 0 = λ f g. Rises (r.stripe, f) (r.stripe, g) in
+      let each : AllPairs among (fragments Wide) = λ i j d below within.
+      or_right (ltb r.stripe.value r.stripe.value) _ (and_from _ _ (eq-eqb r.stripe.value r.stripe.value refl) (lt-ltb _ _ (fragments-rise i j d below within))) in
+      AllPairs-map Rises (λ f. let p : Place = (r.stripe, f) in p) (filter (sits_on n r) (fragments Wide)) (AllPairs-filter among (sits_on n r) (fragments Wide) each)
+
+  -- a place of this row
+  abbrev IsOwn : Row → Place → Type 0
+  IsOwn r p = (p.0 ≡ r.stripe) × (sits_on n r p.1 ≡ true)
+
+  row_places-own : (r : Row) → All (IsOwn r) (row_places n 0 r)
+  row_places-own r =
+      let passed : All (λ f. sits_on n r f ≡ true) (filter (sits_on n r) (fragments Wide)) = filter_passes (sits_on n r) (fragments Wide) in
+      All-map (IsOwn r) (λ f. let p : Place = (r.stripe, f) in p) (filter (sits_on n r) (fragments Wide))
+      (All-weaker (λ f. sits_on n r f ≡ true) (λ f. IsOwn r (r.stripe, f)) (λ f passes. (refl, passes)) (filter (sits_on n r) (fragments Wide)) passed)
+
+  -- a place of a stripe with a higher number
+  abbrev IsHigher : ℕ → Place → Type 0
+  IsHigher m p = m < p.0.value
+
+  places-above : (m : ℕ) (rows : List Row) → AreAbove m rows → All (IsHigher m) (places rows)
+  places-above m [] above = All-nil (IsHigher m)
+  places-above m (r ∷ rows) above =
+      All-append (IsHigher m) (row_places n 0 r) (places rows) (All-weaker (IsOwn r) (IsHigher m) (λ p own. rw own.0 above.0) (row_places n 0 r) (row_places-own r)) (places-above m rows above.1)
+
+  places-rise : (rows : List Row) → IsRising rows → AllPairs Rises (places rows)
+  places-rise [] rising = λ i j d below within. absurd (omega (arith, within))
+  places-rise (r ∷ rows) rising =
+      AllPairs-append Rises (row_places n 0 r) (places rows) (row_places-rise r) (places-rise rows rising.1)
+      (All-weaker (IsOwn r) (λ p. All (Rises p) (places rows))
+      (λ p own. All-weaker (IsHigher r.stripe.value) (Rises p) (λ q higher. let lower : p.0.value < q.0.value = rw own.0 higher in or_left _ _ (lt-ltb _ _ lower)) (places rows) (places-above r.stripe.value rows rising.0))
+      (row_places n 0 r) (row_places-own r))
+
+  listed-on : (rows : List Row) → IsRising rows → (p : Place) → Contains (places rows) p → on_node rows p ≡ true
+  listed-on [] rising p among = absurd (omega (arith, among.1))
+  listed-on (r ∷ rows) rising p among = elim (Contains-append_cases (row_places n 0 r) (places rows) p among) [
+    | inl here ↦ let own = All-contains (IsOwn r) (row_places n 0 r) p (row_places-own r) here in rw (own.0, eq-eqb r.stripe.value r.stripe.value refl) own.1
+    | inr later ↦
+        let above = All-contains (IsHigher r.stripe.value) (places rows) p (places-above r.stripe.value rows rising.0) later in
+        rw (ne_eqb r.stripe.value p.0.value (λ e. omega (arith, e, above))) (listed-on rows rising.1 p later)
+  ]
+
+  on-listed : (rows : List Row) → (p : Place) → on_node rows p ≡ true → Contains (places rows) p
+  on-listed [] p hit = absurd (cc)
+  on-listed (r ∷ rows) p hit = elim (cases_Bool (nat_eq r.stripe.value p.0.value)) [
+    | inl here ↦
+        let own : r.stripe ≡ p.0 = same_number r.stripe p.0 (eqb-true _ _ here) in
+        let sits : sits_on n r p.1 ≡ true = rw here at hit in
+        let found = Contains-map (λ f. let q : Place = (r.stripe, f) in q) _ p.1 (Contains-filter (sits_on n r) (fragments Wide) p.1 sits (fragments-all p.1)) in
+        Contains-append_left (row_places n 0 r) (places rows) p (subst (λ (s : StripeNo). let q : Place = (s, p.1) in Contains (row_places n 0 r) q) own found)
+    | inr later ↦ Contains-append_right (row_places n 0 r) (places rows) p (on-listed rows p (rw later at hit))
+  ]
+
+  pub are_homes : (t : Table) → IsRising t.rows → AreHomesOn (seen t) n (places_from n 0 t.rows)
+  unfolding seen
+  are_homes t rising = rw (places_from-first n t.rows) (record { rising = places-rise t.rows rising; each = λ p. (listed-on t.rows rising p, on-listed t.rows p) })

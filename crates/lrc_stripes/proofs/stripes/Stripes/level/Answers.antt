@@ -1,0 +1,13 @@
+use Rattle.std.proofs.Common.{◌≡◌, ◌∙◌, sym, Some, None, arith}
+use Rattle.lrc_stripes.specs.Tables.{seen}
+use Rattle.lrc_stripes.proofs.SeenLemmas.{level_shown-there, level_shown-absent}
+use Rattle.lrc_stripes.proofs.stripes.Stripes.level.Goals as goal
+
+pub returns-in_err-row : goal.returns-in_err-row
+returns-in_err-row c =
+    rw (c.from_residual.ensures, ← c.self.view_is) (sym (level_shown-absent _ c.args.stripe (sym (rw c.as_slice.ensures.value at c.in_err-row.ensures))))
+
+pub returns : goal.returns
+returns c =
+    rw (← c.self.view_is) (sym (level_shown-there _ c.args.stripe c.in_ok-row.row.now c.of.result _ _ (sym (rw c.as_slice.ensures.value at c.in_ok-row.ensures))
+    c.homeless.ensures (rw c.as_slice-2.ensures.value at c.missing-missing.ensures) c.of.ensures))

@@ -1,0 +1,18 @@
+//! The stripes of a store: the seats of their fragments, what is missing of them, and how far each is from loss.
+#![tactic(auto)]
+
+mod homes_on;
+pub mod laws;
+mod level;
+mod losses;
+mod row;
+mod search;
+mod stripes;
+
+pub use homes_on::HomesOn;
+pub use level::Level;
+pub use lrc_topology::{Held, Seat};
+pub use stripes::Stripes;
+
+#[cfg(test)]
+mod tests;

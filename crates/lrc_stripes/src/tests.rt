@@ -1,0 +1,174 @@
+use crate::{Level, Seat, Stripes};
+use lrc_code::{Fragment, LossMask, NodeNo, StripeNo};
+use lrc_topology::Topology;
+use std::alloc::Global;
+use std::fmt::Write;
+use std::process::Abort;
+use std::test::Fail;
+
+/// Twenty nodes, 0 to 19, with four slots each.
+fn twenty_nodes(alloc: Global) -> Result<Topology, Fail> {
+    let mut text = String::new(alloc);
+    for node in 0..20u16 {
+        write!(
+            text,
+            "[[node]]\nnumber = {node}\nfault = {node}\nupgrade = 0\nslots = 4\n"
+        )?;
+    }
+    Ok(Topology::read(alloc, text.as_bytes())?)
+}
+
+fn node(number: u16) -> NodeNo {
+    NodeNo { value: number }
+}
+
+fn seat(number: u16, slot: u16) -> Seat {
+    Seat {
+        node: node(number),
+        slot,
+    }
+}
+
+fn add(rt: &impl Abort, stripes: &mut Stripes, stripe: StripeNo) {
+    assert!(rt; !stripes.contains(stripe));
+    assert!(rt; stripes.spare() >= 1);
+    stripes.add(stripe);
+}
+
+fn remove(rt: &impl Abort, stripes: &mut Stripes, stripe: StripeNo) {
+    assert!(rt; stripes.contains(stripe));
+    stripes.remove(stripe);
+}
+
+fn home(rt: &impl Abort, stripes: &Stripes, stripe: StripeNo, fragment: Fragment) -> Option<Seat> {
+    assert!(rt; stripes.contains(stripe));
+    stripes.home(stripe, fragment)
+}
+
+fn set_home(
+    rt: &impl Abort,
+    stripes: &mut Stripes,
+    stripe: StripeNo,
+    fragment: Fragment,
+    seat: Seat,
+) {
+    assert!(rt; stripes.contains(stripe));
+    assert!(rt; stripes.home(stripe, fragment).is_none());
+    assert!(rt; stripes.has_slot(seat));
+    assert!(rt; stripes.is_free(seat));
+    stripes.set_home(stripe, fragment, seat);
+}
+
+fn clear_home(rt: &impl Abort, stripes: &mut Stripes, stripe: StripeNo, fragment: Fragment) {
+    assert!(rt; stripes.contains(stripe));
+    stripes.clear_home(stripe, fragment);
+}
+
+fn set_offline(rt: &impl Abort, stripes: &mut Stripes, number: u16, is_offline: bool) {
+    let node = node(number);
+    assert!(rt; stripes.has_node(node));
+    stripes.set_offline(node, is_offline);
+}
+
+/// One stripe, with fragment f in slot 1 of node f.
+fn one_stripe(rt: &impl Abort, alloc: Global, stripe: StripeNo) -> Result<Stripes, Fail> {
+    let topology = twenty_nodes(alloc)?;
+    let mut stripes = Stripes::new(alloc, &topology)?;
+    stripes.reserve(1)?;
+    add(rt, &mut stripes, stripe);
+    for fragment in Fragment::all() {
+        set_home(
+            rt,
+            &mut stripes,
+            stripe,
+            fragment,
+            seat(fragment.get() as u16, 1),
+        );
+    }
+    Ok(stripes)
+}
+
+#[test]
+fn offline_nodes_make_unavailable_and_lost_homes_lost(rt: HostRuntime) -> Result<(), Fail> {
+    let stripe = StripeNo::new(1).ok_or("stripe 1")?;
+    let mut stripes = one_stripe(&rt, rt.alloc(), stripe)?;
+    assert_eq!(rt; stripes.missing(stripe), Some(LossMask::from_bits(0)));
+    assert_eq!(rt; stripes.level(stripe), Some(Level::Whole));
+
+    for number in 0..4 {
+        set_offline(&rt, &mut stripes, number, true);
+    }
+    assert_eq!(rt; stripes.missing(stripe), Some(LossMask::from_bits(0x000f)));
+    assert_eq!(rt; stripes.level(stripe), Some(Level::Unavailable));
+
+    for number in [0, 1, 2] {
+        set_offline(&rt, &mut stripes, number, false);
+    }
+    assert_eq!(rt; stripes.missing(stripe), Some(LossMask::from_bits(0x0008)));
+    assert_eq!(rt; stripes.level(stripe), Some(Level::AtRisk(2)));
+
+    set_offline(&rt, &mut stripes, 3, false);
+    for number in [0, 1, 2, 4] {
+        let fragment = Fragment::new(number).ok_or("a fragment")?;
+        clear_home(&rt, &mut stripes, stripe, fragment);
+    }
+    assert_eq!(rt; stripes.missing(stripe), Some(LossMask::from_bits(0x0017)));
+    assert_eq!(rt; stripes.level(stripe), Some(Level::Lost));
+    Ok(())
+}
+
+#[test]
+fn homes_on_a_node_rise(rt: HostRuntime) -> Result<(), Fail> {
+    let first = StripeNo::new(3).ok_or("stripe 3")?;
+    let second = StripeNo::new(7).ok_or("stripe 7")?;
+    let fourth = Fragment::new(4).ok_or("fragment 4")?;
+    let ninth = Fragment::new(9).ok_or("fragment 9")?;
+    let topology = twenty_nodes(rt.alloc())?;
+    let mut stripes = Stripes::new(rt.alloc(), &topology)?;
+    stripes.reserve(2)?;
+    assert!(rt; stripes.spare() >= 2);
+    add(&rt, &mut stripes, second);
+    add(&rt, &mut stripes, first);
+    set_home(&rt, &mut stripes, second, ninth, seat(5, 0));
+    set_home(&rt, &mut stripes, second, fourth, seat(5, 3));
+    set_home(&rt, &mut stripes, first, fourth, seat(6, 0));
+    set_home(&rt, &mut stripes, first, ninth, seat(5, 2));
+    let mut places = Vec::new(rt.alloc());
+    for place in stripes.homes_on(node(5)) {
+        places.push(place)?;
+    }
+    assert_eq!(rt;
+        places.as_slice(),
+        [(first, ninth), (second, fourth), (second, ninth)].as_slice()
+    );
+    Ok(())
+}
+
+#[test]
+fn homes_go_with_their_stripe(rt: HostRuntime) -> Result<(), Fail> {
+    let stripe = StripeNo::new(1).ok_or("stripe 1")?;
+    let last = Fragment::new(15).ok_or("fragment 15")?;
+    let mut stripes = one_stripe(&rt, rt.alloc(), stripe)?;
+    assert_eq!(rt; home(&rt, &stripes, stripe, last), Some(seat(15, 1)));
+    assert!(rt; !stripes.is_free(seat(15, 1)));
+    remove(&rt, &mut stripes, stripe);
+    assert!(rt; stripes.is_free(seat(15, 1)));
+    assert!(rt; !stripes.contains(stripe));
+    assert_eq!(rt; stripes.level(stripe), None);
+    stripes.reserve(1)?;
+    add(&rt, &mut stripes, stripe);
+    assert_eq!(rt; stripes.missing(stripe), Some(LossMask::from_bits(0xffff)));
+    Ok(())
+}
+
+#[test]
+fn nodes_and_slots_end(rt: HostRuntime) -> Result<(), Fail> {
+    let topology = twenty_nodes(rt.alloc())?;
+    let stripes = Stripes::new(rt.alloc(), &topology)?;
+    assert!(rt; stripes.has_node(node(19)));
+    assert!(rt; !stripes.has_node(node(20)));
+    assert!(rt; stripes.has_slot(seat(19, 3)));
+    assert!(rt; !stripes.has_slot(seat(19, 4)));
+    assert!(rt; !stripes.has_slot(seat(20, 0)));
+    Ok(())
+}
