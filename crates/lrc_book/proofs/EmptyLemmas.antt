@@ -1,8 +1,8 @@
 -- A node that is emptied: its homes are cleared one after the other, and their seats given back.
-use Rattle.std.proofs.Common.{◌≡◌, ◌≢◌, ℕ, ◌+◌, ◌<◌, ◌≤◌, Bool, true, false, not, cond, ◌&&◌, nat_eq, eqb, List, [], ◌∷◌, map, filter, find, Option, Some, None, option_map, IsSome, IsTrue, refl, sym, ap, ◌∙◌, subst, inl, inr, arith}
-use Rattle.std.specs.List.{All, AllPairs, Contains, count_by, list_any}
+use Rattle.std.proofs.Common.{◌≡◌, ◌≢◌, ℕ, ◌<◌, ◌≤◌, Bool, true, false, not, cond, ◌&&◌, nat_eq, eqb, List, [], ◌∷◌, map, filter, find, Option, Some, None, option_map, IsSome, refl, sym, ap, ◌∙◌, subst, inl, inr, arith}
+use Rattle.std.specs.List.{All, AllPairs, Contains, count_by}
 use Rattle.std.specs.Option.{option_map_or}
-use Rattle.std.proofs.lemmas.Bool.{cases_Bool, eqb-true, eq-eqb, and_parts, not-true}
+use Rattle.std.proofs.lemmas.Bool.{cases_Bool, eqb-true, eq-eqb, and_parts}
 use Rattle.std.proofs.lemmas.Option.{same_Some}
 use Rattle.std.proofs.lemmas.List.Elements.{All-contains, All-head, All-tail, All-weaker}
 use Rattle.std.proofs.lemmas.List.Sums.{sum_by-cons}
@@ -16,19 +16,19 @@ use Rattle.lrc_topology.specs.declared.seat.Held.{Held}
 use Rattle.lrc_topology.specs.Nodes.{AreNodes, node_at}
 use Rattle.lrc_topology.specs.Seats.{load_of, is_taken}
 use Rattle.lrc_slots.specs.Slots.{Slots, with_free, load_at, taken_count}
-use Rattle.lrc_stripes.specs.Levels.{home_of, homes_of}
-use Rattle.lrc_stripes.specs.Stored.{Stored, Place, AreHomesOn, is_home_on} 
+use Rattle.lrc_stripes.specs.Levels.{home_of}
+use Rattle.lrc_stripes.specs.Stored.{Stored, Place, AreHomesOn, is_home_on}
 use Rattle.lrc_stripes.specs.Stored as stored
-use Rattle.lrc_book.specs.States.{State, has_stripe, taken_seats, seats_of}
+use Rattle.lrc_book.specs.States.{State, has_stripe, taken_seats}
 use Rattle.lrc_book.specs.Steps.{stands_on, emptied}
 use Rattle.lrc_book.specs.Goodness.{IsGood}
-use Rattle.lrc_book.specs.Ties.{table_of, stored_of, AreOf}
-use Rattle.lrc_book.proofs.MemberLemmas.{All-members, Contains-here, Contains-later, Contains-cases, not-Contains-nil, filter-member, list_any-member, AllPairs-head, AllPairs-tail}
+use Rattle.lrc_book.specs.Ties.{table_of, stored_of}
+use Rattle.lrc_book.proofs.MemberLemmas.{All-members, Contains-here, Contains-later, Contains-cases, not-Contains-nil, list_any-member, AllPairs-head, AllPairs-tail}
 use Rattle.lrc_book.proofs.NodeLemmas.{member-taken, member-node_at}
 use Rattle.lrc_book.proofs.ChoiceLemmas.{same_stripe}
 use Rattle.lrc_book.proofs.GoodLemmas.{kept-good}
 use Rattle.lrc_book.proofs.TieLemmas.{standing-slots, load-seats}
-use Rattle.lrc_book.proofs.TableLemmas.{map-member, table_on, table_less, table_less-nil, table_less-push, table_less-all}
+use Rattle.lrc_book.proofs.TableLemmas.{map-member, table_less, table_less-nil, table_less-push, table_less-all}
 use Rattle.lrc_book.proofs.FragmentLemmas.{home-only}
 use Rattle.lrc_book.proofs.StoredLemmas.{is_of, found-home, stored-clear}
 
@@ -108,8 +108,8 @@ module _ (nodes : List NodeInfo) (st : State) (s : StripeNo) (f : Fragment) (h :
       let parts = and_parts (eqb g.stripe.value s.value) (eqb g.fragment.value f.value) hit in
       let own : home_of st.homes g.stripe g.fragment.value ≡ Some g = home-only st.homes good.one_home g here in
       let at : home_of st.homes s f.value ≡ Some g =
-          subst (λ v. find (λ (x : Held). eqb x.stripe.value s.value && eqb x.fragment.value v) st.homes ≡ Some g) (eqb-true g.fragment.value f.value parts.1)
-          (subst (λ v. find (λ (x : Held). eqb x.stripe.value v && eqb x.fragment.value g.fragment.value) st.homes ≡ Some g) (eqb-true g.stripe.value s.value parts.0) own) in
+      subst (λ v. find (λ (x : Held). eqb x.stripe.value s.value && eqb x.fragment.value v) st.homes ≡ Some g) (eqb-true g.fragment.value f.value parts.1)
+      (subst (λ v. find (λ (x : Held). eqb x.stripe.value v && eqb x.fragment.value g.fragment.value) st.homes ≡ Some g) (eqb-true g.stripe.value s.value parts.0) own) in
       same_Some g h (sym at ∙ found)
 
   there-home : Contains st.homes h × (is_of s f.value h ≡ true)

@@ -329,37 +329,49 @@ module _ (nodes : List NodeInfo) (st : State) (n : NodeNo) where
       let other : eqb m.value n.value ≡ false = ne_eqb m.value n.value (λ e. eqb-false n.value m.value apart (sym e)) in
       rw (list_any-append (λ (k : NodeNo). eqb m.value k.value) st.gone (n ∷ []), miss, other) refl
 
+  -- a node that is gone, with the homes on it
+  pub with_gone-good : IsGood nodes st → IsGood nodes (with_gone (emptied st n) n)
+  with_gone-good good =
+      let left = kept-good (λ h. not (stands_on n h)) good in
+      modes-good nodes (emptied st n) (st.gone ++ n ∷ []) (without_number st.down n) left
+      (λ seat here. other-number seat.node (All-contains (λ (a : Seat). eqb n.value a.node.value ≡ false) (taken_seats (emptied st n)) seat emptied-apart here)
+      (gone-number (emptied st n) seat.node (standing-present nodes (emptied st n) seat (All-contains (IsStanding nodes (emptied st n)) (taken_seats (emptied st n)) seat left.standing here))))
+      (λ m here. let parts = left-number st.down m here in other-number m parts.1 (down-present good m parts.0))
+
+  -- a node that is down, and was not gone
+  pub with_down-good : IsGood nodes st → is_gone (mode_of st n) ≡ false → IsGood nodes (with_down st n)
+  with_down-good good active =
+      modes-good nodes st st.gone (st.down ++ n ∷ []) good (seat-present good) (λ m here. elim (Contains-push_cases st.down n m here) [
+        | inl old ↦ down-present good m old
+        | inr new ↦ subst (λ k. has_number st.gone k ≡ false) new (active-number st n active)
+      ])
+
+  -- a node that is down no longer
+  pub without_down-good : IsGood nodes st → IsGood nodes (without_down st n)
+  without_down-good good = modes-good nodes st st.gone (without_number st.down n) good (seat-present good) (λ m here. down-present good m (left-number st.down m here).0)
+
+  -- a node that is gone no longer
+  pub without_gone-good : IsGood nodes st → IsGood nodes (without_gone st n)
+  without_gone-good good =
+      modes-good nodes st (without_number st.gone n) st.down good (λ seat here. fewer-numbers st.gone n seat.node (seat-present good seat here))
+      (λ m here. fewer-numbers st.gone n m (down-present good m here))
+
   pub fail-good : IsGood nodes st → IsGood nodes (fail_outcome nodes st n).1
   unfolding fail_outcome
-  fail-good good =
-      changed-good (is_gone (mode_of st n)) (with_gone (emptied st n) n) good (λ _.
-      (let left = kept-good (λ h. not (stands_on n h)) good in
-      modes-good nodes (emptied st n) (st.gone ++ n ∷ []) (without_number st.down n) left
-      (λ seat here. other-number seat.node (All-contains (λ (a : Seat). eqb n.value a.node.value ≡ false) (taken_seats (emptied st n)) seat emptied-apart here) (left-present good seat here))
-      (λ m here. let parts = left-number st.down m here in other-number m parts.1 (down-present good m parts.0))))
-    where
-      left-present : IsGood nodes st → (seat : Seat) → Contains (taken_seats (emptied st n)) seat → has_number st.gone seat.node ≡ false
-      left-present good seat here = gone-number (emptied st n) seat.node (standing-present nodes (emptied st n) seat (All-contains (IsStanding nodes (emptied st n)) (taken_seats (emptied st n)) seat (kept-good (λ h. not (stands_on n h)) good).standing here))
+  fail-good good = changed-good (is_gone (mode_of st n)) (with_gone (emptied st n) n) good (λ right. with_gone-good good)
 
   pub down-good : IsGood nodes st → IsGood nodes (down_outcome nodes st n).1
   unfolding down_outcome
   down-good good =
-      changed-good (is_gone (mode_of st n) || is_down st n) (with_down st n) good (λ right.
-      modes-good nodes st st.gone (st.down ++ n ∷ []) good (seat-present good)
-      (λ m here. elim (Contains-push_cases st.down n m here) [
-        | inl old ↦ down-present good m old
-        | inr new ↦ subst (λ k. has_number st.gone k ≡ false) new (active-number st n (or_parts (is_gone (mode_of st n)) (is_down st n) right).0)
-      ]))
+      changed-good (is_gone (mode_of st n) || is_down st n) (with_down st n) good (λ right. with_down-good good (or_parts (is_gone (mode_of st n)) (is_down st n) right).0)
 
   pub up-good : IsGood nodes st → IsGood nodes (up_outcome nodes st n).1
   unfolding up_outcome
-  up-good good = changed-good _ (without_down st n) good (λ _. modes-good nodes st st.gone (without_number st.down n) good (seat-present good) (λ m here. down-present good m (left-number st.down m here).0))
+  up-good good = changed-good _ (without_down st n) good (λ right. without_down-good good)
 
   pub join-good : IsGood nodes st → IsGood nodes (join_outcome nodes st n).1
   unfolding join_outcome
-  join-good good =
-      changed-good _ (without_gone st n) good (λ _. modes-good nodes st (without_number st.gone n) st.down good
-      (λ seat here. fewer-numbers st.gone n seat.node (seat-present good seat here)) (λ m here. fewer-numbers st.gone n m (down-present good m here)))
+  join-good good = changed-good _ (without_gone st n) good (λ right. without_gone-good good)
 
 -- ---- histories
 

@@ -1,17 +1,16 @@
 -- How the slot table and the stored stripes follow the nodes that are gone and down.
-use Rattle.std.proofs.Common.{◌≡◌, ℕ, Bool, true, false, not, if◌then◌else◌, ◌&&◌, ◌||◌, nat_eq, eqb, List, [], ◌∷◌, ◌++◌, filter, Option, Some, None, is_none, IsSome, refl, sym, ap, ◌∙◌, subst, inl, inr}
+use Rattle.std.proofs.Common.{◌≡◌, ℕ, Bool, true, false, not, if◌then◌else◌, ◌&&◌, ◌||◌, eqb, List, [], ◌∷◌, ◌++◌, Option, Some, None, IsSome, refl, sym, ap, ◌∙◌, subst, inl, inr}
 use Rattle.std.proofs.Math.Path.{fun_ext}
 use Rattle.std.specs.List.{list_any}
 use Rattle.std.specs.Option.{option_map_or}
-use Rattle.std.proofs.lemmas.Bool.{cases_Bool, eqb-true, eq-eqb, ne_eqb, eqb-false}
+use Rattle.std.proofs.lemmas.Bool.{cases_Bool, eqb-true, eq-eqb}
 use Rattle.std.proofs.lemmas.List.Folds.{list_any-append}
 use Rattle.std.proofs.lemmas.Map.Views.{any-filter_same}
 use Rattle.lrc_code.specs.declared.numbers.NodeNo.{NodeNo}
 use Rattle.lrc_topology.specs.declared.NodeInfo.{NodeInfo}
 use Rattle.lrc_topology.specs.Nodes.{node_at}
-use Rattle.lrc_slots.specs.Slots.{Slots, with_eligible}
-use Rattle.lrc_stripes.specs.Stored.{Stored, with_offline}
-use Rattle.lrc_book.specs.declared.mode.Mode.{Mode}
+use Rattle.lrc_slots.specs.Slots.{with_eligible}
+use Rattle.lrc_stripes.specs.Stored.{with_offline}
 use Rattle.lrc_book.specs.declared.mode.Mode.TheVariants.{Active, Gone}
 use Rattle.lrc_book.specs.States.{State, has_number, without_number, mode_of, is_active, is_gone, is_down, is_online, takes_seats, online_at}
 use Rattle.lrc_book.specs.Steps.{with_gone, with_down, without_down, without_gone}

@@ -1,5 +1,4 @@
-use Rattle.std.proofs.Common.{true, false, not, ap, ◌∙◌, sym}
-use Rattle.lrc_code.specs.declared.numbers.NodeNo.{NodeNo}
+use Rattle.std.proofs.Common.{true, not, ap, ◌∙◌}
 use Rattle.lrc_slots.specs.Slots.{Slots, with_eligible}
 use Rattle.lrc_slots.specs.Tables.{seen as slots_of}
 use Rattle.lrc_stripes.specs.Stored.{Stored, with_offline}
