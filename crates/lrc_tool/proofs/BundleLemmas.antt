@@ -163,8 +163,8 @@ filter-push_empty lines = filter-append (λ line. not (is_passed_over line)) lin
 
 pub IsScript-push_empty : (lines : List (List ℕ)) (commands : List Command) → IsScript (lines ++ [] ∷ []) commands ↔ IsScript lines commands
 IsScript-push_empty lines commands = (
-  λ script. record { short = λ k d within. rw (get_or_append_left lines ([] ∷ []) d k within) at (script.short k d (omega (arith, length_push lines []))); listed = sym (filter-push_empty lines) ∙ script.listed },
-  λ script. record { short = All-push (λ line. length line ≤ 1024) lines [] script.short (omega arith); listed = filter-push_empty lines ∙ script.listed },
+  λ script. record { short = λ k d within. rw (get_or_append_left lines ([] ∷ []) d k within) at (script.short k d (omega (arith, length_push lines []))); in_range = script.in_range; listed = sym (filter-push_empty lines) ∙ script.listed },
+  λ script. record { short = All-push (λ line. length line ≤ 1024) lines [] script.short (omega arith); in_range = script.in_range; listed = filter-push_empty lines ∙ script.listed },
 )
 
 -- a text that holds the lines has their first bad line

@@ -9,6 +9,7 @@ pub mod OutputLemmas
 pub mod ReadLemmas
 pub mod Rows
 mod RowsOfPlacing
+mod RowsOfNodes
 mod RowsOfHistories
 pub mod CauseLemmas
 pub mod FirstLemmas

@@ -6,7 +6,7 @@ use Rattle.std.proofs.lemmas.List.Elements.{All-push, filter-append}
 use Rattle.lrc_book.specs.declared.command.Command.{Command}
 use Rattle.lrc_tool.specs.declared.script.Cause.{Cause}
 use Rattle.lrc_tool.specs.declared.script.Cause.TheVariants.{TooLong}
-use Rattle.lrc_tool.specs.Scripts.{IsScript, is_passed_over, command_line, cause_of, first_bad}
+use Rattle.lrc_tool.specs.Scripts.{IsScript, is_passed_over, command_line, IsInRange, cause_of, first_bad}
 
 short_if : (b : Bool) (other : Option Cause) → (if b then Some TooLong else other) ≡ None → b ≡ false
 short_if true other e = cc
@@ -35,7 +35,7 @@ module _ (lines : List (List ℕ)) (i : ℕ) (line : List ℕ) (within : i < len
     short = rw so_far (All-push (λ l. length l ≤ 1024) (take i lines) line before.short (cause_of-short line good))
 
     pub IsScript-passed : is_passed_over line ≡ true → IsScript (take (i + 1) lines) commands
-    IsScript-passed passed = record { short = short; listed = rw (so_far, filter-append, passed, append-nil) before.listed }
+    IsScript-passed passed = record { short = short; in_range = before.in_range; listed = rw (so_far, filter-append, passed, append-nil) before.listed }
 
-    pub IsScript-command : (command : Command) → is_passed_over line ≡ false → line ≡ command_line command → IsScript (take (i + 1) lines) (commands ++ command ∷ [])
-    IsScript-command command kept is = record { short = short; listed = rw (so_far, filter-append, kept, map-append, before.listed) (ap (λ l. map command_line commands ++ l ∷ []) is) }
+    pub IsScript-command : (command : Command) → is_passed_over line ≡ false → IsInRange command → line ≡ command_line command → IsScript (take (i + 1) lines) (commands ++ command ∷ [])
+    IsScript-command command kept in_range is = record { short = short; in_range = All-push IsInRange commands command before.in_range in_range; listed = rw (so_far, filter-append, kept, map-append, before.listed) (ap (λ l. map command_line commands ++ l ∷ []) is) }

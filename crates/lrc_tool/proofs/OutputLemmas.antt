@@ -33,6 +33,7 @@ first_bad-empty number (line ∷ lines) = rw (first_bad-empty (number + 1) lines
 IsScript-empty : (lines : List (List ℕ)) (commands : List Command) → IsScript (lines ++ [] ∷ []) commands → IsScript lines commands
 IsScript-empty lines commands script = record {
   short = subst (All (λ line. length line ≤ 1024)) (take-append_seam lines ([] ∷ [])) (All-take (λ line. length line ≤ 1024) (length lines) (lines ++ [] ∷ []) script.short);
+  in_range = script.in_range;
   listed = sym (append-nil (filter (λ line. not (is_passed_over line)) lines)) ∙ sym (filter-append (λ line. not (is_passed_over line)) lines ([] ∷ [])) ∙ script.listed;
 }
 

@@ -27,6 +27,18 @@ place s = command.Place (stripe s)
 abbrev pub remove : ℕ → Command
 remove s = command.Drop (stripe s)
 
+abbrev pub fail : ℕ → Command
+fail n = command.Fail (node_number n)
+
+abbrev pub down : ℕ → Command
+down n = command.Down (node_number n)
+
+abbrev pub up : ℕ → Command
+up n = command.Up (node_number n)
+
+abbrev pub join : ℕ → Command
+join n = command.Join (node_number n)
+
 -- ---- stores
 
 -- a node in a fault domain of its own

@@ -118,12 +118,13 @@ line-one line word argument name text rest cut one named written =
     let words = words_of-cut line word rest cut ∙ ap (λ ws. word ∷ ws) one in
     sym (join_with_byte-slice_split 32 line) ∙ ap (join_with_byte 32) words ∙ ap (λ w. w ++ 32 ∷ argument) named ∙ ap (λ w. name ++ 32 ∷ w) written
 
-form_of-none : (word : List ℕ) → word ≢ codes "place" → word ≢ codes "drop" → form_of word ≡ None
-form_of-none word no_place no_drop = rw (same_text-false word (codes "place") no_place, same_text-false word (codes "drop") no_drop) refl
+form_of-none : (word : List ℕ) → word ≢ codes "place" → word ≢ codes "drop" → word ≢ codes "fail" → word ≢ codes "down" → word ≢ codes "up" → word ≢ codes "join" → form_of word ≡ None
+form_of-none word no_place no_drop no_fail no_down no_up no_join =
+    rw (same_text-false word (codes "place") no_place, same_text-false word (codes "drop") no_drop, same_text-false word (codes "fail") no_fail, same_text-false word (codes "down") no_down, same_text-false word (codes "up") no_up, same_text-false word (codes "join") no_join) refl
 
-pub words_cause-unknown : (line word : List ℕ) (rest : Option (Bor (List ℕ))) → IsCut 32 line word rest → word ≢ codes "place" → word ≢ codes "drop" → words_cause (words_of line) ≡ Some UnknownWord
-words_cause-unknown line word rest cut no_place no_drop =
-    ap words_cause (words_of-cut line word rest cut) ∙ ap (form_cause (words_behind rest)) (form_of-none word no_place no_drop)
+pub words_cause-unknown : (line word : List ℕ) (rest : Option (Bor (List ℕ))) → IsCut 32 line word rest → word ≢ codes "place" → word ≢ codes "drop" → word ≢ codes "fail" → word ≢ codes "down" → word ≢ codes "up" → word ≢ codes "join" → words_cause (words_of line) ≡ Some UnknownWord
+words_cause-unknown line word rest cut no_place no_drop no_fail no_down no_up no_join =
+    ap words_cause (words_of-cut line word rest cut) ∙ ap (form_cause (words_behind rest)) (form_of-none word no_place no_drop no_fail no_down no_up no_join)
 
 -- ---- lines
 

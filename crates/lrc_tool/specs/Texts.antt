@@ -4,9 +4,9 @@ use Rattle.lrc_topology.specs.declared.seat.Seat.{Seat}
 use Rattle.lrc_topology.specs.declared.error.TopologyError.{TopologyError}
 use Rattle.lrc_topology.specs.declared.error.TopologyError.TheVariants.{Syntax, NoNodes, BadField, OutOfRange, DoubleNode, TooMany, OutOfMemory}
 use Rattle.lrc_book.specs.declared.reply.Reply.{Reply}
-use Rattle.lrc_book.specs.declared.reply.Reply.TheVariants.{Placed, Dropped, Refused}
+use Rattle.lrc_book.specs.declared.reply.Reply.TheVariants.{Placed, Dropped, Changed, Refused}
 use Rattle.lrc_book.specs.declared.reply.Refusal.{Refusal}
-use Rattle.lrc_book.specs.declared.reply.Refusal.TheVariants.{UnknownStripe, StripeExists, NoLawfulNode}
+use Rattle.lrc_book.specs.declared.reply.Refusal.TheVariants.{UnknownStripe, StripeExists, NoLawfulNode, UnknownNode, WrongMode}
 use Rattle.lrc_tool.specs.declared.script.Cause.{Cause}
 use Rattle.lrc_tool.specs.declared.script.Cause.TheVariants as cause
 use Rattle.lrc_tool.specs.Scripts.{BadLine}
@@ -26,11 +26,14 @@ abbrev pub refusal_text : Refusal → List ℕ
 refusal_text UnknownStripe = codes "101"
 refusal_text StripeExists = codes "102"
 refusal_text (NoLawfulNode fragment) = codes "103 " ++ decimal fragment.value
+refusal_text UnknownNode = codes "104"
+refusal_text WrongMode = codes "105"
 
 -- what is printed of a reply
 abbrev pub reply_text : Reply → List ℕ
 reply_text (Placed seats) = codes "placed" ++ spaced (map seat_text seats)
 reply_text Dropped = codes "dropped"
+reply_text Changed = codes "changed"
 reply_text (Refused refusal) = codes "refused " ++ refusal_text refusal
 
 -- a reply's line: the place of its call in the history, and its text

@@ -1,11 +1,11 @@
 ghost use Rattle.std.specs.Prelude.{◌≡◌, ◌≢◌, ℕ, ◌+◌, ◌^◌, ◌<◌, ◌≤◌, [], ◌∷◌, length, decimal, OnOk, IfOk, IfErr, MatchResult};
 ghost use Rattle.std.specs.Result.{result_err};
-ghost use Rattle.lrc_tool.specs.Scripts.{lines_of, words_of, words_behind, is_passed_over, is_number, command_line, IsScript, IsReadAs, argument_cause, words_cause, cause_of, first_bad, IsFirstBad};
+ghost use Rattle.lrc_tool.specs.Scripts.{lines_of, words_of, words_behind, is_passed_over, is_number, command_line, IsInRange, IsScript, IsReadAs, argument_cause, words_cause, cause_of, first_bad, IsFirstBad};
 ghost use Rattle.lrc_tool.specs.declared.script.Cause.TheVariants as causes;
 
 use crate::cut::cut;
 use lrc_book::Command;
-use lrc_code::StripeNo;
+use lrc_code::{NodeNo, StripeNo};
 use std::alloc::{AllocError, AllocFailed, Global};
 use thiserror::Error;
 
@@ -113,7 +113,7 @@ fn is_passed_over(line: &[u8]) -> bool
 
 /// The command that a line is the line of.
 fn parse_command(line: &[u8]) -> Result<Command, Cause>
-    ensures command { IfOk result (λ command. line.now ≡ command_line command) }
+    ensures command { IfOk result (λ command. IsInRange command × (line.now ≡ command_line command)) }
     ensures cause { result_err result ≡ words_cause (words_of line.now) }
 {
     let (word, rest) = cut(line, b' ');
@@ -121,6 +121,14 @@ fn parse_command(line: &[u8]) -> Result<Command, Cause>
         Ok(Command::Place(parse_stripe(only_word(rest)?)?))
     } else if word == b"drop".as_slice() {
         Ok(Command::Drop(parse_stripe(only_word(rest)?)?))
+    } else if word == b"fail".as_slice() {
+        Ok(Command::Fail(parse_node(only_word(rest)?)?))
+    } else if word == b"down".as_slice() {
+        Ok(Command::Down(parse_node(only_word(rest)?)?))
+    } else if word == b"up".as_slice() {
+        Ok(Command::Up(parse_node(only_word(rest)?)?))
+    } else if word == b"join".as_slice() {
+        Ok(Command::Join(parse_node(only_word(rest)?)?))
     } else {
         Err(Cause::UnknownWord)
     }
@@ -144,6 +152,14 @@ fn parse_stripe(word: &[u8]) -> Result<StripeNo, Cause>
 {
     let number = argument(word, 4096)?;
     Ok(StripeNo::new(number as u16).unwrap())
+}
+
+fn parse_node(word: &[u8]) -> Result<NodeNo, Cause>
+    ensures number { IfOk result (λ node. (node.value < 65536) × (word.now ≡ decimal node.value)) }
+    ensures cause { result_err result ≡ argument_cause word.now 65536 }
+{
+    let number = argument(word, 65536)?;
+    Ok(NodeNo::new(number as u16).unwrap())
 }
 
 /// The number that a word is the decimal text of, without leading zeros, if it is below the bound.

@@ -35,6 +35,8 @@ fn push_refusal(out: &mut String, refusal: &Refusal) -> Result<(), AllocError>
             let number = fragment.value;
             write!(out, "103 {number}")
         }
+        Refusal::UnknownNode => out.push_str("104"),
+        Refusal::WrongMode => out.push_str("105"),
     }
 }
 
@@ -47,6 +49,7 @@ fn push_reply(out: &mut String, reply: &Reply) -> Result<(), AllocError>
             push_seats(out, seats.as_slice())
         }
         Reply::Dropped => out.push_str("dropped"),
+        Reply::Changed => out.push_str("changed"),
         Reply::Refused(refusal) => {
             out.push_str("refused ")?;
             push_refusal(out, refusal)

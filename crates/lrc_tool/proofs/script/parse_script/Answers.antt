@@ -34,7 +34,7 @@ loop-index-preserved-in-Continue-1 c =
     rw (length_push c.loop-index.yielded (c.in-Some.index, c.in-Some.line), c.in_ok-push.ensures.items) (record {
       can_next = search rules;
       finite = search rules;
-      script = IsScript-command lines i line t.0 t.2 c.loop-index.commands.items c.loop-index.invariant.script good c.in-Some-parsed.command read.0 read.1;
+      script = IsScript-command lines i line t.0 t.2 c.loop-index.commands.items c.loop-index.invariant.script good c.in-Some-parsed.command read.0 read.1 read.2;
       bad_left = c.loop-index.invariant.bad_left ∙ first_bad-good lines i line t.0 t.2 (c.args.first_line + i) good ∙ ap (λ n. first_bad n (drop (i + 1) lines)) (add_assoc c.args.first_line i 1);
     })
 
