@@ -277,7 +277,12 @@ impl Book {
             reply,
         } = plan.entry;
         changes::change(
-            &mut self.table, &mut self.stripes, &mut self.gone, &mut self.down, command, &reply,
+            &mut self.table,
+            &mut self.stripes,
+            &mut self.gone,
+            &mut self.down,
+            command,
+            &reply,
         );
         self.history.push_reserved(plan.entry);
         reply

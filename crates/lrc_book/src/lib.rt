@@ -12,6 +12,8 @@ mod plan;
 mod planning;
 mod replies;
 mod reply;
+#[cfg(test)]
+mod tests;
 
 pub use book::{Book, HISTORY_LIMIT};
 pub use command::Command;
