@@ -1,6 +1,8 @@
 -- Bundles: a topology, and the scripts behind it.
-use Rattle.std.specs.Prelude.{ℕ, ◌+◌, Bool, nat_eq, List, [], ◌∷◌, ◌++◌, length, codes, flat_map}
+use Rattle.std.specs.Prelude.{◌≡◌, ℕ, ◌+◌, ◌≤◌, ◌⊎◌, Bool, Option, Some, None, List, [], ◌∷◌, ◌++◌, length, codes, flat_map}
+use Rattle.std.specs.Borrow.{Bor}
 use Rattle.std.specs.List.{slice_split}
+use Rattle.lrc_tool.specs.declared.bundle.ScriptText.{ScriptText}
 use Rattle.lrc_tool.specs.Scripts.{lines_of, same_text}
 
 -- the line that begins a script
@@ -40,3 +42,42 @@ topology_in bundle _ = bundle
 
 unfoldable pub topology_of : List ℕ → List ℕ
 topology_of bundle = topology_in bundle (parts_of bundle)
+
+-- ---- texts of scripts
+
+-- these are the lines of the text, but for the empty one behind its last LF
+abbrev pub HoldsLines : List ℕ → List (List ℕ) → Type 0
+HoldsLines text lines = (lines_of text ≡ lines) ⊎ (lines_of text ≡ lines ++ [] ∷ [])
+
+-- the text of this script, with the number of its first line
+pub record IsTextOf (script : Script) (text : ScriptText) : Type 0 where
+  pub first_line : text.first_line ≡ script.first_line
+  pub lines : HoldsLines text.text.now script.lines
+
+-- the texts of these scripts, in order
+abbrev pub AreTextsOf : List Script → List ScriptText → Type 0
+AreTextsOf [] [] = Unit {0}
+AreTextsOf (script ∷ scripts) (text ∷ texts) = IsTextOf script text × AreTextsOf scripts texts
+AreTextsOf _ _ = ⊥
+
+-- ---- parts
+
+-- these parts stand behind a parting line, with this text behind the line's LF or at the end of a bundle that lacks it
+abbrev pub StandBehind : List ℕ → List (List (List ℕ)) → Type 0
+StandBehind text parts = (parts ≡ parts_of text) ⊎ ((text ≡ []) × (parts ≡ [] ∷ []))
+
+-- a text that was cut at its first parting line: what stands before, as lines and how many end there, and what stands behind
+pub record IsCutAtParting (text before : List ℕ) (lines : ℕ) (behind : List ℕ) : Type 0 where
+  pub first : List (List ℕ)
+  pub others : List (List (List ℕ))
+  pub parts : parts_of text ≡ first ∷ others
+  pub stand : StandBehind behind others
+  pub text_before : before ≡ ended_lines first
+  pub lines_before : lines_of before ≡ first ++ [] ∷ []
+  pub counted : lines ≡ length first
+  pub within : length before + 2 + length behind ≤ length text
+
+-- the first part of a text, and what stands behind its parting line if there is one
+abbrev pub IsPart : List ℕ → List ℕ → ℕ → Option (Bor (List ℕ)) → Type 0
+IsPart text before lines (Some behind) = IsCutAtParting text before lines behind.now
+IsPart text before lines None = (before ≡ text) × (lines ≤ length text) × (parts_of text ≡ lines_of text ∷ [])

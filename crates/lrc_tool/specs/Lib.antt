@@ -1,5 +1,10 @@
 pub use Rattle.lrc_topology.specs.Nodes
 pub use Rattle.lrc_topology.specs.Documents
 pub use Rattle.lrc_book.specs.Histories
+pub mod Cuts
 pub mod Scripts
 pub mod Bundles
+pub mod Texts
+pub mod Streams
+pub mod Faults
+pub mod Outputs

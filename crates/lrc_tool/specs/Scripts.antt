@@ -1,12 +1,14 @@
 -- Script lines: which command a line is, and why a line is bad.
-use Rattle.std.specs.Prelude.{◌≡◌, ℕ, ◌+◌, ◌≤◌, Bool, not, ◌&&◌, ◌||◌, if◌then◌else◌, nat_lt, nat_eq, List, [], ◌∷◌, ◌++◌, length, map, filter, find, All, slice_index, codes, decimal, Option, Some, None, option_map}
+use Rattle.std.specs.Prelude.{◌≡◌, ℕ, ◌+◌, ◌<◌, ◌≤◌, Bool, true, false, not, ◌&&◌, ◌||◌, if◌then◌else◌, nat_lt, nat_eq, List, [], ◌∷◌, ◌++◌, length, map, filter, find, All, slice_index, codes, decimal, Option, Some, None, option_map, IsSomeAnd, slice_get, take}
 use Rattle.std.specs.List.{slice_split, list_all, starts_with}
-use Rattle.std.specs.Option.{option_map_or}
+use Rattle.std.specs.Borrow.{Bor}
 use Rattle.std.specs.Char.{is_ascii_digit}
 use Rattle.std.specs.Str.Parse.{digits_value}
 use Rattle.lrc_book.specs.declared.command.Command.{Command}
-use Rattle.lrc_book.specs.declared.command.Command.TheVariants.{Place, Drop}
+use Rattle.lrc_book.specs.declared.command.Command.TheVariants.{Place, Drop, Fail, Down, Up, Join}
 use Rattle.lrc_tool.specs.declared.script.Cause.{Cause}
+use Rattle.lrc_tool.specs.declared.script.ScriptError.{ScriptError}
+use Rattle.lrc_tool.specs.declared.script.ScriptError.TheVariants.{Bad, OutOfMemory}
 use Rattle.lrc_tool.specs.declared.script.Cause.TheVariants.{UnknownWord, WordCount, NotANumber, OutOfRange, TooLong}
 
 -- ---- lines
@@ -23,11 +25,30 @@ is_passed_over line = nat_eq (length line) 0 || nat_eq (slice_index line 0) 35
 abbrev pub command_line : Command → List ℕ
 command_line (Place s) = codes "place " ++ decimal s.value
 command_line (Drop s) = codes "drop " ++ decimal s.value
+command_line (Fail n) = codes "fail " ++ decimal n.value
+command_line (Down n) = codes "down " ++ decimal n.value
+command_line (Up n) = codes "up " ++ decimal n.value
+command_line (Join n) = codes "join " ++ decimal n.value
+
+-- a command's node has a number below 65,536; that of a stripe is in its range by its type
+abbrev pub IsInRange : Command → Type 0
+IsInRange (Place s) = Unit {0}
+IsInRange (Drop s) = Unit {0}
+IsInRange (Fail n) = n.value < 65536
+IsInRange (Down n) = n.value < 65536
+IsInRange (Up n) = n.value < 65536
+IsInRange (Join n) = n.value < 65536
 
 -- these are the commands of the lines, in order: no line is too long, and each line that is not passed over is that of a command
 pub record IsScript (lines : List (List ℕ)) (commands : List Command) : Type 0 where
   pub short : All (λ line. length line ≤ 1024) lines
+  pub in_range : All IsInRange commands
   pub listed : filter (λ line. not (is_passed_over line)) lines ≡ map command_line commands
+
+-- what a line is read as: a command, or nothing where it is passed over
+abbrev pub IsReadAs : List ℕ → Option Command → Type 0
+IsReadAs line (Some command) = (is_passed_over line ≡ false) × IsInRange command × (line ≡ command_line command)
+IsReadAs line None = is_passed_over line ≡ true
 
 -- ---- causes
 
@@ -37,7 +58,9 @@ pub record Form : Type 0 where
   pub bounds : List ℕ
 
 abbrev pub forms : List Form
-forms = record { word = codes "place"; bounds = 4096 ∷ [] } ∷ record { word = codes "drop"; bounds = 4096 ∷ [] } ∷ []
+forms =
+    record { word = codes "place"; bounds = 4096 ∷ [] } ∷ record { word = codes "drop"; bounds = 4096 ∷ [] } ∷ record { word = codes "fail"; bounds = 65536 ∷ [] }
+    ∷ record { word = codes "down"; bounds = 65536 ∷ [] } ∷ record { word = codes "up"; bounds = 65536 ∷ [] } ∷ record { word = codes "join"; bounds = 65536 ∷ [] } ∷ []
 
 -- the two texts are one
 abbrev pub same_text : List ℕ → List ℕ → Bool
@@ -68,6 +91,11 @@ arguments_cause _ _ = None
 abbrev pub words_of : List ℕ → List (List ℕ)
 words_of line = slice_split (λ b. nat_eq b 32) line
 
+-- the words of what stands behind the first word, if anything does
+abbrev pub words_behind : Option (Bor (List ℕ)) → List (List ℕ)
+words_behind None = []
+words_behind (Some rest) = words_of rest.now
+
 -- the cause of a line with these words behind the first
 abbrev pub form_cause : List (List ℕ) → Option Form → Option Cause
 form_cause words None = Some UnknownWord
@@ -90,3 +118,13 @@ pub record BadLine : Type 0 where
 abbrev pub first_bad : ℕ → List (List ℕ) → Option BadLine
 first_bad number [] = None
 first_bad number (line ∷ lines) = or_else (option_map (λ cause. record { line = number; cause = cause }) (cause_of line)) (first_bad (number + 1) lines)
+
+-- the line at this index is bad for this cause, and none before it is bad
+pub record IsFirstBadAt (lines : List (List ℕ)) (i : ℕ) (cause : Cause) : Type 0 where
+  pub bad : IsSomeAnd (slice_get lines i) (λ line. cause_of line ≡ Some cause)
+  pub good_before : All (λ line. cause_of line ≡ None) (take i lines)
+
+-- the error tells of this bad line, or of no line
+abbrev pub IsFirstBad : Option BadLine → ScriptError → Type 0
+IsFirstBad found (Bad line cause) = found ≡ Some (record { line = line; cause = cause })
+IsFirstBad found OutOfMemory = Unit {0}

@@ -1,6 +1,20 @@
 //! The texts of the tool, and the functions of its program.
 #![tactic(auto)]
 
+mod bundle;
+mod cut;
+pub mod laws;
+mod output;
+mod play;
+mod program;
 mod script;
+mod status;
+mod streams;
+#[cfg(test)]
+mod tests;
+mod texts;
 
-pub use script::{Cause, ScriptError};
+pub use program::run;
+pub use script::{Cause, ScriptError, parse_script};
+pub use status::Status;
+pub use streams::{Plain, RunFault, Sink, Source};

@@ -1,0 +1,81 @@
+-- Scripts on small stores, and what the definitions answer to them.
+use Rattle.std.proofs.Common.{ℕ, ◌%◌, List, [], ◌∷◌, map, fold, lit<}
+use Rattle.std.proofs.lemmas.Nat.{mod_below}
+use Rattle.lrc_code.specs.declared.numbers.StripeNo.{StripeNo}
+use Rattle.lrc_code.specs.declared.numbers.SessionNo.{SessionNo}
+use Rattle.lrc_code.specs.declared.numbers.NodeNo.{NodeNo}
+use Rattle.lrc_topology.specs.declared.NodeInfo.{NodeInfo}
+use Rattle.lrc_book.specs.declared.command.Command.{Command}
+use Rattle.lrc_book.specs.declared.command.Command.TheVariants as command
+use Rattle.lrc_book.specs.Histories.{World, first_world, outcome_in, next_world}
+use Rattle.lrc_tool.specs.Texts.{script_text}
+
+-- ---- commands
+
+abbrev pub stripe : ℕ → StripeNo
+stripe n = record { value = n % 4096; in_range = mod_below n 4096 (lit< tt) }
+
+abbrev pub session : SessionNo
+session = record { value = 1; in_range = (lit< tt, lit< tt) }
+
+abbrev pub node_number : ℕ → NodeNo
+node_number n = record { value = n }
+
+abbrev pub place : ℕ → Command
+place s = command.Place (stripe s)
+
+abbrev pub remove : ℕ → Command
+remove s = command.Drop (stripe s)
+
+abbrev pub fail : ℕ → Command
+fail n = command.Fail (node_number n)
+
+abbrev pub down : ℕ → Command
+down n = command.Down (node_number n)
+
+abbrev pub up : ℕ → Command
+up n = command.Up (node_number n)
+
+abbrev pub join : ℕ → Command
+join n = command.Join (node_number n)
+
+-- ---- stores
+
+-- a node in a fault domain of its own
+abbrev pub node : ℕ → ℕ → ℕ → NodeInfo
+node number upgrade slots = record { number = record { value = number }; fault = record { value = number }; upgrade = record { value = upgrade }; slots = slots }
+
+abbrev pub twenty : List ℕ
+twenty = 0 ∷ 1 ∷ 2 ∷ 3 ∷ 4 ∷ 5 ∷ 6 ∷ 7 ∷ 8 ∷ 9 ∷ 10 ∷ 11 ∷ 12 ∷ 13 ∷ 14 ∷ 15 ∷ 16 ∷ 17 ∷ 18 ∷ 19 ∷ []
+
+-- ten upgrade domains of two nodes each
+abbrev pub ten_domains : List NodeInfo
+ten_domains = map (λ i. node i (i % 10) 4) twenty
+
+-- the same with one slot on each node
+abbrev pub single_slots : List NodeInfo
+single_slots = map (λ i. node i (i % 10) 1) twenty
+
+-- six upgrade domains
+abbrev pub six_domains : List NodeInfo
+six_domains = map (λ i. node i (i % 6) 4) twenty
+
+-- sixteen nodes, on which a lawful placement exists that the choice rule does not find
+abbrev pub sixteen_nodes : List NodeInfo
+sixteen_nodes =
+    node 0 0 4 ∷ node 1 1 4 ∷ node 2 2 4 ∷ node 3 3 4 ∷ node 4 4 4 ∷ node 5 5 4 ∷ node 6 6 4 ∷ node 7 7 4
+    ∷ node 8 0 4 ∷ node 9 1 4 ∷ node 10 2 4 ∷ node 11 3 4 ∷ node 12 4 4 ∷ node 13 5 4 ∷ node 14 0 4 ∷ node 15 1 4 ∷ []
+
+-- ---- playing
+
+-- the world after one more call
+abbrev pub called : List NodeInfo → World → Command → World
+called nodes w c = next_world nodes w (record { session = session; command = c; reply = (outcome_in nodes w session c).0 })
+
+-- the world after the commands of a script
+abbrev pub played : List NodeInfo → List Command → World
+played nodes script = fold (called nodes) first_world script
+
+-- the text of the script's replies
+abbrev pub printed : List NodeInfo → List Command → List ℕ
+printed nodes script = script_text (map (λ e. e.reply) (played nodes script).past)

@@ -1,0 +1,10 @@
+use Rattle.std.proofs.Common.{◌≡◌, string_bytes, take}
+use Rattle.lrc_tool.proofs.PlayLemmas.{IsPlayedBy}
+use Rattle.lrc_tool.proofs.play.play.Given as goal
+
+abbrev pub invariant-loop-index : goal.invariant-loop-index
+invariant-loop-index l = record {
+  nodes : l.book.nodes ≡ l.fn.topology;
+  limit : l.book.limit ≡ 1000000;
+  played : IsPlayedBy l.fn.topology (take l.index l.commands) l.book.history (string_bytes l.text);
+}

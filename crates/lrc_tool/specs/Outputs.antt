@@ -1,0 +1,93 @@
+-- What a run writes for a bundle, and how it ends.
+use Rattle.std.specs.Prelude.{◌≡◌, ◌≢◌, ℕ, ◌≤◌, if◌then◌else◌, nat_lt, List, [], ◌∷◌, length, take, map, All, codes, Option, Some, None, Result, Ok, Err}
+use Rattle.std.specs.Io.KnownBytes.{Appends}
+use Rattle.lrc_topology.specs.declared.NodeInfo.{NodeInfo}
+use Rattle.lrc_topology.specs.declared.error.TopologyError.{TopologyError}
+use Rattle.lrc_topology.specs.declared.error.TopologyError.TheVariants.{OutOfMemory}
+use Rattle.lrc_topology.specs.Documents.{IsTopologyOf, IsRefusedBy}
+use Rattle.lrc_book.specs.declared.command.Command.{Command}
+use Rattle.lrc_book.specs.declared.entry.Entry.{Entry}
+use Rattle.lrc_book.specs.Histories.{IsLegal}
+use Rattle.lrc_tool.specs.declared.status.Status.{Status}
+use Rattle.lrc_tool.specs.declared.status.Status.TheVariants as ended
+use Rattle.lrc_tool.specs.Scripts.{IsScript, BadLine, or_else, first_bad}
+use Rattle.lrc_tool.specs.Bundles.{Script, scripts_of, topology_of}
+use Rattle.lrc_tool.specs.Texts.{script_text, topology_line, bad_line_text}
+
+-- ---- checks
+
+-- the line for a bundle that is refused before its topology is read: it is too long, or has more than one script
+abbrev pub early_refusal : List ℕ → Option (List ℕ)
+early_refusal bundle =
+    if nat_lt 4194304 (length bundle) then Some (codes "bundle 1\n") else (if nat_lt 1 (length (scripts_of bundle)) then Some (codes "bundle 2\n") else None)
+
+-- the text is read as a topology with this outcome: its nodes, or why it is refused; want of memory is no outcome
+abbrev pub Reads : List ℕ → Result (List NodeInfo) TopologyError → Type 0
+Reads text (Ok nodes) = IsTopologyOf text nodes
+Reads text (Err error) = (error ≢ OutOfMemory) × IsRefusedBy text error
+
+-- the first bad line of the scripts
+abbrev pub first_bad_of : List Script → Option BadLine
+first_bad_of [] = None
+first_bad_of (script ∷ scripts) = or_else (first_bad script.first_line script.lines) (first_bad_of scripts)
+
+-- ---- the answer to a bundle: that of the first check that fails, or the one that it gets where all pass
+
+-- what is written for nodes and scripts that pass all checks
+abbrev pub Answer : Type 1
+Answer = List NodeInfo → List Script → List ℕ → Type 0
+
+-- behind the check of the scripts' lines, which found this one bad, or none
+abbrev pub IsAnsweredOver : Answer → List NodeInfo → List Script → Option BadLine → List ℕ → Status → Type 0
+IsAnsweredOver answer nodes scripts (Some bad) text status = (text ≡ bad_line_text bad) × (status ≡ ended.BadLine)
+IsAnsweredOver answer nodes scripts None text status = answer nodes scripts text × (status ≡ ended.Done)
+
+-- behind the check of the topology, with its outcome
+abbrev pub IsAnsweredAfter : Answer → Result (List NodeInfo) TopologyError → List Script → List ℕ → Status → Type 0
+IsAnsweredAfter answer (Err error) scripts text status = (text ≡ topology_line error) × (status ≡ ended.Refused)
+IsAnsweredAfter answer (Ok nodes) scripts text status = IsAnsweredOver answer nodes scripts (first_bad_of scripts) text status
+
+-- behind the checks of the bundle's length and of the number of scripts, of which one failed with this line, or none
+abbrev pub IsAnsweredUnless : Answer → Option (List ℕ) → List ℕ → List ℕ → Status → Type 0
+IsAnsweredUnless answer (Some line) bundle text status = (text ≡ line) × (status ≡ ended.Refused)
+IsAnsweredUnless answer None bundle text status =
+    (outcome : Result (List NodeInfo) TopologyError) × Reads (topology_of bundle) outcome × IsAnsweredAfter answer outcome (scripts_of bundle) text status
+
+-- the bundle is answered by this text and this status
+abbrev pub IsAnswered : Answer → List ℕ → List ℕ → Status → Type 0
+IsAnswered answer bundle text status = IsAnsweredUnless answer (early_refusal bundle) bundle text status
+
+-- ---- the output of a run
+
+-- what is printed where session 1 makes these commands, one after the other, on a new book
+pub record IsPlayed (nodes : List NodeInfo) (commands : List Command) (text : List ℕ) : Type 0 where
+  pub history : List Entry
+  pub legal : IsLegal nodes history
+  pub made : map (λ e. e.command) history ≡ commands
+  pub alone : All (λ e. e.session.value ≡ 1) history
+  pub printed : text ≡ script_text (map (λ e. e.reply) history)
+
+-- what is printed of the scripts of a bundle: nothing without one, and else what is printed of its commands
+abbrev pub ArePlayed : Answer
+ArePlayed nodes [] text = text ≡ []
+ArePlayed nodes (script ∷ []) text = (commands : List Command) × IsScript script.lines commands × IsPlayed nodes commands text
+ArePlayed nodes _ text = ⊥
+
+-- a run of this bundle writes this text and ends with this status
+abbrev pub IsOutput : List ℕ → List ℕ → Status → Type 0
+IsOutput bundle text status = IsAnswered ArePlayed bundle text status
+
+-- the output of this bundle was written, whole, behind what was written before
+pub record WritesOutput (old new : Option (List ℕ)) (bundle : List ℕ) (status : Status) : Type 0 where
+  pub text : List ℕ
+  pub output : IsOutput bundle text status
+  pub written : Appends old new text
+
+-- a prefix of the output of this bundle was written behind what was written before
+pub record WritesPartOfOutput (old new : Option (List ℕ)) (bundle : List ℕ) : Type 0 where
+  pub text : List ℕ
+  pub status : Status
+  pub output : IsOutput bundle text status
+  pub count : ℕ
+  pub within : count ≤ length text
+  pub written : Appends old new (take count text)

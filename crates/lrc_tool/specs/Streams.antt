@@ -1,0 +1,30 @@
+-- What was read of a source and written to a sink, and when one of them has failed.
+use Rattle.std.specs.Prelude.{ℕ, ◌<◌, ◌≤◌, Bool, true, false, ◌&&◌, nat_lt, nat_eq, ◌⊎◌, List, length, take, Option, Result, Ok, Err}
+use Rattle.std.specs.Io.KnownBytes.{Consumes, Appends, IsAtEnd}
+use Rattle.lrc_tool.specs.declared.streams.RunFault.{RunFault}
+use Rattle.lrc_tool.specs.declared.streams.RunFault.TheVariants.{Read, Write}
+
+-- a write failed: it answered an error, or took no byte of some
+abbrev pub is_failed_write : {E : Type 0} → Result ℕ E → List ℕ → Bool
+is_failed_write (Ok count) bytes = nat_eq count 0 && nat_lt 0 (length bytes)
+is_failed_write (Err e) bytes = true
+
+-- the call ended with the fault of a read
+abbrev pub is_read_fault : {X : Type 0} → Result X RunFault → Bool
+is_read_fault (Err Read) = true
+is_read_fault _ = false
+
+-- the call ended with the fault of a write
+abbrev pub is_write_fault : {X : Type 0} → Result X RunFault → Bool
+is_write_fault (Err Write) = true
+is_write_fault _ = false
+
+-- these bytes came from the front, and they are all that there were, or more than the limit
+abbrev pub IsReadUpTo : ℕ → Option (List ℕ) → Option (List ℕ) → List ℕ → Type 0
+IsReadUpTo limit old new bytes = Consumes old new bytes × (IsAtEnd new ⊎ (limit < length bytes))
+
+-- so many of the bytes were written, from the front, and no more
+pub record AppendsPart (old new : Option (List ℕ)) (bytes : List ℕ) : Type 0 where
+  pub count : ℕ
+  pub within : count ≤ length bytes
+  pub written : Appends old new (take count bytes)

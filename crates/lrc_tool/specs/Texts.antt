@@ -1,0 +1,74 @@
+-- The texts of replies, and of refusals of input.
+use Rattle.std.specs.Prelude.{ℕ, ◌+◌, List, [], ◌∷◌, ◌++◌, codes, decimal, map, flat_map}
+use Rattle.lrc_topology.specs.declared.seat.Seat.{Seat}
+use Rattle.lrc_topology.specs.declared.error.TopologyError.{TopologyError}
+use Rattle.lrc_topology.specs.declared.error.TopologyError.TheVariants.{Syntax, NoNodes, BadField, OutOfRange, DoubleNode, TooMany, OutOfMemory}
+use Rattle.lrc_book.specs.declared.reply.Reply.{Reply}
+use Rattle.lrc_book.specs.declared.reply.Reply.TheVariants.{Placed, Dropped, Changed, Refused}
+use Rattle.lrc_book.specs.declared.reply.Refusal.{Refusal}
+use Rattle.lrc_book.specs.declared.reply.Refusal.TheVariants.{UnknownStripe, StripeExists, NoLawfulNode, UnknownNode, WrongMode}
+use Rattle.lrc_tool.specs.declared.script.Cause.{Cause}
+use Rattle.lrc_tool.specs.declared.script.Cause.TheVariants as cause
+use Rattle.lrc_tool.specs.Scripts.{BadLine}
+
+-- ---- replies
+
+-- NODE:SLOT
+abbrev pub seat_text : Seat → List ℕ
+seat_text seat = decimal seat.node.value ++ codes ":" ++ decimal seat.slot
+
+-- words with a space before each
+abbrev pub spaced : List (List ℕ) → List ℕ
+spaced words = flat_map (λ word. codes " " ++ word) words
+
+-- the code of a refused command, and its detail where it has one
+abbrev pub refusal_text : Refusal → List ℕ
+refusal_text UnknownStripe = codes "101"
+refusal_text StripeExists = codes "102"
+refusal_text (NoLawfulNode fragment) = codes "103 " ++ decimal fragment.value
+refusal_text UnknownNode = codes "104"
+refusal_text WrongMode = codes "105"
+
+-- what is printed of a reply
+abbrev pub reply_text : Reply → List ℕ
+reply_text (Placed seats) = codes "placed" ++ spaced (map seat_text seats)
+reply_text Dropped = codes "dropped"
+reply_text Changed = codes "changed"
+reply_text (Refused refusal) = codes "refused " ++ refusal_text refusal
+
+-- a reply's line: the place of its call in the history, and its text
+abbrev pub reply_line : ℕ → Reply → List ℕ
+reply_line place reply = decimal place ++ codes " " ++ reply_text reply ++ codes "\n"
+
+-- a line for each of the replies, which stand in the history from this place on
+abbrev pub reply_lines : ℕ → List Reply → List ℕ
+reply_lines place [] = []
+reply_lines place (reply ∷ replies) = reply_line place reply ++ reply_lines (place + 1) replies
+
+-- what is printed of a script that got these replies, and had no other beside it
+abbrev pub script_text : List Reply → List ℕ
+script_text replies = codes "script 1\n" ++ reply_lines 1 replies
+
+-- ---- refusals of input
+
+-- the line for a refused topology; want of memory is no refusal and has none
+abbrev pub topology_line : TopologyError → List ℕ
+topology_line Syntax = codes "topology 1\n"
+topology_line NoNodes = codes "topology 2\n"
+topology_line (BadField position) = codes "topology 3 " ++ decimal position ++ codes "\n"
+topology_line (OutOfRange position) = codes "topology 4 " ++ decimal position ++ codes "\n"
+topology_line (DoubleNode number) = codes "topology 5 " ++ decimal number.value ++ codes "\n"
+topology_line TooMany = codes "topology 6\n"
+topology_line OutOfMemory = []
+
+-- the number of a cause
+abbrev pub cause_number : Cause → ℕ
+cause_number cause.UnknownWord = 1
+cause_number cause.WordCount = 2
+cause_number cause.NotANumber = 3
+cause_number cause.OutOfRange = 4
+cause_number cause.TooLong = 5
+
+-- the line for a bad line of a script
+abbrev pub bad_line_text : BadLine → List ℕ
+bad_line_text bad = codes "line " ++ decimal bad.line ++ codes " cause " ++ decimal (cause_number bad.cause) ++ codes "\n"

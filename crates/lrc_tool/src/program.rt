@@ -1,0 +1,36 @@
+//! Running a bundle, from the bytes in to the bytes out.
+
+ghost use Rattle.std.specs.Prelude.{◌≡◌, ◌≢◌, ◌||◌, IfOk, IfErr, IfSome, IsErrOf};
+ghost use Rattle.std.specs.Io.KnownBytes.{Keeps};
+ghost use Rattle.lrc_tool.specs.Streams.{is_read_fault, is_write_fault};
+ghost use Rattle.lrc_tool.specs.Outputs.{WritesOutput, WritesPartOfOutput};
+ghost use Rattle.lrc_tool.specs.declared.streams.RunFault.TheVariants as fault;
+
+use crate::output::{BUNDLE_LIMIT, output_of};
+use crate::status::Status;
+use crate::streams::{RunFault, Sink, Source, read_all, write_all};
+use std::alloc::Global;
+
+/// Runs the bundle that the source holds: reads it, makes the commands of its script, and then writes the whole output.
+pub fn run<R: Source, W: Sink>(
+    alloc: Global,
+    source: &mut R,
+    sink: &mut W,
+) -> Result<Status, RunFault>
+    // Where the bytes of the source are known, its bundle's output was written, whole.
+    ensures output { IfOk result (λ status. IfSome (R.left source.old) (λ bundle. WritesOutput (W.written sink.old) (W.written sink.new) bundle status)) }
+
+    // Where it stops, nothing was written, but for a prefix of the output if a write failed.
+    ensures nothing { IfErr result (λ e. e ≢ fault.Write → Keeps (W.written sink.old) (W.written sink.new)) }
+    ensures part { IsErrOf result fault.Write → IfSome (R.left source.old) (λ bundle. WritesPartOfOutput (W.written sink.old) (W.written sink.new) bundle) }
+
+    // It stops by a read where one failed and by a write where one failed, and never because the history is full.
+    ensures read { R.has_failed source.new ≡ (R.has_failed source.old || is_read_fault result) }
+    ensures write { W.has_failed sink.new ≡ (W.has_failed sink.old || is_write_fault result) }
+    ensures room { IfErr result (λ e. e ≢ fault.HistoryFull) }
+{
+    let bundle = read_all(alloc, source, BUNDLE_LIMIT)?;
+    let output = output_of(alloc, bundle.as_slice())?;
+    write_all(sink, output.text.as_bytes())?;
+    Ok(output.status)
+}

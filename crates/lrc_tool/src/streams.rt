@@ -1,0 +1,206 @@
+//! Where input comes from and output goes, with what is known of their bytes.
+
+ghost use Rattle.std.specs.Prelude.{◌≡◌, ◌⊎◌, ℕ, List, Option, Bool, false, ◌||◌, is_err, IfOk, IfErr, OnOk, OnErr};
+ghost use Rattle.std.specs.Io.{ReadsAtMost, WritesAtMost};
+ghost use Rattle.std.specs.Io.KnownBytes.{ReadConsumes, WriteAppends, Appends, Keeps};
+ghost use Rattle.lrc_tool.specs.Streams.{is_failed_write, is_read_fault, IsReadUpTo, AppendsPart};
+ghost use Rattle.lrc_tool.specs.declared.streams.RunFault.TheVariants as fault;
+
+use lrc_code::Fault;
+use std::alloc::{AllocError, Global};
+use std::io;
+use std::io::{Read, Write};
+use thiserror::Error;
+
+/// Why a run stopped.
+#[derive(Clone, Copy, Debug, PartialEq, Eq, Error)]
+pub enum RunFault {
+    #[error("fault 1")]
+    OutOfMemory = 1,
+    #[error("fault 2")]
+    HistoryFull = 2,
+    #[error("fault 3")]
+    Read = 3,
+    #[error("fault 4")]
+    Write = 4,
+}
+
+impl From<AllocError> for RunFault {
+    ghost use Rattle.std.specs.Prelude.{◌≡◌};
+    ghost use Rattle.lrc_tool.specs.declared.streams.RunFault.TheVariants.{OutOfMemory};
+
+    ghost from_gives = { λ _ e. e ≡ OutOfMemory };
+
+    fn from(_error: AllocError) -> RunFault {
+        RunFault::OutOfMemory
+    }
+}
+
+impl From<Fault> for RunFault {
+    ghost use Rattle.std.specs.Prelude.{◌≡◌};
+    ghost use Rattle.lrc_tool.specs.Faults.{run_fault};
+
+    ghost from_gives = { λ fault e. e ≡ run_fault fault };
+
+    fn from(fault: Fault) -> RunFault {
+        match fault {
+            Fault::OutOfMemory => RunFault::OutOfMemory,
+            Fault::HistoryFull => RunFault::HistoryFull,
+        }
+    }
+}
+
+/// A reader that says whether one of its calls has failed.
+pub trait Source {
+    // The bytes that are left, where they are known.
+    ghost left: { Self → Option (List ℕ) };
+
+    // A call has failed.
+    ghost has_failed: { Self → Bool };
+
+    /// Reads into the buffer, and answers how many bytes it gave; none only at the end.
+    fn read(&mut self, buf: &mut [u8]) -> io::Result<usize>
+        ensures bound { ReadsAtMost result buf.new }
+        ensures bytes { ReadConsumes (left self.old) (left self.new) result buf.new }
+        ensures failed { has_failed self.new ≡ (has_failed self.old || is_err result) };
+
+    /// Whether a call has failed.
+    fn failed(&self) -> bool
+        ensures { result ≡ has_failed self.now };
+}
+
+/// A writer that says whether one of its calls has failed, or has taken no byte of some.
+pub trait Sink {
+    // The bytes that were written, where they are known.
+    ghost written: { Self → Option (List ℕ) };
+
+    // A call has failed, or has taken no byte of some.
+    ghost has_failed: { Self → Bool };
+
+    /// Writes from the front of the buffer, and answers how many bytes it took.
+    fn write(&mut self, buf: &[u8]) -> io::Result<usize>
+        ensures bound { WritesAtMost result buf.now }
+        ensures bytes { WriteAppends (written self.old) (written self.new) result buf.now }
+        ensures failed { has_failed self.new ≡ (has_failed self.old || is_failed_write result buf.now) };
+
+    /// Passes on what was written.
+    fn flush(&mut self) -> io::Result<()>
+        ensures bytes { Keeps (written self.old) (written self.new) }
+        ensures failed { has_failed self.new ≡ (has_failed self.old || is_err result) };
+
+    /// Whether a call has failed, or has taken no byte of some.
+    fn failed(&self) -> bool
+        ensures { result ≡ has_failed self.now };
+}
+
+/// A reader or a writer of std, and whether one of its calls has failed.
+#[derive(Drop)]
+pub struct Plain<T> {
+    pub inner: T,
+    pub failed: bool,
+}
+
+impl<T> Plain<T> {
+    /// Has not failed yet.
+    pub fn new(inner: T) -> Self
+        ensures inner { result.inner ≡ inner }
+        ensures fresh { result.failed ≡ false }
+    {
+        Plain {
+            inner,
+            failed: false,
+        }
+    }
+}
+
+impl<R: Read> Source for Plain<R> {
+    ghost left = { λ p. R.remaining p.inner };
+
+    ghost has_failed = { λ p. p.failed };
+
+    fn read(&mut self, buf: &mut [u8]) -> io::Result<usize> {
+        let given = self.inner.read(buf);
+        if given.is_err() {
+            self.failed = true;
+        }
+        given
+    }
+
+    fn failed(&self) -> bool {
+        self.failed
+    }
+}
+
+impl<W: Write> Sink for Plain<W> {
+    ghost written = { λ p. W.contents p.inner };
+
+    ghost has_failed = { λ p. p.failed };
+
+    fn write(&mut self, buf: &[u8]) -> io::Result<usize> {
+        let taken = self.inner.write(buf);
+        if matches!(taken, Ok(0)) && !buf.is_empty() || taken.is_err() {
+            self.failed = true;
+        }
+        taken
+    }
+
+    fn flush(&mut self) -> io::Result<()> {
+        let flushed = self.inner.flush();
+        if flushed.is_err() {
+            self.failed = true;
+        }
+        flushed
+    }
+
+    fn failed(&self) -> bool {
+        self.failed
+    }
+}
+
+/// Reads to the end, or until more than `limit` bytes have come.
+pub(crate) fn read_all<R: Source>(
+    alloc: Global,
+    source: &mut R,
+    limit: usize,
+) -> Result<Vec<u8>, RunFault>
+    ensures read { IfOk result (λ v. IsReadUpTo limit (R.left source.old) (R.left source.new) v.items) }
+    ensures err { IfErr result (λ e. (e ≡ fault.OutOfMemory) ⊎ (e ≡ fault.Read)) }
+    ensures failed { R.has_failed source.new ≡ (R.has_failed source.old || is_read_fault result) }
+{
+    let mut bytes = Vec::new(alloc);
+    let mut buf = [0u8; 65536];
+    while bytes.len() <= limit {
+        let count = match source.read(&mut buf) {
+            Ok(count) => count,
+            Err(_) => return Err(RunFault::Read),
+        };
+        if count == 0 {
+            return Ok(bytes);
+        }
+        if bytes.extend_from_slice(&buf[..count]).is_err() {
+            return Err(RunFault::OutOfMemory);
+        }
+    }
+    Ok(bytes)
+}
+
+/// Writes all of the bytes, and flushes once.
+pub(crate) fn write_all<W: Sink>(sink: &mut W, bytes: &[u8]) -> Result<(), RunFault>
+    ensures written { OnOk result (Appends (W.written sink.old) (W.written sink.new) bytes.now) }
+    ensures part { OnErr result (AppendsPart (W.written sink.old) (W.written sink.new) bytes.now) }
+    ensures err { IfErr result (λ e. e ≡ fault.Write) }
+    ensures failed { W.has_failed sink.new ≡ (W.has_failed sink.old || is_err result) }
+{
+    let mut at = 0;
+    while at < bytes.len() {
+        match sink.write(&bytes[at..]) {
+            Ok(0) => return Err(RunFault::Write),
+            Ok(count) => at += count,
+            Err(_) => return Err(RunFault::Write),
+        }
+    }
+    match sink.flush() {
+        Ok(()) => Ok(()),
+        Err(_) => Err(RunFault::Write),
+    }
+}

@@ -1,0 +1,97 @@
+//! The lines of replies, and those of refusals of input.
+
+ghost use Rattle.std.specs.Prelude.{◌≡◌, ◌++◌, OnOk, string_bytes, codes, map};
+ghost use Rattle.lrc_tool.specs.Texts.{seat_text, spaced, refusal_text, reply_text, reply_line, topology_line, cause_number, bad_line_text};
+
+use crate::script::Cause;
+use lrc_book::{Refusal, Reply, Seat};
+use lrc_topology::TopologyError;
+use std::alloc::AllocError;
+
+fn push_seat(out: &mut String, seat: &Seat) -> Result<(), AllocError>
+    ensures { OnOk result (string_bytes out.new ≡ string_bytes out.old ++ (codes " " ++ seat_text seat.now)) }
+{
+    let node = seat.node.value;
+    let slot = seat.slot;
+    write!(out, " {node}:{slot}")
+}
+
+fn push_seats(out: &mut String, seats: &[Seat]) -> Result<(), AllocError>
+    ensures { OnOk result (string_bytes out.new ≡ string_bytes out.old ++ spaced (map seat_text seats.now)) }
+{
+    for seat in seats {
+        push_seat(out, seat)?;
+    }
+    Ok(())
+}
+
+fn push_refusal(out: &mut String, refusal: &Refusal) -> Result<(), AllocError>
+    ensures { OnOk result (string_bytes out.new ≡ string_bytes out.old ++ refusal_text refusal.now) }
+{
+    match refusal {
+        Refusal::UnknownStripe => out.push_str("101"),
+        Refusal::StripeExists => out.push_str("102"),
+        Refusal::NoLawfulNode(fragment) => {
+            let number = fragment.value;
+            write!(out, "103 {number}")
+        }
+        Refusal::UnknownNode => out.push_str("104"),
+        Refusal::WrongMode => out.push_str("105"),
+    }
+}
+
+fn push_reply(out: &mut String, reply: &Reply) -> Result<(), AllocError>
+    ensures { OnOk result (string_bytes out.new ≡ string_bytes out.old ++ reply_text reply.now) }
+{
+    match reply {
+        Reply::Placed(seats) => {
+            out.push_str("placed")?;
+            push_seats(out, seats.as_slice())
+        }
+        Reply::Dropped => out.push_str("dropped"),
+        Reply::Changed => out.push_str("changed"),
+        Reply::Refused(refusal) => {
+            out.push_str("refused ")?;
+            push_refusal(out, refusal)
+        }
+    }
+}
+
+/// Adds the line of a reply, whose call has this place in the history.
+pub(crate) fn push_reply_line(
+    out: &mut String,
+    place: usize,
+    reply: &Reply,
+) -> Result<(), AllocError>
+    ensures { OnOk result (string_bytes out.new ≡ string_bytes out.old ++ reply_line place reply.now) }
+{
+    write!(out, "{place} ")?;
+    push_reply(out, reply)?;
+    out.push_str("\n")
+}
+
+/// Adds the line for a refused topology; none for want of memory, which is no refusal.
+pub(crate) fn push_topology_line(out: &mut String, error: TopologyError) -> Result<(), AllocError>
+    ensures { OnOk result (string_bytes out.new ≡ string_bytes out.old ++ topology_line error) }
+{
+    match error {
+        TopologyError::Syntax => out.push_str("topology 1\n"),
+        TopologyError::NoNodes => out.push_str("topology 2\n"),
+        TopologyError::BadField(position) => write!(out, "topology 3 {position}\n"),
+        TopologyError::OutOfRange(position) => write!(out, "topology 4 {position}\n"),
+        TopologyError::DoubleNode(node) => {
+            let number = node.value;
+            write!(out, "topology 5 {number}\n")
+        }
+        TopologyError::TooMany => out.push_str("topology 6\n"),
+        TopologyError::OutOfMemory => Ok(()),
+    }
+}
+
+/// Adds the line for a bad line of a script.
+pub(crate) fn push_bad_line(out: &mut String, line: u64, cause: Cause) -> Result<(), AllocError>
+    ensures { OnOk result (string_bytes out.new ≡ string_bytes out.old ++ bad_line_text (record { line = line; cause = cause })) }
+{
+    let number = cause as u8;
+    write!(out, "line {line} cause {number}\n")
+}

@@ -1,0 +1,108 @@
+//! The program `lrcman`: its command line, its standard streams and its exit status.
+#![tactic(auto)]
+
+#[cfg(test)]
+mod tests;
+
+use clap::error::ErrorKind;
+use clap::{Command, Error};
+use lrc_tool::{Plain, RunFault, Status, run};
+use std::alloc::{AllocError, Global};
+use std::process::ExitCode;
+use std::{env, io};
+
+/// What the command line asks for.
+#[derive(Clone, Copy, Debug, PartialEq, Eq)]
+enum Request {
+    Run,
+}
+
+/// Why the program ends without a run's status: the line on standard error.
+#[derive(Clone, Copy, Debug, PartialEq, Eq, thiserror::Error)]
+enum Stop {
+    /// The command line is refused.
+    #[error("usage: lrcman run")]
+    Usage,
+    #[error("lrcman: {0}")]
+    Fault(RunFault),
+}
+
+impl Stop {
+    /// The exit status.
+    fn status(self) -> u8 {
+        match self {
+            Stop::Usage => 2,
+            Stop::Fault(_) => 3,
+        }
+    }
+}
+
+impl From<RunFault> for Stop {
+    fn from(fault: RunFault) -> Stop {
+        Stop::Fault(fault)
+    }
+}
+
+impl From<AllocError> for Stop {
+    fn from(_error: AllocError) -> Stop {
+        Stop::Fault(RunFault::OutOfMemory)
+    }
+}
+
+impl From<io::Error> for Stop {
+    /// Why the words of the command line were not given.
+    fn from(error: io::Error) -> Stop {
+        match error.kind() {
+            io::ErrorKind::OutOfMemory => Stop::Fault(RunFault::OutOfMemory),
+            // A word is no UTF-8.
+            _ => Stop::Usage,
+        }
+    }
+}
+
+impl From<Error> for Stop {
+    /// Why the words of the command line were refused.
+    fn from(error: Error) -> Stop {
+        match error.kind() {
+            ErrorKind::OutOfMemory => Stop::Fault(RunFault::OutOfMemory),
+            // A request for help too.
+            _ => Stop::Usage,
+        }
+    }
+}
+
+/// The command lines that the program takes.
+fn command_line<'a>(alloc: Global) -> Result<Command<'a>, Error> {
+    let command = Command::new(alloc, "lrcman").subcommand(Command::new(alloc, "run"))?;
+    Ok(command)
+}
+
+fn parse_request(alloc: Global, words: &[String]) -> Result<Request, Stop> {
+    let matches = command_line(alloc)?.try_get_matches_from(words)?;
+    match matches.subcommand() {
+        Some(("run", _)) => Ok(Request::Run),
+        _ => Err(Stop::Usage),
+    }
+}
+
+fn perform(rt: &HostRuntime) -> Result<Status, Stop> {
+    let alloc = rt.alloc();
+    let words = env::args(rt)?.collect::<Vec<String>>(alloc)?;
+    match parse_request(alloc, words.as_slice())? {
+        Request::Run => {
+            let mut source = Plain::new(rt.reader());
+            let mut sink = Plain::new(io::writer(rt));
+            Ok(run(alloc, &mut source, &mut sink)?)
+        }
+    }
+}
+
+fn main(rt: HostRuntime) -> ExitCode {
+    match perform(&rt) {
+        Ok(status) => ExitCode::from(status as u8),
+        Err(stop) => {
+            let _ = eprintln!(&rt; "{stop}");
+            ExitCode::from(stop.status())
+        }
+    }
+}

@@ -1,0 +1,65 @@
+//! Command lines, and what is told where the program stops.
+
+use crate::{Request, Stop, parse_request};
+use lrc_tool::RunFault;
+use std::alloc::{AllocError, Global};
+use std::test::Fail;
+
+/// The words of a command line; the first is the program's name.
+fn words(alloc: Global, line: &str) -> Result<Vec<String>, AllocError> {
+    let mut words = Vec::new(alloc);
+    for word in line.split(' ') {
+        words.push(String::from_str(alloc, word)?)?;
+    }
+    Ok(words)
+}
+
+#[test]
+fn run_is_the_only_command(rt: HostRuntime) -> Result<(), Fail> {
+    let alloc = rt.alloc();
+    for line in ["lrcman run", "lrcman run --"] {
+        let words = words(alloc, line)?;
+        assert_eq!(rt; parse_request(alloc, words.as_slice()), Ok(Request::Run));
+    }
+    let refused = [
+        "lrcman",
+        "lrcman ",
+        "lrcman walk",
+        "lrcman ru",
+        "lrcman RUN",
+        "lrcman run x",
+        "lrcman run run",
+        "lrcman help",
+        "lrcman help run",
+        "lrcman --help",
+        "lrcman -h",
+        "lrcman run --help",
+        "lrcman --version",
+    ];
+    for line in refused {
+        let words = words(alloc, line)?;
+        assert_eq!(rt;
+            parse_request(alloc, words.as_slice()),
+            Err(Stop::Usage),
+            "{line}"
+        );
+    }
+    Ok(())
+}
+
+#[test]
+fn a_stop_is_told_in_one_line(rt: HostRuntime) -> Result<(), Fail> {
+    let table = [
+        (Stop::Usage, "usage: lrcman run", 2),
+        (Stop::Fault(RunFault::OutOfMemory), "lrcman: fault 1", 3),
+        (Stop::Fault(RunFault::HistoryFull), "lrcman: fault 2", 3),
+        (Stop::Fault(RunFault::Read), "lrcman: fault 3", 3),
+        (Stop::Fault(RunFault::Write), "lrcman: fault 4", 3),
+    ];
+    for (stop, line, status) in table {
+        let told = format!(in rt.alloc(); "{stop}")?;
+        assert_eq!(rt; told.as_str(), line);
+        assert_eq!(rt; stop.status(), status);
+    }
+    Ok(())
+}
