@@ -1,5 +1,5 @@
 -- A word of four hexadecimal digits, read as a number.
-use Rattle.std.proofs.Common.{◌≡◌, ◌≢◌, ℕ, ◌<◌, ◌-◌, ◌||◌, ◌&&◌, ◌++◌, inl, inr, Bool, true, nat_eq, nat_le, Option, Some, Result, Ok, Err, OnOk, List, [], ◌∷◌, length, refl, sym, ap, ◌∙◌, arith, append_assoc}
+use Rattle.std.proofs.Common.{◌≡◌, ◌≢◌, ℕ, ◌<◌, ◌-◌, ◌||◌, ◌&&◌, ◌++◌, inl, inr, true, nat_eq, nat_le, Option, Some, Result, Ok, Err, OnOk, List, [], ◌∷◌, length, sym, ap, ◌∙◌, arith, append_assoc}
 use borrow.Author.Tests.{ne_eqb}
 use Rattle.std.proofs.lemmas.Bool.{eqb-true, eq-eqb, leb-true, and_parts, or_cases, cond_below, cond_above}
 use Rattle.std.specs.Char.{is_ascii_hexdigit, digit_value, IsAsciiHexdigit}

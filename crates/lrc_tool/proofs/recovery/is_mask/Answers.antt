@@ -1,4 +1,4 @@
-use Rattle.std.proofs.Common.{rules, tests, arith, ◌≡◌, length, ◌∙◌}
+use Rattle.std.proofs.Common.{rules, tests, ◌≡◌, length, ◌∙◌}
 use Rattle.std.specs.List.{list_all}
 use Rattle.std.specs.Char.{is_ascii_hexdigit}
 use Rattle.std.proofs.lemmas.Iterator.{YieldsList-from_slice}
