@@ -8,3 +8,4 @@ pub mod Texts
 pub mod Streams
 pub mod Faults
 pub mod Outputs
+pub mod Recoveries

@@ -7,6 +7,9 @@ pub mod laws;
 mod output;
 mod play;
 mod program;
+mod recovery;
+#[cfg(test)]
+mod recovery_tests;
 mod script;
 mod status;
 mod streams;
@@ -15,6 +18,7 @@ mod tests;
 mod texts;
 
 pub use program::run;
+pub use recovery::recover;
 pub use script::{Cause, ScriptError, parse_script};
 pub use status::Status;
 pub use streams::{Plain, RunFault, Sink, Source};

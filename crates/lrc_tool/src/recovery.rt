@@ -1,0 +1,100 @@
+//! What the code repairs of a set of losses, from the word in to the bytes out.
+
+ghost use Rattle.std.specs.Prelude.{◌≡◌, ◌≢◌, ◌||◌, ◌⊎◌, ◌++◌, OnOk, IfOk, IfErr, IsErrOf, string_bytes};
+ghost use Rattle.std.specs.Io.KnownBytes.{Appends, Keeps};
+ghost use Rattle.lrc_tool.specs.Streams.{is_write_fault, AppendsPart};
+ghost use Rattle.lrc_tool.specs.Recoveries.{is_mask, mask_of, counts_text, margin_text, losses_line, recovery_text, recovery_status};
+ghost use Rattle.lrc_tool.specs.declared.streams.RunFault.TheVariants as fault;
+
+use crate::output::Output;
+use crate::status::Status;
+use crate::streams::{RunFault, Sink, write_all};
+use lrc_code::{Class, LossMask};
+use std::alloc::{AllocError, Global};
+
+/// Tells of a mask, a word of four hexadecimal digits in either case with fragment f as bit f, how many fragments of
+/// each class are lost and how many further losses are withstood, or that the losses are not recoverable.
+///
+/// # Errors
+///
+/// `OutOfMemory` where there is no room for the line, and `Write` where it is not written.
+pub fn recover<W: Sink>(alloc: Global, mask: &str, sink: &mut W) -> Result<Status, RunFault>
+    // The line for the mask was written, whole.
+    ensures written { OnOk result (Appends (W.written sink.old) (W.written sink.new) (recovery_text mask.now)) }
+    ensures status { IfOk result (λ status. status ≡ recovery_status mask.now) }
+
+    // Where it stops, nothing was written, but for a prefix of the line if a write failed.
+    ensures nothing { IfErr result (λ e. e ≢ fault.Write → Keeps (W.written sink.old) (W.written sink.new)) }
+    ensures part { IsErrOf result fault.Write → AppendsPart (W.written sink.old) (W.written sink.new) (recovery_text mask.now) }
+
+    // It stops by a write where one failed, and else for want of memory alone.
+    ensures err { IfErr result (λ e. (e ≡ fault.OutOfMemory) ⊎ (e ≡ fault.Write)) }
+    ensures write { W.has_failed sink.new ≡ (W.has_failed sink.old || is_write_fault result) }
+{
+    let output = recovery_of(alloc, mask)?;
+    write_all(sink, output.text.as_bytes())?;
+    Ok(output.status)
+}
+
+/// The line for this word, and how it ends.
+fn recovery_of(alloc: Global, word: &str) -> Result<Output, RunFault>
+    ensures text { IfOk result (λ o. string_bytes o.text ≡ recovery_text word.now) }
+    ensures status { IfOk result (λ o. o.status ≡ recovery_status word.now) }
+    ensures err { IfErr result (λ e. e ≡ fault.OutOfMemory) }
+{
+    let mut text = String::new(alloc);
+    let status = match parse_mask(word) {
+        Some(bits) => {
+            push_losses(&mut text, LossMask::from_bits(bits))?;
+            Status::Done
+        }
+        None => {
+            text.push_str("mask refused\n")?;
+            Status::Refused
+        }
+    };
+    Ok(Output { text, status })
+}
+
+/// The number that a word of exactly four hexadecimal digits writes.
+fn parse_mask(word: &str) -> Option<u16>
+    ensures { result ≡ mask_of word.now }
+{
+    if is_mask(word.as_bytes()) {
+        u16::from_str_radix(word, 16).ok()
+    } else {
+        None
+    }
+}
+
+fn is_mask(word: &[u8]) -> bool
+    ensures { result ≡ is_mask word.now }
+{
+    word.len() == 4 && word.iter().all(|byte| byte.is_ascii_hexdigit())
+}
+
+/// Adds the line for these losses.
+fn push_losses(out: &mut String, losses: LossMask) -> Result<(), AllocError>
+    ensures { OnOk result (string_bytes out.new ≡ string_bytes out.old ++ losses_line losses.bits) }
+{
+    let a = losses.class_losses(Class::A);
+    let b = losses.class_losses(Class::B);
+    let g = losses.class_losses(Class::G);
+    push_counts(out, a, b, g)?;
+    push_margin(out, losses.margin())
+}
+
+fn push_counts(out: &mut String, a: u8, b: u8, g: u8) -> Result<(), AllocError>
+    ensures { OnOk result (string_bytes out.new ≡ string_bytes out.old ++ counts_text a b g) }
+{
+    write!(out, "A {a} B {b} G {g}")
+}
+
+fn push_margin(out: &mut String, margin: Option<u8>) -> Result<(), AllocError>
+    ensures { OnOk result (string_bytes out.new ≡ string_bytes out.old ++ margin_text margin) }
+{
+    match margin {
+        Some(margin) => write!(out, " recoverable margin {margin}\n"),
+        None => out.push_str(" not recoverable\n"),
+    }
+}
