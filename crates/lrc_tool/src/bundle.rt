@@ -122,3 +122,6 @@ fn cut_part(text: &[u8]) -> Part<'_>
         lines += 1;
     }
 }
+
+#[cfg(test)]
+mod tests;

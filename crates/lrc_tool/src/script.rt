@@ -173,3 +173,6 @@ fn is_number(word: &[u8]) -> bool
     }
     word.iter().all(|byte| byte.is_ascii_digit())
 }
+
+#[cfg(test)]
+mod tests;
