@@ -1,5 +1,5 @@
 -- Bundles: a topology, and the scripts behind it.
-use Rattle.std.specs.Prelude.{◌≡◌, ℕ, ◌+◌, ◌≤◌, ◌⊎◌, Bool, Option, Some, None, List, [], ◌∷◌, ◌++◌, length, codes, flat_map}
+use Rattle.std.specs.Prelude.{◌≡◌, ◌≢◌, All, ℕ, ◌+◌, ◌≤◌, ◌⊎◌, Bool, Option, Some, None, List, [], ◌∷◌, ◌++◌, length, codes, flat_map}
 use Rattle.std.specs.Borrow.{Bor}
 use Rattle.std.specs.List.{slice_split}
 use Rattle.lrc_tool.specs.declared.bundle.ScriptText.{ScriptText}
@@ -59,6 +59,23 @@ abbrev pub AreTextsOf : List Script → List ScriptText → Type 0
 AreTextsOf [] [] = Unit {0}
 AreTextsOf (script ∷ scripts) (text ∷ texts) = IsTextOf script text × AreTextsOf scripts texts
 AreTextsOf _ _ = ⊥
+
+-- no line of these parts
+abbrev pub NoneParts : List (List ℕ) → Type 0
+NoneParts lines = All (λ line. line ≢ codes "%%") lines
+
+-- the lines of a bundle: those of its topology, and then each script behind a parting line
+pub record IsJoined (lines topology : List (List ℕ)) (scripts : List Script) : Type 0 where
+  pub joined : lines ≡ topology ++ flat_map (λ script. codes "%%" ∷ script.lines) scripts
+  pub topology_whole : NoneParts topology
+  pub scripts_whole : All (λ script. NoneParts script.lines) scripts
+
+-- the script stands in these lines behind a parting line, and its first line has this number
+pub record StandsIn (lines : List (List ℕ)) (script : Script) : Type 0 where
+  pub before : List (List ℕ)
+  pub after : List (List ℕ)
+  pub place : lines ≡ before ++ codes "%%" ∷ (script.lines ++ after)
+  pub numbered : script.first_line ≡ length before + 2
 
 -- ---- parts
 
