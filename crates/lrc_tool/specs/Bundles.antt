@@ -79,11 +79,11 @@ pub record StandsIn (lines : List (List ℕ)) (script : Script) : Type 0 where
 
 -- ---- parts
 
--- these parts stand behind a parting line, with this text behind the line's LF or at the end of a bundle that lacks it
+-- these parts stand behind a parting line, and this text behind its LF, which may be missing at the end
 abbrev pub StandBehind : List ℕ → List (List (List ℕ)) → Type 0
 StandBehind text parts = (parts ≡ parts_of text) ⊎ ((text ≡ []) × (parts ≡ [] ∷ []))
 
--- a text that was cut at its first parting line: what stands before, as lines and how many end there, and what stands behind
+-- a text, cut at its first parting line: what stands before, how many lines end there, and what stands behind
 pub record IsCutAtParting (text before : List ℕ) (lines : ℕ) (behind : List ℕ) : Type 0 where
   pub first : List (List ℕ)
   pub others : List (List (List ℕ))

@@ -15,13 +15,18 @@ pub fn good_lines()
 
 /// A script has a first bad line exactly where a line of it is bad and none before that line is.
 pub fn first_bad_line()
-    ensures found { (number : ℕ) (lines : List (List ℕ)) (i : ℕ) (cause : Cause) → (first_bad number lines ≡ Some (record { line = number + i; cause = cause })) ↔ IsFirstBadAt lines i cause }
-    ensures none { (number : ℕ) (lines : List (List ℕ)) → (first_bad number lines ≡ None) ↔ All (λ line. cause_of line ≡ None) lines }
+    ensures found { (number : ℕ) (lines : List (List ℕ)) (i : ℕ) (cause : Cause)
+        → (first_bad number lines ≡ Some (record { line = number + i; cause = cause }))
+        ↔ IsFirstBadAt lines i cause }
+    ensures none { (number : ℕ) (lines : List (List ℕ))
+        → (first_bad number lines ≡ None) ↔ All (λ line. cause_of line ≡ None) lines }
 {}
 
 /// A bundle's lines are those of its topology and then, behind a parting line each, those of its scripts; no
 /// other line parts. The first line of a script has the number of its place, where the first line has 1.
 pub fn bundle_lines()
-    ensures cut { (bundle : List ℕ) → (topology : List (List ℕ)) × HoldsLines (topology_of bundle) topology × IsJoined (lines_of bundle) topology (scripts_of bundle) }
+    ensures cut { (bundle : List ℕ) → (topology : List (List ℕ))
+        × HoldsLines (topology_of bundle) topology
+        × IsJoined (lines_of bundle) topology (scripts_of bundle) }
     ensures numbered { (bundle : List ℕ) → All (StandsIn (lines_of bundle)) (scripts_of bundle) }
 {}
