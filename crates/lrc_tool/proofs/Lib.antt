@@ -14,3 +14,4 @@ pub mod CauseLemmas
 pub mod FirstLemmas
 pub mod PartLemmas
 pub mod BundleLemmas
+pub mod JoinLemmas
