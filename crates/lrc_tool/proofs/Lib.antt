@@ -7,6 +7,7 @@ pub mod StreamLemmas
 pub mod PlayLemmas
 pub mod OutputLemmas
 pub mod ReadLemmas
+pub mod OneOutputLemmas
 pub mod Rows
 mod RowsOfPlacing
 mod RowsOfHistories

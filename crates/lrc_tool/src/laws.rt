@@ -3,8 +3,10 @@
 ghost use Rattle.std.specs.Prelude.{◌≡◌, ℕ, ◌+◌, ◌<◌, ◌≤◌, ◌↔◌, ◌⊎◌, true, Some, None, List, All, length};
 ghost use Rattle.lrc_book.specs.declared.command.Command.{Command};
 ghost use Rattle.lrc_tool.specs.declared.script.Cause.{Cause};
+ghost use Rattle.lrc_tool.specs.declared.status.Status.{Status};
 ghost use Rattle.lrc_tool.specs.Bundles.{topology_of, scripts_of, HoldsLines, IsJoined, StandsIn};
 ghost use Rattle.lrc_tool.specs.Scripts.{lines_of, is_passed_over, command_line, cause_of, first_bad, IsFirstBadAt};
+ghost use Rattle.lrc_tool.specs.Outputs.{IsOutput};
 
 /// A line is good exactly where it is passed over and has at most 1,024 bytes, or is the line of a command.
 pub fn good_lines()
@@ -29,4 +31,10 @@ pub fn bundle_lines()
         × HoldsLines (topology_of bundle) topology
         × IsJoined (lines_of bundle) topology (scripts_of bundle) }
     ensures numbered { (bundle : List ℕ) → All (StandsIn (lines_of bundle)) (scripts_of bundle) }
+{}
+
+/// The output of a run is a function of its bundle: no other text and no other status fit it.
+pub fn one_output()
+    ensures { (bundle text other : List ℕ) (status another : Status)
+        → IsOutput bundle text status → IsOutput bundle other another → (text ≡ other) × (status ≡ another) }
 {}
