@@ -1,5 +1,5 @@
 -- A bundle has one output.
-use Rattle.std.proofs.Common.{◌≡◌, ◌≢◌, ℕ, ◌+◌, ◌^◌, ◌<◌, ◌≤◌, ◌⊎◌, inl, inr, All, List, [], ◌∷◌, ◌++◌, map, Option, Some, None, Result, Ok, Err, IsUtf8, codes, decimal, refl, sym, ap, subst, ◌∙◌, arith}
+use Rattle.std.proofs.Common.{◌≡◌, ◌≢◌, ℕ, ◌<◌, ◌≤◌, ◌⊎◌, inl, inr, All, List, [], ◌∷◌, map, Option, Some, None, Result, Ok, Err, IsUtf8, codes, decimal, refl, sym, ap, subst, ◌∙◌, arith}
 use Rattle.std.specs.Coded.{le_prop}
 use Rattle.std.proofs.lemmas.List.{append_cancel_left}
 use Rattle.std.proofs.lemmas.List.Elements.{All-head, All-tail}
@@ -18,7 +18,7 @@ use Rattle.lrc_book.specs.declared.entry.Entry.{Entry}
 use Rattle.lrc_book.specs.declared.reply.Reply.{Reply}
 use Rattle.lrc_book.specs.Histories.{World, first_world, outcome_in, next_world, IsLegalFrom}
 use Rattle.lrc_tool.specs.declared.status.Status.{Status}
-use Rattle.lrc_tool.specs.Scripts.{command_line, IsScript, BadLine}
+use Rattle.lrc_tool.specs.Scripts.{command_line, BadLine}
 use Rattle.lrc_tool.specs.Bundles.{Script, scripts_of, topology_of}
 use Rattle.lrc_tool.specs.Texts.{script_text}
 use Rattle.lrc_tool.specs.Outputs.{early_refusal, Reads, first_bad_of, IsAnsweredOver, IsAnsweredAfter, IsAnsweredUnless, IsPlayed, ArePlayed, IsOutput}
