@@ -8,7 +8,7 @@ use Rattle.lrc_tool.specs.Scripts.{BadLine, or_else, cause_of, first_bad, IsFirs
 abbrev with_cause : ℕ → Option Cause → Option BadLine → Option BadLine
 with_cause number cause later = or_else (option_map (λ k. record { line = number; cause = k }) cause) later
 
-All-cons : {X : Type 0} (P : X → Type 0) (x : X) (xs : List X) → P x → All P xs → All P (x ∷ xs)
+pub All-cons : {X : Type 0} (P : X → Type 0) (x : X) (xs : List X) → P x → All P xs → All P (x ∷ xs)
 All-cons P x xs h t zero d within = h
 All-cons P x xs h t (suc k) d within = t k d (omega arith)
 

@@ -7,6 +7,7 @@ pub mod StreamLemmas
 pub mod PlayLemmas
 pub mod OutputLemmas
 pub mod ReadLemmas
+pub mod OneOutputLemmas
 pub mod Rows
 mod RowsOfPlacing
 mod RowsOfNodes
@@ -16,3 +17,4 @@ pub mod FirstLemmas
 pub mod PartLemmas
 pub mod BundleLemmas
 pub mod MaskLemmas
+pub mod JoinLemmas

@@ -1,5 +1,5 @@
 -- Bundles: a topology, and the scripts behind it.
-use Rattle.std.specs.Prelude.{◌≡◌, ℕ, ◌+◌, ◌≤◌, ◌⊎◌, Bool, Option, Some, None, List, [], ◌∷◌, ◌++◌, length, codes, flat_map}
+use Rattle.std.specs.Prelude.{◌≡◌, ◌≢◌, All, ℕ, ◌+◌, ◌≤◌, ◌⊎◌, Bool, Option, Some, None, List, [], ◌∷◌, ◌++◌, length, codes, flat_map}
 use Rattle.std.specs.Borrow.{Bor}
 use Rattle.std.specs.List.{slice_split}
 use Rattle.lrc_tool.specs.declared.bundle.ScriptText.{ScriptText}
@@ -60,13 +60,30 @@ AreTextsOf [] [] = Unit {0}
 AreTextsOf (script ∷ scripts) (text ∷ texts) = IsTextOf script text × AreTextsOf scripts texts
 AreTextsOf _ _ = ⊥
 
+-- no line of these parts
+abbrev pub NoneParts : List (List ℕ) → Type 0
+NoneParts lines = All (λ line. line ≢ codes "%%") lines
+
+-- the lines of a bundle: those of its topology, and then each script behind a parting line
+pub record IsJoined (lines topology : List (List ℕ)) (scripts : List Script) : Type 0 where
+  pub joined : lines ≡ topology ++ flat_map (λ script. codes "%%" ∷ script.lines) scripts
+  pub topology_whole : NoneParts topology
+  pub scripts_whole : All (λ script. NoneParts script.lines) scripts
+
+-- the script stands in these lines behind a parting line, and its first line has this number
+pub record StandsIn (lines : List (List ℕ)) (script : Script) : Type 0 where
+  pub before : List (List ℕ)
+  pub after : List (List ℕ)
+  pub place : lines ≡ before ++ codes "%%" ∷ (script.lines ++ after)
+  pub numbered : script.first_line ≡ length before + 2
+
 -- ---- parts
 
--- these parts stand behind a parting line, with this text behind the line's LF or at the end of a bundle that lacks it
+-- these parts stand behind a parting line, and this text behind its LF, which may be missing at the end
 abbrev pub StandBehind : List ℕ → List (List (List ℕ)) → Type 0
 StandBehind text parts = (parts ≡ parts_of text) ⊎ ((text ≡ []) × (parts ≡ [] ∷ []))
 
--- a text that was cut at its first parting line: what stands before, as lines and how many end there, and what stands behind
+-- a text, cut at its first parting line: what stands before, how many lines end there, and what stands behind
 pub record IsCutAtParting (text before : List ℕ) (lines : ℕ) (behind : List ℕ) : Type 0 where
   pub first : List (List ℕ)
   pub others : List (List (List ℕ))

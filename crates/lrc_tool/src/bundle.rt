@@ -8,13 +8,16 @@ use std::alloc::{AllocError, AllocFailed, Global};
 /// The text of a script, and the number of its first line in the bundle.
 #[derive(Clone, Copy)]
 pub(crate) struct ScriptText<'a> {
+    /// Counted from 1 over the whole bundle.
     pub(crate) first_line: u64,
+    /// What stands behind its parting line, up to the next one or to the end.
     pub(crate) text: &'a [u8],
 }
 
 /// A bundle, cut into its topology and its scripts.
 #[derive(Drop)]
 pub(crate) struct Bundle<'a> {
+    /// What stands before the first parting line, or the whole bundle.
     pub(crate) topology: &'a [u8],
     pub(crate) scripts: Vec<ScriptText<'a>>,
 }
@@ -22,7 +25,9 @@ pub(crate) struct Bundle<'a> {
 /// Why a bundle is not cut.
 #[derive(Clone, Copy, Debug, PartialEq, Eq)]
 pub(crate) enum BundleError {
+    /// It has more scripts than are taken.
     TooManyScripts,
+    /// No room is left for the list of its scripts.
     OutOfMemory,
 }
 
@@ -60,7 +65,9 @@ pub(crate) fn split_bundle<'a>(
 ) -> Result<Bundle<'a>, BundleError>
     ensures topology { IfOk result (λ parts. parts.topology.now ≡ topology_of bundle.now) }
     ensures scripts { IfOk result (λ parts. AreTextsOf (scripts_of bundle.now) parts.scripts.items) }
-    ensures numbered { IfOk result (λ parts. All (λ s. s.first_line + length s.text.now ≤ length bundle.now) parts.scripts.items) }
+    // So the number of each line of a script is below 2 ^ 64.
+    ensures numbered { IfOk result
+        (λ parts. All (λ s. s.first_line + length s.text.now ≤ length bundle.now) parts.scripts.items) }
     ensures few { OnOk result (length (scripts_of bundle.now) ≤ most) }
     ensures many { IsErrOf result errors.TooManyScripts → most < length (scripts_of bundle.now) }
 {
@@ -122,3 +129,6 @@ fn cut_part(text: &[u8]) -> Part<'_>
         lines += 1;
     }
 }
+
+#[cfg(test)]
+mod tests;

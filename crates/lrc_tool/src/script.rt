@@ -1,4 +1,6 @@
 ghost use Rattle.std.specs.Prelude.{◌≡◌, ◌≢◌, ℕ, ◌+◌, ◌^◌, ◌<◌, ◌≤◌, [], ◌∷◌, length, decimal, OnOk, IfOk, IfErr, MatchResult};
+ghost use Rattle.std.specs.Char.{is_ascii_digit};
+ghost use Rattle.std.specs.List.{list_all};
 ghost use Rattle.std.specs.Result.{result_err};
 ghost use Rattle.lrc_tool.specs.Scripts.{lines_of, words_of, words_behind, is_passed_over, is_number, command_line, IsInRange, IsScript, IsReadAs, argument_cause, words_cause, cause_of, first_bad, IsFirstBad};
 ghost use Rattle.lrc_tool.specs.declared.script.Cause.TheVariants as causes;
@@ -184,8 +186,18 @@ fn argument(word: &[u8], bound: u64) -> Result<u64, Cause>
 fn is_number(word: &[u8]) -> bool
     ensures { result ≡ is_number word.now }
 {
-    if word.is_empty() || (word.len() > 1 && word[0] == b'0') {
-        return false;
+    match word.len() {
+        0 => false,
+        1 => has_only_digits(word),
+        _ => has_only_digits(word) && word[0] != b'0',
     }
+}
+
+fn has_only_digits(word: &[u8]) -> bool
+    ensures { result ≡ list_all is_ascii_digit word.now }
+{
     word.iter().all(|byte| byte.is_ascii_digit())
 }
+
+#[cfg(test)]
+mod tests;

@@ -1,7 +1,6 @@
-use Rattle.std.proofs.Common.{◌≡◌, ℕ, ◌<◌, [], List, Ok, length, sym, subst, refl, string_bytes, arith}
+use Rattle.std.proofs.Common.{ℕ, List, Ok, sym, subst, string_bytes}
 use Rattle.std.proofs.lemmas.Result.{IfOk-weaker}
 use Rattle.lrc_topology.specs.Documents.{IsTopologyOf}
-use Rattle.lrc_tool.specs.declared.status.Status.TheVariants as ended
 use Rattle.lrc_tool.specs.Bundles.{Script, scripts_of, AreTextsOf}
 use Rattle.lrc_tool.specs.Outputs.{IsAnsweredAfter, ArePlayed}
 use Rattle.lrc_tool.proofs.OutputLemmas.{answered, one_script}

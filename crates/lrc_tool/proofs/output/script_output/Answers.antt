@@ -1,4 +1,4 @@
-use Rattle.std.proofs.Common.{◌≡◌, ℕ, List, length, string_bytes, ap, subst, arith}
+use Rattle.std.proofs.Common.{List, length, string_bytes, ap, subst, arith}
 use Rattle.lrc_book.specs.declared.command.Command.{Command}
 use Rattle.lrc_tool.specs.Outputs.{IsPlayed}
 use Rattle.lrc_tool.proofs.SizeLemmas.{few_commands}

@@ -1,0 +1,128 @@
+//! Rows of script lines, whose first line is line 102.
+
+use super::*;
+use std::process::Abort;
+use std::test::Fail;
+
+/// The first bad line and its cause, or nothing where all lines are good.
+fn first_bad(alloc: Global, text: &[u8]) -> Result<Option<(u64, Cause)>, Fail> {
+    if text.len() > 4096 {
+        return Err("too long a row".into());
+    }
+    match parse_script(alloc, text, 102) {
+        Ok(_) => Ok(None),
+        Err(ScriptError::Bad { line, cause }) => Ok(Some((line, cause))),
+        Err(ScriptError::OutOfMemory) => Err("out of memory".into()),
+    }
+}
+
+/// Each of these texts has this first bad line, or none.
+fn check(
+    rt: &impl Abort,
+    alloc: Global,
+    texts: &[&str],
+    want: Option<(u64, Cause)>,
+) -> Result<(), Fail> {
+    for text in texts {
+        assert_eq!(rt; first_bad(alloc, text.as_bytes())?, want, "at {text:?}");
+    }
+    Ok(())
+}
+
+#[test]
+fn bad_lines(rt: HostRuntime) -> Result<(), Fail> {
+    let unknown_words = [
+        " place 1",
+        "Place 1",
+        "DROP 1",
+        "place\t1",
+        "place\u{0}1",
+        "%%%",
+        " ",
+        " # c",
+        "\r",
+    ];
+    let word_counts = ["place", "place 1 ", "place  1", "drop 1 2"];
+    let no_numbers = [
+        "place ",
+        "place 00",
+        "place 01",
+        "drop -0",
+        "place +1",
+        "place 1_0",
+        "place 0x1",
+        "place 1.0",
+        "place 1\r",
+        "place \u{663}",
+    ];
+    let out_of_range = [
+        "place 4096",
+        "drop 18446744073709551617",
+        "place 99999999999999999999999",
+    ];
+    let alloc = rt.alloc();
+    check(&rt, alloc, &unknown_words, Some((102, Cause::UnknownWord)))?;
+    check(&rt, alloc, &word_counts, Some((102, Cause::WordCount)))?;
+    check(&rt, alloc, &no_numbers, Some((102, Cause::NotANumber)))?;
+    check(&rt, alloc, &out_of_range, Some((102, Cause::OutOfRange)))?;
+    assert_eq!(rt;
+        first_bad(alloc, b"place 1\xff")?,
+        Some((102, Cause::NotANumber))
+    );
+    // The first bad line, and not the least cause; LF alone ends a line.
+    check(
+        &rt,
+        alloc,
+        &["# c\n\nplace 01\n"],
+        Some((104, Cause::NotANumber)),
+    )?;
+    check(
+        &rt,
+        alloc,
+        &["place 1\nplace x\nfoo\n"],
+        Some((103, Cause::NotANumber)),
+    )?;
+    check(
+        &rt,
+        alloc,
+        &["#\r\r\n\rplace 1"],
+        Some((103, Cause::UnknownWord)),
+    )?;
+    Ok(())
+}
+
+#[test]
+fn good_lines(rt: HostRuntime) -> Result<(), Fail> {
+    check(
+        &rt,
+        rt.alloc(),
+        &["", "\n\n", "#", "#\r\n", "place 0\ndrop 7"],
+        None,
+    )?;
+    let commands = parse_script(rt.alloc(), b"# c\nplace 4095\n\ndrop 0\nplace 12", 1)?;
+    assert_eq!(rt; commands.len(), 3);
+    let places = StripeNo::new(4095).map(Command::Place);
+    assert_eq!(rt; Some(commands[0]), places);
+    assert_eq!(rt; Some(commands[1]), StripeNo::new(0).map(Command::Drop));
+    assert_eq!(rt; Some(commands[2]), StripeNo::new(12).map(Command::Place));
+    Ok(())
+}
+
+#[test]
+fn long_lines(rt: HostRuntime) -> Result<(), Fail> {
+    let too_long = Some((102, Cause::TooLong));
+    assert_eq!(rt; first_bad(rt.alloc(), &[b'#'; 1025])?, too_long);
+    assert_eq!(rt; first_bad(rt.alloc(), &[b' '; 1025])?, too_long);
+    assert_eq!(rt; first_bad(rt.alloc(), &[b'x'; 1025])?, too_long);
+    // A comment of 1,024 bytes of every value but LF, with and without its end.
+    let mut comment = Vec::new(rt.alloc());
+    comment.push(b'#')?;
+    for i in 1..1024u32 {
+        let byte = (i % 256) as u8;
+        comment.push(if byte == b'\n' { b'#' } else { byte })?;
+    }
+    assert_eq!(rt; first_bad(rt.alloc(), comment.as_slice())?, None);
+    comment.push(b'\n')?;
+    assert_eq!(rt; first_bad(rt.alloc(), comment.as_slice())?, None);
+    Ok(())
+}
