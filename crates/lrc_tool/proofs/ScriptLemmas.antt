@@ -11,7 +11,7 @@ use Rattle.std.proofs.lemmas.Str.Parse.{IsNumeralModel, numerals_by_value}
 use Rattle.std.proofs.lemmas.Fmt.{decimal-digits_value}
 use Rattle.std.proofs.lemmas.Int.Digits.{digits_value_more}
 use Rattle.std.proofs.lemmas.List.Sums.{AllPass-from_list_all}
-use Rattle.lrc_tool.specs.declared.script.Cause.TheVariants.{UnknownWord, OutOfRange, TooLong}
+use Rattle.lrc_tool.specs.declared.script.Cause.TheVariants.{UnknownWord, OutOfRange}
 use Rattle.std.proofs.lemmas.Bool.Decides.{nat_tests}
 use Rattle.std.specs.Borrow.{Bor}
 use Rattle.std.proofs.lemmas.List.Splits.{length-slice_split, join_with_byte-slice_split}
@@ -127,10 +127,6 @@ words_cause-unknown line word rest cut no_place no_drop no_fail no_down no_up no
     ap words_cause (words_of-cut line word rest cut) ∙ ap (form_cause (words_behind rest)) (form_of-none word no_place no_drop no_fail no_down no_up no_join)
 
 -- ---- lines
-
-pub cause_of-long : (line : List ℕ) → 1024 < length line → cause_of line ≡ Some TooLong
-unfolding cause_of
-cause_of-long line long = rw (lt-ltb 1024 (length line) long) refl
 
 module _ (line : List ℕ) (short : length line ≤ 1024) where
   pub cause_of-passed : is_passed_over line ≡ true → cause_of line ≡ None

@@ -94,6 +94,7 @@ pub fn parse_script(
 }
 
 /// The command of a line, or `None` for an empty line and a comment.
+#[tactic(auto, unfolding(crate::specs::Scripts::cause_of))]
 fn parse_line(line: &[u8]) -> Result<Option<Command>, Cause>
     ensures read { IfOk result (IsReadAs line.now) }
     ensures cause { result_err result ≡ cause_of line.now }
