@@ -15,3 +15,4 @@ pub mod FirstLemmas
 pub mod PartLemmas
 pub mod BundleLemmas
 pub mod MaskLemmas
+pub mod CheckLemmas
