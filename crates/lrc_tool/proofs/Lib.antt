@@ -18,3 +18,4 @@ pub mod PartLemmas
 pub mod BundleLemmas
 pub mod MaskLemmas
 pub mod JoinLemmas
+pub mod CheckLemmas

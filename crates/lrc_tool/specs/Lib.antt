@@ -9,3 +9,4 @@ pub mod Streams
 pub mod Faults
 pub mod Outputs
 pub mod Recoveries
+pub mod Checks

@@ -2,6 +2,9 @@
 #![tactic(auto)]
 
 mod bundle;
+mod checking;
+#[cfg(test)]
+mod checking_tests;
 mod cut;
 pub mod laws;
 mod output;
@@ -17,6 +20,7 @@ mod streams;
 mod tests;
 mod texts;
 
+pub use checking::check;
 pub use program::run;
 pub use recovery::recover;
 pub use script::{Cause, ScriptError, parse_script};

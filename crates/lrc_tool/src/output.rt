@@ -18,7 +18,7 @@ use std::alloc::Global;
 pub(crate) const BUNDLE_LIMIT: usize = 4_194_304;
 
 /// The most scripts of a bundle.
-const SCRIPT_LIMIT: usize = 1;
+pub(crate) const SCRIPT_LIMIT: usize = 1;
 
 /// What a run writes, and how it ends.
 #[derive(Drop)]
@@ -73,7 +73,7 @@ fn script_output(alloc: Global, topology: Topology, script: &ScriptText) -> Resu
 }
 
 /// The output for a bad line of a script.
-fn bad_line(alloc: Global, line: u64, cause: Cause) -> Result<Output, RunFault>
+pub(crate) fn bad_line(alloc: Global, line: u64, cause: Cause) -> Result<Output, RunFault>
     ensures text { IfOk result (λ o. string_bytes o.text ≡ bad_line_text (record { line = line; cause = cause })) }
     ensures status { IfOk result (λ o. o.status ≡ ended.BadLine) }
     ensures err { IfErr result (λ e. e ≡ fault.OutOfMemory) }
@@ -85,7 +85,7 @@ fn bad_line(alloc: Global, line: u64, cause: Cause) -> Result<Output, RunFault>
 }
 
 /// The output for a refused topology.
-fn refused_topology(alloc: Global, error: TopologyError) -> Result<Output, RunFault>
+pub(crate) fn refused_topology(alloc: Global, error: TopologyError) -> Result<Output, RunFault>
     ensures text { IfOk result (λ o. string_bytes o.text ≡ topology_line error) }
     ensures status { IfOk result (λ o. o.status ≡ ended.Refused) }
     ensures err { IfErr result (λ e. e ≡ fault.OutOfMemory) }
@@ -97,7 +97,7 @@ fn refused_topology(alloc: Global, error: TopologyError) -> Result<Output, RunFa
 }
 
 /// The output for a bundle that is refused by this line.
-fn refused(alloc: Global, line: &str) -> Result<Output, RunFault>
+pub(crate) fn refused(alloc: Global, line: &str) -> Result<Output, RunFault>
     ensures text { IfOk result (λ o. string_bytes o.text ≡ line.now) }
     ensures status { IfOk result (λ o. o.status ≡ ended.Refused) }
     ensures err { IfErr result (λ e. e ≡ fault.OutOfMemory) }
