@@ -7,7 +7,7 @@ pub enum Command {
     Place(StripeNo),
     /// Takes a stripe and its homes out.
     Drop(StripeNo),
-    /// Takes a node out of the store for good, with the homes on it.
+    /// Takes a node out of the store, with the homes on it; `Join` brings it back.
     Fail(NodeNo),
     /// Says that a node can't be reached for now. Its homes stay.
     Down(NodeNo),
