@@ -142,12 +142,14 @@ fn nodes_are_changed_in_the_modes_that_allow_it(rt: HostRuntime) -> Result<(), F
     let alloc = rt.alloc();
     let script =
         b"%%\nplace 1\nfail 3\nfail 3\nup 3\njoin 3\ndown 3\ndown 3\nup 3\nplace 2\njoin 99\n";
-    let text = "script 1\n1 placed 0:0 1:0 2:0 3:0 4:0 5:0 6:0 7:0 8:0 9:0 10:0 11:0 16:0 12:0 13:0 14:0\n2 changed\n3 refused 105\n4 refused 105\n5 changed\n6 changed\n7 refused 105\n8 changed\n9 placed 3:0 15:0 17:0 18:0 19:0 0:1 1:1 2:1 4:1 5:1 6:1 7:1 11:1 8:1 9:1 10:1\n10 refused 104\n";
+    let text =
+        "script 1\n1 placed 0:0 1:0 2:0 3:0 4:0 5:0 6:0 7:0 8:0 9:0 10:0 11:0 16:0 12:0 13:0 14:0\n2 changed\n3 refused 105\n4 refused 105\n5 changed\n6 changed\n7 refused 105\n8 changed\n9 placed 3:0 15:0 17:0 18:0 19:0 0:1 1:1 2:1 4:1 5:1 6:1 7:1 11:1 8:1 9:1 10:1\n10 refused 104\n";
     let bytes = over_twenty(alloc, script)?;
     expect_output(&rt, alloc, bytes.as_slice(), text, Status::Done)?;
     // A node that is down may fail, and is then gone and not down.
     let script = b"%%\ndown 0\njoin 0\nfail 0\ndown 0\nup 0\njoin 0\nup 0\n";
-    let text = "script 1\n1 changed\n2 refused 105\n3 changed\n4 refused 105\n5 refused 105\n6 changed\n7 refused 105\n";
+    let text =
+        "script 1\n1 changed\n2 refused 105\n3 changed\n4 refused 105\n5 refused 105\n6 changed\n7 refused 105\n";
     let bytes = over_twenty(alloc, script)?;
     expect_output(&rt, alloc, bytes.as_slice(), text, Status::Done)
 }
@@ -164,7 +166,11 @@ fn commands_of_nodes_have_one_number(rt: HostRuntime) -> Result<(), Fail> {
         (" x", "line 102 cause 3\n", Status::BadLine),
         (" 00", "line 102 cause 3\n", Status::BadLine),
         (" 65536", "line 102 cause 4\n", Status::BadLine),
-        (" 99999999999999999999999", "line 102 cause 4\n", Status::BadLine),
+        (
+            " 99999999999999999999999",
+            "line 102 cause 4\n",
+            Status::BadLine,
+        ),
         ("s 1", "line 102 cause 1\n", Status::BadLine),
     ];
     for word in ["fail", "down", "up", "join"] {
