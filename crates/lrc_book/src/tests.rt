@@ -115,3 +115,50 @@ fn nodes_fail_go_down_and_come_back(rt: HostRuntime) -> Result<(), Fail> {
     assert_eq!(rt; book.missing(stripe(2)?), None);
     Ok(())
 }
+
+#[test]
+fn a_node_that_comes_back_is_empty(rt: HostRuntime) -> Result<(), Fail> {
+    let mut book = book(rt.alloc())?;
+    let (one, two) = (stripe(1)?, stripe(2)?);
+    let commands = [
+        Command::Place(one),
+        Command::Fail(node(3)),
+        Command::Join(node(3)),
+        Command::Down(node(3)),
+        Command::Up(node(3)),
+        Command::Place(two),
+    ];
+    for command in commands {
+        let _reply = ask(&mut book, command)?;
+    }
+    assert_eq!(rt; book.level(one), Some(Level::AtRisk(2)));
+    assert_eq!(rt; book.missing(one), Some(LossMask::from_bits(0x0008)));
+    assert_eq!(rt; book.level(two), Some(Level::Whole));
+    assert_eq!(rt; book.load(node(3)), Some(1));
+    Ok(())
+}
+
+#[test]
+fn four_nodes_of_a_stripe_are_too_many(rt: HostRuntime) -> Result<(), Fail> {
+    let one = stripe(1)?;
+    let mut book = book(rt.alloc())?;
+    let _placed = ask(&mut book, Command::Place(one))?;
+    for number in [0, 1, 2, 3] {
+        assert_eq!(rt;
+            ask(&mut book, Command::Down(node(number)))?,
+            Reply::Changed
+        );
+    }
+    assert_eq!(rt; book.level(one), Some(Level::Unavailable));
+    assert_eq!(rt; book.missing(one), Some(LossMask::from_bits(0x000f)));
+    for number in [0, 1, 2, 4] {
+        assert_eq!(rt;
+            ask(&mut book, Command::Fail(node(number)))?,
+            Reply::Changed
+        );
+    }
+    assert_eq!(rt; ask(&mut book, Command::Up(node(3)))?, Reply::Changed);
+    assert_eq!(rt; book.level(one), Some(Level::Lost));
+    assert_eq!(rt; book.missing(one), Some(LossMask::from_bits(0x0017)));
+    Ok(())
+}
