@@ -5,23 +5,25 @@
 mod tests;
 
 use clap::error::ErrorKind;
-use clap::{Command, Error};
-use lrc_tool::{Plain, RunFault, Status, run};
+use clap::{Arg, ArgAction, Command, Error};
+use lrc_tool::{Plain, RunFault, Status, check, recover, run};
 use std::alloc::{AllocError, Global};
 use std::process::ExitCode;
 use std::{env, io};
 
 /// What the command line asks for.
 #[derive(Clone, Copy, Debug, PartialEq, Eq)]
-enum Request {
+enum Request<'a> {
     Run,
+    Check,
+    Recover { mask: &'a str },
 }
 
-/// Why the program ends without a run's status: the line on standard error.
+/// Why the program ends without the status of its command: the line on standard error.
 #[derive(Clone, Copy, Debug, PartialEq, Eq, thiserror::Error)]
 enum Stop {
     /// The command line is refused.
-    #[error("usage: lrcman run")]
+    #[error("usage: lrcman run | lrcman check | lrcman recover MASK")]
     Usage,
     #[error("lrcman: {0}")]
     Fault(RunFault),
@@ -73,14 +75,26 @@ impl From<Error> for Stop {
 
 /// The command lines that the program takes.
 fn command_line<'a>(alloc: Global) -> Result<Command<'a>, Error> {
-    let command = Command::new(alloc, "lrcman").subcommand(Command::new(alloc, "run"))?;
+    let mask = Arg::new(alloc, "mask")
+        .required(true)
+        .action(ArgAction::Set);
+    let recover = Command::new(alloc, "recover").arg(mask)?;
+    let command = Command::new(alloc, "lrcman")
+        .subcommand(Command::new(alloc, "run"))?
+        .subcommand(Command::new(alloc, "check"))?
+        .subcommand(recover)?;
     Ok(command)
 }
 
-fn parse_request(alloc: Global, words: &[String]) -> Result<Request, Stop> {
+fn parse_request<'a>(alloc: Global, words: &'a [String]) -> Result<Request<'a>, Stop> {
     let matches = command_line(alloc)?.try_get_matches_from(words)?;
     match matches.subcommand() {
         Some(("run", _)) => Ok(Request::Run),
+        Some(("check", _)) => Ok(Request::Check),
+        Some(("recover", found)) => {
+            let mask = found.get_str("mask").ok_or(Stop::Usage)?;
+            Ok(Request::Recover { mask })
+        }
         _ => Err(Stop::Usage),
     }
 }
@@ -93,6 +107,15 @@ fn perform(rt: &HostRuntime) -> Result<Status, Stop> {
             let mut source = Plain::new(rt.reader());
             let mut sink = Plain::new(io::writer(rt));
             Ok(run(alloc, &mut source, &mut sink)?)
+        }
+        Request::Check => {
+            let mut source = Plain::new(rt.reader());
+            let mut sink = Plain::new(io::writer(rt));
+            Ok(check(alloc, &mut source, &mut sink)?)
+        }
+        Request::Recover { mask } => {
+            let mut sink = Plain::new(io::writer(rt));
+            Ok(recover(alloc, mask, &mut sink)?)
         }
     }
 }

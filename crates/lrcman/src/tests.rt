@@ -15,13 +15,33 @@ fn words(alloc: Global, line: &str) -> Result<Vec<String>, AllocError> {
 }
 
 #[test]
-fn run_is_the_only_command(rt: HostRuntime) -> Result<(), Fail> {
+fn each_command_has_its_words(rt: HostRuntime) -> Result<(), Fail> {
     let alloc = rt.alloc();
     for line in ["lrcman run", "lrcman run --"] {
         let words = words(alloc, line)?;
         assert_eq!(rt; parse_request(alloc, words.as_slice()), Ok(Request::Run));
     }
+    for line in ["lrcman check", "lrcman check --"] {
+        let words = words(alloc, line)?;
+        assert_eq!(rt; parse_request(alloc, words.as_slice()), Ok(Request::Check));
+    }
+    for mask in ["0047", "47", "FFFF", "x y", ""] {
+        let mut words = words(alloc, "lrcman recover")?;
+        words.push(String::from_str(alloc, mask)?)?;
+        assert_eq!(rt;
+            parse_request(alloc, words.as_slice()),
+            Ok(Request::Recover { mask })
+        );
+    }
     let refused = [
+        "lrcman recover",
+        "lrcman recover 0047 0047",
+        "lrcman recove 0047",
+        "lrcman recover -001",
+        "lrcman recover --help",
+        "lrcman check x",
+        "lrcman check run",
+        "lrcman Check",
         "lrcman",
         "lrcman ",
         "lrcman walk",
@@ -50,7 +70,11 @@ fn run_is_the_only_command(rt: HostRuntime) -> Result<(), Fail> {
 #[test]
 fn a_stop_is_told_in_one_line(rt: HostRuntime) -> Result<(), Fail> {
     let table = [
-        (Stop::Usage, "usage: lrcman run", 2),
+        (
+            Stop::Usage,
+            "usage: lrcman run | lrcman check | lrcman recover MASK",
+            2,
+        ),
         (Stop::Fault(RunFault::OutOfMemory), "lrcman: fault 1", 3),
         (Stop::Fault(RunFault::HistoryFull), "lrcman: fault 2", 3),
         (Stop::Fault(RunFault::Read), "lrcman: fault 3", 3),
