@@ -1,5 +1,5 @@
 -- The answer of a check, from the parts of its bundle.
-use Rattle.std.proofs.Common.{◌≡◌, ℕ, ◌+◌, ◌<◌, ◌≤◌, inl, inr, not, List, [], ◌∷◌, ◌++◌, length, map, filter, sum, codes, Option, Some, None, IfSome, Result, Ok, Err, refl, sym, ap, subst, ◌∙◌, arith, length-append, append-nil}
+use Rattle.std.proofs.Common.{◌≡◌, ℕ, ◌<◌, ◌≤◌, inl, inr, List, [], ◌∷◌, ◌++◌, length, map, sum, codes, Option, Some, None, IfSome, Ok, refl, sym, ap, subst, ◌∙◌, arith, length-append, append-nil}
 use Rattle.std.proofs.lemmas.Bool.{le-ltb, lt-ltb}
 use Rattle.std.proofs.lemmas.List.{length-map}
 use Rattle.std.specs.Io.KnownBytes.{Appends}
@@ -11,7 +11,7 @@ use Rattle.lrc_tool.specs.declared.script.Cause.{Cause}
 use Rattle.lrc_tool.specs.declared.status.Status.{Status}
 use Rattle.lrc_tool.specs.declared.status.Status.TheVariants as ended
 use Rattle.lrc_tool.specs.Streams.{IsReadUpTo, AppendsPart}
-use Rattle.lrc_tool.specs.Scripts.{lines_of, is_passed_over, command_line, IsScript, BadLine, or_else, first_bad}
+use Rattle.lrc_tool.specs.Scripts.{lines_of, command_line, IsScript, BadLine, or_else, first_bad}
 use Rattle.lrc_tool.specs.Bundles.{Script, scripts_of, topology_of, IsTextOf, AreTextsOf}
 use Rattle.lrc_tool.specs.Texts.{bad_line_text}
 use Rattle.lrc_tool.specs.Outputs.{early_refusal, IsAnsweredUnless, IsAnsweredOver, IsAnsweredAfter}

@@ -1,10 +1,10 @@
-/// How a run ended. The numbers are the program's exit statuses.
+/// How a run, a check or a recovery ended. The numbers are the program's exit statuses.
 #[derive(Clone, Copy, Debug, PartialEq, Eq)]
 pub enum Status {
-    /// All commands were made.
+    /// All was done: the commands made, the bundle checked, or the losses told.
     Done = 0,
     /// A line of a script is bad.
     BadLine = 1,
-    /// The bundle or its topology is refused.
+    /// The bundle, its topology or the mask is refused.
     Refused = 2,
 }

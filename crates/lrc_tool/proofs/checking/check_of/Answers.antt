@@ -1,4 +1,4 @@
-use Rattle.std.proofs.Common.{rules, ◌≡◌, ℕ, ◌<◌, [], List, Ok, length, sym, subst, string_bytes, arith}
+use Rattle.std.proofs.Common.{rules, ◌≡◌, ℕ, List, Ok, length, sym, subst, string_bytes, arith}
 use Rattle.std.proofs.lemmas.Result.{IfOk-weaker}
 use Rattle.lrc_topology.specs.Documents.{IsTopologyOf}
 use Rattle.lrc_tool.specs.Bundles.{Script, scripts_of, AreTextsOf}
