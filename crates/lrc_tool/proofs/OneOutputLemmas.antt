@@ -1,5 +1,5 @@
 -- A bundle has one output.
-use Rattle.std.proofs.Common.{◌≡◌, ◌≢◌, ℕ, ◌<◌, ◌≤◌, ◌⊎◌, inl, inr, All, List, [], ◌∷◌, map, Option, Some, None, Result, Ok, Err, IsUtf8, codes, decimal, refl, sym, ap, subst, ◌∙◌, arith}
+use Rattle.std.proofs.Common.{◌≡◌, ◌≢◌, ℕ, ◌+◌, ◌*◌, ◌<◌, ◌≤◌, ◌⊎◌, inl, inr, All, List, [], ◌∷◌, map, Option, Some, None, Result, Ok, Err, IsUtf8, codes, decimal, refl, sym, ap, subst, ◌∙◌, arith}
 use Rattle.std.specs.Coded.{le_prop}
 use Rattle.std.proofs.lemmas.List.{append_cancel_left}
 use Rattle.std.proofs.lemmas.List.Elements.{All-head, All-tail}
@@ -7,18 +7,19 @@ use Rattle.std.proofs.lemmas.Fmt.{decimal_injective}
 use Rattle.toml.specs.Data.{Members}
 use Rattle.toml.specs.Parse.{parse_document}
 use Rattle.lrc_code.specs.declared.numbers.StripeNo.{StripeNo}
+use Rattle.lrc_code.specs.declared.numbers.NodeNo.{NodeNo}
 use Rattle.lrc_code.specs.declared.numbers.SessionNo.{SessionNo}
 use Rattle.lrc_topology.specs.declared.NodeInfo.{NodeInfo}
 use Rattle.lrc_topology.specs.declared.error.TopologyError.{TopologyError}
 use Rattle.lrc_topology.specs.declared.error.TopologyError.TheVariants.{Syntax, NoNodes, BadField, OutOfRange, DoubleNode, TooMany, OutOfMemory}
 use Rattle.lrc_topology.specs.Documents.{IsReadAs, entries_of, node_of, refusal, IsTopologyOf, IsRefusedBy}
 use Rattle.lrc_book.specs.declared.command.Command.{Command}
-use Rattle.lrc_book.specs.declared.command.Command.TheVariants.{Place, Drop}
+use Rattle.lrc_book.specs.declared.command.Command.TheVariants.{Place, Drop, Fail, Down, Up, Join}
 use Rattle.lrc_book.specs.declared.entry.Entry.{Entry}
 use Rattle.lrc_book.specs.declared.reply.Reply.{Reply}
 use Rattle.lrc_book.specs.Histories.{World, first_world, outcome_in, next_world, IsLegalFrom}
 use Rattle.lrc_tool.specs.declared.status.Status.{Status}
-use Rattle.lrc_tool.specs.Scripts.{command_line, BadLine}
+use Rattle.lrc_tool.specs.Scripts.{command_line, IsInRange, BadLine}
 use Rattle.lrc_tool.specs.Bundles.{Script, scripts_of, topology_of}
 use Rattle.lrc_tool.specs.Texts.{script_text}
 use Rattle.lrc_tool.specs.Outputs.{early_refusal, Reads, first_bad_of, IsAnsweredOver, IsAnsweredAfter, IsAnsweredUnless, IsPlayed, ArePlayed, IsOutput}
@@ -40,22 +41,68 @@ same_number s t e =
     let b = t.in_range in
     same_stripe s t (decimal_injective s.value t.value (omega (arith, a)) (omega (arith, b)) e)
 
--- each line is that of one command
-same_command : (c d : Command) → command_line c ≡ command_line d → c ≡ d
-same_command (Place s) (Place t) e = ap Place (same_number s t (append_cancel_left (codes "place ") _ _ e))
-same_command (Place s) (Drop t) e = let p : ℕ = 112 in let d : ℕ = 100 in let bad : p ≡ d = cc in absurd (omega (arith, bad))
-same_command (Drop s) (Place t) e = let p : ℕ = 112 in let d : ℕ = 100 in let bad : d ≡ p = cc in absurd (omega (arith, bad))
-same_command (Drop s) (Drop t) e = ap Drop (same_number s t (append_cancel_left (codes "drop ") _ _ e))
+abbrev node : ℕ → NodeNo
+node v = record { value = v }
 
-same_commands : (cs ds : List Command) → map command_line cs ≡ map command_line ds → cs ≡ ds
-same_commands [] [] e = refl
-same_commands [] (d ∷ ds) e = absurd (cc)
-same_commands (c ∷ cs) [] e = absurd (cc)
-same_commands (c ∷ cs) (d ∷ ds) e =
+same_node : (m n : NodeNo) → m.value < 65536 → n.value < 65536 → decimal m.value ≡ decimal n.value → m ≡ n
+same_node m n a b e = ap (λ v. node v) (decimal_injective m.value n.value (omega (arith, a)) (omega (arith, b)) e)
+
+-- the first two letters of a line, as one number
+letters : List ℕ → ℕ
+letters (x ∷ y ∷ more) = 1000 * x + y
+letters other = 0
+
+apart : (c d : Command) → command_line c ≡ command_line d → letters (command_line c) ≡ letters (command_line d)
+apart c d e = ap letters e
+
+-- each line is that of one command in range
+same_command : (c d : Command) → IsInRange c → IsInRange d → command_line c ≡ command_line d → c ≡ d
+same_command (Place s) (Place t) a b e = ap Place (same_number s t (append_cancel_left (codes "place ") _ _ e))
+same_command (Place s) (Drop t) a b e = absurd (let bad : 112108 ≡ 100114 = apart (Place s) (Drop t) e in omega (arith, bad))
+same_command (Place s) (Fail t) a b e = absurd (let bad : 112108 ≡ 102097 = apart (Place s) (Fail t) e in omega (arith, bad))
+same_command (Place s) (Down t) a b e = absurd (let bad : 112108 ≡ 100111 = apart (Place s) (Down t) e in omega (arith, bad))
+same_command (Place s) (Up t) a b e = absurd (let bad : 112108 ≡ 117112 = apart (Place s) (Up t) e in omega (arith, bad))
+same_command (Place s) (Join t) a b e = absurd (let bad : 112108 ≡ 106111 = apart (Place s) (Join t) e in omega (arith, bad))
+same_command (Drop s) (Place t) a b e = absurd (let bad : 100114 ≡ 112108 = apart (Drop s) (Place t) e in omega (arith, bad))
+same_command (Drop s) (Drop t) a b e = ap Drop (same_number s t (append_cancel_left (codes "drop ") _ _ e))
+same_command (Drop s) (Fail t) a b e = absurd (let bad : 100114 ≡ 102097 = apart (Drop s) (Fail t) e in omega (arith, bad))
+same_command (Drop s) (Down t) a b e = absurd (let bad : 100114 ≡ 100111 = apart (Drop s) (Down t) e in omega (arith, bad))
+same_command (Drop s) (Up t) a b e = absurd (let bad : 100114 ≡ 117112 = apart (Drop s) (Up t) e in omega (arith, bad))
+same_command (Drop s) (Join t) a b e = absurd (let bad : 100114 ≡ 106111 = apart (Drop s) (Join t) e in omega (arith, bad))
+same_command (Fail s) (Place t) a b e = absurd (let bad : 102097 ≡ 112108 = apart (Fail s) (Place t) e in omega (arith, bad))
+same_command (Fail s) (Drop t) a b e = absurd (let bad : 102097 ≡ 100114 = apart (Fail s) (Drop t) e in omega (arith, bad))
+same_command (Fail s) (Fail t) a b e = ap Fail (same_node s t a b (append_cancel_left (codes "fail ") _ _ e))
+same_command (Fail s) (Down t) a b e = absurd (let bad : 102097 ≡ 100111 = apart (Fail s) (Down t) e in omega (arith, bad))
+same_command (Fail s) (Up t) a b e = absurd (let bad : 102097 ≡ 117112 = apart (Fail s) (Up t) e in omega (arith, bad))
+same_command (Fail s) (Join t) a b e = absurd (let bad : 102097 ≡ 106111 = apart (Fail s) (Join t) e in omega (arith, bad))
+same_command (Down s) (Place t) a b e = absurd (let bad : 100111 ≡ 112108 = apart (Down s) (Place t) e in omega (arith, bad))
+same_command (Down s) (Drop t) a b e = absurd (let bad : 100111 ≡ 100114 = apart (Down s) (Drop t) e in omega (arith, bad))
+same_command (Down s) (Fail t) a b e = absurd (let bad : 100111 ≡ 102097 = apart (Down s) (Fail t) e in omega (arith, bad))
+same_command (Down s) (Down t) a b e = ap Down (same_node s t a b (append_cancel_left (codes "down ") _ _ e))
+same_command (Down s) (Up t) a b e = absurd (let bad : 100111 ≡ 117112 = apart (Down s) (Up t) e in omega (arith, bad))
+same_command (Down s) (Join t) a b e = absurd (let bad : 100111 ≡ 106111 = apart (Down s) (Join t) e in omega (arith, bad))
+same_command (Up s) (Place t) a b e = absurd (let bad : 117112 ≡ 112108 = apart (Up s) (Place t) e in omega (arith, bad))
+same_command (Up s) (Drop t) a b e = absurd (let bad : 117112 ≡ 100114 = apart (Up s) (Drop t) e in omega (arith, bad))
+same_command (Up s) (Fail t) a b e = absurd (let bad : 117112 ≡ 102097 = apart (Up s) (Fail t) e in omega (arith, bad))
+same_command (Up s) (Down t) a b e = absurd (let bad : 117112 ≡ 100111 = apart (Up s) (Down t) e in omega (arith, bad))
+same_command (Up s) (Up t) a b e = ap Up (same_node s t a b (append_cancel_left (codes "up ") _ _ e))
+same_command (Up s) (Join t) a b e = absurd (let bad : 117112 ≡ 106111 = apart (Up s) (Join t) e in omega (arith, bad))
+same_command (Join s) (Place t) a b e = absurd (let bad : 106111 ≡ 112108 = apart (Join s) (Place t) e in omega (arith, bad))
+same_command (Join s) (Drop t) a b e = absurd (let bad : 106111 ≡ 100114 = apart (Join s) (Drop t) e in omega (arith, bad))
+same_command (Join s) (Fail t) a b e = absurd (let bad : 106111 ≡ 102097 = apart (Join s) (Fail t) e in omega (arith, bad))
+same_command (Join s) (Down t) a b e = absurd (let bad : 106111 ≡ 100111 = apart (Join s) (Down t) e in omega (arith, bad))
+same_command (Join s) (Up t) a b e = absurd (let bad : 106111 ≡ 117112 = apart (Join s) (Up t) e in omega (arith, bad))
+same_command (Join s) (Join t) a b e = ap Join (same_node s t a b (append_cancel_left (codes "join ") _ _ e))
+
+same_commands : (cs ds : List Command) → All IsInRange cs → All IsInRange ds → map command_line cs ≡ map command_line ds → cs ≡ ds
+same_commands [] [] a b e = refl
+same_commands [] (d ∷ ds) a b e = absurd (cc)
+same_commands (c ∷ cs) [] a b e = absurd (cc)
+same_commands (c ∷ cs) (d ∷ ds) a b e =
     let here : command_line c ≡ command_line d = cc in
     let rest : map command_line cs ≡ map command_line ds = cc in
-    let one = same_command c d here in
-    let more = same_commands cs ds rest in
+    let one = same_command c d (All-head IsInRange c cs a) (All-head IsInRange d ds b) here in
+    let more = same_commands cs ds (All-tail IsInRange c cs a) (All-tail IsInRange d ds b) rest in
     cc
 
 -- ---- histories
@@ -97,7 +144,7 @@ same_play nodes cs t u p q =
 same_plays : (nodes : List NodeInfo) (scripts : List Script) (t u : List ℕ) → ArePlayed nodes scripts t → ArePlayed nodes scripts u → t ≡ u
 same_plays nodes [] t u p q = p ∙ sym q
 same_plays nodes (s ∷ []) t u (cs, are, p) (ds, too, q) =
-    let same = same_commands cs ds (sym are.listed ∙ too.listed) in same_play nodes ds t u (subst (λ (xs : List Command). IsPlayed nodes xs t) same p) q
+    let same = same_commands cs ds are.in_range too.in_range (sym are.listed ∙ too.listed) in same_play nodes ds t u (subst (λ (xs : List Command). IsPlayed nodes xs t) same p) q
 same_plays nodes (s ∷ s' ∷ ss) t u p q = absurd p
 
 -- ---- topologies
