@@ -48,7 +48,7 @@ same_node : (m n : NodeNo) → m.value < 65536 → n.value < 65536 → decimal m
 same_node m n a b e = ap (λ v. node v) (decimal_injective m.value n.value (omega (arith, a)) (omega (arith, b)) e)
 
 -- the first two letters of a line, as one number
-letters : List ℕ → ℕ
+abbrev letters : List ℕ → ℕ
 letters (x ∷ y ∷ more) = 1000 * x + y
 letters other = 0
 
