@@ -6,17 +6,17 @@ use Rattle.std.specs.Io.KnownBytes.{Appends}
 use Rattle.lrc_topology.specs.declared.NodeInfo.{NodeInfo}
 use Rattle.lrc_topology.specs.Documents.{IsTopologyOf}
 use Rattle.lrc_book.specs.declared.command.Command.{Command}
-use Rattle.lrc_tool.specs.declared.bundle.ScriptText.{ScriptText}
-use Rattle.lrc_tool.specs.declared.script.Cause.{Cause}
+use Rattle.lrc_script.specs.declared.bundle.ScriptText.{ScriptText}
+use Rattle.lrc_script.specs.declared.script.Cause.{Cause}
 use Rattle.lrc_tool.specs.declared.status.Status.{Status}
 use Rattle.lrc_tool.specs.declared.status.Status.TheVariants as ended
 use Rattle.lrc_tool.specs.Streams.{IsReadUpTo, AppendsPart}
-use Rattle.lrc_tool.specs.Scripts.{lines_of, command_line, IsScript, BadLine, or_else, first_bad}
-use Rattle.lrc_tool.specs.Bundles.{Script, scripts_of, topology_of, IsTextOf, AreTextsOf}
+use Rattle.lrc_script.specs.Scripts.{lines_of, command_line, IsScript, BadLine, or_else, first_bad}
+use Rattle.lrc_script.specs.Bundles.{Script, scripts_of, topology_of, IsTextOf, AreTextsOf}
 use Rattle.lrc_tool.specs.Texts.{bad_line_text}
 use Rattle.lrc_tool.specs.Outputs.{early_refusal, IsAnsweredUnless, IsAnsweredOver, IsAnsweredAfter}
 use Rattle.lrc_tool.specs.Checks.{command_count, counts_line, AreCounted, IsCheck, WritesCheck, WritesPartOfCheck}
-use Rattle.lrc_tool.proofs.BundleLemmas.{first_bad-holds, IsScript-holds}
+use Rattle.lrc_script.proofs.BundleLemmas.{first_bad-holds, IsScript-holds}
 
 -- ---- one script
 

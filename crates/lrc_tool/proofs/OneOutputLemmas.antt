@@ -19,8 +19,8 @@ use Rattle.lrc_book.specs.declared.entry.Entry.{Entry}
 use Rattle.lrc_book.specs.declared.reply.Reply.{Reply}
 use Rattle.lrc_book.specs.Histories.{World, first_world, outcome_in, next_world, IsLegalFrom}
 use Rattle.lrc_tool.specs.declared.status.Status.{Status}
-use Rattle.lrc_tool.specs.Scripts.{command_line, IsInRange, BadLine}
-use Rattle.lrc_tool.specs.Bundles.{Script, scripts_of, topology_of}
+use Rattle.lrc_script.specs.Scripts.{command_line, IsInRange, BadLine}
+use Rattle.lrc_script.specs.Bundles.{Script, scripts_of, topology_of}
 use Rattle.lrc_tool.specs.Texts.{script_text}
 use Rattle.lrc_tool.specs.Outputs.{early_refusal, Reads, first_bad_of, IsAnsweredOver, IsAnsweredAfter, IsAnsweredUnless, IsPlayed, ArePlayed, IsOutput}
 

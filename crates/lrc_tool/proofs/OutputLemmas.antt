@@ -6,12 +6,12 @@ use Rattle.std.proofs.Math.Seq.{take-append_seam}
 use Rattle.lrc_topology.specs.declared.NodeInfo.{NodeInfo}
 use Rattle.lrc_topology.specs.Documents.{IsTopologyOf}
 use Rattle.lrc_book.specs.declared.command.Command.{Command}
-use Rattle.lrc_tool.specs.declared.bundle.ScriptText.{ScriptText}
-use Rattle.lrc_tool.specs.declared.script.Cause.{Cause}
+use Rattle.lrc_script.specs.declared.bundle.ScriptText.{ScriptText}
+use Rattle.lrc_script.specs.declared.script.Cause.{Cause}
 use Rattle.lrc_tool.specs.declared.status.Status.{Status}
 use Rattle.lrc_tool.specs.declared.status.Status.TheVariants as ended
-use Rattle.lrc_tool.specs.Scripts.{lines_of, is_passed_over, IsScript, BadLine, or_else, cause_of, first_bad}
-use Rattle.lrc_tool.specs.Bundles.{Script, scripts_of, topology_of, HoldsLines, IsTextOf, AreTextsOf}
+use Rattle.lrc_script.specs.Scripts.{lines_of, is_passed_over, IsScript, BadLine, or_else, cause_of, first_bad}
+use Rattle.lrc_script.specs.Bundles.{Script, scripts_of, topology_of, HoldsLines, IsTextOf, AreTextsOf}
 use Rattle.lrc_tool.specs.Texts.{bad_line_text}
 use Rattle.lrc_tool.specs.Outputs.{early_refusal, IsAnsweredUnless, IsAnsweredOver, IsAnsweredAfter, IsPlayed, ArePlayed, IsOutput}
 

@@ -2,8 +2,8 @@
 use Rattle.std.specs.Prelude.{◌≡◌, ℕ, ◌≤◌, not, List, ◌++◌, length, take, map, sum, filter, codes, decimal, Option}
 use Rattle.std.specs.Io.KnownBytes.{Appends}
 use Rattle.lrc_tool.specs.declared.status.Status.{Status}
-use Rattle.lrc_tool.specs.Scripts.{is_passed_over}
-use Rattle.lrc_tool.specs.Bundles.{Script}
+use Rattle.lrc_script.specs.Scripts.{is_passed_over}
+use Rattle.lrc_script.specs.Bundles.{Script}
 use Rattle.lrc_tool.specs.Outputs.{Answer, IsAnswered}
 
 -- how many commands a script without a bad line has: one for each line that is not passed over

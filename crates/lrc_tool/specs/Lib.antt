@@ -1,9 +1,8 @@
 pub use Rattle.lrc_topology.specs.Nodes
 pub use Rattle.lrc_topology.specs.Documents
 pub use Rattle.lrc_book.specs.Histories
-pub mod Cuts
-pub mod Scripts
-pub mod Bundles
+pub use Rattle.lrc_script.specs.Scripts
+pub use Rattle.lrc_script.specs.Bundles
 pub mod Texts
 pub mod Streams
 pub mod Faults

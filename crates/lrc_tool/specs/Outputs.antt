@@ -10,8 +10,8 @@ use Rattle.lrc_book.specs.declared.entry.Entry.{Entry}
 use Rattle.lrc_book.specs.Histories.{IsLegal}
 use Rattle.lrc_tool.specs.declared.status.Status.{Status}
 use Rattle.lrc_tool.specs.declared.status.Status.TheVariants as ended
-use Rattle.lrc_tool.specs.Scripts.{IsScript, BadLine, or_else, first_bad}
-use Rattle.lrc_tool.specs.Bundles.{Script, scripts_of, topology_of}
+use Rattle.lrc_script.specs.Scripts.{IsScript, BadLine, or_else, first_bad}
+use Rattle.lrc_script.specs.Bundles.{Script, scripts_of, topology_of}
 use Rattle.lrc_tool.specs.Texts.{script_text, topology_line, bad_line_text}
 
 -- ---- checks

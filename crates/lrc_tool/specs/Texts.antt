@@ -7,9 +7,9 @@ use Rattle.lrc_book.specs.declared.reply.Reply.{Reply}
 use Rattle.lrc_book.specs.declared.reply.Reply.TheVariants.{Placed, Dropped, Changed, Refused}
 use Rattle.lrc_book.specs.declared.reply.Refusal.{Refusal}
 use Rattle.lrc_book.specs.declared.reply.Refusal.TheVariants.{UnknownStripe, StripeExists, NoLawfulNode, UnknownNode, WrongMode}
-use Rattle.lrc_tool.specs.declared.script.Cause.{Cause}
-use Rattle.lrc_tool.specs.declared.script.Cause.TheVariants as cause
-use Rattle.lrc_tool.specs.Scripts.{BadLine}
+use Rattle.lrc_script.specs.declared.script.Cause.{Cause}
+use Rattle.lrc_script.specs.declared.script.Cause.TheVariants as cause
+use Rattle.lrc_script.specs.Scripts.{BadLine}
 
 -- ---- replies
 

@@ -4,7 +4,7 @@ ghost use Rattle.std.specs.Prelude.{◌≡◌, ◌≢◌, ◌≤◌, ◌+◌, �
 ghost use Rattle.std.specs.Io.KnownBytes.{Keeps};
 ghost use Rattle.lrc_topology.specs.declared.NodeInfo.{NodeInfo};
 ghost use Rattle.lrc_tool.specs.Streams.{is_read_fault, is_write_fault};
-ghost use Rattle.lrc_tool.specs.Bundles.{Script, IsTextOf};
+ghost use Rattle.lrc_script.specs.Bundles.{Script, IsTextOf};
 ghost use Rattle.lrc_tool.specs.Outputs.{IsAnsweredAfter};
 ghost use Rattle.lrc_tool.specs.Checks.{counts_line, AreCounted, IsCheck, WritesCheck, WritesPartOfCheck};
 ghost use Rattle.lrc_tool.specs.declared.status.Status.TheVariants as ended;

@@ -1,11 +1,9 @@
 //! The texts of the tool, and the functions of its program.
 #![tactic(auto)]
 
-mod bundle;
 mod checking;
 #[cfg(test)]
 mod checking_tests;
-mod cut;
 pub mod laws;
 mod output;
 mod play;
@@ -13,7 +11,6 @@ mod program;
 mod recovery;
 #[cfg(test)]
 mod recovery_tests;
-mod script;
 mod status;
 mod streams;
 #[cfg(test)]
@@ -23,6 +20,6 @@ mod texts;
 pub use checking::check;
 pub use program::run;
 pub use recovery::recover;
-pub use script::{Cause, ScriptError, parse_script};
+pub use lrc_script::{Cause, ScriptError, parse_script};
 pub use status::Status;
 pub use streams::{Plain, RunFault, Sink, Source};

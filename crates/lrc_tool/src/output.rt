@@ -1,7 +1,7 @@
 ghost use Rattle.std.specs.Prelude.{◌≡◌, ◌≤◌, ◌+◌, [], ◌∷◌, length, string_bytes, IfOk, IfErr};
 ghost use Rattle.lrc_tool.specs.Texts.{topology_line, bad_line_text};
 ghost use Rattle.lrc_tool.specs.Outputs.{IsAnsweredAfter, ArePlayed, IsOutput};
-ghost use Rattle.lrc_tool.specs.Bundles.{Script, IsTextOf};
+ghost use Rattle.lrc_script.specs.Bundles.{Script, IsTextOf};
 ghost use Rattle.lrc_tool.specs.declared.status.Status.TheVariants as ended;
 ghost use Rattle.lrc_tool.specs.declared.streams.RunFault.TheVariants as fault;
 

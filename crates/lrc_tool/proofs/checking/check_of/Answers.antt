@@ -1,7 +1,7 @@
 use Rattle.std.proofs.Common.{rules, ◌≡◌, ℕ, List, Ok, length, sym, subst, string_bytes, arith}
 use Rattle.std.proofs.lemmas.Result.{IfOk-weaker}
 use Rattle.lrc_topology.specs.Documents.{IsTopologyOf}
-use Rattle.lrc_tool.specs.Bundles.{Script, scripts_of, AreTextsOf}
+use Rattle.lrc_script.specs.Bundles.{Script, scripts_of, AreTextsOf}
 use Rattle.lrc_tool.specs.Outputs.{IsAnsweredAfter}
 use Rattle.lrc_tool.specs.Checks.{AreCounted}
 use Rattle.lrc_tool.proofs.OutputLemmas.{IfOk-both, one_script}

@@ -1,7 +1,7 @@
 use Rattle.std.proofs.Common.{ℕ, List, Ok, sym, subst, string_bytes}
 use Rattle.std.proofs.lemmas.Result.{IfOk-weaker}
 use Rattle.lrc_topology.specs.Documents.{IsTopologyOf}
-use Rattle.lrc_tool.specs.Bundles.{Script, scripts_of, AreTextsOf}
+use Rattle.lrc_script.specs.Bundles.{Script, scripts_of, AreTextsOf}
 use Rattle.lrc_tool.specs.Outputs.{IsAnsweredAfter, ArePlayed}
 use Rattle.lrc_tool.proofs.OutputLemmas.{answered, one_script}
 use Rattle.lrc_tool.proofs.output.output_of.Goals as goal

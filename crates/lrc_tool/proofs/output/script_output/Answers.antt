@@ -1,7 +1,7 @@
 use Rattle.std.proofs.Common.{List, length, string_bytes, ap, subst, arith}
 use Rattle.lrc_book.specs.declared.command.Command.{Command}
 use Rattle.lrc_tool.specs.Outputs.{IsPlayed}
-use Rattle.lrc_tool.proofs.SizeLemmas.{few_commands}
+use Rattle.lrc_script.proofs.SizeLemmas.{few_commands}
 use Rattle.lrc_tool.proofs.OutputLemmas.{IfOk-both, good_script, bad_script}
 use Rattle.lrc_tool.proofs.output.script_output.Goals as goal
 

@@ -1,0 +1,26 @@
+-- The pieces of a text that is cut.
+use Rattle.std.proofs.Common.{◌≡◌, ◌≢◌, ℕ, true, false, nat_eq, Option, Some, None, List, [], ◌∷◌, get_or, ap, ◌∙◌, arith}
+use Rattle.std.specs.Borrow.{Bor}
+use Rattle.std.specs.List.{All, slice_split}
+use Rattle.std.proofs.lemmas.Bool.Decides.{nat_tests}
+use Rattle.std.proofs.lemmas.List.Splits.{slice_split_none, slice_split_at}
+use Rattle.lrc_script.specs.Cuts.{IsCut}
+
+differs : (b separator : ℕ) → b ≢ separator → nat_eq b separator ≡ false
+differs b separator ne = grind (arith, nat_tests)
+
+same : (b : ℕ) → nat_eq b b ≡ true
+same b = grind (arith, nat_tests)
+
+pub has_none : (separator : ℕ) (first : List ℕ) → All (λ b. b ≢ separator) first → All (λ b. nat_eq b separator ≡ false) first
+has_none separator first none = λ k d within. differs (get_or first k d) separator (none k d within)
+
+-- the pieces of what stands behind a cut, if anything does
+abbrev pub pieces_behind : ℕ → Option (Bor (List ℕ)) → List (List ℕ)
+pieces_behind separator None = []
+pieces_behind separator (Some rest) = slice_split (λ b. nat_eq b separator) rest.now
+
+pub slice_split-cut : (separator : ℕ) (text first : List ℕ) (rest : Option (Bor (List ℕ))) → IsCut separator text first rest → slice_split (λ b. nat_eq b separator) text ≡ first ∷ pieces_behind separator rest
+slice_split-cut separator text first None cut = ap (slice_split (λ b. nat_eq b separator)) cut.1 ∙ slice_split_none (λ b. nat_eq b separator) first (has_none separator first cut.0)
+slice_split-cut separator text first (Some rest) cut =
+    ap (slice_split (λ b. nat_eq b separator)) cut.1 ∙ slice_split_at (λ b. nat_eq b separator) first separator rest.now (has_none separator first cut.0) (same separator)

@@ -1,0 +1,10 @@
+pub mod CutLemmas
+pub mod PieceLemmas
+pub mod ScriptLemmas
+pub mod LineLemmas
+pub mod SizeLemmas
+pub mod CauseLemmas
+pub mod FirstLemmas
+pub mod PartLemmas
+pub mod BundleLemmas
+pub mod JoinLemmas

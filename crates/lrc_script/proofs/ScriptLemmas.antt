@@ -1,0 +1,138 @@
+-- Words, lines and what they are read as.
+use Rattle.std.proofs.Common.{◌≡◌, ◌≢◌, ℕ, suc, ◌+◌, nat_eq, nat_lt, count_by, ◌-◌, ◌*◌, ◌^◌, ◌<◌, ◌≤◌, Bool, true, false, not, ◌&&◌, ◌||◌, List, [], ◌∷◌, length, get_or, take, decimal, codes, ◌++◌, rules, Option, Some, None, refl, sym, ap, ◌∙◌, arith}
+use borrow.Author.Tests.{ltb-true, lt-ltb, le-ltb, eqb-true, eq-eqb}
+use Rattle.std.specs.List.{list_all, starts_with, join_with_byte}
+use Rattle.std.specs.Bool.{Decides}
+use Rattle.std.proofs.lemmas.List.{take_all}
+use Rattle.std.proofs.lemmas.Slice.Eq.{bytes_eq-Decides}
+use Rattle.std.specs.Char.{is_ascii_digit, digit_value}
+use Rattle.std.specs.Str.Parse.{digits_value}
+use Rattle.std.proofs.lemmas.Str.Parse.{IsNumeralModel, numerals_by_value}
+use Rattle.std.proofs.lemmas.Fmt.{decimal-digits_value}
+use Rattle.std.proofs.lemmas.Int.Digits.{digits_value_more}
+use Rattle.std.proofs.lemmas.List.Sums.{AllPass-from_list_all}
+use Rattle.lrc_script.specs.declared.script.Cause.TheVariants.{UnknownWord, OutOfRange}
+use Rattle.std.proofs.lemmas.Bool.Decides.{nat_tests}
+use Rattle.std.specs.Borrow.{Bor}
+use Rattle.std.proofs.lemmas.List.Splits.{length-slice_split, join_with_byte-slice_split}
+use Rattle.lrc_script.specs.Cuts.{IsCut}
+use Rattle.lrc_script.specs.Scripts.{same_text, is_number, argument_cause, form_of, form_cause, words_cause, cause_of, is_passed_over, words_of, words_behind}
+use Rattle.lrc_script.proofs.CutLemmas.{pieces_behind, slice_split-cut}
+
+-- ---- texts
+
+both : (a b : Bool) → (a && b) ≡ true → (a ≡ true) × (b ≡ true)
+both true b e = (refl, e)
+both false b e = cc
+
+not_so : (b : Bool) → (b ≡ true → ⊥) → b ≡ false
+not_so true never = absurd (never refl)
+not_so false never = refl
+
+same_text-Decides : (xs ys : List ℕ) → Decides (same_text xs ys) (xs ≡ ys)
+same_text-Decides xs ys =
+    let bytes = bytes_eq-Decides ys (take (length ys) xs) in
+    let forth : same_text xs ys ≡ true → xs ≡ ys = λ e.
+    let parts = both (nat_eq (length xs) (length ys)) (starts_with nat_eq xs ys) e in
+    let long = eqb-true (length xs) (length ys) parts.0 in
+    sym (bytes.0 parts.1 ∙ take_all (length ys) xs (omega (arith, long))) in
+    let back : xs ≡ ys → same_text xs ys ≡ true = λ e. rw (eq-eqb (length xs) (length ys) (ap length e)) (bytes.1 (sym e ∙ sym (take_all (length ys) xs (omega (arith, ap length e))))) in
+    (forth, back)
+
+pub same_text-true : (xs ys : List ℕ) → same_text xs ys ≡ true → xs ≡ ys
+same_text-true xs ys e = (same_text-Decides xs ys).0 e
+
+pub same_text-false : (xs ys : List ℕ) → xs ≢ ys → same_text xs ys ≡ false
+same_text-false xs ys ne = not_so (same_text xs ys) (λ e. ne (same_text-true xs ys e))
+
+-- ---- numbers
+
+-- a word that is not empty and has no zero in front of more is a number where it has digits alone
+pub is_number-digits : (word : List ℕ) → 0 < length word → (1 < length word → get_or word 0 0 ≢ 48) → list_all is_ascii_digit word ≡ is_number word
+is_number-digits word some first = grind (arith, nat_tests)
+
+no_zero : (size first : ℕ) → (nat_eq size 1 || not (nat_eq first 48)) ≡ true → first ≡ 48 → size ≡ 1
+no_zero size first plain zero = grind (arith, nat_tests)
+
+pub is_number-parts : (word : List ℕ) → is_number word ≡ true → (0 < length word) × (list_all is_ascii_digit word ≡ true) × (get_or word 0 0 ≡ 48 → length word ≡ 1)
+is_number-parts word numeral =
+    let plain = nat_eq (length word) 1 || not (nat_eq (get_or word 0 0) 48) in
+    let some = both (nat_lt 0 (length word)) (list_all is_ascii_digit word && plain) numeral in
+    let digits = both (list_all is_ascii_digit word) plain some.1 in
+    (ltb-true 0 (length word) some.0, digits.0, no_zero (length word) (get_or word 0 0) digits.1)
+
+pub digit_value-digit : (c : ℕ) → is_ascii_digit c ≡ true → digit_value c ≡ c - 48
+digit_value-digit c digit = grind (arith, nat_tests)
+
+pub own : IsNumeralModel (λ ds. list_all is_ascii_digit ds ≡ true) (digits_value 10)
+own = numerals_by_value _ (search rules)
+
+module _ (word : List ℕ) (numeral : is_number word ≡ true) where
+  -- the digits so far, and the next
+  pub digits_value-next : (i : ℕ) → i < length word → digits_value 10 (take (i + 1) word) ≡ digits_value 10 (take i word) * 10 + (get_or word i 0 - 48)
+  digits_value-next i within =
+      digits_value_more 10 word i within ∙ ap (λ d. digits_value 10 (take i word) * 10 + d) (digit_value-digit (get_or word i 0) (AllPass-from_list_all is_ascii_digit word (is_number-parts word numeral).1 i 0 within))
+
+  -- a number is the decimal text of its value
+  pub decimal-number : digits_value 10 word < 2 ^ 64 → word ≡ decimal (digits_value 10 word)
+  decimal-number small = let parts = is_number-parts word numeral in sym (decimal-digits_value own word parts.1 parts.0 parts.2 small)
+
+  pub argument_cause-below : (bound : ℕ) → digits_value 10 word < bound → argument_cause word bound ≡ None
+  argument_cause-below bound below = rw (numeral, lt-ltb (digits_value 10 word) bound below) refl
+
+  pub argument_cause-above : (bound : ℕ) → bound ≤ digits_value 10 word → argument_cause word bound ≡ Some OutOfRange
+  argument_cause-above bound above = rw (numeral, le-ltb (digits_value 10 word) bound above) refl
+
+-- ---- words
+
+behind : (rest : Option (Bor (List ℕ))) → pieces_behind 32 rest ≡ words_behind rest
+behind None = refl
+behind (Some rest) = refl
+
+pub words_of-cut : (line word : List ℕ) (rest : Option (Bor (List ℕ))) → IsCut 32 line word rest → words_of line ≡ word ∷ words_behind rest
+words_of-cut line word rest cut = slice_split-cut 32 line word rest cut ∙ ap (λ words. word ∷ words) (behind rest)
+
+some_pieces : {X : Type 0} (pieces : List X) (n : ℕ) → length pieces ≡ n + 1 → (first : X) × (more : List X) × (pieces ≡ first ∷ more)
+some_pieces [] n e = absurd (omega (arith, e))
+some_pieces (first ∷ more) n e = (first, more, refl)
+
+pub words_of-some : (line : List ℕ) → (word : List ℕ) × (words : List (List ℕ)) × (words_of line ≡ word ∷ words)
+words_of-some line = some_pieces (words_of line) (count_by (λ b. nat_eq b 32) line) (length-slice_split (λ b. nat_eq b 32) line)
+
+-- one word stands behind where no space does
+pub words_behind-one : (rest more : Option (Bor (List ℕ))) (line : Bor (List ℕ)) (word : List ℕ) → rest ≡ Some line → more ≡ None → IsCut 32 line.now word more → words_behind rest ≡ word ∷ []
+words_behind-one rest more line word there none cut = ap words_behind there ∙ words_of-cut line.now word more cut ∙ ap (λ o. word ∷ words_behind o) none
+
+pub words_behind-more : (rest more : Option (Bor (List ℕ))) (line tail : Bor (List ℕ)) (word : List ℕ) → rest ≡ Some line → more ≡ Some tail → IsCut 32 line.now word more → length (words_behind rest) ≢ 1
+words_behind-more rest more line tail word there some cut one =
+    let both = ap words_behind there ∙ words_of-cut line.now word more cut ∙ ap (λ o. word ∷ words_behind o) some in
+    let split = words_of-some tail.now in
+    let count = ap length both ∙ ap (λ ws. suc (length ws)) split.2 in
+    absurd (omega (arith, one, count))
+
+-- ---- commands
+
+-- the line of a word and one more
+pub line-one : (line word argument name text : List ℕ) (rest : Option (Bor (List ℕ))) → IsCut 32 line word rest → words_behind rest ≡ argument ∷ [] → word ≡ name → argument ≡ text → line ≡ name ++ 32 ∷ text
+line-one line word argument name text rest cut one named written =
+    let words = words_of-cut line word rest cut ∙ ap (λ ws. word ∷ ws) one in
+    sym (join_with_byte-slice_split 32 line) ∙ ap (join_with_byte 32) words ∙ ap (λ w. w ++ 32 ∷ argument) named ∙ ap (λ w. name ++ 32 ∷ w) written
+
+form_of-none : (word : List ℕ) → word ≢ codes "place" → word ≢ codes "drop" → word ≢ codes "fail" → word ≢ codes "down" → word ≢ codes "up" → word ≢ codes "join" → form_of word ≡ None
+form_of-none word no_place no_drop no_fail no_down no_up no_join =
+    rw (same_text-false word (codes "place") no_place, same_text-false word (codes "drop") no_drop, same_text-false word (codes "fail") no_fail, same_text-false word (codes "down") no_down, same_text-false word (codes "up") no_up, same_text-false word (codes "join") no_join) refl
+
+pub words_cause-unknown : (line word : List ℕ) (rest : Option (Bor (List ℕ))) → IsCut 32 line word rest → word ≢ codes "place" → word ≢ codes "drop" → word ≢ codes "fail" → word ≢ codes "down" → word ≢ codes "up" → word ≢ codes "join" → words_cause (words_of line) ≡ Some UnknownWord
+words_cause-unknown line word rest cut no_place no_drop no_fail no_down no_up no_join =
+    ap words_cause (words_of-cut line word rest cut) ∙ ap (form_cause (words_behind rest)) (form_of-none word no_place no_drop no_fail no_down no_up no_join)
+
+-- ---- lines
+
+module _ (line : List ℕ) (short : length line ≤ 1024) where
+  pub cause_of-passed : is_passed_over line ≡ true → cause_of line ≡ None
+  unfolding cause_of
+  cause_of-passed passed = rw (le-ltb 1024 (length line) short, passed) refl
+
+  pub cause_of-command : is_passed_over line ≡ false → cause_of line ≡ words_cause (words_of line)
+  unfolding cause_of
+  cause_of-command command = rw (le-ltb 1024 (length line) short, command) refl

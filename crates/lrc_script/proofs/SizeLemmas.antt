@@ -1,0 +1,50 @@
+-- How many commands the lines of a text can be.
+use Rattle.std.proofs.Common.{◌≡◌, ℕ, suc, ◌+◌, ◌*◌, ◌≤◌, Bool, true, false, not, cond, nat_eq, All, List, [], ◌∷◌, ◌++◌, length, map, filter, codes, decimal, refl, ap, arith, length-append}
+use Rattle.std.specs.List.{slice_split, onto_first}
+use Rattle.std.proofs.lemmas.Fmt.{decimal_nonempty}
+use Rattle.lrc_book.specs.declared.command.Command.{Command}
+use Rattle.lrc_book.specs.declared.command.Command.TheVariants.{Place, Drop, Fail, Down, Up, Join}
+use Rattle.lrc_script.specs.Scripts.{lines_of, is_passed_over, command_line, IsInRange, IsScript}
+
+-- the bytes of the lines, with one for the end of each
+abbrev size_of : List (List ℕ) → ℕ
+size_of [] = 0
+size_of (line ∷ lines) = length line + 1 + size_of lines
+
+size_of-cut : (b : Bool) (x : ℕ) (parts : List (List ℕ)) (n : ℕ) → size_of parts ≡ n + 1 → size_of (cond b ([] ∷ parts) (onto_first x parts)) ≡ suc n + 1
+size_of-cut true x parts n e = omega (arith, e)
+size_of-cut false x [] n e = absurd (omega (arith, e))
+size_of-cut false x (part ∷ parts) n e = omega (arith, e)
+
+size_of-slice_split : (p : ℕ → Bool) (xs : List ℕ) → size_of (slice_split p xs) ≡ length xs + 1
+size_of-slice_split p [] = refl
+size_of-slice_split p (x ∷ xs) = size_of-cut (p x) x (slice_split p xs) (length xs) (size_of-slice_split p xs)
+
+size_of-kept : (b : Bool) (line : List ℕ) (kept lines : List (List ℕ)) → size_of kept ≤ size_of lines → size_of (cond b (line ∷ kept) kept) ≤ size_of (line ∷ lines)
+size_of-kept true line kept lines h = omega (arith, h)
+size_of-kept false line kept lines h = omega (arith, h)
+
+size_of-filter : (p : List ℕ → Bool) (lines : List (List ℕ)) → size_of (filter p lines) ≤ size_of lines
+size_of-filter p [] = omega arith
+size_of-filter p (line ∷ lines) = size_of-kept (p line) line (filter p lines) lines (size_of-filter p lines)
+
+length-command_line : (c : Command) → IsInRange c → 4 ≤ length (command_line c)
+length-command_line (Place s) _ = omega (arith, length-append (codes "place ") (decimal s.value))
+length-command_line (Drop s) _ = omega (arith, length-append (codes "drop ") (decimal s.value))
+length-command_line (Fail n) _ = omega (arith, length-append (codes "fail ") (decimal n.value))
+length-command_line (Down n) _ = omega (arith, length-append (codes "down ") (decimal n.value))
+length-command_line (Up n) small = let digit = decimal_nonempty n.value (omega (arith, small)) in omega (arith, length-append (codes "up ") (decimal n.value), digit)
+length-command_line (Join n) _ = omega (arith, length-append (codes "join ") (decimal n.value))
+
+size_of-commands : (cs : List Command) → All IsInRange cs → 5 * length cs ≤ size_of (map command_line cs)
+size_of-commands [] _ = omega arith
+size_of-commands (c ∷ cs) in_range = omega (arith, length-command_line c (in_range 0 c (omega arith)), size_of-commands cs (λ k d within. in_range (suc k) d (omega (arith, within))))
+
+-- a command's line and its end have at least five bytes
+pub few_commands : (text : List ℕ) (commands : List Command) → IsScript (lines_of text) commands → 5 * length commands ≤ length text + 1
+few_commands text commands script =
+    let all = size_of-slice_split (λ b. nat_eq b 10) text in
+    let kept = size_of-filter (λ line. not (is_passed_over line)) (lines_of text) in
+    let listed = ap size_of script.listed in
+    let made = size_of-commands commands script.in_range in
+    omega (arith, all, kept, listed, made)

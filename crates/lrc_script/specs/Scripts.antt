@@ -1,0 +1,130 @@
+-- Script lines: which command a line is, and why a line is bad.
+use Rattle.std.specs.Prelude.{◌≡◌, ℕ, ◌+◌, ◌<◌, ◌≤◌, Bool, true, false, not, ◌&&◌, ◌||◌, if◌then◌else◌, nat_lt, nat_eq, List, [], ◌∷◌, ◌++◌, length, map, filter, find, All, slice_index, codes, decimal, Option, Some, None, option_map, IsSomeAnd, slice_get, take}
+use Rattle.std.specs.List.{slice_split, list_all, starts_with}
+use Rattle.std.specs.Borrow.{Bor}
+use Rattle.std.specs.Char.{is_ascii_digit}
+use Rattle.std.specs.Str.Parse.{digits_value}
+use Rattle.lrc_book.specs.declared.command.Command.{Command}
+use Rattle.lrc_book.specs.declared.command.Command.TheVariants.{Place, Drop, Fail, Down, Up, Join}
+use Rattle.lrc_script.specs.declared.script.Cause.{Cause}
+use Rattle.lrc_script.specs.declared.script.ScriptError.{ScriptError}
+use Rattle.lrc_script.specs.declared.script.ScriptError.TheVariants.{Bad, OutOfMemory}
+use Rattle.lrc_script.specs.declared.script.Cause.TheVariants.{UnknownWord, WordCount, NotANumber, OutOfRange, TooLong}
+
+-- ---- lines
+
+-- the lines of a text, cut at each LF; behind a last LF stands one more empty line
+abbrev pub lines_of : List ℕ → List (List ℕ)
+lines_of bytes = slice_split (λ b. nat_eq b 10) bytes
+
+-- an empty line, or a comment
+abbrev pub is_passed_over : List ℕ → Bool
+is_passed_over line = nat_eq (length line) 0 || nat_eq (slice_index line 0) 35
+
+-- the line of a command
+abbrev pub command_line : Command → List ℕ
+command_line (Place s) = codes "place " ++ decimal s.value
+command_line (Drop s) = codes "drop " ++ decimal s.value
+command_line (Fail n) = codes "fail " ++ decimal n.value
+command_line (Down n) = codes "down " ++ decimal n.value
+command_line (Up n) = codes "up " ++ decimal n.value
+command_line (Join n) = codes "join " ++ decimal n.value
+
+-- a command's node has a number below 65,536; that of a stripe is in its range by its type
+abbrev pub IsInRange : Command → Type 0
+IsInRange (Place s) = Unit {0}
+IsInRange (Drop s) = Unit {0}
+IsInRange (Fail n) = n.value < 65536
+IsInRange (Down n) = n.value < 65536
+IsInRange (Up n) = n.value < 65536
+IsInRange (Join n) = n.value < 65536
+
+-- these are the commands of the lines, in order: no line is too long, and each line that is not passed over is that of a command
+pub record IsScript (lines : List (List ℕ)) (commands : List Command) : Type 0 where
+  pub short : All (λ line. length line ≤ 1024) lines
+  pub in_range : All IsInRange commands
+  pub listed : filter (λ line. not (is_passed_over line)) lines ≡ map command_line commands
+
+-- what a line is read as: a command, or nothing where it is passed over
+abbrev pub IsReadAs : List ℕ → Option Command → Type 0
+IsReadAs line (Some command) = (is_passed_over line ≡ false) × IsInRange command × (line ≡ command_line command)
+IsReadAs line None = is_passed_over line ≡ true
+
+-- ---- causes
+
+-- a command word, and for each argument of the command the number that it stays below
+pub record Form : Type 0 where
+  pub word : List ℕ
+  pub bounds : List ℕ
+
+abbrev pub forms : List Form
+forms =
+    record { word = codes "place"; bounds = 4096 ∷ [] } ∷ record { word = codes "drop"; bounds = 4096 ∷ [] } ∷ record { word = codes "fail"; bounds = 65536 ∷ [] }
+    ∷ record { word = codes "down"; bounds = 65536 ∷ [] } ∷ record { word = codes "up"; bounds = 65536 ∷ [] } ∷ record { word = codes "join"; bounds = 65536 ∷ [] } ∷ []
+
+-- the two texts are one
+abbrev pub same_text : List ℕ → List ℕ → Bool
+same_text xs ys = nat_eq (length xs) (length ys) && starts_with nat_eq xs ys
+
+-- the form of the command that begins with this word
+abbrev pub form_of : List ℕ → Option Form
+form_of word = find (λ form. same_text word form.word) forms
+
+-- `0`, or a digit from 1 to 9 and any digits after it
+abbrev pub is_number : List ℕ → Bool
+is_number word = nat_lt 0 (length word) && (list_all is_ascii_digit word && (nat_eq (length word) 1 || not (nat_eq (slice_index word 0) 48)))
+
+-- why a word is no argument below this bound
+abbrev pub argument_cause : List ℕ → ℕ → Option Cause
+argument_cause word bound = if is_number word then (if nat_lt (digits_value 10 word) bound then None else Some OutOfRange) else Some NotANumber
+
+abbrev pub or_else : {X : Type 0} → Option X → Option X → Option X
+or_else (Some x) other = Some x
+or_else None other = other
+
+-- the first cause of the arguments, from left to right
+abbrev pub arguments_cause : List (List ℕ) → List ℕ → Option Cause
+arguments_cause (word ∷ words) (bound ∷ bounds) = or_else (argument_cause word bound) (arguments_cause words bounds)
+arguments_cause _ _ = None
+
+-- the words of a line, parted by one space each
+abbrev pub words_of : List ℕ → List (List ℕ)
+words_of line = slice_split (λ b. nat_eq b 32) line
+
+-- the words of what stands behind the first word, if anything does
+abbrev pub words_behind : Option (Bor (List ℕ)) → List (List ℕ)
+words_behind None = []
+words_behind (Some rest) = words_of rest.now
+
+-- the cause of a line with these words behind the first
+abbrev pub form_cause : List (List ℕ) → Option Form → Option Cause
+form_cause words None = Some UnknownWord
+form_cause words (Some form) = if nat_eq (length words) (length form.bounds) then arguments_cause words form.bounds else Some WordCount
+
+abbrev pub words_cause : List (List ℕ) → Option Cause
+words_cause [] = Some UnknownWord
+words_cause (word ∷ words) = form_cause words (form_of word)
+
+-- the first cause that a line is bad for
+unfoldable pub cause_of : List ℕ → Option Cause
+cause_of line = if nat_lt 1024 (length line) then Some TooLong else (if is_passed_over line then None else words_cause (words_of line))
+
+-- a bad line: its number, and its first cause
+pub record BadLine : Type 0 where
+  pub line : ℕ
+  pub cause : Cause
+
+-- the first bad line, where the lines are counted from this number on
+abbrev pub first_bad : ℕ → List (List ℕ) → Option BadLine
+first_bad number [] = None
+first_bad number (line ∷ lines) = or_else (option_map (λ cause. record { line = number; cause = cause }) (cause_of line)) (first_bad (number + 1) lines)
+
+-- the line at this index is bad for this cause, and none before it is bad
+pub record IsFirstBadAt (lines : List (List ℕ)) (i : ℕ) (cause : Cause) : Type 0 where
+  pub bad : IsSomeAnd (slice_get lines i) (λ line. cause_of line ≡ Some cause)
+  pub good_before : All (λ line. cause_of line ≡ None) (take i lines)
+
+-- the error tells of this bad line, or of no line
+abbrev pub IsFirstBad : Option BadLine → ScriptError → Type 0
+IsFirstBad found (Bad line cause) = found ≡ Some (record { line = line; cause = cause })
+IsFirstBad found OutOfMemory = Unit {0}

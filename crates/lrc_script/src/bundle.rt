@@ -1,0 +1,134 @@
+ghost use Rattle.std.specs.Prelude.{◌≡◌, ◌+◌, ◌<◌, ◌≤◌, length, All, OnOk, IfOk, IsErrOf};
+ghost use Rattle.lrc_script.specs.Bundles.{scripts_of, topology_of, AreTextsOf, IsPart};
+ghost use Rattle.lrc_script.specs.declared.bundle.BundleError.TheVariants as errors;
+
+use crate::cut::cut;
+use std::alloc::{AllocError, AllocFailed, Global};
+
+/// The text of a script, and the number of its first line in the bundle.
+#[derive(Clone, Copy)]
+pub struct ScriptText<'a> {
+    /// Counted from 1 over the whole bundle.
+    pub first_line: u64,
+    /// What stands behind its parting line, up to the next one or to the end.
+    pub text: &'a [u8],
+}
+
+/// A bundle, cut into its topology and its scripts.
+#[derive(Drop)]
+pub struct Bundle<'a> {
+    /// What stands before the first parting line, or the whole bundle.
+    pub topology: &'a [u8],
+    pub scripts: Vec<ScriptText<'a>>,
+}
+
+/// Why a bundle is not cut.
+#[derive(Clone, Copy, Debug, PartialEq, Eq)]
+pub enum BundleError {
+    /// It has more scripts than are taken.
+    TooManyScripts,
+    /// No room is left for the list of its scripts.
+    OutOfMemory,
+}
+
+impl From<AllocError> for BundleError {
+    ghost use Rattle.std.specs.Prelude.{◌≡◌};
+    ghost use Rattle.lrc_script.specs.declared.bundle.BundleError.TheVariants.{OutOfMemory};
+
+    ghost from_gives = { λ _ e. e ≡ OutOfMemory };
+
+    fn from(_error: AllocError) -> BundleError {
+        BundleError::OutOfMemory
+    }
+}
+
+impl<T: Drop> From<AllocFailed<T>> for BundleError {
+    ghost use Rattle.std.specs.Prelude.{◌≡◌};
+    ghost use Rattle.lrc_script.specs.declared.bundle.BundleError.TheVariants.{OutOfMemory};
+
+    ghost from_gives = { λ _ e. e ≡ OutOfMemory };
+
+    fn from(_error: AllocFailed<T>) -> BundleError {
+        BundleError::OutOfMemory
+    }
+}
+
+/// The topology and the scripts of a bundle that has at most this many scripts.
+///
+/// # Errors
+///
+/// `TooManyScripts` where it has more, and `OutOfMemory` where there is no room to list them.
+pub fn split_bundle<'a>(
+    alloc: Global,
+    bundle: &'a [u8],
+    most: usize,
+) -> Result<Bundle<'a>, BundleError>
+    ensures topology { IfOk result (λ parts. parts.topology.now ≡ topology_of bundle.now) }
+    ensures scripts { IfOk result (λ parts. AreTextsOf (scripts_of bundle.now) parts.scripts.items) }
+    // So the number of each line of a script is below 2 ^ 64.
+    ensures numbered { IfOk result
+        (λ parts. All (λ s. s.first_line + length s.text.now ≤ length bundle.now) parts.scripts.items) }
+    ensures few { OnOk result (length (scripts_of bundle.now) ≤ most) }
+    ensures many { IsErrOf result errors.TooManyScripts → most < length (scripts_of bundle.now) }
+{
+    let first = cut_part(bundle);
+    let mut scripts = Vec::new(alloc);
+    // How many lines stand before the next parting line.
+    let mut passed = first.lines;
+    let mut behind = first.behind;
+    while let Some(rest) = behind {
+        if scripts.len() == most {
+            return Err(BundleError::TooManyScripts);
+        }
+        let part = cut_part(rest);
+        let first_line = passed + 2;
+        let text = part.text;
+        scripts.push(ScriptText { first_line, text })?;
+        passed += 1 + part.lines;
+        behind = part.behind;
+    }
+    let topology = first.text;
+    Ok(Bundle { topology, scripts })
+}
+
+/// A text, cut at its first parting line.
+#[derive(Clone, Copy)]
+struct Part<'a> {
+    /// What stands before that line, or the whole text.
+    text: &'a [u8],
+    /// How many lines end there.
+    lines: u64,
+    /// What stands behind that line, if it is there.
+    behind: Option<&'a [u8]>,
+}
+
+fn cut_part(text: &[u8]) -> Part<'_>
+    ensures { IsPart text.now result.text.now result.lines result.behind }
+{
+    let mut rest = text;
+    let mut lines = 0;
+    loop {
+        let (line, behind) = cut(rest, b'\n');
+        if line == b"%%".as_slice() {
+            let text = &text[..text.len() - rest.len()];
+            let behind = Some(behind.unwrap_or(&[]));
+            return Part {
+                text,
+                lines,
+                behind,
+            };
+        }
+        let Some(next) = behind else {
+            return Part {
+                text,
+                lines,
+                behind: None,
+            };
+        };
+        rest = next;
+        lines += 1;
+    }
+}
+
+#[cfg(test)]
+mod tests;

@@ -1,0 +1,32 @@
+//! Laws of the definitions, each the contract of a function that does nothing.
+
+ghost use Rattle.std.specs.Prelude.{◌≡◌, ℕ, ◌+◌, ◌≤◌, ◌↔◌, ◌⊎◌, true, Some, None, List, All, length};
+ghost use Rattle.lrc_book.specs.declared.command.Command.{Command};
+ghost use Rattle.lrc_script.specs.declared.script.Cause.{Cause};
+ghost use Rattle.lrc_script.specs.Bundles.{topology_of, scripts_of, HoldsLines, IsJoined, StandsIn};
+ghost use Rattle.lrc_script.specs.Scripts.{lines_of, is_passed_over, command_line, IsInRange, cause_of, first_bad, IsFirstBadAt};
+
+/// A line is good exactly where it is passed over and has at most 1,024 bytes, or is the line of a command that is in range.
+pub fn good_lines()
+    ensures { (line : List ℕ) → (cause_of line ≡ None)
+        ↔ (((is_passed_over line ≡ true) × (length line ≤ 1024))
+        ⊎ ((command : Command) × IsInRange command × (line ≡ command_line command))) }
+{}
+
+/// A script has a first bad line exactly where a line of it is bad and none before that line is.
+pub fn first_bad_line()
+    ensures found { (number : ℕ) (lines : List (List ℕ)) (i : ℕ) (cause : Cause)
+        → (first_bad number lines ≡ Some (record { line = number + i; cause = cause }))
+        ↔ IsFirstBadAt lines i cause }
+    ensures none { (number : ℕ) (lines : List (List ℕ))
+        → (first_bad number lines ≡ None) ↔ All (λ line. cause_of line ≡ None) lines }
+{}
+
+/// A bundle's lines are those of its topology and then, behind a parting line each, those of its scripts; no
+/// other line parts. The first line of a script has the number of its place, where the first line has 1.
+pub fn bundle_lines()
+    ensures cut { (bundle : List ℕ) → (topology : List (List ℕ))
+        × HoldsLines (topology_of bundle) topology
+        × IsJoined (lines_of bundle) topology (scripts_of bundle) }
+    ensures numbered { (bundle : List ℕ) → All (StandsIn (lines_of bundle)) (scripts_of bundle) }
+{}

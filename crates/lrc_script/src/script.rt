@@ -1,0 +1,204 @@
+ghost use Rattle.std.specs.Prelude.{◌≡◌, ◌≢◌, ℕ, ◌+◌, ◌^◌, ◌<◌, ◌≤◌, [], ◌∷◌, length, decimal, OnOk, IfOk, IfErr, MatchResult};
+ghost use Rattle.std.specs.Char.{is_ascii_digit};
+ghost use Rattle.std.specs.List.{list_all};
+ghost use Rattle.std.specs.Result.{result_err};
+ghost use Rattle.lrc_script.specs.Scripts.{lines_of, words_of, words_behind, is_passed_over, is_number, command_line, IsInRange, IsScript, IsReadAs, argument_cause, words_cause, cause_of, first_bad, IsFirstBad};
+ghost use Rattle.lrc_script.specs.declared.script.Cause.TheVariants as causes;
+
+use crate::cut::cut;
+use lrc_book::Command;
+use lrc_code::{NodeNo, StripeNo};
+use std::alloc::{AllocError, AllocFailed, Global};
+use thiserror::Error;
+
+/// The most bytes of a line, without its end.
+const LINE_LIMIT: usize = 1024;
+
+/// Why a line of a script is bad. The numbers are those of the refusal's text.
+#[derive(Clone, Copy, Debug, PartialEq, Eq)]
+pub enum Cause {
+    /// The first word is no command word.
+    UnknownWord = 1,
+    /// The number of words is not that of the command.
+    WordCount = 2,
+    /// An argument is no number.
+    NotANumber = 3,
+    /// An argument is a number out of its range.
+    OutOfRange = 4,
+    /// The line has more than 1,024 bytes.
+    TooLong = 5,
+}
+
+/// Why a script is refused.
+#[derive(Clone, Copy, Debug, PartialEq, Eq, Error)]
+pub enum ScriptError {
+    /// The first bad line, counted over the whole bundle, and the first cause that it is bad for.
+    #[error("line {line} is bad: {cause:?}")]
+    Bad { line: u64, cause: Cause },
+    #[error("out of memory")]
+    OutOfMemory,
+}
+
+impl From<AllocError> for ScriptError {
+    ghost use Rattle.std.specs.Prelude.{◌≡◌};
+    ghost use Rattle.lrc_script.specs.declared.script.ScriptError.TheVariants.{OutOfMemory};
+
+    ghost from_gives = { λ _ e. e ≡ OutOfMemory };
+
+    fn from(_error: AllocError) -> ScriptError {
+        ScriptError::OutOfMemory
+    }
+}
+
+impl<T: Drop> From<AllocFailed<T>> for ScriptError {
+    ghost use Rattle.std.specs.Prelude.{◌≡◌};
+    ghost use Rattle.lrc_script.specs.declared.script.ScriptError.TheVariants.{OutOfMemory};
+
+    ghost from_gives = { λ _ e. e ≡ OutOfMemory };
+
+    fn from(_error: AllocFailed<T>) -> ScriptError {
+        ScriptError::OutOfMemory
+    }
+}
+
+/// The commands of a script, in order. Its first line has the number `first_line` in the bundle.
+///
+/// # Errors
+///
+/// `Bad` for the first bad line, and `OutOfMemory` where there is no room for the commands.
+pub fn parse_script(
+    alloc: Global,
+    text: &[u8],
+    first_line: u64,
+) -> Result<Vec<Command>, ScriptError>
+    // Every line has a number.
+    requires { first_line + length text.now < 2 ^ 64 }
+    ensures script { IfOk result (λ commands. IsScript (lines_of text.now) commands.items) }
+    ensures good { OnOk result (first_bad first_line (lines_of text.now) ≡ None) }
+    ensures bad { IfErr result (IsFirstBad (first_bad first_line (lines_of text.now))) }
+{
+    let mut commands = Vec::new(alloc);
+    for (index, line) in text.split(|byte| *byte == b'\n').enumerate() {
+        let parsed = match parse_line(line) {
+            Ok(parsed) => parsed,
+            Err(cause) => {
+                let line = first_line + index as u64;
+                return Err(ScriptError::Bad { line, cause });
+            }
+        };
+        if let Some(command) = parsed {
+            commands.push(command)?;
+        }
+    }
+    Ok(commands)
+}
+
+/// The command of a line, or `None` for an empty line and a comment.
+#[tactic(auto, unfolding(crate::specs::Scripts::cause_of))]
+fn parse_line(line: &[u8]) -> Result<Option<Command>, Cause>
+    ensures read { IfOk result (IsReadAs line.now) }
+    ensures cause { result_err result ≡ cause_of line.now }
+{
+    if line.len() > LINE_LIMIT {
+        return Err(Cause::TooLong);
+    }
+    if is_passed_over(line) {
+        return Ok(None);
+    }
+    Ok(Some(parse_command(line)?))
+}
+
+fn is_passed_over(line: &[u8]) -> bool
+    ensures { result ≡ is_passed_over line.now }
+{
+    line.is_empty() || line[0] == b'#'
+}
+
+/// The command that a line is the line of.
+fn parse_command(line: &[u8]) -> Result<Command, Cause>
+    ensures command { IfOk result (λ command. IsInRange command × (line.now ≡ command_line command)) }
+    ensures cause { result_err result ≡ words_cause (words_of line.now) }
+{
+    let (word, rest) = cut(line, b' ');
+    if word == b"place".as_slice() {
+        Ok(Command::Place(parse_stripe(only_word(rest)?)?))
+    } else if word == b"drop".as_slice() {
+        Ok(Command::Drop(parse_stripe(only_word(rest)?)?))
+    } else if word == b"fail".as_slice() {
+        Ok(Command::Fail(parse_node(only_word(rest)?)?))
+    } else if word == b"down".as_slice() {
+        Ok(Command::Down(parse_node(only_word(rest)?)?))
+    } else if word == b"up".as_slice() {
+        Ok(Command::Up(parse_node(only_word(rest)?)?))
+    } else if word == b"join".as_slice() {
+        Ok(Command::Join(parse_node(only_word(rest)?)?))
+    } else {
+        Err(Cause::UnknownWord)
+    }
+}
+
+/// The one word that a command has behind its first.
+fn only_word(rest: Option<&[u8]>) -> Result<&[u8], Cause>
+    ensures ok { IfOk result (λ word. words_behind rest.entry ≡ word.now ∷ []) }
+    ensures err { IfErr result (λ e. (e ≡ causes.WordCount) × (length (words_behind rest.entry) ≢ 1)) }
+{
+    let rest = rest.ok_or(Cause::WordCount)?;
+    match cut(rest, b' ') {
+        (word, None) => Ok(word),
+        (_, Some(_)) => Err(Cause::WordCount),
+    }
+}
+
+fn parse_stripe(word: &[u8]) -> Result<StripeNo, Cause>
+    ensures number { IfOk result (λ stripe. word.now ≡ decimal stripe.value) }
+    ensures cause { result_err result ≡ argument_cause word.now 4096 }
+{
+    let number = argument(word, 4096)?;
+    Ok(StripeNo::new(number as u16).unwrap())
+}
+
+fn parse_node(word: &[u8]) -> Result<NodeNo, Cause>
+    ensures number { IfOk result (λ node. (node.value < 65536) × (word.now ≡ decimal node.value)) }
+    ensures cause { result_err result ≡ argument_cause word.now 65536 }
+{
+    let number = argument(word, 65536)?;
+    Ok(NodeNo::new(number as u16).unwrap())
+}
+
+/// The number that a word is the decimal text of, without leading zeros, if it is below the bound.
+fn argument(word: &[u8], bound: u64) -> Result<u64, Cause>
+    requires { bound ≤ 2 ^ 32 }
+    ensures number { IfOk result (λ n. (n < bound) × (word.now ≡ decimal n)) }
+    ensures cause { result_err result ≡ argument_cause word.now bound }
+{
+    if !is_number(word) {
+        return Err(Cause::NotANumber);
+    }
+    let mut number = 0;
+    for digit in word {
+        number = number * 10 + u64::from(*digit - b'0');
+        if number >= bound {
+            return Err(Cause::OutOfRange);
+        }
+    }
+    Ok(number)
+}
+
+fn is_number(word: &[u8]) -> bool
+    ensures { result ≡ is_number word.now }
+{
+    match word.len() {
+        0 => false,
+        1 => has_only_digits(word),
+        _ => has_only_digits(word) && word[0] != b'0',
+    }
+}
+
+fn has_only_digits(word: &[u8]) -> bool
+    ensures { result ≡ list_all is_ascii_digit word.now }
+{
+    word.iter().all(|byte| byte.is_ascii_digit())
+}
+
+#[cfg(test)]
+mod tests;

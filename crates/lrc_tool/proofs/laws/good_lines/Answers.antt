@@ -1,5 +1,0 @@
-use Rattle.lrc_tool.proofs.CauseLemmas.{cause_of-good}
-use Rattle.lrc_tool.proofs.laws.good_lines.Goals as goal
-
-pub returns : goal.returns
-returns c = cause_of-good
