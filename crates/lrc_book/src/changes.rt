@@ -101,11 +101,11 @@ pub(crate) fn change(
         }
         (Command::Up(node), Reply::Changed) => {
             nodes::bring_online(table, stripes, node);
-            down.retain(|other| node != *other);
+            down.retain(|still_down| node != *still_down);
         }
         (Command::Join(node), Reply::Changed) => {
             nodes::join_node(table, stripes, node);
-            gone.retain(|other| node != *other);
+            gone.retain(|still_gone| node != *still_gone);
         }
         _ => {}
     }

@@ -45,28 +45,59 @@ fn ask(book: &mut Book, command: Command) -> Result<Reply, Fail> {
     Ok(book.call(SessionNo { value: 1 }, command)?)
 }
 
+/// Asks for these commands in order; each gets the reply beside it.
+fn expect_replies(rt: &impl Abort, book: &mut Book, rows: &[(Command, Reply)]) -> Result<(), Fail> {
+    for (command, reply) in rows {
+        assert_eq!(rt; ask(book, *command)?, *reply, "to {command:?}");
+    }
+    Ok(())
+}
+
+fn expect_stripe(
+    rt: &impl Abort,
+    book: &Book,
+    stripe: StripeNo,
+    level: Level,
+    missing: u16,
+) -> Result<(), Fail> {
+    assert_eq!(rt; book.level(stripe), Some(level));
+    assert_eq!(rt; book.missing(stripe), Some(LossMask::from_bits(missing)));
+    Ok(())
+}
+
+fn expect_node(
+    rt: &impl Abort,
+    book: &Book,
+    number: u16,
+    mode: Option<(Mode, bool)>,
+    load: Option<u32>,
+) -> Result<(), Fail> {
+    assert_eq!(rt; book.mode(node(number)), mode);
+    assert_eq!(rt; book.load(node(number)), load);
+    Ok(())
+}
+
 #[test]
 fn a_stripe_is_placed_and_dropped(rt: HostRuntime) -> Result<(), Fail> {
     let mut book = book(rt.alloc())?;
+    place_and_drop(&rt, &mut book)
+}
+
+fn place_and_drop(rt: &impl Abort, book: &mut Book) -> Result<(), Fail> {
     let one = stripe(1)?;
     assert_eq!(rt; book.homes(one), None);
-    assert_eq!(rt;
-        ask(&mut book, Command::Drop(one))?,
-        Reply::Refused(Refusal::UnknownStripe)
-    );
     let placed = Reply::Placed(first_seats());
-    assert_eq!(rt; ask(&mut book, Command::Place(one))?, placed);
+    let rows = [
+        (Command::Drop(one), Reply::Refused(Refusal::UnknownStripe)),
+        (Command::Place(one), placed),
+        (Command::Place(one), Reply::Refused(Refusal::StripeExists)),
+    ];
+    expect_replies(rt, book, &rows)?;
     assert_eq!(rt; book.homes(one), Some(first_seats().map(|seat| Some(seat))));
-    assert_eq!(rt; book.load(node(16)), Some(1));
-    assert_eq!(rt; book.load(node(15)), Some(0));
-    assert_eq!(rt; book.load(node(20)), None);
-    assert_eq!(rt;
-        ask(&mut book, Command::Place(one))?,
-        Reply::Refused(Refusal::StripeExists)
-    );
-    assert_eq!(rt; ask(&mut book, Command::Drop(one))?, Reply::Dropped);
+    assert_eq!(rt; loads(book), [Some(1), Some(0), None]);
+    expect_replies(rt, book, &[(Command::Drop(one), Reply::Dropped)])?;
     assert_eq!(rt; book.homes(one), None);
-    assert_eq!(rt; book.load(node(16)), Some(0));
+    assert_eq!(rt; loads(book), [Some(0), Some(0), None]);
     assert_eq!(rt; book.history().len(), 4);
     let entry = Entry {
         session: SessionNo { value: 1 },
@@ -78,15 +109,27 @@ fn a_stripe_is_placed_and_dropped(rt: HostRuntime) -> Result<(), Fail> {
     Ok(())
 }
 
+/// The loads of a node that the first stripe takes, of one that it passes, and of one that is not there.
+fn loads(book: &Book) -> [Option<u32>; 3] {
+    [
+        book.load(node(16)),
+        book.load(node(15)),
+        book.load(node(20)),
+    ]
+}
+
 #[test]
 fn nodes_fail_go_down_and_come_back(rt: HostRuntime) -> Result<(), Fail> {
     let mut book = book(rt.alloc())?;
+    fail_and_come_back(&rt, &mut book)
+}
+
+fn fail_and_come_back(rt: &impl Abort, book: &mut Book) -> Result<(), Fail> {
     let one = stripe(1)?;
-    let _placed = ask(&mut book, Command::Place(one))?;
     let wrong = Reply::Refused(Refusal::WrongMode);
     let unknown = Reply::Refused(Refusal::UnknownNode);
-    assert_eq!(rt; book.level(one), Some(Level::Whole));
-    let table = [
+    let rows = [
+        (Command::Place(one), Reply::Placed(first_seats())),
         (Command::Up(node(2)), wrong),
         (Command::Down(node(2)), Reply::Changed),
         (Command::Down(node(2)), wrong),
@@ -96,21 +139,18 @@ fn nodes_fail_go_down_and_come_back(rt: HostRuntime) -> Result<(), Fail> {
         (Command::Up(node(3)), wrong),
         (Command::Down(node(20)), unknown),
     ];
-    for (command, reply) in table {
-        assert_eq!(rt; ask(&mut book, command)?, reply);
-    }
-    assert_eq!(rt; book.missing(one), Some(LossMask::from_bits(0x000c)));
-    assert_eq!(rt; book.level(one), Some(Level::AtRisk(1)));
-    assert_eq!(rt; book.mode(node(2)), Some((Mode::Active, false)));
-    assert_eq!(rt; book.mode(node(3)), Some((Mode::Gone, false)));
-    assert_eq!(rt; book.mode(node(20)), None);
-    assert_eq!(rt; book.load(node(2)), Some(1));
-    assert_eq!(rt; book.load(node(3)), Some(0));
-    assert_eq!(rt; ask(&mut book, Command::Up(node(2)))?, Reply::Changed);
-    assert_eq!(rt; ask(&mut book, Command::Join(node(3)))?, Reply::Changed);
-    assert_eq!(rt; book.missing(one), Some(LossMask::from_bits(0x0008)));
-    assert_eq!(rt; book.level(one), Some(Level::AtRisk(2)));
-    assert_eq!(rt; book.mode(node(3)), Some((Mode::Active, true)));
+    expect_replies(rt, book, &rows)?;
+    expect_stripe(rt, book, one, Level::AtRisk(1), 0x000c)?;
+    expect_node(rt, book, 2, Some((Mode::Active, false)), Some(1))?;
+    expect_node(rt, book, 3, Some((Mode::Gone, false)), Some(0))?;
+    expect_node(rt, book, 20, None, None)?;
+    let rows = [
+        (Command::Up(node(2)), Reply::Changed),
+        (Command::Join(node(3)), Reply::Changed),
+    ];
+    expect_replies(rt, book, &rows)?;
+    expect_stripe(rt, book, one, Level::AtRisk(2), 0x0008)?;
+    expect_node(rt, book, 3, Some((Mode::Active, true)), Some(0))?;
     assert_eq!(rt; book.level(stripe(2)?), None);
     assert_eq!(rt; book.missing(stripe(2)?), None);
     Ok(())
@@ -119,46 +159,43 @@ fn nodes_fail_go_down_and_come_back(rt: HostRuntime) -> Result<(), Fail> {
 #[test]
 fn a_node_that_comes_back_is_empty(rt: HostRuntime) -> Result<(), Fail> {
     let mut book = book(rt.alloc())?;
+    come_back_empty(&rt, &mut book)
+}
+
+fn come_back_empty(rt: &impl Abort, book: &mut Book) -> Result<(), Fail> {
     let (one, two) = (stripe(1)?, stripe(2)?);
-    let commands = [
-        Command::Place(one),
-        Command::Fail(node(3)),
-        Command::Join(node(3)),
-        Command::Down(node(3)),
-        Command::Up(node(3)),
-        Command::Place(two),
+    let rows = [
+        (Command::Place(one), Reply::Placed(first_seats())),
+        (Command::Fail(node(3)), Reply::Changed),
+        (Command::Join(node(3)), Reply::Changed),
+        (Command::Down(node(3)), Reply::Changed),
+        (Command::Up(node(3)), Reply::Changed),
     ];
-    for command in commands {
-        let _reply = ask(&mut book, command)?;
-    }
-    assert_eq!(rt; book.level(one), Some(Level::AtRisk(2)));
-    assert_eq!(rt; book.missing(one), Some(LossMask::from_bits(0x0008)));
-    assert_eq!(rt; book.level(two), Some(Level::Whole));
-    assert_eq!(rt; book.load(node(3)), Some(1));
-    Ok(())
+    expect_replies(rt, book, &rows)?;
+    let _placed = ask(book, Command::Place(two))?;
+    expect_stripe(rt, book, one, Level::AtRisk(2), 0x0008)?;
+    expect_stripe(rt, book, two, Level::Whole, 0)?;
+    expect_node(rt, book, 3, Some((Mode::Active, true)), Some(1))
 }
 
 #[test]
 fn four_nodes_of_a_stripe_are_too_many(rt: HostRuntime) -> Result<(), Fail> {
-    let one = stripe(1)?;
     let mut book = book(rt.alloc())?;
-    let _placed = ask(&mut book, Command::Place(one))?;
-    for number in [0, 1, 2, 3] {
-        assert_eq!(rt;
-            ask(&mut book, Command::Down(node(number)))?,
-            Reply::Changed
-        );
-    }
-    assert_eq!(rt; book.level(one), Some(Level::Unavailable));
-    assert_eq!(rt; book.missing(one), Some(LossMask::from_bits(0x000f)));
-    for number in [0, 1, 2, 4] {
-        assert_eq!(rt;
-            ask(&mut book, Command::Fail(node(number)))?,
-            Reply::Changed
-        );
-    }
-    assert_eq!(rt; ask(&mut book, Command::Up(node(3)))?, Reply::Changed);
-    assert_eq!(rt; book.level(one), Some(Level::Lost));
-    assert_eq!(rt; book.missing(one), Some(LossMask::from_bits(0x0017)));
-    Ok(())
+    lose_four_nodes(&rt, &mut book)
+}
+
+fn lose_four_nodes(rt: &impl Abort, book: &mut Book) -> Result<(), Fail> {
+    let one = stripe(1)?;
+    expect_replies(
+        rt,
+        book,
+        &[(Command::Place(one), Reply::Placed(first_seats()))],
+    )?;
+    let downs = [0, 1, 2, 3].map(|number| (Command::Down(node(number)), Reply::Changed));
+    expect_replies(rt, book, &downs)?;
+    expect_stripe(rt, book, one, Level::Unavailable, 0x000f)?;
+    let fails = [0, 1, 2, 4].map(|number| (Command::Fail(node(number)), Reply::Changed));
+    expect_replies(rt, book, &fails)?;
+    expect_replies(rt, book, &[(Command::Up(node(3)), Reply::Changed)])?;
+    expect_stripe(rt, book, one, Level::Lost, 0x0017)
 }

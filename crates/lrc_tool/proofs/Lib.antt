@@ -1,6 +1,6 @@
 pub mod StreamLemmas
 pub mod PlayLemmas
-pub mod OutputLemmas
+pub mod JudgedLemmas
 pub mod ReadLemmas
 pub mod OneOutputLemmas
 pub mod Rows

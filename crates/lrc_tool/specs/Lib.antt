@@ -7,5 +7,6 @@ pub mod Texts
 pub mod Streams
 pub mod Faults
 pub mod Outputs
+pub mod Judged
 pub mod Recoveries
 pub mod Checks

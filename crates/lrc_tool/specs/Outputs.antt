@@ -57,6 +57,21 @@ IsAnsweredUnless answer None bundle text status =
 abbrev pub IsAnswered : Answer → List ℕ → List ℕ → Status → Type 0
 IsAnswered answer bundle text status = IsAnsweredUnless answer (early_refusal bundle) bundle text status
 
+-- the answer to this bundle was written, whole, behind what was written before
+pub record Writes (answer : Answer) (old new : Option (List ℕ)) (bundle : List ℕ) (status : Status) : Type 0 where
+  pub text : List ℕ
+  pub answered : IsAnswered answer bundle text status
+  pub written : Appends old new text
+
+-- a prefix of the answer to this bundle was written behind what was written before
+pub record WritesPart (answer : Answer) (old new : Option (List ℕ)) (bundle : List ℕ) : Type 0 where
+  pub text : List ℕ
+  pub status : Status
+  pub answered : IsAnswered answer bundle text status
+  pub count : ℕ
+  pub within : count ≤ length text
+  pub written : Appends old new (take count text)
+
 -- ---- the output of a run
 
 -- what is printed where session 1 makes these commands, one after the other, on a new book
@@ -78,16 +93,9 @@ abbrev pub IsOutput : List ℕ → List ℕ → Status → Type 0
 IsOutput bundle text status = IsAnswered ArePlayed bundle text status
 
 -- the output of this bundle was written, whole, behind what was written before
-pub record WritesOutput (old new : Option (List ℕ)) (bundle : List ℕ) (status : Status) : Type 0 where
-  pub text : List ℕ
-  pub output : IsOutput bundle text status
-  pub written : Appends old new text
+abbrev pub WritesOutput : Option (List ℕ) → Option (List ℕ) → List ℕ → Status → Type 0
+WritesOutput old new bundle status = Writes ArePlayed old new bundle status
 
 -- a prefix of the output of this bundle was written behind what was written before
-pub record WritesPartOfOutput (old new : Option (List ℕ)) (bundle : List ℕ) : Type 0 where
-  pub text : List ℕ
-  pub status : Status
-  pub output : IsOutput bundle text status
-  pub count : ℕ
-  pub within : count ≤ length text
-  pub written : Appends old new (take count text)
+abbrev pub WritesPartOfOutput : Option (List ℕ) → Option (List ℕ) → List ℕ → Type 0
+WritesPartOfOutput old new bundle = WritesPart ArePlayed old new bundle

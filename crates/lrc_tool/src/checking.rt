@@ -1,22 +1,20 @@
 //! Checking a bundle, from the bytes in to the bytes out.
 
-ghost use Rattle.std.specs.Prelude.{◌≡◌, ◌≢◌, ◌≤◌, ◌+◌, ◌||◌, List, Ok, [], ◌∷◌, length, string_bytes, IfOk, IfErr, IfSome, IsErrOf};
+ghost use Rattle.std.specs.Prelude.{◌≡◌, ◌≢◌, ◌||◌, ◌++◌, List, string_bytes, OnOk, IfOk, IfErr, IfSome, IsErrOf};
 ghost use Rattle.std.specs.Io.KnownBytes.{Keeps};
-ghost use Rattle.lrc_topology.specs.declared.NodeInfo.{NodeInfo};
+ghost use Rattle.lrc_script.specs.Bundles.{Script};
 ghost use Rattle.lrc_tool.specs.Streams.{is_read_fault, is_write_fault};
-ghost use Rattle.lrc_script.specs.Bundles.{Script, IsTextOf};
-ghost use Rattle.lrc_tool.specs.Outputs.{IsAnsweredAfter};
-ghost use Rattle.lrc_tool.specs.Checks.{counts_line, AreCounted, IsCheck, WritesCheck, WritesPartOfCheck};
+ghost use Rattle.lrc_tool.specs.Judged.{AreGood};
+ghost use Rattle.lrc_tool.specs.Checks.{counts_line, counted_line, IsCheck, WritesCheck, WritesPartOfCheck};
 ghost use Rattle.lrc_tool.specs.declared.status.Status.TheVariants as ended;
 ghost use Rattle.lrc_tool.specs.declared.streams.RunFault.TheVariants as fault;
 
-use crate::bundle::{BundleError, ScriptText, split_bundle};
-use crate::output::{BUNDLE_LIMIT, Output, SCRIPT_LIMIT, bad_line, refused, refused_topology};
-use crate::script::{ScriptError, parse_script};
+use crate::judging::{BUNDLE_LIMIT, Judged, judge};
+use crate::output::Output;
 use crate::status::Status;
 use crate::streams::{RunFault, Sink, Source, read_all, write_all};
-use lrc_topology::{Topology, TopologyError};
-use std::alloc::Global;
+use lrc_book::Command;
+use std::alloc::{AllocError, Global};
 
 /// Checks the bundle that the source holds, as a run does before its first command, and runs nothing. It writes how
 /// many nodes, scripts and commands the bundle has, or why a run would refuse it.
@@ -53,51 +51,38 @@ fn check_of(alloc: Global, bundle: &[u8]) -> Result<Output, RunFault>
     ensures line { IfOk result (λ o. IsCheck bundle.now (string_bytes o.text) o.status) }
     ensures err { IfErr result (λ e. e ≡ fault.OutOfMemory) }
 {
-    if bundle.len() > BUNDLE_LIMIT {
-        return refused(alloc, "bundle 1\n");
-    }
-    let parts = match split_bundle(alloc, bundle, SCRIPT_LIMIT) {
-        Ok(parts) => parts,
-        Err(BundleError::TooManyScripts) => return refused(alloc, "bundle 2\n"),
-        Err(BundleError::OutOfMemory) => return Err(RunFault::OutOfMemory),
-    };
-    let topology = match Topology::read(alloc, parts.topology) {
-        Ok(topology) => topology,
-        Err(TopologyError::OutOfMemory) => return Err(RunFault::OutOfMemory),
-        Err(error) => return refused_topology(alloc, error),
-    };
-    let nodes = topology.nodes().len();
-    match parts.scripts.as_slice() {
-        [] => counted(alloc, nodes, 0, 0),
-        [script, ..] => script_check(alloc, nodes, script),
+    match judge(alloc, bundle)? {
+        Judged::Refused(output) => Ok(output),
+        Judged::Good { topology, script } => counted(alloc, topology.nodes().len(), &script),
     }
 }
 
-/// The output where the script, the only one of its bundle, is checked behind a topology of so many nodes.
-fn script_check(alloc: Global, nodes: usize, script: &ScriptText) -> Result<Output, RunFault>
-    // The script stands within its bundle.
-    requires { script.now.first_line + length script.now.text.now ≤ BUNDLE_LIMIT }
-    ensures line { IfOk result (λ o. (ns : List NodeInfo) (s : Script) → length ns ≡ nodes → IsTextOf s script.now → IsAnsweredAfter AreCounted (Ok ns) (s ∷ []) (string_bytes o.text) o.status) }
-    ensures err { IfErr result (λ e. e ≡ fault.OutOfMemory) }
-{
-    match parse_script(alloc, script.text, script.first_line) {
-        Ok(commands) => counted(alloc, nodes, 1, commands.len()),
-        Err(ScriptError::Bad { line, cause }) => bad_line(alloc, line, cause),
-        Err(ScriptError::OutOfMemory) => Err(RunFault::OutOfMemory),
-    }
-}
-
-/// The output for a bundle that passes all checks.
-fn counted(alloc: Global, nodes: usize, scripts: usize, commands: usize) -> Result<Output, RunFault>
-    ensures text { IfOk result (λ o. string_bytes o.text ≡ counts_line nodes scripts commands) }
+/// The output for so many nodes and the commands of a script, if there is one.
+fn counted(alloc: Global, nodes: usize, script: &Option<Vec<Command>>) -> Result<Output, RunFault>
+    ensures line { IfOk result (λ o. (scripts : List Script) → AreGood scripts script.now → string_bytes o.text ≡ counted_line nodes scripts) }
     ensures status { IfOk result (λ o. o.status ≡ ended.Done) }
     ensures err { IfErr result (λ e. e ≡ fault.OutOfMemory) }
 {
+    let (scripts, commands) = match script {
+        Some(commands) => (1, commands.len()),
+        None => (0, 0),
+    };
     let mut text = String::new(alloc);
-    write!(
-        text,
-        "ok nodes {nodes} scripts {scripts} commands {commands}\n"
-    )?;
+    push_counts(&mut text, nodes, scripts, commands)?;
     let status = Status::Done;
     Ok(Output { text, status })
+}
+
+fn push_counts(
+    out: &mut String,
+    nodes: usize,
+    scripts: usize,
+    commands: usize,
+) -> Result<(), AllocError>
+    ensures { OnOk result (string_bytes out.new ≡ string_bytes out.old ++ counts_line nodes scripts commands) }
+{
+    write!(
+        out,
+        "ok nodes {nodes} scripts {scripts} commands {commands}\n"
+    )
 }

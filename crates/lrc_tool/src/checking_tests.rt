@@ -1,5 +1,6 @@
 //! What is told of bundles that are only checked.
 
+use crate::tests::over_twenty;
 use crate::{Plain, Status, check};
 use std::alloc::Global;
 use std::process::Abort;
@@ -41,7 +42,9 @@ fn a_check_counts_what_a_bundle_has(rt: HostRuntime) -> Result<(), Fail> {
         let bundle = format!(in alloc; "{THREE_NODES}{script}")?;
         expect_line(&rt, alloc, bundle.as_bytes(), line, Status::Done)?;
     }
-    Ok(())
+    let twenty = over_twenty(alloc, b"")?;
+    let line = "ok nodes 20 scripts 0 commands 0\n";
+    expect_line(&rt, alloc, twenty.as_slice(), line, Status::Done)
 }
 
 #[test]

@@ -1,6 +1,5 @@
 //! Laws of the definitions, each the contract of a function that does nothing.
 
-
 ghost use Rattle.std.specs.Prelude.{◌≡◌, ℕ, List};
 ghost use Rattle.lrc_tool.specs.declared.status.Status.{Status};
 ghost use Rattle.lrc_tool.specs.Outputs.{IsOutput};

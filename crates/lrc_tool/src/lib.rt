@@ -4,6 +4,7 @@
 mod checking;
 #[cfg(test)]
 mod checking_tests;
+mod judging;
 pub mod laws;
 mod output;
 mod play;
@@ -18,8 +19,8 @@ mod tests;
 mod texts;
 
 pub use checking::check;
+pub use lrc_script::{Cause, ScriptError, parse_script};
 pub use program::run;
 pub use recovery::recover;
-pub use lrc_script::{Cause, ScriptError, parse_script};
 pub use status::Status;
 pub use streams::{Plain, RunFault, Sink, Source};

@@ -1,14 +1,21 @@
 //! Running a bundle, from the bytes in to the bytes out.
 
-ghost use Rattle.std.specs.Prelude.{◌≡◌, ◌≢◌, ◌||◌, IfOk, IfErr, IfSome, IsErrOf};
+ghost use Rattle.std.specs.Prelude.{◌≡◌, ◌≢◌, ◌||◌, List, string_bytes, IfOk, IfErr, IfSome, IsErrOf};
 ghost use Rattle.std.specs.Io.KnownBytes.{Keeps};
 ghost use Rattle.lrc_tool.specs.Streams.{is_read_fault, is_write_fault};
-ghost use Rattle.lrc_tool.specs.Outputs.{WritesOutput, WritesPartOfOutput};
+ghost use Rattle.lrc_script.specs.Bundles.{Script};
+ghost use Rattle.lrc_tool.specs.Judged.{AreFew, AreGood};
+ghost use Rattle.lrc_tool.specs.Outputs.{ArePlayed, IsOutput, WritesOutput, WritesPartOfOutput};
+ghost use Rattle.lrc_tool.specs.declared.status.Status.TheVariants as ended;
 ghost use Rattle.lrc_tool.specs.declared.streams.RunFault.TheVariants as fault;
 
-use crate::output::{BUNDLE_LIMIT, output_of};
+use crate::judging::{BUNDLE_LIMIT, Judged, judge};
+use crate::output::Output;
+use crate::play::play;
 use crate::status::Status;
 use crate::streams::{RunFault, Sink, Source, read_all, write_all};
+use lrc_book::Command;
+use lrc_topology::Topology;
 use std::alloc::Global;
 
 /// Runs the bundle that the source holds: reads it, makes the commands of its script, and then writes the whole output.
@@ -33,4 +40,34 @@ pub fn run<R: Source, W: Sink>(
     let output = output_of(alloc, bundle.as_slice())?;
     write_all(sink, output.text.as_bytes())?;
     Ok(output.status)
+}
+
+/// The output of a run of this bundle.
+fn output_of(alloc: Global, bundle: &[u8]) -> Result<Output, RunFault>
+    ensures output { IfOk result (λ o. IsOutput bundle.now (string_bytes o.text) o.status) }
+    ensures err { IfErr result (λ e. e ≡ fault.OutOfMemory) }
+{
+    match judge(alloc, bundle)? {
+        Judged::Refused(output) => Ok(output),
+        Judged::Good { topology, script } => played(alloc, topology, &script),
+    }
+}
+
+/// The output where the commands of the script, if there is one, are made over these nodes.
+fn played(
+    alloc: Global,
+    topology: Topology,
+    script: &Option<Vec<Command>>,
+) -> Result<Output, RunFault>
+    requires { AreFew script.now }
+    ensures played { IfOk result (λ o. (scripts : List Script) → AreGood scripts script.now → ArePlayed topology scripts (string_bytes o.text)) }
+    ensures status { IfOk result (λ o. o.status ≡ ended.Done) }
+    ensures err { IfErr result (λ e. e ≡ fault.OutOfMemory) }
+{
+    let text = match script {
+        Some(commands) => play(alloc, topology, commands.as_slice())?,
+        None => String::new(alloc),
+    };
+    let status = Status::Done;
+    Ok(Output { text, status })
 }

@@ -29,7 +29,7 @@ fn bundle(alloc: Global, upgrades: &[u8], slots: u16, scripts: &[u8]) -> Result<
 }
 
 /// Twenty nodes with four slots in ten upgrade domains, and then the scripts.
-fn over_twenty(alloc: Global, scripts: &[u8]) -> Result<Vec<u8>, Fail> {
+pub(crate) fn over_twenty(alloc: Global, scripts: &[u8]) -> Result<Vec<u8>, Fail> {
     bundle(alloc, &TEN_DOMAINS, 4, scripts)
 }
 

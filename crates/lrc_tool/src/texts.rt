@@ -3,8 +3,8 @@
 ghost use Rattle.std.specs.Prelude.{◌≡◌, ◌++◌, OnOk, string_bytes, codes, map};
 ghost use Rattle.lrc_tool.specs.Texts.{seat_text, spaced, refusal_text, reply_text, reply_line, topology_line, cause_number, bad_line_text};
 
-use crate::script::Cause;
 use lrc_book::{Refusal, Reply, Seat};
+use lrc_script::Cause;
 use lrc_topology::TopologyError;
 use std::alloc::AllocError;
 
