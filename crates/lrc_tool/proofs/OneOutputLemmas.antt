@@ -1,5 +1,5 @@
 -- A bundle has one output.
-use Rattle.std.proofs.Common.{◌≡◌, ◌≢◌, ℕ, ◌+◌, ◌*◌, ◌<◌, ◌≤◌, ◌⊎◌, inl, inr, All, List, [], ◌∷◌, map, Option, Some, None, Result, Ok, Err, IsUtf8, codes, decimal, refl, sym, ap, subst, ◌∙◌, arith}
+use Rattle.std.proofs.Common.{◌≡◌, ◌≢◌, ℕ, ◌+◌, ◌*◌, ◌<◌, ◌≤◌, ◌⊎◌, ◌↔◌, inl, inr, All, List, [], ◌∷◌, map, Option, Some, None, Result, Ok, Err, IsUtf8, codes, decimal, refl, sym, ap, subst, ◌∙◌, arith}
 use Rattle.std.specs.Coded.{le_prop}
 use Rattle.std.proofs.lemmas.List.{append_cancel_left}
 use Rattle.std.proofs.lemmas.List.Elements.{All-head, All-tail}
@@ -22,7 +22,9 @@ use Rattle.lrc_tool.specs.declared.status.Status.{Status}
 use Rattle.lrc_script.specs.Scripts.{command_line, IsInRange, BadLine}
 use Rattle.lrc_script.specs.Bundles.{Script, scripts_of, topology_of}
 use Rattle.lrc_tool.specs.Texts.{script_text}
-use Rattle.lrc_tool.specs.Outputs.{early_refusal, Reads, first_bad_of, IsAnsweredOver, IsAnsweredAfter, IsAnsweredUnless, IsPlayed, ArePlayed, IsOutput}
+use Rattle.lrc_tool.specs.Outputs.{early_refusal, Reads, first_bad_of, Answer, IsAnsweredOver, IsAnsweredAfter, IsAnsweredUnless, IsAnswered, IsPlayed, ArePlayed, IsOutput}
+use Rattle.lrc_tool.specs.Checks.{AreCounted, IsCheck}
+use Rattle.lrc_tool.specs.declared.status.Status.TheVariants.{Done}
 
 -- ---- commands
 
@@ -203,23 +205,53 @@ same_outcome text (Ok ns) (Err e) h k = absurd (not_both text ns e h (why_refuse
 same_outcome text (Err e) (Ok ns) h k = absurd (not_both text ns e k (why_refused text e h.0 h.1))
 same_outcome text (Err e) (Err f) h k = ap Err (same_refusal text e f (why_refused text e h.0 h.1) (why_refused text f k.0 k.1))
 
--- ---- outputs
+-- ---- answers
 
-over_one : (nodes : List NodeInfo) (scripts : List Script) (found : Option BadLine) (t u : List ℕ) (s r : Status) → IsAnsweredOver ArePlayed nodes scripts found t s
-    → IsAnsweredOver ArePlayed nodes scripts found u r → (t ≡ u) × (s ≡ r)
-over_one nodes scripts (Some bad) t u s r h k = (h.0 ∙ sym k.0, h.1 ∙ sym k.1)
-over_one nodes scripts None t u s r h k = (same_plays nodes scripts t u h.0 k.0, h.1 ∙ sym k.1)
+-- nodes and scripts have one answer
+abbrev IsOneAnswer : Answer → Type 0
+IsOneAnswer answer = (nodes : List NodeInfo) (scripts : List Script) (t u : List ℕ) → answer nodes scripts t → answer nodes scripts u → t ≡ u
 
-after_one : (o : Result (List NodeInfo) TopologyError) (scripts : List Script) (t u : List ℕ) (s r : Status) → IsAnsweredAfter ArePlayed o scripts t s → IsAnsweredAfter ArePlayed o scripts u r
-    → (t ≡ u) × (s ≡ r)
-after_one (Err e) scripts t u s r h k = (h.0 ∙ sym k.0, h.1 ∙ sym k.1)
-after_one (Ok nodes) scripts t u s r h k = over_one nodes scripts (first_bad_of scripts) t u s r h k
+module _ (answer : Answer) (one : IsOneAnswer answer) where
+  over_one : (nodes : List NodeInfo) (scripts : List Script) (found : Option BadLine) (t u : List ℕ) (s r : Status) → IsAnsweredOver answer nodes scripts found t s
+      → IsAnsweredOver answer nodes scripts found u r → (t ≡ u) × (s ≡ r)
+  over_one nodes scripts (Some bad) t u s r h k = (h.0 ∙ sym k.0, h.1 ∙ sym k.1)
+  over_one nodes scripts None t u s r h k = (one nodes scripts t u h.0 k.0, h.1 ∙ sym k.1)
 
-unless_one : (early : Option (List ℕ)) (bundle t u : List ℕ) (s r : Status) → IsAnsweredUnless ArePlayed early bundle t s → IsAnsweredUnless ArePlayed early bundle u r → (t ≡ u) × (s ≡ r)
-unless_one (Some line) bundle t u s r h k = (h.0 ∙ sym k.0, h.1 ∙ sym k.1)
-unless_one None bundle t u s r (o, read, h) (p, read', k) =
-    after_one p (scripts_of bundle) t u s r
-    (subst (λ (x : Result (List NodeInfo) TopologyError). IsAnsweredAfter ArePlayed x (scripts_of bundle) t s) (same_outcome (topology_of bundle) o p read read') h) k
+  after_one : (o : Result (List NodeInfo) TopologyError) (scripts : List Script) (t u : List ℕ) (s r : Status) → IsAnsweredAfter answer o scripts t s → IsAnsweredAfter answer o scripts u r
+      → (t ≡ u) × (s ≡ r)
+  after_one (Err e) scripts t u s r h k = (h.0 ∙ sym k.0, h.1 ∙ sym k.1)
+  after_one (Ok nodes) scripts t u s r h k = over_one nodes scripts (first_bad_of scripts) t u s r h k
+
+  unless_one : (early : Option (List ℕ)) (bundle t u : List ℕ) (s r : Status) → IsAnsweredUnless answer early bundle t s → IsAnsweredUnless answer early bundle u r → (t ≡ u) × (s ≡ r)
+  unless_one (Some line) bundle t u s r h k = (h.0 ∙ sym k.0, h.1 ∙ sym k.1)
+  unless_one None bundle t u s r (o, read, h) (p, read', k) =
+      after_one p (scripts_of bundle) t u s r
+      (subst (λ (x : Result (List NodeInfo) TopologyError). IsAnsweredAfter answer x (scripts_of bundle) t s) (same_outcome (topology_of bundle) o p read read') h) k
+
+  one_answer : (bundle t u : List ℕ) (s r : Status) → IsAnswered answer bundle t s → IsAnswered answer bundle u r → (t ≡ u) × (s ≡ r)
+  one_answer bundle t u s r h k = unless_one (early_refusal bundle) bundle t u s r h k
 
 pub one_output : (bundle text other : List ℕ) (status another : Status) → IsOutput bundle text status → IsOutput bundle other another → (text ≡ other) × (status ≡ another)
-one_output bundle text other status another h k = unless_one (early_refusal bundle) bundle text other status another h k
+one_output = one_answer ArePlayed same_plays
+
+pub one_check : (bundle text other : List ℕ) (status another : Status) → IsCheck bundle text status → IsCheck bundle other another → (text ≡ other) × (status ≡ another)
+one_check = one_answer AreCounted (λ nodes scripts t u h k. h ∙ sym k)
+
+-- ---- refusals
+
+module _ (a b : Answer) (status : Status) (refused : status ≢ Done) where
+  over_other : (nodes : List NodeInfo) (scripts : List Script) (found : Option BadLine) (text : List ℕ) → IsAnsweredOver a nodes scripts found text status → IsAnsweredOver b nodes scripts found text status
+  over_other nodes scripts (Some bad) text h = h
+  over_other nodes scripts None text h = absurd (refused h.1)
+
+  after_other : (o : Result (List NodeInfo) TopologyError) (scripts : List Script) (text : List ℕ) → IsAnsweredAfter a o scripts text status → IsAnsweredAfter b o scripts text status
+  after_other (Err e) scripts text h = h
+  after_other (Ok nodes) scripts text h = over_other nodes scripts (first_bad_of scripts) text h
+
+  unless_other : (early : Option (List ℕ)) (bundle text : List ℕ) → IsAnsweredUnless a early bundle text status → IsAnsweredUnless b early bundle text status
+  unless_other (Some line) bundle text h = h
+  unless_other None bundle text (o, read, h) = (o, read, after_other o (scripts_of bundle) text h)
+
+pub refused_alike : (bundle text : List ℕ) (status : Status) → status ≢ Done → IsCheck bundle text status ↔ IsOutput bundle text status
+refused_alike bundle text status refused =
+    (unless_other AreCounted ArePlayed status refused (early_refusal bundle) bundle text, unless_other ArePlayed AreCounted status refused (early_refusal bundle) bundle text)

@@ -1,11 +1,34 @@
 //! Laws of the definitions, each the contract of a function that does nothing.
 
-ghost use Rattle.std.specs.Prelude.{◌≡◌, ℕ, List};
+ghost use Rattle.std.specs.Prelude.{◌≡◌, ◌≢◌, ◌↔◌, ℕ, List, length};
+ghost use Rattle.lrc_book.specs.declared.command.Command.{Command};
+ghost use Rattle.lrc_script.specs.Scripts.{IsScript};
+ghost use Rattle.lrc_script.specs.Bundles.{Script};
 ghost use Rattle.lrc_tool.specs.declared.status.Status.{Status};
+ghost use Rattle.lrc_tool.specs.declared.status.Status.TheVariants.{Done};
 ghost use Rattle.lrc_tool.specs.Outputs.{IsOutput};
+ghost use Rattle.lrc_tool.specs.Checks.{command_count, IsCheck};
 
 /// The output of a run is a function of its bundle: no other text and no other status fit it.
 pub fn one_output()
     ensures { (bundle text other : List ℕ) (status another : Status)
         → IsOutput bundle text status → IsOutput bundle other another → (text ≡ other) × (status ≡ another) }
+{}
+
+/// The line of a check is a function of its bundle too.
+pub fn one_check()
+    ensures { (bundle text other : List ℕ) (status another : Status)
+        → IsCheck bundle text status → IsCheck bundle other another → (text ≡ other) × (status ≡ another) }
+{}
+
+/// A check refuses what a run refuses, and nothing else, in the same words.
+pub fn checks_refuse_as_runs()
+    ensures { (bundle text : List ℕ) (status : Status)
+        → status ≢ Done → IsCheck bundle text status ↔ IsOutput bundle text status }
+{}
+
+/// A script has as many commands as lines that are not passed over.
+pub fn counted_commands()
+    ensures { (script : Script) (commands : List Command)
+        → IsScript script.lines commands → length commands ≡ command_count script }
 {}
