@@ -1,6 +1,5 @@
 -- A stripe's fragments placed one after the other: what is kept of the slot table and of the stripes on the way.
-use Rattle.std.proofs.Common.{◌≡◌, ◌≢◌, inl, inr, lt-ltb, ℕ, suc, ◌+◌, ◌-◌, ◌&&◌, ◌<◌, ◌≤◌, Bool, true, false, nat_eq, eqb, nat_lt, List, [], ◌∷◌, ◌++◌, map, length, take, drop, get_or, Option, Some, None, option_map, IsSome, IsTrue, is_some, refl, sym, ap, ◌∙◌, subst, append_assoc, append-nil, arith}
-use Rattle.std.specs.List.{All, Contains, find, list_any}
+use Rattle.std.proofs.Common.{◌≡◌, ◌≢◌, inl, inr, lt-ltb, ℕ, ◌+◌, ◌-◌, ◌&&◌, ◌<◌, ◌≤◌, false, nat_eq, eqb, nat_lt, List, [], ◌∷◌, ◌++◌, length, take, drop, get_or, Option, Some, None, option_map, IsSome, IsTrue, refl, sym, ap, ◌∙◌, subst, append_assoc, append-nil, arith}
 use Rattle.std.specs.Option.{option_map_or}
 use Rattle.std.proofs.lemmas.Bool.{eq-eqb, eqb-true, and_parts, cases_Bool}
 use Rattle.std.proofs.lemmas.List.{drop_more, take_all}
@@ -18,11 +17,10 @@ use Rattle.lrc_slots.specs.Slots as slots
 use Rattle.lrc_stripes.specs.Levels.{home_of}
 use Rattle.lrc_stripes.specs.Stored.{Stored, has_slot, IsFree}
 use Rattle.lrc_stripes.specs.Stored as stored
-use Rattle.lrc_book.specs.States.{State, has_stripe, taken_seats}
-use Rattle.lrc_book.specs.Placement.{chosen, with_home}
+use Rattle.lrc_book.specs.States.{State, has_stripe}
+use Rattle.lrc_book.specs.Placement.{with_home}
 use Rattle.lrc_book.specs.Steps.{with_stripe}
 use Rattle.lrc_book.specs.Changes.{held_at, AreChosen, with_placed}
-use Rattle.lrc_book.specs.Goodness.{IsGood}
 use Rattle.lrc_book.specs.Choices.{IsChoice}
 use Rattle.lrc_book.specs.Ties.{table_of, stored_of, AreOf}
 use Rattle.lrc_book.proofs.MemberLemmas.{list_any-member}

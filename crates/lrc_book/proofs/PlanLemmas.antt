@@ -1,16 +1,13 @@
 -- The seat that a table gives is the one that the rule chooses, also beside planned homes that the table does not have.
-use Rattle.std.proofs.Common.{length, get_or, take, ◌≡◌, ◌≢◌, ℕ, zero, suc, ◌+◌, ◌<◌, ◌≤◌, Bool, true, false, not, cond, ◌&&◌, ◌||◌, nat_eq, eqb, List, [], ◌∷◌, ◌++◌, map, filter, fold, Option, Some, None, is_some, option_map, option_and_then, arith, zero-add, append-nil, refl, sym, ap, ap₂, ◌∙◌, subst, inl, inr}
+use Rattle.std.proofs.Common.{◌≡◌, ◌≢◌, ℕ, ◌+◌, Bool, true, false, not, cond, ◌&&◌, ◌||◌, eqb, List, [], ◌∷◌, ◌++◌, map, filter, fold, Option, Some, None, is_some, option_map, option_and_then, zero-add, append-nil, refl, sym, ap, ◌∙◌, subst, inl, inr}
 use Rattle.std.proofs.Math.Path.{fun_ext}
 use Rattle.std.specs.List.{All, AllPairs, list_any, count_by, range_with_len}
 use Rattle.std.proofs.lemmas.Bool.{cases_Bool, eqb-true, eq-eqb, and_parts, or_parts, and_right, not-true}
 use Rattle.std.proofs.lemmas.List.{map-append}
 use Rattle.std.proofs.lemmas.List.Elements.{All-nil, All-cons, All-head, All-tail, All-weaker, All-map}
 use Rattle.std.proofs.lemmas.List.Sums.{sum_by-cons}
-use Rattle.std.proofs.lemmas.List.Folds.{list_any-append, list_any_more, list_any_none}
-use Rattle.lrc_code.specs.declared.codes.Code.{Code}
+use Rattle.std.proofs.lemmas.List.Folds.{list_any-append}
 use Rattle.lrc_code.specs.declared.codes.Code.TheVariants.{Wide}
-use Rattle.lrc_code.specs.declared.numbers.FaultNo.{FaultNo}
-use Rattle.lrc_code.specs.declared.numbers.UpgradeNo.{UpgradeNo}
 use Rattle.lrc_code.specs.declared.numbers.StripeNo.{StripeNo}
 use Rattle.lrc_code.specs.declared.numbers.NodeNo.{NodeNo}
 use Rattle.lrc_code.specs.declared.numbers.Fragment.{Fragment}
@@ -19,15 +16,14 @@ use Rattle.lrc_topology.specs.declared.NodeInfo.{NodeInfo}
 use Rattle.lrc_topology.specs.declared.seat.Seat.{Seat}
 use Rattle.lrc_topology.specs.declared.seat.Held.{Held}
 use Rattle.lrc_topology.specs.Nodes.{AreNodes, node_at}
-use Rattle.lrc_topology.specs.Seats.{load_of, is_taken, first_slot, free_slot, free_seat, is_lighter}
-use Rattle.lrc_slots.specs.Slots.{Slots, least_free, least_free_at, taken_count}
-use Rattle.lrc_slots.specs.Barred.{Barred}
-use Rattle.lrc_slots.specs.Next.{may_take, is_chosen_before, next_node, next_number}
-use Rattle.lrc_book.specs.States.{State, has_stripe, code_of, seats_of, taken_seats, takes_seats, is_eligible}
-use Rattle.lrc_book.specs.Placement.{clashes, bars, fits, chosen, chosen_node}
+use Rattle.lrc_topology.specs.Seats.{load_of, is_taken, first_slot, free_seat, is_lighter}
+use Rattle.lrc_slots.specs.Slots.{least_free, least_free_at}
+use Rattle.lrc_slots.specs.Next.{may_take, is_chosen_before, next_node}
+use Rattle.lrc_book.specs.States.{State, has_stripe, taken_seats, takes_seats, is_eligible}
+use Rattle.lrc_book.specs.Placement.{bars, fits, chosen, chosen_node}
 use Rattle.lrc_book.specs.Goodness.{IsGood}
-use Rattle.lrc_book.specs.Ties.{table_of, is_beside, bars_fault, bars_upgrade, bars_of, bars_in, with_held, next_seat, with_homes}
-use Rattle.lrc_book.proofs.MemberLemmas.{All-members, filter-member, list_any-member}
+use Rattle.lrc_book.specs.Ties.{table_of, is_beside, bars_of, bars_in, next_seat, with_homes}
+use Rattle.lrc_book.proofs.MemberLemmas.{All-members, filter-member}
 use Rattle.lrc_code.proofs.OrderLemmas.{least-listed}
 use Rattle.lrc_book.proofs.NodeLemmas.{node_at-member, seat_on}
 use Rattle.lrc_book.proofs.ChoiceLemmas.{chosen-choice, choice-slot}

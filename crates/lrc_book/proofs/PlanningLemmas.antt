@@ -1,5 +1,5 @@
 -- The seats of a stripe planned one after the other.
-use Rattle.std.proofs.Common.{◌≡◌, ◌≢◌, ℕ, ◌+◌, ◌<◌, true, not, ◌&&◌, nat_eq, List, [], ◌∷◌, ◌++◌, length, get_or, set, take, drop, fold, Option, Some, None, Result, Ok, Err, arith, refl, subst, sym, ap, ◌∙◌, append_assoc, append-nil, length-take}
+use Rattle.std.proofs.Common.{◌≡◌, ℕ, ◌+◌, ◌<◌, true, List, [], length, get_or, set, take, drop, fold, Option, Some, None, Result, Ok, Err, arith, refl, subst, sym, ap, ◌∙◌, append_assoc, append-nil, length-take}
 use Rattle.std.specs.List.{All}
 use Rattle.std.proofs.lemmas.List.{drop_more, take_more, take_more_set}
 use Rattle.std.specs.Option.{option_map_or}

@@ -1,6 +1,5 @@
 -- The slot table of a state: its loads, what is barred, and the seat that it gives beside planned homes.
 use Rattle.std.proofs.Common.{◌≡◌, ◌≢◌, ℕ, zero, suc, ◌+◌, ◌<◌, ◌≤◌, Bool, true, false, not, cond, ◌&&◌, ◌||◌, nat_eq, eqb, List, [], ◌∷◌, Option, Some, None, is_some, IsSomeAnd, arith, zero-add, refl, ap, ◌∙◌, subst, inl, inr}
-use Rattle.std.proofs.Math.Path.{fun_ext}
 use Rattle.std.specs.List.{All, AllPairs, list_any, count_by, range_with_len}
 use Rattle.std.specs.Option.{option_map_or}
 use Rattle.std.proofs.lemmas.Bool.{cases_Bool, cases_eq, eqb-true, eq-eqb, ne_eqb, false_from_ne_true}
@@ -13,18 +12,17 @@ use Rattle.lrc_code.specs.Codes.{class_of, same_class}
 use Rattle.lrc_topology.specs.declared.NodeInfo.{NodeInfo}
 use Rattle.lrc_topology.specs.declared.seat.Seat.{Seat}
 use Rattle.lrc_topology.specs.declared.seat.Held.{Held}
-use Rattle.lrc_topology.specs.Nodes.{AreNodes, node_at}
-use Rattle.lrc_topology.specs.Seats.{load_of, is_taken, first_slot, free_slot, free_seat, is_lighter}
-use Rattle.lrc_slots.specs.Slots.{Slots, least_free, least_free_at, taken_count}
+use Rattle.lrc_topology.specs.Nodes.{node_at}
+use Rattle.lrc_topology.specs.Seats.{load_of, is_taken, free_slot}
 use Rattle.lrc_slots.specs.Barred.{Barred}
-use Rattle.lrc_slots.specs.Next.{may_take, is_chosen_before, next_node, next_number}
+use Rattle.lrc_slots.specs.Next.{may_take}
 use Rattle.lrc_book.specs.declared.mode.Mode.TheVariants.{Gone}
 use Rattle.lrc_book.specs.States.{State, code_of, seats_of, taken_seats, mode_of, takes_seats, is_eligible}
-use Rattle.lrc_book.specs.Placement.{clashes, bars, fits, chosen, chosen_node}
-use Rattle.lrc_book.specs.Goodness.{IsStanding, IsGood}
-use Rattle.lrc_book.specs.Ties.{table_of, is_beside, bars_fault, bars_upgrade, bars_in, bars_of, with_held, next_seat, with_homes}
-use Rattle.lrc_book.proofs.MemberLemmas.{All-members, All-list_any, filter-member, AllPairs-head, AllPairs-tail}
-use Rattle.lrc_book.proofs.NodeLemmas.{node_at-member, taken-member, seat_on}
+use Rattle.lrc_book.specs.Placement.{bars, fits}
+use Rattle.lrc_book.specs.Goodness.{IsStanding}
+use Rattle.lrc_book.specs.Ties.{table_of, is_beside, bars_fault, bars_upgrade, bars_in, bars_of}
+use Rattle.lrc_book.proofs.MemberLemmas.{AllPairs-head, AllPairs-tail}
+use Rattle.lrc_book.proofs.NodeLemmas.{taken-member, seat_on}
 
 -- ---- loads: the seats on a node are as many as its taken slots
 

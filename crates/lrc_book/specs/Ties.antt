@@ -13,7 +13,6 @@ use Rattle.lrc_topology.specs.declared.seat.Seat.{Seat}
 use Rattle.lrc_topology.specs.declared.seat.Held.{Held}
 use Rattle.lrc_topology.specs.Nodes.{AreNodes, node_at}
 use Rattle.lrc_topology.specs.Seats.{is_taken}
-use Rattle.lrc_code.specs.declared.numbers.NodeNo.{NodeNo}
 use Rattle.lrc_slots.specs.Slots.{Slots, least_free_at, with_free}
 use Rattle.lrc_stripes.specs.Levels.{homes_of}
 use Rattle.lrc_stripes.specs.Stored.{Stored}

@@ -1,18 +1,16 @@
-use Rattle.std.proofs.Common.{◌≡◌, ◌+◌, ◌<◌, ◌≤◌, ◌++◌, [], ◌∷◌, List, Option, Some, None, option_map, map, take, length, get_or, refl, sym, ap, subst, ◌∙◌, arith, append-nil}
-use Rattle.std.specs.Option.{option_to_list}
-use Rattle.std.proofs.lemmas.List.{map-append, take_all}
+use Rattle.std.proofs.Common.{◌≡◌, List, Some, map, take, length, get_or, refl, sym, ap, ◌∙◌, arith}
+use Rattle.std.proofs.lemmas.List.{take_all}
 use Rattle.lrc_code.specs.declared.codes.Code.TheVariants.{Wide}
 use Rattle.lrc_code.specs.declared.numbers.Fragment.{Fragment}
 use Rattle.lrc_code.specs.Codes.{fragments}
-use Rattle.lrc_topology.specs.declared.seat.Seat.{Seat}
 use Rattle.lrc_topology.specs.declared.seat.Held.{Held}
 use Rattle.lrc_slots.specs.Slots.{Slots}
 use Rattle.lrc_slots.specs.Tables.{seen as slots_of}
 use Rattle.lrc_stripes.specs.Stored.{Stored, without_stripe, with_spare}
 use Rattle.lrc_stripes.specs.Tables.{seen as stored_in}
-use Rattle.lrc_book.specs.Ties.{table_of, stored_of, given_back}
+use Rattle.lrc_book.specs.Ties.{table_of, given_back}
 use Rattle.lrc_book.proofs.BarLemmas.{earlier-fragments}
-use Rattle.lrc_book.proofs.TableLemmas.{table_less, table_less-nil, table-without}
+use Rattle.lrc_book.proofs.TableLemmas.{table_less, table_less-nil}
 use Rattle.lrc_book.proofs.FragmentLemmas.{seats_at, held_by, table_less-stripe, taken-held_by, given_back-more}
 use Rattle.lrc_book.proofs.StoredLemmas.{stored-without}
 use Rattle.lrc_book.proofs.changes.drop_stripe.Goals as goal

@@ -1,4 +1,4 @@
-use Rattle.std.proofs.Common.{true, List, get_or, ap, subst, ◌≡◌, ◌++◌, ◌<◌, length, take, arith, refl, sym, ◌∙◌, length-set}
+use Rattle.std.proofs.Common.{true, List, get_or, ap, subst, ◌≡◌, ◌<◌, length, take, arith, refl, sym, ◌∙◌, length-set}
 use Rattle.std.specs.List.{All}
 use Rattle.lrc_code.specs.declared.numbers.Fragment.{Fragment}
 use Rattle.lrc_book.specs.Changes.{held_at}

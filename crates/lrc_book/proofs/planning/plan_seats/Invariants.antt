@@ -1,4 +1,4 @@
-use Rattle.std.proofs.Common.{◌≡◌, ◌++◌, Ok, fold, drop, take, length}
+use Rattle.std.proofs.Common.{◌≡◌, Ok, fold, drop, take, length}
 use Rattle.lrc_code.specs.declared.codes.Code.TheVariants.{Wide}
 use Rattle.lrc_code.specs.Codes.{fragments}
 use Rattle.lrc_book.specs.Placement.{place_next, placed}

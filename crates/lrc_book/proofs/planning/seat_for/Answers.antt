@@ -1,4 +1,4 @@
-use Rattle.std.proofs.Common.{Option, option_map, option_and_then, ap, ap₂, ◌∙◌, sym}
+use Rattle.std.proofs.Common.{option_map, option_and_then, ap, ap₂, ◌∙◌}
 use Rattle.lrc_code.specs.declared.numbers.NodeNo.{NodeNo}
 use Rattle.lrc_slots.specs.Slots.{least_free_at}
 use Rattle.lrc_slots.specs.Tables.{seen}

@@ -1,6 +1,6 @@
-use Rattle.std.proofs.Common.{Bool, not, ◌||◌, ap, ◌∙◌}
-use Rattle.lrc_book.specs.States.{is_gone, is_down, mode_of}
-use Rattle.lrc_book.specs.Steps.{node_outcome, emptied, with_gone, with_down, without_down, without_gone, fail_outcome}
+use Rattle.std.proofs.Common.{Bool, ap, ◌∙◌}
+use Rattle.lrc_book.specs.States.{is_gone, mode_of}
+use Rattle.lrc_book.specs.Steps.{node_outcome, emptied, with_gone, fail_outcome}
 use Rattle.lrc_book.specs.Books.{BookView, state_of}
 use Rattle.lrc_book.proofs.ShownLemmas.{gone-mode}
 use Rattle.lrc_book.proofs.book.Book.fail_reply.Goals as goal

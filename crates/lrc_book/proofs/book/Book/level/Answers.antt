@@ -1,6 +1,5 @@
 use Rattle.std.proofs.Common.{ap, ◌∙◌}
 use Rattle.lrc_stripes.specs.Stored.{Stored, level_shown}
-use Rattle.lrc_stripes.specs.Tables.{seen}
 use Rattle.lrc_book.specs.States as states
 use Rattle.lrc_book.specs.Books.{BookView, state_of}
 use Rattle.lrc_book.proofs.StoredLemmas.{stored-level}

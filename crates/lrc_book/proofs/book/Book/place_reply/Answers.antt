@@ -1,9 +1,5 @@
-use Rattle.std.proofs.Common.{◌≡◌, ap, sym, subst, ◌∙◌, false}
+use Rattle.std.proofs.Common.{ap, sym, subst, ◌∙◌}
 use Rattle.lrc_code.specs.declared.codes.Code.TheVariants.{Wide}
-use Rattle.lrc_topology.specs.declared.NodeInfo.{NodeInfo}
-use Rattle.lrc_slots.specs.Tables.{seen}
-use Rattle.lrc_book.specs.declared.reply.Reply.TheVariants.{Placed, Refused}
-use Rattle.lrc_book.specs.declared.reply.Refusal.TheVariants.{NoLawfulNode}
 use Rattle.lrc_book.specs.States.{State, has_stripe}
 use Rattle.lrc_book.specs.Steps.{Outcome, place_outcome}
 use Rattle.lrc_book.specs.Books.{BookView, state_of}

@@ -1,8 +1,7 @@
-use Rattle.std.proofs.Common.{Bool, not, ◌||◌, ap, ◌∙◌}
-use Rattle.lrc_book.specs.States.{is_gone, is_down, mode_of}
-use Rattle.lrc_book.specs.Steps.{node_outcome, emptied, with_gone, with_down, without_down, without_gone, up_outcome}
+use Rattle.std.proofs.Common.{Bool, not, ap, ◌∙◌}
+use Rattle.lrc_book.specs.States.{is_down}
+use Rattle.lrc_book.specs.Steps.{node_outcome, without_down, up_outcome}
 use Rattle.lrc_book.specs.Books.{BookView, state_of}
-use Rattle.lrc_book.proofs.ShownLemmas.{gone-mode}
 use Rattle.lrc_book.proofs.book.Book.up_reply.Goals as goal
 
 pub returns : goal.returns
