@@ -1,5 +1,5 @@
 -- How many commands the lines of a text can be.
-use Rattle.std.proofs.Common.{◌≡◌, ℕ, suc, ◌+◌, ◌*◌, ◌≤◌, Bool, true, false, not, cond, nat_eq, All, List, [], ◌∷◌, ◌++◌, length, map, filter, codes, decimal, refl, ap, arith, length-append}
+use Rattle.std.proofs.Common.{◌≡◌, ℕ, suc, ◌+◌, ◌*◌, ◌≤◌, Bool, true, false, not, cond, nat_eq, All, List, [], ◌∷◌, length, map, filter, codes, decimal, refl, ap, arith, length-append}
 use Rattle.std.specs.List.{slice_split, onto_first}
 use Rattle.std.proofs.lemmas.Fmt.{decimal_nonempty}
 use Rattle.lrc_book.specs.declared.command.Command.{Command}

@@ -4,6 +4,7 @@ ghost use Rattle.lrc_script.specs.declared.bundle.BundleError.TheVariants as err
 
 use crate::cut::cut;
 use std::alloc::{AllocError, AllocFailed, Global};
+use thiserror::Error;
 
 /// The text of a script, and the number of its first line in the bundle.
 #[derive(Clone, Copy)]
@@ -23,11 +24,12 @@ pub struct Bundle<'a> {
 }
 
 /// Why a bundle is not cut.
-#[derive(Clone, Copy, Debug, PartialEq, Eq)]
+#[derive(Clone, Copy, Debug, PartialEq, Eq, Error)]
 pub enum BundleError {
     /// It has more scripts than are taken.
+    #[error("too many scripts")]
     TooManyScripts,
-    /// No room is left for the list of its scripts.
+    #[error("out of memory")]
     OutOfMemory,
 }
 

@@ -6,5 +6,4 @@ pub mod LeastLemmas
 pub mod NodeLemmas
 pub mod ChoiceLemmas
 pub mod LawLemmas
-pub mod CallerLemmas
 pub mod SeatLemmas
