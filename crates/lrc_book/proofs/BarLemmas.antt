@@ -1,8 +1,7 @@
 -- The domains that are barred for a fragment, filled seat by seat.
-use Rattle.std.proofs.Common.{◌≡◌, ◌≢◌, ℕ, ◌+◌, ◌<◌, Bool, true, false, ◌&&◌, ◌||◌, nat_eq, List, [], ◌∷◌, ◌++◌, length, take, get_or, fold, Option, Some, None, append_assoc, append-nil, refl, sym, ap, ap₂, ◌∙◌}
+use Rattle.std.proofs.Common.{◌≡◌, ◌≢◌, ℕ, ◌+◌, ◌<◌, Bool, true, false, ◌||◌, List, [], ◌∷◌, ◌++◌, length, take, get_or, refl, sym, ap, ap₂, ◌∙◌}
 use Rattle.std.proofs.Math.Path.{fun_ext}
 use Rattle.std.specs.List.{All, Contains, list_any}
-use Rattle.std.specs.Option.{option_map_or}
 use Rattle.std.proofs.lemmas.Bool.{eq-eqb, ne_eqb}
 use Rattle.std.proofs.lemmas.List.{take_more}
 use Rattle.std.proofs.lemmas.List.Elements.{All-nil, All-cons, All-head, All-tail, All-weaker}
@@ -12,13 +11,12 @@ use Rattle.lrc_code.specs.declared.numbers.StripeNo.{StripeNo}
 use Rattle.lrc_code.specs.declared.numbers.FaultNo.{FaultNo}
 use Rattle.lrc_code.specs.declared.numbers.UpgradeNo.{UpgradeNo}
 use Rattle.lrc_code.specs.declared.numbers.Fragment.{Fragment}
-use Rattle.lrc_code.specs.Codes.{fragments, class_of, same_class}
+use Rattle.lrc_code.specs.Codes.{fragments}
 use Rattle.lrc_code.proofs.NumbersLemmas.{same_fragment}
 use Rattle.lrc_topology.specs.declared.NodeInfo.{NodeInfo}
 use Rattle.lrc_topology.specs.declared.seat.Seat.{Seat}
 use Rattle.lrc_topology.specs.declared.seat.Held.{Held}
-use Rattle.lrc_topology.specs.Nodes.{node_at}
-use Rattle.lrc_slots.specs.Barred.{Barred, no_bars, with_fault, with_upgrade}
+use Rattle.lrc_slots.specs.Barred.{Barred, no_bars}
 use Rattle.lrc_book.specs.States.{State, has_stripe, seats_of}
 use Rattle.lrc_book.specs.Changes.{held_at}
 use Rattle.lrc_book.specs.Goodness.{IsGood}
@@ -41,29 +39,6 @@ module _ (nodes : List NodeInfo) (code : Code) (s : StripeNo) (f : Fragment) (b 
   pub held-other : is_beside s f h ≡ false → b ≡ with_held nodes code s f b h
   held-other e = same_bars b (with_held nodes code s f b h) (λ d. rw e (or_none (b.faults d))) (λ d. rw e (or_none (b.upgrades d)))
 
-  -- nor does one on a node that the store has not
-  pub held-absent : node_at nodes h.seat.node ≡ None → b ≡ with_held nodes code s f b h
-  held-absent none = same_bars b (with_held nodes code s f b h)
-      (λ d. or_none (b.faults d) ∙ ap (λ x. b.faults d || x) (nothing (is_beside s f h) (λ m. nat_eq d.value m.fault.value) (node_at nodes h.seat.node) none))
-      (λ d. or_none (b.upgrades d) ∙ ap (λ x. b.upgrades d || x) (nothing (is_beside s f h) (λ m. same_class (class_of code f.value) (class_of code h.fragment.value) && nat_eq d.value m.upgrade.value) (node_at nodes h.seat.node) none))
-    where
-      nothing : (beside : Bool) (test : NodeInfo → Bool) (o : Option NodeInfo) → o ≡ None → false ≡ (beside && option_map_or test o false)
-      nothing true test None e = refl
-      nothing false test None e = refl
-      nothing beside test (Some m) e = absurd (cc)
-
-  -- one of the same class bars both domains of its node
-  pub held-same : (m : NodeInfo) → is_beside s f h ≡ true → node_at nodes h.seat.node ≡ Some m → same_class (class_of code f.value) (class_of code h.fragment.value) ≡ true
-      → with_upgrade (with_fault b m.fault) m.upgrade ≡ with_held nodes code s f b h
-  held-same m e some same = same_bars (with_upgrade (with_fault b m.fault) m.upgrade) (with_held nodes code s f b h)
-      (λ d. rw (e, some) refl) (λ d. rw (e, some, same) refl)
-
-  -- one of another class bars the fault domain alone
-  pub held-apart : (m : NodeInfo) → is_beside s f h ≡ true → node_at nodes h.seat.node ≡ Some m → same_class (class_of code f.value) (class_of code h.fragment.value) ≡ false
-      → with_fault b m.fault ≡ with_held nodes code s f b h
-  held-apart m e some apart = same_bars (with_fault b m.fault) (with_held nodes code s f b h)
-      (λ d. rw (e, some) refl) (λ d. rw (e, some, apart) (or_none (b.upgrades d)))
-
 -- ---- what several seats bar
 
 module _ (nodes : List NodeInfo) (code : Code) (s : StripeNo) (f : Fragment) where
@@ -79,11 +54,6 @@ module _ (nodes : List NodeInfo) (code : Code) (s : StripeNo) (f : Fragment) whe
   -- one seat more of a list that is gone through
   pub bars_in-more : (xs : List Held) (i : ℕ) (d : Held) → i < length xs → with_held nodes code s f (bars_in nodes code s f (take i xs)) (get_or xs i d) ≡ bars_in nodes code s f (take (i + 1) xs)
   bars_in-more xs i d within = bars_in-push (take i xs) (get_or xs i d) ∙ ap (bars_in nodes code s f) (sym (take_more xs i d within))
-
-  -- a second list after a first
-  pub bars_in-fold : (xs ys : List Held) → fold (with_held nodes code s f) (bars_in nodes code s f xs) ys ≡ bars_in nodes code s f (xs ++ ys)
-  bars_in-fold xs [] = ap (bars_in nodes code s f) (sym (append-nil xs))
-  bars_in-fold xs (y ∷ ys) = ap (λ b. fold (with_held nodes code s f) b ys) (bars_in-push xs y) ∙ bars_in-fold (xs ++ y ∷ []) ys ∙ ap (bars_in nodes code s f) (append_assoc xs (y ∷ []) ys)
 
   -- seats of other stripes may be left out
   pub bars_in-skip : (xs ys : List Held) → All (λ h. is_beside s f h ≡ false) xs → bars_in nodes code s f (xs ++ ys) ≡ bars_in nodes code s f ys

@@ -14,21 +14,19 @@ use Rattle.lrc_code.specs.declared.numbers.NodeNo.{NodeNo}
 use Rattle.lrc_code.specs.declared.numbers.Fragment.{Fragment}
 use Rattle.lrc_code.specs.Codes.{fragments}
 use Rattle.lrc_code.proofs.NumbersLemmas.{same_fragment}
-use Rattle.lrc_topology.specs.declared.NodeInfo.{NodeInfo}
 use Rattle.lrc_topology.specs.declared.seat.Seat.{Seat}
 use Rattle.lrc_topology.specs.declared.seat.Held.{Held}
 use Rattle.lrc_topology.specs.Seats.{is_taken}
 use Rattle.lrc_slots.specs.Slots.{Slots}
 use Rattle.lrc_stripes.specs.Levels.{home_of}
 use Rattle.lrc_book.specs.Steps.{is_other}
-use Rattle.lrc_book.specs.Ties.{is_beside, bars_fault, bars_upgrade, bars_in, given_back}
+use Rattle.lrc_book.specs.Ties.{given_back}
 use Rattle.lrc_book.proofs.MemberLemmas.{All-members, Contains-here, Contains-later, Contains-cases, not-Contains-nil, find-member, filter-member, member-filter, list_any-member, member-list_any, AllPairs-head, AllPairs-tail}
 use Rattle.lrc_book.proofs.NodeLemmas.{member-taken}
 use Rattle.lrc_book.proofs.ChoiceLemmas.{same_stripe}
 use Rattle.lrc_book.proofs.GoodLemmas.{held_on, pairs-unmap}
 use Rattle.lrc_book.proofs.TieLemmas.{not_taken}
 use Rattle.lrc_book.proofs.TableLemmas.{map-member, taken-held, table_on, table_less, table_less-push, table_less-all}
-use Rattle.lrc_book.proofs.BarLemmas.{same_bars}
 
 -- ---- lists
 
@@ -161,16 +159,6 @@ module _ (homes : List Held) (s : StripeNo) (once : AllPairs (λ h g. h.stripe �
       let found : home_of homes s h.fragment.value ≡ Some h = subst (λ t. home_of homes t h.fragment.value ≡ Some h) stripe (home-only homes once h here) in
       let form : held_on s h.fragment h.seat ≡ h = ap (λ t. held_on t h.fragment h.seat) (sym stripe) in
       member-filter_map (λ (f : Fragment). option_map (held_on s f) (seats_at homes s f.value)) fs h.fragment h listed (rw found (ap Some form))
-
-  -- what they bar is what all homes bar
-  pub bars_in-held_by : (nodes : List NodeInfo) (f : Fragment) → bars_in nodes Wide s f homes ≡ bars_in nodes Wide s f (held_by (seats_at homes s) s (fragments Wide))
-  bars_in-held_by nodes f = same_bars (bars_in nodes Wide s f homes) (bars_in nodes Wide s f (held_by (seats_at homes s) s (fragments Wide)))
-      (λ d. alike (bars_fault nodes s f d) (λ h hit. (and_parts (is_beside s f h) _ hit).0)) (λ d. alike (bars_upgrade nodes Wide s f d) (λ h hit. (and_parts (is_beside s f h) _ hit).0))
-    where
-      alike : (test : Held → Bool) → ((h : Held) → test h ≡ true → is_beside s f h ≡ true) → list_any test homes ≡ list_any test (held_by (seats_at homes s) s (fragments Wide))
-      alike test beside = any-members test homes (held_by (seats_at homes s) s (fragments Wide))
-          (λ h here hit. member-held_by (fragments Wide) h here (same_stripe h.stripe s (eqb-true _ _ (and_parts (eqb h.stripe.value s.value) (not (eqb h.fragment.value f.value)) (beside h hit)).0)) (all-fragments h.fragment))
-          (λ h there hit. (held_by-member (fragments Wide) h there).0)
 
   -- with their seats given back, a table is the one of the homes of other stripes
   pub table_less-stripe : (t : Slots) → AllPairs (λ a b. a ≢ b) (map (λ h. h.seat) homes)

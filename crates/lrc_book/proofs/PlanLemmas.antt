@@ -170,12 +170,6 @@ module _ (nodes : List NodeInfo) (st : State) (new : List Held) (s : StripeNo) (
 no_more : (st : State) → with_homes st [] ≡ st
 no_more st = ap (λ homes. record st { homes = homes }) (append-nil st.homes)
 
-pub next-chosen : (nodes : List NodeInfo) (st : State) (s : StripeNo) (f : Fragment) → AreNodes nodes → IsGood nodes st
-    → next_node (table_of nodes st) (bars_of nodes st s f) ≡ chosen_node nodes st s f
-next-chosen nodes st s f known good =
-    subst (λ now. next_node (table_of nodes st) (bars_of nodes now s f) ≡ chosen_node nodes now s f) (no_more st)
-    (next-planned nodes st [] s f (All-nil (λ h. is_beside s f h ≡ true)) known good.single (standing-slots nodes st (taken_seats st) good.standing))
-
 -- The seat that the table of a good state gives is the one that the rule chooses.
 pub table-chosen : (nodes : List NodeInfo) (st : State) (s : StripeNo) (f : Fragment) → AreNodes nodes → IsGood nodes st → next_seat (table_of nodes st) (bars_of nodes st s f) ≡ chosen nodes st s f
 table-chosen nodes st s f known good =

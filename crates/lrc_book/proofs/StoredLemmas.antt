@@ -1,5 +1,5 @@
 -- How what is stored of the stripes follows the state.
-use Rattle.std.proofs.Common.{◌≡◌, ◌≢◌, ℕ, ◌-◌, Bool, true, false, not, if◌then◌else◌, ◌&&◌, ◌||◌, nat_eq, eqb, List, [], ◌∷◌, map, filter, find, Option, Some, None, option_map, is_some, refl, sym, ap, ◌∙◌, subst, inl, inr}
+use Rattle.std.proofs.Common.{◌≡◌, ◌≢◌, ℕ, ◌-◌, Bool, true, false, not, if◌then◌else◌, ◌&&◌, ◌||◌, nat_eq, eqb, List, [], ◌∷◌, filter, find, Option, Some, None, option_map, is_some, refl, sym, ap, ◌∙◌, subst, inl, inr}
 use Rattle.std.proofs.Math.Path.{fun_ext}
 use Rattle.std.specs.List.{All, Contains}
 use Rattle.std.specs.Option.{option_map_or, option_or}
@@ -12,11 +12,9 @@ use Rattle.lrc_code.specs.declared.codes.Code.TheVariants.{Wide}
 use Rattle.lrc_code.specs.declared.numbers.StripeNo.{StripeNo}
 use Rattle.lrc_code.specs.declared.numbers.NodeNo.{NodeNo}
 use Rattle.lrc_code.specs.declared.numbers.Fragment.{Fragment}
-use Rattle.lrc_code.specs.Codes.{fragments}
 use Rattle.lrc_topology.specs.declared.NodeInfo.{NodeInfo}
 use Rattle.lrc_topology.specs.declared.seat.Seat.{Seat}
 use Rattle.lrc_topology.specs.declared.seat.Held.{Held}
-use Rattle.lrc_topology.specs.Nodes.{node_at}
 use Rattle.lrc_stripes.specs.Levels.{home_of, homes_of, homeless_of, missing_of}
 use Rattle.lrc_stripes.specs.Stored as stored
 use Rattle.lrc_stripes.specs.Stored.{Stored, has_node, IsFree}
@@ -188,9 +186,6 @@ module _ (nodes : List NodeInfo) (st : State) (spare : ℕ) (s : StripeNo) where
   unfolding stored.level_shown missing_of homeless_of
   stored-level = refl
 
-  pub stored-homes : states.homes_shown st s ≡ (if (stored_of nodes st spare).stripes s then Some (map (λ f. (stored_of nodes st spare).homes s f.value) (fragments Wide)) else None)
-  stored-homes = refl
-
 -- ---- free seats
 
 module _ (nodes : List NodeInfo) (st : State) (spare : ℕ) (seat : Seat) where
@@ -213,7 +208,3 @@ module _ (nodes : List NodeInfo) (st : State) (spare : ℕ) (seat : Seat) where
 at-opening : (o : Option NodeInfo) → is_some o ≡ option_map_or (is_online opening) o false
 at-opening None = refl
 at-opening (Some n) = refl
-
--- the opening state has no stripes, and all nodes online
-pub stored-opening : (nodes : List NodeInfo) → stored.empty nodes ≡ stored_of nodes opening 0
-stored-opening nodes = same_online (stored.empty nodes) (has_node nodes) (online_at nodes opening) (λ n. at-opening (node_at nodes n))

@@ -1,11 +1,11 @@
 -- How the slot table and the barred domains follow the state.
-use Rattle.std.proofs.Common.{◌≡◌, ◌≢◌, ℕ, ◌+◌, ◌<◌, ◌≤◌, Bool, true, false, not, cond, ◌&&◌, ◌||◌, nat_eq, eqb, List, [], ◌∷◌, ◌++◌, map, filter, length, take, get_or, Option, Some, None, arith, append-nil, refl, sym, ap, ◌∙◌, subst, inl, inr}
+use Rattle.std.proofs.Common.{◌≡◌, ◌≢◌, ℕ, ◌<◌, Bool, true, false, not, ◌&&◌, ◌||◌, nat_eq, eqb, List, [], ◌∷◌, ◌++◌, map, filter, length, take, get_or, Option, Some, None, arith, refl, sym, ap, ◌∙◌, subst, inl, inr}
 use Rattle.std.proofs.Math.Path.{fun_ext}
 use Rattle.std.specs.List.{All, AllPairs, Contains, list_any}
 use Rattle.std.specs.Option.{option_map_or}
 use Rattle.std.proofs.lemmas.Bool.{cases_Bool, eqb-true, and_parts}
-use Rattle.std.proofs.lemmas.List.{map-append, take_all, get_or-take, length-take, get_or_default}
-use Rattle.std.proofs.lemmas.List.Elements.{All-filter, All-weaker, All-map, Contains-get_or, filter_more}
+use Rattle.std.proofs.lemmas.List.{map-append, get_or-take, length-take, get_or_default}
+use Rattle.std.proofs.lemmas.List.Elements.{All-filter, All-map}
 use Rattle.std.proofs.lemmas.List.Folds.{list_any-append}
 use Rattle.lrc_code.specs.declared.numbers.StripeNo.{StripeNo}
 use Rattle.lrc_code.specs.declared.numbers.NodeNo.{NodeNo}
@@ -13,14 +13,11 @@ use Rattle.lrc_code.specs.declared.numbers.Fragment.{Fragment}
 use Rattle.lrc_topology.specs.declared.NodeInfo.{NodeInfo}
 use Rattle.lrc_topology.specs.declared.seat.Seat.{Seat}
 use Rattle.lrc_topology.specs.declared.seat.Held.{Held}
-use Rattle.lrc_topology.specs.Nodes.{node_at}
 use Rattle.lrc_topology.specs.Seats.{is_taken}
-use Rattle.lrc_slots.specs.Slots.{Slots, all_free, is_seat, with_taken, with_free}
-use Rattle.lrc_book.specs.States.{State, opening, seats_of, taken_seats, takes_seats}
+use Rattle.lrc_slots.specs.Slots.{Slots, is_seat, with_taken, with_free}
+use Rattle.lrc_book.specs.States.{State, opening, taken_seats, takes_seats}
 use Rattle.lrc_book.specs.Placement.{with_home}
-use Rattle.lrc_book.specs.Steps.{is_other, without_stripe}
 use Rattle.lrc_book.specs.Ties.{table_of}
-use Rattle.lrc_book.proofs.NodeLemmas.{member-taken}
 use Rattle.lrc_book.proofs.MemberLemmas.{AllPairs-head, AllPairs-tail, Contains-here, Contains-later, Contains-cases, not-Contains-nil}
 use Rattle.lrc_book.proofs.GoodLemmas.{pairs-unmap}
 use Rattle.lrc_book.proofs.TieLemmas.{not_taken}
@@ -56,17 +53,9 @@ same_taken t taken other same = ap (λ (f : NodeNo → ℕ → Bool). record t {
 abbrev pub table_on : Slots → List Held → Slots
 table_on t held = record t { taken = is_taken (map (λ h. h.seat) held) }
 
--- a state's table is such a one
-pub table-seats : (nodes : List NodeInfo) (st : State) → table_of nodes st ≡ table_on (table_of nodes st) (seats_of st)
-table-seats nodes st = refl
-
 at-opening : (o : Option NodeInfo) → true ≡ option_map_or (takes_seats opening) o true
 at-opening None = refl
 at-opening (Some n) = refl
-
--- the opening state has the table of which nothing is taken
-pub table-opening : (nodes : List NodeInfo) → all_free nodes ≡ table_of nodes opening
-table-opening nodes = ap (λ (eligible : NodeNo → Bool). record (all_free nodes) { eligible = eligible }) (fun_ext (λ n. at-opening (node_at nodes n)))
 
 -- ---- one seat more, or less
 
@@ -76,26 +65,6 @@ table-push nodes st s f seat = same_taken (table_of nodes st) _ (is_taken (taken
     let whole : taken_seats (with_home st s f seat) ≡ taken_seats st ++ seat ∷ [] = map-append (λ (h : Held). h.seat) st.homes (record { stripe = s; fragment = f; seat = seat } ∷ []) in
     ap (λ b. is_taken (taken_seats st) n k || b) (or_none (is_seat seat.node seat.slot n k))
     ∙ sym (ap (λ seats. is_taken seats n k) whole ∙ list_any-append (λ (a : Seat). nat_eq a.node.value n.value && nat_eq a.slot k) (taken_seats st) (seat ∷ [])))
-
-one_out : (a b c : Bool) → (b ≡ true → (a || c) ≡ false) → ((a || (b || c)) && not b) ≡ (a || c)
-one_out true true c alone = sym (alone refl)
-one_out true false c alone = refl
-one_out false true c alone = sym (alone refl)
-one_out false false true alone = refl
-one_out false false false alone = refl
-
--- a slot that is given back is one seat less, where no other seat is on it
-pub table-free : (t : Slots) (xs ys : List Held) (h : Held) → is_taken (map (λ h. h.seat) (xs ++ ys)) h.seat.node h.seat.slot ≡ false
-    → with_free (table_on t (xs ++ h ∷ ys)) h.seat.node h.seat.slot ≡ table_on t (xs ++ ys)
-table-free t xs ys h alone = same_taken t _ (is_taken (map (λ h. h.seat) (xs ++ ys))) (λ n k.
-    let on = λ (a : Held). nat_eq a.seat.node.value n.value && nat_eq a.seat.slot k in
-    let split : (zs : List Held) → is_taken (map (λ h. h.seat) (xs ++ zs)) n k ≡ (list_any on xs || list_any on zs) = λ zs. taken-held (xs ++ zs) n k ∙ list_any-append on xs zs in
-    ap (λ b. b && not (on h)) (split (h ∷ ys))
-    ∙ one_out (list_any on xs) (on h) (list_any on ys) (λ here.
-    let parts = and_parts (eqb h.seat.node.value n.value) (eqb h.seat.slot k) here in
-    sym (split ys) ∙ subst (λ m. is_taken (map (λ h. h.seat) (xs ++ ys)) m k ≡ false) (ap (λ (v : ℕ). record { value = v }) (eqb-true _ _ parts.0))
-    (subst (λ j. is_taken (map (λ h. h.seat) (xs ++ ys)) h.seat.node j ≡ false) (eqb-true _ _ parts.1) alone))
-    ∙ sym (split ys))
 
 -- ---- seats given back one after the other
 
@@ -146,47 +115,3 @@ module _ (stays : Held → Bool) where
       → table_less (table_on t held) (map (λ h. h.seat) (filter (λ h. not (stays h)) held)) ≡ table_on t (filter stays held)
   table_less-all t held single =
       same_taken t _ (is_taken (map (λ h. h.seat) (filter stays held))) (λ n k. kept_only held (pairs-unmap (λ a b. a ≢ b) (λ (h : Held). h.seat) held single) n k)
-
-  -- the seats that go, of the first so many
-  abbrev pub freed_to : List Held → ℕ → List Seat
-  freed_to held i = map (λ h. h.seat) (filter (λ h. not (stays h)) (take i held))
-
-  pub freed-start : (t : Slots) (held : List Held) → table_on t held ≡ table_less (table_on t held) (freed_to held 0)
-  freed-start t held = table_less-nil (table_on t held)
-
-  freed-step : (held : List Held) (i : ℕ) (d : Held) → i < length held → freed_to held (i + 1) ≡ freed_to held i ++ map (λ h. h.seat) (cond (not (stays (get_or held i d))) (get_or held i d ∷ []) [])
-  freed-step held i d within =
-      ap (map (λ (h : Held). h.seat)) (filter_more (λ (h : Held). not (stays h)) held i d within) ∙ map-append (λ (h : Held). h.seat) (filter (λ (h : Held). not (stays h)) (take i held)) _
-
-  -- a seat that stays is passed over
-  pub freed-passed : (held : List Held) (i : ℕ) (d : Held) → i < length held → stays (get_or held i d) ≡ true → freed_to held i ≡ freed_to held (i + 1)
-  freed-passed held i d within kept = sym (freed-step held i d within ∙ rw kept (append-nil (freed_to held i)))
-
-  -- a seat that goes is given back
-  pub freed-more : (t : Slots) (held : List Held) (i : ℕ) (d : Held) → i < length held → stays (get_or held i d) ≡ false
-      → with_free (table_less (table_on t held) (freed_to held i)) (get_or held i d).seat.node (get_or held i d).seat.slot ≡ table_less (table_on t held) (freed_to held (i + 1))
-  freed-more t held i d within gone =
-      table_less-push (table_on t held) (freed_to held i) (get_or held i d).seat ∙ ap (table_less (table_on t held)) (sym (freed-step held i d within ∙ rw gone refl))
-
-  -- it was taken until then
-  pub freed-taken : (t : Slots) (held : List Held) (i : ℕ) (d : Held) → AllPairs (λ a b. a ≢ b) (map (λ h. h.seat) held) → i < length held
-      → (table_less (table_on t held) (freed_to held i)).taken (get_or held i d).seat.node (get_or held i d).seat.slot ≡ true
-  freed-taken t held i d single within =
-      let h = get_or held i d in
-      let here : is_taken (map (λ h. h.seat) held) h.seat.node h.seat.slot ≡ true = member-taken (map (λ h. h.seat) held) h.seat.node h.seat.slot (map-member (λ (x : Held). x.seat) held h (Contains-get_or held i d within)) in
-      let alone : is_taken (freed_to held i) h.seat.node h.seat.slot ≡ false = not_taken (freed_to held i) h.seat.node h.seat.slot
-      (All-map (λ a. h.seat ≢ a) (λ (x : Held). x.seat) (filter (λ (x : Held). not (stays x)) (take i held))
-      (All-filter (λ (x : Held). not (stays x)) (λ x. h.seat ≢ x.seat) (take i held)
-      (All-weaker (λ x. x.seat ≢ h.seat) (λ x. h.seat ≢ x.seat) (λ x other e. other (sym e)) (take i held)
-      (pairs-before (λ h g. h.seat ≢ g.seat) held i d (pairs-unmap (λ a b. a ≢ b) (λ (h : Held). h.seat) held single) within)))) in
-      rw (here, alone) refl
-
-  -- at last the table is the one of the seats that stay
-  pub freed-all : (t : Slots) (held : List Held) (i : ℕ) → AllPairs (λ a b. a ≢ b) (map (λ h. h.seat) held) → length held ≤ i → table_less (table_on t held) (freed_to held i) ≡ table_on t (filter stays held)
-  freed-all t held i single past =
-      let whole : take i held ≡ held = take_all i held past in
-      ap (λ hs. table_less (table_on t held) (map (λ (h : Held). h.seat) (filter (λ (h : Held). not (stays h)) hs))) whole ∙ table_less-all t held single
-
--- a state's table, with the seats of a stripe given back, is the one of the state without the stripe
-pub table-without : (nodes : List NodeInfo) (st : State) (s : StripeNo) → table_on (table_of nodes st) (filter (λ h. is_other s h.stripe) (seats_of st)) ≡ table_of nodes (without_stripe st s)
-table-without nodes st s = refl

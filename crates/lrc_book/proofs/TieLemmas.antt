@@ -17,10 +17,10 @@ use Rattle.lrc_topology.specs.Seats.{load_of, is_taken, free_slot}
 use Rattle.lrc_slots.specs.Barred.{Barred}
 use Rattle.lrc_slots.specs.Next.{may_take}
 use Rattle.lrc_book.specs.declared.mode.Mode.TheVariants.{Gone}
-use Rattle.lrc_book.specs.States.{State, code_of, seats_of, taken_seats, mode_of, takes_seats, is_eligible}
-use Rattle.lrc_book.specs.Placement.{bars, fits}
+use Rattle.lrc_book.specs.States.{State, code_of, taken_seats, mode_of, takes_seats, is_eligible}
+use Rattle.lrc_book.specs.Placement.{bars}
 use Rattle.lrc_book.specs.Goodness.{IsStanding}
-use Rattle.lrc_book.specs.Ties.{table_of, is_beside, bars_fault, bars_upgrade, bars_in, bars_of}
+use Rattle.lrc_book.specs.Ties.{table_of, is_beside, bars_fault, bars_upgrade, bars_in}
 use Rattle.lrc_book.proofs.MemberLemmas.{AllPairs-head, AllPairs-tail}
 use Rattle.lrc_book.proofs.NodeLemmas.{taken-member, seat_on}
 
@@ -109,7 +109,3 @@ bars-domains nodes st s f n (h ∷ hs) =
 pub may_take-eligible : (nodes : List NodeInfo) (st : State) (b : Barred) (n : NodeInfo) → node_at nodes n.number ≡ Some n → may_take (table_of nodes st) b n ≡ (is_eligible st n && not (b.faults n.fault || b.upgrades n.upgrade))
 may_take-eligible nodes st b n found =
     ap (λ (o : Option NodeInfo). option_map_or (takes_seats st) o true && is_some (free_slot (taken_seats st) n) && not (b.faults n.fault || b.upgrades n.upgrade)) found
-
--- and so it is the rule's
-pub may_take-fits : (nodes : List NodeInfo) (st : State) (s : StripeNo) (f : Fragment) (n : NodeInfo) → node_at nodes n.number ≡ Some n → may_take (table_of nodes st) (bars_of nodes st s f) n ≡ fits nodes st s f n
-may_take-fits nodes st s f n found = may_take-eligible nodes st (bars_of nodes st s f) n found ∙ ap (λ b. is_eligible st n && not b) (bars-domains nodes st s f n (seats_of st))

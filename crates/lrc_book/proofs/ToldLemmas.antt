@@ -59,11 +59,6 @@ node-by st changed None wrong e = absurd (let never : Refused refusal.UnknownNod
 node-by st changed (Some n) true e = absurd (let never : Refused refusal.WrongMode ≡ Changed = e in cc)
 node-by st changed (Some n) false e = (refl, refl)
 
-or-both : (a b : Bool) → (a || b) ≡ false → (a ≡ false) × (b ≡ false)
-or-both false false e = (refl, refl)
-or-both true b e = absurd (let never : true ≡ false = e in cc)
-or-both false true e = absurd (let never : true ≡ false = e in cc)
-
 not-false : (b : Bool) → not b ≡ false → b ≡ true
 not-false true e = refl
 not-false false e = absurd (let never : true ≡ false = e in cc)

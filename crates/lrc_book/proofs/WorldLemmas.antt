@@ -1,6 +1,5 @@
 -- Worlds and legal histories, as entries are added.
-use Rattle.std.proofs.Common.{◌≡◌, ℕ, ◌<◌, List, [], ◌∷◌, ◌++◌, length, fold, sym, ap, ◌∙◌, append_assoc, length-append, arith}
-use Rattle.std.proofs.lemmas.List.{append-nil}
+use Rattle.std.proofs.Common.{◌≡◌, ℕ, ◌<◌, List, [], ◌∷◌, ◌++◌, length, fold, sym, ap, ◌∙◌, length-append, arith}
 use Rattle.std.proofs.lemmas.List.Sums.{fold-append}
 use Rattle.lrc_code.specs.declared.numbers.NodeNo.{NodeNo}
 use Rattle.lrc_topology.specs.declared.NodeInfo.{NodeInfo}
@@ -13,15 +12,6 @@ use Rattle.lrc_book.specs.Books.{IsKept}
 use Rattle.lrc_book.specs.Ties.{table_of, stored_of}
 use Rattle.lrc_book.specs.Changes.{changed_by}
 use Rattle.lrc_book.proofs.StepLemmas.{step-changed}
-
--- a world keeps its entries
-pub past_from : (nodes : List NodeInfo) (w : World) (h : List Entry) → (fold (next_world nodes) w h).past ≡ w.past ++ h
-past_from nodes w [] = sym (append-nil w.past)
-past_from nodes w (e ∷ es) = past_from nodes (next_world nodes w e) es ∙ append_assoc w.past (e ∷ []) es
-
--- the world after a history has it as its past
-pub past_after : (nodes : List NodeInfo) (h : List Entry) → (world_after nodes h).past ≡ h
-past_after nodes h = past_from nodes first_world h
 
 pub world_push : (nodes : List NodeInfo) (h : List Entry) (e : Entry) → world_after nodes (h ++ e ∷ []) ≡ next_world nodes (world_after nodes h) e
 world_push nodes h e = fold-append (next_world nodes) first_world h (e ∷ [])

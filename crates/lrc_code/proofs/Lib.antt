@@ -5,5 +5,4 @@ pub mod SubsetsLemmas
 pub mod MarginLemmas
 pub mod OrderLemmas
 pub mod BitsLemmas
-pub mod AgreeLemmas
 pub mod SourcesLemmas

@@ -115,9 +115,6 @@ picked a b f = eqb f a || eqb f b
 abbrev are_apart : ℕ → ℕ → Bool
 are_apart a b = leb (losses_in Wide A (picked a b)) 1 && (leb (losses_in Wide B (picked a b)) 1 && (eqb (losses_in Wide G (picked a b)) 0 && eqb (size_of Wide (picked a b)) (cond (eqb a 99) 0 1 + cond (eqb b 99) 0 1)))
 
-all_apart : list_all (λ a. are_apart a 99 && list_all (are_apart a) (members Wide B)) (99 ∷ members Wide A) ≡ true
-all_apart = refl
-
 picked_apart : (m : FragmentSet) → are_apart (pick m (members Wide A)) (pick m (members Wide B)) ≡ true
 picked_apart m =
     let first = pick_passes (λ a. are_apart a 99 && list_all (are_apart a) (members Wide B)) m (members Wide A) refl refl in

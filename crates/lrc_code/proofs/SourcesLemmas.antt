@@ -37,9 +37,6 @@ module _ (f : Fragment) (c : Class) (is_class : c ≡ class_of Wide f.value) whe
   pub in_group : sameb the_type c G ≡ false → is_local_class (class_of Wide f.value) ≡ true
   in_group e = rw (← is_class) (let n : same_class c G ≡ false = sym (same_class-eq c G) ∙ e in rw n refl)
 
-  pub in_none : sameb the_type c G ≡ true → is_local_class (class_of Wide f.value) ≡ false
-  in_none e = rw (← is_class) (let n : same_class c G ≡ true = sym (same_class-eq c G) ∙ e in rw n refl)
-
   module _ (g : Fragment) (d : Class) (also_class : d ≡ class_of Wide g.value) where
     same_value : same_class (class_of Wide f.value) (class_of Wide g.value) ≡ sameb the_type c d
     same_value = rw (← is_class, ← also_class) (sym (same_class-eq c d))

@@ -3,7 +3,7 @@ use Rattle.std.proofs.Common.{◌≡◌, ◌≢◌, ℕ, ◌+◌, ◌-◌, ◌�
 use Rattle.std.specs.Borrow.{Bor}
 use Rattle.std.specs.List.{slice_split}
 use Rattle.std.proofs.lemmas.List.{take_at, length_push}
-use Rattle.std.proofs.lemmas.List.Elements.{All-nil, All-push}
+use Rattle.std.proofs.lemmas.List.Elements.{All-push}
 use Rattle.std.proofs.lemmas.List.Splits.{slice_split_none, slice_split_at}
 use Rattle.lrc_script.specs.Cuts.{IsCut}
 use Rattle.lrc_script.specs.Scripts.{lines_of}
@@ -19,9 +19,6 @@ pub record IsPassed (text rest : List ℕ) (lines : ℕ) : Type 0 where
   pub none_parts : All (λ line. is_parting line ≡ false) passed
   pub counted : lines ≡ length passed
   pub within : lines + length rest ≤ length text
-
-pub IsPassed-start : (text : List ℕ) → IsPassed text text 0
-IsPassed-start text = record { passed = []; text_is = refl; lines_are = λ more. refl; none_parts = All-nil (λ line. is_parting line ≡ false); counted = refl; within = omega arith }
 
 ended_lines-push : (lines : List (List ℕ)) (line : List ℕ) → ended_lines (lines ++ line ∷ []) ≡ ended_lines lines ++ (line ++ 10 ∷ [])
 ended_lines-push [] line = append-nil (line ++ 10 ∷ [])

@@ -1,8 +1,7 @@
 -- A seat is free exactly where no row holds it.
-use Rattle.std.proofs.Common.{◌≡◌, ℕ, zero, suc, ◌+◌, ◌<◌, ◌≤◌, ◌↔◌, inl, inr, Bool, true, false, not, ◌&&◌, ◌||◌, nat_eq, eqb, List, [], ◌∷◌, get_or, Option, Some, None, is_some, IsTrue, arith, refl, sym, ap, ap₂, ◌∙◌}
+use Rattle.std.proofs.Common.{◌≡◌, ℕ, zero, suc, ◌<◌, ◌↔◌, inl, inr, true, not, nat_eq, List, [], ◌∷◌, get_or, Option, Some, None, IsTrue, arith, refl, ap, ap₂}
 use Rattle.std.specs.List.{list_any}
-use Rattle.std.proofs.lemmas.Bool.{cases_Bool, eq-eqb, ne_eqb, eqb-true, and_parts, or_cases, or_left, or_right, not-true, not_from_false, false_from_ne_true}
-use Rattle.std.proofs.lemmas.Option.{same_Some}
+use Rattle.std.proofs.lemmas.Bool.{cases_Bool, eq-eqb, ne_eqb, eqb-true, and_parts, or_cases, or_left, or_right, not_from_false, false_from_ne_true}
 use Rattle.lrc_code.specs.declared.numbers.StripeNo.{StripeNo}
 use Rattle.lrc_topology.specs.declared.seat.Seat.{Seat}
 use Rattle.lrc_stripes.specs.declared.row.Row.{Row}

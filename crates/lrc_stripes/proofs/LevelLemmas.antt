@@ -1,22 +1,20 @@
 -- Levels and ranks of sets of missing fragments.
-use Rattle.std.proofs.Common.{◌≡◌, ℕ, zero, suc, ◌+◌, ◌<◌, ◌≤◌, ◌-◌, ◌↔◌, ◌⊎◌, inl, inr, Bool, true, false, not, ◌&&◌, if◌then◌else◌, cond, eqb, nat_lt, ltb, IsTrue, IsFalse, List, [], ◌∷◌, length, get_or, count_by, Option, Some, None, unwrap_or, is_none, arith, refl, sym, ap, ◌∙◌, subst}
+use Rattle.std.proofs.Common.{◌≡◌, ℕ, zero, suc, ◌+◌, ◌<◌, ◌≤◌, ◌-◌, ◌↔◌, ◌⊎◌, inl, inr, Bool, true, false, not, cond, IsTrue, List, [], ◌∷◌, length, get_or, count_by, Option, Some, None, is_none, arith, refl, sym, ap, ◌∙◌, subst}
 use Rattle.std.specs.Int.{bit_at}
 use Rattle.std.specs.Option.{option_map_or}
-use Rattle.std.proofs.lemmas.Bool.{cases_Bool, cases_eq, cases_lt, eq-eqb, ne_eqb, eqb-false, lt-ltb, le-ltb, ltb-true, ltb-false, and_parts, and_from, false_from_ne_true, true_from_ne_false, not_from_true}
+use Rattle.std.proofs.lemmas.Bool.{cases_Bool, eqb-false, ltb-true, ltb-false, and_parts, and_from, false_from_ne_true, true_from_ne_false}
 use Rattle.std.proofs.lemmas.List.Sums.{sum_by-cons}
 use Rattle.std.proofs.lemmas.Nat.Bits.{bit_at-zero, bit_at-lt, same_from_bits_below}
-use Rattle.std.proofs.lemmas.Option.{same_Some}
 use Rattle.lrc_code.specs.declared.codes.Code.{Code}
 use Rattle.lrc_code.specs.declared.codes.Code.TheVariants.{Wide}
-use Rattle.lrc_code.specs.declared.codes.Class.TheVariants.{A, B, G}
+use Rattle.lrc_code.specs.declared.codes.Class.TheVariants.{G}
 use Rattle.lrc_code.specs.declared.numbers.NodeNo.{NodeNo}
 use Rattle.lrc_code.specs.declared.numbers.Fragment.{Fragment}
 use Rattle.lrc_code.specs.Codes.{fragments, fragment_count, has_fragment}
-use Rattle.lrc_code.specs.Losses.{FragmentSet, losses_in, size_of, excess, bits_set, IsRecoverable, is_recoverable, IsMargin, margin_of}
+use Rattle.lrc_code.specs.Losses.{FragmentSet, losses_in, size_of, bits_set, IsRecoverable, is_recoverable, IsMargin, margin_of}
 use Rattle.lrc_code.proofs.LossesLemmas.{by_test, size_of-classes}
 use Rattle.lrc_code.proofs.MarginLemmas.{by_margin, by_no_margin, recoverable_part, three_recoverable, margin_all_whole, IsMargin-unique, margin-two}
 use Rattle.lrc_topology.specs.declared.seat.Seat.{Seat}
-use Rattle.lrc_stripes.specs.declared.level.Level.{Level}
 use Rattle.lrc_stripes.specs.declared.level.Level.TheVariants.{Whole, AtRisk, Unavailable, Lost}
 use Rattle.lrc_stripes.specs.Levels.{Homes, homeless_in, missing_in, SomeMissing, NoneMissing, has_some, level_by, level_at, rank_by, rank_at}
 use Rattle.lrc_stripes.proofs.MaskLemmas.{fragment-number}

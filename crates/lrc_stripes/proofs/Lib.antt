@@ -7,4 +7,3 @@ pub mod LevelLemmas
 pub mod FreeLemmas
 pub mod WalkLemmas
 pub mod PlaceLemmas
-pub mod TieLemmas

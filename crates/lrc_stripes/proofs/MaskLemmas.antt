@@ -1,12 +1,8 @@
 -- Masks of fragments, built fragment by fragment.
-use Rattle.std.proofs.Common.{◌≡◌, ℕ, zero, suc, ◌+◌, ◌*◌, ◌^◌, ◌/◌, ◌%◌, ◌<◌, ◌≤◌, ◌⊎◌, inl, inr, Bool, true, false, cond, ◌&&◌, ◌||◌, eqb, ltb, List, length, get_or, map, lit<, refl, sym, ap, ◌∙◌, arith, zero-add, not, Option, Some, None, is_some, is_none}
-use Rattle.std.proofs.Math.Path.{fun_ext}
-use Rattle.std.specs.Int.{bit_at}
-use Rattle.std.specs.List.{range_with_len}
-use Rattle.std.proofs.lemmas.Bool.{cases_eq, cases_lt, cases_Bool, eq-eqb, ne_eqb, lt-ltb, le-ltb, eqb-true, eqb-false}
+use Rattle.std.proofs.Common.{◌≡◌, ℕ, ◌+◌, ◌<◌, inl, inr, Bool, true, false, ◌&&◌, ◌||◌, eqb, ltb, List, get_or, refl, sym, ◌∙◌, arith, zero-add, not, Option, Some, None, is_some, is_none}
+use Rattle.std.proofs.lemmas.Bool.{cases_eq, cases_lt, eq-eqb, ne_eqb, lt-ltb, le-ltb}
 use Rattle.std.proofs.lemmas.List.{get_or-map}
 use Rattle.std.proofs.lemmas.List.FromFn.{get_or-range_with_len}
-use Rattle.std.proofs.lemmas.Nat.Bits.{bit_at-zero, bit_at-suc, bit_at_lowest, bit_at-lt}
 use Rattle.lrc_code.specs.declared.codes.Code.TheVariants.{Wide}
 use Rattle.lrc_code.specs.declared.numbers.Fragment.{Fragment}
 use Rattle.lrc_code.specs.Codes.{fragments}
@@ -15,9 +11,6 @@ use Rattle.lrc_code.specs.Losses.{bits_set}
 -- the fragments are numbered by their places
 pub fragment-number : (i : ℕ) (d : Fragment) → i < 16 → (get_or (fragments Wide) i d).value ≡ i
 fragment-number i d within = sym (get_or-map (λ (f : Fragment). f.value) (fragments Wide) i d 0 within) ∙ (get_or-range_with_len 0 16 i 0 within ∙ zero-add i)
-
-pub none_set : (f : ℕ) → bits_set 0 f ≡ false
-none_set f = rw (bit_at-zero f) refl
 
 -- the members of a set among those below the next number
 module _ (m : ℕ → Bool) (i : ℕ) where

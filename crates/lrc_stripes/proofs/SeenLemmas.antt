@@ -1,8 +1,8 @@
 -- What a change of the lists changes in what they stand for.
-use Rattle.std.proofs.Common.{◌≡◌, ℕ, zero, suc, ◌+◌, ◌-◌, ◌<◌, ◌≤◌, inl, inr, Bool, true, false, not, ◌&&◌, ◌||◌, if◌then◌else◌, cond, nat_eq, nat_lt, eqb, List, [], ◌∷◌, ◌++◌, length, get_or, set, map, replicate, Option, Some, None, is_some, option_map, arith, refl, sym, ap, ap₂, ◌∙◌}
+use Rattle.std.proofs.Common.{◌≡◌, ℕ, zero, suc, ◌-◌, ◌<◌, inl, inr, Bool, true, false, not, ◌&&◌, ◌||◌, if◌then◌else◌, nat_eq, nat_lt, List, [], length, get_or, set, map, replicate, Option, Some, None, is_some, option_map, refl, sym, ap, ap₂, ◌∙◌}
 use Rattle.std.proofs.Math.Path.{fun_ext}
 use Rattle.std.specs.List.{insert, remove}
-use Rattle.std.proofs.lemmas.Bool.{cases_Bool, cases_eq, eq-eqb, ne_eqb, eqb-true, eqb-false}
+use Rattle.std.proofs.lemmas.Bool.{cases_eq, eq-eqb, ne_eqb}
 use Rattle.std.proofs.lemmas.List.{get_or-set_same, get_or-set_other}
 use Rattle.lrc_code.specs.declared.numbers.StripeNo.{StripeNo}
 use Rattle.lrc_code.specs.declared.numbers.NodeNo.{NodeNo}
@@ -19,7 +19,7 @@ use Rattle.lrc_stripes.specs.Levels.{homeless_in, missing_in, level_by}
 use Rattle.lrc_stripes.specs.Stored.{empty, with_stripe, without_stripe, with_home, with_offline, with_spare, same_stripe, has_node, has_slot, missing_shown, level_shown}
 use Rattle.lrc_stripes.specs.Tables.{Table, seen, site_of, site_at, site_place, online_in, row_at, row_homes, place_of, IsRising}
 use Rattle.lrc_stripes.proofs.SiteLemmas.{nodes-at_first, online-at_first, nodes-set, online-set, node_at-sites}
-use Rattle.lrc_stripes.proofs.RowLemmas.{row_at-insert, row_at-remove, row_at-set, row_at-place}
+use Rattle.lrc_stripes.proofs.RowLemmas.{row_at-insert, row_at-remove, row_at-set}
 
 -- ---- at first
 

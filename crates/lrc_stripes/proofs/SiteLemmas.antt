@@ -1,7 +1,6 @@
 -- The nodes as they are kept: where one stands, and what setting one changes.
-use Rattle.std.proofs.Common.{◌≡◌, ℕ, suc, ◌+◌, ◌<◌, ◌≤◌, inl, inr, Bool, true, false, not, if◌then◌else◌, cond, nat_eq, eqb, List, [], ◌∷◌, length, map, get_or, set, Option, Some, None, is_some, IsSome, option_map, arith, refl, sym, ap, ◌∙◌}
+use Rattle.std.proofs.Common.{◌≡◌, suc, ◌<◌, inl, inr, Bool, true, false, not, if◌then◌else◌, nat_eq, List, [], ◌∷◌, length, map, get_or, set, IsSome, option_map, arith, refl, sym, ap, ◌∙◌}
 use Rattle.std.proofs.Math.Path.{fun_ext}
-use Rattle.std.specs.Option.{option_map_or}
 use Rattle.std.proofs.lemmas.Bool.{cases_Bool, cases_eq, eq-eqb, ne_eqb, eqb-true, eqb-false}
 use Rattle.lrc_code.specs.declared.numbers.NodeNo.{NodeNo}
 use Rattle.lrc_topology.specs.declared.NodeInfo.{NodeInfo}
@@ -36,10 +35,6 @@ site_place-within (x ∷ sites) n known = elim (cases_Bool (nat_eq n.value x.nod
   | inl here ↦ rw here (omega arith)
   | inr later ↦ let rest = site_place-within sites n (rw later at known) in rw later (omega (arith, rest))
 ]
-
--- the list with this at the node's place
-abbrev pub with_site : List Site → NodeNo → Bool → Site → List Site
-with_site sites n b x = set sites (site_place sites n) (record x { is_offline = b })
 
 -- its nodes stay
 pub nodes-set : (sites : List Site) (n : NodeNo) (b : Bool) (d : Site) → map (λ x. x.node) (set sites (site_place sites n) (record (get_or sites (site_place sites n) d) { is_offline = b })) ≡ map (λ x. x.node) sites

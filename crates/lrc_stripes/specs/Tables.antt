@@ -1,5 +1,5 @@
 -- What contracts see of the stripes: lists, and what these stand for.
-use Rattle.std.specs.Prelude.{◌≡◌, ℕ, suc, ◌+◌, ◌<◌, ◌≤◌, Bool, not, ◌&&◌, false, if◌then◌else◌, nat_lt, nat_eq, List, [], ◌∷◌, length, ◌++◌, map, filter, drop, find, get_or, Option, Some, None, is_some, option_and_then}
+use Rattle.std.specs.Prelude.{ℕ, suc, ◌+◌, ◌<◌, ◌≤◌, Bool, not, ◌&&◌, false, if◌then◌else◌, nat_lt, nat_eq, List, [], ◌∷◌, length, ◌++◌, map, filter, drop, find, get_or, Option, Some, None, is_some}
 use Rattle.std.specs.Option.{option_map_or}
 use Rattle.std.specs.List.{AllByRecursion, list_any, flat_map}
 use Rattle.lrc_code.specs.declared.numbers.StripeNo.{StripeNo}

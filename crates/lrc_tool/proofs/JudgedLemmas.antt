@@ -1,8 +1,7 @@
 -- What the checks of a bundle tell, from its parts, and what it is answered then.
-use Rattle.std.proofs.Common.{◌≡◌, ℕ, ◌+◌, ◌*◌, ◌≤◌, List, [], ◌∷◌, length, get_or, string_bytes, Option, Some, None, Result, Ok, Err, IfOk, Vec, Global, refl, sym, ap, subst, ◌∙◌, arith}
+use Rattle.std.proofs.Common.{◌≡◌, ℕ, ◌+◌, ◌≤◌, List, [], ◌∷◌, length, get_or, string_bytes, Option, Some, None, Result, Ok, Err, IfOk, Vec, Global, refl, sym, ap, subst, ◌∙◌, arith}
 use Rattle.std.proofs.lemmas.Bool.{le-ltb}
 use Rattle.lrc_topology.specs.declared.NodeInfo.{NodeInfo}
-use Rattle.lrc_topology.specs.declared.error.TopologyError.{TopologyError}
 use Rattle.lrc_topology.specs.Documents.{IsTopologyOf}
 use Rattle.lrc_book.specs.declared.command.Command.{Command}
 use Rattle.lrc_script.specs.declared.bundle.ScriptText.{ScriptText}
@@ -17,7 +16,7 @@ use Rattle.lrc_tool.specs.declared.judging.Judged.{Judged}
 use Rattle.lrc_tool.specs.declared.judging.Judged.TheVariants.{Refused, Good}
 use Rattle.lrc_tool.specs.Texts.{bad_line_text}
 use Rattle.lrc_tool.specs.Outputs.{early_refusal, Answer, IsAnsweredUnless, IsAnsweredOver, IsAnsweredAfter, IsAnswered}
-use Rattle.lrc_tool.specs.Judged.{NoAnswer, IsRefusal, AreCommandsOf, AreGood, AreFew, IsJudgedAfter, IsJudged}
+use Rattle.lrc_tool.specs.Judged.{NoAnswer, AreGood, AreFew, IsJudgedAfter, IsJudged}
 
 -- two facts of a value that there is
 pub IfOk-both : {X E : Type 0} (r : Result X E) (P Q R : X → Type 0) → ((x : X) → P x → Q x → R x) → IfOk r P → IfOk r Q → IfOk r R
@@ -25,24 +24,6 @@ IfOk-both (Ok x) P Q R f p q = f x p q
 IfOk-both (Err e) P Q R f p q = tt
 
 -- ---- what is answered
-
-over_any : (answer : Answer) (nodes : List NodeInfo) (scripts : List Script) (found : Option BadLine) (text : List ℕ) (status : Status) → IsAnsweredOver NoAnswer nodes scripts found text status
-    → IsAnsweredOver answer nodes scripts found text status
-over_any answer nodes scripts (Some bad) text status h = h
-over_any answer nodes scripts None text status h = absurd h.0
-
-after_any : (answer : Answer) (outcome : Result (List NodeInfo) TopologyError) (scripts : List Script) (text : List ℕ) (status : Status) → IsAnsweredAfter NoAnswer outcome scripts text status
-    → IsAnsweredAfter answer outcome scripts text status
-after_any answer (Err error) scripts text status h = h
-after_any answer (Ok nodes) scripts text status h = over_any answer nodes scripts _ text status h
-
-unless_any : (answer : Answer) (early : Option (List ℕ)) (bundle text : List ℕ) (status : Status) → IsAnsweredUnless NoAnswer early bundle text status → IsAnsweredUnless answer early bundle text status
-unless_any answer (Some line) bundle text status h = h
-unless_any answer None bundle text status (outcome, read, h) = (outcome, read, after_any answer outcome (scripts_of bundle) text status h)
-
--- a bundle that is refused is answered so, whatever a good one would be
-pub refused_to_any : (answer : Answer) (bundle text : List ℕ) (status : Status) → IsRefusal bundle text status → IsAnswered answer bundle text status
-refused_to_any answer bundle text status h = unless_any answer (early_refusal bundle) bundle text status h
 
 after_good : (answer : Answer) (nodes : List NodeInfo) (scripts : List Script) (found : Option BadLine) (text : List ℕ) (status : Status) → found ≡ None → answer nodes scripts text → status ≡ ended.Done
     → IsAnsweredOver answer nodes scripts found text status

@@ -1,5 +1,5 @@
 -- One call more of a script.
-use Rattle.std.proofs.Common.{◌≡◌, ℕ, suc, ◌+◌, ◌≤◌, ◌<◌, List, [], ◌∷◌, ◌++◌, length, get_or, take, map, All, fold, Err, refl, sym, ap, ◌∙◌, arith, add-zero, append_assoc, append-nil, length-take, take_all, codes, subst}
+use Rattle.std.proofs.Common.{◌≡◌, ℕ, suc, ◌+◌, ◌≤◌, ◌<◌, List, [], ◌∷◌, ◌++◌, length, get_or, take, map, All, fold, Err, refl, sym, ap, ◌∙◌, arith, add-zero, append_assoc, append-nil, length-take, codes, subst}
 use Rattle.std.specs.Result.{IsErrOf}
 use Rattle.std.proofs.lemmas.List.{map-append, length-map, take_more}
 use Rattle.std.proofs.lemmas.List.Elements.{All-push}
@@ -13,7 +13,6 @@ use Rattle.lrc_book.specs.Histories.{World, first_world, outcome_in, next_world,
 use Rattle.lrc_tool.specs.declared.streams.RunFault.TheVariants.{OutOfMemory}
 use Rattle.lrc_tool.specs.Faults.{run_fault}
 use Rattle.lrc_tool.specs.Texts.{reply_line, reply_lines, script_text}
-use Rattle.lrc_tool.specs.Outputs.{IsPlayed}
 
 -- a history with one more legal entry is legal
 legal_from_more : (nodes : List NodeInfo) (w : World) (h : List Entry) (e : Entry) → IsLegalFrom nodes w h
@@ -58,15 +57,6 @@ module _ (nodes : List NodeInfo) (commands : List Command) (i : ℕ) (history : 
     made = rw (map-append, so_far.made, take_more commands i e.command within, ← here) refl;
     alone = All-push (λ (x : Entry). x.session.value ≡ 1) history e so_far.alone one;
     printed = next ∙ ap (λ t. t ++ reply_line (i + 1) e.reply) so_far.printed ∙ printed_more history e i (as_many (omega arith));
-  }
-
-  pub played_all : length commands ≤ i → IsPlayed nodes commands text
-  played_all all = record {
-    history = history;
-    legal = so_far.legal;
-    made = so_far.made ∙ take_all i commands all;
-    alone = so_far.alone;
-    printed = so_far.printed;
   }
 
 -- a book with room for one more entry is not full

@@ -1,9 +1,4 @@
-use Rattle.std.proofs.Common.{◌≡◌, ◌≤◌, ◌∙◌, sym, ap, length, List, ◌∷◌, arith, rules, refl, None}
-use Rattle.std.proofs.lemmas.Grind.{common_steps}
-use Rattle.lrc_code.specs.declared.numbers.Fragment.{Fragment}
-use Rattle.lrc_stripes.specs.declared.row.Row.{Row}
-use Rattle.lrc_stripes.specs.Stored.{Place}
-use Rattle.lrc_stripes.specs.Tables.{places_from}
+use Rattle.std.proofs.Common.{sym, arith, rules}
 use Rattle.lrc_stripes.proofs.WalkLemmas.{step-none, step-found, step-shorter}
 use Rattle.lrc_stripes.proofs.homes_on.HomesOnIterator.next.Goals as goal
 

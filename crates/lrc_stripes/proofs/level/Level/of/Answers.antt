@@ -1,4 +1,4 @@
-use Rattle.std.proofs.Common.{◌≡◌, ◌∙◌, sym, refl, true, false, None}
+use Rattle.std.proofs.Common.{◌∙◌, sym, refl, true, false, None}
 use Rattle.lrc_code.specs.declared.codes.Code.TheVariants.{Wide}
 use Rattle.lrc_code.specs.Losses.{bits_set}
 use Rattle.lrc_stripes.specs.Levels.{has_some}

@@ -1,7 +1,4 @@
-use Rattle.std.proofs.Common.{◌≡◌, ◌∙◌, ◌≤◌, false, not, is_some, arith, refl, ap, Result, Ok, List, length}
-use Rattle.std.specs.Result.{is_ok}
-use Rattle.std.specs.List.{insert}
-use Rattle.lrc_stripes.specs.declared.row.Row.{Row}
+use Rattle.std.proofs.Common.{◌≡◌, ◌≤◌, false, is_some, refl, length}
 use Rattle.lrc_stripes.specs.Tables.{seen, row_at}
 use Rattle.lrc_stripes.proofs.KeptLemmas.{kept-insert, seen-insert_at}
 use Rattle.lrc_stripes.proofs.stripes.Stripes.add.Goals as goal

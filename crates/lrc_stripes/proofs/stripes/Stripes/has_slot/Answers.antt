@@ -1,5 +1,4 @@
-use Rattle.std.proofs.Common.{◌≡◌, ◌∙◌, sym, Some, None}
-use Rattle.lrc_stripes.specs.Tables.{seen}
+use Rattle.std.proofs.Common.{sym}
 use Rattle.lrc_stripes.proofs.SeenLemmas.{has_slot-there, has_slot-absent}
 use Rattle.lrc_stripes.proofs.stripes.Stripes.has_slot.Goals as goal
 

@@ -1,4 +1,3 @@
-use Rattle.std.proofs.Common.{sym}
 use Rattle.lrc_stripes.proofs.FreeLemmas.{free-held}
 use Rattle.lrc_stripes.proofs.stripes.Stripes.is_free.Goals as goal
 

@@ -1,5 +1,4 @@
-use Rattle.std.proofs.Common.{◌≡◌, ◌∙◌, sym, Some, None, arith}
-use Rattle.lrc_stripes.specs.Tables.{seen}
+use Rattle.std.proofs.Common.{sym}
 use Rattle.lrc_stripes.proofs.SeenLemmas.{level_shown-there, level_shown-absent}
 use Rattle.lrc_stripes.proofs.stripes.Stripes.level.Goals as goal
 

@@ -1,5 +1,4 @@
-use Rattle.std.proofs.Common.{◌≡◌, ◌∙◌, sym, Some, None, arith}
-use Rattle.lrc_stripes.specs.Tables.{seen}
+use Rattle.std.proofs.Common.{sym, arith}
 use Rattle.lrc_stripes.proofs.SeenLemmas.{missing_shown-there, missing_shown-absent}
 use Rattle.lrc_stripes.proofs.stripes.Stripes.missing.Goals as goal
 

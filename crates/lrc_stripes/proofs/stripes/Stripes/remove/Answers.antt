@@ -1,4 +1,4 @@
-use Rattle.std.proofs.Common.{◌≡◌, true, is_some, arith, refl}
+use Rattle.std.proofs.Common.{◌≡◌, true, is_some, arith}
 use Rattle.lrc_stripes.specs.Tables.{seen, row_at}
 use Rattle.lrc_stripes.proofs.KeptLemmas.{place-within, kept-remove, seen-remove_at}
 use Rattle.lrc_stripes.proofs.stripes.Stripes.remove.Goals as goal

@@ -1,6 +1,5 @@
-use Rattle.std.proofs.Common.{◌≡◌, ◌∙◌, ◌<◌, true, is_some, arith, refl, IsSome, map, length}
-use Rattle.lrc_topology.specs.Nodes.{node_at}
-use Rattle.lrc_stripes.specs.Tables.{seen, site_place}
+use Rattle.std.proofs.Common.{arith}
+use Rattle.lrc_stripes.specs.Tables.{seen}
 use Rattle.lrc_stripes.proofs.SiteLemmas.{site_place-within}
 use Rattle.lrc_stripes.proofs.SeenLemmas.{seen-set_offline}
 use Rattle.lrc_stripes.proofs.stripes.Stripes.set_offline.Goals as goal
