@@ -6,13 +6,13 @@ use std::fmt::Write;
 use std::process::Abort;
 use std::test::Fail;
 
-/// Twenty nodes, 0 to 19, with four slots each.
-fn twenty_nodes(alloc: Global) -> Result<Topology, Fail> {
+/// So many nodes, from 0 on, with four slots each.
+fn nodes(alloc: Global, count: u16) -> Result<Topology, Fail> {
     let mut text = String::new(alloc);
-    for node in 0..20u16 {
+    for node in 0..count {
         write!(
             text,
-            "[[node]]\nnumber = {node}\nfault = {node}\nupgrade = 0\nslots = 4\n"
+            "[[node]]\nnumber = {node}\nfault = 0\nupgrade = 0\nslots = 4\n"
         )?;
     }
     Ok(Topology::read(alloc, text.as_bytes())?)
@@ -72,7 +72,7 @@ fn set_offline(rt: &impl Abort, stripes: &mut Stripes, number: u16, is_offline: 
 
 /// One stripe, with fragment f in slot 1 of node f.
 fn one_stripe(rt: &impl Abort, alloc: Global, stripe: StripeNo) -> Result<Stripes, Fail> {
-    let topology = twenty_nodes(alloc)?;
+    let topology = nodes(alloc, 20)?;
     let mut stripes = Stripes::new(alloc, &topology)?;
     stripes.reserve(1)?;
     add(rt, &mut stripes, stripe);
@@ -123,7 +123,7 @@ fn homes_on_a_node_rise(rt: HostRuntime) -> Result<(), Fail> {
     let second = StripeNo::new(7).ok_or("stripe 7")?;
     let fourth = Fragment::new(4).ok_or("fragment 4")?;
     let ninth = Fragment::new(9).ok_or("fragment 9")?;
-    let topology = twenty_nodes(rt.alloc())?;
+    let topology = nodes(rt.alloc(), 20)?;
     let mut stripes = Stripes::new(rt.alloc(), &topology)?;
     stripes.reserve(2)?;
     assert!(rt; stripes.spare() >= 2);
@@ -163,12 +163,30 @@ fn homes_go_with_their_stripe(rt: HostRuntime) -> Result<(), Fail> {
 
 #[test]
 fn nodes_and_slots_end(rt: HostRuntime) -> Result<(), Fail> {
-    let topology = twenty_nodes(rt.alloc())?;
+    let topology = nodes(rt.alloc(), 20)?;
     let stripes = Stripes::new(rt.alloc(), &topology)?;
     assert!(rt; stripes.has_node(node(19)));
     assert!(rt; !stripes.has_node(node(20)));
     assert!(rt; stripes.has_slot(seat(19, 3)));
     assert!(rt; !stripes.has_slot(seat(19, 4)));
     assert!(rt; !stripes.has_slot(seat(20, 0)));
+    Ok(())
+}
+
+#[test]
+fn the_largest_store_takes_every_stripe(rt: HostRuntime) -> Result<(), Fail> {
+    let topology = nodes(rt.alloc(), 512)?;
+    let mut stripes = Stripes::new(rt.alloc(), &topology)?;
+    add_every_stripe(&rt, &mut stripes)?;
+    assert!(rt; stripes.has_node(node(511)));
+    Ok(())
+}
+
+fn add_every_stripe(rt: &impl Abort, stripes: &mut Stripes) -> Result<(), Fail> {
+    for number in 0..4096 {
+        let stripe = StripeNo::new(number).ok_or("a stripe")?;
+        stripes.reserve(1)?;
+        add(rt, stripes, stripe);
+    }
     Ok(())
 }
