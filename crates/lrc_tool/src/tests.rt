@@ -1,6 +1,6 @@
 //! Whole runs, and runs whose reader or writer fails.
 
-use crate::{Plain, RunFault, Sink, Source, Status, run};
+use crate::{Plain, RunFault, Sink, Source, Status, check, run};
 use std::alloc::Global;
 use std::io;
 use std::io::{Read, Write};
@@ -349,6 +349,23 @@ fn after_a_failed_read_nothing_is_written(rt: HostRuntime) -> Result<(), Fail> {
     Ok(())
 }
 
+#[test]
+fn a_check_reads_to_the_end_and_no_further(rt: HostRuntime) -> Result<(), Fail> {
+    let alloc = rt.alloc();
+    let bytes = over_twenty(alloc, b"%%\nplace 1\n")?;
+    let calls = bytes.len().div_ceil(100) + 1;
+    for (fails_at, want) in [(calls, Err(RunFault::Read)), (calls + 1, Ok(Status::Done))] {
+        let mut source = Plain::new(Faltering {
+            rest: bytes.as_slice(),
+            calls: 0,
+            fails_at,
+        });
+        let mut sink = Plain::new(Vec::new(alloc));
+        assert_eq!(rt; check(alloc, &mut source, &mut sink), want);
+    }
+    Ok(())
+}
+
 /// How a writer fails.
 #[derive(Clone, Copy, Debug, PartialEq, Eq)]
 enum Failure {
@@ -421,5 +438,31 @@ fn after_a_failed_write_a_prefix_is_written(rt: HostRuntime) -> Result<(), Fail>
             }
         }
     }
+    Ok(())
+}
+
+#[test]
+fn an_empty_output_is_flushed(rt: HostRuntime) -> Result<(), Fail> {
+    let alloc = rt.alloc();
+    let bytes = over_twenty(alloc, b"")?;
+    let mut source = Plain::new(bytes.as_slice());
+    let mut sink = Plain::new(Dribble {
+        taken: Vec::new(alloc),
+        calls: 0,
+        fails_at: 1,
+        failure: Failure::Error,
+    });
+    assert_eq!(rt; run(alloc, &mut source, &mut sink), Err(RunFault::Write));
+    Ok(())
+}
+
+#[test]
+fn statuses_are_those_of_the_program(rt: HostRuntime) -> Result<(), Fail> {
+    let statuses = [
+        Status::Done as u8,
+        Status::BadLine as u8,
+        Status::Refused as u8,
+    ];
+    assert_eq!(rt; statuses, [0, 1, 2]);
     Ok(())
 }

@@ -62,3 +62,11 @@ fn too_many_scripts(rt: HostRuntime) {
         assert_eq!(rt; refused, !accepted, "at {bundle:?}");
     }
 }
+
+#[test]
+fn a_bundle_that_is_not_cut_is_told_in_words(rt: HostRuntime) -> Result<(), Fail> {
+    let many = BundleError::TooManyScripts;
+    let told = format!(in rt.alloc(); "{many}, {}", BundleError::OutOfMemory)?;
+    assert_eq!(rt; told.as_str(), "too many scripts, out of memory");
+    Ok(())
+}

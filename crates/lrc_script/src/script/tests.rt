@@ -126,3 +126,14 @@ fn long_lines(rt: HostRuntime) -> Result<(), Fail> {
     assert_eq!(rt; first_bad(rt.alloc(), comment.as_slice())?, None);
     Ok(())
 }
+
+#[test]
+fn a_refused_script_is_told_in_words(rt: HostRuntime) -> Result<(), Fail> {
+    let bad = ScriptError::Bad {
+        line: 104,
+        cause: Cause::NotANumber,
+    };
+    let told = format!(in rt.alloc(); "{bad}, {}", ScriptError::OutOfMemory)?;
+    assert_eq!(rt; told.as_str(), "line 104 is bad: NotANumber, out of memory");
+    Ok(())
+}
