@@ -19,10 +19,10 @@ use Rattle.lrc_topology.specs.declared.seat.Held.{Held}
 use Rattle.lrc_slots.specs.Barred.{Barred, no_bars}
 use Rattle.lrc_book.specs.States.{State, has_stripe, seats_of}
 use Rattle.lrc_book.specs.Changes.{held_at}
-use Rattle.lrc_book.specs.Goodness.{IsGood}
+use Rattle.lrc_book.specs.Goodness.{AreSeated}
 use Rattle.lrc_book.specs.Ties.{is_beside, bars_fault, bars_upgrade, bars_in, with_held}
 use Rattle.lrc_book.proofs.ChoiceLemmas.{same_stripe}
-use Rattle.lrc_book.proofs.GoodLemmas.{fragments-distinct, not_there}
+use Rattle.lrc_book.proofs.SeatedLemmas.{fragments-distinct, not_there}
 use Rattle.lrc_book.proofs.TableLemmas.{pairs-before}
 
 or_none : (b : Bool) → b ≡ (b || false)
@@ -66,10 +66,10 @@ module _ (nodes : List NodeInfo) (code : Code) (s : StripeNo) (f : Fragment) whe
 -- ---- which seats are beside a fragment
 
 -- a stripe that is not there has no seats
-pub absent-beside : (nodes : List NodeInfo) (st : State) (s : StripeNo) (f : Fragment) → IsGood nodes st → has_stripe st s ≡ false → All (λ h. is_beside s f h ≡ false) (seats_of st)
-absent-beside nodes st s f good e =
+pub absent-beside : (nodes : List NodeInfo) (st : State) (s : StripeNo) (f : Fragment) → AreSeated nodes st → has_stripe st s ≡ false → All (λ h. is_beside s f h ≡ false) (seats_of st)
+absent-beside nodes st s f seated e =
     All-weaker (λ h. Contains st.stripes h.stripe) (λ h. is_beside s f h ≡ false)
-    (λ h there. rw (ne_eqb h.stripe.value s.value (λ same. not_there st s e h.stripe there (same_stripe h.stripe s same))) refl) (seats_of st) good.there
+    (λ h there. rw (ne_eqb h.stripe.value s.value (λ same. not_there st s e h.stripe there (same_stripe h.stripe s same))) refl) (seats_of st) seated.there
 
 -- seats of other fragments
 pub held_at-beside : (s : StripeNo) (f : Fragment) (fs : List Fragment) (seats : List Seat) → All (λ g. g ≢ f) fs → All (λ h. is_beside s f h ≡ true) (held_at s fs seats)

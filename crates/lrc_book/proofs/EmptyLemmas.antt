@@ -21,12 +21,12 @@ use Rattle.lrc_stripes.specs.Stored.{Stored, Place, AreHomesOn, is_home_on}
 use Rattle.lrc_stripes.specs.Stored as stored
 use Rattle.lrc_book.specs.States.{State, has_stripe, taken_seats}
 use Rattle.lrc_book.specs.Steps.{stands_on, emptied}
-use Rattle.lrc_book.specs.Goodness.{IsGood}
+use Rattle.lrc_book.specs.Goodness.{AreSeated}
 use Rattle.lrc_book.specs.Ties.{table_of, stored_of}
 use Rattle.lrc_book.proofs.MemberLemmas.{All-members, Contains-here, Contains-later, Contains-cases, not-Contains-nil, list_any-member, AllPairs-head, AllPairs-tail}
 use Rattle.lrc_book.proofs.NodeLemmas.{member-taken, member-node_at}
 use Rattle.lrc_book.proofs.ChoiceLemmas.{same_stripe}
-use Rattle.lrc_book.proofs.GoodLemmas.{kept-good}
+use Rattle.lrc_book.proofs.SeatedLemmas.{kept-seated}
 use Rattle.lrc_book.proofs.TieLemmas.{standing-slots, load-seats}
 use Rattle.lrc_book.proofs.TableLemmas.{map-member, table_less, table_less-nil, table_less-push, table_less-all}
 use Rattle.lrc_book.proofs.FragmentLemmas.{home-only}
@@ -35,7 +35,7 @@ use Rattle.lrc_book.proofs.StoredLemmas.{is_of, found-home, stored-clear}
 -- the homes on the node, cleared as far as this
 pub record IsEmptying (nodes : List NodeInfo) (st : State) (n : NodeNo) (spare : ℕ) (table : Slots) (stripes : Stored) : Type 0 where
   pub held : List Held
-  pub good : IsGood nodes (record st { homes = held })
+  pub seated : AreSeated nodes (record st { homes = held })
   pub table_is : table ≡ table_of nodes (record st { homes = held })
   pub stripes_is : stripes ≡ stored_of nodes (record st { homes = held }) spare
   pub rest : filter (λ h. not (stands_on n h)) held ≡ filter (λ h. not (stands_on n h)) st.homes
@@ -95,7 +95,7 @@ load-held (h ∷ hs) n =
 
 -- ---- one home cleared
 
-module _ (nodes : List NodeInfo) (st : State) (s : StripeNo) (f : Fragment) (h : Held) (good : IsGood nodes st) (found : home_of st.homes s f.value ≡ Some h) where
+module _ (nodes : List NodeInfo) (st : State) (s : StripeNo) (f : Fragment) (h : Held) (seated : AreSeated nodes st) (found : home_of st.homes s f.value ≡ Some h) where
   abbrev kept : Held → Bool
   kept g = not (is_of s f.value g)
 
@@ -106,7 +106,7 @@ module _ (nodes : List NodeInfo) (st : State) (s : StripeNo) (f : Fragment) (h :
   only : (g : Held) → Contains st.homes g → is_of s f.value g ≡ true → g ≡ h
   only g here hit =
       let parts = and_parts (eqb g.stripe.value s.value) (eqb g.fragment.value f.value) hit in
-      let own : home_of st.homes g.stripe g.fragment.value ≡ Some g = home-only st.homes good.one_home g here in
+      let own : home_of st.homes g.stripe g.fragment.value ≡ Some g = home-only st.homes seated.one_home g here in
       let at : home_of st.homes s f.value ≡ Some g =
       subst (λ v. find (λ (x : Held). eqb x.stripe.value s.value && eqb x.fragment.value v) st.homes ≡ Some g) (eqb-true g.fragment.value f.value parts.1)
       (subst (λ v. find (λ (x : Held). eqb x.stripe.value v && eqb x.fragment.value g.fragment.value) st.homes ≡ Some g) (eqb-true g.stripe.value s.value parts.0) own) in
@@ -118,7 +118,7 @@ module _ (nodes : List NodeInfo) (st : State) (s : StripeNo) (f : Fragment) (h :
   pub stripe-there : has_stripe st s ≡ true
   stripe-there =
       let parts = and_parts (eqb h.stripe.value s.value) (eqb h.fragment.value f.value) there-home.1 in
-      list_any-member (λ (u : StripeNo). eqb s.value u.value) st.stripes h.stripe (All-contains (λ (g : Held). Contains st.stripes g.stripe) st.homes h good.there there-home.0)
+      list_any-member (λ (u : StripeNo). eqb s.value u.value) st.stripes h.stripe (All-contains (λ (g : Held). Contains st.stripes g.stripe) st.homes h seated.there there-home.0)
       (eq-eqb s.value h.stripe.value (sym (eqb-true h.stripe.value s.value parts.0)))
 
   pub seat-there : is_taken (taken_seats st) h.seat.node h.seat.slot ≡ true
@@ -147,7 +147,7 @@ module _ (nodes : List NodeInfo) (st : State) (s : StripeNo) (f : Fragment) (h :
   clear-table =
       let t = table_of nodes st in
       ap (λ (u : Slots). with_free u h.seat.node h.seat.slot) (table_less-nil t) ∙ table_less-push t [] h.seat
-      ∙ ap (λ (hs : List Held). table_less t (map (λ (g : Held). g.seat) hs)) (sym (alone-in st.homes good.one_home found)) ∙ table_less-all kept t st.homes good.single
+      ∙ ap (λ (hs : List Held). table_less t (map (λ (g : Held). g.seat) hs)) (sym (alone-in st.homes seated.one_home found)) ∙ table_less-all kept t st.homes seated.single
 
   -- the load of its node falls
   pub clear-load : AreNodes nodes → (n : NodeNo) → stands_on n h ≡ true → IsSome (node_at nodes n) → load_at (table_of nodes cleared) n < load_at (table_of nodes st) n
@@ -157,7 +157,7 @@ module _ (nodes : List NodeInfo) (st : State) (s : StripeNo) (f : Fragment) (h :
       falls = rw (load-held (filter kept st.homes) n, load-held st.homes n)
           (count-falls (λ (g : Held). nat_eq g.seat.node.value n.value) kept st.homes h there-home.0 (eq-eqb h.seat.node.value n.value (sym (eqb-true n.value h.seat.node.value on))) (ap not there-home.1))
 
-      count : (s2 : State) → IsGood nodes s2 → (x : NodeInfo) → node_at nodes x.number ≡ Some x → taken_count (table_of nodes s2) x ≡ load_of (taken_seats s2) x.number
+      count : (s2 : State) → AreSeated nodes s2 → (x : NodeInfo) → node_at nodes x.number ≡ Some x → taken_count (table_of nodes s2) x ≡ load_of (taken_seats s2) x.number
       count s2 good2 x found = load-seats nodes (taken_seats s2) x found good2.single (standing-slots nodes s2 (taken_seats s2) good2.standing)
 
       go : (o : Option NodeInfo) → node_at nodes n ≡ o → IsSome o → option_map_or (taken_count (table_of nodes cleared)) o 0 < option_map_or (taken_count (table_of nodes st)) o 0
@@ -165,13 +165,13 @@ module _ (nodes : List NodeInfo) (st : State) (s : StripeNo) (f : Fragment) (h :
       go (Some x) e some =
           let is : n ≡ x.number = (member-node_at nodes n x e).1 in
           let at : node_at nodes x.number ≡ Some x = subst (λ k. node_at nodes k ≡ Some x) is e in
-          rw (count cleared (kept-good nodes st n kept good) x at, count st good x at) (subst (λ k. load_of (taken_seats cleared) k < load_of (taken_seats st) k) is falls)
+          rw (count cleared (kept-seated nodes st n kept seated) x at, count st seated x at) (subst (λ k. load_of (taken_seats cleared) k < load_of (taken_seats st) k) is falls)
 
 -- ---- the loop
 
 module _ (nodes : List NodeInfo) (st : State) (n : NodeNo) (spare : ℕ) where
-  pub emptying-start : (table : Slots) (stripes : Stored) → IsGood nodes st → table ≡ table_of nodes st → stripes ≡ stored_of nodes st spare → IsEmptying nodes st n spare table stripes
-  emptying-start table stripes good a b = record { held = st.homes; good = good; table_is = a; stripes_is = b; rest = refl }
+  pub emptying-start : (table : Slots) (stripes : Stored) → AreSeated nodes st → table ≡ table_of nodes st → stripes ≡ stored_of nodes st spare → IsEmptying nodes st n spare table stripes
+  emptying-start table stripes seated a b = record { held = st.homes; seated = seated; table_is = a; stripes_is = b; rest = refl }
 
   module _ (table : Slots) (stripes : Stored) (so_far : IsEmptying nodes st n spare table stripes) where
     abbrev now : State
@@ -186,20 +186,20 @@ module _ (nodes : List NodeInfo) (st : State) (n : NodeNo) (spare : ℕ) where
       home = home-at (home_of so_far.held s f.value) refl (sym (ap (λ (t : Stored). t.homes s f.value) so_far.stripes_is) ∙ is)
 
       pub emptying-stripe : stripes.stripes s ≡ true
-      emptying-stripe = ap (λ (t : Stored). t.stripes s) so_far.stripes_is ∙ stripe-there nodes now s f home.0 so_far.good home.1
+      emptying-stripe = ap (λ (t : Stored). t.stripes s) so_far.stripes_is ∙ stripe-there nodes now s f home.0 so_far.seated home.1
 
       pub emptying-taken : table.taken seat.node seat.slot ≡ true
-      emptying-taken = ap (λ (t : Slots). t.taken seat.node seat.slot) so_far.table_is ∙ subst (λ (a : Seat). is_taken (taken_seats now) a.node a.slot ≡ true) home.2 (seat-there nodes now s f home.0 so_far.good home.1)
+      emptying-taken = ap (λ (t : Slots). t.taken seat.node seat.slot) so_far.table_is ∙ subst (λ (a : Seat). is_taken (taken_seats now) a.node a.slot ≡ true) home.2 (seat-there nodes now s f home.0 so_far.seated home.1)
 
       emptying-table : with_free table seat.node seat.slot ≡ table_of nodes (record st { homes = filter (λ g. not (is_of s f.value g)) so_far.held })
       emptying-table =
           ap (λ (t : Slots). with_free t seat.node seat.slot) so_far.table_is
-          ∙ subst (λ (a : Seat). with_free (table_of nodes now) a.node a.slot ≡ table_of nodes (record st { homes = filter (λ g. not (is_of s f.value g)) so_far.held })) home.2 (clear-table nodes now s f home.0 so_far.good home.1)
+          ∙ subst (λ (a : Seat). with_free (table_of nodes now) a.node a.slot ≡ table_of nodes (record st { homes = filter (λ g. not (is_of s f.value g)) so_far.held })) home.2 (clear-table nodes now s f home.0 so_far.seated home.1)
 
       pub emptying-more : eqb n.value seat.node.value ≡ true → IsEmptying nodes st n spare (with_free table seat.node seat.slot) (stored.with_home stripes s f None)
       emptying-more on = record {
         held = filter (λ g. not (is_of s f.value g)) so_far.held;
-        good = kept-good nodes now n (λ g. not (is_of s f.value g)) so_far.good;
+        seated = kept-seated nodes now n (λ g. not (is_of s f.value g)) so_far.seated;
         table_is = emptying-table;
         stripes_is = ap (λ (t : Stored). stored.with_home t s f None) so_far.stripes_is ∙ stored-clear nodes now spare s f;
         rest = filter-skips (λ g. not (stands_on n g)) (λ g. not (is_of s f.value g)) so_far.held (λ g here goes. out g here (not-false _ goes)) ∙ so_far.rest;
@@ -210,19 +210,19 @@ module _ (nodes : List NodeInfo) (st : State) (n : NodeNo) (spare : ℕ) where
           not-false false e = sym e
 
           out : (g : Held) → Contains so_far.held g → is_of s f.value g ≡ true → not (stands_on n g) ≡ false
-          out g here hit = ap (λ (k : Held). not (stands_on n k)) (only nodes now s f home.0 so_far.good home.1 g here hit) ∙ ap (λ (a : Seat). not (eqb n.value a.node.value)) home.2 ∙ ap not on
+          out g here hit = ap (λ (k : Held). not (stands_on n k)) (only nodes now s f home.0 so_far.seated home.1 g here hit) ∙ ap (λ (a : Seat). not (eqb n.value a.node.value)) home.2 ∙ ap not on
 
       pub emptying-smaller : AreNodes nodes → IsSome (node_at nodes n) → eqb n.value seat.node.value ≡ true → load_at (with_free table seat.node seat.slot) n < load_at table n
       emptying-smaller known some on =
           rw (ap (λ (t : Slots). load_at t n) emptying-table, ap (λ (t : Slots). load_at t n) so_far.table_is)
-          (clear-load nodes now s f home.0 so_far.good home.1 known n (ap (λ (a : Seat). eqb n.value a.node.value) home.2 ∙ on) some)
+          (clear-load nodes now s f home.0 so_far.seated home.1 known n (ap (λ (a : Seat). eqb n.value a.node.value) home.2 ∙ on) some)
 
     -- with no home left on the node
     none-left : AreHomesOn stripes n [] → All (λ h. not (stands_on n h) ≡ true) so_far.held
     none-left on = All-members (λ h. not (stands_on n h) ≡ true) so_far.held (λ h here. elim (cases_Bool (stands_on n h)) [
       | inr other ↦ rw other refl
       | inl hit ↦
-          let own : home_of so_far.held h.stripe h.fragment.value ≡ Some h = home-only so_far.held so_far.good.one_home h here in
+          let own : home_of so_far.held h.stripe h.fragment.value ≡ Some h = home-only so_far.held so_far.seated.one_home h here in
           let at : stripes.homes h.stripe h.fragment.value ≡ Some h.seat = ap (λ (t : Stored). t.homes h.stripe h.fragment.value) so_far.stripes_is ∙ ap (option_map (λ (g : Held). g.seat)) own in
           let is : is_home_on stripes n (h.stripe, h.fragment) ≡ true = ap (λ (o : Option Seat). option_map_or (λ seat. nat_eq n.value seat.node.value) o false) at ∙ hit in
           absurd (not-Contains-nil (h.stripe, h.fragment) ((on.each (h.stripe, h.fragment)).1 is))

@@ -4,7 +4,7 @@ pub mod WorldLemmas
 pub mod MemberLemmas
 pub mod NodeLemmas
 pub mod ChoiceLemmas
-pub mod GoodLemmas
+pub mod SeatedLemmas
 pub mod TieLemmas
 pub mod TableLemmas
 pub mod BarLemmas

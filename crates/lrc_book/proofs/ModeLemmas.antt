@@ -14,11 +14,11 @@ use Rattle.lrc_stripes.specs.Stored.{with_offline}
 use Rattle.lrc_book.specs.declared.mode.Mode.TheVariants.{Active, Gone}
 use Rattle.lrc_book.specs.States.{State, has_number, without_number, mode_of, is_active, is_gone, is_down, is_online, takes_seats, online_at}
 use Rattle.lrc_book.specs.Steps.{with_gone, with_down, without_down, without_gone}
-use Rattle.lrc_book.specs.Goodness.{IsGood}
+use Rattle.lrc_book.specs.Goodness.{AreSeated}
 use Rattle.lrc_book.specs.Ties.{table_of, stored_of}
 use Rattle.lrc_book.proofs.MemberLemmas.{member-list_any}
 use Rattle.lrc_book.proofs.NodeLemmas.{member-node_at}
-use Rattle.lrc_book.proofs.GoodLemmas.{down-present}
+use Rattle.lrc_book.proofs.SeatedLemmas.{down-present}
 use Rattle.lrc_book.proofs.StoredLemmas.{same_online, test-sym}
 
 -- ---- numbers
@@ -125,14 +125,14 @@ module _ (nodes : List NodeInfo) (st : State) (n : NodeNo) where
   ]
 
   -- a node that was down is not gone
-  pub down-active : IsGood nodes st → is_down st n ≡ true → has_number st.gone n ≡ false
-  down-active good down =
+  pub down-active : AreSeated nodes st → is_down st n ≡ true → has_number st.gone n ≡ false
+  down-active seated down =
       let m = member-list_any (λ (k : NodeNo). eqb n.value k.value) st.down down in
-      same-number st.gone n m.0 m.2 ∙ down-present nodes st n good m.0 m.1
+      same-number st.gone n m.0 m.2 ∙ down-present nodes st n seated m.0 m.1
 
-  pub set-up : (known : IsSome (node_at nodes n)) → IsGood nodes st → is_down st n ≡ true → IsSet nodes st st.gone (without_down st n).down n true known
-  set-up known good down m = elim (cases_Bool (eqb n.value m.value)) [
-    | inl here ↦ rw (here, left-here st.down n m here, sym (same-number st.gone n m here) ∙ down-active good down) refl
+  pub set-up : (known : IsSome (node_at nodes n)) → AreSeated nodes st → is_down st n ≡ true → IsSet nodes st st.gone (without_down st n).down n true known
+  set-up known seated down m = elim (cases_Bool (eqb n.value m.value)) [
+    | inl here ↦ rw (here, left-here st.down n m here, sym (same-number st.gone n m here) ∙ down-active seated down) refl
     | inr apart ↦ rw (apart, left-apart st.down n m apart) refl
   ]
 
@@ -140,11 +140,11 @@ module _ (nodes : List NodeInfo) (st : State) (n : NodeNo) where
   gone-number gone = elim (cases_Bool (has_number st.gone n)) [ inl hit ↦ hit | inr miss ↦ absurd (let never : Active ≡ Gone = rw miss at gone in cc) ]
 
   -- a node that was gone is not down
-  pub gone-up : IsGood nodes st → mode_of st n ≡ Gone → is_down st n ≡ false
-  gone-up good gone = elim (cases_Bool (is_down st n)) [ inr up ↦ up | inl down ↦ absurd (let both : true ≡ false = sym (gone-number gone) ∙ down-active good down in cc) ]
+  pub gone-up : AreSeated nodes st → mode_of st n ≡ Gone → is_down st n ≡ false
+  gone-up seated gone = elim (cases_Bool (is_down st n)) [ inr up ↦ up | inl down ↦ absurd (let both : true ≡ false = sym (gone-number gone) ∙ down-active seated down in cc) ]
 
-  pub set-joined : (known : IsSome (node_at nodes n)) → IsGood nodes st → mode_of st n ≡ Gone → IsSet nodes st (without_gone st n).gone st.down n true known
-  set-joined known good gone m = elim (cases_Bool (eqb n.value m.value)) [
-    | inl here ↦ rw (here, left-here st.gone n m here, sym (same-number st.down n m here) ∙ gone-up good gone) refl
+  pub set-joined : (known : IsSome (node_at nodes n)) → AreSeated nodes st → mode_of st n ≡ Gone → IsSet nodes st (without_gone st n).gone st.down n true known
+  set-joined known seated gone m = elim (cases_Bool (eqb n.value m.value)) [
+    | inl here ↦ rw (here, left-here st.gone n m here, sym (same-number st.down n m here) ∙ gone-up seated gone) refl
     | inr apart ↦ rw (apart, left-apart st.gone n m apart) refl
   ]

@@ -26,7 +26,7 @@ use Rattle.lrc_book.specs.Ties.{table_of, stored_of, AreOf}
 use Rattle.lrc_book.proofs.MemberLemmas.{list_any-member}
 use Rattle.lrc_book.proofs.NodeLemmas.{node_at-member}
 use Rattle.lrc_book.proofs.ChoiceLemmas.{chosen-choice, same_stripe}
-use Rattle.lrc_book.proofs.GoodLemmas.{HasNone, IsPlacing, placing-some, stripe-placing, choice-new}
+use Rattle.lrc_book.proofs.SeatedLemmas.{HasNone, IsPlacing, placing-some, stripe-placing, choice-new}
 use Rattle.lrc_book.proofs.ListLemmas.{held_at-more}
 use Rattle.lrc_book.proofs.TableLemmas.{table-push}
 use Rattle.lrc_book.proofs.PlanLemmas.{chosen-first_free}
@@ -51,9 +51,9 @@ placed-start nodes st s seats table before kept absent chosen_are =
     let none : with_stripe st Wide s ≡ placed_to st s (fragments Wide) seats 0 = ap (λ (hs : List Held). record st { stripes = st.stripes ++ s ∷ []; homes = hs }) (sym (append-nil st.homes)) in
     record {
       table_is = kept.table_is ∙ ap (λ (hs : List Held). table_of nodes (record st { stripes = st.stripes ++ s ∷ []; homes = hs })) (sym (append-nil st.homes));
-      stripes_is = ap (λ (x : Stored). stored.with_stripe x s) kept.stripes_is ∙ stored-stripe nodes st before.spare s kept.good absent ∙ ap (λ (x : State). stored_of nodes x (before.spare - 1)) none;
+      stripes_is = ap (λ (x : Stored). stored.with_stripe x s) kept.stripes_is ∙ stored-stripe nodes st before.spare s kept.seated absent ∙ ap (λ (x : State). stored_of nodes x (before.spare - 1)) none;
       chosen_are = subst (λ (x : State). AreChosen nodes x s (fragments Wide) seats) none chosen_are;
-      placing = subst (λ (x : State). IsPlacing nodes s x (fragments Wide)) none (stripe-placing nodes kept.known st s Wide kept.good absent);
+      placing = subst (λ (x : State). IsPlacing nodes s x (fragments Wide)) none (stripe-placing nodes kept.known st s Wide kept.seated absent);
     }
 
 -- a fragment of which no seat is one has no home

@@ -21,7 +21,7 @@ use Rattle.lrc_slots.specs.Slots.{least_free, least_free_at}
 use Rattle.lrc_slots.specs.Next.{may_take, is_chosen_before, next_node}
 use Rattle.lrc_book.specs.States.{State, has_stripe, taken_seats, takes_seats, is_eligible}
 use Rattle.lrc_book.specs.Placement.{bars, fits, chosen, chosen_node}
-use Rattle.lrc_book.specs.Goodness.{IsGood}
+use Rattle.lrc_book.specs.Goodness.{AreSeated}
 use Rattle.lrc_book.specs.Ties.{table_of, is_beside, bars_of, bars_in, next_seat, with_homes}
 use Rattle.lrc_book.proofs.MemberLemmas.{All-members, filter-member}
 use Rattle.lrc_code.proofs.OrderLemmas.{least-listed}
@@ -170,11 +170,11 @@ module _ (nodes : List NodeInfo) (st : State) (new : List Held) (s : StripeNo) (
 no_more : (st : State) → with_homes st [] ≡ st
 no_more st = ap (λ homes. record st { homes = homes }) (append-nil st.homes)
 
--- The seat that the table of a good state gives is the one that the rule chooses.
-pub table-chosen : (nodes : List NodeInfo) (st : State) (s : StripeNo) (f : Fragment) → AreNodes nodes → IsGood nodes st → next_seat (table_of nodes st) (bars_of nodes st s f) ≡ chosen nodes st s f
-table-chosen nodes st s f known good =
+-- The seat that the table gives, where the stripes are seated, is the one that the rule chooses.
+pub table-chosen : (nodes : List NodeInfo) (st : State) (s : StripeNo) (f : Fragment) → AreNodes nodes → AreSeated nodes st → next_seat (table_of nodes st) (bars_of nodes st s f) ≡ chosen nodes st s f
+table-chosen nodes st s f known seated =
     subst (λ now. next_seat (table_of nodes st) (bars_of nodes now s f) ≡ chosen nodes now s f) (no_more st)
-    (planned-chosen nodes st [] s f (All-nil (λ h. is_beside s f h ≡ true)) known good.single (standing-slots nodes st (taken_seats st) good.standing))
+    (planned-chosen nodes st [] s f (All-nil (λ h. is_beside s f h ≡ true)) known seated.single (standing-slots nodes st (taken_seats st) seated.standing))
 
 -- a chosen seat is the first free one of its node
 pub chosen-first_free : (nodes : List NodeInfo) (st : State) (s : StripeNo) (f : Fragment) (seat : Seat) → AreNodes nodes → chosen nodes st s f ≡ Some seat
@@ -185,8 +185,8 @@ chosen-first_free nodes st s f seat known e =
     ∙ choice-slot nodes st s f seat choice
 
 -- Over the table of a state in which the stripe is not there yet, with the domains of its planned homes barred, the seat is the one that is chosen beside these.
-pub beside-chosen : (nodes : List NodeInfo) (st : State) (new : List Held) (s : StripeNo) (f : Fragment) → AreNodes nodes → IsGood nodes st → has_stripe st s ≡ false → All (λ h. is_beside s f h ≡ true) new
+pub beside-chosen : (nodes : List NodeInfo) (st : State) (new : List Held) (s : StripeNo) (f : Fragment) → AreNodes nodes → AreSeated nodes st → has_stripe st s ≡ false → All (λ h. is_beside s f h ≡ true) new
     → next_seat (table_of nodes st) (bars_in nodes Wide s f new) ≡ chosen nodes (with_homes st new) s f
-beside-chosen nodes st new s f known good absent mine =
-    ap (next_seat (table_of nodes st)) (sym (bars_in-skip nodes Wide s f st.homes new (absent-beside nodes st s f good absent)))
-    ∙ planned-chosen nodes st new s f mine known good.single (standing-slots nodes st (taken_seats st) good.standing)
+beside-chosen nodes st new s f known seated absent mine =
+    ap (next_seat (table_of nodes st)) (sym (bars_in-skip nodes Wide s f st.homes new (absent-beside nodes st s f seated absent)))
+    ∙ planned-chosen nodes st new s f mine known seated.single (standing-slots nodes st (taken_seats st) seated.standing)

@@ -8,7 +8,7 @@ use Rattle.lrc_slots.specs.Slots.{load_at, taken_count}
 use Rattle.lrc_book.specs.declared.mode.Mode.{Mode}
 use Rattle.lrc_book.specs.declared.mode.Mode.TheVariants.{Active, Gone}
 use Rattle.lrc_book.specs.States.{State, has_number, mode_of, is_gone, is_online, taken_seats, load_shown, mode_shown}
-use Rattle.lrc_book.specs.Goodness.{IsGood}
+use Rattle.lrc_book.specs.Goodness.{AreSeated}
 use Rattle.lrc_book.specs.Ties.{table_of}
 use Rattle.lrc_book.proofs.NodeLemmas.{node_at-member, member-node_at}
 use Rattle.lrc_book.proofs.TieLemmas.{load-seats, standing-slots}
@@ -22,11 +22,11 @@ pub gone-mode : (st : State) (n : NodeNo) → has_number st.gone n ≡ is_gone (
 gone-mode st n = mode-by (has_number st.gone n)
 
 -- the load of a node is the count of the table
-pub load-shown : (nodes : List NodeInfo) (st : State) (n : NodeNo) (m : NodeInfo) → AreNodes nodes → IsGood nodes st → node_at nodes n ≡ Some m → Some (load_at (table_of nodes st) n) ≡ load_shown nodes st n
-load-shown nodes st n m known good found =
+pub load-shown : (nodes : List NodeInfo) (st : State) (n : NodeNo) (m : NodeInfo) → AreNodes nodes → AreSeated nodes st → node_at nodes n ≡ Some m → Some (load_at (table_of nodes st) n) ≡ load_shown nodes st n
+load-shown nodes st n m known seated found =
     let here = member-node_at nodes n m found in
     ap (λ (o : Option NodeInfo). Some (option_map_or (taken_count (table_of nodes st)) o 0)) found
-    ∙ ap Some (load-seats nodes (taken_seats st) m (node_at-member nodes known m here.0) good.single (standing-slots nodes st (taken_seats st) good.standing))
+    ∙ ap Some (load-seats nodes (taken_seats st) m (node_at-member nodes known m here.0) seated.single (standing-slots nodes st (taken_seats st) seated.standing))
     ∙ sym (ap (option_map _) found)
 
 module _ (nodes : List NodeInfo) (st : State) (n : NodeNo) (m : NodeInfo) (found : node_at nodes n ≡ Some m) where

@@ -22,7 +22,7 @@ use Rattle.lrc_book.specs.States as states
 use Rattle.lrc_book.specs.States.{State, opening, has_stripe, taken_seats, is_online, online_at}
 use Rattle.lrc_book.specs.Placement.{with_home}
 use Rattle.lrc_book.specs.Steps.{with_stripe, is_other, without_stripe}
-use Rattle.lrc_book.specs.Goodness.{IsGood}
+use Rattle.lrc_book.specs.Goodness.{AreSeated}
 use Rattle.lrc_book.specs.Ties.{stored_of}
 use Rattle.lrc_book.proofs.MemberLemmas.{find-member, list_any-member}
 use Rattle.lrc_book.proofs.TableLemmas.{map-member}
@@ -97,12 +97,12 @@ found-home st s f h e = let m = find-member (is_of s f) st.homes h e in (m.0, m.
 abbrev pub homes_by : List Held → ℕ → ℕ → Option Seat
 homes_by homes v f = option_map (λ h. h.seat) (find (λ h. nat_eq h.stripe.value v && nat_eq h.fragment.value f) homes)
 
-module _ (nodes : List NodeInfo) (st : State) (s : StripeNo) (f : ℕ) (good : IsGood nodes st) (absent : has_stripe st s ≡ false) where
+module _ (nodes : List NodeInfo) (st : State) (s : StripeNo) (f : ℕ) (seated : AreSeated nodes st) (absent : has_stripe st s ≡ false) where
   no_home-by : (o : Option Held) → home_of st.homes s f ≡ o → o ≡ None
   no_home-by None e = refl
   no_home-by (Some h) e =
       let m = found-home st s f h e in
-      let there : Contains st.stripes h.stripe = All-contains (λ (h : Held). Contains st.stripes h.stripe) st.homes h good.there m.0 in
+      let there : Contains st.stripes h.stripe = All-contains (λ (h : Held). Contains st.stripes h.stripe) st.homes h seated.there m.0 in
       let same : s.value ≡ h.stripe.value = sym (eqb-true h.stripe.value s.value (and_parts (eqb h.stripe.value s.value) (eqb h.fragment.value f) m.1).0) in
       let hit : has_stripe st s ≡ true = list_any-member (λ (u : StripeNo). eqb s.value u.value) st.stripes h.stripe there (eq-eqb s.value h.stripe.value same) in
       absurd (let both : true ≡ false = sym hit ∙ absent in cc)
@@ -113,13 +113,13 @@ module _ (nodes : List NodeInfo) (st : State) (s : StripeNo) (f : ℕ) (good : I
 
 module _ (nodes : List NodeInfo) (st : State) (spare : ℕ) (s : StripeNo) where
   -- one more stripe
-  pub stored-stripe : IsGood nodes st → has_stripe st s ≡ false → stored.with_stripe (stored_of nodes st spare) s ≡ stored_of nodes (with_stripe st Wide s) (spare - 1)
-  stored-stripe good absent =
+  pub stored-stripe : AreSeated nodes st → has_stripe st s ≡ false → stored.with_stripe (stored_of nodes st spare) s ≡ stored_of nodes (with_stripe st Wide s) (spare - 1)
+  stored-stripe seated absent =
       same_stored (stored_of nodes st (spare - 1)) _ (has_stripe (with_stripe st Wide s)) _ (λ r. homes_of st.homes r)
       (λ r. ap (λ b. b || has_stripe st r) (test-sym s.value r.value) ∙ or_nil (eqb r.value s.value) (has_stripe st r)
       ∙ sym (list_any-append (λ (t : StripeNo). eqb r.value t.value) st.stripes (s ∷ [])))
       (λ r f. elim (cases_Bool (eqb s.value r.value)) [
-        | inl same ↦ rw same (sym (ap (λ v. homes_by st.homes v f) (sym (eqb-true s.value r.value same)) ∙ ap seat_in (no_home nodes st s f good absent)))
+        | inl same ↦ rw same (sym (ap (λ v. homes_by st.homes v f) (sym (eqb-true s.value r.value same)) ∙ ap seat_in (no_home nodes st s f seated absent)))
         | inr other ↦ rw other refl
       ])
 

@@ -1,9 +1,10 @@
--- What holds of the state after every legal history.
+-- What holds after every legal history.
 use Rattle.std.specs.Prelude.{◌≡◌, ◌≢◌, ◌<◌, List, All, AllPairs, Contains, IfSome, IsSomeAnd}
 use Rattle.lrc_topology.specs.declared.NodeInfo.{NodeInfo}
 use Rattle.lrc_topology.specs.declared.seat.Seat.{Seat}
 use Rattle.lrc_topology.specs.declared.seat.Held.{Held}
 use Rattle.lrc_topology.specs.Nodes.{node_at}
+use Rattle.lrc_book.specs.declared.entry.Entry.{Entry}
 use Rattle.lrc_book.specs.declared.mode.Mode.TheVariants.{Gone}
 use Rattle.lrc_book.specs.States.{State, code_of, seats_of, taken_seats, mode_of}
 use Rattle.lrc_book.specs.Choices.{AreApart}
@@ -19,7 +20,7 @@ KeepApart nodes st h g =
     → IfSome (node_at nodes h.seat.node) (λ n. IfSome (node_at nodes g.seat.node) (λ m. AreApart (code_of st h.stripe) h.fragment n g.fragment m))
 
 -- Each stripe is there once, each seat is held once and is a slot of a node that is not gone, placements are lawful, each fragment has one home at most, held seats are those of stripes that are there, and no node that is down is gone.
-pub record IsGood (nodes : List NodeInfo) (st : State) : Type 0 where
+pub record AreSeated (nodes : List NodeInfo) (st : State) : Type 0 where
   pub stripes : AllPairs (λ s t. s ≢ t) st.stripes
   pub single : AllPairs (λ a b. a ≢ b) (taken_seats st)
   pub standing : All (IsStanding nodes st) (taken_seats st)
@@ -27,3 +28,7 @@ pub record IsGood (nodes : List NodeInfo) (st : State) : Type 0 where
   pub one_home : AllPairs (λ h g. h.stripe ≡ g.stripe → h.fragment ≢ g.fragment) st.homes
   pub there : All (λ h. Contains st.stripes h.stripe) (seats_of st)
   pub reachable : All (λ n. mode_of st n ≢ Gone) st.down
+
+-- What holds of a state after the entries that led to it: its stripes are seated.
+pub record IsGood (nodes : List NodeInfo) (history : List Entry) (st : State) : Type 0 where
+  pub seated : AreSeated nodes st

@@ -18,7 +18,7 @@ use Rattle.lrc_stripes.specs.Levels.{homes_of}
 use Rattle.lrc_stripes.specs.Stored.{Stored}
 use Rattle.lrc_slots.specs.Barred.{Barred}
 use Rattle.lrc_slots.specs.Next.{next_number}
-use Rattle.lrc_book.specs.Goodness.{IsGood}
+use Rattle.lrc_book.specs.Goodness.{AreSeated}
 use Rattle.lrc_book.specs.States.{State, has_stripe, code_of, seats_of, taken_seats, takes_seats, online_at}
 
 -- the nodes that take seats are eligible, and the seats of the state are taken
@@ -30,16 +30,16 @@ abbrev pub stored_of : List NodeInfo → State → ℕ → Stored
 stored_of nodes st spare =
     record { nodes = nodes; stripes = has_stripe st; homes = λ s. homes_of st.homes s; online = online_at nodes st; spare = spare }
 
--- this is the slot table of a good state over these nodes
+-- this is the slot table of a state over these nodes, whose stripes are seated
 pub record IsTableOf (nodes : List NodeInfo) (st : State) (table : Slots) : Type 0 where
   pub known : AreNodes nodes
-  pub good : IsGood nodes st
+  pub seated : AreSeated nodes st
   pub is : table ≡ table_of nodes st
 
--- the slot table and the stripes are those of a good state over these nodes
+-- the slot table and the stripes are those of a state over these nodes, whose stripes are seated
 pub record AreOf (nodes : List NodeInfo) (st : State) (table : Slots) (stripes : Stored) : Type 0 where
   pub known : AreNodes nodes
-  pub good : IsGood nodes st
+  pub seated : AreSeated nodes st
   pub table_is : table ≡ table_of nodes st
   pub stripes_is : stripes ≡ stored_of nodes st stripes.spare
 

@@ -12,7 +12,7 @@ ghost use Rattle.lrc_book.specs.States.{State};
 ghost use Rattle.lrc_book.specs.Placement.{chosen};
 ghost use Rattle.lrc_book.specs.Choices.{IsFitting, IsChoice};
 ghost use Rattle.lrc_book.specs.Histories.{IsLegal, state_after};
-ghost use Rattle.lrc_book.specs.Goodness.{IsGood};
+ghost use Rattle.lrc_book.specs.Goodness.{AreSeated, IsGood};
 ghost use Rattle.lrc_book.specs.Ties.{table_of, bars_of, is_beside, next_seat, with_homes};
 
 /// The chosen seat is the least free slot of the node that comes before every other node that the fragment may go to.
@@ -30,20 +30,20 @@ pub fn none_is_chosen_where_no_node_fits()
 /// After each legal history every placement is lawful, and every seat is held once and is a slot of a node.
 pub fn legal_histories_leave_good_states()
     ensures { (nodes : List NodeInfo) (history : List Entry)
-        → AreNodes nodes → IsLegal nodes history → IsGood nodes (state_after nodes history) }
+        → AreNodes nodes → IsLegal nodes history → IsGood nodes history (state_after nodes history) }
 {}
 
-/// Over the slot table of a good state, with the domains of the stripe's other fragments barred, the least free
-/// slot of the next node is the seat that the rule chooses.
+/// Over the slot table of a state whose stripes are seated, with the domains of the stripe's other fragments barred,
+/// the least free slot of the next node is the seat that the rule chooses.
 pub fn tables_give_the_chosen_seat()
     ensures { (nodes : List NodeInfo) (st : State) (s : StripeNo) (f : Fragment)
-        → AreNodes nodes → IsGood nodes st → next_seat (table_of nodes st) (bars_of nodes st s f) ≡ chosen nodes st s f }
+        → AreNodes nodes → AreSeated nodes st → next_seat (table_of nodes st) (bars_of nodes st s f) ≡ chosen nodes st s f }
 {}
 
 /// Homes planned for other fragments of the stripe need not be in the table: with their domains barred it gives
 /// the seat that the rule chooses beside them.
 pub fn planned_homes_only_bar_domains()
     ensures { (nodes : List NodeInfo) (st : State) (planned : List Held) (s : StripeNo) (f : Fragment)
-        → AreNodes nodes → IsGood nodes st → All (λ h. IsTrue (is_beside s f h)) planned
+        → AreNodes nodes → AreSeated nodes st → All (λ h. IsTrue (is_beside s f h)) planned
         → next_seat (table_of nodes st) (bars_of nodes (with_homes st planned) s f) ≡ chosen nodes (with_homes st planned) s f }
 {}

@@ -33,7 +33,7 @@ give_back-requires g c = λ seat is.
     sym (c.home.ensures ∙ ap (λ (fs : List Fragment). (stored_in c.args.stripes.now).homes c.args.stripe (get_or fs i c.fragment-item.result).value) c.loop-fragment.invariant.all ∙ ap (λ (x : Stored). x.homes c.args.stripe f.value) c.requires.0.stripes_is) ∙ is in
     ap (λ (t : Slots). t.taken seat.node seat.slot) (c.loop-fragment.invariant.freed
     ∙ ap (λ (fs : List Fragment). table_less (table_of nodes g.st) (map (λ (h : Held). h.seat) (held_by (seats_at g.st.homes c.args.stripe) c.args.stripe (take i fs)))) c.loop-fragment.invariant.all)
-    ∙ taken-held_by g.st.homes c.args.stripe c.requires.0.good.one_home (table_of nodes g.st) (take i (fragments Wide)) f seat c.requires.0.good.single (earlier-fragments Wide i c.fragment-item.result (omega arith)) home
+    ∙ taken-held_by g.st.homes c.args.stripe c.requires.0.seated.one_home (table_of nodes g.st) (take i (fragments Wide)) f seat c.requires.0.seated.single (earlier-fragments Wide i c.fragment-item.result (omega arith)) home
 
 pub loop-fragment-preserved : goal.loop-fragment-preserved
 loop-fragment-preserved g c =
@@ -58,7 +58,7 @@ returns g c =
     let whole : take i c.all.result ≡ fragments Wide = ap (take i) c.loop-fragment.invariant.all ∙ take_all i (fragments Wide) (omega arith) in
     record {
       table = c.loop-fragment.invariant.freed ∙ ap (λ (fs : List Fragment). table_less (table_of nodes g.st) (map (λ (h : Held). h.seat) (held_by (seats_at g.st.homes c.args.stripe) c.args.stripe fs))) whole
-          ∙ table_less-stripe g.st.homes c.args.stripe c.requires.0.good.one_home (table_of nodes g.st) c.requires.0.good.single;
+          ∙ table_less-stripe g.st.homes c.args.stripe c.requires.0.seated.one_home (table_of nodes g.st) c.requires.0.seated.single;
       stripes = c.remove.ensures.stripe
           ∙ ap (λ (x : Stored). with_spare (without_stripe x c.args.stripe) (stored_in c.remove.new.self).spare) c.requires.0.stripes_is
           ∙ ap (λ (x : Stored). with_spare x (stored_in c.remove.new.self).spare) (stored-without nodes g.st (stored_in c.args.stripes.now).spare c.args.stripe);

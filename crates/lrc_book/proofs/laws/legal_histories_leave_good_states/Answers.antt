@@ -1,4 +1,4 @@
-use Rattle.lrc_book.proofs.GoodLemmas.{state_after-good}
+use Rattle.lrc_book.proofs.SeatedLemmas.{state_after-good}
 use Rattle.lrc_book.proofs.laws.legal_histories_leave_good_states.Goals as goal
 
 pub returns : goal.returns

@@ -12,11 +12,11 @@ pub returns-clause-table : goal.returns-clause-table
 returns-clause-table g c =
     let nodes = (slots_of c.args.table.now).nodes in
     c.set_online.ensures.table ∙ ap (λ (t : Slots). with_eligible t c.args.node true) c.requires.0.table_is
-    ∙ table-set nodes g.st g.st.gone (without_down g.st c.args.node).down c.args.node true c.requires.1.0 (set-up nodes g.st c.args.node c.requires.1.0 c.requires.0.good c.requires.1.1)
+    ∙ table-set nodes g.st g.st.gone (without_down g.st c.args.node).down c.args.node true c.requires.1.0 (set-up nodes g.st c.args.node c.requires.1.0 c.requires.0.seated c.requires.1.1)
 
 pub returns-clause-stripes : goal.returns-clause-stripes
 returns-clause-stripes g c =
     let nodes = (slots_of c.args.table.now).nodes in
     own-spare nodes (without_down g.st c.args.node) (stored_in c.set_online.new.stripes) (stored_in c.args.stripes.now).spare
     (c.set_online.ensures.stripes ∙ ap (λ (t : Stored). with_offline t c.args.node (not true)) c.requires.0.stripes_is
-    ∙ stored-set nodes g.st g.st.gone (without_down g.st c.args.node).down c.args.node true c.requires.1.0 (stored_in c.args.stripes.now).spare (set-up nodes g.st c.args.node c.requires.1.0 c.requires.0.good c.requires.1.1))
+    ∙ stored-set nodes g.st g.st.gone (without_down g.st c.args.node).down c.args.node true c.requires.1.0 (stored_in c.args.stripes.now).spare (set-up nodes g.st c.args.node c.requires.1.0 c.requires.0.seated c.requires.1.1))

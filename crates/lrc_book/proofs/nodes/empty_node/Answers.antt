@@ -11,7 +11,7 @@ use Rattle.lrc_book.proofs.nodes.empty_node.Goals.{in-Some-home, in_default-home
 
 pub loop-stripe-init : goal.loop-stripe-init
 loop-stripe-init g c =
-    emptying-start (slots_of c.args.table.now).nodes g.st c.args.node (stored_in c.args.stripes.now).spare (slots_of c.args.table.now) (stored_in c.args.stripes.now) c.requires.0.good c.requires.0.table_is c.requires.0.stripes_is
+    emptying-start (slots_of c.args.table.now).nodes g.st c.args.node (stored_in c.args.stripes.now).spare (slots_of c.args.table.now) (stored_in c.args.stripes.now) c.requires.0.seated c.requires.0.table_is c.requires.0.stripes_is
 
 pub home-requires : goal.home-requires
 home-requires g c =

@@ -9,18 +9,18 @@ use Rattle.lrc_book.proofs.planning.seat_for.Goals as goal
 
 pub returns-in_err-node : goal.returns-in_err-node
 returns-in_err-node g c =
-    let rule = ap₂ next_seat c.requires.0.is c.bars-taken.ensures ∙ beside-chosen c.args.topology.now g.st c.args.planned.now c.args.stripe c.args.fragment c.requires.0.known c.requires.0.good c.requires.1.0 c.requires.1.1 in
+    let rule = ap₂ next_seat c.requires.0.is c.bars-taken.ensures ∙ beside-chosen c.args.topology.now g.st c.args.planned.now c.args.stripe c.args.fragment c.requires.0.known c.requires.0.seated c.requires.1.0 c.requires.1.1 in
     c.from_residual.ensures
     ∙ ap (option_and_then (λ (n : NodeNo). option_map (seat_on n) (least_free_at (seen c.args.table.now) n))) c.in_err-node.ensures.node ∙ rule
 
 pub returns-in_err-slot : goal.returns-in_err-slot
 returns-in_err-slot g c =
-    let rule = ap₂ next_seat c.requires.0.is c.bars-taken.ensures ∙ beside-chosen c.args.topology.now g.st c.args.planned.now c.args.stripe c.args.fragment c.requires.0.known c.requires.0.good c.requires.1.0 c.requires.1.1 in
+    let rule = ap₂ next_seat c.requires.0.is c.bars-taken.ensures ∙ beside-chosen c.args.topology.now g.st c.args.planned.now c.args.stripe c.args.fragment c.requires.0.known c.requires.0.seated c.requires.1.0 c.requires.1.1 in
     c.from_residual-in_err-slot.ensures ∙ ap (option_map (seat_on c.in_ok-node.node)) c.in_err-slot.ensures
     ∙ ap (option_and_then (λ (n : NodeNo). option_map (seat_on n) (least_free_at (seen c.args.table.now) n))) c.in_ok-node.ensures.node ∙ rule
 
 pub returns : goal.returns
 returns g c =
-    let rule = ap₂ next_seat c.requires.0.is c.bars-taken.ensures ∙ beside-chosen c.args.topology.now g.st c.args.planned.now c.args.stripe c.args.fragment c.requires.0.known c.requires.0.good c.requires.1.0 c.requires.1.1 in
+    let rule = ap₂ next_seat c.requires.0.is c.bars-taken.ensures ∙ beside-chosen c.args.topology.now g.st c.args.planned.now c.args.stripe c.args.fragment c.requires.0.known c.requires.0.seated c.requires.1.0 c.requires.1.1 in
     ap (option_map (seat_on c.in_ok-node.node)) c.in_ok-slot.ensures
     ∙ ap (option_and_then (λ (n : NodeNo). option_map (seat_on n) (least_free_at (seen c.args.table.now) n))) c.in_ok-node.ensures.node ∙ rule

@@ -7,10 +7,10 @@ use Rattle.lrc_stripes.specs.Tables.{seen as stored_in}
 use Rattle.lrc_book.specs.States.{State}
 use Rattle.lrc_book.specs.Histories.{world_after}
 use Rattle.lrc_book.specs.Books.{BookView, state_of}
-use Rattle.lrc_book.specs.Goodness.{IsGood}
+use Rattle.lrc_book.specs.Goodness.{AreSeated}
 use Rattle.lrc_book.specs.Changes.{IsAnswer, changed_by}
 use Rattle.lrc_book.specs.Ties.{table_of, stored_of, AreOf}
-use Rattle.lrc_book.proofs.GoodLemmas.{state_after-good}
+use Rattle.lrc_book.proofs.SeatedLemmas.{state_after-seated}
 use Rattle.lrc_book.proofs.WorldLemmas.{kept_push}
 use Rattle.lrc_book.proofs.book.Book.make.Goals as goal
 
@@ -32,7 +32,7 @@ change-requires g c =
     let last = and_parts gone_fits down_fits front.1 in
     let are : AreOf b.topology g.st table stripes = record {
       known = inv.known;
-      good = subst (IsGood b.topology) current (state_after-good b.topology inv.known b.history.items);
+      seated = subst (AreSeated b.topology) current (state_after-seated b.topology inv.known b.history.items);
       table_is = inv.table_is ∙ ap (table_of b.topology) current;
       stripes_is = inv.stripes_is ∙ ap (λ (st : State). stored_of b.topology st stripes.spare) current;
     } in

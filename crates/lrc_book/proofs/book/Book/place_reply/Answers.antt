@@ -3,10 +3,10 @@ use Rattle.lrc_code.specs.declared.codes.Code.TheVariants.{Wide}
 use Rattle.lrc_book.specs.States.{State, has_stripe}
 use Rattle.lrc_book.specs.Steps.{Outcome, place_outcome}
 use Rattle.lrc_book.specs.Books.{BookView, state_of}
-use Rattle.lrc_book.specs.Goodness.{IsGood}
+use Rattle.lrc_book.specs.Goodness.{AreSeated}
 use Rattle.lrc_book.specs.Ties.{table_of}
 use Rattle.lrc_book.proofs.StepLemmas.{place-there, place-ok, place-err}
-use Rattle.lrc_book.proofs.GoodLemmas.{state_after-good}
+use Rattle.lrc_book.proofs.SeatedLemmas.{state_after-seated}
 use Rattle.lrc_book.proofs.book.Book.place_reply.Goals as goal
 
 pub returns-then-has_stripe : goal.returns-then-has_stripe
@@ -18,7 +18,7 @@ plan_seats-requires g c =
     let current = ap (λ (b : BookView). state_of b) c.self.view_is ∙ c.requires in (
       record {
         known = c.self.invariant.known;
-        good = subst (IsGood nodes) current (state_after-good nodes c.self.invariant.known c.self.inside.history.items);
+        seated = subst (AreSeated nodes) current (state_after-seated nodes c.self.invariant.known c.self.inside.history.items);
         is = c.self.invariant.table_is ∙ ap (table_of nodes) current;
       },
       ap (λ (st : State). has_stripe st c.args.stripe) (sym c.requires) ∙ sym c.has_stripe.ensures ∙ c.if-has_stripe.false,

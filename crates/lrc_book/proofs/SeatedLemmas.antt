@@ -1,4 +1,4 @@
--- Each command leaves a good state.
+-- Each command leaves the stripes seated.
 use Rattle.std.proofs.Common.{inl, inr, ◌||◌, ℕ, if◌then◌else◌, is_none, ◌≡◌, ◌≢◌, ◌<◌, Bool, true, false, not, ◌&&◌, eqb, List, [], ◌∷◌, ◌++◌, map, filter, fold, Option, Some, None, Result, Ok, Err, IfSome, IsSomeAnd, arith, refl, sym, ap, ◌∙◌, subst}
 use Rattle.std.specs.List.{All, AllPairs, Contains, list_any}
 use Rattle.std.specs.Option.{option_map_or}
@@ -32,7 +32,7 @@ use Rattle.lrc_book.specs.Placement.{chosen, with_home, place_next, placed}
 use Rattle.lrc_book.specs.Steps.{Outcome, refuse_if, with_stripe, place_answer, place_outcome, is_other, without_stripe, drop_outcome, node_outcome, stands_on, emptied, with_gone, with_down, without_down, without_gone, fail_outcome, down_outcome, up_outcome, join_outcome, step}
 use Rattle.lrc_book.specs.Histories.{World, first_world, next_world, state_after}
 use Rattle.lrc_book.specs.Choices.{AreApart, IsApartFrom, IsChoice}
-use Rattle.lrc_book.specs.Goodness.{IsStanding, KeepApart, IsGood}
+use Rattle.lrc_book.specs.Goodness.{IsStanding, KeepApart, AreSeated, IsGood}
 use Rattle.lrc_book.proofs.MemberLemmas.{list_any-All, All-list_any, All-members, member-filter, filter-member, AllPairs-head, AllPairs-tail, list_any-member}
 use Rattle.lrc_book.proofs.NodeLemmas.{node_at-member, seat_on}
 use Rattle.lrc_book.proofs.ChoiceLemmas.{chosen-choice}
@@ -101,25 +101,25 @@ module _ (nodes : List NodeInfo) (known : AreNodes nodes) (st : State) (s : Stri
       (subst (λ t. AreApart (code_of st t) h.fragment m f choice.node) (sym stripe) (AreApart-sym (code_of st s) h.fragment choice.node m a)))
 
   -- a home on a chosen seat, for a fragment that has none
-  pub home-good : IsGood nodes st → IsChoice nodes st s f seat → Contains st.stripes s → HasNone s st.homes f → IsGood nodes (with_home st s f seat)
-  home-good good choice there absent =
+  pub home-seated : AreSeated nodes st → IsChoice nodes st s f seat → Contains st.stripes s → HasNone s st.homes f → AreSeated nodes (with_home st s f seat)
+  home-seated seated choice there absent =
       let y = held_on s f seat in
       let seats : map (λ (h : Held). h.seat) (st.homes ++ y ∷ []) ≡ map (λ (h : Held). h.seat) st.homes ++ seat ∷ [] = map-append (λ (h : Held). h.seat) st.homes (y ∷ []) in
       record {
-        stripes = good.stripes;
-        single = subst (AllPairs (λ a b. a ≢ b)) (sym seats) (pairs-push (λ a b. a ≢ b) (taken_seats st) seat good.single (choice-new choice));
-        standing = subst (All (IsStanding nodes st)) (sym seats) (All-push (IsStanding nodes st) (taken_seats st) seat good.standing (choice-standing choice));
-        lawful = pairs-push (KeepApart nodes st) st.homes y good.lawful (All-weaker (IsApartFrom nodes st s f choice.node) (λ h. KeepApart nodes st h y) (choice-apart choice) st.homes choice.fitting.lawful);
-        one_home = pairs-push (λ h g. h.stripe ≡ g.stripe → h.fragment ≢ g.fragment) st.homes y good.one_home absent;
-        there = All-push (λ h. Contains st.stripes h.stripe) st.homes y good.there there;
-        reachable = good.reachable;
+        stripes = seated.stripes;
+        single = subst (AllPairs (λ a b. a ≢ b)) (sym seats) (pairs-push (λ a b. a ≢ b) (taken_seats st) seat seated.single (choice-new choice));
+        standing = subst (All (IsStanding nodes st)) (sym seats) (All-push (IsStanding nodes st) (taken_seats st) seat seated.standing (choice-standing choice));
+        lawful = pairs-push (KeepApart nodes st) st.homes y seated.lawful (All-weaker (IsApartFrom nodes st s f choice.node) (λ h. KeepApart nodes st h y) (choice-apart choice) st.homes choice.fitting.lawful);
+        one_home = pairs-push (λ h g. h.stripe ≡ g.stripe → h.fragment ≢ g.fragment) st.homes y seated.one_home absent;
+        there = All-push (λ h. Contains st.stripes h.stripe) st.homes y seated.there there;
+        reachable = seated.reachable;
       }
 
 -- ---- placing
 
 -- what holds while the fragments of a stripe are placed: those that are left have no homes
 pub record IsPlacing (nodes : List NodeInfo) (s : StripeNo) (st : State) (rest : List Fragment) : Type 0 where
-  pub good : IsGood nodes st
+  pub seated : AreSeated nodes st
   pub there : Contains st.stripes s
   pub distinct : AllPairs (λ f g. f ≢ g) rest
   pub absent : All (HasNone s st.homes) rest
@@ -129,7 +129,7 @@ module _ (nodes : List NodeInfo) (known : AreNodes nodes) (s : StripeNo) where
   placing-some st f fs seat p e =
       let absent = All-head (HasNone s st.homes) f fs p.absent in
       record {
-        good = home-good nodes known st s f seat p.good (chosen-choice nodes st s f seat known e) p.there absent;
+        seated = home-seated nodes known st s f seat p.seated (chosen-choice nodes st s f seat known e) p.there absent;
         there = p.there;
         distinct = AllPairs-tail (λ f g. f ≢ g) f fs p.distinct;
         absent = All-weaker (λ g. HasNone s st.homes g × (f ≢ g)) (HasNone s (st.homes ++ held_on s f seat ∷ []))
@@ -138,13 +138,13 @@ module _ (nodes : List NodeInfo) (known : AreNodes nodes) (s : StripeNo) where
       }
 
   placing-next : (st : State) (f : Fragment) (fs : List Fragment) (final : State) → IsPlacing nodes s st (f ∷ fs)
-      → ((next : State) → IsPlacing nodes s next fs → fold (place_next nodes s) (Ok next) fs ≡ Ok final → IsGood nodes final) → (o : Option Seat) → chosen nodes st s f ≡ o
-      → fold (place_next nodes s) (option_map_or (λ seat. Ok (with_home st s f seat)) o (Err f)) fs ≡ Ok final → IsGood nodes final
+      → ((next : State) → IsPlacing nodes s next fs → fold (place_next nodes s) (Ok next) fs ≡ Ok final → AreSeated nodes final) → (o : Option Seat) → chosen nodes st s f ≡ o
+      → fold (place_next nodes s) (option_map_or (λ seat. Ok (with_home st s f seat)) o (Err f)) fs ≡ Ok final → AreSeated nodes final
   placing-next st f fs final p again None none e = absurd (let stuck = fold_stays (place_next nodes s) (Err f) (λ x. refl) fs in let never : Err f ≡ Ok final = sym stuck ∙ e in cc)
   placing-next st f fs final p again (Some seat) some e = again (with_home st s f seat) (placing-some st f fs seat p some) e
 
-  placing : (st : State) (fs : List Fragment) (final : State) → IsPlacing nodes s st fs → fold (place_next nodes s) (Ok st) fs ≡ Ok final → IsGood nodes final
-  placing st [] final p e = let same : st ≡ final = cc in subst (IsGood nodes) same p.good
+  placing : (st : State) (fs : List Fragment) (final : State) → IsPlacing nodes s st fs → fold (place_next nodes s) (Ok st) fs ≡ Ok final → AreSeated nodes final
+  placing st [] final p e = let same : st ≡ final = cc in subst (AreSeated nodes) same p.seated
   placing st (f ∷ fs) final p e = placing-next st f fs final p (λ next q g. placing next fs final q g) (chosen nodes st s f) refl e
 
 are_distinct : List Fragment → Bool
@@ -167,9 +167,9 @@ fragments-distinct Wide = distinct-from (fragments Wide) refl
 
 -- ---- commands
 
-refused-good : (nodes : List NodeInfo) (st : State) (met : Bool) (r : Refusal) (other : Outcome) → IsGood nodes st → (met ≡ false → IsGood nodes other.1) → IsGood nodes (refuse_if met r st other).1
-refused-good nodes st true r other good next = good
-refused-good nodes st false r other good next = next refl
+refused-seated : (nodes : List NodeInfo) (st : State) (met : Bool) (r : Refusal) (other : Outcome) → AreSeated nodes st → (met ≡ false → AreSeated nodes other.1) → AreSeated nodes (refuse_if met r st other).1
+refused-seated nodes st true r other seated next = seated
+refused-seated nodes st false r other seated next = next refl
 
 -- a stripe that is not there is none of the stripes
 pub not_there : (st : State) (s : StripeNo) → has_stripe st s ≡ false → (t : StripeNo) → Contains st.stripes t → t ≢ s
@@ -179,62 +179,62 @@ not_there st s e t here same =
 
 module _ (nodes : List NodeInfo) (known : AreNodes nodes) (st : State) (s : StripeNo) where
   -- a stripe that was not there, with no homes yet
-  pub stripe-good : (code : Code) → IsGood nodes st → has_stripe st s ≡ false → IsGood nodes (with_stripe st code s)
-  stripe-good Wide good e = record {
-    stripes = pairs-push (λ s t. s ≢ t) st.stripes s good.stripes (All-members (λ t. t ≢ s) st.stripes (not_there st s e));
-    single = good.single;
-    standing = good.standing;
-    lawful = good.lawful;
-    one_home = good.one_home;
-    there = All-weaker (λ h. Contains st.stripes h.stripe) (λ h. Contains (st.stripes ++ s ∷ []) h.stripe) (λ h here. Contains-append_left st.stripes (s ∷ []) h.stripe here) st.homes good.there;
-    reachable = good.reachable;
+  pub stripe-seated : (code : Code) → AreSeated nodes st → has_stripe st s ≡ false → AreSeated nodes (with_stripe st code s)
+  stripe-seated Wide seated e = record {
+    stripes = pairs-push (λ s t. s ≢ t) st.stripes s seated.stripes (All-members (λ t. t ≢ s) st.stripes (not_there st s e));
+    single = seated.single;
+    standing = seated.standing;
+    lawful = seated.lawful;
+    one_home = seated.one_home;
+    there = All-weaker (λ h. Contains st.stripes h.stripe) (λ h. Contains (st.stripes ++ s ∷ []) h.stripe) (λ h here. Contains-append_left st.stripes (s ∷ []) h.stripe here) st.homes seated.there;
+    reachable = seated.reachable;
   }
 
-  pub stripe-placing : (code : Code) → IsGood nodes st → has_stripe st s ≡ false → IsPlacing nodes s (with_stripe st code s) (fragments (code_of (with_stripe st code s) s))
-  stripe-placing Wide good e = record {
-    good = stripe-good Wide good e;
+  pub stripe-placing : (code : Code) → AreSeated nodes st → has_stripe st s ≡ false → IsPlacing nodes s (with_stripe st code s) (fragments (code_of (with_stripe st code s) s))
+  stripe-placing Wide seated e = record {
+    seated = stripe-seated Wide seated e;
     there = Contains-push st.stripes s;
     distinct = fragments-distinct (code_of (with_stripe st Wide s) s);
     absent = All-members (HasNone s st.homes) (fragments (code_of (with_stripe st Wide s) s))
-        (λ f here. All-weaker (λ h. Contains st.stripes h.stripe) (λ h. h.stripe ≡ s → h.fragment ≢ f) (λ h there stripe. absurd (not_there st s e h.stripe there stripe)) st.homes good.there);
+        (λ f here. All-weaker (λ h. Contains st.stripes h.stripe) (λ h. h.stripe ≡ s → h.fragment ≢ f) (λ h there stripe. absurd (not_there st s e h.stripe there stripe)) st.homes seated.there);
   }
 
   -- all fragments of a new stripe placed
-  pub placed-good : (code : Code) (final : State) → IsGood nodes st → has_stripe st s ≡ false → placed nodes (with_stripe st code s) s ≡ Ok final → IsGood nodes final
+  pub placed-seated : (code : Code) (final : State) → AreSeated nodes st → has_stripe st s ≡ false → placed nodes (with_stripe st code s) s ≡ Ok final → AreSeated nodes final
   unfolding placed
-  placed-good code final good e done = placing nodes known s (with_stripe st code s) (fragments (code_of (with_stripe st code s) s)) final (stripe-placing code good e) done
+  placed-seated code final seated e done = placing nodes known s (with_stripe st code s) (fragments (code_of (with_stripe st code s) s)) final (stripe-placing code seated e) done
 
-  answer-good : (code : Code) (r : Result State Fragment) → IsGood nodes st → has_stripe st s ≡ false → placed nodes (with_stripe st code s) s ≡ r → IsGood nodes (place_answer st s r).1
-  answer-good code (Ok final) good e done = placed-good code final good e done
-  answer-good code (Err f) good e done = good
+  answer-seated : (code : Code) (r : Result State Fragment) → AreSeated nodes st → has_stripe st s ≡ false → placed nodes (with_stripe st code s) s ≡ r → AreSeated nodes (place_answer st s r).1
+  answer-seated code (Ok final) seated e done = placed-seated code final seated e done
+  answer-seated code (Err f) seated e done = seated
 
-  pub place-good : (code : Code) → IsGood nodes st → IsGood nodes (place_outcome nodes st code s).1
+  pub place-seated : (code : Code) → AreSeated nodes st → AreSeated nodes (place_outcome nodes st code s).1
   unfolding place_outcome
-  place-good code good =
-      refused-good nodes st (has_stripe st s) refusal.StripeExists (place_answer st s (placed nodes (with_stripe st code s) s)) good
-      (λ e. answer-good code (placed nodes (with_stripe st code s) s) good e refl)
+  place-seated code seated =
+      refused-seated nodes st (has_stripe st s) refusal.StripeExists (place_answer st s (placed nodes (with_stripe st code s) s)) seated
+      (λ e. answer-seated code (placed nodes (with_stripe st code s) s) seated e refl)
 
   -- the stripe and its homes taken out
-  pub without-good : IsGood nodes st → IsGood nodes (without_stripe st s)
-  without-good good =
+  pub without-seated : AreSeated nodes st → AreSeated nodes (without_stripe st s)
+  without-seated seated =
       let kept = λ (h : Held). is_other s h.stripe in
       record {
-        stripes = AllPairs-filter (λ s t. s ≢ t) (is_other s) st.stripes good.stripes;
+        stripes = AllPairs-filter (λ s t. s ≢ t) (is_other s) st.stripes seated.stripes;
         single = pairs-map (λ a b. a ≢ b) (λ (h : Held). h.seat) (filter kept st.homes)
-            (AllPairs-filter (λ h g. h.seat ≢ g.seat) kept st.homes (pairs-unmap (λ a b. a ≢ b) (λ (h : Held). h.seat) st.homes good.single));
+            (AllPairs-filter (λ h g. h.seat ≢ g.seat) kept st.homes (pairs-unmap (λ a b. a ≢ b) (λ (h : Held). h.seat) st.homes seated.single));
         standing = All-map (IsStanding nodes st) (λ (h : Held). h.seat) (filter kept st.homes)
-            (All-filter kept (λ h. IsStanding nodes st h.seat) st.homes (All-unmap (IsStanding nodes st) (λ (h : Held). h.seat) st.homes good.standing));
-        lawful = AllPairs-filter (KeepApart nodes st) kept st.homes good.lawful;
-        one_home = AllPairs-filter (λ h g. h.stripe ≡ g.stripe → h.fragment ≢ g.fragment) kept st.homes good.one_home;
+            (All-filter kept (λ h. IsStanding nodes st h.seat) st.homes (All-unmap (IsStanding nodes st) (λ (h : Held). h.seat) st.homes seated.standing));
+        lawful = AllPairs-filter (KeepApart nodes st) kept st.homes seated.lawful;
+        one_home = AllPairs-filter (λ h g. h.stripe ≡ g.stripe → h.fragment ≢ g.fragment) kept st.homes seated.one_home;
         there = All-members (λ h. Contains (filter (is_other s) st.stripes) h.stripe) (filter kept st.homes)
             (λ h here. let m = filter-member kept st.homes h here in
-            member-filter (is_other s) st.stripes h.stripe (All-contains (λ g. Contains st.stripes g.stripe) st.homes h good.there m.0) m.1);
-        reachable = good.reachable;
+            member-filter (is_other s) st.stripes h.stripe (All-contains (λ g. Contains st.stripes g.stripe) st.homes h seated.there m.0) m.1);
+        reachable = seated.reachable;
       }
 
-  pub drop-good : IsGood nodes st → IsGood nodes (drop_outcome st s).1
+  pub drop-seated : AreSeated nodes st → AreSeated nodes (drop_outcome st s).1
   unfolding drop_outcome
-  drop-good good = refused-good nodes st (not (has_stripe st s)) refusal.UnknownStripe (Dropped, without_stripe st s) good (λ e. without-good good)
+  drop-seated seated = refused-seated nodes st (not (has_stripe st s)) refusal.UnknownStripe (Dropped, without_stripe st s) seated (λ e. without-seated seated)
 
 -- ---- nodes
 
@@ -267,51 +267,51 @@ fewer-numbers numbers n m miss =
     list_any-All (λ (k : NodeNo). eqb m.value k.value) (without_number numbers n)
     (All-filter (λ (k : NodeNo). not (eqb n.value k.value)) (λ k. eqb m.value k.value ≡ false) numbers (All-list_any (λ (k : NodeNo). eqb m.value k.value) numbers miss))
 
--- a change of modes leaves a good state, where no seat's node is gone afterwards, and no node that is down
-modes-good : (nodes : List NodeInfo) (st : State) (gone down : List NodeNo) → IsGood nodes st
+-- a change of modes leaves the stripes seated, where no seat's node is gone afterwards, and no node that is down
+modes-seated : (nodes : List NodeInfo) (st : State) (gone down : List NodeNo) → AreSeated nodes st
     → ((seat : Seat) → Contains (taken_seats st) seat → has_number gone seat.node ≡ false) → ((m : NodeNo) → Contains down m → has_number gone m ≡ false)
-    → IsGood nodes (record st { gone = gone; down = down })
-modes-good nodes st gone down good present reachable =
+    → AreSeated nodes (record st { gone = gone; down = down })
+modes-seated nodes st gone down seated present reachable =
     let st' = record st { gone = gone; down = down } in
     record {
-      stripes = good.stripes;
-      single = good.single;
+      stripes = seated.stripes;
+      single = seated.single;
       standing = All-members (IsStanding nodes st') (taken_seats st) (λ seat here.
-          let standing = All-contains (IsStanding nodes st) (taken_seats st) seat good.standing here in
+          let standing = All-contains (IsStanding nodes st) (taken_seats st) seat seated.standing here in
           standing-by nodes (node_at nodes seat.node) seat.slot (mode_of st seat.node ≢ Gone) (mode_of st' seat.node ≢ Gone) standing (not_gone gone seat.node (present seat here)));
-      lawful = good.lawful;
-      one_home = good.one_home;
-      there = good.there;
+      lawful = seated.lawful;
+      one_home = seated.one_home;
+      there = seated.there;
       reachable = All-members (λ m. mode_of st' m ≢ Gone) down (λ m here. not_gone gone m (reachable m here));
     }
 
 module _ (nodes : List NodeInfo) (st : State) (n : NodeNo) where
-  changed-good : (wrong : Bool) (changed : State) → IsGood nodes st → (wrong ≡ false → IsGood nodes changed) → IsGood nodes (node_outcome nodes st n wrong changed).1
-  changed-good wrong changed good next =
-      refused-good nodes st (is_none (node_at nodes n)) refusal.UnknownNode (refuse_if wrong refusal.WrongMode st (Changed, changed)) good
-      (λ known. refused-good nodes st wrong refusal.WrongMode (Changed, changed) good next)
+  changed-seated : (wrong : Bool) (changed : State) → AreSeated nodes st → (wrong ≡ false → AreSeated nodes changed) → AreSeated nodes (node_outcome nodes st n wrong changed).1
+  changed-seated wrong changed seated next =
+      refused-seated nodes st (is_none (node_at nodes n)) refusal.UnknownNode (refuse_if wrong refusal.WrongMode st (Changed, changed)) seated
+      (λ known. refused-seated nodes st wrong refusal.WrongMode (Changed, changed) seated next)
 
   -- some homes taken out
-  pub kept-good : (kept : Held → Bool) → IsGood nodes st → IsGood nodes (record st { homes = filter kept st.homes })
-  kept-good kept good = record {
-    stripes = good.stripes;
+  pub kept-seated : (kept : Held → Bool) → AreSeated nodes st → AreSeated nodes (record st { homes = filter kept st.homes })
+  kept-seated kept seated = record {
+    stripes = seated.stripes;
     single = pairs-map (λ a b. a ≢ b) (λ (h : Held). h.seat) (filter kept st.homes)
-        (AllPairs-filter (λ h g. h.seat ≢ g.seat) kept st.homes (pairs-unmap (λ a b. a ≢ b) (λ (h : Held). h.seat) st.homes good.single));
+        (AllPairs-filter (λ h g. h.seat ≢ g.seat) kept st.homes (pairs-unmap (λ a b. a ≢ b) (λ (h : Held). h.seat) st.homes seated.single));
     standing = All-map (IsStanding nodes st) (λ (h : Held). h.seat) (filter kept st.homes)
-        (All-filter kept (λ h. IsStanding nodes st h.seat) st.homes (All-unmap (IsStanding nodes st) (λ (h : Held). h.seat) st.homes good.standing));
-    lawful = AllPairs-filter (KeepApart nodes st) kept st.homes good.lawful;
-    one_home = AllPairs-filter (λ h g. h.stripe ≡ g.stripe → h.fragment ≢ g.fragment) kept st.homes good.one_home;
-    there = All-filter kept (λ h. Contains st.stripes h.stripe) st.homes good.there;
-    reachable = good.reachable;
+        (All-filter kept (λ h. IsStanding nodes st h.seat) st.homes (All-unmap (IsStanding nodes st) (λ (h : Held). h.seat) st.homes seated.standing));
+    lawful = AllPairs-filter (KeepApart nodes st) kept st.homes seated.lawful;
+    one_home = AllPairs-filter (λ h g. h.stripe ≡ g.stripe → h.fragment ≢ g.fragment) kept st.homes seated.one_home;
+    there = All-filter kept (λ h. Contains st.stripes h.stripe) st.homes seated.there;
+    reachable = seated.reachable;
   }
 
   -- a seat's node is not gone
-  pub seat-present : IsGood nodes st → (seat : Seat) → Contains (taken_seats st) seat → has_number st.gone seat.node ≡ false
-  seat-present good seat here = gone-number st seat.node (standing-present nodes st seat (All-contains (IsStanding nodes st) (taken_seats st) seat good.standing here))
+  pub seat-present : AreSeated nodes st → (seat : Seat) → Contains (taken_seats st) seat → has_number st.gone seat.node ≡ false
+  seat-present seated seat here = gone-number st seat.node (standing-present nodes st seat (All-contains (IsStanding nodes st) (taken_seats st) seat seated.standing here))
 
   -- nor is a node that is down
-  pub down-present : IsGood nodes st → (m : NodeNo) → Contains st.down m → has_number st.gone m ≡ false
-  down-present good m here = gone-number st m (All-contains (λ k. mode_of st k ≢ Gone) st.down m good.reachable here)
+  pub down-present : AreSeated nodes st → (m : NodeNo) → Contains st.down m → has_number st.gone m ≡ false
+  down-present seated m here = gone-number st m (All-contains (λ k. mode_of st k ≢ Gone) st.down m seated.reachable here)
 
   -- the numbers that are left of a list are others, and stood in it
   left-number : (numbers : List NodeNo) (m : NodeNo) → Contains (without_number numbers n) m → Contains numbers m × (eqb n.value m.value ≡ false)
@@ -329,53 +329,53 @@ module _ (nodes : List NodeInfo) (st : State) (n : NodeNo) where
       rw (list_any-append (λ (k : NodeNo). eqb m.value k.value) st.gone (n ∷ []), miss, other) refl
 
   -- a node that is gone, with the homes on it
-  pub with_gone-good : IsGood nodes st → IsGood nodes (with_gone (emptied st n) n)
-  with_gone-good good =
-      let left = kept-good (λ h. not (stands_on n h)) good in
-      modes-good nodes (emptied st n) (st.gone ++ n ∷ []) (without_number st.down n) left
+  pub with_gone-seated : AreSeated nodes st → AreSeated nodes (with_gone (emptied st n) n)
+  with_gone-seated seated =
+      let left = kept-seated (λ h. not (stands_on n h)) seated in
+      modes-seated nodes (emptied st n) (st.gone ++ n ∷ []) (without_number st.down n) left
       (λ seat here. other-number seat.node (All-contains (λ (a : Seat). eqb n.value a.node.value ≡ false) (taken_seats (emptied st n)) seat emptied-apart here)
       (gone-number (emptied st n) seat.node (standing-present nodes (emptied st n) seat (All-contains (IsStanding nodes (emptied st n)) (taken_seats (emptied st n)) seat left.standing here))))
-      (λ m here. let parts = left-number st.down m here in other-number m parts.1 (down-present good m parts.0))
+      (λ m here. let parts = left-number st.down m here in other-number m parts.1 (down-present seated m parts.0))
 
   -- a node that is down, and was not gone
-  pub with_down-good : IsGood nodes st → is_gone (mode_of st n) ≡ false → IsGood nodes (with_down st n)
-  with_down-good good active =
-      modes-good nodes st st.gone (st.down ++ n ∷ []) good (seat-present good) (λ m here. elim (Contains-push_cases st.down n m here) [
-        | inl old ↦ down-present good m old
+  pub with_down-seated : AreSeated nodes st → is_gone (mode_of st n) ≡ false → AreSeated nodes (with_down st n)
+  with_down-seated seated active =
+      modes-seated nodes st st.gone (st.down ++ n ∷ []) seated (seat-present seated) (λ m here. elim (Contains-push_cases st.down n m here) [
+        | inl old ↦ down-present seated m old
         | inr new ↦ subst (λ k. has_number st.gone k ≡ false) new (active-number st n active)
       ])
 
   -- a node that is down no longer
-  pub without_down-good : IsGood nodes st → IsGood nodes (without_down st n)
-  without_down-good good = modes-good nodes st st.gone (without_number st.down n) good (seat-present good) (λ m here. down-present good m (left-number st.down m here).0)
+  pub without_down-seated : AreSeated nodes st → AreSeated nodes (without_down st n)
+  without_down-seated seated = modes-seated nodes st st.gone (without_number st.down n) seated (seat-present seated) (λ m here. down-present seated m (left-number st.down m here).0)
 
   -- a node that is gone no longer
-  pub without_gone-good : IsGood nodes st → IsGood nodes (without_gone st n)
-  without_gone-good good =
-      modes-good nodes st (without_number st.gone n) st.down good (λ seat here. fewer-numbers st.gone n seat.node (seat-present good seat here))
-      (λ m here. fewer-numbers st.gone n m (down-present good m here))
+  pub without_gone-seated : AreSeated nodes st → AreSeated nodes (without_gone st n)
+  without_gone-seated seated =
+      modes-seated nodes st (without_number st.gone n) st.down seated (λ seat here. fewer-numbers st.gone n seat.node (seat-present seated seat here))
+      (λ m here. fewer-numbers st.gone n m (down-present seated m here))
 
-  pub fail-good : IsGood nodes st → IsGood nodes (fail_outcome nodes st n).1
+  pub fail-seated : AreSeated nodes st → AreSeated nodes (fail_outcome nodes st n).1
   unfolding fail_outcome
-  fail-good good = changed-good (is_gone (mode_of st n)) (with_gone (emptied st n) n) good (λ right. with_gone-good good)
+  fail-seated seated = changed-seated (is_gone (mode_of st n)) (with_gone (emptied st n) n) seated (λ right. with_gone-seated seated)
 
-  pub down-good : IsGood nodes st → IsGood nodes (down_outcome nodes st n).1
+  pub down-seated : AreSeated nodes st → AreSeated nodes (down_outcome nodes st n).1
   unfolding down_outcome
-  down-good good =
-      changed-good (is_gone (mode_of st n) || is_down st n) (with_down st n) good (λ right. with_down-good good (or_parts (is_gone (mode_of st n)) (is_down st n) right).0)
+  down-seated seated =
+      changed-seated (is_gone (mode_of st n) || is_down st n) (with_down st n) seated (λ right. with_down-seated seated (or_parts (is_gone (mode_of st n)) (is_down st n) right).0)
 
-  pub up-good : IsGood nodes st → IsGood nodes (up_outcome nodes st n).1
+  pub up-seated : AreSeated nodes st → AreSeated nodes (up_outcome nodes st n).1
   unfolding up_outcome
-  up-good good = changed-good _ (without_down st n) good (λ right. without_down-good good)
+  up-seated seated = changed-seated _ (without_down st n) seated (λ right. without_down-seated seated)
 
-  pub join-good : IsGood nodes st → IsGood nodes (join_outcome nodes st n).1
+  pub join-seated : AreSeated nodes st → AreSeated nodes (join_outcome nodes st n).1
   unfolding join_outcome
-  join-good good = changed-good _ (without_gone st n) good (λ right. without_gone-good good)
+  join-seated seated = changed-seated _ (without_gone st n) seated (λ right. without_gone-seated seated)
 
 -- ---- histories
 
-pub opening-good : (nodes : List NodeInfo) → IsGood nodes opening
-opening-good nodes = record {
+pub opening-seated : (nodes : List NodeInfo) → AreSeated nodes opening
+opening-seated nodes = record {
   stripes = λ i j d below within. absurd (omega arith);
   single = λ i j d below within. absurd (omega arith);
   standing = All-nil (IsStanding nodes opening);
@@ -385,19 +385,23 @@ opening-good nodes = record {
   reachable = All-nil (λ n. mode_of opening n ≢ Gone);
 }
 
--- Each command leaves a good state.
-pub step-good : (nodes : List NodeInfo) → AreNodes nodes → (past : List Entry) (st : State) (session : SessionNo) (command : Command) → IsGood nodes st → IsGood nodes (step nodes past st session command).1
-step-good nodes known past st session (Place s) good = place-good nodes known st s Wide good
-step-good nodes known past st session (Drop s) good = drop-good nodes known st s good
-step-good nodes known past st session (Fail n) good = fail-good nodes st n good
-step-good nodes known past st session (Down n) good = down-good nodes st n good
-step-good nodes known past st session (Up n) good = up-good nodes st n good
-step-good nodes known past st session (Join n) good = join-good nodes st n good
+-- Each command leaves the stripes seated.
+pub step-seated : (nodes : List NodeInfo) → AreNodes nodes → (past : List Entry) (st : State) (session : SessionNo) (command : Command) → AreSeated nodes st → AreSeated nodes (step nodes past st session command).1
+step-seated nodes known past st session (Place s) seated = place-seated nodes known st s Wide seated
+step-seated nodes known past st session (Drop s) seated = drop-seated nodes known st s seated
+step-seated nodes known past st session (Fail n) seated = fail-seated nodes st n seated
+step-seated nodes known past st session (Down n) seated = down-seated nodes st n seated
+step-seated nodes known past st session (Up n) seated = up-seated nodes st n seated
+step-seated nodes known past st session (Join n) seated = join-seated nodes st n seated
 
 -- and so does each list of entries
-pub worlds-good : (nodes : List NodeInfo) → AreNodes nodes → (w : World) (history : List Entry) → IsGood nodes w.state → IsGood nodes (fold (next_world nodes) w history).state
-worlds-good nodes known w [] good = good
-worlds-good nodes known w (e ∷ es) good = worlds-good nodes known (next_world nodes w e) es (step-good nodes known w.past w.state e.session e.command good)
+pub worlds-seated : (nodes : List NodeInfo) → AreNodes nodes → (w : World) (history : List Entry) → AreSeated nodes w.state → AreSeated nodes (fold (next_world nodes) w history).state
+worlds-seated nodes known w [] seated = seated
+worlds-seated nodes known w (e ∷ es) seated = worlds-seated nodes known (next_world nodes w e) es (step-seated nodes known w.past w.state e.session e.command seated)
 
-pub state_after-good : (nodes : List NodeInfo) → AreNodes nodes → (history : List Entry) → IsGood nodes (state_after nodes history)
-state_after-good nodes known history = worlds-good nodes known first_world history (opening-good nodes)
+pub state_after-seated : (nodes : List NodeInfo) → AreNodes nodes → (history : List Entry) → AreSeated nodes (state_after nodes history)
+state_after-seated nodes known history = worlds-seated nodes known first_world history (opening-seated nodes)
+
+-- After each history the state is good.
+pub state_after-good : (nodes : List NodeInfo) → AreNodes nodes → (history : List Entry) → IsGood nodes history (state_after nodes history)
+state_after-good nodes known history = record { seated = state_after-seated nodes known history }
