@@ -12,7 +12,7 @@ use Rattle.lrc_code.specs.declared.numbers.FaultNo.{FaultNo}
 use Rattle.lrc_code.specs.declared.numbers.UpgradeNo.{UpgradeNo}
 use Rattle.lrc_code.specs.declared.numbers.Fragment.{Fragment}
 use Rattle.lrc_code.specs.Codes.{fragments}
-use Rattle.lrc_code.proofs.NumbersLemmas.{same_fragment}
+use Rattle.lrc_code.proofs.NumbersLemmas.{equal_fragments}
 use Rattle.lrc_topology.specs.declared.NodeInfo.{NodeInfo}
 use Rattle.lrc_topology.specs.declared.seat.Seat.{Seat}
 use Rattle.lrc_topology.specs.declared.seat.Held.{Held}
@@ -77,7 +77,7 @@ held_at-beside s f [] seats other = All-nil (λ h. is_beside s f h ≡ true)
 held_at-beside s f (g ∷ gs) [] other = All-nil (λ h. is_beside s f h ≡ true)
 held_at-beside s f (g ∷ gs) (a ∷ as') other =
     All-cons (λ h. is_beside s f h ≡ true) (record { stripe = s; fragment = g; seat = a }) (held_at s gs as')
-    (rw (eq-eqb s.value s.value refl, ne_eqb g.value f.value (λ same. All-head (λ g. g ≢ f) g gs other (same_fragment g f same))) refl)
+    (rw (eq-eqb s.value s.value refl, ne_eqb g.value f.value (λ same. All-head (λ g. g ≢ f) g gs other (equal_fragments g f same))) refl)
     (held_at-beside s f gs as' (All-tail (λ g. g ≢ f) g gs other))
 
 -- the fragments before one are others

@@ -15,12 +15,12 @@ use Rattle.lrc_code.specs.declared.numbers.NodeNo.{NodeNo}
 use Rattle.lrc_code.specs.declared.numbers.FaultNo.{FaultNo}
 use Rattle.lrc_code.specs.declared.numbers.UpgradeNo.{UpgradeNo}
 use Rattle.lrc_code.specs.Codes.{class_of, same_class}
-use Rattle.lrc_code.proofs.NumbersLemmas.{same_fragment}
+use Rattle.lrc_code.proofs.NumbersLemmas.{equal_fragments}
 use Rattle.lrc_topology.specs.declared.NodeInfo.{NodeInfo}
 use Rattle.lrc_topology.specs.declared.seat.Seat.{Seat}
 use Rattle.lrc_topology.specs.declared.seat.Held.{Held}
 use Rattle.lrc_topology.specs.Nodes.{AreNodes, node_at}
-use Rattle.lrc_topology.specs.Seats.{free_slot, free_seat, is_lighter, is_taken}
+use Rattle.lrc_topology.specs.Seats.{free_slot, free_seat, is_preferred, is_taken}
 use Rattle.lrc_book.specs.declared.mode.Mode.{Mode}
 use Rattle.lrc_book.specs.declared.mode.Mode.TheVariants.{Active, Gone}
 use Rattle.lrc_book.specs.States.{mode_of, is_active, is_online, takes_seats, State, code_of, seats_of, taken_seats, is_eligible}
@@ -94,7 +94,7 @@ module _ (nodes : List NodeInfo) (st : State) (s : StripeNo) (f : Fragment) (n :
   pub bars-apart : (h : Held) → bars nodes st s f n h ≡ false → IsApartFrom nodes st s f n h
   bars-apart h e stripe fragment =
       let here = eq-eqb h.stripe.value s.value (ap (λ (x : StripeNo). x.value) stripe) in
-      let other = ne_eqb h.fragment.value f.value (λ same. fragment (same_fragment h.fragment f same)) in
+      let other = ne_eqb h.fragment.value f.value (λ same. fragment (equal_fragments h.fragment f same)) in
       unclashed (code_of st s) f h.fragment n (node_at nodes h.seat.node) (rw (here, other) at e)
 
   pub apart-bars : (h : Held) → IsApartFrom nodes st s f n h → bars nodes st s f n h ≡ false
@@ -164,18 +164,18 @@ module _ (nodes : List NodeInfo) (st : State) (s : StripeNo) (f : Fragment) (n :
 module _ (nodes : List NodeInfo) (st : State) (s : StripeNo) (f : Fragment) where
   pub node-fits : (n : NodeInfo) → chosen_node nodes st s f ≡ Some n → IsFitting nodes st s f n
   node-fits n e =
-      let m = filter-member (fits nodes st s f) nodes n (least-listed (is_lighter (taken_seats st)) n (filter (fits nodes st s f) nodes) e) in
+      let m = filter-member (fits nodes st s f) nodes n (least-listed (is_preferred (taken_seats st)) n (filter (fits nodes st s f) nodes) e) in
       fits-words nodes st s f n m.0 m.1
 
-  not_before : (n m : NodeInfo) → chosen_node nodes st s f ≡ Some n → IsFitting nodes st s f m → is_lighter (taken_seats st) m n ≡ false
+  not_before : (n m : NodeInfo) → chosen_node nodes st s f ≡ Some n → IsFitting nodes st s f m → is_preferred (taken_seats st) m n ≡ false
   not_before n m e fitting =
-      All-contains (λ y. is_lighter (taken_seats st) y n ≡ false) (filter (fits nodes st s f) nodes) m
-      (least-none_before (is_lighter (taken_seats st)) (lighter-order (taken_seats st)) n (filter (fits nodes st s f) nodes) e)
+      All-contains (λ y. is_preferred (taken_seats st) y n ≡ false) (filter (fits nodes st s f) nodes) m
+      (least-none_before (is_preferred (taken_seats st)) (lighter-order (taken_seats st)) n (filter (fits nodes st s f) nodes) e)
       (member-filter (fits nodes st s f) nodes m fitting.known (words-fits nodes st s f m fitting))
 
   none-fits : chosen_node nodes st s f ≡ None → (n : NodeInfo) → IsFitting nodes st s f n → ⊥
   none-fits e n fitting =
-      not-Contains-nil n (subst (λ xs. Contains xs n) ((least-none (is_lighter (taken_seats st)) (filter (fits nodes st s f) nodes)).0 e)
+      not-Contains-nil n (subst (λ xs. Contains xs n) ((least-none (is_preferred (taken_seats st)) (filter (fits nodes st s f) nodes)).0 e)
       (member-filter (fits nodes st s f) nodes n fitting.known (words-fits nodes st s f n fitting)))
 
   on-slot : (seat : Seat) (n : NodeInfo) (o : Option ℕ) → AreNodes nodes → chosen_node nodes st s f ≡ Some n → free_slot (taken_seats st) n ≡ o → option_map (seat_on n.number) o ≡ Some seat → IsChoice nodes st s f seat

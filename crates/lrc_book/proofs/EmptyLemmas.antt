@@ -9,7 +9,7 @@ use Rattle.std.proofs.lemmas.List.Sums.{sum_by-cons}
 use Rattle.lrc_code.specs.declared.numbers.StripeNo.{StripeNo}
 use Rattle.lrc_code.specs.declared.numbers.NodeNo.{NodeNo}
 use Rattle.lrc_code.specs.declared.numbers.Fragment.{Fragment}
-use Rattle.lrc_code.proofs.NumbersLemmas.{same_fragment}
+use Rattle.lrc_code.proofs.NumbersLemmas.{equal_fragments}
 use Rattle.lrc_topology.specs.declared.NodeInfo.{NodeInfo}
 use Rattle.lrc_topology.specs.declared.seat.Seat.{Seat}
 use Rattle.lrc_topology.specs.declared.seat.Held.{Held}
@@ -136,7 +136,7 @@ module _ (nodes : List NodeInfo) (st : State) (s : StripeNo) (f : Fragment) (h :
           | inl again ↦
               let more = and_parts (eqb g.stripe.value s.value) (eqb g.fragment.value f.value) again in
               absurd (other (same_stripe x.stripe g.stripe (eqb-true x.stripe.value s.value parts.0 ∙ sym (eqb-true g.stripe.value s.value more.0)))
-              (same_fragment x.fragment g.fragment (eqb-true x.fragment.value f.value parts.1 ∙ sym (eqb-true g.fragment.value f.value more.1))))
+              (equal_fragments x.fragment g.fragment (eqb-true x.fragment.value f.value parts.1 ∙ sym (eqb-true g.fragment.value f.value more.1))))
         ]) xs (AllPairs-head (λ (g k : Held). g.stripe ≡ k.stripe → g.fragment ≢ k.fragment) x xs once) in
         rw (hit, filter-nothing (λ g. not (kept g)) xs others) (ap (λ g. g ∷ []) (same_Some x h first))
     | inr miss ↦ rw miss (alone-in xs (AllPairs-tail (λ (g k : Held). g.stripe ≡ k.stripe → g.fragment ≢ k.fragment) x xs once) (rw miss at e))

@@ -13,7 +13,7 @@ use Rattle.lrc_code.specs.declared.numbers.StripeNo.{StripeNo}
 use Rattle.lrc_code.specs.declared.numbers.NodeNo.{NodeNo}
 use Rattle.lrc_code.specs.declared.numbers.Fragment.{Fragment}
 use Rattle.lrc_code.specs.Codes.{fragments}
-use Rattle.lrc_code.proofs.NumbersLemmas.{same_fragment}
+use Rattle.lrc_code.proofs.NumbersLemmas.{equal_fragments}
 use Rattle.lrc_topology.specs.declared.seat.Seat.{Seat}
 use Rattle.lrc_topology.specs.declared.seat.Held.{Held}
 use Rattle.lrc_topology.specs.Seats.{is_taken}
@@ -96,7 +96,7 @@ home-found : (homes : List Held) (s : StripeNo) (f : Fragment) (h : Held) → ho
 home-found homes s f h e =
     let m = find-member (is_home s f.value) homes h e in
     let parts = and_parts (eqb h.stripe.value s.value) (eqb h.fragment.value f.value) m.1 in
-    (m.0, ap₂ (λ (t : StripeNo) (g : Fragment). held_on t g h.seat) (same_stripe h.stripe s (eqb-true _ _ parts.0)) (same_fragment h.fragment f (eqb-true _ _ parts.1)))
+    (m.0, ap₂ (λ (t : StripeNo) (g : Fragment). held_on t g h.seat) (same_stripe h.stripe s (eqb-true _ _ parts.0)) (equal_fragments h.fragment f (eqb-true _ _ parts.1)))
 
 -- where each fragment has one home at most, each home is the one that is found
 pub home-only : (homes : List Held) → AllPairs (λ h g. h.stripe ≡ g.stripe → h.fragment ≢ g.fragment) homes → (h : Held) → Contains homes h → home_of homes h.stripe h.fragment.value ≡ Some h
@@ -108,7 +108,7 @@ home-only (x ∷ xs) single h here = elim (Contains-cases x h xs here) [
       elim (cases_Bool (is_home h.stripe h.fragment.value x)) [
         | inl hit ↦
             let parts = and_parts (eqb x.stripe.value h.stripe.value) (eqb x.fragment.value h.fragment.value) hit in
-            absurd (apart (same_stripe x.stripe h.stripe (eqb-true _ _ parts.0)) (same_fragment x.fragment h.fragment (eqb-true _ _ parts.1)))
+            absurd (apart (same_stripe x.stripe h.stripe (eqb-true _ _ parts.0)) (equal_fragments x.fragment h.fragment (eqb-true _ _ parts.1)))
         | inr miss ↦ rw miss (home-only xs (AllPairs-tail (λ h g. h.stripe ≡ g.stripe → h.fragment ≢ g.fragment) x xs single) h more)
       ]
 ]
@@ -120,7 +120,7 @@ all-fragments f =
     let numbers : map (λ (g : Fragment). g.value) (fragments Wide) ≡ range_with_len 0 16 = refl in
     let number : (get_or (fragments Wide) f.value d).value ≡ f.value =
     sym (get_or-map (λ (g : Fragment). g.value) (fragments Wide) f.value d 0 f.in_range) ∙ (ap (λ xs. get_or xs f.value 0) numbers ∙ (get_or-range_with_len 0 16 f.value 0 f.in_range ∙ zero-add f.value)) in
-    (f.value, f.in_range, same_fragment (get_or (fragments Wide) f.value d) f number)
+    (f.value, f.in_range, equal_fragments (get_or (fragments Wide) f.value d) f number)
 
 -- ---- the homes of a stripe
 

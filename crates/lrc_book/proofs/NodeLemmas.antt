@@ -10,7 +10,7 @@ use Rattle.lrc_code.specs.declared.numbers.NodeNo.{NodeNo}
 use Rattle.lrc_topology.specs.declared.NodeInfo.{NodeInfo}
 use Rattle.lrc_topology.specs.declared.seat.Seat.{Seat}
 use Rattle.lrc_topology.specs.Nodes.{AreNodes, node_at}
-use Rattle.lrc_topology.specs.Seats.{load_of, is_taken, first_slot, is_lighter}
+use Rattle.lrc_topology.specs.Seats.{load_of, is_taken, first_slot, is_preferred}
 use Rattle.lrc_book.proofs.MemberLemmas.{Contains-cases, not-Contains-nil, list_any-member, member-list_any, find-member, AllPairs-head, AllPairs-tail}
 
 -- a node is the one that is found by its number
@@ -113,16 +113,16 @@ lex_from a m b n (inr (same, less)) = grind (arith, nat_tests)
 
 module _ (seats : List Seat) where
   -- load and number put nodes in order
-  pub lighter-order : IsStrictWeakOrder (is_lighter seats)
+  pub lighter-order : IsStrictWeakOrder (is_preferred seats)
   lighter-order = record {
     one_way = λ a b. lex_asym (load_of seats a.number) a.number.value (load_of seats b.number) b.number.value;
     chain = λ a b c h k. lex_trans (load_of seats c.number) c.number.value (load_of seats b.number) b.number.value (load_of seats a.number) a.number.value k h;
   }
 
   -- of two nodes with different numbers one comes first
-  pub lighter-total : (a b : NodeInfo) → is_lighter seats b a ≡ false → a.number.value ≢ b.number.value
+  pub lighter-total : (a b : NodeInfo) → is_preferred seats b a ≡ false → a.number.value ≢ b.number.value
       → (load_of seats a.number < load_of seats b.number) ⊎ ((load_of seats a.number ≡ load_of seats b.number) × (a.number.value < b.number.value))
   lighter-total a b h other = lex_total (load_of seats a.number) a.number.value (load_of seats b.number) b.number.value h other
 
-  pub lighter-from : (a b : NodeInfo) → (load_of seats a.number < load_of seats b.number) ⊎ ((load_of seats a.number ≡ load_of seats b.number) × (a.number.value < b.number.value)) → is_lighter seats a b ≡ true
+  pub lighter-from : (a b : NodeInfo) → (load_of seats a.number < load_of seats b.number) ⊎ ((load_of seats a.number ≡ load_of seats b.number) × (a.number.value < b.number.value)) → is_preferred seats a b ≡ true
   lighter-from a b h = lex_from (load_of seats a.number) a.number.value (load_of seats b.number) b.number.value h

@@ -31,7 +31,7 @@ use Rattle.lrc_book.proofs.ListLemmas.{held_at-more}
 use Rattle.lrc_book.proofs.TableLemmas.{table-push}
 use Rattle.lrc_book.proofs.PlanLemmas.{chosen-first_free}
 use Rattle.lrc_book.proofs.StoredLemmas.{stored-stripe, stored-home, stored-apart}
-use Rattle.lrc_code.proofs.NumbersLemmas.{same_fragment}
+use Rattle.lrc_code.proofs.NumbersLemmas.{equal_fragments}
 
 -- the state with the first so many fragments of a new stripe placed
 abbrev pub placed_to : State → StripeNo → List Fragment → List Seat → ℕ → State
@@ -62,7 +62,7 @@ homeless-none [] s f none = refl
 homeless-none (h ∷ hs) s f none = elim (cases_Bool (eqb h.stripe.value s.value && eqb h.fragment.value f.value)) [
   | inl hit ↦
       let parts = and_parts (eqb h.stripe.value s.value) (eqb h.fragment.value f.value) hit in
-      absurd (All-head (λ (x : Held). x.stripe ≡ s → x.fragment ≢ f) h hs none (same_stripe h.stripe s (eqb-true _ _ parts.0)) (same_fragment h.fragment f (eqb-true _ _ parts.1)))
+      absurd (All-head (λ (x : Held). x.stripe ≡ s → x.fragment ≢ f) h hs none (same_stripe h.stripe s (eqb-true _ _ parts.0)) (equal_fragments h.fragment f (eqb-true _ _ parts.1)))
   | inr miss ↦ rw miss (homeless-none hs s f (All-tail (λ (x : Held). x.stripe ≡ s → x.fragment ≢ f) h hs none))
 ]
 

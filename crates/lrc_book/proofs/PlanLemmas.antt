@@ -16,7 +16,7 @@ use Rattle.lrc_topology.specs.declared.NodeInfo.{NodeInfo}
 use Rattle.lrc_topology.specs.declared.seat.Seat.{Seat}
 use Rattle.lrc_topology.specs.declared.seat.Held.{Held}
 use Rattle.lrc_topology.specs.Nodes.{AreNodes, node_at}
-use Rattle.lrc_topology.specs.Seats.{load_of, is_taken, first_slot, free_seat, is_lighter}
+use Rattle.lrc_topology.specs.Seats.{load_of, is_taken, first_slot, free_seat, is_preferred}
 use Rattle.lrc_slots.specs.Slots.{least_free, least_free_at}
 use Rattle.lrc_slots.specs.Next.{may_take, is_chosen_before, next_node}
 use Rattle.lrc_book.specs.States.{State, has_stripe, taken_seats, takes_seats, is_eligible}
@@ -143,7 +143,7 @@ module _ (nodes : List NodeInfo) (st : State) (new : List Held) (s : StripeNo) (
     pub next-planned : next_node (table_of nodes st) (bars_of nodes (with_homes st new) s f) ≡ chosen_node nodes (with_homes st new) s f
     next-planned =
         ap (λ xs. least (is_chosen_before (table_of nodes st)) xs) may_take-planned
-        ∙ least-agree (is_chosen_before (table_of nodes st)) (is_lighter (taken_seats (with_homes st new)))
+        ∙ least-agree (is_chosen_before (table_of nodes st)) (is_preferred (taken_seats (with_homes st new)))
         (λ x. count_by (is_taken (taken_seats st) x.number) (range_with_len 0 x.slots) ≡ load_of (taken_seats (with_homes st new)) x.number)
         (λ x y p q. rw (p, q) refl) (filter (fits nodes (with_homes st new) s f) nodes) count-load
 
@@ -152,7 +152,7 @@ module _ (nodes : List NodeInfo) (st : State) (new : List Held) (s : StripeNo) (
         → option_and_then (λ n. option_map (seat_on n) (least_free_at (table_of nodes st) n)) (option_map (λ n. n.number) o) ≡ option_and_then (free_seat (taken_seats (with_homes st new))) o
     seat-planned None e = refl
     seat-planned (Some x) e =
-        let m = filter-member (fits nodes (with_homes st new) s f) nodes x (least-listed (is_lighter (taken_seats (with_homes st new))) x (filter (fits nodes (with_homes st new) s f) nodes) e) in
+        let m = filter-member (fits nodes (with_homes st new) s f) nodes x (least-listed (is_preferred (taken_seats (with_homes st new))) x (filter (fits nodes (with_homes st new) s f) nodes) e) in
         let found = node_at-member nodes known x m.0 in
         let slots = clear-taken x found (clear-fits x m.1) in
         ap (λ o. option_map (seat_on x.number) (option_and_then (least_free (table_of nodes st)) o)) found

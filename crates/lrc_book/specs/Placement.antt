@@ -11,7 +11,7 @@ use Rattle.lrc_topology.specs.declared.NodeInfo.{NodeInfo}
 use Rattle.lrc_topology.specs.declared.seat.Seat.{Seat}
 use Rattle.lrc_topology.specs.declared.seat.Held.{Held}
 use Rattle.lrc_topology.specs.Nodes.{node_at}
-use Rattle.lrc_topology.specs.Seats.{free_seat, is_lighter}
+use Rattle.lrc_topology.specs.Seats.{free_seat, is_preferred}
 use Rattle.lrc_book.specs.States.{State, code_of, seats_of, taken_seats, is_eligible}
 
 -- two fragments of a stripe may not lie on these two nodes: they share a fault domain, or an upgrade domain within a class
@@ -30,7 +30,7 @@ fits nodes st s f n = is_eligible st n && not (list_any (bars nodes st s f n) (s
 
 -- the node that the rule chooses for a fragment: the least by load and number, of those that fit
 abbrev pub chosen_node : List NodeInfo → State → StripeNo → Fragment → Option NodeInfo
-chosen_node nodes st s f = least (is_lighter (taken_seats st)) (filter (fits nodes st s f) nodes)
+chosen_node nodes st s f = least (is_preferred (taken_seats st)) (filter (fits nodes st s f) nodes)
 
 -- the least free slot of that node
 unfoldable pub chosen : List NodeInfo → State → StripeNo → Fragment → Option Seat

@@ -7,8 +7,8 @@ use Rattle.lrc_code.specs.declared.numbers.Fragment.{Fragment}
 one_bound : (n : ℕ) → IsProp (n < 16)
 one_bound n = le_prop
 
-pub same_fragment : (f g : Fragment) → f.value ≡ g.value → f ≡ g
-same_fragment f g e =
+pub equal_fragments : (f g : Fragment) → f.value ≡ g.value → f ≡ g
+equal_fragments f g e =
     subst (λ n. (h : n < 16) → f ≡ fragment n h) e (λ h. ap (fragment f.value) (one_bound f.value f.in_range h)) g.in_range
 
 pub same_fragments : (fs gs : List Fragment) → map (λ f. f.value) fs ≡ map (λ f. f.value) gs → fs ≡ gs
@@ -16,7 +16,7 @@ same_fragments [] [] e = refl
 same_fragments (f ∷ fs) (g ∷ gs) e =
     let here : f.value ≡ g.value = cc in
     let rest : map (λ (x : Fragment). x.value) fs ≡ map (λ (x : Fragment). x.value) gs = cc in
-    let one = same_fragment f g here in
+    let one = equal_fragments f g here in
     let more = same_fragments fs gs rest in
     cc
 same_fragments [] (g ∷ gs) e = absurd (cc)

@@ -12,7 +12,7 @@ use Rattle.lrc_code.specs.declared.numbers.StripeNo.{StripeNo}
 use Rattle.lrc_code.specs.declared.numbers.NodeNo.{NodeNo}
 use Rattle.lrc_code.specs.declared.numbers.Fragment.{Fragment}
 use Rattle.lrc_code.specs.Codes.{fragments}
-use Rattle.lrc_code.proofs.NumbersLemmas.{same_fragment}
+use Rattle.lrc_code.proofs.NumbersLemmas.{equal_fragments}
 use Rattle.lrc_stripes.specs.declared.row.Row.{Row}
 use Rattle.lrc_stripes.specs.Stored.{Place, comes_before, AreHomesOn}
 use Rattle.lrc_stripes.specs.Tables.{Table, seen, sits_on, row_places, places_from, row_at, row_homes, IsRising}
@@ -85,7 +85,7 @@ fragments-rise i j d below within =
 
 -- every fragment is one of all
 fragments-all : (f : Fragment) → Contains (fragments Wide) f
-fragments-all f = subst (Contains (fragments Wide)) (same_fragment _ f (fragment-number f.value f f.in_range)) (Contains-get_or (fragments Wide) f.value f f.in_range)
+fragments-all f = subst (Contains (fragments Wide)) (equal_fragments _ f (fragment-number f.value f f.in_range)) (Contains-get_or (fragments Wide) f.value f f.in_range)
 
 -- ---- the places of one row, and of all
 
