@@ -17,7 +17,7 @@ use Rattle.lrc_topology.specs.Nodes.{AreNodes, node_at}
 use Rattle.lrc_topology.specs.Seats.{load_of, is_taken}
 use Rattle.lrc_slots.specs.Slots.{Slots, with_free, load_at, taken_count}
 use Rattle.lrc_stripes.specs.Levels.{home_of}
-use Rattle.lrc_stripes.specs.Stored.{Stored, Place, AreHomesOn, is_home_on}
+use Rattle.lrc_stripes.specs.Stored.{Stored, StripeFragment, AreHomesOn, is_home_on}
 use Rattle.lrc_stripes.specs.Stored as stored
 use Rattle.lrc_book.specs.States.{State, has_stripe, taken_seats}
 use Rattle.lrc_book.specs.Steps.{stands_on, emptied}
@@ -240,10 +240,10 @@ module _ (nodes : List NodeInfo) (st : State) (n : NodeNo) (spare : ℕ) where
 -- ---- the walk
 
 -- the first of the homes on the node is one
-pub first-on : (t : Stored) (n : NodeNo) (places rest : List Place) (s : StripeNo) (f : Fragment) → AreHomesOn t n places → places ≡ (s, f) ∷ rest
+pub first-on : (t : Stored) (n : NodeNo) (places rest : List StripeFragment) (s : StripeNo) (f : Fragment) → AreHomesOn t n places → places ≡ (s, f) ∷ rest
     → (seat : Seat) × (t.homes s f.value ≡ Some seat) × (eqb n.value seat.node.value ≡ true)
 first-on t n places rest s f on e =
-    let here : Contains places (s, f) = subst (λ (ps : List Place). Contains ps (s, f)) (sym e) (Contains-here (s, f) rest) in
+    let here : Contains places (s, f) = subst (λ (ps : List StripeFragment). Contains ps (s, f)) (sym e) (Contains-here (s, f) rest) in
     by (t.homes s f.value) refl ((on.each (s, f)).0 here)
   where
     by : (o : Option Seat) → t.homes s f.value ≡ o → option_map_or (λ seat. nat_eq n.value seat.node.value) o false ≡ true → (seat : Seat) × (t.homes s f.value ≡ Some seat) × (eqb n.value seat.node.value ≡ true)

@@ -15,7 +15,7 @@ use Rattle.lrc_topology.specs.Nodes.{AreNodes, node_at}
 use Rattle.lrc_slots.specs.Slots.{Slots, least_free_at}
 use Rattle.lrc_slots.specs.Slots as slots
 use Rattle.lrc_stripes.specs.Levels.{home_of}
-use Rattle.lrc_stripes.specs.Stored.{Stored, has_slot, IsFree}
+use Rattle.lrc_stripes.specs.Stored.{Stored, has_slot, HasNoHome}
 use Rattle.lrc_stripes.specs.Stored as stored
 use Rattle.lrc_book.specs.States.{State, has_stripe}
 use Rattle.lrc_book.specs.Placement.{with_home}
@@ -112,8 +112,8 @@ module _ (nodes : List NodeInfo) (known : AreNodes nodes) (st : State) (s : Stri
       ∙ ap (λ (o : Option NodeInfo). option_map_or (λ (n : NodeInfo). nat_lt seat.slot n.slots) o false) (ap (node_at nodes) choice.on ∙ node_at-member nodes known choice.node choice.fitting.known)
       ∙ lt-ltb seat.slot choice.node.slots choice.free.within
 
-  pub seat-free : IsFree stripes seat
-  seat-free = subst (λ (x : Stored). IsFree x seat) (sym p.stripes_is) (stored-apart nodes now stripes.spare seat (choice-new nodes known now s f seat choice))
+  pub seat-free : HasNoHome stripes seat
+  seat-free = subst (λ (x : Stored). HasNoHome x seat) (sym p.stripes_is) (stored-apart nodes now stripes.spare seat (choice-new nodes known now s f seat choice))
 
   -- one more fragment placed
   pub placed-more : IsPlacedTo nodes st s (fragments Wide) seats (i + 1) (slots.with_taken table seat.node (Some seat.slot)) (stored.with_home stripes s f (Some seat))

@@ -17,7 +17,7 @@ use Rattle.lrc_topology.specs.declared.seat.Seat.{Seat}
 use Rattle.lrc_topology.specs.declared.seat.Held.{Held}
 use Rattle.lrc_stripes.specs.Levels.{home_of, homes_of, homeless_of, missing_of}
 use Rattle.lrc_stripes.specs.Stored as stored
-use Rattle.lrc_stripes.specs.Stored.{Stored, has_node, IsFree}
+use Rattle.lrc_stripes.specs.Stored.{Stored, has_node, HasNoHome}
 use Rattle.lrc_book.specs.States as states
 use Rattle.lrc_book.specs.States.{State, opening, has_stripe, taken_seats, is_online, online_at}
 use Rattle.lrc_book.specs.Placement.{with_home}
@@ -197,10 +197,10 @@ module _ (nodes : List NodeInfo) (st : State) (spare : ℕ) (seat : Seat) where
       subst (Contains (taken_seats st)) (same_Some h.seat seat is) (map-member (λ (h : Held). h.seat) st.homes h m.0)
 
   -- a seat that is not taken is free
-  pub stored-free : (Contains (taken_seats st) seat → ⊥) → IsFree (stored_of nodes st spare) seat
+  pub stored-free : (Contains (taken_seats st) seat → ⊥) → HasNoHome (stored_of nodes st spare) seat
   stored-free none s f is = none (held-by s f (home_of st.homes s f) refl is)
 
-  pub stored-apart : All (λ a. a ≢ seat) (taken_seats st) → IsFree (stored_of nodes st spare) seat
+  pub stored-apart : All (λ a. a ≢ seat) (taken_seats st) → HasNoHome (stored_of nodes st spare) seat
   stored-apart apart = stored-free (λ here. All-contains (λ a. a ≢ seat) (taken_seats st) seat apart here refl)
 
 -- ---- the opening state

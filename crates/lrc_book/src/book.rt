@@ -33,8 +33,8 @@ pub struct Book {
 
 impl Model for Book {
     ghost use Rattle.std.specs.Prelude.{◌+◌, ◌&&◌, nat_le, vec_len, vec_capacity};
-    ghost use Rattle.lrc_slots.specs.Tables.{seen as slots_of};
-    ghost use Rattle.lrc_stripes.specs.Tables.{seen as stored_in};
+    ghost use Rattle.lrc_slots.specs.Tables.{slots_of};
+    ghost use Rattle.lrc_stripes.specs.Tables.{stored_in};
     ghost use Rattle.lrc_book.specs.Books.{BookView, IsKept};
 
     ghost Value = { BookView };

@@ -5,8 +5,8 @@ ghost use Rattle.std.specs.Prelude.{◌≡◌, ◌+◌, ◌≤◌, true, false, 
 ghost use Rattle.std.specs.Option.{ForSome};
 ghost use Rattle.lrc_code.specs.declared.codes.Code.TheVariants.{Wide};
 ghost use Rattle.lrc_code.specs.Codes.{fragments};
-ghost use Rattle.lrc_slots.specs.Tables.{seen as slots_of};
-ghost use Rattle.lrc_stripes.specs.Tables.{seen as stored_in};
+ghost use Rattle.lrc_slots.specs.Tables.{slots_of};
+ghost use Rattle.lrc_stripes.specs.Tables.{stored_in};
 ghost use Rattle.lrc_book.specs.States.{State, has_stripe};
 ghost use Rattle.lrc_book.specs.Steps.{with_stripe, without_stripe};
 ghost use Rattle.lrc_book.specs.Changes.{AreChosen, IsAnswer, with_placed, changed_by};

@@ -3,9 +3,9 @@
 ghost use Rattle.std.specs.Prelude.{◌≡◌, ◌≤◌, not, true, false, IsSome, IsTrue};
 ghost use Rattle.lrc_topology.specs.Nodes.{node_at};
 ghost use Rattle.lrc_slots.specs.Slots.{with_eligible};
-ghost use Rattle.lrc_slots.specs.Tables.{seen as slots_of};
+ghost use Rattle.lrc_slots.specs.Tables.{slots_of};
 ghost use Rattle.lrc_stripes.specs.Stored.{has_node, with_offline};
-ghost use Rattle.lrc_stripes.specs.Tables.{seen as stored_in};
+ghost use Rattle.lrc_stripes.specs.Tables.{stored_in};
 ghost use Rattle.lrc_book.specs.declared.mode.Mode.TheVariants.{Gone};
 ghost use Rattle.lrc_book.specs.States.{State, mode_of, is_down};
 ghost use Rattle.lrc_book.specs.Steps.{emptied, with_gone, with_down, without_down, without_gone};

@@ -5,7 +5,7 @@ ghost use Rattle.std.specs.List.{All};
 ghost use Rattle.lrc_code.specs.declared.codes.Code.TheVariants.{Wide};
 ghost use Rattle.lrc_code.specs.Codes.{fragments, same_class};
 ghost use Rattle.lrc_slots.specs.Barred.{no_bars};
-ghost use Rattle.lrc_slots.specs.Tables.{seen, barred};
+ghost use Rattle.lrc_slots.specs.Tables.{slots_of, barred};
 ghost use Rattle.lrc_book.specs.States.{State, has_stripe};
 ghost use Rattle.lrc_book.specs.Placement.{placed, chosen};
 ghost use Rattle.lrc_book.specs.Changes.{held_at, AreChosen};
@@ -58,7 +58,7 @@ fn seat_for(
     fragment: Fragment,
 ) -> Option<Seat>
     ghost st: { State }
-    requires table { IsTableOf topology.now st (seen table.now) }
+    requires table { IsTableOf topology.now st (slots_of table.now) }
     requires absent { has_stripe st stripe ≡ false }
     requires beside { All (λ h. is_beside stripe fragment h ≡ true) planned.now }
     ensures { result ≡ chosen topology.now (with_homes st planned.now) stripe fragment }
@@ -77,7 +77,7 @@ pub(crate) fn plan_seats(
     stripe: StripeNo,
 ) -> Result<[Seat; 16], Fragment>
     ghost st: { State }
-    requires table { IsTableOf topology.now st (seen table.now) }
+    requires table { IsTableOf topology.now st (slots_of table.now) }
     requires absent { has_stripe st stripe ≡ false }
     ensures seats { IfOk result (λ seats. placed topology.now st stripe ≡ Ok (with_homes st (held_at stripe (fragments Wide) seats))) }
     ensures sixteen { IfOk result (λ seats. length seats ≡ 16) }

@@ -3,7 +3,7 @@
 ghost use Rattle.std.specs.Prelude.{◌≡◌, IsTrue, map};
 ghost use Rattle.lrc_code.specs.declared.codes.Code.TheVariants.{Wide};
 ghost use Rattle.lrc_code.specs.Codes.{fragments};
-ghost use Rattle.lrc_stripes.specs.Tables.{seen};
+ghost use Rattle.lrc_stripes.specs.Tables.{stored_in};
 ghost use Rattle.lrc_book.specs.States.{State, has_number};
 ghost use Rattle.lrc_book.specs.Steps.{node_outcome};
 
@@ -33,8 +33,8 @@ pub(crate) fn contains(numbers: &[NodeNo], node: NodeNo) -> bool
 
 /// The home of each fragment of a stripe, in rising order.
 pub(crate) fn homes_of(stripes: &Stripes, stripe: StripeNo) -> [Option<Seat>; 16]
-    requires { IsTrue ((seen stripes.now).stripes stripe) }
-    ensures { result ≡ map (λ f. (seen stripes.now).homes stripe f.value) (fragments Wide) }
+    requires { IsTrue ((stored_in stripes.now).stripes stripe) }
+    ensures { result ≡ map (λ f. (stored_in stripes.now).homes stripe f.value) (fragments Wide) }
 {
     let mut seats = [None; 16];
     for (i, fragment) in Fragment::all().iter().enumerate() {

@@ -13,16 +13,16 @@ use Rattle.lrc_topology.specs.declared.NodeInfo.{NodeInfo}
 use Rattle.lrc_topology.specs.Nodes.{node_at, IsInRange}
 use Rattle.lrc_topology.specs.Seats.{first_slot}
 use Rattle.lrc_slots.specs.Slots.{Slots, all_free, least_free, least_free_at, taken_count, load_at, with_taken, with_free, with_eligible}
-use Rattle.lrc_slots.specs.Tables.{Row, Table, is_of, row_at, place_of, is_marked, seen, fresh_row, alone}
+use Rattle.lrc_slots.specs.Tables.{Row, Table, is_of, row_at, place_of, is_marked, slots_of, fresh_row, alone}
 use Rattle.lrc_slots.proofs.NodeLemmas.{same_node}
 use Rattle.lrc_slots.proofs.MarkLemmas.{get_or-set_true, or-false, and-true, get_or-set_false, get_or-replicate_same}
 
 same_slots : (t u : Slots) → t.nodes ≡ u.nodes → t.eligible ≡ u.eligible → t.taken ≡ u.taken → t ≡ u
 same_slots t u nodes eligible taken = λ i. record { nodes = nodes i; eligible = eligible i; taken = taken i }
 
-pub seen-nodes : (rows : Table) → (seen rows).nodes ≡ map (λ r. r.node) rows
-unfolding seen
-seen-nodes rows = refl
+pub slots_of-nodes : (rows : Table) → (slots_of rows).nodes ≡ map (λ r. r.node) rows
+unfolding slots_of
+slots_of-nodes rows = refl
 
 -- ---- finding a row
 
@@ -92,24 +92,24 @@ module _ (rows : Table) (n : NodeNo) (r : Row) (i : ℕ) (found : row_at rows n 
   pub nodes-set : (y : Row) → y.node ≡ r.node → map (λ x. x.node) (set rows i y) ≡ map (λ x. x.node) rows
   nodes-set y stays = map-set_same (λ (x : Row). x.node) rows i y r (rw (row-here r) stays)
 
-  eligible-same : (y : Row) → y.node ≡ r.node → y.eligible ≡ r.eligible → (seen (set rows i y)).eligible ≡ (seen rows).eligible
-  unfolding seen
+  eligible-same : (y : Row) → y.node ≡ r.node → y.eligible ≡ r.eligible → (slots_of (set rows i y)).eligible ≡ (slots_of rows).eligible
+  unfolding slots_of
   eligible-same y stays same = fun_ext (λ m. rw (row_at-set y stays m) (elim (cases_eq n.value m.value) [
     | inl e ↦ rw (eq-eqb _ _ e, ← same_node n m e, found) same
     | inr other ↦ rw (ne_eqb _ _ other) refl
   ]))
 
-  taken-same : (y : Row) → y.node ≡ r.node → y.taken ≡ r.taken → (seen (set rows i y)).taken ≡ (seen rows).taken
-  unfolding seen
+  taken-same : (y : Row) → y.node ≡ r.node → y.taken ≡ r.taken → (slots_of (set rows i y)).taken ≡ (slots_of rows).taken
+  unfolding slots_of
   taken-same y stays same = fun_ext (λ m. fun_ext (λ k. rw (row_at-set y stays m) (elim (cases_eq n.value m.value) [
     | inl e ↦ rw (eq-eqb _ _ e, ← same_node n m e, found) (ap (λ xs. get_or xs k false) same)
     | inr other ↦ rw (ne_eqb _ _ other) refl
   ])))
 
   -- a slot is marked as taken
-  pub seen-taken : (slot : ℕ) → slot < length r.taken → seen (set rows i (record r { taken = set r.taken slot true })) ≡ with_taken (seen rows) n (Some slot)
-  unfolding seen
-  seen-taken slot within =
+  pub slots_of-taken : (slot : ℕ) → slot < length r.taken → slots_of (set rows i (record r { taken = set r.taken slot true })) ≡ with_taken (slots_of rows) n (Some slot)
+  unfolding slots_of
+  slots_of-taken slot within =
       let y : Row = record r { taken = set r.taken slot true } in
       same_slots _ _ (nodes-set y refl) (eligible-same y refl refl) (fun_ext (λ m. fun_ext (λ k. rw (row_at-set y refl m) (elim (cases_eq n.value m.value) [
         | inl e ↦ rw (eq-eqb _ _ e, ← same_node n m e, found) (get_or-set_true r.taken slot k within)
@@ -117,9 +117,9 @@ module _ (rows : Table) (n : NodeNo) (r : Row) (i : ℕ) (found : row_at rows n 
       ]))))
 
   -- a slot is marked as free
-  pub seen-free : (slot : ℕ) → slot < length r.taken → seen (set rows i (record r { taken = set r.taken slot false })) ≡ with_free (seen rows) n slot
-  unfolding seen
-  seen-free slot within =
+  pub slots_of-free : (slot : ℕ) → slot < length r.taken → slots_of (set rows i (record r { taken = set r.taken slot false })) ≡ with_free (slots_of rows) n slot
+  unfolding slots_of
+  slots_of-free slot within =
       let y : Row = record r { taken = set r.taken slot false } in
       same_slots _ _ (nodes-set y refl) (eligible-same y refl refl) (fun_ext (λ m. fun_ext (λ k. rw (row_at-set y refl m) (elim (cases_eq n.value m.value) [
         | inl e ↦ rw (eq-eqb _ _ e, ← same_node n m e, found) (get_or-set_false r.taken slot k within)
@@ -127,9 +127,9 @@ module _ (rows : Table) (n : NodeNo) (r : Row) (i : ℕ) (found : row_at rows n 
       ]))))
 
   -- the node is set eligible or not
-  pub seen-eligible : (b : Bool) → seen (set rows i (record r { eligible = b })) ≡ with_eligible (seen rows) n b
-  unfolding seen
-  seen-eligible b =
+  pub slots_of-eligible : (b : Bool) → slots_of (set rows i (record r { eligible = b })) ≡ with_eligible (slots_of rows) n b
+  unfolding slots_of
+  slots_of-eligible b =
       let y : Row = record r { eligible = b } in
       same_slots _ _ (nodes-set y refl) (fun_ext (λ m. rw (row_at-set y refl m) (elim (cases_eq n.value m.value) [
         | inl e ↦ rw (eq-eqb _ _ e) refl
@@ -143,8 +143,8 @@ some-row (Some r) known = (r, refl)
 some-row None known = absurd (cc)
 
 -- a node of the table has a row
-pub known-row : (rows : Table) (n : NodeNo) → IsSome (node_at (seen rows).nodes n) → (r : Row) × (row_at rows n ≡ Some r)
-unfolding seen
+pub known-row : (rows : Table) (n : NodeNo) → IsSome (node_at (slots_of rows).nodes n) → (r : Row) × (row_at rows n ≡ Some r)
+unfolding slots_of
 known-row rows n known = some-row (row_at rows n) (rw (← node_at-rows rows n) known)
 
 known-row_at : (o : Option Row) (k : ℕ) → option_map_or (λ r. is_marked r k) o false ≡ true → IsSome (option_map (λ r. r.node) o)
@@ -152,40 +152,40 @@ known-row_at (Some r) k hit = refl
 known-row_at None k hit = absurd (cc)
 
 -- the node of a taken slot is one of the table
-pub known-taken : (rows : Table) (n : NodeNo) (k : ℕ) → (seen rows).taken n k ≡ true → IsSome (node_at (seen rows).nodes n)
-unfolding seen
+pub known-taken : (rows : Table) (n : NodeNo) (k : ℕ) → (slots_of rows).taken n k ≡ true → IsSome (node_at (slots_of rows).nodes n)
+unfolding slots_of
 known-taken rows n k hit = rw (node_at-rows rows n) (known-row_at (row_at rows n) k hit)
 
 -- a row by itself has the marks that the table shows of its node
-pub taken-alone : (rows : Table) (n : NodeNo) (r : Row) → row_at rows n ≡ Some r → (seen rows).taken n ≡ is_marked r
-unfolding seen
+pub taken-alone : (rows : Table) (n : NodeNo) (r : Row) → row_at rows n ≡ Some r → (slots_of rows).taken n ≡ is_marked r
+unfolding slots_of
 taken-alone rows n r found = ap (λ (o : Option Row). λ k. option_map_or (λ x. is_marked x k) o false) found
 
 -- a taken slot is one of the row
-pub taken-within : (rows : Table) (n : NodeNo) (k : ℕ) (r : Row) → row_at rows n ≡ Some r → (seen rows).taken n k ≡ true → k < length r.taken
+pub taken-within : (rows : Table) (n : NodeNo) (k : ℕ) (r : Row) → row_at rows n ≡ Some r → (slots_of rows).taken n k ≡ true → k < length r.taken
 taken-within rows n k r found hit = elim (cases_lt k (length r.taken)) [
   | inl within ↦ within
   | inr past ↦ absurd (let miss : false ≡ true = sym (get_or_past r.taken k false past) ∙ (ap (λ (taken : ℕ → Bool). taken k) (sym (taken-alone rows n r found)) ∙ hit) in cc)
 ]
 
 -- no slot of a node that has no place is taken
-pub taken-absent : (rows : Table) (n : NodeNo) (k : ℕ) → place_of rows n ≡ None → (seen rows).taken n k ≡ false
-unfolding seen
+pub taken-absent : (rows : Table) (n : NodeNo) (k : ℕ) → place_of rows n ≡ None → (slots_of rows).taken n k ≡ false
+unfolding slots_of
 taken-absent rows n k none = ap (λ (o : Option Row). option_map_or (λ x. is_marked x k) o false) (row_at-absent rows n none)
 
-pub eligible-alone : (rows : Table) (n : NodeNo) (r : Row) → row_at rows n ≡ Some r → (seen rows).eligible n ≡ r.eligible
-unfolding seen
+pub eligible-alone : (rows : Table) (n : NodeNo) (r : Row) → row_at rows n ≡ Some r → (slots_of rows).eligible n ≡ r.eligible
+unfolding slots_of
 eligible-alone rows n r found = ap (λ (o : Option Row). option_map_or (λ x. x.eligible) o true) found
 
-pub node-alone : (rows : Table) (n : NodeNo) (r : Row) → row_at rows n ≡ Some r → node_at (seen rows).nodes n ≡ Some r.node
-unfolding seen
+pub node-alone : (rows : Table) (n : NodeNo) (r : Row) → row_at rows n ≡ Some r → node_at (slots_of rows).nodes n ≡ Some r.node
+unfolding slots_of
 node-alone rows n r found = node_at-rows rows n ∙ ap (option_map (λ x. x.node)) found
 
-pub least_free-alone : (rows : Table) (n : NodeNo) (r : Row) → row_at rows n ≡ Some r → least_free_at (seen rows) n ≡ least_free (alone r) r.node
+pub least_free-alone : (rows : Table) (n : NodeNo) (r : Row) → row_at rows n ≡ Some r → least_free_at (slots_of rows) n ≡ least_free (alone r) r.node
 least_free-alone rows n r found =
     rw (node-alone rows n r found) (ap (λ (taken : ℕ → Bool). first_slot taken 0 r.node.slots) (rw (← row-number rows n r found) (taken-alone rows n r found)))
 
-pub load-alone : (rows : Table) (n : NodeNo) (r : Row) → row_at rows n ≡ Some r → load_at (seen rows) n ≡ taken_count (alone r) r.node
+pub load-alone : (rows : Table) (n : NodeNo) (r : Row) → row_at rows n ≡ Some r → load_at (slots_of rows) n ≡ taken_count (alone r) r.node
 load-alone rows n r found =
     rw (node-alone rows n r found) (ap (λ (taken : ℕ → Bool). count_by taken (range_with_len 0 r.node.slots)) (rw (← row-number rows n r found) (taken-alone rows n r found)))
 
@@ -220,9 +220,9 @@ taken-fresh : (o : Option NodeInfo) (k : ℕ) → option_map_or (λ r. is_marked
 taken-fresh None k = refl
 taken-fresh (Some x) k = get_or-replicate_same x.slots k false
 
-pub seen-fresh : (nodes : List NodeInfo) → seen (map fresh_row nodes) ≡ all_free nodes
-unfolding seen
-seen-fresh nodes = same_slots _ _ (nodes-fresh nodes)
+pub slots_of-fresh : (nodes : List NodeInfo) → slots_of (map fresh_row nodes) ≡ all_free nodes
+unfolding slots_of
+slots_of-fresh nodes = same_slots _ _ (nodes-fresh nodes)
     (fun_ext (λ n. rw (row_at-fresh nodes n) (eligible-fresh (node_at nodes n))))
     (fun_ext (λ n. fun_ext (λ k. rw (row_at-fresh nodes n) (taken-fresh (node_at nodes n) k))))
 

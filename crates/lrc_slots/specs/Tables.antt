@@ -40,8 +40,8 @@ abbrev pub is_marked : Row → ℕ → Bool
 is_marked r k = get_or r.taken k false
 
 -- The slots that a table stands for. At a number that is no node's, nothing is taken, and the test of eligible nodes is met.
-unfoldable pub seen : Table → Slots
-seen rows = record {
+unfoldable pub slots_of : Table → Slots
+slots_of rows = record {
   nodes = map (λ r. r.node) rows;
   eligible = λ n. option_map_or (λ r. r.eligible) (row_at rows n) true;
   taken = λ n k. option_map_or (λ r. is_marked r k) (row_at rows n) false;

@@ -100,10 +100,10 @@ impl NodeSlots {
     }
 
     /// Whether the node is eligible, has a free slot and is in no barred domain.
-    pub(crate) fn may_take(&self, taken: &Taken) -> bool
-        ensures { result ≡ is_open (barred taken.now) self.now }
+    pub(crate) fn may_take(&self, bars: &Taken) -> bool
+        ensures { result ≡ is_open (barred bars.now) self.now }
     {
-        let is_barred = taken.has_fault(self.node.fault) || taken.has_upgrade(self.node.upgrade);
+        let is_barred = bars.has_fault(self.node.fault) || bars.has_upgrade(self.node.upgrade);
         self.eligible && self.first_free().is_some() && !is_barred
     }
 

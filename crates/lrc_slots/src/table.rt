@@ -4,7 +4,7 @@ ghost use Rattle.lrc_code.specs.Order.{least};
 ghost use Rattle.lrc_topology.specs.Nodes.{AreNodes, node_at};
 ghost use Rattle.lrc_slots.specs.Slots.{all_free, least_free_at, load_at, with_taken, with_free, with_eligible};
 ghost use Rattle.lrc_slots.specs.Next.{next_number};
-ghost use Rattle.lrc_slots.specs.Tables.{seen, barred, place_of, is_open, precedes};
+ghost use Rattle.lrc_slots.specs.Tables.{slots_of, barred, place_of, is_open, precedes};
 
 use crate::Taken;
 use crate::node_slots::{NodeSlots, first_of};
@@ -40,7 +40,7 @@ impl SlotTable {
     ///
     /// Only `Fault::OutOfMemory`.
     pub fn new(alloc: Global, topology: &Topology) -> Result<SlotTable, Fault>
-        ensures value { IfOk result (λ t. seen t ≡ all_free topology.now) }
+        ensures value { IfOk result (λ t. slots_of t ≡ all_free topology.now) }
         ensures err { IfErr result (λ e. e ≡ OutOfMemory) }
     {
         let mut rows = Vec::with_capacity(alloc, topology.len())?;
@@ -52,8 +52,8 @@ impl SlotTable {
 
     /// The least free slot of a node; `None` where all are taken.
     pub fn first_free(&self, node: NodeNo) -> Option<u16>
-        requires { IsSome (node_at (seen self.now).nodes node) }
-        ensures { result ≡ least_free_at (seen self.now) node }
+        requires { IsSome (node_at (slots_of self.now).nodes node) }
+        ensures { result ≡ least_free_at (slots_of self.now) node }
     {
         let row = &self.rows[self.place(node)];
         row.first_free()
@@ -61,9 +61,9 @@ impl SlotTable {
 
     /// Takes the least free slot of a node, and answers it; `None`, with no change, where all are taken.
     pub fn take(&mut self, node: NodeNo) -> Option<u16>
-        requires { IsSome (node_at (seen self.old).nodes node) }
-        ensures slot { result ≡ least_free_at (seen self.old) node }
-        ensures taken { seen self.new ≡ with_taken (seen self.old) node result }
+        requires { IsSome (node_at (slots_of self.old).nodes node) }
+        ensures slot { result ≡ least_free_at (slots_of self.old) node }
+        ensures taken { slots_of self.new ≡ with_taken (slots_of self.old) node result }
     {
         let place = self.place(node);
         let row = &mut self.rows[place];
@@ -74,8 +74,8 @@ impl SlotTable {
 
     /// Gives a slot back that is taken; `is_taken` is the test.
     pub fn free(&mut self, node: NodeNo, slot: u16)
-        requires { IsTrue ((seen self.old).taken node slot) }
-        ensures { seen self.new ≡ with_free (seen self.old) node slot }
+        requires { IsTrue ((slots_of self.old).taken node slot) }
+        ensures { slots_of self.new ≡ with_free (slots_of self.old) node slot }
     {
         let place = self.place(node);
         let row = &mut self.rows[place];
@@ -84,8 +84,8 @@ impl SlotTable {
 
     /// The number of taken slots of a node, at most 256.
     pub fn load(&self, node: NodeNo) -> u32
-        requires { IsSome (node_at (seen self.now).nodes node) }
-        ensures value { result ≡ load_at (seen self.now) node }
+        requires { IsSome (node_at (slots_of self.now).nodes node) }
+        ensures value { result ≡ load_at (slots_of self.now) node }
         ensures few { result ≤ 256 }
     {
         let row = &self.rows[self.place(node)];
@@ -94,8 +94,8 @@ impl SlotTable {
 
     /// Sets whether a node may be chosen.
     pub fn set_eligible(&mut self, node: NodeNo, eligible: bool)
-        requires { IsSome (node_at (seen self.old).nodes node) }
-        ensures { seen self.new ≡ with_eligible (seen self.old) node eligible }
+        requires { IsSome (node_at (slots_of self.old).nodes node) }
+        ensures { slots_of self.new ≡ with_eligible (slots_of self.old) node eligible }
     {
         let place = self.place(node);
         let row = &mut self.rows[place];
@@ -105,7 +105,7 @@ impl SlotTable {
     /// Whether a slot of a node is taken; `false` beyond the node's last slot, and for a node that is not of the
     /// topology.
     pub fn is_taken(&self, node: NodeNo, slot: u16) -> bool
-        ensures { result ≡ (seen self.now).taken node slot }
+        ensures { result ≡ (slots_of self.now).taken node slot }
     {
         match self.position(node) {
             Some(place) => {
@@ -118,22 +118,22 @@ impl SlotTable {
 
     /// The node with the least load, and of these the one with the least number, that is eligible, has a free slot
     /// and is in no barred domain; `None` where there is no such node.
-    pub fn choose(&self, taken: &Taken) -> Option<NodeNo>
-        ensures node { result ≡ next_number (seen self.now) (barred taken.now) }
-        ensures known { IfSome result (λ n. IsSome (node_at (seen self.now).nodes n)) }
+    pub fn choose(&self, bars: &Taken) -> Option<NodeNo>
+        ensures node { result ≡ next_number (slots_of self.now) (barred bars.now) }
+        ensures known { IfSome result (λ n. IsSome (node_at (slots_of self.now).nodes n)) }
     {
-        let row = self.first_open(taken)?;
+        let row = self.first_open(bars)?;
         Some(row.number())
     }
 
     /// The row that is chosen before all others that may take a seat.
-    fn first_open(&self, taken: &Taken) -> Option<&NodeSlots>
-        ensures row { option_copied result ≡ least precedes (filter (is_open (barred taken.now)) self.now) }
+    fn first_open(&self, bars: &Taken) -> Option<&NodeSlots>
+        ensures row { option_copied result ≡ least precedes (filter (is_open (barred bars.now)) self.now) }
         ensures nodes { AreNodes (map (λ r. r.node) self.now) }
     {
         let mut best: Option<&NodeSlots> = None;
         for row in self.rows.iter() {
-            if row.may_take(taken) {
+            if row.may_take(bars) {
                 best = Some(first_of(best, row));
             }
         }
@@ -149,7 +149,7 @@ impl SlotTable {
 
     /// The same for a node of the topology.
     fn place(&self, node: NodeNo) -> usize
-        requires { IsSome (node_at (seen self.now).nodes node) }
+        requires { IsSome (node_at (slots_of self.now).nodes node) }
         ensures value { place_of self.now node ≡ Some result }
         ensures within { result < length self.now }
     {

@@ -9,9 +9,9 @@ use Rattle.lrc_topology.specs.declared.seat.Seat.{Seat}
 use Rattle.lrc_stripes.specs.declared.row.Row.{Row}
 use Rattle.lrc_stripes.specs.declared.row.Site.{Site}
 use Rattle.lrc_stripes.specs.Stored.{with_stripe, without_stripe, with_home, with_spare}
-use Rattle.lrc_stripes.specs.Tables.{IsKept, seen, row_at, place_of}
+use Rattle.lrc_stripes.specs.Tables.{IsKept, stored_in, row_at, place_of}
 use Rattle.lrc_stripes.proofs.RowLemmas.{place_of-within, row_at-place, rising-insert, rising-remove, rising-set}
-use Rattle.lrc_stripes.proofs.SeenLemmas.{seen-insert, seen-remove, seen-set_home}
+use Rattle.lrc_stripes.proofs.StoredLemmas.{stored_in-insert, stored_in-remove, stored_in-set_home}
 
 module _ (sites : List Site) (rows slice : List Row) (s : StripeNo) (place spare capacity : ℕ) (read : slice ≡ rows) (found : place ≡ place_of slice s) (kept : IsKept rows spare capacity) where
   found_in : place ≡ place_of rows s
@@ -27,8 +27,8 @@ module _ (sites : List Site) (rows slice : List Row) (s : StripeNo) (place spare
       let shorter = length-remove rows place (place-within there) in
       record { rising = rw found_in (rising-remove rows s kept.rising); room = omega (arith, shorter, kept.room) }
 
-  pub seen-remove_at : is_some (row_at rows s) ≡ true → seen (record { sites = sites; rows = remove rows place; spare = spare }) ≡ with_spare (without_stripe (seen (record { sites = sites; rows = rows; spare = spare })) s) spare
-  seen-remove_at there = rw found_in (seen-remove sites rows s spare spare kept.rising there)
+  pub stored_in-remove_at : is_some (row_at rows s) ≡ true → stored_in (record { sites = sites; rows = remove rows place; spare = spare }) ≡ with_spare (without_stripe (stored_in (record { sites = sites; rows = rows; spare = spare })) s) spare
+  stored_in-remove_at there = rw found_in (stored_in-remove sites rows s spare spare kept.rising there)
 
   module _ (old : Row) (x : Row) (at : old ≡ get_or rows place old) (own : x.stripe ≡ old.stripe) where
     pub kept-set : IsKept (set rows place x) spare capacity
@@ -37,14 +37,14 @@ module _ (sites : List Site) (rows slice : List Row) (s : StripeNo) (place spare
         let long = length-set rows place x in
         record { rising = rising-set rows place x old same kept.rising; room = omega (arith, long, kept.room) }
 
-    pub seen-set_at : is_some (row_at rows s) ≡ true → (f : Fragment) (home : Option Seat) → x.homes ≡ set old.homes f.value home
-        → seen (record { sites = sites; rows = set rows place x; spare = spare }) ≡ with_home (seen (record { sites = sites; rows = rows; spare = spare })) s f home
-    seen-set_at there f home changed =
+    pub stored_in-set_at : is_some (row_at rows s) ≡ true → (f : Fragment) (home : Option Seat) → x.homes ≡ set old.homes f.value home
+        → stored_in (record { sites = sites; rows = set rows place x; spare = spare }) ≡ with_home (stored_in (record { sites = sites; rows = rows; spare = spare })) s f home
+    stored_in-set_at there f home changed =
         let here = row_at-place rows s old kept.rising there in
         let mine : old ≡ get_or rows (place_of rows s) old = at ∙ ap (λ (p : ℕ). get_or rows p old) found_in in
         let row : row_at rows s ≡ Some old = here.0 ∙ ap (λ (r : Row). Some r) (sym mine) in
         let number : x.stripe.value ≡ s.value = ap (λ (t : StripeNo). t.value) own ∙ (ap (λ (r : Row). r.stripe.value) mine ∙ here.1) in
-        rw found_in (seen-set_home sites rows s x old f home spare kept.rising row number changed)
+        rw found_in (stored_in-set_home sites rows s x old f home spare kept.rising row number changed)
 
   -- ---- of a stripe that is not there
 
@@ -55,5 +55,5 @@ module _ (sites : List Site) (rows slice : List Row) (s : StripeNo) (place spare
         let e : place_of rows x.stripe ≡ place = rw own (sym found_in) in
         record { rising = rw (← e) (rising-insert x rows kept.rising (rw own absent)); room = omega (arith, longer, kept.room, large, room) }
 
-    pub seen-insert_at : x.homes ≡ replicate 16 None → seen (record { sites = sites; rows = insert rows place x; spare = spare - 1 }) ≡ with_stripe (seen (record { sites = sites; rows = rows; spare = spare })) s
-    seen-insert_at bare = rw (found_in, ← own) (seen-insert sites rows x spare bare (rw own absent))
+    pub stored_in-insert_at : x.homes ≡ replicate 16 None → stored_in (record { sites = sites; rows = insert rows place x; spare = spare - 1 }) ≡ with_stripe (stored_in (record { sites = sites; rows = rows; spare = spare })) s
+    stored_in-insert_at bare = rw (found_in, ← own) (stored_in-insert sites rows x spare bare (rw own absent))

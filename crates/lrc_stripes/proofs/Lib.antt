@@ -1,9 +1,9 @@
 pub mod MaskLemmas
 pub mod SiteLemmas
 pub mod RowLemmas
-pub mod SeenLemmas
+pub mod StoredLemmas
 pub mod KeptLemmas
 pub mod LevelLemmas
-pub mod FreeLemmas
+pub mod HomelessLemmas
 pub mod WalkLemmas
 pub mod PlaceLemmas

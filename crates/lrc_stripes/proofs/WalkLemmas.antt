@@ -9,7 +9,7 @@ use Rattle.lrc_code.specs.declared.numbers.NodeNo.{NodeNo}
 use Rattle.lrc_code.specs.declared.numbers.Fragment.{Fragment}
 use Rattle.lrc_code.specs.Codes.{fragments}
 use Rattle.lrc_stripes.specs.declared.row.Row.{Row}
-use Rattle.lrc_stripes.specs.Stored.{Place}
+use Rattle.lrc_stripes.specs.Stored.{StripeFragment}
 use Rattle.lrc_stripes.specs.Tables.{sits_on, row_places, places_from}
 use Rattle.lrc_stripes.proofs.MaskLemmas.{fragment-number}
 
@@ -53,11 +53,11 @@ places_from-none n from r rows none =
 pub places_from-found : (n : NodeNo) (from : ℕ) (r : Row) (rows : List Row) (f : Fragment) → from ≤ 16 → find (sits_on n r) (drop from (fragments Wide)) ≡ Some f
     → places_from n from (r ∷ rows) ≡ (r.stripe, f) ∷ places_from n (f.value + 1) (r ∷ rows)
 places_from-found n from r rows f within found =
-    ap (λ (fs : List Fragment). map (λ g. let p : Place = (r.stripe, g) in p) fs ++ flat_map (row_places n 0) rows)
+    ap (λ (fs : List Fragment). map (λ g. let p : StripeFragment = (r.stripe, g) in p) fs ++ flat_map (row_places n 0) rows)
     (filter-found (fragments Wide) fragment-number (sits_on n r) (16 - from) from f (omega (arith, within)) found)
 
 -- a step of the walk over rows of which this is the first
-module _ (n : NodeNo) (from : ℕ) (rows : List Row) (r : Row) (others : List Row) (whole : List Place) (first : rows ≡ r ∷ others) (left : places_from n from rows ≡ whole) where
+module _ (n : NodeNo) (from : ℕ) (rows : List Row) (r : Row) (others : List Row) (whole : List StripeFragment) (first : rows ≡ r ∷ others) (left : places_from n from rows ≡ whole) where
   pub step-none : find (sits_on n r) (drop from (fragments Wide)) ≡ None → places_from n 0 others ≡ whole
   step-none none = sym (places_from-none n from r others none) ∙ (ap (places_from n from) (sym first) ∙ left)
 

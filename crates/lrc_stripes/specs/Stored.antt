@@ -90,22 +90,22 @@ abbrev pub has_slot : List NodeInfo → Seat → Bool
 has_slot nodes seat = option_map_or (λ n. nat_lt seat.slot n.slots) (node_at nodes seat.node) false
 
 -- no home is on the seat
-abbrev pub IsFree : Stored → Seat → Type 0
-IsFree t seat = (s : StripeNo) (f : ℕ) → t.homes s f ≢ Some seat
+abbrev pub HasNoHome : Stored → Seat → Type 0
+HasNoHome t seat = (s : StripeNo) (f : ℕ) → t.homes s f ≢ Some seat
 
 -- a fragment of a stripe
-abbrev pub Place : Type 0
-Place = StripeNo × Fragment
+abbrev pub StripeFragment : Type 0
+StripeFragment = StripeNo × Fragment
 
 -- the fragment has its home on the node
-abbrev pub is_home_on : Stored → NodeNo → Place → Bool
+abbrev pub is_home_on : Stored → NodeNo → StripeFragment → Bool
 is_home_on t n p = option_map_or (λ seat. nat_eq n.value seat.node.value) (t.homes p.0 p.1.value) false
 
 -- by the stripe's number, and within a stripe by the fragment's
-abbrev pub comes_before : Place → Place → Bool
+abbrev pub comes_before : StripeFragment → StripeFragment → Bool
 comes_before p q = nat_lt p.0.value q.0.value || (nat_eq p.0.value q.0.value && nat_lt p.1.value q.1.value)
 
 -- these are all fragments with a home on the node, in rising order
-pub record AreHomesOn (t : Stored) (n : NodeNo) (places : List Place) : Type 0 where
+pub record AreHomesOn (t : Stored) (n : NodeNo) (places : List StripeFragment) : Type 0 where
   pub rising : AllPairs (λ p q. IsTrue (comes_before p q)) places
-  pub each : (p : Place) → Contains places p ↔ IsTrue (is_home_on t n p)
+  pub each : (p : StripeFragment) → Contains places p ↔ IsTrue (is_home_on t n p)

@@ -12,7 +12,7 @@ use Rattle.lrc_topology.specs.declared.seat.Seat.{Seat}
 use Rattle.lrc_stripes.specs.declared.row.Row.{Row}
 use Rattle.lrc_stripes.specs.declared.row.Site.{Site}
 use Rattle.lrc_stripes.specs.Levels.{Homes}
-use Rattle.lrc_stripes.specs.Stored.{Stored, Place}
+use Rattle.lrc_stripes.specs.Stored.{Stored, StripeFragment}
 
 -- the nodes, the stripes with their homes, and for how many more stripes there is room
 pub record Table : Type 0 where
@@ -46,11 +46,11 @@ abbrev pub sits_on : NodeNo → Row → Fragment → Bool
 sits_on n r f = option_map_or (λ seat. nat_eq n.value seat.node.value) (get_or r.homes f.value None) false
 
 -- the row's fragments on the node, from this number on
-abbrev pub row_places : NodeNo → ℕ → Row → List Place
+abbrev pub row_places : NodeNo → ℕ → Row → List StripeFragment
 row_places n from r = map (λ f. (r.stripe, f)) (filter (sits_on n r) (drop from (fragments Wide)))
 
 -- the fragments on the node, in the first row from this number on
-abbrev pub places_from : NodeNo → ℕ → List Row → List Place
+abbrev pub places_from : NodeNo → ℕ → List Row → List StripeFragment
 places_from n from [] = []
 places_from n from (r ∷ rows) = row_places n from r ++ flat_map (row_places n 0) rows
 
@@ -73,8 +73,8 @@ abbrev pub online_in : List Site → NodeNo → Bool
 online_in sites n = option_map_or (λ x. not x.is_offline) (site_at sites n) false
 
 -- the stripes, homes and nodes that a table stands for
-unfoldable pub seen : Table → Stored
-seen t = record {
+unfoldable pub stored_in : Table → Stored
+stored_in t = record {
   nodes = map (λ x. x.node) t.sites;
   stripes = λ s. is_some (row_at t.rows s);
   homes = λ s. row_homes (row_at t.rows s);

@@ -20,10 +20,10 @@ pub struct HomesOn<'a> {
 
 impl<'a> Model for HomesOn<'a> {
     ghost use Rattle.std.specs.Prelude.{◌≤◌, List};
-    ghost use Rattle.lrc_stripes.specs.Stored.{Place};
+    ghost use Rattle.lrc_stripes.specs.Stored.{StripeFragment};
     ghost use Rattle.lrc_stripes.specs.Tables.{places_from};
 
-    ghost Value = { List Place };
+    ghost Value = { List StripeFragment };
 
     ghost view = { λ h. places_from h.node h.next h.rows.now };
 
@@ -44,13 +44,13 @@ impl<'a> HomesOn<'a> {
 }
 
 impl<'a> Iterator for HomesOn<'a> {
-    ghost use Rattle.lrc_stripes.specs.Stored.{Place};
+    ghost use Rattle.lrc_stripes.specs.Stored.{StripeFragment};
 
     type Item = (StripeNo, Fragment);
 
-    ghost next_gives = { YieldsFirst (λ (places : List Place). places) };
+    ghost next_gives = { YieldsFirst (λ (places : List StripeFragment). places) };
 
-    ghost remaining = { item_count (λ (places : List Place). places) };
+    ghost remaining = { item_count (λ (places : List StripeFragment). places) };
 
     fn next(&mut self) -> Option<(StripeNo, Fragment)> {
         while let Some((row, others)) = self.rows.split_first() {

@@ -1,7 +1,7 @@
 ghost use Rattle.std.specs.Prelude.{◌≡◌, ◌≤◌, ◌↔◌, IsTrue, IsFalse, IfOk, IfErr, OnErr, OnOk, IsOk, None, Some};
 ghost use Rattle.lrc_code.specs.declared.fault.Fault.TheVariants.{OutOfMemory};
-ghost use Rattle.lrc_stripes.specs.Stored.{empty, with_stripe, without_stripe, with_home, with_offline, with_spare, missing_shown, level_shown, has_node, has_slot, IsFree, AreHomesOn};
-ghost use Rattle.lrc_stripes.specs.Tables.{seen};
+ghost use Rattle.lrc_stripes.specs.Stored.{empty, with_stripe, without_stripe, with_home, with_offline, with_spare, missing_shown, level_shown, has_node, has_slot, HasNoHome, AreHomesOn};
+ghost use Rattle.lrc_stripes.specs.Tables.{stored_in};
 
 use crate::row::{Row, Site};
 use crate::{HomesOn, Level, Seat, losses, search};
@@ -29,7 +29,7 @@ impl Model for Stripes {
     ghost invariant = { λ t. IsKept t.rows.items t.spare (vec_capacity t.rows) };
 }
 
-#[tactic(auto, unfolding(crate::specs::Tables::seen))]
+#[tactic(auto, unfolding(crate::specs::Tables::stored_in))]
 impl Stripes {
     /// No stripes and no room for any, and every node of the topology online.
     ///
@@ -37,7 +37,7 @@ impl Stripes {
     ///
     /// Only `Fault::OutOfMemory`.
     pub fn new(alloc: Global, topology: &Topology) -> Result<Stripes, Fault>
-        ensures value { IfOk result (λ t. seen t ≡ empty topology.now) }
+        ensures value { IfOk result (λ t. stored_in t ≡ empty topology.now) }
         ensures err { IfErr result (λ e. e ≡ OutOfMemory) }
     {
         let mut sites = Vec::with_capacity(alloc, topology.len())?;
@@ -60,11 +60,11 @@ impl Stripes {
     ///
     /// Only `Fault::OutOfMemory`, and not where there is room already.
     pub fn reserve(&mut self, count: u32) -> Result<(), Fault>
-        ensures room { OnOk result (count ≤ (seen self.new).spare) }
-        ensures no_less { (seen self.old).spare ≤ (seen self.new).spare }
-        ensures rest { seen self.new ≡ with_spare (seen self.old) (seen self.new).spare }
-        ensures enough { count ≤ (seen self.old).spare → IsOk result }
-        ensures unchanged { OnErr result (seen self.new ≡ seen self.old) }
+        ensures room { OnOk result (count ≤ (stored_in self.new).spare) }
+        ensures no_less { (stored_in self.old).spare ≤ (stored_in self.new).spare }
+        ensures rest { stored_in self.new ≡ with_spare (stored_in self.old) (stored_in self.new).spare }
+        ensures enough { count ≤ (stored_in self.old).spare → IsOk result }
+        ensures unchanged { OnErr result (stored_in self.new ≡ stored_in self.old) }
         ensures err { IfErr result (λ e. e ≡ OutOfMemory) }
     {
         self.rows.reserve(count as usize)?;
@@ -74,23 +74,23 @@ impl Stripes {
 
     /// For how many more stripes there is room.
     pub fn spare(&self) -> u32
-        ensures { result ≡ (seen self.now).spare }
+        ensures { result ≡ (stored_in self.now).spare }
     {
         self.spare
     }
 
     /// Whether the stripe is there.
     pub fn contains(&self, stripe: StripeNo) -> bool
-        ensures { result ≡ (seen self.now).stripes stripe }
+        ensures { result ≡ (stored_in self.now).stripes stripe }
     {
         search::row(self.rows.as_slice(), stripe).is_some()
     }
 
     /// Adds a stripe none of whose fragments has a home, in room that there is for it.
     pub fn add(&mut self, stripe: StripeNo)
-        requires absent { IsFalse ((seen self.old).stripes stripe) }
-        requires room { 1 ≤ (seen self.old).spare }
-        ensures { seen self.new ≡ with_stripe (seen self.old) stripe }
+        requires absent { IsFalse ((stored_in self.old).stripes stripe) }
+        requires room { 1 ≤ (stored_in self.old).spare }
+        ensures { stored_in self.new ≡ with_stripe (stored_in self.old) stripe }
     {
         let place = search::place(self.rows.as_slice(), stripe);
         let row = Row {
@@ -103,9 +103,9 @@ impl Stripes {
 
     /// Takes a stripe out, with the homes of its fragments.
     pub fn remove(&mut self, stripe: StripeNo)
-        requires { IsTrue ((seen self.old).stripes stripe) }
-        ensures stripe { seen self.new ≡ with_spare (without_stripe (seen self.old) stripe) (seen self.new).spare }
-        ensures spare { (seen self.old).spare ≤ (seen self.new).spare }
+        requires { IsTrue ((stored_in self.old).stripes stripe) }
+        ensures stripe { stored_in self.new ≡ with_spare (without_stripe (stored_in self.old) stripe) (stored_in self.new).spare }
+        ensures spare { (stored_in self.old).spare ≤ (stored_in self.new).spare }
     {
         let place = search::place(self.rows.as_slice(), stripe);
         self.rows.remove(place);
@@ -113,28 +113,28 @@ impl Stripes {
 
     /// The home of a fragment of a stripe, if it has one.
     pub fn home(&self, stripe: StripeNo, fragment: Fragment) -> Option<Seat>
-        requires { IsTrue ((seen self.now).stripes stripe) }
-        ensures { result ≡ (seen self.now).homes stripe fragment.value }
+        requires { IsTrue ((stored_in self.now).stripes stripe) }
+        ensures { result ≡ (stored_in self.now).homes stripe fragment.value }
     {
         let row = search::row(self.rows.as_slice(), stripe)?;
         row.homes[fragment.value as usize]
     }
 
-    /// Gives a fragment without a home a free seat for one.
+    /// Gives a fragment without a home one on a seat that is no other's home.
     pub fn set_home(&mut self, stripe: StripeNo, fragment: Fragment, seat: Seat)
-        requires stripe { IsTrue ((seen self.old).stripes stripe) }
-        requires homeless { (seen self.old).homes stripe fragment.value ≡ None }
-        requires slot { IsTrue (has_slot (seen self.old).nodes seat) }
-        requires free { IsFree (seen self.old) seat }
-        ensures { seen self.new ≡ with_home (seen self.old) stripe fragment (Some seat) }
+        requires stripe { IsTrue ((stored_in self.old).stripes stripe) }
+        requires homeless { (stored_in self.old).homes stripe fragment.value ≡ None }
+        requires slot { IsTrue (has_slot (stored_in self.old).nodes seat) }
+        requires unused { HasNoHome (stored_in self.old) seat }
+        ensures { stored_in self.new ≡ with_home (stored_in self.old) stripe fragment (Some seat) }
     {
         self.put_home(stripe, fragment, Some(seat));
     }
 
     /// Takes a fragment's home away, if it has one.
     pub fn clear_home(&mut self, stripe: StripeNo, fragment: Fragment)
-        requires { IsTrue ((seen self.old).stripes stripe) }
-        ensures { seen self.new ≡ with_home (seen self.old) stripe fragment None }
+        requires { IsTrue ((stored_in self.old).stripes stripe) }
+        ensures { stored_in self.new ≡ with_home (stored_in self.old) stripe fragment None }
     {
         self.put_home(stripe, fragment, None);
     }
@@ -142,7 +142,7 @@ impl Stripes {
     /// The fragments of a stripe that have no home, or one on a node that is not online; `None` where the stripe is
     /// not there.
     pub fn missing(&self, stripe: StripeNo) -> Option<LossMask>
-        ensures { result ≡ missing_shown (seen self.now) stripe }
+        ensures { result ≡ missing_shown (stored_in self.now) stripe }
     {
         let row = search::row(self.rows.as_slice(), stripe)?;
         Some(losses::missing(self.sites.as_slice(), row))
@@ -150,7 +150,7 @@ impl Stripes {
 
     /// The level of a stripe; `None` where it is not there.
     pub fn level(&self, stripe: StripeNo) -> Option<Level>
-        ensures { result ≡ level_shown (seen self.now) stripe }
+        ensures { result ≡ level_shown (stored_in self.now) stripe }
     {
         let row = search::row(self.rows.as_slice(), stripe)?;
         let missing = losses::missing(self.sites.as_slice(), row);
@@ -159,8 +159,8 @@ impl Stripes {
 
     /// Sets whether a node is offline.
     pub fn set_offline(&mut self, node: NodeNo, is_offline: bool)
-        requires { IsTrue (has_node (seen self.old).nodes node) }
-        ensures { seen self.new ≡ with_offline (seen self.old) node is_offline }
+        requires { IsTrue (has_node (stored_in self.old).nodes node) }
+        ensures { stored_in self.new ≡ with_offline (stored_in self.old) node is_offline }
     {
         let place = search::site_place(self.sites.as_slice(), node);
         self.sites[place].is_offline = is_offline;
@@ -168,21 +168,21 @@ impl Stripes {
 
     /// The fragments with a home on a node, in rising order of stripe and fragment.
     pub fn homes_on(&self, node: NodeNo) -> HomesOn<'_>
-        ensures { AreHomesOn (seen self.now) node result }
+        ensures { AreHomesOn (stored_in self.now) node result }
     {
         HomesOn::new(self.rows.as_slice(), node)
     }
 
     /// Whether the store has a node of this number.
     pub fn has_node(&self, node: NodeNo) -> bool
-        ensures { result ≡ has_node (seen self.now).nodes node }
+        ensures { result ≡ has_node (stored_in self.now).nodes node }
     {
         search::site(self.sites.as_slice(), node).is_some()
     }
 
     /// Whether the seat is a slot of one of the nodes.
     pub fn has_slot(&self, seat: Seat) -> bool
-        ensures { result ≡ has_slot (seen self.now).nodes seat }
+        ensures { result ≡ has_slot (stored_in self.now).nodes seat }
     {
         match search::site(self.sites.as_slice(), seat.node) {
             Some(site) => seat.slot < site.node.slots,
@@ -191,16 +191,16 @@ impl Stripes {
     }
 
     /// Whether no home is on the seat.
-    pub fn is_free(&self, seat: Seat) -> bool
-        ensures { IsTrue result ↔ IsFree (seen self.now) seat }
+    pub fn is_without_home(&self, seat: Seat) -> bool
+        ensures { IsTrue result ↔ HasNoHome (stored_in self.now) seat }
     {
         !search::is_held(self.rows.as_slice(), seat)
     }
 
     /// Gives a fragment of a stripe this home, or none.
     fn put_home(&mut self, stripe: StripeNo, fragment: Fragment, home: Option<Seat>)
-        requires { IsTrue ((seen self.old).stripes stripe) }
-        ensures { seen self.new ≡ with_home (seen self.old) stripe fragment home }
+        requires { IsTrue ((stored_in self.old).stripes stripe) }
+        ensures { stored_in self.new ≡ with_home (stored_in self.old) stripe fragment home }
     {
         let place = search::place(self.rows.as_slice(), stripe);
         self.rows[place].homes[fragment.value as usize] = home;

@@ -55,7 +55,7 @@ fn set_home(
     assert!(rt; stripes.contains(stripe));
     assert!(rt; stripes.home(stripe, fragment).is_none());
     assert!(rt; stripes.has_slot(seat));
-    assert!(rt; stripes.is_free(seat));
+    assert!(rt; stripes.is_without_home(seat));
     stripes.set_home(stripe, fragment, seat);
 }
 
@@ -150,9 +150,9 @@ fn homes_go_with_their_stripe(rt: HostRuntime) -> Result<(), Fail> {
     let last = Fragment::new(15).ok_or("fragment 15")?;
     let mut stripes = one_stripe(&rt, rt.alloc(), stripe)?;
     assert_eq!(rt; home(&rt, &stripes, stripe, last), Some(seat(15, 1)));
-    assert!(rt; !stripes.is_free(seat(15, 1)));
+    assert!(rt; !stripes.is_without_home(seat(15, 1)));
     remove(&rt, &mut stripes, stripe);
-    assert!(rt; stripes.is_free(seat(15, 1)));
+    assert!(rt; stripes.is_without_home(seat(15, 1)));
     assert!(rt; !stripes.contains(stripe));
     assert_eq!(rt; stripes.level(stripe), None);
     stripes.reserve(1)?;

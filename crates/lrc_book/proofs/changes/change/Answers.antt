@@ -1,7 +1,7 @@
 use Rattle.std.proofs.Common.{not, nat_eq, filter, ap, ◌∙◌, rules}
 use Rattle.std.proofs.lemmas.Fn.{filter_same}
 use Rattle.lrc_code.specs.declared.numbers.NodeNo.{NodeNo}
-use Rattle.lrc_slots.specs.Tables.{seen as slots_of}
+use Rattle.lrc_slots.specs.Tables.{slots_of}
 use Rattle.lrc_book.proofs.ToldLemmas.{place-told, drop-told, fail-told, down-told, up-told, join-told}
 use Rattle.lrc_book.proofs.changes.change.Goals as goal
 

@@ -5,9 +5,9 @@ use Rattle.lrc_code.specs.declared.numbers.Fragment.{Fragment}
 use Rattle.lrc_code.specs.Codes.{fragments}
 use Rattle.lrc_topology.specs.declared.seat.Held.{Held}
 use Rattle.lrc_slots.specs.Slots.{Slots}
-use Rattle.lrc_slots.specs.Tables.{seen as slots_of}
+use Rattle.lrc_slots.specs.Tables.{slots_of}
 use Rattle.lrc_stripes.specs.Stored.{Stored, without_stripe, with_spare}
-use Rattle.lrc_stripes.specs.Tables.{seen as stored_in}
+use Rattle.lrc_stripes.specs.Tables.{stored_in}
 use Rattle.lrc_book.specs.Ties.{table_of, given_back}
 use Rattle.lrc_book.proofs.BarLemmas.{earlier-fragments}
 use Rattle.lrc_book.proofs.TableLemmas.{table_less, table_less-nil}

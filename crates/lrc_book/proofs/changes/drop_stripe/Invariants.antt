@@ -1,7 +1,7 @@
 use Rattle.std.proofs.Common.{◌≡◌, map, take}
 use Rattle.lrc_code.specs.declared.codes.Code.TheVariants.{Wide}
 use Rattle.lrc_code.specs.Codes.{fragments}
-use Rattle.lrc_slots.specs.Tables.{seen as slots_of}
+use Rattle.lrc_slots.specs.Tables.{slots_of}
 use Rattle.lrc_book.specs.Ties.{table_of}
 use Rattle.lrc_book.proofs.TableLemmas.{table_less}
 use Rattle.lrc_book.proofs.FragmentLemmas.{seats_at, held_by}

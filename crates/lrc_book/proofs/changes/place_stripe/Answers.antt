@@ -4,9 +4,9 @@ use Rattle.lrc_code.specs.declared.numbers.Fragment.{Fragment}
 use Rattle.lrc_code.specs.Codes.{fragments}
 use Rattle.lrc_topology.specs.declared.seat.Seat.{Seat}
 use Rattle.lrc_slots.specs.Slots.{Slots, with_taken}
-use Rattle.lrc_slots.specs.Tables.{seen as slots_of}
+use Rattle.lrc_slots.specs.Tables.{slots_of}
 use Rattle.lrc_stripes.specs.Stored.{Stored, with_home}
-use Rattle.lrc_stripes.specs.Tables.{seen as stored_in}
+use Rattle.lrc_stripes.specs.Tables.{stored_in}
 use Rattle.lrc_book.specs.States.{State}
 use Rattle.lrc_book.specs.Ties.{table_of, stored_of}
 use Rattle.lrc_book.proofs.PlacingLemmas.{IsPlacedTo, placed-start, placed-more, placed-end, seat-known, slot-taken, stripe-there, no-home, slot-there, seat-free}
@@ -41,7 +41,7 @@ set_home-requires g c =
       homeless = subst (λ (fs : List Fragment). (stored_in c.loop-i.stripes).homes c.args.stripe (get_or fs c.loop-i.i c.fragment-item.result).value ≡ None) (sym c.loop-i.invariant.all)
           (no-home nodes c.requires.0.known g.st c.args.stripe c.args.seats.now c.loop-i.i c.fragment-item.result zero_seat (slots_of c.loop-i.table) (stored_in c.loop-i.stripes) low there c.loop-i.invariant.placed);
       slot = slot-there nodes c.requires.0.known g.st c.args.stripe c.args.seats.now c.loop-i.i c.fragment-item.result zero_seat (slots_of c.loop-i.table) (stored_in c.loop-i.stripes) low there c.loop-i.invariant.placed;
-      free = seat-free nodes c.requires.0.known g.st c.args.stripe c.args.seats.now c.loop-i.i c.fragment-item.result zero_seat (slots_of c.loop-i.table) (stored_in c.loop-i.stripes) low there c.loop-i.invariant.placed;
+      unused = seat-free nodes c.requires.0.known g.st c.args.stripe c.args.seats.now c.loop-i.i c.fragment-item.result zero_seat (slots_of c.loop-i.table) (stored_in c.loop-i.stripes) low there c.loop-i.invariant.placed;
     }
 
 pub loop-i-preserved : goal.loop-i-preserved

@@ -1,8 +1,8 @@
 use Rattle.std.proofs.Common.{◌≡◌}
 use Rattle.lrc_code.specs.declared.codes.Code.TheVariants.{Wide}
 use Rattle.lrc_code.specs.Codes.{fragments}
-use Rattle.lrc_slots.specs.Tables.{seen as slots_of}
-use Rattle.lrc_stripes.specs.Tables.{seen as stored_in}
+use Rattle.lrc_slots.specs.Tables.{slots_of}
+use Rattle.lrc_stripes.specs.Tables.{stored_in}
 use Rattle.lrc_book.proofs.PlacingLemmas.{IsPlacedTo}
 use Rattle.lrc_book.proofs.changes.place_stripe.Given as goal
 

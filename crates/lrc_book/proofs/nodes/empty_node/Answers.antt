@@ -2,9 +2,9 @@ use Rattle.std.proofs.Common.{◌≡◌, ◌<◌, List, sym, ap, ◌∙◌, subs
 use Rattle.std.proofs.lemmas.Option.{same_Some}
 use Rattle.lrc_topology.specs.declared.seat.Seat.{Seat}
 use Rattle.lrc_slots.specs.Slots.{Slots, with_free, load_at}
-use Rattle.lrc_slots.specs.Tables.{seen as slots_of}
-use Rattle.lrc_stripes.specs.Stored.{Stored, Place, AreHomesOn}
-use Rattle.lrc_stripes.specs.Tables.{seen as stored_in}
+use Rattle.lrc_slots.specs.Tables.{slots_of}
+use Rattle.lrc_stripes.specs.Stored.{Stored, StripeFragment, AreHomesOn}
+use Rattle.lrc_stripes.specs.Tables.{stored_in}
 use Rattle.lrc_book.proofs.EmptyLemmas.{IsEmptying, emptying-start, emptying-stripe, emptying-taken, emptying-more, emptying-smaller, emptied-table, emptied-stripes, first-on}
 use Rattle.lrc_book.proofs.nodes.empty_node.Goals as goal
 use Rattle.lrc_book.proofs.nodes.empty_node.Goals.{in-Some-home, in_default-home}
@@ -63,9 +63,9 @@ loop-stripe-preserved g c =
 pub returns-clause-table : goal.returns-clause-table
 returns-clause-table g c =
     emptied-table (slots_of c.args.table.now).nodes g.st c.args.node (stored_in c.args.stripes.now).spare (slots_of c.loop-stripe.table) (stored_in c.loop-stripe.stripes) c.loop-stripe.invariant
-    (subst (λ (places : List Place). AreHomesOn (stored_in c.loop-stripe.stripes) c.args.node places) c.in_default.ensures.steps.0 c.homes_on.ensures)
+    (subst (λ (places : List StripeFragment). AreHomesOn (stored_in c.loop-stripe.stripes) c.args.node places) c.in_default.ensures.steps.0 c.homes_on.ensures)
 
 pub returns-clause-stripes : goal.returns-clause-stripes
 returns-clause-stripes g c =
     emptied-stripes (slots_of c.args.table.now).nodes g.st c.args.node (stored_in c.args.stripes.now).spare (slots_of c.loop-stripe.table) (stored_in c.loop-stripe.stripes) c.loop-stripe.invariant
-    (subst (λ (places : List Place). AreHomesOn (stored_in c.loop-stripe.stripes) c.args.node places) c.in_default.ensures.steps.0 c.homes_on.ensures)
+    (subst (λ (places : List StripeFragment). AreHomesOn (stored_in c.loop-stripe.stripes) c.args.node places) c.in_default.ensures.steps.0 c.homes_on.ensures)

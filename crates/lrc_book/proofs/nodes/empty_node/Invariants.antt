@@ -1,6 +1,6 @@
 use Rattle.lrc_slots.specs.Slots.{load_at}
-use Rattle.lrc_slots.specs.Tables.{seen as slots_of}
-use Rattle.lrc_stripes.specs.Tables.{seen as stored_in}
+use Rattle.lrc_slots.specs.Tables.{slots_of}
+use Rattle.lrc_stripes.specs.Tables.{stored_in}
 use Rattle.lrc_book.proofs.EmptyLemmas.{IsEmptying}
 use Rattle.lrc_book.proofs.nodes.empty_node.Given as goal
 

@@ -1,8 +1,8 @@
 use Rattle.std.proofs.Common.{false, not, ap, ◌∙◌}
 use Rattle.lrc_slots.specs.Slots.{Slots, with_eligible}
-use Rattle.lrc_slots.specs.Tables.{seen as slots_of}
+use Rattle.lrc_slots.specs.Tables.{slots_of}
 use Rattle.lrc_stripes.specs.Stored.{Stored, with_offline}
-use Rattle.lrc_stripes.specs.Tables.{seen as stored_in}
+use Rattle.lrc_stripes.specs.Tables.{stored_in}
 use Rattle.lrc_book.specs.Steps.{emptied, with_gone}
 use Rattle.lrc_book.proofs.ModeLemmas.{table-set, stored-set, set-gone}
 use Rattle.lrc_book.proofs.StoredLemmas.{own-spare}

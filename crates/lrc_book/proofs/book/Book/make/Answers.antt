@@ -2,8 +2,8 @@ use Rattle.std.proofs.Common.{◌+◌, ◌&&◌, nat_le, List, vec_len, vec_capa
 use Rattle.std.proofs.lemmas.Bool.{and_parts, leb-true}
 use Rattle.lrc_topology.specs.declared.NodeInfo.{NodeInfo}
 use Rattle.lrc_slots.specs.Slots.{Slots}
-use Rattle.lrc_slots.specs.Tables.{seen as slots_of}
-use Rattle.lrc_stripes.specs.Tables.{seen as stored_in}
+use Rattle.lrc_slots.specs.Tables.{slots_of}
+use Rattle.lrc_stripes.specs.Tables.{stored_in}
 use Rattle.lrc_book.specs.States.{State}
 use Rattle.lrc_book.specs.Histories.{world_after}
 use Rattle.lrc_book.specs.Books.{BookView, state_of}

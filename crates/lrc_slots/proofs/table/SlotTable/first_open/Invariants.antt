@@ -5,5 +5,5 @@ use Rattle.lrc_slots.proofs.table.SlotTable.first_open.Given as goal
 
 abbrev pub invariant-loop-row : goal.invariant-loop-row
 invariant-loop-row l =
-    fold (better precedes) (option_copied l.best) (filter (is_open (barred l.taken)) (drop l.row-index l.row-items))
-    ≡ least precedes (filter (is_open (barred l.taken)) l.row-items)
+    fold (better precedes) (option_copied l.best) (filter (is_open (barred l.bars)) (drop l.row-index l.row-items))
+    ≡ least precedes (filter (is_open (barred l.bars)) l.row-items)

@@ -1,5 +1,5 @@
 use Rattle.std.proofs.Common.{refl, false, set}
-use Rattle.lrc_slots.proofs.TableLemmas.{row_at-place, known-taken, taken-within, nodes-set, seen-free}
+use Rattle.lrc_slots.proofs.TableLemmas.{row_at-place, known-taken, taken-within, nodes-set, slots_of-free}
 use Rattle.lrc_slots.proofs.table.SlotTable.free.Goals as goal
 
 pub place-place-requires : goal.place-place-requires
@@ -24,4 +24,4 @@ returns c =
     let place = rw (← c.self.view_is) at c.place-place.ensures.value in
     let found = row_at-place rows c.args.node c.place-place.result c.index_mut-row.result.now place c.index_mut-row.ensures.value in
     let within = taken-within rows c.args.node c.args.slot c.index_mut-row.result.now found (rw (← c.self.view_is) at c.requires) in
-    rw (c.mark.ensures, ← c.self.view_is) (seen-free rows c.args.node c.index_mut-row.result.now c.place-place.result found place c.args.slot within)
+    rw (c.mark.ensures, ← c.self.view_is) (slots_of-free rows c.args.node c.index_mut-row.result.now c.place-place.result found place c.args.slot within)

@@ -1,5 +1,5 @@
 use Rattle.std.proofs.Common.{true, set, refl, sym, ◌∙◌}
-use Rattle.lrc_slots.proofs.TableLemmas.{row_at-place, nodes-set, least_free-alone, seen-taken}
+use Rattle.lrc_slots.proofs.TableLemmas.{row_at-place, nodes-set, least_free-alone, slots_of-taken}
 use Rattle.lrc_slots.proofs.table.SlotTable.take.Goals as goal
 
 pub returns-in_err-slot-clause-slot : goal.returns-in_err-slot-clause-slot
@@ -26,4 +26,4 @@ returns-clause-taken c =
     let rows = c.self.inside.rows.items in
     let place = rw (← c.self.view_is) at c.place-place.ensures.value in
     let found = row_at-place rows c.args.node c.place-place.result c.index_mut-row.result.now place c.index_mut-row.ensures.value in
-    rw (c.mark.ensures, ← c.self.view_is) (seen-taken rows c.args.node c.index_mut-row.result.now c.place-place.result found place c.in_ok-slot.slot c.in_ok-slot.ensures.within)
+    rw (c.mark.ensures, ← c.self.view_is) (slots_of-taken rows c.args.node c.index_mut-row.result.now c.place-place.result found place c.in_ok-slot.slot c.in_ok-slot.ensures.within)

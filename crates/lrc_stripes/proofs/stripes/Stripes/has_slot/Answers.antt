@@ -1,5 +1,5 @@
 use Rattle.std.proofs.Common.{sym}
-use Rattle.lrc_stripes.proofs.SeenLemmas.{has_slot-there, has_slot-absent}
+use Rattle.lrc_stripes.proofs.StoredLemmas.{has_slot-there, has_slot-absent}
 use Rattle.lrc_stripes.proofs.stripes.Stripes.has_slot.Goals as goal
 
 pub returns-in-Some : goal.returns-in-Some

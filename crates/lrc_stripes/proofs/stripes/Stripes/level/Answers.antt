@@ -1,5 +1,5 @@
 use Rattle.std.proofs.Common.{sym}
-use Rattle.lrc_stripes.proofs.SeenLemmas.{level_shown-there, level_shown-absent}
+use Rattle.lrc_stripes.proofs.StoredLemmas.{level_shown-there, level_shown-absent}
 use Rattle.lrc_stripes.proofs.stripes.Stripes.level.Goals as goal
 
 pub returns-in_err-row : goal.returns-in_err-row

@@ -1,5 +1,5 @@
 use Rattle.std.proofs.Common.{sym, arith}
-use Rattle.lrc_stripes.proofs.SeenLemmas.{missing_shown-there, missing_shown-absent}
+use Rattle.lrc_stripes.proofs.StoredLemmas.{missing_shown-there, missing_shown-absent}
 use Rattle.lrc_stripes.proofs.stripes.Stripes.missing.Goals as goal
 
 pub returns-in_err-row : goal.returns-in_err-row

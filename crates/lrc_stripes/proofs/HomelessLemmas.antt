@@ -5,8 +5,8 @@ use Rattle.std.proofs.lemmas.Bool.{cases_Bool, eq-eqb, ne_eqb, eqb-true, and_par
 use Rattle.lrc_code.specs.declared.numbers.StripeNo.{StripeNo}
 use Rattle.lrc_topology.specs.declared.seat.Seat.{Seat}
 use Rattle.lrc_stripes.specs.declared.row.Row.{Row}
-use Rattle.lrc_stripes.specs.Stored.{IsFree}
-use Rattle.lrc_stripes.specs.Tables.{Table, seen, is_seat, holds, row_at, row_homes, IsRising}
+use Rattle.lrc_stripes.specs.Stored.{HasNoHome}
+use Rattle.lrc_stripes.specs.Tables.{Table, stored_in, is_seat, holds, row_at, row_homes, IsRising}
 use Rattle.lrc_stripes.proofs.RowLemmas.{AreAbove}
 
 module _ (seat : Seat) where
@@ -58,9 +58,9 @@ module _ (seat : Seat) where
         (rest.0, rest.1, rw (ne_eqb r.stripe.value rest.0.value (λ same. omega (arith, same, above))) rest.2)
   ]
 
-  pub free-held : (t : Table) → IsRising t.rows → IsTrue (not (list_any (holds seat) t.rows)) ↔ IsFree (seen t) seat
-  unfolding seen
-  free-held t rising = (
+  pub without_home-held : (t : Table) → IsRising t.rows → IsTrue (not (list_any (holds seat) t.rows)) ↔ HasNoHome (stored_in t) seat
+  unfolding stored_in
+  without_home-held t rising = (
     λ none s f at. let held = held-any t.rows s f at in let e : not true ≡ true = rw held at none in cc,
     λ free. not_from_false _ (false_from_ne_true _ (λ held. let at = any-held t.rows rising held in free at.0 at.1 at.2)),
   )

@@ -17,27 +17,27 @@ use Rattle.lrc_stripes.specs.declared.row.Site.{Site}
 use Rattle.lrc_stripes.specs.declared.level.Level.{Level}
 use Rattle.lrc_stripes.specs.Levels.{homeless_in, missing_in, level_by}
 use Rattle.lrc_stripes.specs.Stored.{empty, with_stripe, without_stripe, with_home, with_offline, with_spare, same_stripe, has_node, has_slot, missing_shown, level_shown}
-use Rattle.lrc_stripes.specs.Tables.{Table, seen, site_of, site_at, site_place, online_in, row_at, row_homes, place_of, IsRising}
+use Rattle.lrc_stripes.specs.Tables.{Table, stored_in, site_of, site_at, site_place, online_in, row_at, row_homes, place_of, IsRising}
 use Rattle.lrc_stripes.proofs.SiteLemmas.{nodes-at_first, online-at_first, nodes-set, online-set, node_at-sites}
 use Rattle.lrc_stripes.proofs.RowLemmas.{row_at-insert, row_at-remove, row_at-set}
 
 -- ---- at first
 
-pub seen-at_first : (nodes : List NodeInfo) (sites : List Site) (rows : List Row) → sites ≡ map site_of nodes → rows ≡ [] → seen (record { sites = sites; rows = rows; spare = 0 }) ≡ empty nodes
-unfolding seen
-seen-at_first nodes sites rows e none =
-    rw (e, none) (ap (λ (ns : List NodeInfo). record (seen (record { sites = map site_of nodes; rows = []; spare = 0 })) { nodes = ns }) (nodes-at_first nodes)
+pub stored_in-at_first : (nodes : List NodeInfo) (sites : List Site) (rows : List Row) → sites ≡ map site_of nodes → rows ≡ [] → stored_in (record { sites = sites; rows = rows; spare = 0 }) ≡ empty nodes
+unfolding stored_in
+stored_in-at_first nodes sites rows e none =
+    rw (e, none) (ap (λ (ns : List NodeInfo). record (stored_in (record { sites = map site_of nodes; rows = []; spare = 0 })) { nodes = ns }) (nodes-at_first nodes)
     ∙ ap (λ (o : NodeNo → Bool). record (empty nodes) { online = o }) (online-at_first nodes))
 
 -- ---- a node set offline or online
 
-pub seen-set_offline : (sites : List Site) (rows : List Row) (spare : ℕ) (n : NodeNo) (b : Bool) (old : Site) → old ≡ get_or sites (site_place sites n) old → site_place sites n < length sites
-    → seen (record { sites = set sites (site_place sites n) (record old { is_offline = b }); rows = rows; spare = spare }) ≡ with_offline (seen (record { sites = sites; rows = rows; spare = spare })) n b
-unfolding seen
-seen-set_offline sites rows spare n b d at within =
-    let t = seen (record { sites = sites; rows = rows; spare = spare }) in
+pub stored_in-set_offline : (sites : List Site) (rows : List Row) (spare : ℕ) (n : NodeNo) (b : Bool) (old : Site) → old ≡ get_or sites (site_place sites n) old → site_place sites n < length sites
+    → stored_in (record { sites = set sites (site_place sites n) (record old { is_offline = b }); rows = rows; spare = spare }) ≡ with_offline (stored_in (record { sites = sites; rows = rows; spare = spare })) n b
+unfolding stored_in
+stored_in-set_offline sites rows spare n b d at within =
+    let t = stored_in (record { sites = sites; rows = rows; spare = spare }) in
     let x = record (get_or sites (site_place sites n) d) { is_offline = b } in
-    ap (λ (y : Site). seen (record { sites = set sites (site_place sites n) (record y { is_offline = b }); rows = rows; spare = spare })) at
+    ap (λ (y : Site). stored_in (record { sites = set sites (site_place sites n) (record y { is_offline = b }); rows = rows; spare = spare })) at
     ∙ ap (λ (ns : List NodeInfo). record t { nodes = ns; online = online_in (set sites (site_place sites n) x) }) (nodes-set sites n b d)
     ∙ ap (λ (o : NodeNo → Bool). record t { online = o }) (online-set sites n b d within)
 
@@ -45,16 +45,16 @@ seen-set_offline sites rows spare n b d at within =
 
 -- where only one stripe finds another row than before, only its homes change, and whether it is there
 module _ (sites : List Site) (rows changed : List Row) (s : StripeNo) (o : Option Row) (found : (t : StripeNo) → row_at changed t ≡ (if same_stripe s t then o else row_at rows t)) where
-  seen-changed : (spare after : ℕ)
-      → seen (record { sites = sites; rows = changed; spare = after })
-      ≡ record (seen (record { sites = sites; rows = rows; spare = spare })) {
+  stored_in-changed : (spare after : ℕ)
+      → stored_in (record { sites = sites; rows = changed; spare = after })
+      ≡ record (stored_in (record { sites = sites; rows = rows; spare = spare })) {
         stripes = λ t. is_some (if same_stripe s t then o else row_at rows t);
         homes = λ t. row_homes (if same_stripe s t then o else row_at rows t);
         spare = after;
       }
-  unfolding seen
-  seen-changed spare after =
-      ap (λ (at : StripeNo → Option Row). record (seen (record { sites = sites; rows = rows; spare = spare })) { stripes = λ t. is_some (at t); homes = λ t. row_homes (at t); spare = after }) (fun_ext found)
+  unfolding stored_in
+  stored_in-changed spare after =
+      ap (λ (at : StripeNo → Option Row). record (stored_in (record { sites = sites; rows = rows; spare = spare })) { stripes = λ t. is_some (at t); homes = λ t. row_homes (at t); spare = after }) (fun_ext found)
 
 -- a list of one value reads as that value everywhere
 get_or-replicate_same : {X : Type 0} (n i : ℕ) (d : X) → get_or (replicate n d) i d ≡ d
@@ -71,14 +71,14 @@ homes-chosen true o p f e = e
 homes-chosen false o p f e = refl
 
 -- a stripe with no homes added
-pub seen-insert : (sites : List Site) (rows : List Row) (x : Row) (spare : ℕ) → x.homes ≡ replicate 16 None → is_some (row_at rows x.stripe) ≡ false
-    → seen (record { sites = sites; rows = insert rows (place_of rows x.stripe) x; spare = spare - 1 }) ≡ with_stripe (seen (record { sites = sites; rows = rows; spare = spare })) x.stripe
-unfolding seen
-seen-insert sites rows x spare bare absent =
-    let t = seen (record { sites = sites; rows = rows; spare = spare }) in
+pub stored_in-insert : (sites : List Site) (rows : List Row) (x : Row) (spare : ℕ) → x.homes ≡ replicate 16 None → is_some (row_at rows x.stripe) ≡ false
+    → stored_in (record { sites = sites; rows = insert rows (place_of rows x.stripe) x; spare = spare - 1 }) ≡ with_stripe (stored_in (record { sites = sites; rows = rows; spare = spare })) x.stripe
+unfolding stored_in
+stored_in-insert sites rows x spare bare absent =
+    let t = stored_in (record { sites = sites; rows = rows; spare = spare }) in
     let s = x.stripe in
     let no_homes : (f : ℕ) → row_homes (Some x) f ≡ None = λ f. rw bare (get_or-replicate_same 16 f None) in
-    seen-changed sites rows (insert rows (place_of rows s) x) s (Some x) (λ u. row_at-insert x rows u absent) spare (spare - 1)
+    stored_in-changed sites rows (insert rows (place_of rows s) x) s (Some x) (λ u. row_at-insert x rows u absent) spare (spare - 1)
     ∙ ap (λ (b : StripeNo → Bool). record t { stripes = b; homes = λ u. row_homes (if same_stripe s u then Some x else row_at rows u); spare = spare - 1 }) (fun_ext (λ u. stripes-added (same_stripe s u) true (Some x) (row_at rows u) refl))
     ∙ ap (λ (h : StripeNo → ℕ → Option Seat). record (with_stripe t s) { homes = h }) (fun_ext (λ u. fun_ext (λ f. homes-chosen (same_stripe s u) (Some x) (row_at rows u) f (no_homes f))))
 
@@ -87,12 +87,12 @@ stripes-removed true p = refl
 stripes-removed false p = refl
 
 -- a stripe taken out with its homes
-pub seen-remove : (sites : List Site) (rows : List Row) (s : StripeNo) (spare after : ℕ) → IsRising rows → is_some (row_at rows s) ≡ true
-    → seen (record { sites = sites; rows = remove rows (place_of rows s); spare = after }) ≡ with_spare (without_stripe (seen (record { sites = sites; rows = rows; spare = spare })) s) after
-unfolding seen
-seen-remove sites rows s spare after rising there =
-    let t = seen (record { sites = sites; rows = rows; spare = spare }) in
-    seen-changed sites rows (remove rows (place_of rows s)) s None (λ u. row_at-remove rows s u rising there) spare after
+pub stored_in-remove : (sites : List Site) (rows : List Row) (s : StripeNo) (spare after : ℕ) → IsRising rows → is_some (row_at rows s) ≡ true
+    → stored_in (record { sites = sites; rows = remove rows (place_of rows s); spare = after }) ≡ with_spare (without_stripe (stored_in (record { sites = sites; rows = rows; spare = spare })) s) after
+unfolding stored_in
+stored_in-remove sites rows s spare after rising there =
+    let t = stored_in (record { sites = sites; rows = rows; spare = spare }) in
+    stored_in-changed sites rows (remove rows (place_of rows s)) s None (λ u. row_at-remove rows s u rising there) spare after
     ∙ ap (λ (b : StripeNo → Bool). record t { stripes = b; homes = λ u. row_homes (if same_stripe s u then None else row_at rows u); spare = after }) (fun_ext (λ u. stripes-removed (same_stripe s u) (row_at rows u)))
     ∙ ap (λ (h : StripeNo → ℕ → Option Seat). record (with_spare (without_stripe t s) after) { homes = h }) (fun_ext (λ u. fun_ext (λ f. homes-chosen (same_stripe s u) None (row_at rows u) f refl)))
 
@@ -117,49 +117,49 @@ homes-set rows s t x old f home g found changed = elim (cases_eq s.value t.value
 ]
 
 -- the home of one fragment set
-pub seen-set_home : (sites : List Site) (rows : List Row) (s : StripeNo) (x old : Row) (f : Fragment) (home : Option Seat) (spare : ℕ) → IsRising rows → row_at rows s ≡ Some old → x.stripe.value ≡ s.value → x.homes ≡ set old.homes f.value home
-    → seen (record { sites = sites; rows = set rows (place_of rows s) x; spare = spare }) ≡ with_home (seen (record { sites = sites; rows = rows; spare = spare })) s f home
-unfolding seen
-seen-set_home sites rows s x old f home spare rising found own changed =
-    let t = seen (record { sites = sites; rows = rows; spare = spare }) in
+pub stored_in-set_home : (sites : List Site) (rows : List Row) (s : StripeNo) (x old : Row) (f : Fragment) (home : Option Seat) (spare : ℕ) → IsRising rows → row_at rows s ≡ Some old → x.stripe.value ≡ s.value → x.homes ≡ set old.homes f.value home
+    → stored_in (record { sites = sites; rows = set rows (place_of rows s) x; spare = spare }) ≡ with_home (stored_in (record { sites = sites; rows = rows; spare = spare })) s f home
+unfolding stored_in
+stored_in-set_home sites rows s x old f home spare rising found own changed =
+    let t = stored_in (record { sites = sites; rows = rows; spare = spare }) in
     let there : is_some (row_at rows s) ≡ true = ap is_some found in
-    seen-changed sites rows (set rows (place_of rows s) x) s (Some x) (λ u. row_at-set rows s x u rising there own) spare spare
+    stored_in-changed sites rows (set rows (place_of rows s) x) s (Some x) (λ u. row_at-set rows s x u rising there own) spare spare
     ∙ ap (λ (b : StripeNo → Bool). record t { stripes = b; homes = λ u. row_homes (if same_stripe s u then Some x else row_at rows u) }) (fun_ext (λ u. stripes-kept rows s u x there))
     ∙ ap (λ (h : StripeNo → ℕ → Option Seat). record t { homes = h }) (fun_ext (λ u. fun_ext (λ g. homes-set rows s u x old f home g found changed)))
 
 -- ---- what is read
 
 pub missing_shown-there : (t : Table) (s : StripeNo) (r : Row) (bits : ℕ) → bits < 65536 → row_at t.rows s ≡ Some r → bits_set bits ≡ missing_in Wide (online_in t.sites) (row_homes (Some r))
-    → missing_shown (seen t) s ≡ Some (record { bits = bits })
-unfolding seen missing_shown
+    → missing_shown (stored_in t) s ≡ Some (record { bits = bits })
+unfolding stored_in missing_shown
 missing_shown-there t s r bits few found set =
     rw found (ap (λ (m : FragmentSet). Some (record { bits = bits_of Wide m })) (sym set) ∙ ap (λ (b : ℕ). Some (record { bits = b })) (bits_of-bits_set Wide bits few))
 
-pub missing_shown-absent : (t : Table) (s : StripeNo) → row_at t.rows s ≡ None → missing_shown (seen t) s ≡ None
-unfolding seen missing_shown
+pub missing_shown-absent : (t : Table) (s : StripeNo) → row_at t.rows s ≡ None → missing_shown (stored_in t) s ≡ None
+unfolding stored_in missing_shown
 missing_shown-absent t s none = rw none refl
 
 pub level_shown-there : (t : Table) (s : StripeNo) (r : Row) (level : Level) (homeless missing : FragmentSet) → row_at t.rows s ≡ Some r → homeless ≡ homeless_in Wide (row_homes (Some r)) → missing ≡ missing_in Wide (online_in t.sites) (row_homes (Some r))
-    → level ≡ level_by Wide homeless missing → level_shown (seen t) s ≡ Some level
-unfolding seen level_shown
+    → level ≡ level_by Wide homeless missing → level_shown (stored_in t) s ≡ Some level
+unfolding stored_in level_shown
 level_shown-there t s r level homeless missing found none gone is = rw found (ap₂ (λ (h m : FragmentSet). Some (level_by Wide h m)) (sym none) (sym gone) ∙ ap (λ (l : Level). Some l) (sym is))
 
-pub level_shown-absent : (t : Table) (s : StripeNo) → row_at t.rows s ≡ None → level_shown (seen t) s ≡ None
-unfolding seen level_shown
+pub level_shown-absent : (t : Table) (s : StripeNo) → row_at t.rows s ≡ None → level_shown (stored_in t) s ≡ None
+unfolding stored_in level_shown
 level_shown-absent t s none = rw none refl
 
 pub is_some-option_map : {X Y : Type 0} (f : X → Y) (o : Option X) → is_some (option_map f o) ≡ is_some o
 is_some-option_map f None = refl
 is_some-option_map f (Some x) = refl
 
-pub has_node-seen : (t : Table) (n : NodeNo) → has_node (seen t).nodes n ≡ is_some (site_at t.sites n)
-unfolding seen
-has_node-seen t n = ap is_some (node_at-sites t.sites n) ∙ is_some-option_map (λ x. x.node) (site_at t.sites n)
+pub has_node-stored_in : (t : Table) (n : NodeNo) → has_node (stored_in t).nodes n ≡ is_some (site_at t.sites n)
+unfolding stored_in
+has_node-stored_in t n = ap is_some (node_at-sites t.sites n) ∙ is_some-option_map (λ x. x.node) (site_at t.sites n)
 
-pub has_slot-there : (t : Table) (seat : Seat) (x : Site) → site_at t.sites seat.node ≡ Some x → has_slot (seen t).nodes seat ≡ nat_lt seat.slot x.node.slots
-unfolding seen
+pub has_slot-there : (t : Table) (seat : Seat) (x : Site) → site_at t.sites seat.node ≡ Some x → has_slot (stored_in t).nodes seat ≡ nat_lt seat.slot x.node.slots
+unfolding stored_in
 has_slot-there t seat x found = rw (node_at-sites t.sites seat.node, found) refl
 
-pub has_slot-absent : (t : Table) (seat : Seat) → site_at t.sites seat.node ≡ None → has_slot (seen t).nodes seat ≡ false
-unfolding seen
+pub has_slot-absent : (t : Table) (seat : Seat) → site_at t.sites seat.node ≡ None → has_slot (stored_in t).nodes seat ≡ false
+unfolding stored_in
 has_slot-absent t seat none = rw (node_at-sites t.sites seat.node, none) refl
