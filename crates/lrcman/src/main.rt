@@ -23,7 +23,7 @@ enum Request<'a> {
 #[derive(Clone, Copy, Debug, PartialEq, Eq, thiserror::Error)]
 enum Stop {
     /// The command line is refused.
-    #[error("usage: lrcman run | lrcman check | lrcman recover MASK")]
+    #[error("usage: lrcman run < BUNDLE | lrcman check < BUNDLE | lrcman recover MASK (four hexadecimal digits)")]
     Usage,
     #[error("lrcman: {0}")]
     Fault(RunFault),

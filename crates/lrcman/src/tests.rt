@@ -72,7 +72,7 @@ fn a_stop_is_told_in_one_line(rt: HostRuntime) -> Result<(), Fail> {
     let table = [
         (
             Stop::Usage,
-            "usage: lrcman run | lrcman check | lrcman recover MASK",
+            "usage: lrcman run < BUNDLE | lrcman check < BUNDLE | lrcman recover MASK (four hexadecimal digits)",
             2,
         ),
         (Stop::Fault(RunFault::OutOfMemory), "lrcman: fault 1", 3),
