@@ -20,7 +20,8 @@ use Rattle.lrc_slots.specs.Barred.{Barred, no_bars}
 use Rattle.lrc_book.specs.States.{State, has_stripe, seats_of}
 use Rattle.lrc_book.specs.Changes.{held_at}
 use Rattle.lrc_book.specs.Goodness.{AreSeated}
-use Rattle.lrc_book.specs.Ties.{is_beside, bars_fault, bars_upgrade, bars_in, with_held}
+use Rattle.lrc_book.specs.Placement.{is_beside}
+use Rattle.lrc_book.specs.Ties.{bars_fault, bars_upgrade, bars_in, with_held}
 use Rattle.lrc_book.proofs.ChoiceLemmas.{same_stripe}
 use Rattle.lrc_book.proofs.SeatedLemmas.{fragments-distinct, not_there}
 use Rattle.lrc_book.proofs.TableLemmas.{pairs-before}

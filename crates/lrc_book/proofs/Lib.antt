@@ -1,5 +1,6 @@
 pub mod ListLemmas
 pub mod StepLemmas
+pub mod LawLemmas
 pub mod WorldLemmas
 pub mod MemberLemmas
 pub mod NodeLemmas

@@ -20,8 +20,8 @@ use Rattle.lrc_stripes.specs.Stored as stored
 use Rattle.lrc_book.specs.States.{State, has_stripe}
 use Rattle.lrc_book.specs.Placement.{with_home}
 use Rattle.lrc_book.specs.Steps.{with_stripe}
-use Rattle.lrc_book.specs.Changes.{held_at, AreChosen, with_placed}
-use Rattle.lrc_book.specs.Choices.{IsChoice}
+use Rattle.lrc_book.specs.Changes.{held_at, with_placed}
+use Rattle.lrc_book.specs.Choices.{IsChoice, AreChosen}
 use Rattle.lrc_book.specs.Ties.{table_of, stored_of, AreOf}
 use Rattle.lrc_book.proofs.MemberLemmas.{list_any-member}
 use Rattle.lrc_book.proofs.NodeLemmas.{node_at-member}

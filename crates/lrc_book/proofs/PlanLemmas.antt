@@ -20,9 +20,9 @@ use Rattle.lrc_topology.specs.Seats.{load_of, is_taken, first_slot, free_seat, i
 use Rattle.lrc_slots.specs.Slots.{least_free, least_free_at}
 use Rattle.lrc_slots.specs.Next.{may_take, is_chosen_before, next_node}
 use Rattle.lrc_book.specs.States.{State, has_stripe, taken_seats, takes_seats, is_eligible}
-use Rattle.lrc_book.specs.Placement.{bars, fits, chosen, chosen_node}
+use Rattle.lrc_book.specs.Placement.{bars, fits, chosen, chosen_node, is_beside}
 use Rattle.lrc_book.specs.Goodness.{AreSeated}
-use Rattle.lrc_book.specs.Ties.{table_of, is_beside, bars_of, bars_in, next_seat, with_homes}
+use Rattle.lrc_book.specs.Ties.{table_of, bars_of, bars_in, next_seat, with_homes}
 use Rattle.lrc_book.proofs.MemberLemmas.{All-members, filter-member}
 use Rattle.lrc_code.proofs.OrderLemmas.{least-listed}
 use Rattle.lrc_book.proofs.NodeLemmas.{node_at-member, seat_on}

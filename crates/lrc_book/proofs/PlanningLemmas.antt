@@ -12,9 +12,9 @@ use Rattle.lrc_topology.specs.declared.NodeInfo.{NodeInfo}
 use Rattle.lrc_topology.specs.declared.seat.Seat.{Seat}
 use Rattle.lrc_topology.specs.declared.seat.Held.{Held}
 use Rattle.lrc_book.specs.States.{State}
-use Rattle.lrc_book.specs.Placement.{chosen, with_home, place_next, placed}
+use Rattle.lrc_book.specs.Placement.{chosen, with_home, place_next, placed, is_beside}
 use Rattle.lrc_book.specs.Changes.{held_at}
-use Rattle.lrc_book.specs.Ties.{is_beside, with_homes}
+use Rattle.lrc_book.specs.Ties.{with_homes}
 use Rattle.lrc_book.proofs.ListLemmas.{held_at-push}
 use Rattle.lrc_book.proofs.BarLemmas.{held_at-beside, earlier-fragments}
 

@@ -18,9 +18,9 @@ use Rattle.lrc_slots.specs.Barred.{Barred}
 use Rattle.lrc_slots.specs.Next.{may_take}
 use Rattle.lrc_book.specs.declared.mode.Mode.TheVariants.{Gone}
 use Rattle.lrc_book.specs.States.{State, code_of, taken_seats, mode_of, takes_seats, is_eligible}
-use Rattle.lrc_book.specs.Placement.{bars}
+use Rattle.lrc_book.specs.Placement.{bars, is_beside}
 use Rattle.lrc_book.specs.Goodness.{IsStanding}
-use Rattle.lrc_book.specs.Ties.{table_of, is_beside, bars_fault, bars_upgrade, bars_in}
+use Rattle.lrc_book.specs.Ties.{table_of, bars_fault, bars_upgrade, bars_in}
 use Rattle.lrc_book.proofs.MemberLemmas.{AllPairs-head, AllPairs-tail}
 use Rattle.lrc_book.proofs.NodeLemmas.{taken-member, seat_on}
 

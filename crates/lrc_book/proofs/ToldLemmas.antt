@@ -16,7 +16,7 @@ use Rattle.lrc_book.specs.declared.reply.Refusal.TheVariants as refusal
 use Rattle.lrc_book.specs.States.{State, has_stripe, mode_of, is_gone, is_down}
 use Rattle.lrc_book.specs.Placement.{placed}
 use Rattle.lrc_book.specs.Steps.{Outcome, refuse_if, with_stripe, without_stripe, place_answer, place_outcome, drop_outcome, fail_outcome, down_outcome, up_outcome, join_outcome}
-use Rattle.lrc_book.specs.Changes.{AreChosen}
+use Rattle.lrc_book.specs.Choices.{AreChosen}
 use Rattle.lrc_book.proofs.StepLemmas.{place-passed, place-there, placed-grown, seats-added}
 
 -- a stripe was placed: it was not there, and each of its seats was chosen

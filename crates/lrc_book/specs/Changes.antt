@@ -1,5 +1,6 @@
+-- Internal: no public clause reaches these definitions.
 -- What a call changes of the state, told by its command and its reply.
-use Rattle.std.specs.Prelude.{◌≡◌, ⊤, List, [], ◌∷◌, ◌++◌, Some}
+use Rattle.std.specs.Prelude.{◌≡◌, List, [], ◌∷◌, ◌++◌}
 use Rattle.lrc_code.specs.declared.numbers.StripeNo.{StripeNo}
 use Rattle.lrc_code.specs.declared.numbers.Fragment.{Fragment}
 use Rattle.lrc_code.specs.declared.codes.Code.TheVariants.{Wide}
@@ -12,7 +13,6 @@ use Rattle.lrc_book.specs.declared.reply.Reply.{Reply}
 use Rattle.lrc_book.specs.declared.reply.Reply.TheVariants.{Placed, Dropped, Changed}
 use Rattle.lrc_topology.specs.declared.NodeInfo.{NodeInfo}
 use Rattle.lrc_book.specs.States.{State}
-use Rattle.lrc_book.specs.Placement.{chosen, with_home}
 use Rattle.lrc_code.specs.declared.numbers.SessionNo.{SessionNo}
 use Rattle.lrc_book.specs.declared.entry.Entry.{Entry}
 use Rattle.lrc_book.specs.Steps.{step, without_stripe, emptied, with_gone, with_down, without_down, without_gone}
@@ -21,12 +21,6 @@ use Rattle.lrc_book.specs.Steps.{step, without_stripe, emptied, with_gone, with_
 abbrev pub held_at : StripeNo → List Fragment → List Seat → List Held
 held_at s (f ∷ fs) (seat ∷ seats) = record { stripe = s; fragment = f; seat = seat } ∷ held_at s fs seats
 held_at s _ _ = []
-
--- each of these fragments of a stripe has the seat at its place chosen for it, with those before it placed
-abbrev pub AreChosen : List NodeInfo → State → StripeNo → List Fragment → List Seat → Type 0
-AreChosen nodes st s [] [] = ⊤
-AreChosen nodes st s (f ∷ fs) (seat ∷ seats) = (chosen nodes st s f ≡ Some seat) × AreChosen nodes (with_home st s f seat) s fs seats
-AreChosen nodes st s _ _ = ⊥
 
 -- the stripe with its homes on these seats
 abbrev pub with_placed : State → StripeNo → List Seat → State

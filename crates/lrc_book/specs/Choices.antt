@@ -1,5 +1,5 @@
 -- The choice rule in words: which nodes a fragment may go to, and which seat is chosen.
-use Rattle.std.specs.Prelude.{◌≡◌, ◌≢◌, ◌⊎◌, ℕ, ◌<◌, IsTrue, List, All, Contains, IfSome}
+use Rattle.std.specs.Prelude.{◌≡◌, ◌≢◌, ◌⊎◌, ⊤, ℕ, ◌<◌, IsTrue, List, [], ◌∷◌, All, Contains, Some, None, IfSome}
 use Rattle.lrc_code.specs.declared.codes.Code.{Code}
 use Rattle.lrc_code.specs.declared.numbers.StripeNo.{StripeNo}
 use Rattle.lrc_code.specs.declared.numbers.Fragment.{Fragment}
@@ -10,6 +10,7 @@ use Rattle.lrc_topology.specs.declared.seat.Held.{Held}
 use Rattle.lrc_topology.specs.Nodes.{node_at}
 use Rattle.lrc_book.specs.declared.mode.Mode.TheVariants.{Active}
 use Rattle.lrc_book.specs.States.{State, code_of, seats_of, taken_seats, load, mode_of, is_online}
+use Rattle.lrc_book.specs.Placement.{chosen, with_home}
 
 -- The nodes of two fragments of a stripe are apart: their fault domains differ, and where the fragments are of one class their upgrade domains differ too.
 pub record AreApart (code : Code) (f : Fragment) (n : NodeInfo) (g : Fragment) (m : NodeInfo) : Type 0 where
@@ -49,3 +50,17 @@ pub record IsChoice (nodes : List NodeInfo) (st : State) (s : StripeNo) (f : Fra
   pub on : seat.node ≡ node.number
   pub free : IsFree st node seat.slot
   pub least : (slot : ℕ) → slot < seat.slot → Contains (taken_seats st) (record { node = node.number; slot = slot })
+
+-- ---- the seats of a stripe's fragments, chosen one after the other
+
+-- the seats are those that are chosen for these fragments, each with the ones before it placed
+abbrev pub AreChosen : List NodeInfo → State → StripeNo → List Fragment → List Seat → Type 0
+AreChosen nodes st s [] [] = ⊤
+AreChosen nodes st s (f ∷ fs) (seat ∷ seats) = (chosen nodes st s f ≡ Some seat) × AreChosen nodes (with_home st s f seat) s fs seats
+AreChosen nodes st s _ _ = ⊥
+
+-- the fragment is the first of these for which none is chosen, with the ones before it placed
+abbrev pub IsFirstWithout : List NodeInfo → State → StripeNo → List Fragment → Fragment → Type 0
+IsFirstWithout nodes st s [] f = ⊥
+IsFirstWithout nodes st s (g ∷ gs) f =
+    ((chosen nodes st s g ≡ None) × (g ≡ f)) ⊎ ((seat : Seat) × (chosen nodes st s g ≡ Some seat) × IsFirstWithout nodes (with_home st s g seat) s gs f)

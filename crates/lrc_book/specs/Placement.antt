@@ -19,10 +19,13 @@ abbrev pub clashes : Code → Fragment → NodeInfo → Fragment → NodeInfo �
 clashes code f n g m =
     nat_eq n.fault.value m.fault.value || (same_class (class_of code f.value) (class_of code g.value) && nat_eq n.upgrade.value m.upgrade.value)
 
--- a seat of another fragment of the stripe keeps a fragment from a node
+-- this is a seat of another fragment of the stripe
+abbrev pub is_beside : StripeNo → Fragment → Held → Bool
+is_beside s f h = nat_eq h.stripe.value s.value && not (nat_eq h.fragment.value f.value)
+
+-- such a seat keeps the fragment from a node
 abbrev pub bars : List NodeInfo → State → StripeNo → Fragment → NodeInfo → Held → Bool
-bars nodes st s f n h =
-    (nat_eq h.stripe.value s.value && not (nat_eq h.fragment.value f.value)) && option_map_or (λ m. clashes (code_of st s) f n h.fragment m) (node_at nodes h.seat.node) false
+bars nodes st s f n h = is_beside s f h && option_map_or (λ m. clashes (code_of st s) f n h.fragment m) (node_at nodes h.seat.node) false
 
 -- the node is eligible, and a seat of the fragment on it would keep the stripe lawful
 abbrev pub fits : List NodeInfo → State → StripeNo → Fragment → NodeInfo → Bool

@@ -20,6 +20,7 @@ use Rattle.lrc_slots.specs.Barred.{Barred}
 use Rattle.lrc_slots.specs.Next.{next_number}
 use Rattle.lrc_book.specs.Goodness.{AreSeated}
 use Rattle.lrc_book.specs.States.{State, has_stripe, code_of, seats_of, taken_seats, takes_seats, online_at}
+use Rattle.lrc_book.specs.Placement.{is_beside}
 
 -- the nodes that take seats are eligible, and the seats of the state are taken
 abbrev pub table_of : List NodeInfo → State → Slots
@@ -50,11 +51,7 @@ given_back t None = t
 
 -- ---- barred domains
 
--- a seat of another fragment of the stripe
-abbrev pub is_beside : StripeNo → Fragment → Held → Bool
-is_beside s f h = nat_eq h.stripe.value s.value && not (nat_eq h.fragment.value f.value)
-
--- such a seat, on a node of the fault domain
+-- a seat of another fragment of the stripe, on a node of the fault domain
 abbrev pub bars_fault : List NodeInfo → StripeNo → Fragment → FaultNo → Held → Bool
 bars_fault nodes s f d h = is_beside s f h && option_map_or (λ m. nat_eq d.value m.fault.value) (node_at nodes h.seat.node) false
 

@@ -9,7 +9,8 @@ ghost use Rattle.lrc_slots.specs.Tables.{slots_of};
 ghost use Rattle.lrc_stripes.specs.Tables.{stored_in};
 ghost use Rattle.lrc_book.specs.States.{State, has_stripe};
 ghost use Rattle.lrc_book.specs.Steps.{with_stripe, without_stripe};
-ghost use Rattle.lrc_book.specs.Changes.{AreChosen, IsAnswer, with_placed, changed_by};
+ghost use Rattle.lrc_book.specs.Choices.{AreChosen};
+ghost use Rattle.lrc_book.specs.Changes.{IsAnswer, with_placed, changed_by};
 ghost use Rattle.lrc_book.specs.Ties.{table_of, stored_of, given_back, AreOf};
 
 use crate::{Command, Reply, Seat, nodes};

@@ -7,13 +7,18 @@ ghost use Rattle.lrc_topology.specs.declared.NodeInfo.{NodeInfo};
 ghost use Rattle.lrc_topology.specs.declared.seat.Seat.{Seat};
 ghost use Rattle.lrc_topology.specs.declared.seat.Held.{Held};
 ghost use Rattle.lrc_topology.specs.Nodes.{AreNodes};
+ghost use Rattle.lrc_code.specs.declared.numbers.SessionNo.{SessionNo};
 ghost use Rattle.lrc_book.specs.declared.entry.Entry.{Entry};
+ghost use Rattle.lrc_book.specs.declared.command.Command.{Command};
+ghost use Rattle.lrc_book.specs.declared.reply.Reply.TheVariants.{Refused};
+ghost use Rattle.lrc_book.specs.declared.reply.Refusal.{Refusal};
+ghost use Rattle.lrc_book.specs.Steps.{step};
 ghost use Rattle.lrc_book.specs.States.{State};
-ghost use Rattle.lrc_book.specs.Placement.{chosen};
+ghost use Rattle.lrc_book.specs.Placement.{chosen, is_beside};
 ghost use Rattle.lrc_book.specs.Choices.{IsFitting, IsChoice};
 ghost use Rattle.lrc_book.specs.Histories.{IsLegal, state_after};
 ghost use Rattle.lrc_book.specs.Goodness.{AreSeated, IsGood};
-ghost use Rattle.lrc_book.specs.Ties.{table_of, bars_of, is_beside, next_seat, with_homes};
+ghost use Rattle.lrc_book.specs.Ties.{table_of, bars_of, next_seat, with_homes};
 
 /// The chosen seat is the least free slot of the node that comes before every other node that the fragment may go to.
 pub fn chosen_seats_come_first()
@@ -46,4 +51,10 @@ pub fn planned_homes_only_bar_domains()
     ensures { (nodes : List NodeInfo) (st : State) (planned : List Held) (s : StripeNo) (f : Fragment)
         → AreNodes nodes → AreSeated nodes st → All (λ h. IsTrue (is_beside s f h)) planned
         → next_seat (table_of nodes st) (bars_of nodes (with_homes st planned) s f) ≡ chosen nodes (with_homes st planned) s f }
+{}
+
+/// A refused command leaves the state as it was, whatever the nodes, the entries before it and the state.
+pub fn refused_commands_change_nothing()
+    ensures { (nodes : List NodeInfo) (past : List Entry) (st : State) (session : SessionNo) (command : Command) (r : Refusal)
+        → (step nodes past st session command).0 ≡ Refused r → (step nodes past st session command).1 ≡ st }
 {}

@@ -7,9 +7,10 @@ ghost use Rattle.lrc_code.specs.Codes.{fragments, same_class};
 ghost use Rattle.lrc_slots.specs.Barred.{no_bars};
 ghost use Rattle.lrc_slots.specs.Tables.{slots_of, barred};
 ghost use Rattle.lrc_book.specs.States.{State, has_stripe};
-ghost use Rattle.lrc_book.specs.Placement.{placed, chosen};
-ghost use Rattle.lrc_book.specs.Changes.{held_at, AreChosen};
-ghost use Rattle.lrc_book.specs.Ties.{IsTableOf, bars_in, with_held, with_homes, is_beside};
+ghost use Rattle.lrc_book.specs.Placement.{placed, chosen, is_beside};
+ghost use Rattle.lrc_book.specs.Choices.{AreChosen};
+ghost use Rattle.lrc_book.specs.Changes.{held_at};
+ghost use Rattle.lrc_book.specs.Ties.{IsTableOf, bars_in, with_held, with_homes};
 
 use crate::{Held, Seat};
 use lrc_code::{Class, Fragment, NodeNo, StripeNo};

@@ -2,7 +2,8 @@ use Rattle.std.proofs.Common.{true, List, get_or, ap, subst, ◌≡◌, ◌<◌,
 use Rattle.std.specs.List.{All}
 use Rattle.lrc_code.specs.declared.numbers.Fragment.{Fragment}
 use Rattle.lrc_book.specs.Changes.{held_at}
-use Rattle.lrc_book.specs.Ties.{is_beside, with_homes}
+use Rattle.lrc_book.specs.Placement.{is_beside}
+use Rattle.lrc_book.specs.Ties.{with_homes}
 use Rattle.lrc_book.proofs.PlanningLemmas.{placing-start, placing-none, placing-more, planned-more, planned-beside}
 use Rattle.lrc_book.proofs.planning.plan_seats.Goals as goal
 
