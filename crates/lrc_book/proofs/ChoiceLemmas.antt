@@ -7,14 +7,12 @@ use Rattle.std.proofs.lemmas.Option.{same_Some, option_and_then_some}
 use Rattle.std.specs.Coded.{le_prop}
 use Rattle.std.proofs.lemmas.List.Elements.{All-contains, All-weaker}
 use Rattle.lrc_code.specs.declared.codes.Code.{Code}
-use Rattle.lrc_code.specs.declared.codes.Class.{Class}
-use Rattle.lrc_code.specs.declared.codes.Class.TheVariants.{A, B, G}
 use Rattle.lrc_code.specs.declared.numbers.StripeNo.{StripeNo}
 use Rattle.lrc_code.specs.declared.numbers.Fragment.{Fragment}
 use Rattle.lrc_code.specs.declared.numbers.NodeNo.{NodeNo}
 use Rattle.lrc_code.specs.declared.numbers.FaultNo.{FaultNo}
 use Rattle.lrc_code.specs.declared.numbers.UpgradeNo.{UpgradeNo}
-use Rattle.lrc_code.specs.Codes.{class_of, same_class}
+use Rattle.lrc_code.specs.Codes.{share_class}
 use Rattle.lrc_code.proofs.NumbersLemmas.{equal_fragments}
 use Rattle.lrc_topology.specs.declared.NodeInfo.{NodeInfo}
 use Rattle.lrc_topology.specs.declared.seat.Seat.{Seat}
@@ -32,33 +30,14 @@ use Rattle.lrc_book.proofs.NodeLemmas.{same_node, seat_on, taken-member, member-
 
 -- ---- two nodes
 
-pub same_class-refl : (c : Class) → same_class c c ≡ true
-same_class-refl A = refl
-same_class-refl B = refl
-same_class-refl G = refl
-
-pub same_class-equal : (c d : Class) → same_class c d ≡ true → c ≡ d
-same_class-equal A A e = refl
-same_class-equal B B e = refl
-same_class-equal G G e = refl
-same_class-equal A B e = absurd (cc)
-same_class-equal A G e = absurd (cc)
-same_class-equal B A e = absurd (cc)
-same_class-equal B G e = absurd (cc)
-same_class-equal G A e = absurd (cc)
-same_class-equal G B e = absurd (cc)
-
-same_class-from : (c d : Class) → c ≡ d → same_class c d ≡ true
-same_class-from c d e = subst (λ x. same_class c x ≡ true) e (same_class-refl c)
-
 -- nodes that do not clash are apart
 pub apart-clashes : (code : Code) (f : Fragment) (n : NodeInfo) (g : Fragment) (m : NodeInfo) → clashes code f n g m ≡ false → AreApart code f n g m
 apart-clashes code f n g m e =
-    let parts = or_parts (eqb n.fault.value m.fault.value) (same_class (class_of code f.value) (class_of code g.value) && eqb n.upgrade.value m.upgrade.value) e in
+    let parts = or_parts (eqb n.fault.value m.fault.value) (share_class code f g && eqb n.upgrade.value m.upgrade.value) e in
     record {
       faults = λ same. eqb-false n.fault.value m.fault.value parts.0 (ap (λ (d : FaultNo). d.value) same);
       upgrades = λ class same. (
-          let hit : eqb n.upgrade.value m.upgrade.value ≡ false = rw (same_class-from (class_of code f.value) (class_of code g.value) class) at parts.1 in
+          let hit : eqb n.upgrade.value m.upgrade.value ≡ false = rw class at parts.1 in
           eqb-false n.upgrade.value m.upgrade.value hit (ap (λ (d : UpgradeNo). d.value) same)
           );
     }
@@ -66,8 +45,8 @@ apart-clashes code f n g m e =
 pub clashes-apart : (code : Code) (f : Fragment) (n : NodeInfo) (g : Fragment) (m : NodeInfo) → AreApart code f n g m → clashes code f n g m ≡ false
 clashes-apart code f n g m apart =
     or_from (eqb n.fault.value m.fault.value) _ (ne_eqb n.fault.value m.fault.value (λ e. apart.faults (ap (λ (v : ℕ). record { value = v }) e)))
-    (elim (cases_Bool (same_class (class_of code f.value) (class_of code g.value))) [
-      | inl same ↦ rw same (ne_eqb n.upgrade.value m.upgrade.value (λ e. apart.upgrades (same_class-equal _ _ same) (ap (λ (v : ℕ). record { value = v }) e)))
+    (elim (cases_Bool (share_class code f g)) [
+      | inl same ↦ rw same (ne_eqb n.upgrade.value m.upgrade.value (λ e. apart.upgrades same (ap (λ (v : ℕ). record { value = v }) e)))
       | inr other ↦ rw other refl
     ])
 

@@ -16,6 +16,7 @@ use Rattle.lrc_code.specs.declared.numbers.NodeNo.{NodeNo}
 use Rattle.lrc_code.specs.declared.numbers.SessionNo.{SessionNo}
 use Rattle.lrc_code.specs.declared.numbers.Fragment.{Fragment}
 use Rattle.lrc_code.specs.Codes.{fragments}
+use Rattle.lrc_code.proofs.CodesLemmas.{share_class-turn}
 use Rattle.lrc_topology.specs.declared.NodeInfo.{NodeInfo}
 use Rattle.lrc_topology.specs.declared.seat.Seat.{Seat}
 use Rattle.lrc_topology.specs.declared.seat.Held.{Held}
@@ -91,7 +92,7 @@ module _ (nodes : List NodeInfo) (known : AreNodes nodes) (st : State) (s : Stri
       (choice.free.within, choice-present choice)
 
   AreApart-sym : (code : Code) (g : Fragment) (n m : NodeInfo) → AreApart code f n g m → AreApart code g m f n
-  AreApart-sym code g n m apart = record { faults = λ e. apart.faults (sym e); upgrades = λ class e. apart.upgrades (sym class) (sym e) }
+  AreApart-sym code g n m apart = record { faults = λ e. apart.faults (sym e); upgrades = λ class e. apart.upgrades (share_class-turn code f g ∙ class) (sym e) }
 
   -- it is apart from the seats of the stripe's other fragments
   choice-apart : (choice : IsChoice nodes st s f seat) (h : Held) → IsApartFrom nodes st s f choice.node h → KeepApart nodes st h (held_on s f seat)

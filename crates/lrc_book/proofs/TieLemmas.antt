@@ -8,7 +8,7 @@ use Rattle.std.proofs.lemmas.List.Sums.{sum_by-cons}
 use Rattle.lrc_code.specs.declared.numbers.StripeNo.{StripeNo}
 use Rattle.lrc_code.specs.declared.numbers.NodeNo.{NodeNo}
 use Rattle.lrc_code.specs.declared.numbers.Fragment.{Fragment}
-use Rattle.lrc_code.specs.Codes.{class_of, same_class}
+use Rattle.lrc_code.specs.Codes.{share_class}
 use Rattle.lrc_topology.specs.declared.NodeInfo.{NodeInfo}
 use Rattle.lrc_topology.specs.declared.seat.Seat.{Seat}
 use Rattle.lrc_topology.specs.declared.seat.Held.{Held}
@@ -103,7 +103,7 @@ pub bars-domains : (nodes : List NodeInfo) (st : State) (s : StripeNo) (f : Frag
 bars-domains nodes st s f n [] = refl
 bars-domains nodes st s f n (h ∷ hs) =
     or_four (bars_fault nodes s f n.fault h) (bars_upgrade nodes (code_of st s) s f n.upgrade h) _ _
-    ∙ rw (bars-domains nodes st s f n hs) (ap (λ b. b || list_any (bars nodes st s f n) hs) (bars-parts (is_beside s f h) (node_at nodes h.seat.node) n (same_class (class_of (code_of st s) f.value) (class_of (code_of st s) h.fragment.value))))
+    ∙ rw (bars-domains nodes st s f n hs) (ap (λ b. b || list_any (bars nodes st s f n) hs) (bars-parts (is_beside s f h) (node_at nodes h.seat.node) n (share_class (code_of st s) f h.fragment)))
 
 -- the table's test of a node is whether it is eligible and in no barred domain
 pub may_take-eligible : (nodes : List NodeInfo) (st : State) (b : Barred) (n : NodeInfo) → node_at nodes n.number ≡ Some n → may_take (table_of nodes st) b n ≡ (is_eligible st n && not (b.faults n.fault || b.upgrades n.upgrade))

@@ -3,7 +3,7 @@ use Rattle.std.specs.Prelude.{◌≡◌, ◌≢◌, ◌⊎◌, ⊤, ℕ, ◌<◌
 use Rattle.lrc_code.specs.declared.codes.Code.{Code}
 use Rattle.lrc_code.specs.declared.numbers.StripeNo.{StripeNo}
 use Rattle.lrc_code.specs.declared.numbers.Fragment.{Fragment}
-use Rattle.lrc_code.specs.Codes.{class_of}
+use Rattle.lrc_code.specs.Codes.{share_class}
 use Rattle.lrc_topology.specs.declared.NodeInfo.{NodeInfo}
 use Rattle.lrc_topology.specs.declared.seat.Seat.{Seat}
 use Rattle.lrc_topology.specs.declared.seat.Held.{Held}
@@ -15,7 +15,7 @@ use Rattle.lrc_book.specs.Placement.{chosen, with_home}
 -- The nodes of two fragments of a stripe are apart: their fault domains differ, and where the fragments are of one class their upgrade domains differ too.
 pub record AreApart (code : Code) (f : Fragment) (n : NodeInfo) (g : Fragment) (m : NodeInfo) : Type 0 where
   pub faults : n.fault ≢ m.fault
-  pub upgrades : class_of code f.value ≡ class_of code g.value → n.upgrade ≢ m.upgrade
+  pub upgrades : IsTrue (share_class code f g) → n.upgrade ≢ m.upgrade
 
 -- the fragment's node is apart from the one that the seat is on, where this is a seat of another fragment of the stripe
 abbrev pub IsApartFrom : List NodeInfo → State → StripeNo → Fragment → NodeInfo → Held → Type 0

@@ -5,7 +5,7 @@ use Rattle.std.specs.Option.{option_map_or}
 use Rattle.lrc_code.specs.declared.codes.Code.{Code}
 use Rattle.lrc_code.specs.declared.numbers.StripeNo.{StripeNo}
 use Rattle.lrc_code.specs.declared.numbers.Fragment.{Fragment}
-use Rattle.lrc_code.specs.Codes.{fragments, class_of, same_class}
+use Rattle.lrc_code.specs.Codes.{fragments, share_class}
 use Rattle.lrc_code.specs.Order.{least}
 use Rattle.lrc_topology.specs.declared.NodeInfo.{NodeInfo}
 use Rattle.lrc_topology.specs.declared.seat.Seat.{Seat}
@@ -17,7 +17,7 @@ use Rattle.lrc_book.specs.States.{State, code_of, seats_of, taken_seats, is_elig
 -- two fragments of a stripe may not lie on these two nodes: they share a fault domain, or an upgrade domain within a class
 abbrev pub clashes : Code → Fragment → NodeInfo → Fragment → NodeInfo → Bool
 clashes code f n g m =
-    nat_eq n.fault.value m.fault.value || (same_class (class_of code f.value) (class_of code g.value) && nat_eq n.upgrade.value m.upgrade.value)
+    nat_eq n.fault.value m.fault.value || (share_class code f g && nat_eq n.upgrade.value m.upgrade.value)
 
 -- this is a seat of another fragment of the stripe
 abbrev pub is_beside : StripeNo → Fragment → Held → Bool

@@ -7,7 +7,7 @@ use Rattle.lrc_code.specs.declared.numbers.StripeNo.{StripeNo}
 use Rattle.lrc_code.specs.declared.numbers.Fragment.{Fragment}
 use Rattle.lrc_code.specs.declared.numbers.FaultNo.{FaultNo}
 use Rattle.lrc_code.specs.declared.numbers.UpgradeNo.{UpgradeNo}
-use Rattle.lrc_code.specs.Codes.{class_of, same_class}
+use Rattle.lrc_code.specs.Codes.{share_class}
 use Rattle.lrc_topology.specs.declared.NodeInfo.{NodeInfo}
 use Rattle.lrc_topology.specs.declared.seat.Seat.{Seat}
 use Rattle.lrc_topology.specs.declared.seat.Held.{Held}
@@ -59,7 +59,7 @@ bars_fault nodes s f d h = is_beside s f h && option_map_or (λ m. nat_eq d.valu
 abbrev pub bars_upgrade : List NodeInfo → Code → StripeNo → Fragment → UpgradeNo → Held → Bool
 bars_upgrade nodes code s f d h =
     is_beside s f h
-    && option_map_or (λ m. same_class (class_of code f.value) (class_of code h.fragment.value) && nat_eq d.value m.upgrade.value) (node_at nodes h.seat.node) false
+    && option_map_or (λ m. share_class code f h.fragment && nat_eq d.value m.upgrade.value) (node_at nodes h.seat.node) false
 
 -- the domains that these seats bar for a fragment
 abbrev pub bars_in : List NodeInfo → Code → StripeNo → Fragment → List Held → Barred

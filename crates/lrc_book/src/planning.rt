@@ -3,7 +3,7 @@
 ghost use Rattle.std.specs.Prelude.{◌≡◌, ◌++◌, [], Ok, Err, IfOk, IfErr, false, true, length};
 ghost use Rattle.std.specs.List.{All};
 ghost use Rattle.lrc_code.specs.declared.codes.Code.TheVariants.{Wide};
-ghost use Rattle.lrc_code.specs.Codes.{fragments, same_class};
+ghost use Rattle.lrc_code.specs.Codes.{fragments};
 ghost use Rattle.lrc_slots.specs.Barred.{no_bars};
 ghost use Rattle.lrc_slots.specs.Tables.{slots_of, barred};
 ghost use Rattle.lrc_book.specs.States.{State, has_stripe};
@@ -13,15 +13,9 @@ ghost use Rattle.lrc_book.specs.Changes.{held_at};
 ghost use Rattle.lrc_book.specs.Ties.{IsTableOf, bars_in, with_held, with_homes};
 
 use crate::{Held, Seat};
-use lrc_code::{Class, Fragment, NodeNo, StripeNo};
+use lrc_code::{Fragment, NodeNo, StripeNo};
 use lrc_slots::{SlotTable, Taken};
 use lrc_topology::Topology;
-
-fn same(a: Class, b: Class) -> bool
-    ensures { result ≡ same_class a b }
-{
-    a == b
-}
 
 /// Bars the domains of a home, if it is one of another fragment of the stripe: its fault domain, and its upgrade
 /// domain where the two fragments are of one class.
@@ -33,7 +27,7 @@ fn bar(taken: &mut Taken, topology: &Topology, stripe: StripeNo, fragment: Fragm
     }
     if let Some(node) = topology.node(home.seat.node) {
         taken.bar_fault(node.fault);
-        if same(fragment.class(), home.fragment.class()) {
+        if fragment.shares_class(home.fragment) {
             taken.bar_upgrade(node.upgrade);
         }
     }

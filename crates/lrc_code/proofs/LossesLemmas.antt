@@ -156,7 +156,7 @@ recoverable-excess m h =
 pub IsRecoverable-iff : (m : FragmentSet) → IsRecoverable Wide m ↔ (excess Wide m ≤ 2)
 IsRecoverable-iff m = (excess-recoverable m, recoverable-excess m)
 
-swapped_data : (group parity : ℕ) (b : Bool) → parity ≡ cond b 1 0 → (if b then group else (group - 1)) ≡ (group + parity) - 1
+swapped_data : (group parity : ℕ) (b : Bool) → parity ≡ cond b 1 0 → (if not b then group - 1 else group) ≡ (group + parity) - 1
 swapped_data group parity true e = omega (arith, e)
 swapped_data group parity false e = omega (arith, e)
 

@@ -14,12 +14,14 @@ use Rattle.lrc_code.specs.declared.codes.Class.TheVariants.{A, B, G}
 use Rattle.lrc_code.specs.contracts.codes.Class.{the_type}
 use denote.Enum.Bare.{sameb}
 use Rattle.lrc_code.specs.declared.numbers.Fragment.{Fragment}
-use Rattle.lrc_code.specs.Codes.{fragments, class_of, same_class, is_local_class, others}
+use Rattle.std.specs.Option.{option_map_or}
+use Rattle.lrc_code.specs.Numbers.{same_fragment}
+use Rattle.lrc_code.specs.Codes.{fragments, class_of, same_class, are_one_class, share_class, is_local_class, is_in_group, others}
 use Rattle.lrc_code.specs.Losses.{FragmentSet, local_sources}
 
 -- the second is another member of the first one's class
 abbrev pub is_other : Fragment → Fragment → Bool
-is_other f g = same_class (class_of Wide f.value) (class_of Wide g.value) && not (nat_eq f.value g.value)
+is_other f g = share_class Wide f g && not (same_fragment f g)
 
 -- the comparison that the code makes
 pub same_class-eq : (c d : Class) → sameb the_type c d ≡ same_class c d
@@ -33,22 +35,16 @@ same_class-eq G A = refl
 same_class-eq G B = refl
 same_class-eq G G = refl
 
-module _ (f : Fragment) (c : Class) (is_class : c ≡ class_of Wide f.value) where
-  pub in_group : sameb the_type c G ≡ false → is_local_class (class_of Wide f.value) ≡ true
-  in_group e = rw (← is_class) (let n : same_class c G ≡ false = sym (same_class-eq c G) ∙ e in rw n refl)
+-- two fragments whose classes are compared
+pub shared-classes : (f g : Fragment) (c d : Class) → Some c ≡ class_of Wide f.value → Some d ≡ class_of Wide g.value → sameb the_type c d ≡ share_class Wide f g
+shared-classes f g c d is_class also_class = rw (← is_class, ← also_class) (same_class-eq c d)
 
-  module _ (g : Fragment) (d : Class) (also_class : d ≡ class_of Wide g.value) where
-    same_value : same_class (class_of Wide f.value) (class_of Wide g.value) ≡ sameb the_type c d
-    same_value = rw (← is_class, ← also_class) (sym (same_class-eq c d))
+-- what is of no global class is in a local group
+pub in_group : (f : Fragment) (c : Class) → Some c ≡ class_of Wide f.value → sameb the_type c G ≡ false → is_in_group Wide f ≡ true
+in_group f c is_class e = rw (← is_class) (let n : same_class c G ≡ false = sym (same_class-eq c G) ∙ e in rw n refl)
 
-    pub is_other-yes : sameb the_type c d ≡ true → not (nat_eq f.value g.value) ≡ true → is_other f g ≡ true
-    is_other-yes same apart = rw (same_value, same) apart
-
-    pub is_other-class : sameb the_type c d ≡ false → is_other f g ≡ false
-    is_other-class other = rw (same_value, other) refl
-
-    pub is_other-itself : not (nat_eq f.value g.value) ≡ false → is_other f g ≡ false
-    is_other-itself same = rw (same, and-false) refl
+pub is_other-itself : (f g : Fragment) → not (same_fragment f g) ≡ false → is_other f g ≡ false
+is_other-itself f g same = rw (same, and-false) refl
 
 -- the first `count` sources are the others among the first `i` of all fragments
 pub record AreOthersSoFar (f : Fragment) (all sources : List Fragment) (count i : ℕ) : Type 0 where
@@ -58,19 +54,19 @@ pub record AreOthersSoFar (f : Fragment) (all sources : List Fragment) (count i 
   pub long : length sources ≡ 6
 
 counts_of : ℕ → ℕ
-counts_of n = count_by (λ g. same_class (class_of Wide n) (class_of Wide g.value) && not (nat_eq n g.value)) (fragments Wide)
+counts_of n = count_by (λ g. are_one_class (class_of Wide n) (class_of Wide g.value) && not (nat_eq n g.value)) (fragments Wide)
 
 has_six : ℕ → Bool
-has_six n = not (is_local_class (class_of Wide n)) || nat_eq (counts_of n) 6
+has_six n = not (option_map_or is_local_class (class_of Wide n) false) || nat_eq (counts_of n) 6
 
 six_each : agree_below has_six (λ n. true) 16 ≡ true
 unfolding counts_of has_six
 six_each = refl
 
 -- a local group has six others
-pub six_others : (f : Fragment) → is_local_class (class_of Wide f.value) ≡ true → count_by (is_other f) (fragments Wide) ≡ 6
+pub six_others : (f : Fragment) → is_in_group Wide f ≡ true → count_by (is_other f) (fragments Wide) ≡ 6
 unfolding counts_of has_six
-six_others f is_in = elim (or_cases (not (is_local_class (class_of Wide f.value))) (nat_eq (counts_of f.value) 6) (agree_below_at has_six (λ n. true) 16 f.value six_each f.in_range)) [
+six_others f is_in = elim (or_cases (not (is_in_group Wide f)) (nat_eq (counts_of f.value) 6) (agree_below_at has_six (λ n. true) 16 f.value six_each f.in_range)) [
   | inl out ↦ absurd (let e : not true ≡ true = rw is_in at out in cc)
   | inr six ↦ eqb-true _ _ six
 ]
@@ -80,7 +76,7 @@ module _ {f : Fragment} {all sources : List Fragment} {count i : ℕ} (so_far : 
   within = rw so_far.whole below
 
   -- there is room for one more
-  pub room_for_other : is_local_class (class_of Wide f.value) ≡ true → is_other f (get_or all i d) ≡ true → count < 6
+  pub room_for_other : is_in_group Wide f ≡ true → is_other f (get_or all i d) ≡ true → count < 6
   room_for_other is_in other =
       let more = sum_by_more_le (λ g. cond (is_other f g) 1 0) all i d within in
       let e : count_by (is_other f) (take i all) ≡ count = sym (length-filter (is_other f) (take i all)) ∙ so_far.counted in
@@ -107,7 +103,7 @@ module _ {f : Fragment} {all sources : List Fragment} {count i : ℕ} (so_far : 
   }
 
 -- with no fragment left, they are all of the others
-pub AreOthersSoFar-all : (f : Fragment) (all sources : List Fragment) (count i : ℕ) → AreOthersSoFar f all sources count i → 16 ≤ i → is_local_class (class_of Wide f.value) ≡ true → sources ≡ others Wide f
+pub AreOthersSoFar-all : (f : Fragment) (all sources : List Fragment) (count i : ℕ) → AreOthersSoFar f all sources count i → 16 ≤ i → is_in_group Wide f ≡ true → sources ≡ others Wide f
 AreOthersSoFar-all f all sources count i so_far done is_in =
     let e : take i all ≡ fragments Wide = take_all i all (rw so_far.whole done) ∙ so_far.whole in
     let six : count ≡ 6 = sym (so_far.counted) ∙ rw e (length-filter (is_other f) (fragments Wide)) ∙ six_others f is_in in
@@ -118,15 +114,15 @@ group_given : (f : Fragment) (os : List Fragment) (b : Bool) → Some os ≡ (if
 group_given f os true e = (refl, same_Some _ _ e)
 group_given f os false e = absurd (cc)
 
-module _ (m : FragmentSet) (f : Fragment) (os : List Fragment) (given : Some os ≡ (if is_local_class (class_of Wide f.value) then Some (others Wide f) else None)) where
+module _ (m : FragmentSet) (f : Fragment) (os : List Fragment) (given : Some os ≡ (if is_in_group Wide f then Some (others Wide f) else None)) where
   pub sources-none : list_any (λ g. m g.value) os ≡ true → None ≡ local_sources Wide m f
   sources-none lost =
-      let parts = group_given f os (is_local_class (class_of Wide f.value)) given in
+      let parts = group_given f os (is_in_group Wide f) given in
       let e : list_any (λ g. m g.value) (others Wide f) ≡ true = rw parts.1 at lost in
       rw (parts.0, e) refl
 
   pub sources-some : list_any (λ g. m g.value) os ≡ false → Some os ≡ local_sources Wide m f
   sources-some kept =
-      let parts = group_given f os (is_local_class (class_of Wide f.value)) given in
+      let parts = group_given f os (is_in_group Wide f) given in
       let e : list_any (λ g. m g.value) (others Wide f) ≡ false = rw parts.1 at kept in
       rw (parts.0, e) (ap Some parts.1)

@@ -1,6 +1,6 @@
-ghost use Rattle.std.specs.Prelude.{◌≡◌};
+ghost use Rattle.std.specs.Prelude.{◌≡◌, Some};
 ghost use Rattle.lrc_code.specs.declared.codes.Code.TheVariants.{Wide};
-ghost use Rattle.lrc_code.specs.Codes.{fragments, class_of};
+ghost use Rattle.lrc_code.specs.Codes.{fragments, class_of, share_class};
 
 use crate::{Class, Fragment};
 
@@ -32,12 +32,19 @@ impl Fragment {
     /// A for the first six data fragments and their parity 12, B for the other six and their parity 13, G for
     /// the global parities 14 and 15.
     pub fn class(self) -> Class
-        ensures { result ≡ class_of Wide self.value }
+        ensures { Some result ≡ class_of Wide self.value }
     {
         match self.value {
             0..=5 | 12 => Class::A,
             6..=11 | 13 => Class::B,
             _ => Class::G,
         }
+    }
+
+    /// Whether the two fragments are of one class.
+    pub fn shares_class(self, other: Fragment) -> bool
+        ensures { result ≡ share_class Wide self other }
+    {
+        self.class() == other.class()
     }
 }

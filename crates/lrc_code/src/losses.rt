@@ -1,7 +1,7 @@
 ghost use Rattle.std.specs.Prelude.{◌≡◌, ℕ, ◌<◌, ◌≤◌, ◌↔◌, ◌^◌, ◌||◌, if◌then◌else◌, IsTrue, nat_eq, All, length, IsSome, IfSome, Option, map, option_map};
 ghost use Rattle.std.specs.List.{list_any};
 ghost use Rattle.lrc_code.specs.declared.codes.Code.TheVariants.{Wide};
-ghost use Rattle.lrc_code.specs.Codes.{members, class_of, is_local_class, others};
+ghost use Rattle.lrc_code.specs.Codes.{members, is_in_group, others};
 ghost use Rattle.lrc_code.specs.Losses.{losses_in, excess, IsRecoverable, is_recoverable, IsMargin, bits_set, margin_of, local_sources};
 
 use crate::{Class, Fragment};
@@ -26,16 +26,15 @@ fn members_of(class: Class) -> &'static [u8]
 
 // The six other members of the fragment's local group, in rising order; `None` for a global parity.
 fn others_in_group(fragment: Fragment) -> Option<[Fragment; 6]>
-    ensures { result ≡ (if is_local_class (class_of Wide fragment.value) then Some (others Wide fragment) else None) }
+    ensures { result ≡ (if is_in_group Wide fragment then Some (others Wide fragment) else None) }
 {
-    let class = fragment.class();
-    if class == Class::G {
+    if fragment.class() == Class::G {
         return None;
     }
     let mut others = [fragment; 6];
     let mut count = 0;
     for other in &Fragment::all() {
-        if class == other.class() && fragment != *other {
+        if fragment.shares_class(*other) && fragment != *other {
             others[count] = *other;
             count += 1;
         }
