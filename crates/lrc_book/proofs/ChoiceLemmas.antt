@@ -21,12 +21,13 @@ use Rattle.lrc_topology.specs.Nodes.{AreNodes, node_at}
 use Rattle.lrc_topology.specs.Seats.{free_slot, free_seat, is_preferred, is_taken}
 use Rattle.lrc_book.specs.declared.mode.Mode.{Mode}
 use Rattle.lrc_book.specs.declared.mode.Mode.TheVariants.{Active, Gone}
-use Rattle.lrc_book.specs.States.{mode_of, is_active, is_online, takes_seats, State, code_of, seats_of, taken_seats, is_eligible}
+use Rattle.lrc_book.specs.States.{mode_of, is_active, is_online, takes_seats, State, code_of, seats_of, taken_seats, load, is_eligible}
 use Rattle.lrc_book.specs.Placement.{clashes, bars, fits, chosen, chosen_node}
 use Rattle.lrc_book.specs.Choices.{AreApart, IsApartFrom, IsFree, IsEligible, IsFitting, IsChoice}
 use Rattle.lrc_book.proofs.MemberLemmas.{filter-member, member-filter, All-list_any, list_any-All, not-Contains-nil}
 use Rattle.lrc_code.proofs.OrderLemmas.{least-listed, least-none, least-none_before}
-use Rattle.lrc_book.proofs.NodeLemmas.{same_node, seat_on, taken-member, member-taken, first_slot-found, first_slot-none, lighter-order, lighter-total, lighter-from}
+use Rattle.lrc_topology.proofs.SeatLemmas.{lighter-order, lighter-total, lighter-iff}
+use Rattle.lrc_book.proofs.NodeLemmas.{same_node, seat_on, taken-member, member-taken, first_slot-found, first_slot-none}
 
 -- ---- two nodes
 
@@ -149,7 +150,7 @@ module _ (nodes : List NodeInfo) (st : State) (s : StripeNo) (f : Fragment) wher
   not_before : (n m : NodeInfo) → chosen_node nodes st s f ≡ Some n → IsFitting nodes st s f m → is_preferred (taken_seats st) m n ≡ false
   not_before n m e fitting =
       All-contains (λ y. is_preferred (taken_seats st) y n ≡ false) (filter (fits nodes st s f) nodes) m
-      (least-none_before (is_preferred (taken_seats st)) (lighter-order (taken_seats st)) n (filter (fits nodes st s f) nodes) e)
+      (least-none_before (is_preferred (taken_seats st)) (lighter-order (λ (x : NodeInfo). load st x.number) (λ x. x.number)) n (filter (fits nodes st s f) nodes) e)
       (member-filter (fits nodes st s f) nodes m fitting.known (words-fits nodes st s f m fitting))
 
   none-fits : chosen_node nodes st s f ≡ None → (n : NodeInfo) → IsFitting nodes st s f n → ⊥
@@ -165,7 +166,7 @@ module _ (nodes : List NodeInfo) (st : State) (s : StripeNo) (f : Fragment) wher
       subst (IsChoice nodes st s f) (same_Some (seat_on n.number k) seat is) (record {
         node = n;
         fitting = fitting;
-        first = λ m other apart. lighter-total (taken_seats st) n m (not_before n m e other) (λ same. apart (sym (same_node nodes known n m fitting.known other.known same)));
+        first = λ m other apart. lighter-total (load st n.number) n.number (load st m.number) m.number (not_before n m e other) (λ same. apart (sym (same_node nodes known n m fitting.known other.known same)));
         on = refl;
         free = free-from st n k (omega (arith, h.1)) h.2;
         least = λ j below. taken-member (taken_seats st) n.number j (h.3 j (omega arith) below);
@@ -181,7 +182,7 @@ module _ (nodes : List NodeInfo) (st : State) (s : StripeNo) (f : Fragment) wher
   same-choice seat choice known n e = elim (cases_eq n.number.value choice.node.number.value) [
     | inl same ↦ same_node nodes known n choice.node (node-fits n e).known choice.fitting.known same
     | inr other ↦
-        let before = lighter-from (taken_seats st) choice.node n (choice.first n (node-fits n e) (λ same. other (ap (λ (x : NodeInfo). x.number.value) same))) in
+        let before = (lighter-iff (load st choice.node.number) choice.node.number (load st n.number) n.number).1 (choice.first n (node-fits n e) (λ same. other (ap (λ (x : NodeInfo). x.number.value) same))) in
         absurd (let behind = not_before n choice.node e choice.fitting in let both : true ≡ false = sym before ∙ behind in cc)
   ]
 

@@ -23,6 +23,8 @@ use Rattle.lrc_book.specs.declared.entry.Entry.{Entry}
 use Rattle.lrc_book.specs.States.{State, has_stripe, mode_of, is_gone, is_down}
 use Rattle.lrc_book.specs.Placement.{chosen, with_home, place_next, placed}
 use Rattle.lrc_book.specs.Choices.{AreChosen, IsFirstWithout}
+use Rattle.lrc_book.specs.Changes.{held_at, with_placed}
+use Rattle.lrc_book.proofs.StepLemmas.{place-there, place-passed, seats-added}
 use Rattle.lrc_book.specs.Steps.{Outcome, refuse_if, with_stripe, without_stripe, place_answer, place_outcome, drop_outcome, node_outcome, fail_outcome, down_outcome, up_outcome, join_outcome, step}
 
 -- ---- refused commands
@@ -78,3 +80,88 @@ refused-keeps nodes past st session (Fail n) r e = keeps-fail nodes st n r e
 refused-keeps nodes past st session (Down n) r e = keeps-down nodes st n r e
 refused-keeps nodes past st session (Up n) r e = keeps-up nodes st n r e
 refused-keeps nodes past st session (Join n) r e = keeps-join nodes st n r e
+
+-- ---- seats chosen one after the other
+
+-- there is a seat for each fragment
+chosen-length : (nodes : List NodeInfo) (st : State) (s : StripeNo) (fs : List Fragment) (seats : List Seat) → AreChosen nodes st s fs seats → length seats ≡ length fs
+chosen-length nodes st s [] [] all = refl
+chosen-length nodes st s (f ∷ fs) (x ∷ xs) all = let rest = chosen-length nodes (with_home st s f x) s fs xs all.1 in omega (arith, rest)
+chosen-length nodes st s [] (x ∷ xs) all = absurd all
+chosen-length nodes st s (f ∷ fs) [] all = absurd all
+
+-- what one more fragment gives, by what was chosen for it
+abbrev turn : StripeNo → State → Fragment → Option Seat → Result State Fragment
+turn s st f o = option_map_or (λ seat. Ok (with_home st s f seat)) o (Err f)
+
+-- with these seats the placement goes through
+chosen-placed : (nodes : List NodeInfo) (s : StripeNo) (st : State) (fs : List Fragment) (seats : List Seat) → AreChosen nodes st s fs seats
+    → fold (place_next nodes s) (Ok st) fs ≡ Ok (record st { homes = st.homes ++ held_at s fs seats })
+chosen-placed nodes s st [] [] all = ap (λ (hs : List Held). Ok (record st { homes = hs })) (sym (append-nil st.homes))
+chosen-placed nodes s st (f ∷ fs) (x ∷ xs) all =
+    ap (λ (o : Option Seat). fold (place_next nodes s) (turn s st f o) fs) all.0 ∙ chosen-placed nodes s (with_home st s f x) fs xs all.1
+    ∙ ap (λ (hs : List Held). Ok (record st { homes = hs })) (append_assoc st.homes (record { stripe = s; fragment = f; seat = x } ∷ []) (held_at s fs xs))
+chosen-placed nodes s st [] (x ∷ xs) all = absurd all
+chosen-placed nodes s st (f ∷ fs) [] all = absurd all
+
+-- it stops at the first fragment that finds no seat
+none-placed : (nodes : List NodeInfo) (s : StripeNo) (st : State) (fs : List Fragment) (f : Fragment) → IsFirstWithout nodes st s fs f → fold (place_next nodes s) (Ok st) fs ≡ Err f
+none-placed nodes s st [] f first = absurd first
+none-placed nodes s st (g ∷ gs) f (inl here) =
+    ap (λ (o : Option Seat). fold (place_next nodes s) (turn s st g o) gs) here.0 ∙ fold_stays (place_next nodes s) (Err g) (λ x. refl) gs ∙ ap (λ (x : Fragment). Err x) here.1
+none-placed nodes s st (g ∷ gs) f (inr later) =
+    ap (λ (o : Option Seat). fold (place_next nodes s) (turn s st g o) gs) later.1 ∙ none-placed nodes s (with_home st s g later.0) gs f later.2
+
+placed-none-turn :
+    (nodes : List NodeInfo) (s : StripeNo) (st : State) (g : Fragment) (gs : List Fragment) (f : Fragment) (o : Option Seat) → chosen nodes st s g ≡ o
+    → ((next : State) → fold (place_next nodes s) (Ok next) gs ≡ Err f → IsFirstWithout nodes next s gs f)
+    → fold (place_next nodes s) (turn s st g o) gs ≡ Err f → IsFirstWithout nodes st s (g ∷ gs) f
+placed-none-turn nodes s st g gs f None none rest e = inl (none, same_error g f (sym (fold_stays (place_next nodes s) (Err g) (λ x. refl) gs) ∙ e))
+  where
+    same_error : (g f : Fragment) → ◌≡◌ {A = Result State Fragment} (Err g) (Err f) → g ≡ f
+    same_error g f e = cc
+placed-none-turn nodes s st g gs f (Some seat) some rest e = inr (seat, some, rest (with_home st s g seat) e)
+
+placed-none : (nodes : List NodeInfo) (s : StripeNo) (st : State) (fs : List Fragment) (f : Fragment) → fold (place_next nodes s) (Ok st) fs ≡ Err f → IsFirstWithout nodes st s fs f
+placed-none nodes s st [] f e = absurd (cc)
+placed-none nodes s st (g ∷ gs) f e = placed-none-turn nodes s st g gs f (chosen nodes st s g) refl (λ next. placed-none nodes s next gs f) e
+
+-- ---- the reply to Place
+
+module _ (nodes : List NodeInfo) (st : State) (s : StripeNo) where
+  abbrev begun : State
+  begun = with_stripe st Wide s
+
+  chosen-all : (seats : List Seat) → AreChosen nodes begun s (fragments Wide) seats → placed nodes begun s ≡ Ok (with_placed st s seats)
+  unfolding placed
+  chosen-all seats all = chosen-placed nodes s begun (fragments Wide) seats all
+
+  -- seats that are chosen for a stripe that is absent are the reply
+  pub chosen-told : (seats : List Seat) → has_stripe st s ≡ false → AreChosen nodes begun s (fragments Wide) seats → (place_outcome nodes st Wide s).0 ≡ Placed seats
+  chosen-told seats absent all =
+      ap (λ (o : Outcome). o.0) (place-passed nodes st s absent ∙ ap (place_answer st s) (chosen-all seats all))
+      ∙ ap Placed (seats-added s st.homes seats (chosen-length nodes begun s (fragments Wide) seats all))
+
+  none-all : (f : Fragment) → IsFirstWithout nodes begun s (fragments Wide) f → placed nodes begun s ≡ Err f
+  unfolding placed
+  none-all f first = none-placed nodes s begun (fragments Wide) f first
+
+  all-none : (f : Fragment) → placed nodes begun s ≡ Err f → IsFirstWithout nodes begun s (fragments Wide) f
+  unfolding placed
+  all-none f e = placed-none nodes s begun (fragments Wide) f e
+
+  -- and so is the first fragment that finds no seat
+  pub none-told : (f : Fragment) → has_stripe st s ≡ false → IsFirstWithout nodes begun s (fragments Wide) f → (place_outcome nodes st Wide s).0 ≡ Refused (refusal.NoLawfulNode f)
+  none-told f absent first = ap (λ (o : Outcome). o.0) (place-passed nodes st s absent ∙ ap (place_answer st s) (none-all f first))
+
+  refused-by : (f : Fragment) (r : Result State Fragment) → placed nodes begun s ≡ r → (place_answer st s r).0 ≡ Refused (refusal.NoLawfulNode f) → IsFirstWithout nodes begun s (fragments Wide) f
+  refused-by f (Ok done) is e = absurd (cc)
+  refused-by f (Err g) is e = let same : g ≡ f = cc in all-none f (is ∙ ap (λ (x : Fragment). Err x) same)
+
+  told-by : (f : Fragment) (there : Bool) → has_stripe st s ≡ there → (place_outcome nodes st Wide s).0 ≡ Refused (refusal.NoLawfulNode f)
+      → (has_stripe st s ≡ false) × IsFirstWithout nodes begun s (fragments Wide) f
+  told-by f true hit e = absurd (let never : Refused refusal.StripeExists ≡ Refused (refusal.NoLawfulNode f) = sym (ap (λ (o : Outcome). o.0) (place-there nodes st s hit)) ∙ e in cc)
+  told-by f false miss e = (miss, refused-by f (placed nodes begun s) refl (sym (ap (λ (o : Outcome). o.0) (place-passed nodes st s miss)) ∙ e))
+
+  pub told-none : (f : Fragment) → (place_outcome nodes st Wide s).0 ≡ Refused (refusal.NoLawfulNode f) → (has_stripe st s ≡ false) × IsFirstWithout nodes begun s (fragments Wide) f
+  told-none f e = told-by f (has_stripe st s) refl e

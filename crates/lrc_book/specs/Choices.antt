@@ -8,6 +8,7 @@ use Rattle.lrc_topology.specs.declared.NodeInfo.{NodeInfo}
 use Rattle.lrc_topology.specs.declared.seat.Seat.{Seat}
 use Rattle.lrc_topology.specs.declared.seat.Held.{Held}
 use Rattle.lrc_topology.specs.Nodes.{node_at}
+use Rattle.lrc_topology.specs.Seats.{IsLighter}
 use Rattle.lrc_book.specs.declared.mode.Mode.TheVariants.{Active}
 use Rattle.lrc_book.specs.States.{State, code_of, seats_of, taken_seats, load, mode_of, is_online}
 use Rattle.lrc_book.specs.Placement.{chosen, with_home}
@@ -38,15 +39,11 @@ pub record IsFitting (nodes : List NodeInfo) (st : State) (s : StripeNo) (f : Fr
   pub eligible : IsEligible st n
   pub lawful : All (IsApartFrom nodes st s f n) (seats_of st)
 
--- the first node is chosen before the second: less load, or as much and a lower number
-abbrev pub ComesBefore : State → NodeInfo → NodeInfo → Type 0
-ComesBefore st n m = (load st n.number < load st m.number) ⊎ ((load st n.number ≡ load st m.number) × (n.number.value < m.number.value))
-
--- The seat is the least free slot of the fitting node that comes before every other fitting node.
+-- The seat is the least free slot of the fitting node that is lighter than every other fitting node.
 pub record IsChoice (nodes : List NodeInfo) (st : State) (s : StripeNo) (f : Fragment) (seat : Seat) : Type 0 where
   pub node : NodeInfo
   pub fitting : IsFitting nodes st s f node
-  pub first : (m : NodeInfo) → IsFitting nodes st s f m → m ≢ node → ComesBefore st node m
+  pub first : (m : NodeInfo) → IsFitting nodes st s f m → m ≢ node → IsLighter (load st node.number) node.number (load st m.number) m.number
   pub on : seat.node ≡ node.number
   pub free : IsFree st node seat.slot
   pub least : (slot : ℕ) → slot < seat.slot → Contains (taken_seats st) (record { node = node.number; slot = slot })

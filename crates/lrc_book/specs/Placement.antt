@@ -1,10 +1,11 @@
 -- Where a fragment may go.
-use Rattle.std.specs.Prelude.{Bool, not, ◌&&◌, ◌||◌, nat_eq, List, [], ◌∷◌, ◌++◌, filter, fold, Option, option_and_then, Result, Ok, Err, false}
+use Rattle.std.specs.Prelude.{Bool, not, ◌&&◌, ◌||◌, List, [], ◌∷◌, ◌++◌, filter, fold, Option, option_and_then, Result, Ok, Err, false}
 use Rattle.std.specs.List.{list_any}
 use Rattle.std.specs.Option.{option_map_or}
 use Rattle.lrc_code.specs.declared.codes.Code.{Code}
 use Rattle.lrc_code.specs.declared.numbers.StripeNo.{StripeNo}
 use Rattle.lrc_code.specs.declared.numbers.Fragment.{Fragment}
+use Rattle.lrc_code.specs.Numbers.{same_stripe, same_fragment, same_fault, same_upgrade}
 use Rattle.lrc_code.specs.Codes.{fragments, share_class}
 use Rattle.lrc_code.specs.Order.{least}
 use Rattle.lrc_topology.specs.declared.NodeInfo.{NodeInfo}
@@ -17,11 +18,11 @@ use Rattle.lrc_book.specs.States.{State, code_of, seats_of, taken_seats, is_elig
 -- two fragments of a stripe may not lie on these two nodes: they share a fault domain, or an upgrade domain within a class
 abbrev pub clashes : Code → Fragment → NodeInfo → Fragment → NodeInfo → Bool
 clashes code f n g m =
-    nat_eq n.fault.value m.fault.value || (share_class code f g && nat_eq n.upgrade.value m.upgrade.value)
+    same_fault n.fault m.fault || (share_class code f g && same_upgrade n.upgrade m.upgrade)
 
 -- this is a seat of another fragment of the stripe
 abbrev pub is_beside : StripeNo → Fragment → Held → Bool
-is_beside s f h = nat_eq h.stripe.value s.value && not (nat_eq h.fragment.value f.value)
+is_beside s f h = same_stripe h.stripe s && not (same_fragment h.fragment f)
 
 -- such a seat keeps the fragment from a node
 abbrev pub bars : List NodeInfo → State → StripeNo → Fragment → NodeInfo → Held → Bool

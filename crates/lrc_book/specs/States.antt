@@ -1,5 +1,5 @@
 -- The state of the store, and what is read of it.
-use Rattle.std.specs.Prelude.{ℕ, Bool, true, false, not, ◌&&◌, if◌then◌else◌, nat_eq, List, [], map, filter, Option, Some, None, option_map, is_some}
+use Rattle.std.specs.Prelude.{ℕ, Bool, true, false, not, ◌&&◌, if◌then◌else◌, List, [], map, filter, Option, Some, None, option_map, is_some}
 use Rattle.std.specs.List.{list_any}
 use Rattle.std.specs.Option.{option_map_or}
 use Rattle.lrc_code.specs.declared.codes.Code.{Code}
@@ -7,6 +7,7 @@ use Rattle.lrc_code.specs.declared.codes.Code.TheVariants.{Wide}
 use Rattle.lrc_code.specs.declared.losses.LossMask.{LossMask}
 use Rattle.lrc_code.specs.declared.numbers.StripeNo.{StripeNo}
 use Rattle.lrc_code.specs.declared.numbers.NodeNo.{NodeNo}
+use Rattle.lrc_code.specs.Numbers.{same_stripe, same_node}
 use Rattle.lrc_code.specs.Codes.{fragments}
 use Rattle.lrc_code.specs.Losses.{FragmentSet, bits_of}
 use Rattle.lrc_topology.specs.declared.NodeInfo.{NodeInfo}
@@ -15,7 +16,7 @@ use Rattle.lrc_topology.specs.declared.seat.Held.{Held}
 use Rattle.lrc_topology.specs.Nodes.{node_at}
 use Rattle.lrc_topology.specs.Seats.{load_of, free_slot}
 use Rattle.lrc_stripes.specs.declared.level.Level.{Level}
-use Rattle.lrc_stripes.specs.Levels.{home_of, homeless_of, missing_of, level_by, rank_by}
+use Rattle.lrc_stripes.specs.Levels.{homes_of, homeless_of, missing_of, level_by, rank_by}
 use Rattle.lrc_book.specs.declared.mode.Mode.{Mode}
 use Rattle.lrc_book.specs.declared.mode.Mode.TheVariants.{Active, Gone}
 
@@ -32,7 +33,7 @@ opening = record { stripes = []; homes = []; gone = []; down = [] }
 -- ---- stripes and seats
 
 abbrev pub has_stripe : State → StripeNo → Bool
-has_stripe st s = list_any (λ t. nat_eq s.value t.value) st.stripes
+has_stripe st s = list_any (same_stripe s) st.stripes
 
 -- the code of a stripe
 abbrev pub code_of : State → StripeNo → Code
@@ -51,10 +52,10 @@ load st n = load_of (taken_seats st) n
 -- ---- nodes
 
 abbrev pub has_number : List NodeNo → NodeNo → Bool
-has_number numbers n = list_any (λ m. nat_eq n.value m.value) numbers
+has_number numbers n = list_any (same_node n) numbers
 
 abbrev pub without_number : List NodeNo → NodeNo → List NodeNo
-without_number numbers n = filter (λ m. not (nat_eq n.value m.value)) numbers
+without_number numbers n = filter (λ m. not (same_node n m)) numbers
 
 abbrev pub mode_of : State → NodeNo → Mode
 mode_of st n = if has_number st.gone n then Gone else Active
@@ -104,10 +105,9 @@ rank nodes st s = rank_by (code_of st s) (missing nodes st s)
 
 -- ---- what is answered of a state
 
--- the seats of a stripe's fragments, in rising order; none where there is no such stripe
+-- the seats of a stripe's fragments by the sixteen numbers, rising, with no seat for a number that its code lacks; none where there is no such stripe
 abbrev pub homes_shown : State → StripeNo → Option (List (Option Seat))
-homes_shown st s =
-    if has_stripe st s then Some (map (λ f. option_map (λ h. h.seat) (home_of st.homes s f.value)) (fragments (code_of st s))) else None
+homes_shown st s = if has_stripe st s then Some (map (λ f. homes_of st.homes s f.value) (fragments Wide)) else None
 
 -- the load of a node; none where the store has no such node
 abbrev pub load_shown : List NodeInfo → State → NodeNo → Option ℕ

@@ -1,11 +1,12 @@
 -- What each command answers and changes.
-use Rattle.std.specs.Prelude.{Bool, not, ◌||◌, if◌then◌else◌, nat_eq, List, [], ◌∷◌, ◌++◌, drop, length, map, filter, is_none, Result, Ok, Err}
+use Rattle.std.specs.Prelude.{Bool, not, ◌||◌, if◌then◌else◌, List, [], ◌∷◌, ◌++◌, drop, length, map, filter, is_none, Result, Ok, Err}
 use Rattle.lrc_code.specs.declared.codes.Code.{Code}
 use Rattle.lrc_code.specs.declared.codes.Code.TheVariants.{Wide}
 use Rattle.lrc_code.specs.declared.numbers.StripeNo.{StripeNo}
 use Rattle.lrc_code.specs.declared.numbers.NodeNo.{NodeNo}
 use Rattle.lrc_code.specs.declared.numbers.SessionNo.{SessionNo}
 use Rattle.lrc_code.specs.declared.numbers.Fragment.{Fragment}
+use Rattle.lrc_code.specs.Numbers.{same_stripe, same_node}
 use Rattle.lrc_topology.specs.declared.NodeInfo.{NodeInfo}
 use Rattle.lrc_topology.specs.declared.seat.Seat.{Seat}
 use Rattle.lrc_topology.specs.declared.seat.Held.{Held}
@@ -50,7 +51,7 @@ unfoldable pub place_outcome : List NodeInfo → State → Code → StripeNo →
 place_outcome nodes st code s = refuse_if (has_stripe st s) refusal.StripeExists st (place_answer st s (placed nodes (with_stripe st code s) s))
 
 abbrev pub is_other : StripeNo → StripeNo → Bool
-is_other s t = not (nat_eq s.value t.value)
+is_other s t = not (same_stripe s t)
 
 -- the stripe and its homes taken out
 abbrev pub without_stripe : State → StripeNo → State
@@ -69,7 +70,7 @@ node_outcome nodes st n wrong changed =
     (Changed, changed))
 
 abbrev pub stands_on : NodeNo → Held → Bool
-stands_on n h = nat_eq n.value h.seat.node.value
+stands_on n h = same_node n h.seat.node
 
 -- the homes on the node taken out
 abbrev pub emptied : State → NodeNo → State

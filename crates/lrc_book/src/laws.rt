@@ -1,6 +1,8 @@
 //! Laws of the definitions, each the contract of a function that does nothing.
 
-ghost use Rattle.std.specs.Prelude.{◌≡◌, ◌↔◌, IsTrue, List, All, Some, None};
+ghost use Rattle.std.specs.Prelude.{◌≡◌, ◌↔◌, IsTrue, IsFalse, List, All, Some, None};
+ghost use Rattle.lrc_code.specs.declared.codes.Code.TheVariants.{Wide};
+ghost use Rattle.lrc_code.specs.Codes.{fragments};
 ghost use Rattle.lrc_code.specs.declared.numbers.StripeNo.{StripeNo};
 ghost use Rattle.lrc_code.specs.declared.numbers.Fragment.{Fragment};
 ghost use Rattle.lrc_topology.specs.declared.NodeInfo.{NodeInfo};
@@ -10,12 +12,14 @@ ghost use Rattle.lrc_topology.specs.Nodes.{AreNodes};
 ghost use Rattle.lrc_code.specs.declared.numbers.SessionNo.{SessionNo};
 ghost use Rattle.lrc_book.specs.declared.entry.Entry.{Entry};
 ghost use Rattle.lrc_book.specs.declared.command.Command.{Command};
-ghost use Rattle.lrc_book.specs.declared.reply.Reply.TheVariants.{Refused};
+ghost use Rattle.lrc_book.specs.declared.command.Command.TheVariants.{Place};
+ghost use Rattle.lrc_book.specs.declared.reply.Reply.TheVariants.{Placed, Refused};
+ghost use Rattle.lrc_book.specs.declared.reply.Refusal.TheVariants as refusal;
 ghost use Rattle.lrc_book.specs.declared.reply.Refusal.{Refusal};
-ghost use Rattle.lrc_book.specs.Steps.{step};
-ghost use Rattle.lrc_book.specs.States.{State};
+ghost use Rattle.lrc_book.specs.Steps.{with_stripe, step};
+ghost use Rattle.lrc_book.specs.States.{State, has_stripe};
 ghost use Rattle.lrc_book.specs.Placement.{chosen, is_beside};
-ghost use Rattle.lrc_book.specs.Choices.{IsFitting, IsChoice};
+ghost use Rattle.lrc_book.specs.Choices.{IsFitting, IsChoice, AreChosen, IsFirstWithout};
 ghost use Rattle.lrc_book.specs.Histories.{IsLegal, state_after};
 ghost use Rattle.lrc_book.specs.Goodness.{AreSeated, IsGood};
 ghost use Rattle.lrc_book.specs.Ties.{table_of, bars_of, next_seat, with_homes};
@@ -57,4 +61,20 @@ pub fn planned_homes_only_bar_domains()
 pub fn refused_commands_change_nothing()
     ensures { (nodes : List NodeInfo) (past : List Entry) (st : State) (session : SessionNo) (command : Command) (r : Refusal)
         → (step nodes past st session command).0 ≡ Refused r → (step nodes past st session command).1 ≡ st }
+{}
+
+/// Place answers with seats exactly where the stripe is absent and these are the seats that are chosen for its
+/// sixteen fragments, one after the other, each beside those before it.
+pub fn placed_seats_are_chosen_in_turn()
+    ensures { (nodes : List NodeInfo) (past : List Entry) (st : State) (session : SessionNo) (s : StripeNo) (seats : List Seat)
+        → ((step nodes past st session (Place s)).0 ≡ Placed seats)
+        ↔ (IsFalse (has_stripe st s) × AreChosen nodes (with_stripe st Wide s) s (fragments Wide) seats) }
+{}
+
+/// Place finds no lawful node for a fragment exactly where the stripe is absent and this is the first of its
+/// fragments for which no seat is chosen beside those before it.
+pub fn the_first_fragment_without_a_seat_is_told()
+    ensures { (nodes : List NodeInfo) (past : List Entry) (st : State) (session : SessionNo) (s : StripeNo) (f : Fragment)
+        → ((step nodes past st session (Place s)).0 ≡ Refused (refusal.NoLawfulNode f))
+        ↔ (IsFalse (has_stripe st s) × IsFirstWithout nodes (with_stripe st Wide s) s (fragments Wide) f) }
 {}
