@@ -1,6 +1,6 @@
 -- Which node is chosen before which: less load, or as much and a lower number.
 use Rattle.std.proofs.Common.{◌≡◌, ◌≢◌, ℕ, ◌<◌, ◌↔◌, ◌⊎◌, Bool, true, false, IsTrue, inl, inr, arith}
-use Rattle.std.proofs.lemmas.Bool.{cases_order}
+use Rattle.std.proofs.lemmas.Bool.{cases_Bool, cases_order}
 use Rattle.std.proofs.lemmas.Bool.Decides.{nat_tests}
 use Rattle.std.specs.Cmp.{IsStrictWeakOrder}
 use Rattle.lrc_code.specs.declared.numbers.NodeNo.{NodeNo}
@@ -36,6 +36,12 @@ module _ (load : ℕ) (n : NodeNo) (other : ℕ) (m : NodeNo) where
   lighter-once (inl less) (inr same) = omega (arith, less, same.0)
   lighter-once (inr same) (inl more) = omega (arith, same.0, more)
   lighter-once (inr same) (inr other) = omega (arith, same.1, other.1)
+
+pub lighter-either : (load : ℕ) (n : NodeNo) (other : ℕ) (m : NodeNo) → n.value ≢ m.value → IsLighter load n other m ⊎ IsLighter other m load n
+lighter-either load n other m differ = elim (cases_Bool (is_lighter other m load n)) [
+  | inl after ↦ inr ((lighter-iff other m load n).0 after)
+  | inr before ↦ inl (lighter-total load n other m before differ)
+]
 
 one_way : (a b : ℕ) (n m : NodeNo) → is_lighter a n b m ≡ true → is_lighter b m a n ≡ false
 one_way a b n m h = grind (arith, nat_tests)
