@@ -12,6 +12,7 @@ use Rattle.lrc_topology.specs.Nodes.{AreNodes, node_at}
 use Rattle.lrc_slots.specs.Slots.{Slots, least_free, taken_count, IsLeastFree}
 use Rattle.lrc_slots.specs.Barred.{Barred}
 use Rattle.lrc_slots.specs.Next.{may_take, is_chosen_before, next_node, MayTake, IsNext}
+use Rattle.lrc_topology.proofs.SeatLemmas.{lighter-order, lighter-total, lighter-once}
 use Rattle.lrc_slots.proofs.CountLemmas.{first_slot-found, first_slot-none, first_slot-is, first_slot-all}
 use Rattle.lrc_slots.proofs.LeastLemmas.{all-passes, all-filtered, filter-none}
 use Rattle.lrc_code.proofs.OrderLemmas.{all_kept, each_listed, least-all, least-none, least-first}
@@ -59,28 +60,10 @@ MayTake-may_take t b n h =
     ] in
     and_from _ _ (and_from _ _ h.eligible room) (not_from_false _ (or_from _ _ h.fault h.upgrade))
 
--- ---- the order
-
-before-asym : (a m b n : ℕ) → (ltb a b || (eqb a b && ltb m n)) ≡ true → (ltb b a || (eqb b a && ltb n m)) ≡ false
-before-asym a m b n h = grind (arith, nat_tests)
-
-before-trans : (a m b n c o : ℕ) → (ltb b a || (eqb b a && ltb n m)) ≡ false → (ltb c b || (eqb c b && ltb o n)) ≡ false → (ltb c a || (eqb c a && ltb o m)) ≡ false
-before-trans a m b n c o h k = grind (arith, nat_tests)
-
--- what does not come before comes after, where the numbers differ
-before-other : (a m b n : ℕ) → (ltb a b || (eqb a b && ltb m n)) ≡ false → (m ≡ n → ⊥) → (b < a) ⊎ ((b ≡ a) × (n < m))
-before-other a m b n h differ = elim (cases_Bool (ltb b a)) [
-  | inl less ↦ inl (grind (arith, nat_tests, less))
-  | inr more ↦ inr (grind (arith, nat_tests, more, h), grind (arith, nat_tests, more, h, differ))
-]
+-- ---- the next node
 
 chosen-order : (t : Slots) → IsStrictWeakOrder (is_chosen_before t)
-chosen-order t = record {
-  one_way = λ a b. before-asym (taken_count t a) a.number.value (taken_count t b) b.number.value;
-  chain = λ a b c h k. before-trans (taken_count t c) c.number.value (taken_count t b) b.number.value (taken_count t a) a.number.value k h;
-}
-
--- ---- the next node
+chosen-order t = lighter-order (taken_count t) (λ n. n.number)
 
 pub at-each : {X : Type 0} (P : X → Type 0) (xs : List X) (x : X) → AllByRecursion P xs → Contains xs x → P x
 at-each P xs x all listed = All-contains P xs x (All-from_recursion P xs all) listed
@@ -104,15 +87,8 @@ next_node-IsNext t b n e =
       allowed = may_take-MayTake t b n (least-all (is_chosen_before t) (λ x. test x ≡ true) n (filter test t.nodes) (all-passes test t.nodes) e);
       first = λ m listed h differ.
           let later = at-each (λ y. test y ≡ true → is_chosen_before t y n ≡ false) t.nodes m (all-filtered test _ t.nodes (least-first (is_chosen_before t) (chosen-order t) n (filter test t.nodes) e)) listed (MayTake-may_take t b m h) in
-          before-other (taken_count t m) m.number.value (taken_count t n) n.number.value later (λ same. differ (same_node m.number n.number same));
+          lighter-total (taken_count t n) n.number (taken_count t m) m.number later (λ same. differ (same_node m.number n.number (sym same)));
     }
-
--- of two nodes only one is chosen before the other
-one-first : (a m b n : ℕ) → (a < b) ⊎ ((a ≡ b) × (m < n)) → (b < a) ⊎ ((b ≡ a) × (n < m)) → ⊥
-one-first a m b n (inl less) (inl more) = omega (arith, less, more)
-one-first a m b n (inl less) (inr same) = omega (arith, less, same.0)
-one-first a m b n (inr same) (inl more) = omega (arith, same.0, more)
-one-first a m b n (inr same) (inr other) = omega (arith, same.1, other.1)
 
 pub next_node-some : (t : Slots) (b : Barred) (n : NodeInfo) → AreNodes t.nodes → (next_node t b ≡ Some n) ↔ IsNext t b n
 next_node-some t b n known = (next_node-IsNext t b n, λ h. next_from t b n known h (next_node t b) refl) where
@@ -126,7 +102,7 @@ next_node-some t b n known = (next_node-IsNext t b n, λ h. next_from t b n know
             let at_m : node_at t.nodes m.number ≡ Some m = at-each _ t.nodes m found other.listed in
             let at_n : node_at t.nodes n.number ≡ Some n = at-each _ t.nodes n found h.listed in
             e ∙ (sym at_m ∙ (ap (node_at t.nodes) (same_node m.number n.number same) ∙ at_n))
-        | inr differ ↦ absurd (one-first (taken_count t n) n.number.value (taken_count t m) m.number.value
+        | inr differ ↦ absurd (lighter-once (taken_count t n) n.number (taken_count t m) m.number
             (h.first m other.listed other.allowed (λ e. differ (ap (λ (x : NodeNo). x.value) e)))
             (other.first n h.listed h.allowed (λ e. differ (sym (ap (λ (x : NodeNo). x.value) e)))))
       ]

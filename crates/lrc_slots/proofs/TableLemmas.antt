@@ -13,7 +13,8 @@ use Rattle.lrc_topology.specs.declared.NodeInfo.{NodeInfo}
 use Rattle.lrc_topology.specs.Nodes.{node_at, IsInRange}
 use Rattle.lrc_topology.specs.Seats.{first_slot}
 use Rattle.lrc_slots.specs.Slots.{Slots, all_free, least_free, least_free_at, taken_count, load_at, with_taken, with_free, with_eligible}
-use Rattle.lrc_slots.specs.Tables.{Row, Table, is_of, row_at, place_of, is_marked, slots_of, fresh_row, alone}
+use Rattle.lrc_slots.specs.Tables.{Row, Table, is_of, row_at, is_marked, slots_of}
+use Rattle.lrc_slots.specs.Rows.{place_of, fresh_row, alone}
 use Rattle.lrc_slots.proofs.NodeLemmas.{same_node}
 use Rattle.lrc_slots.proofs.MarkLemmas.{get_or-set_true, or-false, and-true, get_or-set_false, get_or-replicate_same}
 

@@ -4,3 +4,4 @@ pub mod Slots
 pub mod Barred
 pub mod Next
 pub mod Tables
+pub mod Rows

@@ -1,12 +1,11 @@
 -- What contracts see of a slot table and of barred domains: lists, and what these stand for.
-use Rattle.std.specs.Prelude.{ℕ, Bool, true, false, nat_eq, List, [], ◌∷◌, map, find, get_or, replicate, Option}
-use Rattle.std.specs.List.{position}
+use Rattle.std.specs.Prelude.{ℕ, Bool, true, false, List, map, find, get_or, Option}
 use Rattle.std.specs.Option.{option_map_or}
 use Rattle.lrc_code.specs.declared.numbers.NodeNo.{NodeNo}
+use Rattle.lrc_code.specs.Numbers.{same_node}
 use Rattle.lrc_topology.specs.declared.NodeInfo.{NodeInfo}
-use Rattle.lrc_slots.specs.Slots.{Slots, taken_count}
+use Rattle.lrc_slots.specs.Slots.{Slots}
 use Rattle.lrc_slots.specs.Barred.{Barred}
-use Rattle.lrc_slots.specs.Next.{may_take, comes_before}
 
 -- a node of a table, whether it is set eligible, and for each of its slots in turn whether it is taken
 pub record Row : Type 0 where
@@ -25,15 +24,11 @@ pub record Bars : Type 0 where
 
 -- the row is that of the node
 abbrev pub is_of : NodeNo → Row → Bool
-is_of n r = nat_eq n.value r.node.number.value
+is_of n r = same_node n r.node.number
 
 -- the row of a node
 abbrev pub row_at : Table → NodeNo → Option Row
 row_at rows n = find (is_of n) rows
-
--- where the row of a node stands
-abbrev pub place_of : Table → NodeNo → Option ℕ
-place_of rows n = position (is_of n) rows
 
 -- a slot of a row is taken; none is beyond the last
 abbrev pub is_marked : Row → ℕ → Bool
@@ -50,21 +45,3 @@ slots_of rows = record {
 -- the domains that the lists stand for
 unfoldable pub barred : Bars → Barred
 barred b = record { faults = λ d. get_or b.faults d.value false; upgrades = λ d. get_or b.upgrades d.value false }
-
--- ---- one row
-
--- a node that is eligible, with all slots free
-abbrev pub fresh_row : NodeInfo → Row
-fresh_row node = record { node = node; eligible = true; taken = replicate node.slots false }
-
--- the slots that one row stands for
-abbrev pub alone : Row → Slots
-alone r = record { nodes = r.node ∷ []; eligible = λ n. r.eligible; taken = λ n k. is_marked r k }
-
--- a row may take a seat
-abbrev pub is_open : Barred → Row → Bool
-is_open b r = may_take (alone r) b r.node
-
--- the node of the first row is chosen before that of the second
-abbrev pub precedes : Row → Row → Bool
-precedes r s = comes_before (taken_count (alone r) r.node) r.node.number (taken_count (alone s) s.node) s.node.number

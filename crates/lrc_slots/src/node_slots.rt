@@ -1,7 +1,8 @@
-ghost use Rattle.std.specs.Prelude.{◌≡◌, ◌≤◌, ◌<◌, length, IfOk, IfSome, option_copied, slice_set};
+ghost use Rattle.std.specs.Prelude.{◌≡◌, ◌≤◌, ◌<◌, length, IsTrue, IfOk, IfSome, option_copied, slice_set};
 ghost use Rattle.lrc_code.specs.Order.{better};
 ghost use Rattle.lrc_slots.specs.Slots.{least_free, taken_count};
-ghost use Rattle.lrc_slots.specs.Tables.{barred, is_marked, fresh_row, alone, is_open, precedes};
+ghost use Rattle.lrc_slots.specs.Tables.{barred, is_marked};
+ghost use Rattle.lrc_slots.specs.Rows.{fresh_row, alone, is_open, precedes};
 
 use crate::Taken;
 use lrc_code::NodeNo;
@@ -49,7 +50,8 @@ impl NodeSlots {
     }
 
     pub(crate) fn is_taken(&self, slot: u16) -> bool
-        ensures { result ≡ is_marked self.now slot }
+        ensures value { result ≡ is_marked self.now slot }
+        ensures within { IsTrue result → slot < self.now.node.slots }
     {
         if slot < self.node.slots {
             self.taken[slot as usize]

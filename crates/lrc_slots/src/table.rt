@@ -1,10 +1,11 @@
-ghost use Rattle.std.specs.Prelude.{◌≡◌, ◌≤◌, ◌<◌, length, IsSome, IsTrue, IfSome, IfOk, IfErr, map, filter, option_copied};
+ghost use Rattle.std.specs.Prelude.{◌≡◌, ◌≤◌, ◌<◌, length, IsSome, IsSomeAnd, IsTrue, IfSome, IfOk, IfErr, map, filter, option_copied};
 ghost use Rattle.lrc_code.specs.declared.fault.Fault.TheVariants.{OutOfMemory};
 ghost use Rattle.lrc_code.specs.Order.{least};
 ghost use Rattle.lrc_topology.specs.Nodes.{AreNodes, node_at};
 ghost use Rattle.lrc_slots.specs.Slots.{all_free, least_free_at, load_at, with_taken, with_free, with_eligible};
 ghost use Rattle.lrc_slots.specs.Next.{next_number};
-ghost use Rattle.lrc_slots.specs.Tables.{slots_of, barred, place_of, is_open, precedes};
+ghost use Rattle.lrc_slots.specs.Tables.{slots_of, barred};
+ghost use Rattle.lrc_slots.specs.Rows.{place_of, is_open, precedes};
 
 use crate::Taken;
 use crate::node_slots::{NodeSlots, first_of};
@@ -105,7 +106,8 @@ impl SlotTable {
     /// Whether a slot of a node is taken; `false` beyond the node's last slot, and for a node that is not of the
     /// topology.
     pub fn is_taken(&self, node: NodeNo, slot: u16) -> bool
-        ensures { result ≡ (slots_of self.now).taken node slot }
+        ensures value { result ≡ (slots_of self.now).taken node slot }
+        ensures within { IsTrue result → IsSomeAnd (node_at (slots_of self.now).nodes node) (λ n. slot < n.slots) }
     {
         match self.position(node) {
             Some(place) => {

@@ -6,7 +6,8 @@ use Rattle.lrc_code.specs.declared.numbers.StripeNo.{StripeNo}
 use Rattle.lrc_topology.specs.declared.seat.Seat.{Seat}
 use Rattle.lrc_stripes.specs.declared.row.Row.{Row}
 use Rattle.lrc_stripes.specs.Stored.{HasNoHome}
-use Rattle.lrc_stripes.specs.Tables.{Table, stored_in, is_seat, holds, row_at, row_homes, IsRising}
+use Rattle.lrc_stripes.specs.Tables.{Table, stored_in, row_at, row_homes}
+use Rattle.lrc_stripes.specs.Rows.{is_seat, holds, IsRising}
 use Rattle.lrc_stripes.proofs.RowLemmas.{AreAbove}
 
 module _ (seat : Seat) where

@@ -9,7 +9,8 @@ use Rattle.lrc_topology.specs.declared.seat.Seat.{Seat}
 use Rattle.lrc_stripes.specs.declared.row.Row.{Row}
 use Rattle.lrc_stripes.specs.declared.row.Site.{Site}
 use Rattle.lrc_stripes.specs.Stored.{with_stripe, without_stripe, with_home, with_spare}
-use Rattle.lrc_stripes.specs.Tables.{IsKept, stored_in, row_at, place_of}
+use Rattle.lrc_stripes.specs.Tables.{stored_in, row_at}
+use Rattle.lrc_stripes.specs.Rows.{IsKept, place_of}
 use Rattle.lrc_stripes.proofs.RowLemmas.{place_of-within, row_at-place, rising-insert, rising-remove, rising-set}
 use Rattle.lrc_stripes.proofs.StoredLemmas.{stored_in-insert, stored_in-remove, stored_in-set_home}
 

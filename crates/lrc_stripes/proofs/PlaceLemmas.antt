@@ -15,7 +15,8 @@ use Rattle.lrc_code.specs.Codes.{fragments}
 use Rattle.lrc_code.proofs.NumbersLemmas.{equal_fragments}
 use Rattle.lrc_stripes.specs.declared.row.Row.{Row}
 use Rattle.lrc_stripes.specs.Stored.{StripeFragment, comes_before, AreHomesOn}
-use Rattle.lrc_stripes.specs.Tables.{Table, stored_in, sits_on, row_places, places_from, row_at, row_homes, IsRising}
+use Rattle.lrc_stripes.specs.Tables.{Table, stored_in, row_at, row_homes}
+use Rattle.lrc_stripes.specs.Rows.{sits_on, row_places, places_from, IsRising}
 use Rattle.lrc_stripes.proofs.MaskLemmas.{fragment-number}
 use Rattle.lrc_stripes.proofs.RowLemmas.{AreAbove}
 use Rattle.lrc_stripes.proofs.WalkLemmas.{places_from-first}

@@ -5,7 +5,8 @@ use Rattle.std.proofs.lemmas.Bool.{cases_Bool, cases_eq, eq-eqb, ne_eqb, eqb-tru
 use Rattle.lrc_code.specs.declared.numbers.StripeNo.{StripeNo}
 use Rattle.lrc_stripes.specs.declared.row.Row.{Row}
 use Rattle.lrc_stripes.specs.Stored.{same_stripe}
-use Rattle.lrc_stripes.specs.Tables.{row_at, place_of, IsRising}
+use Rattle.lrc_stripes.specs.Tables.{row_at}
+use Rattle.lrc_stripes.specs.Rows.{place_of, IsRising}
 
 -- the rows have higher numbers
 abbrev pub AreAbove : ℕ → List Row → Type 0

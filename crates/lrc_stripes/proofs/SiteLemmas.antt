@@ -7,7 +7,8 @@ use Rattle.lrc_topology.specs.declared.NodeInfo.{NodeInfo}
 use Rattle.lrc_topology.specs.Nodes.{node_at}
 use Rattle.lrc_stripes.specs.declared.row.Site.{Site}
 use Rattle.lrc_stripes.specs.Stored.{has_node}
-use Rattle.lrc_stripes.specs.Tables.{site_of, site_at, site_place, online_in}
+use Rattle.lrc_stripes.specs.Tables.{site_at, online_in}
+use Rattle.lrc_stripes.specs.Rows.{site_of, site_place}
 
 -- ---- at first
 

@@ -17,7 +17,8 @@ use Rattle.lrc_stripes.specs.declared.row.Site.{Site}
 use Rattle.lrc_stripes.specs.declared.level.Level.{Level}
 use Rattle.lrc_stripes.specs.Levels.{homeless_in, missing_in, level_by}
 use Rattle.lrc_stripes.specs.Stored.{empty, with_stripe, without_stripe, with_home, with_offline, with_spare, same_stripe, has_node, has_slot, missing_shown, level_shown}
-use Rattle.lrc_stripes.specs.Tables.{Table, stored_in, site_of, site_at, site_place, online_in, row_at, row_homes, place_of, IsRising}
+use Rattle.lrc_stripes.specs.Tables.{Table, stored_in, site_at, online_in, row_at, row_homes}
+use Rattle.lrc_stripes.specs.Rows.{site_of, site_place, place_of, IsRising}
 use Rattle.lrc_stripes.proofs.SiteLemmas.{nodes-at_first, online-at_first, nodes-set, online-set, node_at-sites}
 use Rattle.lrc_stripes.proofs.RowLemmas.{row_at-insert, row_at-remove, row_at-set}
 

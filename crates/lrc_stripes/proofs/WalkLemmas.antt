@@ -10,7 +10,7 @@ use Rattle.lrc_code.specs.declared.numbers.Fragment.{Fragment}
 use Rattle.lrc_code.specs.Codes.{fragments}
 use Rattle.lrc_stripes.specs.declared.row.Row.{Row}
 use Rattle.lrc_stripes.specs.Stored.{StripeFragment}
-use Rattle.lrc_stripes.specs.Tables.{sits_on, row_places, places_from}
+use Rattle.lrc_stripes.specs.Rows.{sits_on, row_places, places_from}
 use Rattle.lrc_stripes.proofs.MaskLemmas.{fragment-number}
 
 -- where none is found, none passes

@@ -3,7 +3,7 @@ ghost use Rattle.std.specs.Option.{option_map_or};
 ghost use Rattle.std.specs.Iterator.{YieldsFirst, item_count};
 ghost use Rattle.lrc_code.specs.declared.codes.Code.TheVariants.{Wide};
 ghost use Rattle.lrc_code.specs.Codes.{fragments};
-ghost use Rattle.lrc_stripes.specs.Tables.{sits_on, places_from};
+ghost use Rattle.lrc_stripes.specs.Rows.{sits_on, places_from};
 
 use crate::Seat;
 use crate::row::Row;
@@ -21,7 +21,7 @@ pub struct HomesOn<'a> {
 impl<'a> Model for HomesOn<'a> {
     ghost use Rattle.std.specs.Prelude.{◌≤◌, List};
     ghost use Rattle.lrc_stripes.specs.Stored.{StripeFragment};
-    ghost use Rattle.lrc_stripes.specs.Tables.{places_from};
+    ghost use Rattle.lrc_stripes.specs.Rows.{places_from};
 
     ghost Value = { List StripeFragment };
 

@@ -3,7 +3,8 @@
 ghost use Rattle.std.specs.Prelude.{◌≡◌, ◌≤◌, ◌<◌, length};
 ghost use Rattle.std.specs.List.{list_any};
 ghost use Rattle.std.specs.Option.{option_copied};
-ghost use Rattle.lrc_stripes.specs.Tables.{holds, row_at, place_of, site_at, site_place, online_in};
+ghost use Rattle.lrc_stripes.specs.Tables.{row_at, site_at, online_in};
+ghost use Rattle.lrc_stripes.specs.Rows.{holds, place_of, site_place};
 
 use crate::Seat;
 use crate::row::{Row, Site};

@@ -20,7 +20,8 @@ pub struct Stripes {
 
 impl Model for Stripes {
     ghost use Rattle.std.specs.Vec.{vec_capacity};
-    ghost use Rattle.lrc_stripes.specs.Tables.{Table, IsKept};
+    ghost use Rattle.lrc_stripes.specs.Tables.{Table};
+    ghost use Rattle.lrc_stripes.specs.Rows.{IsKept};
 
     ghost Value = { Table };
 

@@ -1,5 +1,5 @@
 use Rattle.std.proofs.Common.{◌≡◌, ◌+◌, drop}
-use Rattle.lrc_stripes.specs.Tables.{place_of}
+use Rattle.lrc_stripes.specs.Rows.{place_of}
 use Rattle.lrc_stripes.proofs.search.place.Given as goal
 
 abbrev pub invariant-loop-i : goal.invariant-loop-i

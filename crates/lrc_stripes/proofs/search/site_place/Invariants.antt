@@ -1,5 +1,5 @@
 use Rattle.std.proofs.Common.{◌≡◌, ◌+◌, drop}
-use Rattle.lrc_stripes.specs.Tables.{site_place}
+use Rattle.lrc_stripes.specs.Rows.{site_place}
 use Rattle.lrc_stripes.proofs.search.site_place.Given as goal
 
 abbrev pub invariant-loop-i : goal.invariant-loop-i

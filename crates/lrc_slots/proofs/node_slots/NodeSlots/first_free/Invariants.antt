@@ -1,7 +1,8 @@
 use Rattle.std.proofs.Common.{◌≡◌, ◌-◌}
 use Rattle.lrc_topology.specs.Seats.{first_slot}
 use Rattle.lrc_slots.specs.Slots.{least_free}
-use Rattle.lrc_slots.specs.Tables.{is_marked, alone}
+use Rattle.lrc_slots.specs.Tables.{is_marked}
+use Rattle.lrc_slots.specs.Rows.{alone}
 use Rattle.lrc_slots.proofs.node_slots.NodeSlots.first_free.Given as goal
 
 abbrev pub invariant-loop-slot : goal.invariant-loop-slot

@@ -1,5 +1,5 @@
 use Rattle.std.proofs.Common.{◌≡◌, ◌≤◌, length}
-use Rattle.lrc_stripes.specs.Tables.{places_from}
+use Rattle.lrc_stripes.specs.Rows.{places_from}
 use Rattle.lrc_stripes.proofs.homes_on.HomesOnIterator.next.Given as goal
 
 -- what is left stays what was left: the rows that are passed have none

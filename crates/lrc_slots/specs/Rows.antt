@@ -1,0 +1,31 @@
+-- Internal: no public clause reaches these definitions.
+-- The rows of a table: where one stands, and what one says by itself.
+use Rattle.std.specs.Prelude.{ℕ, Bool, true, false, [], ◌∷◌, replicate, Option}
+use Rattle.std.specs.List.{position}
+use Rattle.lrc_code.specs.declared.numbers.NodeNo.{NodeNo}
+use Rattle.lrc_topology.specs.declared.NodeInfo.{NodeInfo}
+use Rattle.lrc_topology.specs.Seats.{is_lighter}
+use Rattle.lrc_slots.specs.Slots.{Slots, taken_count}
+use Rattle.lrc_slots.specs.Barred.{Barred}
+use Rattle.lrc_slots.specs.Next.{may_take}
+use Rattle.lrc_slots.specs.Tables.{Row, Table, is_of, is_marked}
+
+-- where the row of a node stands
+abbrev pub place_of : Table → NodeNo → Option ℕ
+place_of rows n = position (is_of n) rows
+
+-- a node that is eligible, with all slots free
+abbrev pub fresh_row : NodeInfo → Row
+fresh_row node = record { node = node; eligible = true; taken = replicate node.slots false }
+
+-- the slots that one row stands for
+abbrev pub alone : Row → Slots
+alone r = record { nodes = r.node ∷ []; eligible = λ n. r.eligible; taken = λ n k. is_marked r k }
+
+-- a row may take a seat
+abbrev pub is_open : Barred → Row → Bool
+is_open b r = may_take (alone r) b r.node
+
+-- the node of the first row is chosen before that of the second
+abbrev pub precedes : Row → Row → Bool
+precedes r s = is_lighter (taken_count (alone r) r.node) r.node.number (taken_count (alone s) s.node) s.node.number
