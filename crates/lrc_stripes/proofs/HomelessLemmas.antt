@@ -1,4 +1,4 @@
--- A seat is free exactly where no row holds it.
+-- A seat is no home exactly where no row holds it.
 use Rattle.std.proofs.Common.{◌≡◌, ℕ, zero, suc, ◌<◌, ◌↔◌, inl, inr, true, not, nat_eq, List, [], ◌∷◌, get_or, Option, Some, None, IsTrue, arith, refl, ap, ap₂}
 use Rattle.std.specs.List.{list_any}
 use Rattle.std.proofs.lemmas.Bool.{cases_Bool, eq-eqb, ne_eqb, eqb-true, and_parts, or_cases, or_left, or_right, not_from_false, false_from_ne_true}
@@ -7,30 +7,30 @@ use Rattle.lrc_topology.specs.declared.seat.Seat.{Seat}
 use Rattle.lrc_stripes.specs.declared.row.Row.{Row}
 use Rattle.lrc_stripes.specs.Stored.{HasNoHome}
 use Rattle.lrc_stripes.specs.Tables.{Table, stored_in, row_at, row_homes}
-use Rattle.lrc_stripes.specs.Rows.{is_seat, holds, IsRising}
+use Rattle.lrc_stripes.specs.Rows.{is_on_seat, holds, IsRising}
 use Rattle.lrc_stripes.proofs.RowLemmas.{AreAbove}
 
 module _ (seat : Seat) where
-  is_seat-same : (home : Option Seat) → is_seat seat home ≡ true → home ≡ Some seat
-  is_seat-same None e = absurd (cc)
-  is_seat-same (Some k) e =
+  is_on_seat-same : (home : Option Seat) → is_on_seat seat home ≡ true → home ≡ Some seat
+  is_on_seat-same None e = absurd (cc)
+  is_on_seat-same (Some k) e =
       let parts = and_parts _ _ e in
       ap (λ (s : Seat). Some s) (ap₂ (λ (n slot : ℕ). let s : Seat = record { node = record { value = n }; slot = slot } in s) (eqb-true _ _ parts.0) (eqb-true _ _ parts.1))
 
-  is_seat-itself : (home : Option Seat) → home ≡ Some seat → is_seat seat home ≡ true
-  is_seat-itself home e = rw (e, eq-eqb seat.node.value seat.node.value refl, eq-eqb seat.slot seat.slot refl) refl
+  is_on_seat-itself : (home : Option Seat) → home ≡ Some seat → is_on_seat seat home ≡ true
+  is_on_seat-itself home e = rw (e, eq-eqb seat.node.value seat.node.value refl, eq-eqb seat.slot seat.slot refl) refl
 
   -- a home on the seat is found among a row's
-  homes-any : (homes : List (Option Seat)) (f : ℕ) → get_or homes f None ≡ Some seat → list_any (is_seat seat) homes ≡ true
+  homes-any : (homes : List (Option Seat)) (f : ℕ) → get_or homes f None ≡ Some seat → list_any (is_on_seat seat) homes ≡ true
   homes-any [] f e = absurd (cc)
-  homes-any (h ∷ homes) zero e = or_left _ _ (is_seat-itself h e)
+  homes-any (h ∷ homes) zero e = or_left _ _ (is_on_seat-itself h e)
   homes-any (h ∷ homes) (suc f) e = or_right _ _ (homes-any homes f e)
 
   -- and one that is found stands at a place
-  any-homes : (homes : List (Option Seat)) → list_any (is_seat seat) homes ≡ true → (f : ℕ) × (get_or homes f None ≡ Some seat)
+  any-homes : (homes : List (Option Seat)) → list_any (is_on_seat seat) homes ≡ true → (f : ℕ) × (get_or homes f None ≡ Some seat)
   any-homes [] e = absurd (cc)
   any-homes (h ∷ homes) e = elim (or_cases _ _ e) [
-    | inl here ↦ (0, is_seat-same h here)
+    | inl here ↦ (0, is_on_seat-same h here)
     | inr later ↦ let rest = any-homes homes later in (suc rest.0, rest.1)
   ]
 

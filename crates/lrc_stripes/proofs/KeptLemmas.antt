@@ -5,6 +5,7 @@ use Rattle.std.proofs.lemmas.List.{length-set}
 use Rattle.std.proofs.lemmas.List.Edits.{length-insert, length-remove}
 use Rattle.lrc_code.specs.declared.numbers.StripeNo.{StripeNo}
 use Rattle.lrc_code.specs.declared.numbers.Fragment.{Fragment}
+use Rattle.lrc_code.specs.declared.codes.Code.TheVariants.{Wide}
 use Rattle.lrc_topology.specs.declared.seat.Seat.{Seat}
 use Rattle.lrc_stripes.specs.declared.row.Row.{Row}
 use Rattle.lrc_stripes.specs.declared.row.Site.{Site}
@@ -56,5 +57,5 @@ module _ (sites : List Site) (rows slice : List Row) (s : StripeNo) (place spare
         let e : place_of rows x.stripe ≡ place = rw own (sym found_in) in
         record { rising = rw (← e) (rising-insert x rows kept.rising (rw own absent)); room = omega (arith, longer, kept.room, large, room) }
 
-    pub stored_in-insert_at : x.homes ≡ replicate 16 None → stored_in (record { sites = sites; rows = insert rows place x; spare = spare - 1 }) ≡ with_stripe (stored_in (record { sites = sites; rows = rows; spare = spare })) s
+    pub stored_in-insert_at : x.homes ≡ replicate 16 None → stored_in (record { sites = sites; rows = insert rows place x; spare = spare - 1 }) ≡ with_stripe (stored_in (record { sites = sites; rows = rows; spare = spare })) Wide s
     stored_in-insert_at bare = rw (found_in, ← own) (stored_in-insert sites rows x spare bare (rw own absent))

@@ -4,7 +4,7 @@ use Rattle.std.specs.List.{AllByRecursion, insert, remove}
 use Rattle.std.proofs.lemmas.Bool.{cases_Bool, cases_eq, eq-eqb, ne_eqb, eqb-true, ltb-true, ltb-false}
 use Rattle.lrc_code.specs.declared.numbers.StripeNo.{StripeNo}
 use Rattle.lrc_stripes.specs.declared.row.Row.{Row}
-use Rattle.lrc_stripes.specs.Stored.{same_stripe}
+use Rattle.lrc_code.specs.Numbers.{same_stripe}
 use Rattle.lrc_stripes.specs.Tables.{row_at}
 use Rattle.lrc_stripes.specs.Rows.{place_of, IsRising}
 

@@ -7,7 +7,9 @@ use Rattle.std.proofs.lemmas.List.{get_or-set_same, get_or-set_other}
 use Rattle.lrc_code.specs.declared.numbers.StripeNo.{StripeNo}
 use Rattle.lrc_code.specs.declared.numbers.NodeNo.{NodeNo}
 use Rattle.lrc_code.specs.declared.numbers.Fragment.{Fragment}
+use Rattle.lrc_code.specs.declared.codes.Code.{Code}
 use Rattle.lrc_code.specs.declared.codes.Code.TheVariants.{Wide}
+use Rattle.lrc_code.specs.Numbers.{same_stripe}
 use Rattle.lrc_code.specs.Losses.{FragmentSet, bits_set, bits_of}
 use Rattle.lrc_code.proofs.BitsLemmas.{bits_of-bits_set}
 use Rattle.lrc_topology.specs.declared.NodeInfo.{NodeInfo}
@@ -15,8 +17,8 @@ use Rattle.lrc_topology.specs.declared.seat.Seat.{Seat}
 use Rattle.lrc_stripes.specs.declared.row.Row.{Row}
 use Rattle.lrc_stripes.specs.declared.row.Site.{Site}
 use Rattle.lrc_stripes.specs.declared.level.Level.{Level}
-use Rattle.lrc_stripes.specs.Levels.{homeless_in, missing_in, level_by}
-use Rattle.lrc_stripes.specs.Stored.{empty, with_stripe, without_stripe, with_home, with_offline, with_spare, same_stripe, has_node, has_slot, missing_shown, level_shown}
+use Rattle.lrc_stripes.specs.Levels.{homeless_in, missing_in, missing_if, level_by, level_if}
+use Rattle.lrc_stripes.specs.Stored.{empty, with_stripe, without_stripe, with_home, with_offline, with_spare, has_node, has_slot, missing_shown, level_shown}
 use Rattle.lrc_stripes.specs.Tables.{Table, stored_in, site_at, online_in, row_at, row_homes}
 use Rattle.lrc_stripes.specs.Rows.{site_of, site_place, place_of, IsRising}
 use Rattle.lrc_stripes.proofs.SiteLemmas.{nodes-at_first, online-at_first, nodes-set, online-set, node_at-sites}
@@ -71,9 +73,16 @@ homes-chosen : (b : Bool) (o p : Option Row) (f : ℕ) → row_homes o f ≡ Non
 homes-chosen true o p f e = e
 homes-chosen false o p f e = refl
 
+-- all stripes stay Wide where one is
+wide_stays : (s : StripeNo) → ◌≡◌ {A = StripeNo → Code} (λ u. Wide) (λ u. if same_stripe s u then Wide else Wide)
+wide_stays s = fun_ext (λ u. sym (either (same_stripe s u))) where
+  either : (b : Bool) → (if b then Wide else Wide) ≡ Wide
+  either true = refl
+  either false = refl
+
 -- a stripe with no homes added
 pub stored_in-insert : (sites : List Site) (rows : List Row) (x : Row) (spare : ℕ) → x.homes ≡ replicate 16 None → is_some (row_at rows x.stripe) ≡ false
-    → stored_in (record { sites = sites; rows = insert rows (place_of rows x.stripe) x; spare = spare - 1 }) ≡ with_stripe (stored_in (record { sites = sites; rows = rows; spare = spare })) x.stripe
+    → stored_in (record { sites = sites; rows = insert rows (place_of rows x.stripe) x; spare = spare - 1 }) ≡ with_stripe (stored_in (record { sites = sites; rows = rows; spare = spare })) Wide x.stripe
 unfolding stored_in
 stored_in-insert sites rows x spare bare absent =
     let t = stored_in (record { sites = sites; rows = rows; spare = spare }) in
@@ -81,7 +90,8 @@ stored_in-insert sites rows x spare bare absent =
     let no_homes : (f : ℕ) → row_homes (Some x) f ≡ None = λ f. rw bare (get_or-replicate_same 16 f None) in
     stored_in-changed sites rows (insert rows (place_of rows s) x) s (Some x) (λ u. row_at-insert x rows u absent) spare (spare - 1)
     ∙ ap (λ (b : StripeNo → Bool). record t { stripes = b; homes = λ u. row_homes (if same_stripe s u then Some x else row_at rows u); spare = spare - 1 }) (fun_ext (λ u. stripes-added (same_stripe s u) true (Some x) (row_at rows u) refl))
-    ∙ ap (λ (h : StripeNo → ℕ → Option Seat). record (with_stripe t s) { homes = h }) (fun_ext (λ u. fun_ext (λ f. homes-chosen (same_stripe s u) (Some x) (row_at rows u) f (no_homes f))))
+    ∙ ap (λ (h : StripeNo → ℕ → Option Seat). record (with_stripe t Wide s) { code = λ u. Wide; homes = h }) (fun_ext (λ u. fun_ext (λ f. homes-chosen (same_stripe s u) (Some x) (row_at rows u) f (no_homes f))))
+    ∙ ap (λ (c : StripeNo → Code). record (with_stripe t Wide s) { code = c }) (wide_stays s)
 
 stripes-removed : (b : Bool) (p : Option Row) → is_some (if b then None else p) ≡ (not b && is_some p)
 stripes-removed true p = refl
@@ -95,7 +105,8 @@ stored_in-remove sites rows s spare after rising there =
     let t = stored_in (record { sites = sites; rows = rows; spare = spare }) in
     stored_in-changed sites rows (remove rows (place_of rows s)) s None (λ u. row_at-remove rows s u rising there) spare after
     ∙ ap (λ (b : StripeNo → Bool). record t { stripes = b; homes = λ u. row_homes (if same_stripe s u then None else row_at rows u); spare = after }) (fun_ext (λ u. stripes-removed (same_stripe s u) (row_at rows u)))
-    ∙ ap (λ (h : StripeNo → ℕ → Option Seat). record (with_spare (without_stripe t s) after) { homes = h }) (fun_ext (λ u. fun_ext (λ f. homes-chosen (same_stripe s u) None (row_at rows u) f refl)))
+    ∙ ap (λ (h : StripeNo → ℕ → Option Seat). record (with_spare (without_stripe t s) after) { code = λ u. Wide; homes = h }) (fun_ext (λ u. fun_ext (λ f. homes-chosen (same_stripe s u) None (row_at rows u) f refl)))
+    ∙ ap (λ (c : StripeNo → Code). record (with_spare (without_stripe t s) after) { code = c }) (wide_stays s)
 
 -- stripes of one number find one row
 row_at-same : (rows : List Row) (s t : StripeNo) → s.value ≡ t.value → row_at rows t ≡ row_at rows s
@@ -132,21 +143,21 @@ stored_in-set_home sites rows s x old f home spare rising found own changed =
 
 pub missing_shown-there : (t : Table) (s : StripeNo) (r : Row) (bits : ℕ) → bits < 65536 → row_at t.rows s ≡ Some r → bits_set bits ≡ missing_in Wide (online_in t.sites) (row_homes (Some r))
     → missing_shown (stored_in t) s ≡ Some (record { bits = bits })
-unfolding stored_in missing_shown
+unfolding stored_in missing_if
 missing_shown-there t s r bits few found set =
     rw found (ap (λ (m : FragmentSet). Some (record { bits = bits_of Wide m })) (sym set) ∙ ap (λ (b : ℕ). Some (record { bits = b })) (bits_of-bits_set Wide bits few))
 
 pub missing_shown-absent : (t : Table) (s : StripeNo) → row_at t.rows s ≡ None → missing_shown (stored_in t) s ≡ None
-unfolding stored_in missing_shown
+unfolding stored_in missing_if
 missing_shown-absent t s none = rw none refl
 
 pub level_shown-there : (t : Table) (s : StripeNo) (r : Row) (level : Level) (homeless missing : FragmentSet) → row_at t.rows s ≡ Some r → homeless ≡ homeless_in Wide (row_homes (Some r)) → missing ≡ missing_in Wide (online_in t.sites) (row_homes (Some r))
     → level ≡ level_by Wide homeless missing → level_shown (stored_in t) s ≡ Some level
-unfolding stored_in level_shown
+unfolding stored_in level_if
 level_shown-there t s r level homeless missing found none gone is = rw found (ap₂ (λ (h m : FragmentSet). Some (level_by Wide h m)) (sym none) (sym gone) ∙ ap (λ (l : Level). Some l) (sym is))
 
 pub level_shown-absent : (t : Table) (s : StripeNo) → row_at t.rows s ≡ None → level_shown (stored_in t) s ≡ None
-unfolding stored_in level_shown
+unfolding stored_in level_if
 level_shown-absent t s none = rw none refl
 
 pub is_some-option_map : {X Y : Type 0} (f : X → Y) (o : Option X) → is_some (option_map f o) ≡ is_some o

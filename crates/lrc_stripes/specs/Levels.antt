@@ -2,10 +2,12 @@
 use Rattle.std.specs.Prelude.{ℕ, ◌<◌, IsTrue, IsFalse, Bool, true, false, not, ◌&&◌, if◌then◌else◌, nat_lt, nat_eq, List, find, Option, Some, None, is_none, unwrap_or, option_map}
 use Rattle.std.specs.Option.{option_map_or}
 use Rattle.lrc_code.specs.declared.codes.Code.{Code}
+use Rattle.lrc_code.specs.declared.losses.LossMask.{LossMask}
 use Rattle.lrc_code.specs.declared.numbers.StripeNo.{StripeNo}
 use Rattle.lrc_code.specs.declared.numbers.NodeNo.{NodeNo}
+use Rattle.lrc_code.specs.Numbers.{same_stripe}
 use Rattle.lrc_code.specs.Codes.{has_fragment, fragment_count}
-use Rattle.lrc_code.specs.Losses.{FragmentSet, size_of, is_recoverable, margin_of}
+use Rattle.lrc_code.specs.Losses.{FragmentSet, size_of, bits_of, is_recoverable, margin_of}
 use Rattle.lrc_topology.specs.declared.seat.Seat.{Seat}
 use Rattle.lrc_topology.specs.declared.seat.Held.{Held}
 use Rattle.lrc_stripes.specs.declared.level.Level.{Level}
@@ -27,17 +29,11 @@ missing_in code online homes f = has_fragment code f && option_map_or (λ seat. 
 
 -- the home of the fragment of this number
 abbrev pub home_of : List Held → StripeNo → ℕ → Option Held
-home_of homes s f = find (λ h. nat_eq h.stripe.value s.value && nat_eq h.fragment.value f) homes
+home_of homes s f = find (λ h. same_stripe h.stripe s && nat_eq h.fragment.value f) homes
 
 -- the seats of the stripe's fragments
 abbrev pub homes_of : List Held → StripeNo → Homes
 homes_of homes s f = option_map (λ h. h.seat) (home_of homes s f)
-
-unfoldable pub homeless_of : Code → List Held → StripeNo → FragmentSet
-homeless_of code homes s = homeless_in code (homes_of homes s)
-
-unfoldable pub missing_of : Code → (NodeNo → Bool) → List Held → StripeNo → FragmentSet
-missing_of code online homes s = missing_in code online (homes_of homes s)
 
 -- ---- levels and ranks
 
@@ -74,6 +70,12 @@ rank_at (AtRisk margin) = margin
 rank_at Unavailable = 4
 rank_at Lost = 4
 
-abbrev pub is_whole : Level → Bool
-is_whole Whole = true
-is_whole _ = false
+-- ---- what is shown of a stripe, if it is there
+
+-- the missing fragments of a stripe of this code with these homes
+unfoldable pub missing_if : Bool → Code → (NodeNo → Bool) → Homes → Option LossMask
+missing_if there code online homes = if there then Some (record { bits = bits_of code (missing_in code online homes) }) else None
+
+-- its level
+unfoldable pub level_if : Bool → Code → (NodeNo → Bool) → Homes → Option Level
+level_if there code online homes = if there then Some (level_by code (homeless_in code homes) (missing_in code online homes)) else None

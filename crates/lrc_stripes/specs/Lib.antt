@@ -1,3 +1,4 @@
+pub use Rattle.lrc_code.specs.Numbers
 pub use Rattle.lrc_code.specs.Order
 pub use Rattle.lrc_code.specs.Codes
 pub use Rattle.lrc_code.specs.Losses
@@ -6,3 +7,4 @@ pub use Rattle.lrc_topology.specs.Seats
 pub mod Levels
 pub mod Stored
 pub mod Tables
+pub mod Rows

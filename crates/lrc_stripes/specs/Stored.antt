@@ -8,36 +8,36 @@ use Rattle.lrc_code.specs.declared.losses.LossMask.{LossMask}
 use Rattle.lrc_code.specs.declared.numbers.StripeNo.{StripeNo}
 use Rattle.lrc_code.specs.declared.numbers.Fragment.{Fragment}
 use Rattle.lrc_code.specs.declared.numbers.NodeNo.{NodeNo}
-use Rattle.lrc_code.specs.Losses.{FragmentSet, bits_of}
+use Rattle.lrc_code.specs.Numbers.{same_stripe, same_node}
 use Rattle.lrc_topology.specs.declared.NodeInfo.{NodeInfo}
 use Rattle.lrc_topology.specs.declared.seat.Seat.{Seat}
 use Rattle.lrc_topology.specs.Nodes.{node_at}
 use Rattle.lrc_stripes.specs.declared.level.Level.{Level}
-use Rattle.lrc_stripes.specs.Levels.{Homes, homeless_in, missing_in, level_by}
+use Rattle.lrc_stripes.specs.Levels.{Homes, missing_if, level_if}
 
--- the nodes in the order of the file, a test of the stripes that there are, the homes of each stripe's fragments, a test of
--- the nodes that are online, and for how many more stripes there is room
+-- The nodes in the order of the file, a test of the stripes that there are, the code of each, the homes of each one's fragments,
+-- a test of the nodes that are online, and for how many more stripes there is room. A stripe that is not there counts as Wide.
 pub record Stored : Type 0 where
   pub nodes : List NodeInfo
   pub stripes : StripeNo → Bool
+  pub code : StripeNo → Code
   pub homes : StripeNo → Homes
   pub online : NodeNo → Bool
   pub spare : ℕ
 
+-- one of the nodes has the number
 abbrev pub has_node : List NodeInfo → NodeNo → Bool
 has_node nodes n = is_some (node_at nodes n)
 
 -- no stripes and no room, and every node is online; a number that is no node is not
 abbrev pub empty : List NodeInfo → Stored
-empty nodes = record { nodes = nodes; stripes = λ s. false; homes = λ s f. None; online = has_node nodes; spare = 0 }
+empty nodes = record { nodes = nodes; stripes = λ s. false; code = λ s. Wide; homes = λ s f. None; online = has_node nodes; spare = 0 }
 
-abbrev pub same_stripe : StripeNo → StripeNo → Bool
-same_stripe s t = nat_eq s.value t.value
-
--- one more stripe, none of whose fragments has a home
-abbrev pub with_stripe : Stored → StripeNo → Stored
-with_stripe t s = record t {
+-- one more stripe, of this code, none of whose fragments has a home
+abbrev pub with_stripe : Stored → Code → StripeNo → Stored
+with_stripe t code s = record t {
   stripes = λ r. same_stripe s r || t.stripes r;
+  code = λ r. if same_stripe s r then code else t.code r;
   homes = λ r f. if same_stripe s r then None else t.homes r f;
   spare = t.spare - 1;
 }
@@ -46,6 +46,7 @@ with_stripe t s = record t {
 abbrev pub without_stripe : Stored → StripeNo → Stored
 without_stripe t s = record t {
   stripes = λ r. not (same_stripe s r) && t.stripes r;
+  code = λ r. if same_stripe s r then Wide else t.code r;
   homes = λ r f. if same_stripe s r then None else t.homes r f;
 }
 
@@ -55,7 +56,7 @@ with_home t s f home = record t { homes = λ r g. if same_stripe s r && nat_eq f
 
 -- the node is offline or not, as set
 abbrev pub with_offline : Stored → NodeNo → Bool → Stored
-with_offline t n b = record t { online = λ m. if nat_eq n.value m.value then not b else t.online m }
+with_offline t n b = record t { online = λ m. if same_node n m then not b else t.online m }
 
 -- there is room for so many more stripes
 abbrev pub with_spare : Stored → ℕ → Stored
@@ -63,25 +64,13 @@ with_spare t spare = record t { spare = spare }
 
 -- ---- what is missing
 
--- the code of a stripe
-abbrev pub code_at : Stored → StripeNo → Code
-code_at t s = Wide
-
--- the fragments of the stripe without a home
-abbrev pub homeless_at : Stored → StripeNo → FragmentSet
-homeless_at t s = homeless_in (code_at t s) (t.homes s)
-
--- those, and the ones whose home node is not online
-abbrev pub missing_at : Stored → StripeNo → FragmentSet
-missing_at t s = missing_in (code_at t s) t.online (t.homes s)
-
 -- the missing fragments of a stripe; none where there is no such stripe
-unfoldable pub missing_shown : Stored → StripeNo → Option LossMask
-missing_shown t s = if t.stripes s then Some (record { bits = bits_of (code_at t s) (missing_at t s) }) else None
+abbrev pub missing_shown : Stored → StripeNo → Option LossMask
+missing_shown t s = missing_if (t.stripes s) (t.code s) t.online (t.homes s)
 
 -- the level of a stripe; none where there is no such stripe
-unfoldable pub level_shown : Stored → StripeNo → Option Level
-level_shown t s = if t.stripes s then Some (level_by (code_at t s) (homeless_at t s) (missing_at t s)) else None
+abbrev pub level_shown : Stored → StripeNo → Option Level
+level_shown t s = level_if (t.stripes s) (t.code s) t.online (t.homes s)
 
 -- ---- seats and nodes
 
@@ -89,21 +78,21 @@ level_shown t s = if t.stripes s then Some (level_by (code_at t s) (homeless_at 
 abbrev pub has_slot : List NodeInfo → Seat → Bool
 has_slot nodes seat = option_map_or (λ n. nat_lt seat.slot n.slots) (node_at nodes seat.node) false
 
--- no home is on the seat
+-- the seat is no fragment's home
 abbrev pub HasNoHome : Stored → Seat → Type 0
 HasNoHome t seat = (s : StripeNo) (f : ℕ) → t.homes s f ≢ Some seat
 
--- a fragment of a stripe
+-- a stripe, and one of its fragments
 abbrev pub StripeFragment : Type 0
 StripeFragment = StripeNo × Fragment
 
 -- the fragment has its home on the node
 abbrev pub is_home_on : Stored → NodeNo → StripeFragment → Bool
-is_home_on t n p = option_map_or (λ seat. nat_eq n.value seat.node.value) (t.homes p.0 p.1.value) false
+is_home_on t n p = option_map_or (λ seat. same_node n seat.node) (t.homes p.0 p.1.value) false
 
 -- by the stripe's number, and within a stripe by the fragment's
 abbrev pub comes_before : StripeFragment → StripeFragment → Bool
-comes_before p q = nat_lt p.0.value q.0.value || (nat_eq p.0.value q.0.value && nat_lt p.1.value q.1.value)
+comes_before p q = nat_lt p.0.value q.0.value || (same_stripe p.0 q.0 && nat_lt p.1.value q.1.value)
 
 -- these are all fragments with a home on the node, in rising order
 pub record AreHomesOn (t : Stored) (n : NodeNo) (places : List StripeFragment) : Type 0 where

@@ -1,8 +1,9 @@
-ghost use Rattle.std.specs.Prelude.{◌≡◌, ◌≤◌, List, find, drop, false, nat_eq};
+ghost use Rattle.std.specs.Prelude.{◌≡◌, ◌≤◌, List, find, drop, false};
 ghost use Rattle.std.specs.Option.{option_map_or};
 ghost use Rattle.std.specs.Iterator.{YieldsFirst, item_count};
 ghost use Rattle.lrc_code.specs.declared.codes.Code.TheVariants.{Wide};
 ghost use Rattle.lrc_code.specs.Codes.{fragments};
+ghost use Rattle.lrc_code.specs.Numbers.{same_node};
 ghost use Rattle.lrc_stripes.specs.Rows.{sits_on, places_from};
 
 use crate::Seat;
@@ -86,7 +87,7 @@ fn first_on(row: &Row, fragments: &[Fragment], node: NodeNo) -> Option<Fragment>
 
 /// Whether a home is on the node.
 fn is_on(home: Option<Seat>, node: NodeNo) -> bool
-    ensures { result ≡ option_map_or (λ seat. nat_eq node.value seat.node.value) home false }
+    ensures { result ≡ option_map_or (λ seat. same_node node seat.node) home false }
 {
     match home {
         Some(seat) => node == seat.node,

@@ -1,4 +1,5 @@
 ghost use Rattle.std.specs.Prelude.{◌≡◌, ◌≤◌, ◌↔◌, IsTrue, IsFalse, IfOk, IfErr, OnErr, OnOk, IsOk, None, Some};
+ghost use Rattle.lrc_code.specs.declared.codes.Code.TheVariants.{Wide};
 ghost use Rattle.lrc_code.specs.declared.fault.Fault.TheVariants.{OutOfMemory};
 ghost use Rattle.lrc_stripes.specs.Stored.{empty, with_stripe, without_stripe, with_home, with_offline, with_spare, missing_shown, level_shown, has_node, has_slot, HasNoHome, AreHomesOn};
 ghost use Rattle.lrc_stripes.specs.Tables.{stored_in};
@@ -87,11 +88,11 @@ impl Stripes {
         search::row(self.rows.as_slice(), stripe).is_some()
     }
 
-    /// Adds a stripe none of whose fragments has a home, in room that there is for it.
+    /// Adds a stripe of the code `Wide`, none of whose fragments has a home, in room that there is for it.
     pub fn add(&mut self, stripe: StripeNo)
         requires absent { IsFalse ((stored_in self.old).stripes stripe) }
         requires room { 1 ≤ (stored_in self.old).spare }
-        ensures { stored_in self.new ≡ with_stripe (stored_in self.old) stripe }
+        ensures { stored_in self.new ≡ with_stripe (stored_in self.old) Wide stripe }
     {
         let place = search::place(self.rows.as_slice(), stripe);
         let row = Row {
