@@ -46,12 +46,12 @@ pub record IsPlacedTo (nodes : List NodeInfo) (st : State) (s : StripeNo) (fs : 
 
 -- at first the stripe has no homes
 pub placed-start : (nodes : List NodeInfo) (st : State) (s : StripeNo) (seats : List Seat) (table : Slots) (before : Stored) → AreOf nodes st table before → has_stripe st s ≡ false
-    → AreChosen nodes (with_stripe st Wide s) s (fragments Wide) seats → IsPlacedTo nodes st s (fragments Wide) seats 0 table (stored.with_stripe before s)
+    → AreChosen nodes (with_stripe st Wide s) s (fragments Wide) seats → IsPlacedTo nodes st s (fragments Wide) seats 0 table (stored.with_stripe before Wide s)
 placed-start nodes st s seats table before kept absent chosen_are =
     let none : with_stripe st Wide s ≡ placed_to st s (fragments Wide) seats 0 = ap (λ (hs : List Held). record st { stripes = st.stripes ++ s ∷ []; homes = hs }) (sym (append-nil st.homes)) in
     record {
       table_is = kept.table_is ∙ ap (λ (hs : List Held). table_of nodes (record st { stripes = st.stripes ++ s ∷ []; homes = hs })) (sym (append-nil st.homes));
-      stripes_is = ap (λ (x : Stored). stored.with_stripe x s) kept.stripes_is ∙ stored-stripe nodes st before.spare s kept.seated absent ∙ ap (λ (x : State). stored_of nodes x (before.spare - 1)) none;
+      stripes_is = ap (λ (x : Stored). stored.with_stripe x Wide s) kept.stripes_is ∙ stored-stripe nodes st before.spare s kept.seated absent ∙ ap (λ (x : State). stored_of nodes x (before.spare - 1)) none;
       chosen_are = subst (λ (x : State). AreChosen nodes x s (fragments Wide) seats) none chosen_are;
       placing = subst (λ (x : State). IsPlacing nodes s x (fragments Wide)) none (stripe-placing nodes kept.known st s Wide kept.seated absent);
     }

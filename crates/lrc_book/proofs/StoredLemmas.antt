@@ -8,6 +8,7 @@ use Rattle.std.proofs.lemmas.Option.{same_Some}
 use Rattle.std.proofs.lemmas.List.Elements.{All-contains}
 use Rattle.std.proofs.lemmas.List.Folds.{list_any-append, find-append}
 use Rattle.std.proofs.lemmas.Map.Views.{any-filter_same}
+use Rattle.lrc_code.specs.declared.codes.Code.{Code}
 use Rattle.lrc_code.specs.declared.codes.Code.TheVariants.{Wide}
 use Rattle.lrc_code.specs.declared.numbers.StripeNo.{StripeNo}
 use Rattle.lrc_code.specs.declared.numbers.NodeNo.{NodeNo}
@@ -15,11 +16,10 @@ use Rattle.lrc_code.specs.declared.numbers.Fragment.{Fragment}
 use Rattle.lrc_topology.specs.declared.NodeInfo.{NodeInfo}
 use Rattle.lrc_topology.specs.declared.seat.Seat.{Seat}
 use Rattle.lrc_topology.specs.declared.seat.Held.{Held}
-use Rattle.lrc_stripes.specs.Levels.{home_of, homes_of, homeless_of, missing_of}
+use Rattle.lrc_stripes.specs.Levels.{home_of, homes_of}
 use Rattle.lrc_stripes.specs.Stored as stored
 use Rattle.lrc_stripes.specs.Stored.{Stored, has_node, HasNoHome}
-use Rattle.lrc_book.specs.States as states
-use Rattle.lrc_book.specs.States.{State, opening, has_stripe, taken_seats, is_online, online_at}
+use Rattle.lrc_book.specs.States.{State, opening, has_stripe, code_of, taken_seats, is_online, online_at}
 use Rattle.lrc_book.specs.Placement.{with_home}
 use Rattle.lrc_book.specs.Steps.{with_stripe, is_other, without_stripe}
 use Rattle.lrc_book.specs.Goodness.{AreSeated}
@@ -66,10 +66,18 @@ or_nil false false = refl
 
 -- ---- stores of the same parts
 
-same_stored : (t : Stored) (stripes stripes' : StripeNo → Bool) (homes homes' : StripeNo → ℕ → Option Seat) → ((s : StripeNo) → stripes s ≡ stripes' s) → ((s : StripeNo) (f : ℕ) → homes s f ≡ homes' s f)
-    → ◌≡◌ {A = Stored} (record t { stripes = stripes; homes = homes }) (record t { stripes = stripes'; homes = homes' })
-same_stored t stripes stripes' homes homes' a b =
-    ap (λ (p : StripeNo → Bool). record t { stripes = p; homes = homes }) (fun_ext a) ∙ ap (λ (h : StripeNo → ℕ → Option Seat). record t { stripes = stripes'; homes = h }) (fun_ext (λ s. fun_ext (b s)))
+same_stored : (t : Stored) (stripes stripes' : StripeNo → Bool) (code code' : StripeNo → Code) (homes homes' : StripeNo → ℕ → Option Seat)
+    → ((s : StripeNo) → stripes s ≡ stripes' s) → ((s : StripeNo) → code s ≡ code' s) → ((s : StripeNo) (f : ℕ) → homes s f ≡ homes' s f)
+    → ◌≡◌ {A = Stored} (record t { stripes = stripes; code = code; homes = homes }) (record t { stripes = stripes'; code = code'; homes = homes' })
+same_stored t stripes stripes' code code' homes homes' a b c =
+    ap (λ (p : StripeNo → Bool). record t { stripes = p; code = code; homes = homes }) (fun_ext a)
+    ∙ ap (λ (k : StripeNo → Code). record t { stripes = stripes'; code = k; homes = homes }) (fun_ext b)
+    ∙ ap (λ (h : StripeNo → ℕ → Option Seat). record t { stripes = stripes'; code = code'; homes = h }) (fun_ext (λ s. fun_ext (c s)))
+
+-- a stripe of the one code is of the code that all others are of
+same_code : (b : Bool) → (if b then Wide else Wide) ≡ Wide
+same_code true = refl
+same_code false = refl
 
 same_homes : (t : Stored) (homes homes' : StripeNo → ℕ → Option Seat) → ((s : StripeNo) (f : ℕ) → homes s f ≡ homes' s f) → ◌≡◌ {A = Stored} (record t { homes = homes }) (record t { homes = homes' })
 same_homes t homes homes' b = ap (λ (h : StripeNo → ℕ → Option Seat). record t { homes = h }) (fun_ext (λ s. fun_ext (b s)))
@@ -113,11 +121,12 @@ module _ (nodes : List NodeInfo) (st : State) (s : StripeNo) (f : ℕ) (seated :
 
 module _ (nodes : List NodeInfo) (st : State) (spare : ℕ) (s : StripeNo) where
   -- one more stripe
-  pub stored-stripe : AreSeated nodes st → has_stripe st s ≡ false → stored.with_stripe (stored_of nodes st spare) s ≡ stored_of nodes (with_stripe st Wide s) (spare - 1)
+  pub stored-stripe : AreSeated nodes st → has_stripe st s ≡ false → stored.with_stripe (stored_of nodes st spare) Wide s ≡ stored_of nodes (with_stripe st Wide s) (spare - 1)
   stored-stripe seated absent =
-      same_stored (stored_of nodes st (spare - 1)) _ (has_stripe (with_stripe st Wide s)) _ (λ r. homes_of st.homes r)
+      same_stored (stored_of nodes st (spare - 1)) _ (has_stripe (with_stripe st Wide s)) _ (code_of (with_stripe st Wide s)) _ (λ r. homes_of st.homes r)
       (λ r. ap (λ b. b || has_stripe st r) (test-sym s.value r.value) ∙ or_nil (eqb r.value s.value) (has_stripe st r)
       ∙ sym (list_any-append (λ (t : StripeNo). eqb r.value t.value) st.stripes (s ∷ [])))
+      (λ r. same_code (eqb s.value r.value))
       (λ r f. elim (cases_Bool (eqb s.value r.value)) [
         | inl same ↦ rw same (sym (ap (λ v. homes_by st.homes v f) (sym (eqb-true s.value r.value same)) ∙ ap seat_in (no_home nodes st s f seated absent)))
         | inr other ↦ rw other refl
@@ -126,9 +135,10 @@ module _ (nodes : List NodeInfo) (st : State) (spare : ℕ) (s : StripeNo) where
   -- a stripe and its homes less
   pub stored-without : stored.without_stripe (stored_of nodes st spare) s ≡ stored_of nodes (without_stripe st s) spare
   stored-without =
-      same_stored (stored_of nodes st spare) _ (has_stripe (without_stripe st s)) _ (λ r. homes_of (without_stripe st s).homes r)
+      same_stored (stored_of nodes st spare) _ (has_stripe (without_stripe st s)) _ (code_of (without_stripe st s)) _ (λ r. homes_of (without_stripe st s).homes r)
       (λ r. sym (any-filter_same (λ (t : StripeNo). eqb r.value t.value) (is_other s) (not (eqb s.value r.value))
       (λ t hit. ap (λ v. not (eqb s.value v)) (sym (eqb-true r.value t.value hit))) st.stripes))
+      (λ r. same_code (eqb s.value r.value))
       (λ r f. elim (cases_Bool (eqb s.value r.value)) [
         | inl same ↦ rw same (sym (ap seat_in (find-gone (is_of r f) (λ h. is_other s h.stripe) (λ h hit. at h r f hit ∙ rw same refl) st.homes)))
         | inr other ↦ rw other (sym (ap seat_in (find-kept (is_of r f) (λ h. is_other s h.stripe) (λ h hit. at h r f hit ∙ rw other refl) st.homes)))
@@ -175,16 +185,6 @@ module _ (nodes : List NodeInfo) (st : State) (spare : ℕ) (s : StripeNo) where
           ap (λ v. not (eqb v s.value && eqb h.fragment.value f.value)) (eqb-true h.stripe.value r.value parts.0)
           ∙ ap (λ v. not (eqb r.value s.value && eqb v f.value)) (eqb-true h.fragment.value g parts.1)
           ∙ ap (λ b. not (b && eqb g f.value)) (test-sym r.value s.value) ∙ ap (λ b. not (eqb s.value r.value && b)) (test-sym g f.value)
-
-  -- ---- what is answered of them
-
-  pub stored-missing : stored.missing_shown (stored_of nodes st spare) s ≡ states.missing_shown nodes st s
-  unfolding stored.missing_shown missing_of
-  stored-missing = refl
-
-  pub stored-level : stored.level_shown (stored_of nodes st spare) s ≡ states.level_shown nodes st s
-  unfolding stored.level_shown missing_of homeless_of
-  stored-level = refl
 
 -- ---- free seats
 

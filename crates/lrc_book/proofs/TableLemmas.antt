@@ -13,7 +13,7 @@ use Rattle.lrc_code.specs.declared.numbers.Fragment.{Fragment}
 use Rattle.lrc_topology.specs.declared.NodeInfo.{NodeInfo}
 use Rattle.lrc_topology.specs.declared.seat.Seat.{Seat}
 use Rattle.lrc_topology.specs.declared.seat.Held.{Held}
-use Rattle.lrc_topology.specs.Seats.{is_taken}
+use Rattle.lrc_topology.specs.Seats.{is_seat, is_taken}
 use Rattle.lrc_slots.specs.Slots.{Slots, with_taken, with_free}
 use Rattle.lrc_book.specs.States.{State, opening, taken_seats, takes_seats}
 use Rattle.lrc_book.specs.Placement.{with_home}

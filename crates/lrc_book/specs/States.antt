@@ -9,14 +9,14 @@ use Rattle.lrc_code.specs.declared.numbers.StripeNo.{StripeNo}
 use Rattle.lrc_code.specs.declared.numbers.NodeNo.{NodeNo}
 use Rattle.lrc_code.specs.Numbers.{same_stripe, same_node}
 use Rattle.lrc_code.specs.Codes.{fragments}
-use Rattle.lrc_code.specs.Losses.{FragmentSet, bits_of}
+use Rattle.lrc_code.specs.Losses.{FragmentSet}
 use Rattle.lrc_topology.specs.declared.NodeInfo.{NodeInfo}
 use Rattle.lrc_topology.specs.declared.seat.Seat.{Seat}
 use Rattle.lrc_topology.specs.declared.seat.Held.{Held}
 use Rattle.lrc_topology.specs.Nodes.{node_at}
 use Rattle.lrc_topology.specs.Seats.{load_of, free_slot}
 use Rattle.lrc_stripes.specs.declared.level.Level.{Level}
-use Rattle.lrc_stripes.specs.Levels.{homes_of, homeless_of, missing_of, level_by, rank_by}
+use Rattle.lrc_stripes.specs.Levels.{homes_of, missing_in, rank_by, missing_if, level_if}
 use Rattle.lrc_book.specs.declared.mode.Mode.{Mode}
 use Rattle.lrc_book.specs.declared.mode.Mode.TheVariants.{Active, Gone}
 
@@ -87,18 +87,11 @@ is_eligible st n = takes_seats st n && is_some (free_slot (taken_seats st) n)
 abbrev pub online_at : List NodeInfo → State → NodeNo → Bool
 online_at nodes st n = option_map_or (is_online st) (node_at nodes n) false
 
--- ---- missing fragments and levels
+-- ---- missing fragments
 
--- the fragments of a stripe without a home
-abbrev pub homeless : State → StripeNo → FragmentSet
-homeless st s = homeless_of (code_of st s) st.homes s
-
--- those, and the ones whose home node is not online
+-- the fragments of a stripe without a home, and the ones whose home node is not online
 abbrev pub missing : List NodeInfo → State → StripeNo → FragmentSet
-missing nodes st s = missing_of (code_of st s) (online_at nodes st) st.homes s
-
-abbrev pub level : List NodeInfo → State → StripeNo → Level
-level nodes st s = level_by (code_of st s) (homeless st s) (missing nodes st s)
+missing nodes st s = missing_in (code_of st s) (online_at nodes st) (homes_of st.homes s)
 
 abbrev pub rank : List NodeInfo → State → StripeNo → ℕ
 rank nodes st s = rank_by (code_of st s) (missing nodes st s)
@@ -115,11 +108,11 @@ load_shown nodes st n = option_map (λ m. load st m.number) (node_at nodes n)
 
 -- the level of a stripe; none where there is no such stripe
 abbrev pub level_shown : List NodeInfo → State → StripeNo → Option Level
-level_shown nodes st s = if has_stripe st s then Some (level nodes st s) else None
+level_shown nodes st s = level_if (has_stripe st s) (code_of st s) (online_at nodes st) (homes_of st.homes s)
 
 -- the missing fragments of a stripe; none where there is no such stripe
 abbrev pub missing_shown : List NodeInfo → State → StripeNo → Option LossMask
-missing_shown nodes st s = if has_stripe st s then Some (record { bits = bits_of (code_of st s) (missing nodes st s) }) else None
+missing_shown nodes st s = missing_if (has_stripe st s) (code_of st s) (online_at nodes st) (homes_of st.homes s)
 
 -- the mode of a node, and whether it is online; none where the store has no such node
 abbrev pub mode_shown : List NodeInfo → State → NodeNo → Option (Mode × Bool)

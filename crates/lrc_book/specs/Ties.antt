@@ -26,10 +26,10 @@ use Rattle.lrc_book.specs.Placement.{is_beside}
 abbrev pub table_of : List NodeInfo → State → Slots
 table_of nodes st = record { nodes = nodes; eligible = λ n. option_map_or (takes_seats st) (node_at nodes n) true; taken = is_taken (taken_seats st) }
 
--- the stripes, homes and online nodes of the state, with room for so many more stripes
+-- the stripes, codes, homes and online nodes of the state, with room for so many more stripes
 abbrev pub stored_of : List NodeInfo → State → ℕ → Stored
 stored_of nodes st spare =
-    record { nodes = nodes; stripes = has_stripe st; homes = λ s. homes_of st.homes s; online = online_at nodes st; spare = spare }
+    record { nodes = nodes; stripes = has_stripe st; code = code_of st; homes = λ s. homes_of st.homes s; online = online_at nodes st; spare = spare }
 
 -- this is the slot table of a state over these nodes, whose stripes are seated
 pub record IsTableOf (nodes : List NodeInfo) (st : State) (table : Slots) : Type 0 where

@@ -2,10 +2,9 @@ use Rattle.std.proofs.Common.{ap, ◌∙◌}
 use Rattle.lrc_stripes.specs.Stored.{Stored, level_shown}
 use Rattle.lrc_book.specs.States as states
 use Rattle.lrc_book.specs.Books.{BookView, state_of}
-use Rattle.lrc_book.proofs.StoredLemmas.{stored-level}
 use Rattle.lrc_book.proofs.book.Book.level.Goals as goal
 
 pub returns : goal.returns
 returns c =
-    c.level.ensures ∙ ap (λ (x : Stored). level_shown x c.args.stripe) c.self.invariant.stripes_is ∙ stored-level c.self.inside.topology _ _ c.args.stripe
+    c.level.ensures ∙ ap (λ (x : Stored). level_shown x c.args.stripe) c.self.invariant.stripes_is
     ∙ ap (λ (b : BookView). states.level_shown b.nodes (state_of b) c.args.stripe) c.self.view_is

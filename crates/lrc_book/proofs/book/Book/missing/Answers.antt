@@ -2,10 +2,9 @@ use Rattle.std.proofs.Common.{ap, ◌∙◌}
 use Rattle.lrc_stripes.specs.Stored.{Stored, missing_shown}
 use Rattle.lrc_book.specs.States as states
 use Rattle.lrc_book.specs.Books.{BookView, state_of}
-use Rattle.lrc_book.proofs.StoredLemmas.{stored-missing}
 use Rattle.lrc_book.proofs.book.Book.missing.Goals as goal
 
 pub returns : goal.returns
 returns c =
-    c.missing.ensures ∙ ap (λ (x : Stored). missing_shown x c.args.stripe) c.self.invariant.stripes_is ∙ stored-missing c.self.inside.topology _ _ c.args.stripe
+    c.missing.ensures ∙ ap (λ (x : Stored). missing_shown x c.args.stripe) c.self.invariant.stripes_is
     ∙ ap (λ (b : BookView). states.missing_shown b.nodes (state_of b) c.args.stripe) c.self.view_is
