@@ -1,7 +1,6 @@
 -- What the definitions mean: the least free slot, and the node that takes the next seat.
-use Rattle.std.proofs.Common.{◌≡◌, ℕ, ◌<◌, ◌↔◌, ◌⊎◌, true, false, not, ◌&&◌, ◌||◌, eqb, ltb, List, filter, Option, Some, None, is_some, arith, refl, sym, ap, ◌∙◌, inl, inr, IsTrue}
+use Rattle.std.proofs.Common.{◌≡◌, ℕ, ◌<◌, ◌↔◌, true, false, not, ◌&&◌, ◌||◌, List, filter, Option, Some, None, is_some, arith, refl, sym, ap, ◌∙◌, inl, inr, IsTrue}
 use Rattle.std.proofs.lemmas.Bool.{cases_Bool, cases_eq, and_parts, and_from, or_parts, or_from, not-true, not_from_false, false_from_ne_true}
-use Rattle.std.proofs.lemmas.Bool.Decides.{nat_tests}
 use Rattle.std.proofs.lemmas.List.Elements.{All-contains, Contains-get_or, All-from_recursion, recursion_from_All}
 use Rattle.std.specs.Cmp.{IsStrictWeakOrder}
 use Rattle.std.specs.List.{AllByRecursion, Contains}
