@@ -6,6 +6,7 @@
 //   FAIL_WRITE=N    the Nth write of standard output fails
 //   ERROR=E         those two fail with error number E; with 0 such a write takes no byte and tells no error
 //   SHORT=1         each read of standard input and write of standard output moves one byte at most
+//   SHORT_AT=N      the Nth read of standard input and the Nth write of standard output do so
 //   COUNTS=FILE     at the end FILE gets the number of requests for memory, of reads and of writes
 #define _GNU_SOURCE
 #include <errno.h>
@@ -23,7 +24,7 @@ extern void *__libc_realloc(void *, size_t);
 extern void *__libc_memalign(size_t, size_t);
 
 static unsigned long requests, reads, writes;
-static unsigned long refuse, refuse_from, fail_read, fail_write, error_number, is_short;
+static unsigned long refuse, refuse_from, fail_read, fail_write, error_number, is_short, short_at;
 static int is_ready;
 
 static unsigned long asked(const char *name) {
@@ -34,7 +35,7 @@ static unsigned long asked(const char *name) {
 __attribute__((constructor)) static void begin(void) {
   refuse = asked("REFUSE"), refuse_from = asked("REFUSE_FROM");
   fail_read = asked("FAIL_READ"), fail_write = asked("FAIL_WRITE");
-  error_number = asked("ERROR"), is_short = asked("SHORT");
+  error_number = asked("ERROR"), is_short = asked("SHORT"), short_at = asked("SHORT_AT");
   is_ready = 1;
 }
 
@@ -70,16 +71,16 @@ static ssize_t failed(void) {
   return error_number ? -1 : 0;
 }
 
-static size_t at_most(size_t size) { return is_short && size > 1 ? 1 : size; }
+static size_t at_most(size_t size, unsigned long nth) { return (is_short || nth == short_at) && size > 1 ? 1 : size; }
 
 ssize_t read(int file, void *to, size_t size) {
   if (file != 0) return syscall(SYS_read, file, to, size);
-  return ++reads == fail_read ? failed() : syscall(SYS_read, file, to, at_most(size));
+  return ++reads == fail_read ? failed() : syscall(SYS_read, file, to, at_most(size, reads));
 }
 
 ssize_t write(int file, const void *from, size_t size) {
   if (file != 1) return syscall(SYS_write, file, from, size);
-  return ++writes == fail_write ? failed() : syscall(SYS_write, file, from, at_most(size));
+  return ++writes == fail_write ? failed() : syscall(SYS_write, file, from, at_most(size, writes));
 }
 
 ssize_t __write(int file, const void *from, size_t size) { return write(file, from, size); }

@@ -25,7 +25,7 @@ fn each_command_has_its_words(rt: HostRuntime) -> Result<(), Fail> {
         let words = words(alloc, line)?;
         assert_eq!(rt; parse_request(alloc, words.as_slice()), Ok(Request::Check));
     }
-    for mask in ["0047", "47", "FFFF", "x y", ""] {
+    for mask in ["0047", "47", "FFFF", "x y", "", "-"] {
         let mut words = words(alloc, "lrcman recover")?;
         words.push(String::from_str(alloc, mask)?)?;
         assert_eq!(rt;
