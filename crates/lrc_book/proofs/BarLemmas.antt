@@ -23,7 +23,8 @@ use Rattle.lrc_book.specs.Goodness.{AreSeated}
 use Rattle.lrc_book.specs.Placement.{is_beside}
 use Rattle.lrc_book.specs.Ties.{bars_fault, bars_upgrade, bars_in, with_held}
 use Rattle.lrc_book.proofs.ChoiceLemmas.{same_stripe}
-use Rattle.lrc_book.proofs.SeatedLemmas.{fragments-distinct, not_there}
+use Rattle.lrc_book.proofs.SeatingLemmas.{fragments-distinct}
+use Rattle.lrc_book.proofs.SeatedLemmas.{not_there}
 use Rattle.lrc_book.proofs.TableLemmas.{pairs-before}
 
 or_none : (b : Bool) → b ≡ (b || false)

@@ -165,7 +165,7 @@ module _ (nodes : List NodeInfo) (st : State) (s : StripeNo) (f : Fragment) (h :
       go (Some x) e some =
           let is : n ≡ x.number = (member-node_at nodes n x e).1 in
           let at : node_at nodes x.number ≡ Some x = subst (λ k. node_at nodes k ≡ Some x) is e in
-          rw (count cleared (kept-seated nodes st n kept seated) x at, count st seated x at) (subst (λ k. load_of (taken_seats cleared) k < load_of (taken_seats st) k) is falls)
+          rw (count cleared (kept-seated nodes st kept seated) x at, count st seated x at) (subst (λ k. load_of (taken_seats cleared) k < load_of (taken_seats st) k) is falls)
 
 -- ---- the loop
 
@@ -199,7 +199,7 @@ module _ (nodes : List NodeInfo) (st : State) (n : NodeNo) (spare : ℕ) where
       pub emptying-more : eqb n.value seat.node.value ≡ true → IsEmptying nodes st n spare (with_free table seat.node seat.slot) (stored.with_home stripes s f None)
       emptying-more on = record {
         held = filter (λ g. not (is_of s f.value g)) so_far.held;
-        seated = kept-seated nodes now n (λ g. not (is_of s f.value g)) so_far.seated;
+        seated = kept-seated nodes now (λ g. not (is_of s f.value g)) so_far.seated;
         table_is = emptying-table;
         stripes_is = ap (λ (t : Stored). stored.with_home t s f None) so_far.stripes_is ∙ stored-clear nodes now spare s f;
         rest = filter-skips (λ g. not (stands_on n g)) (λ g. not (is_of s f.value g)) so_far.held (λ g here goes. out g here (not-false _ goes)) ∙ so_far.rest;

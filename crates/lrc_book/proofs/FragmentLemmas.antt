@@ -24,7 +24,7 @@ use Rattle.lrc_book.specs.Ties.{given_back}
 use Rattle.lrc_book.proofs.MemberLemmas.{All-members, Contains-here, Contains-later, Contains-cases, not-Contains-nil, find-member, filter-member, member-filter, list_any-member, member-list_any, AllPairs-head, AllPairs-tail}
 use Rattle.lrc_book.proofs.NodeLemmas.{member-taken}
 use Rattle.lrc_book.proofs.ChoiceLemmas.{same_stripe}
-use Rattle.lrc_book.proofs.SeatedLemmas.{held_on, pairs-unmap}
+use Rattle.lrc_book.proofs.SeatingLemmas.{held_on, pairs-unmap}
 use Rattle.lrc_book.proofs.TieLemmas.{not_taken}
 use Rattle.lrc_book.proofs.TableLemmas.{map-member, taken-held, table_on, table_less, table_less-push, table_less-all}
 

@@ -5,6 +5,7 @@ pub mod WorldLemmas
 pub mod MemberLemmas
 pub mod NodeLemmas
 pub mod ChoiceLemmas
+pub mod SeatingLemmas
 pub mod SeatedLemmas
 pub mod TieLemmas
 pub mod TableLemmas

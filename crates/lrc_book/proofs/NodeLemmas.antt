@@ -1,16 +1,14 @@
 -- Nodes with numbers of their own, and the slots and loads of one.
-use Rattle.std.proofs.Common.{◌≡◌, ◌≢◌, ℕ, zero, suc, ◌+◌, ◌<◌, ◌≤◌, Bool, true, false, ◌&&◌, ◌||◌, nat_eq, eqb, ltb, List, [], ◌∷◌, Some, None, arith, refl, sym, ap, ap₂, ◌∙◌, subst, inl, inr, ◌⊎◌}
-use Rattle.std.specs.Cmp.{IsStrictWeakOrder}
+use Rattle.std.proofs.Common.{◌≡◌, ◌≢◌, ℕ, zero, suc, ◌+◌, ◌<◌, ◌≤◌, Bool, true, false, ◌&&◌, nat_eq, eqb, List, [], ◌∷◌, Some, None, arith, refl, sym, ap, ap₂, ◌∙◌, subst, inl, inr}
 use Rattle.std.specs.List.{AllPairs, Contains}
-use Rattle.std.proofs.lemmas.Bool.{cases_Bool, cases_eq, cases_order, eqb-true, eq-eqb, ne_eqb, and_parts}
-use Rattle.std.proofs.lemmas.Bool.Decides.{nat_tests}
+use Rattle.std.proofs.lemmas.Bool.{cases_Bool, cases_eq, eqb-true, eq-eqb, ne_eqb, and_parts}
 use Rattle.std.proofs.lemmas.Option.{same_Some}
 use Rattle.std.proofs.lemmas.List.Elements.{All-contains}
 use Rattle.lrc_code.specs.declared.numbers.NodeNo.{NodeNo}
 use Rattle.lrc_topology.specs.declared.NodeInfo.{NodeInfo}
 use Rattle.lrc_topology.specs.declared.seat.Seat.{Seat}
 use Rattle.lrc_topology.specs.Nodes.{AreNodes, node_at}
-use Rattle.lrc_topology.specs.Seats.{load_of, is_taken, first_slot, is_preferred}
+use Rattle.lrc_topology.specs.Seats.{is_taken, first_slot}
 use Rattle.lrc_book.proofs.MemberLemmas.{Contains-cases, not-Contains-nil, list_any-member, member-list_any, find-member, AllPairs-head, AllPairs-tail}
 
 -- a node is the one that is found by its number

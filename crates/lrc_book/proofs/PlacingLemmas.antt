@@ -26,7 +26,8 @@ use Rattle.lrc_book.specs.Ties.{table_of, stored_of, AreOf}
 use Rattle.lrc_book.proofs.MemberLemmas.{list_any-member}
 use Rattle.lrc_book.proofs.NodeLemmas.{node_at-member}
 use Rattle.lrc_book.proofs.ChoiceLemmas.{chosen-choice, same_stripe}
-use Rattle.lrc_book.proofs.SeatedLemmas.{HasNone, IsPlacing, placing-some, stripe-placing, choice-new}
+use Rattle.lrc_book.proofs.SeatingLemmas.{HasNone, IsPlacing, placing-some, choice-new}
+use Rattle.lrc_book.proofs.SeatedLemmas.{stripe-placing}
 use Rattle.lrc_book.proofs.ListLemmas.{held_at-more}
 use Rattle.lrc_book.proofs.TableLemmas.{table-push}
 use Rattle.lrc_book.proofs.PlanLemmas.{chosen-first_free}

@@ -19,7 +19,7 @@ use Rattle.lrc_book.specs.States.{State, opening, taken_seats, takes_seats}
 use Rattle.lrc_book.specs.Placement.{with_home}
 use Rattle.lrc_book.specs.Ties.{table_of}
 use Rattle.lrc_book.proofs.MemberLemmas.{AllPairs-head, AllPairs-tail, Contains-here, Contains-later, Contains-cases, not-Contains-nil}
-use Rattle.lrc_book.proofs.SeatedLemmas.{pairs-unmap}
+use Rattle.lrc_book.proofs.SeatingLemmas.{pairs-unmap}
 use Rattle.lrc_book.proofs.TieLemmas.{not_taken}
 
 or_none : (b : Bool) → b ≡ (b || false)

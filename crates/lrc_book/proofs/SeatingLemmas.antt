@@ -1,0 +1,157 @@
+-- A home on a chosen seat, and a stripe's fragments placed one after the other, leave the stripes seated.
+use Rattle.std.proofs.Common.{◌≡◌, ◌≢◌, ◌<◌, Bool, true, not, ◌&&◌, eqb, List, [], ◌∷◌, ◌++◌, map, fold, Option, Some, None, Ok, Err, IfSome, IsSomeAnd, arith, refl, sym, ap, ◌∙◌, subst}
+use Rattle.std.specs.List.{All, AllPairs, Contains, list_any}
+use Rattle.std.specs.Option.{option_map_or}
+use Rattle.std.proofs.lemmas.Bool.{eqb-false, not-true, and_parts}
+use Rattle.std.proofs.lemmas.Option.{IfSome_then}
+use Rattle.std.proofs.lemmas.List.{map-append}
+use Rattle.std.proofs.lemmas.List.Elements.{All-nil, All-cons, All-head, All-tail, All-push, All-weaker, All-map}
+use Rattle.std.proofs.lemmas.List.Folds.{fold_stays}
+use Rattle.std.proofs.lemmas.List.Quantifiers.{all_pairs_push}
+use Rattle.std.proofs.lemmas.List.Kept.{AllPairs-cons}
+use Rattle.lrc_code.specs.declared.codes.Code.{Code}
+use Rattle.lrc_code.specs.declared.codes.Code.TheVariants.{Wide}
+use Rattle.lrc_code.specs.declared.numbers.StripeNo.{StripeNo}
+use Rattle.lrc_code.specs.declared.numbers.Fragment.{Fragment}
+use Rattle.lrc_code.specs.Codes.{fragments}
+use Rattle.lrc_code.proofs.CodesLemmas.{share_class-turn}
+use Rattle.lrc_topology.specs.declared.NodeInfo.{NodeInfo}
+use Rattle.lrc_topology.specs.declared.seat.Seat.{Seat}
+use Rattle.lrc_topology.specs.declared.seat.Held.{Held}
+use Rattle.lrc_topology.specs.Nodes.{AreNodes, node_at}
+use Rattle.lrc_book.specs.declared.mode.Mode.TheVariants.{Active, Gone}
+use Rattle.lrc_book.specs.States.{State, mode_of, code_of, taken_seats}
+use Rattle.lrc_book.specs.Placement.{chosen, with_home, place_next}
+use Rattle.lrc_book.specs.Choices.{AreApart, IsApartFrom, IsChoice}
+use Rattle.lrc_book.specs.Goodness.{IsStanding, KeepApart, AreSeated}
+use Rattle.lrc_book.proofs.MemberLemmas.{All-list_any, All-members, AllPairs-head, AllPairs-tail}
+use Rattle.lrc_book.proofs.NodeLemmas.{node_at-member, seat_on}
+use Rattle.lrc_book.proofs.ChoiceLemmas.{chosen-choice}
+
+-- ---- lists
+
+pub All-unmap : {X Y : Type 0} (P : Y → Type 0) (f : X → Y) (xs : List X) → All P (map f xs) → All (λ x. P (f x)) xs
+All-unmap P f [] all = All-nil (λ x. P (f x))
+All-unmap P f (x ∷ xs) all = All-cons (λ y. P (f y)) x xs (All-head P (f x) (map f xs) all) (All-unmap P f xs (All-tail P (f x) (map f xs) all))
+
+module _ {X Y : Type 0} (R : Y → Y → Type 0) (f : X → Y) where
+  pub pairs-map : (xs : List X) → AllPairs (λ x y. R (f x) (f y)) xs → AllPairs R (map f xs)
+  pairs-map [] pairs = λ i j d below within. absurd (omega arith)
+  pairs-map (x ∷ xs) pairs =
+      AllPairs-cons R (f x) (map f xs) (All-map (R (f x)) f xs (AllPairs-head (λ x y. R (f x) (f y)) x xs pairs)) (pairs-map xs (AllPairs-tail (λ x y. R (f x) (f y)) x xs pairs))
+
+  pub pairs-unmap : (xs : List X) → AllPairs R (map f xs) → AllPairs (λ x y. R (f x) (f y)) xs
+  pairs-unmap [] pairs = λ i j d below within. absurd (omega arith)
+  pairs-unmap (x ∷ xs) pairs =
+      AllPairs-cons (λ x y. R (f x) (f y)) x xs (All-unmap (R (f x)) f xs (AllPairs-head R (f x) (map f xs) pairs)) (pairs-unmap xs (AllPairs-tail R (f x) (map f xs) pairs))
+
+pub pairs-push : {X : Type 0} (R : X → X → Type 0) (xs : List X) (y : X) → AllPairs R xs → All (λ x. R x y) xs → AllPairs R (xs ++ y ∷ [])
+pairs-push R xs y pairs all = all_pairs_push R xs y pairs all
+
+All-both : {X : Type 0} (P Q : X → Type 0) (xs : List X) → All P xs → All Q xs → All (λ x. P x × Q x) xs
+All-both P Q xs p q k d within = (p k d within, q k d within)
+
+-- none of the seats is one of this fragment of the stripe
+abbrev pub HasNone : StripeNo → List Held → Fragment → Type 0
+HasNone s seats f = All (λ h. h.stripe ≡ s → h.fragment ≢ f) seats
+
+-- ---- one more home
+
+abbrev pub held_on : StripeNo → Fragment → Seat → Held
+held_on s f seat = record { stripe = s; fragment = f; seat = seat }
+
+module _ (nodes : List NodeInfo) (known : AreNodes nodes) (st : State) (s : StripeNo) (f : Fragment) (seat : Seat) where
+  -- a seat that is chosen is none of those that are held
+  pub choice-new : IsChoice nodes st s f seat → All (λ a. a ≢ seat) (taken_seats st)
+  choice-new choice =
+      All-members (λ a. a ≢ seat) (taken_seats st) (λ a here same. choice.free.free (subst (Contains (taken_seats st)) (same ∙ ap (λ n. seat_on n seat.slot) choice.on) here))
+
+  choice-found : IsChoice nodes st s f seat → (n : NodeInfo) → Contains nodes n → seat.node ≡ n.number → node_at nodes seat.node ≡ Some n
+  choice-found choice n here on = ap (node_at nodes) on ∙ node_at-member nodes known n here
+
+  -- its node is not gone
+  choice-present : IsChoice nodes st s f seat → mode_of st seat.node ≢ Gone
+  choice-present choice gone = (
+      let active : mode_of st seat.node ≡ Active = ap (mode_of st) choice.on ∙ choice.fitting.eligible.active in
+      let both : Active ≡ Gone = sym active ∙ gone in cc
+      )
+
+  choice-standing : IsChoice nodes st s f seat → IsStanding nodes st seat
+  choice-standing choice =
+      subst (λ o. IsSomeAnd o (λ (n : NodeInfo). (seat.slot < n.slots) × (mode_of st seat.node ≢ Gone))) (sym (choice-found choice choice.node choice.fitting.known choice.on))
+      (choice.free.within, choice-present choice)
+
+  AreApart-sym : (code : Code) (g : Fragment) (n m : NodeInfo) → AreApart code f n g m → AreApart code g m f n
+  AreApart-sym code g n m apart = record { faults = λ e. apart.faults (sym e); upgrades = λ class e. apart.upgrades (share_class-turn code f g ∙ class) (sym e) }
+
+  -- it is apart from the seats of the stripe's other fragments
+  choice-apart : (choice : IsChoice nodes st s f seat) (h : Held) → IsApartFrom nodes st s f choice.node h → KeepApart nodes st h (held_on s f seat)
+  choice-apart choice h apart stripe fragment =
+      IfSome_then (node_at nodes h.seat.node) (apart stripe fragment) (λ m a.
+      subst (λ o. IfSome o (λ n. AreApart (code_of st h.stripe) h.fragment m f n)) (sym (choice-found choice choice.node choice.fitting.known choice.on))
+      (subst (λ t. AreApart (code_of st t) h.fragment m f choice.node) (sym stripe) (AreApart-sym (code_of st s) h.fragment choice.node m a)))
+
+  -- a home on a chosen seat, for a fragment that has none
+  pub home-seated : AreSeated nodes st → IsChoice nodes st s f seat → Contains st.stripes s → HasNone s st.homes f → AreSeated nodes (with_home st s f seat)
+  home-seated seated choice there absent =
+      let y = held_on s f seat in
+      let seats : map (λ (h : Held). h.seat) (st.homes ++ y ∷ []) ≡ map (λ (h : Held). h.seat) st.homes ++ seat ∷ [] = map-append (λ (h : Held). h.seat) st.homes (y ∷ []) in
+      record {
+        stripes = seated.stripes;
+        single = subst (AllPairs (λ a b. a ≢ b)) (sym seats) (pairs-push (λ a b. a ≢ b) (taken_seats st) seat seated.single (choice-new choice));
+        standing = subst (All (IsStanding nodes st)) (sym seats) (All-push (IsStanding nodes st) (taken_seats st) seat seated.standing (choice-standing choice));
+        lawful = pairs-push (KeepApart nodes st) st.homes y seated.lawful (All-weaker (IsApartFrom nodes st s f choice.node) (λ h. KeepApart nodes st h y) (choice-apart choice) st.homes choice.fitting.lawful);
+        one_home = pairs-push (λ h g. h.stripe ≡ g.stripe → h.fragment ≢ g.fragment) st.homes y seated.one_home absent;
+        there = All-push (λ h. Contains st.stripes h.stripe) st.homes y seated.there there;
+        reachable = seated.reachable;
+      }
+
+-- ---- placing
+
+-- what holds while the fragments of a stripe are placed: those that are left have no homes
+pub record IsPlacing (nodes : List NodeInfo) (s : StripeNo) (st : State) (rest : List Fragment) : Type 0 where
+  pub seated : AreSeated nodes st
+  pub there : Contains st.stripes s
+  pub distinct : AllPairs (λ f g. f ≢ g) rest
+  pub absent : All (HasNone s st.homes) rest
+
+module _ (nodes : List NodeInfo) (known : AreNodes nodes) (s : StripeNo) where
+  pub placing-some : (st : State) (f : Fragment) (fs : List Fragment) (seat : Seat) → IsPlacing nodes s st (f ∷ fs) → chosen nodes st s f ≡ Some seat → IsPlacing nodes s (with_home st s f seat) fs
+  placing-some st f fs seat p e =
+      let absent = All-head (HasNone s st.homes) f fs p.absent in
+      record {
+        seated = home-seated nodes known st s f seat p.seated (chosen-choice nodes st s f seat known e) p.there absent;
+        there = p.there;
+        distinct = AllPairs-tail (λ f g. f ≢ g) f fs p.distinct;
+        absent = All-weaker (λ g. HasNone s st.homes g × (f ≢ g)) (HasNone s (st.homes ++ held_on s f seat ∷ []))
+            (λ g parts. All-push (λ h. h.stripe ≡ s → h.fragment ≢ g) st.homes (held_on s f seat) parts.0 (λ stripe same. parts.1 same)) fs
+            (All-both (HasNone s st.homes) (λ g. f ≢ g) fs (All-tail (HasNone s st.homes) f fs p.absent) (AllPairs-head (λ f g. f ≢ g) f fs p.distinct));
+      }
+
+  placing-next : (st : State) (f : Fragment) (fs : List Fragment) (final : State) → IsPlacing nodes s st (f ∷ fs)
+      → ((next : State) → IsPlacing nodes s next fs → fold (place_next nodes s) (Ok next) fs ≡ Ok final → AreSeated nodes final) → (o : Option Seat) → chosen nodes st s f ≡ o
+      → fold (place_next nodes s) (option_map_or (λ seat. Ok (with_home st s f seat)) o (Err f)) fs ≡ Ok final → AreSeated nodes final
+  placing-next st f fs final p again None none e = absurd (let stuck = fold_stays (place_next nodes s) (Err f) (λ x. refl) fs in let never : Err f ≡ Ok final = sym stuck ∙ e in cc)
+  placing-next st f fs final p again (Some seat) some e = again (with_home st s f seat) (placing-some st f fs seat p some) e
+
+  pub placing : (st : State) (fs : List Fragment) (final : State) → IsPlacing nodes s st fs → fold (place_next nodes s) (Ok st) fs ≡ Ok final → AreSeated nodes final
+  placing st [] final p e = let same : st ≡ final = cc in subst (AreSeated nodes) same p.seated
+  placing st (f ∷ fs) final p e = placing-next st f fs final p (λ next q g. placing next fs final q g) (chosen nodes st s f) refl e
+
+are_distinct : List Fragment → Bool
+are_distinct [] = true
+are_distinct (f ∷ fs) = not (list_any (λ (g : Fragment). eqb f.value g.value) fs) && are_distinct fs
+
+distinct-from : (fs : List Fragment) → are_distinct fs ≡ true → AllPairs (λ f g. f ≢ g) fs
+unfolding are_distinct
+distinct-from [] e = λ i j d below within. absurd (omega arith)
+distinct-from (f ∷ fs) e =
+    let parts = and_parts (not (list_any (λ (g : Fragment). eqb f.value g.value) fs)) (are_distinct fs) e in
+    AllPairs-cons (λ f g. f ≢ g) f fs
+    (All-weaker _ (λ g. f ≢ g) (λ g other same. eqb-false f.value g.value other (ap (λ (x : Fragment). x.value) same)) fs (All-list_any (λ (g : Fragment). eqb f.value g.value) fs (not-true _ parts.0)))
+    (distinct-from fs parts.1)
+
+-- no two of a stripe's fragments are one
+pub fragments-distinct : (code : Code) → AllPairs (λ f g. f ≢ g) (fragments code)
+unfolding are_distinct
+fragments-distinct Wide = distinct-from (fragments Wide) refl
