@@ -5,8 +5,9 @@ use Rattle.std.proofs.lemmas.List.{get_or_append_left}
 use Rattle.std.proofs.lemmas.List.Elements.{All-nil}
 use Rattle.std.proofs.lemmas.List.Splits.{slice_split_at, length-slice_split}
 use Rattle.lrc_script.specs.Scripts.{lines_of}
-use Rattle.lrc_script.specs.Bundles.{is_parting, parts_of, scripts_from, scripts_in, scripts_of, topology_in, topology_of, ended_lines, HoldsLines, NoneParts, IsJoined, StandsIn}
-use Rattle.lrc_script.proofs.ScriptLemmas.{same_text-true}
+use Rattle.lrc_script.specs.Bundles.{is_parting, parts_of, scripts_from, scripts_in, scripts_of, topology_in, topology_of, ended_lines, text_before, HoldsLines, NoneParts, IsJoined, StandsIn}
+use Rattle.lrc_script.proofs.SplitLemmas.{joined_by}
+use Rattle.lrc_script.proofs.TextLemmas.{joined_parts_of}
 use Rattle.lrc_script.proofs.FirstLemmas.{All-cons}
 
 -- ---- no element of a part passes the test
@@ -28,31 +29,8 @@ module _ {X : Type 0} (p : X → Bool) where
   none_in_parts [] = All-cons NoneIn [] [] (All-nil (λ y. p y ≡ false)) (All-nil NoneIn)
   none_in_parts (x ∷ xs) = none_step (p x) x (slice_split p xs) refl (none_in_parts xs)
 
--- ---- the parts joined
-
 abbrev behind_partings : List (List (List ℕ)) → List (List ℕ)
 behind_partings parts = flat_map (λ part. codes "%%" ∷ part) parts
-
-abbrev joined : List (List (List ℕ)) → List (List ℕ)
-joined [] = []
-joined (part ∷ parts) = part ++ behind_partings parts
-
-joined_onto : (line : List ℕ) (parts : List (List (List ℕ))) → joined (onto_first line parts) ≡ line ∷ joined parts
-joined_onto line [] = refl
-joined_onto line (part ∷ parts) = refl
-
-joined_parting : (parts : List (List (List ℕ))) → 0 < length parts → joined ([] ∷ parts) ≡ codes "%%" ∷ joined parts
-joined_parting [] some = absurd (omega (arith, some))
-joined_parting (part ∷ parts) some = refl
-
-joined_step : (b : Bool) (line : List ℕ) (parts : List (List (List ℕ))) → is_parting line ≡ b → 0 < length parts → joined (cond b ([] ∷ parts) (onto_first line parts)) ≡ line ∷ joined parts
-joined_step true line parts is some = joined_parting parts some ∙ ap (λ l. l ∷ joined parts) (sym (same_text-true line (codes "%%") is))
-joined_step false line parts is some = joined_onto line parts
-
-joined_parts : (lines : List (List ℕ)) → joined (slice_split is_parting lines) ≡ lines
-joined_parts [] = refl
-joined_parts (line ∷ lines) =
-    joined_step (is_parting line) line (slice_split is_parting lines) refl (omega (arith, length-slice_split is_parting lines)) ∙ ap (λ ls. line ∷ ls) (joined_parts lines)
 
 -- ---- the scripts of the parts
 
@@ -75,15 +53,15 @@ whole lines none = λ k d within. not_parting (get_or lines k d) (none k d withi
 scripts_whole : (n : ℕ) (parts : List (List (List ℕ))) → All (NoneIn is_parting) parts → All (λ script. NoneParts script.lines) (scripts_from n parts)
 scripts_whole n [] none = All-nil (λ script. NoneParts script.lines)
 scripts_whole n (part ∷ parts) none =
-    All-cons (λ script. NoneParts script.lines) (record { first_line = n + 1; lines = part }) (scripts_from (n + 1 + length part) parts) (whole part (none 0 [] (omega arith))) (scripts_whole (n + 1 + length part) parts (λ k d within. none (suc k) d (omega arith)))
+    All-cons (λ script. NoneParts script.lines) (record { first_line = n + 1; lines = part; text = text_before parts part }) (scripts_from (n + 1 + length part) parts) (whole part (none 0 [] (omega arith))) (scripts_whole (n + 1 + length part) parts (λ k d within. none (suc k) d (omega arith)))
 
 stand : (before : List (List ℕ)) (n : ℕ) (parts : List (List (List ℕ))) → n ≡ length before + 1 → All (StandsIn (before ++ behind_partings parts)) (scripts_from n parts)
 stand before n [] is = All-nil (StandsIn (before ++ []))
 stand before n (part ∷ parts) is =
     let lines = before ++ behind_partings (part ∷ parts) in
-    let here : StandsIn lines (record { first_line = n + 1; lines = part }) = record { before = before; after = behind_partings parts; place = refl; numbered = omega (arith, is) } in
+    let here : StandsIn lines (record { first_line = n + 1; lines = part; text = text_before parts part }) = record { before = before; after = behind_partings parts; place = refl; numbered = omega (arith, is) } in
     let behind = stand (before ++ codes "%%" ∷ part) (n + 1 + length part) parts (omega (arith, is, length-append before (codes "%%" ∷ part))) in
-    All-cons (StandsIn lines) (record { first_line = n + 1; lines = part }) (scripts_from (n + 1 + length part) parts) here
+    All-cons (StandsIn lines) (record { first_line = n + 1; lines = part; text = text_before parts part }) (scripts_from (n + 1 + length part) parts) here
     (subst (λ ls. All (StandsIn ls) (scripts_from (n + 1 + length part) parts)) (append_assoc before (codes "%%" ∷ part) (behind_partings parts)) behind)
 
 -- ---- the text of the topology
@@ -99,7 +77,7 @@ All-left P xs ys all = λ k d within. subst P (get_or_append_left xs ys d k with
 -- ---- the bundle
 
 module _ (bundle : List ℕ) where
-  holds : (first : List (List ℕ)) (others : List (List (List ℕ))) → parts_of bundle ≡ first ∷ others → lines_of bundle ≡ joined (first ∷ others) → HoldsLines (topology_of bundle) first
+  holds : (first : List (List ℕ)) (others : List (List (List ℕ))) → parts_of bundle ≡ first ∷ others → lines_of bundle ≡ joined_by (codes "%%") (first ∷ others) → HoldsLines (topology_of bundle) first
   unfolding topology_of
   holds first [] is lines = inl (ap lines_of (ap (topology_in bundle) is) ∙ lines ∙ append-nil first)
   holds first (second ∷ others) is lines =
@@ -110,7 +88,7 @@ module _ (bundle : List ℕ) where
   unfolding topology_of scripts_of
   cut_parts [] some is = absurd (omega (arith, some))
   cut_parts (first ∷ others) some is =
-      let lines = sym (joined_parts (lines_of bundle)) ∙ ap joined is in
+      let lines = sym (joined_parts_of bundle) ∙ ap (joined_by (codes "%%")) is in
       let none : All (NoneIn is_parting) (first ∷ others) = subst (All (NoneIn is_parting)) is (none_in_parts is_parting (lines_of bundle)) in (
         first,
         holds first others is lines,
@@ -125,7 +103,7 @@ module _ (bundle : List ℕ) where
   unfolding scripts_of
   numbered_parts [] is = subst (All (StandsIn (lines_of bundle))) (sym (ap scripts_in is)) (All-nil (StandsIn (lines_of bundle)))
   numbered_parts (first ∷ others) is =
-      let lines = sym (joined_parts (lines_of bundle)) ∙ ap joined is in
+      let lines = sym (joined_parts_of bundle) ∙ ap (joined_by (codes "%%")) is in
       subst (λ ls. All (StandsIn ls) (scripts_of bundle)) (sym lines) (subst (All (StandsIn (first ++ behind_partings others))) (sym (ap scripts_in is)) (stand first (length first + 1) others refl))
 
 pub bundle_cut : (bundle : List ℕ) → (topology : List (List ℕ)) × HoldsLines (topology_of bundle) topology × IsJoined (lines_of bundle) topology (scripts_of bundle)

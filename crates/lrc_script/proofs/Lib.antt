@@ -5,6 +5,8 @@ pub mod LineLemmas
 pub mod SizeLemmas
 pub mod CauseLemmas
 pub mod FirstLemmas
+pub mod SplitLemmas
+pub mod TextLemmas
 pub mod PartLemmas
 pub mod BundleLemmas
 pub mod JoinLemmas

@@ -5,9 +5,9 @@ use Rattle.std.specs.List.{slice_split}
 use Rattle.std.proofs.lemmas.List.{take_at, length_push}
 use Rattle.std.proofs.lemmas.List.Elements.{All-push}
 use Rattle.std.proofs.lemmas.List.Splits.{slice_split_none, slice_split_at}
-use Rattle.lrc_script.specs.Cuts.{IsCut}
+use Rattle.lrc_script.specs.Cuts.{IsCut, StandBehind, IsCutAtParting, IsPart}
 use Rattle.lrc_script.specs.Scripts.{lines_of}
-use Rattle.lrc_script.specs.Bundles.{is_parting, parts_of, ended_lines, StandBehind, IsCutAtParting, IsPart}
+use Rattle.lrc_script.specs.Bundles.{is_parting, parts_of, ended_lines}
 use Rattle.lrc_script.proofs.ScriptLemmas.{same_text-true}
 use Rattle.lrc_script.proofs.CutLemmas.{has_none, pieces_behind, slice_split-cut}
 

@@ -15,8 +15,8 @@ use Rattle.lrc_script.specs.declared.script.Cause.TheVariants.{UnknownWord, OutO
 use Rattle.std.proofs.lemmas.Bool.Decides.{nat_tests}
 use Rattle.std.specs.Borrow.{Bor}
 use Rattle.std.proofs.lemmas.List.Splits.{length-slice_split, join_with_byte-slice_split}
-use Rattle.lrc_script.specs.Cuts.{IsCut}
-use Rattle.lrc_script.specs.Scripts.{same_text, is_number, argument_cause, form_of, form_cause, words_cause, cause_of, is_passed_over, words_of, words_behind}
+use Rattle.lrc_script.specs.Cuts.{IsCut, words_behind}
+use Rattle.lrc_script.specs.Scripts.{same_text, is_number, argument_cause, form_of, form_cause, words_cause, cause_of, is_passed_over, words_of}
 use Rattle.lrc_script.proofs.CutLemmas.{pieces_behind, slice_split-cut}
 
 -- ---- texts

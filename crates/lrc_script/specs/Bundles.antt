@@ -1,6 +1,5 @@
 -- Bundles: a topology, and the scripts behind it.
-use Rattle.std.specs.Prelude.{◌≡◌, ◌≢◌, All, ℕ, ◌+◌, ◌≤◌, ◌⊎◌, Bool, Option, Some, None, List, [], ◌∷◌, ◌++◌, length, codes, flat_map}
-use Rattle.std.specs.Borrow.{Bor}
+use Rattle.std.specs.Prelude.{◌≡◌, ◌≢◌, All, ℕ, ◌+◌, ◌⊎◌, Bool, List, [], ◌∷◌, ◌++◌, length, codes, flat_map}
 use Rattle.std.specs.List.{slice_split}
 use Rattle.lrc_script.specs.declared.bundle.ScriptText.{ScriptText}
 use Rattle.lrc_script.specs.Scripts.{lines_of, same_text}
@@ -13,15 +12,30 @@ is_parting line = same_text line (codes "%%")
 abbrev pub parts_of : List ℕ → List (List (List ℕ))
 parts_of bundle = slice_split is_parting (lines_of bundle)
 
--- a script: its lines, and the number of the first of them in the bundle
+-- the text of lines that each end with an LF
+abbrev pub ended_lines : List (List ℕ) → List ℕ
+ended_lines lines = flat_map (λ line. line ++ codes "\n") lines
+
+-- the text of lines with an LF between each two, and none behind the last
+abbrev pub joined_lines : List (List ℕ) → List ℕ
+joined_lines [] = []
+joined_lines (line ∷ lines) = line ++ flat_map (λ next. codes "\n" ++ next) lines
+
+-- the text of a part, which ends before the parting line of the next one, or where the bundle ends
+abbrev pub text_before : List (List (List ℕ)) → List (List ℕ) → List ℕ
+text_before [] lines = joined_lines lines
+text_before (next ∷ parts) lines = ended_lines lines
+
+-- a script: its lines, their text with each LF, and the number of the first of them in the bundle
 pub record Script : Type 0 where
   pub first_line : ℕ
   pub lines : List (List ℕ)
+  pub text : List ℕ
 
 -- the scripts of these parts, where the first of the parting lines has this number
 abbrev pub scripts_from : ℕ → List (List (List ℕ)) → List Script
 scripts_from parting [] = []
-scripts_from parting (lines ∷ parts) = record { first_line = parting + 1; lines = lines } ∷ scripts_from (parting + 1 + length lines) parts
+scripts_from parting (lines ∷ parts) = record { first_line = parting + 1; lines = lines; text = text_before parts lines } ∷ scripts_from (parting + 1 + length lines) parts
 
 abbrev pub scripts_in : List (List (List ℕ)) → List Script
 scripts_in [] = []
@@ -30,10 +44,6 @@ scripts_in (topology ∷ parts) = scripts_from (length topology + 1) parts
 -- the scripts of a bundle, whose lines are counted from 1
 unfoldable pub scripts_of : List ℕ → List Script
 scripts_of bundle = scripts_in (parts_of bundle)
-
--- the text of lines that each end with an LF
-abbrev pub ended_lines : List (List ℕ) → List ℕ
-ended_lines lines = flat_map (λ line. line ++ codes "\n") lines
 
 -- the bytes before the first parting line, or the whole bundle where there is none
 abbrev pub topology_in : List ℕ → List (List (List ℕ)) → List ℕ
@@ -49,10 +59,11 @@ topology_of bundle = topology_in bundle (parts_of bundle)
 abbrev pub HoldsLines : List ℕ → List (List ℕ) → Type 0
 HoldsLines text lines = (lines_of text ≡ lines) ⊎ (lines_of text ≡ lines ++ [] ∷ [])
 
--- the text of this script, with the number of its first line
-pub record IsTextOf (script : Script) (text : ScriptText) : Type 0 where
-  pub first_line : text.first_line ≡ script.first_line
-  pub lines : HoldsLines text.text.now script.lines
+-- the text of this script, with its last LF if it has one, and the number of its first line
+pub record IsTextOf (script : Script) (given : ScriptText) : Type 0 where
+  pub first_line : given.first_line ≡ script.first_line
+  pub text : given.text.now ≡ script.text
+  pub lines : HoldsLines given.text.now script.lines
 
 -- the texts of these scripts, in order
 abbrev pub AreTextsOf : List Script → List ScriptText → Type 0
@@ -76,25 +87,3 @@ pub record StandsIn (lines : List (List ℕ)) (script : Script) : Type 0 where
   pub after : List (List ℕ)
   pub place : lines ≡ before ++ codes "%%" ∷ (script.lines ++ after)
   pub numbered : script.first_line ≡ length before + 2
-
--- ---- parts
-
--- these parts stand behind a parting line, and this text behind its LF, which may be missing at the end
-abbrev pub StandBehind : List ℕ → List (List (List ℕ)) → Type 0
-StandBehind text parts = (parts ≡ parts_of text) ⊎ ((text ≡ []) × (parts ≡ [] ∷ []))
-
--- a text, cut at its first parting line: what stands before, how many lines end there, and what stands behind
-pub record IsCutAtParting (text before : List ℕ) (lines : ℕ) (behind : List ℕ) : Type 0 where
-  pub first : List (List ℕ)
-  pub others : List (List (List ℕ))
-  pub parts : parts_of text ≡ first ∷ others
-  pub stand : StandBehind behind others
-  pub text_before : before ≡ ended_lines first
-  pub lines_before : lines_of before ≡ first ++ [] ∷ []
-  pub counted : lines ≡ length first
-  pub within : length before + 2 + length behind ≤ length text
-
--- the first part of a text, and what stands behind its parting line if there is one
-abbrev pub IsPart : List ℕ → List ℕ → ℕ → Option (Bor (List ℕ)) → Type 0
-IsPart text before lines (Some behind) = IsCutAtParting text before lines behind.now
-IsPart text before lines None = (before ≡ text) × (lines ≤ length text) × (parts_of text ≡ lines_of text ∷ [])

@@ -1,8 +1,48 @@
--- A text, cut at the first of a byte.
-use Rattle.std.specs.Prelude.{◌≡◌, ◌≢◌, ℕ, List, ◌∷◌, ◌++◌, All, Option, Some, None}
+-- Internal: no public clause reaches these definitions.
+-- Texts, cut at the first of a byte or at their first parting line, and lines, read.
+use Rattle.std.specs.Prelude.{◌≡◌, ◌≢◌, ℕ, ◌+◌, ◌≤◌, ◌⊎◌, true, false, List, [], ◌∷◌, ◌++◌, length, All, Option, Some, None}
 use Rattle.std.specs.Borrow.{Bor}
+use Rattle.lrc_book.specs.declared.command.Command.{Command}
+use Rattle.lrc_script.specs.Scripts.{lines_of, words_of, is_passed_over, command_line, IsInRange}
+use Rattle.lrc_script.specs.Bundles.{parts_of, ended_lines}
+
+-- ---- at a byte
 
 -- `first` is what stands before the first separator of the text, and `rest` what stands behind it
 abbrev pub IsCut : ℕ → List ℕ → List ℕ → Option (Bor (List ℕ)) → Type 0
 IsCut separator text first None = All (λ b. b ≢ separator) first × (text ≡ first)
 IsCut separator text first (Some rest) = All (λ b. b ≢ separator) first × (text ≡ first ++ separator ∷ rest.now)
+
+-- the words of what stands behind the first word, if anything does
+abbrev pub words_behind : Option (Bor (List ℕ)) → List (List ℕ)
+words_behind None = []
+words_behind (Some rest) = words_of rest.now
+
+-- ---- at a parting line
+
+-- these parts stand behind a parting line, and this text behind its LF, which may be missing at the end
+abbrev pub StandBehind : List ℕ → List (List (List ℕ)) → Type 0
+StandBehind text parts = (parts ≡ parts_of text) ⊎ ((text ≡ []) × (parts ≡ [] ∷ []))
+
+-- a text, cut at its first parting line: what stands before, how many lines end there, and what stands behind
+pub record IsCutAtParting (text before : List ℕ) (lines : ℕ) (behind : List ℕ) : Type 0 where
+  pub first : List (List ℕ)
+  pub others : List (List (List ℕ))
+  pub parts : parts_of text ≡ first ∷ others
+  pub stand : StandBehind behind others
+  pub text_before : before ≡ ended_lines first
+  pub lines_before : lines_of before ≡ first ++ [] ∷ []
+  pub counted : lines ≡ length first
+  pub within : length before + 2 + length behind ≤ length text
+
+-- the first part of a text, and what stands behind its parting line if there is one
+abbrev pub IsPart : List ℕ → List ℕ → ℕ → Option (Bor (List ℕ)) → Type 0
+IsPart text before lines (Some behind) = IsCutAtParting text before lines behind.now
+IsPart text before lines None = (before ≡ text) × (lines ≤ length text) × (parts_of text ≡ lines_of text ∷ [])
+
+-- ---- lines
+
+-- what a line is read as: a command, or nothing where it is passed over
+abbrev pub IsReadAs : List ℕ → Option Command → Type 0
+IsReadAs line (Some command) = (is_passed_over line ≡ false) × IsInRange command × (line ≡ command_line command)
+IsReadAs line None = is_passed_over line ≡ true

@@ -1,7 +1,6 @@
 -- Script lines: which command a line is, and why a line is bad.
-use Rattle.std.specs.Prelude.{◌≡◌, ℕ, ◌+◌, ◌<◌, ◌≤◌, Bool, true, false, not, ◌&&◌, ◌||◌, if◌then◌else◌, nat_lt, nat_eq, List, [], ◌∷◌, ◌++◌, length, map, filter, find, All, slice_index, codes, decimal, Option, Some, None, option_map, IsSomeAnd, slice_get, take}
+use Rattle.std.specs.Prelude.{◌≡◌, ℕ, ◌+◌, ◌<◌, ◌≤◌, Bool, not, ◌&&◌, ◌||◌, if◌then◌else◌, nat_lt, nat_eq, List, [], ◌∷◌, ◌++◌, length, map, filter, find, All, slice_index, codes, decimal, Option, Some, None, option_map, IsSomeAnd, slice_get, take}
 use Rattle.std.specs.List.{slice_split, list_all, starts_with}
-use Rattle.std.specs.Borrow.{Bor}
 use Rattle.std.specs.Char.{is_ascii_digit}
 use Rattle.std.specs.Str.Parse.{digits_value}
 use Rattle.lrc_book.specs.declared.command.Command.{Command}
@@ -45,11 +44,6 @@ pub record IsScript (lines : List (List ℕ)) (commands : List Command) : Type 0
   pub in_range : All IsInRange commands
   pub listed : filter (λ line. not (is_passed_over line)) lines ≡ map command_line commands
 
--- what a line is read as: a command, or nothing where it is passed over
-abbrev pub IsReadAs : List ℕ → Option Command → Type 0
-IsReadAs line (Some command) = (is_passed_over line ≡ false) × IsInRange command × (line ≡ command_line command)
-IsReadAs line None = is_passed_over line ≡ true
-
 -- ---- causes
 
 -- a command word, and for each argument of the command the number that it stays below
@@ -90,11 +84,6 @@ arguments_cause _ _ = None
 -- the words of a line, parted by one space each
 abbrev pub words_of : List ℕ → List (List ℕ)
 words_of line = slice_split (λ b. nat_eq b 32) line
-
--- the words of what stands behind the first word, if anything does
-abbrev pub words_behind : Option (Bor (List ℕ)) → List (List ℕ)
-words_behind None = []
-words_behind (Some rest) = words_of rest.now
 
 -- the cause of a line with these words behind the first
 abbrev pub form_cause : List (List ℕ) → Option Form → Option Cause

@@ -1,5 +1,6 @@
 ghost use Rattle.std.specs.Prelude.{◌≡◌, ◌+◌, ◌<◌, ◌≤◌, length, All, OnOk, IfOk, IsErrOf};
-ghost use Rattle.lrc_script.specs.Bundles.{scripts_of, topology_of, AreTextsOf, IsPart};
+ghost use Rattle.lrc_script.specs.Bundles.{scripts_of, topology_of, AreTextsOf};
+ghost use Rattle.lrc_script.specs.Cuts.{IsPart};
 ghost use Rattle.lrc_script.specs.declared.bundle.BundleError.TheVariants as errors;
 
 use crate::cut::cut;

@@ -2,7 +2,8 @@ ghost use Rattle.std.specs.Prelude.{◌≡◌, ◌≢◌, ℕ, ◌+◌, ◌^◌,
 ghost use Rattle.std.specs.Char.{is_ascii_digit};
 ghost use Rattle.std.specs.List.{list_all};
 ghost use Rattle.std.specs.Result.{result_err};
-ghost use Rattle.lrc_script.specs.Scripts.{lines_of, words_of, words_behind, is_passed_over, is_number, command_line, IsInRange, IsScript, IsReadAs, argument_cause, words_cause, cause_of, first_bad, IsFirstBad};
+ghost use Rattle.lrc_script.specs.Scripts.{lines_of, words_of, is_passed_over, is_number, command_line, IsInRange, IsScript, argument_cause, words_cause, cause_of, first_bad, IsFirstBad};
+ghost use Rattle.lrc_script.specs.Cuts.{words_behind, IsReadAs};
 ghost use Rattle.lrc_script.specs.declared.script.Cause.TheVariants as causes;
 
 use crate::cut::cut;

@@ -2,7 +2,8 @@ use Rattle.std.proofs.Common.{rules, arith, ◌≡◌, ◌+◌, ◌<◌, Some, N
 use Rattle.std.proofs.lemmas.List.{length_push, take_all, drop_all}
 use Rattle.std.proofs.lemmas.Iterator.Consumers.{YieldsList-from_enumerate, YieldsList-at}
 use Rattle.std.proofs.lemmas.Iterator.Splits.{YieldsList-from_slice_split}
-use Rattle.lrc_script.specs.Scripts.{lines_of, IsScript, IsReadAs, cause_of, first_bad}
+use Rattle.lrc_script.specs.Scripts.{lines_of, IsScript, cause_of, first_bad}
+use Rattle.lrc_script.specs.Cuts.{IsReadAs}
 use Rattle.lrc_script.proofs.PieceLemmas.{piece-turn, piece-end}
 use Rattle.lrc_script.proofs.LineLemmas.{first_bad-bad, first_bad-good, IsScript-passed, IsScript-command}
 use Rattle.lrc_script.proofs.script.parse_script.Goals as goal
