@@ -87,3 +87,14 @@ pub record StandsIn (lines : List (List ℕ)) (script : Script) : Type 0 where
   pub after : List (List ℕ)
   pub place : lines ≡ before ++ codes "%%" ∷ (script.lines ++ after)
   pub numbered : script.first_line ≡ length before + 2
+
+-- the bytes of a topology, and then those of each script, behind a parting line
+abbrev pub put_together : List ℕ → List Script → List ℕ
+put_together topology scripts = topology ++ flat_map (λ script. codes "%%\n" ++ script.text) scripts
+
+-- the last of these scripts has no byte
+pub record EndsEmpty (scripts : List Script) : Type 0 where
+  pub before : List Script
+  pub last : Script
+  pub place : scripts ≡ before ++ last ∷ []
+  pub empty : last.text ≡ []

@@ -132,6 +132,3 @@ fn cut_part(text: &[u8]) -> Part<'_>
         lines += 1;
     }
 }
-
-#[cfg(test)]
-mod tests;

@@ -1,9 +1,9 @@
 //! Laws of the definitions, each the contract of a function that does nothing.
 
-ghost use Rattle.std.specs.Prelude.{◌≡◌, ℕ, ◌+◌, ◌≤◌, ◌↔◌, ◌⊎◌, true, Some, None, List, All, length};
+ghost use Rattle.std.specs.Prelude.{◌≡◌, ℕ, ◌+◌, ◌≤◌, ◌↔◌, ◌⊎◌, ◌++◌, true, Some, None, List, All, length, codes};
 ghost use Rattle.lrc_book.specs.declared.command.Command.{Command};
 ghost use Rattle.lrc_script.specs.declared.script.Cause.{Cause};
-ghost use Rattle.lrc_script.specs.Bundles.{topology_of, scripts_of, HoldsLines, IsJoined, StandsIn};
+ghost use Rattle.lrc_script.specs.Bundles.{topology_of, scripts_of, HoldsLines, IsJoined, StandsIn, put_together, EndsEmpty};
 ghost use Rattle.lrc_script.specs.Scripts.{lines_of, is_passed_over, command_line, IsInRange, cause_of, first_bad, IsFirstBadAt};
 
 /// A line is good exactly where it is passed over and has at most 1,024 bytes, or is the line of a command that is in range.
@@ -29,4 +29,12 @@ pub fn bundle_lines()
         × HoldsLines (topology_of bundle) topology
         × IsJoined (lines_of bundle) topology (scripts_of bundle) }
     ensures numbered { (bundle : List ℕ) → All (StandsIn (lines_of bundle)) (scripts_of bundle) }
+{}
+
+/// A bundle's bytes are those of its topology and then, behind a parting line each, those of its scripts; but a
+/// parting line that ends the bundle may be without its LF.
+pub fn bundle_bytes()
+    ensures { (bundle : List ℕ)
+        → (put_together (topology_of bundle) (scripts_of bundle) ≡ bundle)
+        ⊎ ((put_together (topology_of bundle) (scripts_of bundle) ≡ bundle ++ codes "\n") × EndsEmpty (scripts_of bundle)) }
 {}

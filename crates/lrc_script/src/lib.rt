@@ -5,6 +5,8 @@ mod bundle;
 mod cut;
 pub mod laws;
 mod script;
+#[cfg(test)]
+mod tests;
 
 pub use bundle::{Bundle, BundleError, ScriptText, split_bundle};
 pub use script::{Cause, ScriptError, parse_script};

@@ -200,6 +200,3 @@ fn has_only_digits(word: &[u8]) -> bool
 {
     word.iter().all(|byte| byte.is_ascii_digit())
 }
-
-#[cfg(test)]
-mod tests;

@@ -1,6 +1,9 @@
 //! Rows of script lines, whose first line is line 102.
 
-use super::*;
+use crate::{Cause, ScriptError, parse_script};
+use lrc_book::Command;
+use lrc_code::StripeNo;
+use std::alloc::Global;
 use std::process::Abort;
 use std::test::Fail;
 

@@ -1,6 +1,6 @@
 //! Bundles, cut at their parting lines.
 
-use super::*;
+use crate::{BundleError, split_bundle};
 use std::test::Fail;
 
 type Row = (&'static str, &'static str, &'static [(u64, &'static str)]);

@@ -1,0 +1,4 @@
+//! Rows of bundles and of script lines.
+
+mod bundles;
+mod scripts;
