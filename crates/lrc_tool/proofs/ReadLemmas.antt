@@ -3,7 +3,8 @@ use Rattle.std.proofs.Common.{◌≡◌, ℕ, ◌<◌, inl, inr, List, ◌++◌,
 use Rattle.std.proofs.lemmas.Bool.{lt-ltb}
 use Rattle.std.specs.Io.KnownBytes.{Appends}
 use Rattle.lrc_tool.specs.declared.status.Status.{Status}
-use Rattle.lrc_tool.specs.Streams.{IsReadUpTo, AppendsPart}
+use Rattle.lrc_tool.specs.Streams.{AppendsPart}
+use Rattle.lrc_tool.specs.Reads.{IsReadUpTo}
 use Rattle.lrc_tool.specs.Outputs.{early_refusal, Answer, IsAnsweredUnless, IsAnswered, Writes, WritesPart}
 
 too_long : (bundle : List ℕ) → 4194304 < length bundle → early_refusal bundle ≡ Some (codes "bundle 1\n")

@@ -1,14 +1,29 @@
--- One write after another.
-use Rattle.std.proofs.Common.{◌≡◌, ℕ, Bool, ◌||◌, ◌&&◌, nat_eq, ◌+◌, ◌-◌, ◌++◌, ◌≤◌, List, [], ◌∷◌, length, take, drop, Option, Some, None, refl, sym, ap, subst, ◌∙◌, arith, append_assoc, length-drop, take-add}
+-- One read, and one write, after another.
+use Rattle.std.proofs.Common.{◌≡◌, ℕ, Bool, ◌||◌, ◌&&◌, nat_eq, ◌+◌, ◌-◌, ◌++◌, ◌≤◌, List, [], ◌∷◌, length, take, drop, Option, Some, None, refl, sym, ap, subst, ◌∙◌, arith, append_assoc, length-append, length-take, length-drop, take-add}
 use Rattle.std.proofs.lemmas.Bool.{ne_eqb}
 use Rattle.std.proofs.Math.Bool.{or-false}
-use Rattle.std.specs.Io.KnownBytes.{Appends}
+use Rattle.std.specs.Io.KnownBytes.{Appends, Consumes}
+use Rattle.lrc_tool.specs.Streams.{ConsumesAtMost}
 
 appends_both : (a b c : Option (List ℕ)) (bs cs : List ℕ) → Appends a b bs → Appends b c cs → Appends a c (bs ++ cs)
 appends_both None b c bs cs p q = tt
 appends_both (Some x) None c bs cs p q = absurd p
 appends_both (Some x) (Some y) None bs cs p q = absurd q
 appends_both (Some x) (Some y) (Some z) bs cs p q = q ∙ ap (λ l. l ++ cs) p ∙ append_assoc x bs cs
+
+consumes_both : (a b c : Option (List ℕ)) (bs cs : List ℕ) → Consumes a b bs → Consumes b c cs → Consumes a c (bs ++ cs)
+consumes_both None b c bs cs p q = tt
+consumes_both (Some x) None c bs cs p q = absurd p
+consumes_both (Some x) (Some y) None bs cs p q = absurd q
+consumes_both (Some x) (Some y) (Some z) bs cs p q = p ∙ ap (λ l. bs ++ l) q ∙ sym (append_assoc bs cs z)
+
+-- a read of so many bytes more
+pub ConsumesAtMost-more : (a b c : Option (List ℕ)) (bytes more : List ℕ) (count most : ℕ) → Consumes a b bytes → Consumes b c (take count more) → length bytes + count ≤ most → ConsumesAtMost most a c
+ConsumesAtMost-more a b c bytes more count most p q few = record {
+  bytes = bytes ++ take count more;
+  few = let l = length-append bytes (take count more) in let t = length-take count more in omega (arith, few, l, t);
+  taken = consumes_both a b c bytes (take count more) p q;
+}
 
 take_all : {X : Type 0} (xs : List X) → take (length xs) xs ≡ xs
 take_all [] = refl

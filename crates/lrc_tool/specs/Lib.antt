@@ -5,6 +5,7 @@ pub use Rattle.lrc_script.specs.Scripts
 pub use Rattle.lrc_script.specs.Bundles
 pub mod Texts
 pub mod Streams
+pub mod Reads
 pub mod Faults
 pub mod Outputs
 pub mod Judged

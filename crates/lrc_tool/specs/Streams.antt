@@ -1,6 +1,6 @@
 -- What was read of a source and written to a sink, and when one of them has failed.
-use Rattle.std.specs.Prelude.{ℕ, ◌<◌, ◌≤◌, Bool, true, false, ◌&&◌, nat_lt, nat_eq, ◌⊎◌, List, length, take, Option, Result, Ok, Err}
-use Rattle.std.specs.Io.KnownBytes.{Consumes, Appends, IsAtEnd}
+use Rattle.std.specs.Prelude.{ℕ, ◌≤◌, Bool, true, false, ◌&&◌, nat_lt, nat_eq, List, length, take, Option, Result, Ok, Err}
+use Rattle.std.specs.Io.KnownBytes.{Consumes, Appends}
 use Rattle.lrc_tool.specs.declared.streams.RunFault.{RunFault}
 use Rattle.lrc_tool.specs.declared.streams.RunFault.TheVariants.{Read, Write}
 
@@ -19,9 +19,11 @@ abbrev pub is_write_fault : {X : Type 0} → Result X RunFault → Bool
 is_write_fault (Err Write) = true
 is_write_fault _ = false
 
--- these bytes came from the front, and they are all that there were, or more than the limit
-abbrev pub IsReadUpTo : ℕ → Option (List ℕ) → Option (List ℕ) → List ℕ → Type 0
-IsReadUpTo limit old new bytes = Consumes old new bytes × (IsAtEnd new ⊎ (limit < length bytes))
+-- at most so many bytes came from the front
+pub record ConsumesAtMost (most : ℕ) (old new : Option (List ℕ)) : Type 0 where
+  pub bytes : List ℕ
+  pub few : length bytes ≤ most
+  pub taken : Consumes old new bytes
 
 -- so many of the bytes were written, from the front, and no more
 pub record AppendsPart (old new : Option (List ℕ)) (bytes : List ℕ) : Type 0 where

@@ -2,16 +2,12 @@
 #![tactic(auto)]
 
 mod checking;
-#[cfg(test)]
-mod checking_tests;
 mod judging;
 pub mod laws;
 mod output;
 mod play;
 mod program;
 mod recovery;
-#[cfg(test)]
-mod recovery_tests;
 mod status;
 mod streams;
 #[cfg(test)]

@@ -1,8 +1,8 @@
 //! Running a bundle, from the bytes in to the bytes out.
 
-ghost use Rattle.std.specs.Prelude.{◌≡◌, ◌≢◌, ◌||◌, List, string_bytes, IfOk, IfErr, IfSome, IsErrOf};
+ghost use Rattle.std.specs.Prelude.{◌≡◌, ◌≢◌, ◌||◌, ◌⊎◌, ◌+◌, true, OnOk, List, string_bytes, IfOk, IfErr, IfSome, IsErrOf};
 ghost use Rattle.std.specs.Io.KnownBytes.{Keeps};
-ghost use Rattle.lrc_tool.specs.Streams.{is_read_fault, is_write_fault};
+ghost use Rattle.lrc_tool.specs.Streams.{is_read_fault, is_write_fault, ConsumesAtMost};
 ghost use Rattle.lrc_script.specs.Bundles.{Script};
 ghost use Rattle.lrc_tool.specs.Judged.{AreFew, AreGood};
 ghost use Rattle.lrc_tool.specs.Outputs.{ArePlayed, IsOutput, WritesOutput, WritesPartOfOutput};
@@ -31,10 +31,16 @@ pub fn run<R: Source, W: Sink>(
     ensures nothing { IfErr result (λ e. e ≢ fault.Write → Keeps (W.written sink.old) (W.written sink.new)) }
     ensures part { IsErrOf result fault.Write → IfSome (R.left source.old) (λ bundle. WritesPartOfOutput (W.written sink.old) (W.written sink.new) bundle) }
 
-    // It stops by a read where one failed and by a write where one failed, and never because the history is full.
+    // Where it ends well, the sink was flushed behind its last write.
+    ensures flushed { OnOk result (W.is_flushed sink.new ≡ true) }
+
+    // However long the source is, one byte more than a bundle may have is the most that is read of it.
+    ensures most { ConsumesAtMost (BUNDLE_LIMIT + 1) (R.left source.old) (R.left source.new) }
+
+    // It stops by a read where one failed, by a write where one failed, and else for want of memory alone.
     ensures read { R.has_failed source.new ≡ (R.has_failed source.old || is_read_fault result) }
     ensures write { W.has_failed sink.new ≡ (W.has_failed sink.old || is_write_fault result) }
-    ensures room { IfErr result (λ e. e ≢ fault.HistoryFull) }
+    ensures err { IfErr result (λ e. (e ≡ fault.OutOfMemory) ⊎ (e ≡ fault.Read) ⊎ (e ≡ fault.Write)) }
 {
     let bundle = read_all(alloc, source, BUNDLE_LIMIT)?;
     let output = output_of(alloc, bundle.as_slice())?;

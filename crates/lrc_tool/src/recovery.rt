@@ -1,6 +1,6 @@
 //! What the code repairs of a set of losses, from the word in to the bytes out.
 
-ghost use Rattle.std.specs.Prelude.{◌≡◌, ◌≢◌, ◌||◌, ◌⊎◌, ◌++◌, OnOk, IfOk, IfErr, IsErrOf, string_bytes};
+ghost use Rattle.std.specs.Prelude.{◌≡◌, ◌≢◌, ◌||◌, ◌⊎◌, ◌++◌, true, OnOk, IfOk, IfErr, IsErrOf, string_bytes};
 ghost use Rattle.std.specs.Io.KnownBytes.{Appends, Keeps};
 ghost use Rattle.lrc_tool.specs.Streams.{is_write_fault, AppendsPart};
 ghost use Rattle.lrc_tool.specs.Recoveries.{is_mask, mask_of, counts_text, margin_text, losses_line, recovery_text, recovery_status};
@@ -26,6 +26,9 @@ pub fn recover<W: Sink>(alloc: Global, mask: &str, sink: &mut W) -> Result<Statu
     // Where it stops, nothing was written, but for a prefix of the line if a write failed.
     ensures nothing { IfErr result (λ e. e ≢ fault.Write → Keeps (W.written sink.old) (W.written sink.new)) }
     ensures part { IsErrOf result fault.Write → AppendsPart (W.written sink.old) (W.written sink.new) (recovery_text mask.now) }
+
+    // Where it ends well, the sink was flushed behind its last write.
+    ensures flushed { OnOk result (W.is_flushed sink.new ≡ true) }
 
     // It stops by a write where one failed, and else for want of memory alone.
     ensures err { IfErr result (λ e. (e ≡ fault.OutOfMemory) ⊎ (e ≡ fault.Write)) }

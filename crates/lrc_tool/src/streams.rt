@@ -1,9 +1,10 @@
 //! Where input comes from and output goes, with what is known of their bytes.
 
-ghost use Rattle.std.specs.Prelude.{◌≡◌, ◌⊎◌, ℕ, List, Option, Bool, false, ◌||◌, is_err, IfOk, IfErr, OnOk, OnErr};
+ghost use Rattle.std.specs.Prelude.{◌≡◌, ◌+◌, ◌≤◌, ◌⊎◌, ℕ, List, length, Option, Bool, true, false, ◌||◌, is_ok, is_err, IfOk, IfErr, OnOk, OnErr};
 ghost use Rattle.std.specs.Io.{ReadsAtMost, WritesAtMost};
 ghost use Rattle.std.specs.Io.KnownBytes.{ReadConsumes, WriteAppends, Appends, Keeps};
-ghost use Rattle.lrc_tool.specs.Streams.{is_failed_write, is_read_fault, IsReadUpTo, AppendsPart};
+ghost use Rattle.lrc_tool.specs.Streams.{is_failed_write, is_read_fault, ConsumesAtMost, AppendsPart};
+ghost use Rattle.lrc_tool.specs.Reads.{IsReadUpTo};
 ghost use Rattle.lrc_tool.specs.declared.streams.RunFault.TheVariants as fault;
 
 use lrc_code::Fault;
@@ -69,7 +70,8 @@ pub trait Source {
         ensures { result ≡ has_failed self.now };
 }
 
-/// A writer that says whether one of its calls has failed, or has taken no byte of some.
+/// A writer that says whether one of its calls has failed, or has taken no byte of some. Contracts know whether it was
+/// flushed, too.
 pub trait Sink {
     // The bytes that were written, where they are known.
     ghost written: { Self → Option (List ℕ) };
@@ -77,38 +79,48 @@ pub trait Sink {
     // A call has failed, or has taken no byte of some.
     ghost has_failed: { Self → Bool };
 
+    // A flush has succeeded since the last write.
+    ghost is_flushed: { Self → Bool };
+
     /// Writes from the front of the buffer, and answers how many bytes it took.
     fn write(&mut self, buf: &[u8]) -> io::Result<usize>
         ensures bound { WritesAtMost result buf.now }
         ensures bytes { WriteAppends (written self.old) (written self.new) result buf.now }
-        ensures failed { has_failed self.new ≡ (has_failed self.old || is_failed_write result buf.now) };
+        ensures failed { has_failed self.new ≡ (has_failed self.old || is_failed_write result buf.now) }
+        ensures unflushed { is_flushed self.new ≡ false };
 
     /// Passes on what was written.
     fn flush(&mut self) -> io::Result<()>
         ensures bytes { Keeps (written self.old) (written self.new) }
-        ensures failed { has_failed self.new ≡ (has_failed self.old || is_err result) };
+        ensures failed { has_failed self.new ≡ (has_failed self.old || is_err result) }
+        ensures flushed { is_flushed self.new ≡ (is_flushed self.old || is_ok result) };
 
     /// Whether a call has failed, or has taken no byte of some.
     fn failed(&self) -> bool
         ensures { result ≡ has_failed self.now };
 }
 
-/// A reader or a writer of std, and whether one of its calls has failed.
+/// A reader or a writer of std, and what is known of its calls.
 #[derive(Drop)]
 pub struct Plain<T> {
     pub inner: T,
+    /// One of them has failed, or has taken no byte of some.
     pub failed: bool,
+    /// A flush has succeeded since the last write.
+    pub flushed: bool,
 }
 
 impl<T> Plain<T> {
-    /// Has not failed yet.
+    /// Has not failed yet, and was not flushed.
     pub fn new(inner: T) -> Self
         ensures inner { result.inner ≡ inner }
         ensures fresh { result.failed ≡ false }
+        ensures unflushed { result.flushed ≡ false }
     {
         Plain {
             inner,
             failed: false,
+            flushed: false,
         }
     }
 }
@@ -136,7 +148,10 @@ impl<W: Write> Sink for Plain<W> {
 
     ghost has_failed = { λ p. p.failed };
 
+    ghost is_flushed = { λ p. p.flushed };
+
     fn write(&mut self, buf: &[u8]) -> io::Result<usize> {
+        self.flushed = false;
         let taken = self.inner.write(buf);
         if matches!(taken, Ok(0)) && !buf.is_empty() || taken.is_err() {
             self.failed = true;
@@ -146,7 +161,9 @@ impl<W: Write> Sink for Plain<W> {
 
     fn flush(&mut self) -> io::Result<()> {
         let flushed = self.inner.flush();
-        if flushed.is_err() {
+        if flushed.is_ok() {
+            self.flushed = true;
+        } else {
             self.failed = true;
         }
         flushed
@@ -157,37 +174,42 @@ impl<W: Write> Sink for Plain<W> {
     }
 }
 
-/// Reads to the end, or until more than `limit` bytes have come.
+/// Reads to the end, or until one byte more than `limit` has come.
 pub(crate) fn read_all<R: Source>(
     alloc: Global,
     source: &mut R,
     limit: usize,
 ) -> Result<Vec<u8>, RunFault>
     ensures read { IfOk result (λ v. IsReadUpTo limit (R.left source.old) (R.left source.new) v.items) }
+    ensures few { IfOk result (λ v. length v.items ≤ limit + 1) }
+    ensures most { ConsumesAtMost (limit + 1) (R.left source.old) (R.left source.new) }
     ensures err { IfErr result (λ e. (e ≡ fault.OutOfMemory) ⊎ (e ≡ fault.Read)) }
     ensures failed { R.has_failed source.new ≡ (R.has_failed source.old || is_read_fault result) }
 {
     let mut bytes = Vec::new(alloc);
     let mut buf = [0u8; 65536];
     while bytes.len() <= limit {
-        let count = match source.read(&mut buf) {
+        let room = (limit - bytes.len()).min(buf.len() - 1) + 1;
+        let part = &mut buf[..room];
+        let count = match source.read(part) {
             Ok(count) => count,
             Err(_) => return Err(RunFault::Read),
         };
         if count == 0 {
             return Ok(bytes);
         }
-        if bytes.extend_from_slice(&buf[..count]).is_err() {
+        if bytes.extend_from_slice(&part[..count]).is_err() {
             return Err(RunFault::OutOfMemory);
         }
     }
     Ok(bytes)
 }
 
-/// Writes all of the bytes, and flushes once.
+/// Writes all of the bytes, and flushes once behind them.
 pub(crate) fn write_all<W: Sink>(sink: &mut W, bytes: &[u8]) -> Result<(), RunFault>
     ensures written { OnOk result (Appends (W.written sink.old) (W.written sink.new) bytes.now) }
     ensures part { OnErr result (AppendsPart (W.written sink.old) (W.written sink.new) bytes.now) }
+    ensures flushed { OnOk result (W.is_flushed sink.new ≡ true) }
     ensures err { IfErr result (λ e. e ≡ fault.Write) }
     ensures failed { W.has_failed sink.new ≡ (W.has_failed sink.old || is_err result) }
 {

@@ -1,9 +1,9 @@
 //! What is told of masks of losses.
 
+use super::fakes::{Dribble, Failure};
 use crate::{Plain, RunFault, Sink, Status, recover};
 use std::alloc::Global;
 use std::io;
-use std::io::Write;
 use std::process::Abort;
 use std::test::Fail;
 
@@ -55,44 +55,43 @@ fn a_mask_has_four_hexadecimal_digits(rt: HostRuntime) -> Result<(), Fail> {
     Ok(())
 }
 
-/// A writer that takes one byte a call, and fails when it has taken so many.
-#[derive(Drop)]
-struct Narrow {
-    taken: Vec<u8>,
-    room: usize,
-}
-
-impl Write for Narrow {
-    fn write(&mut self, buf: &[u8]) -> io::Result<usize> {
-        if buf.is_empty() {
-            return Ok(0);
-        }
-        if self.taken.len() == self.room || self.taken.push(buf[0]).is_err() {
-            return Err(io::Error::from(io::ErrorKind::BrokenPipe));
-        }
-        Ok(1)
+/// What a recovery does whose sink fails at this one of its calls, and may have failed before.
+fn expect_written(
+    rt: &impl Abort,
+    alloc: Global,
+    failure: Failure,
+    fails_at: usize,
+    failed: bool,
+) -> Result<(), Fail> {
+    let line = b"A 3 B 1 G 0 recoverable margin 0\n".as_slice();
+    let mut sink = Plain::new(Dribble {
+        taken: Vec::new(alloc),
+        calls: 0,
+        fails_at,
+        failure,
+    });
+    sink.failed = failed;
+    let result = recover(alloc, "0047", &mut sink);
+    // A call for each byte, and the flush.
+    if fails_at <= line.len() + 1 {
+        assert_eq!(rt; result, Err(RunFault::Write));
+        assert!(rt; sink.failed());
+        assert_eq!(rt; sink.inner.taken.as_slice(), &line[..fails_at - 1]);
+    } else {
+        assert_eq!(rt; result, Ok(Status::Done));
+        assert_eq!(rt; sink.failed(), failed);
+        assert_eq!(rt; sink.inner.taken.as_slice(), line);
     }
-
-    fn flush(&mut self) -> io::Result<()> {
-        Ok(())
-    }
+    Ok(())
 }
 
 #[test]
 fn after_a_failed_write_a_prefix_of_the_line_is_written(rt: HostRuntime) -> Result<(), Fail> {
-    let alloc = rt.alloc();
-    let line = b"A 3 B 1 G 0 recoverable margin 0\n".as_slice();
-    for room in 0..line.len() + 1 {
-        let taken = Vec::new(alloc);
-        let mut sink = Plain::new(Narrow { taken, room });
-        let result = recover(alloc, "0047", &mut sink);
-        assert_eq!(rt; sink.inner.taken.as_slice(), &line[..room]);
-        if room < line.len() {
-            assert_eq!(rt; result, Err(RunFault::Write));
-            assert!(rt; sink.failed());
-        } else {
-            assert_eq!(rt; result, Ok(Status::Done));
-            assert!(rt; !sink.failed());
+    for failure in [Failure::Error(io::ErrorKind::Interrupted), Failure::NoByte] {
+        for failed in [false, true] {
+            for fails_at in 1..36 {
+                expect_written(&rt, rt.alloc(), failure, fails_at, failed)?;
+            }
         }
     }
     Ok(())

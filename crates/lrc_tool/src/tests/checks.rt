@@ -1,6 +1,6 @@
 //! What is told of bundles that are only checked.
 
-use crate::tests::over_twenty;
+use super::over_twenty;
 use crate::{Plain, Status, check};
 use std::alloc::Global;
 use std::process::Abort;
