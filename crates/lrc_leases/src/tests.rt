@@ -1,0 +1,70 @@
+use crate::{Lease, Leases};
+use lrc_code::{Fragment, NodeNo, SessionNo, StripeNo};
+use lrc_topology::Seat;
+use std::alloc::Global;
+use std::process::Abort;
+use std::test::Fail;
+
+/// A lease of this fragment of stripe 1, with this slot of this node for its target.
+fn lease(fragment: u8, node: u16, slot: u16) -> Option<Lease> {
+    Some(Lease {
+        stripe: StripeNo::new(1)?,
+        fragment: Fragment::new(fragment)?,
+        holder: SessionNo::new(2)?,
+        target: Seat {
+            node: NodeNo { value: node },
+            slot,
+        },
+        epoch: 1,
+    })
+}
+
+fn add(rt: &impl Abort, leases: &mut Leases, lease: Lease) {
+    assert!(rt; leases.lease(lease.stripe, lease.fragment).is_none());
+    assert!(rt; leases.spare() >= 1);
+    leases.add(lease);
+}
+
+/// Leases of fragments 3, 4 and 9, the first and the last with targets on node 17.
+fn three(rt: &impl Abort, alloc: Global) -> Result<Leases, Fail> {
+    let mut leases = Leases::new(alloc);
+    leases.reserve(3)?;
+    add(rt, &mut leases, lease(3, 17, 0).ok_or("fragment 3")?);
+    add(rt, &mut leases, lease(4, 16, 2).ok_or("fragment 4")?);
+    add(rt, &mut leases, lease(9, 17, 1).ok_or("fragment 9")?);
+    Ok(leases)
+}
+
+#[test]
+fn a_lease_is_found_by_its_fragment(rt: HostRuntime) -> Result<(), Fail> {
+    let leases = three(&rt, rt.alloc())?;
+    let fourth = lease(4, 16, 2).ok_or("fragment 4")?;
+    let other = StripeNo::new(2).ok_or("stripe 2")?;
+    assert_eq!(rt; leases.lease(fourth.stripe, fourth.fragment), Some(fourth));
+    assert_eq!(rt; leases.lease(other, fourth.fragment), None);
+    Ok(())
+}
+
+#[test]
+fn a_removed_lease_is_answered_once(rt: HostRuntime) -> Result<(), Fail> {
+    let mut leases = three(&rt, rt.alloc())?;
+    let fourth = lease(4, 16, 2).ok_or("fragment 4")?;
+    assert_eq!(rt; leases.remove(fourth.stripe, fourth.fragment), Some(fourth));
+    assert_eq!(rt; leases.remove(fourth.stripe, fourth.fragment), None);
+    leases.reserve(1)?;
+    add(&rt, &mut leases, fourth);
+    assert_eq!(rt; leases.lease(fourth.stripe, fourth.fragment), Some(fourth));
+    Ok(())
+}
+
+#[test]
+fn targets_on_a_node_are_given_each_once(rt: HostRuntime) -> Result<(), Fail> {
+    let leases = three(&rt, rt.alloc())?;
+    let mut slots = Vec::new(rt.alloc());
+    for lease in leases.targets_on(NodeNo { value: 17 }) {
+        slots.push(lease.target.slot)?;
+    }
+    assert_eq!(rt; slots.len(), 2);
+    assert!(rt; slots.contains(&0) && slots.contains(&1));
+    Ok(())
+}
