@@ -20,7 +20,8 @@ HasNone slab s f = (key : ℕ) (l : Lease) → get slab key ≡ Some l → IsFal
 
 -- leases of one fragment stand under one key
 abbrev pub AreSingle : Slab Lease → Type 0
-AreSingle slab = (i j : ℕ) (k l : Lease) → get slab i ≡ Some k → get slab j ≡ Some l → IsTrue (is_of l.stripe l.fragment.value k) → i ≡ j
+AreSingle slab =
+    (i j : ℕ) (k l : Lease) → get slab i ≡ Some k → get slab j ≡ Some l → IsTrue (is_of l.stripe l.fragment.value k) → i ≡ j
 
 -- what is kept: one lease for each fragment at most, with room for as many more as are spare
 pub record IsKept (slab : Slab Lease) (spare : ℕ) : Type 0 where
