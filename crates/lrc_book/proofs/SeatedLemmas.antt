@@ -23,13 +23,13 @@ use Rattle.lrc_book.specs.declared.reply.Refusal.{Refusal}
 use Rattle.lrc_book.specs.declared.reply.Refusal.TheVariants as refusal
 use Rattle.lrc_book.specs.declared.entry.Entry.{Entry}
 use Rattle.lrc_book.specs.declared.mode.Mode.TheVariants.{Active, Gone}
-use Rattle.lrc_book.specs.States.{State, opening, has_stripe, has_number, without_number, mode_of, is_gone, is_down, code_of, taken_seats}
+use Rattle.lrc_book.specs.States.{State, opening, has_stripe, has_number, without_number, mode_of, is_gone, is_down, code_of, seats_of, taken_seats}
 use Rattle.lrc_book.specs.Placement.{placed}
 use Rattle.lrc_book.specs.Steps.{Outcome, refuse_if, with_stripe, place_answer, place_outcome, is_other, without_stripe, drop_outcome, node_outcome, stands_on, emptied, with_gone, with_down, without_down, without_gone, fail_outcome, down_outcome, up_outcome, join_outcome, step}
 use Rattle.lrc_book.specs.Histories.{World, first_world, next_world, state_after}
 use Rattle.lrc_book.specs.Goodness.{IsStanding, KeepApart, AreSeated, IsGood}
 use Rattle.lrc_book.proofs.MemberLemmas.{list_any-All, All-list_any, All-members, member-filter, filter-member, list_any-member}
-use Rattle.lrc_book.proofs.SeatingLemmas.{All-unmap, pairs-map, pairs-unmap, pairs-push, HasNone, IsPlacing, placing, fragments-distinct}
+use Rattle.lrc_book.proofs.SeatingLemmas.{All-unmap, pairs-map, pairs-unmap, pairs-push, HasNone, homes-all, IsPlacing, placing, fragments-distinct}
 
 -- ---- commands
 
@@ -66,7 +66,7 @@ module _ (nodes : List NodeInfo) (known : AreNodes nodes) (st : State) (s : Stri
     standing = seated.standing;
     lawful = seated.lawful;
     one_home = seated.one_home;
-    there = All-weaker (λ h. Contains st.stripes h.stripe) (λ h. Contains (st.stripes ++ s ∷ []) h.stripe) (λ h here. Contains-append_left st.stripes (s ∷ []) h.stripe here) st.homes seated.there;
+    there = All-weaker (λ h. Contains st.stripes h.stripe) (λ h. Contains (st.stripes ++ s ∷ []) h.stripe) (λ h here. Contains-append_left st.stripes (s ∷ []) h.stripe here) (seats_of st) seated.there;
     reachable = seated.reachable;
   }
 
@@ -76,7 +76,8 @@ module _ (nodes : List NodeInfo) (known : AreNodes nodes) (st : State) (s : Stri
     there = Contains-push st.stripes s;
     distinct = fragments-distinct (code_of (with_stripe st Wide s) s);
     absent = All-members (HasNone s st.homes) (fragments (code_of (with_stripe st Wide s) s))
-        (λ f here. All-weaker (λ h. Contains st.stripes h.stripe) (λ h. h.stripe ≡ s → h.fragment ≢ f) (λ h there stripe. absurd (not_there st s e h.stripe there stripe)) st.homes seated.there);
+        (λ f here. All-weaker (λ h. Contains st.stripes h.stripe) (λ h. h.stripe ≡ s → h.fragment ≢ f) (λ h there stripe. absurd (not_there st s e h.stripe there stripe)) st.homes
+        (homes-all (λ h. Contains st.stripes h.stripe) st seated.there));
   }
 
   -- all fragments of a new stripe placed

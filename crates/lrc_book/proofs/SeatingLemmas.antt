@@ -20,7 +20,7 @@ use Rattle.lrc_topology.specs.declared.seat.Seat.{Seat}
 use Rattle.lrc_topology.specs.declared.seat.Held.{Held}
 use Rattle.lrc_topology.specs.Nodes.{AreNodes, node_at}
 use Rattle.lrc_book.specs.declared.mode.Mode.TheVariants.{Active, Gone}
-use Rattle.lrc_book.specs.States.{State, mode_of, code_of, taken_seats}
+use Rattle.lrc_book.specs.States.{State, mode_of, code_of, seats_of, taken_seats}
 use Rattle.lrc_book.specs.Placement.{chosen, with_home, place_next}
 use Rattle.lrc_book.specs.Choices.{AreApart, IsApartFrom, IsChoice}
 use Rattle.lrc_book.specs.Goodness.{IsStanding, KeepApart, AreSeated}
@@ -60,6 +60,14 @@ HasNone s seats f = All (λ h. h.stripe ≡ s → h.fragment ≢ f) seats
 abbrev pub held_on : StripeNo → Fragment → Seat → Held
 held_on s f seat = record { stripe = s; fragment = f; seat = seat }
 
+-- the home is one more seat
+pub seats-home : (st : State) (s : StripeNo) (f : Fragment) (seat : Seat) → seats_of (with_home st s f seat) ≡ seats_of st ++ held_on s f seat ∷ []
+seats-home st s f seat = refl
+
+-- what holds of all seats holds of all homes
+pub homes-all : (P : Held → Type 0) (st : State) → All P (seats_of st) → All P st.homes
+homes-all P st all = all
+
 module _ (nodes : List NodeInfo) (known : AreNodes nodes) (st : State) (s : StripeNo) (f : Fragment) (seat : Seat) where
   -- a seat that is chosen is none of those that are held
   pub choice-new : IsChoice nodes st s f seat → All (λ a. a ≢ seat) (taken_seats st)
@@ -95,14 +103,16 @@ module _ (nodes : List NodeInfo) (known : AreNodes nodes) (st : State) (s : Stri
   pub home-seated : AreSeated nodes st → IsChoice nodes st s f seat → Contains st.stripes s → HasNone s st.homes f → AreSeated nodes (with_home st s f seat)
   home-seated seated choice there absent =
       let y = held_on s f seat in
-      let seats : map (λ (h : Held). h.seat) (st.homes ++ y ∷ []) ≡ map (λ (h : Held). h.seat) st.homes ++ seat ∷ [] = map-append (λ (h : Held). h.seat) st.homes (y ∷ []) in
+      let held : seats_of (with_home st s f seat) ≡ seats_of st ++ y ∷ [] = seats-home st s f seat in
+      let seats : taken_seats (with_home st s f seat) ≡ taken_seats st ++ seat ∷ [] = ap (map (λ (h : Held). h.seat)) held ∙ map-append (λ (h : Held). h.seat) (seats_of st) (y ∷ []) in
       record {
         stripes = seated.stripes;
         single = subst (AllPairs (λ a b. a ≢ b)) (sym seats) (pairs-push (λ a b. a ≢ b) (taken_seats st) seat seated.single (choice-new choice));
         standing = subst (All (IsStanding nodes st)) (sym seats) (All-push (IsStanding nodes st) (taken_seats st) seat seated.standing (choice-standing choice));
-        lawful = pairs-push (KeepApart nodes st) st.homes y seated.lawful (All-weaker (IsApartFrom nodes st s f choice.node) (λ h. KeepApart nodes st h y) (choice-apart choice) st.homes choice.fitting.lawful);
+        lawful = subst (AllPairs (KeepApart nodes st)) (sym held)
+            (pairs-push (KeepApart nodes st) (seats_of st) y seated.lawful (All-weaker (IsApartFrom nodes st s f choice.node) (λ h. KeepApart nodes st h y) (choice-apart choice) (seats_of st) choice.fitting.lawful));
         one_home = pairs-push (λ h g. h.stripe ≡ g.stripe → h.fragment ≢ g.fragment) st.homes y seated.one_home absent;
-        there = All-push (λ h. Contains st.stripes h.stripe) st.homes y seated.there there;
+        there = subst (All (λ h. Contains st.stripes h.stripe)) (sym held) (All-push (λ h. Contains st.stripes h.stripe) (seats_of st) y seated.there there);
         reachable = seated.reachable;
       }
 

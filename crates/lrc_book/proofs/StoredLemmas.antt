@@ -19,7 +19,7 @@ use Rattle.lrc_topology.specs.declared.seat.Held.{Held}
 use Rattle.lrc_stripes.specs.Levels.{home_of, homes_of}
 use Rattle.lrc_stripes.specs.Stored as stored
 use Rattle.lrc_stripes.specs.Stored.{Stored, has_node, HasNoHome}
-use Rattle.lrc_book.specs.States.{State, opening, has_stripe, code_of, taken_seats, is_online, online_at}
+use Rattle.lrc_book.specs.States.{State, opening, has_stripe, code_of, taken_seats, is_online}
 use Rattle.lrc_book.specs.Placement.{with_home}
 use Rattle.lrc_book.specs.Steps.{with_stripe, is_other, without_stripe}
 use Rattle.lrc_book.specs.Goodness.{AreSeated}
