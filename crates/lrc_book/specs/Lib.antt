@@ -12,6 +12,7 @@ pub mod States
 pub mod Placement
 pub mod Steps
 pub mod Histories
+pub mod Sessions
 pub mod Choices
 pub mod Goodness
 pub mod Changes

@@ -1,30 +1,32 @@
 -- How many commands scripts have.
-use Rattle.std.proofs.Common.{◌≡◌, ℕ, List, [], ◌∷◌, length, map, sum, Option, Some, None, Vec, refl, sym, ap, ◌∙◌, arith}
+use Rattle.std.proofs.Common.{◌≡◌, ℕ, List, [], ◌∷◌, length, map, sum, sum_by, Vec, refl, sym, ap, ◌∙◌, arith}
 use Rattle.std.proofs.lemmas.List.{length-map}
+use Rattle.std.proofs.lemmas.List.Sums.{sum_by-cons, sum-map}
 use Rattle.lrc_book.specs.declared.command.Command.{Command}
 use Rattle.lrc_script.specs.Scripts.{command_line, IsScript}
 use Rattle.lrc_script.specs.Bundles.{Script}
-use Rattle.lrc_tool.specs.Checks.{command_count, counts_line}
-use Rattle.lrc_tool.specs.Judged.{AreCommandsOf}
+use Rattle.lrc_tool.specs.Outputs.{AreCommandsOf}
+use Rattle.lrc_tool.specs.Checks.{command_count, counts_line, counted_line}
+use Rattle.lrc_tool.specs.Judged.{lists_of}
+use Rattle.lrc_tool.proofs.CommandLemmas.{as_many_lists}
 
--- a script has as many commands as were parsed
+-- a script has as many commands as lines that are not passed over
 pub counted_commands : (s : Script) (commands : List Command) → IsScript s.lines commands → length commands ≡ command_count s
 counted_commands s commands script = sym (length-map commands command_line) ∙ sym (ap length script.listed)
 
--- one script, with its commands
-pub one_counted : {Z : Type 0} (nodes counted : ℕ) (scripts : List Script) (commands : Vec Command Z) → AreCommandsOf scripts (Some commands) → counted ≡ length commands.items
-    → counts_line nodes 1 counted ≡ counts_line nodes (length scripts) (sum (map command_count scripts))
-one_counted nodes counted [] commands are all = absurd are
-one_counted nodes counted (s ∷ []) commands are all =
-    let has = counted_commands s commands.items are in
-    let in_all : counted ≡ sum (map command_count (s ∷ [])) = omega (arith, all, has) in
-    ap (λ n. counts_line nodes 1 n) in_all
-one_counted nodes counted (s ∷ s' ∷ ss) commands are all = absurd are
+commands_in : {Z : Type 0} (scripts : List Script) (lists : List (Vec Command Z)) → AreCommandsOf scripts (lists_of lists) → sum_by (λ v. length v.items) lists ≡ sum_by command_count scripts
+commands_in [] [] are = refl
+commands_in [] (v ∷ vs) are = absurd are
+commands_in (s ∷ ss) [] are = absurd are
+commands_in {Z = Z} (s ∷ ss) (v ∷ vs) are =
+    let one = counted_commands s v.items are.0 in
+    let more = commands_in ss vs are.1 in
+    let left = sum_by-cons (λ (x : Vec Command Z). length x.items) v vs in
+    let right = sum_by-cons command_count s ss in
+    omega (arith, one, more, left, right)
 
--- no script
-pub none_counted : {Z : Type 0} (nodes : ℕ) (scripts : List Script) (script : Option (Vec Command Z)) → script ≡ None → AreCommandsOf scripts script
-    → counts_line nodes 0 0 ≡ counts_line nodes (length scripts) (sum (map command_count scripts))
-none_counted nodes [] script is are = refl
-none_counted nodes (s ∷ []) None is are = absurd are
-none_counted nodes (s ∷ s' ∷ ss) None is are = absurd are
-none_counted nodes (s ∷ ss) (Some commands) is are = absurd (cc)
+pub all_counted : {Z : Type 0} (nodes : ℕ) (scripts : List Script) (lists : List (Vec Command Z)) → AreCommandsOf scripts (lists_of lists)
+    → counts_line nodes (length lists) (sum_by (λ v. length v.items) lists) ≡ counted_line nodes scripts
+all_counted {Z = Z} nodes scripts lists are =
+    let many : length lists ≡ length scripts = sym (length-map lists (λ (v : Vec Command Z). v.items)) ∙ as_many_lists scripts (lists_of lists) are in
+    ap (λ n. counts_line nodes n (sum_by (λ v. length v.items) lists)) many ∙ ap (counts_line nodes (length scripts)) (commands_in scripts lists are ∙ sym (sum-map command_count scripts))

@@ -1,27 +1,129 @@
 -- What the checks of a bundle tell, from its parts, and what it is answered then.
-use Rattle.std.proofs.Common.{◌≡◌, ℕ, ◌+◌, ◌≤◌, List, [], ◌∷◌, length, get_or, string_bytes, Option, Some, None, Result, Ok, Err, IfOk, Vec, Global, refl, sym, ap, subst, ◌∙◌, arith}
+use Rattle.std.proofs.Common.{◌≡◌, ℕ, ◌+◌, ◌*◌, ◌<◌, ◌≤◌, All, List, [], ◌∷◌, ◌++◌, length, get_or, take, drop, sum_by, map, string_bytes, Option, Some, None, Result, Ok, Err, IfOk, Vec, Global, refl, sym, ap, subst, ◌∙◌, arith}
+use Rattle.std.specs.List.{AllZip}
 use Rattle.std.proofs.lemmas.Bool.{le-ltb}
+use Rattle.std.proofs.lemmas.List.{take_more, drop_more, take-append-drop, length-map}
+use Rattle.std.proofs.lemmas.List.Elements.{All-head}
 use Rattle.lrc_topology.specs.declared.NodeInfo.{NodeInfo}
 use Rattle.lrc_topology.specs.Documents.{IsTopologyOf}
 use Rattle.lrc_book.specs.declared.command.Command.{Command}
 use Rattle.lrc_script.specs.declared.bundle.ScriptText.{ScriptText}
 use Rattle.lrc_script.specs.declared.script.Cause.{Cause}
-use Rattle.lrc_script.specs.Scripts.{lines_of, IsScript, BadLine, or_else, first_bad}
+use Rattle.lrc_script.specs.declared.script.ScriptError.{ScriptError}
+use Rattle.lrc_script.specs.declared.script.ScriptError.TheVariants.{Bad, OutOfMemory}
+use Rattle.lrc_script.specs.Scripts.{lines_of, IsScript, BadLine, or_else, first_bad, IsFirstBad}
 use Rattle.lrc_script.specs.Bundles.{Script, scripts_of, topology_of, IsTextOf, AreTextsOf}
 use Rattle.lrc_script.proofs.BundleLemmas.{first_bad-holds, IsScript-holds}
 use Rattle.lrc_script.proofs.SizeLemmas.{few_commands}
 use Rattle.lrc_tool.specs.declared.status.Status.{Status}
 use Rattle.lrc_tool.specs.declared.status.Status.TheVariants as ended
-use Rattle.lrc_tool.specs.declared.judging.Judged.{Judged}
-use Rattle.lrc_tool.specs.declared.judging.Judged.TheVariants.{Refused, Good}
+use Rattle.lrc_tool.specs.Limits.{bundle_limit, script_limit}
 use Rattle.lrc_tool.specs.Texts.{bad_line_text}
-use Rattle.lrc_tool.specs.Outputs.{early_refusal, Answer, IsAnsweredUnless, IsAnsweredOver, IsAnsweredAfter, IsAnswered}
-use Rattle.lrc_tool.specs.Judged.{NoAnswer, AreGood, AreFew, IsJudgedAfter, IsJudged}
+use Rattle.lrc_tool.specs.Outputs.{early_refusal, first_bad_of, AreCommandsOf, Answer, IsAnsweredUnless, IsAnsweredOver, IsAnswered}
+use Rattle.lrc_tool.proofs.CommandLemmas.{as_many_lists}
+use Rattle.lrc_tool.specs.Judged.{lists_of, first_bad_in, AreParsed, AreFew, NoAnswer, IsRefusal, IsGood}
 
 -- two facts of a value that there is
 pub IfOk-both : {X E : Type 0} (r : Result X E) (P Q R : X → Type 0) → ((x : X) → P x → Q x → R x) → IfOk r P → IfOk r Q → IfOk r R
 IfOk-both (Ok x) P Q R f p q = f x p q
 IfOk-both (Err e) P Q R f p q = tt
+
+-- ---- one text more
+
+abbrev bad_in : ScriptText → Option BadLine
+bad_in text = first_bad text.first_line (lines_of text.text.now)
+
+abbrev IsTextScript : ScriptText → List Command → Type 0
+IsTextScript text commands = IsScript (lines_of text.text.now) commands
+
+or_else-assoc : (a b c : Option BadLine) → or_else a (or_else b c) ≡ or_else (or_else a b) c
+or_else-assoc None b c = refl
+or_else-assoc (Some x) b c = refl
+
+first_bad_in-append : (ts us : List ScriptText) → first_bad_in (ts ++ us) ≡ or_else (first_bad_in ts) (first_bad_in us)
+first_bad_in-append [] us = refl
+first_bad_in-append (t ∷ ts) us = ap (or_else (bad_in t)) (first_bad_in-append ts us) ∙ or_else-assoc (bad_in t) (first_bad_in ts) (first_bad_in us)
+
+AllZip-more : (ts : List ScriptText) (ls : List (List Command)) (t : ScriptText) (l : List Command) → AllZip IsTextScript ts ls → IsTextScript t l → AllZip IsTextScript (ts ++ t ∷ []) (ls ++ l ∷ [])
+AllZip-more [] [] t l all one = (one, tt)
+AllZip-more [] (l' ∷ ls) t l all one = absurd all
+AllZip-more (t' ∷ ts) [] t l all one = absurd all
+AllZip-more (t' ∷ ts) (l' ∷ ls) t l all one = (all.0, AllZip-more ts ls t l all.1 one)
+
+module _ (texts : List ScriptText) (i : ℕ) (d : ScriptText) (within : i < length texts) (lists : List (List Command)) (so_far : AreParsed (take i texts) lists) where
+  abbrev next : ScriptText
+  next = get_or texts i d
+
+  pub parsed_more : (commands : List Command) → IsTextScript next commands → bad_in next ≡ None → AreParsed (take (i + 1) texts) (lists ++ commands ∷ [])
+  parsed_more commands script good =
+      let more = take_more texts i d within in
+      record {
+        no_bad = ap first_bad_in more ∙ first_bad_in-append (take i texts) (next ∷ []) ∙ ap (λ o. or_else o (first_bad_in (next ∷ []))) so_far.no_bad ∙ ap (λ o. or_else o None) good;
+        commands = subst (λ (ts : List ScriptText). AllZip IsTextScript ts (lists ++ commands ∷ [])) (sym more) (AllZip-more (take i texts) lists next commands so_far.commands script);
+      }
+
+  behind : first_bad_in texts ≡ or_else (bad_in next) (first_bad_in (drop (i + 1) texts))
+  behind =
+      ap first_bad_in (sym (take-append-drop i texts)) ∙ first_bad_in-append (take i texts) (drop i texts) ∙ ap (λ o. or_else o (first_bad_in (drop i texts))) so_far.no_bad
+      ∙ ap first_bad_in (drop_more texts i d within)
+
+  pub first_bad_found : (error : ScriptError) → IsFirstBad (bad_in next) error → IsFirstBad (first_bad_in texts) error
+  first_bad_found (Bad line cause) found = behind ∙ ap (λ o. or_else o (first_bad_in (drop (i + 1) texts))) found
+  first_bad_found OutOfMemory found = tt
+
+-- ---- texts of scripts
+
+texts_bad : (ss : List Script) (ts : List ScriptText) → AreTextsOf ss ts → first_bad_of ss ≡ first_bad_in ts
+texts_bad [] [] are = refl
+texts_bad [] (t ∷ ts) are = absurd are
+texts_bad (s ∷ ss) [] are = absurd are
+texts_bad (s ∷ ss) (t ∷ ts) are =
+    let one : first_bad s.first_line s.lines ≡ bad_in t = ap (λ n. first_bad n s.lines) (sym are.0.first_line) ∙ sym (first_bad-holds t.first_line t.text.now s.lines are.0.lines) in
+    ap (λ o. or_else o (first_bad_of ss)) one ∙ ap (or_else (bad_in t)) (texts_bad ss ts are.1)
+
+texts_commands : (ss : List Script) (ts : List ScriptText) (ls : List (List Command)) → AreTextsOf ss ts → AllZip IsTextScript ts ls → AreCommandsOf ss ls
+texts_commands [] [] [] are all = tt
+texts_commands [] [] (l ∷ ls) are all = absurd all
+texts_commands [] (t ∷ ts) ls are all = absurd are
+texts_commands (s ∷ ss) [] ls are all = absurd are
+texts_commands (s ∷ ss) (t ∷ ts) [] are all = absurd all
+texts_commands (s ∷ ss) (t ∷ ts) (l ∷ ls) are all = ((IsScript-holds t.text.now s.lines l are.0.lines).0 all.0, texts_commands ss ts ls are.1 all.1)
+
+-- one script has few commands
+few_in_one : (ts : List ScriptText) (vs : List (Vec Command Global)) → length vs ≤ 1 → AllZip IsTextScript ts (lists_of vs) → All (λ t. t.first_line + length t.text.now ≤ 4194304) ts → sum_by (λ v. length v.items) vs ≤ 1000000
+few_in_one ts [] few all within = omega arith
+few_in_one [] (v ∷ vs) few all within = absurd all
+few_in_one (t ∷ ts) (v ∷ []) few all within =
+    let short : t.first_line + length t.text.now ≤ 4194304 = within 0 t (omega arith) in
+    let bound = few_commands t.text.now v.items all.0 in
+    omega (arith, bound, short)
+few_in_one ts (v ∷ v' ∷ vs) few all within = absurd (omega (arith, few))
+
+-- ---- the bundle
+
+not_refused : (bundle : List ℕ) → length bundle ≤ bundle_limit → length (scripts_of bundle) ≤ script_limit → early_refusal bundle ≡ None
+not_refused bundle short few = rw (le-ltb 4194304 (length bundle) short, le-ltb 1 (length (scripts_of bundle)) few) refl
+
+module _ (bundle : List ℕ) (nodes : List NodeInfo) (texts : List ScriptText) (short : length bundle ≤ bundle_limit) (few : length (scripts_of bundle) ≤ script_limit)
+    (read : IsTopologyOf (topology_of bundle) nodes) (are : AreTextsOf (scripts_of bundle) texts) where
+  pub judged_good : (scripts : List (Vec Command Global)) → All (λ t. t.first_line + length t.text.now ≤ length bundle) texts → AreParsed texts (lists_of scripts) → IsGood bundle nodes scripts
+  judged_good scripts within parsed =
+      let commands = texts_commands (scripts_of bundle) texts (lists_of scripts) are parsed.commands in
+      let many : length scripts ≤ 1 = omega (arith, as_many_lists (scripts_of bundle) (lists_of scripts) commands, length-map scripts (λ (v : Vec Command Global). v.items), few) in
+      record {
+        early = not_refused bundle short few;
+        read = read;
+        no_bad = texts_bad (scripts_of bundle) texts are ∙ parsed.no_bad;
+        commands = commands;
+        few = record { scripts_few = many; commands_few = few_in_one texts scripts many parsed.commands (λ k d below. omega (arith, within k d below, short)) };
+      }
+
+  pub judged_bad : (line line' : ℕ) (cause cause' : Cause) (text : List ℕ) (status : Status) → first_bad_in texts ≡ Some (record { line = line; cause = cause })
+      → line' ≡ line → cause' ≡ cause → text ≡ bad_line_text (record { line = line'; cause = cause' }) → status ≡ ended.BadLine → IsRefusal bundle text status
+  judged_bad line line' cause cause' text status found l c told end =
+      let same = ap (λ n. bad_line_text (record { line = n; cause = cause' })) l ∙ ap (λ (x : Cause). bad_line_text (record { line = line; cause = x })) c in
+      let over = subst (λ (o : Option BadLine). IsAnsweredOver NoAnswer nodes (scripts_of bundle) o text status) (sym (texts_bad (scripts_of bundle) texts are ∙ found)) (told ∙ same, end) in
+      subst (λ (o : Option (List ℕ)). IsAnsweredUnless NoAnswer o bundle text status) (sym (not_refused bundle short few)) (Ok nodes, read, over)
 
 -- ---- what is answered
 
@@ -31,53 +133,7 @@ after_good answer nodes scripts None text status good h end = (h, end)
 after_good answer nodes scripts (Some bad) text status good h end = absurd (cc)
 
 -- a bundle that passes all checks gets the answer
-pub good_to_any : (answer : Answer) (bundle text : List ℕ) (status : Status) (topology : List NodeInfo) (script : Option (Vec Command Global)) → IsJudged bundle (Good topology script)
-    → (AreGood (scripts_of bundle) script → answer topology (scripts_of bundle) text) → status ≡ ended.Done → IsAnswered answer bundle text status
-good_to_any answer bundle text status topology script (early, read, good, few) h end =
-    subst (λ (o : Option (List ℕ)). IsAnsweredUnless answer o bundle text status) (sym early) (Ok topology, read, after_good answer topology (scripts_of bundle) _ text status good.no_bad (h good) end)
-
--- ---- the script
-
-module _ (nodes : List NodeInfo) (s : Script) (t : ScriptText) (is : IsTextOf s t) where
-  found_in : (found : Option BadLine) → first_bad t.first_line (lines_of t.text.now) ≡ found → first_bad s.first_line s.lines ≡ found
-  found_in found e = ap (λ n. first_bad n s.lines) (sym is.first_line) ∙ sym (first_bad-holds t.first_line t.text.now s.lines is.lines) ∙ e
-
-  pub good_script : (commands : Vec Command Global) → IsScript (lines_of t.text.now) commands.items → first_bad t.first_line (lines_of t.text.now) ≡ None → t.first_line + length t.text.now ≤ 4194304
-      → IsJudgedAfter nodes (s ∷ []) (Good nodes (Some commands))
-  good_script commands script good within =
-      let few = few_commands t.text.now commands.items script in
-      (refl, record { no_bad = rw (found_in None good) refl; commands = (IsScript-holds t.text.now s.lines commands.items is.lines).0 script }, omega (arith, few, within))
-
-  pub bad_script : (line line' : ℕ) (cause cause' : Cause) (text : List ℕ) (status : Status) → first_bad t.first_line (lines_of t.text.now) ≡ Some (record { line = line; cause = cause })
-      → line' ≡ line → cause' ≡ cause → text ≡ bad_line_text (record { line = line'; cause = cause' }) → status ≡ ended.BadLine → IsAnsweredAfter NoAnswer (Ok nodes) (s ∷ []) text status
-  bad_script line line' cause cause' text status found l c told end =
-      let same = ap (λ n. bad_line_text (record { line = n; cause = cause' })) l ∙ ap (λ (x : Cause). bad_line_text (record { line = line; cause = x })) c in
-      let bad : BadLine = record { line = line; cause = cause } in
-      subst (λ (o : Option BadLine). IsAnsweredOver NoAnswer nodes (s ∷ []) (or_else o None) text status) (sym (found_in (Some bad) found)) (told ∙ same, end)
-
--- ---- the bundle
-
-not_refused : (bundle : List ℕ) → length bundle ≤ 4194304 → length (scripts_of bundle) ≤ 1 → early_refusal bundle ≡ None
-not_refused bundle short few = rw (le-ltb 4194304 (length bundle) short, le-ltb 1 (length (scripts_of bundle)) few) refl
-
-pub judged : (bundle : List ℕ) (nodes : List NodeInfo) (j : Judged) → length bundle ≤ 4194304 → length (scripts_of bundle) ≤ 1 → IsTopologyOf (topology_of bundle) nodes → IsJudgedAfter nodes (scripts_of bundle) j
-    → IsJudged bundle j
-judged bundle nodes (Refused output) short few read h =
-    subst (λ (o : Option (List ℕ)). IsAnsweredUnless NoAnswer o bundle (string_bytes output.text) output.status) (sym (not_refused bundle short few)) (Ok nodes, read, h)
-judged bundle nodes (Good topology script) short few read h = (not_refused bundle short few, subst (IsTopologyOf (topology_of bundle)) (sym h.0) read, h.1, h.2)
-
--- a bundle of one script, whose text is known
-pub one_script : (P : List Script → Type 0) (ss : List Script) (ts : List ScriptText) (d : ScriptText) → AreTextsOf ss ts → length ss ≤ 1 → 1 ≤ length ts
-    → ((s : Script) → IsTextOf s (get_or ts 0 d) → P (s ∷ [])) → P ss
-one_script P [] [] d are few some h = absurd (omega (arith, some))
-one_script P [] (t ∷ ts) d are few some h = absurd are
-one_script P (s ∷ ss) [] d are few some h = absurd are
-one_script P (s ∷ []) (t ∷ ts) d are few some h = h s are.0
-one_script P (s ∷ s' ∷ ss) (t ∷ ts) d are few some h = absurd (omega (arith, few))
-
--- a bundle without a script
-pub no_script : (ss : List Script) (ts : List ScriptText) → AreTextsOf ss ts → length ts ≡ 0 → AreGood {Z = Global} ss None × AreFew {Z = Global} None
-no_script [] [] are empty = (record { no_bad = refl; commands = tt }, tt)
-no_script [] (t ∷ ts) are empty = absurd are
-no_script (s ∷ ss) [] are empty = absurd are
-no_script (s ∷ ss) (t ∷ ts) are empty = absurd (omega (arith, empty))
+pub good_to_any : (answer : Answer) (bundle text : List ℕ) (status : Status) (nodes : List NodeInfo) (scripts : List (Vec Command Global)) → IsGood bundle nodes scripts
+    → answer nodes (scripts_of bundle) text → status ≡ ended.Done → IsAnswered answer bundle text status
+good_to_any answer bundle text status nodes scripts good h end =
+    subst (λ (o : Option (List ℕ)). IsAnsweredUnless answer o bundle text status) (sym good.early) (Ok nodes, good.read, after_good answer nodes (scripts_of bundle) _ text status good.no_bad h end)

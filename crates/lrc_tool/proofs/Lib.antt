@@ -1,11 +1,14 @@
 pub mod StreamLemmas
+pub mod CommandLemmas
+pub mod SessionLemmas
+pub mod HistoryLemmas
 pub mod PlayLemmas
 pub mod JudgedLemmas
+pub mod AnswerLemmas
+pub mod CheckLemmas
 pub mod ReadLemmas
-pub mod OneOutputLemmas
 pub mod Rows
 mod RowsOfPlacing
 mod RowsOfNodes
 mod RowsOfHistories
 pub mod MaskLemmas
-pub mod CheckLemmas

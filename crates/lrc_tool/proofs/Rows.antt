@@ -8,7 +8,7 @@ use Rattle.lrc_topology.specs.declared.NodeInfo.{NodeInfo}
 use Rattle.lrc_book.specs.declared.command.Command.{Command}
 use Rattle.lrc_book.specs.declared.command.Command.TheVariants as command
 use Rattle.lrc_book.specs.Histories.{World, first_world, outcome_in, next_world}
-use Rattle.lrc_tool.specs.Texts.{script_text}
+use Rattle.lrc_tool.specs.Texts.{output_text}
 
 -- ---- commands
 
@@ -76,6 +76,6 @@ called nodes w c = next_world nodes w (record { session = session; command = c; 
 abbrev pub played : List NodeInfo → List Command → World
 played nodes script = fold (called nodes) first_world script
 
--- the text of the script's replies
+-- the text of a run of the script
 abbrev pub printed : List NodeInfo → List Command → List ℕ
-printed nodes script = script_text (map (λ e. e.reply) (played nodes script).past)
+printed nodes script = output_text nodes 1 (played nodes script).past

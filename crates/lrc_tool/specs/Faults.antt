@@ -1,3 +1,4 @@
+-- Internal: no public clause reaches these definitions.
 -- Which fault of a run a fault of the book becomes.
 use Rattle.lrc_code.specs.declared.fault.Fault.{Fault}
 use Rattle.lrc_code.specs.declared.fault.Fault.TheVariants as book

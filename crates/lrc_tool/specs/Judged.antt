@@ -1,14 +1,42 @@
--- What the checks of a bundle tell: a refusal, or nodes and commands.
-use Rattle.std.specs.Prelude.{◌≡◌, ℕ, ◌≤◌, List, [], ◌∷◌, length, string_bytes, Option, Some, None, Ok, Vec}
+-- Internal: no public clause reaches these definitions.
+-- What the checks of a bundle tell: a refusal, or nodes and the commands of its scripts.
+use Rattle.std.specs.Prelude.{◌≡◌, ℕ, ◌≤◌, List, [], ◌∷◌, length, map, sum_by, string_bytes, Option, Some, None, Vec}
+use Rattle.std.specs.List.{AllZip}
 use Rattle.lrc_topology.specs.declared.NodeInfo.{NodeInfo}
 use Rattle.lrc_topology.specs.Documents.{IsTopologyOf}
+use Rattle.lrc_book.specs.declared.book.TheConstants.{HISTORY_LIMIT}
 use Rattle.lrc_book.specs.declared.command.Command.{Command}
-use Rattle.lrc_script.specs.Scripts.{IsScript}
-use Rattle.lrc_script.specs.Bundles.{Script, scripts_of, topology_of}
+use Rattle.lrc_script.specs.declared.bundle.ScriptText.{ScriptText}
+use Rattle.lrc_script.specs.Scripts.{lines_of, IsScript, BadLine, or_else, first_bad}
+use Rattle.lrc_script.specs.Bundles.{scripts_of, topology_of}
 use Rattle.lrc_tool.specs.declared.status.Status.{Status}
 use Rattle.lrc_tool.specs.declared.judging.Judged.{Judged}
 use Rattle.lrc_tool.specs.declared.judging.Judged.TheVariants.{Refused, Good}
-use Rattle.lrc_tool.specs.Outputs.{early_refusal, first_bad_of, Answer, IsAnsweredAfter, IsAnswered}
+use Rattle.lrc_tool.specs.Limits.{script_limit}
+use Rattle.lrc_tool.specs.Outputs.{early_refusal, first_bad_of, AreCommandsOf, Answer, IsAnswered}
+
+-- ---- scripts
+
+-- the commands of each of these lists
+abbrev pub lists_of : {Z : Type 0} → List (Vec Command Z) → List (List Command)
+lists_of scripts = map (λ script. script.items) scripts
+
+-- the first bad line of these texts
+abbrev pub first_bad_in : List ScriptText → Option BadLine
+first_bad_in [] = None
+first_bad_in (text ∷ texts) = or_else (first_bad text.first_line (lines_of text.text.now)) (first_bad_in texts)
+
+-- no line of the texts is bad, and these are the commands of each
+pub record AreParsed (texts : List ScriptText) (lists : List (List Command)) : Type 0 where
+  pub no_bad : first_bad_in texts ≡ None
+  pub commands : AllZip (λ text commands. IsScript (lines_of text.text.now) commands) texts lists
+
+-- there are not too many scripts, and a history has room for the commands of all
+pub record AreFew {Z : Type 0} (scripts : List (Vec Command Z)) : Type 0 where
+  pub scripts_few : length scripts ≤ script_limit
+  pub commands_few : sum_by (λ script. length script.items) scripts ≤ HISTORY_LIMIT
+
+-- ---- bundles
 
 -- no text answers nodes and scripts that pass all checks, so what is answered is a refusal
 abbrev pub NoAnswer : Answer
@@ -18,28 +46,15 @@ NoAnswer nodes scripts text = ⊥
 abbrev pub IsRefusal : List ℕ → List ℕ → Status → Type 0
 IsRefusal bundle text status = IsAnswered NoAnswer bundle text status
 
--- these are the commands of the script, if there is one
-abbrev pub AreCommandsOf : {Z : Type 0} → List Script → Option (Vec Command Z) → Type 0
-AreCommandsOf [] None = Unit {0}
-AreCommandsOf (script ∷ []) (Some commands) = IsScript script.lines commands.items
-AreCommandsOf _ _ = ⊥
-
--- no line of the scripts is bad, and these are their commands
-pub record AreGood {Z : Type 0} (scripts : List Script) (script : Option (Vec Command Z)) : Type 0 where
-  pub no_bad : first_bad_of scripts ≡ None
-  pub commands : AreCommandsOf scripts script
-
--- a history has room for the commands of the script, if there is one
-abbrev pub AreFew : {Z : Type 0} → Option (Vec Command Z) → Type 0
-AreFew None = Unit {0}
-AreFew (Some commands) = length commands.items ≤ 1000000
-
--- behind the checks of the length, of the number of scripts and of the topology: a line is bad, or all is good
-abbrev pub IsJudgedAfter : List NodeInfo → List Script → Judged → Type 0
-IsJudgedAfter nodes scripts (Refused output) = IsAnsweredAfter NoAnswer (Ok nodes) scripts (string_bytes output.text) output.status
-IsJudgedAfter nodes scripts (Good topology script) = (topology ≡ nodes) × AreGood scripts script × AreFew script
+-- the bundle passes all checks, and has these nodes and these commands of each script
+pub record IsGood {Z : Type 0} (bundle : List ℕ) (nodes : List NodeInfo) (scripts : List (Vec Command Z)) : Type 0 where
+  pub early : early_refusal bundle ≡ None
+  pub read : IsTopologyOf (topology_of bundle) nodes
+  pub no_bad : first_bad_of (scripts_of bundle) ≡ None
+  pub commands : AreCommandsOf (scripts_of bundle) (lists_of scripts)
+  pub few : AreFew scripts
 
 -- a check of this bundle fails, or it has these nodes and these commands
 abbrev pub IsJudged : List ℕ → Judged → Type 0
 IsJudged bundle (Refused output) = IsRefusal bundle (string_bytes output.text) output.status
-IsJudged bundle (Good topology script) = (early_refusal bundle ≡ None) × IsTopologyOf (topology_of bundle) topology × AreGood (scripts_of bundle) script × AreFew script
+IsJudged bundle (Good topology scripts) = IsGood bundle topology scripts.items

@@ -1,8 +1,10 @@
 pub use Rattle.lrc_topology.specs.Nodes
 pub use Rattle.lrc_topology.specs.Documents
 pub use Rattle.lrc_book.specs.Histories
+pub use Rattle.lrc_book.specs.Sessions
 pub use Rattle.lrc_script.specs.Scripts
 pub use Rattle.lrc_script.specs.Bundles
+pub mod Limits
 pub mod Texts
 pub mod Streams
 pub mod Reads

@@ -1,5 +1,6 @@
 -- What a run writes for a bundle, and how it ends.
-use Rattle.std.specs.Prelude.{◌≡◌, ◌≢◌, ℕ, ◌≤◌, if◌then◌else◌, nat_lt, List, [], ◌∷◌, length, take, map, All, codes, Option, Some, None, Result, Ok, Err}
+use Rattle.std.specs.Prelude.{◌≡◌, ◌≢◌, ℕ, ◌≤◌, if◌then◌else◌, nat_lt, List, [], ◌∷◌, length, take, All, codes, Option, Some, None, Result, Ok, Err}
+use Rattle.std.specs.List.{AllZip}
 use Rattle.std.specs.Io.KnownBytes.{Appends}
 use Rattle.lrc_topology.specs.declared.NodeInfo.{NodeInfo}
 use Rattle.lrc_topology.specs.declared.error.TopologyError.{TopologyError}
@@ -8,18 +9,21 @@ use Rattle.lrc_topology.specs.Documents.{IsTopologyOf, IsRefusedBy}
 use Rattle.lrc_book.specs.declared.command.Command.{Command}
 use Rattle.lrc_book.specs.declared.entry.Entry.{Entry}
 use Rattle.lrc_book.specs.Histories.{IsLegal}
+use Rattle.lrc_book.specs.Sessions.{commands_of_each}
 use Rattle.lrc_tool.specs.declared.status.Status.{Status}
 use Rattle.lrc_tool.specs.declared.status.Status.TheVariants as ended
 use Rattle.lrc_script.specs.Scripts.{IsScript, BadLine, or_else, first_bad}
 use Rattle.lrc_script.specs.Bundles.{Script, scripts_of, topology_of}
-use Rattle.lrc_tool.specs.Texts.{script_text, topology_line, bad_line_text}
+use Rattle.lrc_tool.specs.Limits.{bundle_limit, script_limit}
+use Rattle.lrc_tool.specs.Texts.{output_text, topology_line, bad_line_text}
 
 -- ---- checks
 
--- the line for a bundle that is refused before its topology is read: it is too long, or has more than one script
+-- the line for a bundle that is refused before its topology is read: it is too long, or has too many scripts
 abbrev pub early_refusal : List ℕ → Option (List ℕ)
 early_refusal bundle =
-    if nat_lt 4194304 (length bundle) then Some (codes "bundle 1\n") else (if nat_lt 1 (length (scripts_of bundle)) then Some (codes "bundle 2\n") else None)
+    if nat_lt bundle_limit (length bundle) then Some (codes "bundle 1\n")
+    else (if nat_lt script_limit (length (scripts_of bundle)) then Some (codes "bundle 2\n") else None)
 
 -- the text is read as a topology with this outcome: its nodes, or why it is refused; want of memory is no outcome
 abbrev pub Reads : List ℕ → Result (List NodeInfo) TopologyError → Type 0
@@ -74,19 +78,21 @@ pub record WritesPart (answer : Answer) (old new : Option (List ℕ)) (bundle : 
 
 -- ---- the output of a run
 
--- what is printed where session 1 makes these commands, one after the other, on a new book
-pub record IsPlayed (nodes : List NodeInfo) (commands : List Command) (text : List ℕ) : Type 0 where
+-- What is printed of scripts with these commands: of a legal history in which each session makes the commands of its script, in order, and which has no other entries.
+pub record IsPlayed (nodes : List NodeInfo) (scripts : List (List Command)) (text : List ℕ) : Type 0 where
   pub history : List Entry
   pub legal : IsLegal nodes history
-  pub made : map (λ e. e.command) history ≡ commands
-  pub alone : All (λ e. e.session.value ≡ 1) history
-  pub printed : text ≡ script_text (map (λ e. e.reply) history)
+  pub made : commands_of_each (length scripts) history ≡ scripts
+  pub alone : All (λ e. e.session.value ≤ length scripts) history
+  pub printed : text ≡ output_text nodes (length scripts) history
 
--- what is printed of the scripts of a bundle: nothing without one, and else what is printed of its commands
+-- these are the commands of each script, in order
+abbrev pub AreCommandsOf : List Script → List (List Command) → Type 0
+AreCommandsOf scripts lists = AllZip (λ script commands. IsScript script.lines commands) scripts lists
+
+-- what is printed of the scripts of a bundle
 abbrev pub ArePlayed : Answer
-ArePlayed nodes [] text = text ≡ []
-ArePlayed nodes (script ∷ []) text = (commands : List Command) × IsScript script.lines commands × IsPlayed nodes commands text
-ArePlayed nodes _ text = ⊥
+ArePlayed nodes scripts text = (lists : List (List Command)) × AreCommandsOf scripts lists × IsPlayed nodes lists text
 
 -- a run of this bundle writes this text and ends with this status
 abbrev pub IsOutput : List ℕ → List ℕ → Status → Type 0

@@ -1,12 +1,15 @@
--- The texts of replies, and of refusals of input.
-use Rattle.std.specs.Prelude.{ℕ, ◌+◌, List, [], ◌∷◌, ◌++◌, codes, decimal, map, flat_map}
+-- The texts of replies, of scripts, and of refusals of input.
+use Rattle.std.specs.Prelude.{ℕ, List, [], ◌++◌, codes, decimal, map, flat_map}
+use Rattle.lrc_topology.specs.declared.NodeInfo.{NodeInfo}
 use Rattle.lrc_topology.specs.declared.seat.Seat.{Seat}
 use Rattle.lrc_topology.specs.declared.error.TopologyError.{TopologyError}
 use Rattle.lrc_topology.specs.declared.error.TopologyError.TheVariants.{Syntax, NoNodes, BadField, OutOfRange, DoubleNode, TooMany, OutOfMemory}
+use Rattle.lrc_book.specs.declared.entry.Entry.{Entry}
 use Rattle.lrc_book.specs.declared.reply.Reply.{Reply}
 use Rattle.lrc_book.specs.declared.reply.Reply.TheVariants.{Placed, Dropped, Changed, Refused}
 use Rattle.lrc_book.specs.declared.reply.Refusal.{Refusal}
 use Rattle.lrc_book.specs.declared.reply.Refusal.TheVariants.{UnknownStripe, StripeExists, NoLawfulNode, UnknownNode, WrongMode}
+use Rattle.lrc_book.specs.Sessions.{entries_of, sessions}
 use Rattle.lrc_script.specs.declared.script.Cause.{Cause}
 use Rattle.lrc_script.specs.declared.script.Cause.TheVariants as cause
 use Rattle.lrc_script.specs.Scripts.{BadLine}
@@ -40,14 +43,17 @@ reply_text (Refused refusal) = codes "refused " ++ refusal_text refusal
 abbrev pub reply_line : ℕ → Reply → List ℕ
 reply_line place reply = decimal place ++ codes " " ++ reply_text reply ++ codes "\n"
 
--- a line for each of the replies, which stand in the history from this place on
-abbrev pub reply_lines : ℕ → List Reply → List ℕ
-reply_lines place [] = []
-reply_lines place (reply ∷ replies) = reply_line place reply ++ reply_lines (place + 1) replies
+-- the line before a script's replies
+abbrev pub script_line : ℕ → List ℕ
+script_line script = codes "script " ++ decimal script ++ codes "\n"
 
--- what is printed of a script that got these replies, and had no other beside it
-abbrev pub script_text : List Reply → List ℕ
-script_text replies = codes "script 1\n" ++ reply_lines 1 replies
+-- what is printed of a script, whose number is that of its session: a line for each entry of the session
+abbrev pub script_text : List Entry → ℕ → List ℕ
+script_text history script = script_line script ++ flat_map (λ e. reply_line e.place e.entry.reply) (entries_of script history)
+
+-- what is printed of so many scripts, over these nodes, where this is the history that they made
+abbrev pub output_text : List NodeInfo → ℕ → List Entry → List ℕ
+output_text nodes count history = flat_map (script_text history) (sessions count)
 
 -- ---- refusals of input
 

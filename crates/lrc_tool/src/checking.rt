@@ -1,15 +1,15 @@
 //! Checking a bundle, from the bytes in to the bytes out.
 
-ghost use Rattle.std.specs.Prelude.{◌≡◌, ◌≢◌, ◌||◌, ◌⊎◌, ◌+◌, ◌++◌, true, List, string_bytes, OnOk, IfOk, IfErr, IfSome, IsErrOf};
+ghost use Rattle.std.specs.Prelude.{◌≡◌, ◌≢◌, ◌||◌, ◌⊎◌, ◌+◌, ◌++◌, true, length, sum_by, string_bytes, OnOk, IfOk, IfErr, IfSome, IsErrOf};
 ghost use Rattle.std.specs.Io.KnownBytes.{Keeps};
-ghost use Rattle.lrc_script.specs.Bundles.{Script};
 ghost use Rattle.lrc_tool.specs.Streams.{is_read_fault, is_write_fault, ConsumesAtMost};
-ghost use Rattle.lrc_tool.specs.Judged.{AreGood};
-ghost use Rattle.lrc_tool.specs.Checks.{counts_line, counted_line, IsCheck, WritesCheck, WritesPartOfCheck};
+ghost use Rattle.lrc_tool.specs.Judged.{AreFew};
+ghost use Rattle.lrc_tool.specs.Checks.{counts_line, IsCheck, WritesCheck, WritesPartOfCheck};
 ghost use Rattle.lrc_tool.specs.declared.status.Status.TheVariants as ended;
 ghost use Rattle.lrc_tool.specs.declared.streams.RunFault.TheVariants as fault;
 
-use crate::judging::{BUNDLE_LIMIT, Judged, judge};
+use crate::judging::{Judged, judge};
+use crate::limits::BUNDLE_LIMIT;
 use crate::output::Output;
 use crate::status::Status;
 use crate::streams::{RunFault, Sink, Source, read_all, write_all};
@@ -59,22 +59,22 @@ fn check_of(alloc: Global, bundle: &[u8]) -> Result<Output, RunFault>
 {
     match judge(alloc, bundle)? {
         Judged::Refused(output) => Ok(output),
-        Judged::Good { topology, script } => counted(alloc, topology.nodes().len(), &script),
+        Judged::Good { topology, scripts } => {
+            counted(alloc, topology.nodes().len(), scripts.as_slice())
+        }
     }
 }
 
-/// The output for so many nodes and the commands of a script, if there is one.
-fn counted(alloc: Global, nodes: usize, script: &Option<Vec<Command>>) -> Result<Output, RunFault>
-    ensures line { IfOk result (λ o. (scripts : List Script) → AreGood scripts script.now → string_bytes o.text ≡ counted_line nodes scripts) }
+/// The output for so many nodes and the commands of these scripts.
+fn counted(alloc: Global, nodes: usize, scripts: &[Vec<Command>]) -> Result<Output, RunFault>
+    requires { AreFew scripts.now }
+    ensures line { IfOk result (λ o. string_bytes o.text ≡ counts_line nodes (length scripts.now) (sum_by (λ script. length script.items) scripts.now)) }
     ensures status { IfOk result (λ o. o.status ≡ ended.Done) }
     ensures err { IfErr result (λ e. e ≡ fault.OutOfMemory) }
 {
-    let (scripts, commands) = match script {
-        Some(commands) => (1, commands.len()),
-        None => (0, 0),
-    };
+    let commands = scripts.iter().map(|script| script.len()).sum();
     let mut text = String::new(alloc);
-    push_counts(&mut text, nodes, scripts, commands)?;
+    push_counts(&mut text, nodes, scripts.len(), commands)?;
     let status = Status::Done;
     Ok(Output { text, status })
 }

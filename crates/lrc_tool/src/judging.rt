@@ -1,22 +1,17 @@
 //! The checks of a bundle, which a run makes before its first command.
 
-ghost use Rattle.std.specs.Prelude.{◌≡◌, ◌≤◌, ◌+◌, [], ◌∷◌, length, IfOk, IfErr};
-ghost use Rattle.lrc_script.specs.Bundles.{Script, IsTextOf};
-ghost use Rattle.lrc_tool.specs.Judged.{IsJudged, IsJudgedAfter};
+ghost use Rattle.std.specs.Prelude.{◌≡◌, ◌≤◌, ◌+◌, All, length, IfOk, IfErr};
+ghost use Rattle.lrc_script.specs.Scripts.{IsFirstBad};
+ghost use Rattle.lrc_tool.specs.Judged.{lists_of, first_bad_in, AreParsed, IsJudged};
 ghost use Rattle.lrc_tool.specs.declared.streams.RunFault.TheVariants as fault;
 
+use crate::limits::{BUNDLE_LIMIT, SCRIPT_LIMIT};
 use crate::output::{Output, bad_line, refused, refused_topology};
 use crate::streams::RunFault;
 use lrc_book::Command;
 use lrc_script::{BundleError, ScriptError, ScriptText, parse_script, split_bundle};
 use lrc_topology::{Topology, TopologyError};
 use std::alloc::Global;
-
-/// The most bytes of a bundle.
-pub(crate) const BUNDLE_LIMIT: usize = 4_194_304;
-
-/// The most scripts of a bundle.
-pub(crate) const SCRIPT_LIMIT: usize = 1;
 
 /// What the checks of a bundle tell.
 #[derive(Drop)]
@@ -26,8 +21,8 @@ pub(crate) enum Judged {
     /// All pass.
     Good {
         topology: Topology,
-        /// The commands of the script, if there is one.
-        script: Option<Vec<Command>>,
+        /// The commands of each script.
+        scripts: Vec<Vec<Command>>,
     },
 }
 
@@ -51,30 +46,29 @@ pub(crate) fn judge(alloc: Global, bundle: &[u8]) -> Result<Judged, RunFault>
         Err(TopologyError::OutOfMemory) => return Err(RunFault::OutOfMemory),
         Err(error) => return Ok(Judged::Refused(refused_topology(alloc, error)?)),
     };
-    match parts.scripts.as_slice() {
-        [] => {
-            let script = None;
-            Ok(Judged::Good { topology, script })
-        }
-        [script, ..] => judge_script(alloc, topology, script),
-    }
-}
-
-/// Checks the lines of the script, the only one of its bundle, behind the nodes.
-fn judge_script(alloc: Global, topology: Topology, script: &ScriptText) -> Result<Judged, RunFault>
-    // The script stands within its bundle.
-    requires { script.now.first_line + length script.now.text.now ≤ BUNDLE_LIMIT }
-    ensures judged { IfOk result (λ j. (s : Script) → IsTextOf s script.now → IsJudgedAfter topology (s ∷ []) j) }
-    ensures err { IfErr result (λ e. e ≡ fault.OutOfMemory) }
-{
-    match parse_script(alloc, script.text, script.first_line) {
-        Ok(commands) => {
-            let script = Some(commands);
-            Ok(Judged::Good { topology, script })
-        }
+    match parse_scripts(alloc, parts.scripts.as_slice()) {
+        Ok(scripts) => Ok(Judged::Good { topology, scripts }),
         Err(ScriptError::Bad { line, cause }) => {
             Ok(Judged::Refused(bad_line(alloc, line, cause)?))
         }
         Err(ScriptError::OutOfMemory) => Err(RunFault::OutOfMemory),
     }
+}
+
+/// The commands of each script, where no line of any is bad.
+fn parse_scripts(
+    alloc: Global,
+    scripts: &[ScriptText],
+) -> Result<Vec<Vec<Command>>, ScriptError>
+    // The scripts stand within their bundle.
+    requires { All (λ s. s.first_line + length s.text.now ≤ BUNDLE_LIMIT) scripts.now }
+    ensures parsed { IfOk result (λ v. AreParsed scripts.now (lists_of v.items)) }
+    ensures bad { IfErr result (IsFirstBad (first_bad_in scripts.now)) }
+{
+    let mut parsed = Vec::new(alloc);
+    for script in scripts {
+        let commands = parse_script(alloc, script.text, script.first_line)?;
+        parsed.push(commands)?;
+    }
+    Ok(parsed)
 }

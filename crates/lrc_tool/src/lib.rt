@@ -4,6 +4,7 @@
 mod checking;
 mod judging;
 pub mod laws;
+mod limits;
 mod output;
 mod play;
 mod program;

@@ -1,24 +1,20 @@
 //! Running a bundle, from the bytes in to the bytes out.
 
-ghost use Rattle.std.specs.Prelude.{◌≡◌, ◌≢◌, ◌||◌, ◌⊎◌, ◌+◌, true, OnOk, List, string_bytes, IfOk, IfErr, IfSome, IsErrOf};
+ghost use Rattle.std.specs.Prelude.{◌≡◌, ◌≢◌, ◌||◌, ◌⊎◌, ◌+◌, true, OnOk, string_bytes, IfOk, IfErr, IfSome, IsErrOf};
 ghost use Rattle.std.specs.Io.KnownBytes.{Keeps};
 ghost use Rattle.lrc_tool.specs.Streams.{is_read_fault, is_write_fault, ConsumesAtMost};
-ghost use Rattle.lrc_script.specs.Bundles.{Script};
-ghost use Rattle.lrc_tool.specs.Judged.{AreFew, AreGood};
-ghost use Rattle.lrc_tool.specs.Outputs.{ArePlayed, IsOutput, WritesOutput, WritesPartOfOutput};
-ghost use Rattle.lrc_tool.specs.declared.status.Status.TheVariants as ended;
+ghost use Rattle.lrc_tool.specs.Outputs.{IsOutput, WritesOutput, WritesPartOfOutput};
 ghost use Rattle.lrc_tool.specs.declared.streams.RunFault.TheVariants as fault;
 
-use crate::judging::{BUNDLE_LIMIT, Judged, judge};
+use crate::judging::{Judged, judge};
+use crate::limits::BUNDLE_LIMIT;
 use crate::output::Output;
 use crate::play::play;
 use crate::status::Status;
 use crate::streams::{RunFault, Sink, Source, read_all, write_all};
-use lrc_book::Command;
-use lrc_topology::Topology;
 use std::alloc::Global;
 
-/// Runs the bundle that the source holds: reads it, makes the commands of its script, and then writes the whole output.
+/// Runs the bundle that the source holds: reads it, makes the commands of its scripts, and then writes the whole output.
 pub fn run<R: Source, W: Sink>(
     alloc: Global,
     source: &mut R,
@@ -55,25 +51,10 @@ fn output_of(alloc: Global, bundle: &[u8]) -> Result<Output, RunFault>
 {
     match judge(alloc, bundle)? {
         Judged::Refused(output) => Ok(output),
-        Judged::Good { topology, script } => played(alloc, topology, &script),
+        Judged::Good { topology, scripts } => {
+            let text = play(alloc, topology, scripts.as_slice())?;
+            let status = Status::Done;
+            Ok(Output { text, status })
+        }
     }
-}
-
-/// The output where the commands of the script, if there is one, are made over these nodes.
-fn played(
-    alloc: Global,
-    topology: Topology,
-    script: &Option<Vec<Command>>,
-) -> Result<Output, RunFault>
-    requires { AreFew script.now }
-    ensures played { IfOk result (λ o. (scripts : List Script) → AreGood scripts script.now → ArePlayed topology scripts (string_bytes o.text)) }
-    ensures status { IfOk result (λ o. o.status ≡ ended.Done) }
-    ensures err { IfErr result (λ e. e ≡ fault.OutOfMemory) }
-{
-    let text = match script {
-        Some(commands) => play(alloc, topology, commands.as_slice())?,
-        None => String::new(alloc),
-    };
-    let status = Status::Done;
-    Ok(Output { text, status })
 }

@@ -1,9 +1,10 @@
 //! The lines of replies, and those of refusals of input.
 
 ghost use Rattle.std.specs.Prelude.{◌≡◌, ◌++◌, OnOk, string_bytes, codes, map};
-ghost use Rattle.lrc_tool.specs.Texts.{seat_text, spaced, refusal_text, reply_text, reply_line, topology_line, cause_number, bad_line_text};
+ghost use Rattle.lrc_tool.specs.Texts.{seat_text, spaced, refusal_text, reply_text, reply_line, script_line, topology_line, cause_number, bad_line_text};
 
 use lrc_book::{Refusal, Reply, Seat};
+use lrc_code::SessionNo;
 use lrc_script::Cause;
 use lrc_topology::TopologyError;
 use std::alloc::AllocError;
@@ -55,6 +56,14 @@ fn push_reply(out: &mut String, reply: &Reply) -> Result<(), AllocError>
             push_refusal(out, refusal)
         }
     }
+}
+
+/// Adds the line before the replies of a session's script.
+pub(crate) fn push_script_line(out: &mut String, session: SessionNo) -> Result<(), AllocError>
+    ensures { OnOk result (string_bytes out.new ≡ string_bytes out.old ++ script_line session.value) }
+{
+    let number = session.value;
+    write!(out, "script {number}\n")
 }
 
 /// Adds the line of a reply, whose call has this place in the history.

@@ -1,29 +1,22 @@
-use Rattle.std.proofs.Common.{◌≡◌, ℕ, List, length, None, refl, sym, subst, arith}
-use Rattle.std.proofs.lemmas.Result.{IfOk-weaker}
+use Rattle.std.proofs.Common.{List, ℕ, sym, subst, string_bytes, ◌∙◌}
 use Rattle.lrc_topology.specs.Documents.{IsTopologyOf}
-use Rattle.lrc_script.specs.Bundles.{Script, scripts_of, AreTextsOf}
-use Rattle.lrc_tool.specs.declared.judging.Judged.TheVariants.{Good}
-use Rattle.lrc_tool.specs.Judged.{IsJudgedAfter}
-use Rattle.lrc_tool.proofs.JudgedLemmas.{judged, one_script, no_script}
+use Rattle.lrc_script.specs.Bundles.{scripts_of}
+use Rattle.lrc_tool.proofs.JudgedLemmas.{judged_good, judged_bad}
 use Rattle.lrc_tool.proofs.judging.judge.Goals as goal
 
-pub returns-in-empty-clause-judged : goal.returns-in-empty-clause-judged
-returns-in-empty-clause-judged c =
-    let scripts = scripts_of c.args.bundle.now in
+pub returns-in-Ok-parse_scripts-clause-judged : goal.returns-in-Ok-parse_scripts-clause-judged
+returns-in-Ok-parse_scripts-clause-judged c =
     let topology = c.in-Ok-read.topology in
-    let texts = subst (AreTextsOf scripts) (sym c.as_slice.ensures.value) c.in-Ok.ensures.scripts in
     let read = subst (λ (text : List ℕ). IsTopologyOf text topology) c.in-Ok.ensures.topology c.in-Ok-read.ensures.ok in
-    let empty : length c.as_slice.result.now ≡ 0 = omega (arith, c.in-empty.len_below) in
-    let good = no_script scripts c.as_slice.result.now texts empty in
-    judged c.args.bundle.now topology (Good topology None) c.if-bundle-gt-BUNDLE_LIMIT.false c.in-Ok.ensures.few read (refl, good.0, good.1)
+    judged_good c.args.bundle.now topology c.in-Ok.parts.scripts.items c.if-bundle-gt-BUNDLE_LIMIT.false c.in-Ok.ensures.few read c.in-Ok.ensures.scripts
+    c.in-Ok-parse_scripts.scripts.items c.in-Ok.ensures.numbered (rw c.as_slice.ensures.value at c.in-Ok-parse_scripts.ensures.parsed)
 
-pub returns-clause-judged : goal.returns-clause-judged
-returns-clause-judged c =
-    let scripts = scripts_of c.args.bundle.now in
+pub returns-in-Err-Bad-clause-judged : goal.returns-in-Err-Bad-clause-judged
+returns-in-Err-Bad-clause-judged c =
     let topology = c.in-Ok-read.topology in
-    let texts = subst (AreTextsOf scripts) (sym c.as_slice.ensures.value) c.in-Ok.ensures.scripts in
     let read = subst (λ (text : List ℕ). IsTopologyOf text topology) c.in-Ok.ensures.topology c.in-Ok-read.ensures.ok in
-    IfOk-weaker c.judge_script.result _ _
-    (λ j h. judged c.args.bundle.now topology j c.if-bundle-gt-BUNDLE_LIMIT.false c.in-Ok.ensures.few read
-    (one_script (λ (ss : List Script). IsJudgedAfter topology ss j) scripts c.as_slice.result.now _ texts c.in-Ok.ensures.few c.in-len1-up.len_at_least h))
-    c.judge_script.ensures.judged
+    let found = rw (c.in-Err-Bad.field-0-is, c.as_slice.ensures.value) at c.in-Err-Bad.ensures.bad in
+    let output = c.in_ok-bad_line-in-Err-Bad.field-0 in
+    judged_bad c.args.bundle.now topology c.in-Ok.parts.scripts.items c.if-bundle-gt-BUNDLE_LIMIT.false c.in-Ok.ensures.few read c.in-Ok.ensures.scripts
+    c.in-Err-Bad.line _ c.in-Err-Bad.cause _ (string_bytes output.text) output.status found c.in-Err-Bad.line-is c.in-Err-Bad.cause-is
+    c.in_ok-bad_line-in-Err-Bad.ensures.text c.in_ok-bad_line-in-Err-Bad.ensures.status

@@ -1,4 +1,4 @@
-use Rattle.lrc_tool.proofs.OneOutputLemmas.{refused_alike}
+use Rattle.lrc_tool.proofs.AnswerLemmas.{refused_alike}
 use Rattle.lrc_tool.proofs.laws.checks_refuse_as_runs.Goals as goal
 
 pub returns : goal.returns

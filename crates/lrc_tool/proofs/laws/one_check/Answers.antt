@@ -1,4 +1,4 @@
-use Rattle.lrc_tool.proofs.OneOutputLemmas.{one_check}
+use Rattle.lrc_tool.proofs.AnswerLemmas.{one_check}
 use Rattle.lrc_tool.proofs.laws.one_check.Goals as goal
 
 pub returns : goal.returns

@@ -1,4 +1,4 @@
-use Rattle.lrc_tool.proofs.OneOutputLemmas.{one_output}
+use Rattle.lrc_tool.proofs.AnswerLemmas.{one_output}
 use Rattle.lrc_tool.proofs.laws.one_output.Goals as goal
 
 pub returns : goal.returns

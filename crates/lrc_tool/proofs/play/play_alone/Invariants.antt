@@ -1,6 +1,6 @@
 use Rattle.std.proofs.Common.{◌≡◌, string_bytes, take}
-use Rattle.lrc_tool.proofs.PlayLemmas.{IsPlayedBy}
-use Rattle.lrc_tool.proofs.play.play.Given as goal
+use Rattle.lrc_tool.proofs.SessionLemmas.{IsPlayedBy}
+use Rattle.lrc_tool.proofs.play.play_alone.Given as goal
 
 abbrev pub invariant-loop-index : goal.invariant-loop-index
 invariant-loop-index l = record {

@@ -1,0 +1,122 @@
+-- Lines and commands: each line is that of one command, and good lines have commands.
+use Rattle.std.proofs.Common.{◌≡◌, ℕ, ◌+◌, ◌*◌, ◌<◌, ◌≤◌, inl, inr, false, nat_eq, get_or, not, filter, All, List, [], ◌∷◌, length, map, Option, Some, None, codes, decimal, refl, sym, ap, subst, ◌∙◌, arith}
+use borrow.Author.Tests.{ne_eqb}
+use Rattle.std.specs.Coded.{le_prop}
+use Rattle.std.specs.List.{AllZip}
+use Rattle.std.proofs.lemmas.List.{append_cancel_left}
+use Rattle.std.proofs.lemmas.List.Elements.{All-nil, All-cons, All-head, All-tail}
+use Rattle.std.proofs.lemmas.Fmt.{decimal_injective}
+use Rattle.lrc_code.specs.declared.numbers.StripeNo.{StripeNo}
+use Rattle.lrc_code.specs.declared.numbers.NodeNo.{NodeNo}
+use Rattle.lrc_book.specs.declared.command.Command.{Command}
+use Rattle.lrc_book.specs.declared.command.Command.TheVariants.{Place, Drop, Fail, Down, Up, Join}
+use Rattle.lrc_script.specs.Scripts.{is_passed_over, command_line, IsInRange, IsScript, BadLine, or_else, first_bad, cause_of}
+use Rattle.lrc_script.specs.Bundles.{Script}
+use Rattle.lrc_script.proofs.CauseLemmas.{cause_of-good}
+use Rattle.lrc_script.proofs.LineLemmas.{cause_of-short}
+use Rattle.lrc_script.proofs.FirstLemmas.{first_bad-none}
+use Rattle.lrc_tool.specs.Outputs.{first_bad_of, AreCommandsOf}
+
+-- ---- one command a line
+
+abbrev stripe : (n : ℕ) → n < 4096 → StripeNo
+stripe n h = record { value = n; in_range = h }
+
+stripe_bound : (n : ℕ) → IsProp (n < 4096)
+stripe_bound n = le_prop
+
+same_stripe : (s t : StripeNo) → s.value ≡ t.value → s ≡ t
+same_stripe s t e = subst (λ n. (h : n < 4096) → s ≡ stripe n h) e (λ h. ap (stripe s.value) (stripe_bound s.value s.in_range h)) t.in_range
+
+same_number : (s t : StripeNo) → decimal s.value ≡ decimal t.value → s ≡ t
+same_number s t e =
+    let a = s.in_range in
+    let b = t.in_range in
+    same_stripe s t (decimal_injective s.value t.value (omega (arith, a)) (omega (arith, b)) e)
+
+abbrev node : ℕ → NodeNo
+node v = record { value = v }
+
+same_node : (m n : NodeNo) → m.value < 65536 → n.value < 65536 → decimal m.value ≡ decimal n.value → m ≡ n
+same_node m n a b e = ap (λ v. node v) (decimal_injective m.value n.value (omega (arith, a)) (omega (arith, b)) e)
+
+-- the first two letters of a line, as one number
+abbrev letters : List ℕ → ℕ
+letters (x ∷ y ∷ more) = 1000 * x + y
+letters other = 0
+
+same_command : (c d : Command) → IsInRange c → IsInRange d → command_line c ≡ command_line d → c ≡ d
+same_command (Place s) (Place t) a b e = ap Place (same_number s t (append_cancel_left (codes "place ") _ _ e))
+same_command (Drop s) (Drop t) a b e = ap Drop (same_number s t (append_cancel_left (codes "drop ") _ _ e))
+same_command (Fail m) (Fail n) a b e = ap Fail (same_node m n a b (append_cancel_left (codes "fail ") _ _ e))
+same_command (Down m) (Down n) a b e = ap Down (same_node m n a b (append_cancel_left (codes "down ") _ _ e))
+same_command (Up m) (Up n) a b e = ap Up (same_node m n a b (append_cancel_left (codes "up ") _ _ e))
+same_command (Join m) (Join n) a b e = ap Join (same_node m n a b (append_cancel_left (codes "join ") _ _ e))
+same_command c d a b e = absurd (let bad : letters (command_line c) ≡ letters (command_line d) = ap letters e in omega (arith, bad))
+
+same_commands : (cs ds : List Command) → All IsInRange cs → All IsInRange ds → map command_line cs ≡ map command_line ds → cs ≡ ds
+same_commands [] [] a b e = refl
+same_commands [] (d ∷ ds) a b e = absurd (cc)
+same_commands (c ∷ cs) [] a b e = absurd (cc)
+same_commands (c ∷ cs) (d ∷ ds) a b e =
+    let here : command_line c ≡ command_line d = cc in
+    let rest : map command_line cs ≡ map command_line ds = cc in
+    let one = same_command c d (All-head IsInRange c cs a) (All-head IsInRange d ds b) here in
+    let more = same_commands cs ds (All-tail IsInRange c cs a) (All-tail IsInRange d ds b) rest in
+    cc
+
+pub as_many_lists : (scripts : List Script) (lists : List (List Command)) → AreCommandsOf scripts lists → length lists ≡ length scripts
+as_many_lists [] [] are = refl
+as_many_lists [] (c ∷ cs) are = absurd are
+as_many_lists (s ∷ ss) [] are = absurd are
+as_many_lists (s ∷ ss) (c ∷ cs) are = omega (arith, as_many_lists ss cs are.1)
+
+-- scripts have one list of commands each
+pub same_lists : (scripts : List Script) (lists others : List (List Command)) → AreCommandsOf scripts lists → AreCommandsOf scripts others → lists ≡ others
+same_lists [] [] [] p q = refl
+same_lists [] (c ∷ cs) ds p q = absurd p
+same_lists [] [] (d ∷ ds) p q = absurd q
+same_lists (s ∷ ss) [] ds p q = absurd p
+same_lists (s ∷ ss) (c ∷ cs) [] p q = absurd q
+same_lists (s ∷ ss) (c ∷ cs) (d ∷ ds) p q =
+    let one = same_commands c d p.0.in_range q.0.in_range (sym p.0.listed ∙ q.0.listed) in
+    let more = same_lists ss cs ds p.1 q.1 in
+    cc
+
+-- ---- good lines have commands
+
+kept : (line : List ℕ) → 0 < length line → nat_eq (get_or line 0 0) 35 ≡ false → is_passed_over line ≡ false
+kept line some other = rw (ne_eqb (length line) 0 (omega arith), other) refl
+
+not_passed : (c : Command) → is_passed_over (command_line c) ≡ false
+not_passed (Place s) = kept (command_line (Place s)) (omega arith) refl
+not_passed c = kept (command_line c) (omega arith) refl
+
+some_commands : (lines : List (List ℕ)) → All (λ line. cause_of line ≡ None) lines → (commands : List Command) × IsScript lines commands
+some_commands [] good = ([], record { short = All-nil (λ line. length line ≤ 1024); in_range = All-nil IsInRange; listed = refl })
+some_commands (line ∷ lines) good =
+    let here = All-head (λ l. cause_of l ≡ None) line lines good in
+    let behind = some_commands lines (All-tail (λ l. cause_of l ≡ None) line lines good) in
+    let short = All-cons (λ l. length l ≤ 1024) line lines (cause_of-short line here) behind.1.short in
+    elim ((cause_of-good line).0 here) [
+      | inl passed ↦ let over = passed.0 in (behind.0, record { short = short; in_range = behind.1.in_range; listed = rw over behind.1.listed })
+      | inr made ↦
+        let kept : is_passed_over line ≡ false = ap is_passed_over made.2 ∙ not_passed made.0 in
+        (made.0 ∷ behind.0, record {
+          short = short;
+          in_range = All-cons IsInRange made.0 behind.0 made.1 behind.1.in_range;
+          listed = rw kept (ap (λ l. l ∷ filter (λ x. not (is_passed_over x)) lines) made.2 ∙ ap (λ ls. command_line made.0 ∷ ls) behind.1.listed);
+        })
+    ]
+
+neither : (first other : Option BadLine) → or_else first other ≡ None → (first ≡ None) × (other ≡ None)
+neither None other e = (refl, e)
+neither (Some bad) other e = cc
+
+pub some_lists : (scripts : List Script) → first_bad_of scripts ≡ None → (lists : List (List Command)) × AreCommandsOf scripts lists
+some_lists [] good = ([], tt)
+some_lists (script ∷ scripts) good =
+    let parts = neither (first_bad script.first_line script.lines) (first_bad_of scripts) good in
+    let one = some_commands script.lines ((first_bad-none script.first_line script.lines).0 parts.0) in
+    let more = some_lists scripts parts.1 in
+    (one.0 ∷ more.0, (one.1, more.1))

@@ -1,0 +1,97 @@
+-- The history of a bundle with at most one script: there is one, and no other.
+use Rattle.std.proofs.Common.{◌≡◌, ℕ, ◌≤◌, lit≤, All, List, [], ◌∷◌, length, get_or, map, flat_map, refl, sym, ap, subst, ◌∙◌, arith, append-nil}
+use Rattle.std.specs.Coded.{le_prop}
+use Rattle.std.proofs.lemmas.List.Elements.{All-head, All-tail, All-nil, All-cons}
+use Rattle.lrc_code.specs.declared.numbers.SessionNo.{SessionNo}
+use Rattle.lrc_topology.specs.declared.NodeInfo.{NodeInfo}
+use Rattle.lrc_book.specs.declared.command.Command.{Command}
+use Rattle.lrc_book.specs.declared.entry.Entry.{Entry}
+use Rattle.lrc_book.specs.declared.reply.Reply.{Reply}
+use Rattle.lrc_book.specs.Histories.{World, first_world, outcome_in, next_world, IsLegalFrom}
+use Rattle.lrc_book.specs.Sessions.{commands_of, commands_of_each}
+use Rattle.lrc_tool.specs.Limits.{script_limit}
+use Rattle.lrc_tool.specs.Texts.{script_text, output_text}
+use Rattle.lrc_tool.specs.Outputs.{IsPlayed}
+use Rattle.lrc_tool.proofs.SessionLemmas.{IsFirst, commands_alone, none_played, IsPlayedBy, one_played}
+
+-- ---- no other
+
+abbrev session : (n : ℕ) → (1 ≤ n) × (n ≤ 8) → SessionNo
+session n h = record { value = n; in_range = h }
+
+session_bound : (n : ℕ) → IsProp ((1 ≤ n) × (n ≤ 8))
+session_bound n = hlevel le_prop
+
+same_session : (s t : SessionNo) → s.value ≡ t.value → s ≡ t
+same_session s t e = subst (λ n. (h : (1 ≤ n) × (n ≤ 8)) → s ≡ session n h) e (λ h. ap (session s.value) (session_bound s.value s.in_range h)) t.in_range
+
+abbrev entry : SessionNo → Command → Reply → Entry
+entry s c r = record { session = s; command = c; reply = r }
+
+-- two legal histories of one session with the same commands are one
+same_history : (nodes : List NodeInfo) (w : World) (h g : List Entry) → IsLegalFrom nodes w h → IsLegalFrom nodes w g → map (λ e. e.command) h ≡ map (λ e. e.command) g
+    → All IsFirst h → All IsFirst g → h ≡ g
+same_history nodes w [] [] p q e a b = refl
+same_history nodes w [] (y ∷ g) p q e a b = absurd (cc)
+same_history nodes w (x ∷ h) [] p q e a b = absurd (cc)
+same_history nodes w (x ∷ h) (y ∷ g) p q e a b =
+    let by = same_session x.session y.session (All-head IsFirst x h a ∙ sym (All-head IsFirst y g b)) in
+    let made : x.command ≡ y.command = cc in
+    let rest : map (λ (z : Entry). z.command) h ≡ map (λ (z : Entry). z.command) g = cc in
+    let told : x.reply ≡ y.reply = sym p.0 ∙ ap (λ s. (outcome_in nodes w s x.command).0) by ∙ ap (λ c. (outcome_in nodes w y.session c).0) made ∙ q.0 in
+    let one : x ≡ y = ap (λ s. entry s x.command x.reply) by ∙ ap (λ c. entry y.session c x.reply) made ∙ ap (λ r. entry y.session y.command r) told in
+    let after = subst (λ (z : Entry). IsLegalFrom nodes (next_world nodes w z) h) one p.1 in
+    let more = same_history nodes (next_world nodes w y) h g after q.1 rest (All-tail IsFirst x h a) (All-tail IsFirst y g b) in
+    cc
+
+module _ (scripts : List (List Command)) (few : length scripts ≤ script_limit) (h : List Entry) (within : All (λ e. e.session.value ≤ length scripts) h) where
+  -- with one script at most all entries are of session 1
+  all_first : All IsFirst h
+  all_first k d below = let range = (get_or h k d).session.in_range in omega (arith, range.0, within k d below, few)
+
+-- and their commands are those of the script, if there is one
+all_made : (scripts : List (List Command)) → length scripts ≤ script_limit → (h : List Entry) → All (λ e. e.session.value ≤ length scripts) h → commands_of_each (length scripts) h ≡ scripts
+    → map (λ e. e.command) h ≡ flat_map (λ commands. commands) scripts
+all_made [] few [] within made = refl
+all_made [] few (e ∷ h) within made = let range = e.session.in_range in absurd (omega (arith, range.0, All-head (λ x. x.session.value ≤ 0) e h within))
+all_made (commands ∷ []) few h within made =
+    let only : commands_of 1 h ≡ commands = cc in
+    sym (commands_alone h (all_first (commands ∷ []) few h within)) ∙ only ∙ sym (append-nil commands)
+all_made (commands ∷ others ∷ more) few h within made = absurd (omega (arith, few))
+
+pub same_play : (nodes : List NodeInfo) (scripts : List (List Command)) (t u : List ℕ) → length scripts ≤ script_limit → IsPlayed nodes scripts t → IsPlayed nodes scripts u → t ≡ u
+same_play nodes scripts t u few p q =
+    let made = all_made scripts few p.history p.alone p.made ∙ sym (all_made scripts few q.history q.alone q.made) in
+    let same = same_history nodes first_world p.history q.history p.legal q.legal made (all_first scripts few p.history p.alone) (all_first scripts few q.history q.alone) in
+    p.printed ∙ ap (output_text nodes (length scripts)) same ∙ sym q.printed
+
+-- ---- there is one
+
+module _ (nodes : List NodeInfo) where
+  -- the entry of a command that session 1 makes in a world
+  abbrev next_entry : World → Command → Entry
+  next_entry w c = let first = session 1 (lit≤ tt, lit≤ tt) in entry first c (outcome_in nodes w first c).0
+
+  abbrev history_of : World → List Command → List Entry
+  history_of w [] = []
+  history_of w (c ∷ cs) = next_entry w c ∷ history_of (next_world nodes w (next_entry w c)) cs
+
+  is_legal : (w : World) (cs : List Command) → IsLegalFrom nodes w (history_of w cs)
+  is_legal w [] = tt
+  is_legal w (c ∷ cs) = (refl, is_legal (next_world nodes w (next_entry w c)) cs)
+
+  has_all : (w : World) (cs : List Command) → map (λ e. e.command) (history_of w cs) ≡ cs
+  has_all w [] = refl
+  has_all w (c ∷ cs) = ap (λ ds. c ∷ ds) (has_all (next_world nodes w (next_entry w c)) cs)
+
+  is_alone : (w : World) (cs : List Command) → All IsFirst (history_of w cs)
+  is_alone w [] = All-nil IsFirst
+  is_alone w (c ∷ cs) = let w' = next_world nodes w (next_entry w c) in All-cons IsFirst (next_entry w c) (history_of w' cs) refl (is_alone w' cs)
+
+  pub some_play : (scripts : List (List Command)) → length scripts ≤ script_limit → (text : List ℕ) × IsPlayed nodes scripts text
+  some_play [] few = ([], none_played nodes)
+  some_play (commands ∷ []) few =
+      let h = history_of first_world commands in
+      let by : IsPlayedBy nodes commands h (script_text h 1) = record { legal = is_legal first_world commands; made = has_all first_world commands; alone = is_alone first_world commands; printed = refl } in
+      (script_text h 1, one_played nodes commands h (script_text h 1) by)
+  some_play (commands ∷ others ∷ more) few = absurd (omega (arith, few))

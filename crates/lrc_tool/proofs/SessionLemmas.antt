@@ -1,0 +1,84 @@
+-- Histories of session 1 alone.
+use Rattle.std.proofs.Common.{◌≡◌, ℕ, suc, ◌+◌, ◌≤◌, true, nat_eq, All, List, [], ◌∷◌, ◌++◌, length, get_or, map, filter, flat_map, Option, codes, refl, sym, ap, ◌∙◌, arith, add-zero, append_assoc, append-nil, lit≤}
+use borrow.Author.Tests.{eq-eqb}
+use Rattle.std.proofs.lemmas.List.Elements.{All-head, All-tail, All-nil, All-cons, filter-append}
+use Rattle.std.proofs.lemmas.List.Concat.{flat_map-append}
+use Rattle.lrc_code.specs.declared.numbers.SessionNo.{SessionNo}
+use Rattle.lrc_topology.specs.declared.NodeInfo.{NodeInfo}
+use Rattle.lrc_book.specs.declared.command.Command.{Command}
+use Rattle.lrc_book.specs.declared.entry.Entry.{Entry}
+use Rattle.lrc_book.specs.declared.reply.Reply.{Reply}
+use Rattle.lrc_book.specs.Histories.{World, first_world, outcome_in, next_world, IsLegalFrom, IsLegal}
+use Rattle.lrc_book.specs.Sessions.{NumberedEntry, numbered_from, is_of, entries_of, commands_of, commands_of_each}
+use Rattle.lrc_tool.specs.Texts.{reply_line, script_line, script_text, output_text}
+use Rattle.lrc_tool.specs.Outputs.{IsPlayed}
+
+-- the entry is of session 1
+abbrev pub IsFirst : Entry → Type 0
+IsFirst e = e.session.value ≡ 1
+
+abbrev command_in : Entry → Command
+command_in e = e.command
+
+-- ---- entries and commands
+
+abbrev numbered : ℕ → Entry → NumberedEntry
+numbered place e = record { place = place; entry = e }
+
+numbered_from-push : (place : ℕ) (h : List Entry) (e : Entry) → numbered_from place (h ++ e ∷ []) ≡ numbered_from place h ++ numbered (place + length h) e ∷ []
+numbered_from-push place [] e = rw add-zero refl
+numbered_from-push place (x ∷ h) e =
+    let shift : place + 1 + length h ≡ place + suc (length h) = omega arith in
+    ap (λ es. numbered place x ∷ es) (numbered_from-push (place + 1) h e ∙ ap (λ n. numbered_from (place + 1) h ++ numbered n e ∷ []) shift)
+
+all_kept : (place : ℕ) (h : List Entry) → All IsFirst h → filter (λ e. is_of 1 e.entry) (numbered_from place h) ≡ numbered_from place h
+all_kept place [] alone = refl
+all_kept place (e ∷ h) alone =
+    rw (eq-eqb e.session.value 1 (All-head IsFirst e h alone)) (ap (λ es. numbered place e ∷ es) (all_kept (place + 1) h (All-tail IsFirst e h alone)))
+
+numbered_commands : (place : ℕ) (h : List Entry) → map (λ e. e.entry.command) (numbered_from place h) ≡ map command_in h
+numbered_commands place [] = refl
+numbered_commands place (e ∷ h) = ap (λ cs. e.command ∷ cs) (numbered_commands (place + 1) h)
+
+-- all commands are the session's
+pub commands_alone : (h : List Entry) → All IsFirst h → commands_of 1 h ≡ map (λ e. e.command) h
+commands_alone h alone = ap (map (λ (e : NumberedEntry). e.entry.command)) (all_kept 1 h alone) ∙ numbered_commands 1 h
+
+-- ---- what is printed
+
+entries_of-push : (h : List Entry) (e : Entry) → IsFirst e → entries_of 1 (h ++ e ∷ []) ≡ entries_of 1 h ++ numbered (1 + length h) e ∷ []
+entries_of-push h e first =
+    ap (filter (λ x. is_of 1 x.entry)) (numbered_from-push 1 h e)
+    ∙ filter-append (λ x. is_of 1 x.entry) (numbered_from 1 h) (numbered (1 + length h) e ∷ [])
+    ∙ rw (eq-eqb e.session.value 1 first) refl
+
+abbrev line : NumberedEntry → List ℕ
+line e = reply_line e.place e.entry.reply
+
+pub script_text-push : (h : List Entry) (e : Entry) → IsFirst e → script_text (h ++ e ∷ []) 1 ≡ script_text h 1 ++ reply_line (1 + length h) e.reply
+script_text-push h e first =
+    ap (λ es. script_line 1 ++ flat_map line es) (entries_of-push h e first)
+    ∙ ap (λ t. script_line 1 ++ t) (flat_map-append line (entries_of 1 h) (numbered (1 + length h) e ∷ []) ∙ ap (λ t. flat_map line (entries_of 1 h) ++ t) (append-nil (line (numbered (1 + length h) e))))
+    ∙ sym (append_assoc (script_line 1) (flat_map line (entries_of 1 h)) (line (numbered (1 + length h) e)))
+
+-- ---- scripts
+
+-- no script
+pub none_played : (nodes : List NodeInfo) → IsPlayed nodes [] []
+none_played nodes = record { history = []; legal = tt; made = refl; alone = All-nil (λ e. e.session.value ≤ 0); printed = refl }
+
+-- the calls of the only script, and what is printed of them
+pub record IsPlayedBy (nodes : List NodeInfo) (commands : List Command) (history : List Entry) (text : List ℕ) : Type 0 where
+  pub legal : IsLegal nodes history
+  pub made : map (λ e. e.command) history ≡ commands
+  pub alone : All IsFirst history
+  pub printed : text ≡ script_text history 1
+
+pub one_played : (nodes : List NodeInfo) (commands : List Command) (history : List Entry) (text : List ℕ) → IsPlayedBy nodes commands history text → IsPlayed nodes (commands ∷ []) text
+one_played nodes commands history text by = record {
+  history = history;
+  legal = by.legal;
+  made = ap (λ cs. cs ∷ []) (commands_alone history by.alone ∙ by.made);
+  alone = λ k d within. omega (arith, by.alone k d within);
+  printed = by.printed ∙ sym (append-nil (script_text history 1));
+}
