@@ -1,11 +1,10 @@
 -- Each bundle has an answer, and only one.
-use Rattle.std.proofs.Common.{◌≡◌, ◌≢◌, ℕ, ◌≤◌, ◌↔◌, ◌⊎◌, inl, inr, Bool, true, false, if◌then◌else◌, nat_lt, List, [], length, Option, Some, None, Result, Ok, Err, codes, refl, sym, ap, subst, ◌∙◌}
+use Rattle.std.proofs.Common.{◌≡◌, ◌≢◌, ℕ, ◌≤◌, ◌↔◌, inl, inr, Bool, true, false, if◌then◌else◌, nat_lt, List, length, Option, Some, None, Result, Ok, Err, refl, sym, ap, subst, ◌∙◌}
 use borrow.Author.Tests.{ltb-false}
 use Rattle.lrc_topology.specs.declared.NodeInfo.{NodeInfo}
 use Rattle.lrc_topology.specs.declared.error.TopologyError.{TopologyError}
-use Rattle.lrc_topology.specs.declared.error.TopologyError.TheVariants.{OutOfMemory}
-use Rattle.lrc_topology.specs.Documents.{IsTopologyOf, IsRefusedBy}
 use Rattle.lrc_topology.proofs.AnswerLemmas.{one_topology, topology_or_refusal, one_refusal}
+use Rattle.lrc_topology.proofs.ToldLemmas.{each_text_is_told}
 use Rattle.lrc_book.specs.declared.command.Command.{Command}
 use Rattle.lrc_script.specs.Scripts.{BadLine}
 use Rattle.lrc_script.specs.Bundles.{Script, scripts_of, topology_of}
@@ -29,7 +28,7 @@ few_scripts : (bundle : List ℕ) → early_refusal bundle ≡ None → length (
 few_scripts bundle early = ltb-false 1 (length (scripts_of bundle)) (neither (nat_lt bundle_limit (length bundle)) (nat_lt script_limit (length (scripts_of bundle))) _ _ early)
 
 some_outcome : (text : List ℕ) → (outcome : Result (List NodeInfo) TopologyError) × Reads text outcome
-some_outcome text = ?
+some_outcome text = elim (each_text_is_told text) [ inl accepted ↦ (Ok accepted.0, accepted.1) | inr refused ↦ (Err refused.0, (refused.1, refused.2)) ]
 
 -- ---- one answer
 

@@ -2,7 +2,6 @@
 use Rattle.std.proofs.Common.{◌≡◌, ℕ, ◌+◌, ◌*◌, ◌<◌, ◌≤◌, inl, inr, false, nat_eq, get_or, not, filter, All, List, [], ◌∷◌, length, map, Option, Some, None, codes, decimal, refl, sym, ap, subst, ◌∙◌, arith}
 use borrow.Author.Tests.{ne_eqb}
 use Rattle.std.specs.Coded.{le_prop}
-use Rattle.std.specs.List.{AllZip}
 use Rattle.std.proofs.lemmas.List.{append_cancel_left}
 use Rattle.std.proofs.lemmas.List.Elements.{All-nil, All-cons, All-head, All-tail}
 use Rattle.std.proofs.lemmas.Fmt.{decimal_injective}
@@ -101,12 +100,14 @@ some_commands (line ∷ lines) good =
     elim ((cause_of-good line).0 here) [
       | inl passed ↦ let over = passed.0 in (behind.0, record { short = short; in_range = behind.1.in_range; listed = rw over behind.1.listed })
       | inr made ↦
-        let kept : is_passed_over line ≡ false = ap is_passed_over made.2 ∙ not_passed made.0 in
-        (made.0 ∷ behind.0, record {
-          short = short;
-          in_range = All-cons IsInRange made.0 behind.0 made.1 behind.1.in_range;
-          listed = rw kept (ap (λ l. l ∷ filter (λ x. not (is_passed_over x)) lines) made.2 ∙ ap (λ ls. command_line made.0 ∷ ls) behind.1.listed);
-        })
+          let kept : is_passed_over line ≡ false = ap is_passed_over made.2 ∙ not_passed made.0 in (
+            made.0 ∷ behind.0,
+            record {
+              short = short;
+              in_range = All-cons IsInRange made.0 behind.0 made.1 behind.1.in_range;
+              listed = rw kept (ap (λ l. l ∷ filter (λ x. not (is_passed_over x)) lines) made.2 ∙ ap (λ ls. command_line made.0 ∷ ls) behind.1.listed);
+            },
+          )
     ]
 
 neither : (first other : Option BadLine) → or_else first other ≡ None → (first ≡ None) × (other ≡ None)

@@ -1,9 +1,8 @@
 -- What the checks of a bundle tell, from its parts, and what it is answered then.
-use Rattle.std.proofs.Common.{◌≡◌, ℕ, ◌+◌, ◌*◌, ◌<◌, ◌≤◌, All, List, [], ◌∷◌, ◌++◌, length, get_or, take, drop, sum_by, map, string_bytes, Option, Some, None, Result, Ok, Err, IfOk, Vec, Global, refl, sym, ap, subst, ◌∙◌, arith}
+use Rattle.std.proofs.Common.{◌≡◌, ℕ, ◌+◌, ◌<◌, ◌≤◌, All, List, [], ◌∷◌, ◌++◌, length, get_or, take, drop, sum_by, Option, Some, None, Result, Ok, Err, IfOk, Vec, Global, refl, sym, ap, subst, ◌∙◌, arith}
 use Rattle.std.specs.List.{AllZip}
 use Rattle.std.proofs.lemmas.Bool.{le-ltb}
 use Rattle.std.proofs.lemmas.List.{take_more, drop_more, take-append-drop, length-map}
-use Rattle.std.proofs.lemmas.List.Elements.{All-head}
 use Rattle.lrc_topology.specs.declared.NodeInfo.{NodeInfo}
 use Rattle.lrc_topology.specs.Documents.{IsTopologyOf}
 use Rattle.lrc_book.specs.declared.command.Command.{Command}
@@ -12,7 +11,7 @@ use Rattle.lrc_script.specs.declared.script.Cause.{Cause}
 use Rattle.lrc_script.specs.declared.script.ScriptError.{ScriptError}
 use Rattle.lrc_script.specs.declared.script.ScriptError.TheVariants.{Bad, OutOfMemory}
 use Rattle.lrc_script.specs.Scripts.{lines_of, IsScript, BadLine, or_else, first_bad, IsFirstBad}
-use Rattle.lrc_script.specs.Bundles.{Script, scripts_of, topology_of, IsTextOf, AreTextsOf}
+use Rattle.lrc_script.specs.Bundles.{Script, scripts_of, topology_of, AreTextsOf}
 use Rattle.lrc_script.proofs.BundleLemmas.{first_bad-holds, IsScript-holds}
 use Rattle.lrc_script.proofs.SizeLemmas.{few_commands}
 use Rattle.lrc_tool.specs.declared.status.Status.{Status}
@@ -21,7 +20,7 @@ use Rattle.lrc_tool.specs.Limits.{bundle_limit, script_limit}
 use Rattle.lrc_tool.specs.Texts.{bad_line_text}
 use Rattle.lrc_tool.specs.Outputs.{early_refusal, first_bad_of, AreCommandsOf, Answer, IsAnsweredUnless, IsAnsweredOver, IsAnswered}
 use Rattle.lrc_tool.proofs.CommandLemmas.{as_many_lists}
-use Rattle.lrc_tool.specs.Judged.{lists_of, first_bad_in, AreParsed, AreFew, NoAnswer, IsRefusal, IsGood}
+use Rattle.lrc_tool.specs.Judged.{lists_of, first_bad_in, AreParsed, NoAnswer, IsRefusal, IsGood}
 
 -- two facts of a value that there is
 pub IfOk-both : {X E : Type 0} (r : Result X E) (P Q R : X → Type 0) → ((x : X) → P x → Q x → R x) → IfOk r P → IfOk r Q → IfOk r R

@@ -1,16 +1,14 @@
 -- Histories of session 1 alone.
-use Rattle.std.proofs.Common.{◌≡◌, ℕ, suc, ◌+◌, ◌≤◌, true, nat_eq, All, List, [], ◌∷◌, ◌++◌, length, get_or, map, filter, flat_map, Option, codes, refl, sym, ap, ◌∙◌, arith, add-zero, append_assoc, append-nil, lit≤}
+use Rattle.std.proofs.Common.{◌≡◌, ℕ, suc, ◌+◌, ◌≤◌, All, List, [], ◌∷◌, ◌++◌, length, map, filter, flat_map, refl, sym, ap, ◌∙◌, arith, add-zero, append_assoc, append-nil}
 use borrow.Author.Tests.{eq-eqb}
-use Rattle.std.proofs.lemmas.List.Elements.{All-head, All-tail, All-nil, All-cons, filter-append}
+use Rattle.std.proofs.lemmas.List.Elements.{All-head, All-tail, All-nil, filter-append}
 use Rattle.std.proofs.lemmas.List.Concat.{flat_map-append}
-use Rattle.lrc_code.specs.declared.numbers.SessionNo.{SessionNo}
 use Rattle.lrc_topology.specs.declared.NodeInfo.{NodeInfo}
 use Rattle.lrc_book.specs.declared.command.Command.{Command}
 use Rattle.lrc_book.specs.declared.entry.Entry.{Entry}
-use Rattle.lrc_book.specs.declared.reply.Reply.{Reply}
-use Rattle.lrc_book.specs.Histories.{World, first_world, outcome_in, next_world, IsLegalFrom, IsLegal}
-use Rattle.lrc_book.specs.Sessions.{NumberedEntry, numbered_from, is_of, entries_of, commands_of, commands_of_each}
-use Rattle.lrc_tool.specs.Texts.{reply_line, script_line, script_text, output_text}
+use Rattle.lrc_book.specs.Histories.{IsLegal}
+use Rattle.lrc_book.specs.Sessions.{NumberedEntry, numbered_from, is_of, entries_of, commands_of}
+use Rattle.lrc_tool.specs.Texts.{reply_line, script_line, script_text}
 use Rattle.lrc_tool.specs.Outputs.{IsPlayed}
 
 -- the entry is of session 1

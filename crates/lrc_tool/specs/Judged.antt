@@ -1,6 +1,6 @@
 -- Internal: no public clause reaches these definitions.
 -- What the checks of a bundle tell: a refusal, or nodes and the commands of its scripts.
-use Rattle.std.specs.Prelude.{◌≡◌, ℕ, ◌≤◌, List, [], ◌∷◌, length, map, sum_by, string_bytes, Option, Some, None, Vec}
+use Rattle.std.specs.Prelude.{◌≡◌, ℕ, ◌≤◌, List, [], ◌∷◌, length, map, sum_by, string_bytes, Option, None, Vec}
 use Rattle.std.specs.List.{AllZip}
 use Rattle.lrc_topology.specs.declared.NodeInfo.{NodeInfo}
 use Rattle.lrc_topology.specs.Documents.{IsTopologyOf}

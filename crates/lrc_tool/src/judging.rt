@@ -56,10 +56,7 @@ pub(crate) fn judge(alloc: Global, bundle: &[u8]) -> Result<Judged, RunFault>
 }
 
 /// The commands of each script, where no line of any is bad.
-fn parse_scripts(
-    alloc: Global,
-    scripts: &[ScriptText],
-) -> Result<Vec<Vec<Command>>, ScriptError>
+fn parse_scripts(alloc: Global, scripts: &[ScriptText]) -> Result<Vec<Vec<Command>>, ScriptError>
     // The scripts stand within their bundle.
     requires { All (λ s. s.first_line + length s.text.now ≤ BUNDLE_LIMIT) scripts.now }
     ensures parsed { IfOk result (λ v. AreParsed scripts.now (lists_of v.items)) }

@@ -9,10 +9,20 @@ ghost use Rattle.lrc_tool.specs.declared.status.Status.TheVariants.{Done};
 ghost use Rattle.lrc_tool.specs.Outputs.{IsOutput};
 ghost use Rattle.lrc_tool.specs.Checks.{command_count, IsCheck};
 
+/// Each bundle has an output of a run.
+pub fn some_output()
+    ensures { (bundle : List ℕ) → (text : List ℕ) × (status : Status) × IsOutput bundle text status }
+{}
+
 /// The output of a run is a function of its bundle: no other text and no other status fit it.
 pub fn one_output()
     ensures { (bundle text other : List ℕ) (status another : Status)
         → IsOutput bundle text status → IsOutput bundle other another → (text ≡ other) × (status ≡ another) }
+{}
+
+/// Each bundle has a line of a check.
+pub fn some_check()
+    ensures { (bundle : List ℕ) → (text : List ℕ) × (status : Status) × IsCheck bundle text status }
 {}
 
 /// The line of a check is a function of its bundle too.

@@ -27,11 +27,7 @@ pub(crate) fn play(
 }
 
 /// Makes the commands of the only script, all by session 1.
-fn play_alone(
-    alloc: Global,
-    topology: Topology,
-    commands: &[Command],
-) -> Result<String, RunFault>
+fn play_alone(alloc: Global, topology: Topology, commands: &[Command]) -> Result<String, RunFault>
     // The history has room for them.
     requires { length commands.now ≤ HISTORY_LIMIT }
     ensures played { IfOk result (λ text. IsPlayed topology (commands.now ∷ []) (string_bytes text)) }

@@ -1,6 +1,5 @@
-use Rattle.std.proofs.Common.{List, ℕ, sym, subst, string_bytes, ◌∙◌}
+use Rattle.std.proofs.Common.{List, ℕ, subst, string_bytes}
 use Rattle.lrc_topology.specs.Documents.{IsTopologyOf}
-use Rattle.lrc_script.specs.Bundles.{scripts_of}
 use Rattle.lrc_tool.proofs.JudgedLemmas.{judged_good, judged_bad}
 use Rattle.lrc_tool.proofs.judging.judge.Goals as goal
 

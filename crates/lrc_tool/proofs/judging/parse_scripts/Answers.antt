@@ -1,7 +1,5 @@
-use Rattle.std.proofs.Common.{arith}
 use Rattle.std.proofs.lemmas.List.{map-append}
 use Rattle.std.proofs.lemmas.Result.{err_from_is_err_and}
-use Rattle.lrc_tool.specs.Judged.{lists_of, AreParsed}
 use Rattle.lrc_tool.proofs.JudgedLemmas.{parsed_more, first_bad_found}
 use Rattle.lrc_tool.proofs.judging.parse_scripts.Goals as goal
 
