@@ -12,6 +12,7 @@ pub record World : Type 0 where
   pub past : List Entry
   pub state : State
 
+-- no entries, and the opening state
 abbrev pub first_world : World
 first_world = record { past = []; state = opening }
 
@@ -23,16 +24,19 @@ outcome_in nodes w session command = step nodes w.past w.state session command
 abbrev pub next_world : List NodeInfo → World → Entry → World
 next_world nodes w e = record { past = w.past ++ e ∷ []; state = (outcome_in nodes w e.session e.command).1 }
 
+-- the world after these entries
 abbrev pub world_after : List NodeInfo → List Entry → World
 world_after nodes history = fold (next_world nodes) first_world history
 
+-- the state after these entries
 abbrev pub state_after : List NodeInfo → List Entry → State
 state_after nodes history = (world_after nodes history).state
 
--- each reply is the step's
+-- each reply is the step's, from this world on
 abbrev pub IsLegalFrom : List NodeInfo → World → List Entry → Type 0
 IsLegalFrom nodes w [] = Unit {0}
 IsLegalFrom nodes w (e ∷ es) = ((outcome_in nodes w e.session e.command).0 ≡ e.reply) × IsLegalFrom nodes (next_world nodes w e) es
 
+-- each reply is the step's, from the opening state on
 abbrev pub IsLegal : List NodeInfo → List Entry → Type 0
 IsLegal nodes history = IsLegalFrom nodes first_world history

@@ -42,6 +42,7 @@ chosen nodes st s f = option_and_then (free_seat (taken_seats st)) (chosen_node 
 
 -- ---- placing a stripe
 
+-- the fragment of the stripe has its home on the seat
 abbrev pub with_home : State → StripeNo → Fragment → Seat → State
 with_home st s f seat = record st { homes = st.homes ++ record { stripe = s; fragment = f; seat = seat } ∷ [] }
 

@@ -27,11 +27,13 @@ pub record State : Type 0 where
   pub gone : List NodeNo
   pub down : List NodeNo
 
+-- an empty store, whose nodes are all active and not down
 abbrev pub opening : State
 opening = record { stripes = []; homes = []; gone = []; down = [] }
 
 -- ---- stripes and seats
 
+-- the stripe is there
 abbrev pub has_stripe : State → StripeNo → Bool
 has_stripe st s = list_any (same_stripe s) st.stripes
 
@@ -43,31 +45,39 @@ code_of st s = Wide
 abbrev pub seats_of : State → List Held
 seats_of st = st.homes
 
+-- the slots that are held
 abbrev pub taken_seats : State → List Seat
 taken_seats st = map (λ h. h.seat) (seats_of st)
 
+-- how many seats are on a node
 abbrev pub load : State → NodeNo → ℕ
 load st n = load_of (taken_seats st) n
 
 -- ---- nodes
 
+-- the node is one of these
 abbrev pub has_number : List NodeNo → NodeNo → Bool
 has_number numbers n = list_any (same_node n) numbers
 
+-- these nodes without one
 abbrev pub without_number : List NodeNo → NodeNo → List NodeNo
 without_number numbers n = filter (λ m. not (same_node n m)) numbers
 
+-- a node is active, unless it is gone
 abbrev pub mode_of : State → NodeNo → Mode
 mode_of st n = if has_number st.gone n then Gone else Active
 
+-- the mode is Active
 abbrev pub is_active : Mode → Bool
 is_active Active = true
 is_active Gone = false
 
+-- the mode is Gone
 abbrev pub is_gone : Mode → Bool
 is_gone Active = false
 is_gone Gone = true
 
+-- the node was taken down, and did not come up since
 abbrev pub is_down : State → NodeNo → Bool
 is_down st n = has_number st.down n
 
@@ -93,6 +103,7 @@ online_at nodes st n = option_map_or (is_online st) (node_at nodes n) false
 abbrev pub missing : List NodeInfo → State → StripeNo → FragmentSet
 missing nodes st s = missing_in (code_of st s) (online_at nodes st) (homes_of st.homes s)
 
+-- the rank of a stripe, by its missing fragments
 abbrev pub rank : List NodeInfo → State → StripeNo → ℕ
 rank nodes st s = rank_by (code_of st s) (missing nodes st s)
 

@@ -25,6 +25,7 @@ use Rattle.lrc_book.specs.Placement.{placed}
 abbrev pub Outcome : Type 0
 Outcome = Reply × State
 
+-- the refusal, and the state as it was
 abbrev pub refused : Refusal → State → Outcome
 refused r st = (Refused r, st)
 
@@ -47,9 +48,11 @@ abbrev pub place_answer : State → StripeNo → Result State Fragment → Outco
 place_answer st s (Ok done) = (placed_reply (code_of done s) (map (λ h. h.seat) (drop (length st.homes) done.homes)), done)
 place_answer st s (Err f) = refused (refusal.NoLawfulNode f) st
 
+-- Place: refused where the stripe is there, or for the first fragment that finds no seat
 unfoldable pub place_outcome : List NodeInfo → State → Code → StripeNo → Outcome
 place_outcome nodes st code s = refuse_if (has_stripe st s) refusal.StripeExists st (place_answer st s (placed nodes (with_stripe st code s) s))
 
+-- this is another stripe
 abbrev pub is_other : StripeNo → StripeNo → Bool
 is_other s t = not (same_stripe s t)
 
@@ -57,18 +60,20 @@ is_other s t = not (same_stripe s t)
 abbrev pub without_stripe : State → StripeNo → State
 without_stripe st s = record st { stripes = filter (is_other s) st.stripes; homes = filter (λ h. is_other s h.stripe) st.homes }
 
+-- Drop: refused where there is no such stripe
 unfoldable pub drop_outcome : State → StripeNo → Outcome
 drop_outcome st s = refuse_if (not (has_stripe st s)) refusal.UnknownStripe st (Dropped, without_stripe st s)
 
 -- ---- nodes
 
--- the change of a node that is known and whose mode is not wrong for it
+-- a command on a node: refused where the store has no such node, or the command is wrong for its mode; else the node is changed
 abbrev pub node_outcome : List NodeInfo → State → NodeNo → Bool → State → Outcome
 node_outcome nodes st n wrong changed =
     refuse_if (is_none (node_at nodes n)) refusal.UnknownNode st
     (refuse_if wrong refusal.WrongMode st
     (Changed, changed))
 
+-- the seat is on the node
 abbrev pub stands_on : NodeNo → Held → Bool
 stands_on n h = same_node n h.seat.node
 
@@ -80,24 +85,31 @@ emptied st n = record st { homes = filter (λ h. not (stands_on n h)) st.homes }
 abbrev pub with_gone : State → NodeNo → State
 with_gone st n = record st { gone = st.gone ++ n ∷ []; down = without_number st.down n }
 
+-- the node is down
 abbrev pub with_down : State → NodeNo → State
 with_down st n = record st { down = st.down ++ n ∷ [] }
 
+-- the node is not down
 abbrev pub without_down : State → NodeNo → State
 without_down st n = record st { down = without_number st.down n }
 
+-- the node is in the store again
 abbrev pub without_gone : State → NodeNo → State
 without_gone st n = record st { gone = without_number st.gone n }
 
+-- Fail: wrong for a node that is gone
 unfoldable pub fail_outcome : List NodeInfo → State → NodeNo → Outcome
 fail_outcome nodes st n = node_outcome nodes st n (is_gone (mode_of st n)) (with_gone (emptied st n) n)
 
+-- Down: wrong for a node that is gone, or down already
 unfoldable pub down_outcome : List NodeInfo → State → NodeNo → Outcome
 down_outcome nodes st n = node_outcome nodes st n (is_gone (mode_of st n) || is_down st n) (with_down st n)
 
+-- Up: wrong for a node that is not down
 unfoldable pub up_outcome : List NodeInfo → State → NodeNo → Outcome
 up_outcome nodes st n = node_outcome nodes st n (not (is_down st n)) (without_down st n)
 
+-- Join: wrong for a node that is not gone
 unfoldable pub join_outcome : List NodeInfo → State → NodeNo → Outcome
 join_outcome nodes st n = node_outcome nodes st n (not (is_gone (mode_of st n))) (without_gone st n)
 
