@@ -14,8 +14,9 @@ use Rattle.lrc_slots.specs.Next.{may_take, is_chosen_before, next_node, MayTake,
 use Rattle.lrc_topology.proofs.SeatLemmas.{lighter-order, lighter-total, lighter-once}
 use Rattle.lrc_slots.proofs.CountLemmas.{first_slot-found, first_slot-none, first_slot-is, first_slot-all}
 use Rattle.lrc_slots.proofs.LeastLemmas.{all-passes, all-filtered, filter-none}
+use Rattle.lrc_code.proofs.NumbersLemmas.{equal_nodes}
 use Rattle.lrc_code.proofs.OrderLemmas.{all_kept, each_listed, least-all, least-none, least-first}
-use Rattle.lrc_slots.proofs.NodeLemmas.{all_found, same_node}
+use Rattle.lrc_slots.proofs.NodeLemmas.{all_found}
 
 -- ---- the least free slot
 
@@ -86,7 +87,7 @@ next_node-IsNext t b n e =
       allowed = may_take-MayTake t b n (least-all (is_chosen_before t) (λ x. test x ≡ true) n (filter test t.nodes) (all-passes test t.nodes) e);
       first = λ m listed h differ.
           let later = at-each (λ y. test y ≡ true → is_chosen_before t y n ≡ false) t.nodes m (all-filtered test _ t.nodes (least-first (is_chosen_before t) (chosen-order t) n (filter test t.nodes) e)) listed (MayTake-may_take t b m h) in
-          lighter-total (taken_count t n) n.number (taken_count t m) m.number later (λ same. differ (same_node m.number n.number (sym same)));
+          lighter-total (taken_count t n) n.number (taken_count t m) m.number later (λ same. differ (equal_nodes m.number n.number (sym same)));
     }
 
 pub next_node-some : (t : Slots) (b : Barred) (n : NodeInfo) → AreNodes t.nodes → (next_node t b ≡ Some n) ↔ IsNext t b n
@@ -100,7 +101,7 @@ next_node-some t b n known = (next_node-IsNext t b n, λ h. next_from t b n know
         | inl same ↦
             let at_m : node_at t.nodes m.number ≡ Some m = at-each _ t.nodes m found other.listed in
             let at_n : node_at t.nodes n.number ≡ Some n = at-each _ t.nodes n found h.listed in
-            e ∙ (sym at_m ∙ (ap (node_at t.nodes) (same_node m.number n.number same) ∙ at_n))
+            e ∙ (sym at_m ∙ (ap (node_at t.nodes) (equal_nodes m.number n.number same) ∙ at_n))
         | inr differ ↦ absurd (lighter-once (taken_count t n) n.number (taken_count t m) m.number
             (h.first m other.listed other.allowed (λ e. differ (ap (λ (x : NodeNo). x.value) e)))
             (other.first n h.listed h.allowed (λ e. differ (sym (ap (λ (x : NodeNo). x.value) e)))))

@@ -15,7 +15,7 @@ use Rattle.lrc_topology.specs.Seats.{first_slot}
 use Rattle.lrc_slots.specs.Slots.{Slots, all_free, least_free, least_free_at, taken_count, load_at, with_taken, with_free, with_eligible}
 use Rattle.lrc_slots.specs.Tables.{Row, Table, is_of, row_at, is_marked, slots_of}
 use Rattle.lrc_slots.specs.Rows.{place_of, fresh_row, alone}
-use Rattle.lrc_slots.proofs.NodeLemmas.{same_node}
+use Rattle.lrc_code.proofs.NumbersLemmas.{equal_nodes}
 use Rattle.lrc_slots.proofs.MarkLemmas.{get_or-set_true, or-false, and-true, get_or-set_false, get_or-replicate_same}
 
 same_slots : (t u : Slots) → t.nodes ≡ u.nodes → t.eligible ≡ u.eligible → t.taken ≡ u.taken → t ≡ u
@@ -61,7 +61,7 @@ row-number [] n r found = absurd (cc)
 row-number (x ∷ xs) n r found = elim (cases_Bool (is_of n x)) [
   | inl hit ↦
       let same : x ≡ r = same_Some _ _ (rw hit at found) in
-      same_node n r.node.number (rw (← same) (eqb-true _ _ hit))
+      equal_nodes n r.node.number (rw (← same) (eqb-true _ _ hit))
   | inr miss ↦ row-number xs n r (rw miss at found)
 ]
 
@@ -84,7 +84,7 @@ module _ (rows : Table) (n : NodeNo) (r : Row) (i : ℕ) (found : row_at rows n 
       let number : y.node.number.value ≡ n.value = ap (λ (x : NodeInfo). x.number.value) stays ∙ ap (λ (m : NodeNo). m.value) (sym (row-number rows n r found)) in
       let at_i = row-place_of rows n i place in
       elim (cases_eq n.value m.value) [
-        | inl e ↦ rw (eq-eqb _ _ e, ← same_node n m e) (find-set (is_of n) rows i y at_i.0 at_i.1 (eq-eqb _ _ (sym number)))
+        | inl e ↦ rw (eq-eqb _ _ e, ← equal_nodes n m e) (find-set (is_of n) rows i y at_i.0 at_i.1 (eq-eqb _ _ (sym number)))
         | inr other ↦
             rw (ne_eqb _ _ other)
             (find_past (is_of m) rows i y r (rw (row-here r) (ne_eqb _ _ (λ e. other (sym (e ∙ ap (λ (x : NodeNo). x.value) (sym (row-number rows n r found))))))) (ne_eqb _ _ (λ e. other (sym (e ∙ number)))))
@@ -96,14 +96,14 @@ module _ (rows : Table) (n : NodeNo) (r : Row) (i : ℕ) (found : row_at rows n 
   eligible-same : (y : Row) → y.node ≡ r.node → y.eligible ≡ r.eligible → (slots_of (set rows i y)).eligible ≡ (slots_of rows).eligible
   unfolding slots_of
   eligible-same y stays same = fun_ext (λ m. rw (row_at-set y stays m) (elim (cases_eq n.value m.value) [
-    | inl e ↦ rw (eq-eqb _ _ e, ← same_node n m e, found) same
+    | inl e ↦ rw (eq-eqb _ _ e, ← equal_nodes n m e, found) same
     | inr other ↦ rw (ne_eqb _ _ other) refl
   ]))
 
   taken-same : (y : Row) → y.node ≡ r.node → y.taken ≡ r.taken → (slots_of (set rows i y)).taken ≡ (slots_of rows).taken
   unfolding slots_of
   taken-same y stays same = fun_ext (λ m. fun_ext (λ k. rw (row_at-set y stays m) (elim (cases_eq n.value m.value) [
-    | inl e ↦ rw (eq-eqb _ _ e, ← same_node n m e, found) (ap (λ xs. get_or xs k false) same)
+    | inl e ↦ rw (eq-eqb _ _ e, ← equal_nodes n m e, found) (ap (λ xs. get_or xs k false) same)
     | inr other ↦ rw (ne_eqb _ _ other) refl
   ])))
 
@@ -113,7 +113,7 @@ module _ (rows : Table) (n : NodeNo) (r : Row) (i : ℕ) (found : row_at rows n 
   slots_of-taken slot within =
       let y : Row = record r { taken = set r.taken slot true } in
       same_slots _ _ (nodes-set y refl) (eligible-same y refl refl) (fun_ext (λ m. fun_ext (λ k. rw (row_at-set y refl m) (elim (cases_eq n.value m.value) [
-        | inl e ↦ rw (eq-eqb _ _ e, ← same_node n m e, found) (get_or-set_true r.taken slot k within)
+        | inl e ↦ rw (eq-eqb _ _ e, ← equal_nodes n m e, found) (get_or-set_true r.taken slot k within)
         | inr other ↦ rw (ne_eqb _ _ other) (sym (or-false _))
       ]))))
 
@@ -123,7 +123,7 @@ module _ (rows : Table) (n : NodeNo) (r : Row) (i : ℕ) (found : row_at rows n 
   slots_of-free slot within =
       let y : Row = record r { taken = set r.taken slot false } in
       same_slots _ _ (nodes-set y refl) (eligible-same y refl refl) (fun_ext (λ m. fun_ext (λ k. rw (row_at-set y refl m) (elim (cases_eq n.value m.value) [
-        | inl e ↦ rw (eq-eqb _ _ e, ← same_node n m e, found) (get_or-set_false r.taken slot k within)
+        | inl e ↦ rw (eq-eqb _ _ e, ← equal_nodes n m e, found) (get_or-set_false r.taken slot k within)
         | inr other ↦ rw (ne_eqb _ _ other) (sym (and-true _))
       ]))))
 

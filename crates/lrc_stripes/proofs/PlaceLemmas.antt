@@ -1,8 +1,7 @@
 -- The places that the rows list for a node are all its homes, in rising order.
-use Rattle.std.proofs.Common.{◌≡◌, ℕ, zero, suc, ◌+◌, ◌-◌, ◌<◌, ◌⊎◌, inl, inr, Bool, true, false, nat_eq, ltb, List, [], ◌∷◌, ◌++◌, length, map, filter, IsTrue, arith, refl, ap, subst}
+use Rattle.std.proofs.Common.{◌≡◌, ℕ, zero, suc, ◌+◌, ◌-◌, ◌<◌, ◌⊎◌, inl, inr, Bool, true, false, nat_eq, ltb, List, [], ◌∷◌, ◌++◌, length, map, filter, IsTrue, arith, refl, subst}
 use Rattle.std.specs.List.{All, AllPairs, Contains, flat_map}
 use Rattle.std.specs.Option.{option_map_or}
-use Rattle.std.specs.Coded.{le_prop}
 use Rattle.std.proofs.lemmas.Bool.{cases_Bool, cases_lt, eq-eqb, ne_eqb, eqb-true, lt-ltb, or_left, or_right, and_from}
 use Rattle.std.proofs.lemmas.List.{get_or-map, get_or_append_left, get_or-append_right, length-map, length-append}
 use Rattle.std.proofs.lemmas.List.Elements.{All-nil, All-append, All-map, All-weaker, All-contains, filter_passes, Contains-append_left, Contains-append_right, Contains-append_cases, Contains-get_or}
@@ -12,7 +11,7 @@ use Rattle.lrc_code.specs.declared.numbers.StripeNo.{StripeNo}
 use Rattle.lrc_code.specs.declared.numbers.NodeNo.{NodeNo}
 use Rattle.lrc_code.specs.declared.numbers.Fragment.{Fragment}
 use Rattle.lrc_code.specs.Codes.{fragments}
-use Rattle.lrc_code.proofs.NumbersLemmas.{equal_fragments}
+use Rattle.lrc_code.proofs.NumbersLemmas.{equal_fragments, equal_stripes}
 use Rattle.lrc_stripes.specs.declared.row.Row.{Row}
 use Rattle.lrc_stripes.specs.Stored.{StripeFragment, comes_before, AreHomesOn}
 use Rattle.lrc_stripes.specs.Tables.{Table, stored_in, row_at, row_homes}
@@ -67,16 +66,7 @@ Contains-map f (y ∷ ys) x among = elim (Contains-cons_cases y x ys among) [
   | inr later ↦ Contains-later (f y) (f x) (map f ys) (Contains-map f ys x later)
 ]
 
--- ---- numbers
-
-one_bound : (n : ℕ) → IsProp (n < 4096)
-one_bound n = le_prop
-
--- a stripe is its number
-pub same_number : (s t : StripeNo) → s.value ≡ t.value → s ≡ t
-same_number s t e =
-    subst (λ n. (h : n < 4096) → s ≡ record { value = n; in_range = h }) e
-    (λ h. ap (λ (b : s.value < 4096). let r : StripeNo = record { value = s.value; in_range = b } in r) (one_bound s.value s.in_range h)) t.in_range
+-- ---- fragments
 
 fragments-rise : AllPairs (λ (f g : Fragment). f.value < g.value) (fragments Wide)
 fragments-rise i j d below within =
@@ -149,7 +139,7 @@ module _ (n : NodeNo) where
   on-listed [] p hit = absurd (cc)
   on-listed (r ∷ rows) p hit = elim (cases_Bool (nat_eq r.stripe.value p.0.value)) [
     | inl here ↦
-        let own : r.stripe ≡ p.0 = same_number r.stripe p.0 (eqb-true _ _ here) in
+        let own : r.stripe ≡ p.0 = equal_stripes r.stripe p.0 (eqb-true _ _ here) in
         let sits : sits_on n r p.1 ≡ true = rw here at hit in
         let found = Contains-map (λ f. let q : StripeFragment = (r.stripe, f) in q) _ p.1 (Contains-filter (sits_on n r) (fragments Wide) p.1 sits (fragments-all p.1)) in
         Contains-append_left (row_places n 0 r) (places rows) p (subst (λ (s : StripeNo). let q : StripeFragment = (s, p.1) in Contains (row_places n 0 r) q) own found)
