@@ -35,10 +35,6 @@ same_class-eq G A = refl
 same_class-eq G B = refl
 same_class-eq G G = refl
 
--- two fragments whose classes are compared
-pub shared-classes : (f g : Fragment) (c d : Class) → Some c ≡ class_of Wide f.value → Some d ≡ class_of Wide g.value → sameb the_type c d ≡ share_class Wide f g
-shared-classes f g c d is_class also_class = rw (← is_class, ← also_class) (same_class-eq c d)
-
 -- what is of no global class is in a local group
 pub in_group : (f : Fragment) (c : Class) → Some c ≡ class_of Wide f.value → sameb the_type c G ≡ false → is_in_group Wide f ≡ true
 in_group f c is_class e = rw (← is_class) (let n : same_class c G ≡ false = sym (same_class-eq c G) ∙ e in rw n refl)

@@ -1,4 +1,4 @@
-use crate::{Class, FaultNo, Fragment, LossMask, NodeNo, SessionNo, StripeNo, UpgradeNo};
+use crate::{Class, Fault, FaultNo, Fragment, LossMask, NodeNo, SessionNo, StripeNo, UpgradeNo};
 use std::test::Fail;
 
 #[test]
@@ -30,6 +30,30 @@ fn sixteen_fragments_in_three_classes(rt: HostRuntime) {
     );
     let (a, b, g) = (Class::A, Class::B, Class::G);
     assert_eq!(rt; classes, [a, a, a, a, a, a, b, b, b, b, b, b, a, b, g, g]);
+}
+
+#[test]
+fn fragments_share_their_group(rt: HostRuntime) -> Result<(), Fail> {
+    let first = Fragment::new(0).ok_or("fragment 0")?;
+    for (number, shares) in [(0, true), (5, true), (6, false), (12, true), (14, false)] {
+        let other = Fragment::new(number).ok_or("a fragment")?;
+        assert_eq!(rt; first.shares_class(other), shares, "fragment {number}");
+    }
+    Ok(())
+}
+
+#[test]
+fn faults_have_their_numbers_and_texts(rt: HostRuntime) -> Result<(), Fail> {
+    let rows = [
+        (Fault::OutOfMemory, 1, "out of memory"),
+        (Fault::HistoryFull, 2, "the history is full"),
+    ];
+    for (fault, number, want) in rows {
+        let text = format!(in rt.alloc(); "{fault}")?;
+        assert_eq!(rt; fault as u8, number);
+        assert_eq!(rt; text.as_str(), want);
+    }
+    Ok(())
 }
 
 #[test]

@@ -1,4 +1,5 @@
--- What the passes of reading answer, where memory may run out. No public clause cites it.
+-- Internal: no public clause reaches these definitions.
+-- What the passes of reading answer, where memory may run out.
 use Rattle.std.specs.Prelude.{◌≡◌, Option, Some}
 use Rattle.lrc_topology.specs.declared.error.TopologyError.{TopologyError}
 use Rattle.lrc_topology.specs.declared.error.TopologyError.TheVariants.{OutOfMemory}

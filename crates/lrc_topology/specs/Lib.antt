@@ -1,6 +1,4 @@
-pub use Rattle.lrc_code.specs.Order
-pub use Rattle.lrc_code.specs.Codes
-pub use Rattle.lrc_code.specs.Losses
+pub use Rattle.lrc_code.specs.Numbers
 pub mod Nodes
 pub mod Seats
 pub mod Faults
