@@ -76,7 +76,10 @@ fn expect_written(
     if fails_at <= line.len() + 1 {
         assert_eq!(rt; result, Err(RunFault::Write));
         assert!(rt; sink.failed());
-        assert_eq!(rt; sink.inner.taken.as_slice(), &line[..fails_at - 1]);
+        assert_eq!(rt;
+            sink.inner.taken.as_slice(),
+            &line[..fails_at.saturating_sub(1)]
+        );
     } else {
         assert_eq!(rt; result, Ok(Status::Done));
         assert_eq!(rt; sink.failed(), failed);
