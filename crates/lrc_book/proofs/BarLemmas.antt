@@ -1,10 +1,10 @@
 -- The domains that are barred for a fragment, filled seat by seat.
-use Rattle.std.proofs.Common.{◌≡◌, ◌≢◌, ℕ, ◌+◌, ◌<◌, Bool, true, false, ◌||◌, List, [], ◌∷◌, ◌++◌, length, take, get_or, refl, sym, ap, ap₂, ◌∙◌}
+use Rattle.std.proofs.Common.{◌≡◌, ◌≢◌, ℕ, ◌+◌, ◌<◌, Bool, true, false, ◌||◌, ◌↔◌, inl, inr, List, [], ◌∷◌, ◌++◌, length, take, get_or, refl, sym, ap, ap₂, ◌∙◌}
 use Rattle.std.proofs.Math.Path.{fun_ext}
 use Rattle.std.specs.List.{All, Contains, list_any}
-use Rattle.std.proofs.lemmas.Bool.{eq-eqb, ne_eqb}
+use Rattle.std.proofs.lemmas.Bool.{eq-eqb, ne_eqb, cases_Bool, and_parts, false_from_ne_true}
 use Rattle.std.proofs.lemmas.List.{take_more}
-use Rattle.std.proofs.lemmas.List.Elements.{All-nil, All-cons, All-head, All-tail, All-weaker}
+use Rattle.std.proofs.lemmas.List.Elements.{All-nil, All-cons, All-head, All-tail, All-weaker, All-contains, Contains-append_right, Contains-append_cases}
 use Rattle.std.proofs.lemmas.List.Folds.{list_any-append}
 use Rattle.lrc_code.specs.declared.codes.Code.{Code}
 use Rattle.lrc_code.specs.declared.numbers.StripeNo.{StripeNo}
@@ -20,8 +20,10 @@ use Rattle.lrc_slots.specs.Barred.{Barred, no_bars}
 use Rattle.lrc_book.specs.States.{State, has_stripe, seats_of}
 use Rattle.lrc_book.specs.Changes.{held_at}
 use Rattle.lrc_book.specs.Goodness.{AreSeated}
+use Rattle.lrc_book.specs.Ties.{bars_fault, bars_upgrade, bars_in}
+use Rattle.lrc_book.specs.Stores.{with_held}
 use Rattle.lrc_book.specs.Placement.{is_beside}
-use Rattle.lrc_book.specs.Ties.{bars_fault, bars_upgrade, bars_in, with_held}
+use Rattle.lrc_book.proofs.MemberLemmas.{list_any-member, member-list_any}
 use Rattle.lrc_book.proofs.ChoiceLemmas.{same_stripe}
 use Rattle.lrc_book.proofs.SeatingLemmas.{fragments-distinct}
 use Rattle.lrc_book.proofs.SeatedLemmas.{not_there}
@@ -33,6 +35,16 @@ or_none false = refl
 
 pub same_bars : (b c : Barred) → ((d : FaultNo) → b.faults d ≡ c.faults d) → ((d : UpgradeNo) → b.upgrades d ≡ c.upgrades d) → b ≡ c
 same_bars b c e f = ap₂ (λ g h. record { faults = g; upgrades = h }) (fun_ext e) (fun_ext f)
+
+-- a test that the members of two lists pass alike
+any-members : {X : Type 0} (test : X → Bool) (xs ys : List X) → ((x : X) → Contains xs x → test x ≡ true → Contains ys x) → ((y : X) → Contains ys y → test y ≡ true → Contains xs y) → list_any test xs ≡ list_any test ys
+any-members test xs ys down up = elim (cases_Bool (list_any test ys)) [
+  | inl hit ↦ let m = member-list_any test ys hit in list_any-member test xs m.0 (up m.0 m.1 m.2) m.2 ∙ sym hit
+  | inr miss ↦ false_from_ne_true (list_any test xs) (λ hit. (
+      let m = member-list_any test xs hit in
+      let there = list_any-member test ys m.0 (down m.0 m.1 m.2) m.2 in
+      let both : true ≡ false = sym there ∙ miss in cc)) ∙ sym miss
+]
 
 -- ---- what one seat bars
 
@@ -57,13 +69,12 @@ module _ (nodes : List NodeInfo) (code : Code) (s : StripeNo) (f : Fragment) whe
   pub bars_in-more : (xs : List Held) (i : ℕ) (d : Held) → i < length xs → with_held nodes code s f (bars_in nodes code s f (take i xs)) (get_or xs i d) ≡ bars_in nodes code s f (take (i + 1) xs)
   bars_in-more xs i d within = bars_in-push (take i xs) (get_or xs i d) ∙ ap (bars_in nodes code s f) (sym (take_more xs i d within))
 
-  -- seats of other stripes may be left out
-  pub bars_in-skip : (xs ys : List Held) → All (λ h. is_beside s f h ≡ false) xs → bars_in nodes code s f (xs ++ ys) ≡ bars_in nodes code s f ys
-  bars_in-skip [] ys all = refl
-  bars_in-skip (x ∷ xs) ys all =
-      let first = All-head (λ h. is_beside s f h ≡ false) x xs all in
-      same_bars (bars_in nodes code s f (x ∷ (xs ++ ys))) (bars_in nodes code s f (xs ++ ys)) (λ d. rw first refl) (λ d. rw first refl)
-      ∙ bars_in-skip xs ys (All-tail (λ h. is_beside s f h ≡ false) x xs all)
+  -- lists with the same seats of the stripe's other fragments bar the same
+  pub bars_in-same : (xs ys : List Held) → ((h : Held) → is_beside s f h ≡ true → Contains xs h ↔ Contains ys h) → bars_in nodes code s f xs ≡ bars_in nodes code s f ys
+  bars_in-same xs ys same =
+      same_bars (bars_in nodes code s f xs) (bars_in nodes code s f ys)
+      (λ d. any-members (bars_fault nodes s f d) xs ys (λ h here hit. (same h (and_parts (is_beside s f h) _ hit).0).0 here) (λ h here hit. (same h (and_parts (is_beside s f h) _ hit).0).1 here))
+      (λ d. any-members (bars_upgrade nodes code s f d) xs ys (λ h here hit. (same h (and_parts (is_beside s f h) _ hit).0).0 here) (λ h here hit. (same h (and_parts (is_beside s f h) _ hit).0).1 here))
 
 -- ---- which seats are beside a fragment
 
@@ -72,6 +83,17 @@ pub absent-beside : (nodes : List NodeInfo) (st : State) (s : StripeNo) (f : Fra
 absent-beside nodes st s f seated e =
     All-weaker (λ h. Contains st.stripes h.stripe) (λ h. is_beside s f h ≡ false)
     (λ h there. rw (ne_eqb h.stripe.value s.value (λ same. not_there st s e h.stripe there (same_stripe h.stripe s same))) refl) (seats_of st) seated.there
+
+-- beside a fragment of a stripe that is not there, there are planned homes alone
+pub planned-alone : (nodes : List NodeInfo) (st : State) (s : StripeNo) (f : Fragment) (planned : List Held) → AreSeated nodes st → has_stripe st s ≡ false
+    → (h : Held) → is_beside s f h ≡ true → Contains planned h ↔ Contains (st.homes ++ planned) h
+planned-alone nodes st s f planned good absent h beside = (
+  λ here. Contains-append_right st.homes planned h here,
+  λ here. elim (Contains-append_cases st.homes planned h here) [
+    | inr new ↦ new
+    | inl old ↦ absurd (let none = All-contains (λ g. is_beside s f g ≡ false) st.homes h (absent-beside nodes st s f good absent) old in let both : true ≡ false = sym beside ∙ none in cc)
+  ],
+)
 
 -- seats of other fragments
 pub held_at-beside : (s : StripeNo) (f : Fragment) (fs : List Fragment) (seats : List Seat) → All (λ g. g ≢ f) fs → All (λ h. is_beside s f h ≡ true) (held_at s fs seats)

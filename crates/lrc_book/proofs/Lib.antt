@@ -15,7 +15,8 @@ pub mod PlanningLemmas
 pub mod FragmentLemmas
 pub mod StoredLemmas
 pub mod ModeLemmas
+pub mod ClearLemmas
 pub mod EmptyLemmas
+pub mod ToldLemmas
 pub mod PlacingLemmas
 pub mod ShownLemmas
-pub mod ToldLemmas

@@ -1,7 +1,7 @@
 -- The seat that a table gives is the one that the rule chooses, also beside planned homes that the table does not have.
-use Rattle.std.proofs.Common.{◌≡◌, ◌≢◌, ℕ, ◌+◌, Bool, true, false, not, cond, ◌&&◌, ◌||◌, eqb, List, [], ◌∷◌, ◌++◌, map, filter, fold, Option, Some, None, is_some, option_map, option_and_then, zero-add, append-nil, refl, sym, ap, ◌∙◌, subst, inl, inr}
+use Rattle.std.proofs.Common.{◌↔◌, ◌≡◌, ◌≢◌, ℕ, ◌+◌, Bool, true, false, not, cond, ◌&&◌, ◌||◌, eqb, List, [], ◌∷◌, ◌++◌, map, filter, fold, Option, Some, None, is_some, option_map, option_and_then, zero-add, append-nil, refl, sym, ap, ◌∙◌, subst, inl, inr}
 use Rattle.std.proofs.Math.Path.{fun_ext}
-use Rattle.std.specs.List.{All, AllPairs, list_any, count_by, range_with_len}
+use Rattle.std.specs.List.{All, AllPairs, Contains, list_any, count_by, range_with_len}
 use Rattle.std.proofs.lemmas.Bool.{cases_Bool, eqb-true, eq-eqb, and_parts, or_parts, and_right, not-true}
 use Rattle.std.proofs.lemmas.List.{map-append}
 use Rattle.std.proofs.lemmas.List.Elements.{All-nil, All-cons, All-head, All-tail, All-weaker, All-map}
@@ -19,15 +19,16 @@ use Rattle.lrc_topology.specs.Nodes.{AreNodes, node_at}
 use Rattle.lrc_topology.specs.Seats.{load_of, is_taken, first_slot, free_seat, is_preferred}
 use Rattle.lrc_slots.specs.Slots.{least_free, least_free_at}
 use Rattle.lrc_slots.specs.Next.{may_take, is_chosen_before, next_node}
-use Rattle.lrc_book.specs.States.{State, has_stripe, taken_seats, takes_seats, is_eligible}
-use Rattle.lrc_book.specs.Placement.{bars, fits, chosen, chosen_node, is_beside}
+use Rattle.lrc_book.specs.States.{State, seats_of, has_stripe, taken_seats, takes_seats, is_eligible}
+use Rattle.lrc_book.specs.Placement.{bars, fits, chosen, chosen_node}
 use Rattle.lrc_book.specs.Goodness.{AreSeated}
 use Rattle.lrc_book.specs.Ties.{table_of, bars_of, bars_in, next_seat, with_homes}
+use Rattle.lrc_book.specs.Placement.{is_beside}
 use Rattle.lrc_book.proofs.MemberLemmas.{All-members, filter-member}
 use Rattle.lrc_code.proofs.OrderLemmas.{least-listed}
 use Rattle.lrc_book.proofs.NodeLemmas.{node_at-member, seat_on}
 use Rattle.lrc_book.proofs.ChoiceLemmas.{chosen-choice, choice-slot}
-use Rattle.lrc_book.proofs.BarLemmas.{bars_in-skip, absent-beside}
+use Rattle.lrc_book.proofs.BarLemmas.{bars_in-same}
 use Rattle.lrc_book.proofs.TieLemmas.{HasSlot, standing-slots, load-seats, bars-domains, may_take-eligible}
 
 -- ---- lists
@@ -184,9 +185,9 @@ chosen-first_free nodes st s f seat known e =
     ap (least_free_at (table_of nodes st)) choice.on ∙ ap (option_and_then (least_free (table_of nodes st))) (node_at-member nodes known choice.node choice.fitting.known)
     ∙ choice-slot nodes st s f seat choice
 
--- Over the table of a state in which the stripe is not there yet, with the domains of its planned homes barred, the seat is the one that is chosen beside these.
-pub beside-chosen : (nodes : List NodeInfo) (st : State) (new : List Held) (s : StripeNo) (f : Fragment) → AreNodes nodes → AreSeated nodes st → has_stripe st s ≡ false → All (λ h. is_beside s f h ≡ true) new
-    → next_seat (table_of nodes st) (bars_in nodes Wide s f new) ≡ chosen nodes (with_homes st new) s f
-beside-chosen nodes st new s f known seated absent mine =
-    ap (next_seat (table_of nodes st)) (sym (bars_in-skip nodes Wide s f st.homes new (absent-beside nodes st s f seated absent)))
-    ∙ planned-chosen nodes st new s f mine known seated.single (standing-slots nodes st (taken_seats st) seated.standing)
+-- Over the table of a state, with the domains barred of the stripe's other fragments' seats, those of planned homes among them, the seat is the one that is chosen beside these.
+pub beside-chosen : (nodes : List NodeInfo) (st : State) (new beside : List Held) (s : StripeNo) (f : Fragment) → AreNodes nodes → AreSeated nodes st → All (λ h. is_beside s f h ≡ true) new
+    → ((h : Held) → is_beside s f h ≡ true → Contains beside h ↔ Contains (seats_of (with_homes st new)) h) → next_seat (table_of nodes st) (bars_in nodes Wide s f beside) ≡ chosen nodes (with_homes st new) s f
+beside-chosen nodes st new beside s f known good mine same =
+    ap (next_seat (table_of nodes st)) (bars_in-same nodes Wide s f beside (seats_of (with_homes st new)) same)
+    ∙ planned-chosen nodes st new s f mine known good.single (standing-slots nodes st (taken_seats st) good.standing)

@@ -1,6 +1,6 @@
 -- The seats of a stripe planned one after the other.
-use Rattle.std.proofs.Common.{◌≡◌, ℕ, ◌+◌, ◌<◌, true, List, [], length, get_or, set, take, drop, fold, Option, Some, None, Result, Ok, Err, arith, refl, subst, sym, ap, ◌∙◌, append_assoc, append-nil, length-take}
-use Rattle.std.specs.List.{All}
+use Rattle.std.proofs.Common.{◌≡◌, ◌↔◌, false, ℕ, ◌+◌, ◌<◌, true, List, [], length, get_or, set, take, drop, fold, Option, Some, None, Result, Ok, Err, arith, refl, subst, sym, ap, ◌∙◌, append_assoc, append-nil, length-take}
+use Rattle.std.specs.List.{All, Contains}
 use Rattle.std.proofs.lemmas.List.{drop_more, take_more, take_more_set}
 use Rattle.std.specs.Option.{option_map_or}
 use Rattle.std.proofs.lemmas.List.Folds.{fold_stays}
@@ -11,12 +11,15 @@ use Rattle.lrc_code.specs.Codes.{fragments}
 use Rattle.lrc_topology.specs.declared.NodeInfo.{NodeInfo}
 use Rattle.lrc_topology.specs.declared.seat.Seat.{Seat}
 use Rattle.lrc_topology.specs.declared.seat.Held.{Held}
-use Rattle.lrc_book.specs.States.{State}
-use Rattle.lrc_book.specs.Placement.{chosen, with_home, place_next, placed, is_beside}
+use Rattle.lrc_book.specs.States.{State, has_stripe, seats_of}
+use Rattle.lrc_book.specs.Placement.{chosen, with_home, place_next, placed}
 use Rattle.lrc_book.specs.Changes.{held_at}
 use Rattle.lrc_book.specs.Ties.{with_homes}
+use Rattle.lrc_book.specs.Placement.{is_beside}
+use Rattle.lrc_book.specs.declared.store.Store.{Store}
+use Rattle.lrc_book.specs.Stores.{IsOf}
 use Rattle.lrc_book.proofs.ListLemmas.{held_at-push}
-use Rattle.lrc_book.proofs.BarLemmas.{held_at-beside, earlier-fragments}
+use Rattle.lrc_book.proofs.BarLemmas.{planned-alone, held_at-beside, earlier-fragments}
 
 -- what the placement goes on with, by what was chosen
 abbrev turn : StripeNo → State → Fragment → Option Seat → Result State Fragment
@@ -66,3 +69,14 @@ pub planned-beside : (s : StripeNo) (planned : List Held) (seats : List Seat) (i
 planned-beside s planned seats i d within planned_is =
     subst (All (λ h. is_beside s (get_or (fragments Wide) i d) h ≡ true)) (sym planned_is)
     (held_at-beside s (get_or (fragments Wide) i d) (take i (fragments Wide)) (take i seats) (earlier-fragments Wide i d within))
+
+-- the seat that is found for the next fragment is the one that is chosen beside those that are planned
+pub planned-chosen : (k : Store) (s : StripeNo) (planned : List Held) (seats : List Seat) (fs : List Fragment) (i : ℕ) (d : Fragment) (o : Option Seat) → fs ≡ fragments Wide → i < length fs → take i planned ≡ held_at s (take i fs) (take i seats)
+    → ((st : State) (new : List Held) → IsOf st k → All (λ h. is_beside s (get_or fs i d) h ≡ true) new
+    → ((h : Held) → is_beside s (get_or fs i d) h ≡ true → Contains (take i planned) h ↔ Contains (seats_of (with_homes st new)) h) → o ≡ chosen k.topology (with_homes st new) s (get_or fs i d))
+    → (st : State) → IsOf st k → has_stripe st s ≡ false → o ≡ chosen k.topology (with_homes st (take i planned)) s (get_or fs i d)
+planned-chosen k s planned seats fs i d o all within so_far found st kept absent =
+    found st (take i planned) kept
+    (subst (λ (gs : List Fragment). All (λ h. is_beside s (get_or gs i d) h ≡ true) (take i planned)) (sym all)
+    (planned-beside s planned seats i d (subst (λ (gs : List Fragment). i < length gs) all within) (so_far ∙ ap (λ (gs : List Fragment). held_at s (take i gs) (take i seats)) all)))
+    (planned-alone k.topology st s (get_or fs i d) (take i planned) kept.seated absent)

@@ -23,7 +23,8 @@ use Rattle.lrc_book.specs.States.{State, opening, has_stripe, code_of, taken_sea
 use Rattle.lrc_book.specs.Placement.{with_home}
 use Rattle.lrc_book.specs.Steps.{with_stripe, is_other, without_stripe}
 use Rattle.lrc_book.specs.Goodness.{AreSeated}
-use Rattle.lrc_book.specs.Ties.{stored_of}
+use Rattle.lrc_book.specs.Stores.{stored_of}
+use Rattle.lrc_book.specs.Changes.{is_of, without_home}
 use Rattle.lrc_book.proofs.MemberLemmas.{find-member, list_any-member}
 use Rattle.lrc_book.proofs.TableLemmas.{map-member}
 
@@ -95,8 +96,6 @@ abbrev seat_in : Option Held → Option Seat
 seat_in o = option_map (λ h. h.seat) o
 
 -- a fragment's look-up finds a home of it
-abbrev pub is_of : StripeNo → ℕ → Held → Bool
-is_of s f h = nat_eq h.stripe.value s.value && nat_eq h.fragment.value f
 
 pub found-home : (st : State) (s : StripeNo) (f : ℕ) (h : Held) → home_of st.homes s f ≡ Some h → Contains st.homes h × (is_of s f h ≡ true)
 found-home st s f h e = let m = find-member (is_of s f) st.homes h e in (m.0, m.1)
@@ -167,14 +166,10 @@ module _ (nodes : List NodeInfo) (st : State) (spare : ℕ) (s : StripeNo) where
           rw (old, hit) refl
       go r g false miss = rw miss (or_held (home_of st.homes r g))
 
-  -- the homes without the one of this fragment
-  abbrev pub cleared : Fragment → State
-  cleared f = record st { homes = filter (λ h. not (is_of s f.value h)) st.homes }
-
   -- a fragment's home taken away
-  pub stored-clear : (f : Fragment) → stored.with_home (stored_of nodes st spare) s f None ≡ stored_of nodes (cleared f) spare
+  pub stored-clear : (f : Fragment) → stored.with_home (stored_of nodes st spare) s f None ≡ stored_of nodes (without_home st s f) spare
   stored-clear f =
-      same_homes (stored_of nodes st spare) _ (λ r. homes_of (cleared f).homes r) (λ r g. elim (cases_Bool (eqb s.value r.value && eqb f.value g)) [
+      same_homes (stored_of nodes st spare) _ (λ r. homes_of (without_home st s f).homes r) (λ r g. elim (cases_Bool (eqb s.value r.value && eqb f.value g)) [
         | inl same ↦ rw same (sym (ap seat_in (find-gone (is_of r g) (λ h. not (is_of s f.value h)) (λ h hit. at h r g hit ∙ rw same refl) st.homes)))
         | inr other ↦ rw other (sym (ap seat_in (find-kept (is_of r g) (λ h. not (is_of s f.value h)) (λ h hit. at h r g hit ∙ rw other refl) st.homes)))
       ])

@@ -1,5 +1,6 @@
 -- What a reply tells of the state that it was given in.
 use Rattle.std.proofs.Common.{◌≡◌, Bool, true, false, not, ◌||◌, List, map, drop, length, Option, Some, None, IsSome, is_none, Result, Ok, Err, refl, sym, ap, ◌∙◌, subst}
+use Rattle.std.proofs.lemmas.Bool.{or_parts}
 use Rattle.lrc_code.specs.declared.codes.Code.TheVariants.{Wide}
 use Rattle.lrc_code.specs.declared.numbers.StripeNo.{StripeNo}
 use Rattle.lrc_code.specs.declared.numbers.NodeNo.{NodeNo}
@@ -59,31 +60,23 @@ node-by st changed None wrong e = absurd (let never : Refused refusal.UnknownNod
 node-by st changed (Some n) true e = absurd (let never : Refused refusal.WrongMode ≡ Changed = e in cc)
 node-by st changed (Some n) false e = (refl, refl)
 
-not-false : (b : Bool) → not b ≡ false → b ≡ true
-not-false true e = refl
-not-false false e = absurd (let never : true ≡ false = e in cc)
-
-gone-is : (m : Mode) → is_gone m ≡ true → m ≡ Gone
-gone-is Gone e = refl
-gone-is Active e = absurd (let never : false ≡ true = e in cc)
-
 module _ (nodes : List NodeInfo) (st : State) (n : NodeNo) where
   -- a node failed: it is known
   pub fail-told : (fail_outcome nodes st n).0 ≡ Changed → IsSome (node_at nodes n)
   unfolding fail_outcome
   fail-told e = (node-by st _ (node_at nodes n) (is_gone (mode_of st n)) e).0
 
-  -- one went down: it is known
-  pub down-told : (down_outcome nodes st n).0 ≡ Changed → IsSome (node_at nodes n)
+  -- one went down: it is known, and is not gone
+  pub down-told : (down_outcome nodes st n).0 ≡ Changed → IsSome (node_at nodes n) × (is_gone (mode_of st n) ≡ false)
   unfolding down_outcome
-  down-told e = (node-by st _ (node_at nodes n) (is_gone (mode_of st n) || is_down st n) e).0
+  down-told e = let h = node-by st _ (node_at nodes n) (is_gone (mode_of st n) || is_down st n) e in (h.0, (or_parts (is_gone (mode_of st n)) (is_down st n) h.1).0)
 
-  -- one came up: it is known, and was down
-  pub up-told : (up_outcome nodes st n).0 ≡ Changed → IsSome (node_at nodes n) × (is_down st n ≡ true)
+  -- one came up: it is known
+  pub up-told : (up_outcome nodes st n).0 ≡ Changed → IsSome (node_at nodes n)
   unfolding up_outcome
-  up-told e = let h = node-by st _ (node_at nodes n) (not (is_down st n)) e in (h.0, not-false (is_down st n) h.1)
+  up-told e = (node-by st _ (node_at nodes n) (not (is_down st n)) e).0
 
-  -- one joined: it is known, and was gone
-  pub join-told : (join_outcome nodes st n).0 ≡ Changed → IsSome (node_at nodes n) × (mode_of st n ≡ Gone)
+  -- one joined: it is known
+  pub join-told : (join_outcome nodes st n).0 ≡ Changed → IsSome (node_at nodes n)
   unfolding join_outcome
-  join-told e = let h = node-by st _ (node_at nodes n) (not (is_gone (mode_of st n))) e in (h.0, gone-is (mode_of st n) (not-false (is_gone (mode_of st n)) h.1))
+  join-told e = (node-by st _ (node_at nodes n) (not (is_gone (mode_of st n))) e).0

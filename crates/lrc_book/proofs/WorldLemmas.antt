@@ -1,5 +1,5 @@
 -- Worlds and legal histories, as entries are added.
-use Rattle.std.proofs.Common.{◌≡◌, ℕ, ◌<◌, List, [], ◌∷◌, ◌++◌, length, fold, sym, ap, ◌∙◌, length-append, arith}
+use Rattle.std.proofs.Common.{◌≡◌, ℕ, ◌<◌, List, [], ◌∷◌, ◌++◌, length, fold, sym, ap, subst, ◌∙◌, length-append, arith}
 use Rattle.std.proofs.lemmas.List.Sums.{fold-append}
 use Rattle.lrc_code.specs.declared.numbers.NodeNo.{NodeNo}
 use Rattle.lrc_topology.specs.declared.NodeInfo.{NodeInfo}
@@ -8,8 +8,9 @@ use Rattle.lrc_stripes.specs.Stored.{Stored}
 use Rattle.lrc_book.specs.declared.entry.Entry.{Entry}
 use Rattle.lrc_book.specs.States.{State}
 use Rattle.lrc_book.specs.Histories.{World, first_world, outcome_in, next_world, world_after, state_after, IsLegalFrom, IsLegal}
-use Rattle.lrc_book.specs.Books.{IsKept}
-use Rattle.lrc_book.specs.Ties.{table_of, stored_of}
+use Rattle.lrc_book.specs.Stores.{IsKept}
+use Rattle.lrc_book.specs.declared.store.Store.{Store}
+use Rattle.lrc_book.specs.Stores.{IsOf}
 use Rattle.lrc_book.specs.Changes.{changed_by}
 use Rattle.lrc_book.proofs.StepLemmas.{step-changed}
 
@@ -28,25 +29,22 @@ pub state_push : (nodes : List NodeInfo) (h : List Entry) (e : Entry) → (outco
 state_push nodes h e is =
     ap (λ (w : World). w.state) (world_push nodes h e) ∙ step-changed nodes (world_after nodes h).past (state_after nodes h) e.session e.command ∙ ap (changed_by (state_after nodes h) e.command) is
 
--- the parts of a book, after what a command changed of the state
-pub record AreChanged (nodes : List NodeInfo) (st : State) (table : Slots) (stripes : Stored) (gone down : List NodeNo) : Type 0 where
-  pub table_is : table ≡ table_of nodes st
-  pub stripes_is : stripes ≡ stored_of nodes st stripes.spare
-  pub gone_is : gone ≡ st.gone
-  pub down_is : down ≡ st.down
-
 -- a step that is made and recorded keeps what is kept
-pub kept_push : (nodes : List NodeInfo) (limit : ℕ) (h : List Entry) (e : Entry) (table table-new : Slots) (stripes-old stripes : Stored) (gone-old down-old gone down : List NodeNo)
-    → IsKept nodes limit h table stripes-old gone-old down-old → length h < limit → (outcome_in nodes (world_after nodes h) e.session e.command).0 ≡ e.reply
-    → AreChanged nodes (changed_by (state_after nodes h) e.command e.reply) table-new stripes gone down → IsKept nodes limit (h ++ e ∷ []) table-new stripes gone down
-kept_push nodes limit h e table table-new stripes-old stripes gone-old down-old gone down k room is now =
-    let after = sym (state_push nodes h e is) in record {
-      known = k.known;
-      table_is = now.table_is ∙ ap (table_of nodes) after;
-      stripes_is = now.stripes_is ∙ ap (λ (st : State). stored_of nodes st stripes.spare) after;
-      gone_is = now.gone_is ∙ ap (λ (st : State). st.gone) after;
-      down_is = now.down_is ∙ ap (λ (st : State). st.down) after;
-      legal = legal_push nodes h e k.legal is;
-      few = rw (length-append h (e ∷ [])) (omega (arith, room));
-      limited = k.limited;
-    }
+pub kept_push : (k next : Store) (limit : ℕ) (h : List Entry) (e : Entry) → IsKept k limit h → length h < limit → (outcome_in k.topology (world_after k.topology h) e.session e.command).0 ≡ e.reply
+    → next.topology ≡ k.topology → IsOf (changed_by (state_after k.topology h) e.command e.reply) next → IsKept next limit (h ++ e ∷ [])
+kept_push k next limit h e kept room is same now = record {
+  store_is = subst (λ ns. IsOf (state_after ns (h ++ e ∷ [])) next) (sym same) (subst (λ (st : State). IsOf st next) (sym (state_push k.topology h e is)) now);
+  legal = subst (λ ns. IsLegal ns (h ++ e ∷ [])) (sym same) (legal_push k.topology h e kept.legal is);
+  few = rw (length-append h (e ∷ [])) (omega (arith, room));
+  limited = kept.limited;
+}
+
+-- and so does more room
+pub kept_room : (k next : Store) (limit : ℕ) (h same_h : List Entry) → IsKept k limit h → same_h ≡ h → next.topology ≡ k.topology → ((st : State) → IsOf st k → IsOf st next) → IsKept next limit same_h
+kept_room k next limit h same_h kept entries same rest =
+    subst (λ (xs : List Entry). IsKept next limit xs) (sym entries) (record {
+      store_is = subst (λ ns. IsOf (state_after ns h) next) (sym same) (rest (state_after k.topology h) kept.store_is);
+      legal = subst (λ ns. IsLegal ns h) (sym same) kept.legal;
+      few = kept.few;
+      limited = kept.limited;
+    })

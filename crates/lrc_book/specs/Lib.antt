@@ -17,4 +17,5 @@ pub mod Choices
 pub mod Goodness
 pub mod Changes
 pub mod Ties
+pub mod Stores
 pub mod Books

@@ -1,5 +1,5 @@
--- The slot table and the stripes that belong to a state, and the domains that are barred for a fragment.
-use Rattle.std.specs.Prelude.{◌≡◌, ℕ, Bool, true, false, ◌&&◌, ◌||◌, nat_eq, List, ◌++◌, Option, Some, None, option_map, option_and_then}
+-- The slot table that belongs to a state, and the domains that are barred for a fragment.
+use Rattle.std.specs.Prelude.{◌≡◌, ℕ, Bool, true, false, not, ◌&&◌, ◌||◌, nat_eq, List, ◌++◌, Option, Some, None, option_map, option_and_then}
 use Rattle.std.specs.List.{list_any}
 use Rattle.std.specs.Option.{option_map_or}
 use Rattle.lrc_code.specs.declared.codes.Code.{Code}
@@ -26,29 +26,6 @@ use Rattle.lrc_book.specs.Placement.{is_beside}
 abbrev pub table_of : List NodeInfo → State → Slots
 table_of nodes st = record { nodes = nodes; eligible = λ n. option_map_or (takes_seats st) (node_at nodes n) true; taken = is_taken (taken_seats st) }
 
--- the stripes, codes, homes and online nodes of the state, with room for so many more stripes
-abbrev pub stored_of : List NodeInfo → State → ℕ → Stored
-stored_of nodes st spare =
-    record { nodes = nodes; stripes = has_stripe st; code = code_of st; homes = λ s. homes_of st.homes s; online = online_at nodes st; spare = spare }
-
--- this is the slot table of a state over these nodes, whose stripes are seated
-pub record IsTableOf (nodes : List NodeInfo) (st : State) (table : Slots) : Type 0 where
-  pub known : AreNodes nodes
-  pub seated : AreSeated nodes st
-  pub is : table ≡ table_of nodes st
-
--- the slot table and the stripes are those of a state over these nodes, whose stripes are seated
-pub record AreOf (nodes : List NodeInfo) (st : State) (table : Slots) (stripes : Stored) : Type 0 where
-  pub known : AreNodes nodes
-  pub seated : AreSeated nodes st
-  pub table_is : table ≡ table_of nodes st
-  pub stripes_is : stripes ≡ stored_of nodes st stripes.spare
-
--- the seat given back, if there is one
-abbrev pub given_back : Slots → Option Seat → Slots
-given_back t (Some seat) = with_free t seat.node seat.slot
-given_back t None = t
-
 -- ---- barred domains
 
 -- a seat of another fragment of the stripe, on a node of the fault domain
@@ -69,11 +46,6 @@ bars_in nodes code s f seats =
 -- the domains that are barred for a fragment: those of the stripe's other fragments
 abbrev pub bars_of : List NodeInfo → State → StripeNo → Fragment → Barred
 bars_of nodes st s f = bars_in nodes (code_of st s) s f (seats_of st)
-
--- what is barred, with what one more seat bars
-abbrev pub with_held : List NodeInfo → Code → StripeNo → Fragment → Barred → Held → Barred
-with_held nodes code s f b h =
-    record { faults = λ d. b.faults d || bars_fault nodes s f d h; upgrades = λ d. b.upgrades d || bars_upgrade nodes code s f d h }
 
 -- ---- what a table gives
 

@@ -2,16 +2,16 @@
 #![tactic(auto)]
 
 mod book;
-mod changes;
+mod choice;
 mod command;
+mod commands;
 mod entry;
 pub mod laws;
 mod mode;
-mod nodes;
 mod plan;
-mod planning;
-mod replies;
 mod reply;
+mod step;
+mod store;
 #[cfg(test)]
 mod tests;
 

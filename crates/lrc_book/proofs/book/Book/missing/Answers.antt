@@ -6,5 +6,5 @@ use Rattle.lrc_book.proofs.book.Book.missing.Goals as goal
 
 pub returns : goal.returns
 returns c =
-    c.missing.ensures ∙ ap (λ (x : Stored). missing_shown x c.args.stripe) c.self.invariant.stripes_is
+    c.missing.ensures ∙ ap (λ (x : Stored). missing_shown x c.args.stripe) c.self.invariant.store_is.stripes_is
     ∙ ap (λ (b : BookView). states.missing_shown b.nodes (state_of b) c.args.stripe) c.self.view_is

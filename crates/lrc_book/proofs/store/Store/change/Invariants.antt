@@ -1,0 +1,19 @@
+use Rattle.lrc_book.proofs.store.Store.change.Given as goal
+
+abbrev pub ghost-place : goal.ghost-place
+ghost-place g a = g.st
+
+abbrev pub ghost-drop_stripe : goal.ghost-drop_stripe
+ghost-drop_stripe g a = g.st
+
+abbrev pub ghost-fail : goal.ghost-fail
+ghost-fail g a = g.st
+
+abbrev pub ghost-down : goal.ghost-down
+ghost-down g a = g.st
+
+abbrev pub ghost-up : goal.ghost-up
+ghost-up g a = g.st
+
+abbrev pub ghost-join : goal.ghost-join
+ghost-join g a = g.st

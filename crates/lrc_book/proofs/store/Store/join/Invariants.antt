@@ -1,0 +1,5 @@
+use Rattle.lrc_book.specs.Steps.{without_gone}
+use Rattle.lrc_book.proofs.store.Store.join.Given as goal
+
+abbrev pub ghost-follow : goal.ghost-follow
+ghost-follow g a = without_gone g.st a.node

@@ -1,0 +1,5 @@
+use Rattle.lrc_book.specs.Steps.{without_down}
+use Rattle.lrc_book.proofs.store.Store.up.Given as goal
+
+abbrev pub ghost-follow : goal.ghost-follow
+ghost-follow g a = without_down g.st a.node

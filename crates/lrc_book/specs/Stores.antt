@@ -1,0 +1,80 @@
+-- Internal: no public clause Rattle.std.specs.Prelude.{◌≡◌, ◌≢◌, ◌+◌, ◌≤◌, ℕ, Bool, ◌&&◌, ◌||◌, nat_le, vec_len, vec_capacity, List, length, Some, IsSome}
+use Rattle.std.specs.List.{All, Contains}
+use Rattle.lrc_code.specs.declared.codes.Code.{Code}
+use Rattle.lrc_code.specs.declared.numbers.StripeNo.{StripeNo}
+use Rattle.lrc_code.specs.declared.numbers.NodeNo.{NodeNo}
+use Rattle.lrc_code.specs.declared.numbers.Fragment.{Fragment}
+use Rattle.lrc_topology.specs.declared.NodeInfo.{NodeInfo}
+use Rattle.lrc_topology.specs.declared.seat.Seat.{Seat}
+use Rattle.lrc_topology.specs.declared.seat.Held.{Held}
+use Rattle.lrc_topology.specs.Nodes.{AreNodes, node_at}
+use Rattle.lrc_slots.specs.Barred.{Barred}
+use Rattle.lrc_slots.specs.Tables.{slots_of}
+use Rattle.lrc_stripes.specs.Levels.{homes_of}
+use Rattle.lrc_stripes.specs.Stored.{Stored}
+use Rattle.lrc_stripes.specs.Tables.{stored_in}
+use Rattle.lrc_book.specs.declared.entry.Entry.{Entry}
+use Rattle.lrc_book.specs.declared.store.Store.{Store}
+use Rattle.lrc_book.specs.States.{State, has_stripe, code_of, takes_seats, is_online, online_at}
+use Rattle.lrc_book.specs.Placement.{chosen}
+use Rattle.lrc_book.specs.Histories.{state_after, IsLegal}
+use Rattle.lrc_book.specs.Goodness.{AreSeated}
+use Rattle.lrc_book.specs.Ties.{table_of, bars_fault, bars_upgrade}
+
+-- the stripes, codes, homes and online nodes of the state, with room for so many more stripes
+abbrev pub stored_of : List NodeInfo → State → ℕ → Stored
+stored_of nodes st spare =
+    record { nodes = nodes; stripes = has_stripe st; code = code_of st; homes = λ s. homes_of st.homes s; online = online_at nodes st; spare = spare }
+
+-- what is kept is that of a state over these nodes, whose stripes are seated
+pub record IsOf (st : State) (s : Store) : Type 0 where
+  pub known : AreNodes s.topology
+  pub seated : AreSeated s.topology st
+  pub table_is : slots_of s.table ≡ table_of s.topology st
+  pub stripes_is : stored_in s.stripes ≡ stored_of s.topology st (stored_in s.stripes).spare
+  pub gone_is : s.gone.items ≡ st.gone
+  pub down_is : s.down.items ≡ st.down
+
+-- the node takes seats, and is online, as it was
+pub record StaysAsItWas (was st : State) (n : NodeInfo) : Type 0 where
+  pub takes : takes_seats was n ≡ takes_seats st n
+  pub online : is_online was n ≡ is_online st n
+
+-- The same, but for the mode of one node: the slot table and the stripes are still those of the state before it changed.
+pub record IsOfBut (node : NodeNo) (was st : State) (s : Store) : Type 0 where
+  pub known : AreNodes s.topology
+  pub seated : AreSeated s.topology st
+  pub there : IsSome (node_at s.topology node)
+  pub stripes_stay : was.stripes ≡ st.stripes
+  pub homes_stay : was.homes ≡ st.homes
+  pub others_stay : (n : NodeInfo) → n.number ≢ node → StaysAsItWas was st n
+  pub table_is : slots_of s.table ≡ table_of s.topology was
+  pub stripes_is : stored_in s.stripes ≡ stored_of s.topology was (stored_in s.stripes).spare
+  pub gone_is : s.gone.items ≡ st.gone
+  pub down_is : s.down.items ≡ st.down
+
+-- this is the store of some state
+abbrev pub IsTied : Store → Type 0
+IsTied s = (st : State) × IsOf st s
+
+-- there is room for one more command of any kind
+abbrev pub has_room : Store → Bool
+has_room s = nat_le 1 (stored_in s.stripes).spare && (nat_le (vec_len s.gone + 1) (vec_capacity s.gone) && nat_le (vec_len s.down + 1) (vec_capacity s.down))
+
+-- the stripe is there, the fragment has no home, and this seat is chosen for it
+pub record IsNextHome (nodes : List NodeInfo) (st : State) (s : StripeNo) (f : Fragment) (seat : Seat) : Type 0 where
+  pub there : Contains st.stripes s
+  pub homeless : All (λ h. h.stripe ≡ s → h.fragment ≢ f) st.homes
+  pub chosen_is : chosen nodes st s f ≡ Some seat
+
+-- what is barred, with what one more seat bars
+abbrev pub with_held : List NodeInfo → Code → StripeNo → Fragment → Barred → Held → Barred
+with_held nodes code s f b h =
+    record { faults = λ d. b.faults d || bars_fault nodes s f d h; upgrades = λ d. b.upgrades d || bars_upgrade nodes code s f d h }
+
+-- what a book keeps is the store of the state after its history, which is legal and not longer than the limit
+pub record IsKept (store : Store) (limit : ℕ) (history : List Entry) : Type 0 where
+  pub store_is : IsOf (state_after store.topology history) store
+  pub legal : IsLegal store.topology history
+  pub few : length history ≤ limit
+  pub limited : limit ≤ 1000000

@@ -1,0 +1,64 @@
+//! The choice of a seat, read off the slot table and the seats of the stripe's other fragments.
+
+ghost use Rattle.std.specs.Prelude.{◌≡◌, ◌↔◌, true, List};
+ghost use Rattle.std.specs.List.{All, Contains};
+ghost use Rattle.lrc_code.specs.declared.codes.Code.TheVariants.{Wide};
+ghost use Rattle.lrc_topology.specs.declared.seat.Held.{Held};
+ghost use Rattle.lrc_slots.specs.Tables.{barred};
+ghost use Rattle.lrc_book.specs.States.{State, seats_of};
+ghost use Rattle.lrc_book.specs.Placement.{chosen, is_beside};
+ghost use Rattle.lrc_book.specs.Ties.{bars_in, with_homes};
+ghost use Rattle.lrc_book.specs.Stores.{IsOf, with_held};
+
+use crate::store::Store;
+use crate::{Held, Seat};
+use lrc_code::{Fragment, StripeNo};
+use lrc_slots::Taken;
+use lrc_topology::Topology;
+
+/// Bars the domains of a seat, if it is one of another fragment of the stripe: its fault domain, and its upgrade
+/// domain where the two fragments are of one class.
+fn bar(bars: &mut Taken, topology: &Topology, stripe: StripeNo, fragment: Fragment, held: Held)
+    ensures { barred bars.new ≡ with_held topology.now Wide stripe fragment (barred bars.old) held }
+{
+    if held.stripe != stripe || held.fragment == fragment {
+        return;
+    }
+    if let Some(node) = topology.node(held.seat.node) {
+        bars.bar_fault(node.fault);
+        if fragment.shares_class(held.fragment) {
+            bars.bar_upgrade(node.upgrade);
+        }
+    }
+}
+
+/// The domains that these seats bar for a fragment of a stripe.
+fn bars_in(topology: &Topology, seats: &[Held], stripe: StripeNo, fragment: Fragment) -> Taken
+    ensures { barred result ≡ bars_in topology.now Wide stripe fragment seats.now }
+{
+    let mut bars = Taken::new();
+    for held in seats {
+        bar(&mut bars, topology, stripe, fragment, *held);
+    }
+    bars
+}
+
+impl Store {
+    /// The seat that the rule chooses for a fragment of a stripe, beside the seats of the stripe's other fragments:
+    /// all of them, those that are taken and those that are only planned.
+    pub(crate) fn seat_for(
+        &self,
+        beside: &[Held],
+        stripe: StripeNo,
+        fragment: Fragment,
+    ) -> Option<Seat>
+        ensures { (st : State) (planned : List Held) → IsOf st self.now → All (λ h. is_beside stripe fragment h ≡ true) planned
+            → ((h : Held) → is_beside stripe fragment h ≡ true → Contains beside.now h ↔ Contains (seats_of (with_homes st planned)) h)
+            → result ≡ chosen self.now.topology (with_homes st planned) stripe fragment }
+    {
+        let bars = bars_in(&self.topology, beside, stripe, fragment);
+        let node = self.table.choose(&bars)?;
+        let slot = self.table.first_free(node)?;
+        Some(Seat { node, slot })
+    }
+}

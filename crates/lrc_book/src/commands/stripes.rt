@@ -1,0 +1,105 @@
+//! Commands on stripes.
+
+ghost use Rattle.std.specs.Prelude.{◌≡◌, true, false, Ok, Err, IfOk, IfErr, length};
+ghost use Rattle.lrc_code.specs.declared.codes.Code.TheVariants.{Wide};
+ghost use Rattle.lrc_code.specs.Codes.{fragments};
+ghost use Rattle.lrc_book.specs.declared.reply.Reply.TheVariants.{Placed, Dropped};
+ghost use Rattle.lrc_book.specs.States.{State, has_stripe};
+ghost use Rattle.lrc_book.specs.Placement.{placed};
+ghost use Rattle.lrc_book.specs.Steps.{place_outcome, drop_outcome, without_stripe};
+ghost use Rattle.lrc_book.specs.Changes.{held_at, with_placed};
+ghost use Rattle.lrc_book.specs.Ties.{with_homes};
+ghost use Rattle.lrc_book.specs.Stores.{IsOf, has_room};
+
+use crate::store::Store;
+use crate::{Held, Refusal, Reply, Seat};
+use lrc_code::{Fragment, NodeNo, StripeNo};
+
+impl Store {
+    pub(crate) fn place_reply(&self, stripe: StripeNo) -> Reply
+        ensures { (st : State) → IsOf st self.now → result ≡ (place_outcome self.now.topology st Wide stripe).0 }
+    {
+        if self.stripes.contains(stripe) {
+            return Reply::Refused(Refusal::StripeExists);
+        }
+        match self.plan_seats(stripe) {
+            Ok(seats) => Reply::Placed(seats),
+            Err(fragment) => Reply::Refused(Refusal::NoLawfulNode(fragment)),
+        }
+    }
+
+    /// The seats that the rule chooses for the fragments of a new stripe, one after the other, or the first fragment
+    /// that finds none.
+    fn plan_seats(&self, stripe: StripeNo) -> Result<[Seat; 16], Fragment>
+        ensures seats { IfOk result (λ seats. (st : State) → IsOf st self.now → has_stripe st stripe ≡ false
+            → placed self.now.topology st stripe ≡ Ok (with_homes st (held_at stripe (fragments Wide) seats))) }
+        ensures sixteen { IfOk result (λ seats. length seats ≡ 16) }
+        ensures first { IfErr result (λ f. (st : State) → IsOf st self.now → has_stripe st stripe ≡ false → placed self.now.topology st stripe ≡ Err f) }
+    {
+        let no_seat = Seat {
+            node: NodeNo { value: 0 },
+            slot: 0,
+        };
+        let no_home = Held {
+            stripe,
+            fragment: Fragment { value: 0 },
+            seat: no_seat,
+        };
+        let mut seats = [no_seat; 16];
+        let mut planned = [no_home; 16];
+        for (i, fragment) in Fragment::all().iter().enumerate() {
+            match self.seat_for(&planned[..i], stripe, *fragment) {
+                Some(seat) => {
+                    seats[i] = seat;
+                    planned[i] = Held {
+                        stripe,
+                        fragment: *fragment,
+                        seat,
+                    };
+                }
+                None => return Err(*fragment),
+            }
+        }
+        Ok(seats)
+    }
+
+    /// Adds a stripe, and gives each fragment the seat that was chosen for it.
+    pub(crate) fn place(&mut self, stripe: StripeNo, seats: &[Seat; 16])
+        ghost st: { State }
+        requires kept { IsOf st self.old }
+        requires room { has_room self.old ≡ true }
+        requires told { (place_outcome self.old.topology st Wide stripe).0 ≡ Placed seats.now }
+        ensures nodes { self.new.topology ≡ self.old.topology }
+        ensures kept { IsOf (with_placed st stripe seats.now) self.new }
+    {
+        self.stripes.add(stripe);
+        for (i, fragment) in Fragment::all().iter().enumerate() {
+            self.give_home(stripe, *fragment, seats[i]);
+        }
+    }
+
+    #[tactic(auto, unfolding(crate::specs::Steps::drop_outcome))]
+    pub(crate) fn drop_reply(&self, stripe: StripeNo) -> Reply
+        ensures { (st : State) → IsOf st self.now → result ≡ (drop_outcome st stripe).0 }
+    {
+        if self.stripes.contains(stripe) {
+            Reply::Dropped
+        } else {
+            Reply::Refused(Refusal::UnknownStripe)
+        }
+    }
+
+    /// Takes a stripe out, and gives the seats of its homes back.
+    pub(crate) fn drop_stripe(&mut self, stripe: StripeNo)
+        ghost st: { State }
+        requires kept { IsOf st self.old }
+        requires told { (drop_outcome st stripe).0 ≡ Dropped }
+        ensures nodes { self.new.topology ≡ self.old.topology }
+        ensures kept { IsOf (without_stripe st stripe) self.new }
+    {
+        for fragment in Fragment::all().iter() {
+            self.clear_home(stripe, *fragment);
+        }
+        self.stripes.remove(stripe);
+    }
+}

@@ -1,0 +1,126 @@
+//! A step of the placement object: decided over what stands, prepared by making room, and committed, which can't fail.
+
+ghost use Rattle.std.specs.Prelude.{◌≡◌, ◌<◌, ◌++◌, ◌∷◌, [], true, IfOk, IfErr, OnOk, IsOk, List, length};
+ghost use Rattle.lrc_code.specs.declared.fault.Fault.TheVariants as fault;
+ghost use Rattle.lrc_code.specs.declared.numbers.SessionNo.{SessionNo};
+ghost use Rattle.lrc_book.specs.declared.entry.Entry.{Entry};
+ghost use Rattle.lrc_book.specs.States.{State};
+ghost use Rattle.lrc_book.specs.Steps.{step};
+ghost use Rattle.lrc_book.specs.Changes.{IsAnswer, IsStep, changed_by};
+ghost use Rattle.lrc_book.specs.Books.{state_of};
+ghost use Rattle.lrc_book.specs.Stores.{IsOf, has_room};
+
+use crate::plan::Plan;
+use crate::store::Store;
+use crate::{Book, Command, Entry, Reply};
+use lrc_code::{Fault, SessionNo};
+
+impl Book {
+    /// The entry to come.
+    ///
+    /// # Errors
+    ///
+    /// Only `Fault::HistoryFull`, where the history has as many entries as its limit.
+    pub(crate) fn decide(&self, session: SessionNo, command: Command) -> Result<Plan, Fault>
+        ensures ok { IfOk result (λ p. (length self.now.history < self.now.limit) × (p.entry.session ≡ session) × (p.entry.command ≡ command) × IsStep self.now p.entry) }
+        ensures err { IfErr result (λ e. (e ≡ fault.HistoryFull) × (length self.now.history ≡ self.now.limit)) }
+    {
+        if self.history.len() == self.limit {
+            return Err(Fault::HistoryFull);
+        }
+        let reply = self.store.reply(command);
+        Ok(Plan {
+            entry: Entry {
+                session,
+                command,
+                reply,
+            },
+        })
+    }
+
+    /// Makes room for one more command of any kind, and changes nothing else.
+    ///
+    /// # Errors
+    ///
+    /// Only `Fault::OutOfMemory`, and not where there is room already.
+    pub(crate) fn prepare(&mut self) -> Result<(), Fault>
+        ensures same { (self.new.nodes ≡ self.old.nodes) × (self.new.limit ≡ self.old.limit) × (self.new.history ≡ self.old.history) }
+        ensures ok { OnOk result (self.new.ready ≡ true) }
+        ensures kept { self.old.ready ≡ true → self.new.ready ≡ true }
+        ensures enough { self.old.ready ≡ true → IsOk result }
+        ensures err { IfErr result (λ e. e ≡ fault.OutOfMemory) }
+    {
+        self.history.reserve(1)?;
+        self.store.reserve()?;
+        Ok(())
+    }
+
+    /// Makes the step. It stands beside `make` since a ghost argument sees the arguments of its own function alone:
+    /// `make` names the state, and `commit` picks it.
+    pub(crate) fn commit(&mut self, plan: Plan) -> Reply
+        requires ready { self.old.ready ≡ true }
+        requires room { length self.old.history < self.old.limit }
+        requires step { IsStep self.old plan.entry }
+        ensures reply { result ≡ plan.entry.reply }
+        ensures same { (self.new.nodes ≡ self.old.nodes) × (self.new.limit ≡ self.old.limit) }
+        ensures history { self.new.history ≡ self.old.history ++ plan.entry ∷ [] }
+    {
+        self.make(plan)
+    }
+
+    fn make(&mut self, plan: Plan) -> Reply
+        ghost st: { State }
+        requires state { state_of self.old ≡ st }
+        requires ready { self.old.ready ≡ true }
+        requires room { length self.old.history < self.old.limit }
+        requires step { IsStep self.old plan.entry }
+        ensures reply { result ≡ plan.entry.reply }
+        ensures same { (self.new.nodes ≡ self.old.nodes) × (self.new.limit ≡ self.old.limit) }
+        ensures history { self.new.history ≡ self.old.history ++ plan.entry ∷ [] }
+    {
+        let Entry {
+            session: _,
+            command,
+            reply,
+        } = plan.entry;
+        self.store.change(command, &reply);
+        self.history.push_reserved(plan.entry);
+        reply
+    }
+}
+
+impl Store {
+    /// The reply of the plain placement object.
+    fn reply(&self, command: Command) -> Reply
+        ensures { (st : State) (past : List Entry) (session : SessionNo) → IsOf st self.now → result ≡ (step self.now.topology past st session command).0 }
+    {
+        match command {
+            Command::Place(stripe) => self.place_reply(stripe),
+            Command::Drop(stripe) => self.drop_reply(stripe),
+            Command::Fail(node) => self.fail_reply(node),
+            Command::Down(node) => self.down_reply(node),
+            Command::Up(node) => self.up_reply(node),
+            Command::Join(node) => self.join_reply(node),
+        }
+    }
+
+    /// Makes the change of a command that was answered so. Room was made before, so nothing here fails.
+    fn change(&mut self, command: Command, reply: &Reply)
+        ghost st: { State }
+        requires kept { IsOf st self.old }
+        requires room { has_room self.old ≡ true }
+        requires told { IsAnswer self.old.topology st command reply.now }
+        ensures nodes { self.new.topology ≡ self.old.topology }
+        ensures kept { IsOf (changed_by st command reply.now) self.new }
+    {
+        match (command, reply) {
+            (Command::Place(stripe), Reply::Placed(seats)) => self.place(stripe, seats),
+            (Command::Drop(stripe), Reply::Dropped) => self.drop_stripe(stripe),
+            (Command::Fail(node), Reply::Changed) => self.fail(node),
+            (Command::Down(node), Reply::Changed) => self.down(node),
+            (Command::Up(node), Reply::Changed) => self.up(node),
+            (Command::Join(node), Reply::Changed) => self.join(node),
+            _ => {}
+        }
+    }
+}

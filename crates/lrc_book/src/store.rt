@@ -1,0 +1,145 @@
+ghost use Rattle.std.specs.Prelude.{◌≡◌, ◌&&◌, ◌+◌, not, true, IsTrue, IfOk, IfErr, OnOk, IsOk, if◌then◌else◌, map};
+ghost use Rattle.lrc_code.specs.declared.codes.Code.TheVariants.{Wide};
+ghost use Rattle.lrc_code.specs.declared.fault.Fault.TheVariants as fault;
+ghost use Rattle.lrc_code.specs.Codes.{fragments};
+ghost use Rattle.lrc_stripes.specs.Tables.{stored_in};
+ghost use Rattle.lrc_book.specs.declared.mode.Mode.TheVariants.{Active, Gone};
+ghost use Rattle.lrc_book.specs.States.{State, opening, has_number, has_stripe};
+ghost use Rattle.lrc_book.specs.Placement.{with_home};
+ghost use Rattle.lrc_book.specs.Changes.{without_home};
+ghost use Rattle.lrc_book.specs.Stores.{IsOf, IsOfBut, IsTied, IsNextHome, has_room};
+
+use crate::{Mode, Seat};
+use lrc_code::{Fault, Fragment, NodeNo, StripeNo};
+use lrc_slots::SlotTable;
+use lrc_stripes::Stripes;
+use lrc_topology::Topology;
+use std::alloc::Global;
+
+/// What a book keeps of its state: the taken slots, the homes of fragments, and the modes of nodes.
+#[derive(Drop)]
+pub(crate) struct Store {
+    pub(crate) topology: Topology,
+    pub(crate) table: SlotTable,
+    pub(crate) stripes: Stripes,
+    pub(crate) gone: Vec<NodeNo>,
+    pub(crate) down: Vec<NodeNo>,
+}
+
+impl Store {
+    /// No stripes, and every node active and online.
+    pub(crate) fn new(alloc: Global, topology: Topology) -> Result<Store, Fault>
+        ensures value { IfOk result (λ s. (s.topology ≡ topology) × IsOf opening s) }
+        ensures err { IfErr result (λ e. e ≡ fault.OutOfMemory) }
+    {
+        let nodes = topology.len();
+        let table = SlotTable::new(alloc, &topology)?;
+        let stripes = Stripes::new(alloc, &topology)?;
+        Ok(Store {
+            topology,
+            table,
+            stripes,
+            gone: Vec::with_capacity(alloc, nodes)?,
+            down: Vec::with_capacity(alloc, nodes)?,
+        })
+    }
+
+    /// Makes room for one more command of any kind, and changes nothing else.
+    pub(crate) fn reserve(&mut self) -> Result<(), Fault>
+        ensures nodes { self.new.topology ≡ self.old.topology }
+        ensures same { (st : State) → IsOf st self.old → IsOf st self.new }
+        ensures ok { OnOk result (has_room self.new ≡ true) }
+        ensures kept { has_room self.old ≡ true → has_room self.new ≡ true }
+        ensures enough { has_room self.old ≡ true → IsOk result }
+        ensures err { IfErr result (λ e. e ≡ fault.OutOfMemory) }
+    {
+        self.stripes.reserve(1)?;
+        self.gone.reserve(1)?;
+        self.down.reserve(1)?;
+        Ok(())
+    }
+
+    pub(crate) fn mode(&self, node: NodeNo) -> Mode
+        ensures { result ≡ (if has_number self.now.gone.items node then Gone else Active) }
+    {
+        if has_number(self.gone.as_slice(), node) {
+            Mode::Gone
+        } else {
+            Mode::Active
+        }
+    }
+
+    pub(crate) fn is_gone(&self, node: NodeNo) -> bool
+        ensures { result ≡ has_number self.now.gone.items node }
+    {
+        has_number(self.gone.as_slice(), node)
+    }
+
+    pub(crate) fn is_down(&self, node: NodeNo) -> bool
+        ensures { result ≡ has_number self.now.down.items node }
+    {
+        has_number(self.down.as_slice(), node)
+    }
+
+    /// Whether a node is in the store and can be reached.
+    pub(crate) fn is_online(&self, node: NodeNo) -> bool
+        ensures { result ≡ (not (has_number self.now.gone.items node) && not (has_number self.now.down.items node)) }
+    {
+        !self.is_gone(node) && !self.is_down(node)
+    }
+
+    /// The home of each fragment of a stripe, in rising order.
+    pub(crate) fn homes_of(&self, stripe: StripeNo) -> [Option<Seat>; 16]
+        requires { IsTrue ((stored_in self.now.stripes).stripes stripe) }
+        ensures { result ≡ map (λ f. (stored_in self.now.stripes).homes stripe f.value) (fragments Wide) }
+    {
+        let mut seats = [None; 16];
+        for (i, fragment) in Fragment::all().iter().enumerate() {
+            seats[i] = self.stripes.home(stripe, *fragment);
+        }
+        seats
+    }
+
+    /// Gives a fragment without a home the seat that is chosen for it.
+    pub(crate) fn give_home(&mut self, stripe: StripeNo, fragment: Fragment, seat: Seat)
+        requires { (st : State) × IsOf st self.old × IsNextHome self.old.topology st stripe fragment seat }
+        ensures nodes { self.new.topology ≡ self.old.topology }
+        ensures kept { (st : State) → IsOf st self.old → IsNextHome self.old.topology st stripe fragment seat → IsOf (with_home st stripe fragment seat) self.new }
+    {
+        let _slot = self.table.take(seat.node);
+        self.stripes.set_home(stripe, fragment, seat);
+    }
+
+    /// Takes a fragment's home away, if it has one, and gives the seat back.
+    pub(crate) fn clear_home(&mut self, stripe: StripeNo, fragment: Fragment)
+        requires tied { IsTied self.old }
+        requires there { IsTrue ((stored_in self.old.stripes).stripes stripe) }
+        ensures nodes { self.new.topology ≡ self.old.topology }
+        ensures lists { (self.new.gone ≡ self.old.gone) × (self.new.down ≡ self.old.down) }
+        ensures kept { (st : State) → IsOf st self.old → IsOf (without_home st stripe fragment) self.new }
+    {
+        if let Some(seat) = self.stripes.home(stripe, fragment) {
+            self.table.free(seat.node, seat.slot);
+            self.stripes.clear_home(stripe, fragment);
+        }
+    }
+
+    /// Lets the slot table and the stripes follow the mode of a node, which was changed.
+    pub(crate) fn follow(&mut self, node: NodeNo)
+        ghost st: { State }
+        requires { (was : State) × IsOfBut node was st self.old }
+        ensures nodes { self.new.topology ≡ self.old.topology }
+        ensures kept { IsOf st self.new }
+    {
+        let is_online = self.is_online(node);
+        self.table.set_eligible(node, is_online);
+        self.stripes.set_offline(node, !is_online);
+    }
+}
+
+/// Whether a node is one of these.
+fn has_number(numbers: &[NodeNo], node: NodeNo) -> bool
+    ensures { result ≡ has_number numbers.now node }
+{
+    numbers.iter().any(|number| node == *number)
+}
