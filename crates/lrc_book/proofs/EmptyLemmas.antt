@@ -1,41 +1,28 @@
 -- A node that is emptied: its homes are cleared one after the other.
-use Rattle.std.proofs.Common.{◌≡◌, ◌≢◌, ℕ, ◌<◌, ◌≤◌, Bool, true, false, not, cond, ◌&&◌, nat_eq, eqb, List, [], ◌∷◌, map, filter, find, Option, Some, None, option_map, IsSome, refl, sym, ap, ◌∙◌, subst, inl, inr, arith}
-use Rattle.std.specs.List.{All, AllPairs, Contains, count_by}
+use Rattle.std.proofs.Common.{◌≡◌, ◌<◌, Bool, true, false, not, cond, nat_eq, eqb, List, [], ◌∷◌, filter, Option, Some, None, option_map, IsSome, refl, sym, ap, ◌∙◌, subst, inl, inr}
+use Rattle.std.specs.List.{All, Contains}
 use Rattle.std.specs.Option.{option_map_or}
-use Rattle.std.proofs.lemmas.Bool.{cases_Bool, eqb-true, eq-eqb, and_parts}
-use Rattle.std.proofs.lemmas.Option.{same_Some}
-use Rattle.std.proofs.lemmas.List.Elements.{All-contains, All-head, All-tail, All-weaker}
-use Rattle.std.proofs.lemmas.List.Sums.{sum_by-cons}
+use Rattle.std.proofs.lemmas.Bool.{cases_Bool}
+use Rattle.std.proofs.lemmas.List.Elements.{All-head, All-tail}
 use Rattle.lrc_code.specs.declared.numbers.StripeNo.{StripeNo}
 use Rattle.lrc_code.specs.declared.numbers.NodeNo.{NodeNo}
 use Rattle.lrc_code.specs.declared.numbers.Fragment.{Fragment}
-use Rattle.lrc_code.proofs.NumbersLemmas.{equal_fragments}
-use Rattle.lrc_topology.specs.declared.NodeInfo.{NodeInfo}
 use Rattle.lrc_topology.specs.declared.seat.Seat.{Seat}
 use Rattle.lrc_topology.specs.declared.seat.Held.{Held}
-use Rattle.lrc_topology.specs.Nodes.{AreNodes, node_at}
-use Rattle.lrc_topology.specs.Seats.{load_of, is_taken}
-use Rattle.lrc_slots.specs.Slots.{Slots, with_free, load_at, taken_count}
+use Rattle.lrc_topology.specs.Nodes.{node_at}
+use Rattle.lrc_slots.specs.Slots.{Slots, load_at}
 use Rattle.lrc_stripes.specs.Levels.{home_of}
 use Rattle.lrc_stripes.specs.Stored.{Stored, StripeFragment, AreHomesOn, is_home_on}
-use Rattle.lrc_stripes.specs.Stored as stored
-use Rattle.lrc_book.specs.States.{State, has_stripe, taken_seats}
+use Rattle.lrc_book.specs.States.{State}
 use Rattle.lrc_book.specs.Steps.{stands_on, emptied}
-use Rattle.lrc_book.specs.Goodness.{AreSeated}
 use Rattle.lrc_book.specs.Ties.{table_of}
-use Rattle.lrc_book.specs.Stores.{stored_of}
-use Rattle.lrc_book.proofs.MemberLemmas.{All-members, Contains-here, Contains-later, Contains-cases, not-Contains-nil, list_any-member, AllPairs-head, AllPairs-tail}
-use Rattle.lrc_book.proofs.NodeLemmas.{member-taken, member-node_at}
-use Rattle.lrc_book.proofs.ChoiceLemmas.{same_stripe}
-use Rattle.lrc_book.proofs.SeatedLemmas.{kept-seated}
-use Rattle.lrc_book.proofs.TieLemmas.{standing-slots, load-seats}
-use Rattle.lrc_book.proofs.TableLemmas.{map-member, table_less, table_less-nil, table_less-push, table_less-all}
+use Rattle.lrc_book.proofs.MemberLemmas.{All-members, Contains-here, Contains-later, not-Contains-nil}
 use Rattle.lrc_slots.specs.Tables.{slots_of}
 use Rattle.lrc_stripes.specs.Tables.{stored_in}
 use Rattle.lrc_book.specs.declared.store.Store.{Store}
 use Rattle.lrc_book.specs.Changes.{is_of, without_home}
 use Rattle.lrc_book.specs.Stores.{IsOf}
-use Rattle.lrc_book.proofs.ClearLemmas.{only, clear-load, home-kept, clear-stripe, home-only}
+use Rattle.lrc_book.proofs.ClearLemmas.{only, clear-load, home-kept, home-only}
 
 -- the homes on the node, cleared as far as this
 pub record IsEmptying (st : State) (n : NodeNo) (k : Store) : Type 0 where

@@ -1,35 +1,24 @@
 -- A stripe whose homes are cleared, fragment by fragment.
-use Rattle.std.proofs.Common.{fold, if◌then◌else◌, ◌||◌, ◌≡◌, ◌≢◌, ℕ, ◌+◌, ◌<◌, Bool, true, false, not, ◌&&◌, nat_eq, eqb, List, [], ◌∷◌, ◌++◌, map, filter, length, take, get_or, Option, Some, None, option_map, zero-add, refl, sym, ap, ap₂, ◌∙◌, subst, inl, inr}
+use Rattle.std.proofs.Common.{fold, if◌then◌else◌, ◌||◌, ◌≡◌, ℕ, ◌+◌, ◌<◌, Bool, true, false, not, ◌&&◌, nat_eq, eqb, List, [], ◌∷◌, map, filter, length, take, get_or, zero-add, refl, sym, ap, ◌∙◌, subst, inl, inr}
 use Rattle.std.proofs.Math.Path.{fun_ext}
-use Rattle.std.specs.List.{All, AllPairs, Contains, list_any, filter_map, cons_option, range_with_len}
-use Rattle.std.specs.Option.{option_to_list}
-use Rattle.std.proofs.lemmas.Bool.{cases_Bool, eqb-true, eq-eqb, and_parts, false_from_ne_true}
-use Rattle.std.proofs.lemmas.Option.{same_Some}
-use Rattle.std.proofs.lemmas.List.{take_more, get_or-map, map-append, append-nil}
+use Rattle.std.specs.List.{Contains, list_any, range_with_len}
+use Rattle.std.proofs.lemmas.Bool.{cases_Bool, eqb-true, eq-eqb}
+use Rattle.std.proofs.lemmas.List.{take_more, get_or-map}
 use Rattle.std.proofs.lemmas.List.FromFn.{get_or-range_with_len}
-use Rattle.std.proofs.lemmas.List.Elements.{All-contains, All-map, filter_map-append}
 use Rattle.lrc_code.specs.declared.codes.Code.TheVariants.{Wide}
 use Rattle.lrc_code.specs.declared.numbers.StripeNo.{StripeNo}
-use Rattle.lrc_code.specs.declared.numbers.NodeNo.{NodeNo}
 use Rattle.lrc_code.specs.declared.numbers.Fragment.{Fragment}
 use Rattle.lrc_code.specs.Codes.{fragments}
 use Rattle.lrc_code.proofs.NumbersLemmas.{equal_fragments}
-use Rattle.lrc_topology.specs.declared.seat.Seat.{Seat}
 use Rattle.lrc_topology.specs.declared.seat.Held.{Held}
-use Rattle.lrc_topology.specs.Seats.{is_taken}
-use Rattle.lrc_slots.specs.Slots.{Slots}
-use Rattle.lrc_stripes.specs.Levels.{home_of}
 use Rattle.lrc_book.specs.Steps.{is_other}
 use Rattle.lrc_book.specs.Stores.{stored_of}
 use Rattle.lrc_book.specs.Goodness.{AreSeated}
 use Rattle.lrc_stripes.specs.Stored.{Stored}
-use Rattle.lrc_book.proofs.MemberLemmas.{list_any-All, All-members, Contains-here, Contains-later, Contains-cases, not-Contains-nil, find-member, filter-member, member-filter, list_any-member, member-list_any, AllPairs-head, AllPairs-tail}
-use Rattle.lrc_book.proofs.NodeLemmas.{member-taken}
-use Rattle.lrc_book.proofs.ChoiceLemmas.{same_stripe}
+use Rattle.lrc_book.proofs.MemberLemmas.{list_any-All, All-members, list_any-member}
 use Rattle.lrc_book.proofs.SeatedLemmas.{without-seated}
 use Rattle.lrc_book.proofs.StoredLemmas.{test-sym, stored-without}
 use Rattle.std.proofs.lemmas.List.Sums.{fold-append}
-use Rattle.lrc_slots.specs.Tables.{slots_of}
 use Rattle.lrc_stripes.specs.Tables as tables
 use Rattle.lrc_stripes.specs.Tables.{stored_in}
 use Rattle.lrc_stripes.specs.Stored as stored

@@ -3,7 +3,7 @@ use Rattle.std.proofs.Common.{◌≡◌, ◌≢◌, ap₂, map, ℕ, Bool, true,
 use Rattle.std.proofs.Math.Path.{fun_ext}
 use Rattle.std.specs.List.{list_any}
 use Rattle.std.specs.Option.{option_map_or}
-use Rattle.std.proofs.lemmas.Bool.{cases_Bool, eqb-true, eq-eqb, eqb-false, ne_eqb}
+use Rattle.std.proofs.lemmas.Bool.{cases_Bool, eqb-true, eqb-false, ne_eqb}
 use Rattle.std.proofs.lemmas.List.Folds.{list_any-append}
 use Rattle.std.proofs.lemmas.Map.Views.{any-filter_same}
 use Rattle.lrc_code.specs.declared.numbers.NodeNo.{NodeNo}
@@ -22,14 +22,11 @@ use Rattle.lrc_stripes.specs.Tables.{stored_in}
 use Rattle.lrc_book.specs.declared.store.Store.{Store}
 use Rattle.lrc_book.specs.Stores.{IsOf, IsOfBut, StaysAsItWas}
 use Rattle.lrc_book.specs.declared.mode.Mode.TheVariants.{Active, Gone}
-use Rattle.lrc_book.specs.States.{State, has_number, without_number, mode_of, is_active, is_gone, is_down, is_online, takes_seats, online_at}
+use Rattle.lrc_book.specs.States.{State, has_number, without_number, is_active, is_gone, is_online, takes_seats, online_at}
 use Rattle.lrc_book.specs.Steps.{with_gone, with_down, without_down, without_gone}
-use Rattle.lrc_book.specs.Goodness.{AreSeated}
 use Rattle.lrc_book.specs.Ties.{table_of}
 use Rattle.lrc_book.specs.Stores.{stored_of}
-use Rattle.lrc_book.proofs.MemberLemmas.{member-list_any}
 use Rattle.lrc_book.proofs.NodeLemmas.{member-node_at}
-use Rattle.lrc_book.proofs.SeatedLemmas.{down-present}
 use Rattle.lrc_book.proofs.StoredLemmas.{same_online, test-sym, own-spare}
 
 -- ---- numbers

@@ -19,7 +19,7 @@ use Rattle.lrc_topology.specs.Nodes.{AreNodes, node_at}
 use Rattle.lrc_topology.specs.Seats.{load_of, is_taken, first_slot, free_seat, is_preferred}
 use Rattle.lrc_slots.specs.Slots.{least_free, least_free_at}
 use Rattle.lrc_slots.specs.Next.{may_take, is_chosen_before, next_node}
-use Rattle.lrc_book.specs.States.{State, seats_of, has_stripe, taken_seats, takes_seats, is_eligible}
+use Rattle.lrc_book.specs.States.{State, seats_of, taken_seats, takes_seats, is_eligible}
 use Rattle.lrc_book.specs.Placement.{bars, fits, chosen, chosen_node}
 use Rattle.lrc_book.specs.Goodness.{AreSeated}
 use Rattle.lrc_book.specs.Ties.{table_of, bars_of, bars_in, next_seat, with_homes}

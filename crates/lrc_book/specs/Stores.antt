@@ -1,4 +1,6 @@
--- Internal: no public clause Rattle.std.specs.Prelude.{◌≡◌, ◌≢◌, ◌+◌, ◌≤◌, ℕ, Bool, ◌&&◌, ◌||◌, nat_le, vec_len, vec_capacity, List, length, Some, IsSome}
+-- Internal: no public clause reaches these definitions.
+-- What a book keeps of a state, and the room that it has.
+use Rattle.std.specs.Prelude.{◌≡◌, ◌≢◌, ◌+◌, ◌≤◌, ℕ, Bool, ◌&&◌, ◌||◌, nat_le, vec_len, vec_capacity, List, length, Some, IsSome}
 use Rattle.std.specs.List.{All, Contains}
 use Rattle.lrc_code.specs.declared.codes.Code.{Code}
 use Rattle.lrc_code.specs.declared.numbers.StripeNo.{StripeNo}

@@ -1,5 +1,5 @@
 -- The slot table that belongs to a state, and the domains that are barred for a fragment.
-use Rattle.std.specs.Prelude.{◌≡◌, ℕ, Bool, true, false, not, ◌&&◌, ◌||◌, nat_eq, List, ◌++◌, Option, Some, None, option_map, option_and_then}
+use Rattle.std.specs.Prelude.{Bool, true, false, ◌&&◌, nat_eq, List, ◌++◌, Option, option_map, option_and_then}
 use Rattle.std.specs.List.{list_any}
 use Rattle.std.specs.Option.{option_map_or}
 use Rattle.lrc_code.specs.declared.codes.Code.{Code}
@@ -11,15 +11,12 @@ use Rattle.lrc_code.specs.Codes.{share_class}
 use Rattle.lrc_topology.specs.declared.NodeInfo.{NodeInfo}
 use Rattle.lrc_topology.specs.declared.seat.Seat.{Seat}
 use Rattle.lrc_topology.specs.declared.seat.Held.{Held}
-use Rattle.lrc_topology.specs.Nodes.{AreNodes, node_at}
+use Rattle.lrc_topology.specs.Nodes.{node_at}
 use Rattle.lrc_topology.specs.Seats.{is_taken}
-use Rattle.lrc_slots.specs.Slots.{Slots, least_free_at, with_free}
-use Rattle.lrc_stripes.specs.Levels.{homes_of}
-use Rattle.lrc_stripes.specs.Stored.{Stored}
+use Rattle.lrc_slots.specs.Slots.{Slots, least_free_at}
 use Rattle.lrc_slots.specs.Barred.{Barred}
 use Rattle.lrc_slots.specs.Next.{next_number}
-use Rattle.lrc_book.specs.Goodness.{AreSeated}
-use Rattle.lrc_book.specs.States.{State, has_stripe, code_of, seats_of, taken_seats, takes_seats, online_at}
+use Rattle.lrc_book.specs.States.{State, code_of, seats_of, taken_seats, takes_seats}
 use Rattle.lrc_book.specs.Placement.{is_beside}
 
 -- the nodes that take seats are eligible, and the seats of the state are taken

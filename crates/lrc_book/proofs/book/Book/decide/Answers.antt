@@ -1,5 +1,5 @@
 use Rattle.std.proofs.Common.{◌<◌, length, refl, sym, arith}
-use Rattle.lrc_book.specs.Histories.{World, world_after}
+use Rattle.lrc_book.specs.Histories.{world_after}
 use Rattle.lrc_book.proofs.book.Book.decide.Goals as goal
 
 pub returns-clause-ok : goal.returns-clause-ok

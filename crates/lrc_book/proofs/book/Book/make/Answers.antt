@@ -1,4 +1,4 @@
-use Rattle.std.proofs.Common.{◌≡◌, ◌+◌, ◌&&◌, nat_le, true, vec_len, vec_capacity, ap, sym, subst, ◌∙◌}
+use Rattle.std.proofs.Common.{◌+◌, nat_le, vec_len, vec_capacity, ap, sym, subst, ◌∙◌}
 use Rattle.std.proofs.lemmas.Bool.{and_parts}
 use Rattle.lrc_book.specs.States.{State}
 use Rattle.lrc_book.specs.Histories.{world_after}

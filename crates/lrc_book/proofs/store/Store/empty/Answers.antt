@@ -1,8 +1,6 @@
-use Rattle.std.proofs.Common.{refl, ap, ◌∙◌, subst, List}
+use Rattle.std.proofs.Common.{refl, ◌∙◌, subst, List}
 use Rattle.lrc_stripes.specs.Stored.{StripeFragment, AreHomesOn}
 use Rattle.lrc_stripes.specs.Tables.{stored_in}
-use Rattle.lrc_topology.specs.declared.NodeInfo.{NodeInfo}
-use Rattle.lrc_topology.specs.Nodes.{node_at}
 use Rattle.lrc_book.proofs.EmptyLemmas.{now, emptying-more, emptying-smaller, emptying-end, first-on}
 use Rattle.lrc_book.proofs.ClearLemmas.{clear-stripe}
 use Rattle.lrc_book.proofs.store.Store.empty.Goals as goal

@@ -1,8 +1,7 @@
-use Rattle.std.proofs.Common.{◌≡◌, ◌≤◌, ◌<◌, ◌+◌, not, nat_eq, List, [], ◌∷◌, ◌++◌, filter, vec_len, vec_capacity, refl, sym, ap, ◌∙◌, subst, rules, arith}
+use Rattle.std.proofs.Common.{not, nat_eq, List, [], ◌∷◌, ◌++◌, filter, refl, sym, ap, ◌∙◌, subst, rules}
 use Rattle.std.proofs.lemmas.Fn.{filter_same}
 use Rattle.lrc_code.specs.declared.numbers.NodeNo.{NodeNo}
 use Rattle.lrc_topology.specs.declared.NodeInfo.{NodeInfo}
-use Rattle.lrc_topology.specs.Nodes.{node_at}
 use Rattle.lrc_book.specs.Steps.{emptied}
 use Rattle.lrc_book.specs.Goodness.{AreSeated}
 use Rattle.lrc_book.proofs.SeatedLemmas.{with_gone-seated}

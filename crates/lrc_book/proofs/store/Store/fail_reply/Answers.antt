@@ -1,4 +1,4 @@
-use Rattle.std.proofs.Common.{Bool, ◌||◌, not, List, ap, ap₂, ◌∙◌}
+use Rattle.std.proofs.Common.{Bool, List, ap, ◌∙◌}
 use Rattle.lrc_code.specs.declared.numbers.NodeNo.{NodeNo}
 use Rattle.lrc_book.specs.States.{has_number}
 use Rattle.lrc_book.specs.Steps.{node_outcome, fail_outcome, emptied, with_gone}

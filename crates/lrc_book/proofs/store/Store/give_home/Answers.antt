@@ -9,7 +9,7 @@ set_home-requires c = record {
   stripe = stripe-there c.requires.0 c.args.self.now c.requires.1 c.args.stripe c.args.fragment c.args.seat c.requires.2;
   homeless = no-home c.requires.0 c.args.self.now c.requires.1 c.args.stripe c.args.fragment c.args.seat c.requires.2;
   slot = slot-there c.requires.0 c.args.self.now c.requires.1 c.args.stripe c.args.fragment c.args.seat c.requires.2;
-  free = seat-free c.requires.0 c.args.self.now c.requires.1 c.args.stripe c.args.fragment c.args.seat c.requires.2;
+  unused = seat-free c.requires.0 c.args.self.now c.requires.1 c.args.stripe c.args.fragment c.args.seat c.requires.2;
 }
 
 pub returns-clause-kept : goal.returns-clause-kept

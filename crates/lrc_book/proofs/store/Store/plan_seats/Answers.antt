@@ -1,4 +1,4 @@
-use Rattle.std.proofs.Common.{◌≡◌, ◌<◌, ◌∙◌, List, length, take, sym, refl, arith, length-set}
+use Rattle.std.proofs.Common.{◌≡◌, ◌<◌, ◌∙◌, length, take, sym, refl, arith, length-set}
 use Rattle.lrc_book.specs.Ties.{with_homes}
 use Rattle.lrc_book.proofs.PlanningLemmas.{placing-start, placing-none, placing-more, planned-more, planned-chosen}
 use Rattle.lrc_book.proofs.store.Store.plan_seats.Goals as goal

@@ -1,8 +1,7 @@
-use Rattle.std.proofs.Common.{Bool, ◌||◌, not, List, ap, ap₂, ◌∙◌}
+use Rattle.std.proofs.Common.{Bool, not, List, ap, ◌∙◌}
 use Rattle.lrc_code.specs.declared.numbers.NodeNo.{NodeNo}
 use Rattle.lrc_book.specs.States.{has_number}
 use Rattle.lrc_book.specs.Steps.{node_outcome, up_outcome, without_down}
-use Rattle.lrc_book.proofs.ShownLemmas.{gone-mode}
 use Rattle.lrc_book.proofs.store.Store.up_reply.Goals as goal
 
 pub returns : goal.returns
