@@ -4,10 +4,12 @@ use Rattle.lrc_topology.specs.declared.NodeInfo.{NodeInfo}
 use Rattle.lrc_topology.specs.declared.seat.Seat.{Seat}
 use Rattle.lrc_topology.specs.declared.seat.Held.{Held}
 use Rattle.lrc_topology.specs.Nodes.{node_at}
+use Rattle.lrc_leases.specs.Leased.{AreOneEach}
 use Rattle.lrc_book.specs.declared.entry.Entry.{Entry}
 use Rattle.lrc_book.specs.declared.mode.Mode.TheVariants.{Gone}
 use Rattle.lrc_book.specs.States.{State, code_of, seats_of, taken_seats, mode_of}
 use Rattle.lrc_book.specs.Choices.{AreApart}
+use Rattle.lrc_book.specs.Leases.{grants}
 
 -- the seat is a slot of a node of the store that is not gone
 abbrev pub IsStanding : List NodeInfo → State → Seat → Type 0
@@ -19,16 +21,18 @@ KeepApart nodes st h g =
     h.stripe ≡ g.stripe → h.fragment ≢ g.fragment
     → IfSome (node_at nodes h.seat.node) (λ n. IfSome (node_at nodes g.seat.node) (λ m. AreApart (code_of st h.stripe) h.fragment n g.fragment m))
 
--- Each stripe is there once, each seat is held once and is a slot of a node that is not gone, placements are lawful, each fragment has one home at most, held seats are those of stripes that are there, and no node that is down is gone.
+-- Each stripe is there once, each seat is held once and is a slot of a node that is not gone, placements are lawful, each fragment has one home and one lease at most, held seats are those of stripes that are there, and no node that is down is gone.
 pub record AreSeated (nodes : List NodeInfo) (st : State) : Type 0 where
   pub stripes : AllPairs (λ s t. s ≢ t) st.stripes
   pub single : AllPairs (λ a b. a ≢ b) (taken_seats st)
   pub standing : All (IsStanding nodes st) (taken_seats st)
   pub lawful : AllPairs (KeepApart nodes st) (seats_of st)
   pub one_home : AllPairs (λ h g. h.stripe ≡ g.stripe → h.fragment ≢ g.fragment) st.homes
+  pub one_lease : AreOneEach st.leases
   pub there : All (λ h. Contains st.stripes h.stripe) (seats_of st)
   pub reachable : All (λ n. mode_of st n ≢ Gone) st.down
 
--- What holds of a state after the entries that led to it: its stripes are seated.
+-- What holds of a state after the entries that led to it: its stripes are seated, and each live lease has the last epoch that was granted for its fragment.
 pub record IsGood (nodes : List NodeInfo) (history : List Entry) (st : State) : Type 0 where
   pub seated : AreSeated nodes st
+  pub current : All (λ l. l.epoch ≡ grants history l.stripe l.fragment) st.leases

@@ -5,7 +5,8 @@ use Rattle.lrc_topology.specs.declared.NodeInfo.{NodeInfo}
 use Rattle.lrc_book.specs.declared.command.Command.{Command}
 use Rattle.lrc_book.specs.declared.entry.Entry.{Entry}
 use Rattle.lrc_book.specs.States.{State, opening}
-use Rattle.lrc_book.specs.Steps.{Outcome, step}
+use Rattle.lrc_book.specs.Outcomes.{Outcome}
+use Rattle.lrc_book.specs.Steps.{step}
 
 -- the entries so far, and the state after them
 pub record World : Type 0 where

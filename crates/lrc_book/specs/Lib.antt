@@ -8,8 +8,12 @@ pub use Rattle.lrc_slots.specs.Barred
 pub use Rattle.lrc_slots.specs.Next
 pub use Rattle.lrc_stripes.specs.Levels
 pub use Rattle.lrc_stripes.specs.Stored
+pub use Rattle.lrc_leases.specs.Leased
 pub mod States
 pub mod Placement
+pub mod Repairs
+pub mod Outcomes
+pub mod Leases
 pub mod Steps
 pub mod Histories
 pub mod Sessions

@@ -1,5 +1,5 @@
 -- The state of the store, and what is read of it.
-use Rattle.std.specs.Prelude.{ℕ, Bool, true, false, not, ◌&&◌, if◌then◌else◌, List, [], map, filter, Option, Some, None, option_map, is_some}
+use Rattle.std.specs.Prelude.{ℕ, Bool, true, false, not, ◌&&◌, if◌then◌else◌, List, [], ◌++◌, map, filter, Option, Some, None, option_map, is_some}
 use Rattle.std.specs.List.{list_any}
 use Rattle.std.specs.Option.{option_map_or}
 use Rattle.lrc_code.specs.declared.codes.Code.{Code}
@@ -7,7 +7,8 @@ use Rattle.lrc_code.specs.declared.codes.Code.TheVariants.{Wide}
 use Rattle.lrc_code.specs.declared.losses.LossMask.{LossMask}
 use Rattle.lrc_code.specs.declared.numbers.StripeNo.{StripeNo}
 use Rattle.lrc_code.specs.declared.numbers.NodeNo.{NodeNo}
-use Rattle.lrc_code.specs.Numbers.{same_stripe, same_node}
+use Rattle.lrc_code.specs.declared.numbers.Fragment.{Fragment}
+use Rattle.lrc_code.specs.Numbers.{same_stripe, same_fragment, same_node}
 use Rattle.lrc_code.specs.Codes.{fragments}
 use Rattle.lrc_code.specs.Losses.{FragmentSet}
 use Rattle.lrc_topology.specs.declared.NodeInfo.{NodeInfo}
@@ -17,6 +18,8 @@ use Rattle.lrc_topology.specs.Nodes.{node_at}
 use Rattle.lrc_topology.specs.Seats.{load_of, free_slot}
 use Rattle.lrc_stripes.specs.declared.level.Level.{Level}
 use Rattle.lrc_stripes.specs.Levels.{homes_of, missing_in, rank_by, missing_if, level_if}
+use Rattle.lrc_leases.specs.declared.lease.Lease.{Lease}
+use Rattle.lrc_leases.specs.Leased.{leases_in}
 use Rattle.lrc_book.specs.declared.mode.Mode.{Mode}
 use Rattle.lrc_book.specs.declared.mode.Mode.TheVariants.{Active, Gone}
 
@@ -24,12 +27,13 @@ use Rattle.lrc_book.specs.declared.mode.Mode.TheVariants.{Active, Gone}
 pub record State : Type 0 where
   pub stripes : List StripeNo
   pub homes : List Held
+  pub leases : List Lease
   pub gone : List NodeNo
   pub down : List NodeNo
 
 -- an empty store, whose nodes are all active and not down
 abbrev pub opening : State
-opening = record { stripes = []; homes = []; gone = []; down = [] }
+opening = record { stripes = []; homes = []; leases = []; gone = []; down = [] }
 
 -- ---- stripes and seats
 
@@ -41,9 +45,13 @@ has_stripe st s = list_any (same_stripe s) st.stripes
 abbrev pub code_of : State → StripeNo → Code
 code_of st s = Wide
 
--- the homes of fragments
+-- the seat that a lease holds for its fragment
+abbrev pub held_by : Lease → Held
+held_by l = record { stripe = l.stripe; fragment = l.fragment; seat = l.target }
+
+-- the homes of fragments, and the targets of live leases
 abbrev pub seats_of : State → List Held
-seats_of st = st.homes
+seats_of st = st.homes ++ map held_by st.leases
 
 -- the slots that are held
 abbrev pub taken_seats : State → List Seat
@@ -52,6 +60,14 @@ taken_seats st = map (λ h. h.seat) (seats_of st)
 -- how many seats are on a node
 abbrev pub load : State → NodeNo → ℕ
 load st n = load_of (taken_seats st) n
+
+-- the live lease of a fragment, if it has one
+abbrev pub lease_of : State → StripeNo → Fragment → Option Lease
+lease_of st s f = leases_in st.leases s f.value
+
+-- this is a home of the fragment
+abbrev pub is_home_of : StripeNo → Fragment → Held → Bool
+is_home_of s f h = same_stripe h.stripe s && same_fragment h.fragment f
 
 -- ---- nodes
 

@@ -1,5 +1,6 @@
 -- What each command answers and changes.
-use Rattle.std.specs.Prelude.{Bool, not, ◌||◌, if◌then◌else◌, List, [], ◌∷◌, ◌++◌, drop, length, map, filter, is_none, Result, Ok, Err}
+use Rattle.std.specs.Prelude.{ℕ, Bool, not, ◌&&◌, ◌||◌, List, [], ◌∷◌, ◌++◌, drop, length, map, filter, is_none, Result, Ok, Err}
+use Rattle.std.specs.List.{list_any}
 use Rattle.lrc_code.specs.declared.codes.Code.{Code}
 use Rattle.lrc_code.specs.declared.codes.Code.TheVariants.{Wide}
 use Rattle.lrc_code.specs.declared.numbers.StripeNo.{StripeNo}
@@ -12,26 +13,17 @@ use Rattle.lrc_topology.specs.declared.seat.Seat.{Seat}
 use Rattle.lrc_topology.specs.declared.seat.Held.{Held}
 use Rattle.lrc_topology.specs.Nodes.{node_at}
 use Rattle.lrc_book.specs.declared.command.Command.{Command}
-use Rattle.lrc_book.specs.declared.command.Command.TheVariants.{Place, Drop, Fail, Down, Up, Join}
+use Rattle.lrc_book.specs.declared.command.Command.TheVariants.{Place, Drop, Lease, Done, Abandon, Revoke, Fail, Down, Up, Join}
 use Rattle.lrc_book.specs.declared.reply.Reply.{Reply}
-use Rattle.lrc_book.specs.declared.reply.Reply.TheVariants.{Placed, Dropped, Changed, Refused}
-use Rattle.lrc_book.specs.declared.reply.Refusal.{Refusal}
+use Rattle.lrc_book.specs.declared.reply.Reply.TheVariants.{Placed, Dropped, Changed}
 use Rattle.lrc_book.specs.declared.reply.Refusal.TheVariants as refusal
 use Rattle.lrc_book.specs.declared.entry.Entry.{Entry}
-use Rattle.lrc_book.specs.States.{State, has_stripe, without_number, mode_of, is_gone, is_down, code_of}
+use Rattle.lrc_leases.specs.declared.lease.Lease.{Lease as LeaseRecord}
+use Rattle.lrc_leases.specs.Leased.{is_target_on}
+use Rattle.lrc_book.specs.States.{State, has_stripe, is_home_of, without_number, mode_of, is_gone, is_down, code_of}
 use Rattle.lrc_book.specs.Placement.{placed}
-
--- what a step answers, and the state that it leaves
-abbrev pub Outcome : Type 0
-Outcome = Reply × State
-
--- the refusal, and the state as it was
-abbrev pub refused : Refusal → State → Outcome
-refused r st = (Refused r, st)
-
--- the refusal where the condition is met, and else what follows
-abbrev pub refuse_if : Bool → Refusal → State → Outcome → Outcome
-refuse_if met r st other = if met then refused r st else other
+use Rattle.lrc_book.specs.Outcomes.{Outcome, refused, refuse_if}
+use Rattle.lrc_book.specs.Leases.{lease_outcome, done_outcome, abandon_outcome, revoke_outcome}
 
 -- ---- stripes
 
@@ -56,9 +48,10 @@ place_outcome nodes st code s = refuse_if (has_stripe st s) refusal.StripeExists
 abbrev pub is_other : StripeNo → StripeNo → Bool
 is_other s t = not (same_stripe s t)
 
--- the stripe and its homes taken out
+-- the stripe, its homes and its leases taken out
 abbrev pub without_stripe : State → StripeNo → State
-without_stripe st s = record st { stripes = filter (is_other s) st.stripes; homes = filter (λ h. is_other s h.stripe) st.homes }
+without_stripe st s =
+    record st { stripes = filter (is_other s) st.stripes; homes = filter (λ h. is_other s h.stripe) st.homes; leases = filter (λ l. is_other s l.stripe) st.leases }
 
 -- Drop: refused where there is no such stripe
 unfoldable pub drop_outcome : State → StripeNo → Outcome
@@ -77,9 +70,13 @@ node_outcome nodes st n wrong changed =
 abbrev pub stands_on : NodeNo → Held → Bool
 stands_on n h = same_node n h.seat.node
 
--- the homes on the node taken out
+-- the lease's target is on the node, or its fragment has its home there
+abbrev pub hangs_on : State → NodeNo → LeaseRecord → Bool
+hangs_on st n l = is_target_on n l || list_any (λ h. is_home_of l.stripe l.fragment h && stands_on n h) st.homes
+
+-- the homes on the node taken out, and the leases that hang on it
 abbrev pub emptied : State → NodeNo → State
-emptied st n = record st { homes = filter (λ h. not (stands_on n h)) st.homes }
+emptied st n = record st { homes = filter (λ h. not (stands_on n h)) st.homes; leases = filter (λ l. not (hangs_on st n l)) st.leases }
 
 -- the node is out of the store, and not down
 abbrev pub with_gone : State → NodeNo → State
@@ -119,6 +116,10 @@ join_outcome nodes st n = node_outcome nodes st n (not (is_gone (mode_of st n)))
 abbrev pub step : List NodeInfo → List Entry → State → SessionNo → Command → Outcome
 step nodes past st session (Place s) = place_outcome nodes st Wide s
 step nodes past st session (Drop s) = drop_outcome st s
+step nodes past st session (Lease s f) = lease_outcome nodes past st session s f
+step nodes past st session (Done s f e) = done_outcome nodes st session s f e
+step nodes past st session (Abandon s f e) = abandon_outcome st session s f e
+step nodes past st session (Revoke s f) = revoke_outcome st s f
 step nodes past st session (Fail n) = fail_outcome nodes st n
 step nodes past st session (Down n) = down_outcome nodes st n
 step nodes past st session (Up n) = up_outcome nodes st n

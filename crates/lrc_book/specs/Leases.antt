@@ -1,0 +1,106 @@
+-- What the commands of repair leases answer and change.
+use Rattle.std.specs.Prelude.{ℕ, ◌+◌, Bool, false, not, ◌&&◌, if◌then◌else◌, nat_eq, List, [], ◌∷◌, ◌++◌, filter, count_by, Option, Some, None, is_none}
+use Rattle.lrc_code.specs.declared.numbers.StripeNo.{StripeNo}
+use Rattle.lrc_code.specs.declared.numbers.SessionNo.{SessionNo}
+use Rattle.lrc_code.specs.declared.numbers.Fragment.{Fragment}
+use Rattle.lrc_topology.specs.declared.NodeInfo.{NodeInfo}
+use Rattle.lrc_topology.specs.declared.seat.Seat.{Seat}
+use Rattle.lrc_leases.specs.declared.lease.Lease.{Lease}
+use Rattle.lrc_leases.specs.Leased.{is_of}
+use Rattle.lrc_book.specs.declared.reply.Reply.{Reply}
+use Rattle.lrc_book.specs.declared.reply.Reply.TheVariants.{Granted, Ended}
+use Rattle.lrc_book.specs.declared.reply.Refusal.TheVariants as refusal
+use Rattle.lrc_book.specs.declared.entry.Entry.{Entry}
+use Rattle.lrc_book.specs.States.{State, has_stripe, lease_of, is_home_of, online_at}
+use Rattle.lrc_book.specs.Placement.{chosen, with_home}
+use Rattle.lrc_book.specs.Repairs.{needs, kind, is_beyond_repair}
+use Rattle.lrc_book.specs.Outcomes.{Outcome, refused, refuse_if}
+
+-- ---- grants
+
+-- the reply grants a lease of the fragment
+abbrev pub is_grant : StripeNo → Fragment → Reply → Bool
+is_grant s f (Granted lease kind) = is_of s f.value lease
+is_grant s f _ = false
+
+-- how many leases of the fragment were granted so far
+abbrev pub grants : List Entry → StripeNo → Fragment → ℕ
+grants past s f = count_by (λ e. is_grant s f e.reply) past
+
+-- a lease of the session on this seat
+abbrev pub new_lease : List Entry → SessionNo → StripeNo → Fragment → Seat → Lease
+new_lease past session s f seat = record { stripe = s; fragment = f; holder = session; target = seat; epoch = grants past s f + 1 }
+
+-- one more live lease
+abbrev pub with_lease : State → Lease → State
+with_lease st lease = record st { leases = st.leases ++ lease ∷ [] }
+
+-- the lease on the chosen seat, if one is chosen
+abbrev pub granted : List NodeInfo → List Entry → State → SessionNo → StripeNo → Fragment → Option Seat → Outcome
+granted nodes past st session s f (Some seat) = (Granted (new_lease past session s f seat) (kind nodes st s f), with_lease st (new_lease past session s f seat))
+granted nodes past st session s f None = refused (refusal.NoLawfulNode f) st
+
+-- the answer where the fragment has this live lease, or none
+abbrev pub lease_answer : List NodeInfo → List Entry → State → SessionNo → StripeNo → Fragment → Option Lease → Outcome
+lease_answer nodes past st session s f (Some lease) = refused (refusal.AlreadyLeased lease.epoch) st
+lease_answer nodes past st session s f None =
+    refuse_if (not (needs st s f)) refusal.NotNeeded st
+    (refuse_if (is_beyond_repair nodes st s f) refusal.Unrecoverable st
+    (granted nodes past st session s f (chosen nodes st s f)))
+
+-- Lease: refused where there is no such stripe
+unfoldable pub lease_outcome : List NodeInfo → List Entry → State → SessionNo → StripeNo → Fragment → Outcome
+lease_outcome nodes past st session s f = refuse_if (not (has_stripe st s)) refusal.UnknownStripe st (lease_answer nodes past st session s f (lease_of st s f))
+
+-- ---- ends
+
+-- the lease of the fragment taken out
+abbrev pub without_lease : State → StripeNo → Fragment → State
+without_lease st s f = record st { leases = filter (λ l. not (is_of s f.value l)) st.leases }
+
+-- the home of the fragment taken out
+abbrev pub without_home : State → StripeNo → Fragment → State
+without_home st s f = record st { homes = filter (λ h. not (is_home_of s f h)) st.homes }
+
+-- the lease, if it has this epoch
+abbrev pub at_epoch : ℕ → Option Lease → Option Lease
+at_epoch e None = None
+at_epoch e (Some lease) = if nat_eq lease.epoch e then Some lease else None
+
+-- the session holds the lease
+abbrev pub is_held_by : SessionNo → Lease → Bool
+is_held_by session lease = nat_eq lease.holder.value session.value
+
+-- the lease ended, with its target as the one home of its fragment
+abbrev pub moved_in : State → StripeNo → Fragment → Seat → State
+moved_in st s f target = with_home (without_home (without_lease st s f) s f) s f target
+
+-- the answer where this is the live lease of the epoch, or there is none
+abbrev pub done_answer : List NodeInfo → State → SessionNo → StripeNo → Fragment → Option Lease → Outcome
+done_answer nodes st session s f None = refused refusal.Stale st
+done_answer nodes st session s f (Some lease) =
+    refuse_if (not (is_held_by session lease)) (refusal.NotHolder lease.holder) st
+    (refuse_if (not (online_at nodes st lease.target.node)) (refusal.TargetOffline lease.target.node) st
+    (Ended, moved_in st s f lease.target))
+
+-- Done: the lease of the epoch ends, and its target is the fragment's home
+unfoldable pub done_outcome : List NodeInfo → State → SessionNo → StripeNo → Fragment → ℕ → Outcome
+done_outcome nodes st session s f e =
+    refuse_if (not (has_stripe st s)) refusal.UnknownStripe st (done_answer nodes st session s f (at_epoch e (lease_of st s f)))
+
+-- the same where the lease is given back
+abbrev pub abandon_answer : State → SessionNo → StripeNo → Fragment → Option Lease → Outcome
+abandon_answer st session s f None = refused refusal.Stale st
+abandon_answer st session s f (Some lease) =
+    refuse_if (not (is_held_by session lease)) (refusal.NotHolder lease.holder) st (Ended, without_lease st s f)
+
+-- Abandon: the lease of the epoch ends
+unfoldable pub abandon_outcome : State → SessionNo → StripeNo → Fragment → ℕ → Outcome
+abandon_outcome st session s f e = refuse_if (not (has_stripe st s)) refusal.UnknownStripe st (abandon_answer st session s f (at_epoch e (lease_of st s f)))
+
+-- Revoke: the lease ends, whoever holds it
+unfoldable pub revoke_outcome : State → StripeNo → Fragment → Outcome
+revoke_outcome st s f =
+    refuse_if (not (has_stripe st s)) refusal.UnknownStripe st
+    (refuse_if (is_none (lease_of st s f)) refusal.NoLease st
+    (Ended, without_lease st s f))
