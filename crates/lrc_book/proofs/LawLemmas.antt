@@ -24,7 +24,8 @@ use Rattle.lrc_book.specs.Placement.{chosen, with_home, place_next, placed}
 use Rattle.lrc_book.specs.Choices.{AreChosen, IsFirstWithout}
 use Rattle.lrc_book.specs.Changes.{held_at, with_placed}
 use Rattle.lrc_book.proofs.StepLemmas.{place-there, place-passed, seats-added}
-use Rattle.lrc_book.specs.Steps.{Outcome, refuse_if, with_stripe, without_stripe, place_answer, place_outcome, drop_outcome, node_outcome, fail_outcome, down_outcome, up_outcome, join_outcome, step}
+use Rattle.lrc_book.specs.Outcomes.{Outcome, refuse_if}
+use Rattle.lrc_book.specs.Steps.{with_stripe, without_stripe, place_answer, place_outcome, drop_outcome, node_outcome, fail_outcome, down_outcome, up_outcome, join_outcome, step}
 
 -- ---- refused commands
 

@@ -25,7 +25,8 @@ use Rattle.lrc_book.specs.declared.entry.Entry.{Entry}
 use Rattle.lrc_book.specs.declared.mode.Mode.TheVariants.{Active, Gone}
 use Rattle.lrc_book.specs.States.{State, opening, has_stripe, has_number, without_number, mode_of, is_gone, is_down, code_of, seats_of, taken_seats}
 use Rattle.lrc_book.specs.Placement.{placed}
-use Rattle.lrc_book.specs.Steps.{Outcome, refuse_if, with_stripe, place_answer, place_outcome, is_other, without_stripe, drop_outcome, node_outcome, stands_on, emptied, with_gone, with_down, without_down, without_gone, fail_outcome, down_outcome, up_outcome, join_outcome, step}
+use Rattle.lrc_book.specs.Outcomes.{Outcome, refuse_if}
+use Rattle.lrc_book.specs.Steps.{with_stripe, place_answer, place_outcome, is_other, without_stripe, drop_outcome, node_outcome, stands_on, emptied, with_gone, with_down, without_down, without_gone, fail_outcome, down_outcome, up_outcome, join_outcome, step}
 use Rattle.lrc_book.specs.Histories.{World, first_world, next_world, state_after}
 use Rattle.lrc_book.specs.Goodness.{IsStanding, KeepApart, AreSeated, IsGood}
 use Rattle.lrc_book.proofs.MemberLemmas.{list_any-All, All-list_any, All-members, member-filter, filter-member, list_any-member}

@@ -14,7 +14,8 @@ use Rattle.lrc_book.specs.declared.reply.Reply.TheVariants.{Placed, Dropped, Cha
 use Rattle.lrc_book.specs.declared.reply.Refusal.TheVariants as refusal
 use Rattle.lrc_book.specs.States.{State, has_stripe, mode_of, is_gone, is_down}
 use Rattle.lrc_book.specs.Placement.{placed}
-use Rattle.lrc_book.specs.Steps.{Outcome, refuse_if, with_stripe, without_stripe, place_answer, place_outcome, drop_outcome, fail_outcome, down_outcome, up_outcome, join_outcome}
+use Rattle.lrc_book.specs.Outcomes.{Outcome, refuse_if}
+use Rattle.lrc_book.specs.Steps.{with_stripe, without_stripe, place_answer, place_outcome, drop_outcome, fail_outcome, down_outcome, up_outcome, join_outcome}
 use Rattle.lrc_book.specs.Choices.{AreChosen}
 use Rattle.lrc_book.proofs.StepLemmas.{place-passed, place-there, placed-grown, seats-added}
 

@@ -1,6 +1,6 @@
 use Rattle.std.proofs.Common.{ap, sym, ◌∙◌}
 use Rattle.lrc_stripes.specs.Stored.{Stored}
-use Rattle.lrc_book.specs.Steps.{Outcome}
+use Rattle.lrc_book.specs.Outcomes.{Outcome}
 use Rattle.lrc_book.proofs.StepLemmas.{place-there, place-ok, place-err}
 use Rattle.lrc_book.proofs.store.Store.place_reply.Goals as goal
 
