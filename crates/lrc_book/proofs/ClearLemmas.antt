@@ -29,7 +29,8 @@ use Rattle.lrc_book.proofs.ChoiceLemmas.{same_stripe}
 use Rattle.lrc_book.proofs.SeatedLemmas.{kept-seated}
 use Rattle.lrc_book.proofs.TieLemmas.{standing-slots, load-seats}
 use Rattle.lrc_book.proofs.TableLemmas.{map-member, table_less, table_less-nil, table_less-push, table_less-all}
-use Rattle.lrc_book.specs.Changes.{is_of, without_home}
+use Rattle.lrc_book.specs.Leases.{without_home}
+use Rattle.lrc_book.proofs.StoredLemmas.{is_of}
 use Rattle.lrc_book.specs.Stores.{IsOf}
 use Rattle.lrc_book.specs.declared.store.Store.{Store}
 use Rattle.lrc_slots.specs.Tables as slots

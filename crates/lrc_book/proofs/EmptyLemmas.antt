@@ -20,7 +20,8 @@ use Rattle.lrc_book.proofs.MemberLemmas.{All-members, Contains-here, Contains-la
 use Rattle.lrc_slots.specs.Tables.{slots_of}
 use Rattle.lrc_stripes.specs.Tables.{stored_in}
 use Rattle.lrc_book.specs.declared.store.Store.{Store}
-use Rattle.lrc_book.specs.Changes.{is_of, without_home}
+use Rattle.lrc_book.specs.Leases.{without_home}
+use Rattle.lrc_book.proofs.StoredLemmas.{is_of}
 use Rattle.lrc_book.specs.Stores.{IsOf}
 use Rattle.lrc_book.proofs.ClearLemmas.{only, clear-load, home-kept, home-only}
 

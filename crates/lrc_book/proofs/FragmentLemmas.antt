@@ -25,7 +25,8 @@ use Rattle.lrc_stripes.specs.Stored as stored
 use Rattle.lrc_book.specs.declared.store.Store.{Store}
 use Rattle.lrc_book.specs.States.{State, has_stripe}
 use Rattle.lrc_book.specs.Steps.{without_stripe}
-use Rattle.lrc_book.specs.Changes.{is_of, without_home}
+use Rattle.lrc_book.specs.Leases.{without_home}
+use Rattle.lrc_book.proofs.StoredLemmas.{is_of}
 use Rattle.lrc_book.specs.Stores.{IsOf}
 
 -- each fragment is one of the code's

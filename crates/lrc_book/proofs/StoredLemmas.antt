@@ -24,9 +24,13 @@ use Rattle.lrc_book.specs.Placement.{with_home}
 use Rattle.lrc_book.specs.Steps.{with_stripe, is_other, without_stripe}
 use Rattle.lrc_book.specs.Goodness.{AreSeated}
 use Rattle.lrc_book.specs.Stores.{stored_of}
-use Rattle.lrc_book.specs.Changes.{is_of, without_home}
+use Rattle.lrc_book.specs.Leases.{without_home}
 use Rattle.lrc_book.proofs.MemberLemmas.{find-member, list_any-member}
 use Rattle.lrc_book.proofs.TableLemmas.{map-member}
+
+-- the home is of the fragment of this number
+abbrev pub is_of : StripeNo → ℕ → Held → Bool
+is_of s f h = nat_eq h.stripe.value s.value && nat_eq h.fragment.value f
 
 -- ---- look-ups in lists that are filtered
 
