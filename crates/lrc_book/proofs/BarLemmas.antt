@@ -1,10 +1,10 @@
 -- The domains that are barred for a fragment, filled seat by seat.
-use Rattle.std.proofs.Common.{◌≡◌, ◌≢◌, ℕ, ◌+◌, ◌<◌, Bool, true, false, ◌||◌, ◌↔◌, inl, inr, List, [], ◌∷◌, ◌++◌, length, take, get_or, refl, sym, ap, ap₂, ◌∙◌}
+use Rattle.std.proofs.Common.{◌≡◌, ◌≢◌, ℕ, ◌+◌, ◌<◌, Bool, true, false, ◌||◌, ◌↔◌, inl, inr, List, [], ◌∷◌, ◌++◌, map, length, take, get_or, refl, sym, ap, ap₂, ◌∙◌}
 use Rattle.std.proofs.Math.Path.{fun_ext}
 use Rattle.std.specs.List.{All, Contains, list_any}
 use Rattle.std.proofs.lemmas.Bool.{eq-eqb, ne_eqb, cases_Bool, and_parts, false_from_ne_true}
 use Rattle.std.proofs.lemmas.List.{take_more}
-use Rattle.std.proofs.lemmas.List.Elements.{All-nil, All-cons, All-head, All-tail, All-weaker, All-contains, Contains-append_right, Contains-append_cases}
+use Rattle.std.proofs.lemmas.List.Elements.{All-nil, All-cons, All-head, All-tail, All-weaker, All-contains, Contains-append_left, Contains-append_right, Contains-append_cases}
 use Rattle.std.proofs.lemmas.List.Folds.{list_any-append}
 use Rattle.lrc_code.specs.declared.codes.Code.{Code}
 use Rattle.lrc_code.specs.declared.numbers.StripeNo.{StripeNo}
@@ -17,7 +17,7 @@ use Rattle.lrc_topology.specs.declared.NodeInfo.{NodeInfo}
 use Rattle.lrc_topology.specs.declared.seat.Seat.{Seat}
 use Rattle.lrc_topology.specs.declared.seat.Held.{Held}
 use Rattle.lrc_slots.specs.Barred.{Barred, no_bars}
-use Rattle.lrc_book.specs.States.{State, has_stripe, seats_of}
+use Rattle.lrc_book.specs.States.{State, has_stripe, held_by, seats_of}
 use Rattle.lrc_book.specs.Changes.{held_at}
 use Rattle.lrc_book.specs.Goodness.{AreSeated}
 use Rattle.lrc_book.specs.Ties.{bars_fault, bars_upgrade, bars_in}
@@ -86,14 +86,25 @@ absent-beside nodes st s f seated e =
 
 -- beside a fragment of a stripe that is not there, there are planned homes alone
 pub planned-alone : (nodes : List NodeInfo) (st : State) (s : StripeNo) (f : Fragment) (planned : List Held) → AreSeated nodes st → has_stripe st s ≡ false
-    → (h : Held) → is_beside s f h ≡ true → Contains planned h ↔ Contains (st.homes ++ planned) h
+    → (h : Held) → is_beside s f h ≡ true → Contains planned h ↔ Contains (seats_of (with_homes st planned)) h
 planned-alone nodes st s f planned good absent h beside = (
-  λ here. Contains-append_right st.homes planned h here,
-  λ here. elim (Contains-append_cases st.homes planned h here) [
-    | inr new ↦ new
-    | inl old ↦ absurd (let none = All-contains (λ g. is_beside s f g ≡ false) st.homes h (absent-beside nodes st s f good absent) old in let both : true ≡ false = sym beside ∙ none in cc)
+  λ here. Contains-append_left (st.homes ++ planned) targets h (Contains-append_right st.homes planned h here),
+  λ here. elim (Contains-append_cases (st.homes ++ planned) targets h here) [
+    | inr target ↦ none (Contains-append_right st.homes targets h target)
+    | inl home ↦ elim (Contains-append_cases st.homes planned h home) [
+      | inr new ↦ new
+      | inl old ↦ none (Contains-append_left st.homes targets h old)
+    ]
   ],
 )
+  where
+    targets : List Held
+    targets = map held_by st.leases
+
+    none : Contains (seats_of st) h → Contains planned h
+    none old = absurd (
+        let apart = All-contains (λ g. is_beside s f g ≡ false) (seats_of st) h (absent-beside nodes st s f good absent) old in
+        let both : true ≡ false = sym beside ∙ apart in cc)
 
 -- seats of other fragments
 pub held_at-beside : (s : StripeNo) (f : Fragment) (fs : List Fragment) (seats : List Seat) → All (λ g. g ≢ f) fs → All (λ h. is_beside s f h ≡ true) (held_at s fs seats)

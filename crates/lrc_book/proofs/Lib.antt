@@ -13,6 +13,7 @@ pub mod LeaseStepLemmas
 pub mod SeatedLemmas
 pub mod GoodLemmas
 pub mod TieLemmas
+pub mod TakenLemmas
 pub mod TableLemmas
 pub mod BarLemmas
 pub mod PlanLemmas
@@ -25,3 +26,4 @@ pub mod EmptyLemmas
 pub mod ToldLemmas
 pub mod PlacingLemmas
 pub mod ShownLemmas
+pub mod EndLemmas

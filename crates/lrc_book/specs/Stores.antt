@@ -1,6 +1,6 @@
 -- Internal: no public clause reaches these definitions.
 -- What a book keeps of a state, and the room that it has.
-use Rattle.std.specs.Prelude.{◌≡◌, ◌≢◌, ◌+◌, ◌≤◌, ℕ, Bool, ◌&&◌, ◌||◌, if◌then◌else◌, nat_le, vec_len, vec_capacity, List, length, Option, Some, None, IsSome}
+use Rattle.std.specs.Prelude.{◌≡◌, ◌≢◌, ◌+◌, ◌≤◌, ℕ, Bool, ◌&&◌, ◌||◌, true, if◌then◌else◌, nat_le, vec_len, vec_capacity, List, length, Option, Some, None, IsSome}
 use Rattle.std.specs.List.{All, Contains}
 use Rattle.lrc_code.specs.declared.codes.Code.{Code}
 use Rattle.lrc_code.specs.declared.codes.Code.TheVariants.{Wide}
@@ -60,7 +60,7 @@ pub record IsOfBut (node : NodeNo) (was st : State) (s : Store) : Type 0 where
   pub others_stay : (n : NodeInfo) → n.number ≢ node → StaysAsItWas was st n
   pub table_is : slots_of s.table ≡ table_of s.topology was
   pub stripes_is : stored_in s.stripes ≡ stored_of s.topology was (stored_in s.stripes).spare
-  pub leases_is : leased_in s.leases ≡ leased_of st.leases (leased_in s.leases).spare
+  pub leases_is : leased_in s.leases ≡ leased_of was.leases (leased_in s.leases).spare
   pub gone_is : s.gone.items ≡ st.gone
   pub down_is : s.down.items ≡ st.down
 
