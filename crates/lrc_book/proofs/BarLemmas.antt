@@ -20,7 +20,7 @@ use Rattle.lrc_slots.specs.Barred.{Barred, no_bars}
 use Rattle.lrc_book.specs.States.{State, has_stripe, held_by, seats_of}
 use Rattle.lrc_book.specs.Changes.{held_at}
 use Rattle.lrc_book.specs.Goodness.{AreSeated}
-use Rattle.lrc_book.specs.Ties.{bars_fault, bars_upgrade, bars_in}
+use Rattle.lrc_book.specs.Ties.{with_homes, bars_fault, bars_upgrade, bars_in}
 use Rattle.lrc_book.specs.Stores.{with_held}
 use Rattle.lrc_book.specs.Placement.{is_beside}
 use Rattle.lrc_book.proofs.MemberLemmas.{list_any-member, member-list_any}
@@ -88,19 +88,16 @@ absent-beside nodes st s f seated e =
 pub planned-alone : (nodes : List NodeInfo) (st : State) (s : StripeNo) (f : Fragment) (planned : List Held) → AreSeated nodes st → has_stripe st s ≡ false
     → (h : Held) → is_beside s f h ≡ true → Contains planned h ↔ Contains (seats_of (with_homes st planned)) h
 planned-alone nodes st s f planned good absent h beside = (
-  λ here. Contains-append_left (st.homes ++ planned) targets h (Contains-append_right st.homes planned h here),
-  λ here. elim (Contains-append_cases (st.homes ++ planned) targets h here) [
-    | inr target ↦ none (Contains-append_right st.homes targets h target)
+  λ here. Contains-append_left (st.homes ++ planned) (map held_by st.leases) h (Contains-append_right st.homes planned h here),
+  λ here. elim (Contains-append_cases (st.homes ++ planned) (map held_by st.leases) h here) [
+    | inr target ↦ none (Contains-append_right st.homes (map held_by st.leases) h target)
     | inl home ↦ elim (Contains-append_cases st.homes planned h home) [
       | inr new ↦ new
-      | inl old ↦ none (Contains-append_left st.homes targets h old)
+      | inl old ↦ none (Contains-append_left st.homes (map held_by st.leases) h old)
     ]
   ],
 )
   where
-    targets : List Held
-    targets = map held_by st.leases
-
     none : Contains (seats_of st) h → Contains planned h
     none old = absurd (
         let apart = All-contains (λ g. is_beside s f g ≡ false) (seats_of st) h (absent-beside nodes st s f good absent) old in

@@ -123,7 +123,7 @@ module _ (nodes : List NodeInfo) (st : State) (s : StripeNo) (f : Fragment) (h :
   left-other : (g : Held) → Contains st.homes g → kept g ≡ true → g ≢ h
   left-other g here stays same = (let both : true ≡ false = sym stays ∙ ap kept same ∙ ap not there-home.1 in cc)
 
-  targets : List Held
+  abbrev pub targets : List Held
   targets = map held_by st.leases
 
   -- so its seat is another

@@ -4,6 +4,7 @@ use Rattle.std.specs.List.{All, Contains, list_any, count_by}
 use Rattle.std.specs.Option.{option_map_or}
 use Rattle.std.proofs.lemmas.Bool.{cases_Bool, and_parts, and_right, false_from_ne_true, eqb-true, eq-eqb, not-true}
 use Rattle.std.proofs.lemmas.List.Elements.{All-head, All-tail, All-weaker, All-filter}
+use Rattle.std.proofs.lemmas.List.Sums.{sum_by-cons}
 use Rattle.lrc_code.specs.declared.numbers.StripeNo.{StripeNo}
 use Rattle.lrc_code.specs.declared.numbers.NodeNo.{NodeNo}
 use Rattle.lrc_code.specs.declared.numbers.Fragment.{Fragment}
@@ -85,7 +86,8 @@ any-skips test kept (x ∷ xs) fails = elim (cases_Bool (kept x)) [
 
 count-targets : (ls : List Lease) (n : NodeNo) → load_of (map (λ (l : Lease). l.target) ls) n ≡ count_by (λ l. nat_eq l.target.node.value n.value) ls
 count-targets [] n = refl
-count-targets (l ∷ ls) n = ap (λ m. cond (nat_eq l.target.node.value n.value) 1 0 + m) (count-targets ls n)
+count-targets (l ∷ ls) n =
+    rw (sum_by-cons (λ (a : Seat). cond (eqb a.node.value n.value) 1 0) l.target (map (λ (l : Lease). l.target) ls), sum_by-cons (λ (m : Lease). cond (eqb m.target.node.value n.value) 1 0) l ls, count-targets ls n) refl
 
 not-false : (b : Bool) → not b ≡ false → b ≡ true
 not-false true e = refl
@@ -119,19 +121,16 @@ module _ (st : State) (n : NodeNo) (k : Store) (so_far : IsEnding st n k) where
     pub ending-smaller : IsSome (node_at k.topology n) → load_at (slots_of k2.table) n < load_at (slots_of k.table) n
     ending-smaller known =
         rw (ap (λ (t : Slots). load_at t n) next.table_is, ap (λ (t : Slots). load_at t n) so_far.kept.table_is)
-        (subst (λ ns. load_at (table_of ns ended) n < load_at (table_of k.topology now) n) (sym same)
-        (load-falls k.topology so_far.kept.known now ended so_far.kept.seated (subst (λ ns. AreSeated ns ended) same next.seated) n known falls))
+        (subst (λ ns. load_at (table_of ns (without_lease now l.stripe l.fragment)) n < load_at (table_of k.topology now) n) (sym same)
+        (load-falls k.topology so_far.kept.known now (without_lease now l.stripe l.fragment) so_far.kept.seated (subst (λ ns. AreSeated ns (without_lease now l.stripe l.fragment)) same next.seated) n known falls))
       where
-        ended : State
-        ended = without_lease now l.stripe l.fragment
-
-        falls : load_of (taken_seats ended) n < load_of (taken_seats now) n
+        falls : load_of (taken_seats (without_lease now l.stripe l.fragment)) n < load_of (taken_seats now) n
         falls =
             let there = there-lease k.topology now l.stripe l.fragment l live-is so_far.kept.seated in
             let before = load-parts now n in
-            let after = load-parts ended n in
+            let after = load-parts (without_lease now l.stripe l.fragment) n in
             let all = count-targets so_far.live n in
-            let left = count-targets ended.leases n in
+            let left = count-targets (without_lease now l.stripe l.fragment).leases n in
             let fewer = count-falls (λ (m : Lease). nat_eq m.target.node.value n.value) (λ m. not (is_of l.stripe l.fragment.value m)) so_far.live l there.0 on (ap not there.1) in
             omega (arith, before, after, all, left, fewer)
 
@@ -178,10 +177,10 @@ module _ (st : State) (n : NodeNo) (k : Store) (so_far : IsEmptying st n k) wher
     pub emptying-stripe : has_stripe here s ≡ true
     emptying-stripe = stripe-there k.topology here s f home.0 so_far.kept.seated home.1
 
-    stays : Lease → Bool
+    abbrev pub stays : Lease → Bool
     stays l = not (is_of s f.value l)
 
-    others : Held → Bool
+    abbrev pub others : Held → Bool
     others h = not (is_home_of s f h)
 
     -- a home of a fragment whose lease stays is another's

@@ -52,7 +52,7 @@ own-room ls t spare e = e ∙ ap (leased_of ls) (sym (ap (λ (u : Leased). u.spa
 -- ---- the lease of a fragment
 
 module _ (nodes : List NodeInfo) (st : State) (s : StripeNo) (f : Fragment) (l : Lease) (live : lease_of st s f ≡ Some l) (good : AreSeated nodes st) where
-  stays : Lease → Bool
+  abbrev pub stays : Lease → Bool
   stays k = not (is_of s f.value k)
 
   pub there-lease : Contains st.leases l × (is_of s f.value l ≡ true)
@@ -67,7 +67,7 @@ module _ (nodes : List NodeInfo) (st : State) (s : StripeNo) (f : Fragment) (l :
       subst (λ (g : Fragment). lease_of st s g ≡ Some k) (equal_fragments k.fragment f parts.1) (subst (λ (r : StripeNo). lease_of st r k.fragment ≡ Some k) (equal_stripes k.stripe s parts.0) found) in
       let same : Some k ≡ Some l = sym at ∙ live in cc
 
-  targets : List Held
+  abbrev pub targets : List Held
   targets = map held_by st.leases
 
   left-other : (k : Lease) → stays k ≡ true → k ≢ l
@@ -85,7 +85,7 @@ module _ (nodes : List NodeInfo) (st : State) (s : StripeNo) (f : Fragment) (l :
       pairs-members (λ (x y : Lease). x.target ≢ y.target) (λ x y r same. r (sym same)) st.leases k l
       (pairs-unmap (λ (x y : Held). x.seat ≢ y.seat) held_by st.leases (pairs-right (λ (x y : Held). x.seat ≢ y.seat) st.homes targets (held-single nodes st good))) here there-lease.0 (left-other k keeps)
 
-  abbrev ended : State
+  abbrev pub ended : State
   ended = without_lease st s f
 
   -- its target given back
@@ -105,13 +105,13 @@ module _ (nodes : List NodeInfo) (st : State) (s : StripeNo) (f : Fragment) (l :
             (subst (Contains (taken_seats st)) e (target-seat st k m.0), λ same. target-apart k m.0 m.1 (e ∙ same))
       ])
 
-  own : Held
+  abbrev pub own : Held
   own = record { stripe = s; fragment = f; seat = l.target }
 
-  homeless : State
+  abbrev pub homeless : State
   homeless = without_home st s f
 
-  settled : State
+  abbrev pub settled : State
   settled = moved_in st s f l.target
 
   -- as a home its slot stays taken
@@ -128,7 +128,7 @@ module _ (nodes : List NodeInfo) (st : State) (s : StripeNo) (f : Fragment) (l :
         | inr (k, at, e) ↦ subst (Contains (taken_seats homeless)) e (target-seat homeless k (filter-member stays st.leases k at).0)
         | inl (h, at, e) ↦ subst (Contains (taken_seats homeless)) e (elim (Contains-push_cases homeless.homes own h at) [
           | inl old ↦ home-seat homeless h old
-          | inr new ↦ subst (λ (x : Held). Contains (taken_seats homeless) x.seat) (sym new) (target-seat homeless l there-lease.0)
+          | inr new ↦ subst (λ (x : Held). Contains (taken_seats homeless) x.seat) new (target-seat homeless l there-lease.0)
         ])
       ]))
 
@@ -236,7 +236,7 @@ stripe-member st s there =
     subst (Contains st.stripes) (sym (equal_stripes s m.0 (eqb-true s.value m.0.value m.2))) m.1
 
 module _ (st : State) (k : Store) (kept : IsOf st k) (l : Lease) (told : IsGrant k.topology st l) where
-  next : State
+  abbrev pub next : State
   next = with_lease st l
 
   pub grant-table : with_taken (table_of k.topology st) l.target.node (Some l.target.slot) ≡ table_of k.topology (with_lease st l)
@@ -249,7 +249,7 @@ module _ (st : State) (k : Store) (kept : IsOf st k) (l : Lease) (told : IsGrant
         | inl (h, at, e) ↦ inr (subst (Contains (taken_seats st)) e (home-seat st h at))
         | inr (m, at, e) ↦ elim (Contains-push_cases st.leases l m at) [
           | inl old ↦ inr (subst (Contains (taken_seats st)) e (target-seat st m old))
-          | inr new ↦ inl (ap (λ (x : Lease). x.target) (sym new) ∙ e)
+          | inr new ↦ inl (ap (λ (x : Lease). x.target) new ∙ e)
         ]
       ])
 

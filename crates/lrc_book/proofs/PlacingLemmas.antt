@@ -80,7 +80,7 @@ home-taken nodes st s f seat =
       | inr (l, at, e) ↦ inr (subst (Contains (taken_seats st)) e (target-seat st l at))
       | inl (h, at, e) ↦ elim (Contains-push_cases st.homes own h at) [
         | inl old ↦ inr (subst (Contains (taken_seats st)) e (home-seat st h old))
-        | inr new ↦ inl (ap (λ (x : Held). x.seat) (sym new) ∙ e)
+        | inr new ↦ inl (ap (λ (x : Held). x.seat) new ∙ e)
       ]
     ])
   where

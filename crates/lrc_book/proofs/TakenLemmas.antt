@@ -6,7 +6,7 @@ use Rattle.std.specs.Option.{option_map_or}
 use Rattle.std.proofs.lemmas.Bool.{cases_Bool, eqb-true, eq-eqb, and_parts, false_from_ne_true, not-true, not_from_true}
 use Rattle.std.proofs.lemmas.List.{map-append}
 use Rattle.std.proofs.lemmas.List.Elements.{All-contains, Contains-append_left, Contains-append_right, Contains-append_cases}
-use Rattle.std.proofs.lemmas.List.Sums.{sum_by-append}
+use Rattle.std.proofs.lemmas.List.Sums.{sum_by-append, sum_by-cons}
 use Rattle.lrc_code.specs.declared.numbers.StripeNo.{StripeNo}
 use Rattle.lrc_code.specs.declared.numbers.NodeNo.{NodeNo}
 use Rattle.lrc_code.specs.declared.numbers.Fragment.{Fragment}
@@ -113,7 +113,8 @@ table-less nodes st a next up down =
 
 pub count-held : (held : List Held) (n : NodeNo) → load_of (map (λ h. h.seat) held) n ≡ count_by (λ h. nat_eq h.seat.node.value n.value) held
 count-held [] n = refl
-count-held (h ∷ hs) n = ap (λ m. cond (nat_eq h.seat.node.value n.value) 1 0 + m) (count-held hs n)
+count-held (h ∷ hs) n =
+    rw (sum_by-cons (λ (a : Seat). cond (eqb a.node.value n.value) 1 0) h.seat (map (λ h. h.seat) hs), sum_by-cons (λ (a : Held). cond (eqb a.seat.node.value n.value) 1 0) h hs, count-held hs n) refl
 
 -- the load of a node, by homes and targets
 pub load-parts : (st : State) (n : NodeNo) → load_of (taken_seats st) n ≡ load_of (map (λ h. h.seat) st.homes) n + load_of (map (λ (l : Lease). l.target) st.leases) n

@@ -97,6 +97,7 @@ impl Store {
         self.leases.add(lease);
     }
 
+    #[tactic(auto, unfolding(crate::specs::Leases::done_outcome))]
     pub(crate) fn done_reply(
         &self,
         session: SessionNo,
@@ -147,6 +148,7 @@ impl Store {
         }
     }
 
+    #[tactic(auto, unfolding(crate::specs::Leases::abandon_outcome))]
     pub(crate) fn abandon_reply(
         &self,
         session: SessionNo,
@@ -170,6 +172,7 @@ impl Store {
         }
     }
 
+    #[tactic(auto, unfolding(crate::specs::Leases::revoke_outcome))]
     pub(crate) fn revoke_reply(&self, stripe: StripeNo, fragment: Fragment) -> Reply
         ensures { (st : State) → IsOf st self.now → result ≡ (revoke_outcome st stripe fragment).0 }
     {
