@@ -259,15 +259,3 @@ step-seated nodes known past st session (Fail n) seated = fail-seated nodes st n
 step-seated nodes known past st session (Down n) seated = down-seated nodes st n seated
 step-seated nodes known past st session (Up n) seated = up-seated nodes st n seated
 step-seated nodes known past st session (Join n) seated = join-seated nodes st n seated
-
--- and so does each list of entries
-pub worlds-seated : (nodes : List NodeInfo) → AreNodes nodes → (w : World) (history : List Entry) → AreSeated nodes w.state → AreSeated nodes (fold (next_world nodes) w history).state
-worlds-seated nodes known w [] seated = seated
-worlds-seated nodes known w (e ∷ es) seated = worlds-seated nodes known (next_world nodes w e) es (step-seated nodes known w.past w.state e.session e.command seated)
-
-pub state_after-seated : (nodes : List NodeInfo) → AreNodes nodes → (history : List Entry) → AreSeated nodes (state_after nodes history)
-state_after-seated nodes known history = worlds-seated nodes known first_world history (opening-seated nodes)
-
--- After each history the state is good.
-pub state_after-good : (nodes : List NodeInfo) → AreNodes nodes → (history : List Entry) → IsGood nodes history (state_after nodes history)
-state_after-good nodes known history = record { seated = state_after-seated nodes known history }
