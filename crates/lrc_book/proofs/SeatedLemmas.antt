@@ -1,5 +1,5 @@
 -- Each command leaves the stripes seated.
-use Rattle.std.proofs.Common.{inl, inr, ◌||◌, ℕ, if◌then◌else◌, is_none, ◌≡◌, ◌≢◌, ◌<◌, Bool, true, false, not, eqb, List, [], ◌∷◌, ◌++◌, filter, fold, Option, Some, None, Result, Ok, Err, IsSomeAnd, arith, refl, sym, ap, ◌∙◌, subst}
+use Rattle.std.proofs.Common.{inl, inr, ◌||◌, ℕ, if◌then◌else◌, is_none, ◌≡◌, ◌≢◌, ◌<◌, Bool, true, false, not, eqb, List, [], ◌∷◌, ◌++◌, filter, Option, Some, None, Result, Ok, Err, IsSomeAnd, arith, refl, sym, ap, ◌∙◌, subst}
 use Rattle.std.specs.List.{All, Contains}
 use Rattle.std.proofs.lemmas.Bool.{cases_Bool, ne_eqb, eq-eqb, eqb-false, not-true, or_parts}
 use Rattle.std.proofs.lemmas.List.Elements.{All-nil, All-weaker, All-filter, All-map, All-contains, Contains-append_left, Contains-push, Contains-push_cases}
@@ -26,8 +26,7 @@ use Rattle.lrc_book.specs.declared.mode.Mode.TheVariants.{Active, Gone}
 use Rattle.lrc_book.specs.States.{State, opening, has_stripe, has_number, without_number, mode_of, is_gone, is_down, code_of, seats_of, taken_seats}
 use Rattle.lrc_book.specs.Placement.{placed}
 use Rattle.lrc_book.specs.Steps.{Outcome, refuse_if, with_stripe, place_answer, place_outcome, is_other, without_stripe, drop_outcome, node_outcome, stands_on, emptied, with_gone, with_down, without_down, without_gone, fail_outcome, down_outcome, up_outcome, join_outcome, step}
-use Rattle.lrc_book.specs.Histories.{World, first_world, next_world, state_after}
-use Rattle.lrc_book.specs.Goodness.{IsStanding, KeepApart, AreSeated, IsGood}
+use Rattle.lrc_book.specs.Goodness.{IsStanding, KeepApart, AreSeated}
 use Rattle.lrc_book.proofs.MemberLemmas.{list_any-All, All-list_any, All-members, member-filter, filter-member, list_any-member}
 use Rattle.lrc_book.proofs.SeatingLemmas.{All-unmap, pairs-map, pairs-unmap, pairs-push, HasNone, homes-all, IsPlacing, placing, fragments-distinct}
 
