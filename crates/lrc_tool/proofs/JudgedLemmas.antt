@@ -21,7 +21,7 @@ use Rattle.lrc_tool.specs.Limits.{bundle_limit, script_limit}
 use Rattle.lrc_tool.specs.Texts.{bad_line_text}
 use Rattle.lrc_tool.specs.Outputs.{early_refusal, first_bad_of, AreCommandsOf, Answer, IsAnsweredUnless, IsAnsweredOver, IsAnswered}
 use Rattle.lrc_tool.proofs.CommandLemmas.{as_many_lists}
-use Rattle.lrc_tool.specs.Judged.{lists_of, first_bad_in, AreParsed, NoAnswer, IsRefusal, IsGood}
+use Rattle.lrc_tool.specs.Judged.{lists_of, first_bad_in, AreParsed, NoAnswer, IsRefusal, IsAccepted}
 
 -- two facts of a value that there is
 pub IfOk-both : {X E : Type 0} (r : Result X E) (P Q R : X → Type 0) → ((x : X) → P x → Q x → R x) → IfOk r P → IfOk r Q → IfOk r R
@@ -98,11 +98,11 @@ texts_commands (s ∷ ss) (t ∷ ts) (l ∷ ls) held are all =
     ((IsScript-holds t.text.now s.lines l (text_holds s ss t are.0 held)).0 all.0, texts_commands ss ts ls (λ k d within. held (suc k) d (omega arith)) are.1 all.1)
 
 -- one script has few commands
-few_in_one : (ts : List ScriptText) (vs : List (Vec Command Global)) → length vs ≤ 1 → AllZip IsTextScript ts (lists_of vs) → All (λ t. t.first_line + length t.text.now ≤ 4194304) ts → sum_by (λ v. length v.items) vs ≤ 1000000
+few_in_one : (ts : List ScriptText) (vs : List (Vec Command Global)) → length vs ≤ 1 → AllZip IsTextScript ts (lists_of vs) → All (λ t. t.first_line + length t.text.now ≤ bundle_limit) ts → sum_by (λ v. length v.items) vs ≤ 1000000
 few_in_one ts [] few all within = omega arith
 few_in_one [] (v ∷ vs) few all within = absurd all
 few_in_one (t ∷ ts) (v ∷ []) few all within =
-    let short : t.first_line + length t.text.now ≤ 4194304 = within 0 t (omega arith) in
+    let short : t.first_line + length t.text.now ≤ bundle_limit = within 0 t (omega arith) in
     let bound = few_commands t.text.now v.items all.0 in
     omega (arith, bound, short)
 few_in_one ts (v ∷ v' ∷ vs) few all within = absurd (omega (arith, few))
@@ -110,11 +110,11 @@ few_in_one ts (v ∷ v' ∷ vs) few all within = absurd (omega (arith, few))
 -- ---- the bundle
 
 not_refused : (bundle : List ℕ) → length bundle ≤ bundle_limit → length (scripts_of bundle) ≤ script_limit → early_refusal bundle ≡ None
-not_refused bundle short few = rw (le-ltb 4194304 (length bundle) short, le-ltb 1 (length (scripts_of bundle)) few) refl
+not_refused bundle short few = rw (le-ltb bundle_limit (length bundle) short, le-ltb script_limit (length (scripts_of bundle)) few) refl
 
 module _ (bundle : List ℕ) (nodes : List NodeInfo) (texts : List ScriptText) (short : length bundle ≤ bundle_limit) (few : length (scripts_of bundle) ≤ script_limit)
     (read : IsTopologyOf (topology_of bundle) nodes) (are : AreTextsOf (scripts_of bundle) texts) where
-  pub judged_good : (scripts : List (Vec Command Global)) → All (λ t. t.first_line + length t.text.now ≤ length bundle) texts → AreParsed texts (lists_of scripts) → IsGood bundle nodes scripts
+  pub judged_good : (scripts : List (Vec Command Global)) → All (λ t. t.first_line + length t.text.now ≤ length bundle) texts → AreParsed texts (lists_of scripts) → IsAccepted bundle nodes scripts
   judged_good scripts within parsed =
       let commands = texts_commands (scripts_of bundle) texts (lists_of scripts) (bundle_texts bundle) are parsed.commands in
       let many : length scripts ≤ 1 = omega (arith, as_many_lists (scripts_of bundle) (lists_of scripts) commands, length-map scripts (λ (v : Vec Command Global). v.items), few) in
@@ -141,7 +141,7 @@ after_good answer nodes scripts None text status good h end = (h, end)
 after_good answer nodes scripts (Some bad) text status good h end = absurd (cc)
 
 -- a bundle that passes all checks gets the answer
-pub good_to_any : (answer : Answer) (bundle text : List ℕ) (status : Status) (nodes : List NodeInfo) (scripts : List (Vec Command Global)) → IsGood bundle nodes scripts
+pub good_to_any : (answer : Answer) (bundle text : List ℕ) (status : Status) (nodes : List NodeInfo) (scripts : List (Vec Command Global)) → IsAccepted bundle nodes scripts
     → answer nodes (scripts_of bundle) text → status ≡ ended.Done → IsAnswered answer bundle text status
 good_to_any answer bundle text status nodes scripts good h end =
     subst (λ (o : Option (List ℕ)). IsAnsweredUnless answer o bundle text status) (sym good.early) (Ok nodes, good.read, after_good answer nodes (scripts_of bundle) _ text status good.no_bad h end)
