@@ -1,5 +1,5 @@
 -- Lines and commands: each line is that of one command, and good lines have commands.
-use Rattle.std.proofs.Common.{◌≡◌, ℕ, ◌+◌, ◌*◌, ◌<◌, ◌≤◌, inl, inr, false, nat_eq, get_or, not, filter, All, List, [], ◌∷◌, length, map, Option, Some, None, codes, decimal, refl, sym, ap, subst, ◌∙◌, arith}
+use Rattle.std.proofs.Common.{◌≡◌, ℕ, ◌+◌, ◌*◌, ◌<◌, ◌≤◌, inl, inr, false, nat_eq, get_or, not, filter, All, List, [], ◌∷◌, length, map, Option, Some, None, codes, decimal, refl, sym, ap, ◌∙◌, arith}
 use borrow.Author.Tests.{ne_eqb}
 use Rattle.std.proofs.lemmas.List.{append_cancel_left}
 use Rattle.std.proofs.lemmas.List.Elements.{All-nil, All-cons, All-head, All-tail}

@@ -1,5 +1,5 @@
 -- Two sessions in one history: what is printed of their scripts, each with its own calls and their places in the whole history.
-use Rattle.std.proofs.Common.{◌≤◌, All, List, [], ◌∷◌, lit≤, refl, codes}
+use Rattle.std.proofs.Common.{◌≤◌, List, [], ◌∷◌, lit≤, refl, codes}
 use Rattle.std.specs.Fmt.{digits}
 use Rattle.std.proofs.lemmas.List.Elements.{All-nil, All-cons}
 use Rattle.lrc_code.specs.declared.numbers.SessionNo.{SessionNo}
@@ -32,8 +32,8 @@ two_sessions_in_turn = record {
   legal = (refl, (refl, (refl, tt)));
   made = refl;
   alone =
-    All-cons InTwo (refused_to second (remove 1)) later (lit≤ tt)
-    (All-cons InTwo (refused_to session (remove 2)) (refused_to second (remove 3) ∷ []) (lit≤ tt)
-    (All-cons InTwo (refused_to second (remove 3)) [] (lit≤ tt) (All-nil InTwo)));
+      All-cons InTwo (refused_to second (remove 1)) later (lit≤ tt)
+      (All-cons InTwo (refused_to session (remove 2)) (refused_to second (remove 3) ∷ []) (lit≤ tt)
+      (All-cons InTwo (refused_to second (remove 3)) [] (lit≤ tt) (All-nil InTwo)));
   printed = refl;
 }
