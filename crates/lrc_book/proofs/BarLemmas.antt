@@ -16,7 +16,7 @@ use Rattle.lrc_code.proofs.NumbersLemmas.{equal_fragments}
 use Rattle.lrc_topology.specs.declared.NodeInfo.{NodeInfo}
 use Rattle.lrc_topology.specs.declared.seat.Seat.{Seat}
 use Rattle.lrc_topology.specs.declared.seat.Held.{Held}
-use Rattle.lrc_slots.specs.Barred.{Barred, no_bars}
+use Rattle.lrc_slots.specs.Barred.{Barred}
 use Rattle.lrc_book.specs.States.{State, has_stripe, seats_of}
 use Rattle.lrc_book.specs.Changes.{held_at}
 use Rattle.lrc_book.specs.Goodness.{AreSeated}
@@ -46,19 +46,9 @@ any-members test xs ys down up = elim (cases_Bool (list_any test ys)) [
       let both : true ≡ false = sym there ∙ miss in cc)) ∙ sym miss
 ]
 
--- ---- what one seat bars
-
-module _ (nodes : List NodeInfo) (code : Code) (s : StripeNo) (f : Fragment) (b : Barred) (h : Held) where
-  -- a seat of the fragment itself, or of another stripe, bars nothing
-  pub held-other : is_beside s f h ≡ false → b ≡ with_held nodes code s f b h
-  held-other e = same_bars b (with_held nodes code s f b h) (λ d. rw e (or_none (b.faults d))) (λ d. rw e (or_none (b.upgrades d)))
-
 -- ---- what several seats bar
 
 module _ (nodes : List NodeInfo) (code : Code) (s : StripeNo) (f : Fragment) where
-  pub bars_in-nil : no_bars ≡ bars_in nodes code s f []
-  bars_in-nil = refl
-
   or_last : (test : Held → Bool) (xs : List Held) (h : Held) → (list_any test xs || test h) ≡ list_any test (xs ++ h ∷ [])
   or_last test xs h = ap (λ b. list_any test xs || b) (or_none (test h)) ∙ sym (list_any-append test xs (h ∷ []))
 

@@ -1,11 +1,11 @@
 -- A home that is cleared, and its seat given back.
-use Rattle.std.proofs.Common.{◌≡◌, ◌≢◌, ◌<◌, ◌≤◌, Bool, true, false, not, cond, ◌&&◌, nat_eq, eqb, List, [], ◌∷◌, map, filter, find, Option, Some, None, option_map, IsSome, refl, sym, ap, ◌∙◌, subst, inl, inr, arith}
-use Rattle.std.specs.List.{All, AllPairs, Contains, count_by}
+use Rattle.std.proofs.Common.{ℕ, IsSomeAnd, ◌+◌, ◌||◌, ◌≡◌, ◌≢◌, ◌<◌, Bool, true, false, not, ◌&&◌, eqb, List, [], ◌∷◌, map, filter, find, Option, Some, None, option_map, refl, sym, ap, ◌∙◌, subst, inl, inr, arith}
+use Rattle.std.specs.List.{All, AllPairs, Contains, count_by, range_with_len}
+use Rattle.std.proofs.Math.Path.{fun_ext}
 use Rattle.std.specs.Option.{option_map_or}
 use Rattle.std.proofs.lemmas.Bool.{cases_Bool, eqb-true, eq-eqb, and_parts}
 use Rattle.std.proofs.lemmas.Option.{same_Some}
 use Rattle.std.proofs.lemmas.List.Elements.{All-contains, All-head, All-tail, All-weaker}
-use Rattle.std.proofs.lemmas.List.Sums.{sum_by-cons}
 use Rattle.lrc_code.specs.declared.numbers.StripeNo.{StripeNo}
 use Rattle.lrc_code.specs.declared.numbers.NodeNo.{NodeNo}
 use Rattle.lrc_code.specs.declared.numbers.Fragment.{Fragment}
@@ -13,21 +13,21 @@ use Rattle.lrc_code.proofs.NumbersLemmas.{equal_fragments}
 use Rattle.lrc_topology.specs.declared.NodeInfo.{NodeInfo}
 use Rattle.lrc_topology.specs.declared.seat.Seat.{Seat}
 use Rattle.lrc_topology.specs.declared.seat.Held.{Held}
-use Rattle.lrc_topology.specs.Nodes.{AreNodes, node_at}
-use Rattle.lrc_topology.specs.Seats.{load_of, is_taken}
+use Rattle.lrc_topology.specs.Nodes.{node_at}
+use Rattle.lrc_topology.specs.Seats.{is_taken}
 use Rattle.lrc_slots.specs.Slots.{Slots, with_free, load_at, taken_count}
 use Rattle.lrc_stripes.specs.Levels.{home_of}
 use Rattle.lrc_stripes.specs.Stored.{Stored, StripeFragment, AreHomesOn, is_home_on}
 use Rattle.lrc_stripes.specs.Stored as stored
-use Rattle.lrc_book.specs.States.{State, has_stripe, taken_seats}
-use Rattle.lrc_book.specs.Steps.{stands_on}
-use Rattle.lrc_book.specs.Goodness.{AreSeated}
+use Rattle.lrc_book.specs.States.{State, has_stripe, taken_seats, mode_of}
+use Rattle.lrc_book.specs.declared.mode.Mode.TheVariants.{Gone}
+use Rattle.lrc_book.specs.Goodness.{AreSeated, IsStanding}
 use Rattle.lrc_book.specs.Ties.{table_of}
 use Rattle.lrc_book.proofs.MemberLemmas.{Contains-cases, not-Contains-nil, list_any-member, AllPairs-head, AllPairs-tail}
-use Rattle.lrc_book.proofs.NodeLemmas.{member-taken, member-node_at}
+use Rattle.lrc_book.proofs.NodeLemmas.{member-taken, taken-member, member-node_at}
 use Rattle.lrc_book.proofs.ChoiceLemmas.{same_stripe}
 use Rattle.lrc_book.proofs.SeatedLemmas.{kept-seated}
-use Rattle.lrc_book.proofs.TieLemmas.{standing-slots, load-seats}
+use Rattle.lrc_book.proofs.TieLemmas.{count-one}
 use Rattle.lrc_book.proofs.TableLemmas.{map-member, table_less, table_less-nil, table_less-push, table_less-all}
 use Rattle.lrc_book.specs.Changes.{is_of, without_home}
 use Rattle.lrc_book.specs.Stores.{IsOf}
@@ -47,38 +47,6 @@ filter-whole test (x ∷ xs) all = rw (All-head (λ y. test y ≡ true) x xs all
 filter-nothing : {X : Type 0} (test : X → Bool) (xs : List X) → All (λ x. test x ≡ false) xs → filter test xs ≡ []
 filter-nothing test [] all = refl
 filter-nothing test (x ∷ xs) all = rw (All-head (λ y. test y ≡ false) x xs all) (filter-nothing test xs (All-tail (λ y. test y ≡ false) x xs all))
-
-module _ {X : Type 0} (test kept : X → Bool) where
-  count-fewer : (xs : List X) → count_by test (filter kept xs) ≤ count_by test xs
-  count-fewer [] = omega arith
-  count-fewer (x ∷ xs) =
-      let more = count-fewer xs in
-      elim (cases_Bool (kept x)) [
-        | inl stays ↦ rw (stays, sum_by-cons (λ y. cond (test y) 1 0) x (filter kept xs), sum_by-cons (λ y. cond (test y) 1 0) x xs) (omega (arith, more))
-        | inr goes ↦ rw (goes, sum_by-cons (λ y. cond (test y) 1 0) x xs) (omega (arith, more))
-      ]
-
-  -- one that is counted is left out
-  count-falls : (xs : List X) (x : X) → Contains xs x → test x ≡ true → kept x ≡ false → count_by test (filter kept xs) < count_by test xs
-  count-falls [] x here hit goes = absurd (not-Contains-nil x here)
-  count-falls (y ∷ ys) x here hit goes = elim (Contains-cases y x ys here) [
-    | inl same ↦
-        let counted : test y ≡ true = rw same hit in
-        let out : kept y ≡ false = rw same goes in
-        let fewer = count-fewer ys in
-        rw (out, sum_by-cons (λ y. cond (test y) 1 0) y ys, counted) (omega (arith, fewer))
-    | inr more ↦
-        let falls = count-falls ys x more hit goes in
-        elim (cases_Bool (kept y)) [
-          | inl stays ↦ rw (stays, sum_by-cons (λ y. cond (test y) 1 0) y (filter kept ys), sum_by-cons (λ y. cond (test y) 1 0) y ys) (omega (arith, falls))
-          | inr out ↦ rw (out, sum_by-cons (λ y. cond (test y) 1 0) y ys) (omega (arith, falls))
-        ]
-  ]
-
-load-held : (held : List Held) (n : NodeNo) → load_of (map (λ h. h.seat) held) n ≡ count_by (λ h. nat_eq h.seat.node.value n.value) held
-load-held [] n = refl
-load-held (h ∷ hs) n =
-    rw (sum_by-cons (λ (a : Seat). cond (eqb a.node.value n.value) 1 0) h.seat (map (λ h. h.seat) hs), sum_by-cons (λ (a : Held). cond (eqb a.seat.node.value n.value) 1 0) h hs, load-held hs n) refl
 
 -- where each fragment has one home at most, each home is the one that is found
 pub home-only : (homes : List Held) → AllPairs (λ h g. h.stripe ≡ g.stripe → h.fragment ≢ g.fragment) homes → (h : Held) → Contains homes h → home_of homes h.stripe h.fragment.value ≡ Some h
@@ -151,23 +119,31 @@ module _ (nodes : List NodeInfo) (st : State) (s : StripeNo) (f : Fragment) (h :
       ap (λ (u : Slots). with_free u h.seat.node h.seat.slot) (table_less-nil t) ∙ table_less-push t [] h.seat
       ∙ ap (λ (hs : List Held). table_less t (map (λ (g : Held). g.seat) hs)) (sym (alone-in st.homes good.one_home found)) ∙ table_less-all kept t st.homes good.single
 
-  -- the load of its node falls
-  pub clear-load : AreNodes nodes → (n : NodeNo) → stands_on n h ≡ true → IsSome (node_at nodes n) → load_at (table_of nodes cleared) n < load_at (table_of nodes st) n
-  clear-load known n on some = go (node_at nodes n) refl some
-    where
-      falls : load_of (taken_seats cleared) n < load_of (taken_seats st) n
-      falls = rw (load-held (filter kept st.homes) n, load-held st.homes n)
-          (count-falls (λ (g : Held). nat_eq g.seat.node.value n.value) kept st.homes h there-home.0 (eq-eqb h.seat.node.value n.value (sym (eqb-true n.value h.seat.node.value on))) (ap not there-home.1))
+-- ---- the load of a node falls with a seat that is given back
 
-      count : (s2 : State) → AreSeated nodes s2 → (x : NodeInfo) → node_at nodes x.number ≡ Some x → taken_count (table_of nodes s2) x ≡ load_of (taken_seats s2) x.number
-      count s2 good2 x found = load-seats nodes (taken_seats s2) x found good2.single (standing-slots nodes s2 (taken_seats s2) good2.standing)
+freed-count : (taken : ℕ → Bool) (slot slots : ℕ) → slot < slots → taken slot ≡ true → count_by taken (range_with_len 0 slots) ≡ 1 + count_by (λ j. taken j && not (eqb slot j)) (range_with_len 0 slots)
+freed-count taken slot slots within hit =
+    ap (λ (t : ℕ → Bool). count_by t (range_with_len 0 slots)) (fun_ext here) ∙ count-one (λ j. taken j && not (eqb slot j)) slot 0 slots (omega arith) (omega (arith, within)) (rw (hit, eq-eqb slot slot refl) refl)
+  where
+    and_one : (b : Bool) → b ≡ (b && true)
+    and_one true = refl
+    and_one false = refl
 
-      go : (o : Option NodeInfo) → node_at nodes n ≡ o → IsSome o → option_map_or (taken_count (table_of nodes cleared)) o 0 < option_map_or (taken_count (table_of nodes st)) o 0
-      go None e some = absurd (let never : false ≡ true = some in cc)
-      go (Some x) e some =
-          let is : n ≡ x.number = (member-node_at nodes n x e).1 in
-          let at : node_at nodes x.number ≡ Some x = subst (λ k. node_at nodes k ≡ Some x) is e in
-          rw (count cleared (kept-seated nodes st kept good) x at, count st good x at) (subst (λ k. load_of (taken_seats cleared) k < load_of (taken_seats st) k) is falls)
+    here : (j : ℕ) → taken j ≡ (eqb slot j || (taken j && not (eqb slot j)))
+    here j = elim (cases_Bool (eqb slot j)) [
+      | inl same ↦ rw same (subst (λ i. taken i ≡ true) (eqb-true slot j same) hit)
+      | inr other ↦ rw other (and_one (taken j))
+    ]
+
+pub freed-load : (nodes : List NodeInfo) (st : State) (a : Seat) → AreSeated nodes st → is_taken (taken_seats st) a.node a.slot ≡ true → load_at (with_free (table_of nodes st) a.node a.slot) a.node < load_at (table_of nodes st) a.node
+freed-load nodes st a seated hit = go (node_at nodes a.node) refl (All-contains (IsStanding nodes st) (taken_seats st) a seated.standing (taken-member (taken_seats st) a.node a.slot hit))
+  where
+    go : (o : Option NodeInfo) → node_at nodes a.node ≡ o → IsSomeAnd o (λ n. (a.slot < n.slots) × (mode_of st a.node ≢ Gone)) → option_map_or (taken_count (with_free (table_of nodes st) a.node a.slot)) o 0 < option_map_or (taken_count (table_of nodes st)) o 0
+    go None e standing = absurd standing
+    go (Some x) e standing =
+        let number : a.node ≡ x.number = (member-node_at nodes a.node x e).1 in
+        let fewer = freed-count (is_taken (taken_seats st) x.number) a.slot x.slots standing.0 (subst (λ n. is_taken (taken_seats st) n a.slot ≡ true) number hit) in
+        rw (eq-eqb a.node.value x.number.value (ap (λ (n : NodeNo). n.value) number)) (omega (arith, fewer))
 
 -- ---- what is kept then
 

@@ -1,16 +1,15 @@
 -- A node that is emptied: its homes are cleared one after the other.
-use Rattle.std.proofs.Common.{◌≡◌, ◌<◌, Bool, true, false, not, cond, nat_eq, eqb, List, [], ◌∷◌, filter, Option, Some, None, option_map, IsSome, refl, sym, ap, ◌∙◌, subst, inl, inr}
+use Rattle.std.proofs.Common.{ℕ, ◌≡◌, ◌<◌, Bool, true, false, not, cond, nat_eq, eqb, List, [], ◌∷◌, filter, Option, Some, None, option_map, refl, sym, ap, ◌∙◌, subst, inl, inr}
 use Rattle.std.specs.List.{All, Contains}
 use Rattle.std.specs.Option.{option_map_or}
-use Rattle.std.proofs.lemmas.Bool.{cases_Bool}
+use Rattle.std.proofs.lemmas.Bool.{cases_Bool, eqb-true}
 use Rattle.std.proofs.lemmas.List.Elements.{All-head, All-tail}
 use Rattle.lrc_code.specs.declared.numbers.StripeNo.{StripeNo}
 use Rattle.lrc_code.specs.declared.numbers.NodeNo.{NodeNo}
 use Rattle.lrc_code.specs.declared.numbers.Fragment.{Fragment}
 use Rattle.lrc_topology.specs.declared.seat.Seat.{Seat}
 use Rattle.lrc_topology.specs.declared.seat.Held.{Held}
-use Rattle.lrc_topology.specs.Nodes.{node_at}
-use Rattle.lrc_slots.specs.Slots.{Slots, load_at}
+use Rattle.lrc_slots.specs.Slots.{Slots, with_free, load_at}
 use Rattle.lrc_stripes.specs.Levels.{home_of}
 use Rattle.lrc_stripes.specs.Stored.{Stored, StripeFragment, AreHomesOn, is_home_on}
 use Rattle.lrc_book.specs.States.{State}
@@ -22,7 +21,7 @@ use Rattle.lrc_stripes.specs.Tables.{stored_in}
 use Rattle.lrc_book.specs.declared.store.Store.{Store}
 use Rattle.lrc_book.specs.Changes.{is_of, without_home}
 use Rattle.lrc_book.specs.Stores.{IsOf}
-use Rattle.lrc_book.proofs.ClearLemmas.{only, clear-load, home-kept, home-only}
+use Rattle.lrc_book.proofs.ClearLemmas.{only, clear-table, seat-there, freed-load, home-kept, home-only}
 
 -- the homes on the node, cleared as far as this
 pub record IsEmptying (st : State) (n : NodeNo) (k : Store) : Type 0 where
@@ -73,11 +72,15 @@ module _ (st : State) (n : NodeNo) (k : Store) (so_far : IsEmptying st n k) wher
         out g here hit =
             ap (λ (k : Held). not (stands_on n k)) (only k.topology now s f home.0 so_far.kept.seated home.1 g here hit) ∙ ap (λ (a : Seat). not (eqb n.value a.node.value)) home.2 ∙ ap not first.2
 
-    pub emptying-smaller : IsSome (node_at k.topology n) → load_at (slots_of k2.table) n < load_at (slots_of k.table) n
-    emptying-smaller known =
+    pub emptying-smaller : load_at (slots_of k2.table) n < load_at (slots_of k.table) n
+    emptying-smaller =
+        let node : first.0.node ≡ n = ap (λ (v : ℕ). record { value = v }) (sym (eqb-true n.value first.0.node.value first.2)) in
+        let on = ap (λ (a : Seat). a.node) home.2 ∙ node in
         rw (ap (λ (t : Slots). load_at t n) next.table_is, ap (λ (t : Slots). load_at t n) so_far.kept.table_is)
         (subst (λ ns. load_at (table_of ns (without_home now s f)) n < load_at (table_of k.topology now) n) (sym same)
-        (clear-load k.topology now s f home.0 so_far.kept.seated home.1 so_far.kept.known n (ap (λ (a : Seat). eqb n.value a.node.value) home.2 ∙ first.2) known))
+        (subst (λ (t : Slots). load_at t n < load_at (table_of k.topology now) n) (clear-table k.topology now s f home.0 so_far.kept.seated home.1)
+        (subst (λ m. load_at (with_free (table_of k.topology now) home.0.seat.node home.0.seat.slot) m < load_at (table_of k.topology now) m) on
+        (freed-load k.topology now home.0.seat so_far.kept.seated (seat-there k.topology now s f home.0 so_far.kept.seated home.1)))))
 
   -- with no home left on the node
   none-left : AreHomesOn (stored_in k.stripes) n [] → All (λ h. not (stands_on n h) ≡ true) so_far.held

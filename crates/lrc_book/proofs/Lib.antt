@@ -7,6 +7,7 @@ pub mod NodeLemmas
 pub mod ChoiceLemmas
 pub mod SeatingLemmas
 pub mod SeatedLemmas
+pub mod GoodLemmas
 pub mod TieLemmas
 pub mod TableLemmas
 pub mod BarLemmas

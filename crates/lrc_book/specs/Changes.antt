@@ -4,6 +4,7 @@ use Rattle.std.specs.Prelude.{◌≡◌, ℕ, Bool, not, ◌&&◌, nat_eq, filte
 use Rattle.lrc_code.specs.declared.numbers.StripeNo.{StripeNo}
 use Rattle.lrc_code.specs.declared.numbers.Fragment.{Fragment}
 use Rattle.lrc_code.specs.declared.codes.Code.TheVariants.{Wide}
+use Rattle.lrc_code.specs.Numbers.{same_stripe}
 use Rattle.lrc_code.specs.Codes.{fragments}
 use Rattle.lrc_topology.specs.declared.seat.Seat.{Seat}
 use Rattle.lrc_topology.specs.declared.seat.Held.{Held}
@@ -30,7 +31,7 @@ with_placed st s seats = record st { stripes = st.stripes ++ s ∷ []; homes = s
 
 -- the home of the fragment of this number
 abbrev pub is_of : StripeNo → ℕ → Held → Bool
-is_of s f h = nat_eq h.stripe.value s.value && nat_eq h.fragment.value f
+is_of s f h = same_stripe h.stripe s && nat_eq h.fragment.value f
 
 -- the state without the home of a fragment
 abbrev pub without_home : State → StripeNo → Fragment → State

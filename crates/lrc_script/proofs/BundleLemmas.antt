@@ -95,7 +95,6 @@ record IsNext (left : List (List (List ℕ))) (before : List ℕ) (lines : ℕ) 
   others : List (List (List ℕ))
   left_is : left ≡ first ∷ others
   text_is : before ≡ text_before others first
-  holds : HoldsLines before first
   stand : AreLeft behind others
   renumbered : (n : ℕ) → scripts_from (n + lines) others ≡ scripts_from (n + length first) others
 
@@ -105,17 +104,15 @@ next left rest before lines None (inl all) part = record {
   others = [];
   left_is = all ∙ part.2;
   text_is = part.0 ∙ sym (joined_lines-of rest);
-  holds = inl (ap lines_of part.0);
   stand = refl;
   renumbered = λ n. refl;
 }
-next left rest before lines None (inr none) part = record { first = []; others = []; left_is = none.1; text_is = part.0 ∙ none.0; holds = inr (ap lines_of (part.0 ∙ none.0)); stand = refl; renumbered = λ n. refl }
+next left rest before lines None (inr none) part = record { first = []; others = []; left_is = none.1; text_is = part.0 ∙ none.0; stand = refl; renumbered = λ n. refl }
 next left rest before lines (Some behind) (inl all) cut = record {
   first = cut.first;
   others = cut.others;
   left_is = all ∙ cut.parts;
   text_is = cut.text_before ∙ sym (text_before-some cut.first cut.others (some_left behind.now cut.others cut.stand));
-  holds = inr cut.lines_before;
   stand = cut.stand;
   renumbered = λ n. ap (λ m. scripts_from (n + m) cut.others) cut.counted;
 }
@@ -148,7 +145,7 @@ module _ (bundle : List ℕ) (texts : List ScriptText) (passed : ℕ) (rest : Bo
         stand = one.stand;
         scripts = λ more are.
             let behind_it = subst (λ ss. AreTextsOf ss more) (ap (λ n. scripts_from n one.others) line ∙ one.renumbered (passed + 1 + 1)) are in
-            let both : AreTextsOf (scripts_from (passed + 1) (one.first ∷ one.others)) (text ∷ more) = (record { first_line = omega arith; text = one.text_is; lines = one.holds }, behind_it) in
+            let both : AreTextsOf (scripts_from (passed + 1) (one.first ∷ one.others)) (text ∷ more) = (record { first_line = omega arith; text = one.text_is }, behind_it) in
             subst (AreTextsOf (scripts_of bundle)) (sym (append_assoc texts (text ∷ []) more)) (split.scripts (text ∷ more) (subst (λ ps. AreTextsOf (scripts_from (passed + 1) ps) (text ∷ more)) (sym one.left_is) both));
         counted = omega (arith, split.counted, ap length one.left_is, length_push texts text);
         numbered = All-push (λ s. s.first_line + length s.text.now ≤ length bundle) texts text split.numbered fits.1;

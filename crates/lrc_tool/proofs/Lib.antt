@@ -11,4 +11,5 @@ pub mod Rows
 mod RowsOfPlacing
 mod RowsOfNodes
 mod RowsOfHistories
+mod RowsOfSessions
 pub mod MaskLemmas

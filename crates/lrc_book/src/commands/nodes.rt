@@ -1,7 +1,6 @@
 //! Commands on nodes.
 
-ghost use Rattle.std.specs.Prelude.{◌≡◌, true, IsSome};
-ghost use Rattle.lrc_topology.specs.Nodes.{node_at};
+ghost use Rattle.std.specs.Prelude.{◌≡◌, true};
 ghost use Rattle.lrc_book.specs.declared.reply.Reply.TheVariants.{Changed};
 ghost use Rattle.lrc_book.specs.States.{State};
 ghost use Rattle.lrc_book.specs.Steps.{node_outcome, fail_outcome, down_outcome, up_outcome, join_outcome, emptied, with_gone, with_down, without_down, without_gone};
@@ -49,8 +48,7 @@ impl Store {
     /// Gives the seats of all homes on a node back, and clears these homes.
     fn empty(&mut self, node: NodeNo)
         ghost st: { State }
-        requires kept { IsOf st self.old }
-        requires known { IsSome (node_at self.old.topology node) }
+        requires { IsOf st self.old }
         ensures nodes { self.new.topology ≡ self.old.topology }
         ensures lists { (self.new.gone ≡ self.old.gone) × (self.new.down ≡ self.old.down) }
         ensures kept { IsOf (emptied st node) self.new }

@@ -6,7 +6,7 @@ use Rattle.lrc_book.proofs.ClearLemmas.{clear-stripe}
 use Rattle.lrc_book.proofs.store.Store.empty.Goals as goal
 
 pub loop-stripe-init : goal.loop-stripe-init
-loop-stripe-init g c = record { emptying = record { held = g.st.homes; kept = c.requires.0; rest = refl }; nodes = refl; gone = refl; down = refl }
+loop-stripe-init g c = record { emptying = record { held = g.st.homes; kept = c.requires; rest = refl }; nodes = refl; gone = refl; down = refl }
 
 pub clear_home-requires : goal.clear_home-requires
 clear_home-requires g c =
@@ -23,7 +23,6 @@ loop-stripe-smaller g c =
     let e = c.loop-stripe.invariant.emptying in
     let first = first-on (stored_in k.stripes) c.args.node c.homes_on.result c.next.new.self c.in-Some.stripe c.in-Some.fragment c.homes_on.ensures c.in-Some.ensures.steps in
     emptying-smaller g.st c.args.node k e c.in-Some.stripe c.in-Some.fragment first c.clear_home.new.self c.clear_home.ensures.nodes (c.clear_home.ensures.kept (now g.st c.args.node k e) e.kept)
-    (rw c.loop-stripe.invariant.nodes c.requires.1)
 
 pub loop-stripe-preserved : goal.loop-stripe-preserved
 loop-stripe-preserved g c =

@@ -9,9 +9,6 @@ use Rattle.lrc_book.proofs.ModeLemmas.{others-gone}
 use Rattle.lrc_book.proofs.ToldLemmas.{fail-told}
 use Rattle.lrc_book.proofs.store.Store.fail.Goals as goal
 
-pub empty-requires : goal.empty-requires
-empty-requires g c = (c.requires.0, fail-told c.args.self.now.topology g.st c.args.node c.requires.1.1)
-
 pub push_reserved-requires : goal.push_reserved-requires
 push_reserved-requires g c = rw c.empty.ensures.lists.0 (search rules)
 
