@@ -5,7 +5,11 @@ pub mod WorldLemmas
 pub mod MemberLemmas
 pub mod NodeLemmas
 pub mod ChoiceLemmas
+pub mod SeatingLists
+pub mod PairLemmas
 pub mod SeatingLemmas
+pub mod LeaseGoodLemmas
+pub mod LeaseStepLemmas
 pub mod SeatedLemmas
 pub mod GoodLemmas
 pub mod TieLemmas

@@ -1,5 +1,5 @@
 -- Members of lists: what filters, searches and tests say of them.
-use Rattle.std.proofs.Common.{◌≡◌, zero, suc, Bool, true, false, List, [], ◌∷◌, filter, find, Some, arith, refl, subst, inl, inr, ◌⊎◌}
+use Rattle.std.proofs.Common.{◌≡◌, zero, suc, Bool, true, false, List, [], ◌∷◌, map, filter, find, Some, arith, refl, ap, subst, inl, inr, ◌⊎◌}
 use Rattle.std.specs.List.{All, AllPairs, Contains, list_any}
 use Rattle.std.proofs.lemmas.Bool.{cases_Bool, or_parts}
 use Rattle.std.proofs.lemmas.Option.{same_Some}
@@ -88,3 +88,10 @@ module _ {X : Type 0} where
 
   pub AllPairs-tail : (R : X → X → Type 0) (x : X) (xs : List X) → AllPairs R (x ∷ xs) → AllPairs R xs
   AllPairs-tail R x xs h i j d below within = h (suc i) (suc j) d (omega arith) (omega arith)
+
+pub map-member : {X Y : Type 0} (f : X → Y) (xs : List X) (x : X) → Contains xs x → Contains (map f xs) (f x)
+map-member f [] x h = absurd (not-Contains-nil x h)
+map-member f (y ∷ ys) x h = elim (Contains-cases y x ys h) [
+  | inl same ↦ subst (λ z. Contains (f y ∷ map f ys) z) (ap f same) (Contains-here (f y) (map f ys))
+  | inr more ↦ Contains-later (f y) (f x) (map f ys) (map-member f ys x more)
+]

@@ -1,8 +1,8 @@
 -- Each command leaves the stripes seated.
-use Rattle.std.proofs.Common.{inl, inr, ◌||◌, ℕ, if◌then◌else◌, is_none, ◌≡◌, ◌≢◌, ◌<◌, Bool, true, false, not, eqb, List, [], ◌∷◌, ◌++◌, filter, Option, Some, None, Result, Ok, Err, IsSomeAnd, arith, refl, sym, ap, ◌∙◌, subst}
+use Rattle.std.proofs.Common.{inl, inr, ◌||◌, ℕ, if◌then◌else◌, is_none, ◌≡◌, ◌≢◌, ◌<◌, Bool, true, false, not, eqb, List, [], ◌∷◌, ◌++◌, map, filter, fold, Option, Some, None, Result, Ok, Err, IsSomeAnd, arith, refl, sym, ap, ◌∙◌, subst}
 use Rattle.std.specs.List.{All, Contains}
 use Rattle.std.proofs.lemmas.Bool.{cases_Bool, ne_eqb, eq-eqb, eqb-false, not-true, or_parts}
-use Rattle.std.proofs.lemmas.List.Elements.{All-nil, All-weaker, All-filter, All-map, All-contains, Contains-append_left, Contains-push, Contains-push_cases}
+use Rattle.std.proofs.lemmas.List.Elements.{All-nil, All-append, All-weaker, All-filter, All-map, All-contains, Contains-append_left, Contains-push, Contains-push_cases}
 use Rattle.std.proofs.lemmas.List.Folds.{list_any-append}
 use Rattle.std.proofs.lemmas.List.Kept.{AllPairs-filter}
 use Rattle.lrc_code.specs.declared.codes.Code.{Code}
@@ -17,45 +17,33 @@ use Rattle.lrc_topology.specs.declared.seat.Seat.{Seat}
 use Rattle.lrc_topology.specs.declared.seat.Held.{Held}
 use Rattle.lrc_topology.specs.Nodes.{AreNodes, node_at}
 use Rattle.lrc_book.specs.declared.command.Command.{Command}
-use Rattle.lrc_book.specs.declared.command.Command.TheVariants.{Place, Drop, Fail, Down, Up, Join}
+use Rattle.lrc_book.specs.declared.command.Command.TheVariants.{Place, Drop, Lease, Done, Abandon, Revoke, Fail, Down, Up, Join}
 use Rattle.lrc_book.specs.declared.reply.Reply.TheVariants.{Dropped, Changed}
 use Rattle.lrc_book.specs.declared.reply.Refusal.{Refusal}
 use Rattle.lrc_book.specs.declared.reply.Refusal.TheVariants as refusal
 use Rattle.lrc_book.specs.declared.entry.Entry.{Entry}
 use Rattle.lrc_book.specs.declared.mode.Mode.TheVariants.{Active, Gone}
-use Rattle.lrc_book.specs.States.{State, opening, has_stripe, has_number, without_number, mode_of, is_gone, is_down, code_of, seats_of, taken_seats}
+use Rattle.lrc_leases.specs.declared.lease.Lease.{Lease as LeaseRecord}
+use Rattle.lrc_leases.specs.Leased.{is_target_on}
+use Rattle.lrc_book.specs.States.{State, held_by, opening, has_stripe, has_number, without_number, mode_of, is_gone, is_down, code_of, seats_of, taken_seats}
 use Rattle.lrc_book.specs.Placement.{placed}
 use Rattle.lrc_book.specs.Outcomes.{Outcome, refuse_if}
-use Rattle.lrc_book.specs.Steps.{with_stripe, place_answer, place_outcome, is_other, without_stripe, drop_outcome, node_outcome, stands_on, emptied, with_gone, with_down, without_down, without_gone, fail_outcome, down_outcome, up_outcome, join_outcome, step}
-use Rattle.lrc_book.specs.Goodness.{IsStanding, KeepApart, AreSeated}
+use Rattle.lrc_book.specs.Steps.{with_stripe, place_answer, place_outcome, is_other, without_stripe, drop_outcome, node_outcome, stands_on, hangs_on, emptied, with_gone, with_down, without_down, without_gone, fail_outcome, down_outcome, up_outcome, join_outcome, step}
+use Rattle.lrc_book.specs.Histories.{World, first_world, next_world, state_after}
+use Rattle.lrc_book.specs.Goodness.{IsStanding, AreSeated}
 use Rattle.lrc_book.proofs.MemberLemmas.{list_any-All, All-list_any, All-members, member-filter, filter-member, list_any-member}
-use Rattle.lrc_book.proofs.SeatingLemmas.{All-unmap, pairs-map, pairs-unmap, pairs-push, HasNone, homes-all, IsPlacing, placing, fragments-distinct}
+use Rattle.lrc_book.proofs.SeatingLists.{pairs-push}
+use Rattle.lrc_book.proofs.SeatingLemmas.{HasNone, homes-all, leases-all, IsPlacing, placing, fragments-distinct}
+use Rattle.lrc_book.proofs.LeaseGoodLemmas.{kept-seated}
+use Rattle.lrc_book.proofs.LeaseStepLemmas.{refused-seated, lease-seated, done-seated, abandon-seated, revoke-seated}
 
 -- ---- commands
-
-refused-seated : (nodes : List NodeInfo) (st : State) (met : Bool) (r : Refusal) (other : Outcome) → AreSeated nodes st → (met ≡ false → AreSeated nodes other.1) → AreSeated nodes (refuse_if met r st other).1
-refused-seated nodes st true r other seated next = seated
-refused-seated nodes st false r other seated next = next refl
 
 -- a stripe that is not there is none of the stripes
 pub not_there : (st : State) (s : StripeNo) → has_stripe st s ≡ false → (t : StripeNo) → Contains st.stripes t → t ≢ s
 not_there st s e t here same =
     let hit = list_any-member (λ (u : StripeNo). eqb s.value u.value) st.stripes t here (eq-eqb s.value t.value (ap (λ (x : StripeNo). x.value) (sym same))) in
     let both : true ≡ false = sym hit ∙ e in cc
-
--- some homes taken out
-pub kept-seated : (nodes : List NodeInfo) (st : State) (kept : Held → Bool) → AreSeated nodes st → AreSeated nodes (record st { homes = filter kept st.homes })
-kept-seated nodes st kept seated = record {
-  stripes = seated.stripes;
-  single = pairs-map (λ a b. a ≢ b) (λ (h : Held). h.seat) (filter kept st.homes)
-      (AllPairs-filter (λ h g. h.seat ≢ g.seat) kept st.homes (pairs-unmap (λ a b. a ≢ b) (λ (h : Held). h.seat) st.homes seated.single));
-  standing = All-map (IsStanding nodes st) (λ (h : Held). h.seat) (filter kept st.homes)
-      (All-filter kept (λ h. IsStanding nodes st h.seat) st.homes (All-unmap (IsStanding nodes st) (λ (h : Held). h.seat) st.homes seated.standing));
-  lawful = AllPairs-filter (KeepApart nodes st) kept st.homes seated.lawful;
-  one_home = AllPairs-filter (λ h g. h.stripe ≡ g.stripe → h.fragment ≢ g.fragment) kept st.homes seated.one_home;
-  there = All-filter kept (λ h. Contains st.stripes h.stripe) st.homes seated.there;
-  reachable = seated.reachable;
-}
 
 module _ (nodes : List NodeInfo) (known : AreNodes nodes) (st : State) (s : StripeNo) where
   -- a stripe that was not there, with no homes yet
@@ -66,6 +54,7 @@ module _ (nodes : List NodeInfo) (known : AreNodes nodes) (st : State) (s : Stri
     standing = seated.standing;
     lawful = seated.lawful;
     one_home = seated.one_home;
+    one_lease = seated.one_lease;
     there = All-weaker (λ h. Contains st.stripes h.stripe) (λ h. Contains (st.stripes ++ s ∷ []) h.stripe) (λ h here. Contains-append_left st.stripes (s ∷ []) h.stripe here) (seats_of st) seated.there;
     reachable = seated.reachable;
   }
@@ -95,20 +84,26 @@ module _ (nodes : List NodeInfo) (known : AreNodes nodes) (st : State) (s : Stri
       refused-seated nodes st (has_stripe st s) refusal.StripeExists (place_answer st s (placed nodes (with_stripe st code s) s)) seated
       (λ e. answer-seated code (placed nodes (with_stripe st code s) s) seated e refl)
 
-  -- the stripe and its homes taken out
+  -- the stripe, its homes and its leases taken out
   pub without-seated : AreSeated nodes st → AreSeated nodes (without_stripe st s)
   without-seated seated =
-      let kept = λ (h : Held). is_other s h.stripe in
-      let left = kept-seated nodes st kept seated in
+      let p = λ (h : Held). is_other s h.stripe in
+      let q = λ (l : LeaseRecord). is_other s l.stripe in
+      let left = kept-seated nodes st p q seated in
+      let stays = λ (t : StripeNo) (here : Contains st.stripes t) (other : is_other s t ≡ true). member-filter (is_other s) st.stripes t here other in
       record {
         stripes = AllPairs-filter (λ s t. s ≢ t) (is_other s) st.stripes seated.stripes;
         single = left.single;
         standing = left.standing;
         lawful = left.lawful;
         one_home = left.one_home;
-        there = All-members (λ h. Contains (filter (is_other s) st.stripes) h.stripe) (filter kept st.homes)
-            (λ h here. let m = filter-member kept st.homes h here in
-            member-filter (is_other s) st.stripes h.stripe (All-contains (λ g. Contains st.stripes g.stripe) st.homes h seated.there m.0) m.1);
+        one_lease = left.one_lease;
+        there = All-append (λ h. Contains (filter (is_other s) st.stripes) h.stripe) (filter p st.homes) (map held_by (filter q st.leases))
+            (All-members (λ h. Contains (filter (is_other s) st.stripes) h.stripe) (filter p st.homes)
+            (λ h here. let m = filter-member p st.homes h here in stays h.stripe (All-contains (λ g. Contains st.stripes g.stripe) st.homes h (homes-all (λ g. Contains st.stripes g.stripe) st seated.there) m.0) m.1))
+            (All-map (λ h. Contains (filter (is_other s) st.stripes) h.stripe) held_by (filter q st.leases)
+            (All-members (λ l. Contains (filter (is_other s) st.stripes) l.stripe) (filter q st.leases)
+            (λ l here. let m = filter-member q st.leases l here in stays l.stripe (All-contains (λ k. Contains st.stripes k.stripe) st.leases l (leases-all (λ g. Contains st.stripes g.stripe) st seated.there) m.0) m.1)));
         reachable = seated.reachable;
       }
 
@@ -161,6 +156,7 @@ modes-seated nodes st gone down seated present reachable =
           standing-by nodes (node_at nodes seat.node) seat.slot (mode_of st seat.node ≢ Gone) (mode_of st' seat.node ≢ Gone) standing (not_gone gone seat.node (present seat here)));
       lawful = seated.lawful;
       one_home = seated.one_home;
+      one_lease = seated.one_lease;
       there = seated.there;
       reachable = All-members (λ m. mode_of st' m ≢ Gone) down (λ m here. not_gone gone m (reachable m here));
     }
@@ -183,11 +179,18 @@ module _ (nodes : List NodeInfo) (st : State) (n : NodeNo) where
   left-number : (numbers : List NodeNo) (m : NodeNo) → Contains (without_number numbers n) m → Contains numbers m × (eqb n.value m.value ≡ false)
   left-number numbers m here = let parts = filter-member (λ (k : NodeNo). not (eqb n.value k.value)) numbers m here in (parts.0, not-true _ parts.1)
 
-  -- no home that is left stands on the node
+  -- no seat that is left stands on the node
   emptied-apart : All (λ (seat : Seat). eqb n.value seat.node.value ≡ false) (taken_seats (emptied st n))
   emptied-apart =
-      All-map (λ (seat : Seat). eqb n.value seat.node.value ≡ false) (λ (h : Held). h.seat) (filter (λ h. not (stands_on n h)) st.homes)
-      (All-members (λ h. eqb n.value h.seat.node.value ≡ false) (filter (λ h. not (stands_on n h)) st.homes) (λ h here. not-true _ (filter-member (λ h. not (stands_on n h)) st.homes h here).1))
+      let p = λ (h : Held). not (stands_on n h) in
+      let q = λ (l : LeaseRecord). not (hangs_on st n l) in
+      All-map (λ (seat : Seat). eqb n.value seat.node.value ≡ false) (λ (h : Held). h.seat) (seats_of (emptied st n))
+      (All-append (λ h. eqb n.value h.seat.node.value ≡ false) (filter p st.homes) (map held_by (filter q st.leases))
+      (All-members (λ h. eqb n.value h.seat.node.value ≡ false) (filter p st.homes) (λ h here. not-true _ (filter-member p st.homes h here).1))
+      (All-map (λ h. eqb n.value h.seat.node.value ≡ false) held_by (filter q st.leases)
+      (All-members (λ l. eqb n.value l.target.node.value ≡ false) (filter q st.leases) (λ l here.
+          let parts = or_parts (is_target_on n l) _ (not-true _ (filter-member q st.leases l here).1) in
+          ne_eqb n.value l.target.node.value (λ e. eqb-false l.target.node.value n.value parts.0 (sym e))))))
 
   other-number : (m : NodeNo) → eqb n.value m.value ≡ false → has_number st.gone m ≡ false → has_number (st.gone ++ n ∷ []) m ≡ false
   other-number m apart miss =
@@ -197,7 +200,7 @@ module _ (nodes : List NodeInfo) (st : State) (n : NodeNo) where
   -- a node that is gone, with the homes on it
   pub with_gone-seated : AreSeated nodes st → AreSeated nodes (with_gone (emptied st n) n)
   with_gone-seated seated =
-      let left = kept-seated nodes st (λ h. not (stands_on n h)) seated in
+      let left = kept-seated nodes st (λ h. not (stands_on n h)) (λ l. not (hangs_on st n l)) seated in
       modes-seated nodes (emptied st n) (st.gone ++ n ∷ []) (without_number st.down n) left
       (λ seat here. other-number seat.node (All-contains (λ (a : Seat). eqb n.value a.node.value ≡ false) (taken_seats (emptied st n)) seat emptied-apart here)
       (gone-number (emptied st n) seat.node (standing-present nodes (emptied st n) seat (All-contains (IsStanding nodes (emptied st n)) (taken_seats (emptied st n)) seat left.standing here))))
@@ -247,6 +250,7 @@ opening-seated nodes = record {
   standing = All-nil (IsStanding nodes opening);
   lawful = λ i j d below within. absurd (omega arith);
   one_home = λ i j d below within. absurd (omega arith);
+  one_lease = λ i j d below within. absurd (omega arith);
   there = All-nil (λ h. Contains opening.stripes h.stripe);
   reachable = All-nil (λ n. mode_of opening n ≢ Gone);
 }
@@ -255,7 +259,19 @@ opening-seated nodes = record {
 pub step-seated : (nodes : List NodeInfo) → AreNodes nodes → (past : List Entry) (st : State) (session : SessionNo) (command : Command) → AreSeated nodes st → AreSeated nodes (step nodes past st session command).1
 step-seated nodes known past st session (Place s) seated = place-seated nodes known st s Wide seated
 step-seated nodes known past st session (Drop s) seated = drop-seated nodes known st s seated
+step-seated nodes known past st session (Lease s f) seated = lease-seated nodes known past st session s f seated
+step-seated nodes known past st session (Done s f e) seated = done-seated nodes st session s f e seated
+step-seated nodes known past st session (Abandon s f e) seated = abandon-seated nodes st session s f e seated
+step-seated nodes known past st session (Revoke s f) seated = revoke-seated nodes st s f seated
 step-seated nodes known past st session (Fail n) seated = fail-seated nodes st n seated
 step-seated nodes known past st session (Down n) seated = down-seated nodes st n seated
 step-seated nodes known past st session (Up n) seated = up-seated nodes st n seated
 step-seated nodes known past st session (Join n) seated = join-seated nodes st n seated
+
+-- and so does each list of entries
+pub worlds-seated : (nodes : List NodeInfo) → AreNodes nodes → (w : World) (history : List Entry) → AreSeated nodes w.state → AreSeated nodes (fold (next_world nodes) w history).state
+worlds-seated nodes known w [] seated = seated
+worlds-seated nodes known w (e ∷ es) seated = worlds-seated nodes known (next_world nodes w e) es (step-seated nodes known w.past w.state e.session e.command seated)
+
+pub state_after-seated : (nodes : List NodeInfo) → AreNodes nodes → (history : List Entry) → AreSeated nodes (state_after nodes history)
+state_after-seated nodes known history = worlds-seated nodes known first_world history (opening-seated nodes)

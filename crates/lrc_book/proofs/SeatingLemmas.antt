@@ -1,13 +1,12 @@
--- A home on a chosen seat, and a stripe's fragments placed one after the other, leave the stripes seated.
-use Rattle.std.proofs.Common.{◌≡◌, ◌≢◌, ◌<◌, Bool, true, not, ◌&&◌, eqb, List, [], ◌∷◌, ◌++◌, map, fold, Option, Some, None, Ok, Err, IfSome, IsSomeAnd, arith, refl, sym, ap, ◌∙◌, subst}
+-- One home or lease more on a seat that is apart from the others, and a stripe's fragments placed one after the other, leave the stripes seated.
+use Rattle.std.proofs.Common.{◌≡◌, ◌≢◌, ◌<◌, Bool, true, not, ◌&&◌, eqb, append_assoc, List, [], ◌∷◌, ◌++◌, map, fold, Option, Some, None, Ok, Err, IfSome, IsSomeAnd, arith, refl, sym, ap, ◌∙◌, subst}
 use Rattle.std.specs.List.{All, AllPairs, Contains, list_any}
 use Rattle.std.specs.Option.{option_map_or}
 use Rattle.std.proofs.lemmas.Bool.{eqb-false, not-true, and_parts}
 use Rattle.std.proofs.lemmas.Option.{IfSome_then}
 use Rattle.std.proofs.lemmas.List.{map-append}
-use Rattle.std.proofs.lemmas.List.Elements.{All-nil, All-cons, All-head, All-tail, All-push, All-weaker, All-map}
+use Rattle.std.proofs.lemmas.List.Elements.{All-nil, All-cons, All-head, All-tail, All-append, All-push, All-weaker, All-map}
 use Rattle.std.proofs.lemmas.List.Folds.{fold_stays}
-use Rattle.std.proofs.lemmas.List.Quantifiers.{all_pairs_push}
 use Rattle.std.proofs.lemmas.List.Kept.{AllPairs-cons}
 use Rattle.lrc_code.specs.declared.codes.Code.{Code}
 use Rattle.lrc_code.specs.declared.codes.Code.TheVariants.{Wide}
@@ -20,36 +19,18 @@ use Rattle.lrc_topology.specs.declared.seat.Seat.{Seat}
 use Rattle.lrc_topology.specs.declared.seat.Held.{Held}
 use Rattle.lrc_topology.specs.Nodes.{AreNodes, node_at}
 use Rattle.lrc_book.specs.declared.mode.Mode.TheVariants.{Active, Gone}
-use Rattle.lrc_book.specs.States.{State, mode_of, code_of, seats_of, taken_seats}
+use Rattle.lrc_leases.specs.declared.lease.Lease.{Lease}
+use Rattle.lrc_leases.proofs.ListLemmas.{one_each-append}
+use Rattle.lrc_book.specs.States.{State, mode_of, code_of, held_by, lease_of, seats_of, taken_seats}
+use Rattle.lrc_book.specs.Leases.{with_lease}
 use Rattle.lrc_book.specs.Placement.{chosen, with_home, place_next}
 use Rattle.lrc_book.specs.Choices.{AreApart, IsApartFrom, IsChoice}
 use Rattle.lrc_book.specs.Goodness.{IsStanding, KeepApart, AreSeated}
 use Rattle.lrc_book.proofs.MemberLemmas.{All-list_any, All-members, AllPairs-head, AllPairs-tail}
 use Rattle.lrc_book.proofs.NodeLemmas.{node_at-member, seat_on}
+use Rattle.lrc_book.proofs.SeatingLists.{All-unmap, All-both, pairs-map, pairs-unmap, pairs-push}
+use Rattle.lrc_book.proofs.PairLemmas.{All-left, All-right, pairs-insert}
 use Rattle.lrc_book.proofs.ChoiceLemmas.{chosen-choice}
-
--- ---- lists
-
-pub All-unmap : {X Y : Type 0} (P : Y → Type 0) (f : X → Y) (xs : List X) → All P (map f xs) → All (λ x. P (f x)) xs
-All-unmap P f [] all = All-nil (λ x. P (f x))
-All-unmap P f (x ∷ xs) all = All-cons (λ y. P (f y)) x xs (All-head P (f x) (map f xs) all) (All-unmap P f xs (All-tail P (f x) (map f xs) all))
-
-module _ {X Y : Type 0} (R : Y → Y → Type 0) (f : X → Y) where
-  pub pairs-map : (xs : List X) → AllPairs (λ x y. R (f x) (f y)) xs → AllPairs R (map f xs)
-  pairs-map [] pairs = λ i j d below within. absurd (omega arith)
-  pairs-map (x ∷ xs) pairs =
-      AllPairs-cons R (f x) (map f xs) (All-map (R (f x)) f xs (AllPairs-head (λ x y. R (f x) (f y)) x xs pairs)) (pairs-map xs (AllPairs-tail (λ x y. R (f x) (f y)) x xs pairs))
-
-  pub pairs-unmap : (xs : List X) → AllPairs R (map f xs) → AllPairs (λ x y. R (f x) (f y)) xs
-  pairs-unmap [] pairs = λ i j d below within. absurd (omega arith)
-  pairs-unmap (x ∷ xs) pairs =
-      AllPairs-cons (λ x y. R (f x) (f y)) x xs (All-unmap (R (f x)) f xs (AllPairs-head R (f x) (map f xs) pairs)) (pairs-unmap xs (AllPairs-tail R (f x) (map f xs) pairs))
-
-pub pairs-push : {X : Type 0} (R : X → X → Type 0) (xs : List X) (y : X) → AllPairs R xs → All (λ x. R x y) xs → AllPairs R (xs ++ y ∷ [])
-pairs-push R xs y pairs all = all_pairs_push R xs y pairs all
-
-All-both : {X : Type 0} (P Q : X → Type 0) (xs : List X) → All P xs → All Q xs → All (λ x. P x × Q x) xs
-All-both P Q xs p q k d within = (p k d within, q k d within)
 
 -- none of the seats is one of this fragment of the stripe
 abbrev pub HasNone : StripeNo → List Held → Fragment → Type 0
@@ -60,13 +41,85 @@ HasNone s seats f = All (λ h. h.stripe ≡ s → h.fragment ≢ f) seats
 abbrev pub held_on : StripeNo → Fragment → Seat → Held
 held_on s f seat = record { stripe = s; fragment = f; seat = seat }
 
--- the home is one more seat
-pub seats-home : (st : State) (s : StripeNo) (f : Fragment) (seat : Seat) → seats_of (with_home st s f seat) ≡ seats_of st ++ held_on s f seat ∷ []
-seats-home st s f seat = refl
-
 -- what holds of all seats holds of all homes
 pub homes-all : (P : Held → Type 0) (st : State) → All P (seats_of st) → All P st.homes
-homes-all P st all = all
+homes-all P st all = All-left P st.homes (map held_by st.leases) all
+
+-- and of all leases, by the seats that they hold
+pub leases-all : (P : Held → Type 0) (st : State) → All P (seats_of st) → All (λ l. P (held_by l)) st.leases
+leases-all P st all = All-unmap P held_by st.leases (All-right P st.homes (map held_by st.leases) all)
+
+AreApart-turn : (code : Code) (f g : Fragment) (n m : NodeInfo) → AreApart code f n g m → AreApart code g m f n
+AreApart-turn code f g n m apart = record { faults = λ e. apart.faults (sym e); upgrades = λ class e. apart.upgrades (share_class-turn code f g ∙ class) (sym e) }
+
+apart-turn : (code : Code) (f g : Fragment) (o p : Option NodeInfo) → IfSome o (λ n. IfSome p (λ m. AreApart code f n g m)) → IfSome p (λ m. IfSome o (λ n. AreApart code g m f n))
+apart-turn code f g None None h = tt
+apart-turn code f g None (Some m) h = tt
+apart-turn code f g (Some n) None h = tt
+apart-turn code f g (Some n) (Some m) h = AreApart-turn code f g n m h
+
+-- being apart is the same both ways
+pub KeepApart-turn : (nodes : List NodeInfo) (st : State) (h g : Held) → KeepApart nodes st h g → KeepApart nodes st g h
+KeepApart-turn nodes st h g apart stripe fragment =
+    apart-turn (code_of st h.stripe) h.fragment g.fragment (node_at nodes h.seat.node) (node_at nodes g.seat.node) (apart (sym stripe) (λ e. fragment (sym e)))
+
+other-turn : (h g : Held) → h.seat ≢ g.seat → g.seat ≢ h.seat
+other-turn h g other = λ e. other (sym e)
+
+-- a seat that may be added: it stands, and all others are others and apart from it
+pub record MayStand (nodes : List NodeInfo) (st : State) (y : Held) : Type 0 where
+  pub standing : IsStanding nodes st y.seat
+  pub others : All (λ h. h.seat ≢ y.seat) (seats_of st)
+  pub apart : All (λ h. KeepApart nodes st h y) (seats_of st)
+  pub there : Contains st.stripes y.stripe
+
+module _ (nodes : List NodeInfo) (st : State) (seated : AreSeated nodes st) where
+  pub held-single : AllPairs (λ h g. h.seat ≢ g.seat) (seats_of st)
+  held-single = pairs-unmap (λ a b. a ≢ b) (λ (h : Held). h.seat) (seats_of st) seated.single
+
+  pub held-standing : All (λ h. IsStanding nodes st h.seat) (seats_of st)
+  held-standing = All-unmap (IsStanding nodes st) (λ (h : Held). h.seat) (seats_of st) seated.standing
+
+  -- what holds of all seats and of one more that is added before the targets
+  All-inserted : (P : Held → Type 0) (y : Held) → All P (seats_of st) → P y → All P (seats_of (record st { homes = st.homes ++ y ∷ [] }))
+  All-inserted P y all own =
+      let targets = map held_by st.leases in
+      All-append P (st.homes ++ y ∷ []) targets (All-push P st.homes y (All-left P st.homes targets all) own) (All-right P st.homes targets all)
+
+  -- one more home, of a fragment that had none
+  pub inserted-seated : (y : Held) → MayStand nodes st y → HasNone y.stripe st.homes y.fragment → AreSeated nodes (record st { homes = st.homes ++ y ∷ [] })
+  inserted-seated y may absent =
+      let st' = record st { homes = st.homes ++ y ∷ [] } in
+      let targets = map held_by st.leases in
+      record {
+        stripes = seated.stripes;
+        single = pairs-map (λ a b. a ≢ b) (λ (h : Held). h.seat) (seats_of st') (pairs-insert (λ h g. h.seat ≢ g.seat) other-turn st.homes targets y held-single may.others);
+        standing = All-map (IsStanding nodes st) (λ (h : Held). h.seat) (seats_of st') (All-inserted (λ h. IsStanding nodes st h.seat) y held-standing may.standing);
+        lawful = pairs-insert (KeepApart nodes st) (KeepApart-turn nodes st) st.homes targets y seated.lawful may.apart;
+        one_home = pairs-push (λ h g. h.stripe ≡ g.stripe → h.fragment ≢ g.fragment) st.homes y seated.one_home absent;
+        one_lease = seated.one_lease;
+        there = All-inserted (λ h. Contains st.stripes h.stripe) y seated.there may.there;
+        reachable = seated.reachable;
+      }
+
+  -- one more lease, of a fragment that had none
+  pub leased-seated : (l : Lease) → MayStand nodes st (held_by l) → lease_of st l.stripe l.fragment ≡ None → AreSeated nodes (with_lease st l)
+  leased-seated l may none =
+      let y = held_by l in
+      let held : seats_of (with_lease st l) ≡ seats_of st ++ y ∷ [] =
+          ap (λ (hs : List Held). st.homes ++ hs) (map-append held_by st.leases (l ∷ [])) ∙ sym (append_assoc st.homes (map held_by st.leases) (y ∷ [])) in
+      record {
+        stripes = seated.stripes;
+        single = pairs-map (λ a b. a ≢ b) (λ (h : Held). h.seat) (seats_of (with_lease st l))
+            (subst (AllPairs (λ h g. h.seat ≢ g.seat)) (sym held) (pairs-push (λ h g. h.seat ≢ g.seat) (seats_of st) y held-single may.others));
+        standing = All-map (IsStanding nodes st) (λ (h : Held). h.seat) (seats_of (with_lease st l))
+            (subst (All (λ h. IsStanding nodes st h.seat)) (sym held) (All-push (λ h. IsStanding nodes st h.seat) (seats_of st) y held-standing may.standing));
+        lawful = subst (AllPairs (KeepApart nodes st)) (sym held) (pairs-push (KeepApart nodes st) (seats_of st) y seated.lawful may.apart);
+        one_home = seated.one_home;
+        one_lease = one_each-append st.leases l seated.one_lease none;
+        there = subst (All (λ h. Contains st.stripes h.stripe)) (sym held) (All-push (λ h. Contains st.stripes h.stripe) (seats_of st) y seated.there may.there);
+        reachable = seated.reachable;
+      }
 
 module _ (nodes : List NodeInfo) (known : AreNodes nodes) (st : State) (s : StripeNo) (f : Fragment) (seat : Seat) where
   -- a seat that is chosen is none of those that are held
@@ -89,32 +142,24 @@ module _ (nodes : List NodeInfo) (known : AreNodes nodes) (st : State) (s : Stri
       subst (λ o. IsSomeAnd o (λ (n : NodeInfo). (seat.slot < n.slots) × (mode_of st seat.node ≢ Gone))) (sym (choice-found choice choice.node choice.fitting.known choice.on))
       (choice.free.within, choice-present choice)
 
-  AreApart-sym : (code : Code) (g : Fragment) (n m : NodeInfo) → AreApart code f n g m → AreApart code g m f n
-  AreApart-sym code g n m apart = record { faults = λ e. apart.faults (sym e); upgrades = λ class e. apart.upgrades (share_class-turn code f g ∙ class) (sym e) }
-
   -- it is apart from the seats of the stripe's other fragments
   choice-apart : (choice : IsChoice nodes st s f seat) (h : Held) → IsApartFrom nodes st s f choice.node h → KeepApart nodes st h (held_on s f seat)
   choice-apart choice h apart stripe fragment =
       IfSome_then (node_at nodes h.seat.node) (apart stripe fragment) (λ m a.
       subst (λ o. IfSome o (λ n. AreApart (code_of st h.stripe) h.fragment m f n)) (sym (choice-found choice choice.node choice.fitting.known choice.on))
-      (subst (λ t. AreApart (code_of st t) h.fragment m f choice.node) (sym stripe) (AreApart-sym (code_of st s) h.fragment choice.node m a)))
+      (subst (λ t. AreApart (code_of st t) h.fragment m f choice.node) (sym stripe) (AreApart-turn (code_of st s) f h.fragment choice.node m a)))
+
+  pub choice-stands : IsChoice nodes st s f seat → Contains st.stripes s → MayStand nodes st (held_on s f seat)
+  choice-stands choice there = record {
+    standing = choice-standing choice;
+    others = All-unmap (λ a. a ≢ seat) (λ (h : Held). h.seat) (seats_of st) (choice-new choice);
+    apart = All-weaker (IsApartFrom nodes st s f choice.node) (λ h. KeepApart nodes st h (held_on s f seat)) (choice-apart choice) (seats_of st) choice.fitting.lawful;
+    there = there;
+  }
 
   -- a home on a chosen seat, for a fragment that has none
   pub home-seated : AreSeated nodes st → IsChoice nodes st s f seat → Contains st.stripes s → HasNone s st.homes f → AreSeated nodes (with_home st s f seat)
-  home-seated seated choice there absent =
-      let y = held_on s f seat in
-      let held : seats_of (with_home st s f seat) ≡ seats_of st ++ y ∷ [] = seats-home st s f seat in
-      let seats : taken_seats (with_home st s f seat) ≡ taken_seats st ++ seat ∷ [] = ap (map (λ (h : Held). h.seat)) held ∙ map-append (λ (h : Held). h.seat) (seats_of st) (y ∷ []) in
-      record {
-        stripes = seated.stripes;
-        single = subst (AllPairs (λ a b. a ≢ b)) (sym seats) (pairs-push (λ a b. a ≢ b) (taken_seats st) seat seated.single (choice-new choice));
-        standing = subst (All (IsStanding nodes st)) (sym seats) (All-push (IsStanding nodes st) (taken_seats st) seat seated.standing (choice-standing choice));
-        lawful = subst (AllPairs (KeepApart nodes st)) (sym held)
-            (pairs-push (KeepApart nodes st) (seats_of st) y seated.lawful (All-weaker (IsApartFrom nodes st s f choice.node) (λ h. KeepApart nodes st h y) (choice-apart choice) (seats_of st) choice.fitting.lawful));
-        one_home = pairs-push (λ h g. h.stripe ≡ g.stripe → h.fragment ≢ g.fragment) st.homes y seated.one_home absent;
-        there = subst (All (λ h. Contains st.stripes h.stripe)) (sym held) (All-push (λ h. Contains st.stripes h.stripe) (seats_of st) y seated.there there);
-        reachable = seated.reachable;
-      }
+  home-seated seated choice there absent = inserted-seated nodes st seated (held_on s f seat) (choice-stands choice there) absent
 
 -- ---- placing
 

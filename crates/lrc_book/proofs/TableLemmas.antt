@@ -18,8 +18,9 @@ use Rattle.lrc_slots.specs.Slots.{Slots, with_taken, with_free}
 use Rattle.lrc_book.specs.States.{State, opening, taken_seats, takes_seats}
 use Rattle.lrc_book.specs.Placement.{with_home}
 use Rattle.lrc_book.specs.Ties.{table_of}
+pub use Rattle.lrc_book.proofs.MemberLemmas.{map-member}
 use Rattle.lrc_book.proofs.MemberLemmas.{AllPairs-head, AllPairs-tail, Contains-here, Contains-later, Contains-cases, not-Contains-nil}
-use Rattle.lrc_book.proofs.SeatingLemmas.{pairs-unmap}
+use Rattle.lrc_book.proofs.SeatingLists.{pairs-unmap}
 use Rattle.lrc_book.proofs.TieLemmas.{not_taken}
 
 or_none : (b : Bool) → b ≡ (b || false)
@@ -29,13 +30,6 @@ or_none false = refl
 and_one : (b : Bool) → b ≡ (b && true)
 and_one true = refl
 and_one false = refl
-
-pub map-member : {X Y : Type 0} (f : X → Y) (xs : List X) (x : X) → Contains xs x → Contains (map f xs) (f x)
-map-member f [] x h = absurd (not-Contains-nil x h)
-map-member f (y ∷ ys) x h = elim (Contains-cases y x ys h) [
-  | inl same ↦ subst (λ z. Contains (f y ∷ map f ys) z) (ap f same) (Contains-here (f y) (map f ys))
-  | inr more ↦ Contains-later (f y) (f x) (map f ys) (map-member f ys x more)
-]
 
 pub pairs-before : {X : Type 0} (R : X → X → Type 0) (xs : List X) (i : ℕ) (d : X) → AllPairs R xs → i < length xs → All (λ x. R x (get_or xs i d)) (take i xs)
 pairs-before R xs i d pairs within k e short =

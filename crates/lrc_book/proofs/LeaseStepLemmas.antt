@@ -1,0 +1,97 @@
+-- The commands of repair leases leave the stripes seated.
+use Rattle.std.proofs.Common.{◌≡◌, ℕ, inl, inr, Bool, true, false, not, is_none, nat_eq, List, Option, Some, None, refl, sym, ap, ◌∙◌, subst}
+use Rattle.std.specs.List.{Contains}
+use Rattle.std.proofs.lemmas.Bool.{cases_Bool, eqb-true}
+use Rattle.std.proofs.lemmas.Option.{same_Some}
+use Rattle.lrc_code.specs.declared.numbers.StripeNo.{StripeNo}
+use Rattle.lrc_code.specs.declared.numbers.SessionNo.{SessionNo}
+use Rattle.lrc_code.specs.declared.numbers.Fragment.{Fragment}
+use Rattle.lrc_code.specs.Numbers.{same_stripe}
+use Rattle.lrc_code.proofs.NumbersLemmas.{equal_stripes}
+use Rattle.lrc_topology.specs.declared.NodeInfo.{NodeInfo}
+use Rattle.lrc_topology.specs.declared.seat.Seat.{Seat}
+use Rattle.lrc_topology.specs.Nodes.{AreNodes}
+use Rattle.lrc_leases.specs.declared.lease.Lease.{Lease}
+use Rattle.lrc_book.specs.declared.reply.Reply.TheVariants.{Ended}
+use Rattle.lrc_book.specs.declared.reply.Refusal.{Refusal}
+use Rattle.lrc_book.specs.declared.reply.Refusal.TheVariants as refusal
+use Rattle.lrc_book.specs.declared.entry.Entry.{Entry}
+use Rattle.lrc_book.specs.States.{State, has_stripe, lease_of, online_at}
+use Rattle.lrc_book.specs.Placement.{chosen}
+use Rattle.lrc_book.specs.Repairs.{needs, is_beyond_repair}
+use Rattle.lrc_book.specs.Outcomes.{Outcome, refuse_if}
+use Rattle.lrc_book.specs.Leases.{new_lease, granted, lease_answer, lease_outcome, without_lease, at_epoch, is_held_by, moved_in, done_answer, done_outcome, abandon_answer, abandon_outcome, revoke_outcome}
+use Rattle.lrc_book.specs.Goodness.{AreSeated}
+use Rattle.lrc_book.proofs.MemberLemmas.{member-list_any}
+use Rattle.lrc_book.proofs.ChoiceLemmas.{chosen-choice}
+use Rattle.lrc_book.proofs.LeaseGoodLemmas.{granted-seated, ended-seated, moved-seated}
+
+-- ---- outcomes that refuse
+
+pub refused-seated : (nodes : List NodeInfo) (st : State) (met : Bool) (r : Refusal) (other : Outcome) → AreSeated nodes st → (met ≡ false → AreSeated nodes other.1) → AreSeated nodes (refuse_if met r st other).1
+refused-seated nodes st true r other seated next = seated
+refused-seated nodes st false r other seated next = next refl
+
+pub from_not : (b : Bool) → not b ≡ false → b ≡ true
+from_not true e = refl
+from_not false e = absurd (let both : true ≡ false = e in cc)
+
+-- a stripe that the test finds is one of the stripes
+pub stripe-there : (st : State) (s : StripeNo) → has_stripe st s ≡ true → Contains st.stripes s
+stripe-there st s e = let m = member-list_any (same_stripe s) st.stripes e in subst (Contains st.stripes) (sym (equal_stripes s m.0 (eqb-true _ _ m.2))) m.1
+
+-- what has an epoch is there
+pub at_epoch-some : (e : ℕ) (o : Option Lease) (l : Lease) → at_epoch e o ≡ Some l → (o ≡ Some l) × (l.epoch ≡ e)
+at_epoch-some e None l is = absurd (let both : None ≡ Some l = is in cc)
+at_epoch-some e (Some k) l is = elim (cases_Bool (nat_eq k.epoch e)) [
+  | inl hit ↦ let same : Some k ≡ Some l = rw hit at is in (same, eqb-true l.epoch e (subst (λ (m : Lease). nat_eq m.epoch e ≡ true) (same_Some k l same) hit))
+  | inr miss ↦ absurd (let both : None ≡ Some l = rw miss at is in cc)
+]
+
+-- ---- grants
+
+module _ (nodes : List NodeInfo) (known : AreNodes nodes) (past : List Entry) (st : State) (session : SessionNo) (s : StripeNo) (f : Fragment) where
+  chosen-seated : AreSeated nodes st → has_stripe st s ≡ true → lease_of st s f ≡ None → (o : Option Seat) → chosen nodes st s f ≡ o → AreSeated nodes (granted nodes past st session s f o).1
+  chosen-seated seated there none None e = seated
+  chosen-seated seated there none (Some seat) e =
+      granted-seated nodes known st (new_lease past session s f seat) seated (chosen-choice nodes st s f seat known e) (stripe-there st s there) none
+
+  answered-seated : AreSeated nodes st → has_stripe st s ≡ true → (o : Option Lease) → lease_of st s f ≡ o → AreSeated nodes (lease_answer nodes past st session s f o).1
+  answered-seated seated there (Some l) e = seated
+  answered-seated seated there None e =
+      refused-seated nodes st (not (needs st s f)) refusal.NotNeeded _ seated
+      (λ needed. refused-seated nodes st (is_beyond_repair nodes st s f) refusal.Unrecoverable _ seated (λ safe. chosen-seated seated there e (chosen nodes st s f) refl))
+
+  pub lease-seated : AreSeated nodes st → AreSeated nodes (lease_outcome nodes past st session s f).1
+  unfolding lease_outcome
+  lease-seated seated =
+      refused-seated nodes st (not (has_stripe st s)) refusal.UnknownStripe (lease_answer nodes past st session s f (lease_of st s f)) seated
+      (λ there. answered-seated seated (from_not _ there) (lease_of st s f) refl)
+
+-- ---- ends
+
+module _ (nodes : List NodeInfo) (st : State) (session : SessionNo) (s : StripeNo) (f : Fragment) (e : ℕ) where
+  done-by : AreSeated nodes st → (o : Option Lease) → at_epoch e (lease_of st s f) ≡ o → AreSeated nodes (done_answer nodes st session s f o).1
+  done-by seated None is = seated
+  done-by seated (Some l) is =
+      refused-seated nodes st (not (is_held_by session l)) (refusal.NotHolder l.holder) _ seated (λ held.
+      refused-seated nodes st (not (online_at nodes st l.target.node)) (refusal.TargetOffline l.target.node) (Ended, moved_in st s f l.target) seated (λ online.
+      moved-seated nodes st s f l (at_epoch-some e (lease_of st s f) l is).0 seated))
+
+  pub done-seated : AreSeated nodes st → AreSeated nodes (done_outcome nodes st session s f e).1
+  unfolding done_outcome
+  done-seated seated = refused-seated nodes st (not (has_stripe st s)) refusal.UnknownStripe _ seated (λ there. done-by seated (at_epoch e (lease_of st s f)) refl)
+
+  abandon-by : AreSeated nodes st → (o : Option Lease) → AreSeated nodes (abandon_answer st session s f o).1
+  abandon-by seated None = seated
+  abandon-by seated (Some l) = refused-seated nodes st (not (is_held_by session l)) (refusal.NotHolder l.holder) (Ended, without_lease st s f) seated (λ held. ended-seated nodes st s f seated)
+
+  pub abandon-seated : AreSeated nodes st → AreSeated nodes (abandon_outcome st session s f e).1
+  unfolding abandon_outcome
+  abandon-seated seated = refused-seated nodes st (not (has_stripe st s)) refusal.UnknownStripe _ seated (λ there. abandon-by seated (at_epoch e (lease_of st s f)))
+
+pub revoke-seated : (nodes : List NodeInfo) (st : State) (s : StripeNo) (f : Fragment) → AreSeated nodes st → AreSeated nodes (revoke_outcome st s f).1
+unfolding revoke_outcome
+revoke-seated nodes st s f seated =
+    refused-seated nodes st (not (has_stripe st s)) refusal.UnknownStripe _ seated (λ there.
+    refused-seated nodes st (is_none (lease_of st s f)) refusal.NoLease (Ended, without_lease st s f) seated (λ live. ended-seated nodes st s f seated))
