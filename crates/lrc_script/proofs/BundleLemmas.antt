@@ -9,7 +9,7 @@ use Rattle.lrc_script.specs.declared.bundle.ScriptText.{ScriptText}
 use Rattle.lrc_book.specs.declared.command.Command.{Command}
 use Rattle.lrc_script.specs.Scripts.{lines_of, is_passed_over, IsScript, or_else, cause_of, first_bad}
 use Rattle.lrc_script.proofs.ScriptLemmas.{cause_of-passed}
-use Rattle.lrc_script.proofs.TextLemmas.{joined_lines-of}
+use Rattle.lrc_script.proofs.TextLemmas.{joined_lines-of, topology_of-text}
 use Rattle.lrc_script.specs.Bundles.{is_parting, scripts_from, scripts_in, scripts_of, topology_in, topology_of, ended_lines, text_before, HoldsLines, AreTextsOf}
 use Rattle.lrc_script.specs.Cuts.{StandBehind, IsCutAtParting, IsPart}
 
@@ -50,10 +50,6 @@ lines_below text before lines behind cut = omega (arith, cut.counted, ap length 
 
 -- ---- the first part
 
-topology_in-some : (bundle : List ℕ) (first : List (List ℕ)) (others : List (List (List ℕ))) → 0 < length others → topology_in bundle (first ∷ others) ≡ ended_lines first
-topology_in-some bundle first [] some = absurd (omega (arith, some))
-topology_in-some bundle first (second ∷ others) some = refl
-
 text_before-some : (first : List (List ℕ)) (others : List (List (List ℕ))) → 0 < length others → text_before others first ≡ ended_lines first
 text_before-some first [] some = absurd (omega (arith, some))
 text_before-some first (second ∷ others) some = refl
@@ -85,7 +81,7 @@ module _ (bundle before : List ℕ) (lines : ℕ) where
   pub topology_of-first : (behind : Option (Bor (List ℕ))) → IsPart bundle before lines behind → before ≡ topology_of bundle
   unfolding topology_of
   topology_of-first None part = part.0 ∙ sym (ap (topology_in bundle) part.2)
-  topology_of-first (Some rest) cut = cut.text_before ∙ sym (ap (topology_in bundle) cut.parts ∙ topology_in-some bundle cut.first cut.others (some_left rest.now cut.others cut.stand))
+  topology_of-first (Some rest) cut = cut.text_before ∙ sym (topology_of-text bundle cut.first cut.others cut.parts ∙ text_before-some cut.first cut.others (some_left rest.now cut.others cut.stand))
 
 -- ---- the next part
 
