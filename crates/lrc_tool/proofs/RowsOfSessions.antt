@@ -9,10 +9,7 @@ use Rattle.lrc_book.specs.declared.reply.Reply.TheVariants.{Refused}
 use Rattle.lrc_book.specs.declared.reply.Refusal.TheVariants.{UnknownStripe}
 use Rattle.lrc_book.specs.Steps.{drop_outcome}
 use Rattle.lrc_tool.specs.Outputs.{IsPlayed}
-use Rattle.lrc_tool.proofs.Rows.{session, remove, ten_domains}
-
-abbrev second : SessionNo
-second = record { value = 2; in_range = (lit≤ tt, lit≤ tt) }
+use Rattle.lrc_tool.proofs.Rows.{session, second, remove, ten_domains}
 
 -- a stripe that is not there is dropped
 abbrev refused_to : SessionNo → Command → Entry
