@@ -11,6 +11,7 @@ pub mod SeatingLemmas
 pub mod LeaseGoodLemmas
 pub mod LeaseStepLemmas
 pub mod SeatedLemmas
+pub mod LeaseCountLemmas
 pub mod GoodLemmas
 pub mod TieLemmas
 pub mod TableLemmas
