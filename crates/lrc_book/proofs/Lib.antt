@@ -13,6 +13,9 @@ pub mod LeaseStepLemmas
 pub mod SeatedLemmas
 pub mod LeaseCountLemmas
 pub mod GoodLemmas
+pub mod LeaseLawLemmas
+pub mod ReportLemmas
+pub mod KindLemmas
 pub mod TieLemmas
 pub mod TableLemmas
 pub mod BarLemmas

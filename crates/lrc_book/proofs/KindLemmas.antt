@@ -1,0 +1,2 @@
+-- From what a fragment is rebuilt, in words.
+use Rattle.std.proofs.Common.{List}
