@@ -11,7 +11,11 @@ pub mod SeatingLemmas
 pub mod LeaseGoodLemmas
 pub mod LeaseStepLemmas
 pub mod SeatedLemmas
+pub mod LeaseCountLemmas
 pub mod GoodLemmas
+pub mod LeaseLawLemmas
+pub mod ReportLemmas
+pub mod KindLemmas
 pub mod TieLemmas
 pub mod TakenLemmas
 pub mod TableLemmas
@@ -27,3 +31,4 @@ pub mod ToldLemmas
 pub mod PlacingLemmas
 pub mod ShownLemmas
 pub mod EndLemmas
+pub mod BesideLemmas

@@ -29,7 +29,6 @@ use Rattle.lrc_book.specs.States.{State, held_by, opening, has_stripe, has_numbe
 use Rattle.lrc_book.specs.Placement.{placed}
 use Rattle.lrc_book.specs.Outcomes.{Outcome, refuse_if}
 use Rattle.lrc_book.specs.Steps.{with_stripe, place_answer, place_outcome, is_other, without_stripe, drop_outcome, node_outcome, stands_on, hangs_on, emptied, with_gone, with_down, without_down, without_gone, fail_outcome, down_outcome, up_outcome, join_outcome, step}
-use Rattle.lrc_book.specs.Histories.{World, first_world, next_world, state_after}
 use Rattle.lrc_book.specs.Goodness.{IsStanding, AreSeated}
 use Rattle.lrc_book.proofs.MemberLemmas.{list_any-All, All-list_any, All-members, member-filter, filter-member, list_any-member}
 use Rattle.lrc_book.proofs.SeatingLists.{pairs-push}
@@ -267,11 +266,3 @@ step-seated nodes known past st session (Fail n) seated = fail-seated nodes st n
 step-seated nodes known past st session (Down n) seated = down-seated nodes st n seated
 step-seated nodes known past st session (Up n) seated = up-seated nodes st n seated
 step-seated nodes known past st session (Join n) seated = join-seated nodes st n seated
-
--- and so does each list of entries
-pub worlds-seated : (nodes : List NodeInfo) → AreNodes nodes → (w : World) (history : List Entry) → AreSeated nodes w.state → AreSeated nodes (fold (next_world nodes) w history).state
-worlds-seated nodes known w [] seated = seated
-worlds-seated nodes known w (e ∷ es) seated = worlds-seated nodes known (next_world nodes w e) es (step-seated nodes known w.past w.state e.session e.command seated)
-
-pub state_after-seated : (nodes : List NodeInfo) → AreNodes nodes → (history : List Entry) → AreSeated nodes (state_after nodes history)
-state_after-seated nodes known history = worlds-seated nodes known first_world history (opening-seated nodes)

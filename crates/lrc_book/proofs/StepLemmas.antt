@@ -1,5 +1,5 @@
 -- What a step answers and changes, case by case.
-use Rattle.std.proofs.Common.{◌≡◌, Bool, true, false, not, ◌||◌, is_none, List, [], ◌∷◌, ◌++◌, length, map, drop, fold, Option, Some, None, Result, Ok, Err, refl, sym, ap, ◌∙◌, append_assoc, append-nil, arith}
+use Rattle.std.proofs.Common.{◌≡◌, ℕ, Bool, true, false, not, nat_eq, if◌then◌else◌, ◌||◌, is_none, List, [], ◌∷◌, ◌++◌, length, map, drop, fold, Option, Some, None, Result, Ok, Err, refl, sym, ap, ◌∙◌, append_assoc, append-nil, arith}
 use Rattle.std.specs.Option.{option_map_or}
 use Rattle.std.proofs.lemmas.List.Folds.{fold_stays}
 use Rattle.lrc_code.specs.declared.codes.Code.TheVariants.{Wide}
@@ -13,51 +13,24 @@ use Rattle.lrc_topology.specs.declared.NodeInfo.{NodeInfo}
 use Rattle.lrc_topology.specs.declared.seat.Seat.{Seat}
 use Rattle.lrc_topology.specs.declared.seat.Held.{Held}
 use Rattle.lrc_book.specs.declared.command.Command.{Command}
-use Rattle.lrc_book.specs.declared.command.Command.TheVariants.{Place, Drop, Fail, Down, Up, Join}
-use Rattle.lrc_book.specs.declared.reply.Reply.TheVariants.{Placed, Dropped, Changed, Refused}
+use Rattle.lrc_book.specs.declared.command.Command.TheVariants.{Place, Drop, Lease, Done, Abandon, Revoke, Fail, Down, Up, Join}
+use Rattle.lrc_book.specs.declared.reply.Reply.TheVariants.{Dropped, Ended, Changed, Refused}
 use Rattle.lrc_book.specs.declared.reply.Refusal.{Refusal}
 use Rattle.lrc_book.specs.declared.reply.Refusal.TheVariants as refusal
 use Rattle.lrc_book.specs.declared.entry.Entry.{Entry}
-use Rattle.lrc_book.specs.States.{State, has_stripe, mode_of, is_gone, is_down}
+use Rattle.lrc_leases.specs.declared.lease.Lease.{Lease as LeaseRecord}
+use Rattle.lrc_book.specs.Repairs.{needs, is_beyond_repair}
+use Rattle.lrc_book.specs.Leases.{granted, lease_answer, lease_outcome, at_epoch, is_held_by, moved_in, without_lease, done_answer, done_outcome, abandon_answer, abandon_outcome, revoke_outcome}
+use Rattle.lrc_book.specs.States.{State, has_stripe, lease_of, online_at, mode_of, is_gone, is_down}
 use Rattle.lrc_book.specs.Placement.{chosen, with_home, place_next, placed}
 use Rattle.lrc_book.specs.Outcomes.{Outcome, refuse_if}
 use Rattle.lrc_book.specs.Steps.{with_stripe, without_stripe, place_answer, place_outcome, drop_outcome, fail_outcome, down_outcome, up_outcome, join_outcome, step}
 use Rattle.lrc_book.specs.Choices.{AreChosen}
-use Rattle.lrc_book.specs.Changes.{held_at, with_placed, changed_by}
-
--- ---- placing
-
--- the choice reads nothing of the stripes
-chosen-stripes : (nodes : List NodeInfo) (st : State) (stripes : List StripeNo) (s : StripeNo) (f : Fragment) → chosen nodes (record st { stripes = stripes }) s f ≡ chosen nodes st s f
-unfolding chosen
-chosen-stripes nodes st stripes s f = refl
-
-abbrev restripe : List StripeNo → Result State Fragment → Result State Fragment
-restripe stripes (Ok st) = Ok (record st { stripes = stripes })
-restripe stripes (Err f) = Err f
+use Rattle.lrc_book.specs.Changes.{held_at, with_placed, with_done, changed_by}
 
 -- what one more fragment gives, by what was chosen
 abbrev turn : StripeNo → State → Fragment → Option Seat → Result State Fragment
 turn s st f o = option_map_or (λ seat. Ok (with_home st s f seat)) o (Err f)
-
-turn-stripes : (s : StripeNo) (st : State) (stripes : List StripeNo) (f : Fragment) (o : Option Seat) → turn s (record st { stripes = stripes }) f o ≡ restripe stripes (turn s st f o)
-turn-stripes s st stripes f (Some seat) = refl
-turn-stripes s st stripes f None = refl
-
-place_next-stripes : (nodes : List NodeInfo) (s : StripeNo) (stripes : List StripeNo) (r : Result State Fragment) (f : Fragment) → place_next nodes s (restripe stripes r) f ≡ restripe stripes (place_next nodes s r f)
-place_next-stripes nodes s stripes (Err e) f = refl
-place_next-stripes nodes s stripes (Ok st) f =
-    ap (λ (o : Option Seat). turn s (record st { stripes = stripes }) f o) (chosen-stripes nodes st stripes s f) ∙ turn-stripes s st stripes f (chosen nodes st s f)
-
-placing-stripes : (nodes : List NodeInfo) (s : StripeNo) (stripes : List StripeNo) (r : Result State Fragment) (fs : List Fragment) → fold (place_next nodes s) (restripe stripes r) fs ≡ restripe stripes (fold (place_next nodes s) r fs)
-placing-stripes nodes s stripes r [] = refl
-placing-stripes nodes s stripes r (f ∷ fs) =
-    ap (λ (x : Result State Fragment). fold (place_next nodes s) x fs) (place_next-stripes nodes s stripes r f) ∙ placing-stripes nodes s stripes (place_next nodes s r f) fs
-
--- a placement reads nothing of the stripes
-pub placed-stripes : (nodes : List NodeInfo) (s : StripeNo) (st : State) (stripes : List StripeNo) → placed nodes (record st { stripes = stripes }) s ≡ restripe stripes (placed nodes st s)
-unfolding placed
-placed-stripes nodes s st stripes = placing-stripes nodes s stripes (Ok st) (fragments Wide)
 
 -- ---- the seats of a placed stripe
 
@@ -75,9 +48,6 @@ drop-front (x ∷ xs) ys = drop-front xs ys
 pub seats-added : (s : StripeNo) (homes : List Held) (seats : List Seat) → length seats ≡ 16 → map (λ h. h.seat) (drop (length homes) (homes ++ held_at s (fragments Wide) seats)) ≡ seats
 seats-added s homes seats sixteen = rw (drop-front homes (held_at s (fragments Wide) seats)) (seats-held_at s (fragments Wide) seats sixteen)
 
-answer-placed : (st : State) (s : StripeNo) (seats : List Seat) → length seats ≡ 16 → place_answer st s (Ok (with_placed st s seats)) ≡ (Placed seats, with_placed st s seats)
-answer-placed st s seats sixteen = ap (λ (xs : List Seat). (Placed xs, with_placed st s seats)) (seats-added s st.homes seats sixteen)
-
 refused-if : (met : Bool) (r : _) (st : State) (other : Outcome) → met ≡ true → refuse_if met r st other ≡ (Refused r, st)
 refused-if true r st other e = refl
 refused-if false r st other e = absurd (let k : false ≡ true = e in cc)
@@ -90,17 +60,6 @@ module _ (nodes : List NodeInfo) (st : State) (s : StripeNo) where
   pub place-there : has_stripe st s ≡ true → place_outcome nodes st Wide s ≡ (Refused refusal.StripeExists, st)
   unfolding place_outcome
   place-there there = refused-if _ _ st _ there
-
-  pub place-ok : (seats : List Seat) → has_stripe st s ≡ false → length seats ≡ 16 → placed nodes st s ≡ Ok (record st { homes = st.homes ++ held_at s (fragments Wide) seats })
-      → place_outcome nodes st Wide s ≡ (Placed seats, with_placed st s seats)
-  unfolding place_outcome
-  place-ok seats absent sixteen is =
-      passed-if _ _ st _ absent ∙ ap (place_answer st s) (placed-stripes nodes s st (st.stripes ++ s ∷ []) ∙ ap (restripe (st.stripes ++ s ∷ [])) is) ∙ answer-placed st s seats sixteen
-
-  pub place-err : (f : Fragment) → has_stripe st s ≡ false → placed nodes st s ≡ Err f → place_outcome nodes st Wide s ≡ (Refused (refusal.NoLawfulNode f), st)
-  unfolding place_outcome
-  place-err f absent is =
-      passed-if _ _ st _ absent ∙ ap (place_answer st s) (placed-stripes nodes s st (st.stripes ++ s ∷ []) ∙ ap (restripe (st.stripes ++ s ∷ [])) is)
 
 -- ---- what a step changes
 

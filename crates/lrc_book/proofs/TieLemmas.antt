@@ -33,7 +33,7 @@ count-past t k a (suc n) low =
     rw (sum_by-cons (λ j. cond (eqb k j || t j) 1 0) a (range_with_len (a + 1) n), sum_by-cons (λ j. cond (t j) 1 0) a (range_with_len (a + 1) n), ne_eqb k a (λ e. absurd (omega (arith, e, low)))) (omega (arith, more))
 
 -- one more slot is counted, that was not before
-count-one : (t : ℕ → Bool) (k a n : ℕ) → a ≤ k → k < a + n → t k ≡ false → count_by (λ j. eqb k j || t j) (range_with_len a n) ≡ 1 + count_by t (range_with_len a n)
+pub count-one : (t : ℕ → Bool) (k a n : ℕ) → a ≤ k → k < a + n → t k ≡ false → count_by (λ j. eqb k j || t j) (range_with_len a n) ≡ 1 + count_by t (range_with_len a n)
 count-one t k a zero low high miss = absurd (omega (arith, low, high))
 count-one t k a (suc n) low high miss = elim (cases_eq k a) [
   | inl same ↦

@@ -14,6 +14,7 @@ abbrev pub numbered_from : ℕ → List Entry → List NumberedEntry
 numbered_from place [] = []
 numbered_from place (e ∷ es) = record { place = place; entry = e } ∷ numbered_from (place + 1) es
 
+-- the session made the entry
 abbrev pub is_of : ℕ → Entry → Bool
 is_of session e = nat_eq e.session.value session
 

@@ -1,5 +1,5 @@
 -- The slot table that belongs to a state, and the domains that are barred for a fragment.
-use Rattle.std.specs.Prelude.{Bool, true, false, ◌&&◌, nat_eq, List, ◌++◌, Option, option_map, option_and_then}
+use Rattle.std.specs.Prelude.{Bool, true, false, ◌&&◌, List, ◌++◌, Option, option_map, option_and_then}
 use Rattle.std.specs.List.{list_any}
 use Rattle.std.specs.Option.{option_map_or}
 use Rattle.lrc_code.specs.declared.codes.Code.{Code}
@@ -7,6 +7,7 @@ use Rattle.lrc_code.specs.declared.numbers.StripeNo.{StripeNo}
 use Rattle.lrc_code.specs.declared.numbers.Fragment.{Fragment}
 use Rattle.lrc_code.specs.declared.numbers.FaultNo.{FaultNo}
 use Rattle.lrc_code.specs.declared.numbers.UpgradeNo.{UpgradeNo}
+use Rattle.lrc_code.specs.Numbers.{same_fault, same_upgrade}
 use Rattle.lrc_code.specs.Codes.{share_class}
 use Rattle.lrc_topology.specs.declared.NodeInfo.{NodeInfo}
 use Rattle.lrc_topology.specs.declared.seat.Seat.{Seat}
@@ -27,13 +28,13 @@ table_of nodes st = record { nodes = nodes; eligible = λ n. option_map_or (take
 
 -- a seat of another fragment of the stripe, on a node of the fault domain
 abbrev pub bars_fault : List NodeInfo → StripeNo → Fragment → FaultNo → Held → Bool
-bars_fault nodes s f d h = is_beside s f h && option_map_or (λ m. nat_eq d.value m.fault.value) (node_at nodes h.seat.node) false
+bars_fault nodes s f d h = is_beside s f h && option_map_or (λ m. same_fault d m.fault) (node_at nodes h.seat.node) false
 
 -- such a seat of a fragment of the same class, on a node of the upgrade domain
 abbrev pub bars_upgrade : List NodeInfo → Code → StripeNo → Fragment → UpgradeNo → Held → Bool
 bars_upgrade nodes code s f d h =
     is_beside s f h
-    && option_map_or (λ m. share_class code f h.fragment && nat_eq d.value m.upgrade.value) (node_at nodes h.seat.node) false
+    && option_map_or (λ m. share_class code f h.fragment && same_upgrade d m.upgrade) (node_at nodes h.seat.node) false
 
 -- the domains that these seats bar for a fragment
 abbrev pub bars_in : List NodeInfo → Code → StripeNo → Fragment → List Held → Barred

@@ -9,7 +9,7 @@ use Rattle.lrc_script.specs.declared.bundle.ScriptText.{ScriptText}
 use Rattle.lrc_book.specs.declared.command.Command.{Command}
 use Rattle.lrc_script.specs.Scripts.{lines_of, is_passed_over, IsScript, or_else, cause_of, first_bad}
 use Rattle.lrc_script.proofs.ScriptLemmas.{cause_of-passed}
-use Rattle.lrc_script.proofs.TextLemmas.{joined_lines-of}
+use Rattle.lrc_script.proofs.TextLemmas.{joined_lines-of, topology_of-text}
 use Rattle.lrc_script.specs.Bundles.{is_parting, scripts_from, scripts_in, scripts_of, topology_in, topology_of, ended_lines, text_before, HoldsLines, AreTextsOf}
 use Rattle.lrc_script.specs.Cuts.{StandBehind, IsCutAtParting, IsPart}
 
@@ -50,10 +50,6 @@ lines_below text before lines behind cut = omega (arith, cut.counted, ap length 
 
 -- ---- the first part
 
-topology_in-some : (bundle : List ℕ) (first : List (List ℕ)) (others : List (List (List ℕ))) → 0 < length others → topology_in bundle (first ∷ others) ≡ ended_lines first
-topology_in-some bundle first [] some = absurd (omega (arith, some))
-topology_in-some bundle first (second ∷ others) some = refl
-
 text_before-some : (first : List (List ℕ)) (others : List (List (List ℕ))) → 0 < length others → text_before others first ≡ ended_lines first
 text_before-some first [] some = absurd (omega (arith, some))
 text_before-some first (second ∷ others) some = refl
@@ -85,7 +81,7 @@ module _ (bundle before : List ℕ) (lines : ℕ) where
   pub topology_of-first : (behind : Option (Bor (List ℕ))) → IsPart bundle before lines behind → before ≡ topology_of bundle
   unfolding topology_of
   topology_of-first None part = part.0 ∙ sym (ap (topology_in bundle) part.2)
-  topology_of-first (Some rest) cut = cut.text_before ∙ sym (ap (topology_in bundle) cut.parts ∙ topology_in-some bundle cut.first cut.others (some_left rest.now cut.others cut.stand))
+  topology_of-first (Some rest) cut = cut.text_before ∙ sym (topology_of-text bundle cut.first cut.others cut.parts ∙ text_before-some cut.first cut.others (some_left rest.now cut.others cut.stand))
 
 -- ---- the next part
 
@@ -95,7 +91,6 @@ record IsNext (left : List (List (List ℕ))) (before : List ℕ) (lines : ℕ) 
   others : List (List (List ℕ))
   left_is : left ≡ first ∷ others
   text_is : before ≡ text_before others first
-  holds : HoldsLines before first
   stand : AreLeft behind others
   renumbered : (n : ℕ) → scripts_from (n + lines) others ≡ scripts_from (n + length first) others
 
@@ -105,17 +100,15 @@ next left rest before lines None (inl all) part = record {
   others = [];
   left_is = all ∙ part.2;
   text_is = part.0 ∙ sym (joined_lines-of rest);
-  holds = inl (ap lines_of part.0);
   stand = refl;
   renumbered = λ n. refl;
 }
-next left rest before lines None (inr none) part = record { first = []; others = []; left_is = none.1; text_is = part.0 ∙ none.0; holds = inr (ap lines_of (part.0 ∙ none.0)); stand = refl; renumbered = λ n. refl }
+next left rest before lines None (inr none) part = record { first = []; others = []; left_is = none.1; text_is = part.0 ∙ none.0; stand = refl; renumbered = λ n. refl }
 next left rest before lines (Some behind) (inl all) cut = record {
   first = cut.first;
   others = cut.others;
   left_is = all ∙ cut.parts;
   text_is = cut.text_before ∙ sym (text_before-some cut.first cut.others (some_left behind.now cut.others cut.stand));
-  holds = inr cut.lines_before;
   stand = cut.stand;
   renumbered = λ n. ap (λ m. scripts_from (n + m) cut.others) cut.counted;
 }
@@ -148,7 +141,7 @@ module _ (bundle : List ℕ) (texts : List ScriptText) (passed : ℕ) (rest : Bo
         stand = one.stand;
         scripts = λ more are.
             let behind_it = subst (λ ss. AreTextsOf ss more) (ap (λ n. scripts_from n one.others) line ∙ one.renumbered (passed + 1 + 1)) are in
-            let both : AreTextsOf (scripts_from (passed + 1) (one.first ∷ one.others)) (text ∷ more) = (record { first_line = omega arith; text = one.text_is; lines = one.holds }, behind_it) in
+            let both : AreTextsOf (scripts_from (passed + 1) (one.first ∷ one.others)) (text ∷ more) = (record { first_line = omega arith; text = one.text_is }, behind_it) in
             subst (AreTextsOf (scripts_of bundle)) (sym (append_assoc texts (text ∷ []) more)) (split.scripts (text ∷ more) (subst (λ ps. AreTextsOf (scripts_from (passed + 1) ps) (text ∷ more)) (sym one.left_is) both));
         counted = omega (arith, split.counted, ap length one.left_is, length_push texts text);
         numbered = All-push (λ s. s.first_line + length s.text.now ≤ length bundle) texts text split.numbered fits.1;

@@ -89,7 +89,6 @@ module _ (text rest line : List ℕ) (lines : ℕ) (so_far : IsPassed text rest 
           parts = cut_there behind cut;
           stand = stand_behind behind left is;
           text_before = before;
-          lines_before = ap lines_of (before ∙ sym (append-nil (ended_lines so_far.passed))) ∙ so_far.lines_are [];
           counted = so_far.counted;
           within = omega (arith, ap length before, long, length-cut rest line left behind cut is, ap length (same_text-true line (codes "%%") parts));
         }

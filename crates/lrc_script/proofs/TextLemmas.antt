@@ -71,7 +71,7 @@ bytes_from n part (next ∷ other ∷ parts) =
     one_more n part next (other ∷ parts) (omega (arith, length-append next (codes "%%" ∷ parted (other ∷ parts)))) (bytes_from (n + 1 + length next) next (other ∷ parts))
 
 module _ (bundle : List ℕ) where
-  topology_of-text : (first : List (List ℕ)) (others : List (List (List ℕ))) → parts_of bundle ≡ first ∷ others → topology_of bundle ≡ text_before others first
+  pub topology_of-text : (first : List (List ℕ)) (others : List (List (List ℕ))) → parts_of bundle ≡ first ∷ others → topology_of bundle ≡ text_before others first
   unfolding topology_of
   topology_of-text first [] is = ap (topology_in bundle) is ∙ sym (joined_lines-of bundle) ∙ ap joined_lines (sym (joined_parts_of bundle) ∙ ap parted is ∙ append-nil first)
   topology_of-text first (second ∷ others) is = ap (topology_in bundle) is

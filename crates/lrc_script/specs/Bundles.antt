@@ -63,7 +63,6 @@ HoldsLines text lines = (lines_of text ≡ lines) ⊎ (lines_of text ≡ lines +
 pub record IsTextOf (script : Script) (given : ScriptText) : Type 0 where
   pub first_line : given.first_line ≡ script.first_line
   pub text : given.text.now ≡ script.text
-  pub lines : HoldsLines given.text.now script.lines
 
 -- the texts of these scripts, in order
 abbrev pub AreTextsOf : List Script → List ScriptText → Type 0

@@ -31,7 +31,6 @@ pub record IsCutAtParting (text before : List ℕ) (lines : ℕ) (behind : List 
   pub parts : parts_of text ≡ first ∷ others
   pub stand : StandBehind behind others
   pub text_before : before ≡ ended_lines first
-  pub lines_before : lines_of before ≡ first ++ [] ∷ []
   pub counted : lines ≡ length first
   pub within : length before + 2 + length behind ≤ length text
 

@@ -23,12 +23,14 @@ pub fn first_bad_line()
 {}
 
 /// A bundle's lines are those of its topology and then, behind a parting line each, those of its scripts; no
-/// other line parts. The first line of a script has the number of its place, where the first line has 1.
+/// other line parts. The first line of a script has the number of its place, where the first line has 1, and the text
+/// of a script has its lines.
 pub fn bundle_lines()
     ensures cut { (bundle : List ℕ) → (topology : List (List ℕ))
         × HoldsLines (topology_of bundle) topology
         × IsJoined (lines_of bundle) topology (scripts_of bundle) }
     ensures numbered { (bundle : List ℕ) → All (StandsIn (lines_of bundle)) (scripts_of bundle) }
+    ensures texts { (bundle : List ℕ) → All (λ script. HoldsLines script.text script.lines) (scripts_of bundle) }
 {}
 
 /// A bundle's bytes are those of its topology and then, behind a parting line each, those of its scripts; but a

@@ -25,7 +25,7 @@ neither false true first second e = absurd (cc)
 neither false false first second e = refl
 
 few_scripts : (bundle : List ℕ) → early_refusal bundle ≡ None → length (scripts_of bundle) ≤ script_limit
-few_scripts bundle early = ltb-false 1 (length (scripts_of bundle)) (neither (nat_lt bundle_limit (length bundle)) (nat_lt script_limit (length (scripts_of bundle))) _ _ early)
+few_scripts bundle early = ltb-false script_limit (length (scripts_of bundle)) (neither (nat_lt bundle_limit (length bundle)) (nat_lt script_limit (length (scripts_of bundle))) _ _ early)
 
 some_outcome : (text : List ℕ) → (outcome : Result (List NodeInfo) TopologyError) × Reads text outcome
 some_outcome text = elim (each_text_is_told text) [ inl accepted ↦ (Ok accepted.0, accepted.1) | inr refused ↦ (Err refused.0, (refused.1, refused.2)) ]

@@ -1,12 +1,12 @@
 -- Lines and commands: each line is that of one command, and good lines have commands.
-use Rattle.std.proofs.Common.{◌≡◌, ℕ, ◌+◌, ◌*◌, ◌<◌, ◌≤◌, inl, inr, false, nat_eq, get_or, not, filter, All, List, [], ◌∷◌, length, map, Option, Some, None, codes, decimal, refl, sym, ap, subst, ◌∙◌, arith}
+use Rattle.std.proofs.Common.{◌≡◌, ℕ, ◌+◌, ◌*◌, ◌<◌, ◌≤◌, inl, inr, false, nat_eq, get_or, not, filter, All, List, [], ◌∷◌, length, map, Option, Some, None, codes, decimal, refl, sym, ap, ◌∙◌, arith}
 use borrow.Author.Tests.{ne_eqb}
-use Rattle.std.specs.Coded.{le_prop}
 use Rattle.std.proofs.lemmas.List.{append_cancel_left}
 use Rattle.std.proofs.lemmas.List.Elements.{All-nil, All-cons, All-head, All-tail}
 use Rattle.std.proofs.lemmas.Fmt.{decimal_injective}
 use Rattle.lrc_code.specs.declared.numbers.StripeNo.{StripeNo}
 use Rattle.lrc_code.specs.declared.numbers.NodeNo.{NodeNo}
+use Rattle.lrc_code.proofs.NumbersLemmas.{equal_stripes, equal_nodes}
 use Rattle.lrc_book.specs.declared.command.Command.{Command}
 use Rattle.lrc_book.specs.declared.command.Command.TheVariants.{Place, Drop, Fail, Down, Up, Join}
 use Rattle.lrc_script.specs.Scripts.{is_passed_over, command_line, IsInRange, IsScript, BadLine, or_else, first_bad, cause_of}
@@ -18,26 +18,14 @@ use Rattle.lrc_tool.specs.Outputs.{first_bad_of, AreCommandsOf}
 
 -- ---- one command a line
 
-abbrev stripe : (n : ℕ) → n < 4096 → StripeNo
-stripe n h = record { value = n; in_range = h }
-
-stripe_bound : (n : ℕ) → IsProp (n < 4096)
-stripe_bound n = le_prop
-
-same_stripe : (s t : StripeNo) → s.value ≡ t.value → s ≡ t
-same_stripe s t e = subst (λ n. (h : n < 4096) → s ≡ stripe n h) e (λ h. ap (stripe s.value) (stripe_bound s.value s.in_range h)) t.in_range
-
-same_number : (s t : StripeNo) → decimal s.value ≡ decimal t.value → s ≡ t
-same_number s t e =
+same_stripe : (s t : StripeNo) → decimal s.value ≡ decimal t.value → s ≡ t
+same_stripe s t e =
     let a = s.in_range in
     let b = t.in_range in
-    same_stripe s t (decimal_injective s.value t.value (omega (arith, a)) (omega (arith, b)) e)
-
-abbrev node : ℕ → NodeNo
-node v = record { value = v }
+    equal_stripes s t (decimal_injective s.value t.value (omega (arith, a)) (omega (arith, b)) e)
 
 same_node : (m n : NodeNo) → m.value < 65536 → n.value < 65536 → decimal m.value ≡ decimal n.value → m ≡ n
-same_node m n a b e = ap (λ v. node v) (decimal_injective m.value n.value (omega (arith, a)) (omega (arith, b)) e)
+same_node m n a b e = equal_nodes m n (decimal_injective m.value n.value (omega (arith, a)) (omega (arith, b)) e)
 
 -- the first two letters of a line, as one number
 abbrev letters : List ℕ → ℕ
@@ -45,8 +33,8 @@ letters (x ∷ y ∷ more) = 1000 * x + y
 letters other = 0
 
 same_command : (c d : Command) → IsInRange c → IsInRange d → command_line c ≡ command_line d → c ≡ d
-same_command (Place s) (Place t) a b e = ap Place (same_number s t (append_cancel_left (codes "place ") _ _ e))
-same_command (Drop s) (Drop t) a b e = ap Drop (same_number s t (append_cancel_left (codes "drop ") _ _ e))
+same_command (Place s) (Place t) a b e = ap Place (same_stripe s t (append_cancel_left (codes "place ") _ _ e))
+same_command (Drop s) (Drop t) a b e = ap Drop (same_stripe s t (append_cancel_left (codes "drop ") _ _ e))
 same_command (Fail m) (Fail n) a b e = ap Fail (same_node m n a b (append_cancel_left (codes "fail ") _ _ e))
 same_command (Down m) (Down n) a b e = ap Down (same_node m n a b (append_cancel_left (codes "down ") _ _ e))
 same_command (Up m) (Up n) a b e = ap Up (same_node m n a b (append_cancel_left (codes "up ") _ _ e))

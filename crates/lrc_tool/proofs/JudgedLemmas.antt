@@ -1,5 +1,5 @@
 -- What the checks of a bundle tell, from its parts, and what it is answered then.
-use Rattle.std.proofs.Common.{◌≡◌, ℕ, ◌+◌, ◌<◌, ◌≤◌, All, List, [], ◌∷◌, ◌++◌, length, get_or, take, drop, sum_by, Option, Some, None, Result, Ok, Err, IfOk, Vec, Global, refl, sym, ap, subst, ◌∙◌, arith}
+use Rattle.std.proofs.Common.{◌≡◌, ℕ, suc, ◌+◌, ◌<◌, ◌≤◌, All, List, [], ◌∷◌, ◌++◌, length, get_or, take, drop, sum_by, Option, Some, None, Result, Ok, Err, IfOk, Vec, Global, refl, sym, ap, subst, ◌∙◌, arith}
 use Rattle.std.specs.List.{AllZip}
 use Rattle.std.proofs.lemmas.Bool.{le-ltb}
 use Rattle.std.proofs.lemmas.List.{take_more, drop_more, take-append-drop, length-map}
@@ -11,8 +11,9 @@ use Rattle.lrc_script.specs.declared.script.Cause.{Cause}
 use Rattle.lrc_script.specs.declared.script.ScriptError.{ScriptError}
 use Rattle.lrc_script.specs.declared.script.ScriptError.TheVariants.{Bad, OutOfMemory}
 use Rattle.lrc_script.specs.Scripts.{lines_of, IsScript, BadLine, or_else, first_bad, IsFirstBad}
-use Rattle.lrc_script.specs.Bundles.{Script, scripts_of, topology_of, AreTextsOf}
+use Rattle.lrc_script.specs.Bundles.{Script, scripts_of, topology_of, HoldsLines, IsTextOf, AreTextsOf}
 use Rattle.lrc_script.proofs.BundleLemmas.{first_bad-holds, IsScript-holds}
+use Rattle.lrc_script.proofs.JoinLemmas.{bundle_texts}
 use Rattle.lrc_script.proofs.SizeLemmas.{few_commands}
 use Rattle.lrc_tool.specs.declared.status.Status.{Status}
 use Rattle.lrc_tool.specs.declared.status.Status.TheVariants as ended
@@ -20,7 +21,7 @@ use Rattle.lrc_tool.specs.Limits.{bundle_limit, script_limit}
 use Rattle.lrc_tool.specs.Texts.{bad_line_text}
 use Rattle.lrc_tool.specs.Outputs.{early_refusal, first_bad_of, AreCommandsOf, Answer, IsAnsweredUnless, IsAnsweredOver, IsAnswered}
 use Rattle.lrc_tool.proofs.CommandLemmas.{as_many_lists}
-use Rattle.lrc_tool.specs.Judged.{lists_of, first_bad_in, AreParsed, NoAnswer, IsRefusal, IsGood}
+use Rattle.lrc_tool.specs.Judged.{lists_of, first_bad_in, AreParsed, NoAnswer, IsRefusal, IsAccepted}
 
 -- two facts of a value that there is
 pub IfOk-both : {X E : Type 0} (r : Result X E) (P Q R : X → Type 0) → ((x : X) → P x → Q x → R x) → IfOk r P → IfOk r Q → IfOk r R
@@ -72,28 +73,36 @@ module _ (texts : List ScriptText) (i : ℕ) (d : ScriptText) (within : i < leng
 
 -- ---- texts of scripts
 
-texts_bad : (ss : List Script) (ts : List ScriptText) → AreTextsOf ss ts → first_bad_of ss ≡ first_bad_in ts
-texts_bad [] [] are = refl
-texts_bad [] (t ∷ ts) are = absurd are
-texts_bad (s ∷ ss) [] are = absurd are
-texts_bad (s ∷ ss) (t ∷ ts) are =
-    let one : first_bad s.first_line s.lines ≡ bad_in t = ap (λ n. first_bad n s.lines) (sym are.0.first_line) ∙ sym (first_bad-holds t.first_line t.text.now s.lines are.0.lines) in
-    ap (λ o. or_else o (first_bad_of ss)) one ∙ ap (or_else (bad_in t)) (texts_bad ss ts are.1)
+-- the text of each script has its lines
+abbrev HoldTheirs : List Script → Type 0
+HoldTheirs ss = All (λ s. HoldsLines s.text s.lines) ss
 
-texts_commands : (ss : List Script) (ts : List ScriptText) (ls : List (List Command)) → AreTextsOf ss ts → AllZip IsTextScript ts ls → AreCommandsOf ss ls
-texts_commands [] [] [] are all = tt
-texts_commands [] [] (l ∷ ls) are all = absurd all
-texts_commands [] (t ∷ ts) ls are all = absurd are
-texts_commands (s ∷ ss) [] ls are all = absurd are
-texts_commands (s ∷ ss) (t ∷ ts) [] are all = absurd all
-texts_commands (s ∷ ss) (t ∷ ts) (l ∷ ls) are all = ((IsScript-holds t.text.now s.lines l are.0.lines).0 all.0, texts_commands ss ts ls are.1 all.1)
+text_holds : (s : Script) (ss : List Script) (t : ScriptText) → IsTextOf s t → HoldTheirs (s ∷ ss) → HoldsLines t.text.now s.lines
+text_holds s ss t is held = subst (λ (x : List ℕ). HoldsLines x s.lines) (sym is.text) (held 0 s (omega arith))
+
+texts_bad : (ss : List Script) (ts : List ScriptText) → HoldTheirs ss → AreTextsOf ss ts → first_bad_of ss ≡ first_bad_in ts
+texts_bad [] [] held are = refl
+texts_bad [] (t ∷ ts) held are = absurd are
+texts_bad (s ∷ ss) [] held are = absurd are
+texts_bad (s ∷ ss) (t ∷ ts) held are =
+    let one : first_bad s.first_line s.lines ≡ bad_in t = ap (λ n. first_bad n s.lines) (sym are.0.first_line) ∙ sym (first_bad-holds t.first_line t.text.now s.lines (text_holds s ss t are.0 held)) in
+    ap (λ o. or_else o (first_bad_of ss)) one ∙ ap (or_else (bad_in t)) (texts_bad ss ts (λ k d within. held (suc k) d (omega arith)) are.1)
+
+texts_commands : (ss : List Script) (ts : List ScriptText) (ls : List (List Command)) → HoldTheirs ss → AreTextsOf ss ts → AllZip IsTextScript ts ls → AreCommandsOf ss ls
+texts_commands [] [] [] held are all = tt
+texts_commands [] [] (l ∷ ls) held are all = absurd all
+texts_commands [] (t ∷ ts) ls held are all = absurd are
+texts_commands (s ∷ ss) [] ls held are all = absurd are
+texts_commands (s ∷ ss) (t ∷ ts) [] held are all = absurd all
+texts_commands (s ∷ ss) (t ∷ ts) (l ∷ ls) held are all =
+    ((IsScript-holds t.text.now s.lines l (text_holds s ss t are.0 held)).0 all.0, texts_commands ss ts ls (λ k d within. held (suc k) d (omega arith)) are.1 all.1)
 
 -- one script has few commands
-few_in_one : (ts : List ScriptText) (vs : List (Vec Command Global)) → length vs ≤ 1 → AllZip IsTextScript ts (lists_of vs) → All (λ t. t.first_line + length t.text.now ≤ 4194304) ts → sum_by (λ v. length v.items) vs ≤ 1000000
+few_in_one : (ts : List ScriptText) (vs : List (Vec Command Global)) → length vs ≤ 1 → AllZip IsTextScript ts (lists_of vs) → All (λ t. t.first_line + length t.text.now ≤ bundle_limit) ts → sum_by (λ v. length v.items) vs ≤ 1000000
 few_in_one ts [] few all within = omega arith
 few_in_one [] (v ∷ vs) few all within = absurd all
 few_in_one (t ∷ ts) (v ∷ []) few all within =
-    let short : t.first_line + length t.text.now ≤ 4194304 = within 0 t (omega arith) in
+    let short : t.first_line + length t.text.now ≤ bundle_limit = within 0 t (omega arith) in
     let bound = few_commands t.text.now v.items all.0 in
     omega (arith, bound, short)
 few_in_one ts (v ∷ v' ∷ vs) few all within = absurd (omega (arith, few))
@@ -101,18 +110,18 @@ few_in_one ts (v ∷ v' ∷ vs) few all within = absurd (omega (arith, few))
 -- ---- the bundle
 
 not_refused : (bundle : List ℕ) → length bundle ≤ bundle_limit → length (scripts_of bundle) ≤ script_limit → early_refusal bundle ≡ None
-not_refused bundle short few = rw (le-ltb 4194304 (length bundle) short, le-ltb 1 (length (scripts_of bundle)) few) refl
+not_refused bundle short few = rw (le-ltb bundle_limit (length bundle) short, le-ltb script_limit (length (scripts_of bundle)) few) refl
 
 module _ (bundle : List ℕ) (nodes : List NodeInfo) (texts : List ScriptText) (short : length bundle ≤ bundle_limit) (few : length (scripts_of bundle) ≤ script_limit)
     (read : IsTopologyOf (topology_of bundle) nodes) (are : AreTextsOf (scripts_of bundle) texts) where
-  pub judged_good : (scripts : List (Vec Command Global)) → All (λ t. t.first_line + length t.text.now ≤ length bundle) texts → AreParsed texts (lists_of scripts) → IsGood bundle nodes scripts
+  pub judged_good : (scripts : List (Vec Command Global)) → All (λ t. t.first_line + length t.text.now ≤ length bundle) texts → AreParsed texts (lists_of scripts) → IsAccepted bundle nodes scripts
   judged_good scripts within parsed =
-      let commands = texts_commands (scripts_of bundle) texts (lists_of scripts) are parsed.commands in
+      let commands = texts_commands (scripts_of bundle) texts (lists_of scripts) (bundle_texts bundle) are parsed.commands in
       let many : length scripts ≤ 1 = omega (arith, as_many_lists (scripts_of bundle) (lists_of scripts) commands, length-map scripts (λ (v : Vec Command Global). v.items), few) in
       record {
         early = not_refused bundle short few;
         read = read;
-        no_bad = texts_bad (scripts_of bundle) texts are ∙ parsed.no_bad;
+        no_bad = texts_bad (scripts_of bundle) texts (bundle_texts bundle) are ∙ parsed.no_bad;
         commands = commands;
         few = record { scripts_few = many; commands_few = few_in_one texts scripts many parsed.commands (λ k d below. omega (arith, within k d below, short)) };
       }
@@ -121,7 +130,7 @@ module _ (bundle : List ℕ) (nodes : List NodeInfo) (texts : List ScriptText) (
       → line' ≡ line → cause' ≡ cause → text ≡ bad_line_text (record { line = line'; cause = cause' }) → status ≡ ended.BadLine → IsRefusal bundle text status
   judged_bad line line' cause cause' text status found l c told end =
       let same = ap (λ n. bad_line_text (record { line = n; cause = cause' })) l ∙ ap (λ (x : Cause). bad_line_text (record { line = line; cause = x })) c in
-      let over = subst (λ (o : Option BadLine). IsAnsweredOver NoAnswer nodes (scripts_of bundle) o text status) (sym (texts_bad (scripts_of bundle) texts are ∙ found)) (told ∙ same, end) in
+      let over = subst (λ (o : Option BadLine). IsAnsweredOver NoAnswer nodes (scripts_of bundle) o text status) (sym (texts_bad (scripts_of bundle) texts (bundle_texts bundle) are ∙ found)) (told ∙ same, end) in
       subst (λ (o : Option (List ℕ)). IsAnsweredUnless NoAnswer o bundle text status) (sym (not_refused bundle short few)) (Ok nodes, read, over)
 
 -- ---- what is answered
@@ -132,7 +141,7 @@ after_good answer nodes scripts None text status good h end = (h, end)
 after_good answer nodes scripts (Some bad) text status good h end = absurd (cc)
 
 -- a bundle that passes all checks gets the answer
-pub good_to_any : (answer : Answer) (bundle text : List ℕ) (status : Status) (nodes : List NodeInfo) (scripts : List (Vec Command Global)) → IsGood bundle nodes scripts
+pub good_to_any : (answer : Answer) (bundle text : List ℕ) (status : Status) (nodes : List NodeInfo) (scripts : List (Vec Command Global)) → IsAccepted bundle nodes scripts
     → answer nodes (scripts_of bundle) text → status ≡ ended.Done → IsAnswered answer bundle text status
 good_to_any answer bundle text status nodes scripts good h end =
     subst (λ (o : Option (List ℕ)). IsAnsweredUnless answer o bundle text status) (sym good.early) (Ok nodes, good.read, after_good answer nodes (scripts_of bundle) _ text status good.no_bad h end)

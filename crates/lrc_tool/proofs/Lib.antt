@@ -10,5 +10,8 @@ pub mod ReadLemmas
 pub mod Rows
 mod RowsOfPlacing
 mod RowsOfNodes
+mod RowsOfLeases
+mod RowsOfLeaseRefusals
 mod RowsOfHistories
+mod RowsOfSessions
 pub mod MaskLemmas

@@ -1,12 +1,17 @@
 -- Scripts on small stores, and what the definitions answer to them.
-use Rattle.std.proofs.Common.{ℕ, ◌%◌, List, [], ◌∷◌, map, fold, lit<}
+use Rattle.std.proofs.Common.{ℕ, ◌%◌, List, [], ◌∷◌, map, filter, fold, Option, lit<}
 use Rattle.std.proofs.lemmas.Nat.{mod_below}
 use Rattle.lrc_code.specs.declared.numbers.StripeNo.{StripeNo}
 use Rattle.lrc_code.specs.declared.numbers.SessionNo.{SessionNo}
 use Rattle.lrc_code.specs.declared.numbers.NodeNo.{NodeNo}
+use Rattle.lrc_code.specs.declared.numbers.Fragment.{Fragment}
+use Rattle.lrc_code.specs.declared.codes.Code.TheVariants.{Wide}
+use Rattle.lrc_code.specs.Codes.{fragments}
+use Rattle.lrc_code.specs.Losses.{margin_of}
 use Rattle.lrc_topology.specs.declared.NodeInfo.{NodeInfo}
 use Rattle.lrc_book.specs.declared.command.Command.{Command}
 use Rattle.lrc_book.specs.declared.command.Command.TheVariants as command
+use Rattle.lrc_book.specs.States.{missing}
 use Rattle.lrc_book.specs.Histories.{World, first_world, outcome_in, next_world}
 use Rattle.lrc_tool.specs.Texts.{output_text}
 
@@ -15,8 +20,14 @@ use Rattle.lrc_tool.specs.Texts.{output_text}
 abbrev pub stripe : ℕ → StripeNo
 stripe n = record { value = n % 4096; in_range = mod_below n 4096 (lit< tt) }
 
+abbrev pub fragment : ℕ → Fragment
+fragment n = record { value = n % 16; in_range = mod_below n 16 (lit< tt) }
+
 abbrev pub session : SessionNo
 session = record { value = 1; in_range = (lit< tt, lit< tt) }
+
+abbrev pub second : SessionNo
+second = record { value = 2; in_range = (lit< tt, lit< tt) }
 
 abbrev pub node_number : ℕ → NodeNo
 node_number n = record { value = n }
@@ -26,6 +37,18 @@ place s = command.Place (stripe s)
 
 abbrev pub remove : ℕ → Command
 remove s = command.Drop (stripe s)
+
+abbrev pub lease : ℕ → ℕ → Command
+lease s f = command.Lease (stripe s) (fragment f)
+
+abbrev pub done : ℕ → ℕ → ℕ → Command
+done s f e = command.Done (stripe s) (fragment f) e
+
+abbrev pub abandon : ℕ → ℕ → ℕ → Command
+abandon s f e = command.Abandon (stripe s) (fragment f) e
+
+abbrev pub revoke : ℕ → ℕ → Command
+revoke s f = command.Revoke (stripe s) (fragment f)
 
 abbrev pub fail : ℕ → Command
 fail n = command.Fail (node_number n)
@@ -69,13 +92,31 @@ sixteen_nodes =
 -- ---- playing
 
 -- the world after one more call
-abbrev pub called : List NodeInfo → World → Command → World
-called nodes w c = next_world nodes w (record { session = session; command = c; reply = (outcome_in nodes w session c).0 })
+abbrev pub called : List NodeInfo → World → SessionNo × Command → World
+called nodes w (s, c) = next_world nodes w (record { session = s; command = c; reply = (outcome_in nodes w s c).0 })
+
+-- the world after these calls
+abbrev pub played_by : List NodeInfo → List (SessionNo × Command) → World
+played_by nodes calls = fold (called nodes) first_world calls
 
 -- the world after the commands of a script
 abbrev pub played : List NodeInfo → List Command → World
-played nodes script = fold (called nodes) first_world script
+played nodes script = played_by nodes (map (λ c. (session, c)) script)
 
 -- the text of a run of the script
 abbrev pub printed : List NodeInfo → List Command → List ℕ
 printed nodes script = output_text nodes 1 (played nodes script).past
+
+-- the text of a run of two scripts, whose calls came in this order
+abbrev pub printed_by_two : List NodeInfo → List (SessionNo × Command) → List ℕ
+printed_by_two nodes calls = output_text nodes 2 (played_by nodes calls).past
+
+-- ---- what is missing
+
+-- the missing fragments of stripe 1 after a script
+abbrev pub missing_after : List NodeInfo → List Command → List ℕ
+missing_after nodes script = filter (missing nodes (played nodes script).state (stripe 1)) (map (λ f. f.value) (fragments Wide))
+
+-- how many further losses the stripe withstands
+abbrev pub margin_after : List NodeInfo → List Command → Option ℕ
+margin_after nodes script = margin_of Wide (missing nodes (played nodes script).state (stripe 1))

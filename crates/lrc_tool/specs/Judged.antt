@@ -47,7 +47,7 @@ abbrev pub IsRefusal : List ℕ → List ℕ → Status → Type 0
 IsRefusal bundle text status = IsAnswered NoAnswer bundle text status
 
 -- the bundle passes all checks, and has these nodes and these commands of each script
-pub record IsGood {Z : Type 0} (bundle : List ℕ) (nodes : List NodeInfo) (scripts : List (Vec Command Z)) : Type 0 where
+pub record IsAccepted {Z : Type 0} (bundle : List ℕ) (nodes : List NodeInfo) (scripts : List (Vec Command Z)) : Type 0 where
   pub early : early_refusal bundle ≡ None
   pub read : IsTopologyOf (topology_of bundle) nodes
   pub no_bad : first_bad_of (scripts_of bundle) ≡ None
@@ -57,4 +57,4 @@ pub record IsGood {Z : Type 0} (bundle : List ℕ) (nodes : List NodeInfo) (scri
 -- a check of this bundle fails, or it has these nodes and these commands
 abbrev pub IsJudged : List ℕ → Judged → Type 0
 IsJudged bundle (Refused output) = IsRefusal bundle (string_bytes output.text) output.status
-IsJudged bundle (Good topology scripts) = IsGood bundle topology scripts.items
+IsJudged bundle (Good topology scripts) = IsAccepted bundle topology scripts.items

@@ -4,11 +4,14 @@ use Rattle.lrc_topology.specs.declared.NodeInfo.{NodeInfo}
 use Rattle.lrc_topology.specs.declared.seat.Seat.{Seat}
 use Rattle.lrc_topology.specs.declared.error.TopologyError.{TopologyError}
 use Rattle.lrc_topology.specs.declared.error.TopologyError.TheVariants.{Syntax, NoNodes, BadField, OutOfRange, DoubleNode, TooMany, OutOfMemory}
+use Rattle.lrc_leases.specs.declared.lease.Lease.{Lease}
 use Rattle.lrc_book.specs.declared.entry.Entry.{Entry}
+use Rattle.lrc_book.specs.declared.kind.Kind.{Kind}
+use Rattle.lrc_book.specs.declared.kind.Kind.TheVariants.{Local, Global}
 use Rattle.lrc_book.specs.declared.reply.Reply.{Reply}
-use Rattle.lrc_book.specs.declared.reply.Reply.TheVariants.{Placed, Dropped, Changed, Refused}
+use Rattle.lrc_book.specs.declared.reply.Reply.TheVariants.{Placed, Dropped, Granted, Ended, Changed, Refused}
 use Rattle.lrc_book.specs.declared.reply.Refusal.{Refusal}
-use Rattle.lrc_book.specs.declared.reply.Refusal.TheVariants.{UnknownStripe, StripeExists, NoLawfulNode, UnknownNode, WrongMode}
+use Rattle.lrc_book.specs.declared.reply.Refusal.TheVariants as refusal
 use Rattle.lrc_book.specs.Sessions.{entries_of, sessions}
 use Rattle.lrc_script.specs.declared.script.Cause.{Cause}
 use Rattle.lrc_script.specs.declared.script.Cause.TheVariants as cause
@@ -24,18 +27,36 @@ seat_text seat = decimal seat.node.value ++ codes ":" ++ decimal seat.slot
 abbrev pub spaced : List (List ℕ) → List ℕ
 spaced words = flat_map (λ word. codes " " ++ word) words
 
+-- the stripe, fragment, target and epoch of a lease
+abbrev pub lease_text : Lease → List ℕ
+lease_text lease = decimal lease.stripe.value ++ codes " " ++ decimal lease.fragment.value ++ codes " " ++ seat_text lease.target ++ codes " epoch " ++ decimal lease.epoch
+
+-- from what a leased fragment is rebuilt
+abbrev pub kind_text : Kind → List ℕ
+kind_text (Local sources) = codes "local" ++ spaced (map (λ f. decimal f.value) sources)
+kind_text Global = codes "global"
+
 -- the code of a refused command, and its detail where it has one
 abbrev pub refusal_text : Refusal → List ℕ
-refusal_text UnknownStripe = codes "101"
-refusal_text StripeExists = codes "102"
-refusal_text (NoLawfulNode fragment) = codes "103 " ++ decimal fragment.value
-refusal_text UnknownNode = codes "104"
-refusal_text WrongMode = codes "105"
+refusal_text refusal.UnknownStripe = codes "101"
+refusal_text refusal.StripeExists = codes "102"
+refusal_text (refusal.NoLawfulNode fragment) = codes "103 " ++ decimal fragment.value
+refusal_text refusal.UnknownNode = codes "104"
+refusal_text refusal.WrongMode = codes "105"
+refusal_text (refusal.AlreadyLeased epoch) = codes "110 " ++ decimal epoch
+refusal_text refusal.NotNeeded = codes "111"
+refusal_text refusal.Unrecoverable = codes "112"
+refusal_text refusal.Stale = codes "113"
+refusal_text (refusal.NotHolder holder) = codes "114 " ++ decimal holder.value
+refusal_text (refusal.TargetOffline node) = codes "115 " ++ decimal node.value
+refusal_text refusal.NoLease = codes "116"
 
 -- what is printed of a reply
 abbrev pub reply_text : Reply → List ℕ
 reply_text (Placed seats) = codes "placed" ++ spaced (map seat_text seats)
 reply_text Dropped = codes "dropped"
+reply_text (Granted lease kind) = codes "granted " ++ lease_text lease ++ codes " " ++ kind_text kind
+reply_text Ended = codes "ended"
 reply_text Changed = codes "changed"
 reply_text (Refused refusal) = codes "refused " ++ refusal_text refusal
 

@@ -1,14 +1,13 @@
 //! Commands on stripes.
 
-ghost use Rattle.std.specs.Prelude.{◌≡◌, true, false, Ok, Err, IfOk, IfErr, length};
+ghost use Rattle.std.specs.Prelude.{◌≡◌, true, false, IfOk, IfErr};
 ghost use Rattle.lrc_code.specs.declared.codes.Code.TheVariants.{Wide};
 ghost use Rattle.lrc_code.specs.Codes.{fragments};
 ghost use Rattle.lrc_book.specs.declared.reply.Reply.TheVariants.{Placed, Dropped};
 ghost use Rattle.lrc_book.specs.States.{State, has_stripe};
-ghost use Rattle.lrc_book.specs.Placement.{placed};
-ghost use Rattle.lrc_book.specs.Steps.{place_outcome, drop_outcome, without_stripe};
-ghost use Rattle.lrc_book.specs.Changes.{held_at, with_placed};
-ghost use Rattle.lrc_book.specs.Ties.{with_homes};
+ghost use Rattle.lrc_book.specs.Choices.{AreChosen, IsFirstWithout};
+ghost use Rattle.lrc_book.specs.Steps.{with_stripe, place_outcome, drop_outcome, without_stripe};
+ghost use Rattle.lrc_book.specs.Changes.{with_placed};
 ghost use Rattle.lrc_book.specs.Stores.{IsOf, has_room};
 
 use crate::store::Store;
@@ -31,10 +30,10 @@ impl Store {
     /// The seats that the rule chooses for the fragments of a new stripe, one after the other, or the first fragment
     /// that finds none.
     fn plan_seats(&self, stripe: StripeNo) -> Result<[Seat; 16], Fragment>
-        ensures seats { IfOk result (λ seats. (st : State) → IsOf st self.now → has_stripe st stripe ≡ false
-            → placed self.now.topology st stripe ≡ Ok (with_homes st (held_at stripe (fragments Wide) seats))) }
-        ensures sixteen { IfOk result (λ seats. length seats ≡ 16) }
-        ensures first { IfErr result (λ f. (st : State) → IsOf st self.now → has_stripe st stripe ≡ false → placed self.now.topology st stripe ≡ Err f) }
+        ensures chosen { IfOk result (λ seats. (st : State) → IsOf st self.now → has_stripe st stripe ≡ false
+            → AreChosen self.now.topology (with_stripe st Wide stripe) stripe (fragments Wide) seats) }
+        ensures first { IfErr result (λ f. (st : State) → IsOf st self.now → has_stripe st stripe ≡ false
+            → IsFirstWithout self.now.topology (with_stripe st Wide stripe) stripe (fragments Wide) f) }
     {
         let no_seat = Seat {
             node: NodeNo { value: 0 },

@@ -1,0 +1,184 @@
+-- Which leases a command leaves live, and how many it grants.
+use Rattle.std.proofs.Common.{◌≡◌, ◌≢◌, ◌⊎◌, ℕ, ◌+◌, ◌≤◌, inl, inr, Bool, true, false, not, is_none, cond, List, [], ◌∷◌, ◌++◌, filter, fold, Option, Some, None, Result, Ok, Err, refl, sym, ap, ◌∙◌, subst, arith}
+use Rattle.std.specs.List.{Contains}
+use Rattle.std.specs.Option.{option_map_or}
+use Rattle.std.proofs.lemmas.List.Folds.{fold_stays}
+use Rattle.std.proofs.lemmas.List.Sums.{sum_by-append, sum_by-cons}
+use Rattle.lrc_code.specs.declared.codes.Code.{Code}
+use Rattle.lrc_code.specs.declared.codes.Code.TheVariants.{Wide}
+use Rattle.lrc_code.specs.declared.numbers.StripeNo.{StripeNo}
+use Rattle.lrc_code.specs.declared.numbers.NodeNo.{NodeNo}
+use Rattle.lrc_code.specs.declared.numbers.SessionNo.{SessionNo}
+use Rattle.lrc_code.specs.declared.numbers.Fragment.{Fragment}
+use Rattle.lrc_code.specs.Codes.{fragments}
+use Rattle.lrc_topology.specs.declared.NodeInfo.{NodeInfo}
+use Rattle.lrc_topology.specs.declared.seat.Seat.{Seat}
+use Rattle.lrc_topology.specs.declared.seat.Held.{Held}
+use Rattle.lrc_topology.specs.Nodes.{node_at}
+use Rattle.lrc_leases.specs.declared.lease.Lease.{Lease as LeaseRecord}
+use Rattle.lrc_leases.specs.Leased.{is_of}
+use Rattle.lrc_book.specs.declared.kind.Kind.{Kind}
+use Rattle.lrc_book.specs.declared.command.Command.{Command}
+use Rattle.lrc_book.specs.declared.command.Command.TheVariants.{Place, Drop, Lease, Done, Abandon, Revoke, Fail, Down, Up, Join}
+use Rattle.lrc_book.specs.declared.reply.Reply.{Reply}
+use Rattle.lrc_book.specs.declared.reply.Reply.TheVariants.{Placed, Dropped, Granted, Ended, Changed, Refused}
+use Rattle.lrc_book.specs.declared.reply.Refusal.{Refusal}
+use Rattle.lrc_book.specs.declared.reply.Refusal.TheVariants as refusal
+use Rattle.lrc_book.specs.declared.entry.Entry.{Entry}
+use Rattle.lrc_book.specs.States.{State, has_stripe, lease_of, online_at, mode_of, is_gone, is_down}
+use Rattle.lrc_book.specs.Placement.{chosen, with_home, place_next, placed}
+use Rattle.lrc_book.specs.Repairs.{needs, kind, is_beyond_repair}
+use Rattle.lrc_book.specs.Outcomes.{Outcome, refuse_if}
+use Rattle.lrc_book.specs.Leases.{is_grant, grants, new_lease, with_lease, granted, lease_answer, lease_outcome, without_lease, at_epoch, is_held_by, moved_in, done_answer, done_outcome, abandon_answer, abandon_outcome, revoke_outcome}
+use Rattle.lrc_book.specs.Steps.{with_stripe, placed_reply, place_answer, place_outcome, is_other, without_stripe, drop_outcome, node_outcome, hangs_on, emptied, with_gone, with_down, without_down, without_gone, fail_outcome, down_outcome, up_outcome, join_outcome, step}
+use Rattle.lrc_book.proofs.MemberLemmas.{filter-member}
+
+-- ---- how many grants
+
+-- one more entry is one more grant, or none
+pub grants-push : (past : List Entry) (e : Entry) (s : StripeNo) (f : Fragment) → grants (past ++ e ∷ []) s f ≡ grants past s f + cond (is_grant s f e.reply) 1 0
+grants-push past e s f =
+    let one = λ (x : Entry). cond (is_grant s f x.reply) 1 0 in
+    sum_by-append one past (e ∷ []) ∙ ap (λ (n : ℕ). grants past s f + n) (sum_by-cons one e [] ∙ omega arith)
+
+-- ---- what is left of the leases
+
+-- the reply grants a lease of a fragment that had none, and the lease is the last of those that are live
+pub record IsGranted (past : List Entry) (st : State) (r : Reply) (next : State) : Type 0 where
+  pub lease : LeaseRecord
+  pub from : Kind
+  pub told : r ≡ Granted lease from
+  pub leases : next.leases ≡ st.leases ++ lease ∷ []
+  pub none : lease_of st lease.stripe lease.fragment ≡ None
+  pub epoch : lease.epoch ≡ grants past lease.stripe lease.fragment + 1
+
+-- the reply grants none, and no lease is live that was not before
+pub record GrantsNone (st : State) (r : Reply) (next : State) : Type 0 where
+  pub none : (s : StripeNo) (f : Fragment) → is_grant s f r ≡ false
+  pub fewer : (l : LeaseRecord) → Contains next.leases l → Contains st.leases l
+
+abbrev pub Follows : List Entry → State → Outcome → Type 0
+Follows past st o = IsGranted past st o.0 o.1 ⊎ GrantsNone st o.0 o.1
+
+module _ (past : List Entry) (st : State) where
+  same : (r : Reply) (next : State) → ((s : StripeNo) (f : Fragment) → is_grant s f r ≡ false) → next.leases ≡ st.leases → Follows past st (r, next)
+  same r next none is = inr (record { none = none; fewer = λ l here. subst (λ (ls : List LeaseRecord). Contains ls l) is here })
+
+  fewer : (r : Reply) (next : State) (q : LeaseRecord → Bool) → ((s : StripeNo) (f : Fragment) → is_grant s f r ≡ false) → next.leases ≡ filter q st.leases → Follows past st (r, next)
+  fewer r next q none is = inr (record { none = none; fewer = λ l here. (filter-member q st.leases l (subst (λ (ls : List LeaseRecord). Contains ls l) is here)).0 })
+
+  refused-follows : (met : Bool) (r : Refusal) (other : Outcome) → Follows past st other → Follows past st (refuse_if met r st other)
+  refused-follows true r other next = same (Refused r) st (λ s f. refl) refl
+  refused-follows false r other next = next
+
+-- ---- stripes
+
+same_ok : (st done : State) → ◌≡◌ {A = Result State Fragment} (Ok st) (Ok done) → st ≡ done
+same_ok st done e = cc
+
+module _ (nodes : List NodeInfo) (s : StripeNo) where
+  placing-turn : (st : State) (f : Fragment) (fs : List Fragment) (done : State) → ((next : State) → fold (place_next nodes s) (Ok next) fs ≡ Ok done → done.leases ≡ next.leases) → (o : Option Seat)
+      → fold (place_next nodes s) (option_map_or (λ seat. Ok (with_home st s f seat)) o (Err f)) fs ≡ Ok done → done.leases ≡ st.leases
+  placing-turn st f fs done rest (Some seat) e = rest (with_home st s f seat) e
+  placing-turn st f fs done rest None e = absurd (let never : Err f ≡ Ok done = sym (fold_stays (place_next nodes s) (Err f) (λ x. refl) fs) ∙ e in cc)
+
+  placing-leases : (st : State) (fs : List Fragment) (done : State) → fold (place_next nodes s) (Ok st) fs ≡ Ok done → done.leases ≡ st.leases
+  placing-leases st [] done e = ap (λ (x : State). x.leases) (sym (same_ok st done e))
+  placing-leases st (f ∷ fs) done e = placing-turn st f fs done (λ next. placing-leases next fs done) (chosen nodes st s f) e
+
+  -- a placement leaves the leases as they are
+  pub placed-leases : (st done : State) → placed nodes (with_stripe st Wide s) s ≡ Ok done → done.leases ≡ st.leases
+  unfolding placed
+  placed-leases st done e = placing-leases (with_stripe st Wide s) (fragments Wide) done e
+
+  answer-follows : (past : List Entry) (st : State) (r : Result State Fragment) → placed nodes (with_stripe st Wide s) s ≡ r → Follows past st (place_answer st s r)
+  answer-follows past st (Ok done) e = same past st _ done (λ r f. refl) (placed-leases st done e)
+  answer-follows past st (Err f) e = same past st _ st (λ r f. refl) refl
+
+  place-follows : (past : List Entry) (st : State) → Follows past st (place_outcome nodes st Wide s)
+  unfolding place_outcome
+  place-follows past st = refused-follows past st (has_stripe st s) refusal.StripeExists _ (answer-follows past st (placed nodes (with_stripe st Wide s) s) refl)
+
+drop-follows : (past : List Entry) (st : State) (s : StripeNo) → Follows past st (drop_outcome st s)
+unfolding drop_outcome
+drop-follows past st s =
+    refused-follows past st (not (has_stripe st s)) refusal.UnknownStripe _ (fewer past st Dropped (without_stripe st s) (λ (l : LeaseRecord). is_other s l.stripe) (λ r f. refl) refl)
+
+-- ---- leases
+
+module _ (nodes : List NodeInfo) (past : List Entry) (st : State) (session : SessionNo) (s : StripeNo) (f : Fragment) where
+  granted-follows : lease_of st s f ≡ None → (o : Option Seat) → Follows past st (granted nodes past st session s f o)
+  granted-follows none None = same past st _ st (λ r g. refl) refl
+  granted-follows none (Some seat) = inl (record { lease = new_lease past session s f seat; from = kind nodes st s f; told = refl; leases = refl; none = none; epoch = refl })
+
+  leased-follows : (o : Option LeaseRecord) → lease_of st s f ≡ o → Follows past st (lease_answer nodes past st session s f o)
+  leased-follows (Some l) e = same past st _ st (λ r g. refl) refl
+  leased-follows None e =
+      refused-follows past st (not (needs st s f)) refusal.NotNeeded _
+      (refused-follows past st (is_beyond_repair nodes st s f) refusal.Unrecoverable _ (granted-follows e (chosen nodes st s f)))
+
+  lease-follows : Follows past st (lease_outcome nodes past st session s f)
+  unfolding lease_outcome
+  lease-follows = refused-follows past st (not (has_stripe st s)) refusal.UnknownStripe _ (leased-follows (lease_of st s f) refl)
+
+  abbrev others : LeaseRecord → Bool
+  others l = not (is_of s f.value l)
+
+  done-by : (o : Option LeaseRecord) → Follows past st (done_answer nodes st session s f o)
+  done-by None = same past st _ st (λ r g. refl) refl
+  done-by (Some l) =
+      refused-follows past st (not (is_held_by session l)) (refusal.NotHolder l.holder) _
+      (refused-follows past st (not (online_at nodes st l.target.node)) (refusal.TargetOffline l.target.node) _ (fewer past st Ended (moved_in st s f l.target) others (λ r g. refl) refl))
+
+  done-follows : (e : ℕ) → Follows past st (done_outcome nodes st session s f e)
+  unfolding done_outcome
+  done-follows e = refused-follows past st (not (has_stripe st s)) refusal.UnknownStripe _ (done-by (at_epoch e (lease_of st s f)))
+
+  abandon-by : (o : Option LeaseRecord) → Follows past st (abandon_answer st session s f o)
+  abandon-by None = same past st _ st (λ r g. refl) refl
+  abandon-by (Some l) = refused-follows past st (not (is_held_by session l)) (refusal.NotHolder l.holder) _ (fewer past st Ended (without_lease st s f) others (λ r g. refl) refl)
+
+  abandon-follows : (e : ℕ) → Follows past st (abandon_outcome st session s f e)
+  unfolding abandon_outcome
+  abandon-follows e = refused-follows past st (not (has_stripe st s)) refusal.UnknownStripe _ (abandon-by (at_epoch e (lease_of st s f)))
+
+  revoke-follows : Follows past st (revoke_outcome st s f)
+  unfolding revoke_outcome
+  revoke-follows =
+      refused-follows past st (not (has_stripe st s)) refusal.UnknownStripe _
+      (refused-follows past st (is_none (lease_of st s f)) refusal.NoLease _ (fewer past st Ended (without_lease st s f) others (λ r g. refl) refl))
+
+-- ---- nodes
+
+module _ (nodes : List NodeInfo) (past : List Entry) (st : State) (n : NodeNo) where
+  node-follows : (wrong : Bool) (changed : State) → Follows past st (Changed, changed) → Follows past st (node_outcome nodes st n wrong changed)
+  node-follows wrong changed next = refused-follows past st (is_none (node_at nodes n)) refusal.UnknownNode _ (refused-follows past st wrong refusal.WrongMode _ next)
+
+  fail-follows : Follows past st (fail_outcome nodes st n)
+  unfolding fail_outcome
+  fail-follows = node-follows _ _ (fewer past st Changed (with_gone (emptied st n) n) (λ (l : LeaseRecord). not (hangs_on st n l)) (λ r g. refl) refl)
+
+  down-follows : Follows past st (down_outcome nodes st n)
+  unfolding down_outcome
+  down-follows = node-follows _ _ (same past st Changed (with_down st n) (λ r g. refl) refl)
+
+  up-follows : Follows past st (up_outcome nodes st n)
+  unfolding up_outcome
+  up-follows = node-follows _ _ (same past st Changed (without_down st n) (λ r g. refl) refl)
+
+  join-follows : Follows past st (join_outcome nodes st n)
+  unfolding join_outcome
+  join-follows = node-follows _ _ (same past st Changed (without_gone st n) (λ r g. refl) refl)
+
+-- Each command grants one lease, of a fragment that had none, or none; and all other live leases were there before.
+pub step-follows : (nodes : List NodeInfo) (past : List Entry) (st : State) (session : SessionNo) (c : Command) → Follows past st (step nodes past st session c)
+step-follows nodes past st session (Place s) = place-follows nodes s past st
+step-follows nodes past st session (Drop s) = drop-follows past st s
+step-follows nodes past st session (Lease s f) = lease-follows nodes past st session s f
+step-follows nodes past st session (Done s f e) = done-follows nodes past st session s f e
+step-follows nodes past st session (Abandon s f e) = abandon-follows nodes past st session s f e
+step-follows nodes past st session (Revoke s f) = revoke-follows nodes past st session s f
+step-follows nodes past st session (Fail n) = fail-follows nodes past st n
+step-follows nodes past st session (Down n) = down-follows nodes past st n
+step-follows nodes past st session (Up n) = up-follows nodes past st n
+step-follows nodes past st session (Join n) = join-follows nodes past st n

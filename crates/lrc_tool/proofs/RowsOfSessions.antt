@@ -1,0 +1,36 @@
+-- Two sessions in one history: what is printed of their scripts, each with its own calls and their places in the whole history.
+use Rattle.std.proofs.Common.{◌≤◌, List, [], ◌∷◌, lit≤, refl, codes}
+use Rattle.std.specs.Fmt.{digits}
+use Rattle.std.proofs.lemmas.List.Elements.{All-nil, All-cons}
+use Rattle.lrc_code.specs.declared.numbers.SessionNo.{SessionNo}
+use Rattle.lrc_book.specs.declared.command.Command.{Command}
+use Rattle.lrc_book.specs.declared.entry.Entry.{Entry}
+use Rattle.lrc_book.specs.declared.reply.Reply.TheVariants.{Refused}
+use Rattle.lrc_book.specs.declared.reply.Refusal.TheVariants.{UnknownStripe}
+use Rattle.lrc_book.specs.Steps.{drop_outcome}
+use Rattle.lrc_tool.specs.Outputs.{IsPlayed}
+use Rattle.lrc_tool.proofs.Rows.{session, second, remove, ten_domains}
+
+-- a stripe that is not there is dropped
+abbrev refused_to : SessionNo → Command → Entry
+refused_to s c = record { session = s; command = c; reply = Refused UnknownStripe }
+
+abbrev InTwo : Entry → Type 0
+InTwo e = e.session.value ≤ 2
+
+abbrev later : List Entry
+later = refused_to session (remove 2) ∷ refused_to second (remove 3) ∷ []
+
+two_sessions_in_turn :
+    IsPlayed ten_domains ((remove 2 ∷ []) ∷ (remove 1 ∷ remove 3 ∷ []) ∷ []) (codes "script 1\n2 refused 101\nscript 2\n1 refused 101\n3 refused 101\n")
+unfolding drop_outcome digits
+two_sessions_in_turn = record {
+  history = refused_to second (remove 1) ∷ later;
+  legal = (refl, (refl, (refl, tt)));
+  made = refl;
+  alone =
+      All-cons InTwo (refused_to second (remove 1)) later (lit≤ tt)
+      (All-cons InTwo (refused_to session (remove 2)) (refused_to second (remove 3) ∷ []) (lit≤ tt)
+      (All-cons InTwo (refused_to second (remove 3)) [] (lit≤ tt) (All-nil InTwo)));
+  printed = refl;
+}
