@@ -32,3 +32,5 @@ pub mod PlacingLemmas
 pub mod ShownLemmas
 pub mod EndLemmas
 pub mod BesideLemmas
+pub mod LeaseToldLemmas
+pub mod RepairLemmas

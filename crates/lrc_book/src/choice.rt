@@ -1,11 +1,12 @@
 //! The choice of a seat, read off the slot table and the seats of the stripe's other fragments.
 
-ghost use Rattle.std.specs.Prelude.{◌≡◌, ◌↔◌, true, IsTrue, List};
+ghost use Rattle.std.specs.Prelude.{◌≡◌, ◌↔◌, true, IsTrue, List, option_map};
 ghost use Rattle.std.specs.List.{All, Contains};
 ghost use Rattle.lrc_code.specs.declared.codes.Code.TheVariants.{Wide};
 ghost use Rattle.lrc_topology.specs.declared.seat.Held.{Held};
 ghost use Rattle.lrc_slots.specs.Tables.{barred, slots_of};
 ghost use Rattle.lrc_stripes.specs.Tables.{stored_in};
+ghost use Rattle.lrc_leases.specs.Tables.{leased_in};
 ghost use Rattle.lrc_book.specs.States.{State, seats_of};
 ghost use Rattle.lrc_book.specs.Placement.{chosen, is_beside};
 ghost use Rattle.lrc_book.specs.Ties.{bars_in, bars_of, next_seat, with_homes};
@@ -79,10 +80,18 @@ impl Store {
         for other in Fragment::all().iter() {
             let home = self.stripes.home(stripe, *other);
             self.bar_seat(&mut bars, stripe, fragment, *other, home);
-            let target = self.leases.lease(stripe, *other).map(|lease| lease.target);
+            let target = self.target(stripe, *other);
             self.bar_seat(&mut bars, stripe, fragment, *other, target);
         }
         bars
+    }
+
+    /// The target of a fragment's lease, if it has one.
+    fn target(&self, stripe: StripeNo, fragment: Fragment) -> Option<Seat>
+        ensures { result ≡ option_map (λ l. l.target) ((leased_in self.now.leases).leases stripe fragment.value) }
+    {
+        let lease = self.leases.lease(stripe, fragment)?;
+        Some(lease.target)
     }
 
     /// Bars the domains of the seat of another fragment of the stripe, if it has one.
