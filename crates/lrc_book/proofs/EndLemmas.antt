@@ -140,6 +140,14 @@ module _ (nodes : List NodeInfo) (st : State) (s : StripeNo) (f : Fragment) (l :
   pub target-slot : option_map_or (λ n. nat_lt l.target.slot n.slots) (node_at nodes l.target.node) false ≡ true
   target-slot = standing-slot (node_at nodes l.target.node) _ (All-contains (IsStanding nodes st) (taken_seats st) l.target good.standing (target-seat st l there-lease.0))
 
+  known-node : (o : Option NodeInfo) (P : Type 0) → IsSomeAnd o (λ n. (l.target.slot < n.slots) × P) → IsSome o
+  known-node (Some n) P both = refl
+  known-node None P both = absurd both
+
+  -- which is one of the nodes
+  pub target-node : IsSome (node_at nodes l.target.node)
+  target-node = known-node (node_at nodes l.target.node) _ (All-contains (IsStanding nodes st) (taken_seats st) l.target good.standing (target-seat st l there-lease.0))
+
 -- ---- what is kept when it ends
 
 -- where there is no lease none is taken out

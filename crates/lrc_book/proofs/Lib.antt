@@ -34,3 +34,4 @@ pub mod EndLemmas
 pub mod BesideLemmas
 pub mod LeaseToldLemmas
 pub mod RepairLemmas
+pub mod LeaseReplyLemmas

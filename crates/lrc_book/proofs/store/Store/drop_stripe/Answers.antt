@@ -1,4 +1,4 @@
-use Rattle.std.proofs.Common.{◌≡◌, List, take, length, refl, ap, ◌∙◌, subst, arith}
+use Rattle.std.proofs.Common.{◌≡◌, List, take, get_or, length, refl, ap, ◌∙◌, subst, arith}
 use Rattle.std.proofs.lemmas.List.{take_all}
 use Rattle.lrc_code.specs.declared.codes.Code.TheVariants.{Wide}
 use Rattle.lrc_code.specs.declared.numbers.Fragment.{Fragment}
@@ -21,7 +21,7 @@ pub clear_home-requires : goal.clear_home-requires
 clear_home-requires g c =
     let before = cleared g.st c.args.stripe (take c.loop-fragment.fragment-index c.all.result) in
     let kept = c.end_lease.ensures.kept before c.loop-fragment.invariant.kept in record {
-      tied = (without_lease before c.args.stripe c.fragment-item.result, kept);
+      tied = (without_lease before c.args.stripe (get_or c.all.result c.loop-fragment.fragment-index c.fragment-item.result), kept);
       there = ap (λ (x : Stored). x.stripes c.args.stripe) kept.stripes_is ∙ cleared-has g.st c.args.stripe (take c.loop-fragment.fragment-index c.all.result) (drop-told g.st c.args.stripe c.requires.1);
     }
 
@@ -32,7 +32,7 @@ loop-fragment-preserved g c =
     let before = cleared g.st c.args.stripe (take i c.all.result) in
     record {
       kept = subst (λ (st : State). IsOf st c.clear_home.new.self) (cleared-more g.st c.args.stripe c.all.result i c.fragment-item.result (omega (arith, long)))
-          (c.clear_home.ensures.kept (without_lease before c.args.stripe c.fragment-item.result) (c.end_lease.ensures.kept before c.loop-fragment.invariant.kept));
+          (c.clear_home.ensures.kept (without_lease before c.args.stripe (get_or c.all.result c.loop-fragment.fragment-index c.fragment-item.result)) (c.end_lease.ensures.kept before c.loop-fragment.invariant.kept));
       nodes = c.clear_home.ensures.nodes ∙ c.end_lease.ensures.nodes ∙ c.loop-fragment.invariant.nodes;
       all = c.loop-fragment.invariant.all;
     }

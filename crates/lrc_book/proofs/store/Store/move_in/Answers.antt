@@ -26,7 +26,7 @@ pub returns-in-Some-clause-kept : goal.returns-in-Some-clause-kept
 returns-in-Some-clause-kept g c =
     let kept = c.clear_home.ensures.kept g.st c.requires.0 in
     let live : lease_of g.st c.args.stripe c.args.fragment ≡ Some c.in-Some.lease = sym (lease-kept (without_home g.st c.args.stripe c.args.fragment) c.clear_home.new.self kept c.args.stripe c.args.fragment) ∙ sym c.remove.ensures.value ∙ c.in-Some.is in
-    subst (λ (o : Option Lease). IsOf (with_done g.st c.args.stripe c.args.fragment o) c.set_home.new.self) (sym live)
+    subst (λ (o : Option Lease). IsOf (with_done g.st c.args.stripe c.args.fragment o) (record c.clear_home.new.self { stripes = c.set_home.new.self; leases = c.remove.new.self })) (sym live)
     (move-kept g.st c.args.self.now c.clear_home.new.self c.requires.0 c.clear_home.ensures.nodes c.args.stripe c.args.fragment kept c.in-Some.lease live c.set_home.new.self c.remove.new.self c.set_home.ensures c.remove.ensures.lease)
 
 pub returns-in_default-clause-kept : goal.returns-in_default-clause-kept

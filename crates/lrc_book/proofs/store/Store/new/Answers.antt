@@ -1,0 +1,4 @@
+use Rattle.lrc_book.proofs.store.Store.new.Goals as goal
+
+pub returns-clause-value : goal.returns-clause-value
+returns-clause-value c = ?
