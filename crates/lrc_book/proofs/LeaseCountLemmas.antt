@@ -1,10 +1,9 @@
 -- Which leases a command leaves live, and how many it grants.
-use Rattle.std.proofs.Common.{◌≡◌, ◌≢◌, ◌⊎◌, ℕ, ◌+◌, ◌≤◌, inl, inr, Bool, true, false, not, is_none, cond, List, [], ◌∷◌, ◌++◌, filter, fold, Option, Some, None, Result, Ok, Err, refl, sym, ap, ◌∙◌, subst, arith}
+use Rattle.std.proofs.Common.{◌≡◌, ◌⊎◌, ℕ, ◌+◌, inl, inr, Bool, true, false, not, is_none, cond, List, [], ◌∷◌, ◌++◌, filter, fold, Option, Some, None, Result, Ok, Err, refl, sym, ap, ◌∙◌, subst, arith}
 use Rattle.std.specs.List.{Contains}
 use Rattle.std.specs.Option.{option_map_or}
 use Rattle.std.proofs.lemmas.List.Folds.{fold_stays}
 use Rattle.std.proofs.lemmas.List.Sums.{sum_by-append, sum_by-cons}
-use Rattle.lrc_code.specs.declared.codes.Code.{Code}
 use Rattle.lrc_code.specs.declared.codes.Code.TheVariants.{Wide}
 use Rattle.lrc_code.specs.declared.numbers.StripeNo.{StripeNo}
 use Rattle.lrc_code.specs.declared.numbers.NodeNo.{NodeNo}
@@ -13,7 +12,6 @@ use Rattle.lrc_code.specs.declared.numbers.Fragment.{Fragment}
 use Rattle.lrc_code.specs.Codes.{fragments}
 use Rattle.lrc_topology.specs.declared.NodeInfo.{NodeInfo}
 use Rattle.lrc_topology.specs.declared.seat.Seat.{Seat}
-use Rattle.lrc_topology.specs.declared.seat.Held.{Held}
 use Rattle.lrc_topology.specs.Nodes.{node_at}
 use Rattle.lrc_leases.specs.declared.lease.Lease.{Lease as LeaseRecord}
 use Rattle.lrc_leases.specs.Leased.{is_of}
@@ -21,16 +19,16 @@ use Rattle.lrc_book.specs.declared.kind.Kind.{Kind}
 use Rattle.lrc_book.specs.declared.command.Command.{Command}
 use Rattle.lrc_book.specs.declared.command.Command.TheVariants.{Place, Drop, Lease, Done, Abandon, Revoke, Fail, Down, Up, Join}
 use Rattle.lrc_book.specs.declared.reply.Reply.{Reply}
-use Rattle.lrc_book.specs.declared.reply.Reply.TheVariants.{Placed, Dropped, Granted, Ended, Changed, Refused}
+use Rattle.lrc_book.specs.declared.reply.Reply.TheVariants.{Dropped, Granted, Ended, Changed, Refused}
 use Rattle.lrc_book.specs.declared.reply.Refusal.{Refusal}
 use Rattle.lrc_book.specs.declared.reply.Refusal.TheVariants as refusal
 use Rattle.lrc_book.specs.declared.entry.Entry.{Entry}
-use Rattle.lrc_book.specs.States.{State, has_stripe, lease_of, online_at, mode_of, is_gone, is_down}
+use Rattle.lrc_book.specs.States.{State, has_stripe, lease_of, online_at}
 use Rattle.lrc_book.specs.Placement.{chosen, with_home, place_next, placed}
 use Rattle.lrc_book.specs.Repairs.{needs, kind, is_beyond_repair}
 use Rattle.lrc_book.specs.Outcomes.{Outcome, refuse_if}
-use Rattle.lrc_book.specs.Leases.{is_grant, grants, new_lease, with_lease, granted, lease_answer, lease_outcome, without_lease, at_epoch, is_held_by, moved_in, done_answer, done_outcome, abandon_answer, abandon_outcome, revoke_outcome}
-use Rattle.lrc_book.specs.Steps.{with_stripe, placed_reply, place_answer, place_outcome, is_other, without_stripe, drop_outcome, node_outcome, hangs_on, emptied, with_gone, with_down, without_down, without_gone, fail_outcome, down_outcome, up_outcome, join_outcome, step}
+use Rattle.lrc_book.specs.Leases.{is_grant, grants, new_lease, granted, lease_answer, lease_outcome, without_lease, at_epoch, is_held_by, moved_in, done_answer, done_outcome, abandon_answer, abandon_outcome, revoke_outcome}
+use Rattle.lrc_book.specs.Steps.{with_stripe, place_answer, place_outcome, is_other, without_stripe, drop_outcome, node_outcome, hangs_on, emptied, with_gone, with_down, without_down, without_gone, fail_outcome, down_outcome, up_outcome, join_outcome, step}
 use Rattle.lrc_book.proofs.MemberLemmas.{filter-member}
 
 -- ---- how many grants

@@ -24,9 +24,8 @@ use Rattle.lrc_book.specs.States.{State, has_stripe, lease_of, online_at}
 use Rattle.lrc_book.specs.Outcomes.{Outcome, refuse_if}
 use Rattle.lrc_book.specs.Leases.{grants, at_epoch, is_held_by, moved_in, done_answer, done_outcome, is_report, is_ended, reports_taken}
 use Rattle.lrc_book.specs.Steps.{step}
-use Rattle.lrc_book.specs.Histories.{World, first_world, outcome_in, next_world, world_after, IsLegalFrom, IsLegal}
-use Rattle.lrc_book.specs.Goodness.{IsGood}
-use Rattle.lrc_book.proofs.MemberLemmas.{filter-member, not-Contains-nil}
+use Rattle.lrc_book.specs.Histories.{World, first_world, outcome_in, next_world, IsLegalFrom, IsLegal}
+use Rattle.lrc_book.proofs.MemberLemmas.{filter-member}
 use Rattle.lrc_book.proofs.LeaseStepLemmas.{at_epoch-some}
 use Rattle.lrc_book.proofs.LeaseCountLemmas.{Follows, grants-push, step-follows}
 use Rattle.lrc_book.proofs.GoodLemmas.{IsGoodIn, opening-good, next-good, past-after}
@@ -117,7 +116,7 @@ module _ (s : StripeNo) (f : Fragment) (e : ℕ) where
         let parts = is_of-parts s f.value l own in
         let epoch : l.epoch ≡ grants past l.stripe l.fragment + 1 = subst (λ (k : LeaseRecord). k.epoch ≡ grants past k.stripe k.fragment + 1) new grant.epoch in
         let pair : grants past l.stripe l.fragment ≡ grants past s f =
-            ap (λ (r : StripeNo). grants past r l.fragment) (equal_stripes l.stripe s parts.0) ∙ ap (grants past s) (equal_fragments l.fragment f parts.1) in
+        ap (λ (r : StripeNo). grants past r l.fragment) (equal_stripes l.stripe s parts.0) ∙ ap (grants past s) (equal_fragments l.fragment f parts.1) in
         absurd (omega (arith, low, epoch, pair, same))
   ]
 

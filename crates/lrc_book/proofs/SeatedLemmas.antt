@@ -1,5 +1,5 @@
 -- Each command leaves the stripes seated.
-use Rattle.std.proofs.Common.{inl, inr, ◌||◌, ℕ, if◌then◌else◌, is_none, ◌≡◌, ◌≢◌, ◌<◌, Bool, true, false, not, eqb, List, [], ◌∷◌, ◌++◌, map, filter, fold, Option, Some, None, Result, Ok, Err, IsSomeAnd, arith, refl, sym, ap, ◌∙◌, subst}
+use Rattle.std.proofs.Common.{inl, inr, ◌||◌, ℕ, if◌then◌else◌, is_none, ◌≡◌, ◌≢◌, ◌<◌, Bool, true, false, not, eqb, List, [], ◌∷◌, ◌++◌, map, filter, Option, Some, None, Result, Ok, Err, IsSomeAnd, arith, refl, sym, ap, ◌∙◌, subst}
 use Rattle.std.specs.List.{All, Contains}
 use Rattle.std.proofs.lemmas.Bool.{cases_Bool, ne_eqb, eq-eqb, eqb-false, not-true, or_parts}
 use Rattle.std.proofs.lemmas.List.Elements.{All-nil, All-append, All-weaker, All-filter, All-map, All-contains, Contains-append_left, Contains-push, Contains-push_cases}
@@ -19,7 +19,6 @@ use Rattle.lrc_topology.specs.Nodes.{AreNodes, node_at}
 use Rattle.lrc_book.specs.declared.command.Command.{Command}
 use Rattle.lrc_book.specs.declared.command.Command.TheVariants.{Place, Drop, Lease, Done, Abandon, Revoke, Fail, Down, Up, Join}
 use Rattle.lrc_book.specs.declared.reply.Reply.TheVariants.{Dropped, Changed}
-use Rattle.lrc_book.specs.declared.reply.Refusal.{Refusal}
 use Rattle.lrc_book.specs.declared.reply.Refusal.TheVariants as refusal
 use Rattle.lrc_book.specs.declared.entry.Entry.{Entry}
 use Rattle.lrc_book.specs.declared.mode.Mode.TheVariants.{Active, Gone}
@@ -27,7 +26,7 @@ use Rattle.lrc_leases.specs.declared.lease.Lease.{Lease as LeaseRecord}
 use Rattle.lrc_leases.specs.Leased.{is_target_on}
 use Rattle.lrc_book.specs.States.{State, held_by, opening, has_stripe, has_number, without_number, mode_of, is_gone, is_down, code_of, seats_of, taken_seats}
 use Rattle.lrc_book.specs.Placement.{placed}
-use Rattle.lrc_book.specs.Outcomes.{Outcome, refuse_if}
+use Rattle.lrc_book.specs.Outcomes.{refuse_if}
 use Rattle.lrc_book.specs.Steps.{with_stripe, place_answer, place_outcome, is_other, without_stripe, drop_outcome, node_outcome, stands_on, hangs_on, emptied, with_gone, with_down, without_down, without_gone, fail_outcome, down_outcome, up_outcome, join_outcome, step}
 use Rattle.lrc_book.specs.Goodness.{IsStanding, AreSeated}
 use Rattle.lrc_book.proofs.MemberLemmas.{list_any-All, All-list_any, All-members, member-filter, filter-member, list_any-member}
@@ -188,8 +187,8 @@ module _ (nodes : List NodeInfo) (st : State) (n : NodeNo) where
       (All-members (λ h. eqb n.value h.seat.node.value ≡ false) (filter p st.homes) (λ h here. not-true _ (filter-member p st.homes h here).1))
       (All-map (λ h. eqb n.value h.seat.node.value ≡ false) held_by (filter q st.leases)
       (All-members (λ l. eqb n.value l.target.node.value ≡ false) (filter q st.leases) (λ l here.
-          let parts = or_parts (is_target_on n l) _ (not-true _ (filter-member q st.leases l here).1) in
-          ne_eqb n.value l.target.node.value (λ e. eqb-false l.target.node.value n.value parts.0 (sym e))))))
+      let parts = or_parts (is_target_on n l) _ (not-true _ (filter-member q st.leases l here).1) in
+      ne_eqb n.value l.target.node.value (λ e. eqb-false l.target.node.value n.value parts.0 (sym e))))))
 
   other-number : (m : NodeNo) → eqb n.value m.value ≡ false → has_number st.gone m ≡ false → has_number (st.gone ++ n ∷ []) m ≡ false
   other-number m apart miss =
