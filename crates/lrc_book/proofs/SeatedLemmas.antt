@@ -33,7 +33,8 @@ use Rattle.lrc_book.proofs.MemberLemmas.{list_any-All, All-list_any, All-members
 use Rattle.lrc_book.proofs.SeatingLists.{pairs-push}
 use Rattle.lrc_book.proofs.SeatingLemmas.{HasNone, homes-all, leases-all, IsPlacing, placing, fragments-distinct}
 use Rattle.lrc_book.proofs.LeaseGoodLemmas.{kept-seated}
-use Rattle.lrc_book.proofs.LeaseStepLemmas.{refused-seated, lease-seated, done-seated, abandon-seated, revoke-seated}
+use Rattle.lrc_book.proofs.OutcomeLemmas.{either-way}
+use Rattle.lrc_book.proofs.LeaseStepLemmas.{lease-seated, done-seated, abandon-seated, revoke-seated}
 
 -- ---- commands
 
@@ -79,7 +80,7 @@ module _ (nodes : List NodeInfo) (known : AreNodes nodes) (st : State) (s : Stri
   pub place-seated : (code : Code) → AreSeated nodes st → AreSeated nodes (place_outcome nodes st code s).1
   unfolding place_outcome
   place-seated code seated =
-      refused-seated nodes st (has_stripe st s) refusal.StripeExists (place_answer st s (placed nodes (with_stripe st code s) s)) seated
+      either-way (AreSeated nodes) (has_stripe st s) refusal.StripeExists st (place_answer st s (placed nodes (with_stripe st code s) s)) seated
       (λ e. answer-seated code (placed nodes (with_stripe st code s) s) seated e refl)
 
   -- the stripe, its homes and its leases taken out
@@ -107,7 +108,7 @@ module _ (nodes : List NodeInfo) (known : AreNodes nodes) (st : State) (s : Stri
 
   pub drop-seated : AreSeated nodes st → AreSeated nodes (drop_outcome st s).1
   unfolding drop_outcome
-  drop-seated seated = refused-seated nodes st (not (has_stripe st s)) refusal.UnknownStripe (Dropped, without_stripe st s) seated (λ e. without-seated seated)
+  drop-seated seated = either-way (AreSeated nodes) (not (has_stripe st s)) refusal.UnknownStripe st (Dropped, without_stripe st s) seated (λ e. without-seated seated)
 
 -- ---- nodes
 
@@ -162,8 +163,8 @@ modes-seated nodes st gone down seated present reachable =
 module _ (nodes : List NodeInfo) (st : State) (n : NodeNo) where
   changed-seated : (wrong : Bool) (changed : State) → AreSeated nodes st → (wrong ≡ false → AreSeated nodes changed) → AreSeated nodes (node_outcome nodes st n wrong changed).1
   changed-seated wrong changed seated next =
-      refused-seated nodes st (is_none (node_at nodes n)) refusal.UnknownNode (refuse_if wrong refusal.WrongMode st (Changed, changed)) seated
-      (λ known. refused-seated nodes st wrong refusal.WrongMode (Changed, changed) seated next)
+      either-way (AreSeated nodes) (is_none (node_at nodes n)) refusal.UnknownNode st (refuse_if wrong refusal.WrongMode st (Changed, changed)) seated
+      (λ known. either-way (AreSeated nodes) wrong refusal.WrongMode st (Changed, changed) seated next)
 
   -- a seat's node is not gone
   pub seat-present : AreSeated nodes st → (seat : Seat) → Contains (taken_seats st) seat → has_number st.gone seat.node ≡ false
