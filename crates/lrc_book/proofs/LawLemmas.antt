@@ -1,5 +1,5 @@
 -- What the reply to a command says of the state before it, and of the one that it leaves.
-use Rattle.std.proofs.Common.{inl, inr, ◌≡◌, Bool, true, false, not, ◌||◌, is_none, List, [], ◌∷◌, ◌++◌, length, fold, Option, Some, None, Result, Ok, Err, refl, sym, ap, ◌∙◌, append_assoc, append-nil, arith}
+use Rattle.std.proofs.Common.{inl, inr, ◌≡◌, ℕ, Bool, true, false, not, ◌||◌, is_none, List, [], ◌∷◌, ◌++◌, length, fold, Option, Some, None, Result, Ok, Err, refl, sym, ap, ◌∙◌, append_assoc, append-nil, arith}
 use Rattle.std.specs.Option.{option_map_or}
 use Rattle.std.proofs.lemmas.List.Folds.{fold_stays}
 use Rattle.lrc_code.specs.declared.codes.Code.{Code}
@@ -14,12 +14,15 @@ use Rattle.lrc_topology.specs.declared.seat.Seat.{Seat}
 use Rattle.lrc_topology.specs.declared.seat.Held.{Held}
 use Rattle.lrc_topology.specs.Nodes.{node_at}
 use Rattle.lrc_book.specs.declared.command.Command.{Command}
-use Rattle.lrc_book.specs.declared.command.Command.TheVariants.{Place, Drop, Fail, Down, Up, Join}
-use Rattle.lrc_book.specs.declared.reply.Reply.TheVariants.{Placed, Dropped, Changed, Refused}
+use Rattle.lrc_book.specs.declared.command.Command.TheVariants.{Place, Drop, Lease, Done, Abandon, Revoke, Fail, Down, Up, Join}
+use Rattle.lrc_book.specs.declared.reply.Reply.TheVariants.{Placed, Dropped, Ended, Changed, Refused}
 use Rattle.lrc_book.specs.declared.reply.Refusal.{Refusal}
 use Rattle.lrc_book.specs.declared.reply.Refusal.TheVariants as refusal
 use Rattle.lrc_book.specs.declared.entry.Entry.{Entry}
-use Rattle.lrc_book.specs.States.{State, has_stripe, mode_of, is_gone, is_down}
+use Rattle.lrc_leases.specs.declared.lease.Lease.{Lease as LeaseRecord}
+use Rattle.lrc_book.specs.States.{State, has_stripe, lease_of, online_at, mode_of, is_gone, is_down}
+use Rattle.lrc_book.specs.Repairs.{needs, is_beyond_repair}
+use Rattle.lrc_book.specs.Leases.{granted, lease_answer, lease_outcome, without_lease, at_epoch, is_held_by, moved_in, done_answer, done_outcome, abandon_answer, abandon_outcome, revoke_outcome}
 use Rattle.lrc_book.specs.Placement.{chosen, with_home, place_next, placed}
 use Rattle.lrc_book.specs.Choices.{AreChosen, IsFirstWithout}
 use Rattle.lrc_book.specs.Changes.{held_at, with_placed}
@@ -72,10 +75,51 @@ module _ (nodes : List NodeInfo) (st : State) (n : NodeNo) where
   unfolding join_outcome
   keeps-join = keeps-node nodes st n (not (is_gone (mode_of st n))) _
 
+module _ (nodes : List NodeInfo) (past : List Entry) (st : State) (session : SessionNo) (s : StripeNo) (f : Fragment) where
+  keeps-granted : (o : Option Seat) → KeepsRefused st (granted nodes past st session s f o)
+  keeps-granted None = λ q e. refl
+  keeps-granted (Some seat) = λ q e. absurd (cc)
+
+  keeps-answer : (o : Option LeaseRecord) → KeepsRefused st (lease_answer nodes past st session s f o)
+  keeps-answer (Some l) = λ q e. refl
+  keeps-answer None =
+      keeps-if st (not (needs st s f)) refusal.NotNeeded _ (keeps-if st (is_beyond_repair nodes st s f) refusal.Unrecoverable _ (keeps-granted (chosen nodes st s f)))
+
+  keeps-lease : KeepsRefused st (lease_outcome nodes past st session s f)
+  unfolding lease_outcome
+  keeps-lease = keeps-if st (not (has_stripe st s)) refusal.UnknownStripe _ (keeps-answer (lease_of st s f))
+
+  keeps-done-by : (o : Option LeaseRecord) → KeepsRefused st (done_answer nodes st session s f o)
+  keeps-done-by None = λ q e. refl
+  keeps-done-by (Some l) =
+      keeps-if st (not (is_held_by session l)) (refusal.NotHolder l.holder) _
+      (keeps-if st (not (online_at nodes st l.target.node)) (refusal.TargetOffline l.target.node) (Ended, moved_in st s f l.target) (λ q e. absurd (cc)))
+
+  keeps-done : (e : ℕ) → KeepsRefused st (done_outcome nodes st session s f e)
+  unfolding done_outcome
+  keeps-done e = keeps-if st (not (has_stripe st s)) refusal.UnknownStripe _ (keeps-done-by (at_epoch e (lease_of st s f)))
+
+  keeps-abandon-by : (o : Option LeaseRecord) → KeepsRefused st (abandon_answer st session s f o)
+  keeps-abandon-by None = λ q e. refl
+  keeps-abandon-by (Some l) = keeps-if st (not (is_held_by session l)) (refusal.NotHolder l.holder) (Ended, without_lease st s f) (λ q e. absurd (cc))
+
+  keeps-abandon : (e : ℕ) → KeepsRefused st (abandon_outcome st session s f e)
+  unfolding abandon_outcome
+  keeps-abandon e = keeps-if st (not (has_stripe st s)) refusal.UnknownStripe _ (keeps-abandon-by (at_epoch e (lease_of st s f)))
+
+  keeps-revoke : KeepsRefused st (revoke_outcome st s f)
+  unfolding revoke_outcome
+  keeps-revoke =
+      keeps-if st (not (has_stripe st s)) refusal.UnknownStripe _ (keeps-if st (is_none (lease_of st s f)) refusal.NoLease (Ended, without_lease st s f) (λ q e. absurd (cc)))
+
 -- A refused command leaves the state as it was.
 pub refused-keeps : (nodes : List NodeInfo) (past : List Entry) (st : State) (session : SessionNo) (c : Command) (r : Refusal) → (step nodes past st session c).0 ≡ Refused r → (step nodes past st session c).1 ≡ st
 refused-keeps nodes past st session (Place s) r e = keeps-place nodes st Wide s r e
 refused-keeps nodes past st session (Drop s) r e = keeps-drop st s r e
+refused-keeps nodes past st session (Lease s f) r e = keeps-lease nodes past st session s f r e
+refused-keeps nodes past st session (Done s f d) r e = keeps-done nodes past st session s f d r e
+refused-keeps nodes past st session (Abandon s f d) r e = keeps-abandon nodes past st session s f d r e
+refused-keeps nodes past st session (Revoke s f) r e = keeps-revoke nodes past st session s f r e
 refused-keeps nodes past st session (Fail n) r e = keeps-fail nodes st n r e
 refused-keeps nodes past st session (Down n) r e = keeps-down nodes st n r e
 refused-keeps nodes past st session (Up n) r e = keeps-up nodes st n r e

@@ -8,11 +8,15 @@ pub mod ChoiceLemmas
 pub mod SeatingLists
 pub mod PairLemmas
 pub mod SeatingLemmas
+pub mod OutcomeLemmas
 pub mod LeaseGoodLemmas
 pub mod LeaseStepLemmas
 pub mod SeatedLemmas
 pub mod LeaseCountLemmas
 pub mod GoodLemmas
+pub mod LeaseLawLemmas
+pub mod ReportLemmas
+pub mod KindLemmas
 pub mod TieLemmas
 pub mod TableLemmas
 pub mod BarLemmas

@@ -1,12 +1,15 @@
 -- What the commands of repair leases answer and change.
-use Rattle.std.specs.Prelude.{ℕ, ◌+◌, Bool, false, not, ◌&&◌, if◌then◌else◌, nat_eq, List, [], ◌∷◌, ◌++◌, filter, count_by, Option, Some, None, is_none}
+use Rattle.std.specs.Prelude.{ℕ, ◌+◌, Bool, true, false, not, ◌&&◌, if◌then◌else◌, nat_eq, List, [], ◌∷◌, ◌++◌, filter, count_by, Option, Some, None, is_none}
 use Rattle.lrc_code.specs.declared.numbers.StripeNo.{StripeNo}
 use Rattle.lrc_code.specs.declared.numbers.SessionNo.{SessionNo}
 use Rattle.lrc_code.specs.declared.numbers.Fragment.{Fragment}
+use Rattle.lrc_code.specs.Numbers.{same_stripe, same_fragment}
 use Rattle.lrc_topology.specs.declared.NodeInfo.{NodeInfo}
 use Rattle.lrc_topology.specs.declared.seat.Seat.{Seat}
 use Rattle.lrc_leases.specs.declared.lease.Lease.{Lease}
 use Rattle.lrc_leases.specs.Leased.{is_of}
+use Rattle.lrc_book.specs.declared.command.Command.{Command}
+use Rattle.lrc_book.specs.declared.command.Command.TheVariants.{Done}
 use Rattle.lrc_book.specs.declared.reply.Reply.{Reply}
 use Rattle.lrc_book.specs.declared.reply.Reply.TheVariants.{Granted, Ended}
 use Rattle.lrc_book.specs.declared.reply.Refusal.TheVariants as refusal
@@ -104,3 +107,19 @@ revoke_outcome st s f =
     refuse_if (not (has_stripe st s)) refusal.UnknownStripe st
     (refuse_if (is_none (lease_of st s f)) refusal.NoLease st
     (Ended, without_lease st s f))
+
+-- ---- reports
+
+-- the command is the report that the fragment was repaired under this epoch
+abbrev pub is_report : StripeNo → Fragment → ℕ → Command → Bool
+is_report s f e (Done t g d) = same_stripe t s && same_fragment g f && nat_eq d e
+is_report s f e _ = false
+
+-- the reply is that a lease ended
+abbrev pub is_ended : Reply → Bool
+is_ended Ended = true
+is_ended _ = false
+
+-- how many such reports were taken so far
+abbrev pub reports_taken : List Entry → StripeNo → Fragment → ℕ → ℕ
+reports_taken past s f e = count_by (λ x. is_report s f e x.command && is_ended x.reply) past

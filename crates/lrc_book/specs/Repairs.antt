@@ -1,10 +1,10 @@
 -- Which fragments need a lease, and from what they are rebuilt.
-use Rattle.std.specs.Prelude.{Bool, true, false, not, ◌&&◌, if◌then◌else◌, List, is_none}
+use Rattle.std.specs.Prelude.{◌≡◌, ◌≢◌, ◌<◌, ◌↔◌, Bool, true, false, not, ◌&&◌, if◌then◌else◌, IsTrue, IsFalse, List, length, AllPairs, Contains, is_none}
 use Rattle.lrc_code.specs.declared.codes.Code.{Code}
 use Rattle.lrc_code.specs.declared.codes.Code.TheVariants.{Wide}
 use Rattle.lrc_code.specs.declared.numbers.StripeNo.{StripeNo}
 use Rattle.lrc_code.specs.declared.numbers.Fragment.{Fragment}
-use Rattle.lrc_code.specs.Codes.{has_fragment, others}
+use Rattle.lrc_code.specs.Codes.{has_fragment, share_class, is_in_group, others}
 use Rattle.lrc_code.specs.Losses.{is_recoverable, is_local}
 use Rattle.lrc_topology.specs.declared.NodeInfo.{NodeInfo}
 use Rattle.lrc_stripes.specs.Levels.{homes_of}
@@ -36,3 +36,13 @@ is_global Global = true
 -- the fragment can only be rebuilt from the whole stripe, which does not suffice
 abbrev pub is_beyond_repair : List NodeInfo → State → StripeNo → Fragment → Bool
 is_beyond_repair nodes st s f = not (is_safe nodes st s) && is_global (kind nodes st s f)
+
+-- ---- in words
+
+-- The fragment is of a local group, no other fragment of its class is missing, and the sources are these six, rising.
+pub record IsFromItsGroup (nodes : List NodeInfo) (st : State) (s : StripeNo) (f : Fragment) (sources : List Fragment) : Type 0 where
+  pub group : IsTrue (is_in_group (code_of st s) f)
+  pub present : (g : Fragment) → IsTrue (share_class (code_of st s) f g) → g ≢ f → IsFalse (missing nodes st s g.value)
+  pub six : length sources ≡ 6
+  pub rising : AllPairs (λ g h. g.value < h.value) sources
+  pub members : (g : Fragment) → Contains sources g ↔ (IsTrue (share_class (code_of st s) f g) × (g ≢ f))

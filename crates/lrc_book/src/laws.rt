@@ -1,6 +1,6 @@
 //! Laws of the definitions, each the contract of a function that does nothing.
 
-ghost use Rattle.std.specs.Prelude.{◌≡◌, ◌↔◌, IsTrue, IsFalse, List, All, Some, None};
+ghost use Rattle.std.specs.Prelude.{◌≡◌, ◌≢◌, ◌↔◌, ℕ, ◌+◌, ◌≤◌, if◌then◌else◌, IsTrue, IsFalse, List, All, Some, None};
 ghost use Rattle.lrc_code.specs.declared.codes.Code.TheVariants.{Wide};
 ghost use Rattle.lrc_code.specs.Codes.{fragments};
 ghost use Rattle.lrc_code.specs.declared.numbers.StripeNo.{StripeNo};
@@ -12,15 +12,21 @@ ghost use Rattle.lrc_topology.specs.Nodes.{AreNodes};
 ghost use Rattle.lrc_code.specs.declared.numbers.SessionNo.{SessionNo};
 ghost use Rattle.lrc_book.specs.declared.entry.Entry.{Entry};
 ghost use Rattle.lrc_book.specs.declared.command.Command.{Command};
-ghost use Rattle.lrc_book.specs.declared.command.Command.TheVariants.{Place};
-ghost use Rattle.lrc_book.specs.declared.reply.Reply.TheVariants.{Placed, Refused};
+ghost use Rattle.lrc_book.specs.declared.command.Command.TheVariants.{Place, Lease, Done, Abandon, Revoke};
+ghost use Rattle.lrc_book.specs.declared.reply.Reply.TheVariants.{Placed, Granted, Refused};
 ghost use Rattle.lrc_book.specs.declared.reply.Refusal.TheVariants as refusal;
 ghost use Rattle.lrc_book.specs.declared.reply.Refusal.{Refusal};
+ghost use Rattle.lrc_book.specs.declared.kind.Kind.{Kind};
+ghost use Rattle.lrc_book.specs.declared.kind.Kind.TheVariants.{Local, Global};
+ghost use Rattle.lrc_leases.specs.declared.lease.Lease.{Lease as LeaseRecord};
+ghost use Rattle.lrc_book.specs.Outcomes.{refused};
+ghost use Rattle.lrc_book.specs.Leases.{grants, reports_taken};
+ghost use Rattle.lrc_book.specs.Repairs.{kind, IsFromItsGroup};
 ghost use Rattle.lrc_book.specs.Steps.{with_stripe, step};
-ghost use Rattle.lrc_book.specs.States.{State, has_stripe};
+ghost use Rattle.lrc_book.specs.States.{State, has_stripe, lease_of};
 ghost use Rattle.lrc_book.specs.Placement.{chosen, is_beside};
 ghost use Rattle.lrc_book.specs.Choices.{IsFitting, IsChoice, AreChosen, IsFirstWithout};
-ghost use Rattle.lrc_book.specs.Histories.{IsLegal, state_after};
+ghost use Rattle.lrc_book.specs.Histories.{IsLegal, outcome_in, world_after, state_after};
 ghost use Rattle.lrc_book.specs.Goodness.{AreSeated, IsGood};
 ghost use Rattle.lrc_book.specs.Ties.{table_of, bars_of, next_seat, with_homes};
 
@@ -77,4 +83,56 @@ pub fn the_first_fragment_without_a_seat_is_told()
     ensures { (nodes : List NodeInfo) (past : List Entry) (st : State) (session : SessionNo) (s : StripeNo) (f : Fragment)
         → ((step nodes past st session (Place s)).0 ≡ Refused (refusal.NoLawfulNode f))
         ↔ (IsFalse (has_stripe st s) × IsFirstWithout nodes (with_stripe st Wide s) s (fragments Wide) f) }
+{}
+
+/// After a legal history Done and Abandon with an epoch that is not the number of the fragment's grants are answered
+/// that it is stale, or where there is no such stripe that it is unknown, and change nothing.
+pub fn stale_epochs_are_refused()
+    ensures done { (nodes : List NodeInfo) (history : List Entry) (session : SessionNo) (s : StripeNo) (f : Fragment) (e : ℕ)
+        → AreNodes nodes → IsLegal nodes history → e ≢ grants history s f
+        → outcome_in nodes (world_after nodes history) session (Done s f e)
+        ≡ refused (if has_stripe (state_after nodes history) s then refusal.Stale else refusal.UnknownStripe) (state_after nodes history) }
+    ensures abandon { (nodes : List NodeInfo) (history : List Entry) (session : SessionNo) (s : StripeNo) (f : Fragment) (e : ℕ)
+        → AreNodes nodes → IsLegal nodes history → e ≢ grants history s f
+        → outcome_in nodes (world_after nodes history) session (Abandon s f e)
+        ≡ refused (if has_stripe (state_after nodes history) s then refusal.Stale else refusal.UnknownStripe) (state_after nodes history) }
+{}
+
+/// In a legal history at most one Done of each epoch of a fragment was answered that the lease ended.
+pub fn one_done_a_grant()
+    ensures { (nodes : List NodeInfo) (history : List Entry) (s : StripeNo) (f : Fragment) (e : ℕ)
+        → AreNodes nodes → IsLegal nodes history → reports_taken history s f e ≤ 1 }
+{}
+
+/// Right after a grant the live lease of the fragment is the one that was told. Its holder is the session that asked,
+/// its target the seat that is chosen for the fragment, its epoch one more than the grants before it.
+pub fn a_grant_is_the_lease()
+    ensures live { (nodes : List NodeInfo) (past : List Entry) (st : State) (session : SessionNo) (s : StripeNo) (f : Fragment) (l : LeaseRecord) (k : Kind)
+        → (step nodes past st session (Lease s f)).0 ≡ Granted l k → lease_of (step nodes past st session (Lease s f)).1 s f ≡ Some l }
+    ensures own { (nodes : List NodeInfo) (past : List Entry) (st : State) (session : SessionNo) (s : StripeNo) (f : Fragment) (l : LeaseRecord) (k : Kind)
+        → (step nodes past st session (Lease s f)).0 ≡ Granted l k
+        → (l.stripe ≡ s) × (l.fragment ≡ f) × (l.holder ≡ session) × (l.epoch ≡ grants past s f + 1) × (k ≡ kind nodes st s f) }
+    ensures target { (nodes : List NodeInfo) (past : List Entry) (st : State) (session : SessionNo) (s : StripeNo) (f : Fragment) (l : LeaseRecord) (k : Kind)
+        → AreNodes nodes → (step nodes past st session (Lease s f)).0 ≡ Granted l k → IsChoice nodes st s f l.target }
+{}
+
+/// Lease, Done, Abandon and Revoke of one fragment leave the lease of every other fragment as it was.
+pub fn others_keep_their_leases()
+    ensures lease { (nodes : List NodeInfo) (past : List Entry) (st : State) (session : SessionNo) (s r : StripeNo) (f g : Fragment)
+        → (r ≡ s → g ≢ f) → lease_of (step nodes past st session (Lease s f)).1 r g ≡ lease_of st r g }
+    ensures done { (nodes : List NodeInfo) (past : List Entry) (st : State) (session : SessionNo) (s r : StripeNo) (f g : Fragment) (e : ℕ)
+        → (r ≡ s → g ≢ f) → lease_of (step nodes past st session (Done s f e)).1 r g ≡ lease_of st r g }
+    ensures abandon { (nodes : List NodeInfo) (past : List Entry) (st : State) (session : SessionNo) (s r : StripeNo) (f g : Fragment) (e : ℕ)
+        → (r ≡ s → g ≢ f) → lease_of (step nodes past st session (Abandon s f e)).1 r g ≡ lease_of st r g }
+    ensures revoke { (nodes : List NodeInfo) (past : List Entry) (st : State) (session : SessionNo) (s r : StripeNo) (f g : Fragment)
+        → (r ≡ s → g ≢ f) → lease_of (step nodes past st session (Revoke s f)).1 r g ≡ lease_of st r g }
+{}
+
+/// A fragment is rebuilt from its local group exactly where it is of one and no other of its class is missing. The
+/// sources are then the six others of its class, rising. Every other fragment is rebuilt from the whole stripe.
+pub fn kinds_in_words()
+    ensures local { (nodes : List NodeInfo) (st : State) (s : StripeNo) (f : Fragment) (sources : List Fragment)
+        → (kind nodes st s f ≡ Local sources) ↔ IsFromItsGroup nodes st s f sources }
+    ensures global { (nodes : List NodeInfo) (st : State) (s : StripeNo) (f : Fragment)
+        → (kind nodes st s f ≡ Global) ↔ ((sources : List Fragment) → ¬ (IsFromItsGroup nodes st s f sources)) }
 {}

@@ -1,0 +1,160 @@
+-- From what a fragment is rebuilt, in words.
+use Rattle.std.proofs.Common.{◌≡◌, ◌≢◌, ℕ, ◌<◌, ◌↔◌, inl, inr, Bool, true, false, not, ◌&&◌, if◌then◌else◌, nat_lt, IsTrue, List, [], ◌∷◌, length, filter, refl, sym, ap, ◌∙◌, subst, arith}
+use Rattle.std.specs.List.{All, AllPairs, Contains, list_any}
+use Rattle.std.proofs.lemmas.Bool.{cases_Bool, cases_order, eqb-false, eqb-true, eq-eqb, ne_eqb, ltb-true, and_parts, and_from, not-true, not-false}
+use Rattle.std.proofs.lemmas.List.Elements.{All-weaker, All-contains}
+use Rattle.std.proofs.lemmas.List.Kept.{AllPairs-cons, AllPairs-filter}
+use Rattle.std.proofs.lemmas.List.Sums.{length-filter}
+use Rattle.lrc_code.specs.declared.codes.Code.TheVariants.{Wide}
+use Rattle.lrc_code.specs.declared.numbers.StripeNo.{StripeNo}
+use Rattle.lrc_code.specs.declared.numbers.Fragment.{Fragment}
+use Rattle.lrc_code.specs.Codes.{fragments, share_class, is_in_group, others}
+use Rattle.lrc_code.specs.Losses.{FragmentSet, is_local}
+use Rattle.lrc_code.proofs.NumbersLemmas.{equal_fragments}
+use Rattle.lrc_code.proofs.SourcesLemmas.{is_other, six_others}
+use Rattle.lrc_topology.specs.declared.NodeInfo.{NodeInfo}
+use Rattle.lrc_book.specs.declared.kind.Kind.{Kind}
+use Rattle.lrc_book.specs.declared.kind.Kind.TheVariants.{Local, Global}
+use Rattle.lrc_book.specs.States.{State, missing}
+use Rattle.lrc_book.specs.Repairs.{kind, IsFromItsGroup}
+use Rattle.lrc_book.proofs.MemberLemmas.{All-members, filter-member, member-filter, All-list_any, list_any-All, Contains-here, Contains-later, Contains-cases, not-Contains-nil, AllPairs-head, AllPairs-tail}
+use Rattle.lrc_book.proofs.FragmentLemmas.{all-fragments}
+
+-- ---- rising lists
+
+abbrev IsRising : List Fragment → Type 0
+IsRising fs = AllPairs (λ f g. f.value < g.value) fs
+
+are_rising : List Fragment → Bool
+are_rising [] = true
+are_rising (f ∷ fs) = not (list_any (λ (g : Fragment). not (nat_lt f.value g.value)) fs) && are_rising fs
+
+rising-from : (fs : List Fragment) → are_rising fs ≡ true → IsRising fs
+unfolding are_rising
+rising-from [] e = λ i j d below within. absurd (omega arith)
+rising-from (f ∷ fs) e =
+    let parts = and_parts (not (list_any (λ (g : Fragment). not (nat_lt f.value g.value)) fs)) (are_rising fs) e in
+    AllPairs-cons (λ f g. f.value < g.value) f fs
+    (All-weaker _ (λ g. f.value < g.value) (λ g below. ltb-true f.value g.value (not-false _ below)) fs (All-list_any (λ (g : Fragment). not (nat_lt f.value g.value)) fs (not-true _ parts.0)))
+    (rising-from fs parts.1)
+
+fragments-rising : IsRising (fragments Wide)
+unfolding are_rising
+fragments-rising = rising-from (fragments Wide) refl
+
+-- a later member of a rising list is greater than its first
+above-first : (f : Fragment) (fs : List Fragment) (g : Fragment) → IsRising (f ∷ fs) → Contains fs g → f.value < g.value
+above-first f fs g rising here = All-contains (λ (h : Fragment). f.value < h.value) fs g (AllPairs-head (λ f g. f.value < g.value) f fs rising) here
+
+-- the first of one is the least of the other
+at-least : (f g : Fragment) (gs : List Fragment) → IsRising (g ∷ gs) → Contains (g ∷ gs) f → f.value < g.value → ⊥
+at-least f g gs rising here below = elim (Contains-cases g f gs here) [
+  | inl same ↦ let e = ap (λ (h : Fragment). h.value) same in absurd (omega (arith, below, e))
+  | inr later ↦ let above = above-first g gs f rising later in absurd (omega (arith, below, above))
+]
+
+rest-members : (f : Fragment) (fs gs : List Fragment) → IsRising (f ∷ fs) → ((h : Fragment) → Contains (f ∷ fs) h → Contains (f ∷ gs) h) → (h : Fragment) → Contains fs h → Contains gs h
+rest-members f fs gs rising into h here = elim (Contains-cases f h gs (into h (Contains-later f h fs here))) [
+  | inl same ↦ let above = above-first f fs h rising here in let e = ap (λ (k : Fragment). k.value) same in absurd (omega (arith, above, e))
+  | inr later ↦ later
+]
+
+-- rising lists of the same members are one list
+rising-same : (fs gs : List Fragment) → IsRising fs → IsRising gs → ((h : Fragment) → Contains fs h → Contains gs h) → ((h : Fragment) → Contains gs h → Contains fs h) → fs ≡ gs
+rising-same [] [] up down into back = refl
+rising-same [] (g ∷ gs) up down into back = absurd (not-Contains-nil g (back g (Contains-here g gs)))
+rising-same (f ∷ fs) [] up down into back = absurd (not-Contains-nil f (into f (Contains-here f fs)))
+rising-same (f ∷ fs) (g ∷ gs) up down into back = elim (cases_order f.value g.value) [
+  | inl same ↦
+      let first : f ≡ g = equal_fragments f g same in
+      let up' : IsRising (g ∷ fs) = subst (λ (h : Fragment). IsRising (h ∷ fs)) first up in
+      let into' = subst (λ (k : Fragment). (h : Fragment) → Contains (k ∷ fs) h → Contains (g ∷ gs) h) first into in
+      let back' = subst (λ (k : Fragment). (h : Fragment) → Contains (g ∷ gs) h → Contains (k ∷ fs) h) first back in
+      ap (λ (h : Fragment). h ∷ fs) first
+      ∙ ap (λ hs. g ∷ hs) (rising-same fs gs (AllPairs-tail (λ f g. f.value < g.value) g fs up') (AllPairs-tail (λ f g. f.value < g.value) g gs down) (rest-members g fs gs up' into') (rest-members g gs fs down back'))
+  | inr (inl below) ↦ absurd (at-least f g gs down (into f (Contains-here f fs)) below)
+  | inr (inr above) ↦ absurd (at-least g f fs up (back g (Contains-here g gs)) above)
+]
+
+-- ---- the others of a class
+
+other-parts : (f g : Fragment) → is_other f g ≡ true → (share_class Wide f g ≡ true) × (g ≢ f)
+other-parts f g e =
+    let parts = and_parts _ _ e in
+    (parts.0, λ same. eqb-false f.value g.value (not-true _ parts.1) (ap (λ (h : Fragment). h.value) (sym same)))
+
+other-from : (f g : Fragment) → share_class Wide f g ≡ true → g ≢ f → is_other f g ≡ true
+other-from f g share other = rw (share, ne_eqb f.value g.value (λ same. other (sym (equal_fragments f g same)))) refl
+
+others-members : (f g : Fragment) → Contains (others Wide f) g ↔ (IsTrue (share_class Wide f g) × (g ≢ f))
+others-members f g = (
+  λ here. other-parts f g (filter-member (is_other f) (fragments Wide) g here).1,
+  λ parts. member-filter (is_other f) (fragments Wide) g (all-fragments g) (other-from f g parts.0 parts.1),
+)
+
+others-rising : (f : Fragment) → IsRising (others Wide f)
+others-rising f = AllPairs-filter (λ f g. f.value < g.value) (is_other f) (fragments Wide) fragments-rising
+
+-- ---- kinds
+
+same_local : (a b : List Fragment) → Local a ≡ Local b → a ≡ b
+same_local a b e = cc
+
+module _ (nodes : List NodeInfo) (st : State) (s : StripeNo) (f : Fragment) where
+  abbrev gone : FragmentSet
+  gone = missing nodes st s
+
+  abbrev local : Bool
+  local = is_local Wide gone f
+
+  kind-local : local ≡ true → kind nodes st s f ≡ Local (others Wide f)
+  unfolding kind
+  kind-local e = rw e refl
+
+  kind-global : local ≡ false → kind nodes st s f ≡ Global
+  unfolding kind
+  kind-global e = rw e refl
+
+  -- the test that no other of the class is missing
+  local-group : local ≡ true → IsFromItsGroup nodes st s f (others Wide f)
+  local-group e =
+      let parts = and_parts _ _ e in
+      record {
+        group = parts.0;
+        present = λ g share other. All-contains (λ (h : Fragment). gone h.value ≡ false) (others Wide f) g
+            (All-list_any (λ (h : Fragment). gone h.value) (others Wide f) (not-true _ parts.1)) ((others-members f g).1 (share, other));
+        six = length-filter (is_other f) (fragments Wide) ∙ six_others f parts.0;
+        rising = others-rising f;
+        members = others-members f;
+      }
+
+  group-local : (sources : List Fragment) → IsFromItsGroup nodes st s f sources → local ≡ true
+  group-local sources from =
+      let none : list_any (λ (h : Fragment). gone h.value) (others Wide f) ≡ false =
+      list_any-All (λ (h : Fragment). gone h.value) (others Wide f)
+      (All-members (λ (h : Fragment). gone h.value ≡ false) (others Wide f) (λ h here. let parts = (others-members f h).0 here in from.present h parts.0 parts.1)) in
+      rw (from.group, none) refl
+
+  group-sources : (sources : List Fragment) → IsFromItsGroup nodes st s f sources → sources ≡ others Wide f
+  group-sources sources from =
+      rising-same sources (others Wide f) from.rising (others-rising f) (λ h here. (others-members f h).1 ((from.members h).0 here)) (λ h here. (from.members h).1 ((others-members f h).0 here))
+
+  told-by : (sources : List Fragment) (b : Bool) → local ≡ b → kind nodes st s f ≡ Local sources → IsFromItsGroup nodes st s f sources
+  told-by sources true is e = subst (IsFromItsGroup nodes st s f) (same_local (others Wide f) sources (sym (kind-local is) ∙ e)) (local-group is)
+  told-by sources false is e = absurd (let never : Global ≡ Local sources = sym (kind-global is) ∙ e in cc)
+
+  pub local-told : (sources : List Fragment) → kind nodes st s f ≡ Local sources → IsFromItsGroup nodes st s f sources
+  local-told sources e = told-by sources local refl e
+
+  pub group-told : (sources : List Fragment) → IsFromItsGroup nodes st s f sources → kind nodes st s f ≡ Local sources
+  group-told sources from = kind-local (group-local sources from) ∙ ap Local (sym (group-sources sources from))
+
+  pub global-told : kind nodes st s f ≡ Global → (sources : List Fragment) → ¬ (IsFromItsGroup nodes st s f sources)
+  global-told e sources from = (let never : Global ≡ Local sources = sym e ∙ group-told sources from in cc)
+
+  none-by : (b : Bool) → local ≡ b → ((sources : List Fragment) → ¬ (IsFromItsGroup nodes st s f sources)) → kind nodes st s f ≡ Global
+  none-by true is none = absurd (none (others Wide f) (local-group is))
+  none-by false is none = kind-global is
+
+  pub none-told : ((sources : List Fragment) → ¬ (IsFromItsGroup nodes st s f sources)) → kind nodes st s f ≡ Global
+  none-told none = none-by local refl none
