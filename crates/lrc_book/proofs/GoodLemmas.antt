@@ -1,11 +1,10 @@
 -- After each legal history the state is good.
-use Rattle.std.proofs.Common.{◌≡◌, ◌≢◌, ℕ, ◌+◌, inl, inr, Bool, true, false, cond, List, [], ◌∷◌, ◌++◌, fold, Some, None, refl, sym, ap, ◌∙◌, subst, append_assoc, append-nil, arith}
+use Rattle.std.proofs.Common.{◌≡◌, ◌+◌, inl, inr, Bool, true, false, cond, List, [], ◌∷◌, ◌++◌, fold, None, sym, ap, ◌∙◌, subst, append_assoc, append-nil, arith}
 use Rattle.std.specs.List.{All, Contains}
 use Rattle.std.proofs.lemmas.Bool.{cases_Bool}
 use Rattle.std.proofs.lemmas.List.Elements.{All-nil, All-contains, Contains-push_cases}
 use Rattle.lrc_code.specs.declared.numbers.StripeNo.{StripeNo}
 use Rattle.lrc_code.specs.declared.numbers.Fragment.{Fragment}
-use Rattle.lrc_code.proofs.NumbersLemmas.{equal_stripes, equal_fragments}
 use Rattle.lrc_topology.specs.declared.NodeInfo.{NodeInfo}
 use Rattle.lrc_topology.specs.Nodes.{AreNodes}
 use Rattle.lrc_leases.specs.declared.lease.Lease.{Lease}
@@ -18,10 +17,10 @@ use Rattle.lrc_book.specs.States.{State, opening, lease_of}
 use Rattle.lrc_book.specs.Outcomes.{Outcome}
 use Rattle.lrc_book.specs.Leases.{is_grant, grants}
 use Rattle.lrc_book.specs.Histories.{World, first_world, outcome_in, next_world, world_after, state_after, IsLegalFrom, IsLegal}
-use Rattle.lrc_book.specs.Goodness.{AreSeated, IsGood}
+use Rattle.lrc_book.specs.Goodness.{IsGood}
 use Rattle.lrc_book.proofs.MemberLemmas.{All-members}
 use Rattle.lrc_book.proofs.SeatedLemmas.{opening-seated, step-seated}
-use Rattle.lrc_book.proofs.LeaseCountLemmas.{Follows, IsGranted, GrantsNone, grants-push, step-follows}
+use Rattle.lrc_book.proofs.LeaseCountLemmas.{Follows, grants-push, step-follows}
 
 abbrev AreCurrent : List Entry → List Lease → Type 0
 AreCurrent past leases = All (λ l. l.epoch ≡ grants past l.stripe l.fragment) leases

@@ -131,8 +131,8 @@ module _ (nodes : List NodeInfo) (st : State) (s : StripeNo) (f : Fragment) wher
   group-local : (sources : List Fragment) → IsFromItsGroup nodes st s f sources → local ≡ true
   group-local sources from =
       let none : list_any (λ (h : Fragment). gone h.value) (others Wide f) ≡ false =
-          list_any-All (λ (h : Fragment). gone h.value) (others Wide f)
-          (All-members (λ (h : Fragment). gone h.value ≡ false) (others Wide f) (λ h here. let parts = (others-members f h).0 here in from.present h parts.0 parts.1)) in
+      list_any-All (λ (h : Fragment). gone h.value) (others Wide f)
+      (All-members (λ (h : Fragment). gone h.value ≡ false) (others Wide f) (λ h here. let parts = (others-members f h).0 here in from.present h parts.0 parts.1)) in
       rw (from.group, none) refl
 
   group-sources : (sources : List Fragment) → IsFromItsGroup nodes st s f sources → sources ≡ others Wide f

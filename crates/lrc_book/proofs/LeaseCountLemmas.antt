@@ -1,10 +1,9 @@
 -- Which leases a command leaves live, and how many it grants.
-use Rattle.std.proofs.Common.{◌≡◌, ◌≢◌, ◌⊎◌, ℕ, ◌+◌, ◌≤◌, inl, inr, Bool, true, false, not, is_none, cond, List, [], ◌∷◌, ◌++◌, filter, fold, Option, Some, None, Result, Ok, Err, refl, sym, ap, ◌∙◌, subst, arith}
+use Rattle.std.proofs.Common.{◌≡◌, ◌⊎◌, ℕ, ◌+◌, inl, inr, Bool, true, false, not, is_none, cond, List, [], ◌∷◌, ◌++◌, filter, fold, Option, Some, None, Result, Ok, Err, refl, sym, ap, ◌∙◌, subst, arith}
 use Rattle.std.specs.List.{Contains}
 use Rattle.std.specs.Option.{option_map_or}
 use Rattle.std.proofs.lemmas.List.Folds.{fold_stays}
 use Rattle.std.proofs.lemmas.List.Sums.{sum_by-append, sum_by-cons}
-use Rattle.lrc_code.specs.declared.codes.Code.{Code}
 use Rattle.lrc_code.specs.declared.codes.Code.TheVariants.{Wide}
 use Rattle.lrc_code.specs.declared.numbers.StripeNo.{StripeNo}
 use Rattle.lrc_code.specs.declared.numbers.NodeNo.{NodeNo}
@@ -13,7 +12,6 @@ use Rattle.lrc_code.specs.declared.numbers.Fragment.{Fragment}
 use Rattle.lrc_code.specs.Codes.{fragments}
 use Rattle.lrc_topology.specs.declared.NodeInfo.{NodeInfo}
 use Rattle.lrc_topology.specs.declared.seat.Seat.{Seat}
-use Rattle.lrc_topology.specs.declared.seat.Held.{Held}
 use Rattle.lrc_topology.specs.Nodes.{node_at}
 use Rattle.lrc_leases.specs.declared.lease.Lease.{Lease as LeaseRecord}
 use Rattle.lrc_leases.specs.Leased.{is_of}
@@ -21,17 +19,18 @@ use Rattle.lrc_book.specs.declared.kind.Kind.{Kind}
 use Rattle.lrc_book.specs.declared.command.Command.{Command}
 use Rattle.lrc_book.specs.declared.command.Command.TheVariants.{Place, Drop, Lease, Done, Abandon, Revoke, Fail, Down, Up, Join}
 use Rattle.lrc_book.specs.declared.reply.Reply.{Reply}
-use Rattle.lrc_book.specs.declared.reply.Reply.TheVariants.{Placed, Dropped, Granted, Ended, Changed, Refused}
+use Rattle.lrc_book.specs.declared.reply.Reply.TheVariants.{Dropped, Granted, Ended, Changed, Refused}
 use Rattle.lrc_book.specs.declared.reply.Refusal.{Refusal}
 use Rattle.lrc_book.specs.declared.reply.Refusal.TheVariants as refusal
 use Rattle.lrc_book.specs.declared.entry.Entry.{Entry}
-use Rattle.lrc_book.specs.States.{State, has_stripe, lease_of, online_at, mode_of, is_gone, is_down}
+use Rattle.lrc_book.specs.States.{State, has_stripe, lease_of, online_at}
 use Rattle.lrc_book.specs.Placement.{chosen, with_home, place_next, placed}
 use Rattle.lrc_book.specs.Repairs.{needs, kind, is_beyond_repair}
 use Rattle.lrc_book.specs.Outcomes.{Outcome, refuse_if}
-use Rattle.lrc_book.specs.Leases.{is_grant, grants, new_lease, with_lease, granted, lease_answer, lease_outcome, without_lease, at_epoch, is_held_by, moved_in, done_answer, done_outcome, abandon_answer, abandon_outcome, revoke_outcome}
-use Rattle.lrc_book.specs.Steps.{with_stripe, placed_reply, place_answer, place_outcome, is_other, without_stripe, drop_outcome, node_outcome, hangs_on, emptied, with_gone, with_down, without_down, without_gone, fail_outcome, down_outcome, up_outcome, join_outcome, step}
+use Rattle.lrc_book.specs.Leases.{is_grant, grants, new_lease, granted, lease_answer, lease_outcome, without_lease, at_epoch, is_held_by, moved_in, done_answer, done_outcome, abandon_answer, abandon_outcome, revoke_outcome}
+use Rattle.lrc_book.specs.Steps.{with_stripe, place_answer, place_outcome, is_other, without_stripe, drop_outcome, node_outcome, hangs_on, emptied, with_gone, with_down, without_down, without_gone, fail_outcome, down_outcome, up_outcome, join_outcome, step}
 use Rattle.lrc_book.proofs.MemberLemmas.{filter-member}
+use Rattle.lrc_book.proofs.StepLemmas.{placed-grown}
 
 -- ---- how many grants
 
@@ -73,26 +72,9 @@ module _ (past : List Entry) (st : State) where
 
 -- ---- stripes
 
-same_ok : (st done : State) → ◌≡◌ {A = Result State Fragment} (Ok st) (Ok done) → st ≡ done
-same_ok st done e = cc
-
 module _ (nodes : List NodeInfo) (s : StripeNo) where
-  placing-turn : (st : State) (f : Fragment) (fs : List Fragment) (done : State) → ((next : State) → fold (place_next nodes s) (Ok next) fs ≡ Ok done → done.leases ≡ next.leases) → (o : Option Seat)
-      → fold (place_next nodes s) (option_map_or (λ seat. Ok (with_home st s f seat)) o (Err f)) fs ≡ Ok done → done.leases ≡ st.leases
-  placing-turn st f fs done rest (Some seat) e = rest (with_home st s f seat) e
-  placing-turn st f fs done rest None e = absurd (let never : Err f ≡ Ok done = sym (fold_stays (place_next nodes s) (Err f) (λ x. refl) fs) ∙ e in cc)
-
-  placing-leases : (st : State) (fs : List Fragment) (done : State) → fold (place_next nodes s) (Ok st) fs ≡ Ok done → done.leases ≡ st.leases
-  placing-leases st [] done e = ap (λ (x : State). x.leases) (sym (same_ok st done e))
-  placing-leases st (f ∷ fs) done e = placing-turn st f fs done (λ next. placing-leases next fs done) (chosen nodes st s f) e
-
-  -- a placement leaves the leases as they are
-  pub placed-leases : (st done : State) → placed nodes (with_stripe st Wide s) s ≡ Ok done → done.leases ≡ st.leases
-  unfolding placed
-  placed-leases st done e = placing-leases (with_stripe st Wide s) (fragments Wide) done e
-
   answer-follows : (past : List Entry) (st : State) (r : Result State Fragment) → placed nodes (with_stripe st Wide s) s ≡ r → Follows past st (place_answer st s r)
-  answer-follows past st (Ok done) e = same past st _ done (λ r f. refl) (placed-leases st done e)
+  answer-follows past st (Ok done) e = same past st _ done (λ r f. refl) (ap (λ (x : State). x.leases) (placed-grown nodes st s done e).is)
   answer-follows past st (Err f) e = same past st _ st (λ r f. refl) refl
 
   place-follows : (past : List Entry) (st : State) → Follows past st (place_outcome nodes st Wide s)

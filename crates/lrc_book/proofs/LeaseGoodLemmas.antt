@@ -1,13 +1,12 @@
 -- Leases that are granted and that end leave the stripes seated.
-use Rattle.std.proofs.Common.{◌≡◌, ◌≢◌, inl, inr, Bool, true, false, not, List, [], ◌∷◌, ◌++◌, map, filter, Option, Some, None, refl, sym, ap, ◌∙◌, subst}
-use Rattle.std.specs.List.{All, AllPairs, Contains}
+use Rattle.std.proofs.Common.{◌≡◌, ◌≢◌, Bool, true, false, not, List, [], ◌∷◌, map, filter, Some, None, refl, sym, ap, ◌∙◌, subst}
+use Rattle.std.specs.List.{Contains}
 use Rattle.std.proofs.lemmas.Bool.{not-true, not_from_true, eq-eqb}
-use Rattle.std.proofs.lemmas.List.Elements.{All-map, All-filter, All-contains, Contains-append_right}
+use Rattle.std.proofs.lemmas.List.Elements.{All-map, All-contains, Contains-append_right}
 use Rattle.std.proofs.lemmas.List.Kept.{AllPairs-filter}
 use Rattle.lrc_code.specs.declared.numbers.StripeNo.{StripeNo}
 use Rattle.lrc_code.specs.declared.numbers.Fragment.{Fragment}
 use Rattle.lrc_topology.specs.declared.NodeInfo.{NodeInfo}
-use Rattle.lrc_topology.specs.declared.seat.Seat.{Seat}
 use Rattle.lrc_topology.specs.declared.seat.Held.{Held}
 use Rattle.lrc_topology.specs.Nodes.{AreNodes}
 use Rattle.lrc_leases.specs.declared.lease.Lease.{Lease}
@@ -15,9 +14,8 @@ use Rattle.lrc_leases.specs.Leased.{is_of}
 use Rattle.lrc_leases.proofs.ListLemmas.{find-some, one_each-filter, leases_in-own}
 use Rattle.lrc_code.proofs.NumbersLemmas.{equal_fragments}
 use Rattle.lrc_book.specs.States.{State, held_by, lease_of, seats_of, is_home_of}
-use Rattle.lrc_book.specs.Placement.{with_home}
 use Rattle.lrc_book.specs.Choices.{IsChoice}
-use Rattle.lrc_book.specs.Leases.{with_lease, without_lease, without_home, moved_in}
+use Rattle.lrc_book.specs.Leases.{with_lease, without_lease, moved_in}
 use Rattle.lrc_book.specs.Goodness.{IsStanding, KeepApart, AreSeated}
 use Rattle.lrc_book.proofs.MemberLemmas.{All-members, filter-member, map-member}
 use Rattle.lrc_book.proofs.SeatingLists.{pairs-map}

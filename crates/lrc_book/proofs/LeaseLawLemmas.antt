@@ -1,7 +1,6 @@
 -- What a grant, and what a report of another epoch, does to the live leases.
-use Rattle.std.proofs.Common.{◌≡◌, ◌≢◌, ℕ, ◌+◌, inl, inr, Bool, true, false, not, ◌&&◌, is_none, if◌then◌else◌, nat_eq, List, [], ◌∷◌, ◌++◌, filter, Option, Some, None, refl, sym, ap, ◌∙◌, subst}
-use Rattle.std.specs.List.{Contains}
-use Rattle.std.proofs.lemmas.Bool.{cases_Bool, cases_eq, eqb-true, eq-eqb, ne_eqb, and_parts}
+use Rattle.std.proofs.Common.{◌≡◌, ◌≢◌, ℕ, inl, inr, Bool, true, false, not, ◌&&◌, is_none, if◌then◌else◌, nat_eq, List, Option, Some, None, refl, sym, ap, ◌∙◌}
+use Rattle.std.proofs.lemmas.Bool.{cases_Bool, eqb-true, ne_eqb, and_parts}
 use Rattle.std.proofs.lemmas.List.Elements.{All-contains}
 use Rattle.lrc_code.specs.declared.numbers.StripeNo.{StripeNo}
 use Rattle.lrc_code.specs.declared.numbers.SessionNo.{SessionNo}
@@ -11,10 +10,9 @@ use Rattle.lrc_code.proofs.NumbersLemmas.{equal_stripes, equal_fragments}
 use Rattle.lrc_topology.specs.declared.NodeInfo.{NodeInfo}
 use Rattle.lrc_topology.specs.declared.seat.Seat.{Seat}
 use Rattle.lrc_leases.specs.declared.lease.Lease.{Lease as LeaseRecord}
-use Rattle.lrc_leases.specs.Leased.{Leased, is_of, leases_in, AreOneEach}
-use Rattle.lrc_leases.proofs.ListLemmas.{is_of-own, is_of-parts, find-some, leases_in-own, leases_in-contains, leased_of-append, leased_of-less}
+use Rattle.lrc_leases.specs.Leased.{Leased, is_of}
+use Rattle.lrc_leases.proofs.ListLemmas.{is_of-own, is_of-parts, leases_in-own, leases_in-contains, leased_of-append, leased_of-less}
 use Rattle.lrc_book.specs.declared.kind.Kind.{Kind}
-use Rattle.lrc_book.specs.declared.reply.Reply.{Reply}
 use Rattle.lrc_book.specs.declared.reply.Reply.TheVariants.{Granted, Ended, Refused}
 use Rattle.lrc_book.specs.declared.reply.Refusal.{Refusal}
 use Rattle.lrc_book.specs.declared.reply.Refusal.TheVariants as refusal
@@ -25,6 +23,7 @@ use Rattle.lrc_book.specs.Repairs.{needs, kind, is_beyond_repair}
 use Rattle.lrc_book.specs.Outcomes.{Outcome, refused, refuse_if}
 use Rattle.lrc_book.specs.Leases.{grants, new_lease, with_lease, granted, lease_answer, lease_outcome, without_lease, at_epoch, is_held_by, moved_in, done_answer, done_outcome, abandon_answer, abandon_outcome, revoke_outcome}
 use Rattle.lrc_book.specs.Goodness.{IsGood}
+use Rattle.lrc_book.proofs.OutcomeLemmas.{either-way, when-told}
 
 -- ---- stale epochs
 
@@ -59,12 +58,6 @@ module _ (nodes : List NodeInfo) (past : List Entry) (st : State) (session : Ses
 
 -- ---- grants
 
--- what is true of an outcome that grants
-module _ (l : LeaseRecord) (k : Kind) (P : Outcome → Type 0) where
-  when-granted : (met : Bool) (r : Refusal) (st : State) (other : Outcome) → (other.0 ≡ Granted l k → P other) → (refuse_if met r st other).0 ≡ Granted l k → P (refuse_if met r st other)
-  when-granted true r st other next e = absurd (let never : Refused r ≡ Granted l k = e in cc)
-  when-granted false r st other next e = next e
-
 same_granted : (l m : LeaseRecord) (k j : Kind) → Granted l k ≡ Granted m j → (l ≡ m) × (k ≡ j)
 same_granted l m k j e = (cc, cc)
 
@@ -94,24 +87,21 @@ module _ (nodes : List NodeInfo) (past : List Entry) (st : State) (session : Ses
         from = sym same.1;
       }
 
+  not_refused : (r : Refusal) → Refused r ≢ Granted l k
+  not_refused r e = cc
+
   answer-new : (o : Option LeaseRecord) → lease_of st s f ≡ o → (lease_answer nodes past st session s f o).0 ≡ Granted l k → IsNew (lease_answer nodes past st session s f o)
   answer-new (Some m) is e = absurd (let never : Refused (refusal.AlreadyLeased m.epoch) ≡ Granted l k = e in cc)
   answer-new None is e =
-      when-granted l k IsNew (not (needs st s f)) refusal.NotNeeded st _
-      (when-granted l k IsNew (is_beyond_repair nodes st s f) refusal.Unrecoverable st _ (granted-new is (chosen nodes st s f) refl)) e
+      when-told (Granted l k) not_refused IsNew (not (needs st s f)) refusal.NotNeeded st _
+      (when-told (Granted l k) not_refused IsNew (is_beyond_repair nodes st s f) refusal.Unrecoverable st _ (granted-new is (chosen nodes st s f) refl)) e
 
   -- the lease of a grant
   pub lease-new : (lease_outcome nodes past st session s f).0 ≡ Granted l k → IsNew (lease_outcome nodes past st session s f)
   unfolding lease_outcome
-  lease-new = when-granted l k IsNew (not (has_stripe st s)) refusal.UnknownStripe st _ (answer-new (lease_of st s f) refl)
+  lease-new = when-told (Granted l k) not_refused IsNew (not (has_stripe st s)) refusal.UnknownStripe st _ (answer-new (lease_of st s f) refl)
 
 -- ---- other leases
-
--- what is true of the state before and of the state that an outcome leaves, where it does not refuse
-module _ (P : State → Type 0) where
-  either-way : (met : Bool) (r : Refusal) (st : State) (other : Outcome) → P st → P other.1 → P (refuse_if met r st other).1
-  either-way true r st other before after = before
-  either-way false r st other before after = after
 
 module _ (nodes : List NodeInfo) (st : State) (session : SessionNo) (s r : StripeNo) (f g : Fragment) (apart : r ≡ s → g ≢ f) where
   abbrev KeepsLease : State → Type 0
@@ -146,33 +136,33 @@ module _ (nodes : List NodeInfo) (st : State) (session : SessionNo) (s r : Strip
   answer-keeps : (past : List Entry) (o : Option LeaseRecord) → lease_of st s f ≡ o → KeepsLease (lease_answer nodes past st session s f o).1
   answer-keeps past (Some l) is = refl
   answer-keeps past None is =
-      either-way KeepsLease (not (needs st s f)) refusal.NotNeeded st _ refl
-      (either-way KeepsLease (is_beyond_repair nodes st s f) refusal.Unrecoverable st _ refl (granted-keeps past is (chosen nodes st s f)))
+      either-way KeepsLease (not (needs st s f)) refusal.NotNeeded st _ refl (λ needed.
+      either-way KeepsLease (is_beyond_repair nodes st s f) refusal.Unrecoverable st _ refl (λ safe. granted-keeps past is (chosen nodes st s f)))
 
   pub lease-keeps : (past : List Entry) → KeepsLease (lease_outcome nodes past st session s f).1
   unfolding lease_outcome
-  lease-keeps past = either-way KeepsLease (not (has_stripe st s)) refusal.UnknownStripe st _ refl (answer-keeps past (lease_of st s f) refl)
+  lease-keeps past = either-way KeepsLease (not (has_stripe st s)) refusal.UnknownStripe st _ refl (λ there. answer-keeps past (lease_of st s f) refl)
 
   done-by-keeps : (o : Option LeaseRecord) → KeepsLease (done_answer nodes st session s f o).1
   done-by-keeps None = refl
   done-by-keeps (Some l) =
-      either-way KeepsLease (not (is_held_by session l)) (refusal.NotHolder l.holder) st _ refl
-      (either-way KeepsLease (not (online_at nodes st l.target.node)) (refusal.TargetOffline l.target.node) st (Ended, moved_in st s f l.target) refl ended-keeps)
+      either-way KeepsLease (not (is_held_by session l)) (refusal.NotHolder l.holder) st _ refl (λ held.
+      either-way KeepsLease (not (online_at nodes st l.target.node)) (refusal.TargetOffline l.target.node) st (Ended, moved_in st s f l.target) refl (λ online. ended-keeps))
 
   pub done-keeps : (e : ℕ) → KeepsLease (done_outcome nodes st session s f e).1
   unfolding done_outcome
-  done-keeps e = either-way KeepsLease (not (has_stripe st s)) refusal.UnknownStripe st _ refl (done-by-keeps (at_epoch e (lease_of st s f)))
+  done-keeps e = either-way KeepsLease (not (has_stripe st s)) refusal.UnknownStripe st _ refl (λ there. done-by-keeps (at_epoch e (lease_of st s f)))
 
   abandon-by-keeps : (o : Option LeaseRecord) → KeepsLease (abandon_answer st session s f o).1
   abandon-by-keeps None = refl
-  abandon-by-keeps (Some l) = either-way KeepsLease (not (is_held_by session l)) (refusal.NotHolder l.holder) st (Ended, without_lease st s f) refl ended-keeps
+  abandon-by-keeps (Some l) = either-way KeepsLease (not (is_held_by session l)) (refusal.NotHolder l.holder) st (Ended, without_lease st s f) refl (λ held. ended-keeps)
 
   pub abandon-keeps : (e : ℕ) → KeepsLease (abandon_outcome st session s f e).1
   unfolding abandon_outcome
-  abandon-keeps e = either-way KeepsLease (not (has_stripe st s)) refusal.UnknownStripe st _ refl (abandon-by-keeps (at_epoch e (lease_of st s f)))
+  abandon-keeps e = either-way KeepsLease (not (has_stripe st s)) refusal.UnknownStripe st _ refl (λ there. abandon-by-keeps (at_epoch e (lease_of st s f)))
 
   pub revoke-keeps : KeepsLease (revoke_outcome st s f).1
   unfolding revoke_outcome
   revoke-keeps =
-      either-way KeepsLease (not (has_stripe st s)) refusal.UnknownStripe st _ refl
-      (either-way KeepsLease (is_none (lease_of st s f)) refusal.NoLease st (Ended, without_lease st s f) refl ended-keeps)
+      either-way KeepsLease (not (has_stripe st s)) refusal.UnknownStripe st _ refl (λ there.
+      either-way KeepsLease (is_none (lease_of st s f)) refusal.NoLease st (Ended, without_lease st s f) refl (λ live. ended-keeps))

@@ -1,5 +1,5 @@
 -- The commands of repair leases leave the stripes seated.
-use Rattle.std.proofs.Common.{◌≡◌, ℕ, inl, inr, Bool, true, false, not, is_none, nat_eq, List, Option, Some, None, refl, sym, ap, ◌∙◌, subst}
+use Rattle.std.proofs.Common.{◌≡◌, ℕ, inl, inr, Bool, true, false, not, is_none, nat_eq, List, Option, Some, None, refl, sym, subst}
 use Rattle.std.specs.List.{Contains}
 use Rattle.std.proofs.lemmas.Bool.{cases_Bool, eqb-true}
 use Rattle.std.proofs.lemmas.Option.{same_Some}
@@ -24,17 +24,8 @@ use Rattle.lrc_book.specs.Leases.{new_lease, granted, lease_answer, lease_outcom
 use Rattle.lrc_book.specs.Goodness.{AreSeated}
 use Rattle.lrc_book.proofs.MemberLemmas.{member-list_any}
 use Rattle.lrc_book.proofs.ChoiceLemmas.{chosen-choice}
+use Rattle.lrc_book.proofs.OutcomeLemmas.{from_not, either-way}
 use Rattle.lrc_book.proofs.LeaseGoodLemmas.{granted-seated, ended-seated, moved-seated}
-
--- ---- outcomes that refuse
-
-pub refused-seated : (nodes : List NodeInfo) (st : State) (met : Bool) (r : Refusal) (other : Outcome) → AreSeated nodes st → (met ≡ false → AreSeated nodes other.1) → AreSeated nodes (refuse_if met r st other).1
-refused-seated nodes st true r other seated next = seated
-refused-seated nodes st false r other seated next = next refl
-
-pub from_not : (b : Bool) → not b ≡ false → b ≡ true
-from_not true e = refl
-from_not false e = absurd (let both : true ≡ false = e in cc)
 
 -- a stripe that the test finds is one of the stripes
 pub stripe-there : (st : State) (s : StripeNo) → has_stripe st s ≡ true → Contains st.stripes s
@@ -59,13 +50,13 @@ module _ (nodes : List NodeInfo) (known : AreNodes nodes) (past : List Entry) (s
   answered-seated : AreSeated nodes st → has_stripe st s ≡ true → (o : Option Lease) → lease_of st s f ≡ o → AreSeated nodes (lease_answer nodes past st session s f o).1
   answered-seated seated there (Some l) e = seated
   answered-seated seated there None e =
-      refused-seated nodes st (not (needs st s f)) refusal.NotNeeded _ seated
-      (λ needed. refused-seated nodes st (is_beyond_repair nodes st s f) refusal.Unrecoverable _ seated (λ safe. chosen-seated seated there e (chosen nodes st s f) refl))
+      either-way (AreSeated nodes) (not (needs st s f)) refusal.NotNeeded st _ seated
+      (λ needed. either-way (AreSeated nodes) (is_beyond_repair nodes st s f) refusal.Unrecoverable st _ seated (λ safe. chosen-seated seated there e (chosen nodes st s f) refl))
 
   pub lease-seated : AreSeated nodes st → AreSeated nodes (lease_outcome nodes past st session s f).1
   unfolding lease_outcome
   lease-seated seated =
-      refused-seated nodes st (not (has_stripe st s)) refusal.UnknownStripe (lease_answer nodes past st session s f (lease_of st s f)) seated
+      either-way (AreSeated nodes) (not (has_stripe st s)) refusal.UnknownStripe st (lease_answer nodes past st session s f (lease_of st s f)) seated
       (λ there. answered-seated seated (from_not _ there) (lease_of st s f) refl)
 
 -- ---- ends
@@ -74,24 +65,24 @@ module _ (nodes : List NodeInfo) (st : State) (session : SessionNo) (s : StripeN
   done-by : AreSeated nodes st → (o : Option Lease) → at_epoch e (lease_of st s f) ≡ o → AreSeated nodes (done_answer nodes st session s f o).1
   done-by seated None is = seated
   done-by seated (Some l) is =
-      refused-seated nodes st (not (is_held_by session l)) (refusal.NotHolder l.holder) _ seated (λ held.
-      refused-seated nodes st (not (online_at nodes st l.target.node)) (refusal.TargetOffline l.target.node) (Ended, moved_in st s f l.target) seated (λ online.
+      either-way (AreSeated nodes) (not (is_held_by session l)) (refusal.NotHolder l.holder) st _ seated (λ held.
+      either-way (AreSeated nodes) (not (online_at nodes st l.target.node)) (refusal.TargetOffline l.target.node) st (Ended, moved_in st s f l.target) seated (λ online.
       moved-seated nodes st s f l (at_epoch-some e (lease_of st s f) l is).0 seated))
 
   pub done-seated : AreSeated nodes st → AreSeated nodes (done_outcome nodes st session s f e).1
   unfolding done_outcome
-  done-seated seated = refused-seated nodes st (not (has_stripe st s)) refusal.UnknownStripe _ seated (λ there. done-by seated (at_epoch e (lease_of st s f)) refl)
+  done-seated seated = either-way (AreSeated nodes) (not (has_stripe st s)) refusal.UnknownStripe st _ seated (λ there. done-by seated (at_epoch e (lease_of st s f)) refl)
 
   abandon-by : AreSeated nodes st → (o : Option Lease) → AreSeated nodes (abandon_answer st session s f o).1
   abandon-by seated None = seated
-  abandon-by seated (Some l) = refused-seated nodes st (not (is_held_by session l)) (refusal.NotHolder l.holder) (Ended, without_lease st s f) seated (λ held. ended-seated nodes st s f seated)
+  abandon-by seated (Some l) = either-way (AreSeated nodes) (not (is_held_by session l)) (refusal.NotHolder l.holder) st (Ended, without_lease st s f) seated (λ held. ended-seated nodes st s f seated)
 
   pub abandon-seated : AreSeated nodes st → AreSeated nodes (abandon_outcome st session s f e).1
   unfolding abandon_outcome
-  abandon-seated seated = refused-seated nodes st (not (has_stripe st s)) refusal.UnknownStripe _ seated (λ there. abandon-by seated (at_epoch e (lease_of st s f)))
+  abandon-seated seated = either-way (AreSeated nodes) (not (has_stripe st s)) refusal.UnknownStripe st _ seated (λ there. abandon-by seated (at_epoch e (lease_of st s f)))
 
 pub revoke-seated : (nodes : List NodeInfo) (st : State) (s : StripeNo) (f : Fragment) → AreSeated nodes st → AreSeated nodes (revoke_outcome st s f).1
 unfolding revoke_outcome
 revoke-seated nodes st s f seated =
-    refused-seated nodes st (not (has_stripe st s)) refusal.UnknownStripe _ seated (λ there.
-    refused-seated nodes st (is_none (lease_of st s f)) refusal.NoLease (Ended, without_lease st s f) seated (λ live. ended-seated nodes st s f seated))
+    either-way (AreSeated nodes) (not (has_stripe st s)) refusal.UnknownStripe st _ seated (λ there.
+    either-way (AreSeated nodes) (is_none (lease_of st s f)) refusal.NoLease st (Ended, without_lease st s f) seated (λ live. ended-seated nodes st s f seated))

@@ -8,6 +8,7 @@ pub mod ChoiceLemmas
 pub mod SeatingLists
 pub mod PairLemmas
 pub mod SeatingLemmas
+pub mod OutcomeLemmas
 pub mod LeaseGoodLemmas
 pub mod LeaseStepLemmas
 pub mod SeatedLemmas

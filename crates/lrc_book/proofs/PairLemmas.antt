@@ -1,5 +1,5 @@
 -- Pairs of lists that are joined, filtered and added to.
-use Rattle.std.proofs.Common.{◌≡◌, ◌≢◌, inl, inr, Bool, true, false, List, [], ◌∷◌, ◌++◌, map, filter, refl, sym, ap, ◌∙◌, subst, arith}
+use Rattle.std.proofs.Common.{◌≡◌, ◌≢◌, inl, inr, Bool, true, false, List, [], ◌∷◌, ◌++◌, map, filter, sym, ap, ◌∙◌, subst, arith}
 use Rattle.std.specs.List.{All, AllPairs, Contains}
 use Rattle.std.proofs.lemmas.List.Elements.{All-nil, All-cons, All-head, All-tail, All-append, All-push, All-weaker, All-map, All-filter, All-contains, Contains-append_left, Contains-append_right}
 use Rattle.std.proofs.lemmas.List.Kept.{AllPairs-cons, AllPairs-filter}
@@ -85,5 +85,5 @@ module _ {X Y : Type 0} (f : Y → X) (p : X → Bool) (q : Y → Bool) (xs : Li
         All-append (λ x. R x (f y)) (filter p xs) (map f (filter q ys))
         (All-filter p (λ x. R x (f y)) xs (All-weaker (λ x. All (R x) (map f ys)) (λ x. R x (f y)) (λ x all. All-contains (λ z. R x (f z)) ys y (All-unmap (R x) f ys all) here) xs (pairs-across R xs (map f ys) pairs)))
         (All-map (λ x. R x (f y)) f (filter q ys) (All-members (λ z. R (f z) (f y)) (filter q ys) (λ z among.
-            let m = filter-member q ys z among in
-            pairs-members (λ a b. R (f a) (f b)) (λ a b r. turn (f a) (f b) r) ys z y kept-behind m.0 here (λ same. (let both : true ≡ false = sym m.1 ∙ ap q same ∙ out in cc)))))
+        let m = filter-member q ys z among in
+        pairs-members (λ a b. R (f a) (f b)) (λ a b r. turn (f a) (f b) r) ys z y kept-behind m.0 here (λ same. (let both : true ≡ false = sym m.1 ∙ ap q same ∙ out in cc)))))

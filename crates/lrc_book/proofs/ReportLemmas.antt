@@ -24,9 +24,9 @@ use Rattle.lrc_book.specs.States.{State, has_stripe, lease_of, online_at}
 use Rattle.lrc_book.specs.Outcomes.{Outcome, refuse_if}
 use Rattle.lrc_book.specs.Leases.{grants, at_epoch, is_held_by, moved_in, done_answer, done_outcome, is_report, is_ended, reports_taken}
 use Rattle.lrc_book.specs.Steps.{step}
-use Rattle.lrc_book.specs.Histories.{World, first_world, outcome_in, next_world, world_after, IsLegalFrom, IsLegal}
-use Rattle.lrc_book.specs.Goodness.{IsGood}
-use Rattle.lrc_book.proofs.MemberLemmas.{filter-member, not-Contains-nil}
+use Rattle.lrc_book.specs.Histories.{World, first_world, outcome_in, next_world, IsLegalFrom, IsLegal}
+use Rattle.lrc_book.proofs.MemberLemmas.{filter-member}
+use Rattle.lrc_book.proofs.OutcomeLemmas.{when-told}
 use Rattle.lrc_book.proofs.LeaseStepLemmas.{at_epoch-some}
 use Rattle.lrc_book.proofs.LeaseCountLemmas.{Follows, grants-push, step-follows}
 use Rattle.lrc_book.proofs.GoodLemmas.{IsGoodIn, opening-good, next-good, past-after}
@@ -64,9 +64,8 @@ record IsTaken (st : State) (s : StripeNo) (f : Fragment) (e : ℕ) (next : Stat
   pub epoch : lease.epoch ≡ e
   pub left : next.leases ≡ filter (λ l. not (is_of s f.value l)) st.leases
 
-when-ended : (P : Outcome → Type 0) (met : Bool) (r : Refusal) (st : State) (other : Outcome) → (other.0 ≡ Ended → P other) → (refuse_if met r st other).0 ≡ Ended → P (refuse_if met r st other)
-when-ended P true r st other next e = absurd (let never : Refused r ≡ Ended = e in cc)
-when-ended P false r st other next e = next e
+not_refused : (r : Refusal) → Refused r ≢ Ended
+not_refused r e = cc
 
 module _ (nodes : List NodeInfo) (st : State) (session : SessionNo) (s : StripeNo) (f : Fragment) (e : ℕ) where
   abbrev TakenIn : Outcome → Type 0
@@ -76,13 +75,13 @@ module _ (nodes : List NodeInfo) (st : State) (session : SessionNo) (s : StripeN
   done-by None is told = absurd (let never : Refused refusal.Stale ≡ Ended = told in cc)
   done-by (Some l) is told =
       let live = at_epoch-some e (lease_of st s f) l is in
-      when-ended TakenIn (not (is_held_by session l)) (refusal.NotHolder l.holder) st _
-      (when-ended TakenIn (not (online_at nodes st l.target.node)) (refusal.TargetOffline l.target.node) st (Ended, moved_in st s f l.target)
+      when-told Ended not_refused TakenIn (not (is_held_by session l)) (refusal.NotHolder l.holder) st _
+      (when-told Ended not_refused TakenIn (not (online_at nodes st l.target.node)) (refusal.TargetOffline l.target.node) st (Ended, moved_in st s f l.target)
       (λ ended. record { lease = l; live = live.0; epoch = live.1; left = refl })) told
 
   done-taken : (done_outcome nodes st session s f e).0 ≡ Ended → TakenIn (done_outcome nodes st session s f e)
   unfolding done_outcome
-  done-taken told = when-ended TakenIn (not (has_stripe st s)) refusal.UnknownStripe st _ (done-by (at_epoch e (lease_of st s f)) refl) told
+  done-taken told = when-told Ended not_refused TakenIn (not (has_stripe st s)) refusal.UnknownStripe st _ (done-by (at_epoch e (lease_of st s f)) refl) told
 
 -- ---- at most one
 
@@ -117,7 +116,7 @@ module _ (s : StripeNo) (f : Fragment) (e : ℕ) where
         let parts = is_of-parts s f.value l own in
         let epoch : l.epoch ≡ grants past l.stripe l.fragment + 1 = subst (λ (k : LeaseRecord). k.epoch ≡ grants past k.stripe k.fragment + 1) new grant.epoch in
         let pair : grants past l.stripe l.fragment ≡ grants past s f =
-            ap (λ (r : StripeNo). grants past r l.fragment) (equal_stripes l.stripe s parts.0) ∙ ap (grants past s) (equal_fragments l.fragment f parts.1) in
+        ap (λ (r : StripeNo). grants past r l.fragment) (equal_stripes l.stripe s parts.0) ∙ ap (grants past s) (equal_fragments l.fragment f parts.1) in
         absurd (omega (arith, low, epoch, pair, same))
   ]
 

@@ -1,5 +1,5 @@
 -- Each command leaves the stripes seated.
-use Rattle.std.proofs.Common.{inl, inr, ◌||◌, ℕ, if◌then◌else◌, is_none, ◌≡◌, ◌≢◌, ◌<◌, Bool, true, false, not, eqb, List, [], ◌∷◌, ◌++◌, map, filter, fold, Option, Some, None, Result, Ok, Err, IsSomeAnd, arith, refl, sym, ap, ◌∙◌, subst}
+use Rattle.std.proofs.Common.{inl, inr, ◌||◌, ℕ, if◌then◌else◌, is_none, ◌≡◌, ◌≢◌, ◌<◌, Bool, true, false, not, eqb, List, [], ◌∷◌, ◌++◌, map, filter, Option, Some, None, Result, Ok, Err, IsSomeAnd, arith, refl, sym, ap, ◌∙◌, subst}
 use Rattle.std.specs.List.{All, Contains}
 use Rattle.std.proofs.lemmas.Bool.{cases_Bool, ne_eqb, eq-eqb, eqb-false, not-true, or_parts}
 use Rattle.std.proofs.lemmas.List.Elements.{All-nil, All-append, All-weaker, All-filter, All-map, All-contains, Contains-append_left, Contains-push, Contains-push_cases}
@@ -19,7 +19,6 @@ use Rattle.lrc_topology.specs.Nodes.{AreNodes, node_at}
 use Rattle.lrc_book.specs.declared.command.Command.{Command}
 use Rattle.lrc_book.specs.declared.command.Command.TheVariants.{Place, Drop, Lease, Done, Abandon, Revoke, Fail, Down, Up, Join}
 use Rattle.lrc_book.specs.declared.reply.Reply.TheVariants.{Dropped, Changed}
-use Rattle.lrc_book.specs.declared.reply.Refusal.{Refusal}
 use Rattle.lrc_book.specs.declared.reply.Refusal.TheVariants as refusal
 use Rattle.lrc_book.specs.declared.entry.Entry.{Entry}
 use Rattle.lrc_book.specs.declared.mode.Mode.TheVariants.{Active, Gone}
@@ -27,14 +26,15 @@ use Rattle.lrc_leases.specs.declared.lease.Lease.{Lease as LeaseRecord}
 use Rattle.lrc_leases.specs.Leased.{is_target_on}
 use Rattle.lrc_book.specs.States.{State, held_by, opening, has_stripe, has_number, without_number, mode_of, is_gone, is_down, code_of, seats_of, taken_seats}
 use Rattle.lrc_book.specs.Placement.{placed}
-use Rattle.lrc_book.specs.Outcomes.{Outcome, refuse_if}
+use Rattle.lrc_book.specs.Outcomes.{refuse_if}
 use Rattle.lrc_book.specs.Steps.{with_stripe, place_answer, place_outcome, is_other, without_stripe, drop_outcome, node_outcome, stands_on, hangs_on, emptied, with_gone, with_down, without_down, without_gone, fail_outcome, down_outcome, up_outcome, join_outcome, step}
 use Rattle.lrc_book.specs.Goodness.{IsStanding, AreSeated}
 use Rattle.lrc_book.proofs.MemberLemmas.{list_any-All, All-list_any, All-members, member-filter, filter-member, list_any-member}
 use Rattle.lrc_book.proofs.SeatingLists.{pairs-push}
 use Rattle.lrc_book.proofs.SeatingLemmas.{HasNone, homes-all, leases-all, IsPlacing, placing, fragments-distinct}
 use Rattle.lrc_book.proofs.LeaseGoodLemmas.{kept-seated}
-use Rattle.lrc_book.proofs.LeaseStepLemmas.{refused-seated, lease-seated, done-seated, abandon-seated, revoke-seated}
+use Rattle.lrc_book.proofs.OutcomeLemmas.{either-way}
+use Rattle.lrc_book.proofs.LeaseStepLemmas.{lease-seated, done-seated, abandon-seated, revoke-seated}
 
 -- ---- commands
 
@@ -80,7 +80,7 @@ module _ (nodes : List NodeInfo) (known : AreNodes nodes) (st : State) (s : Stri
   pub place-seated : (code : Code) → AreSeated nodes st → AreSeated nodes (place_outcome nodes st code s).1
   unfolding place_outcome
   place-seated code seated =
-      refused-seated nodes st (has_stripe st s) refusal.StripeExists (place_answer st s (placed nodes (with_stripe st code s) s)) seated
+      either-way (AreSeated nodes) (has_stripe st s) refusal.StripeExists st (place_answer st s (placed nodes (with_stripe st code s) s)) seated
       (λ e. answer-seated code (placed nodes (with_stripe st code s) s) seated e refl)
 
   -- the stripe, its homes and its leases taken out
@@ -108,7 +108,7 @@ module _ (nodes : List NodeInfo) (known : AreNodes nodes) (st : State) (s : Stri
 
   pub drop-seated : AreSeated nodes st → AreSeated nodes (drop_outcome st s).1
   unfolding drop_outcome
-  drop-seated seated = refused-seated nodes st (not (has_stripe st s)) refusal.UnknownStripe (Dropped, without_stripe st s) seated (λ e. without-seated seated)
+  drop-seated seated = either-way (AreSeated nodes) (not (has_stripe st s)) refusal.UnknownStripe st (Dropped, without_stripe st s) seated (λ e. without-seated seated)
 
 -- ---- nodes
 
@@ -163,8 +163,8 @@ modes-seated nodes st gone down seated present reachable =
 module _ (nodes : List NodeInfo) (st : State) (n : NodeNo) where
   changed-seated : (wrong : Bool) (changed : State) → AreSeated nodes st → (wrong ≡ false → AreSeated nodes changed) → AreSeated nodes (node_outcome nodes st n wrong changed).1
   changed-seated wrong changed seated next =
-      refused-seated nodes st (is_none (node_at nodes n)) refusal.UnknownNode (refuse_if wrong refusal.WrongMode st (Changed, changed)) seated
-      (λ known. refused-seated nodes st wrong refusal.WrongMode (Changed, changed) seated next)
+      either-way (AreSeated nodes) (is_none (node_at nodes n)) refusal.UnknownNode st (refuse_if wrong refusal.WrongMode st (Changed, changed)) seated
+      (λ known. either-way (AreSeated nodes) wrong refusal.WrongMode st (Changed, changed) seated next)
 
   -- a seat's node is not gone
   pub seat-present : AreSeated nodes st → (seat : Seat) → Contains (taken_seats st) seat → has_number st.gone seat.node ≡ false
@@ -188,8 +188,8 @@ module _ (nodes : List NodeInfo) (st : State) (n : NodeNo) where
       (All-members (λ h. eqb n.value h.seat.node.value ≡ false) (filter p st.homes) (λ h here. not-true _ (filter-member p st.homes h here).1))
       (All-map (λ h. eqb n.value h.seat.node.value ≡ false) held_by (filter q st.leases)
       (All-members (λ l. eqb n.value l.target.node.value ≡ false) (filter q st.leases) (λ l here.
-          let parts = or_parts (is_target_on n l) _ (not-true _ (filter-member q st.leases l here).1) in
-          ne_eqb n.value l.target.node.value (λ e. eqb-false l.target.node.value n.value parts.0 (sym e))))))
+      let parts = or_parts (is_target_on n l) _ (not-true _ (filter-member q st.leases l here).1) in
+      ne_eqb n.value l.target.node.value (λ e. eqb-false l.target.node.value n.value parts.0 (sym e))))))
 
   other-number : (m : NodeNo) → eqb n.value m.value ≡ false → has_number st.gone m ≡ false → has_number (st.gone ++ n ∷ []) m ≡ false
   other-number m apart miss =

@@ -5,7 +5,7 @@ use Rattle.std.specs.Option.{option_map_or}
 use Rattle.std.proofs.lemmas.Bool.{eqb-false, not-true, and_parts}
 use Rattle.std.proofs.lemmas.Option.{IfSome_then}
 use Rattle.std.proofs.lemmas.List.{map-append}
-use Rattle.std.proofs.lemmas.List.Elements.{All-nil, All-cons, All-head, All-tail, All-append, All-push, All-weaker, All-map}
+use Rattle.std.proofs.lemmas.List.Elements.{All-head, All-tail, All-append, All-push, All-weaker, All-map}
 use Rattle.std.proofs.lemmas.List.Folds.{fold_stays}
 use Rattle.std.proofs.lemmas.List.Kept.{AllPairs-cons}
 use Rattle.lrc_code.specs.declared.codes.Code.{Code}
@@ -107,7 +107,7 @@ module _ (nodes : List NodeInfo) (st : State) (seated : AreSeated nodes st) wher
   leased-seated l may none =
       let y = held_by l in
       let held : seats_of (with_lease st l) ≡ seats_of st ++ y ∷ [] =
-          ap (λ (hs : List Held). st.homes ++ hs) (map-append held_by st.leases (l ∷ [])) ∙ sym (append_assoc st.homes (map held_by st.leases) (y ∷ [])) in
+      ap (λ (hs : List Held). st.homes ++ hs) (map-append held_by st.leases (l ∷ [])) ∙ sym (append_assoc st.homes (map held_by st.leases) (y ∷ [])) in
       record {
         stripes = seated.stripes;
         single = pairs-map (λ a b. a ≢ b) (λ (h : Held). h.seat) (seats_of (with_lease st l))

@@ -21,7 +21,9 @@ KeepApart nodes st h g =
     h.stripe ≡ g.stripe → h.fragment ≢ g.fragment
     → IfSome (node_at nodes h.seat.node) (λ n. IfSome (node_at nodes g.seat.node) (λ m. AreApart (code_of st h.stripe) h.fragment n g.fragment m))
 
--- Each stripe is there once, each seat is held once and is a slot of a node that is not gone, placements are lawful, each fragment has one home and one lease at most, held seats are those of stripes that are there, and no node that is down is gone.
+-- Each stripe is there once, each seat is held once, by a home or as a target, and is a slot of a node that is not gone,
+-- placements are lawful, each fragment has one home and one lease at most, held seats are those of stripes that are there,
+-- and no node that is down is gone.
 pub record AreSeated (nodes : List NodeInfo) (st : State) : Type 0 where
   pub stripes : AllPairs (λ s t. s ≢ t) st.stripes
   pub single : AllPairs (λ a b. a ≢ b) (taken_seats st)
@@ -32,7 +34,8 @@ pub record AreSeated (nodes : List NodeInfo) (st : State) : Type 0 where
   pub there : All (λ h. Contains st.stripes h.stripe) (seats_of st)
   pub reachable : All (λ n. mode_of st n ≢ Gone) st.down
 
--- What holds of a state after the entries that led to it: its stripes are seated, and each live lease has the last epoch that was granted for its fragment.
+-- What holds of a state after the entries that led to it: its stripes are seated, and the epoch of each live lease is
+-- the number of its fragment's grants, so the last that was granted.
 pub record IsGood (nodes : List NodeInfo) (history : List Entry) (st : State) : Type 0 where
   pub seated : AreSeated nodes st
   pub current : All (λ l. l.epoch ≡ grants history l.stripe l.fragment) st.leases

@@ -1,5 +1,5 @@
 -- Which fragments need a lease, and from what they are rebuilt.
-use Rattle.std.specs.Prelude.{◌≡◌, ◌≢◌, ℕ, ◌<◌, ◌↔◌, Bool, true, false, not, ◌&&◌, if◌then◌else◌, IsTrue, IsFalse, List, length, AllPairs, Contains, is_none}
+use Rattle.std.specs.Prelude.{◌≡◌, ◌≢◌, ◌<◌, ◌↔◌, Bool, true, false, not, ◌&&◌, if◌then◌else◌, IsTrue, IsFalse, List, length, AllPairs, Contains, is_none}
 use Rattle.lrc_code.specs.declared.codes.Code.{Code}
 use Rattle.lrc_code.specs.declared.codes.Code.TheVariants.{Wide}
 use Rattle.lrc_code.specs.declared.numbers.StripeNo.{StripeNo}

@@ -1,20 +1,21 @@
 -- A line without a cause is the line of a command, and the other way round.
-use Rattle.std.proofs.Common.{◌≡◌, ◌≢◌, ℕ, zero, suc, ◌^◌, ◌<◌, ◌≤◌, lit≤, length-append, ◌↔◌, ◌⊎◌, inl, inr, Bool, true, false, nat_eq, nat_lt, if◌then◌else◌, Option, Some, None, List, [], ◌∷◌, ◌++◌, length, get_or, codes, decimal, refl, sym, ap, ◌∙◌, arith}
-use borrow.Author.Tests.{ltb-true, eqb-true, ne_eqb}
-use Rattle.std.specs.List.{list_all, join_with_byte}
+use Rattle.std.proofs.Common.{◌≡◌, ◌≢◌, ℕ, zero, suc, ◌+◌, ◌*◌, ◌^◌, ◌<◌, ◌≤◌, lit≤, length-append, ◌↔◌, ◌⊎◌, inl, inr, Bool, true, false, nat_eq, nat_lt, if◌then◌else◌, Option, Some, None, List, [], ◌∷◌, ◌++◌, length, map, get_or, codes, decimal, refl, sym, ap, ◌∙◌, arith}
+use borrow.Author.Tests.{ltb-true, eqb-true, eq-eqb, ne_eqb}
+use Rattle.std.specs.List.{All, list_all, join_with_byte}
 use Rattle.std.specs.Char.{is_ascii_digit}
 use Rattle.std.specs.Str.Parse.{digits_value}
 use Rattle.std.proofs.lemmas.Bool.Decides.{nat_tests}
 use Rattle.std.proofs.lemmas.Fmt.{digits_decimal, digits_value-decimal, decimal_nonempty, decimal_digit, first_decimal, length-decimal-le}
-use Rattle.std.proofs.lemmas.List.Splits.{slice_split_none, join_with_byte-slice_split}
+use Rattle.std.proofs.lemmas.List.Splits.{slice_split_none, slice_split_at, join_with_byte-slice_split}
 use Rattle.std.proofs.lemmas.List.Sums.{AllPass-from_list_all}
 use Rattle.lrc_book.specs.declared.command.Command.{Command}
-use Rattle.lrc_book.specs.declared.command.Command.TheVariants.{Place, Drop, Fail, Down, Up, Join}
+use Rattle.lrc_book.specs.declared.command.Command.TheVariants.{Place, Drop, Lease, Done, Abandon, Revoke, Fail, Down, Up, Join}
 use Rattle.lrc_code.specs.declared.numbers.StripeNo.{StripeNo}
 use Rattle.lrc_code.specs.declared.numbers.NodeNo.{NodeNo}
+use Rattle.lrc_code.specs.declared.numbers.Fragment.{Fragment}
 use Rattle.lrc_script.specs.declared.script.Cause.{Cause}
 use Rattle.lrc_script.specs.declared.script.Cause.TheVariants.{WordCount, NotANumber, OutOfRange}
-use Rattle.lrc_script.specs.Scripts.{Form, same_text, is_number, argument_cause, or_else, arguments_cause, form_cause, form_of, words_cause, words_of, is_passed_over, command_line, IsInRange, cause_of}
+use Rattle.lrc_script.specs.Scripts.{Form, same_text, is_number, argument_cause, or_else, arguments_cause, numbers_cause, form_cause, form_of, words_cause, words_of, is_passed_over, numbers_text, command_line, IsInRange, cause_of}
 use Rattle.lrc_script.proofs.LineLemmas.{cause_of-short}
 use Rattle.lrc_script.proofs.ScriptLemmas.{own, is_number-digits, decimal-number, argument_cause-below, cause_of-passed, cause_of-command, same_text-true, words_of-some}
 
@@ -38,49 +39,92 @@ module _ (n : ℕ) (small : n < 2 ^ 64) where
   argument_cause-decimal bound below = let value = digits_value-decimal own n small in argument_cause-below (decimal n) is_number-decimal bound (omega (arith, value))
 
   -- no space stands in it
-  pub words_of-decimal : words_of (decimal n) ≡ decimal n ∷ []
-  words_of-decimal = slice_split_none (λ b. nat_eq b 32) (decimal n) (λ k d within. digit_no_space (get_or (decimal n) k d) (AllPass-from_list_all is_ascii_digit (decimal n) digits k d within))
+  no_space : All (λ b. nat_eq b 32 ≡ false) (decimal n)
+  no_space = λ k d within. digit_no_space (get_or (decimal n) k d) (AllPass-from_list_all is_ascii_digit (decimal n) digits k d within)
+
+-- ---- numbers in a row
+
+-- each number is below its bound, which is at most 2 ^ 32
+abbrev pub AreBelow : List ℕ → List ℕ → Type 0
+AreBelow [] [] = Unit {0}
+AreBelow (n ∷ ns) (bound ∷ bounds) = ((n < bound) × (bound ≤ 2 ^ 32)) × AreBelow ns bounds
+AreBelow _ _ = ⊥
+
+-- the numbers are the words of their text
+pub words_of-numbers : (n : ℕ) (ns bounds : List ℕ) → AreBelow (n ∷ ns) bounds → words_of (numbers_text (n ∷ ns)) ≡ map decimal (n ∷ ns)
+words_of-numbers n ns [] below = absurd below
+words_of-numbers n [] (bound ∷ bounds) below = slice_split_none (λ b. nat_eq b 32) (decimal n) (no_space n (omega (arith, below.0.0, below.0.1)))
+words_of-numbers n (m ∷ ms) (bound ∷ bounds) below =
+    slice_split_at (λ b. nat_eq b 32) (decimal n) 32 (numbers_text (m ∷ ms)) (no_space n (omega (arith, below.0.0, below.0.1))) refl
+    ∙ ap (λ ws. decimal n ∷ ws) (words_of-numbers m ms bounds below.1)
+
+length-numbers : (word : List ℕ) (ns bounds : List ℕ) → AreBelow ns bounds → length (join_with_byte 32 (word ∷ map decimal ns)) ≤ length word + 11 * length ns
+length-numbers word [] bounds below = omega arith
+length-numbers word (n ∷ ns) [] below = absurd below
+length-numbers word (n ∷ ns) (bound ∷ bounds) below =
+    let long = length-append word (32 ∷ numbers_text (n ∷ ns)) in
+    let ten = length-decimal-le 10 n (omega arith) (omega (arith, below.0.0, below.0.1)) (omega (arith, below.0.0, below.0.1)) in
+    omega (arith, long, ten, length-numbers (decimal n) ns bounds below.1)
+
+-- the numbers have no cause
+numbers_none : (ns bounds : List ℕ) → AreBelow ns bounds → (length (map decimal ns) ≡ length bounds) × (arguments_cause (map decimal ns) bounds ≡ None)
+numbers_none [] [] below = (refl, refl)
+numbers_none [] (bound ∷ bounds) below = absurd below
+numbers_none (n ∷ ns) [] below = absurd below
+numbers_none (n ∷ ns) (bound ∷ bounds) below =
+    let rest = numbers_none ns bounds below.1 in
+    (ap suc rest.0, rw (argument_cause-decimal n (omega (arith, below.0.0, below.0.1)) bound below.0.0, rest.1) refl)
 
 -- ---- the line of a command is good
 
 kept : (line : List ℕ) → 0 < length line → nat_eq (get_or line 0 0) 35 ≡ false → is_passed_over line ≡ false
 kept line some other = rw (ne_eqb (length line) 0 (omega arith), other) refl
 
--- the form of a command with one argument
-abbrev of_one : List ℕ → ℕ → Form
-of_one word bound = record { word = word; bounds = bound ∷ [] }
+-- the form of a command with arguments below these bounds
+abbrev form_with : List ℕ → List ℕ → Form
+form_with word bounds = record { word = word; bounds = bounds }
 
--- the line of a command with one argument
-one_number : (word : List ℕ) (bound n : ℕ) → bound ≤ 2 ^ 16 → n < bound → length word ≤ 1000 → words_of (word ++ 32 ∷ decimal n) ≡ word ∷ words_of (decimal n) → nat_eq (get_or (word ++ 32 ∷ decimal n) 0 0) 35 ≡ false → form_of word ≡ Some (of_one word bound) → cause_of (word ++ 32 ∷ decimal n) ≡ None
-one_number word bound n narrow below short words first form =
-    let small : n < 2 ^ 64 = omega (arith, narrow, below) in
-    let line = word ++ 32 ∷ decimal n in
-    let long = length-append word (32 ∷ decimal n) in
-    let five = length-decimal-le 5 n (omega arith) (omega (arith, narrow, below)) small in
-    cause_of-command line (omega (arith, long, five)) (kept line (omega (arith, long)) first) ∙ ap words_cause words ∙ ap (λ ws. words_cause (word ∷ ws)) (words_of-decimal n small) ∙ ap (form_cause (decimal n ∷ [])) form
-    ∙ rw (argument_cause-decimal n small bound below) refl
+-- the line of a command with these numbers
+good_line : (word : List ℕ) (n : ℕ) (ns bounds : List ℕ) → AreBelow (n ∷ ns) bounds → length word + 11 * length (n ∷ ns) ≤ 1024
+    → words_of (word ++ 32 ∷ numbers_text (n ∷ ns)) ≡ word ∷ words_of (numbers_text (n ∷ ns)) → nat_eq (get_or (word ++ 32 ∷ numbers_text (n ∷ ns)) 0 0) 35 ≡ false → form_of word ≡ Some (form_with word bounds)
+    → cause_of (word ++ 32 ∷ numbers_text (n ∷ ns)) ≡ None
+good_line word n ns bounds below short words first form =
+    let line = word ++ 32 ∷ numbers_text (n ∷ ns) in
+    let none = numbers_none (n ∷ ns) bounds below in
+    let long = length-append word (32 ∷ numbers_text (n ∷ ns)) in
+    cause_of-command line (omega (arith, short, length-numbers word (n ∷ ns) bounds below)) (kept line (omega (arith, long)) first)
+    ∙ ap words_cause words ∙ ap (λ ws. words_cause (word ∷ ws)) (words_of-numbers n ns bounds below) ∙ ap (form_cause (map decimal (n ∷ ns))) form
+    ∙ rw (eq-eqb (length (map decimal (n ∷ ns))) (length bounds) none.0, none.1) refl
 
-of_stripe_line : (word : List ℕ) (s : StripeNo) → length word ≤ 1000 → words_of (word ++ 32 ∷ decimal s.value) ≡ word ∷ words_of (decimal s.value) → nat_eq (get_or (word ++ 32 ∷ decimal s.value) 0 0) 35 ≡ false → form_of word ≡ Some (of_one word 4096) → cause_of (word ++ 32 ∷ decimal s.value) ≡ None
-of_stripe_line word s = one_number word 4096 s.value (lit≤ tt) s.in_range
+of_stripe_line : (word : List ℕ) (s : StripeNo) → length word + 11 ≤ 1024
+    → words_of (word ++ 32 ∷ decimal s.value) ≡ word ∷ words_of (decimal s.value) → nat_eq (get_or (word ++ 32 ∷ decimal s.value) 0 0) 35 ≡ false → form_of word ≡ Some (form_with word (4096 ∷ []))
+    → cause_of (word ++ 32 ∷ decimal s.value) ≡ None
+of_stripe_line word s = good_line word s.value [] (4096 ∷ []) ((s.in_range, lit≤ tt), tt)
 
-of_node_line : (word : List ℕ) (n : NodeNo) → n.value < 65536 → length word ≤ 1000 → words_of (word ++ 32 ∷ decimal n.value) ≡ word ∷ words_of (decimal n.value) → nat_eq (get_or (word ++ 32 ∷ decimal n.value) 0 0) 35 ≡ false → form_of word ≡ Some (of_one word 65536) → cause_of (word ++ 32 ∷ decimal n.value) ≡ None
-of_node_line word n = one_number word 65536 n.value (lit≤ tt)
+of_node_line : (word : List ℕ) (n : NodeNo) → n.value < 65536 → length word + 11 ≤ 1024
+    → words_of (word ++ 32 ∷ decimal n.value) ≡ word ∷ words_of (decimal n.value) → nat_eq (get_or (word ++ 32 ∷ decimal n.value) 0 0) 35 ≡ false → form_of word ≡ Some (form_with word (65536 ∷ []))
+    → cause_of (word ++ 32 ∷ decimal n.value) ≡ None
+of_node_line word n small = good_line word n.value [] (65536 ∷ []) ((small, lit≤ tt), tt)
+
+below_pair : (s : StripeNo) (f : Fragment) → AreBelow (s.value ∷ f.value ∷ []) (4096 ∷ 16 ∷ [])
+below_pair s f = ((s.in_range, lit≤ tt), ((f.in_range, lit≤ tt), tt))
+
+below_report : (s : StripeNo) (f : Fragment) (e : ℕ) → e < 4294967296 → AreBelow (s.value ∷ f.value ∷ e ∷ []) (4096 ∷ 16 ∷ 4294967296 ∷ [])
+below_report s f e small = ((s.in_range, lit≤ tt), ((f.in_range, lit≤ tt), ((small, lit≤ tt), tt)))
 
 pub cause_of-command_line : (command : Command) → IsInRange command → cause_of (command_line command) ≡ None
 cause_of-command_line (Place s) _ = of_stripe_line (codes "place") s (lit≤ tt) refl refl refl
 cause_of-command_line (Drop s) _ = of_stripe_line (codes "drop") s (lit≤ tt) refl refl refl
+cause_of-command_line (Lease s f) _ = good_line (codes "lease") s.value (f.value ∷ []) (4096 ∷ 16 ∷ []) (below_pair s f) (lit≤ tt) refl refl refl
+cause_of-command_line (Done s f e) small = good_line (codes "done") s.value (f.value ∷ e ∷ []) (4096 ∷ 16 ∷ 4294967296 ∷ []) (below_report s f e small) (lit≤ tt) refl refl refl
+cause_of-command_line (Abandon s f e) small = good_line (codes "abandon") s.value (f.value ∷ e ∷ []) (4096 ∷ 16 ∷ 4294967296 ∷ []) (below_report s f e small) (lit≤ tt) refl refl refl
+cause_of-command_line (Revoke s f) _ = good_line (codes "revoke") s.value (f.value ∷ []) (4096 ∷ 16 ∷ []) (below_pair s f) (lit≤ tt) refl refl refl
 cause_of-command_line (Fail n) small = of_node_line (codes "fail") n small (lit≤ tt) refl refl refl
 cause_of-command_line (Down n) small = of_node_line (codes "down") n small (lit≤ tt) refl refl refl
 cause_of-command_line (Up n) small = of_node_line (codes "up") n small (lit≤ tt) refl refl refl
 cause_of-command_line (Join n) small = of_node_line (codes "join") n small (lit≤ tt) refl refl refl
 
 -- ---- a line without a cause
-
--- the numbers that the words are, each below its bound
-abbrev AreNumbers : List (List ℕ) → List ℕ → Type 0
-AreNumbers [] [] = Unit {0}
-AreNumbers (word ∷ words) (bound ∷ bounds) = ((n : ℕ) × (n < bound) × (bound ≤ 2 ^ 64 → word ≡ decimal n)) × AreNumbers words bounds
-AreNumbers _ _ = ⊥
 
 both_tests : (numeral below : Bool) → (if numeral then (if below then None else Some OutOfRange) else Some NotANumber) ≡ None → (numeral ≡ true) × (below ≡ true)
 both_tests true true e = (refl, refl)
@@ -91,76 +135,110 @@ neither : (first other : Option Cause) → or_else first other ≡ None → (fir
 neither None other e = (refl, e)
 neither (Some cause) other e = cc
 
-argument_number : (word : List ℕ) (bound : ℕ) → argument_cause word bound ≡ None → (n : ℕ) × (n < bound) × (bound ≤ 2 ^ 64 → word ≡ decimal n)
-argument_number word bound good =
-    let tests = both_tests (is_number word) (nat_lt (digits_value 10 word) bound) good in
-    let below = ltb-true (digits_value 10 word) bound tests.1 in
-    (digits_value 10 word, below, λ small. decimal-number word tests.0 (omega (arith, below, small)))
+-- no bound is above 2 ^ 32
+abbrev AreNarrow : List ℕ → Type 0
+AreNarrow [] = Unit {0}
+AreNarrow (bound ∷ bounds) = (bound ≤ 2 ^ 32) × AreNarrow bounds
 
-arguments_numbers : (words : List (List ℕ)) (bounds : List ℕ) → length words ≡ length bounds → arguments_cause words bounds ≡ None → AreNumbers words bounds
-arguments_numbers [] [] long good = tt
-arguments_numbers [] (bound ∷ bounds) long good = absurd (omega (arith, long))
-arguments_numbers (word ∷ words) [] long good = absurd (omega (arith, long))
-arguments_numbers (word ∷ words) (bound ∷ bounds) long good =
+-- the words are the decimal texts of numbers below these bounds
+abbrev AreNumbers : List (List ℕ) → List ℕ → Type 0
+AreNumbers words bounds = (ns : List ℕ) × AreBelow ns bounds × (words ≡ map decimal ns)
+
+arguments_numbers : (words : List (List ℕ)) (bounds : List ℕ) → AreNarrow bounds → length words ≡ length bounds → arguments_cause words bounds ≡ None → AreNumbers words bounds
+arguments_numbers [] [] narrow long good = ([], tt, refl)
+arguments_numbers [] (bound ∷ bounds) narrow long good = absurd (omega (arith, long))
+arguments_numbers (word ∷ words) [] narrow long good = absurd (omega (arith, long))
+arguments_numbers (word ∷ words) (bound ∷ bounds) narrow long good =
     let parts = neither (argument_cause word bound) (arguments_cause words bounds) good in
-    (argument_number word bound parts.0, arguments_numbers words bounds (omega (arith, long)) parts.1)
+    let tests = both_tests (is_number word) (nat_lt (digits_value 10 word) bound) parts.0 in
+    let below = ltb-true (digits_value 10 word) bound tests.1 in
+    let is : word ≡ decimal (digits_value 10 word) = decimal-number word tests.0 (omega (arith, below, narrow.0)) in
+    let rest = arguments_numbers words bounds narrow.1 (omega (arith, long)) parts.1 in
+    (digits_value 10 word ∷ rest.0, ((below, narrow.0), rest.1), ap (λ w. w ∷ words) is ∙ ap (λ ws. decimal (digits_value 10 word) ∷ ws) rest.2)
 
 of_length : (same : Bool) (cause : Option Cause) → (if same then cause else Some WordCount) ≡ None → (same ≡ true) × (cause ≡ None)
 of_length true cause e = (refl, e)
 of_length false cause e = cc
 
-form_numbers : (words : List (List ℕ)) (form : Form) → form_cause words (Some form) ≡ None → AreNumbers words form.bounds
-form_numbers words form good =
-    let parts = of_length (nat_eq (length words) (length form.bounds)) (arguments_cause words form.bounds) good in
-    arguments_numbers words form.bounds (eqb-true (length words) (length form.bounds) parts.0) parts.1
+form_numbers : (words : List (List ℕ)) (bounds : List ℕ) → AreNarrow bounds → numbers_cause words bounds ≡ None → AreNumbers words bounds
+form_numbers words bounds narrow good =
+    let parts = of_length (nat_eq (length words) (length bounds)) (arguments_cause words bounds) good in
+    arguments_numbers words bounds narrow (eqb-true (length words) (length bounds) parts.0) parts.1
 
--- one argument below a bound
-one_argument : (bound : ℕ) → bound ≤ 2 ^ 64 → (word : List ℕ) (words : List (List ℕ)) → AreNumbers words (bound ∷ []) → (n : ℕ) × (n < bound) × (join_with_byte 32 (word ∷ words) ≡ word ++ 32 ∷ decimal n)
-one_argument bound narrow word [] numbers = absurd numbers
-one_argument bound narrow word (x ∷ []) numbers = (numbers.0.0, numbers.0.1, ap (λ w. word ++ 32 ∷ w) (numbers.0.2 narrow))
-one_argument bound narrow word (x ∷ y ∷ words) numbers = absurd numbers.1
+-- numbers below these bounds behind this word are the line of a command
+abbrev IsLine : List ℕ → List ℕ → Type 0
+IsLine name bounds = (ns : List ℕ) → AreBelow ns bounds → (command : Command) × IsInRange command × (join_with_byte 32 (name ∷ map decimal ns) ≡ command_line command)
 
--- the form that begins with this word, where these are the words' tests
-abbrev form_by : (place drop fail down up join : Bool) → Option Form
-form_by place drop fail down up join =
-    if place then Some (of_one (codes "place") 4096) else (if drop then Some (of_one (codes "drop") 4096) else (if fail then Some (of_one (codes "fail") 65536)
-    else (if down then Some (of_one (codes "down") 65536) else (if up then Some (of_one (codes "up") 65536) else (if join then Some (of_one (codes "join") 65536) else None)))))
+of_stripe : (name : List ℕ) (make : StripeNo → Command) → ((s : StripeNo) → IsInRange (make s)) → ((s : StripeNo) → name ++ 32 ∷ decimal s.value ≡ command_line (make s)) → IsLine name (4096 ∷ [])
+of_stripe name make in_range line [] below = absurd below
+of_stripe name make in_range line (n ∷ []) below = let stripe : StripeNo = record { value = n; in_range = below.0.0 } in (make stripe, in_range stripe, line stripe)
+of_stripe name make in_range line (n ∷ m ∷ ms) below = absurd below.1
+
+of_node : (name : List ℕ) (make : NodeNo → Command) → ((n : NodeNo) → n.value < 65536 → IsInRange (make n)) → ((n : NodeNo) → name ++ 32 ∷ decimal n.value ≡ command_line (make n)) → IsLine name (65536 ∷ [])
+of_node name make in_range line [] below = absurd below
+of_node name make in_range line (n ∷ []) below = let node : NodeNo = record { value = n } in (make node, in_range node below.0.0, line node)
+of_node name make in_range line (n ∷ m ∷ ms) below = absurd below.1
+
+of_pair : (name : List ℕ) (make : StripeNo → Fragment → Command) → ((s : StripeNo) (f : Fragment) → IsInRange (make s f))
+    → ((s : StripeNo) (f : Fragment) → name ++ 32 ∷ numbers_text (s.value ∷ f.value ∷ []) ≡ command_line (make s f)) → IsLine name (4096 ∷ 16 ∷ [])
+of_pair name make in_range line [] below = absurd below
+of_pair name make in_range line (n ∷ []) below = absurd below.1
+of_pair name make in_range line (n ∷ m ∷ []) below =
+    let stripe : StripeNo = record { value = n; in_range = below.0.0 } in
+    let fragment : Fragment = record { value = m; in_range = below.1.0.0 } in
+    (make stripe fragment, in_range stripe fragment, line stripe fragment)
+of_pair name make in_range line (n ∷ m ∷ k ∷ ks) below = absurd below.1.1
+
+of_report : (name : List ℕ) (make : StripeNo → Fragment → ℕ → Command) → ((s : StripeNo) (f : Fragment) (e : ℕ) → e < 4294967296 → IsInRange (make s f e))
+    → ((s : StripeNo) (f : Fragment) (e : ℕ) → name ++ 32 ∷ numbers_text (s.value ∷ f.value ∷ e ∷ []) ≡ command_line (make s f e)) → IsLine name (4096 ∷ 16 ∷ 4294967296 ∷ [])
+of_report name make in_range line [] below = absurd below
+of_report name make in_range line (n ∷ []) below = absurd below.1
+of_report name make in_range line (n ∷ m ∷ []) below = absurd below.1.1
+of_report name make in_range line (n ∷ m ∷ e ∷ []) below =
+    let stripe : StripeNo = record { value = n; in_range = below.0.0 } in
+    let fragment : Fragment = record { value = m; in_range = below.1.0.0 } in
+    (make stripe fragment e, in_range stripe fragment e below.1.1.0.0, line stripe fragment e)
+of_report name make in_range line (n ∷ m ∷ e ∷ k ∷ ks) below = absurd below.1.1.1
 
 module _ (word : List ℕ) (words : List (List ℕ)) where
   -- the command that these words are those of
   abbrev IsFound : Type 0
   IsFound = (command : Command) × IsInRange command × (join_with_byte 32 (word ∷ words) ≡ command_line command)
 
-  of_stripe : (name : List ℕ) (make : StripeNo → Command) → ((s : StripeNo) → command_line (make s) ≡ name ++ 32 ∷ decimal s.value) → ((s : StripeNo) → IsInRange (make s))
-      → same_text word name ≡ true → form_cause words (Some (of_one name 4096)) ≡ None → IsFound
-  of_stripe name make line in_range is good =
-      let one = one_argument 4096 (lit≤ tt) word words (form_numbers words (of_one name 4096) good) in
-      let stripe : StripeNo = record { value = one.0; in_range = one.1 } in
-      (make stripe, in_range stripe, one.2 ∙ ap (λ w. w ++ 32 ∷ decimal one.0) (same_text-true word name is) ∙ sym (line stripe))
+  of_form : (name bounds : List ℕ) → AreNarrow bounds → IsLine name bounds → same_text word name ≡ true → numbers_cause words bounds ≡ None → IsFound
+  of_form name bounds narrow line is good =
+      let found = form_numbers words bounds narrow good in
+      let made = line found.0 found.1 in
+      (made.0, made.1, ap (λ ws. join_with_byte 32 (word ∷ ws)) found.2 ∙ ap (λ w. join_with_byte 32 (w ∷ map decimal found.0)) (same_text-true word name is) ∙ made.2)
 
-  of_node : (name : List ℕ) (make : NodeNo → Command) → ((n : NodeNo) → command_line (make n) ≡ name ++ 32 ∷ decimal n.value) → ((n : NodeNo) → n.value < 65536 → IsInRange (make n))
-      → same_text word name ≡ true → form_cause words (Some (of_one name 65536)) ≡ None → IsFound
-  of_node name make line in_range is good =
-      let one = one_argument 65536 (lit≤ tt) word words (form_numbers words (of_one name 65536) good) in
-      let node : NodeNo = record { value = one.0 } in
-      (make node, in_range node one.1, one.2 ∙ ap (λ w. w ++ 32 ∷ decimal one.0) (same_text-true word name is) ∙ sym (line node))
+  -- the command of this form, or that of another
+  either_form : (is : Bool) (form : Form) (other : Option Form) → (is ≡ true → form_cause words (Some form) ≡ None → IsFound) → (form_cause words other ≡ None → IsFound)
+      → form_cause words (if is then Some form else other) ≡ None → IsFound
+  either_form true form other this that good = this refl good
+  either_form false form other this that good = that good
 
-  by_word : (place drop fail down up join : Bool) → same_text word (codes "place") ≡ place → same_text word (codes "drop") ≡ drop → same_text word (codes "fail") ≡ fail
-      → same_text word (codes "down") ≡ down → same_text word (codes "up") ≡ up → same_text word (codes "join") ≡ join
-      → form_cause words (form_by place drop fail down up join) ≡ None → IsFound
-  by_word true _ _ _ _ _ is _ _ _ _ _ good = of_stripe (codes "place") Place (λ s. refl) (λ s. tt) is good
-  by_word false true _ _ _ _ _ is _ _ _ _ good = of_stripe (codes "drop") Drop (λ s. refl) (λ s. tt) is good
-  by_word false false true _ _ _ _ _ is _ _ _ good = of_node (codes "fail") Fail (λ n. refl) (λ n small. small) is good
-  by_word false false false true _ _ _ _ _ is _ _ good = of_node (codes "down") Down (λ n. refl) (λ n small. small) is good
-  by_word false false false false true _ _ _ _ _ is _ good = of_node (codes "up") Up (λ n. refl) (λ n small. small) is good
-  by_word false false false false false true _ _ _ _ _ is good = of_node (codes "join") Join (λ n. refl) (λ n small. small) is good
-  by_word false false false false false false _ _ _ _ _ _ good = cc
+  try_form : (name bounds : List ℕ) (other : Option Form) → AreNarrow bounds → IsLine name bounds → (form_cause words other ≡ None → IsFound)
+      → form_cause words (if same_text word name then Some (form_with name bounds) else other) ≡ None → IsFound
+  try_form name bounds other narrow line that = either_form (same_text word name) (form_with name bounds) other (of_form name bounds narrow line) that
+
+  by_word : form_cause words (form_of word) ≡ None → IsFound
+  by_word =
+      try_form (codes "place") (4096 ∷ []) _ (lit≤ tt, tt) (of_stripe (codes "place") Place (λ s. tt) (λ s. refl))
+      (try_form (codes "drop") (4096 ∷ []) _ (lit≤ tt, tt) (of_stripe (codes "drop") Drop (λ s. tt) (λ s. refl))
+      (try_form (codes "lease") (4096 ∷ 16 ∷ []) _ (lit≤ tt, (lit≤ tt, tt)) (of_pair (codes "lease") Lease (λ s f. tt) (λ s f. refl))
+      (try_form (codes "done") (4096 ∷ 16 ∷ 4294967296 ∷ []) _ (lit≤ tt, (lit≤ tt, (lit≤ tt, tt))) (of_report (codes "done") Done (λ s f e small. small) (λ s f e. refl))
+      (try_form (codes "abandon") (4096 ∷ 16 ∷ 4294967296 ∷ []) _ (lit≤ tt, (lit≤ tt, (lit≤ tt, tt))) (of_report (codes "abandon") Abandon (λ s f e small. small) (λ s f e. refl))
+      (try_form (codes "revoke") (4096 ∷ 16 ∷ []) _ (lit≤ tt, (lit≤ tt, tt)) (of_pair (codes "revoke") Revoke (λ s f. tt) (λ s f. refl))
+      (try_form (codes "fail") (65536 ∷ []) _ (lit≤ tt, tt) (of_node (codes "fail") Fail (λ n small. small) (λ n. refl))
+      (try_form (codes "down") (65536 ∷ []) _ (lit≤ tt, tt) (of_node (codes "down") Down (λ n small. small) (λ n. refl))
+      (try_form (codes "up") (65536 ∷ []) _ (lit≤ tt, tt) (of_node (codes "up") Up (λ n small. small) (λ n. refl))
+      (try_form (codes "join") (65536 ∷ []) None (lit≤ tt, tt) (of_node (codes "join") Join (λ n small. small) (λ n. refl)) (λ good. cc))))))))))
 
 -- a line whose words have no cause is the line of a command
 pub words_cause-none : (line : List ℕ) → words_cause (words_of line) ≡ None → (command : Command) × IsInRange command × (line ≡ command_line command)
 words_cause-none line good =
     let split = words_of-some line in
-    let found = by_word split.0 split.1 _ _ _ _ _ _ refl refl refl refl refl refl (sym (ap words_cause split.2) ∙ good) in
+    let found = by_word split.0 split.1 (sym (ap words_cause split.2) ∙ good) in
     (found.0, found.1, sym (join_with_byte-slice_split 32 line) ∙ ap (join_with_byte 32) split.2 ∙ found.2)
 
 good_either : (line : List ℕ) (passed : Bool) → is_passed_over line ≡ passed → cause_of line ≡ None → ((is_passed_over line ≡ true) × (length line ≤ 1024)) ⊎ ((command : Command) × IsInRange command × (line ≡ command_line command))

@@ -118,13 +118,45 @@ line-one line word argument name text rest cut one named written =
     let words = words_of-cut line word rest cut ∙ ap (λ ws. word ∷ ws) one in
     sym (join_with_byte-slice_split 32 line) ∙ ap (join_with_byte 32) words ∙ ap (λ w. w ++ 32 ∷ argument) named ∙ ap (λ w. name ++ 32 ∷ w) written
 
-form_of-none : (word : List ℕ) → word ≢ codes "place" → word ≢ codes "drop" → word ≢ codes "fail" → word ≢ codes "down" → word ≢ codes "up" → word ≢ codes "join" → form_of word ≡ None
-form_of-none word no_place no_drop no_fail no_down no_up no_join =
-    rw (same_text-false word (codes "place") no_place, same_text-false word (codes "drop") no_drop, same_text-false word (codes "fail") no_fail, same_text-false word (codes "down") no_down, same_text-false word (codes "up") no_up, same_text-false word (codes "join") no_join) refl
+-- the line of a word and two more
+pub line-two : (line word first second name : List ℕ) (rest : Option (Bor (List ℕ))) → IsCut 32 line word rest → words_behind rest ≡ first ∷ second ∷ [] → word ≡ name → line ≡ join_with_byte 32 (name ∷ first ∷ second ∷ [])
+line-two line word first second name rest cut two named =
+    let words = words_of-cut line word rest cut ∙ ap (λ ws. word ∷ ws) two in
+    sym (join_with_byte-slice_split 32 line) ∙ ap (join_with_byte 32) words ∙ ap (λ w. join_with_byte 32 (w ∷ first ∷ second ∷ [])) named
 
-pub words_cause-unknown : (line word : List ℕ) (rest : Option (Bor (List ℕ))) → IsCut 32 line word rest → word ≢ codes "place" → word ≢ codes "drop" → word ≢ codes "fail" → word ≢ codes "down" → word ≢ codes "up" → word ≢ codes "join" → words_cause (words_of line) ≡ Some UnknownWord
-words_cause-unknown line word rest cut no_place no_drop no_fail no_down no_up no_join =
-    ap words_cause (words_of-cut line word rest cut) ∙ ap (form_cause (words_behind rest)) (form_of-none word no_place no_drop no_fail no_down no_up no_join)
+-- the line of a word and three more
+pub line-three : (line word first second third name : List ℕ) (rest : Option (Bor (List ℕ))) → IsCut 32 line word rest → words_behind rest ≡ first ∷ second ∷ third ∷ [] → word ≡ name → line ≡ join_with_byte 32 (name ∷ first ∷ second ∷ third ∷ [])
+line-three line word first second third name rest cut three named =
+    let words = words_of-cut line word rest cut ∙ ap (λ ws. word ∷ ws) three in
+    sym (join_with_byte-slice_split 32 line) ∙ ap (join_with_byte 32) words ∙ ap (λ w. join_with_byte 32 (w ∷ first ∷ second ∷ third ∷ [])) named
+
+-- words behind a cut are one more than those behind its first word
+pub words_behind-next : (rest more : Option (Bor (List ℕ))) (line : Bor (List ℕ)) (word : List ℕ) (words : List (List ℕ)) → rest ≡ Some line → IsCut 32 line.now word more → words_behind more ≡ words → words_behind rest ≡ word ∷ words
+words_behind-next rest more line word words there cut next = ap words_behind there ∙ words_of-cut line.now word more cut ∙ ap (λ ws. word ∷ ws) next
+
+pub words_behind-count : (rest more : Option (Bor (List ℕ))) (line : Bor (List ℕ)) (word : List ℕ) (n : ℕ) → rest ≡ Some line → IsCut 32 line.now word more → length (words_behind more) ≢ n → length (words_behind rest) ≢ n + 1
+words_behind-count rest more line word n there cut other same =
+    let count = ap length (words_behind-next rest more line word (words_behind more) there cut refl) in
+    other (omega (arith, same, count))
+
+form_of-none : (word : List ℕ) → word ≢ codes "place" → word ≢ codes "drop" → word ≢ codes "lease" → word ≢ codes "done" → word ≢ codes "abandon" → word ≢ codes "revoke" → word ≢ codes "fail" → word ≢ codes "down" → word ≢ codes "up" → word ≢ codes "join" → form_of word ≡ None
+form_of-none word no_place no_drop no_lease no_done no_abandon no_revoke no_fail no_down no_up no_join =
+    rw (
+      same_text-false word (codes "place") no_place,
+      same_text-false word (codes "drop") no_drop,
+      same_text-false word (codes "lease") no_lease,
+      same_text-false word (codes "done") no_done,
+      same_text-false word (codes "abandon") no_abandon,
+      same_text-false word (codes "revoke") no_revoke,
+      same_text-false word (codes "fail") no_fail,
+      same_text-false word (codes "down") no_down,
+      same_text-false word (codes "up") no_up,
+      same_text-false word (codes "join") no_join,
+    ) refl
+
+pub words_cause-unknown : (line word : List ℕ) (rest : Option (Bor (List ℕ))) → IsCut 32 line word rest → word ≢ codes "place" → word ≢ codes "drop" → word ≢ codes "lease" → word ≢ codes "done" → word ≢ codes "abandon" → word ≢ codes "revoke" → word ≢ codes "fail" → word ≢ codes "down" → word ≢ codes "up" → word ≢ codes "join" → words_cause (words_of line) ≡ Some UnknownWord
+words_cause-unknown line word rest cut no_place no_drop no_lease no_done no_abandon no_revoke no_fail no_down no_up no_join =
+    ap words_cause (words_of-cut line word rest cut) ∙ ap (form_cause (words_behind rest)) (form_of-none word no_place no_drop no_lease no_done no_abandon no_revoke no_fail no_down no_up no_join)
 
 -- ---- lines
 

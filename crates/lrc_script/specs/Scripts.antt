@@ -1,10 +1,10 @@
 -- Script lines: which command a line is, and why a line is bad.
 use Rattle.std.specs.Prelude.{◌≡◌, ℕ, ◌+◌, ◌<◌, ◌≤◌, Bool, not, ◌&&◌, ◌||◌, if◌then◌else◌, nat_lt, nat_eq, List, [], ◌∷◌, ◌++◌, length, map, filter, find, All, slice_index, codes, decimal, Option, Some, None, option_map, IsSomeAnd, slice_get, take}
-use Rattle.std.specs.List.{slice_split, list_all, starts_with}
+use Rattle.std.specs.List.{slice_split, list_all, starts_with, join_with_byte}
 use Rattle.std.specs.Char.{is_ascii_digit}
 use Rattle.std.specs.Str.Parse.{digits_value}
 use Rattle.lrc_book.specs.declared.command.Command.{Command}
-use Rattle.lrc_book.specs.declared.command.Command.TheVariants.{Place, Drop, Fail, Down, Up, Join}
+use Rattle.lrc_book.specs.declared.command.Command.TheVariants.{Place, Drop, Lease, Done, Abandon, Revoke, Fail, Down, Up, Join}
 use Rattle.lrc_script.specs.declared.script.Cause.{Cause}
 use Rattle.lrc_script.specs.declared.script.ScriptError.{ScriptError}
 use Rattle.lrc_script.specs.declared.script.ScriptError.TheVariants.{Bad, OutOfMemory}
@@ -20,19 +20,31 @@ lines_of bytes = slice_split (λ b. nat_eq b 10) bytes
 abbrev pub is_passed_over : List ℕ → Bool
 is_passed_over line = nat_eq (length line) 0 || nat_eq (slice_index line 0) 35
 
+-- numbers, parted by one space each
+abbrev pub numbers_text : List ℕ → List ℕ
+numbers_text numbers = join_with_byte 32 (map decimal numbers)
+
 -- the line of a command
 abbrev pub command_line : Command → List ℕ
 command_line (Place s) = codes "place " ++ decimal s.value
 command_line (Drop s) = codes "drop " ++ decimal s.value
+command_line (Lease s f) = codes "lease " ++ numbers_text (s.value ∷ f.value ∷ [])
+command_line (Done s f e) = codes "done " ++ numbers_text (s.value ∷ f.value ∷ e ∷ [])
+command_line (Abandon s f e) = codes "abandon " ++ numbers_text (s.value ∷ f.value ∷ e ∷ [])
+command_line (Revoke s f) = codes "revoke " ++ numbers_text (s.value ∷ f.value ∷ [])
 command_line (Fail n) = codes "fail " ++ decimal n.value
 command_line (Down n) = codes "down " ++ decimal n.value
 command_line (Up n) = codes "up " ++ decimal n.value
 command_line (Join n) = codes "join " ++ decimal n.value
 
--- a command's node has a number below 65,536; that of a stripe is in its range by its type
+-- a command's node has a number below 65,536, and its epoch is below 4,294,967,296; those of a stripe and a fragment are in their range by their types
 abbrev pub IsInRange : Command → Type 0
 IsInRange (Place s) = Unit {0}
 IsInRange (Drop s) = Unit {0}
+IsInRange (Lease s f) = Unit {0}
+IsInRange (Done s f e) = e < 4294967296
+IsInRange (Abandon s f e) = e < 4294967296
+IsInRange (Revoke s f) = Unit {0}
 IsInRange (Fail n) = n.value < 65536
 IsInRange (Down n) = n.value < 65536
 IsInRange (Up n) = n.value < 65536
@@ -53,8 +65,11 @@ pub record Form : Type 0 where
 
 abbrev pub forms : List Form
 forms =
-    record { word = codes "place"; bounds = 4096 ∷ [] } ∷ record { word = codes "drop"; bounds = 4096 ∷ [] } ∷ record { word = codes "fail"; bounds = 65536 ∷ [] }
-    ∷ record { word = codes "down"; bounds = 65536 ∷ [] } ∷ record { word = codes "up"; bounds = 65536 ∷ [] } ∷ record { word = codes "join"; bounds = 65536 ∷ [] } ∷ []
+    record { word = codes "place"; bounds = 4096 ∷ [] } ∷ record { word = codes "drop"; bounds = 4096 ∷ [] }
+    ∷ record { word = codes "lease"; bounds = 4096 ∷ 16 ∷ [] } ∷ record { word = codes "done"; bounds = 4096 ∷ 16 ∷ 4294967296 ∷ [] }
+    ∷ record { word = codes "abandon"; bounds = 4096 ∷ 16 ∷ 4294967296 ∷ [] } ∷ record { word = codes "revoke"; bounds = 4096 ∷ 16 ∷ [] }
+    ∷ record { word = codes "fail"; bounds = 65536 ∷ [] } ∷ record { word = codes "down"; bounds = 65536 ∷ [] }
+    ∷ record { word = codes "up"; bounds = 65536 ∷ [] } ∷ record { word = codes "join"; bounds = 65536 ∷ [] } ∷ []
 
 -- the two texts are one
 abbrev pub same_text : List ℕ → List ℕ → Bool
@@ -85,10 +100,14 @@ arguments_cause _ _ = None
 abbrev pub words_of : List ℕ → List (List ℕ)
 words_of line = slice_split (λ b. nat_eq b 32) line
 
+-- the cause of words that are to be as many numbers as these bounds, each below its bound
+abbrev pub numbers_cause : List (List ℕ) → List ℕ → Option Cause
+numbers_cause words bounds = if nat_eq (length words) (length bounds) then arguments_cause words bounds else Some WordCount
+
 -- the cause of a line with these words behind the first
 abbrev pub form_cause : List (List ℕ) → Option Form → Option Cause
 form_cause words None = Some UnknownWord
-form_cause words (Some form) = if nat_eq (length words) (length form.bounds) then arguments_cause words form.bounds else Some WordCount
+form_cause words (Some form) = numbers_cause words form.bounds
 
 abbrev pub words_cause : List (List ℕ) → Option Cause
 words_cause [] = Some UnknownWord

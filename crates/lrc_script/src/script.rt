@@ -2,13 +2,13 @@ ghost use Rattle.std.specs.Prelude.{◌≡◌, ◌≢◌, ℕ, ◌+◌, ◌^◌,
 ghost use Rattle.std.specs.Char.{is_ascii_digit};
 ghost use Rattle.std.specs.List.{list_all};
 ghost use Rattle.std.specs.Result.{result_err};
-ghost use Rattle.lrc_script.specs.Scripts.{lines_of, words_of, is_passed_over, is_number, command_line, IsInRange, IsScript, argument_cause, words_cause, cause_of, first_bad, IsFirstBad};
+ghost use Rattle.lrc_script.specs.Scripts.{lines_of, words_of, is_passed_over, is_number, command_line, IsInRange, IsScript, argument_cause, numbers_cause, words_cause, cause_of, first_bad, IsFirstBad};
 ghost use Rattle.lrc_script.specs.Cuts.{words_behind, IsReadAs};
 ghost use Rattle.lrc_script.specs.declared.script.Cause.TheVariants as causes;
 
 use crate::cut::cut;
 use lrc_book::Command;
-use lrc_code::{NodeNo, StripeNo};
+use lrc_code::{Fragment, NodeNo, StripeNo};
 use std::alloc::{AllocError, AllocFailed, Global};
 use thiserror::Error;
 
@@ -125,6 +125,18 @@ fn parse_command(line: &[u8]) -> Result<Command, Cause>
         Ok(Command::Place(parse_stripe(only_word(rest)?)?))
     } else if word == b"drop".as_slice() {
         Ok(Command::Drop(parse_stripe(only_word(rest)?)?))
+    } else if word == b"lease".as_slice() {
+        let (stripe, fragment) = parse_pair(rest)?;
+        Ok(Command::Lease(stripe, fragment))
+    } else if word == b"done".as_slice() {
+        let (stripe, fragment, epoch) = parse_report(rest)?;
+        Ok(Command::Done(stripe, fragment, epoch))
+    } else if word == b"abandon".as_slice() {
+        let (stripe, fragment, epoch) = parse_report(rest)?;
+        Ok(Command::Abandon(stripe, fragment, epoch))
+    } else if word == b"revoke".as_slice() {
+        let (stripe, fragment) = parse_pair(rest)?;
+        Ok(Command::Revoke(stripe, fragment))
     } else if word == b"fail".as_slice() {
         Ok(Command::Fail(parse_node(only_word(rest)?)?))
     } else if word == b"down".as_slice() {
@@ -150,6 +162,51 @@ fn only_word(rest: Option<&[u8]>) -> Result<&[u8], Cause>
     }
 }
 
+/// The two words that a command has behind its first.
+fn two_words(rest: Option<&[u8]>) -> Result<(&[u8], &[u8]), Cause>
+    ensures ok { IfOk result (λ words. words_behind rest.entry ≡ words.0.now ∷ words.1.now ∷ []) }
+    ensures err { IfErr result (λ e. (e ≡ causes.WordCount) × (length (words_behind rest.entry) ≢ 2)) }
+{
+    let rest = rest.ok_or(Cause::WordCount)?;
+    let (first, behind) = cut(rest, b' ');
+    let second = only_word(behind)?;
+    Ok((first, second))
+}
+
+/// The three words that a command has behind its first.
+fn three_words(rest: Option<&[u8]>) -> Result<(&[u8], &[u8], &[u8]), Cause>
+    ensures ok { IfOk result (λ words. words_behind rest.entry ≡ words.0.now ∷ words.1.now ∷ words.2.now ∷ []) }
+    ensures err { IfErr result (λ e. (e ≡ causes.WordCount) × (length (words_behind rest.entry) ≢ 3)) }
+{
+    let rest = rest.ok_or(Cause::WordCount)?;
+    let (first, behind) = cut(rest, b' ');
+    let (second, third) = two_words(behind)?;
+    Ok((first, second, third))
+}
+
+/// The stripe and the fragment that a command has behind its first word.
+fn parse_pair(rest: Option<&[u8]>) -> Result<(StripeNo, Fragment), Cause>
+    ensures numbers { IfOk result (λ p. words_behind rest.entry ≡ decimal p.0.value ∷ decimal p.1.value ∷ []) }
+    ensures cause { result_err result ≡ numbers_cause (words_behind rest.entry) (4096 ∷ 16 ∷ []) }
+{
+    let (stripe, fragment) = two_words(rest)?;
+    let stripe = parse_stripe(stripe)?;
+    let fragment = parse_fragment(fragment)?;
+    Ok((stripe, fragment))
+}
+
+/// The stripe, the fragment and the epoch that a command has behind its first word.
+fn parse_report(rest: Option<&[u8]>) -> Result<(StripeNo, Fragment, u32), Cause>
+    ensures numbers { IfOk result (λ r. (r.2 < 4294967296) × (words_behind rest.entry ≡ decimal r.0.value ∷ decimal r.1.value ∷ decimal r.2 ∷ [])) }
+    ensures cause { result_err result ≡ numbers_cause (words_behind rest.entry) (4096 ∷ 16 ∷ 4294967296 ∷ []) }
+{
+    let (stripe, fragment, epoch) = three_words(rest)?;
+    let stripe = parse_stripe(stripe)?;
+    let fragment = parse_fragment(fragment)?;
+    let epoch = parse_epoch(epoch)?;
+    Ok((stripe, fragment, epoch))
+}
+
 fn parse_stripe(word: &[u8]) -> Result<StripeNo, Cause>
     ensures number { IfOk result (λ stripe. word.now ≡ decimal stripe.value) }
     ensures cause { result_err result ≡ argument_cause word.now 4096 }
@@ -164,6 +221,22 @@ fn parse_node(word: &[u8]) -> Result<NodeNo, Cause>
 {
     let number = argument(word, 65536)?;
     Ok(NodeNo::new(number as u16).unwrap())
+}
+
+fn parse_fragment(word: &[u8]) -> Result<Fragment, Cause>
+    ensures number { IfOk result (λ fragment. word.now ≡ decimal fragment.value) }
+    ensures cause { result_err result ≡ argument_cause word.now 16 }
+{
+    let number = argument(word, 16)?;
+    Ok(Fragment::new(number as u8).unwrap())
+}
+
+fn parse_epoch(word: &[u8]) -> Result<u32, Cause>
+    ensures number { IfOk result (λ epoch. (epoch < 4294967296) × (word.now ≡ decimal epoch)) }
+    ensures cause { result_err result ≡ argument_cause word.now 4294967296 }
+{
+    let number = argument(word, 4294967296)?;
+    Ok(number as u32)
 }
 
 /// The number that a word is the decimal text of, without leading zeros, if it is below the bound.

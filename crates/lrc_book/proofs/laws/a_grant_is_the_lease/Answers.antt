@@ -1,5 +1,4 @@
-use Rattle.std.proofs.Common.{refl, ap}
-use Rattle.lrc_code.specs.declared.numbers.StripeNo.{StripeNo}
+use Rattle.std.proofs.Common.{ap}
 use Rattle.lrc_leases.specs.declared.lease.Lease.{Lease}
 use Rattle.lrc_book.proofs.ChoiceLemmas.{chosen-choice}
 use Rattle.lrc_book.proofs.LeaseLawLemmas.{lease-new}
@@ -10,8 +9,7 @@ returns-clause-live c = λ nodes past st session s f l k told. (lease-new nodes 
 
 pub returns-clause-own : goal.returns-clause-own
 returns-clause-own c = λ nodes past st session s f l k told.
-    let new = lease-new nodes past st session s f l k told in
-    (
+    let new = lease-new nodes past st session s f l k told in (
       ap (λ (x : Lease). x.stripe) new.own,
       ap (λ (x : Lease). x.fragment) new.own,
       ap (λ (x : Lease). x.holder) new.own,

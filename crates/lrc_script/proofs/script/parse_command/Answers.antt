@@ -1,5 +1,5 @@
 use Rattle.std.proofs.Common.{rules, sym, codes}
-use Rattle.lrc_script.proofs.ScriptLemmas.{line-one, words_cause-unknown}
+use Rattle.lrc_script.proofs.ScriptLemmas.{line-one, line-two, line-three, words_cause-unknown}
 use Rattle.lrc_script.proofs.script.parse_command.Goals as goal
 
 pub returns-in_ok-parse_stripe-clause-command : goal.returns-in_ok-parse_stripe-clause-command
@@ -26,6 +26,22 @@ pub returns-in_ok-parse_node-4-clause-command : goal.returns-in_ok-parse_node-4-
 returns-in_ok-parse_node-4-clause-command c =
     (c.in_ok-parse_node-4.ensures.number.0, line-one c.args.line.now c.cut.result.0.now c.in_ok-only_word-6.field-0.now (codes "join") _ c.cut.result.1 c.cut.ensures c.in_ok-only_word-6.ensures.ok (search rules) c.in_ok-parse_node-4.ensures.number.1)
 
-pub returns-else-eq-6-clause-cause : goal.returns-else-eq-6-clause-cause
-returns-else-eq-6-clause-cause c =
-    sym (words_cause-unknown c.args.line.now c.cut.result.0.now c.cut.result.1 c.cut.ensures (search rules) (search rules) (search rules) (search rules) (search rules) (search rules))
+pub returns-in_ok-stripe-clause-command : goal.returns-in_ok-stripe-clause-command
+returns-in_ok-stripe-clause-command c =
+    (tt, line-two c.args.line.now c.cut.result.0.now _ _ (codes "lease") c.cut.result.1 c.cut.ensures c.in_ok-stripe.ensures.numbers (search rules))
+
+pub returns-in_ok-stripe-2-clause-command : goal.returns-in_ok-stripe-2-clause-command
+returns-in_ok-stripe-2-clause-command c =
+    (c.in_ok-stripe-2.ensures.numbers.0, line-three c.args.line.now c.cut.result.0.now _ _ _ (codes "done") c.cut.result.1 c.cut.ensures c.in_ok-stripe-2.ensures.numbers.1 (search rules))
+
+pub returns-in_ok-stripe-3-clause-command : goal.returns-in_ok-stripe-3-clause-command
+returns-in_ok-stripe-3-clause-command c =
+    (c.in_ok-stripe-3.ensures.numbers.0, line-three c.args.line.now c.cut.result.0.now _ _ _ (codes "abandon") c.cut.result.1 c.cut.ensures c.in_ok-stripe-3.ensures.numbers.1 (search rules))
+
+pub returns-in_ok-stripe-4-clause-command : goal.returns-in_ok-stripe-4-clause-command
+returns-in_ok-stripe-4-clause-command c =
+    (tt, line-two c.args.line.now c.cut.result.0.now _ _ (codes "revoke") c.cut.result.1 c.cut.ensures c.in_ok-stripe-4.ensures.numbers (search rules))
+
+pub returns-else-eq-10-clause-cause : goal.returns-else-eq-10-clause-cause
+returns-else-eq-10-clause-cause c =
+    sym (words_cause-unknown c.args.line.now c.cut.result.0.now c.cut.result.1 c.cut.ensures (search rules) (search rules) (search rules) (search rules) (search rules) (search rules) (search rules) (search rules) (search rules) (search rules))
