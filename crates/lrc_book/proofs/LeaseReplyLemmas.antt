@@ -1,5 +1,5 @@
 -- The replies to the commands of leases, case by case.
-use Rattle.std.proofs.Common.{◌≡◌, ℕ, Bool, true, false, not, ◌&&◌, nat_eq, if◌then◌else◌, lt-ltb, List, Option, Some, None, is_none, IsSome, refl, sym, ap, ap₂, ◌∙◌, subst}
+use Rattle.std.proofs.Common.{◌≡◌, ℕ, Bool, true, false, not, ◌&&◌, nat_eq, if◌then◌else◌, lt-ltb, List, Option, Some, None, is_none, is_some, IsSome, refl, sym, ap, ap₂, ◌∙◌, subst}
 use Rattle.std.specs.Option.{option_map_or}
 use Rattle.std.proofs.lemmas.Option.{same_Some}
 use Rattle.lrc_code.specs.declared.numbers.StripeNo.{StripeNo}
@@ -28,6 +28,14 @@ use Rattle.lrc_book.proofs.NodeLemmas.{member-node_at}
 use Rattle.lrc_book.proofs.EndLemmas.{target-node}
 
 -- ---- Lease
+
+pub some-home : (o : Option Seat) → is_some o ≡ true → (seat : Seat) × (o ≡ Some seat)
+some-home (Some seat) e = (seat, refl)
+some-home None e = absurd (cc)
+
+pub no-home : (o : Option Seat) → is_some o ≡ false → o ≡ None
+no-home None e = refl
+no-home (Some seat) e = absurd (cc)
 
 lost-by : (b : Bool) (k : Kind) → (if b then None else Some k) ≡ None → b ≡ true
 lost-by true k e = refl

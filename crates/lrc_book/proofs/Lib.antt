@@ -36,3 +36,4 @@ pub mod BesideLemmas
 pub mod LeaseToldLemmas
 pub mod RepairLemmas
 pub mod LeaseReplyLemmas
+pub mod OpeningLemmas

@@ -61,11 +61,15 @@ module _ (nodes : List NodeInfo) (st : State) (s : StripeNo) where
           by-whole (is_local Wide (missing nodes st s) f) (is_recoverable Wide (missing nodes st s)) (sym (ap (λ (m : FragmentSet). local_sources Wide m f) mask-set) ∙ none)
           ∙ ap (λ b. if b then Some Global else None) (sym (ap (is_recoverable Wide) mask-set) ∙ able)
 
+  masked : Bool → Option LossMask
+  masked there = if there then Some (record { bits = bits_of Wide (missing nodes st s) }) else None
+
+  none-masked : (there : Bool) → None ≡ masked there → there ≡ false
+  unfolding masked
+  none-masked false e = refl
+  none-masked true e = absurd (cc)
+
   -- a stripe without a mask is not there
   pub unmasked : None ≡ missing_if (has_stripe st s) Wide (online_at nodes st) (homes_of st.homes s) → has_stripe st s ≡ false
-  unfolding missing_if
-  unmasked none = by (has_stripe st s) none
-    where
-      by : (b : Bool) → None ≡ (if b then Some (record { bits = bits_of Wide (missing nodes st s) }) else None) → b ≡ false
-      by false e = refl
-      by true e = absurd (cc)
+  unfolding missing_if masked
+  unmasked none = none-masked (has_stripe st s) none

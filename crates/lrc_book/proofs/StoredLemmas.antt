@@ -199,9 +199,3 @@ module _ (nodes : List NodeInfo) (st : State) (spare : ℕ) (seat : Seat) where
   pub stored-apart : All (λ a. a ≢ seat) (taken_seats st) → HasNoHome (stored_of nodes st spare) seat
   stored-apart apart = stored-free (λ h here. All-contains (λ a. a ≢ seat) (taken_seats st) h.seat apart
       (map-member (λ (g : Held). g.seat) (seats_of st) h (Contains-append_left st.homes (map held_by st.leases) h here)))
-
--- ---- the opening state
-
-at-opening : (o : Option NodeInfo) → is_some o ≡ option_map_or (is_online opening) o false
-at-opening None = refl
-at-opening (Some n) = refl

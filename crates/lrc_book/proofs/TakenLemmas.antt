@@ -17,7 +17,7 @@ use Rattle.lrc_topology.specs.Nodes.{AreNodes, node_at}
 use Rattle.lrc_topology.specs.Seats.{load_of, is_seat, is_taken}
 use Rattle.lrc_slots.specs.Slots.{Slots, with_taken, with_free, load_at, taken_count}
 use Rattle.lrc_leases.specs.declared.lease.Lease.{Lease}
-use Rattle.lrc_book.specs.States.{State, opening, held_by, seats_of, taken_seats, takes_seats}
+use Rattle.lrc_book.specs.States.{State, held_by, seats_of, taken_seats}
 use Rattle.lrc_book.specs.Goodness.{AreSeated}
 use Rattle.lrc_book.specs.Ties.{table_of}
 use Rattle.lrc_book.proofs.MemberLemmas.{map-member, Contains-here, Contains-later, Contains-cases, not-Contains-nil}
@@ -142,9 +142,3 @@ module _ (nodes : List NodeInfo) (known : AreNodes nodes) (before after : State)
 
   pub load-falls : IsSome (node_at nodes n) → load_of (taken_seats after) n < load_of (taken_seats before) n → load_at (table_of nodes after) n < load_at (table_of nodes before) n
   load-falls some falls = at-node (node_at nodes n) refl some falls
-
--- ---- the opening state
-
-at-opening : (o : Option NodeInfo) → true ≡ option_map_or (takes_seats opening) o true
-at-opening None = refl
-at-opening (Some n) = refl

@@ -1,4 +1,4 @@
-use Rattle.std.proofs.Common.{◌≡◌, ◌<◌, List, Option, Some, take, length, option_map, sym, ap, ap₂, subst, refl, arith, ◌∙◌}
+use Rattle.std.proofs.Common.{◌≡◌, ◌<◌, List, Option, take, get_or, length, option_map, sym, ap, ap₂, subst, refl, arith, ◌∙◌}
 use Rattle.std.proofs.lemmas.List.{take_all}
 use Rattle.lrc_code.specs.declared.codes.Code.TheVariants.{Wide}
 use Rattle.lrc_code.specs.declared.numbers.Fragment.{Fragment}
@@ -8,8 +8,6 @@ use Rattle.lrc_leases.specs.declared.lease.Lease.{Lease}
 use Rattle.lrc_stripes.specs.Stored.{Stored}
 use Rattle.lrc_slots.specs.Barred.{Barred}
 use Rattle.lrc_slots.specs.Tables.{barred}
-use Rattle.lrc_stripes.specs.Levels.{homes_of}
-use Rattle.lrc_book.specs.States.{lease_of}
 use Rattle.lrc_book.specs.Ties.{bars_in, bars_of}
 use Rattle.lrc_book.specs.Stores.{with_seat}
 use Rattle.lrc_book.proofs.EndLemmas.{lease-kept}
@@ -23,16 +21,14 @@ pub loop-other-preserved : goal.loop-other-preserved
 loop-other-preserved c =
     let i = c.loop-other.other-index in
     let long : length c.all.result ≡ 16 = rw c.loop-other.invariant.all refl in
-    let nodes = c.args.self.now.topology in record {
+    let nodes = c.args.self.now.topology in
+    let other = get_or c.all.result i c.other-item.result in record {
       barred_are = λ st kept.
           c.bar_seat-in-loop-other.ensures
-          ∙ ap₂ (λ (b : Barred) (o : Option Seat). with_seat nodes c.args.stripe c.args.fragment b c.other-item.result o)
-          (c.bar_seat.ensures ∙ ap₂ (λ (b : Barred) (o : Option Seat). with_seat nodes c.args.stripe c.args.fragment b c.other-item.result o) (c.loop-other.invariant.barred_are st kept)
-          (c.home-home.ensures ∙ ap (λ (x : Stored). x.homes c.args.stripe c.other-item.result.value) kept.stripes_is))
-          (c.target-target.ensures ∙ ap (option_map (λ (l : Lease). l.target)) (lease-kept st c.args.self.now kept c.args.stripe c.other-item.result))
-          ∙ ap (λ (g : Fragment). with_seat nodes c.args.stripe c.args.fragment
-          (with_seat nodes c.args.stripe c.args.fragment (bars_in nodes Wide c.args.stripe c.args.fragment (gathered st c.args.stripe (take i c.all.result))) g (homes_of st.homes c.args.stripe g.value)) g
-          (option_map (λ (l : Lease). l.target) (lease_of st c.args.stripe g))) c.other-item.is
+          ∙ ap₂ (λ (b : Barred) (o : Option Seat). with_seat nodes c.args.stripe c.args.fragment b other o)
+          (c.bar_seat.ensures ∙ ap₂ (λ (b : Barred) (o : Option Seat). with_seat nodes c.args.stripe c.args.fragment b other o) (c.loop-other.invariant.barred_are st kept)
+          (c.home-home.ensures ∙ ap (λ (x : Stored). x.homes c.args.stripe other.value) kept.stripes_is))
+          (c.target-target.ensures ∙ ap (option_map (λ (l : Lease). l.target)) (lease-kept st c.args.self.now kept c.args.stripe other))
           ∙ gathered-more nodes st c.args.stripe c.args.fragment c.all.result i c.other-item.result (omega (arith, long));
       all = c.loop-other.invariant.all;
     }

@@ -1,4 +1,6 @@
+use Rattle.std.proofs.Common.{◌≡◌, refl, sym, ap, subst, ◌∙◌}
+use Rattle.lrc_book.proofs.OpeningLemmas.{opening-kept}
 use Rattle.lrc_book.proofs.store.Store.new.Goals as goal
 
 pub returns-clause-value : goal.returns-clause-value
-returns-clause-value c = ?
+returns-clause-value c = (?, opening-kept _ ? ? ? ? ? ?)
