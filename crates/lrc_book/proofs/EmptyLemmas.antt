@@ -188,8 +188,8 @@ module _ (st : State) (n : NodeNo) (k : Store) (so_far : IsEmptying st n k) wher
     not-both l h keeps goes =
         let mine = home_is-parts s f.value h (not-false _ goes) in
         false_from_ne_true (is_home_of l.stripe l.fragment h && stands_on n h) (λ hit. (
-            let own = home_is-parts l.stripe l.fragment.value h (and_parts (is_home_of l.stripe l.fragment h) (stands_on n h) hit).0 in
-            let both : true ≡ false = sym keeps ∙ ap not (is_of-from s f.value l (sym own.0 ∙ mine.0) (sym own.1 ∙ mine.1)) in cc))
+        let own = home_is-parts l.stripe l.fragment.value h (and_parts (is_home_of l.stripe l.fragment h) (stands_on n h) hit).0 in
+        let both : true ≡ false = sym keeps ∙ ap not (is_of-from s f.value l (sym own.0 ∙ mine.0) (sym own.1 ∙ mine.1)) in cc))
 
     hangs-same : (l : Lease) → stays l ≡ true → hangs_on (record st { homes = filter others so_far.held }) n l ≡ hangs_on (record st { homes = so_far.held }) n l
     hangs-same l keeps = ap (λ b. is_target_on n l || b) (any-skips (λ h. is_home_of l.stripe l.fragment h && stands_on n h) others so_far.held (λ h goes. not-both l h keeps goes))
@@ -259,8 +259,11 @@ module _ (st : State) (n : NodeNo) (k : Store) (so_far : IsEmptying st n k) wher
   none-hangs : AreHomesOn (stored_in k.stripes) n [] → All (λ l. not (hangs_on (record st { homes = so_far.held }) n l) ≡ true) so_far.live
   none-hangs on =
       All-weaker (λ l. not (is_target_on n l) ≡ true) (λ l. not (hangs_on (record st { homes = so_far.held }) n l) ≡ true)
-      (λ l apart. rw (not-true _ apart, list_any-All (λ h. is_home_of l.stripe l.fragment h && stands_on n h) so_far.held
-      (All-weaker (λ h. not (stands_on n h) ≡ true) (λ h. (is_home_of l.stripe l.fragment h && stands_on n h) ≡ false) (λ h off. rw (not-true _ off) (and_right (is_home_of l.stripe l.fragment h) false refl)) so_far.held (none-left on))) refl)
+      (λ l apart. rw (
+        not-true _ apart,
+        list_any-All (λ h. is_home_of l.stripe l.fragment h && stands_on n h) so_far.held
+            (All-weaker (λ h. not (stands_on n h) ≡ true) (λ h. (is_home_of l.stripe l.fragment h && stands_on n h) ≡ false) (λ h off. rw (not-true _ off) (and_right (is_home_of l.stripe l.fragment h) false refl)) so_far.held (none-left on)),
+      ) refl)
       so_far.live so_far.apart
 
   -- the node is empty

@@ -101,8 +101,8 @@ table-less nodes st a next up down =
           | inl same ↦ rw (there, same, miss) refl
           | inr other ↦ absurd (
               let e : seat_on n k ≢ a = λ same. (
-                  let hit : is_seat a.node a.slot n k ≡ true = subst (λ (b : Seat). is_seat b.node b.slot n k ≡ true) same (rw (eq-eqb n.value n.value refl, eq-eqb k k refl) refl) in
-                  let both : true ≡ false = sym hit ∙ other in cc) in
+              let hit : is_seat a.node a.slot n k ≡ true = subst (λ (b : Seat). is_seat b.node b.slot n k ≡ true) same (rw (eq-eqb n.value n.value refl, eq-eqb k k refl) refl) in
+              let both : true ≡ false = sym hit ∙ other in cc) in
               let hit = member-taken next n k (up (seat_on n k) (taken-member (taken_seats st) n k there) e) in
               let both : true ≡ false = sym hit ∙ miss in cc)
         ]

@@ -28,9 +28,7 @@ impl Book {
         if self.history.len() == self.limit {
             return Err(Fault::HistoryFull);
         }
-        let reply = self
-            .store
-            .reply(self.history.as_slice(), session, command);
+        let reply = self.store.reply(self.history.as_slice(), session, command);
         Ok(Plan {
             entry: Entry {
                 session,

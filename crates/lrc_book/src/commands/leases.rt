@@ -129,7 +129,11 @@ impl Store {
         ensures { (st : State) → IsOf st self.now → result ≡ at_epoch epoch (lease_of st stripe fragment) }
     {
         let lease = self.leases.lease(stripe, fragment)?;
-        if lease.epoch == epoch { Some(lease) } else { None }
+        if lease.epoch == epoch {
+            Some(lease)
+        } else {
+            None
+        }
     }
 
     /// Ends the lease of a fragment: its home, if it has one, is cleared and the seat given back, and the target,
