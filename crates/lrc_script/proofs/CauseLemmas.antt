@@ -106,10 +106,10 @@ of_node_line : (word : List ℕ) (n : NodeNo) → n.value < 65536 → length wor
     → cause_of (word ++ 32 ∷ decimal n.value) ≡ None
 of_node_line word n small = good_line word n.value [] (65536 ∷ []) ((small, lit≤ tt), tt)
 
-below_pair : (s : StripeNo) (f : Fragment) → AreBelow (s.value ∷ f.value ∷ []) (4096 ∷ 16 ∷ [])
+pub below_pair : (s : StripeNo) (f : Fragment) → AreBelow (s.value ∷ f.value ∷ []) (4096 ∷ 16 ∷ [])
 below_pair s f = ((s.in_range, lit≤ tt), ((f.in_range, lit≤ tt), tt))
 
-below_report : (s : StripeNo) (f : Fragment) (e : ℕ) → e < 4294967296 → AreBelow (s.value ∷ f.value ∷ e ∷ []) (4096 ∷ 16 ∷ 4294967296 ∷ [])
+pub below_report : (s : StripeNo) (f : Fragment) (e : ℕ) → e < 4294967296 → AreBelow (s.value ∷ f.value ∷ e ∷ []) (4096 ∷ 16 ∷ 4294967296 ∷ [])
 below_report s f e small = ((s.in_range, lit≤ tt), ((f.in_range, lit≤ tt), ((small, lit≤ tt), tt)))
 
 pub cause_of-command_line : (command : Command) → IsInRange command → cause_of (command_line command) ≡ None

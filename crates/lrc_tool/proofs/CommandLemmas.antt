@@ -6,12 +6,13 @@ use Rattle.std.proofs.lemmas.List.Elements.{All-nil, All-cons, All-head, All-tai
 use Rattle.std.proofs.lemmas.Fmt.{decimal_injective}
 use Rattle.lrc_code.specs.declared.numbers.StripeNo.{StripeNo}
 use Rattle.lrc_code.specs.declared.numbers.NodeNo.{NodeNo}
-use Rattle.lrc_code.proofs.NumbersLemmas.{equal_stripes, equal_nodes}
+use Rattle.lrc_code.specs.declared.numbers.Fragment.{Fragment}
+use Rattle.lrc_code.proofs.NumbersLemmas.{equal_stripes, equal_nodes, equal_fragments}
 use Rattle.lrc_book.specs.declared.command.Command.{Command}
-use Rattle.lrc_book.specs.declared.command.Command.TheVariants.{Place, Drop, Fail, Down, Up, Join}
-use Rattle.lrc_script.specs.Scripts.{is_passed_over, command_line, IsInRange, IsScript, BadLine, or_else, first_bad, cause_of}
+use Rattle.lrc_book.specs.declared.command.Command.TheVariants.{Place, Drop, Lease, Done, Abandon, Revoke, Fail, Down, Up, Join}
+use Rattle.lrc_script.specs.Scripts.{is_passed_over, numbers_text, words_of, command_line, IsInRange, IsScript, BadLine, or_else, first_bad, cause_of}
 use Rattle.lrc_script.specs.Bundles.{Script}
-use Rattle.lrc_script.proofs.CauseLemmas.{cause_of-good}
+use Rattle.lrc_script.proofs.CauseLemmas.{cause_of-good, AreBelow, words_of-numbers, below_pair, below_report}
 use Rattle.lrc_script.proofs.LineLemmas.{cause_of-short}
 use Rattle.lrc_script.proofs.FirstLemmas.{first_bad-none}
 use Rattle.lrc_tool.specs.Outputs.{first_bad_of, AreCommandsOf}
@@ -27,14 +28,48 @@ same_stripe s t e =
 same_node : (m n : NodeNo) → m.value < 65536 → n.value < 65536 → decimal m.value ≡ decimal n.value → m ≡ n
 same_node m n a b e = equal_nodes m n (decimal_injective m.value n.value (omega (arith, a)) (omega (arith, b)) e)
 
--- the first two letters of a line, as one number
+-- rows of numbers with one text are one row
+same_words : (m n : ℕ) (ms ns bounds : List ℕ) → AreBelow (m ∷ ms) bounds → AreBelow (n ∷ ns) bounds → numbers_text (m ∷ ms) ≡ numbers_text (n ∷ ns) → map decimal (m ∷ ms) ≡ map decimal (n ∷ ns)
+same_words m n ms ns bounds a b e = sym (words_of-numbers m ms bounds a) ∙ ap words_of e ∙ words_of-numbers n ns bounds b
+
+-- the text at this place of a row
+abbrev word_at : ℕ → List (List ℕ) → List ℕ
+word_at i words = get_or words i []
+
+same_fragment : (f g : Fragment) → decimal f.value ≡ decimal g.value → f ≡ g
+same_fragment f g e =
+    let a = f.in_range in
+    let b = g.in_range in
+    equal_fragments f g (decimal_injective f.value g.value (omega (arith, a)) (omega (arith, b)) e)
+
+same_pair : (make : StripeNo → Fragment → Command) (s t : StripeNo) (f g : Fragment) → numbers_text (s.value ∷ f.value ∷ []) ≡ numbers_text (t.value ∷ g.value ∷ []) → make s f ≡ make t g
+same_pair make s t f g e =
+    let words = same_words s.value t.value (f.value ∷ []) (g.value ∷ []) (4096 ∷ 16 ∷ []) (below_pair s f) (below_pair t g) e in
+    let stripes = same_stripe s t (ap (word_at 0) words) in
+    let fragments = same_fragment f g (ap (word_at 1) words) in
+    cc
+
+same_report : (make : StripeNo → Fragment → ℕ → Command) (s t : StripeNo) (f g : Fragment) (m n : ℕ) → m < 4294967296 → n < 4294967296
+    → numbers_text (s.value ∷ f.value ∷ m ∷ []) ≡ numbers_text (t.value ∷ g.value ∷ n ∷ []) → make s f m ≡ make t g n
+same_report make s t f g m n a b e =
+    let words = same_words s.value t.value (f.value ∷ m ∷ []) (g.value ∷ n ∷ []) (4096 ∷ 16 ∷ 4294967296 ∷ []) (below_report s f m a) (below_report t g n b) e in
+    let stripes = same_stripe s t (ap (word_at 0) words) in
+    let fragments = same_fragment f g (ap (word_at 1) words) in
+    let epochs = decimal_injective m n (omega (arith, a)) (omega (arith, b)) (ap (word_at 2) words) in
+    cc
+
+-- the first three letters of a line, as one number
 abbrev letters : List ℕ → ℕ
-letters (x ∷ y ∷ more) = 1000 * x + y
+letters (x ∷ y ∷ z ∷ more) = 1000000 * x + 1000 * y + z
 letters other = 0
 
 same_command : (c d : Command) → IsInRange c → IsInRange d → command_line c ≡ command_line d → c ≡ d
 same_command (Place s) (Place t) a b e = ap Place (same_stripe s t (append_cancel_left (codes "place ") _ _ e))
 same_command (Drop s) (Drop t) a b e = ap Drop (same_stripe s t (append_cancel_left (codes "drop ") _ _ e))
+same_command (Lease s f) (Lease t g) a b e = same_pair Lease s t f g (append_cancel_left (codes "lease ") _ _ e)
+same_command (Done s f m) (Done t g n) a b e = same_report Done s t f g m n a b (append_cancel_left (codes "done ") _ _ e)
+same_command (Abandon s f m) (Abandon t g n) a b e = same_report Abandon s t f g m n a b (append_cancel_left (codes "abandon ") _ _ e)
+same_command (Revoke s f) (Revoke t g) a b e = same_pair Revoke s t f g (append_cancel_left (codes "revoke ") _ _ e)
 same_command (Fail m) (Fail n) a b e = ap Fail (same_node m n a b (append_cancel_left (codes "fail ") _ _ e))
 same_command (Down m) (Down n) a b e = ap Down (same_node m n a b (append_cancel_left (codes "down ") _ _ e))
 same_command (Up m) (Up n) a b e = ap Up (same_node m n a b (append_cancel_left (codes "up ") _ _ e))

@@ -4,7 +4,7 @@ use Rattle.lrc_topology.specs.declared.NodeInfo.{NodeInfo}
 use Rattle.lrc_topology.specs.declared.seat.Seat.{Seat}
 use Rattle.lrc_topology.specs.declared.error.TopologyError.{TopologyError}
 use Rattle.lrc_topology.specs.declared.error.TopologyError.TheVariants.{Syntax, NoNodes, BadField, OutOfRange, DoubleNode, TooMany, OutOfMemory}
-use Rattle.lrc_leases.specs.declared.lease.Lease.{Lease}
+use Rattle.lrc_book.specs.declared.Lease.{Lease}
 use Rattle.lrc_book.specs.declared.entry.Entry.{Entry}
 use Rattle.lrc_book.specs.declared.kind.Kind.{Kind}
 use Rattle.lrc_book.specs.declared.kind.Kind.TheVariants.{Local, Global}
@@ -27,7 +27,7 @@ seat_text seat = decimal seat.node.value ++ codes ":" ++ decimal seat.slot
 abbrev pub spaced : List (List ℕ) → List ℕ
 spaced words = flat_map (λ word. codes " " ++ word) words
 
--- the stripe, fragment, target and epoch of a lease
+-- the stripe, the fragment, the target and the epoch of a lease
 abbrev pub lease_text : Lease → List ℕ
 lease_text lease = decimal lease.stripe.value ++ codes " " ++ decimal lease.fragment.value ++ codes " " ++ seat_text lease.target ++ codes " epoch " ++ decimal lease.epoch
 

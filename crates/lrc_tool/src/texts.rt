@@ -1,10 +1,10 @@
 //! The lines of replies, and those of refusals of input.
 
-ghost use Rattle.std.specs.Prelude.{◌≡◌, ◌++◌, OnOk, string_bytes, codes, map};
-ghost use Rattle.lrc_tool.specs.Texts.{seat_text, spaced, refusal_text, reply_text, reply_line, script_line, topology_line, cause_number, bad_line_text};
+ghost use Rattle.std.specs.Prelude.{◌≡◌, ◌++◌, OnOk, string_bytes, codes, decimal, map};
+ghost use Rattle.lrc_tool.specs.Texts.{seat_text, spaced, lease_text, kind_text, refusal_text, reply_text, reply_line, script_line, topology_line, cause_number, bad_line_text};
 
-use lrc_book::{Refusal, Reply, Seat};
-use lrc_code::SessionNo;
+use lrc_book::{Kind, Lease, Refusal, Reply, Seat};
+use lrc_code::{Fragment, SessionNo};
 use lrc_script::Cause;
 use lrc_topology::TopologyError;
 use std::alloc::AllocError;
@@ -26,6 +26,39 @@ fn push_seats(out: &mut String, seats: &[Seat]) -> Result<(), AllocError>
     Ok(())
 }
 
+fn push_lease(out: &mut String, lease: &Lease) -> Result<(), AllocError>
+    ensures { OnOk result (string_bytes out.new ≡ string_bytes out.old ++ lease_text lease.now) }
+{
+    let stripe = lease.stripe.value;
+    let fragment = lease.fragment.value;
+    let node = lease.target.node.value;
+    let slot = lease.target.slot;
+    let epoch = lease.epoch;
+    write!(out, "{stripe} {fragment} {node}:{slot} epoch {epoch}")
+}
+
+fn push_sources(out: &mut String, sources: &[Fragment]) -> Result<(), AllocError>
+    ensures { OnOk result (string_bytes out.new ≡ string_bytes out.old ++ spaced (map (λ f. decimal f.value) sources.now)) }
+{
+    for source in sources {
+        let number = source.value;
+        write!(out, " {number}")?;
+    }
+    Ok(())
+}
+
+fn push_kind(out: &mut String, kind: &Kind) -> Result<(), AllocError>
+    ensures { OnOk result (string_bytes out.new ≡ string_bytes out.old ++ kind_text kind.now) }
+{
+    match kind {
+        Kind::Local(sources) => {
+            out.push_str("local")?;
+            push_sources(out, sources.as_slice())
+        }
+        Kind::Global => out.push_str("global"),
+    }
+}
+
 fn push_refusal(out: &mut String, refusal: &Refusal) -> Result<(), AllocError>
     ensures { OnOk result (string_bytes out.new ≡ string_bytes out.old ++ refusal_text refusal.now) }
 {
@@ -38,6 +71,19 @@ fn push_refusal(out: &mut String, refusal: &Refusal) -> Result<(), AllocError>
         }
         Refusal::UnknownNode => out.push_str("104"),
         Refusal::WrongMode => out.push_str("105"),
+        Refusal::AlreadyLeased(epoch) => write!(out, "110 {epoch}"),
+        Refusal::NotNeeded => out.push_str("111"),
+        Refusal::Unrecoverable => out.push_str("112"),
+        Refusal::Stale => out.push_str("113"),
+        Refusal::NotHolder(holder) => {
+            let number = holder.value;
+            write!(out, "114 {number}")
+        }
+        Refusal::TargetOffline(node) => {
+            let number = node.value;
+            write!(out, "115 {number}")
+        }
+        Refusal::NoLease => out.push_str("116"),
     }
 }
 
@@ -50,6 +96,13 @@ fn push_reply(out: &mut String, reply: &Reply) -> Result<(), AllocError>
             push_seats(out, seats.as_slice())
         }
         Reply::Dropped => out.push_str("dropped"),
+        Reply::Granted(lease, kind) => {
+            out.push_str("granted ")?;
+            push_lease(out, lease)?;
+            out.push_str(" ")?;
+            push_kind(out, kind)
+        }
+        Reply::Ended => out.push_str("ended"),
         Reply::Changed => out.push_str("changed"),
         Reply::Refused(refusal) => {
             out.push_str("refused ")?;
