@@ -1,10 +1,10 @@
 -- The domains that are barred for a fragment, filled seat by seat.
-use Rattle.std.proofs.Common.{◌≡◌, ◌≢◌, ℕ, ◌+◌, ◌<◌, Bool, true, false, ◌||◌, ◌↔◌, inl, inr, List, [], ◌∷◌, ◌++◌, length, take, get_or, refl, sym, ap, ap₂, ◌∙◌}
+use Rattle.std.proofs.Common.{◌≡◌, ◌≢◌, ℕ, ◌+◌, ◌<◌, Bool, true, false, ◌||◌, ◌↔◌, inl, inr, List, [], ◌∷◌, ◌++◌, map, length, take, get_or, refl, sym, ap, ap₂, ◌∙◌}
 use Rattle.std.proofs.Math.Path.{fun_ext}
 use Rattle.std.specs.List.{All, Contains, list_any}
 use Rattle.std.proofs.lemmas.Bool.{eq-eqb, ne_eqb, cases_Bool, and_parts, false_from_ne_true}
 use Rattle.std.proofs.lemmas.List.{take_more}
-use Rattle.std.proofs.lemmas.List.Elements.{All-nil, All-cons, All-head, All-tail, All-weaker, All-contains, Contains-append_right, Contains-append_cases}
+use Rattle.std.proofs.lemmas.List.Elements.{All-nil, All-cons, All-head, All-tail, All-weaker, All-contains, Contains-append_left, Contains-append_right, Contains-append_cases}
 use Rattle.std.proofs.lemmas.List.Folds.{list_any-append}
 use Rattle.lrc_code.specs.declared.codes.Code.{Code}
 use Rattle.lrc_code.specs.declared.numbers.StripeNo.{StripeNo}
@@ -16,11 +16,11 @@ use Rattle.lrc_code.proofs.NumbersLemmas.{equal_fragments}
 use Rattle.lrc_topology.specs.declared.NodeInfo.{NodeInfo}
 use Rattle.lrc_topology.specs.declared.seat.Seat.{Seat}
 use Rattle.lrc_topology.specs.declared.seat.Held.{Held}
-use Rattle.lrc_slots.specs.Barred.{Barred}
-use Rattle.lrc_book.specs.States.{State, has_stripe, seats_of}
+use Rattle.lrc_slots.specs.Barred.{Barred, no_bars}
+use Rattle.lrc_book.specs.States.{State, has_stripe, held_by, seats_of}
 use Rattle.lrc_book.specs.Changes.{held_at}
 use Rattle.lrc_book.specs.Goodness.{AreSeated}
-use Rattle.lrc_book.specs.Ties.{bars_fault, bars_upgrade, bars_in}
+use Rattle.lrc_book.specs.Ties.{with_homes, bars_fault, bars_upgrade, bars_in}
 use Rattle.lrc_book.specs.Stores.{with_held}
 use Rattle.lrc_book.specs.Placement.{is_beside}
 use Rattle.lrc_book.proofs.MemberLemmas.{list_any-member, member-list_any}
@@ -46,9 +46,19 @@ any-members test xs ys down up = elim (cases_Bool (list_any test ys)) [
       let both : true ≡ false = sym there ∙ miss in cc)) ∙ sym miss
 ]
 
+-- ---- what one seat bars
+
+module _ (nodes : List NodeInfo) (code : Code) (s : StripeNo) (f : Fragment) (b : Barred) (h : Held) where
+  -- a seat of the fragment itself, or of another stripe, bars nothing
+  pub held-other : is_beside s f h ≡ false → b ≡ with_held nodes code s f b h
+  held-other e = same_bars b (with_held nodes code s f b h) (λ d. rw e (or_none (b.faults d))) (λ d. rw e (or_none (b.upgrades d)))
+
 -- ---- what several seats bar
 
 module _ (nodes : List NodeInfo) (code : Code) (s : StripeNo) (f : Fragment) where
+  pub bars_in-nil : no_bars ≡ bars_in nodes code s f []
+  bars_in-nil = refl
+
   or_last : (test : Held → Bool) (xs : List Held) (h : Held) → (list_any test xs || test h) ≡ list_any test (xs ++ h ∷ [])
   or_last test xs h = ap (λ b. list_any test xs || b) (or_none (test h)) ∙ sym (list_any-append test xs (h ∷ []))
 
@@ -76,14 +86,22 @@ absent-beside nodes st s f seated e =
 
 -- beside a fragment of a stripe that is not there, there are planned homes alone
 pub planned-alone : (nodes : List NodeInfo) (st : State) (s : StripeNo) (f : Fragment) (planned : List Held) → AreSeated nodes st → has_stripe st s ≡ false
-    → (h : Held) → is_beside s f h ≡ true → Contains planned h ↔ Contains (st.homes ++ planned) h
+    → (h : Held) → is_beside s f h ≡ true → Contains planned h ↔ Contains (seats_of (with_homes st planned)) h
 planned-alone nodes st s f planned good absent h beside = (
-  λ here. Contains-append_right st.homes planned h here,
-  λ here. elim (Contains-append_cases st.homes planned h here) [
-    | inr new ↦ new
-    | inl old ↦ absurd (let none = All-contains (λ g. is_beside s f g ≡ false) st.homes h (absent-beside nodes st s f good absent) old in let both : true ≡ false = sym beside ∙ none in cc)
+  λ here. Contains-append_left (st.homes ++ planned) (map held_by st.leases) h (Contains-append_right st.homes planned h here),
+  λ here. elim (Contains-append_cases (st.homes ++ planned) (map held_by st.leases) h here) [
+    | inr target ↦ none (Contains-append_right st.homes (map held_by st.leases) h target)
+    | inl home ↦ elim (Contains-append_cases st.homes planned h home) [
+      | inr new ↦ new
+      | inl old ↦ none (Contains-append_left st.homes (map held_by st.leases) h old)
+    ]
   ],
 )
+  where
+    none : Contains (seats_of st) h → Contains planned h
+    none old = absurd (
+        let apart = All-contains (λ g. is_beside s f g ≡ false) (seats_of st) h (absent-beside nodes st s f good absent) old in
+        let both : true ≡ false = sym beside ∙ apart in cc)
 
 -- seats of other fragments
 pub held_at-beside : (s : StripeNo) (f : Fragment) (fs : List Fragment) (seats : List Seat) → All (λ g. g ≢ f) fs → All (λ h. is_beside s f h ≡ true) (held_at s fs seats)

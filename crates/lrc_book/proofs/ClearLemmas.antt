@@ -1,11 +1,11 @@
 -- A home that is cleared, and its seat given back.
-use Rattle.std.proofs.Common.{ℕ, IsSomeAnd, ◌+◌, ◌||◌, ◌≡◌, ◌≢◌, ◌<◌, Bool, true, false, not, ◌&&◌, eqb, List, [], ◌∷◌, map, filter, find, Option, Some, None, option_map, refl, sym, ap, ◌∙◌, subst, inl, inr, arith}
-use Rattle.std.specs.List.{All, AllPairs, Contains, count_by, range_with_len}
-use Rattle.std.proofs.Math.Path.{fun_ext}
+use Rattle.std.proofs.Common.{◌≡◌, ◌≢◌, ◌<◌, ◌≤◌, Bool, true, false, not, cond, ◌&&◌, nat_eq, eqb, List, [], ◌∷◌, map, filter, find, Option, Some, None, option_map, IsSome, refl, sym, ap, ◌∙◌, subst, inl, inr, arith}
+use Rattle.std.specs.List.{All, AllPairs, Contains, count_by}
 use Rattle.std.specs.Option.{option_map_or}
 use Rattle.std.proofs.lemmas.Bool.{cases_Bool, eqb-true, eq-eqb, and_parts}
 use Rattle.std.proofs.lemmas.Option.{same_Some}
-use Rattle.std.proofs.lemmas.List.Elements.{All-contains, All-head, All-tail, All-weaker}
+use Rattle.std.proofs.lemmas.List.Elements.{All-contains, Contains-append_left, All-head, All-tail, All-weaker}
+use Rattle.std.proofs.lemmas.List.Sums.{sum_by-cons}
 use Rattle.lrc_code.specs.declared.numbers.StripeNo.{StripeNo}
 use Rattle.lrc_code.specs.declared.numbers.NodeNo.{NodeNo}
 use Rattle.lrc_code.specs.declared.numbers.Fragment.{Fragment}
@@ -13,23 +13,25 @@ use Rattle.lrc_code.proofs.NumbersLemmas.{equal_fragments}
 use Rattle.lrc_topology.specs.declared.NodeInfo.{NodeInfo}
 use Rattle.lrc_topology.specs.declared.seat.Seat.{Seat}
 use Rattle.lrc_topology.specs.declared.seat.Held.{Held}
-use Rattle.lrc_topology.specs.Nodes.{node_at}
-use Rattle.lrc_topology.specs.Seats.{is_taken}
+use Rattle.lrc_topology.specs.Nodes.{AreNodes, node_at}
+use Rattle.lrc_topology.specs.Seats.{load_of, is_taken}
 use Rattle.lrc_slots.specs.Slots.{Slots, with_free, load_at, taken_count}
 use Rattle.lrc_stripes.specs.Levels.{home_of}
 use Rattle.lrc_stripes.specs.Stored.{Stored, StripeFragment, AreHomesOn, is_home_on}
 use Rattle.lrc_stripes.specs.Stored as stored
-use Rattle.lrc_book.specs.States.{State, has_stripe, taken_seats, mode_of}
-use Rattle.lrc_book.specs.declared.mode.Mode.TheVariants.{Gone}
-use Rattle.lrc_book.specs.Goodness.{AreSeated, IsStanding}
+use Rattle.lrc_book.specs.States.{State, has_stripe, held_by, seats_of, taken_seats}
+use Rattle.lrc_book.specs.Steps.{stands_on}
+use Rattle.lrc_book.specs.Goodness.{AreSeated}
 use Rattle.lrc_book.specs.Ties.{table_of}
-use Rattle.lrc_book.proofs.MemberLemmas.{Contains-cases, not-Contains-nil, list_any-member, AllPairs-head, AllPairs-tail}
-use Rattle.lrc_book.proofs.NodeLemmas.{member-taken, taken-member, member-node_at}
+use Rattle.lrc_book.proofs.MemberLemmas.{filter-member, member-filter, map-member, Contains-cases, not-Contains-nil, list_any-member, AllPairs-head, AllPairs-tail}
+use Rattle.lrc_book.proofs.NodeLemmas.{member-taken, member-node_at}
 use Rattle.lrc_book.proofs.ChoiceLemmas.{same_stripe}
-use Rattle.lrc_book.proofs.SeatedLemmas.{kept-seated}
-use Rattle.lrc_book.proofs.TieLemmas.{count-one}
-use Rattle.lrc_book.proofs.TableLemmas.{map-member, table_less, table_less-nil, table_less-push, table_less-all}
-use Rattle.lrc_book.specs.Changes.{is_of, without_home}
+use Rattle.lrc_book.proofs.LeaseGoodLemmas.{homes-seated}
+use Rattle.lrc_book.proofs.TakenLemmas.{taken-cases, home-seat, target-seat, table-less, load-parts, count-held, load-falls}
+use Rattle.lrc_book.proofs.PairLemmas.{pairs-left, pairs-across, pairs-members}
+use Rattle.lrc_book.proofs.SeatingLemmas.{held-single}
+use Rattle.lrc_book.specs.Leases.{without_home}
+use Rattle.lrc_book.proofs.StoredLemmas.{is_of}
 use Rattle.lrc_book.specs.Stores.{IsOf}
 use Rattle.lrc_book.specs.declared.store.Store.{Store}
 use Rattle.lrc_slots.specs.Tables as slots
@@ -44,9 +46,32 @@ filter-whole : {X : Type 0} (test : X → Bool) (xs : List X) → All (λ x. tes
 filter-whole test [] all = refl
 filter-whole test (x ∷ xs) all = rw (All-head (λ y. test y ≡ true) x xs all) (ap (λ ys. x ∷ ys) (filter-whole test xs (All-tail (λ y. test y ≡ true) x xs all)))
 
-filter-nothing : {X : Type 0} (test : X → Bool) (xs : List X) → All (λ x. test x ≡ false) xs → filter test xs ≡ []
-filter-nothing test [] all = refl
-filter-nothing test (x ∷ xs) all = rw (All-head (λ y. test y ≡ false) x xs all) (filter-nothing test xs (All-tail (λ y. test y ≡ false) x xs all))
+module _ {X : Type 0} (test kept : X → Bool) where
+  pub count-fewer : (xs : List X) → count_by test (filter kept xs) ≤ count_by test xs
+  count-fewer [] = omega arith
+  count-fewer (x ∷ xs) =
+      let more = count-fewer xs in
+      elim (cases_Bool (kept x)) [
+        | inl stays ↦ rw (stays, sum_by-cons (λ y. cond (test y) 1 0) x (filter kept xs), sum_by-cons (λ y. cond (test y) 1 0) x xs) (omega (arith, more))
+        | inr goes ↦ rw (goes, sum_by-cons (λ y. cond (test y) 1 0) x xs) (omega (arith, more))
+      ]
+
+  -- one that is counted is left out
+  pub count-falls : (xs : List X) (x : X) → Contains xs x → test x ≡ true → kept x ≡ false → count_by test (filter kept xs) < count_by test xs
+  count-falls [] x here hit goes = absurd (not-Contains-nil x here)
+  count-falls (y ∷ ys) x here hit goes = elim (Contains-cases y x ys here) [
+    | inl same ↦
+        let counted : test y ≡ true = rw same hit in
+        let out : kept y ≡ false = rw same goes in
+        let fewer = count-fewer ys in
+        rw (out, sum_by-cons (λ y. cond (test y) 1 0) y ys, counted) (omega (arith, fewer))
+    | inr more ↦
+        let falls = count-falls ys x more hit goes in
+        elim (cases_Bool (kept y)) [
+          | inl stays ↦ rw (stays, sum_by-cons (λ y. cond (test y) 1 0) y (filter kept ys), sum_by-cons (λ y. cond (test y) 1 0) y ys) (omega (arith, falls))
+          | inr out ↦ rw (out, sum_by-cons (λ y. cond (test y) 1 0) y ys) (omega (arith, falls))
+        ]
+  ]
 
 -- where each fragment has one home at most, each home is the one that is found
 pub home-only : (homes : List Held) → AllPairs (λ h g. h.stripe ≡ g.stripe → h.fragment ≢ g.fragment) homes → (h : Held) → Contains homes h → home_of homes h.stripe h.fragment.value ≡ Some h
@@ -88,62 +113,59 @@ module _ (nodes : List NodeInfo) (st : State) (s : StripeNo) (f : Fragment) (h :
   pub stripe-there : has_stripe st s ≡ true
   stripe-there =
       let parts = and_parts (eqb h.stripe.value s.value) (eqb h.fragment.value f.value) there-home.1 in
-      list_any-member (λ (u : StripeNo). eqb s.value u.value) st.stripes h.stripe (All-contains (λ (g : Held). Contains st.stripes g.stripe) st.homes h good.there there-home.0)
+      list_any-member (λ (u : StripeNo). eqb s.value u.value) st.stripes h.stripe (All-contains (λ (g : Held). Contains st.stripes g.stripe) (seats_of st) h good.there (Contains-append_left st.homes (map held_by st.leases) h there-home.0))
       (eq-eqb s.value h.stripe.value (sym (eqb-true h.stripe.value s.value parts.0)))
 
   pub seat-there : is_taken (taken_seats st) h.seat.node h.seat.slot ≡ true
-  seat-there = member-taken (taken_seats st) h.seat.node h.seat.slot (map-member (λ (g : Held). g.seat) st.homes h there-home.0)
+  seat-there = member-taken (taken_seats st) h.seat.node h.seat.slot (home-seat st h there-home.0)
 
-  alone-in : (xs : List Held) → AllPairs (λ g k. g.stripe ≡ k.stripe → g.fragment ≢ k.fragment) xs → find (is_of s f.value) xs ≡ Some h → filter (λ g. not (kept g)) xs ≡ h ∷ []
-  alone-in [] once e = absurd (let never : None ≡ Some h = e in cc)
-  alone-in (x ∷ xs) once e = elim (cases_Bool (is_of s f.value x)) [
-    | inl hit ↦
-        let first : Some x ≡ Some h = rw hit at e in
-        let parts = and_parts (eqb x.stripe.value s.value) (eqb x.fragment.value f.value) hit in
-        let others : All (λ g. not (kept g) ≡ false) xs =
-        All-weaker (λ g. x.stripe ≡ g.stripe → x.fragment ≢ g.fragment) (λ g. not (kept g) ≡ false) (λ g other. elim (cases_Bool (is_of s f.value g)) [
-          | inr miss ↦ rw miss refl
-          | inl again ↦
-              let more = and_parts (eqb g.stripe.value s.value) (eqb g.fragment.value f.value) again in
-              absurd (other (same_stripe x.stripe g.stripe (eqb-true x.stripe.value s.value parts.0 ∙ sym (eqb-true g.stripe.value s.value more.0)))
-              (equal_fragments x.fragment g.fragment (eqb-true x.fragment.value f.value parts.1 ∙ sym (eqb-true g.fragment.value f.value more.1))))
-        ]) xs (AllPairs-head (λ (g k : Held). g.stripe ≡ k.stripe → g.fragment ≢ k.fragment) x xs once) in
-        rw (hit, filter-nothing (λ g. not (kept g)) xs others) (ap (λ g. g ∷ []) (same_Some x h first))
-    | inr miss ↦ rw miss (alone-in xs (AllPairs-tail (λ (g k : Held). g.stripe ≡ k.stripe → g.fragment ≢ k.fragment) x xs once) (rw miss at e))
+  -- a home that is left is another
+  left-other : (g : Held) → Contains st.homes g → kept g ≡ true → g ≢ h
+  left-other g here stays same = (let both : true ≡ false = sym stays ∙ ap kept same ∙ ap not there-home.1 in cc)
+
+  abbrev pub targets : List Held
+  targets = map held_by st.leases
+
+  -- so its seat is another
+  left-seat : (b : Seat) → Contains (taken_seats cleared) b → Contains (taken_seats st) b × (b ≢ h.seat)
+  left-seat b here = elim (taken-cases cleared b here) [
+    | inl (g, at, e) ↦
+        let m = filter-member kept st.homes g at in
+        let apart = pairs-members (λ (x y : Held). x.seat ≢ y.seat) (λ x y r same. r (sym same)) st.homes g h
+        (pairs-left (λ (x y : Held). x.seat ≢ y.seat) st.homes targets (held-single nodes st good)) m.0 there-home.0 (left-other g m.0 m.1) in
+        (subst (Contains (taken_seats st)) e (home-seat st g m.0), λ same. apart (e ∙ same))
+    | inr (l, at, e) ↦
+        let across = All-contains (λ (x : Held). All (λ (y : Held). x.seat ≢ y.seat) targets) st.homes h (pairs-across (λ (x y : Held). x.seat ≢ y.seat) st.homes targets (held-single nodes st good)) there-home.0 in
+        let apart = All-contains (λ (y : Held). h.seat ≢ y.seat) targets (held_by l) across (map-member held_by st.leases l at) in
+        (subst (Contains (taken_seats st)) e (target-seat st l at), λ same. apart (sym (e ∙ same)))
+  ]
+
+  -- and all others are left
+  other-left : (b : Seat) → Contains (taken_seats st) b → b ≢ h.seat → Contains (taken_seats cleared) b
+  other-left b here other = elim (taken-cases st b here) [
+    | inr (l, at, e) ↦ subst (Contains (taken_seats cleared)) e (target-seat cleared l at)
+    | inl (g, at, e) ↦ elim (cases_Bool (is_of s f.value g)) [
+      | inl hit ↦ absurd (other (sym e ∙ ap (λ (x : Held). x.seat) (only g at hit)))
+      | inr miss ↦ subst (Contains (taken_seats cleared)) e (home-seat cleared g (member-filter kept st.homes g at (ap not miss)))
+    ]
   ]
 
   -- its seat given back
   pub clear-table : with_free (table_of nodes st) h.seat.node h.seat.slot ≡ table_of nodes cleared
-  clear-table =
-      let t = table_of nodes st in
-      ap (λ (u : Slots). with_free u h.seat.node h.seat.slot) (table_less-nil t) ∙ table_less-push t [] h.seat
-      ∙ ap (λ (hs : List Held). table_less t (map (λ (g : Held). g.seat) hs)) (sym (alone-in st.homes good.one_home found)) ∙ table_less-all kept t st.homes good.single
+  clear-table = table-less nodes st h.seat (taken_seats cleared) other-left left-seat
 
--- ---- the load of a node falls with a seat that is given back
-
-freed-count : (taken : ℕ → Bool) (slot slots : ℕ) → slot < slots → taken slot ≡ true → count_by taken (range_with_len 0 slots) ≡ 1 + count_by (λ j. taken j && not (eqb slot j)) (range_with_len 0 slots)
-freed-count taken slot slots within hit =
-    ap (λ (t : ℕ → Bool). count_by t (range_with_len 0 slots)) (fun_ext here) ∙ count-one (λ j. taken j && not (eqb slot j)) slot 0 slots (omega arith) (omega (arith, within)) (rw (hit, eq-eqb slot slot refl) refl)
-  where
-    and_one : (b : Bool) → b ≡ (b && true)
-    and_one true = refl
-    and_one false = refl
-
-    here : (j : ℕ) → taken j ≡ (eqb slot j || (taken j && not (eqb slot j)))
-    here j = elim (cases_Bool (eqb slot j)) [
-      | inl same ↦ rw same (subst (λ i. taken i ≡ true) (eqb-true slot j same) hit)
-      | inr other ↦ rw other (and_one (taken j))
-    ]
-
-pub freed-load : (nodes : List NodeInfo) (st : State) (a : Seat) → AreSeated nodes st → is_taken (taken_seats st) a.node a.slot ≡ true → load_at (with_free (table_of nodes st) a.node a.slot) a.node < load_at (table_of nodes st) a.node
-freed-load nodes st a seated hit = go (node_at nodes a.node) refl (All-contains (IsStanding nodes st) (taken_seats st) a seated.standing (taken-member (taken_seats st) a.node a.slot hit))
-  where
-    go : (o : Option NodeInfo) → node_at nodes a.node ≡ o → IsSomeAnd o (λ n. (a.slot < n.slots) × (mode_of st a.node ≢ Gone)) → option_map_or (taken_count (with_free (table_of nodes st) a.node a.slot)) o 0 < option_map_or (taken_count (table_of nodes st)) o 0
-    go None e standing = absurd standing
-    go (Some x) e standing =
-        let number : a.node ≡ x.number = (member-node_at nodes a.node x e).1 in
-        let fewer = freed-count (is_taken (taken_seats st) x.number) a.slot x.slots standing.0 (subst (λ n. is_taken (taken_seats st) n a.slot ≡ true) number hit) in
-        rw (eq-eqb a.node.value x.number.value (ap (λ (n : NodeNo). n.value) number)) (omega (arith, fewer))
+  -- the load of its node falls
+  pub clear-load : AreNodes nodes → (n : NodeNo) → stands_on n h ≡ true → IsSome (node_at nodes n) → load_at (table_of nodes cleared) n < load_at (table_of nodes st) n
+  clear-load known n on some = load-falls nodes known st cleared good (homes-seated nodes st kept good) n some falls
+    where
+      falls : load_of (taken_seats cleared) n < load_of (taken_seats st) n
+      falls =
+          let before = load-parts st n in
+          let after = load-parts cleared n in
+          let all = count-held st.homes n in
+          let left = count-held (filter kept st.homes) n in
+          let fewer = count-falls (λ (g : Held). nat_eq g.seat.node.value n.value) kept st.homes h there-home.0 (eq-eqb h.seat.node.value n.value (sym (eqb-true n.value h.seat.node.value on))) (ap not there-home.1) in
+          omega (arith, before, after, all, left, fewer)
 
 -- ---- what is kept then
 
@@ -175,11 +197,12 @@ module _ (st : State) (k : Store) (kept : IsOf st k) (s : StripeNo) (f : Fragmen
       let nodes = k.topology in
       let home = home-kept seat is in record {
         known = kept.known;
-        seated = kept-seated nodes st (λ g. not (is_of s f.value g)) kept.seated;
+        seated = homes-seated nodes st (λ g. not (is_of s f.value g)) kept.seated;
         table_is = freed ∙ ap (λ (t : Slots). with_free t seat.node seat.slot) kept.table_is
             ∙ subst (λ (a : Seat). with_free (table_of nodes st) a.node a.slot ≡ table_of nodes (without_home st s f)) home.2 (clear-table nodes st s f home.0 kept.seated home.1);
         stripes_is = own-spare nodes (without_home st s f) (stored_in stripes) (stored_in k.stripes).spare
             (cleared ∙ ap (λ (t : Stored). stored.with_home t s f None) kept.stripes_is ∙ stored-clear nodes st (stored_in k.stripes).spare s f);
+        leases_is = kept.leases_is;
         gone_is = kept.gone_is;
         down_is = kept.down_is;
       }

@@ -18,6 +18,7 @@ pub mod LeaseLawLemmas
 pub mod ReportLemmas
 pub mod KindLemmas
 pub mod TieLemmas
+pub mod TakenLemmas
 pub mod TableLemmas
 pub mod BarLemmas
 pub mod PlanLemmas
@@ -30,3 +31,9 @@ pub mod EmptyLemmas
 pub mod ToldLemmas
 pub mod PlacingLemmas
 pub mod ShownLemmas
+pub mod EndLemmas
+pub mod BesideLemmas
+pub mod LeaseToldLemmas
+pub mod RepairLemmas
+pub mod LeaseReplyLemmas
+pub mod OpeningLemmas

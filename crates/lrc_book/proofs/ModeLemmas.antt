@@ -19,10 +19,13 @@ use Rattle.lrc_stripes.specs.Levels.{homes_of}
 use Rattle.lrc_stripes.specs.Stored.{Stored, with_offline}
 use Rattle.lrc_stripes.specs.Tables as tables
 use Rattle.lrc_stripes.specs.Tables.{stored_in}
+use Rattle.lrc_leases.specs.declared.lease.Lease.{Lease}
+use Rattle.lrc_leases.specs.Leased.{leased_of}
+use Rattle.lrc_leases.specs.Tables.{leased_in}
 use Rattle.lrc_book.specs.declared.store.Store.{Store}
 use Rattle.lrc_book.specs.Stores.{IsOf, IsOfBut, StaysAsItWas}
 use Rattle.lrc_book.specs.declared.mode.Mode.TheVariants.{Active, Gone}
-use Rattle.lrc_book.specs.States.{State, has_number, without_number, is_active, is_gone, is_online, takes_seats, online_at}
+use Rattle.lrc_book.specs.States.{State, held_by, has_number, without_number, is_active, is_gone, is_online, takes_seats, online_at}
 use Rattle.lrc_book.specs.Steps.{with_gone, with_down, without_down, without_gone}
 use Rattle.lrc_book.specs.Ties.{table_of}
 use Rattle.lrc_book.specs.Stores.{stored_of}
@@ -79,7 +82,7 @@ module _ (node : NodeNo) (was st : State) (k : Store) (behind : IsOfBut node was
       ap (λ (eligible : NodeNo → Bool). record (table_of k.topology was) { eligible = eligible }) (fun_ext (λ m. elim (cases_Bool (eqb node.value m.value)) [
         | inl here ↦ rw here (here-by (takes_seats st) true m here (λ x. takes-by (has_number st.gone x.number) (has_number st.down x.number)) (node_at k.topology m) refl)
         | inr apart ↦ rw apart (other-by (takes_seats was) (takes_seats st) true m apart (λ x stays. stays.takes) (node_at k.topology m) refl)
-      ])) ∙ ap (λ (hs : List Held). record (table_of k.topology st) { taken = is_taken (map (λ h. h.seat) hs) }) behind.homes_stay
+      ])) ∙ ap₂ (λ (hs : List Held) (ls : List Lease). record (table_of k.topology st) { taken = is_taken (map (λ h. h.seat) (hs ++ map held_by ls)) }) behind.homes_stay behind.leases_stay
 
   -- and so do the stripes
   stored-follows : (spare : ℕ) → with_offline (stored_of k.topology was spare) node (not (online_number st node)) ≡ stored_of k.topology st spare
@@ -105,6 +108,7 @@ module _ (node : NodeNo) (was st : State) (k : Store) (behind : IsOfBut node was
         table_is = set ∙ ap₂ (λ (t : Slots) (b : Bool). with_eligible t node b) behind.table_is now ∙ table-follows;
         stripes_is = own-spare k.topology st (stored_in stripes) (stored_in k.stripes).spare
             (set_too ∙ ap₂ (λ (t : Stored) (b : Bool). with_offline t node (not b)) behind.stripes_is now ∙ stored-follows (stored_in k.stripes).spare);
+        leases_is = behind.leases_is ∙ ap (λ (ls : List Lease). leased_of ls (leased_in k.leases).spare) behind.leases_stay;
         gone_is = behind.gone_is;
         down_is = behind.down_is;
       }

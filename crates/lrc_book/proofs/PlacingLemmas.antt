@@ -3,7 +3,7 @@ use Rattle.std.proofs.Common.{◌≡◌, ◌≢◌, inl, inr, lt-ltb, ℕ, ◌+�
 use Rattle.std.specs.Option.{option_map_or}
 use Rattle.std.proofs.lemmas.Bool.{eq-eqb, eqb-true, and_parts, cases_Bool}
 use Rattle.std.proofs.lemmas.List.{drop_more, take_all}
-use Rattle.std.proofs.lemmas.List.Elements.{All-head, All-tail}
+use Rattle.std.proofs.lemmas.List.Elements.{All-head, All-tail, Contains-append_left, Contains-push, Contains-push_cases}
 use Rattle.lrc_code.specs.declared.codes.Code.TheVariants.{Wide}
 use Rattle.lrc_code.specs.declared.numbers.StripeNo.{StripeNo}
 use Rattle.lrc_code.specs.declared.numbers.Fragment.{Fragment}
@@ -17,9 +17,11 @@ use Rattle.lrc_slots.specs.Slots as slots
 use Rattle.lrc_stripes.specs.Levels.{home_of}
 use Rattle.lrc_stripes.specs.Stored.{Stored, has_slot, HasNoHome}
 use Rattle.lrc_stripes.specs.Stored as stored
-use Rattle.lrc_book.specs.States.{State}
-use Rattle.lrc_book.specs.Placement.{with_home}
+use Rattle.lrc_book.specs.States.{State, taken_seats}
+use Rattle.lrc_book.specs.Placement.{chosen, with_home}
 use Rattle.lrc_book.specs.Steps.{with_stripe}
+use Rattle.std.specs.List.{Contains}
+use Rattle.lrc_book.specs.Ties.{table_of}
 use Rattle.lrc_book.specs.Changes.{held_at, with_placed}
 use Rattle.lrc_book.specs.Choices.{AreChosen}
 use Rattle.lrc_book.specs.Choices.{IsChoice}
@@ -36,7 +38,7 @@ use Rattle.lrc_book.proofs.SeatingLemmas.{HasNone, IsPlacing, placing-some, choi
 use Rattle.lrc_book.proofs.SeatedLemmas.{stripe-placing}
 use Rattle.lrc_book.proofs.ToldLemmas.{ArePlaced}
 use Rattle.lrc_book.proofs.ListLemmas.{held_at-more}
-use Rattle.lrc_book.proofs.TableLemmas.{table-push}
+use Rattle.lrc_book.proofs.TakenLemmas.{taken-cases, home-seat, target-seat, table-more}
 use Rattle.lrc_book.proofs.PlanLemmas.{chosen-first_free}
 use Rattle.lrc_book.proofs.StoredLemmas.{stored-stripe, stored-home, stored-apart, own-spare}
 use Rattle.lrc_code.proofs.NumbersLemmas.{equal_fragments}
@@ -53,17 +55,47 @@ homeless-none (h ∷ hs) s f none = elim (cases_Bool (eqb h.stripe.value s.value
   | inr miss ↦ rw miss (homeless-none hs s f (All-tail (λ (x : Held). x.stripe ≡ s → x.fragment ≢ f) h hs none))
 ]
 
-module _ (st : State) (k : Store) (kept : IsOf st k) (s : StripeNo) (f : Fragment) (seat : Seat) (next : IsNextHome k.topology st s f seat) where
-  choice : IsChoice k.topology st s f seat
-  choice = chosen-choice k.topology st s f seat kept.known next.chosen_is
+-- a seat that is chosen
+module _ (st : State) (k : Store) (kept : IsOf st k) (s : StripeNo) (f : Fragment) (seat : Seat) (chosen_is : chosen k.topology st s f ≡ Some seat) where
+  pub chosen-here : IsChoice k.topology st s f seat
+  chosen-here = chosen-choice k.topology st s f seat kept.known chosen_is
 
   -- the seat's node is one of the nodes
-  pub seat-known : IsSome (node_at (slots_of k.table).nodes seat.node)
-  seat-known = rw (kept.table_is, choice.on, node_at-member k.topology kept.known choice.node choice.fitting.known) refl
+  pub chosen-known : IsSome (node_at (slots_of k.table).nodes seat.node)
+  chosen-known = rw (kept.table_is, chosen-here.on, node_at-member k.topology kept.known chosen-here.node chosen-here.fitting.known) refl
 
   -- the slot that is taken is the seat's
-  slot-taken : least_free_at (slots_of k.table) seat.node ≡ Some seat.slot
-  slot-taken = ap (λ (t : Slots). least_free_at t seat.node) kept.table_is ∙ chosen-first_free k.topology st s f seat kept.known next.chosen_is
+  pub chosen-taken : least_free_at (slots_of k.table) seat.node ≡ Some seat.slot
+  chosen-taken = ap (λ (t : Slots). least_free_at t seat.node) kept.table_is ∙ chosen-first_free k.topology st s f seat kept.known chosen_is
+
+-- the seats of a state with one more home
+pub home-taken : (nodes : List NodeInfo) (st : State) (s : StripeNo) (f : Fragment) (seat : Seat) → slots.with_taken (table_of nodes st) seat.node (Some seat.slot) ≡ table_of nodes (with_home st s f seat)
+home-taken nodes st s f seat =
+    table-more nodes st seat (taken_seats next) (home-seat next own (Contains-push st.homes own))
+    (λ b here. elim (taken-cases st b here) [
+      | inl (h, at, e) ↦ subst (Contains (taken_seats next)) e (home-seat next h (Contains-append_left st.homes (own ∷ []) h at))
+      | inr (l, at, e) ↦ subst (Contains (taken_seats next)) e (target-seat next l at)
+    ])
+    (λ b here. elim (taken-cases next b here) [
+      | inr (l, at, e) ↦ inr (subst (Contains (taken_seats st)) e (target-seat st l at))
+      | inl (h, at, e) ↦ elim (Contains-push_cases st.homes own h at) [
+        | inl old ↦ inr (subst (Contains (taken_seats st)) e (home-seat st h old))
+        | inr new ↦ inl (ap (λ (x : Held). x.seat) new ∙ e)
+      ]
+    ])
+  where
+    own : Held
+    own = record { stripe = s; fragment = f; seat = seat }
+
+    next : State
+    next = with_home st s f seat
+
+module _ (st : State) (k : Store) (kept : IsOf st k) (s : StripeNo) (f : Fragment) (seat : Seat) (next : IsNextHome k.topology st s f seat) where
+  choice : IsChoice k.topology st s f seat
+  choice = chosen-here st k kept s f seat next.chosen_is
+
+  pub seat-known : IsSome (node_at (slots_of k.table).nodes seat.node)
+  seat-known = chosen-known st k kept s f seat next.chosen_is
 
   pub stripe-there : IsTrue ((stored_in k.stripes).stripes s)
   stripe-there = ap (λ (x : Stored). x.stripes s) kept.stripes_is ∙ list_any-member (λ (t : StripeNo). nat_eq s.value t.value) st.stripes s next.there (eq-eqb s.value s.value refl)
@@ -87,9 +119,10 @@ module _ (st : State) (k : Store) (kept : IsOf st k) (s : StripeNo) (f : Fragmen
   given-kept slot least table stripes taken set = record {
     known = kept.known;
     seated = home-seated k.topology kept.known st s f seat kept.seated choice next.there next.homeless;
-    table_is = taken ∙ ap (slots.with_taken (slots_of k.table) seat.node) (least ∙ slot-taken) ∙ ap (λ (t : Slots). slots.with_taken t seat.node (Some seat.slot)) kept.table_is ∙ table-push k.topology st s f seat;
+    table_is = taken ∙ ap (slots.with_taken (slots_of k.table) seat.node) (least ∙ chosen-taken st k kept s f seat next.chosen_is) ∙ ap (λ (t : Slots). slots.with_taken t seat.node (Some seat.slot)) kept.table_is ∙ home-taken k.topology st s f seat;
     stripes_is = own-spare k.topology (with_home st s f seat) (stored_in stripes) (stored_in k.stripes).spare
         (set ∙ ap (λ (x : Stored). stored.with_home x s f (Some seat)) kept.stripes_is ∙ stored-home k.topology st (stored_in k.stripes).spare s f seat (homeless-none st.homes s f next.homeless));
+    leases_is = kept.leases_is;
     gone_is = kept.gone_is;
     down_is = kept.down_is;
   }
@@ -118,6 +151,7 @@ placed-start st s seats k stripes kept told added =
       table_is = kept.table_is;
       stripes_is = own-spare k.topology (with_stripe st Wide s) (stored_in stripes) ((stored_in k.stripes).spare - 1)
           (added ∙ ap (λ (x : Stored). stored.with_stripe x Wide s) kept.stripes_is ∙ stored-stripe k.topology st (stored_in k.stripes).spare s kept.seated told.absent);
+      leases_is = kept.leases_is;
       gone_is = kept.gone_is;
       down_is = kept.down_is;
     } in

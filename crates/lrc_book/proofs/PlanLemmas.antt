@@ -1,11 +1,11 @@
 -- The seat that a table gives is the one that the rule chooses, also beside planned homes that the table does not have.
-use Rattle.std.proofs.Common.{◌↔◌, ◌≡◌, ◌≢◌, ℕ, ◌+◌, Bool, true, false, not, cond, ◌&&◌, ◌||◌, eqb, List, [], ◌∷◌, ◌++◌, map, filter, fold, Option, Some, None, is_some, option_map, option_and_then, zero-add, append-nil, refl, sym, ap, ◌∙◌, subst, inl, inr}
+use Rattle.std.proofs.Common.{arith, ◌↔◌, ◌≡◌, ◌≢◌, ℕ, ◌+◌, Bool, true, false, not, cond, ◌&&◌, ◌||◌, eqb, List, [], ◌∷◌, ◌++◌, map, filter, fold, Option, Some, None, is_some, option_map, option_and_then, zero-add, append-nil, refl, sym, ap, ◌∙◌, subst, inl, inr}
 use Rattle.std.proofs.Math.Path.{fun_ext}
 use Rattle.std.specs.List.{All, AllPairs, Contains, list_any, count_by, range_with_len}
 use Rattle.std.proofs.lemmas.Bool.{cases_Bool, eqb-true, eq-eqb, and_parts, or_parts, and_right, not-true}
 use Rattle.std.proofs.lemmas.List.{map-append}
-use Rattle.std.proofs.lemmas.List.Elements.{All-nil, All-cons, All-head, All-tail, All-weaker, All-map}
-use Rattle.std.proofs.lemmas.List.Sums.{sum_by-cons}
+use Rattle.std.proofs.lemmas.List.Elements.{All-nil, All-cons, All-head, All-tail, All-weaker, All-map, Contains-append_left, Contains-append_right, Contains-append_cases}
+use Rattle.std.proofs.lemmas.List.Sums.{sum_by-cons, sum_by-append}
 use Rattle.std.proofs.lemmas.List.Folds.{list_any-append}
 use Rattle.lrc_code.specs.declared.codes.Code.TheVariants.{Wide}
 use Rattle.lrc_code.specs.declared.numbers.StripeNo.{StripeNo}
@@ -19,12 +19,13 @@ use Rattle.lrc_topology.specs.Nodes.{AreNodes, node_at}
 use Rattle.lrc_topology.specs.Seats.{load_of, is_taken, first_slot, free_seat, is_preferred}
 use Rattle.lrc_slots.specs.Slots.{least_free, least_free_at}
 use Rattle.lrc_slots.specs.Next.{may_take, is_chosen_before, next_node}
-use Rattle.lrc_book.specs.States.{State, seats_of, taken_seats, takes_seats, is_eligible}
+use Rattle.lrc_book.specs.States.{State, held_by, seats_of, taken_seats, takes_seats, is_eligible}
 use Rattle.lrc_book.specs.Placement.{bars, fits, chosen, chosen_node}
 use Rattle.lrc_book.specs.Goodness.{AreSeated}
 use Rattle.lrc_book.specs.Ties.{table_of, bars_of, bars_in, next_seat, with_homes}
 use Rattle.lrc_book.specs.Placement.{is_beside}
-use Rattle.lrc_book.proofs.MemberLemmas.{All-members, filter-member}
+use Rattle.lrc_book.proofs.MemberLemmas.{All-members, filter-member, map-member}
+use Rattle.lrc_book.proofs.TakenLemmas.{member-map, taken-same, taken-cases, home-seat, target-seat, load-parts}
 use Rattle.lrc_code.proofs.OrderLemmas.{least-listed}
 use Rattle.lrc_book.proofs.NodeLemmas.{node_at-member, seat_on}
 use Rattle.lrc_book.proofs.ChoiceLemmas.{chosen-choice, choice-slot}
@@ -96,27 +97,58 @@ module _ (nodes : List NodeInfo) (st : State) (new : List Held) (s : StripeNo) (
             let hit : true ≡ false = rw (All-head (λ h. is_beside s f h ≡ true) h hs beside, here, eq-eqb x.fault.value x.fault.value refl) at parts.0 in cc)
       ]) (clear-off x found hs (All-tail (λ h. is_beside s f h ≡ true) h hs beside) parts.1)
 
-  seats-new : taken_seats (with_homes st new) ≡ taken_seats st ++ map (λ (h : Held). h.seat) new
-  seats-new = map-append (λ (h : Held). h.seat) st.homes new
+  -- the slots that are taken, and the loads, are those of the state with the planned homes behind
+  taken-new : is_taken (taken_seats (with_homes st new)) ≡ is_taken (taken_seats st ++ map (λ (h : Held). h.seat) new)
+  taken-new = taken-same (taken_seats (with_homes st new)) (taken_seats st ++ planned)
+      (λ b here. elim (taken-cases (with_homes st new) b here) [
+        | inr (l, at, e) ↦ subst (Contains (taken_seats st ++ planned)) e (Contains-append_left (taken_seats st) planned l.target (target-seat st l at))
+        | inl (h, at, e) ↦ subst (Contains (taken_seats st ++ planned)) e (elim (Contains-append_cases st.homes new h at) [
+          | inl old ↦ Contains-append_left (taken_seats st) planned h.seat (home-seat st h old)
+          | inr more ↦ Contains-append_right (taken_seats st) planned h.seat (map-member (λ (h : Held). h.seat) new h more)
+        ])
+      ])
+      (λ b here. elim (Contains-append_cases (taken_seats st) planned b here) [
+        | inl old ↦ elim (taken-cases st b old) [
+          | inl (h, at, e) ↦ subst (Contains (taken_seats (with_homes st new))) e (home-seat (with_homes st new) h (Contains-append_left st.homes new h at))
+          | inr (l, at, e) ↦ subst (Contains (taken_seats (with_homes st new))) e (target-seat (with_homes st new) l at)
+        ]
+        | inr more ↦
+            let m = member-map (λ (h : Held). h.seat) new b more in
+            subst (Contains (taken_seats (with_homes st new))) m.2 (home-seat (with_homes st new) m.0 (Contains-append_right st.homes new m.0 m.1))
+      ])
+    where
+      planned : List Seat
+      planned = map (λ (h : Held). h.seat) new
 
-  clear-seats : (x : NodeInfo) → node_at nodes x.number ≡ Some x → list_any (bars nodes (with_homes st new) s f x) (st.homes ++ new) ≡ false
+  load-new : (n : NodeNo) → load_of (taken_seats (with_homes st new)) n ≡ load_of (taken_seats st ++ map (λ (h : Held). h.seat) new) n
+  load-new n =
+      let own = load-parts st n in
+      let all = load-parts (with_homes st new) n in
+      let homes = ap (λ (seats : List Seat). load_of seats n) (map-append (λ (h : Held). h.seat) st.homes new)
+      ∙ sum_by-append (λ (a : Seat). cond (eqb a.node.value n.value) 1 0) (map (λ (h : Held). h.seat) st.homes) (map (λ (h : Held). h.seat) new) in
+      let behind = sum_by-append (λ (a : Seat). cond (eqb a.node.value n.value) 1 0) (taken_seats st) (map (λ (h : Held). h.seat) new) in
+      omega (arith, own, all, homes, behind)
+
+  clear-seats : (x : NodeInfo) → node_at nodes x.number ≡ Some x → list_any (bars nodes (with_homes st new) s f x) (seats_of (with_homes st new)) ≡ false
       → All (λ a. eqb a.node.value x.number.value ≡ false) (map (λ (h : Held). h.seat) new)
   clear-seats x found clear =
-      let parts = or_parts _ _ (sym (list_any-append (bars nodes (with_homes st new) s f x) st.homes new) ∙ clear) in
+      let test = bars nodes (with_homes st new) s f x in
+      let homes = (or_parts _ _ (sym (list_any-append test (st.homes ++ new) (map held_by st.leases)) ∙ clear)).0 in
+      let parts = or_parts _ _ (sym (list_any-append test st.homes new) ∙ homes) in
       All-map (λ (a : Seat). eqb a.node.value x.number.value ≡ false) (λ (h : Held). h.seat) new (clear-off x found new mine parts.1)
 
   -- so its slots and its load are those without them
-  clear-taken : (x : NodeInfo) → node_at nodes x.number ≡ Some x → list_any (bars nodes (with_homes st new) s f x) (st.homes ++ new) ≡ false
+  clear-taken : (x : NodeInfo) → node_at nodes x.number ≡ Some x → list_any (bars nodes (with_homes st new) s f x) (seats_of (with_homes st new)) ≡ false
       → is_taken (taken_seats st) x.number ≡ is_taken (taken_seats (with_homes st new)) x.number
   clear-taken x found clear =
-      sym (ap (λ seats. is_taken seats x.number) seats-new ∙ off-taken x.number (taken_seats st) (map (λ (h : Held). h.seat) new) (clear-seats x found clear))
+      sym (ap (λ (t : NodeNo → ℕ → Bool). t x.number) taken-new ∙ off-taken x.number (taken_seats st) (map (λ (h : Held). h.seat) new) (clear-seats x found clear))
 
-  clear-load : (x : NodeInfo) → node_at nodes x.number ≡ Some x → list_any (bars nodes (with_homes st new) s f x) (st.homes ++ new) ≡ false
+  clear-load : (x : NodeInfo) → node_at nodes x.number ≡ Some x → list_any (bars nodes (with_homes st new) s f x) (seats_of (with_homes st new)) ≡ false
       → load_of (taken_seats st) x.number ≡ load_of (taken_seats (with_homes st new)) x.number
   clear-load x found clear =
-      sym (ap (λ seats. load_of seats x.number) seats-new ∙ off-load x.number (taken_seats st) (map (λ (h : Held). h.seat) new) (clear-seats x found clear))
+      sym (load-new x.number ∙ off-load x.number (taken_seats st) (map (λ (h : Held). h.seat) new) (clear-seats x found clear))
 
-  may-fits : (x : NodeInfo) → node_at nodes x.number ≡ Some x → (b : Bool) → list_any (bars nodes (with_homes st new) s f x) (st.homes ++ new) ≡ b
+  may-fits : (x : NodeInfo) → node_at nodes x.number ≡ Some x → (b : Bool) → list_any (bars nodes (with_homes st new) s f x) (seats_of (with_homes st new)) ≡ b
       → (is_eligible st x && not b) ≡ (is_eligible (with_homes st new) x && not b)
   may-fits x found true e = and_right (is_eligible st x) false refl ∙ sym (and_right (is_eligible (with_homes st new) x) false refl)
   may-fits x found false e = ap (λ (t : ℕ → Bool). (takes_seats st x && is_some (first_slot t 0 x.slots)) && true) (clear-taken x found e)
@@ -128,11 +160,11 @@ module _ (nodes : List NodeInfo) (st : State) (new : List Held) (s : StripeNo) (
     may_take-planned : filter (may_take (table_of nodes st) (bars_of nodes (with_homes st new) s f)) nodes ≡ filter (fits nodes (with_homes st new) s f) nodes
     may_take-planned = filter-agree (may_take (table_of nodes st) (bars_of nodes (with_homes st new) s f)) (fits nodes (with_homes st new) s f) nodes
         (All-weaker (λ x. node_at nodes x.number ≡ Some x) (λ x. may_take (table_of nodes st) (bars_of nodes (with_homes st new) s f) x ≡ fits nodes (with_homes st new) s f x)
-        (λ x found. may_take-eligible nodes st (bars_of nodes (with_homes st new) s f) x found ∙ ap (λ b. is_eligible st x && not b) (bars-domains nodes (with_homes st new) s f x (st.homes ++ new))
-        ∙ may-fits x found (list_any (bars nodes (with_homes st new) s f x) (st.homes ++ new)) refl) nodes all-found)
+        (λ x found. may_take-eligible nodes st (bars_of nodes (with_homes st new) s f) x found ∙ ap (λ b. is_eligible st x && not b) (bars-domains nodes (with_homes st new) s f x (seats_of (with_homes st new)))
+        ∙ may-fits x found (list_any (bars nodes (with_homes st new) s f x) (seats_of (with_homes st new))) refl) nodes all-found)
 
-    clear-fits : (x : NodeInfo) → fits nodes (with_homes st new) s f x ≡ true → list_any (bars nodes (with_homes st new) s f x) (st.homes ++ new) ≡ false
-    clear-fits x e = not-true _ (and_parts (is_eligible (with_homes st new) x) (not (list_any (bars nodes (with_homes st new) s f x) (st.homes ++ new))) e).1
+    clear-fits : (x : NodeInfo) → fits nodes (with_homes st new) s f x ≡ true → list_any (bars nodes (with_homes st new) s f x) (seats_of (with_homes st new)) ≡ false
+    clear-fits x e = not-true _ (and_parts (is_eligible (with_homes st new) x) (not (list_any (bars nodes (with_homes st new) s f x) (seats_of (with_homes st new)))) e).1
 
     count-load : All (λ x. count_by (is_taken (taken_seats st) x.number) (range_with_len 0 x.slots) ≡ load_of (taken_seats (with_homes st new)) x.number) (filter (fits nodes (with_homes st new) s f) nodes)
     count-load = All-members (λ x. count_by (is_taken (taken_seats st) x.number) (range_with_len 0 x.slots) ≡ load_of (taken_seats (with_homes st new)) x.number) (filter (fits nodes (with_homes st new) s f) nodes)

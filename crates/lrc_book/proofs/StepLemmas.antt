@@ -1,5 +1,5 @@
 -- What a step answers and changes, case by case.
-use Rattle.std.proofs.Common.{◌≡◌, Bool, true, false, not, ◌||◌, is_none, List, [], ◌∷◌, ◌++◌, length, map, drop, fold, Option, Some, None, Result, Ok, Err, refl, sym, ap, ◌∙◌, append_assoc, append-nil, arith}
+use Rattle.std.proofs.Common.{◌≡◌, ℕ, Bool, true, false, not, nat_eq, if◌then◌else◌, ◌||◌, is_none, List, [], ◌∷◌, ◌++◌, length, map, drop, fold, Option, Some, None, Result, Ok, Err, refl, sym, ap, ◌∙◌, append_assoc, append-nil, arith}
 use Rattle.std.specs.Option.{option_map_or}
 use Rattle.std.proofs.lemmas.List.Folds.{fold_stays}
 use Rattle.lrc_code.specs.declared.codes.Code.TheVariants.{Wide}
@@ -13,17 +13,20 @@ use Rattle.lrc_topology.specs.declared.NodeInfo.{NodeInfo}
 use Rattle.lrc_topology.specs.declared.seat.Seat.{Seat}
 use Rattle.lrc_topology.specs.declared.seat.Held.{Held}
 use Rattle.lrc_book.specs.declared.command.Command.{Command}
-use Rattle.lrc_book.specs.declared.command.Command.TheVariants.{Place, Drop, Fail, Down, Up, Join}
-use Rattle.lrc_book.specs.declared.reply.Reply.TheVariants.{Dropped, Changed, Refused}
+use Rattle.lrc_book.specs.declared.command.Command.TheVariants.{Place, Drop, Lease, Done, Abandon, Revoke, Fail, Down, Up, Join}
+use Rattle.lrc_book.specs.declared.reply.Reply.TheVariants.{Dropped, Ended, Changed, Refused}
 use Rattle.lrc_book.specs.declared.reply.Refusal.{Refusal}
 use Rattle.lrc_book.specs.declared.reply.Refusal.TheVariants as refusal
 use Rattle.lrc_book.specs.declared.entry.Entry.{Entry}
-use Rattle.lrc_book.specs.States.{State, has_stripe, mode_of, is_gone, is_down}
+use Rattle.lrc_leases.specs.declared.lease.Lease.{Lease as LeaseRecord}
+use Rattle.lrc_book.specs.Repairs.{needs, is_beyond_repair}
+use Rattle.lrc_book.specs.Leases.{granted, lease_answer, lease_outcome, at_epoch, is_held_by, moved_in, without_lease, done_answer, done_outcome, abandon_answer, abandon_outcome, revoke_outcome}
+use Rattle.lrc_book.specs.States.{State, has_stripe, lease_of, online_at, mode_of, is_gone, is_down}
 use Rattle.lrc_book.specs.Placement.{chosen, with_home, place_next, placed}
 use Rattle.lrc_book.specs.Outcomes.{Outcome, refuse_if}
 use Rattle.lrc_book.specs.Steps.{with_stripe, without_stripe, place_answer, place_outcome, drop_outcome, fail_outcome, down_outcome, up_outcome, join_outcome, step}
 use Rattle.lrc_book.specs.Choices.{AreChosen}
-use Rattle.lrc_book.specs.Changes.{held_at, with_placed, changed_by}
+use Rattle.lrc_book.specs.Changes.{held_at, with_placed, with_done, changed_by}
 
 -- what one more fragment gives, by what was chosen
 abbrev turn : StripeNo → State → Fragment → Option Seat → Result State Fragment
@@ -147,10 +150,96 @@ module _ (nodes : List NodeInfo) (st : State) (n : NodeNo) where
   unfolding join_outcome
   join-changed = node-cases nodes st _ (Join n) (is_none (node_at nodes n)) (not (is_gone (mode_of st n))) refl (λ r. refl)
 
+module _ (nodes : List NodeInfo) (past : List Entry) (st : State) (session : SessionNo) (s : StripeNo) (f : Fragment) where
+  IsToldBy : Command → Outcome → Type 0
+  IsToldBy c o = o.1 ≡ changed_by st c o.0
+
+  needed-changed : (needed beyond : Bool) (seat : Option Seat)
+      → IsToldBy (Lease s f) (refuse_if (not needed) refusal.NotNeeded st (refuse_if beyond refusal.Unrecoverable st (granted nodes past st session s f seat)))
+  unfolding IsToldBy
+  needed-changed false beyond seat = refl
+  needed-changed true true seat = refl
+  needed-changed true false (Some seat) = refl
+  needed-changed true false None = refl
+
+  answer-told : (o : Option LeaseRecord) → IsToldBy (Lease s f) (lease_answer nodes past st session s f o)
+  unfolding IsToldBy
+  answer-told (Some lease) = refl
+  answer-told None = needed-changed (needs st s f) (is_beyond_repair nodes st s f) (chosen nodes st s f)
+
+  lease-cases : (there : Bool) (o : Option LeaseRecord) → IsToldBy (Lease s f) (refuse_if (not there) refusal.UnknownStripe st (lease_answer nodes past st session s f o))
+  unfolding IsToldBy
+  lease-cases false o = refl
+  lease-cases true o = answer-told o
+
+  lease-changed : (lease_outcome nodes past st session s f).1 ≡ changed_by st (Lease s f) (lease_outcome nodes past st session s f).0
+  unfolding IsToldBy lease_outcome
+  lease-changed = lease-cases (has_stripe st s) (lease_of st s f)
+
+  module _ (e : ℕ) where
+    held-changed : (mine online : Bool) (lease : LeaseRecord) → lease_of st s f ≡ Some lease
+        → IsToldBy (Done s f e) (refuse_if (not mine) (refusal.NotHolder lease.holder) st (refuse_if (not online) (refusal.TargetOffline lease.target.node) st (Ended, moved_in st s f lease.target)))
+    unfolding IsToldBy
+    held-changed false online lease live = refl
+    held-changed true false lease live = refl
+    held-changed true true lease live = sym (ap (with_done st s f) live)
+
+    epoch-changed : (same : Bool) (lease : LeaseRecord) → lease_of st s f ≡ Some lease → IsToldBy (Done s f e) (done_answer nodes st session s f (if same then Some lease else None))
+    unfolding IsToldBy
+    epoch-changed false lease live = refl
+    epoch-changed true lease live = held-changed (is_held_by session lease) (online_at nodes st lease.target.node) lease live
+
+    live-changed : (o : Option LeaseRecord) → lease_of st s f ≡ o → IsToldBy (Done s f e) (done_answer nodes st session s f (at_epoch e o))
+    unfolding IsToldBy
+    live-changed None none = refl
+    live-changed (Some lease) live = epoch-changed (nat_eq lease.epoch e) lease live
+
+    done-cases : (there : Bool) → IsToldBy (Done s f e) (refuse_if (not there) refusal.UnknownStripe st (done_answer nodes st session s f (at_epoch e (lease_of st s f))))
+    unfolding IsToldBy
+    done-cases false = refl
+    done-cases true = live-changed (lease_of st s f) refl
+
+    done-changed : (done_outcome nodes st session s f e).1 ≡ changed_by st (Done s f e) (done_outcome nodes st session s f e).0
+    unfolding IsToldBy done_outcome
+    done-changed = done-cases (has_stripe st s)
+
+    given-changed : (mine : Bool) (lease : LeaseRecord) → IsToldBy (Abandon s f e) (refuse_if (not mine) (refusal.NotHolder lease.holder) st (Ended, without_lease st s f))
+    unfolding IsToldBy
+    given-changed false lease = refl
+    given-changed true lease = refl
+
+    back-changed : (o : Option LeaseRecord) → IsToldBy (Abandon s f e) (abandon_answer st session s f o)
+    unfolding IsToldBy
+    back-changed None = refl
+    back-changed (Some lease) = given-changed (is_held_by session lease) lease
+
+    abandon-cases : (there : Bool) → IsToldBy (Abandon s f e) (refuse_if (not there) refusal.UnknownStripe st (abandon_answer st session s f (at_epoch e (lease_of st s f))))
+    unfolding IsToldBy
+    abandon-cases false = refl
+    abandon-cases true = back-changed (at_epoch e (lease_of st s f))
+
+    abandon-changed : (abandon_outcome st session s f e).1 ≡ changed_by st (Abandon s f e) (abandon_outcome st session s f e).0
+    unfolding IsToldBy abandon_outcome
+    abandon-changed = abandon-cases (has_stripe st s)
+
+  revoke-cases : (there none : Bool) → IsToldBy (Revoke s f) (refuse_if (not there) refusal.UnknownStripe st (refuse_if none refusal.NoLease st (Ended, without_lease st s f)))
+  unfolding IsToldBy
+  revoke-cases false none = refl
+  revoke-cases true true = refl
+  revoke-cases true false = refl
+
+  revoke-changed : (revoke_outcome st s f).1 ≡ changed_by st (Revoke s f) (revoke_outcome st s f).0
+  unfolding IsToldBy revoke_outcome
+  revoke-changed = revoke-cases (has_stripe st s) (is_none (lease_of st s f))
+
 -- the state that a step leaves is told by the command and the reply
 pub step-changed : (nodes : List NodeInfo) (past : List Entry) (st : State) (session : SessionNo) (c : Command) → (step nodes past st session c).1 ≡ changed_by st c (step nodes past st session c).0
 step-changed nodes past st session (Place s) = place-changed nodes st s (has_stripe st s) refl
 step-changed nodes past st session (Drop s) = drop-changed st s
+step-changed nodes past st session (Lease s f) = lease-changed nodes past st session s f
+step-changed nodes past st session (Done s f e) = done-changed nodes past st session s f e
+step-changed nodes past st session (Abandon s f e) = abandon-changed nodes past st session s f e
+step-changed nodes past st session (Revoke s f) = revoke-changed nodes past st session s f
 step-changed nodes past st session (Fail n) = fail-changed nodes st n
 step-changed nodes past st session (Down n) = down-changed nodes st n
 step-changed nodes past st session (Up n) = up-changed nodes st n

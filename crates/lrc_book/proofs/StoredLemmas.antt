@@ -1,11 +1,11 @@
 -- How what is stored of the stripes follows the state.
-use Rattle.std.proofs.Common.{◌≡◌, ◌≢◌, ℕ, ◌-◌, Bool, true, false, not, if◌then◌else◌, ◌&&◌, ◌||◌, nat_eq, eqb, List, [], ◌∷◌, filter, find, Option, Some, None, option_map, is_some, refl, sym, ap, ◌∙◌, subst, inl, inr}
+use Rattle.std.proofs.Common.{◌≡◌, ◌≢◌, ℕ, ◌-◌, Bool, true, false, not, if◌then◌else◌, ◌&&◌, ◌||◌, nat_eq, eqb, List, [], ◌∷◌, map, filter, find, Option, Some, None, option_map, is_some, refl, sym, ap, ◌∙◌, subst, inl, inr}
 use Rattle.std.proofs.Math.Path.{fun_ext}
 use Rattle.std.specs.List.{All, Contains}
 use Rattle.std.specs.Option.{option_map_or, option_or}
 use Rattle.std.proofs.lemmas.Bool.{cases_Bool, eqb-true, eq-eqb, ne_eqb, eqb-false, and_parts}
 use Rattle.std.proofs.lemmas.Option.{same_Some}
-use Rattle.std.proofs.lemmas.List.Elements.{All-contains}
+use Rattle.std.proofs.lemmas.List.Elements.{All-contains, Contains-append_left}
 use Rattle.std.proofs.lemmas.List.Folds.{list_any-append, find-append}
 use Rattle.std.proofs.lemmas.Map.Views.{any-filter_same}
 use Rattle.lrc_code.specs.declared.codes.Code.{Code}
@@ -19,14 +19,17 @@ use Rattle.lrc_topology.specs.declared.seat.Held.{Held}
 use Rattle.lrc_stripes.specs.Levels.{home_of, homes_of}
 use Rattle.lrc_stripes.specs.Stored as stored
 use Rattle.lrc_stripes.specs.Stored.{Stored, has_node, HasNoHome}
-use Rattle.lrc_book.specs.States.{State, opening, has_stripe, code_of, taken_seats, is_online}
+use Rattle.lrc_book.specs.States.{State, opening, has_stripe, code_of, held_by, seats_of, taken_seats, is_online}
 use Rattle.lrc_book.specs.Placement.{with_home}
 use Rattle.lrc_book.specs.Steps.{with_stripe, is_other, without_stripe}
 use Rattle.lrc_book.specs.Goodness.{AreSeated}
 use Rattle.lrc_book.specs.Stores.{stored_of}
-use Rattle.lrc_book.specs.Changes.{is_of, without_home}
-use Rattle.lrc_book.proofs.MemberLemmas.{find-member, list_any-member}
-use Rattle.lrc_book.proofs.TableLemmas.{map-member}
+use Rattle.lrc_book.specs.Leases.{without_home}
+use Rattle.lrc_book.proofs.MemberLemmas.{map-member, find-member, list_any-member}
+
+-- the home is of the fragment of this number
+abbrev pub is_of : StripeNo → ℕ → Held → Bool
+is_of s f h = nat_eq h.stripe.value s.value && nat_eq h.fragment.value f
 
 -- ---- look-ups in lists that are filtered
 
@@ -109,7 +112,7 @@ module _ (nodes : List NodeInfo) (st : State) (s : StripeNo) (f : ℕ) (seated :
   no_home-by None e = refl
   no_home-by (Some h) e =
       let m = found-home st s f h e in
-      let there : Contains st.stripes h.stripe = All-contains (λ (h : Held). Contains st.stripes h.stripe) st.homes h seated.there m.0 in
+      let there : Contains st.stripes h.stripe = All-contains (λ (h : Held). Contains st.stripes h.stripe) (seats_of st) h seated.there (Contains-append_left st.homes (map held_by st.leases) h m.0) in
       let same : s.value ≡ h.stripe.value = sym (eqb-true h.stripe.value s.value (and_parts (eqb h.stripe.value s.value) (eqb h.fragment.value f) m.1).0) in
       let hit : has_stripe st s ≡ true = list_any-member (λ (u : StripeNo). eqb s.value u.value) st.stripes h.stripe there (eq-eqb s.value h.stripe.value same) in
       absurd (let both : true ≡ false = sym hit ∙ absent in cc)
@@ -184,22 +187,15 @@ module _ (nodes : List NodeInfo) (st : State) (spare : ℕ) (s : StripeNo) where
 -- ---- free seats
 
 module _ (nodes : List NodeInfo) (st : State) (spare : ℕ) (seat : Seat) where
-  -- a fragment's home is among the seats that are taken
-  held-by : (s : StripeNo) (f : ℕ) (o : Option Held) → home_of st.homes s f ≡ o → seat_in o ≡ Some seat → Contains (taken_seats st) seat
-  held-by s f None e is = absurd (cc)
-  held-by s f (Some h) e is =
-      let m = found-home st s f h e in
-      subst (Contains (taken_seats st)) (same_Some h.seat seat is) (map-member (λ (h : Held). h.seat) st.homes h m.0)
+  -- the home that is found on a seat is one of the state
+  held-on : (s : StripeNo) (f : ℕ) (o : Option Held) → home_of st.homes s f ≡ o → seat_in o ≡ Some seat → (h : Held) × Contains st.homes h × (h.seat ≡ seat)
+  held-on s f None e is = absurd (cc)
+  held-on s f (Some h) e is = (h, (found-home st s f h e).0, same_Some h.seat seat is)
 
-  -- a seat that is not taken is free
-  pub stored-free : (Contains (taken_seats st) seat → ⊥) → HasNoHome (stored_of nodes st spare) seat
-  stored-free none s f is = none (held-by s f (home_of st.homes s f) refl is)
+  -- a seat that is no home's is free
+  pub stored-free : ((h : Held) → Contains st.homes h → h.seat ≢ seat) → HasNoHome (stored_of nodes st spare) seat
+  stored-free none s f is = let m = held-on s f (home_of st.homes s f) refl is in none m.0 m.1 m.2
 
   pub stored-apart : All (λ a. a ≢ seat) (taken_seats st) → HasNoHome (stored_of nodes st spare) seat
-  stored-apart apart = stored-free (λ here. All-contains (λ a. a ≢ seat) (taken_seats st) seat apart here refl)
-
--- ---- the opening state
-
-at-opening : (o : Option NodeInfo) → is_some o ≡ option_map_or (is_online opening) o false
-at-opening None = refl
-at-opening (Some n) = refl
+  stored-apart apart = stored-free (λ h here. All-contains (λ a. a ≢ seat) (taken_seats st) h.seat apart
+      (map-member (λ (g : Held). g.seat) (seats_of st) h (Contains-append_left st.homes (map held_by st.leases) h here)))

@@ -1,23 +1,26 @@
 -- Internal: no public clause reaches these definitions.
 -- What a call changes of the state, told by its command and its reply.
-use Rattle.std.specs.Prelude.{◌≡◌, ℕ, Bool, not, ◌&&◌, nat_eq, filter, List, [], ◌∷◌, ◌++◌}
+use Rattle.std.specs.Prelude.{◌≡◌, not, filter, List, [], ◌∷◌, ◌++◌, Option, Some, None}
 use Rattle.lrc_code.specs.declared.numbers.StripeNo.{StripeNo}
 use Rattle.lrc_code.specs.declared.numbers.Fragment.{Fragment}
+use Rattle.lrc_code.specs.declared.numbers.NodeNo.{NodeNo}
 use Rattle.lrc_code.specs.declared.codes.Code.TheVariants.{Wide}
-use Rattle.lrc_code.specs.Numbers.{same_stripe}
 use Rattle.lrc_code.specs.Codes.{fragments}
 use Rattle.lrc_topology.specs.declared.seat.Seat.{Seat}
 use Rattle.lrc_topology.specs.declared.seat.Held.{Held}
 use Rattle.lrc_book.specs.declared.command.Command.{Command}
-use Rattle.lrc_book.specs.declared.command.Command.TheVariants.{Place, Drop, Fail, Down, Up, Join}
+use Rattle.lrc_book.specs.declared.command.Command.TheVariants.{Place, Drop, Lease, Done, Abandon, Revoke, Fail, Down, Up, Join}
 use Rattle.lrc_book.specs.declared.reply.Reply.{Reply}
-use Rattle.lrc_book.specs.declared.reply.Reply.TheVariants.{Placed, Dropped, Changed}
+use Rattle.lrc_book.specs.declared.reply.Reply.TheVariants.{Placed, Dropped, Granted, Ended, Changed}
 use Rattle.lrc_topology.specs.declared.NodeInfo.{NodeInfo}
-use Rattle.lrc_book.specs.States.{State}
+use Rattle.lrc_leases.specs.declared.lease.Lease.{Lease as LeaseRecord}
+use Rattle.lrc_leases.specs.Leased.{is_target_on}
+use Rattle.lrc_book.specs.States.{State, lease_of}
 use Rattle.lrc_code.specs.declared.numbers.SessionNo.{SessionNo}
 use Rattle.lrc_book.specs.declared.entry.Entry.{Entry}
 use Rattle.lrc_book.specs.Histories.{outcome_in}
 use Rattle.lrc_book.specs.Books.{BookView, world_of}
+use Rattle.lrc_book.specs.Leases.{with_lease, without_lease, moved_in}
 use Rattle.lrc_book.specs.Steps.{step, without_stripe, emptied, with_gone, with_down, without_down, without_gone}
 
 -- each of these fragments of a stripe on the seat at its place
@@ -29,18 +32,23 @@ held_at s _ _ = []
 abbrev pub with_placed : State → StripeNo → List Seat → State
 with_placed st s seats = record st { stripes = st.stripes ++ s ∷ []; homes = st.homes ++ held_at s (fragments Wide) seats }
 
--- the home of the fragment of this number
-abbrev pub is_of : StripeNo → ℕ → Held → Bool
-is_of s f h = same_stripe h.stripe s && nat_eq h.fragment.value f
+-- the state with the fragment's lease ended, and its target the fragment's home
+abbrev pub with_done : State → StripeNo → Fragment → Option LeaseRecord → State
+with_done st s f None = st
+with_done st s f (Some lease) = moved_in st s f lease.target
 
--- the state without the home of a fragment
-abbrev pub without_home : State → StripeNo → Fragment → State
-without_home st s f = record st { homes = filter (λ h. not (is_of s f.value h)) st.homes }
+-- the leases whose target is on the node taken out
+abbrev pub without_targets : State → NodeNo → State
+without_targets st n = record st { leases = filter (λ l. not (is_target_on n l)) st.leases }
 
 -- the state that a command with this reply leaves
 abbrev pub changed_by : State → Command → Reply → State
 changed_by st (Place s) (Placed seats) = with_placed st s seats
 changed_by st (Drop s) Dropped = without_stripe st s
+changed_by st (Lease s f) (Granted lease kind) = with_lease st lease
+changed_by st (Done s f e) Ended = with_done st s f (lease_of st s f)
+changed_by st (Abandon s f e) Ended = without_lease st s f
+changed_by st (Revoke s f) Ended = without_lease st s f
 changed_by st (Fail n) Changed = with_gone (emptied st n) n
 changed_by st (Down n) Changed = with_down st n
 changed_by st (Up n) Changed = without_down st n

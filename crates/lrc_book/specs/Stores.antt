@@ -1,8 +1,9 @@
 -- Internal: no public clause reaches these definitions.
 -- What a book keeps of a state, and the room that it has.
-use Rattle.std.specs.Prelude.{◌≡◌, ◌≢◌, ◌+◌, ◌≤◌, ℕ, Bool, ◌&&◌, ◌||◌, nat_le, vec_len, vec_capacity, List, length, Some, IsSome}
+use Rattle.std.specs.Prelude.{◌≡◌, ◌≢◌, ◌+◌, ◌≤◌, ℕ, Bool, ◌&&◌, ◌||◌, true, if◌then◌else◌, nat_le, vec_len, vec_capacity, List, length, Option, Some, None, IsSome}
 use Rattle.std.specs.List.{All, Contains}
 use Rattle.lrc_code.specs.declared.codes.Code.{Code}
+use Rattle.lrc_code.specs.declared.codes.Code.TheVariants.{Wide}
 use Rattle.lrc_code.specs.declared.numbers.StripeNo.{StripeNo}
 use Rattle.lrc_code.specs.declared.numbers.NodeNo.{NodeNo}
 use Rattle.lrc_code.specs.declared.numbers.Fragment.{Fragment}
@@ -15,10 +16,15 @@ use Rattle.lrc_slots.specs.Tables.{slots_of}
 use Rattle.lrc_stripes.specs.Levels.{homes_of}
 use Rattle.lrc_stripes.specs.Stored.{Stored}
 use Rattle.lrc_stripes.specs.Tables.{stored_in}
+use Rattle.lrc_leases.specs.declared.lease.Lease.{Lease}
+use Rattle.lrc_leases.specs.Leased.{leased_of}
+use Rattle.lrc_leases.specs.Tables.{leased_in}
 use Rattle.lrc_book.specs.declared.entry.Entry.{Entry}
 use Rattle.lrc_book.specs.declared.store.Store.{Store}
-use Rattle.lrc_book.specs.States.{State, has_stripe, code_of, takes_seats, is_online, online_at}
+use Rattle.lrc_book.specs.States.{State, has_stripe, lease_of, code_of, takes_seats, is_online, online_at}
 use Rattle.lrc_book.specs.Placement.{chosen}
+use Rattle.lrc_book.specs.declared.kind.Kind.{Kind}
+use Rattle.lrc_book.specs.Repairs.{kind, is_beyond_repair}
 use Rattle.lrc_book.specs.Histories.{state_after, IsLegal}
 use Rattle.lrc_book.specs.Goodness.{AreSeated}
 use Rattle.lrc_book.specs.Ties.{table_of, bars_fault, bars_upgrade}
@@ -34,6 +40,7 @@ pub record IsOf (st : State) (s : Store) : Type 0 where
   pub seated : AreSeated s.topology st
   pub table_is : slots_of s.table ≡ table_of s.topology st
   pub stripes_is : stored_in s.stripes ≡ stored_of s.topology st (stored_in s.stripes).spare
+  pub leases_is : leased_in s.leases ≡ leased_of st.leases (leased_in s.leases).spare
   pub gone_is : s.gone.items ≡ st.gone
   pub down_is : s.down.items ≡ st.down
 
@@ -49,9 +56,11 @@ pub record IsOfBut (node : NodeNo) (was st : State) (s : Store) : Type 0 where
   pub there : IsSome (node_at s.topology node)
   pub stripes_stay : was.stripes ≡ st.stripes
   pub homes_stay : was.homes ≡ st.homes
+  pub leases_stay : was.leases ≡ st.leases
   pub others_stay : (n : NodeInfo) → n.number ≢ node → StaysAsItWas was st n
   pub table_is : slots_of s.table ≡ table_of s.topology was
   pub stripes_is : stored_in s.stripes ≡ stored_of s.topology was (stored_in s.stripes).spare
+  pub leases_is : leased_in s.leases ≡ leased_of was.leases (leased_in s.leases).spare
   pub gone_is : s.gone.items ≡ st.gone
   pub down_is : s.down.items ≡ st.down
 
@@ -61,7 +70,9 @@ IsTied s = (st : State) × IsOf st s
 
 -- there is room for one more command of any kind
 abbrev pub has_room : Store → Bool
-has_room s = nat_le 1 (stored_in s.stripes).spare && (nat_le (vec_len s.gone + 1) (vec_capacity s.gone) && nat_le (vec_len s.down + 1) (vec_capacity s.down))
+has_room s =
+    nat_le 1 (stored_in s.stripes).spare
+    && (nat_le 1 (leased_in s.leases).spare && (nat_le (vec_len s.gone + 1) (vec_capacity s.gone) && nat_le (vec_len s.down + 1) (vec_capacity s.down)))
 
 -- the stripe is there, the fragment has no home, and this seat is chosen for it
 pub record IsNextHome (nodes : List NodeInfo) (st : State) (s : StripeNo) (f : Fragment) (seat : Seat) : Type 0 where
@@ -69,10 +80,25 @@ pub record IsNextHome (nodes : List NodeInfo) (st : State) (s : StripeNo) (f : F
   pub homeless : All (λ h. h.stripe ≡ s → h.fragment ≢ f) st.homes
   pub chosen_is : chosen nodes st s f ≡ Some seat
 
+-- the stripe is there, the fragment has no lease, and the new one's target is chosen for it
+pub record IsGrant (nodes : List NodeInfo) (st : State) (lease : Lease) : Type 0 where
+  pub there : has_stripe st lease.stripe ≡ true
+  pub new : lease_of st lease.stripe lease.fragment ≡ None
+  pub chosen_is : chosen nodes st lease.stripe lease.fragment ≡ Some lease.target
+
+-- from what a fragment is rebuilt, if it can be
+abbrev pub repair_of : List NodeInfo → State → StripeNo → Fragment → Option Kind
+repair_of nodes st s f = if is_beyond_repair nodes st s f then None else Some (kind nodes st s f)
+
 -- what is barred, with what one more seat bars
 abbrev pub with_held : List NodeInfo → Code → StripeNo → Fragment → Barred → Held → Barred
 with_held nodes code s f b h =
     record { faults = λ d. b.faults d || bars_fault nodes s f d h; upgrades = λ d. b.upgrades d || bars_upgrade nodes code s f d h }
+
+-- the same with a seat of another fragment of the stripe, if it has one
+abbrev pub with_seat : List NodeInfo → StripeNo → Fragment → Barred → Fragment → Option Seat → Barred
+with_seat nodes s f b other None = b
+with_seat nodes s f b other (Some seat) = with_held nodes Wide s f b (record { stripe = s; fragment = other; seat = seat })
 
 -- what a book keeps is the store of the state after its history, which is legal and not longer than the limit
 pub record IsKept (store : Store) (limit : ℕ) (history : List Entry) : Type 0 where

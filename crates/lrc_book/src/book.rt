@@ -1,14 +1,14 @@
 ghost use Rattle.std.specs.Prelude.{◌≡◌, ◌↔◌, ◌<◌, ◌≤◌, ◌++◌, ◌∷◌, [], true, IfOk, IfErr, OnErr, IsOk, IsErrOf, length};
 ghost use Rattle.lrc_code.specs.declared.fault.Fault.TheVariants as fault;
 ghost use Rattle.lrc_topology.specs.Nodes.{AreNodes};
-ghost use Rattle.lrc_book.specs.States.{homes_shown, load_shown, level_shown, missing_shown, mode_shown};
+ghost use Rattle.lrc_book.specs.States.{homes_shown, load_shown, level_shown, missing_shown, lease_of, mode_shown};
 ghost use Rattle.lrc_book.specs.Histories.{outcome_in, IsLegal};
 ghost use Rattle.lrc_book.specs.Goodness.{IsGood};
 ghost use Rattle.lrc_book.specs.Books.{world_of, state_of, FaultFits};
 
 use crate::store::Store;
-use crate::{Command, Entry, Level, Mode, Reply, Seat};
-use lrc_code::{Fault, LossMask, NodeNo, SessionNo, StripeNo};
+use crate::{Command, Entry, Lease, Level, Mode, Reply, Seat};
+use lrc_code::{Fault, Fragment, LossMask, NodeNo, SessionNo, StripeNo};
 use lrc_topology::Topology;
 use std::alloc::Global;
 use std::marker::Model;
@@ -16,7 +16,7 @@ use std::marker::Model;
 /// The most entries of a history.
 pub const HISTORY_LIMIT: usize = 1_000_000;
 
-/// The stripes of a store, the seats of their fragments and the modes of the nodes, with all that was asked and
+/// The stripes of a store, the seats of their fragments, the live leases and the modes of the nodes, with all that was asked and
 /// answered.
 #[derive(Drop)]
 pub struct Book {
@@ -104,6 +104,13 @@ impl Book {
         ensures { result ≡ missing_shown self.now.nodes (state_of self.now) stripe }
     {
         self.store.stripes.missing(stripe)
+    }
+
+    /// The live lease of a fragment of a stripe, if it has one.
+    pub fn lease(&self, stripe: StripeNo, fragment: Fragment) -> Option<Lease>
+        ensures { result ≡ lease_of (state_of self.now) stripe fragment }
+    {
+        self.store.leases.lease(stripe, fragment)
     }
 
     /// The mode of a node, and whether it is online; `None` where the store has no such node.

@@ -1,4 +1,5 @@
 //! The commands: of each the reply, and beside it the change that follows.
 
+mod leases;
 mod nodes;
 mod stripes;

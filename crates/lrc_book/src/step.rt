@@ -28,7 +28,7 @@ impl Book {
         if self.history.len() == self.limit {
             return Err(Fault::HistoryFull);
         }
-        let reply = self.store.reply(command);
+        let reply = self.store.reply(self.history.as_slice(), session, command);
         Ok(Plan {
             entry: Entry {
                 session,
@@ -90,13 +90,24 @@ impl Book {
 }
 
 impl Store {
-    /// The reply of the plain placement object.
-    fn reply(&self, command: Command) -> Reply
-        ensures { (st : State) (past : List Entry) (session : SessionNo) → IsOf st self.now → result ≡ (step self.now.topology past st session command).0 }
+    /// The reply of the plain placement object after these entries.
+    fn reply(&self, history: &[Entry], session: SessionNo, command: Command) -> Reply
+        requires { length history.now < 1000000 }
+        ensures { (st : State) → IsOf st self.now → result ≡ (step self.now.topology history.now st session command).0 }
     {
         match command {
             Command::Place(stripe) => self.place_reply(stripe),
             Command::Drop(stripe) => self.drop_reply(stripe),
+            Command::Lease(stripe, fragment) => {
+                self.lease_reply(history, session, stripe, fragment)
+            }
+            Command::Done(stripe, fragment, epoch) => {
+                self.done_reply(session, stripe, fragment, epoch)
+            }
+            Command::Abandon(stripe, fragment, epoch) => {
+                self.abandon_reply(session, stripe, fragment, epoch)
+            }
+            Command::Revoke(stripe, fragment) => self.revoke_reply(stripe, fragment),
             Command::Fail(node) => self.fail_reply(node),
             Command::Down(node) => self.down_reply(node),
             Command::Up(node) => self.up_reply(node),
@@ -116,6 +127,12 @@ impl Store {
         match (command, reply) {
             (Command::Place(stripe), Reply::Placed(seats)) => self.place(stripe, seats),
             (Command::Drop(stripe), Reply::Dropped) => self.drop_stripe(stripe),
+            (Command::Lease(_, _), Reply::Granted(lease, _)) => self.grant(*lease),
+            (Command::Done(stripe, fragment, _), Reply::Ended) => self.move_in(stripe, fragment),
+            (Command::Abandon(stripe, fragment, _), Reply::Ended) => {
+                self.end_lease(stripe, fragment)
+            }
+            (Command::Revoke(stripe, fragment), Reply::Ended) => self.end_lease(stripe, fragment),
             (Command::Fail(node), Reply::Changed) => self.fail(node),
             (Command::Down(node), Reply::Changed) => self.down(node),
             (Command::Up(node), Reply::Changed) => self.up(node),

@@ -6,22 +6,25 @@ ghost use Rattle.lrc_stripes.specs.Tables.{stored_in};
 ghost use Rattle.lrc_book.specs.declared.mode.Mode.TheVariants.{Active, Gone};
 ghost use Rattle.lrc_book.specs.States.{State, opening, has_number, has_stripe};
 ghost use Rattle.lrc_book.specs.Placement.{with_home};
-ghost use Rattle.lrc_book.specs.Changes.{without_home};
+ghost use Rattle.lrc_book.specs.Leases.{without_lease, without_home};
 ghost use Rattle.lrc_book.specs.Stores.{IsOf, IsOfBut, IsTied, IsNextHome, has_room};
 
 use crate::{Mode, Seat};
 use lrc_code::{Fault, Fragment, NodeNo, StripeNo};
+use lrc_leases::Leases;
 use lrc_slots::SlotTable;
 use lrc_stripes::Stripes;
 use lrc_topology::Topology;
 use std::alloc::Global;
 
-/// What a book keeps of its state: the taken slots, the homes of fragments, and the modes of nodes.
+/// What a book keeps of its state: the taken slots, the homes of fragments, the live leases, and the modes of
+/// nodes.
 #[derive(Drop)]
 pub(crate) struct Store {
     pub(crate) topology: Topology,
     pub(crate) table: SlotTable,
     pub(crate) stripes: Stripes,
+    pub(crate) leases: Leases,
     pub(crate) gone: Vec<NodeNo>,
     pub(crate) down: Vec<NodeNo>,
 }
@@ -39,6 +42,7 @@ impl Store {
             topology,
             table,
             stripes,
+            leases: Leases::new(alloc),
             gone: Vec::with_capacity(alloc, nodes)?,
             down: Vec::with_capacity(alloc, nodes)?,
         })
@@ -54,6 +58,7 @@ impl Store {
         ensures err { IfErr result (λ e. e ≡ fault.OutOfMemory) }
     {
         self.stripes.reserve(1)?;
+        self.leases.reserve(1)?;
         self.gone.reserve(1)?;
         self.down.reserve(1)?;
         Ok(())
@@ -121,6 +126,18 @@ impl Store {
         if let Some(seat) = self.stripes.home(stripe, fragment) {
             self.table.free(seat.node, seat.slot);
             self.stripes.clear_home(stripe, fragment);
+        }
+    }
+
+    /// Ends the lease of a fragment, if it has one, and gives its target back.
+    pub(crate) fn end_lease(&mut self, stripe: StripeNo, fragment: Fragment)
+        requires { IsTied self.old }
+        ensures nodes { self.new.topology ≡ self.old.topology }
+        ensures lists { (self.new.gone ≡ self.old.gone) × (self.new.down ≡ self.old.down) }
+        ensures kept { (st : State) → IsOf st self.old → IsOf (without_lease st stripe fragment) self.new }
+    {
+        if let Some(lease) = self.leases.remove(stripe, fragment) {
+            self.table.free(lease.target.node, lease.target.slot);
         }
     }
 

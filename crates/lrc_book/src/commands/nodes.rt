@@ -1,9 +1,11 @@
 //! Commands on nodes.
 
-ghost use Rattle.std.specs.Prelude.{◌≡◌, true};
+ghost use Rattle.std.specs.Prelude.{◌≡◌, true, IsSome};
+ghost use Rattle.lrc_topology.specs.Nodes.{node_at};
 ghost use Rattle.lrc_book.specs.declared.reply.Reply.TheVariants.{Changed};
 ghost use Rattle.lrc_book.specs.States.{State};
 ghost use Rattle.lrc_book.specs.Steps.{node_outcome, fail_outcome, down_outcome, up_outcome, join_outcome, emptied, with_gone, with_down, without_down, without_gone};
+ghost use Rattle.lrc_book.specs.Changes.{without_targets};
 ghost use Rattle.lrc_book.specs.Stores.{IsOf, has_room};
 
 use crate::store::Store;
@@ -30,7 +32,7 @@ impl Store {
         self.node_reply(node, self.is_gone(node))
     }
 
-    /// Takes a node out of the store: gives the seats of all homes on it back, and clears these homes.
+    /// Takes a node out of the store: with the homes on it and the leases that hang on it.
     pub(crate) fn fail(&mut self, node: NodeNo)
         ghost st: { State }
         requires kept { IsOf st self.old }
@@ -45,15 +47,44 @@ impl Store {
         self.follow(node);
     }
 
-    /// Gives the seats of all homes on a node back, and clears these homes.
+    /// Takes the homes on a node and the leases that hang on it out, and gives their seats back.
     fn empty(&mut self, node: NodeNo)
         ghost st: { State }
-        requires { IsOf st self.old }
+        requires kept { IsOf st self.old }
+        requires known { IsSome (node_at self.old.topology node) }
+        ensures nodes { self.new.topology ≡ self.old.topology }
+        ensures lists { (self.new.gone ≡ self.old.gone) × (self.new.down ≡ self.old.down) }
+        ensures kept { IsOf (emptied st node) self.new }
+    {
+        self.end_targets(node);
+        self.clear_homes(node);
+    }
+
+    /// Ends the leases whose target is on a node.
+    fn end_targets(&mut self, node: NodeNo)
+        ghost st: { State }
+        requires kept { IsOf st self.old }
+        requires known { IsSome (node_at self.old.topology node) }
+        ensures nodes { self.new.topology ≡ self.old.topology }
+        ensures lists { (self.new.gone ≡ self.old.gone) × (self.new.down ≡ self.old.down) }
+        ensures kept { IsOf (without_targets st node) self.new }
+    {
+        while let Some(lease) = self.leases.targets_on(node).next() {
+            self.end_lease(lease.stripe, lease.fragment);
+        }
+    }
+
+    /// Clears the homes on a node on which no target is, and ends the leases of their fragments.
+    fn clear_homes(&mut self, node: NodeNo)
+        ghost st: { State }
+        requires kept { IsOf (without_targets st node) self.old }
+        requires known { IsSome (node_at self.old.topology node) }
         ensures nodes { self.new.topology ≡ self.old.topology }
         ensures lists { (self.new.gone ≡ self.old.gone) × (self.new.down ≡ self.old.down) }
         ensures kept { IsOf (emptied st node) self.new }
     {
         while let Some((stripe, fragment)) = self.stripes.homes_on(node).next() {
+            self.end_lease(stripe, fragment);
             self.clear_home(stripe, fragment);
         }
     }

@@ -88,7 +88,7 @@ impl Store {
         }
     }
 
-    /// Takes a stripe out, and gives the seats of its homes back.
+    /// Takes a stripe out, and gives the seats of its homes and of its leases back.
     pub(crate) fn drop_stripe(&mut self, stripe: StripeNo)
         ghost st: { State }
         requires kept { IsOf st self.old }
@@ -97,6 +97,7 @@ impl Store {
         ensures kept { IsOf (without_stripe st stripe) self.new }
     {
         for fragment in Fragment::all().iter() {
+            self.end_lease(stripe, *fragment);
             self.clear_home(stripe, *fragment);
         }
         self.stripes.remove(stripe);

@@ -17,9 +17,11 @@ follow-requires g c =
         there = told.0;
         stripes_stay = refl;
         homes_stay = refl;
+        leases_stay = refl;
         others_stay = others-down g.st c.args.node;
         table_is = kept.table_is;
         stripes_is = kept.stripes_is;
+        leases_is = kept.leases_is;
         gone_is = kept.gone_is;
         down_is = c.push_reserved.ensures.items ∙ ap (λ (xs : List NodeNo). xs ++ c.args.node ∷ []) kept.down_is;
       },

@@ -1,11 +1,7 @@
-use Rattle.std.proofs.Common.{◌≡◌}
-use Rattle.lrc_slots.specs.Slots.{load_at}
-use Rattle.lrc_slots.specs.Tables.{slots_of}
-use Rattle.lrc_book.proofs.EmptyLemmas.{IsEmptying}
 use Rattle.lrc_book.proofs.store.Store.empty.Given as goal
 
-abbrev pub invariant-loop-stripe : goal.invariant-loop-stripe
-invariant-loop-stripe g l = record { emptying : IsEmptying g.st l.node l.self; nodes : l.self.topology ≡ l.initial.self.topology; gone : l.self.gone ≡ l.initial.self.gone; down : l.self.down ≡ l.initial.self.down }
+abbrev pub ghost-end_targets : goal.ghost-end_targets
+ghost-end_targets g a = g.st
 
-abbrev pub decreases-loop-stripe : goal.decreases-loop-stripe
-decreases-loop-stripe g l = load_at (slots_of l.self.table) l.node
+abbrev pub ghost-clear_homes : goal.ghost-clear_homes
+ghost-clear_homes g a = g.st

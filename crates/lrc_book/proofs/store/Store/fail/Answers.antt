@@ -9,6 +9,9 @@ use Rattle.lrc_book.proofs.ModeLemmas.{others-gone}
 use Rattle.lrc_book.proofs.ToldLemmas.{fail-told}
 use Rattle.lrc_book.proofs.store.Store.fail.Goals as goal
 
+pub empty-requires : goal.empty-requires
+empty-requires g c = (c.requires.0, fail-told c.args.self.now.topology g.st c.args.node c.requires.1.1)
+
 pub push_reserved-requires : goal.push_reserved-requires
 push_reserved-requires g c = rw c.empty.ensures.lists.0 (search rules)
 
@@ -23,9 +26,11 @@ follow-requires g c =
         there = rw c.empty.ensures.nodes (fail-told c.args.self.now.topology g.st c.args.node c.requires.1.1);
         stripes_stay = refl;
         homes_stay = refl;
+        leases_stay = refl;
         others_stay = others-gone st c.args.node;
         table_is = kept.table_is;
         stripes_is = kept.stripes_is;
+        leases_is = kept.leases_is;
         gone_is = c.push_reserved.ensures.items ∙ ap (λ (xs : List NodeNo). xs ++ c.args.node ∷ []) kept.gone_is;
         down_is = filter_same _ (λ (m : NodeNo). not (nat_eq c.args.node.value m.value)) _ (λ x b f' r. search rules) _ _ c.retain.ensures.filtered ∙ ap (filter (λ (m : NodeNo). not (nat_eq c.args.node.value m.value))) kept.down_is;
       },

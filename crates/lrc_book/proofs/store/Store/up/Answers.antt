@@ -18,9 +18,11 @@ follow-requires g c =
         there = told;
         stripes_stay = refl;
         homes_stay = refl;
+        leases_stay = refl;
         others_stay = others-up g.st c.args.node;
         table_is = kept.table_is;
         stripes_is = kept.stripes_is;
+        leases_is = kept.leases_is;
         gone_is = kept.gone_is;
         down_is = filter_same _ (λ (m : NodeNo). not (nat_eq c.args.node.value m.value)) _ (λ x b f' r. search rules) _ _ c.retain.ensures.filtered ∙ ap (filter (λ (m : NodeNo). not (nat_eq c.args.node.value m.value))) kept.down_is;
       },

@@ -1,0 +1,277 @@
+-- A lease that is granted, and one that ends.
+use Rattle.std.proofs.Common.{◌≡◌, ◌≢◌, ℕ, ◌&&◌, IsSomeAnd, lt-ltb, ◌-◌, ◌≤◌, ◌<◌, Bool, true, false, not, nat_eq, nat_le, nat_lt, eqb, cond, List, [], ◌∷◌, ◌++◌, map, filter, find, Option, Some, None, option_map, IsSome, IsTrue, refl, sym, ap, ◌∙◌, subst, inl, inr, arith}
+use Rattle.std.specs.List.{All, Contains, count_by}
+use Rattle.std.specs.Option.{option_map_or}
+use Rattle.std.proofs.lemmas.Bool.{cases_Bool, eqb-true, eq-eqb}
+use Rattle.std.proofs.lemmas.List.Elements.{All-contains, Contains-append_left, Contains-push, Contains-push_cases}
+use Rattle.lrc_code.specs.declared.numbers.StripeNo.{StripeNo}
+use Rattle.lrc_code.specs.declared.numbers.NodeNo.{NodeNo}
+use Rattle.lrc_code.specs.declared.numbers.Fragment.{Fragment}
+use Rattle.lrc_code.proofs.NumbersLemmas.{equal_fragments, equal_stripes}
+use Rattle.lrc_code.specs.Numbers.{same_stripe}
+use Rattle.lrc_topology.specs.declared.NodeInfo.{NodeInfo}
+use Rattle.lrc_topology.specs.declared.seat.Seat.{Seat}
+use Rattle.lrc_topology.specs.declared.seat.Held.{Held}
+use Rattle.lrc_topology.specs.Nodes.{AreNodes, node_at}
+use Rattle.lrc_topology.specs.Seats.{load_of, is_taken}
+use Rattle.lrc_slots.specs.Slots.{Slots, with_taken, with_free, load_at, least_free_at}
+use Rattle.lrc_slots.specs.Tables as slot_tables
+use Rattle.lrc_slots.specs.Tables.{slots_of}
+use Rattle.lrc_stripes.specs.Stored.{Stored, has_slot, HasNoHome}
+use Rattle.lrc_stripes.specs.Stored as stored
+use Rattle.lrc_stripes.specs.Levels.{home_of}
+use Rattle.lrc_stripes.specs.Tables as tables
+use Rattle.lrc_stripes.specs.Tables.{stored_in}
+use Rattle.lrc_leases.specs.declared.lease.Lease.{Lease}
+use Rattle.lrc_leases.specs.Leased.{Leased, is_of, is_target_on, leased_of, with_spare}
+use Rattle.lrc_leases.specs.Leased as leased
+use Rattle.lrc_leases.specs.Tables as lease_tables
+use Rattle.lrc_leases.specs.Tables.{leased_in}
+use Rattle.lrc_leases.proofs.ListLemmas.{find-some, is_of-parts, is_of-both, contains-leases_in, leases_in-own, leased_of-less, leased_of-append}
+use Rattle.lrc_book.specs.declared.store.Store.{Store}
+use Rattle.lrc_book.specs.States.{State, has_stripe, is_home_of, held_by, seats_of, taken_seats, lease_of}
+use Rattle.lrc_book.specs.Placement.{with_home}
+use Rattle.lrc_book.specs.Leases.{with_lease, without_lease, without_home, moved_in}
+use Rattle.lrc_book.specs.Goodness.{AreSeated, IsStanding}
+use Rattle.lrc_book.specs.Ties.{table_of}
+use Rattle.lrc_book.specs.Stores.{IsOf, IsGrant, stored_of}
+use Rattle.lrc_book.proofs.MemberLemmas.{map-member, filter-member, member-filter, member-list_any}
+use Rattle.lrc_book.proofs.NodeLemmas.{member-taken}
+use Rattle.lrc_book.proofs.PairLemmas.{pairs-across, pairs-right, pairs-members}
+use Rattle.lrc_book.proofs.SeatingLists.{pairs-unmap}
+use Rattle.lrc_book.proofs.SeatingLemmas.{held-single}
+use Rattle.lrc_book.proofs.LeaseGoodLemmas.{granted-seated, ended-seated, moved-seated}
+use Rattle.lrc_book.proofs.TakenLemmas.{taken-cases, home-seat, target-seat, taken-same, table-more, table-less}
+use Rattle.lrc_book.proofs.StoredLemmas.{find-gone, stored-home, stored-free, own-spare}
+use Rattle.lrc_book.proofs.PlacingLemmas.{chosen-here, chosen-taken}
+
+-- what is kept of leases with some room is so with its own
+pub own-room : (ls : List Lease) (t : Leased) (spare : ℕ) → t ≡ leased_of ls spare → t ≡ leased_of ls t.spare
+own-room ls t spare e = e ∙ ap (leased_of ls) (sym (ap (λ (u : Leased). u.spare) e))
+
+-- ---- the lease of a fragment
+
+module _ (nodes : List NodeInfo) (st : State) (s : StripeNo) (f : Fragment) (l : Lease) (live : lease_of st s f ≡ Some l) (good : AreSeated nodes st) where
+  abbrev pub stays : Lease → Bool
+  stays k = not (is_of s f.value k)
+
+  pub there-lease : Contains st.leases l × (is_of s f.value l ≡ true)
+  there-lease = find-some (is_of s f.value) st.leases l live
+
+  -- it is the only one of its fragment
+  pub only-lease : (k : Lease) → Contains st.leases k → is_of s f.value k ≡ true → k ≡ l
+  only-lease k here hit =
+      let parts = is_of-parts s f.value k hit in
+      let found = contains-leases_in st.leases k good.one_lease here in
+      let at : lease_of st s f ≡ Some k =
+      subst (λ (g : Fragment). lease_of st s g ≡ Some k) (equal_fragments k.fragment f parts.1) (subst (λ (r : StripeNo). lease_of st r k.fragment ≡ Some k) (equal_stripes k.stripe s parts.0) found) in
+      let same : Some k ≡ Some l = sym at ∙ live in cc
+
+  abbrev pub targets : List Held
+  targets = map held_by st.leases
+
+  left-other : (k : Lease) → stays k ≡ true → k ≢ l
+  left-other k keeps same = (let both : true ≡ false = sym keeps ∙ ap stays same ∙ ap not there-lease.1 in cc)
+
+  -- no home is on its target, and no other lease's target
+  pub home-apart : (h : Held) → Contains st.homes h → h.seat ≢ l.target
+  home-apart h here =
+      All-contains (λ (y : Held). h.seat ≢ y.seat) targets (held_by l)
+      (All-contains (λ (x : Held). All (λ (y : Held). x.seat ≢ y.seat) targets) st.homes h (pairs-across (λ (x y : Held). x.seat ≢ y.seat) st.homes targets (held-single nodes st good)) here)
+      (map-member held_by st.leases l there-lease.0)
+
+  pub target-apart : (k : Lease) → Contains st.leases k → stays k ≡ true → k.target ≢ l.target
+  target-apart k here keeps =
+      pairs-members (λ (x y : Lease). x.target ≢ y.target) (λ x y r same. r (sym same)) st.leases k l
+      (pairs-unmap (λ (x y : Held). x.seat ≢ y.seat) held_by st.leases (pairs-right (λ (x y : Held). x.seat ≢ y.seat) st.homes targets (held-single nodes st good))) here there-lease.0 (left-other k keeps)
+
+  abbrev pub ended : State
+  ended = without_lease st s f
+
+  -- its target given back
+  pub end-table : with_free (table_of nodes st) l.target.node l.target.slot ≡ table_of nodes (without_lease st s f)
+  end-table = table-less nodes st l.target (taken_seats ended)
+      (λ b here other. elim (taken-cases st b here) [
+        | inl (h, at, e) ↦ subst (Contains (taken_seats ended)) e (home-seat ended h at)
+        | inr (k, at, e) ↦ elim (cases_Bool (is_of s f.value k)) [
+          | inl hit ↦ absurd (other (sym e ∙ ap (λ (x : Lease). x.target) (only-lease k at hit)))
+          | inr miss ↦ subst (Contains (taken_seats ended)) e (target-seat ended k (member-filter stays st.leases k at (ap not miss)))
+        ]
+      ])
+      (λ b here. elim (taken-cases ended b here) [
+        | inl (h, at, e) ↦ (subst (Contains (taken_seats st)) e (home-seat st h at), λ same. home-apart h at (e ∙ same))
+        | inr (k, at, e) ↦
+            let m = filter-member stays st.leases k at in
+            (subst (Contains (taken_seats st)) e (target-seat st k m.0), λ same. target-apart k m.0 m.1 (e ∙ same))
+      ])
+
+  abbrev pub own : Held
+  own = record { stripe = s; fragment = f; seat = l.target }
+
+  abbrev pub homeless : State
+  homeless = without_home st s f
+
+  abbrev pub settled : State
+  settled = moved_in st s f l.target
+
+  -- as a home its slot stays taken
+  pub move-table : table_of nodes (without_home st s f) ≡ table_of nodes (moved_in st s f l.target)
+  move-table = ap (λ (t : NodeNo → ℕ → Bool). record (table_of nodes st) { taken = t }) (taken-same (taken_seats homeless) (taken_seats settled)
+      (λ b here. elim (taken-cases homeless b here) [
+        | inl (h, at, e) ↦ subst (Contains (taken_seats settled)) e (home-seat settled h (Contains-append_left homeless.homes (own ∷ []) h at))
+        | inr (k, at, e) ↦ subst (Contains (taken_seats settled)) e (elim (cases_Bool (is_of s f.value k)) [
+          | inl hit ↦ subst (λ (x : Lease). Contains (taken_seats settled) x.target) (sym (only-lease k at hit)) (home-seat settled own (Contains-push homeless.homes own))
+          | inr miss ↦ target-seat settled k (member-filter stays st.leases k at (ap not miss))
+        ])
+      ])
+      (λ b here. elim (taken-cases settled b here) [
+        | inr (k, at, e) ↦ subst (Contains (taken_seats homeless)) e (target-seat homeless k (filter-member stays st.leases k at).0)
+        | inl (h, at, e) ↦ subst (Contains (taken_seats homeless)) e (elim (Contains-push_cases homeless.homes own h at) [
+          | inl old ↦ home-seat homeless h old
+          | inr new ↦ subst (λ (x : Held). Contains (taken_seats homeless) x.seat) new (target-seat homeless l there-lease.0)
+        ])
+      ]))
+
+  standing-slot : (o : Option NodeInfo) (P : Type 0) → IsSomeAnd o (λ n. (l.target.slot < n.slots) × P) → option_map_or (λ n. nat_lt l.target.slot n.slots) o false ≡ true
+  standing-slot (Some n) P both = lt-ltb l.target.slot n.slots both.0
+  standing-slot None P both = absurd both
+
+  -- its target is a slot of a node
+  pub target-slot : option_map_or (λ n. nat_lt l.target.slot n.slots) (node_at nodes l.target.node) false ≡ true
+  target-slot = standing-slot (node_at nodes l.target.node) _ (All-contains (IsStanding nodes st) (taken_seats st) l.target good.standing (target-seat st l there-lease.0))
+
+  known-node : (o : Option NodeInfo) (P : Type 0) → IsSomeAnd o (λ n. (l.target.slot < n.slots) × P) → IsSome o
+  known-node (Some n) P both = refl
+  known-node None P both = absurd both
+
+  -- which is one of the nodes
+  pub target-node : IsSome (node_at nodes l.target.node)
+  target-node = known-node (node_at nodes l.target.node) _ (All-contains (IsStanding nodes st) (taken_seats st) l.target good.standing (target-seat st l there-lease.0))
+
+-- ---- what is kept when it ends
+
+-- where there is no lease none is taken out
+none-out : (ls : List Lease) (s : StripeNo) (f : ℕ) → find (is_of s f) ls ≡ None → filter (λ l. not (is_of s f l)) ls ≡ ls
+none-out [] s f e = refl
+none-out (l ∷ ls) s f e = elim (cases_Bool (is_of s f l)) [
+  | inl hit ↦ absurd (let never : Some l ≡ None = rw hit at e in cc)
+  | inr miss ↦ rw miss (ap (λ xs. l ∷ xs) (none-out ls s f (rw miss at e)))
+]
+
+module _ (st : State) (k : Store) (kept : IsOf st k) (s : StripeNo) (f : Fragment) where
+  -- the lease that is kept is one of the state
+  pub lease-kept : (leased_in k.leases).leases s f.value ≡ lease_of st s f
+  lease-kept = ap (λ (t : Leased). t.leases s f.value) kept.leases_is
+
+  -- the leases without it
+  pub leases-out : (leases : lease_tables.Table) → leased_in leases ≡ with_spare (leased.without_lease (leased_in k.leases) s f) (leased_in leases).spare
+      → leased_in leases ≡ leased_of (without_lease st s f).leases (leased_in leases).spare
+  leases-out leases out =
+      out ∙ ap (λ (t : Leased). with_spare (leased.without_lease t s f) (leased_in leases).spare) kept.leases_is
+      ∙ ap (λ (t : Leased). with_spare t (leased_in leases).spare) (sym (leased_of-less st.leases s f (leased_in k.leases).spare))
+
+  -- its target's slot is taken
+  pub end-taken : (l : Lease) → lease_of st s f ≡ Some l → (slots_of k.table).taken l.target.node l.target.slot ≡ true
+  end-taken l live =
+      ap (λ (t : Slots). t.taken l.target.node l.target.slot) kept.table_is
+      ∙ member-taken (taken_seats st) l.target.node l.target.slot (target-seat st l (there-lease k.topology st s f l live kept.seated).0)
+
+  -- with the lease out and its target given back, what is kept is that of the state without it
+  pub end-kept : (l : Lease) → lease_of st s f ≡ Some l → (table : slot_tables.Table) (leases : lease_tables.Table) → slots_of table ≡ with_free (slots_of k.table) l.target.node l.target.slot
+      → leased_in leases ≡ with_spare (leased.without_lease (leased_in k.leases) s f) (leased_in leases).spare → IsOf (without_lease st s f) (record k { table = table; leases = leases })
+  end-kept l live table leases freed out = record {
+    known = kept.known;
+    seated = ended-seated k.topology st s f kept.seated;
+    table_is = freed ∙ ap (λ (t : Slots). with_free t l.target.node l.target.slot) kept.table_is ∙ end-table k.topology st s f l live kept.seated;
+    stripes_is = kept.stripes_is;
+    leases_is = leases-out leases out;
+    gone_is = kept.gone_is;
+    down_is = kept.down_is;
+  }
+
+  -- a fragment without a lease has none to end
+  pub end-none : lease_of st s f ≡ None → (leases : lease_tables.Table) → leased_in leases ≡ with_spare (leased.without_lease (leased_in k.leases) s f) (leased_in leases).spare
+      → IsOf (without_lease st s f) (record k { leases = leases })
+  end-none none leases out = record {
+    known = kept.known;
+    seated = ended-seated k.topology st s f kept.seated;
+    table_is = kept.table_is ∙ ap (λ (ls : List Lease). table_of k.topology (record st { leases = ls })) (sym (none-out st.leases s f.value none));
+    stripes_is = kept.stripes_is;
+    leases_is = leases-out leases out;
+    gone_is = kept.gone_is;
+    down_is = kept.down_is;
+  }
+
+-- ---- what is kept when its target becomes the home
+
+-- the store k is the one before, and k2 the one with the home cleared
+module _ (st : State) (k k2 : Store) (kept : IsOf st k) (same : k2.topology ≡ k.topology) (s : StripeNo) (f : Fragment) (cleared : IsOf (without_home st s f) k2) (l : Lease) (live : lease_of st s f ≡ Some l) where
+  good : AreSeated k2.topology st
+  good = subst (λ ns. AreSeated ns st) (sym same) kept.seated
+
+  no-home : home_of (without_home st s f).homes s f.value ≡ None
+  no-home = find-gone (λ h. same_stripe h.stripe s && nat_eq h.fragment.value f.value) (λ h. not (is_home_of s f h)) (λ h hit. ap not hit) st.homes
+
+  pub move-homeless : (stored_in k2.stripes).homes s f.value ≡ None
+  move-homeless = ap (λ (t : Stored). t.homes s f.value) cleared.stripes_is ∙ ap (option_map (λ (h : Held). h.seat)) no-home
+
+  pub move-slot : IsTrue (has_slot (stored_in k2.stripes).nodes l.target)
+  move-slot = ap (λ (t : Stored). has_slot t.nodes l.target) cleared.stripes_is ∙ target-slot k2.topology st s f l live good
+
+  pub move-unused : HasNoHome (stored_in k2.stripes) l.target
+  move-unused = subst (λ (t : Stored). HasNoHome t l.target) (sym cleared.stripes_is)
+      (stored-free k2.topology (without_home st s f) (stored_in k2.stripes).spare l.target (λ h here. home-apart k2.topology st s f l live good h (filter-member (λ g. not (is_home_of s f g)) st.homes h here).0))
+
+  pub move-kept : (stripes : tables.Table) (leases : lease_tables.Table) → stored_in stripes ≡ stored.with_home (stored_in k2.stripes) s f (Some l.target)
+      → leased_in leases ≡ with_spare (leased.without_lease (leased_in k2.leases) s f) (leased_in leases).spare → IsOf (moved_in st s f l.target) (record k2 { stripes = stripes; leases = leases })
+  move-kept stripes leases set out = record {
+    known = cleared.known;
+    seated = moved-seated k2.topology st s f l live good;
+    table_is = cleared.table_is ∙ move-table k2.topology st s f l live good;
+    stripes_is = own-spare k2.topology (moved_in st s f l.target) (stored_in stripes) (stored_in k2.stripes).spare
+        (set ∙ ap (λ (t : Stored). stored.with_home t s f (Some l.target)) cleared.stripes_is ∙ stored-home k2.topology (without_home st s f) (stored_in k2.stripes).spare s f l.target no-home);
+    leases_is = leases-out (without_home st s f) k2 cleared s f leases out;
+    gone_is = cleared.gone_is;
+    down_is = cleared.down_is;
+  }
+
+-- ---- what is kept when one is granted
+
+-- a stripe that is there is one of the stripes
+pub stripe-member : (st : State) (s : StripeNo) → has_stripe st s ≡ true → Contains st.stripes s
+stripe-member st s there =
+    let m = member-list_any (same_stripe s) st.stripes there in
+    subst (Contains st.stripes) (sym (equal_stripes s m.0 (eqb-true s.value m.0.value m.2))) m.1
+
+module _ (st : State) (k : Store) (kept : IsOf st k) (l : Lease) (told : IsGrant k.topology st l) where
+  abbrev pub next : State
+  next = with_lease st l
+
+  pub grant-table : with_taken (table_of k.topology st) l.target.node (Some l.target.slot) ≡ table_of k.topology (with_lease st l)
+  grant-table = table-more k.topology st l.target (taken_seats next) (target-seat next l (Contains-push st.leases l))
+      (λ b here. elim (taken-cases st b here) [
+        | inl (h, at, e) ↦ subst (Contains (taken_seats next)) e (home-seat next h at)
+        | inr (m, at, e) ↦ subst (Contains (taken_seats next)) e (target-seat next m (Contains-append_left st.leases (l ∷ []) m at))
+      ])
+      (λ b here. elim (taken-cases next b here) [
+        | inl (h, at, e) ↦ inr (subst (Contains (taken_seats st)) e (home-seat st h at))
+        | inr (m, at, e) ↦ elim (Contains-push_cases st.leases l m at) [
+          | inl old ↦ inr (subst (Contains (taken_seats st)) e (target-seat st m old))
+          | inr new ↦ inl (ap (λ (x : Lease). x.target) new ∙ e)
+        ]
+      ])
+
+  pub grant-kept : (slot : Option ℕ) → slot ≡ least_free_at (slots_of k.table) l.target.node → (table : slot_tables.Table) (leases : lease_tables.Table)
+      → slots_of table ≡ with_taken (slots_of k.table) l.target.node slot → leased_in leases ≡ leased.with_lease (leased_in k.leases) l
+      → IsOf (with_lease st l) (record k { table = table; leases = leases })
+  grant-kept slot least table leases taken added = record {
+    known = kept.known;
+    seated = granted-seated k.topology kept.known st l kept.seated (chosen-here st k kept l.stripe l.fragment l.target told.chosen_is) (stripe-member st l.stripe told.there) told.new;
+    table_is = taken ∙ ap (with_taken (slots_of k.table) l.target.node) (least ∙ chosen-taken st k kept l.stripe l.fragment l.target told.chosen_is)
+        ∙ ap (λ (t : Slots). with_taken t l.target.node (Some l.target.slot)) kept.table_is ∙ grant-table;
+    stripes_is = kept.stripes_is;
+    leases_is = own-room (with_lease st l).leases (leased_in leases) ((leased_in k.leases).spare - 1)
+        (added ∙ ap (λ (t : Leased). leased.with_lease t l) kept.leases_is ∙ sym (leased_of-append st.leases l (leased_in k.leases).spare told.new));
+    gone_is = kept.gone_is;
+    down_is = kept.down_is;
+  }

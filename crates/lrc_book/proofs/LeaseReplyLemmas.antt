@@ -1,0 +1,120 @@
+-- The replies to the commands of leases, case by case.
+use Rattle.std.proofs.Common.{◌≡◌, ℕ, Bool, true, false, not, ◌&&◌, nat_eq, if◌then◌else◌, lt-ltb, List, Option, Some, None, is_none, is_some, IsSome, refl, sym, ap, ap₂, ◌∙◌, subst}
+use Rattle.std.specs.Option.{option_map_or}
+use Rattle.std.proofs.lemmas.Option.{same_Some}
+use Rattle.lrc_code.specs.declared.numbers.StripeNo.{StripeNo}
+use Rattle.lrc_code.specs.declared.numbers.NodeNo.{NodeNo}
+use Rattle.lrc_code.specs.declared.numbers.SessionNo.{SessionNo}
+use Rattle.lrc_code.specs.declared.numbers.Fragment.{Fragment}
+use Rattle.lrc_topology.specs.declared.NodeInfo.{NodeInfo}
+use Rattle.lrc_topology.specs.declared.seat.Seat.{Seat}
+use Rattle.lrc_topology.specs.Nodes.{node_at}
+use Rattle.lrc_stripes.specs.Levels.{homes_of}
+use Rattle.lrc_leases.specs.declared.lease.Lease.{Lease}
+use Rattle.lrc_book.specs.declared.entry.Entry.{Entry}
+use Rattle.lrc_book.specs.declared.kind.Kind.{Kind}
+use Rattle.lrc_book.specs.declared.mode.Mode.TheVariants.{Active, Gone}
+use Rattle.lrc_book.specs.declared.reply.Reply.{Reply}
+use Rattle.lrc_book.specs.declared.reply.Reply.TheVariants.{Ended, Refused}
+use Rattle.lrc_book.specs.declared.reply.Refusal.TheVariants as refusal
+use Rattle.lrc_book.specs.States.{State, has_stripe, has_number, lease_of, is_gone, is_online, online_at}
+use Rattle.lrc_book.specs.Placement.{chosen}
+use Rattle.lrc_book.specs.Goodness.{AreSeated}
+use Rattle.lrc_book.specs.Outcomes.{refuse_if}
+use Rattle.lrc_book.specs.Repairs.{needs, kind, is_beyond_repair}
+use Rattle.lrc_book.specs.Leases.{granted, lease_answer, lease_outcome, at_epoch, is_held_by, moved_in, done_answer, done_outcome}
+use Rattle.lrc_book.specs.Stores.{repair_of}
+use Rattle.lrc_book.proofs.NodeLemmas.{member-node_at}
+use Rattle.lrc_book.proofs.EndLemmas.{target-node}
+
+-- ---- Lease
+
+pub some-home : (o : Option Seat) → is_some o ≡ true → (seat : Seat) × (o ≡ Some seat)
+some-home (Some seat) e = (seat, refl)
+some-home None e = absurd (cc)
+
+pub no-home : (o : Option Seat) → is_some o ≡ false → o ≡ None
+no-home None e = refl
+no-home (Some seat) e = absurd (cc)
+
+lost-by : (b : Bool) (k : Kind) → (if b then None else Some k) ≡ None → b ≡ true
+lost-by true k e = refl
+lost-by false k e = absurd (let never : Some k ≡ None = e in cc)
+
+able-by : (b : Bool) (k told : Kind) → (if b then None else Some k) ≡ Some told → (b ≡ false) × (k ≡ told)
+able-by true k told e = absurd (let never : None ≡ Some told = e in cc)
+able-by false k told e = (refl, same_Some k told e)
+
+module _ (nodes : List NodeInfo) (past : List Entry) (st : State) (session : SessionNo) (s : StripeNo) (f : Fragment) where
+  reply-by : Bool → Option Lease → Reply
+  reply-by there o = (refuse_if (not there) refusal.UnknownStripe st (lease_answer nodes past st session s f o)).0
+
+  reply-is : (there : Bool) (o : Option Lease) → has_stripe st s ≡ there → lease_of st s f ≡ o → (lease_outcome nodes past st session s f).0 ≡ (refuse_if (not there) refusal.UnknownStripe st (lease_answer nodes past st session s f o)).0
+  unfolding lease_outcome reply-by
+  reply-is there o is live = ap₂ reply-by is live
+
+  pub lease-absent : has_stripe st s ≡ false → (lease_outcome nodes past st session s f).0 ≡ Refused refusal.UnknownStripe
+  lease-absent absent = reply-is false (lease_of st s f) absent refl
+
+  pub lease-again : (l : Lease) → has_stripe st s ≡ true → lease_of st s f ≡ Some l → (lease_outcome nodes past st session s f).0 ≡ Refused (refusal.AlreadyLeased l.epoch)
+  lease-again l there live = reply-is true (Some l) there live
+
+  module _ (there : has_stripe st s ≡ true) (none : lease_of st s f ≡ None) where
+    new-by : Bool → Bool → Reply
+    new-by needed beyond = (refuse_if (not needed) refusal.NotNeeded st (refuse_if beyond refusal.Unrecoverable st (granted nodes past st session s f (chosen nodes st s f)))).0
+
+    new-is : (needed beyond : Bool) → needs st s f ≡ needed → is_beyond_repair nodes st s f ≡ beyond
+        → (lease_outcome nodes past st session s f).0 ≡ (refuse_if (not needed) refusal.NotNeeded st (refuse_if beyond refusal.Unrecoverable st (granted nodes past st session s f (chosen nodes st s f)))).0
+    unfolding new-by
+    new-is needed beyond is lost = reply-is true None there none ∙ ap₂ new-by is lost
+
+    needs-by : (o : Option Seat) → homes_of st.homes s f.value ≡ o → needs st s f ≡ is_none o
+    needs-by o is = ap₂ (λ (a : Bool) (p : Option Seat). a && is_none p) (lt-ltb f.value 16 f.in_range) is
+
+    pub lease-homed : (seat : Seat) → homes_of st.homes s f.value ≡ Some seat → (lease_outcome nodes past st session s f).0 ≡ Refused refusal.NotNeeded
+    lease-homed seat home = new-is false (is_beyond_repair nodes st s f) (needs-by (Some seat) home) refl
+
+    pub lease-lost : homes_of st.homes s f.value ≡ None → repair_of nodes st s f ≡ None → (lease_outcome nodes past st session s f).0 ≡ Refused refusal.Unrecoverable
+    lease-lost homeless lost = new-is true true (needs-by None homeless) (lost-by (is_beyond_repair nodes st s f) (kind nodes st s f) lost)
+
+    pub lease-new : (k : Kind) → homes_of st.homes s f.value ≡ None → repair_of nodes st s f ≡ Some k
+        → ((lease_outcome nodes past st session s f).0 ≡ (granted nodes past st session s f (chosen nodes st s f)).0) × (k ≡ kind nodes st s f)
+    lease-new k homeless able =
+        let parts = able-by (is_beyond_repair nodes st s f) (kind nodes st s f) k able in
+        (new-is true false (needs-by None homeless) parts.0, sym parts.1)
+
+-- ---- Done
+
+module _ (nodes : List NodeInfo) (st : State) where
+  online-by : (gone down : Bool) → (not (is_gone (if gone then Gone else Active)) && not down) ≡ (not gone && not down)
+  online-by true down = refl
+  online-by false down = refl
+
+  online-known : (n : NodeNo) (o : Option NodeInfo) → node_at nodes n ≡ o → IsSome o → option_map_or (is_online st) o false ≡ (not (has_number st.gone n) && not (has_number st.down n))
+  online-known n None e some = absurd (let never : false ≡ true = some in cc)
+  online-known n (Some x) e some =
+      online-by (has_number st.gone x.number) (has_number st.down x.number)
+      ∙ ap (λ (m : NodeNo). not (has_number st.gone m) && not (has_number st.down m)) (sym (member-node_at nodes n x e).1)
+
+  module _ (session : SessionNo) (s : StripeNo) (f : Fragment) (e : ℕ) (l : Lease) (there : has_stripe st s ≡ true) (live : at_epoch e (lease_of st s f) ≡ Some l) (mine : is_held_by session l ≡ true) where
+    some-by : (same : Bool) (m : Lease) → (if same then Some m else None) ≡ Some l → m ≡ l
+    some-by true m is = same_Some m l is
+    some-by false m is = absurd (let never : None ≡ Some l = is in cc)
+
+    epoch-by : (o : Option Lease) → at_epoch e o ≡ Some l → o ≡ Some l
+    epoch-by None is = absurd (let never : None ≡ Some l = is in cc)
+    epoch-by (Some m) is = ap (λ (x : Lease). Some x) (some-by (nat_eq m.epoch e) m is)
+
+    -- the test of its target's node
+    pub done-online : AreSeated nodes st → online_at nodes st l.target.node ≡ (not (has_number st.gone l.target.node) && not (has_number st.down l.target.node))
+    done-online seated = online-known l.target.node (node_at nodes l.target.node) refl (target-node nodes st s f l (epoch-by (lease_of st s f) live) seated)
+
+    told-by : Bool → Option Lease → Reply
+    told-by known o = (refuse_if (not known) refusal.UnknownStripe st (done_answer nodes st session s f o)).0
+
+    held-by : Bool → Bool → Reply
+    held-by held online = (refuse_if (not held) (refusal.NotHolder l.holder) st (refuse_if (not online) (refusal.TargetOffline l.target.node) st (Ended, moved_in st s f l.target))).0
+
+    pub done-held : (online : Bool) → online_at nodes st l.target.node ≡ online → (done_outcome nodes st session s f e).0 ≡ (refuse_if (not online) (refusal.TargetOffline l.target.node) st (Ended, moved_in st s f l.target)).0
+    unfolding done_outcome told-by held-by
+    done-held online is = ap₂ told-by there live ∙ ap₂ held-by mine is

@@ -1,0 +1,75 @@
+-- From what a fragment is rebuilt, told by the mask of the missing fragments.
+use Rattle.std.proofs.Common.{◌≡◌, ℕ, ◌<◌, ◌≤◌, Bool, true, false, not, ◌&&◌, if◌then◌else◌, nat_lt, eqb, List, Option, Some, None, refl, sym, ap, ap₂, ◌∙◌, subst, inl, inr, arith, lt-ltb}
+use Rattle.std.proofs.Math.Path.{fun_ext}
+use Rattle.std.proofs.lemmas.Bool.{cases_Bool, ltb-true, ltb-false}
+use Rattle.std.proofs.lemmas.Nat.Bits.{bit_at_above}
+use Rattle.std.proofs.lemmas.Option.{same_Some}
+use Rattle.lrc_code.specs.declared.codes.Code.TheVariants.{Wide}
+use Rattle.lrc_code.specs.declared.losses.LossMask.{LossMask}
+use Rattle.lrc_code.specs.declared.numbers.StripeNo.{StripeNo}
+use Rattle.lrc_code.specs.declared.numbers.Fragment.{Fragment}
+use Rattle.lrc_code.specs.Codes.{others}
+use Rattle.lrc_code.specs.Losses.{FragmentSet, bits_set, bits_of, is_recoverable, is_local, local_sources}
+use Rattle.lrc_code.proofs.BitsLemmas.{bits_set-bits_of, bits_of-below}
+use Rattle.lrc_topology.specs.declared.NodeInfo.{NodeInfo}
+use Rattle.lrc_stripes.specs.Levels.{homes_of, missing_if}
+use Rattle.lrc_book.specs.declared.kind.Kind.{Kind}
+use Rattle.lrc_book.specs.declared.kind.Kind.TheVariants.{Local, Global}
+use Rattle.lrc_book.specs.States.{State, has_stripe, online_at, missing}
+use Rattle.lrc_book.specs.Repairs.{kind, is_global}
+use Rattle.lrc_book.specs.Stores.{repair_of}
+
+module _ (nodes : List NodeInfo) (st : State) (s : StripeNo) where
+  -- the bits of the number are the missing fragments, also behind the last of these
+  bits-both : (f : ℕ) → bits_set (bits_of Wide (missing nodes st s)) f ≡ missing nodes st s f
+  bits-both f = elim (cases_Bool (nat_lt f 16)) [
+    | inl within ↦ bits_set-bits_of Wide (missing nodes st s) f (ltb-true f 16 within)
+    | inr past ↦
+        let high : 16 ≤ f = let h = ltb-false f 16 past in omega (arith, h) in
+        ap (λ n. eqb n 1) (bit_at_above (bits_of Wide (missing nodes st s)) 16 f (bits_of-below Wide (missing nodes st s)) high) ∙ sym (rw past refl)
+  ]
+
+  module _ (there : has_stripe st s ≡ true) (mask : LossMask) (is : Some mask ≡ missing_if (has_stripe st s) Wide (online_at nodes st) (homes_of st.homes s)) where
+    mask-is : Some mask ≡ Some (record { bits = bits_of Wide (missing nodes st s) })
+    unfolding missing_if
+    mask-is = is ∙ ap (λ b. if b then Some (record { bits = bits_of Wide (missing nodes st s) }) else None) there
+
+    mask-set : bits_set mask.bits ≡ missing nodes st s
+    mask-set = ap (λ (m : LossMask). bits_set m.bits) (same_Some mask (record { bits = bits_of Wide (missing nodes st s) }) mask-is) ∙ fun_ext bits-both
+
+    module _ (f : Fragment) where
+      by-local : (local safe : Bool) (sources : List Fragment) → (if local then Some (others Wide f) else None) ≡ Some sources
+          → (if (not safe && is_global (if local then Local (others Wide f) else Global)) then None else Some (if local then Local (others Wide f) else Global)) ≡ Some (Local sources)
+      by-local false safe sources e = absurd (let never : None ≡ Some sources = e in cc)
+      by-local true true sources e = ap (λ (fs : List Fragment). Some (Local fs)) (same_Some (others Wide f) sources e)
+      by-local true false sources e = ap (λ (fs : List Fragment). Some (Local fs)) (same_Some (others Wide f) sources e)
+
+      by-whole : (local safe : Bool) → (if local then Some (others Wide f) else None) ≡ None
+          → (if (not safe && is_global (if local then Local (others Wide f) else Global)) then None else Some (if local then Local (others Wide f) else Global)) ≡ (if safe then Some Global else None)
+      by-whole true safe e = absurd (let never : Some (others Wide f) ≡ None = e in cc)
+      by-whole false true e = refl
+      by-whole false false e = refl
+
+      pub repair-local : (sources : List Fragment) → local_sources Wide (bits_set mask.bits) f ≡ Some sources → repair_of nodes st s f ≡ Some (Local sources)
+      unfolding kind
+      repair-local sources found =
+          by-local (is_local Wide (missing nodes st s) f) (is_recoverable Wide (missing nodes st s)) sources (sym (ap (λ (m : FragmentSet). local_sources Wide m f) mask-set) ∙ found)
+
+      pub repair-whole : (safe : Bool) → local_sources Wide (bits_set mask.bits) f ≡ None → is_recoverable Wide (bits_set mask.bits) ≡ safe → repair_of nodes st s f ≡ (if safe then Some Global else None)
+      unfolding kind
+      repair-whole safe none able =
+          by-whole (is_local Wide (missing nodes st s) f) (is_recoverable Wide (missing nodes st s)) (sym (ap (λ (m : FragmentSet). local_sources Wide m f) mask-set) ∙ none)
+          ∙ ap (λ b. if b then Some Global else None) (sym (ap (is_recoverable Wide) mask-set) ∙ able)
+
+  masked : Bool → Option LossMask
+  masked there = if there then Some (record { bits = bits_of Wide (missing nodes st s) }) else None
+
+  none-masked : (there : Bool) → None ≡ masked there → there ≡ false
+  unfolding masked
+  none-masked false e = refl
+  none-masked true e = absurd (cc)
+
+  -- a stripe without a mask is not there
+  pub unmasked : None ≡ missing_if (has_stripe st s) Wide (online_at nodes st) (homes_of st.homes s) → has_stripe st s ≡ false
+  unfolding missing_if masked
+  unmasked none = none-masked (has_stripe st s) none

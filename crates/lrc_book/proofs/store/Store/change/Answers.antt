@@ -1,0 +1,33 @@
+use Rattle.std.proofs.Common.{◌≡◌, sym, ap, ap₂, subst, ◌∙◌}
+use Rattle.lrc_book.specs.declared.command.Command.{Command}
+use Rattle.lrc_book.specs.declared.reply.Reply.{Reply}
+use Rattle.lrc_book.specs.States.{State}
+use Rattle.lrc_book.specs.Steps.{step}
+use Rattle.lrc_book.specs.Changes.{changed_by}
+use Rattle.lrc_book.specs.Stores.{IsOf}
+use Rattle.lrc_book.proofs.LeaseToldLemmas.{lease-told, done-told}
+use Rattle.lrc_book.proofs.store.Store.change.Goals as goal
+
+pub grant-requires : goal.grant-requires
+grant-requires g c =
+    let nodes = c.args.self.now.topology in
+    let told = c.requires.1.1 in
+    let e = sym (ap (λ (command : Command). (step nodes told.past g.st told.session command).0) c.in-Lease-Granted.is-0) ∙ told.told ∙ c.in-Lease-Granted.is-1 in
+    (c.requires.0, (c.requires.1.0, lease-told nodes told.past g.st told.session c.in-Lease-Granted.field-0-0 c.in-Lease-Granted.field-1-0 c.in-Lease-Granted.lease c.in-Lease-Granted.field-1-1 e))
+
+pub move_in-requires : goal.move_in-requires
+move_in-requires g c =
+    let nodes = c.args.self.now.topology in
+    let told = c.requires.1.1 in
+    let e = sym (ap (λ (command : Command). (step nodes told.past g.st told.session command).0) c.in-Done-Ended.is-0) ∙ told.told ∙ c.in-Done-Ended.is-1 in
+    (c.requires.0, done-told nodes g.st told.session c.in-Done-Ended.stripe c.in-Done-Ended.fragment c.in-Done-Ended.field-2-0 e)
+
+pub returns-in-Abandon-Ended-clause-kept : goal.returns-in-Abandon-Ended-clause-kept
+returns-in-Abandon-Ended-clause-kept g c =
+    subst (λ (st : State). IsOf st c.end_lease.new.self) (sym (ap₂ (λ (command : Command) (reply : Reply). changed_by g.st command reply) c.in-Abandon-Ended.is-0 c.in-Abandon-Ended.is-1))
+    (c.end_lease.ensures.kept g.st c.requires.0)
+
+pub returns-in-Revoke-Ended-clause-kept : goal.returns-in-Revoke-Ended-clause-kept
+returns-in-Revoke-Ended-clause-kept g c =
+    subst (λ (st : State). IsOf st c.end_lease-in-Revoke-Ended.new.self) (sym (ap₂ (λ (command : Command) (reply : Reply). changed_by g.st command reply) c.in-Revoke-Ended.is-0 c.in-Revoke-Ended.is-1))
+    (c.end_lease-in-Revoke-Ended.ensures.kept g.st c.requires.0)

@@ -1,0 +1,17 @@
+use Rattle.std.proofs.Common.{sym, ◌∙◌}
+use Rattle.lrc_book.proofs.EndLemmas.{lease-kept, end-taken, end-kept, end-none}
+use Rattle.lrc_book.proofs.store.Store.end_lease.Goals as goal
+
+pub free-requires : goal.free-requires
+free-requires c =
+    let st = c.requires.0 in
+    end-taken st c.args.self.now c.requires.1 c.args.stripe c.args.fragment c.in-Some.lease (sym (lease-kept st c.args.self.now c.requires.1 c.args.stripe c.args.fragment) ∙ sym c.remove.ensures.value ∙ c.in-Some.is)
+
+pub returns-in-Some-clause-kept : goal.returns-in-Some-clause-kept
+returns-in-Some-clause-kept c = λ st kept.
+    end-kept st c.args.self.now kept c.args.stripe c.args.fragment c.in-Some.lease (sym (lease-kept st c.args.self.now kept c.args.stripe c.args.fragment) ∙ sym c.remove.ensures.value ∙ c.in-Some.is)
+    c.free.new.self c.remove.new.self c.free.ensures c.remove.ensures.lease
+
+pub returns-in_default-clause-kept : goal.returns-in_default-clause-kept
+returns-in_default-clause-kept c = λ st kept.
+    end-none st c.args.self.now kept c.args.stripe c.args.fragment (sym (lease-kept st c.args.self.now kept c.args.stripe c.args.fragment) ∙ sym c.remove.ensures.value ∙ c.in_default.is) c.remove.new.self c.remove.ensures.lease
