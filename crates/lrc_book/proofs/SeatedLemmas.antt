@@ -19,8 +19,8 @@ use Rattle.lrc_topology.specs.Nodes.{AreNodes, node_at}
 use Rattle.lrc_book.specs.declared.command.Command.{Command}
 use Rattle.lrc_book.specs.declared.command.Command.TheVariants.{Place, Drop, Fail, Down, Up, Join}
 use Rattle.lrc_book.specs.declared.reply.Reply.TheVariants.{Dropped, Changed}
-use Rattle.lrc_book.specs.declared.reply.Refusal.{Refusal}
-use Rattle.lrc_book.specs.declared.reply.Refusal.TheVariants as refusal
+use Rattle.lrc_book.specs.declared.refusal.Refusal.{Refusal}
+use Rattle.lrc_book.specs.declared.refusal.Refusal.TheVariants as refusal
 use Rattle.lrc_book.specs.declared.entry.Entry.{Entry}
 use Rattle.lrc_book.specs.declared.mode.Mode.TheVariants.{Active, Gone}
 use Rattle.lrc_book.specs.States.{State, opening, has_stripe, has_number, without_number, mode_of, is_gone, is_down, code_of, seats_of, taken_seats}

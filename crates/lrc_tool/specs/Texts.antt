@@ -7,8 +7,8 @@ use Rattle.lrc_topology.specs.declared.error.TopologyError.TheVariants.{Syntax, 
 use Rattle.lrc_book.specs.declared.entry.Entry.{Entry}
 use Rattle.lrc_book.specs.declared.reply.Reply.{Reply}
 use Rattle.lrc_book.specs.declared.reply.Reply.TheVariants.{Placed, Dropped, Changed, Refused}
-use Rattle.lrc_book.specs.declared.reply.Refusal.{Refusal}
-use Rattle.lrc_book.specs.declared.reply.Refusal.TheVariants.{UnknownStripe, StripeExists, NoLawfulNode, UnknownNode, WrongMode}
+use Rattle.lrc_book.specs.declared.refusal.Refusal.{Refusal}
+use Rattle.lrc_book.specs.declared.refusal.Refusal.TheVariants.{UnknownStripe, StripeExists, NoLawfulNode, UnknownNode, WrongMode}
 use Rattle.lrc_book.specs.Sessions.{entries_of, sessions}
 use Rattle.lrc_script.specs.declared.script.Cause.{Cause}
 use Rattle.lrc_script.specs.declared.script.Cause.TheVariants as cause
