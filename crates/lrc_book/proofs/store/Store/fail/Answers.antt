@@ -26,7 +26,7 @@ follow-requires g c =
         others_stay = others-gone st c.args.node;
         table_is = kept.table_is;
         stripes_is = kept.stripes_is;
-        gone_is = c.push_reserved.ensures.items ∙ ap (λ (xs : List NodeNo). xs ++ c.args.node ∷ []) kept.gone_is;
+        gone_is = ◌∙◌ {A = List NodeNo} c.push_reserved.ensures.items (ap (λ (xs : List NodeNo). xs ++ c.args.node ∷ []) kept.gone_is);
         down_is = filter_same _ (λ (m : NodeNo). not (nat_eq c.args.node.value m.value)) _ (λ x b f' r. search rules) _ _ c.retain.ensures.filtered ∙ ap (filter (λ (m : NodeNo). not (nat_eq c.args.node.value m.value))) kept.down_is;
       },
     )
