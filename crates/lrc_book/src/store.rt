@@ -59,6 +59,7 @@ impl Store {
         Ok(())
     }
 
+    /// Whether a node takes seats, or is out of the store.
     pub(crate) fn mode(&self, node: NodeNo) -> Mode
         ensures { result ≡ (if has_number self.now.gone.items node then Gone else Active) }
     {
