@@ -14,8 +14,8 @@ use Rattle.lrc_leases.specs.Leased.{Leased, is_of}
 use Rattle.lrc_leases.proofs.ListLemmas.{is_of-own, is_of-parts, leases_in-own, leases_in-contains, leased_of-append, leased_of-less}
 use Rattle.lrc_book.specs.declared.kind.Kind.{Kind}
 use Rattle.lrc_book.specs.declared.reply.Reply.TheVariants.{Granted, Ended, Refused}
-use Rattle.lrc_book.specs.declared.reply.Refusal.{Refusal}
-use Rattle.lrc_book.specs.declared.reply.Refusal.TheVariants as refusal
+use Rattle.lrc_book.specs.declared.refusal.Refusal.{Refusal}
+use Rattle.lrc_book.specs.declared.refusal.Refusal.TheVariants as refusal
 use Rattle.lrc_book.specs.declared.entry.Entry.{Entry}
 use Rattle.lrc_book.specs.States.{State, has_stripe, lease_of, online_at}
 use Rattle.lrc_book.specs.Placement.{chosen}

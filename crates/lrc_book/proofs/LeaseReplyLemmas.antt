@@ -16,7 +16,7 @@ use Rattle.lrc_book.specs.declared.kind.Kind.{Kind}
 use Rattle.lrc_book.specs.declared.mode.Mode.TheVariants.{Active, Gone}
 use Rattle.lrc_book.specs.declared.reply.Reply.{Reply}
 use Rattle.lrc_book.specs.declared.reply.Reply.TheVariants.{Ended, Refused}
-use Rattle.lrc_book.specs.declared.reply.Refusal.TheVariants as refusal
+use Rattle.lrc_book.specs.declared.refusal.Refusal.TheVariants as refusal
 use Rattle.lrc_book.specs.States.{State, has_stripe, has_number, lease_of, is_gone, is_online, online_at}
 use Rattle.lrc_book.specs.Placement.{chosen}
 use Rattle.lrc_book.specs.Goodness.{AreSeated}

@@ -9,8 +9,8 @@ use Rattle.lrc_leases.specs.declared.lease.Lease.{Lease}
 use Rattle.lrc_book.specs.declared.entry.Entry.{Entry}
 use Rattle.lrc_book.specs.declared.kind.Kind.{Kind}
 use Rattle.lrc_book.specs.declared.reply.Reply.TheVariants.{Granted, Ended, Refused}
-use Rattle.lrc_book.specs.declared.reply.Refusal.{Refusal}
-use Rattle.lrc_book.specs.declared.reply.Refusal.TheVariants as refusal
+use Rattle.lrc_book.specs.declared.refusal.Refusal.{Refusal}
+use Rattle.lrc_book.specs.declared.refusal.Refusal.TheVariants as refusal
 use Rattle.lrc_book.specs.States.{State, has_stripe, lease_of}
 use Rattle.lrc_book.specs.Placement.{chosen}
 use Rattle.lrc_book.specs.Outcomes.{refuse_if}

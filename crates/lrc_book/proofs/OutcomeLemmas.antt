@@ -2,7 +2,7 @@
 use Rattle.std.proofs.Common.{◌≡◌, ◌≢◌, Bool, true, false, not, refl}
 use Rattle.lrc_book.specs.declared.reply.Reply.{Reply}
 use Rattle.lrc_book.specs.declared.reply.Reply.TheVariants.{Refused}
-use Rattle.lrc_book.specs.declared.reply.Refusal.{Refusal}
+use Rattle.lrc_book.specs.declared.refusal.Refusal.{Refusal}
 use Rattle.lrc_book.specs.States.{State}
 use Rattle.lrc_book.specs.Outcomes.{Outcome, refuse_if}
 

@@ -17,8 +17,8 @@ use Rattle.lrc_book.specs.declared.command.Command.{Command}
 use Rattle.lrc_book.specs.declared.command.Command.TheVariants.{Place, Drop, Lease, Done, Abandon, Revoke, Fail, Down, Up, Join}
 use Rattle.lrc_book.specs.declared.reply.Reply.{Reply}
 use Rattle.lrc_book.specs.declared.reply.Reply.TheVariants.{Placed, Dropped, Granted, Ended, Changed, Refused}
-use Rattle.lrc_book.specs.declared.reply.Refusal.{Refusal}
-use Rattle.lrc_book.specs.declared.reply.Refusal.TheVariants as refusal
+use Rattle.lrc_book.specs.declared.refusal.Refusal.{Refusal}
+use Rattle.lrc_book.specs.declared.refusal.Refusal.TheVariants as refusal
 use Rattle.lrc_book.specs.declared.entry.Entry.{Entry}
 use Rattle.lrc_book.specs.States.{State, has_stripe, lease_of, online_at}
 use Rattle.lrc_book.specs.Outcomes.{Outcome, refuse_if}

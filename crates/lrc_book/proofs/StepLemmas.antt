@@ -15,8 +15,8 @@ use Rattle.lrc_topology.specs.declared.seat.Held.{Held}
 use Rattle.lrc_book.specs.declared.command.Command.{Command}
 use Rattle.lrc_book.specs.declared.command.Command.TheVariants.{Place, Drop, Lease, Done, Abandon, Revoke, Fail, Down, Up, Join}
 use Rattle.lrc_book.specs.declared.reply.Reply.TheVariants.{Dropped, Ended, Changed, Refused}
-use Rattle.lrc_book.specs.declared.reply.Refusal.{Refusal}
-use Rattle.lrc_book.specs.declared.reply.Refusal.TheVariants as refusal
+use Rattle.lrc_book.specs.declared.refusal.Refusal.{Refusal}
+use Rattle.lrc_book.specs.declared.refusal.Refusal.TheVariants as refusal
 use Rattle.lrc_book.specs.declared.entry.Entry.{Entry}
 use Rattle.lrc_leases.specs.declared.lease.Lease.{Lease as LeaseRecord}
 use Rattle.lrc_book.specs.Repairs.{needs, is_beyond_repair}

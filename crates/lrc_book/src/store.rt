@@ -64,10 +64,11 @@ impl Store {
         Ok(())
     }
 
+    /// Whether a node takes seats, or is out of the store.
     pub(crate) fn mode(&self, node: NodeNo) -> Mode
         ensures { result ≡ (if has_number self.now.gone.items node then Gone else Active) }
     {
-        if has_number(self.gone.as_slice(), node) {
+        if self.is_gone(node) {
             Mode::Gone
         } else {
             Mode::Active

@@ -6,7 +6,7 @@ use Rattle.lrc_code.specs.declared.numbers.SessionNo.{SessionNo}
 use Rattle.lrc_book.specs.declared.command.Command.{Command}
 use Rattle.lrc_book.specs.declared.entry.Entry.{Entry}
 use Rattle.lrc_book.specs.declared.reply.Reply.TheVariants.{Refused}
-use Rattle.lrc_book.specs.declared.reply.Refusal.TheVariants.{UnknownStripe}
+use Rattle.lrc_book.specs.declared.refusal.Refusal.TheVariants.{UnknownStripe}
 use Rattle.lrc_book.specs.Steps.{drop_outcome}
 use Rattle.lrc_tool.specs.Outputs.{IsPlayed}
 use Rattle.lrc_tool.proofs.Rows.{session, second, remove, ten_domains}

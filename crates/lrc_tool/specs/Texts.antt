@@ -10,8 +10,8 @@ use Rattle.lrc_book.specs.declared.kind.Kind.{Kind}
 use Rattle.lrc_book.specs.declared.kind.Kind.TheVariants.{Local, Global}
 use Rattle.lrc_book.specs.declared.reply.Reply.{Reply}
 use Rattle.lrc_book.specs.declared.reply.Reply.TheVariants.{Placed, Dropped, Granted, Ended, Changed, Refused}
-use Rattle.lrc_book.specs.declared.reply.Refusal.{Refusal}
-use Rattle.lrc_book.specs.declared.reply.Refusal.TheVariants as refusal
+use Rattle.lrc_book.specs.declared.refusal.Refusal.{Refusal}
+use Rattle.lrc_book.specs.declared.refusal.Refusal.TheVariants as refusal
 use Rattle.lrc_book.specs.Sessions.{entries_of, sessions}
 use Rattle.lrc_script.specs.declared.script.Cause.{Cause}
 use Rattle.lrc_script.specs.declared.script.Cause.TheVariants as cause

@@ -3,6 +3,7 @@
 mod bundles;
 mod checks;
 mod fakes;
+mod leases;
 mod nodes;
 mod placing;
 mod recoveries;

@@ -2,7 +2,7 @@
 
 use crate::{Cause, ScriptError, parse_script};
 use lrc_book::Command;
-use lrc_code::StripeNo;
+use lrc_code::{Fragment, StripeNo};
 use std::alloc::Global;
 use std::process::Abort;
 use std::test::Fail;
@@ -45,7 +45,17 @@ fn bad_lines(rt: HostRuntime) -> Result<(), Fail> {
         " # c",
         "\r",
     ];
-    let word_counts = ["place", "place 1 ", "place  1", "drop 1 2"];
+    let word_counts = [
+        "place",
+        "place 1 ",
+        "place  1",
+        "drop 1 2",
+        "lease 1",
+        "lease 1 3 1",
+        "done x 16",
+        "done 1 3 1 1",
+        "revoke 1  3",
+    ];
     let no_numbers = [
         "place ",
         "place 00",
@@ -57,11 +67,19 @@ fn bad_lines(rt: HostRuntime) -> Result<(), Fail> {
         "place 1.0",
         "place 1\r",
         "place \u{663}",
+        "lease x 16",
+        "done 1 3 01",
+        "abandon 1 -3 1",
     ];
     let out_of_range = [
         "place 4096",
         "drop 18446744073709551617",
         "place 99999999999999999999999",
+        "lease 4096 x",
+        "lease 1 16",
+        "done 1 3 4294967296",
+        "abandon 1 3 99999999999999999999999",
+        "revoke 1 99999999999999999999999",
     ];
     let alloc = rt.alloc();
     check(&rt, alloc, &unknown_words, Some((102, Cause::UnknownWord)))?;
@@ -108,6 +126,27 @@ fn good_lines(rt: HostRuntime) -> Result<(), Fail> {
     assert_eq!(rt; Some(commands[0]), places);
     assert_eq!(rt; Some(commands[1]), StripeNo::new(0).map(Command::Drop));
     assert_eq!(rt; Some(commands[2]), StripeNo::new(12).map(Command::Place));
+    Ok(())
+}
+
+#[test]
+fn lines_of_leases_have_their_numbers_in_order(rt: HostRuntime) -> Result<(), Fail> {
+    let text = b"lease 1 3\ndone 1 3 4294967295\nabandon 4095 15 0\nrevoke 7 0";
+    let commands = parse_script(rt.alloc(), text, 1)?;
+    assert_eq!(rt; commands.len(), 4);
+    let (Some(stripe), Some(fragment)) = (StripeNo::new(1), Fragment::new(3)) else {
+        return Err("no such numbers".into());
+    };
+    let (Some(last), Some(greatest)) = (StripeNo::new(4095), Fragment::new(15)) else {
+        return Err("no such numbers".into());
+    };
+    let (Some(seventh), Some(first)) = (StripeNo::new(7), Fragment::new(0)) else {
+        return Err("no such numbers".into());
+    };
+    assert_eq!(rt; commands[0], Command::Lease(stripe, fragment));
+    assert_eq!(rt; commands[1], Command::Done(stripe, fragment, 4294967295));
+    assert_eq!(rt; commands[2], Command::Abandon(last, greatest, 0));
+    assert_eq!(rt; commands[3], Command::Revoke(seventh, first));
     Ok(())
 }
 
