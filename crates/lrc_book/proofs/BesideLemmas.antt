@@ -1,5 +1,5 @@
 -- The seats of a stripe's fragments, gathered fragment by fragment: the home of each, and its lease's target.
-use Rattle.std.proofs.Common.{◌≡◌, ◌⊎◌, ℕ, ◌+◌, ◌<◌, Bool, true, false, ◌&&◌, nat_eq, eqb, List, [], ◌∷◌, ◌++◌, map, length, take, get_or, Option, Some, None, option_map, ◌↔◌, refl, sym, ap, ◌∙◌, subst, inl, inr, append_assoc, append-nil}
+use Rattle.std.proofs.Common.{◌≡◌, ℕ, ◌+◌, ◌<◌, eqb, List, [], ◌∷◌, ◌++◌, map, length, take, get_or, Option, Some, None, option_map, refl, sym, ap, ◌∙◌, subst, inl, inr, append_assoc, append-nil}
 use Rattle.std.specs.List.{Contains}
 use Rattle.std.proofs.lemmas.Bool.{eqb-true, and_parts}
 use Rattle.std.proofs.lemmas.List.{take_more}
@@ -18,7 +18,6 @@ use Rattle.lrc_leases.specs.declared.lease.Lease.{Lease}
 use Rattle.lrc_leases.proofs.ListLemmas.{leases_in-own, leases_in-contains, contains-leases_in}
 use Rattle.lrc_book.specs.States.{State, held_by, seats_of, lease_of}
 use Rattle.lrc_book.specs.Goodness.{AreSeated}
-use Rattle.lrc_book.specs.Placement.{is_beside}
 use Rattle.lrc_book.specs.Ties.{bars_in, bars_of}
 use Rattle.lrc_book.specs.Stores.{with_seat}
 use Rattle.lrc_book.proofs.MemberLemmas.{Contains-here, Contains-cases, not-Contains-nil, map-member}

@@ -1,10 +1,9 @@
 -- A home that is cleared, and its seat given back.
 use Rattle.std.proofs.Common.{◌≡◌, ◌≢◌, ◌<◌, ◌≤◌, Bool, true, false, not, cond, ◌&&◌, nat_eq, eqb, List, [], ◌∷◌, map, filter, find, Option, Some, None, option_map, IsSome, refl, sym, ap, ◌∙◌, subst, inl, inr, arith}
 use Rattle.std.specs.List.{All, AllPairs, Contains, count_by}
-use Rattle.std.specs.Option.{option_map_or}
 use Rattle.std.proofs.lemmas.Bool.{cases_Bool, eqb-true, eq-eqb, and_parts}
 use Rattle.std.proofs.lemmas.Option.{same_Some}
-use Rattle.std.proofs.lemmas.List.Elements.{All-contains, Contains-append_left, All-head, All-tail, All-weaker}
+use Rattle.std.proofs.lemmas.List.Elements.{All-contains, Contains-append_left, All-head, All-tail}
 use Rattle.std.proofs.lemmas.List.Sums.{sum_by-cons}
 use Rattle.lrc_code.specs.declared.numbers.StripeNo.{StripeNo}
 use Rattle.lrc_code.specs.declared.numbers.NodeNo.{NodeNo}
@@ -15,7 +14,7 @@ use Rattle.lrc_topology.specs.declared.seat.Seat.{Seat}
 use Rattle.lrc_topology.specs.declared.seat.Held.{Held}
 use Rattle.lrc_topology.specs.Nodes.{AreNodes, node_at}
 use Rattle.lrc_topology.specs.Seats.{load_of, is_taken}
-use Rattle.lrc_slots.specs.Slots.{Slots, with_free, load_at, taken_count}
+use Rattle.lrc_slots.specs.Slots.{Slots, with_free, load_at}
 use Rattle.lrc_stripes.specs.Levels.{home_of}
 use Rattle.lrc_stripes.specs.Stored.{Stored, StripeFragment, AreHomesOn, is_home_on}
 use Rattle.lrc_stripes.specs.Stored as stored
@@ -24,7 +23,7 @@ use Rattle.lrc_book.specs.Steps.{stands_on}
 use Rattle.lrc_book.specs.Goodness.{AreSeated}
 use Rattle.lrc_book.specs.Ties.{table_of}
 use Rattle.lrc_book.proofs.MemberLemmas.{filter-member, member-filter, map-member, Contains-cases, not-Contains-nil, list_any-member, AllPairs-head, AllPairs-tail}
-use Rattle.lrc_book.proofs.NodeLemmas.{member-taken, member-node_at}
+use Rattle.lrc_book.proofs.NodeLemmas.{member-taken}
 use Rattle.lrc_book.proofs.ChoiceLemmas.{same_stripe}
 use Rattle.lrc_book.proofs.LeaseGoodLemmas.{homes-seated}
 use Rattle.lrc_book.proofs.TakenLemmas.{taken-cases, home-seat, target-seat, table-less, load-parts, count-held, load-falls}

@@ -1,5 +1,5 @@
 -- A node that is emptied: the leases on it end, and its homes are cleared with their fragments' leases, one after the other.
-use Rattle.std.proofs.Common.{◌≡◌, ℕ, ◌<◌, ◌+◌, ◌&&◌, ◌||◌, map, arith, Bool, true, false, not, cond, nat_eq, eqb, List, [], ◌∷◌, filter, Option, Some, None, option_map, IsSome, refl, sym, ap, ◌∙◌, subst, inl, inr}
+use Rattle.std.proofs.Common.{◌≡◌, ℕ, ◌<◌, ◌&&◌, ◌||◌, map, arith, Bool, true, false, not, cond, nat_eq, eqb, List, [], ◌∷◌, filter, Option, Some, None, option_map, IsSome, refl, sym, ap, ◌∙◌, subst, inl, inr}
 use Rattle.std.specs.List.{All, Contains, list_any, count_by}
 use Rattle.std.specs.Option.{option_map_or}
 use Rattle.std.proofs.lemmas.Bool.{cases_Bool, and_parts, and_right, false_from_ne_true, eqb-true, eq-eqb, not-true}

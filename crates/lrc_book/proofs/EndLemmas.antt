@@ -1,8 +1,8 @@
 -- A lease that is granted, and one that ends.
-use Rattle.std.proofs.Common.{◌≡◌, ◌≢◌, ℕ, ◌&&◌, IsSomeAnd, lt-ltb, ◌-◌, ◌≤◌, ◌<◌, Bool, true, false, not, nat_eq, nat_le, nat_lt, eqb, cond, List, [], ◌∷◌, ◌++◌, map, filter, find, Option, Some, None, option_map, IsSome, IsTrue, refl, sym, ap, ◌∙◌, subst, inl, inr, arith}
-use Rattle.std.specs.List.{All, Contains, count_by}
+use Rattle.std.proofs.Common.{◌≡◌, ◌≢◌, ℕ, ◌&&◌, IsSomeAnd, lt-ltb, ◌-◌, ◌<◌, Bool, true, false, not, nat_eq, nat_lt, List, [], ◌∷◌, map, filter, find, Option, Some, None, option_map, IsSome, IsTrue, refl, sym, ap, ◌∙◌, subst, inl, inr}
+use Rattle.std.specs.List.{All, Contains}
 use Rattle.std.specs.Option.{option_map_or}
-use Rattle.std.proofs.lemmas.Bool.{cases_Bool, eqb-true, eq-eqb}
+use Rattle.std.proofs.lemmas.Bool.{cases_Bool, eqb-true}
 use Rattle.std.proofs.lemmas.List.Elements.{All-contains, Contains-append_left, Contains-push, Contains-push_cases}
 use Rattle.lrc_code.specs.declared.numbers.StripeNo.{StripeNo}
 use Rattle.lrc_code.specs.declared.numbers.NodeNo.{NodeNo}
@@ -10,11 +10,9 @@ use Rattle.lrc_code.specs.declared.numbers.Fragment.{Fragment}
 use Rattle.lrc_code.proofs.NumbersLemmas.{equal_fragments, equal_stripes}
 use Rattle.lrc_code.specs.Numbers.{same_stripe}
 use Rattle.lrc_topology.specs.declared.NodeInfo.{NodeInfo}
-use Rattle.lrc_topology.specs.declared.seat.Seat.{Seat}
 use Rattle.lrc_topology.specs.declared.seat.Held.{Held}
-use Rattle.lrc_topology.specs.Nodes.{AreNodes, node_at}
-use Rattle.lrc_topology.specs.Seats.{load_of, is_taken}
-use Rattle.lrc_slots.specs.Slots.{Slots, with_taken, with_free, load_at, least_free_at}
+use Rattle.lrc_topology.specs.Nodes.{node_at}
+use Rattle.lrc_slots.specs.Slots.{Slots, with_taken, with_free, least_free_at}
 use Rattle.lrc_slots.specs.Tables as slot_tables
 use Rattle.lrc_slots.specs.Tables.{slots_of}
 use Rattle.lrc_stripes.specs.Stored.{Stored, has_slot, HasNoHome}
@@ -27,14 +25,13 @@ use Rattle.lrc_leases.specs.Leased.{Leased, is_of, is_target_on, leased_of, with
 use Rattle.lrc_leases.specs.Leased as leased
 use Rattle.lrc_leases.specs.Tables as lease_tables
 use Rattle.lrc_leases.specs.Tables.{leased_in}
-use Rattle.lrc_leases.proofs.ListLemmas.{find-some, is_of-parts, is_of-both, contains-leases_in, leases_in-own, leased_of-less, leased_of-append}
+use Rattle.lrc_leases.proofs.ListLemmas.{find-some, is_of-parts, contains-leases_in, leased_of-less, leased_of-append}
 use Rattle.lrc_book.specs.declared.store.Store.{Store}
-use Rattle.lrc_book.specs.States.{State, has_stripe, is_home_of, held_by, seats_of, taken_seats, lease_of}
-use Rattle.lrc_book.specs.Placement.{with_home}
+use Rattle.lrc_book.specs.States.{State, has_stripe, is_home_of, held_by, taken_seats, lease_of}
 use Rattle.lrc_book.specs.Leases.{with_lease, without_lease, without_home, moved_in}
 use Rattle.lrc_book.specs.Goodness.{AreSeated, IsStanding}
 use Rattle.lrc_book.specs.Ties.{table_of}
-use Rattle.lrc_book.specs.Stores.{IsOf, IsGrant, stored_of}
+use Rattle.lrc_book.specs.Stores.{IsOf, IsGrant}
 use Rattle.lrc_book.proofs.MemberLemmas.{map-member, filter-member, member-filter, member-list_any}
 use Rattle.lrc_book.proofs.NodeLemmas.{member-taken}
 use Rattle.lrc_book.proofs.PairLemmas.{pairs-across, pairs-right, pairs-members}

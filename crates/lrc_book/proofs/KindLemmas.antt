@@ -1,19 +1,18 @@
 -- From what a fragment is rebuilt, in words.
-use Rattle.std.proofs.Common.{◌≡◌, ◌≢◌, ℕ, ◌<◌, ◌↔◌, inl, inr, Bool, true, false, not, ◌&&◌, if◌then◌else◌, nat_lt, IsTrue, List, [], ◌∷◌, length, filter, refl, sym, ap, ◌∙◌, subst, arith}
-use Rattle.std.specs.List.{All, AllPairs, Contains, list_any}
-use Rattle.std.proofs.lemmas.Bool.{cases_Bool, cases_order, eqb-false, eqb-true, eq-eqb, ne_eqb, ltb-true, and_parts, and_from, not-true, not-false}
+use Rattle.std.proofs.Common.{◌≡◌, ◌≢◌, ◌<◌, ◌↔◌, inl, inr, Bool, true, false, not, ◌&&◌, nat_lt, IsTrue, List, [], ◌∷◌, refl, sym, ap, ◌∙◌, subst, arith}
+use Rattle.std.specs.List.{AllPairs, Contains, list_any}
+use Rattle.std.proofs.lemmas.Bool.{cases_order, eqb-false, ne_eqb, ltb-true, and_parts, not-true, not-false}
 use Rattle.std.proofs.lemmas.List.Elements.{All-weaker, All-contains}
 use Rattle.std.proofs.lemmas.List.Kept.{AllPairs-cons, AllPairs-filter}
 use Rattle.std.proofs.lemmas.List.Sums.{length-filter}
 use Rattle.lrc_code.specs.declared.codes.Code.TheVariants.{Wide}
 use Rattle.lrc_code.specs.declared.numbers.StripeNo.{StripeNo}
 use Rattle.lrc_code.specs.declared.numbers.Fragment.{Fragment}
-use Rattle.lrc_code.specs.Codes.{fragments, share_class, is_in_group, others}
+use Rattle.lrc_code.specs.Codes.{fragments, share_class, others}
 use Rattle.lrc_code.specs.Losses.{FragmentSet, is_local}
 use Rattle.lrc_code.proofs.NumbersLemmas.{equal_fragments}
 use Rattle.lrc_code.proofs.SourcesLemmas.{is_other, six_others}
 use Rattle.lrc_topology.specs.declared.NodeInfo.{NodeInfo}
-use Rattle.lrc_book.specs.declared.kind.Kind.{Kind}
 use Rattle.lrc_book.specs.declared.kind.Kind.TheVariants.{Local, Global}
 use Rattle.lrc_book.specs.States.{State, missing}
 use Rattle.lrc_book.specs.Repairs.{kind, IsFromItsGroup}

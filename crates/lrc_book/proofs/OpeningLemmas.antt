@@ -1,5 +1,5 @@
 -- What is kept at first is that of the opening state.
-use Rattle.std.proofs.Common.{◌≡◌, Bool, true, false, List, [], Option, Some, None, is_some, refl, sym, ap, ◌∙◌}
+use Rattle.std.proofs.Common.{◌≡◌, Bool, true, false, [], Option, Some, None, is_some, refl, ap, ◌∙◌}
 use Rattle.std.proofs.Math.Path.{fun_ext}
 use Rattle.std.specs.Option.{option_map_or}
 use Rattle.lrc_code.specs.declared.numbers.NodeNo.{NodeNo}
@@ -12,9 +12,8 @@ use Rattle.lrc_stripes.specs.Tables.{stored_in}
 use Rattle.lrc_leases.specs.Leased as leased
 use Rattle.lrc_leases.specs.Tables.{leased_in}
 use Rattle.lrc_book.specs.declared.store.Store.{Store}
-use Rattle.lrc_book.specs.States.{State, opening, takes_seats, is_online}
-use Rattle.lrc_book.specs.Ties.{table_of}
-use Rattle.lrc_book.specs.Stores.{IsOf, stored_of}
+use Rattle.lrc_book.specs.States.{opening, takes_seats, is_online}
+use Rattle.lrc_book.specs.Stores.{IsOf}
 use Rattle.lrc_book.proofs.SeatedLemmas.{opening-seated}
 use Rattle.lrc_book.proofs.StoredLemmas.{same_online, own-spare}
 use Rattle.lrc_book.proofs.EndLemmas.{own-room}

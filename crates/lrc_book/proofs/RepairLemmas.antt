@@ -1,5 +1,5 @@
 -- From what a fragment is rebuilt, told by the mask of the missing fragments.
-use Rattle.std.proofs.Common.{◌≡◌, ℕ, ◌<◌, ◌≤◌, Bool, true, false, not, ◌&&◌, if◌then◌else◌, nat_lt, eqb, List, Option, Some, None, refl, sym, ap, ap₂, ◌∙◌, subst, inl, inr, arith, lt-ltb}
+use Rattle.std.proofs.Common.{◌≡◌, ℕ, ◌≤◌, Bool, true, false, not, ◌&&◌, if◌then◌else◌, nat_lt, eqb, List, Option, Some, None, refl, sym, ap, ◌∙◌, inl, inr, arith}
 use Rattle.std.proofs.Math.Path.{fun_ext}
 use Rattle.std.proofs.lemmas.Bool.{cases_Bool, ltb-true, ltb-false}
 use Rattle.std.proofs.lemmas.Nat.Bits.{bit_at_above}
@@ -13,7 +13,6 @@ use Rattle.lrc_code.specs.Losses.{FragmentSet, bits_set, bits_of, is_recoverable
 use Rattle.lrc_code.proofs.BitsLemmas.{bits_set-bits_of, bits_of-below}
 use Rattle.lrc_topology.specs.declared.NodeInfo.{NodeInfo}
 use Rattle.lrc_stripes.specs.Levels.{homes_of, missing_if}
-use Rattle.lrc_book.specs.declared.kind.Kind.{Kind}
 use Rattle.lrc_book.specs.declared.kind.Kind.TheVariants.{Local, Global}
 use Rattle.lrc_book.specs.States.{State, has_stripe, online_at, missing}
 use Rattle.lrc_book.specs.Repairs.{kind, is_global}

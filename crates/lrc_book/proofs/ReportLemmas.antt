@@ -21,7 +21,7 @@ use Rattle.lrc_book.specs.declared.refusal.Refusal.{Refusal}
 use Rattle.lrc_book.specs.declared.refusal.Refusal.TheVariants as refusal
 use Rattle.lrc_book.specs.declared.entry.Entry.{Entry}
 use Rattle.lrc_book.specs.States.{State, has_stripe, lease_of, online_at}
-use Rattle.lrc_book.specs.Outcomes.{Outcome, refuse_if}
+use Rattle.lrc_book.specs.Outcomes.{Outcome}
 use Rattle.lrc_book.specs.Leases.{grants, at_epoch, is_held_by, moved_in, done_answer, done_outcome, is_report, is_ended, reports_taken}
 use Rattle.lrc_book.specs.Steps.{step}
 use Rattle.lrc_book.specs.Histories.{World, first_world, outcome_in, next_world, IsLegalFrom, IsLegal}

@@ -1,8 +1,8 @@
 -- How what is stored of the stripes follows the state.
-use Rattle.std.proofs.Common.{◌≡◌, ◌≢◌, ℕ, ◌-◌, Bool, true, false, not, if◌then◌else◌, ◌&&◌, ◌||◌, nat_eq, eqb, List, [], ◌∷◌, map, filter, find, Option, Some, None, option_map, is_some, refl, sym, ap, ◌∙◌, subst, inl, inr}
+use Rattle.std.proofs.Common.{◌≡◌, ◌≢◌, ℕ, ◌-◌, Bool, true, false, not, if◌then◌else◌, ◌&&◌, ◌||◌, nat_eq, eqb, List, [], ◌∷◌, map, filter, find, Option, Some, None, option_map, refl, sym, ap, ◌∙◌, inl, inr}
 use Rattle.std.proofs.Math.Path.{fun_ext}
 use Rattle.std.specs.List.{All, Contains}
-use Rattle.std.specs.Option.{option_map_or, option_or}
+use Rattle.std.specs.Option.{option_or}
 use Rattle.std.proofs.lemmas.Bool.{cases_Bool, eqb-true, eq-eqb, ne_eqb, eqb-false, and_parts}
 use Rattle.std.proofs.lemmas.Option.{same_Some}
 use Rattle.std.proofs.lemmas.List.Elements.{All-contains, Contains-append_left}
@@ -19,7 +19,7 @@ use Rattle.lrc_topology.specs.declared.seat.Held.{Held}
 use Rattle.lrc_stripes.specs.Levels.{home_of, homes_of}
 use Rattle.lrc_stripes.specs.Stored as stored
 use Rattle.lrc_stripes.specs.Stored.{Stored, has_node, HasNoHome}
-use Rattle.lrc_book.specs.States.{State, opening, has_stripe, code_of, held_by, seats_of, taken_seats, is_online}
+use Rattle.lrc_book.specs.States.{State, has_stripe, code_of, held_by, seats_of, taken_seats}
 use Rattle.lrc_book.specs.Placement.{with_home}
 use Rattle.lrc_book.specs.Steps.{with_stripe, is_other, without_stripe}
 use Rattle.lrc_book.specs.Goodness.{AreSeated}

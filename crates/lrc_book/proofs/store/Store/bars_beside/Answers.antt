@@ -1,4 +1,4 @@
-use Rattle.std.proofs.Common.{◌≡◌, ◌<◌, List, Option, take, get_or, length, option_map, sym, ap, ap₂, subst, refl, arith, ◌∙◌}
+use Rattle.std.proofs.Common.{◌≡◌, List, Option, take, get_or, length, option_map, ap, ap₂, refl, arith, ◌∙◌}
 use Rattle.std.proofs.lemmas.List.{take_all}
 use Rattle.lrc_code.specs.declared.codes.Code.TheVariants.{Wide}
 use Rattle.lrc_code.specs.declared.numbers.Fragment.{Fragment}
@@ -7,8 +7,7 @@ use Rattle.lrc_topology.specs.declared.seat.Seat.{Seat}
 use Rattle.lrc_leases.specs.declared.lease.Lease.{Lease}
 use Rattle.lrc_stripes.specs.Stored.{Stored}
 use Rattle.lrc_slots.specs.Barred.{Barred}
-use Rattle.lrc_slots.specs.Tables.{barred}
-use Rattle.lrc_book.specs.Ties.{bars_in, bars_of}
+use Rattle.lrc_book.specs.Ties.{bars_in}
 use Rattle.lrc_book.specs.Stores.{with_seat}
 use Rattle.lrc_book.proofs.EndLemmas.{lease-kept}
 use Rattle.lrc_book.proofs.BesideLemmas.{gathered, gathered-more, gathered-all}

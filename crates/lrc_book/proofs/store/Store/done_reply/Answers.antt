@@ -1,4 +1,4 @@
-use Rattle.std.proofs.Common.{rules, ◌≡◌, Bool, true, false, not, ◌&&◌, List, sym, ap, ap₂, ◌∙◌}
+use Rattle.std.proofs.Common.{rules, ◌≡◌, true, false, not, ◌&&◌, List, sym, ap, ap₂, ◌∙◌}
 use Rattle.lrc_code.specs.declared.numbers.NodeNo.{NodeNo}
 use Rattle.lrc_stripes.specs.Stored.{Stored}
 use Rattle.lrc_book.specs.States.{has_number}

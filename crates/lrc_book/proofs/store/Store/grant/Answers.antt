@@ -1,5 +1,4 @@
-use Rattle.std.proofs.Common.{ap, ◌∙◌}
-use Rattle.lrc_leases.specs.Leased.{Leased}
+use Rattle.std.proofs.Common.{◌∙◌}
 use Rattle.lrc_book.proofs.PlacingLemmas.{chosen-known}
 use Rattle.lrc_book.proofs.EndLemmas.{lease-kept, grant-kept}
 use Rattle.lrc_book.proofs.store.Store.grant.Goals as goal

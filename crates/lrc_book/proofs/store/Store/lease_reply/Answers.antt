@@ -1,5 +1,4 @@
-use Rattle.std.proofs.Common.{◌≡◌, Bool, Option, Some, None, is_some, refl, sym, ap, ◌∙◌}
-use Rattle.lrc_topology.specs.declared.seat.Seat.{Seat}
+use Rattle.std.proofs.Common.{is_some, sym, ap, ◌∙◌}
 use Rattle.lrc_stripes.specs.Stored.{Stored}
 use Rattle.lrc_stripes.specs.Levels.{homes_of}
 use Rattle.lrc_book.proofs.EndLemmas.{lease-kept}

@@ -1,6 +1,5 @@
-use Rattle.std.proofs.Common.{◌≡◌, Bool, true, false, List, Option, Some, None, if◌then◌else◌, sym, ap, ◌∙◌}
+use Rattle.std.proofs.Common.{◌≡◌, true, false, sym, ap, ◌∙◌}
 use Rattle.lrc_stripes.specs.Stored.{Stored, missing_shown}
-use Rattle.lrc_book.specs.States.{has_stripe}
 use Rattle.lrc_book.proofs.RepairLemmas.{repair-local, repair-whole, unmasked}
 use Rattle.lrc_book.proofs.store.Store.repair_kind.Goals as goal
 
