@@ -183,12 +183,6 @@ module _ (st : State) (k : Store) (kept : IsOf st k) (s : StripeNo) (f : Fragmen
       let home = home-kept seat is in
       ap (λ (t : Slots). t.taken seat.node seat.slot) kept.table_is ∙ subst (λ (a : Seat). is_taken (taken_seats st) a.node a.slot ≡ true) home.2 (seat-there k.topology st s f home.0 kept.seated home.1)
 
-  -- its stripe is there
-  pub clear-stripe : (seat : Seat) → (stored_in k.stripes).homes s f.value ≡ Some seat → (stored_in k.stripes).stripes s ≡ true
-  clear-stripe seat is =
-      let home = home-kept seat is in
-      ap (λ (t : Stored). t.stripes s) kept.stripes_is ∙ stripe-there k.topology st s f home.0 kept.seated home.1
-
   -- with the home cleared and the seat given back, what is kept is that of the state without it
   pub clear-kept : (seat : Seat) → (stored_in k.stripes).homes s f.value ≡ Some seat → (table : slots.Table) (stripes : tables.Table)
       → slots_of table ≡ with_free (slots_of k.table) seat.node seat.slot → stored_in stripes ≡ stored.with_home (stored_in k.stripes) s f None → IsOf (without_home st s f) (record k { table = table; stripes = stripes })
