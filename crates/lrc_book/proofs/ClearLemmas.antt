@@ -3,7 +3,7 @@ use Rattle.std.proofs.Common.{◌≡◌, ◌≢◌, ◌<◌, ◌≤◌, Bool, tr
 use Rattle.std.specs.List.{All, AllPairs, Contains, count_by}
 use Rattle.std.proofs.lemmas.Bool.{cases_Bool, eqb-true, eq-eqb, and_parts}
 use Rattle.std.proofs.lemmas.Option.{same_Some}
-use Rattle.std.proofs.lemmas.List.Elements.{All-contains, Contains-append_left, All-head, All-tail}
+use Rattle.std.proofs.lemmas.List.Elements.{All-contains, Contains-append_left}
 use Rattle.std.proofs.lemmas.List.Sums.{sum_by-cons}
 use Rattle.lrc_code.specs.declared.numbers.StripeNo.{StripeNo}
 use Rattle.lrc_code.specs.declared.numbers.NodeNo.{NodeNo}
@@ -40,10 +40,6 @@ use Rattle.lrc_stripes.specs.Tables.{stored_in}
 use Rattle.lrc_book.proofs.StoredLemmas.{found-home, stored-clear, own-spare}
 
 -- ---- lists
-
-filter-whole : {X : Type 0} (test : X → Bool) (xs : List X) → All (λ x. test x ≡ true) xs → filter test xs ≡ xs
-filter-whole test [] all = refl
-filter-whole test (x ∷ xs) all = rw (All-head (λ y. test y ≡ true) x xs all) (ap (λ ys. x ∷ ys) (filter-whole test xs (All-tail (λ y. test y ≡ true) x xs all)))
 
 module _ {X : Type 0} (test kept : X → Bool) where
   pub count-fewer : (xs : List X) → count_by test (filter kept xs) ≤ count_by test xs
