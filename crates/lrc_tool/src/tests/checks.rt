@@ -10,6 +10,7 @@ use std::test::Fail;
 const THREE_NODES: &str =
     "node = [{number = 1, fault = 0, upgrade = 0, slots = 1},\n{number = 2, fault = 1, upgrade = 0, slots = 4},\n{number = 9, fault = 2, upgrade = 1, slots = 256},\n]\n";
 
+/// Streams that failed before are read and written like fresh ones.
 fn expect_line(
     rt: &impl Abort,
     alloc: Global,
@@ -17,11 +18,15 @@ fn expect_line(
     line: &str,
     status: Status,
 ) -> Result<(), Fail> {
-    let mut source = Plain::new(bundle);
-    let mut sink = Plain::new(Vec::new(alloc));
-    let result = check(alloc, &mut source, &mut sink);
-    assert_eq!(rt; std::str::from_utf8(sink.inner.as_slice())?, line);
-    assert_eq!(rt; result, Ok(status));
+    for failed in [false, true] {
+        let mut source = Plain::new(bundle);
+        source.failed = failed;
+        let mut sink = Plain::new(Vec::new(alloc));
+        sink.failed = failed;
+        let result = check(alloc, &mut source, &mut sink);
+        assert_eq!(rt; std::str::from_utf8(sink.inner.as_slice())?, line);
+        assert_eq!(rt; result, Ok(status));
+    }
     Ok(())
 }
 

@@ -22,7 +22,7 @@ pub(crate) struct Filling {
 
 impl Read for Filling {
     fn read(&mut self, buf: &mut [u8]) -> io::Result<usize> {
-        if buf.len() > self.left {
+        if self.left == 0 || buf.len() > self.left {
             return Err(io::Error::from(io::ErrorKind::UnexpectedEof));
         }
         self.left -= buf.len();
