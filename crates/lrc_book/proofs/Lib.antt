@@ -37,3 +37,4 @@ pub mod LeaseToldLemmas
 pub mod RepairLemmas
 pub mod LeaseReplyLemmas
 pub mod OpeningLemmas
+pub mod GrantingLemmas

@@ -19,6 +19,7 @@ pub mod Histories
 pub mod Sessions
 pub mod Choices
 pub mod Goodness
+pub mod Granting
 pub mod Changes
 pub mod Ties
 pub mod Stores

@@ -1,6 +1,6 @@
 //! Laws of the definitions, each the contract of a function that does nothing.
 
-ghost use Rattle.std.specs.Prelude.{◌≡◌, ◌≢◌, ◌↔◌, ℕ, ◌+◌, ◌≤◌, if◌then◌else◌, IsTrue, IsFalse, List, All, Some, None};
+ghost use Rattle.std.specs.Prelude.{◌≡◌, ◌≢◌, ◌↔◌, ℕ, ◌+◌, ◌≤◌, if◌then◌else◌, IsTrue, IsFalse, IsSomeAnd, List, All, Some, None};
 ghost use Rattle.lrc_code.specs.declared.codes.Code.TheVariants.{Wide};
 ghost use Rattle.lrc_code.specs.Codes.{fragments};
 ghost use Rattle.lrc_code.specs.declared.numbers.StripeNo.{StripeNo};
@@ -20,8 +20,9 @@ ghost use Rattle.lrc_book.specs.declared.kind.Kind.{Kind};
 ghost use Rattle.lrc_book.specs.declared.kind.Kind.TheVariants.{Local, Global};
 ghost use Rattle.lrc_leases.specs.declared.lease.Lease.{Lease as LeaseRecord};
 ghost use Rattle.lrc_book.specs.Outcomes.{refused};
-ghost use Rattle.lrc_book.specs.Leases.{grants, reports_taken};
-ghost use Rattle.lrc_book.specs.Repairs.{kind, IsFromItsGroup};
+ghost use Rattle.lrc_book.specs.Leases.{grants, new_lease, reports_taken};
+ghost use Rattle.lrc_book.specs.Repairs.{needs, is_safe, kind, IsFromItsGroup};
+ghost use Rattle.lrc_book.specs.Granting.{IsOwed};
 ghost use Rattle.lrc_book.specs.Steps.{with_stripe, step};
 ghost use Rattle.lrc_book.specs.States.{State, has_stripe, lease_of};
 ghost use Rattle.lrc_book.specs.Placement.{chosen, is_beside};
@@ -135,4 +136,24 @@ pub fn kinds_in_words()
         → (kind nodes st s f ≡ Local sources) ↔ IsFromItsGroup nodes st s f sources }
     ensures global { (nodes : List NodeInfo) (st : State) (s : StripeNo) (f : Fragment)
         → (kind nodes st s f ≡ Global) ↔ ((sources : List Fragment) → ¬ (IsFromItsGroup nodes st s f sources)) }
+{}
+
+/// Lease is answered with a lease exactly where the fragment is owed one and a seat is chosen for it: the lease is then
+/// the session's on this seat. Each refusal is told exactly where what it says is so, and none before it.
+pub fn a_lease_is_granted_where_it_is_owed()
+    ensures granted { (nodes : List NodeInfo) (past : List Entry) (st : State) (session : SessionNo) (s : StripeNo) (f : Fragment) (l : LeaseRecord) (k : Kind)
+        → AreNodes nodes → ((step nodes past st session (Lease s f)).0 ≡ Granted l k)
+        ↔ (IsOwed nodes st s f × IsChoice nodes st s f l.target × (l ≡ new_lease past session s f l.target) × (k ≡ kind nodes st s f)) }
+    ensures unknown { (nodes : List NodeInfo) (past : List Entry) (st : State) (session : SessionNo) (s : StripeNo) (f : Fragment)
+        → ((step nodes past st session (Lease s f)).0 ≡ Refused refusal.UnknownStripe) ↔ IsFalse (has_stripe st s) }
+    ensures leased { (nodes : List NodeInfo) (past : List Entry) (st : State) (session : SessionNo) (s : StripeNo) (f : Fragment) (e : ℕ)
+        → ((step nodes past st session (Lease s f)).0 ≡ Refused (refusal.AlreadyLeased e)) ↔ (IsTrue (has_stripe st s) × IsSomeAnd (lease_of st s f) (λ l. l.epoch ≡ e)) }
+    ensures not_needed { (nodes : List NodeInfo) (past : List Entry) (st : State) (session : SessionNo) (s : StripeNo) (f : Fragment)
+        → ((step nodes past st session (Lease s f)).0 ≡ Refused refusal.NotNeeded) ↔ (IsTrue (has_stripe st s) × (lease_of st s f ≡ None) × IsFalse (needs st s f)) }
+    ensures unrecoverable { (nodes : List NodeInfo) (past : List Entry) (st : State) (session : SessionNo) (s : StripeNo) (f : Fragment)
+        → ((step nodes past st session (Lease s f)).0 ≡ Refused refusal.Unrecoverable)
+        ↔ (IsTrue (has_stripe st s) × (lease_of st s f ≡ None) × IsTrue (needs st s f) × (kind nodes st s f ≡ Global) × IsFalse (is_safe nodes st s)) }
+    ensures no_node { (nodes : List NodeInfo) (past : List Entry) (st : State) (session : SessionNo) (s : StripeNo) (f : Fragment) (g : Fragment)
+        → ((step nodes past st session (Lease s f)).0 ≡ Refused (refusal.NoLawfulNode g))
+        ↔ ((g ≡ f) × IsOwed nodes st s f × ((n : NodeInfo) → ¬ (IsFitting nodes st s f n))) }
 {}
