@@ -34,7 +34,7 @@ live-epoch nodes past st s f l good live =
     All-contains (λ k. k.epoch ≡ grants past k.stripe k.fragment) st.leases l good.current (leases_in-contains st.leases s f.value l live)
     ∙ ap (λ (r : StripeNo). grants past r l.fragment) own.0 ∙ ap (grants past s) (equal_fragments l.fragment f own.1)
 
-none-at : (e : ℕ) (o : Option LeaseRecord) → ((l : LeaseRecord) → o ≡ Some l → l.epoch ≢ e) → at_epoch e o ≡ None
+pub none-at : (e : ℕ) (o : Option LeaseRecord) → ((l : LeaseRecord) → o ≡ Some l → l.epoch ≢ e) → at_epoch e o ≡ None
 none-at e None other = refl
 none-at e (Some l) other = rw (ne_eqb l.epoch e (other l refl)) refl
 

@@ -38,3 +38,4 @@ pub mod RepairLemmas
 pub mod LeaseReplyLemmas
 pub mod OpeningLemmas
 pub mod GrantingLemmas
+pub mod ReportedLemmas

@@ -20,6 +20,7 @@ pub mod Sessions
 pub mod Choices
 pub mod Goodness
 pub mod Granting
+pub mod Reporting
 pub mod Changes
 pub mod Ties
 pub mod Stores

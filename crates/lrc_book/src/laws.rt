@@ -10,10 +10,11 @@ ghost use Rattle.lrc_topology.specs.declared.seat.Seat.{Seat};
 ghost use Rattle.lrc_topology.specs.declared.seat.Held.{Held};
 ghost use Rattle.lrc_topology.specs.Nodes.{AreNodes};
 ghost use Rattle.lrc_code.specs.declared.numbers.SessionNo.{SessionNo};
+ghost use Rattle.lrc_code.specs.declared.numbers.NodeNo.{NodeNo};
 ghost use Rattle.lrc_book.specs.declared.entry.Entry.{Entry};
 ghost use Rattle.lrc_book.specs.declared.command.Command.{Command};
 ghost use Rattle.lrc_book.specs.declared.command.Command.TheVariants.{Place, Lease, Done, Abandon, Revoke};
-ghost use Rattle.lrc_book.specs.declared.reply.Reply.TheVariants.{Placed, Granted, Refused};
+ghost use Rattle.lrc_book.specs.declared.reply.Reply.TheVariants.{Placed, Granted, Ended, Refused};
 ghost use Rattle.lrc_book.specs.declared.refusal.Refusal.TheVariants as refusal;
 ghost use Rattle.lrc_book.specs.declared.refusal.Refusal.{Refusal};
 ghost use Rattle.lrc_book.specs.declared.kind.Kind.{Kind};
@@ -23,8 +24,9 @@ ghost use Rattle.lrc_book.specs.Outcomes.{refused};
 ghost use Rattle.lrc_book.specs.Leases.{grants, new_lease, reports_taken};
 ghost use Rattle.lrc_book.specs.Repairs.{needs, is_safe, kind, IsFromItsGroup};
 ghost use Rattle.lrc_book.specs.Granting.{IsOwed};
+ghost use Rattle.lrc_book.specs.Reporting.{IsReported};
 ghost use Rattle.lrc_book.specs.Steps.{with_stripe, step};
-ghost use Rattle.lrc_book.specs.States.{State, has_stripe, lease_of};
+ghost use Rattle.lrc_book.specs.States.{State, has_stripe, lease_of, online_at};
 ghost use Rattle.lrc_book.specs.Placement.{chosen, is_beside};
 ghost use Rattle.lrc_book.specs.Choices.{IsFitting, IsChoice, AreChosen, IsFirstWithout};
 ghost use Rattle.lrc_book.specs.Histories.{IsLegal, outcome_in, world_after, state_after};
@@ -156,4 +158,23 @@ pub fn a_lease_is_granted_where_it_is_owed()
     ensures no_node { (nodes : List NodeInfo) (past : List Entry) (st : State) (session : SessionNo) (s : StripeNo) (f : Fragment) (g : Fragment)
         → ((step nodes past st session (Lease s f)).0 ≡ Refused (refusal.NoLawfulNode g))
         ↔ ((g ≡ f) × IsOwed nodes st s f × ((n : NodeInfo) → ¬ (IsFitting nodes st s f n))) }
+{}
+
+/// Done ends the lease exactly where the session holds the live lease of the fragment, it has this epoch, and its
+/// target's node is online. Each refusal is told exactly where what it says is so, and none before it.
+pub fn a_report_is_taken_from_the_holder_alone()
+    ensures ended { (nodes : List NodeInfo) (past : List Entry) (st : State) (session : SessionNo) (s : StripeNo) (f : Fragment) (e : ℕ)
+        → ((step nodes past st session (Done s f e)).0 ≡ Ended)
+        ↔ ((l : LeaseRecord) × IsReported st s f e l × (l.holder ≡ session) × IsTrue (online_at nodes st l.target.node)) }
+    ensures unknown { (nodes : List NodeInfo) (past : List Entry) (st : State) (session : SessionNo) (s : StripeNo) (f : Fragment) (e : ℕ)
+        → ((step nodes past st session (Done s f e)).0 ≡ Refused refusal.UnknownStripe) ↔ IsFalse (has_stripe st s) }
+    ensures stale { (nodes : List NodeInfo) (past : List Entry) (st : State) (session : SessionNo) (s : StripeNo) (f : Fragment) (e : ℕ)
+        → ((step nodes past st session (Done s f e)).0 ≡ Refused refusal.Stale)
+        ↔ (IsTrue (has_stripe st s) × ((l : LeaseRecord) → lease_of st s f ≡ Some l → l.epoch ≢ e)) }
+    ensures others { (nodes : List NodeInfo) (past : List Entry) (st : State) (session : SessionNo) (s : StripeNo) (f : Fragment) (e : ℕ) (x : SessionNo)
+        → ((step nodes past st session (Done s f e)).0 ≡ Refused (refusal.NotHolder x))
+        ↔ ((l : LeaseRecord) × IsReported st s f e l × (l.holder ≡ x) × (x ≢ session)) }
+    ensures offline { (nodes : List NodeInfo) (past : List Entry) (st : State) (session : SessionNo) (s : StripeNo) (f : Fragment) (e : ℕ) (n : NodeNo)
+        → ((step nodes past st session (Done s f e)).0 ≡ Refused (refusal.TargetOffline n))
+        ↔ ((l : LeaseRecord) × IsReported st s f e l × (l.holder ≡ session) × (l.target.node ≡ n) × IsFalse (online_at nodes st n)) }
 {}
