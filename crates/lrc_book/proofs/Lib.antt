@@ -39,3 +39,4 @@ pub mod LeaseReplyLemmas
 pub mod OpeningLemmas
 pub mod GrantingLemmas
 pub mod ReportedLemmas
+pub mod EndingLemmas

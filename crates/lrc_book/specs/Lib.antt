@@ -21,6 +21,7 @@ pub mod Choices
 pub mod Goodness
 pub mod Granting
 pub mod Reporting
+pub mod Endings
 pub mod Changes
 pub mod Ties
 pub mod Stores

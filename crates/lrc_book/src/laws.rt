@@ -25,6 +25,7 @@ ghost use Rattle.lrc_book.specs.Leases.{grants, new_lease, reports_taken};
 ghost use Rattle.lrc_book.specs.Repairs.{needs, is_safe, kind, IsFromItsGroup};
 ghost use Rattle.lrc_book.specs.Granting.{IsOwed};
 ghost use Rattle.lrc_book.specs.Reporting.{IsReported};
+ghost use Rattle.lrc_book.specs.Endings.{CanEnd};
 ghost use Rattle.lrc_book.specs.Steps.{with_stripe, step};
 ghost use Rattle.lrc_book.specs.States.{State, has_stripe, lease_of, online_at};
 ghost use Rattle.lrc_book.specs.Placement.{chosen, is_beside};
@@ -177,4 +178,11 @@ pub fn a_report_is_taken_from_the_holder_alone()
     ensures offline { (nodes : List NodeInfo) (past : List Entry) (st : State) (session : SessionNo) (s : StripeNo) (f : Fragment) (e : ℕ) (n : NodeNo)
         → ((step nodes past st session (Done s f e)).0 ≡ Refused (refusal.TargetOffline n))
         ↔ ((l : LeaseRecord) × IsReported st s f e l × (l.holder ≡ session) × (l.target.node ≡ n) × IsFalse (online_at nodes st n)) }
+{}
+
+/// A live lease is there unchanged after every command, unless this is Done, Abandon or Revoke of its fragment, Drop of
+/// its stripe, or Fail of the node of its target or of its fragment's home.
+pub fn leases_end_by_these_alone()
+    ensures { (nodes : List NodeInfo) (past : List Entry) (st : State) (session : SessionNo) (command : Command) (s : StripeNo) (f : Fragment) (l : LeaseRecord)
+        → lease_of st s f ≡ Some l → ¬ (CanEnd st l command) → lease_of (step nodes past st session command).1 s f ≡ Some l }
 {}
