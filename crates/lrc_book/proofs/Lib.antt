@@ -40,3 +40,4 @@ pub mod OpeningLemmas
 pub mod GrantingLemmas
 pub mod ReportedLemmas
 pub mod EndingLemmas
+pub mod EarnedLemmas

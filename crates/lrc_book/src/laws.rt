@@ -1,6 +1,6 @@
 //! Laws of the definitions, each the contract of a function that does nothing.
 
-ghost use Rattle.std.specs.Prelude.{◌≡◌, ◌≢◌, ◌↔◌, ℕ, ◌+◌, ◌≤◌, if◌then◌else◌, IsTrue, IsFalse, IsSomeAnd, List, All, Some, None};
+ghost use Rattle.std.specs.Prelude.{◌≡◌, ◌≢◌, ◌↔◌, ℕ, ◌+◌, ◌≤◌, if◌then◌else◌, IsTrue, IsFalse, IsSomeAnd, List, All, Contains, Some, None};
 ghost use Rattle.lrc_code.specs.declared.codes.Code.TheVariants.{Wide};
 ghost use Rattle.lrc_code.specs.Codes.{fragments};
 ghost use Rattle.lrc_code.specs.declared.numbers.StripeNo.{StripeNo};
@@ -185,4 +185,11 @@ pub fn a_report_is_taken_from_the_holder_alone()
 pub fn leases_end_by_these_alone()
     ensures { (nodes : List NodeInfo) (past : List Entry) (st : State) (session : SessionNo) (command : Command) (s : StripeNo) (f : Fragment) (l : LeaseRecord)
         → lease_of st s f ≡ Some l → ¬ (CanEnd st l command) → lease_of (step nodes past st session command).1 s f ≡ Some l }
+{}
+
+/// After a legal history each live lease was granted in one of its entries, to the session that holds it.
+pub fn live_leases_were_granted()
+    ensures { (nodes : List NodeInfo) (history : List Entry) (l : LeaseRecord)
+        → IsLegal nodes history → Contains (state_after nodes history).leases l
+        → (k : Kind) × Contains history (record { session = l.holder; command = Lease l.stripe l.fragment; reply = Granted l k }) }
 {}
