@@ -41,3 +41,4 @@ pub mod GrantingLemmas
 pub mod ReportedLemmas
 pub mod EndingLemmas
 pub mod EarnedLemmas
+pub mod MovedLemmas

@@ -19,6 +19,7 @@ ghost use Rattle.lrc_book.specs.declared.refusal.Refusal.TheVariants as refusal;
 ghost use Rattle.lrc_book.specs.declared.refusal.Refusal.{Refusal};
 ghost use Rattle.lrc_book.specs.declared.kind.Kind.{Kind};
 ghost use Rattle.lrc_book.specs.declared.kind.Kind.TheVariants.{Local, Global};
+ghost use Rattle.lrc_stripes.specs.Levels.{homes_of};
 ghost use Rattle.lrc_leases.specs.declared.lease.Lease.{Lease as LeaseRecord};
 ghost use Rattle.lrc_book.specs.Outcomes.{refused};
 ghost use Rattle.lrc_book.specs.Leases.{grants, new_lease, reports_taken};
@@ -192,4 +193,12 @@ pub fn live_leases_were_granted()
     ensures { (nodes : List NodeInfo) (history : List Entry) (l : LeaseRecord)
         → IsLegal nodes history → Contains (state_after nodes history).leases l
         → (k : Kind) × Contains history (record { session = l.holder; command = Lease l.stripe l.fragment; reply = Granted l k }) }
+{}
+
+/// After a report that is taken the fragment has no live lease, and its home is the target of the lease that it had.
+pub fn a_report_moves_its_fragment()
+    ensures { (nodes : List NodeInfo) (past : List Entry) (st : State) (session : SessionNo) (s : StripeNo) (f : Fragment) (e : ℕ) (l : LeaseRecord)
+        → lease_of st s f ≡ Some l → (step nodes past st session (Done s f e)).0 ≡ Ended
+        → (lease_of (step nodes past st session (Done s f e)).1 s f ≡ None)
+        × (homes_of (step nodes past st session (Done s f e)).1.homes s f.value ≡ Some l.target) }
 {}
