@@ -42,3 +42,4 @@ pub mod ReportedLemmas
 pub mod EndingLemmas
 pub mod EarnedLemmas
 pub mod MovedLemmas
+pub mod GivenBackLemmas

@@ -34,10 +34,10 @@ equal_sessions a b e =
     subst (λ n. (h : (1 ≤ n) × (n ≤ 8)) → a ≡ record { value = n; in_range = h }) e
     (λ h. ap (λ (i : (1 ≤ a.value) × (a.value ≤ 8)). record { value = a.value; in_range = i }) (session_range a.value a.in_range h)) b.in_range
 
-held-session : (session : SessionNo) (l : LeaseRecord) → is_held_by session l ≡ true → l.holder ≡ session
+pub held-session : (session : SessionNo) (l : LeaseRecord) → is_held_by session l ≡ true → l.holder ≡ session
 held-session session l hit = equal_sessions l.holder session (eqb-true l.holder.value session.value hit)
 
-session-held : (session : SessionNo) (l : LeaseRecord) → l.holder ≡ session → is_held_by session l ≡ true
+pub session-held : (session : SessionNo) (l : LeaseRecord) → l.holder ≡ session → is_held_by session l ≡ true
 session-held session l same = eq-eqb l.holder.value session.value (ap (λ (x : SessionNo). x.value) same)
 
 not-held : (session : SessionNo) (l : LeaseRecord) → is_held_by session l ≡ false → l.holder ≢ session
@@ -46,7 +46,7 @@ not-held session l miss same = let both : true ≡ false = sym (session-held ses
 held-not : (session : SessionNo) (l : LeaseRecord) → l.holder ≢ session → is_held_by session l ≡ false
 held-not session l other = ne_eqb l.holder.value session.value (λ same. other (equal_sessions l.holder session same))
 
-at-own : (e : ℕ) (l : LeaseRecord) → l.epoch ≡ e → at_epoch e (Some l) ≡ Some l
+pub at-own : (e : ℕ) (l : LeaseRecord) → l.epoch ≡ e → at_epoch e (Some l) ≡ Some l
 at-own e l same = rw (eq-eqb l.epoch e same) refl
 
 at-none : (e : ℕ) (o : Option LeaseRecord) → at_epoch e o ≡ None → (l : LeaseRecord) → o ≡ Some l → l.epoch ≢ e

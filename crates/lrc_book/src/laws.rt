@@ -202,3 +202,9 @@ pub fn a_report_moves_its_fragment()
         → (lease_of (step nodes past st session (Done s f e)).1 s f ≡ None)
         × (homes_of (step nodes past st session (Done s f e)).1.homes s f.value ≡ Some l.target) }
 {}
+
+/// Abandon ends the lease exactly where the session holds the live lease of the fragment and it has this epoch.
+pub fn a_lease_is_given_back_by_its_holder_alone()
+    ensures { (nodes : List NodeInfo) (past : List Entry) (st : State) (session : SessionNo) (s : StripeNo) (f : Fragment) (e : ℕ)
+        → ((step nodes past st session (Abandon s f e)).0 ≡ Ended) ↔ ((l : LeaseRecord) × IsReported st s f e l × (l.holder ≡ session)) }
+{}
