@@ -1,6 +1,6 @@
 -- A live lease outlasts the commands that cannot end it.
-use Rattle.std.proofs.Common.{◌≡◌, ◌≢◌, inl, inr, Bool, true, false, not, ◌||◌, is_none, List, [], ◌∷◌, filter, find, Option, Some, None, Result, Ok, Err, ℕ, refl, sym, ap, ◌∙◌, subst}
-use Rattle.std.proofs.lemmas.Bool.{cases_Bool, eqb-true, ne_eqb}
+use Rattle.std.proofs.Common.{◌≡◌, ◌≢◌, inl, inr, Bool, true, false, not, is_none, List, [], ◌∷◌, filter, find, Option, Some, None, Result, Ok, Err, refl, sym, ap, ◌∙◌}
+use Rattle.std.proofs.lemmas.Bool.{cases_Bool, ne_eqb}
 use Rattle.std.proofs.lemmas.Option.{same_Some}
 use Rattle.lrc_code.specs.declared.codes.Code.TheVariants.{Wide}
 use Rattle.lrc_code.specs.declared.numbers.StripeNo.{StripeNo}
@@ -15,10 +15,10 @@ use Rattle.lrc_leases.specs.Leased.{is_of}
 use Rattle.lrc_leases.proofs.ListLemmas.{leases_in-own, is_of-parts, is_of-from}
 use Rattle.lrc_book.specs.declared.command.Command.{Command}
 use Rattle.lrc_book.specs.declared.command.Command.TheVariants.{Place, Drop, Lease, Done, Abandon, Revoke, Fail, Down, Up, Join}
-use Rattle.lrc_book.specs.declared.reply.Reply.TheVariants.{Dropped, Ended, Changed}
+use Rattle.lrc_book.specs.declared.reply.Reply.TheVariants.{Dropped, Changed}
 use Rattle.lrc_book.specs.declared.refusal.Refusal.TheVariants as refusal
 use Rattle.lrc_book.specs.declared.entry.Entry.{Entry}
-use Rattle.lrc_book.specs.States.{State, has_stripe, lease_of, mode_of, is_gone, is_down}
+use Rattle.lrc_book.specs.States.{State, has_stripe, lease_of}
 use Rattle.lrc_book.specs.Placement.{placed}
 use Rattle.lrc_book.specs.Leases.{lease_answer, lease_outcome}
 use Rattle.lrc_book.specs.Steps.{with_stripe, place_answer, place_outcome, is_other, without_stripe, drop_outcome, node_outcome, hangs_on, emptied, with_gone, with_down, without_down, without_gone, fail_outcome, down_outcome, up_outcome, join_outcome, step}

@@ -1,5 +1,5 @@
 -- Where Abandon and Revoke end a lease.
-use Rattle.std.proofs.Common.{◌≡◌, ◌≢◌, Bool, true, false, not, is_none, Option, Some, None, List, ℕ, refl, sym, ap, ◌∙◌}
+use Rattle.std.proofs.Common.{◌≡◌, ◌≢◌, Bool, true, false, not, Option, Some, None, ℕ, refl, ap, ◌∙◌}
 use Rattle.lrc_code.specs.declared.numbers.StripeNo.{StripeNo}
 use Rattle.lrc_code.specs.declared.numbers.SessionNo.{SessionNo}
 use Rattle.lrc_code.specs.declared.numbers.Fragment.{Fragment}
@@ -7,9 +7,9 @@ use Rattle.lrc_leases.specs.declared.lease.Lease.{Lease as LeaseRecord}
 use Rattle.lrc_book.specs.declared.reply.Reply.TheVariants.{Ended, Refused}
 use Rattle.lrc_book.specs.declared.refusal.Refusal.{Refusal}
 use Rattle.lrc_book.specs.declared.refusal.Refusal.TheVariants as refusal
-use Rattle.lrc_book.specs.Outcomes.{Outcome, refused, refuse_if}
+use Rattle.lrc_book.specs.Outcomes.{Outcome, refuse_if}
 use Rattle.lrc_book.specs.States.{State, has_stripe, lease_of}
-use Rattle.lrc_book.specs.Leases.{without_lease, at_epoch, is_held_by, abandon_answer, abandon_outcome, revoke_outcome}
+use Rattle.lrc_book.specs.Leases.{without_lease, at_epoch, is_held_by, abandon_answer, abandon_outcome}
 use Rattle.lrc_book.specs.Reporting.{IsReported}
 use Rattle.lrc_book.proofs.LeaseStepLemmas.{at_epoch-some}
 use Rattle.lrc_book.proofs.GrantingLemmas.{passed}

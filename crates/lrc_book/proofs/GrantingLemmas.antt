@@ -1,5 +1,5 @@
 -- Which answer to Lease is told where.
-use Rattle.std.proofs.Common.{◌≡◌, ◌+◌, Bool, true, false, not, ◌&&◌, IsSomeAnd, List, Option, Some, None, ℕ, refl, sym, ap, ◌∙◌, subst}
+use Rattle.std.proofs.Common.{◌≡◌, Bool, true, false, not, ◌&&◌, IsSomeAnd, List, Option, Some, None, ℕ, refl, sym, ap, ◌∙◌, subst}
 use Rattle.lrc_code.specs.declared.numbers.StripeNo.{StripeNo}
 use Rattle.lrc_code.specs.declared.numbers.SessionNo.{SessionNo}
 use Rattle.lrc_code.specs.declared.numbers.Fragment.{Fragment}
@@ -16,7 +16,7 @@ use Rattle.lrc_book.specs.declared.entry.Entry.{Entry}
 use Rattle.lrc_book.specs.States.{State, has_stripe, lease_of}
 use Rattle.lrc_book.specs.Placement.{chosen}
 use Rattle.lrc_book.specs.Repairs.{needs, is_safe, kind, is_global, is_beyond_repair}
-use Rattle.lrc_book.specs.Outcomes.{Outcome, refused, refuse_if}
+use Rattle.lrc_book.specs.Outcomes.{Outcome, refuse_if}
 use Rattle.lrc_book.specs.Leases.{new_lease, granted, lease_answer, lease_outcome}
 use Rattle.lrc_book.specs.Granting.{IsOwed}
 

@@ -1,5 +1,5 @@
 -- What a report that is taken leaves.
-use Rattle.std.proofs.Common.{◌≡◌, true, ◌&&◌, nat_eq, if◌then◌else◌, Option, Some, None, List, ℕ, refl, sym, ap, ◌∙◌}
+use Rattle.std.proofs.Common.{◌≡◌, true, ◌&&◌, nat_eq, Option, Some, None, List, ℕ, refl, sym, ap, ◌∙◌}
 use Rattle.std.proofs.lemmas.Bool.{eq-eqb}
 use Rattle.std.proofs.lemmas.Option.{same_Some}
 use Rattle.lrc_code.specs.declared.numbers.StripeNo.{StripeNo}

@@ -1,5 +1,5 @@
 -- Which answer to Done and Abandon is told where.
-use Rattle.std.proofs.Common.{◌≡◌, ◌≢◌, ◌≤◌, Bool, true, false, not, nat_eq, List, Option, Some, None, ℕ, refl, sym, ap, ◌∙◌, subst}
+use Rattle.std.proofs.Common.{◌≡◌, ◌≢◌, ◌≤◌, Bool, true, false, not, List, Option, Some, None, ℕ, refl, sym, ap, ◌∙◌, subst}
 use Rattle.std.specs.Coded.{le_prop}
 use Rattle.std.proofs.lemmas.Bool.{eqb-true, eq-eqb, ne_eqb}
 use Rattle.lrc_code.specs.declared.numbers.StripeNo.{StripeNo}
@@ -10,11 +10,10 @@ use Rattle.lrc_topology.specs.declared.NodeInfo.{NodeInfo}
 use Rattle.lrc_leases.specs.declared.lease.Lease.{Lease as LeaseRecord}
 use Rattle.lrc_book.specs.declared.reply.Reply.{Reply}
 use Rattle.lrc_book.specs.declared.reply.Reply.TheVariants.{Ended, Refused}
-use Rattle.lrc_book.specs.declared.refusal.Refusal.{Refusal}
 use Rattle.lrc_book.specs.declared.refusal.Refusal.TheVariants as refusal
 use Rattle.lrc_book.specs.States.{State, has_stripe, lease_of, online_at}
-use Rattle.lrc_book.specs.Outcomes.{Outcome, refused, refuse_if}
-use Rattle.lrc_book.specs.Leases.{without_lease, at_epoch, is_held_by, moved_in, done_answer, done_outcome, abandon_answer, abandon_outcome}
+use Rattle.lrc_book.specs.Outcomes.{Outcome, refuse_if}
+use Rattle.lrc_book.specs.Leases.{at_epoch, is_held_by, moved_in, done_answer, done_outcome}
 use Rattle.lrc_book.specs.Reporting.{IsReported}
 use Rattle.lrc_book.proofs.LeaseStepLemmas.{at_epoch-some}
 use Rattle.lrc_book.proofs.LeaseLawLemmas.{none-at}
