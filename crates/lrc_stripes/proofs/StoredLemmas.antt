@@ -18,10 +18,10 @@ use Rattle.lrc_stripes.specs.declared.row.Row.{Row}
 use Rattle.lrc_stripes.specs.declared.row.Site.{Site}
 use Rattle.lrc_stripes.specs.declared.level.Level.{Level}
 use Rattle.lrc_stripes.specs.Levels.{homeless_in, missing_in, missing_if, level_by, level_if}
-use Rattle.lrc_stripes.specs.Stored.{empty, with_stripe, without_stripe, with_home, with_offline, with_spare, has_node, has_slot, missing_shown, level_shown}
-use Rattle.lrc_stripes.specs.Tables.{Table, stored_in, site_at, online_in, row_at, row_homes}
+use Rattle.lrc_stripes.specs.Stored.{Stored, empty, with_stripe, without_stripe, with_home, with_offline, with_draining, with_spare, has_node, has_slot, missing_shown, level_shown}
+use Rattle.lrc_stripes.specs.Tables.{Table, stored_in, site_at, online_in, draining_in, row_at, row_homes}
 use Rattle.lrc_stripes.specs.Rows.{site_of, site_place, place_of, IsRising}
-use Rattle.lrc_stripes.proofs.SiteLemmas.{nodes-at_first, online-at_first, nodes-set, online-set, node_at-sites}
+use Rattle.lrc_stripes.proofs.SiteLemmas.{nodes-at_first, online-at_first, draining-at_first, nodes-set, said-set, said-kept, node_at-sites}
 use Rattle.lrc_stripes.proofs.RowLemmas.{row_at-insert, row_at-remove, row_at-set}
 
 -- ---- at first
@@ -30,19 +30,31 @@ pub stored_in-at_first : (nodes : List NodeInfo) (sites : List Site) (rows : Lis
 unfolding stored_in
 stored_in-at_first nodes sites rows e none =
     rw (e, none) (ap (λ (ns : List NodeInfo). record (stored_in (record { sites = map site_of nodes; rows = []; spare = 0 })) { nodes = ns }) (nodes-at_first nodes)
-    ∙ ap (λ (o : NodeNo → Bool). record (empty nodes) { online = o }) (online-at_first nodes))
+    ∙ ap₂ (λ (o b : NodeNo → Bool). record (empty nodes) { online = o; draining = b }) (online-at_first nodes) (draining-at_first nodes))
 
--- ---- a node set offline or online
+-- ---- a node set offline or draining, or no longer
 
-pub stored_in-set_offline : (sites : List Site) (rows : List Row) (spare : ℕ) (n : NodeNo) (b : Bool) (old : Site) → old ≡ get_or sites (site_place sites n) old → site_place sites n < length sites
-    → stored_in (record { sites = set sites (site_place sites n) (record old { is_offline = b }); rows = rows; spare = spare }) ≡ with_offline (stored_in (record { sites = sites; rows = rows; spare = spare })) n b
-unfolding stored_in
-stored_in-set_offline sites rows spare n b d at within =
-    let t = stored_in (record { sites = sites; rows = rows; spare = spare }) in
-    let x = record (get_or sites (site_place sites n) d) { is_offline = b } in
-    ap (λ (y : Site). stored_in (record { sites = set sites (site_place sites n) (record y { is_offline = b }); rows = rows; spare = spare })) at
-    ∙ ap (λ (ns : List NodeInfo). record t { nodes = ns; online = online_in (set sites (site_place sites n) x) }) (nodes-set sites n b d)
-    ∙ ap (λ (o : NodeNo → Bool). record t { online = o }) (online-set sites n b d within)
+module _ (sites : List Site) (rows : List Row) (spare : ℕ) (n : NodeNo) (b : Bool) (old : Site) (at : old ≡ get_or sites (site_place sites n) old) (within : site_place sites n < length sites) where
+  abbrev before : Stored
+  before = stored_in (record { sites = sites; rows = rows; spare = spare })
+
+  pub stored_in-set_offline : stored_in (record { sites = set sites (site_place sites n) (record old { is_offline = b }); rows = rows; spare = spare }) ≡ with_offline before n b
+  unfolding stored_in
+  stored_in-set_offline =
+      let x : Site = record old { is_offline = b } in
+      let own = ap (λ (y : Site). y.node) at in
+      ap (λ (ns : List NodeInfo). record before { nodes = ns; online = online_in (set sites (site_place sites n) x); draining = draining_in (set sites (site_place sites n) x) }) (nodes-set n x old sites own)
+      ∙ ap₂ (λ (o d : NodeNo → Bool). record before { online = o; draining = d }) (said-set n x old (λ y. not y.is_offline) sites own within)
+      (said-kept n x old (λ y. y.is_draining) sites own (ap (λ (y : Site). y.is_draining) at))
+
+  pub stored_in-set_draining : stored_in (record { sites = set sites (site_place sites n) (record old { is_draining = b }); rows = rows; spare = spare }) ≡ with_draining before n b
+  unfolding stored_in
+  stored_in-set_draining =
+      let x : Site = record old { is_draining = b } in
+      let own = ap (λ (y : Site). y.node) at in
+      ap (λ (ns : List NodeInfo). record before { nodes = ns; online = online_in (set sites (site_place sites n) x); draining = draining_in (set sites (site_place sites n) x) }) (nodes-set n x old sites own)
+      ∙ ap₂ (λ (o d : NodeNo → Bool). record before { online = o; draining = d }) (said-kept n x old (λ y. not y.is_offline) sites own (ap (λ (y : Site). not y.is_offline) at))
+      (said-set n x old (λ y. y.is_draining) sites own within)
 
 -- ---- the row of one stripe changed
 

@@ -1,5 +1,5 @@
 -- Missing fragments, levels and ranks, from homes and from the nodes that are online.
-use Rattle.std.specs.Prelude.{ℕ, ◌<◌, IsTrue, IsFalse, Bool, true, false, not, ◌&&◌, if◌then◌else◌, nat_lt, nat_eq, List, find, Option, Some, None, is_none, unwrap_or, option_map}
+use Rattle.std.specs.Prelude.{ℕ, ◌<◌, IsTrue, IsFalse, Bool, true, false, not, ◌&&◌, ◌||◌, if◌then◌else◌, nat_lt, nat_eq, List, find, Option, Some, None, is_none, unwrap_or, option_map}
 use Rattle.std.specs.Option.{option_map_or}
 use Rattle.lrc_code.specs.declared.codes.Code.{Code}
 use Rattle.lrc_code.specs.declared.losses.LossMask.{LossMask}
@@ -24,6 +24,10 @@ homeless_in code homes f = has_fragment code f && is_none (homes f)
 -- those, and the ones whose home node is not online
 abbrev pub missing_in : Code → (NodeNo → Bool) → Homes → FragmentSet
 missing_in code online homes f = has_fragment code f && option_map_or (λ seat. not (online seat.node)) (homes f) true
+
+-- the fragments without a home, and the ones whose home node is draining
+abbrev pub needs_in : Code → (NodeNo → Bool) → Homes → FragmentSet
+needs_in code draining homes f = has_fragment code f && option_map_or (λ seat. draining seat.node) (homes f) true
 
 -- ---- the same over a list of homes
 
@@ -62,6 +66,15 @@ level_by code homeless missing = if is_recoverable code homeless then level_at (
 -- the margin, and behind all margins the sets that are not recoverable
 unfoldable pub rank_by : Code → FragmentSet → ℕ
 rank_by code missing = unwrap_or (margin_of code missing) 4
+
+-- the order of repair: by rank, and then by number
+abbrev pub comes_first : (StripeNo → ℕ) → StripeNo → StripeNo → Bool
+comes_first rank s t = nat_lt (rank s) (rank t) || (nat_eq (rank s) (rank t) && nat_lt s.value t.value)
+
+-- nothing is missing
+abbrev pub is_whole : Level → Bool
+is_whole Whole = true
+is_whole _ = false
 
 -- the rank that a level shows
 abbrev pub rank_at : Level → ℕ

@@ -20,7 +20,7 @@ use Rattle.lrc_stripes.specs.Stored.{StripeFragment}
 
 -- a node as it stands at first
 abbrev pub site_of : NodeInfo → Site
-site_of n = record { node = n; is_offline = false }
+site_of n = record { node = n; is_offline = false; is_draining = false }
 
 -- where the node of a number stands, or the length
 abbrev pub site_place : List Site → NodeNo → ℕ

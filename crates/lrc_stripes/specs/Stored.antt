@@ -1,5 +1,5 @@
--- What a store of stripes is: which stripes there are, the homes of their fragments, and the nodes that are online.
-use Rattle.std.specs.Prelude.{◌≢◌, ℕ, ◌-◌, Bool, false, not, ◌&&◌, ◌||◌, if◌then◌else◌, nat_lt, nat_eq, List, Option, Some, None, is_some, IsTrue, ◌↔◌}
+-- What a store of stripes is: which stripes there are, the homes of their fragments, and the nodes that are online or draining.
+use Rattle.std.specs.Prelude.{◌≡◌, ◌≢◌, ℕ, ◌-◌, Bool, false, not, ◌&&◌, ◌||◌, if◌then◌else◌, nat_lt, nat_eq, List, Option, Some, None, is_some, IsTrue, IsFalse, ◌↔◌}
 use Rattle.std.specs.List.{Contains, AllPairs}
 use Rattle.std.specs.Option.{option_map_or}
 use Rattle.lrc_code.specs.declared.codes.Code.{Code}
@@ -13,25 +13,35 @@ use Rattle.lrc_topology.specs.declared.NodeInfo.{NodeInfo}
 use Rattle.lrc_topology.specs.declared.seat.Seat.{Seat}
 use Rattle.lrc_topology.specs.Nodes.{node_at}
 use Rattle.lrc_stripes.specs.declared.level.Level.{Level}
-use Rattle.lrc_stripes.specs.Levels.{Homes, missing_if, level_if}
+use Rattle.lrc_stripes.specs.Levels.{Homes, missing_in, needs_in, missing_if, level_if, has_some, rank_by, comes_first, is_whole}
 
 -- The nodes in the order of the file, a test of the stripes that there are, the code of each, the homes of each one's fragments,
--- a test of the nodes that are online, and for how many more stripes there is room. A stripe that is not there counts as Wide.
+-- a test of the nodes that are online and one of those that are draining, and for how many more stripes there is room. A stripe
+-- that is not there counts as Wide.
 pub record Stored : Type 0 where
   pub nodes : List NodeInfo
   pub stripes : StripeNo → Bool
   pub code : StripeNo → Code
   pub homes : StripeNo → Homes
   pub online : NodeNo → Bool
+  pub draining : NodeNo → Bool
   pub spare : ℕ
 
 -- one of the nodes has the number
 abbrev pub has_node : List NodeInfo → NodeNo → Bool
 has_node nodes n = is_some (node_at nodes n)
 
--- no stripes and no room, and every node is online; a number that is no node is not
+-- no stripes and no room, and every node is online and none draining; a number that is no node is neither
 abbrev pub empty : List NodeInfo → Stored
-empty nodes = record { nodes = nodes; stripes = λ s. false; code = λ s. Wide; homes = λ s f. None; online = has_node nodes; spare = 0 }
+empty nodes = record {
+  nodes = nodes;
+  stripes = λ s. false;
+  code = λ s. Wide;
+  homes = λ s f. None;
+  online = has_node nodes;
+  draining = λ n. false;
+  spare = 0;
+}
 
 -- one more stripe, of this code, none of whose fragments has a home
 abbrev pub with_stripe : Stored → Code → StripeNo → Stored
@@ -58,6 +68,10 @@ with_home t s f home = record t { homes = λ r g. if same_stripe s r && nat_eq f
 abbrev pub with_offline : Stored → NodeNo → Bool → Stored
 with_offline t n b = record t { online = λ m. if same_node n m then not b else t.online m }
 
+-- the node is draining or not, as set
+abbrev pub with_draining : Stored → NodeNo → Bool → Stored
+with_draining t n b = record t { draining = λ m. if same_node n m then b else t.draining m }
+
 -- there is room for so many more stripes
 abbrev pub with_spare : Stored → ℕ → Stored
 with_spare t spare = record t { spare = spare }
@@ -71,6 +85,26 @@ missing_shown t s = missing_if (t.stripes s) (t.code s) t.online (t.homes s)
 -- the level of a stripe; none where there is no such stripe
 abbrev pub level_shown : Stored → StripeNo → Option Level
 level_shown t s = level_if (t.stripes s) (t.code s) t.online (t.homes s)
+
+-- ---- repair
+
+-- the rank of a stripe: by the margin of its missing fragments
+abbrev pub rank_in : Stored → StripeNo → ℕ
+rank_in t s = rank_by (t.code s) (missing_in (t.code s) t.online (t.homes s))
+
+-- the stripe is there, and one of its fragments needs a lease
+abbrev pub has_work : Stored → StripeNo → Bool
+has_work t s = t.stripes s && has_some (t.code s) (needs_in (t.code s) t.draining (t.homes s))
+
+-- these are all stripes with a fragment that needs a lease, in the order of repair
+pub record AreWork (t : Stored) (stripes : List StripeNo) : Type 0 where
+  pub rising : AllPairs (λ r s. IsTrue (comes_first (rank_in t) r s)) stripes
+  pub each : (s : StripeNo) → Contains stripes s ↔ IsTrue (has_work t s)
+
+-- these are all stripes that are not whole, each with its level, in the order of repair
+pub record AreAtRisk (t : Stored) (rows : List (StripeNo × Level)) : Type 0 where
+  pub rising : AllPairs (λ r s. IsTrue (comes_first (rank_in t) r.0 s.0)) rows
+  pub each : (s : StripeNo) (l : Level) → Contains rows (s, l) ↔ ((level_shown t s ≡ Some l) × IsFalse (is_whole l))
 
 -- ---- seats and nodes
 

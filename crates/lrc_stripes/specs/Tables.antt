@@ -33,6 +33,10 @@ site_at sites n = find (λ x. same_node n x.node.number) sites
 abbrev pub online_in : List Site → NodeNo → Bool
 online_in sites n = option_map_or (λ x. not x.is_offline) (site_at sites n) false
 
+-- the node of a number is draining; a number that is no node is not
+abbrev pub draining_in : List Site → NodeNo → Bool
+draining_in sites n = option_map_or (λ x. x.is_draining) (site_at sites n) false
+
 -- the stripes, codes, homes and nodes that a table stands for
 unfoldable pub stored_in : Table → Stored
 stored_in t = record {
@@ -41,5 +45,6 @@ stored_in t = record {
   code = λ s. Wide;
   homes = λ s. row_homes (row_at t.rows s);
   online = online_in t.sites;
+  draining = draining_in t.sites;
   spare = t.spare;
 }

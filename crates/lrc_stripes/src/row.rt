@@ -12,9 +12,10 @@ pub(crate) struct Row {
     pub(crate) ghost sixteen: { length homes ≡ 16 },
 }
 
-/// A node, and whether it is offline.
+/// A node, and whether it is offline and whether it is draining.
 #[derive(Clone, Copy)]
 pub(crate) struct Site {
     pub(crate) node: NodeInfo,
     pub(crate) is_offline: bool,
+    pub(crate) is_draining: bool,
 }

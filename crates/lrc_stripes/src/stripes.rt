@@ -1,7 +1,7 @@
 ghost use Rattle.std.specs.Prelude.{◌≡◌, ◌≤◌, ◌↔◌, IsTrue, IsFalse, IfOk, IfErr, OnErr, OnOk, IsOk, None, Some};
 ghost use Rattle.lrc_code.specs.declared.codes.Code.TheVariants.{Wide};
 ghost use Rattle.lrc_code.specs.declared.fault.Fault.TheVariants.{OutOfMemory};
-ghost use Rattle.lrc_stripes.specs.Stored.{empty, with_stripe, without_stripe, with_home, with_offline, with_spare, missing_shown, level_shown, has_node, has_slot, HasNoHome, AreHomesOn};
+ghost use Rattle.lrc_stripes.specs.Stored.{empty, with_stripe, without_stripe, with_home, with_offline, with_draining, with_spare, missing_shown, level_shown, has_node, has_slot, HasNoHome, AreHomesOn};
 ghost use Rattle.lrc_stripes.specs.Tables.{stored_in};
 
 use crate::row::{Row, Site};
@@ -11,7 +11,7 @@ use lrc_topology::Topology;
 use std::alloc::Global;
 use std::marker::Model;
 
-/// The stripes of a store, the homes of their fragments, and the nodes that are offline.
+/// The stripes of a store, the homes of their fragments, and the nodes that are offline or draining.
 #[derive(Drop)]
 pub struct Stripes {
     sites: Vec<Site>,
@@ -33,7 +33,7 @@ impl Model for Stripes {
 
 #[tactic(auto, unfolding(crate::specs::Tables::stored_in))]
 impl Stripes {
-    /// No stripes and no room for any, and every node of the topology online.
+    /// No stripes and no room for any, and every node of the topology online and none draining.
     ///
     /// # Errors
     ///
@@ -47,6 +47,7 @@ impl Stripes {
             sites.push(Site {
                 node: *node,
                 is_offline: false,
+                is_draining: false,
             })?;
         }
         Ok(Stripes {
@@ -166,6 +167,15 @@ impl Stripes {
     {
         let place = search::site_place(self.sites.as_slice(), node);
         self.sites[place].is_offline = is_offline;
+    }
+
+    /// Sets whether a node is draining.
+    pub fn set_draining(&mut self, node: NodeNo, is_draining: bool)
+        requires { IsTrue (has_node (stored_in self.old).nodes node) }
+        ensures { stored_in self.new ≡ with_draining (stored_in self.old) node is_draining }
+    {
+        let place = search::site_place(self.sites.as_slice(), node);
+        self.sites[place].is_draining = is_draining;
     }
 
     /// The fragments with a home on a node, in rising order of stripe and fragment.
