@@ -9,7 +9,7 @@ use Rattle.lrc_code.specs.Codes.{fragments}
 use Rattle.lrc_topology.specs.declared.seat.Seat.{Seat}
 use Rattle.lrc_topology.specs.declared.seat.Held.{Held}
 use Rattle.lrc_book.specs.declared.command.Command.{Command}
-use Rattle.lrc_book.specs.declared.command.Command.TheVariants.{Place, Drop, Lease, Done, Abandon, Revoke, Fail, Down, Up, Join}
+use Rattle.lrc_book.specs.declared.command.Command.TheVariants.{Place, Drop, Lease, Next, Done, Abandon, Revoke, Fail, Down, Up, Drain, Undrain, Retire, Join, Upgrade, Upgraded}
 use Rattle.lrc_book.specs.declared.reply.Reply.{Reply}
 use Rattle.lrc_book.specs.declared.reply.Reply.TheVariants.{Placed, Dropped, Granted, Ended, Changed}
 use Rattle.lrc_topology.specs.declared.NodeInfo.{NodeInfo}
@@ -21,7 +21,7 @@ use Rattle.lrc_book.specs.declared.entry.Entry.{Entry}
 use Rattle.lrc_book.specs.Histories.{outcome_in}
 use Rattle.lrc_book.specs.Books.{BookView, world_of}
 use Rattle.lrc_book.specs.Leases.{with_lease, without_lease, moved_in}
-use Rattle.lrc_book.specs.Steps.{step, without_stripe, emptied, with_gone, with_down, without_down, without_gone}
+use Rattle.lrc_book.specs.Steps.{step, without_stripe, emptied, with_gone, with_down, without_down, with_draining, without_draining, without_gone, with_upgrading, without_upgrading}
 
 -- each of these fragments of a stripe on the seat at its place
 abbrev pub held_at : StripeNo → List Fragment → List Seat → List Held
@@ -46,13 +46,19 @@ abbrev pub changed_by : State → Command → Reply → State
 changed_by st (Place s) (Placed seats) = with_placed st s seats
 changed_by st (Drop s) Dropped = without_stripe st s
 changed_by st (Lease s f) (Granted lease kind) = with_lease st lease
+changed_by st Next (Granted lease kind) = with_lease st lease
 changed_by st (Done s f e) Ended = with_done st s f (lease_of st s f)
 changed_by st (Abandon s f e) Ended = without_lease st s f
 changed_by st (Revoke s f) Ended = without_lease st s f
 changed_by st (Fail n) Changed = with_gone (emptied st n) n
 changed_by st (Down n) Changed = with_down st n
 changed_by st (Up n) Changed = without_down st n
+changed_by st (Drain n) Changed = with_draining st n
+changed_by st (Undrain n) Changed = without_draining st n
+changed_by st (Retire n) Changed = with_gone st n
 changed_by st (Join n) Changed = without_gone st n
+changed_by st (Upgrade u) Changed = with_upgrading st u
+changed_by st (Upgraded u) Changed = without_upgrading st
 changed_by st _ _ = st
 
 -- the reply is the one that a session's command gets in this state, after some entries

@@ -12,5 +12,5 @@ use Rattle.lrc_book.specs.Repairs.{needs, is_safe, kind}
 pub record IsOwed (nodes : List NodeInfo) (st : State) (s : StripeNo) (f : Fragment) : Type 0 where
   pub there : IsTrue (has_stripe st s)
   pub none : lease_of st s f ≡ None
-  pub needed : IsTrue (needs st s f)
+  pub needed : IsTrue (needs nodes st s f)
   pub suffices : kind nodes st s f ≡ Global → IsTrue (is_safe nodes st s)

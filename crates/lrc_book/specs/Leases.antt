@@ -8,15 +8,17 @@ use Rattle.lrc_topology.specs.declared.NodeInfo.{NodeInfo}
 use Rattle.lrc_topology.specs.declared.seat.Seat.{Seat}
 use Rattle.lrc_leases.specs.declared.lease.Lease.{Lease}
 use Rattle.lrc_leases.specs.Leased.{is_of}
+use Rattle.lrc_stripes.specs.Stored.{StripeFragment}
 use Rattle.lrc_book.specs.declared.command.Command.{Command}
 use Rattle.lrc_book.specs.declared.command.Command.TheVariants.{Done}
 use Rattle.lrc_book.specs.declared.reply.Reply.{Reply}
-use Rattle.lrc_book.specs.declared.reply.Reply.TheVariants.{Granted, Ended}
+use Rattle.lrc_book.specs.declared.reply.Reply.TheVariants.{Granted, Idle, Ended}
 use Rattle.lrc_book.specs.declared.refusal.Refusal.TheVariants as refusal
 use Rattle.lrc_book.specs.declared.entry.Entry.{Entry}
 use Rattle.lrc_book.specs.States.{State, has_stripe, lease_of, is_home_of, online_at}
 use Rattle.lrc_book.specs.Placement.{chosen, with_home}
 use Rattle.lrc_book.specs.Repairs.{needs, kind, is_beyond_repair}
+use Rattle.lrc_book.specs.Urgency.{next_of}
 use Rattle.lrc_book.specs.Outcomes.{Outcome, refused, refuse_if}
 
 -- ---- grants
@@ -47,13 +49,22 @@ granted nodes past st session s f None = refused (refusal.NoLawfulNode f) st
 abbrev pub lease_answer : List NodeInfo → List Entry → State → SessionNo → StripeNo → Fragment → Option Lease → Outcome
 lease_answer nodes past st session s f (Some lease) = refused (refusal.AlreadyLeased lease.epoch) st
 lease_answer nodes past st session s f None =
-    refuse_if (not (needs st s f)) refusal.NotNeeded st
+    refuse_if (not (needs nodes st s f)) refusal.NotNeeded st
     (refuse_if (is_beyond_repair nodes st s f) refusal.Unrecoverable st
     (granted nodes past st session s f (chosen nodes st s f)))
 
 -- Lease: refused where there is no such stripe
 unfoldable pub lease_outcome : List NodeInfo → List Entry → State → SessionNo → StripeNo → Fragment → Outcome
 lease_outcome nodes past st session s f = refuse_if (not (has_stripe st s)) refusal.UnknownStripe st (lease_answer nodes past st session s f (lease_of st s f))
+
+-- the lease of this fragment, or nothing to do
+abbrev pub next_answer : List NodeInfo → List Entry → State → SessionNo → Option StripeFragment → Outcome
+next_answer nodes past st session (Some p) = lease_outcome nodes past st session p.0 p.1
+next_answer nodes past st session None = (Idle, st)
+
+-- Next: the lease of the fragment that comes first in the order of repair, of those whose lease would be granted
+unfoldable pub next_outcome : List NodeInfo → List Entry → State → SessionNo → Outcome
+next_outcome nodes past st session = next_answer nodes past st session (next_of nodes st)
 
 -- ---- ends
 

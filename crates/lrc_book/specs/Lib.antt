@@ -12,6 +12,7 @@ pub use Rattle.lrc_leases.specs.Leased
 pub mod States
 pub mod Placement
 pub mod Repairs
+pub mod Urgency
 pub mod Outcomes
 pub mod Leases
 pub mod Steps

@@ -7,8 +7,9 @@ use Rattle.lrc_code.specs.declared.codes.Code.TheVariants.{Wide}
 use Rattle.lrc_code.specs.declared.losses.LossMask.{LossMask}
 use Rattle.lrc_code.specs.declared.numbers.StripeNo.{StripeNo}
 use Rattle.lrc_code.specs.declared.numbers.NodeNo.{NodeNo}
+use Rattle.lrc_code.specs.declared.numbers.UpgradeNo.{UpgradeNo}
 use Rattle.lrc_code.specs.declared.numbers.Fragment.{Fragment}
-use Rattle.lrc_code.specs.Numbers.{same_stripe, same_fragment, same_node}
+use Rattle.lrc_code.specs.Numbers.{same_stripe, same_fragment, same_node, same_upgrade}
 use Rattle.lrc_code.specs.Codes.{fragments}
 use Rattle.lrc_code.specs.Losses.{FragmentSet}
 use Rattle.lrc_topology.specs.declared.NodeInfo.{NodeInfo}
@@ -17,23 +18,26 @@ use Rattle.lrc_topology.specs.declared.seat.Held.{Held}
 use Rattle.lrc_topology.specs.Nodes.{node_at}
 use Rattle.lrc_topology.specs.Seats.{load_of, free_slot}
 use Rattle.lrc_stripes.specs.declared.level.Level.{Level}
-use Rattle.lrc_stripes.specs.Levels.{homes_of, missing_in, rank_by, missing_if, level_if}
+use Rattle.lrc_stripes.specs.Levels.{homes_of, homeless_in, missing_in, level_by, rank_by, missing_if, level_if}
 use Rattle.lrc_leases.specs.declared.lease.Lease.{Lease}
 use Rattle.lrc_leases.specs.Leased.{leases_in}
 use Rattle.lrc_book.specs.declared.mode.Mode.{Mode}
-use Rattle.lrc_book.specs.declared.mode.Mode.TheVariants.{Active, Gone}
+use Rattle.lrc_book.specs.declared.mode.Mode.TheVariants.{Active, Draining, Gone}
 
--- all lists stand in the order in which things happened; a node in none of the lists is active and not down
+-- All lists stand in the order in which things happened. A node in none of the lists is active and not down. At most one
+-- upgrade domain is upgrading.
 pub record State : Type 0 where
   pub stripes : List StripeNo
   pub homes : List Held
   pub leases : List Lease
   pub gone : List NodeNo
+  pub draining : List NodeNo
   pub down : List NodeNo
+  pub upgrading : Option UpgradeNo
 
--- an empty store, whose nodes are all active and not down
+-- an empty store, whose nodes are all active and not down, with no domain upgrading
 abbrev pub opening : State
-opening = record { stripes = []; homes = []; leases = []; gone = []; down = [] }
+opening = record { stripes = []; homes = []; leases = []; gone = []; draining = []; down = []; upgrading = None }
 
 -- ---- stripes and seats
 
@@ -79,27 +83,39 @@ has_number numbers n = list_any (same_node n) numbers
 abbrev pub without_number : List NodeNo → NodeNo → List NodeNo
 without_number numbers n = filter (λ m. not (same_node n m)) numbers
 
--- a node is active, unless it is gone
+-- a node is active, unless it is gone or draining
 abbrev pub mode_of : State → NodeNo → Mode
-mode_of st n = if has_number st.gone n then Gone else Active
+mode_of st n = if has_number st.gone n then Gone else (if has_number st.draining n then Draining else Active)
 
 -- the mode is Active
 abbrev pub is_active : Mode → Bool
 is_active Active = true
+is_active Draining = false
 is_active Gone = false
+
+-- the mode is Draining
+abbrev pub is_draining : Mode → Bool
+is_draining Active = false
+is_draining Draining = true
+is_draining Gone = false
 
 -- the mode is Gone
 abbrev pub is_gone : Mode → Bool
 is_gone Active = false
+is_gone Draining = false
 is_gone Gone = true
 
 -- the node was taken down, and did not come up since
 abbrev pub is_down : State → NodeNo → Bool
 is_down st n = has_number st.down n
 
--- the node is in the store and can be reached
+-- the node is in the domain that is upgrading
+abbrev pub is_upgrading : State → NodeInfo → Bool
+is_upgrading st n = option_map_or (λ u. same_upgrade u n.upgrade) st.upgrading false
+
+-- the node is in the store and can be reached: it is not down, and its domain is not upgrading
 abbrev pub is_online : State → NodeInfo → Bool
-is_online st n = not (is_gone (mode_of st n.number)) && not (is_down st n.number)
+is_online st n = not (is_gone (mode_of st n.number)) && (not (is_down st n.number) && not (is_upgrading st n))
 
 -- the node is active and online
 abbrev pub takes_seats : State → NodeInfo → Bool
@@ -113,15 +129,27 @@ is_eligible st n = takes_seats st n && is_some (free_slot (taken_seats st) n)
 abbrev pub online_at : List NodeInfo → State → NodeNo → Bool
 online_at nodes st n = option_map_or (is_online st) (node_at nodes n) false
 
--- ---- missing fragments
+-- the node of this number is draining
+abbrev pub drains_at : List NodeInfo → State → NodeNo → Bool
+drains_at nodes st n = option_map_or (λ m. is_draining (mode_of st m.number)) (node_at nodes n) false
 
--- the fragments of a stripe without a home, and the ones whose home node is not online
+-- ---- missing fragments and levels
+
+-- the fragments of a stripe without a home
+abbrev pub homeless : State → StripeNo → FragmentSet
+homeless st s = homeless_in (code_of st s) (homes_of st.homes s)
+
+-- those, and the ones whose home node is not online
 abbrev pub missing : List NodeInfo → State → StripeNo → FragmentSet
 missing nodes st s = missing_in (code_of st s) (online_at nodes st) (homes_of st.homes s)
 
 -- the rank of a stripe, by its missing fragments
 abbrev pub rank : List NodeInfo → State → StripeNo → ℕ
 rank nodes st s = rank_by (code_of st s) (missing nodes st s)
+
+-- the level of a stripe, by its homeless and its missing fragments
+abbrev pub level : List NodeInfo → State → StripeNo → Level
+level nodes st s = level_by (code_of st s) (homeless st s) (missing nodes st s)
 
 -- ---- what is answered of a state
 

@@ -1,29 +1,33 @@
 -- What each command answers and changes.
-use Rattle.std.specs.Prelude.{Bool, not, ◌&&◌, ◌||◌, List, [], ◌∷◌, ◌++◌, drop, length, map, filter, is_none, Result, Ok, Err}
+use Rattle.std.specs.Prelude.{Bool, false, not, ◌&&◌, ◌||◌, nat_lt, List, [], ◌∷◌, ◌++◌, drop, length, map, filter, Option, Some, None, is_none, Result, Ok, Err}
 use Rattle.std.specs.List.{list_any}
+use Rattle.std.specs.Option.{option_map_or}
 use Rattle.lrc_code.specs.declared.codes.Code.{Code}
 use Rattle.lrc_code.specs.declared.codes.Code.TheVariants.{Wide}
 use Rattle.lrc_code.specs.declared.numbers.StripeNo.{StripeNo}
 use Rattle.lrc_code.specs.declared.numbers.NodeNo.{NodeNo}
+use Rattle.lrc_code.specs.declared.numbers.UpgradeNo.{UpgradeNo}
 use Rattle.lrc_code.specs.declared.numbers.SessionNo.{SessionNo}
 use Rattle.lrc_code.specs.declared.numbers.Fragment.{Fragment}
-use Rattle.lrc_code.specs.Numbers.{same_stripe, same_node}
+use Rattle.lrc_code.specs.Numbers.{same_stripe, same_node, same_upgrade}
+use Rattle.lrc_code.specs.Order.{least}
 use Rattle.lrc_topology.specs.declared.NodeInfo.{NodeInfo}
 use Rattle.lrc_topology.specs.declared.seat.Seat.{Seat}
 use Rattle.lrc_topology.specs.declared.seat.Held.{Held}
-use Rattle.lrc_topology.specs.Nodes.{node_at}
+use Rattle.lrc_topology.specs.Nodes.{node_at, has_domain}
 use Rattle.lrc_book.specs.declared.command.Command.{Command}
-use Rattle.lrc_book.specs.declared.command.Command.TheVariants.{Place, Drop, Lease, Done, Abandon, Revoke, Fail, Down, Up, Join}
+use Rattle.lrc_book.specs.declared.command.Command.TheVariants.{Place, Drop, Lease, Next, Done, Abandon, Revoke, Fail, Down, Up, Drain, Undrain, Retire, Join, Upgrade, Upgraded}
 use Rattle.lrc_book.specs.declared.reply.Reply.{Reply}
 use Rattle.lrc_book.specs.declared.reply.Reply.TheVariants.{Placed, Dropped, Changed}
 use Rattle.lrc_book.specs.declared.refusal.Refusal.TheVariants as refusal
 use Rattle.lrc_book.specs.declared.entry.Entry.{Entry}
 use Rattle.lrc_leases.specs.declared.lease.Lease.{Lease as LeaseRecord}
 use Rattle.lrc_leases.specs.Leased.{is_target_on}
-use Rattle.lrc_book.specs.States.{State, has_stripe, is_home_of, without_number, mode_of, is_gone, is_down, code_of}
+use Rattle.lrc_book.specs.States.{State, has_stripe, is_home_of, without_number, mode_of, is_active, is_draining, is_gone, is_down, load, code_of}
 use Rattle.lrc_book.specs.Placement.{placed}
+use Rattle.lrc_book.specs.Repairs.{is_safe}
 use Rattle.lrc_book.specs.Outcomes.{Outcome, refused, refuse_if}
-use Rattle.lrc_book.specs.Leases.{lease_outcome, done_outcome, abandon_outcome, revoke_outcome}
+use Rattle.lrc_book.specs.Leases.{lease_outcome, next_outcome, done_outcome, abandon_outcome, revoke_outcome}
 
 -- ---- stripes
 
@@ -78,9 +82,9 @@ hangs_on st n l = is_target_on n l || list_any (λ h. is_home_of l.stripe l.frag
 abbrev pub emptied : State → NodeNo → State
 emptied st n = record st { homes = filter (λ h. not (stands_on n h)) st.homes; leases = filter (λ l. not (hangs_on st n l)) st.leases }
 
--- the node is out of the store, and not down
+-- the node is out of the store, neither draining nor down
 abbrev pub with_gone : State → NodeNo → State
-with_gone st n = record st { gone = st.gone ++ n ∷ []; down = without_number st.down n }
+with_gone st n = record st { gone = st.gone ++ n ∷ []; draining = without_number st.draining n; down = without_number st.down n }
 
 -- the node is down
 abbrev pub with_down : State → NodeNo → State
@@ -89,6 +93,14 @@ with_down st n = record st { down = st.down ++ n ∷ [] }
 -- the node is not down
 abbrev pub without_down : State → NodeNo → State
 without_down st n = record st { down = without_number st.down n }
+
+-- the node is draining
+abbrev pub with_draining : State → NodeNo → State
+with_draining st n = record st { draining = st.draining ++ n ∷ [] }
+
+-- the node is not draining
+abbrev pub without_draining : State → NodeNo → State
+without_draining st n = record st { draining = without_number st.draining n }
 
 -- the node is in the store again
 abbrev pub without_gone : State → NodeNo → State
@@ -110,6 +122,61 @@ up_outcome nodes st n = node_outcome nodes st n (not (is_down st n)) (without_do
 unfoldable pub join_outcome : List NodeInfo → State → NodeNo → Outcome
 join_outcome nodes st n = node_outcome nodes st n (not (is_gone (mode_of st n))) (without_gone st n)
 
+-- Drain: wrong for a node that is not active
+unfoldable pub drain_outcome : List NodeInfo → State → NodeNo → Outcome
+drain_outcome nodes st n = node_outcome nodes st n (not (is_active (mode_of st n))) (with_draining st n)
+
+-- Undrain: wrong for a node that is not draining
+unfoldable pub undrain_outcome : List NodeInfo → State → NodeNo → Outcome
+undrain_outcome nodes st n = node_outcome nodes st n (not (is_draining (mode_of st n))) (without_draining st n)
+
+-- Retire: wrong for a node that is not draining, and refused where seats are on it
+unfoldable pub retire_outcome : List NodeInfo → State → NodeNo → Outcome
+retire_outcome nodes st n =
+    refuse_if (is_none (node_at nodes n)) refusal.UnknownNode st
+    (refuse_if (not (is_draining (mode_of st n))) refusal.WrongMode st
+    (refuse_if (nat_lt 0 (load st n)) (refusal.NotEmpty (load st n)) st
+    (Changed, with_gone st n)))
+
+-- ---- upgrades
+
+-- the domain is upgrading
+abbrev pub with_upgrading : State → UpgradeNo → State
+with_upgrading st u = record st { upgrading = Some u }
+
+-- no domain is upgrading
+abbrev pub without_upgrading : State → State
+without_upgrading st = record st { upgrading = None }
+
+-- the stripe is recoverable, and would not be with the domain upgrading
+abbrev pub is_lost_to : List NodeInfo → State → UpgradeNo → StripeNo → Bool
+is_lost_to nodes st u s = is_safe nodes st s && not (is_safe nodes (with_upgrading st u) s)
+
+-- the least such stripe
+unfoldable pub would_lose : List NodeInfo → State → UpgradeNo → Option StripeNo
+would_lose nodes st u = least (λ s t. nat_lt s.value t.value) (filter (is_lost_to nodes st u) st.stripes)
+
+-- the answer where this domain is upgrading, or none, and this stripe would be lost, or none
+abbrev pub upgrade_answer : State → UpgradeNo → Option UpgradeNo → Option StripeNo → Outcome
+upgrade_answer st u (Some v) lost = refused (refusal.UpgradeRunning v) st
+upgrade_answer st u None (Some s) = refused (refusal.WouldLose s) st
+upgrade_answer st u None None = (Changed, with_upgrading st u)
+
+-- Upgrade: refused where no node is in the domain, where a domain is upgrading, or for the first stripe that it would lose
+unfoldable pub upgrade_outcome : List NodeInfo → State → UpgradeNo → Outcome
+upgrade_outcome nodes st u = refuse_if (not (has_domain nodes u)) refusal.UnknownDomain st (upgrade_answer st u st.upgrading (would_lose nodes st u))
+
+-- this domain is upgrading
+abbrev pub is_the_domain : UpgradeNo → Option UpgradeNo → Bool
+is_the_domain u upgrading = option_map_or (same_upgrade u) upgrading false
+
+-- Upgraded: refused where no node is in the domain, or it is not upgrading
+unfoldable pub upgraded_outcome : List NodeInfo → State → UpgradeNo → Outcome
+upgraded_outcome nodes st u =
+    refuse_if (not (has_domain nodes u)) refusal.UnknownDomain st
+    (refuse_if (not (is_the_domain u st.upgrading)) refusal.NotUpgrading st
+    (Changed, without_upgrading st))
+
 -- ---- the step
 
 -- what a session's command answers after these entries in this state, and the state that it leaves
@@ -117,10 +184,16 @@ abbrev pub step : List NodeInfo → List Entry → State → SessionNo → Comma
 step nodes past st session (Place s) = place_outcome nodes st Wide s
 step nodes past st session (Drop s) = drop_outcome st s
 step nodes past st session (Lease s f) = lease_outcome nodes past st session s f
+step nodes past st session Next = next_outcome nodes past st session
 step nodes past st session (Done s f e) = done_outcome nodes st session s f e
 step nodes past st session (Abandon s f e) = abandon_outcome st session s f e
 step nodes past st session (Revoke s f) = revoke_outcome st s f
 step nodes past st session (Fail n) = fail_outcome nodes st n
 step nodes past st session (Down n) = down_outcome nodes st n
 step nodes past st session (Up n) = up_outcome nodes st n
+step nodes past st session (Drain n) = drain_outcome nodes st n
+step nodes past st session (Undrain n) = undrain_outcome nodes st n
+step nodes past st session (Retire n) = retire_outcome nodes st n
 step nodes past st session (Join n) = join_outcome nodes st n
+step nodes past st session (Upgrade u) = upgrade_outcome nodes st u
+step nodes past st session (Upgraded u) = upgraded_outcome nodes st u

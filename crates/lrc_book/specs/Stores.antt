@@ -21,7 +21,8 @@ use Rattle.lrc_leases.specs.Leased.{leased_of}
 use Rattle.lrc_leases.specs.Tables.{leased_in}
 use Rattle.lrc_book.specs.declared.entry.Entry.{Entry}
 use Rattle.lrc_book.specs.declared.store.Store.{Store}
-use Rattle.lrc_book.specs.States.{State, has_stripe, lease_of, code_of, takes_seats, is_online, online_at}
+use Rattle.lrc_book.specs.declared.modes.Modes.{Modes}
+use Rattle.lrc_book.specs.States.{State, has_stripe, lease_of, code_of, mode_of, is_draining, takes_seats, is_online, online_at, drains_at}
 use Rattle.lrc_book.specs.Placement.{chosen}
 use Rattle.lrc_book.specs.declared.kind.Kind.{Kind}
 use Rattle.lrc_book.specs.Repairs.{kind, is_beyond_repair}
@@ -29,10 +30,17 @@ use Rattle.lrc_book.specs.Histories.{state_after, IsLegal}
 use Rattle.lrc_book.specs.Goodness.{AreSeated}
 use Rattle.lrc_book.specs.Ties.{table_of, bars_fault, bars_upgrade}
 
--- the stripes, codes, homes and online nodes of the state, with room for so many more stripes
+-- the stripes, codes, homes and the online and the draining nodes of the state, with room for so many more stripes
 abbrev pub stored_of : List NodeInfo → State → ℕ → Stored
 stored_of nodes st spare =
-    record { nodes = nodes; stripes = has_stripe st; code = code_of st; homes = λ s. homes_of st.homes s; online = online_at nodes st; spare = spare }
+    record { nodes = nodes; stripes = has_stripe st; code = code_of st; homes = λ s. homes_of st.homes s; online = online_at nodes st; draining = drains_at nodes st; spare = spare }
+
+-- the lists of nodes and the upgrading domain are those of the state
+pub record AreModesOf (st : State) (m : Modes) : Type 0 where
+  pub gone_is : m.gone.items ≡ st.gone
+  pub draining_is : m.draining.items ≡ st.draining
+  pub down_is : m.down.items ≡ st.down
+  pub upgrading_is : m.upgrading ≡ st.upgrading
 
 -- what is kept is that of a state over these nodes, whose stripes are seated
 pub record IsOf (st : State) (s : Store) : Type 0 where
@@ -41,13 +49,13 @@ pub record IsOf (st : State) (s : Store) : Type 0 where
   pub table_is : slots_of s.table ≡ table_of s.topology st
   pub stripes_is : stored_in s.stripes ≡ stored_of s.topology st (stored_in s.stripes).spare
   pub leases_is : leased_in s.leases ≡ leased_of st.leases (leased_in s.leases).spare
-  pub gone_is : s.gone.items ≡ st.gone
-  pub down_is : s.down.items ≡ st.down
+  pub modes_are : AreModesOf st s.modes
 
--- the node takes seats, and is online, as it was
+-- the node takes seats, is online and is draining as it was
 pub record StaysAsItWas (was st : State) (n : NodeInfo) : Type 0 where
   pub takes : takes_seats was n ≡ takes_seats st n
   pub online : is_online was n ≡ is_online st n
+  pub drains : is_draining (mode_of was n.number) ≡ is_draining (mode_of st n.number)
 
 -- The same, but for the mode of one node: the slot table and the stripes are still those of the state before it changed.
 pub record IsOfBut (node : NodeNo) (was st : State) (s : Store) : Type 0 where
@@ -61,18 +69,22 @@ pub record IsOfBut (node : NodeNo) (was st : State) (s : Store) : Type 0 where
   pub table_is : slots_of s.table ≡ table_of s.topology was
   pub stripes_is : stored_in s.stripes ≡ stored_of s.topology was (stored_in s.stripes).spare
   pub leases_is : leased_in s.leases ≡ leased_of was.leases (leased_in s.leases).spare
-  pub gone_is : s.gone.items ≡ st.gone
-  pub down_is : s.down.items ≡ st.down
+  pub modes_are : AreModesOf st s.modes
 
 -- this is the store of some state
 abbrev pub IsTied : Store → Type 0
 IsTied s = (st : State) × IsOf st s
 
+-- there is room for one more node that is gone, that is draining and that is down
+abbrev pub has_room_for_node : Modes → Bool
+has_room_for_node m =
+    nat_le (vec_len m.gone + 1) (vec_capacity m.gone)
+    && (nat_le (vec_len m.draining + 1) (vec_capacity m.draining) && nat_le (vec_len m.down + 1) (vec_capacity m.down))
+
 -- there is room for one more command of any kind
 abbrev pub has_room : Store → Bool
 has_room s =
-    nat_le 1 (stored_in s.stripes).spare
-    && (nat_le 1 (leased_in s.leases).spare && (nat_le (vec_len s.gone + 1) (vec_capacity s.gone) && nat_le (vec_len s.down + 1) (vec_capacity s.down)))
+    nat_le 1 (stored_in s.stripes).spare && (nat_le 1 (leased_in s.leases).spare && has_room_for_node s.modes)
 
 -- the stripe is there, the fragment has no home, and this seat is chosen for it
 pub record IsNextHome (nodes : List NodeInfo) (st : State) (s : StripeNo) (f : Fragment) (seat : Seat) : Type 0 where

@@ -2,6 +2,7 @@ ghost use Rattle.std.specs.Prelude.{◌≡◌, ◌↔◌, ◌<◌, ◌≤◌, �
 ghost use Rattle.lrc_code.specs.declared.fault.Fault.TheVariants as fault;
 ghost use Rattle.lrc_topology.specs.Nodes.{AreNodes};
 ghost use Rattle.lrc_book.specs.States.{homes_shown, load_shown, level_shown, missing_shown, lease_of, mode_shown};
+ghost use Rattle.lrc_book.specs.Urgency.{risk};
 ghost use Rattle.lrc_book.specs.Histories.{outcome_in, IsLegal};
 ghost use Rattle.lrc_book.specs.Goodness.{IsGood};
 ghost use Rattle.lrc_book.specs.Books.{world_of, state_of, FaultFits};
@@ -106,6 +107,22 @@ impl Book {
         self.store.stripes.missing(stripe)
     }
 
+    /// The stripes that are not whole, with their levels, in the order of repair: by rank, and by number.
+    ///
+    /// # Errors
+    ///
+    /// Only `Fault::OutOfMemory`.
+    pub fn risk(&self, alloc: Global) -> Result<Vec<(StripeNo, Level)>, Fault>
+        ensures value { IfOk result (λ rows. rows.items ≡ risk self.now.nodes (state_of self.now)) }
+        ensures err { IfErr result (λ e. e ≡ fault.OutOfMemory) }
+    {
+        let mut rows = Vec::new(alloc);
+        for row in self.store.stripes.at_risk() {
+            rows.push(row)?;
+        }
+        Ok(rows)
+    }
+
     /// The live lease of a fragment of a stripe, if it has one.
     pub fn lease(&self, stripe: StripeNo, fragment: Fragment) -> Option<Lease>
         ensures { result ≡ lease_of (state_of self.now) stripe fragment }
@@ -118,7 +135,7 @@ impl Book {
         ensures { result ≡ mode_shown self.now.nodes (state_of self.now) node }
     {
         match self.store.topology.node(node) {
-            Some(_) => Some((self.store.mode(node), self.store.is_online(node))),
+            Some(info) => Some((self.store.modes.mode(node), self.store.modes.is_online(&info))),
             None => None,
         }
     }

@@ -9,6 +9,7 @@ mod entry;
 mod kind;
 pub mod laws;
 mod mode;
+mod modes;
 mod plan;
 mod refusal;
 mod reply;

@@ -10,9 +10,11 @@ pub enum Reply {
     Dropped,
     /// The new lease, and from what its fragment is rebuilt.
     Granted(Lease, Kind),
+    /// No fragment can be leased.
+    Idle,
     /// The lease was ended.
     Ended,
-    /// The node was changed.
+    /// The node or the upgrade domain was changed.
     Changed,
     Refused(Refusal),
 }

@@ -101,6 +101,7 @@ impl Store {
             Command::Lease(stripe, fragment) => {
                 self.lease_reply(history, session, stripe, fragment)
             }
+            Command::Next => self.next_reply(history, session),
             Command::Done(stripe, fragment, epoch) => {
                 self.done_reply(session, stripe, fragment, epoch)
             }
@@ -111,7 +112,12 @@ impl Store {
             Command::Fail(node) => self.fail_reply(node),
             Command::Down(node) => self.down_reply(node),
             Command::Up(node) => self.up_reply(node),
+            Command::Drain(node) => self.drain_reply(node),
+            Command::Undrain(node) => self.undrain_reply(node),
+            Command::Retire(node) => self.retire_reply(node),
             Command::Join(node) => self.join_reply(node),
+            Command::Upgrade(domain) => self.upgrade_reply(domain),
+            Command::Upgraded(domain) => self.upgraded_reply(domain),
         }
     }
 
@@ -128,6 +134,7 @@ impl Store {
             (Command::Place(stripe), Reply::Placed(seats)) => self.place(stripe, seats),
             (Command::Drop(stripe), Reply::Dropped) => self.drop_stripe(stripe),
             (Command::Lease(_, _), Reply::Granted(lease, _)) => self.grant(*lease),
+            (Command::Next, Reply::Granted(lease, _)) => self.grant(*lease),
             (Command::Done(stripe, fragment, _), Reply::Ended) => self.move_in(stripe, fragment),
             (Command::Abandon(stripe, fragment, _), Reply::Ended) => {
                 self.end_lease(stripe, fragment)
@@ -136,7 +143,12 @@ impl Store {
             (Command::Fail(node), Reply::Changed) => self.fail(node),
             (Command::Down(node), Reply::Changed) => self.down(node),
             (Command::Up(node), Reply::Changed) => self.up(node),
+            (Command::Drain(node), Reply::Changed) => self.drain(node),
+            (Command::Undrain(node), Reply::Changed) => self.undrain(node),
+            (Command::Retire(node), Reply::Changed) => self.leave(node),
             (Command::Join(node), Reply::Changed) => self.join(node),
+            (Command::Upgrade(domain), Reply::Changed) => self.upgrade(domain),
+            (Command::Upgraded(domain), Reply::Changed) => self.upgraded(domain),
             _ => {}
         }
     }

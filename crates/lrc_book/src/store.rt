@@ -1,14 +1,14 @@
-ghost use Rattle.std.specs.Prelude.{◌≡◌, ◌&&◌, ◌+◌, not, true, IsTrue, IfOk, IfErr, OnOk, IsOk, if◌then◌else◌, map};
+ghost use Rattle.std.specs.Prelude.{◌≡◌, true, IsTrue, IfOk, IfErr, OnOk, IsOk, map};
 ghost use Rattle.lrc_code.specs.declared.codes.Code.TheVariants.{Wide};
 ghost use Rattle.lrc_code.specs.declared.fault.Fault.TheVariants as fault;
 ghost use Rattle.lrc_code.specs.Codes.{fragments};
 ghost use Rattle.lrc_stripes.specs.Tables.{stored_in};
-ghost use Rattle.lrc_book.specs.declared.mode.Mode.TheVariants.{Active, Gone};
-ghost use Rattle.lrc_book.specs.States.{State, opening, has_number, has_stripe};
+ghost use Rattle.lrc_book.specs.States.{State, opening, online_at};
 ghost use Rattle.lrc_book.specs.Placement.{with_home};
 ghost use Rattle.lrc_book.specs.Leases.{without_lease, without_home};
-ghost use Rattle.lrc_book.specs.Stores.{IsOf, IsOfBut, IsTied, IsNextHome, has_room};
+ghost use Rattle.lrc_book.specs.Stores.{IsOf, IsOfBut, IsTied, IsNextHome, AreModesOf, has_room};
 
+use crate::modes::Modes;
 use crate::{Mode, Seat};
 use lrc_code::{Fault, Fragment, NodeNo, StripeNo};
 use lrc_leases::Leases;
@@ -25,8 +25,7 @@ pub(crate) struct Store {
     pub(crate) table: SlotTable,
     pub(crate) stripes: Stripes,
     pub(crate) leases: Leases,
-    pub(crate) gone: Vec<NodeNo>,
-    pub(crate) down: Vec<NodeNo>,
+    pub(crate) modes: Modes,
 }
 
 impl Store {
@@ -35,7 +34,6 @@ impl Store {
         ensures value { IfOk result (λ s. (s.topology ≡ topology) × IsOf opening s) }
         ensures err { IfErr result (λ e. e ≡ fault.OutOfMemory) }
     {
-        let nodes = topology.len();
         let table = SlotTable::new(alloc, &topology)?;
         let stripes = Stripes::new(alloc, &topology)?;
         Ok(Store {
@@ -43,8 +41,7 @@ impl Store {
             table,
             stripes,
             leases: Leases::new(alloc),
-            gone: Vec::with_capacity(alloc, nodes)?,
-            down: Vec::with_capacity(alloc, nodes)?,
+            modes: Modes::new(alloc),
         })
     }
 
@@ -59,39 +56,18 @@ impl Store {
     {
         self.stripes.reserve(1)?;
         self.leases.reserve(1)?;
-        self.gone.reserve(1)?;
-        self.down.reserve(1)?;
+        self.modes.reserve()?;
         Ok(())
     }
 
-    /// Whether a node takes seats, or is out of the store.
-    pub(crate) fn mode(&self, node: NodeNo) -> Mode
-        ensures { result ≡ (if has_number self.now.gone.items node then Gone else Active) }
-    {
-        if self.is_gone(node) {
-            Mode::Gone
-        } else {
-            Mode::Active
-        }
-    }
-
-    pub(crate) fn is_gone(&self, node: NodeNo) -> bool
-        ensures { result ≡ has_number self.now.gone.items node }
-    {
-        has_number(self.gone.as_slice(), node)
-    }
-
-    pub(crate) fn is_down(&self, node: NodeNo) -> bool
-        ensures { result ≡ has_number self.now.down.items node }
-    {
-        has_number(self.down.as_slice(), node)
-    }
-
-    /// Whether a node is in the store and can be reached.
+    /// Whether a node is one of the store's, and can be reached.
     pub(crate) fn is_online(&self, node: NodeNo) -> bool
-        ensures { result ≡ (not (has_number self.now.gone.items node) && not (has_number self.now.down.items node)) }
+        ensures { (st : State) → AreModesOf st self.now.modes → result ≡ online_at self.now.topology st node }
     {
-        !self.is_gone(node) && !self.is_down(node)
+        match self.topology.node(node) {
+            Some(info) => self.modes.is_online(&info),
+            None => false,
+        }
     }
 
     /// The home of each fragment of a stripe, in rising order.
@@ -121,7 +97,7 @@ impl Store {
         requires tied { IsTied self.old }
         requires there { IsTrue ((stored_in self.old.stripes).stripes stripe) }
         ensures nodes { self.new.topology ≡ self.old.topology }
-        ensures lists { (self.new.gone ≡ self.old.gone) × (self.new.down ≡ self.old.down) }
+        ensures modes { self.new.modes ≡ self.old.modes }
         ensures kept { (st : State) → IsOf st self.old → IsOf (without_home st stripe fragment) self.new }
     {
         if let Some(seat) = self.stripes.home(stripe, fragment) {
@@ -134,7 +110,7 @@ impl Store {
     pub(crate) fn end_lease(&mut self, stripe: StripeNo, fragment: Fragment)
         requires { IsTied self.old }
         ensures nodes { self.new.topology ≡ self.old.topology }
-        ensures lists { (self.new.gone ≡ self.old.gone) × (self.new.down ≡ self.old.down) }
+        ensures modes { self.new.modes ≡ self.old.modes }
         ensures kept { (st : State) → IsOf st self.old → IsOf (without_lease st stripe fragment) self.new }
     {
         if let Some(lease) = self.leases.remove(stripe, fragment) {
@@ -150,14 +126,9 @@ impl Store {
         ensures kept { IsOf st self.new }
     {
         let is_online = self.is_online(node);
-        self.table.set_eligible(node, is_online);
+        let mode = self.modes.mode(node);
+        self.table.set_eligible(node, is_online && mode == Mode::Active);
         self.stripes.set_offline(node, !is_online);
+        self.stripes.set_draining(node, mode == Mode::Draining);
     }
-}
-
-/// Whether a node is one of these.
-fn has_number(numbers: &[NodeNo], node: NodeNo) -> bool
-    ensures { result ≡ has_number numbers.now node }
-{
-    numbers.iter().any(|number| node == *number)
 }

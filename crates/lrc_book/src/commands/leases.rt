@@ -10,7 +10,7 @@ ghost use Rattle.lrc_book.specs.Changes.{with_done};
 ghost use Rattle.lrc_book.specs.Stores.{IsOf, IsGrant, has_room, repair_of};
 
 use crate::store::Store;
-use crate::{Entry, Kind, Lease, Refusal, Reply};
+use crate::{Entry, Kind, Lease, Mode, Refusal, Reply};
 use lrc_code::{Fragment, SessionNo, StripeNo};
 
 impl Store {
@@ -30,7 +30,7 @@ impl Store {
         if let Some(lease) = self.leases.lease(stripe, fragment) {
             return Reply::Refused(Refusal::AlreadyLeased(lease.epoch));
         }
-        if self.stripes.home(stripe, fragment).is_some() {
+        if !self.needs_lease(stripe, fragment) {
             return Reply::Refused(Refusal::NotNeeded);
         }
         match self.repair_kind(stripe, fragment) {
@@ -39,11 +39,25 @@ impl Store {
         }
     }
 
+    /// Whether a fragment of a stripe that is there has no home, or has it on a draining node.
+    pub(super) fn needs_lease(&self, stripe: StripeNo, fragment: Fragment) -> bool
+        requires { IsTrue ((stored_in self.now.stripes).stripes stripe) }
+        ensures { (st : State) → IsOf st self.now → result ≡ repairs.needs self.now.topology st stripe fragment }
+    {
+        match self.stripes.home(stripe, fragment) {
+            Some(seat) => self.modes.mode(seat.node) == Mode::Draining,
+            None => true,
+        }
+    }
+
     /// From what a fragment of a stripe that is there is rebuilt; `None` where it can't be.
-    fn repair_kind(&self, stripe: StripeNo, fragment: Fragment) -> Option<Kind>
+    pub(super) fn repair_kind(&self, stripe: StripeNo, fragment: Fragment) -> Option<Kind>
         requires { IsTrue ((stored_in self.now.stripes).stripes stripe) }
         ensures { (st : State) → IsOf st self.now → result ≡ repair_of self.now.topology st stripe fragment }
     {
+        if self.is_at_home(stripe, fragment) {
+            return Some(Kind::Move);
+        }
         let missing = self.stripes.missing(stripe)?;
         if let Some(sources) = missing.local_sources(fragment) {
             return Some(Kind::Local(sources));
@@ -52,6 +66,17 @@ impl Store {
             Some(Kind::Global)
         } else {
             None
+        }
+    }
+
+    /// Whether a fragment of a stripe that is there has a home that is online.
+    fn is_at_home(&self, stripe: StripeNo, fragment: Fragment) -> bool
+        requires { IsTrue ((stored_in self.now.stripes).stripes stripe) }
+        ensures { (st : State) → IsOf st self.now → result ≡ repairs.is_at_home self.now.topology st stripe fragment }
+    {
+        match self.stripes.home(stripe, fragment) {
+            Some(seat) => self.is_online(seat.node),
+            None => false,
         }
     }
 
@@ -84,7 +109,7 @@ impl Store {
         }
     }
 
-    /// Adds the lease of a fragment that has none and no home, on the seat that is chosen for it.
+    /// Adds the lease of a fragment that has none, on the seat that is chosen for it.
     pub(crate) fn grant(&mut self, lease: Lease)
         ghost st: { State }
         requires kept { IsOf st self.old }

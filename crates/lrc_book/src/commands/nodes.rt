@@ -1,15 +1,17 @@
 //! Commands on nodes.
 
-ghost use Rattle.std.specs.Prelude.{◌≡◌, true, IsSome};
+ghost use Rattle.std.specs.Prelude.{◌≡◌, true, nat_lt, IsSome};
 ghost use Rattle.lrc_topology.specs.Nodes.{node_at};
 ghost use Rattle.lrc_book.specs.declared.reply.Reply.TheVariants.{Changed};
-ghost use Rattle.lrc_book.specs.States.{State};
-ghost use Rattle.lrc_book.specs.Steps.{node_outcome, fail_outcome, down_outcome, up_outcome, join_outcome, emptied, with_gone, with_down, without_down, without_gone};
+ghost use Rattle.lrc_book.specs.States.{State, load};
+ghost use Rattle.lrc_book.specs.Steps.{node_outcome, fail_outcome, down_outcome, up_outcome, drain_outcome, undrain_outcome, retire_outcome, join_outcome, emptied, with_gone, with_down, without_down, with_draining, without_draining, without_gone};
+ghost use Rattle.lrc_book.specs.Outcomes.{refuse_if};
+ghost use Rattle.lrc_book.specs.declared.refusal.Refusal.TheVariants as refusal;
 ghost use Rattle.lrc_book.specs.Changes.{without_targets};
-ghost use Rattle.lrc_book.specs.Stores.{IsOf, has_room};
+ghost use Rattle.lrc_book.specs.Stores.{IsOf, has_room, has_room_for_node};
 
 use crate::store::Store;
-use crate::{Refusal, Reply};
+use crate::{Mode, Refusal, Reply};
 use lrc_code::NodeNo;
 
 impl Store {
@@ -29,7 +31,7 @@ impl Store {
     pub(crate) fn fail_reply(&self, node: NodeNo) -> Reply
         ensures { (st : State) → IsOf st self.now → result ≡ (fail_outcome self.now.topology st node).0 }
     {
-        self.node_reply(node, self.is_gone(node))
+        self.node_reply(node, self.modes.mode(node) == Mode::Gone)
     }
 
     /// Takes a node out of the store: with the homes on it and the leases that hang on it.
@@ -42,8 +44,20 @@ impl Store {
         ensures kept { IsOf (with_gone (emptied st node) node) self.new }
     {
         self.empty(node);
-        self.gone.push_reserved(node);
-        self.down.retain(|other| node != *other);
+        self.leave(node);
+    }
+
+    /// Takes a node that no seat is on out of the store.
+    pub(crate) fn leave(&mut self, node: NodeNo)
+        ghost st: { State }
+        requires kept { IsOf st self.old }
+        requires room { has_room_for_node self.old.modes ≡ true }
+        requires known { IsSome (node_at self.old.topology node) }
+        requires empty { load st node ≡ 0 }
+        ensures nodes { self.new.topology ≡ self.old.topology }
+        ensures kept { IsOf (with_gone st node) self.new }
+    {
+        self.modes.leave(node);
         self.follow(node);
     }
 
@@ -53,7 +67,7 @@ impl Store {
         requires kept { IsOf st self.old }
         requires known { IsSome (node_at self.old.topology node) }
         ensures nodes { self.new.topology ≡ self.old.topology }
-        ensures lists { (self.new.gone ≡ self.old.gone) × (self.new.down ≡ self.old.down) }
+        ensures modes { self.new.modes ≡ self.old.modes }
         ensures kept { IsOf (emptied st node) self.new }
     {
         self.end_targets(node);
@@ -66,7 +80,7 @@ impl Store {
         requires kept { IsOf st self.old }
         requires known { IsSome (node_at self.old.topology node) }
         ensures nodes { self.new.topology ≡ self.old.topology }
-        ensures lists { (self.new.gone ≡ self.old.gone) × (self.new.down ≡ self.old.down) }
+        ensures modes { self.new.modes ≡ self.old.modes }
         ensures kept { IsOf (without_targets st node) self.new }
     {
         while let Some(lease) = self.leases.targets_on(node).next() {
@@ -80,7 +94,7 @@ impl Store {
         requires kept { IsOf (without_targets st node) self.old }
         requires known { IsSome (node_at self.old.topology node) }
         ensures nodes { self.new.topology ≡ self.old.topology }
-        ensures lists { (self.new.gone ≡ self.old.gone) × (self.new.down ≡ self.old.down) }
+        ensures modes { self.new.modes ≡ self.old.modes }
         ensures kept { IsOf (emptied st node) self.new }
     {
         while let Some((stripe, fragment)) = self.stripes.homes_on(node).next() {
@@ -92,7 +106,8 @@ impl Store {
     pub(crate) fn down_reply(&self, node: NodeNo) -> Reply
         ensures { (st : State) → IsOf st self.now → result ≡ (down_outcome self.now.topology st node).0 }
     {
-        self.node_reply(node, !self.is_online(node))
+        let is_wrong = self.modes.mode(node) == Mode::Gone || self.modes.is_down(node);
+        self.node_reply(node, is_wrong)
     }
 
     /// Notes that a node can't be reached for now. Its homes stay.
@@ -104,14 +119,14 @@ impl Store {
         ensures nodes { self.new.topology ≡ self.old.topology }
         ensures kept { IsOf (with_down st node) self.new }
     {
-        self.down.push_reserved(node);
+        self.modes.down(node);
         self.follow(node);
     }
 
     pub(crate) fn up_reply(&self, node: NodeNo) -> Reply
         ensures { (st : State) → IsOf st self.now → result ≡ (up_outcome self.now.topology st node).0 }
     {
-        self.node_reply(node, !self.is_down(node))
+        self.node_reply(node, !self.modes.is_down(node))
     }
 
     /// Notes that a node that was down can be reached again.
@@ -122,14 +137,71 @@ impl Store {
         ensures nodes { self.new.topology ≡ self.old.topology }
         ensures kept { IsOf (without_down st node) self.new }
     {
-        self.down.retain(|other| node != *other);
+        self.modes.up(node);
         self.follow(node);
+    }
+
+    pub(crate) fn drain_reply(&self, node: NodeNo) -> Reply
+        ensures { (st : State) → IsOf st self.now → result ≡ (drain_outcome self.now.topology st node).0 }
+    {
+        self.node_reply(node, self.modes.mode(node) != Mode::Active)
+    }
+
+    /// Notes that an active node is draining. Its seats stay, and it takes no more.
+    pub(crate) fn drain(&mut self, node: NodeNo)
+        ghost st: { State }
+        requires kept { IsOf st self.old }
+        requires room { has_room self.old ≡ true }
+        requires told { (drain_outcome self.old.topology st node).0 ≡ Changed }
+        ensures nodes { self.new.topology ≡ self.old.topology }
+        ensures kept { IsOf (with_draining st node) self.new }
+    {
+        self.modes.drain(node);
+        self.follow(node);
+    }
+
+    pub(crate) fn undrain_reply(&self, node: NodeNo) -> Reply
+        ensures { (st : State) → IsOf st self.now → result ≡ (undrain_outcome self.now.topology st node).0 }
+    {
+        self.node_reply(node, self.modes.mode(node) != Mode::Draining)
+    }
+
+    /// Notes that a draining node is active again.
+    pub(crate) fn undrain(&mut self, node: NodeNo)
+        ghost st: { State }
+        requires kept { IsOf st self.old }
+        requires told { (undrain_outcome self.old.topology st node).0 ≡ Changed }
+        ensures nodes { self.new.topology ≡ self.old.topology }
+        ensures kept { IsOf (without_draining st node) self.new }
+    {
+        self.modes.undrain(node);
+        self.follow(node);
+    }
+
+    pub(crate) fn retire_reply(&self, node: NodeNo) -> Reply
+        ensures { (st : State) → IsOf st self.now → result ≡ (retire_outcome self.now.topology st node).0 }
+    {
+        match self.node_reply(node, self.modes.mode(node) != Mode::Draining) {
+            Reply::Changed => self.reply_if_empty(node),
+            refused => refused,
+        }
+    }
+
+    /// The reply to the command that takes a node out which is draining: refused where seats are on it.
+    fn reply_if_empty(&self, node: NodeNo) -> Reply
+        requires { IsSome (node_at self.now.topology node) }
+        ensures { (st : State) → IsOf st self.now → result ≡ (refuse_if (nat_lt 0 (load st node)) (refusal.NotEmpty (load st node)) st (Changed, st)).0 }
+    {
+        match self.table.load(node) {
+            0 => Reply::Changed,
+            load => Reply::Refused(Refusal::NotEmpty(load)),
+        }
     }
 
     pub(crate) fn join_reply(&self, node: NodeNo) -> Reply
         ensures { (st : State) → IsOf st self.now → result ≡ (join_outcome self.now.topology st node).0 }
     {
-        self.node_reply(node, !self.is_gone(node))
+        self.node_reply(node, self.modes.mode(node) != Mode::Gone)
     }
 
     /// Takes a node that is gone into the store again.
@@ -140,7 +212,7 @@ impl Store {
         ensures nodes { self.new.topology ≡ self.old.topology }
         ensures kept { IsOf (without_gone st node) self.new }
     {
-        self.gone.retain(|other| node != *other);
+        self.modes.join(node);
         self.follow(node);
     }
 }

@@ -1,0 +1,64 @@
+//! Commands on upgrade domains.
+
+ghost use Rattle.std.specs.Prelude.{◌≡◌};
+ghost use Rattle.lrc_book.specs.declared.reply.Reply.TheVariants.{Changed};
+ghost use Rattle.lrc_book.specs.States.{State};
+ghost use Rattle.lrc_book.specs.Steps.{upgrade_outcome, upgraded_outcome, with_upgrading, without_upgrading};
+ghost use Rattle.lrc_book.specs.Stores.{IsOf};
+
+use crate::store::Store;
+use crate::{Refusal, Reply};
+use lrc_code::UpgradeNo;
+
+impl Store {
+    pub(crate) fn upgrade_reply(&self, domain: UpgradeNo) -> Reply
+        ensures { (st : State) → IsOf st self.now → result ≡ (upgrade_outcome self.now.topology st domain).0 }
+    {
+        if !self.topology.has_upgrade_domain(domain) {
+            return Reply::Refused(Refusal::UnknownDomain);
+        }
+        if let Some(upgrading) = self.modes.upgrading {
+            return Reply::Refused(Refusal::UpgradeRunning(upgrading));
+        }
+        match self.stripes.would_lose(domain) {
+            Some(stripe) => Reply::Refused(Refusal::WouldLose(stripe)),
+            None => Reply::Changed,
+        }
+    }
+
+    /// Takes the nodes of an upgrade domain offline.
+    pub(crate) fn upgrade(&mut self, domain: UpgradeNo)
+        ghost st: { State }
+        requires kept { IsOf st self.old }
+        requires told { (upgrade_outcome self.old.topology st domain).0 ≡ Changed }
+        ensures nodes { self.new.topology ≡ self.old.topology }
+        ensures kept { IsOf (with_upgrading st domain) self.new }
+    {
+        self.modes.upgrade(domain);
+        self.follow_domain(domain);
+    }
+
+    pub(crate) fn upgraded_reply(&self, domain: UpgradeNo) -> Reply
+        ensures { (st : State) → IsOf st self.now → result ≡ (upgraded_outcome self.now.topology st domain).0 }
+    {
+        if !self.topology.has_upgrade_domain(domain) {
+            return Reply::Refused(Refusal::UnknownDomain);
+        }
+        if self.modes.upgrading != Some(domain) {
+            return Reply::Refused(Refusal::NotUpgrading);
+        }
+        Reply::Changed
+    }
+
+    /// Brings the nodes of the upgrade domain back.
+    pub(crate) fn upgraded(&mut self, domain: UpgradeNo)
+        ghost st: { State }
+        requires kept { IsOf st self.old }
+        requires told { (upgraded_outcome self.old.topology st domain).0 ≡ Changed }
+        ensures nodes { self.new.topology ≡ self.old.topology }
+        ensures kept { IsOf (without_upgrading st) self.new }
+    {
+        self.modes.upgraded();
+        self.follow_domain(domain);
+    }
+}
