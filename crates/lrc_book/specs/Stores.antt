@@ -6,6 +6,7 @@ use Rattle.lrc_code.specs.declared.codes.Code.{Code}
 use Rattle.lrc_code.specs.declared.codes.Code.TheVariants.{Wide}
 use Rattle.lrc_code.specs.declared.numbers.StripeNo.{StripeNo}
 use Rattle.lrc_code.specs.declared.numbers.NodeNo.{NodeNo}
+use Rattle.lrc_code.specs.declared.numbers.UpgradeNo.{UpgradeNo}
 use Rattle.lrc_code.specs.declared.numbers.Fragment.{Fragment}
 use Rattle.lrc_topology.specs.declared.NodeInfo.{NodeInfo}
 use Rattle.lrc_topology.specs.declared.seat.Seat.{Seat}
@@ -66,6 +67,20 @@ pub record IsOfBut (node : NodeNo) (was st : State) (s : Store) : Type 0 where
   pub homes_stay : was.homes ≡ st.homes
   pub leases_stay : was.leases ≡ st.leases
   pub others_stay : (n : NodeInfo) → n.number ≢ node → StaysAsItWas was st n
+  pub table_is : slots_of s.table ≡ table_of s.topology was
+  pub stripes_is : stored_in s.stripes ≡ stored_of s.topology was (stored_in s.stripes).spare
+  pub leases_is : leased_in s.leases ≡ leased_of was.leases (leased_in s.leases).spare
+  pub modes_are : AreModesOf st s.modes
+
+-- The same, where it is the nodes of one upgrade domain that changed, and all else of the state but the upgrading domain stays.
+pub record IsOfButIn (u : UpgradeNo) (was st : State) (s : Store) : Type 0 where
+  pub known : AreNodes s.topology
+  pub seated : AreSeated s.topology st
+  pub stripes_stay : was.stripes ≡ st.stripes
+  pub homes_stay : was.homes ≡ st.homes
+  pub leases_stay : was.leases ≡ st.leases
+  pub modes_stay : (n : NodeInfo) → mode_of was n.number ≡ mode_of st n.number
+  pub others_stay : (n : NodeInfo) → n.upgrade ≢ u → StaysAsItWas was st n
   pub table_is : slots_of s.table ≡ table_of s.topology was
   pub stripes_is : stored_in s.stripes ≡ stored_of s.topology was (stored_in s.stripes).spare
   pub leases_is : leased_in s.leases ≡ leased_of was.leases (leased_in s.leases).spare

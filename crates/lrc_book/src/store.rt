@@ -6,11 +6,11 @@ ghost use Rattle.lrc_stripes.specs.Tables.{stored_in};
 ghost use Rattle.lrc_book.specs.States.{State, opening, online_at};
 ghost use Rattle.lrc_book.specs.Placement.{with_home};
 ghost use Rattle.lrc_book.specs.Leases.{without_lease, without_home};
-ghost use Rattle.lrc_book.specs.Stores.{IsOf, IsOfBut, IsTied, IsNextHome, AreModesOf, has_room};
+ghost use Rattle.lrc_book.specs.Stores.{IsOf, IsOfBut, IsOfButIn, IsTied, IsNextHome, AreModesOf, has_room};
 
 use crate::modes::Modes;
 use crate::{Mode, Seat};
-use lrc_code::{Fault, Fragment, NodeNo, StripeNo};
+use lrc_code::{Fault, Fragment, NodeNo, StripeNo, UpgradeNo};
 use lrc_leases::Leases;
 use lrc_slots::SlotTable;
 use lrc_stripes::Stripes;
@@ -130,5 +130,22 @@ impl Store {
         self.table.set_eligible(node, is_online && mode == Mode::Active);
         self.stripes.set_offline(node, !is_online);
         self.stripes.set_draining(node, mode == Mode::Draining);
+    }
+
+    /// The same for each node of an upgrade domain.
+    pub(crate) fn follow_domain(&mut self, domain: UpgradeNo)
+        ghost st: { State }
+        requires { (was : State) × IsOfButIn domain was st self.old }
+        ensures nodes { self.new.topology ≡ self.old.topology }
+        ensures kept { IsOf st self.new }
+    {
+        for node in self.topology.nodes() {
+            if node.upgrade == domain {
+                let is_online = self.modes.is_online(node);
+                let is_active = self.modes.mode(node.number) == Mode::Active;
+                self.table.set_eligible(node.number, is_online && is_active);
+                self.stripes.set_offline(node.number, !is_online);
+            }
+        }
     }
 }
