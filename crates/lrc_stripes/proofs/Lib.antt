@@ -7,3 +7,4 @@ pub mod LevelLemmas
 pub mod HomelessLemmas
 pub mod WalkLemmas
 pub mod PlaceLemmas
+pub mod UpgradeLemmas

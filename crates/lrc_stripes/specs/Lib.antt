@@ -6,5 +6,6 @@ pub use Rattle.lrc_topology.specs.Nodes
 pub use Rattle.lrc_topology.specs.Seats
 pub mod Levels
 pub mod Stored
+pub mod Upgrades
 pub mod Tables
 pub mod Rows

@@ -1,20 +1,24 @@
 -- Internal: no public clause reaches these definitions.
 -- The rows and the nodes as they are kept: where one stands, and what one says by itself.
-use Rattle.std.specs.Prelude.{ℕ, suc, ◌+◌, ◌<◌, ◌≤◌, Bool, false, if◌then◌else◌, nat_lt, List, [], ◌∷◌, length, ◌++◌, map, filter, drop, get_or, Option, None}
+use Rattle.std.specs.Prelude.{ℕ, suc, ◌+◌, ◌<◌, ◌≤◌, Bool, false, not, ◌&&◌, if◌then◌else◌, nat_lt, List, [], ◌∷◌, length, ◌++◌, map, filter, drop, get_or, Option, Some, None, option_and_then}
 use Rattle.std.specs.Option.{option_map_or}
 use Rattle.std.specs.List.{AllByRecursion, list_any, flat_map}
 use Rattle.lrc_code.specs.declared.numbers.StripeNo.{StripeNo}
 use Rattle.lrc_code.specs.declared.numbers.NodeNo.{NodeNo}
+use Rattle.lrc_code.specs.declared.numbers.UpgradeNo.{UpgradeNo}
 use Rattle.lrc_code.specs.declared.numbers.Fragment.{Fragment}
 use Rattle.lrc_code.specs.declared.codes.Code.TheVariants.{Wide}
 use Rattle.lrc_code.specs.Codes.{fragments}
-use Rattle.lrc_code.specs.Numbers.{same_node}
+use Rattle.lrc_code.specs.Numbers.{same_node, same_upgrade}
+use Rattle.lrc_code.specs.Losses.{is_recoverable}
 use Rattle.lrc_topology.specs.declared.NodeInfo.{NodeInfo}
 use Rattle.lrc_topology.specs.declared.seat.Seat.{Seat}
 use Rattle.lrc_topology.specs.Seats.{is_seat}
 use Rattle.lrc_stripes.specs.declared.row.Row.{Row}
 use Rattle.lrc_stripes.specs.declared.row.Site.{Site}
+use Rattle.lrc_stripes.specs.Levels.{missing_in}
 use Rattle.lrc_stripes.specs.Stored.{StripeFragment}
+use Rattle.lrc_stripes.specs.Tables.{row_homes, site_at, online_in}
 
 -- ---- nodes
 
@@ -66,3 +70,18 @@ row_places n from r = map (λ f. (r.stripe, f)) (filter (sits_on n r) (drop from
 abbrev pub places_from : NodeNo → ℕ → List Row → List StripeFragment
 places_from n from [] = []
 places_from n from (r ∷ rows) = row_places n from r ++ flat_map (row_places n 0) rows
+
+-- ---- upgrades
+
+-- the node of a number is online, and stays so with the nodes of the upgrade domain offline
+abbrev pub stays_online : List Site → UpgradeNo → NodeNo → Bool
+stays_online sites u n = option_map_or (λ x. not x.is_offline && not (same_upgrade x.node.upgrade u)) (site_at sites n) false
+
+-- the upgrade domain of a home's node, if that is online
+abbrev pub domain_online : List Site → Option Seat → Option UpgradeNo
+domain_online sites home = option_and_then (λ seat. option_and_then (λ x. if x.is_offline then None else Some x.node.upgrade) (site_at sites seat.node)) home
+
+-- the stripe of the row is recoverable, and would not be with the nodes of the domain offline
+unfoldable pub row_lost_to : List Site → UpgradeNo → Row → Bool
+row_lost_to sites u r =
+    is_recoverable Wide (missing_in Wide (online_in sites) (row_homes (Some r))) && not (is_recoverable Wide (missing_in Wide (stays_online sites u) (row_homes (Some r))))

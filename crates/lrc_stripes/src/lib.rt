@@ -8,6 +8,7 @@ mod losses;
 mod row;
 mod search;
 mod stripes;
+mod upgrades;
 
 pub use homes_on::HomesOn;
 pub use level::Level;

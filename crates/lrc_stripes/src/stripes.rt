@@ -1,12 +1,13 @@
-ghost use Rattle.std.specs.Prelude.{◌≡◌, ◌≤◌, ◌↔◌, IsTrue, IsFalse, IfOk, IfErr, OnErr, OnOk, IsOk, None, Some};
+ghost use Rattle.std.specs.Prelude.{◌≡◌, ◌≤◌, ◌↔◌, IsTrue, IsFalse, IfOk, IfErr, IfSome, IfNone, OnErr, OnOk, IsOk, None, Some};
 ghost use Rattle.lrc_code.specs.declared.codes.Code.TheVariants.{Wide};
 ghost use Rattle.lrc_code.specs.declared.fault.Fault.TheVariants.{OutOfMemory};
 ghost use Rattle.lrc_stripes.specs.Stored.{empty, with_stripe, without_stripe, with_home, with_offline, with_draining, with_spare, missing_shown, level_shown, has_node, has_slot, HasNoHome, AreHomesOn};
 ghost use Rattle.lrc_stripes.specs.Tables.{stored_in};
+ghost use Rattle.lrc_stripes.specs.Upgrades.{is_lost_to, IsFirstLostTo};
 
 use crate::row::{Row, Site};
-use crate::{HomesOn, Level, Seat, losses, search};
-use lrc_code::{Fault, Fragment, LossMask, NodeNo, StripeNo};
+use crate::{HomesOn, Level, Seat, losses, search, upgrades};
+use lrc_code::{Fault, Fragment, LossMask, NodeNo, StripeNo, UpgradeNo};
 use lrc_topology::Topology;
 use std::alloc::Global;
 use std::marker::Model;
@@ -158,6 +159,15 @@ impl Stripes {
         let row = search::row(self.rows.as_slice(), stripe)?;
         let missing = losses::missing(self.sites.as_slice(), row);
         Some(Level::of(losses::homeless(row), missing))
+    }
+
+    /// The stripe of the least number that is recoverable now, and would not be with the nodes of this upgrade domain
+    /// offline; `None` where there is no such stripe.
+    pub fn would_lose(&self, domain: UpgradeNo) -> Option<StripeNo>
+        ensures found { IfSome result (IsFirstLostTo (stored_in self.now) domain) }
+        ensures none { IfNone result ((s : StripeNo) → IsFalse (is_lost_to (stored_in self.now) domain s)) }
+    {
+        upgrades::first_lost(self.sites.as_slice(), self.rows.as_slice(), domain)
     }
 
     /// Sets whether a node is offline.
