@@ -20,7 +20,7 @@ use Rattle.lrc_topology.specs.declared.seat.Held.{Held}
 use Rattle.lrc_topology.specs.Nodes.{AreNodes, node_at}
 use Rattle.lrc_topology.specs.Seats.{free_slot, free_seat, is_preferred, is_taken}
 use Rattle.lrc_book.specs.declared.mode.Mode.{Mode}
-use Rattle.lrc_book.specs.declared.mode.Mode.TheVariants.{Active, Gone}
+use Rattle.lrc_book.specs.declared.mode.Mode.TheVariants.{Active, Draining, Gone}
 use Rattle.lrc_book.specs.States.{mode_of, is_active, is_online, takes_seats, State, code_of, seats_of, taken_seats, load, is_eligible}
 use Rattle.lrc_book.specs.Placement.{clashes, bars, fits, chosen, chosen_node}
 use Rattle.lrc_book.specs.Choices.{AreApart, IsApartFrom, IsFree, IsEligible, IsFitting, IsChoice}
@@ -91,10 +91,12 @@ module _ (nodes : List NodeInfo) (st : State) (s : StripeNo) (f : Fragment) (n :
 
 pub active-mode : (m : Mode) → is_active m ≡ true → m ≡ Active
 active-mode Active e = refl
+active-mode Draining e = absurd (cc)
 active-mode Gone e = absurd (cc)
 
 pub mode-active : (m : Mode) → m ≡ Active → is_active m ≡ true
 mode-active Active e = refl
+mode-active Draining e = absurd (cc)
 mode-active Gone e = absurd (cc)
 
 free-from : (st : State) (n : NodeInfo) (k : ℕ) → k < n.slots → is_taken (taken_seats st) n.number k ≡ false → IsFree st n k
