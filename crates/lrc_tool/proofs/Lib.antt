@@ -7,6 +7,8 @@ pub mod JudgedLemmas
 pub mod AnswerLemmas
 pub mod CheckLemmas
 pub mod ReadLemmas
+pub mod DigitLemmas
+pub mod FieldLemmas
 pub mod Rows
 mod RowsOfPlacing
 mod RowsOfNodes

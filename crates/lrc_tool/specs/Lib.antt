@@ -6,6 +6,8 @@ pub use Rattle.lrc_script.specs.Scripts
 pub use Rattle.lrc_script.specs.Bundles
 pub mod Limits
 pub mod Texts
+pub mod Tables
+pub mod Writers
 pub mod Streams
 pub mod Reads
 pub mod Faults

@@ -11,6 +11,8 @@ mod program;
 mod recovery;
 mod status;
 mod streams;
+mod table;
+mod tables;
 #[cfg(test)]
 mod tests;
 mod texts;

@@ -1,0 +1,62 @@
+-- What is printed of a state: which stripes are at risk, and what each node carries.
+use Rattle.std.specs.Prelude.{ℕ, ◌/◌, ◌%◌, Bool, true, false, List, [], ◌∷◌, ◌++◌, codes, decimal, map, flat_map, Option, Some, None}
+use Rattle.std.specs.Fmt.{digit_glyph}
+use Rattle.lrc_code.specs.declared.codes.Code.TheVariants.{Wide}
+use Rattle.lrc_code.specs.declared.numbers.StripeNo.{StripeNo}
+use Rattle.lrc_code.specs.Losses.{margin_of, bits_set}
+use Rattle.lrc_topology.specs.declared.NodeInfo.{NodeInfo}
+use Rattle.lrc_book.specs.declared.Level.{Level}
+use Rattle.lrc_book.specs.declared.Level.TheVariants.{Whole, AtRisk, Unavailable, Lost}
+use Rattle.lrc_book.specs.declared.mode.Mode.{Mode}
+use Rattle.lrc_book.specs.declared.mode.Mode.TheVariants.{Active, Gone}
+use Rattle.lrc_book.specs.States.{State, load, mode_of, is_online}
+
+-- ---- rows
+
+-- the line of a row: its fields, with a comma before each but the first
+abbrev pub row_line : List (List ℕ) → List ℕ
+row_line [] = codes "\n"
+row_line (field ∷ fields) = field ++ flat_map (λ f. codes "," ++ f) fields ++ codes "\n"
+
+-- ---- stripes at risk
+
+abbrev pub level_text : Level → List ℕ
+level_text Whole = codes "whole"
+level_text (AtRisk margin) = codes "risk"
+level_text Unavailable = codes "unavailable"
+level_text Lost = codes "lost"
+
+-- how many further losses are withstood; a dash where the losses are not recoverable
+abbrev pub margin_field : Option ℕ → List ℕ
+margin_field (Some margin) = decimal margin
+margin_field None = codes "-"
+
+-- four hexadecimal digits in lower case, of a number below 65,536
+abbrev pub mask_digits : ℕ → List ℕ
+mask_digits bits = map (λ place. digit_glyph false (bits / place % 16)) (4096 ∷ 256 ∷ 16 ∷ 1 ∷ [])
+
+-- the row of a stripe of this number and level, whose missing fragments are the bits of a number
+unfoldable pub risk_line : StripeNo → Level → ℕ → List ℕ
+risk_line stripe level missing = row_line (decimal stripe.value ∷ level_text level ∷ margin_field (margin_of Wide (bits_set missing)) ∷ mask_digits missing ∷ [])
+
+-- ---- loads
+
+abbrev pub mode_text : Mode → List ℕ
+mode_text Active = codes "active"
+mode_text Gone = codes "gone"
+
+abbrev pub online_text : Bool → List ℕ
+online_text true = codes "yes"
+online_text false = codes "no"
+
+-- the row of a node with this mode, which is online or not, and with so many seats on it
+unfoldable pub load_line : NodeInfo → Mode → Bool → ℕ → List ℕ
+load_line node mode online seats = row_line (decimal node.number.value ∷ mode_text mode ∷ online_text online ∷ decimal seats ∷ decimal node.slots ∷ [])
+
+-- the row of a node
+abbrev pub load_row : State → NodeInfo → List ℕ
+load_row st node = load_line node (mode_of st node.number) (is_online st node) (load st node.number)
+
+-- a row for each node, in the order of the file
+abbrev pub load_table : List NodeInfo → State → List ℕ
+load_table nodes st = codes "load\nnode,mode,online,load,slots\n" ++ flat_map (load_row st) nodes

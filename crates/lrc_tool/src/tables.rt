@@ -1,0 +1,116 @@
+//! The tables of stripes at risk and of loads.
+
+ghost use Rattle.std.specs.Prelude.{◌≡◌, ◌++◌, [], ◌∷◌, decimal, string_bytes, IfOk, OnOk, IfErr};
+ghost use Rattle.lrc_code.specs.declared.codes.Code.TheVariants.{Wide};
+ghost use Rattle.lrc_code.specs.Losses.{bits_set, margin_of};
+ghost use Rattle.lrc_tool.specs.Tables.{level_text, margin_field, mask_digits, risk_line, mode_text, online_text, load_line};
+ghost use Rattle.lrc_tool.specs.Writers.{text_in, IsBetweenRows};
+ghost use Rattle.lrc_tool.specs.declared.streams.RunFault.TheVariants as fault;
+
+use crate::streams::RunFault;
+use crate::table::{Table, push_row};
+use lrc_book::{Level, Mode};
+use lrc_code::{LossMask, StripeNo};
+use lrc_topology::NodeInfo;
+use std::alloc::{AllocError, Global};
+
+// ---- words
+
+fn level_word(level: Level) -> &'static str
+    ensures { result.now ≡ level_text level }
+{
+    match level {
+        Level::Whole => "whole",
+        Level::AtRisk(_) => "risk",
+        Level::Unavailable => "unavailable",
+        Level::Lost => "lost",
+    }
+}
+
+fn mode_word(mode: Mode) -> &'static str
+    ensures { result.now ≡ mode_text mode }
+{
+    match mode {
+        Mode::Active => "active",
+        Mode::Gone => "gone",
+    }
+}
+
+fn online_word(online: bool) -> &'static str
+    ensures { result.now ≡ online_text online }
+{
+    if online { "yes" } else { "no" }
+}
+
+fn margin_word(alloc: Global, margin: Option<u8>) -> Result<String, AllocError>
+    ensures { IfOk result (λ word. string_bytes word ≡ margin_field margin) }
+{
+    match margin {
+        Some(margin) => format!(in alloc; "{margin}"),
+        None => String::from_str(alloc, "-"),
+    }
+}
+
+/// Four hexadecimal digits.
+fn mask_word(alloc: Global, bits: u16) -> Result<String, AllocError>
+    ensures { IfOk result (λ word. string_bytes word ≡ mask_digits bits) }
+{
+    format!(in alloc; "{bits:04x}")
+}
+
+// ---- rows
+
+/// Adds the row of a stripe of this level that misses these fragments.
+fn push_risk_row(
+    alloc: Global,
+    table: &mut Table,
+    stripe: StripeNo,
+    level: Level,
+    missing: LossMask,
+) -> Result<(), RunFault>
+    requires { IsBetweenRows table.old }
+    ensures row { OnOk result (text_in table.new ≡ text_in table.old ++ risk_line stripe level missing.bits) }
+    ensures between { OnOk result (IsBetweenRows table.new) }
+    ensures err { IfErr result (λ e. e ≡ fault.OutOfMemory) }
+{
+    let number = stripe.value;
+    let stripe_word = format!(in alloc; "{number}")?;
+    let margin = margin_word(alloc, missing.margin())?;
+    let mask = mask_word(alloc, missing.bits())?;
+    let fields = [
+        stripe_word.as_bytes(),
+        level_word(level).as_bytes(),
+        margin.as_bytes(),
+        mask.as_bytes(),
+    ];
+    push_row(table, fields.as_slice())
+}
+
+/// Adds the row of a node with this mode and load.
+fn push_load_row(
+    alloc: Global,
+    table: &mut Table,
+    node: &NodeInfo,
+    mode: Mode,
+    online: bool,
+    load: u32,
+) -> Result<(), RunFault>
+    requires { IsBetweenRows table.old }
+    ensures row { OnOk result (text_in table.new ≡ text_in table.old ++ load_line node.now mode online load) }
+    ensures between { OnOk result (IsBetweenRows table.new) }
+    ensures err { IfErr result (λ e. e ≡ fault.OutOfMemory) }
+{
+    let number = node.number.value;
+    let slots = node.slots;
+    let number_word = format!(in alloc; "{number}")?;
+    let load_word = format!(in alloc; "{load}")?;
+    let slots_word = format!(in alloc; "{slots}")?;
+    let fields = [
+        number_word.as_bytes(),
+        mode_word(mode).as_bytes(),
+        online_word(online).as_bytes(),
+        load_word.as_bytes(),
+        slots_word.as_bytes(),
+    ];
+    push_row(table, fields.as_slice())
+}
