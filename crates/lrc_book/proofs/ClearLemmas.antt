@@ -22,6 +22,7 @@ use Rattle.lrc_book.specs.States.{State, has_stripe, held_by, seats_of, taken_se
 use Rattle.lrc_book.specs.Steps.{stands_on}
 use Rattle.lrc_book.specs.Goodness.{AreSeated}
 use Rattle.lrc_book.specs.Ties.{table_of}
+use Rattle.lrc_book.proofs.ModesLemmas.{same-modes}
 use Rattle.lrc_book.proofs.MemberLemmas.{filter-member, member-filter, map-member, Contains-cases, not-Contains-nil, list_any-member, AllPairs-head, AllPairs-tail}
 use Rattle.lrc_book.proofs.NodeLemmas.{member-taken}
 use Rattle.lrc_book.proofs.ChoiceLemmas.{same_stripe}
@@ -192,8 +193,7 @@ module _ (st : State) (k : Store) (kept : IsOf st k) (s : StripeNo) (f : Fragmen
         stripes_is = own-spare nodes (without_home st s f) (stored_in stripes) (stored_in k.stripes).spare
             (cleared ∙ ap (λ (t : Stored). stored.with_home t s f None) kept.stripes_is ∙ stored-clear nodes st (stored_in k.stripes).spare s f);
         leases_is = kept.leases_is;
-        gone_is = kept.gone_is;
-        down_is = kept.down_is;
+        modes_are = same-modes st (without_home st s f) k.modes refl kept.modes_are;
       }
 
   none-at : (hs : List Held) → option_map (λ h. h.seat) (home_of hs s f.value) ≡ None → filter (λ h. not (is_of s f.value h)) hs ≡ hs

@@ -32,6 +32,7 @@ use Rattle.lrc_book.specs.Leases.{with_lease, without_lease, without_home, moved
 use Rattle.lrc_book.specs.Goodness.{AreSeated, IsStanding}
 use Rattle.lrc_book.specs.Ties.{table_of}
 use Rattle.lrc_book.specs.Stores.{IsOf, IsGrant}
+use Rattle.lrc_book.proofs.ModesLemmas.{same-modes}
 use Rattle.lrc_book.proofs.MemberLemmas.{map-member, filter-member, member-filter, member-list_any}
 use Rattle.lrc_book.proofs.NodeLemmas.{member-taken}
 use Rattle.lrc_book.proofs.PairLemmas.{pairs-across, pairs-right, pairs-members}
@@ -182,8 +183,7 @@ module _ (st : State) (k : Store) (kept : IsOf st k) (s : StripeNo) (f : Fragmen
     table_is = freed ∙ ap (λ (t : Slots). with_free t l.target.node l.target.slot) kept.table_is ∙ end-table k.topology st s f l live kept.seated;
     stripes_is = kept.stripes_is;
     leases_is = leases-out leases out;
-    gone_is = kept.gone_is;
-    down_is = kept.down_is;
+    modes_are = same-modes st (without_lease st s f) k.modes refl kept.modes_are;
   }
 
   -- a fragment without a lease has none to end
@@ -195,8 +195,7 @@ module _ (st : State) (k : Store) (kept : IsOf st k) (s : StripeNo) (f : Fragmen
     table_is = kept.table_is ∙ ap (λ (ls : List Lease). table_of k.topology (record st { leases = ls })) (sym (none-out st.leases s f.value none));
     stripes_is = kept.stripes_is;
     leases_is = leases-out leases out;
-    gone_is = kept.gone_is;
-    down_is = kept.down_is;
+    modes_are = same-modes st (without_lease st s f) k.modes refl kept.modes_are;
   }
 
 -- ---- what is kept when its target becomes the home
@@ -228,8 +227,7 @@ module _ (st : State) (k k2 : Store) (kept : IsOf st k) (same : k2.topology ≡ 
     stripes_is = own-spare k2.topology (moved_in st s f l.target) (stored_in stripes) (stored_in k2.stripes).spare
         (set ∙ ap (λ (t : Stored). stored.with_home t s f (Some l.target)) cleared.stripes_is ∙ stored-home k2.topology (without_home st s f) (stored_in k2.stripes).spare s f l.target no-home);
     leases_is = leases-out (without_home st s f) k2 cleared s f leases out;
-    gone_is = cleared.gone_is;
-    down_is = cleared.down_is;
+    modes_are = same-modes (without_home st s f) (moved_in st s f l.target) k2.modes refl cleared.modes_are;
   }
 
 -- ---- what is kept when one is granted
@@ -269,6 +267,5 @@ module _ (st : State) (k : Store) (kept : IsOf st k) (l : Lease) (told : IsGrant
     stripes_is = kept.stripes_is;
     leases_is = own-room (with_lease st l).leases (leased_in leases) ((leased_in k.leases).spare - 1)
         (added ∙ ap (λ (t : Leased). leased.with_lease t l) kept.leases_is ∙ sym (leased_of-append st.leases l (leased_in k.leases).spare told.new));
-    gone_is = kept.gone_is;
-    down_is = kept.down_is;
+    modes_are = same-modes st (with_lease st l) k.modes refl kept.modes_are;
   }

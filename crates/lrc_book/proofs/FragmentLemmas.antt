@@ -15,6 +15,7 @@ use Rattle.lrc_book.specs.Steps.{is_other}
 use Rattle.lrc_book.specs.Stores.{stored_of}
 use Rattle.lrc_book.specs.Goodness.{AreSeated}
 use Rattle.lrc_stripes.specs.Stored.{Stored}
+use Rattle.lrc_book.proofs.ModesLemmas.{same-modes}
 use Rattle.lrc_book.proofs.MemberLemmas.{list_any-All, All-members, list_any-member}
 use Rattle.lrc_book.proofs.SeatedLemmas.{without-seated}
 use Rattle.lrc_book.proofs.StoredLemmas.{test-sym, stored-without}
@@ -129,8 +130,7 @@ dropped-kept st s before k stripes first last same removed =
       stripes_is = removed ∙ ap (λ (x : Stored). stored.with_spare (stored.without_stripe x s) (stored_in stripes).spare) kept.stripes_is
           ∙ ap (λ (x : Stored). stored.with_spare x (stored_in stripes).spare) (stored-without k.topology now (stored_in k.stripes).spare s ∙ twice);
       leases_is = kept.leases_is;
-      gone_is = kept.gone_is;
-      down_is = kept.down_is;
+      modes_are = same-modes now (without_stripe st s) k.modes refl kept.modes_are;
     }
   where
     twice : stored_of k.topology (without_stripe (record st { homes = filter (λ h. is_other s h.stripe) st.homes }) s) (stored_in k.stripes).spare ≡ stored_of k.topology (without_stripe st s) (stored_in k.stripes).spare

@@ -25,6 +25,7 @@ pub mod PlanLemmas
 pub mod PlanningLemmas
 pub mod FragmentLemmas
 pub mod StoredLemmas
+pub mod ModesLemmas
 pub mod ModeLemmas
 pub mod ClearLemmas
 pub mod EmptyLemmas

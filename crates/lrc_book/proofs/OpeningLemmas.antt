@@ -13,7 +13,7 @@ use Rattle.lrc_leases.specs.Leased as leased
 use Rattle.lrc_leases.specs.Tables.{leased_in}
 use Rattle.lrc_book.specs.declared.store.Store.{Store}
 use Rattle.lrc_book.specs.States.{opening, takes_seats, is_online}
-use Rattle.lrc_book.specs.Stores.{IsOf}
+use Rattle.lrc_book.specs.Stores.{IsOf, AreModesOf}
 use Rattle.lrc_book.proofs.SeatedLemmas.{opening-seated}
 use Rattle.lrc_book.proofs.StoredLemmas.{same_online, own-spare}
 use Rattle.lrc_book.proofs.EndLemmas.{own-room}
@@ -26,13 +26,12 @@ online-first : (o : Option NodeInfo) → is_some o ≡ option_map_or (is_online 
 online-first None = refl
 online-first (Some n) = refl
 
-pub opening-kept : (k : Store) → AreNodes k.topology → slots_of k.table ≡ all_free k.topology → stored_in k.stripes ≡ stored.empty k.topology → leased_in k.leases ≡ leased.empty → k.gone.items ≡ [] → k.down.items ≡ [] → IsOf opening k
-opening-kept k known table stripes leases gone down = record {
+pub opening-kept : (k : Store) → AreNodes k.topology → slots_of k.table ≡ all_free k.topology → stored_in k.stripes ≡ stored.empty k.topology → leased_in k.leases ≡ leased.empty → AreModesOf opening k.modes → IsOf opening k
+opening-kept k known table stripes leases modes = record {
   known = known;
   seated = opening-seated k.topology;
   table_is = table ∙ ap (λ (eligible : NodeNo → Bool). record (all_free k.topology) { eligible = eligible }) (fun_ext (λ n. takes-first (node_at k.topology n)));
   stripes_is = own-spare k.topology opening (stored_in k.stripes) 0 (stripes ∙ same_online (stored.empty k.topology) _ _ (λ n. online-first (node_at k.topology n)));
   leases_is = own-room [] (leased_in k.leases) 0 leases;
-  gone_is = gone;
-  down_is = down;
+  modes_are = modes;
 }

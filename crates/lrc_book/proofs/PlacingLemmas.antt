@@ -31,6 +31,7 @@ use Rattle.lrc_slots.specs.Tables as slot_tables
 use Rattle.lrc_slots.specs.Tables.{slots_of}
 use Rattle.lrc_stripes.specs.Tables as tables
 use Rattle.lrc_stripes.specs.Tables.{stored_in}
+use Rattle.lrc_book.proofs.ModesLemmas.{same-modes}
 use Rattle.lrc_book.proofs.MemberLemmas.{list_any-member}
 use Rattle.lrc_book.proofs.NodeLemmas.{node_at-member}
 use Rattle.lrc_book.proofs.ChoiceLemmas.{chosen-choice, same_stripe}
@@ -123,8 +124,7 @@ module _ (st : State) (k : Store) (kept : IsOf st k) (s : StripeNo) (f : Fragmen
     stripes_is = own-spare k.topology (with_home st s f seat) (stored_in stripes) (stored_in k.stripes).spare
         (set ∙ ap (λ (x : Stored). stored.with_home x s f (Some seat)) kept.stripes_is ∙ stored-home k.topology st (stored_in k.stripes).spare s f seat (homeless-none st.homes s f next.homeless));
     leases_is = kept.leases_is;
-    gone_is = kept.gone_is;
-    down_is = kept.down_is;
+    modes_are = same-modes st (with_home st s f seat) k.modes refl kept.modes_are;
   }
 
 -- ---- one after the other
@@ -152,8 +152,7 @@ placed-start st s seats k stripes kept told added =
       stripes_is = own-spare k.topology (with_stripe st Wide s) (stored_in stripes) ((stored_in k.stripes).spare - 1)
           (added ∙ ap (λ (x : Stored). stored.with_stripe x Wide s) kept.stripes_is ∙ stored-stripe k.topology st (stored_in k.stripes).spare s kept.seated told.absent);
       leases_is = kept.leases_is;
-      gone_is = kept.gone_is;
-      down_is = kept.down_is;
+      modes_are = same-modes st (with_stripe st Wide s) k.modes refl kept.modes_are;
     } in
     record {
       kept = subst (λ (x : State). IsOf x (record k { stripes = stripes })) none start;
