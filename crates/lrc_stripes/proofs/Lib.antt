@@ -8,3 +8,4 @@ pub mod HomelessLemmas
 pub mod WalkLemmas
 pub mod PlaceLemmas
 pub mod UpgradeLemmas
+pub mod SearchLemmas

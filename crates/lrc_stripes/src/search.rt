@@ -4,7 +4,7 @@ ghost use Rattle.std.specs.Prelude.{◌≡◌, ◌≤◌, ◌<◌, length};
 ghost use Rattle.std.specs.List.{list_any};
 ghost use Rattle.std.specs.Option.{option_copied};
 ghost use Rattle.lrc_stripes.specs.Tables.{row_at, site_at, online_in};
-ghost use Rattle.lrc_stripes.specs.Rows.{holds, place_of, site_place};
+ghost use Rattle.lrc_stripes.specs.Rows.{IsRising, holds, place_of, site_place};
 
 use crate::Seat;
 use crate::row::{Row, Site};
@@ -12,22 +12,24 @@ use lrc_code::{NodeNo, StripeNo};
 
 /// The row of a stripe, if it is there.
 pub(crate) fn row(rows: &[Row], stripe: StripeNo) -> Option<&Row>
+    requires { IsRising rows.now }
     ensures { option_copied result ≡ row_at rows.now stripe }
 {
-    rows.iter().find(|row| row.stripe == stripe)
+    let row = rows.get(place(rows, stripe))?;
+    if row.stripe == stripe {
+        Some(row)
+    } else {
+        None
+    }
 }
 
 /// Where the row of a stripe stands or would stand: behind those of lower numbers.
 pub(crate) fn place(rows: &[Row], stripe: StripeNo) -> usize
+    requires { IsRising rows.now }
     ensures value { result ≡ place_of rows.now stripe }
     ensures within { result ≤ length rows.now }
 {
-    for i in 0..rows.len() {
-        if rows[i].stripe >= stripe {
-            return i;
-        }
-    }
-    rows.len()
+    rows.partition_point(|row| row.stripe < stripe)
 }
 
 /// The node of a number, if it is there.
