@@ -6,6 +6,7 @@ pub mod KeptLemmas
 pub mod LevelLemmas
 pub mod HomelessLemmas
 pub mod WalkLemmas
+pub mod RankLemmas
 pub mod PlaceLemmas
 pub mod UpgradeLemmas
 pub mod SearchLemmas

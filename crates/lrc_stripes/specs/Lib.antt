@@ -9,3 +9,4 @@ pub mod Stored
 pub mod Upgrades
 pub mod Tables
 pub mod Rows
+pub mod RankedRows

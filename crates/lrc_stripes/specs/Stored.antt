@@ -101,8 +101,12 @@ pub record AreWork (t : Stored) (stripes : List StripeNo) : Type 0 where
   pub rising : AllPairs (λ r s. IsTrue (comes_first (rank_in t) r s)) stripes
   pub each : (s : StripeNo) → Contains stripes s ↔ IsTrue (has_work t s)
 
+-- a stripe, and its level
+abbrev pub StripeLevel : Type 0
+StripeLevel = StripeNo × Level
+
 -- these are all stripes that are not whole, each with its level, in the order of repair
-pub record AreAtRisk (t : Stored) (rows : List (StripeNo × Level)) : Type 0 where
+pub record AreAtRisk (t : Stored) (rows : List StripeLevel) : Type 0 where
   pub rising : AllPairs (λ r s. IsTrue (comes_first (rank_in t) r.0 s.0)) rows
   pub each : (s : StripeNo) (l : Level) → Contains rows (s, l) ↔ ((level_shown t s ≡ Some l) × IsFalse (is_whole l))
 

@@ -1,7 +1,7 @@
 ghost use Rattle.std.specs.Prelude.{◌≡◌};
 ghost use Rattle.lrc_code.specs.declared.codes.Code.TheVariants.{Wide};
 ghost use Rattle.lrc_code.specs.Losses.{bits_set};
-ghost use Rattle.lrc_stripes.specs.Levels.{level_by};
+ghost use Rattle.lrc_stripes.specs.Levels.{level_by, is_whole};
 
 use lrc_code::LossMask;
 
@@ -19,6 +19,13 @@ pub enum Level {
 }
 
 impl Level {
+    /// Whether no fragment is missing.
+    pub fn is_whole(self) -> bool
+        ensures { result ≡ is_whole self }
+    {
+        matches!(self, Level::Whole)
+    }
+
     /// The level of a stripe with these homeless and these missing fragments.
     pub(crate) fn of(homeless: LossMask, missing: LossMask) -> Level
         ensures { result ≡ level_by Wide (bits_set homeless.bits) (bits_set missing.bits) }

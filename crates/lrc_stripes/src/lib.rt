@@ -1,19 +1,25 @@
 //! The stripes of a store: the seats of their fragments, what is missing of them, and how far each is from loss.
 #![tactic(auto)]
 
+mod at_risk;
 mod homes_on;
 pub mod laws;
 mod level;
 mod losses;
+mod ranked;
+mod repair;
 mod row;
 mod search;
 mod stripes;
 mod upgrades;
+mod work;
 
+pub use at_risk::AtRisk;
 pub use homes_on::HomesOn;
 pub use level::Level;
 pub use lrc_topology::{Held, Seat};
 pub use stripes::Stripes;
+pub use work::Work;
 
 #[cfg(test)]
 mod tests;

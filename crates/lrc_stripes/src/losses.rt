@@ -1,14 +1,15 @@
-//! The fragments of a stripe that have no home, and those that are missing.
+//! The fragments of a stripe that have no home, those that are missing, and the level that these give.
 
 ghost use Rattle.std.specs.Prelude.{◌≡◌, Some, true, not};
 ghost use Rattle.std.specs.Option.{option_map_or};
 ghost use Rattle.lrc_code.specs.declared.codes.Code.TheVariants.{Wide};
 ghost use Rattle.lrc_code.specs.Losses.{bits_set};
 ghost use Rattle.lrc_stripes.specs.Levels.{homeless_in, missing_in};
+ghost use Rattle.lrc_stripes.specs.RankedRows.{row_level};
 ghost use Rattle.lrc_stripes.specs.Tables.{row_homes, online_in};
 
 use crate::row::{Row, Site};
-use crate::{Seat, search};
+use crate::{Level, Seat, search};
 use lrc_code::{Fragment, LossMask};
 
 /// The fragments without a home.
@@ -35,6 +36,13 @@ pub(crate) fn missing(sites: &[Site], row: &Row) -> LossMask
         }
     }
     mask
+}
+
+/// The level of a stripe.
+pub(crate) fn level(sites: &[Site], row: &Row) -> Level
+    ensures { result ≡ row_level sites.now row.now }
+{
+    Level::of(homeless(row), missing(sites, row))
 }
 
 /// Whether a fragment with this home is missing.

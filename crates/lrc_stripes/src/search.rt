@@ -3,7 +3,7 @@
 ghost use Rattle.std.specs.Prelude.{◌≡◌, ◌≤◌, ◌<◌, length};
 ghost use Rattle.std.specs.List.{list_any};
 ghost use Rattle.std.specs.Option.{option_copied};
-ghost use Rattle.lrc_stripes.specs.Tables.{row_at, site_at, online_in};
+ghost use Rattle.lrc_stripes.specs.Tables.{row_at, site_at, online_in, draining_in};
 ghost use Rattle.lrc_stripes.specs.Rows.{IsRising, holds, place_of, site_place};
 
 use crate::Seat;
@@ -58,6 +58,16 @@ pub(crate) fn is_online(sites: &[Site], node: NodeNo) -> bool
 {
     match site(sites, node) {
         Some(site) => !site.is_offline,
+        None => false,
+    }
+}
+
+/// Whether the node of a number is draining; a number that is no node is not.
+pub(crate) fn is_draining(sites: &[Site], node: NodeNo) -> bool
+    ensures { result ≡ draining_in sites.now node }
+{
+    match site(sites, node) {
+        Some(site) => site.is_draining,
         None => false,
     }
 }
