@@ -1,18 +1,19 @@
 use crate::{Level, Seat, Stripes};
-use lrc_code::{Fragment, LossMask, NodeNo, StripeNo};
+use lrc_code::{Fragment, LossMask, NodeNo, StripeNo, UpgradeNo};
 use lrc_topology::Topology;
 use std::alloc::Global;
 use std::fmt::Write;
 use std::process::Abort;
 use std::test::Fail;
 
-/// So many nodes, from 0 on, with four slots each.
+/// So many nodes, from 0 on, with four slots each, in ten upgrade domains in turn.
 fn nodes(alloc: Global, count: u16) -> Result<Topology, Fail> {
     let mut text = String::new(alloc);
     for node in 0..count {
+        let upgrade = node % 10;
         write!(
             text,
-            "[[node]]\nnumber = {node}\nfault = 0\nupgrade = 0\nslots = 4\n"
+            "[[node]]\nnumber = {node}\nfault = 0\nupgrade = {upgrade}\nslots = 4\n"
         )?;
     }
     Ok(Topology::read(alloc, text.as_bytes())?)
@@ -75,17 +76,22 @@ fn one_stripe(rt: &impl Abort, alloc: Global, stripe: StripeNo) -> Result<Stripe
     let topology = nodes(alloc, 20)?;
     let mut stripes = Stripes::new(alloc, &topology)?;
     stripes.reserve(1)?;
-    add(rt, &mut stripes, stripe);
+    add_in_slot(rt, &mut stripes, stripe, 1);
+    Ok(stripes)
+}
+
+/// Adds a stripe, with fragment f in this slot of node f.
+fn add_in_slot(rt: &impl Abort, stripes: &mut Stripes, stripe: StripeNo, slot: u16) {
+    add(rt, stripes, stripe);
     for fragment in Fragment::all() {
         set_home(
             rt,
-            &mut stripes,
+            stripes,
             stripe,
             fragment,
-            seat(fragment.get() as u16, 1),
+            seat(fragment.get() as u16, slot),
         );
     }
-    Ok(stripes)
 }
 
 #[test]
@@ -114,6 +120,49 @@ fn offline_nodes_make_unavailable_and_lost_homes_lost(rt: HostRuntime) -> Result
     }
     assert_eq!(rt; stripes.missing(stripe), Some(LossMask::from_bits(0x0017)));
     assert_eq!(rt; stripes.level(stripe), Some(Level::Lost));
+    Ok(())
+}
+
+#[test]
+fn an_upgrade_loses_what_offline_nodes_hold_together(rt: HostRuntime) -> Result<(), Fail> {
+    let first = StripeNo::new(3).ok_or("stripe 3")?;
+    let second = StripeNo::new(7).ok_or("stripe 7")?;
+    let mut stripes = one_stripe(&rt, rt.alloc(), second)?;
+    stripes.reserve(1)?;
+    add_in_slot(&rt, &mut stripes, first, 0);
+    lose_to_upgrades(&rt, &mut stripes, first, second)
+}
+
+/// Nodes 1, 2 and 3 hold three fragments of one group. Without them a stripe bears one loss in the other group and none in
+/// this one, of which each of the domains 0, 2, 4 and 5 holds a fourth.
+fn lose_to_upgrades(
+    rt: &impl Abort,
+    stripes: &mut Stripes,
+    first: StripeNo,
+    second: StripeNo,
+) -> Result<(), Fail> {
+    let fifth = Fragment::new(5).ok_or("fragment 5")?;
+    for domain in 0..10 {
+        assert_eq!(rt; stripes.would_lose(UpgradeNo { value: domain }), None);
+    }
+    for number in 1..4 {
+        set_offline(rt, stripes, number, true);
+    }
+    for domain in [0, 2, 4, 5] {
+        assert_eq!(rt;
+            stripes.would_lose(UpgradeNo { value: domain }),
+            Some(first)
+        );
+    }
+    for domain in [1, 3, 6, 7, 8, 9, 10] {
+        assert_eq!(rt; stripes.would_lose(UpgradeNo { value: domain }), None);
+    }
+
+    clear_home(rt, stripes, first, fifth);
+    assert_eq!(rt; stripes.would_lose(UpgradeNo { value: 0 }), Some(second));
+
+    set_offline(rt, stripes, 4, true);
+    assert_eq!(rt; stripes.would_lose(UpgradeNo { value: 0 }), None);
     Ok(())
 }
 
