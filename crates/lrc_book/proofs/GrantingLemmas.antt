@@ -7,7 +7,7 @@ use Rattle.lrc_topology.specs.declared.NodeInfo.{NodeInfo}
 use Rattle.lrc_topology.specs.declared.seat.Seat.{Seat}
 use Rattle.lrc_leases.specs.declared.lease.Lease.{Lease as LeaseRecord}
 use Rattle.lrc_book.specs.declared.kind.Kind.{Kind}
-use Rattle.lrc_book.specs.declared.kind.Kind.TheVariants.{Local, Global}
+use Rattle.lrc_book.specs.declared.kind.Kind.TheVariants.{Local, Global, Move}
 use Rattle.lrc_book.specs.declared.reply.Reply.{Reply}
 use Rattle.lrc_book.specs.declared.reply.Reply.TheVariants.{Granted, Refused}
 use Rattle.lrc_book.specs.declared.refusal.Refusal.{Refusal}
@@ -32,8 +32,8 @@ module _ (nodes : List NodeInfo) (past : List Entry) (st : State) (session : Ses
   abbrev pub SaysRefused : Refusal → Type 0
   SaysRefused refusal.UnknownStripe = has_stripe st s ≡ false
   SaysRefused (refusal.AlreadyLeased e) = (has_stripe st s ≡ true) × IsSomeAnd (lease_of st s f) (λ l. l.epoch ≡ e)
-  SaysRefused refusal.NotNeeded = (has_stripe st s ≡ true) × (lease_of st s f ≡ None) × (needs st s f ≡ false)
-  SaysRefused refusal.Unrecoverable = (has_stripe st s ≡ true) × (lease_of st s f ≡ None) × (needs st s f ≡ true) × (kind nodes st s f ≡ Global) × (is_safe nodes st s ≡ false)
+  SaysRefused refusal.NotNeeded = (has_stripe st s ≡ true) × (lease_of st s f ≡ None) × (needs nodes st s f ≡ false)
+  SaysRefused refusal.Unrecoverable = (has_stripe st s ≡ true) × (lease_of st s f ≡ None) × (needs nodes st s f ≡ true) × (kind nodes st s f ≡ Global) × (is_safe nodes st s ≡ false)
   SaysRefused (refusal.NoLawfulNode g) = (g ≡ f) × IsOwed nodes st s f × (chosen nodes st s f ≡ None)
   SaysRefused _ = ⊥
 
@@ -47,21 +47,23 @@ module _ (nodes : List NodeInfo) (past : List Entry) (st : State) (session : Ses
   by-seat owed (Some seat) e = (owed, e, refl, refl)
   by-seat owed None e = (refl, owed, e)
 
-  by-kind : has_stripe st s ≡ true → lease_of st s f ≡ None → needs st s f ≡ true → (safe : Bool) → is_safe nodes st s ≡ safe → (k : Kind) → kind nodes st s f ≡ k
+  by-kind : has_stripe st s ≡ true → lease_of st s f ≡ None → needs nodes st s f ≡ true → (safe : Bool) → is_safe nodes st s ≡ safe → (k : Kind) → kind nodes st s f ≡ k
       → Says (refuse_if (not safe && is_global k) refusal.Unrecoverable st (granted nodes past st session s f (chosen nodes st s f))).0
   by-kind there none needed true is k from = by-seat (record { there = there; none = none; needed = needed; suffices = λ g. is }) (chosen nodes st s f) refl
   by-kind there none needed false is Global from = (there, none, needed, from, is)
+  by-kind there none needed false is Move from =
+      by-seat (record { there = there; none = none; needed = needed; suffices = λ g. absurd (let never : Move ≡ Global = sym from ∙ g in cc) }) (chosen nodes st s f) refl
   by-kind there none needed false is (Local sources) from =
       by-seat (record { there = there; none = none; needed = needed; suffices = λ g. absurd (let never : Local sources ≡ Global = sym from ∙ g in cc) }) (chosen nodes st s f) refl
 
-  by-need : has_stripe st s ≡ true → lease_of st s f ≡ None → (b : Bool) → needs st s f ≡ b
+  by-need : has_stripe st s ≡ true → lease_of st s f ≡ None → (b : Bool) → needs nodes st s f ≡ b
       → Says (refuse_if (not b) refusal.NotNeeded st (refuse_if (is_beyond_repair nodes st s f) refusal.Unrecoverable st (granted nodes past st session s f (chosen nodes st s f)))).0
   by-need there none false is = (there, none, is)
   by-need there none true is = by-kind there none is (is_safe nodes st s) refl (kind nodes st s f) refl
 
   by-lease : has_stripe st s ≡ true → (o : Option LeaseRecord) → lease_of st s f ≡ o → Says (lease_answer nodes past st session s f o).0
   by-lease there (Some l) is = (there, subst (λ (o : Option LeaseRecord). IsSomeAnd o (λ k. k.epoch ≡ l.epoch)) (sym is) refl)
-  by-lease there None is = by-need there is (needs st s f) refl
+  by-lease there None is = by-need there is (needs nodes st s f) refl
 
   by-stripe : (b : Bool) → has_stripe st s ≡ b → Says (refuse_if (not b) refusal.UnknownStripe st (lease_answer nodes past st session s f (lease_of st s f))).0
   by-stripe false is = is
@@ -84,15 +86,16 @@ module _ (nodes : List NodeInfo) (past : List Entry) (st : State) (session : Ses
   abbrev after_needs : Outcome
   after_needs = refuse_if (is_beyond_repair nodes st s f) refusal.Unrecoverable st (granted nodes past st session s f (chosen nodes st s f))
 
-  answer-none : has_stripe st s ≡ true → lease_of st s f ≡ None → lease_outcome nodes past st session s f ≡ refuse_if (not (needs st s f)) refusal.NotNeeded st after_needs
+  answer-none : has_stripe st s ≡ true → lease_of st s f ≡ None → lease_outcome nodes past st session s f ≡ refuse_if (not (needs nodes st s f)) refusal.NotNeeded st after_needs
   answer-none there none = answer-there there ∙ ap (lease_answer nodes past st session s f) none
 
-  answer-needed : has_stripe st s ≡ true → lease_of st s f ≡ None → needs st s f ≡ true → lease_outcome nodes past st session s f ≡ after_needs
-  answer-needed there none needed = answer-none there none ∙ passed (not (needs st s f)) refusal.NotNeeded st after_needs (ap not needed)
+  answer-needed : has_stripe st s ≡ true → lease_of st s f ≡ None → needs nodes st s f ≡ true → lease_outcome nodes past st session s f ≡ after_needs
+  answer-needed there none needed = answer-none there none ∙ passed (not (needs nodes st s f)) refusal.NotNeeded st after_needs (ap not needed)
 
   not-beyond : (safe : Bool) → is_safe nodes st s ≡ safe → (k : Kind) → kind nodes st s f ≡ k → (kind nodes st s f ≡ Global → is_safe nodes st s ≡ true) → (not safe && is_global k) ≡ false
   not-beyond true is k from suffices = refl
   not-beyond false is (Local sources) from suffices = refl
+  not-beyond false is Move from suffices = refl
   not-beyond false is Global from suffices = absurd (let both : false ≡ true = sym is ∙ suffices from in cc)
 
   answer-owed : IsOwed nodes st s f → lease_outcome nodes past st session s f ≡ granted nodes past st session s f (chosen nodes st s f)
@@ -116,7 +119,7 @@ module _ (nodes : List NodeInfo) (past : List Entry) (st : State) (session : Ses
       ∙ stopped (is_beyond_repair nodes st s f) refusal.Unrecoverable st _ (ap (λ (k : Kind). not (is_safe nodes st s) && is_global k) says.3 ∙ ap (λ (b : Bool). not b && true) says.4)
 
   pub tell-not_needed : SaysRefused refusal.NotNeeded → (lease_outcome nodes past st session s f).0 ≡ Refused refusal.NotNeeded
-  tell-not_needed says = ap (λ (o : Outcome). o.0) (answer-none says.0 says.1) ∙ stopped (not (needs st s f)) refusal.NotNeeded st _ (ap not says.2)
+  tell-not_needed says = ap (λ (o : Outcome). o.0) (answer-none says.0 says.1) ∙ stopped (not (needs nodes st s f)) refusal.NotNeeded st _ (ap not says.2)
 
   already : (e : ℕ) (o : Option LeaseRecord) → IsSomeAnd o (λ l. l.epoch ≡ e) → (lease_answer nodes past st session s f o).0 ≡ Refused (refusal.AlreadyLeased e)
   already e (Some l) same = ap (λ (n : ℕ). Refused (refusal.AlreadyLeased n)) same

@@ -1,6 +1,7 @@
 -- From what a fragment is rebuilt, in words.
-use Rattle.std.proofs.Common.{◌≡◌, ◌≢◌, ◌<◌, ◌↔◌, inl, inr, Bool, true, false, not, ◌&&◌, nat_lt, IsTrue, List, [], ◌∷◌, refl, sym, ap, ◌∙◌, subst, arith}
+use Rattle.std.proofs.Common.{◌≡◌, ◌≢◌, ◌<◌, ◌↔◌, inl, inr, Bool, true, false, not, ◌&&◌, if◌then◌else◌, nat_lt, IsTrue, IsSomeAnd, Option, Some, None, List, [], ◌∷◌, refl, sym, ap, ap₂, ◌∙◌, subst, arith}
 use Rattle.std.specs.List.{AllPairs, Contains, list_any}
+use Rattle.std.specs.Option.{option_map_or}
 use Rattle.std.proofs.lemmas.Bool.{cases_order, eqb-false, ne_eqb, ltb-true, and_parts, not-true, not-false}
 use Rattle.std.proofs.lemmas.List.Elements.{All-weaker, All-contains}
 use Rattle.std.proofs.lemmas.List.Kept.{AllPairs-cons, AllPairs-filter}
@@ -13,9 +14,12 @@ use Rattle.lrc_code.specs.Losses.{FragmentSet, is_local}
 use Rattle.lrc_code.proofs.NumbersLemmas.{equal_fragments}
 use Rattle.lrc_code.proofs.SourcesLemmas.{is_other, six_others}
 use Rattle.lrc_topology.specs.declared.NodeInfo.{NodeInfo}
-use Rattle.lrc_book.specs.declared.kind.Kind.TheVariants.{Local, Global}
-use Rattle.lrc_book.specs.States.{State, missing}
-use Rattle.lrc_book.specs.Repairs.{kind, IsFromItsGroup}
+use Rattle.lrc_topology.specs.declared.seat.Seat.{Seat}
+use Rattle.lrc_stripes.specs.Levels.{homes_of}
+use Rattle.lrc_book.specs.declared.kind.Kind.{Kind}
+use Rattle.lrc_book.specs.declared.kind.Kind.TheVariants.{Local, Global, Move}
+use Rattle.lrc_book.specs.States.{State, online_at, missing}
+use Rattle.lrc_book.specs.Repairs.{kind, is_at_home, IsAtHome, IsFromItsGroup}
 use Rattle.lrc_book.proofs.MemberLemmas.{All-members, filter-member, member-filter, All-list_any, list_any-All, Contains-here, Contains-later, Contains-cases, not-Contains-nil, AllPairs-head, AllPairs-tail}
 use Rattle.lrc_book.proofs.FragmentLemmas.{all-fragments}
 
@@ -106,19 +110,38 @@ module _ (nodes : List NodeInfo) (st : State) (s : StripeNo) (f : Fragment) wher
   abbrev local : Bool
   local = is_local Wide gone f
 
-  kind-local : local ≡ true → kind nodes st s f ≡ Local (others Wide f)
-  unfolding kind
-  kind-local e = rw e refl
+  abbrev home : Bool
+  home = is_at_home nodes st s f
 
-  kind-global : local ≡ false → kind nodes st s f ≡ Global
-  unfolding kind
-  kind-global e = rw e refl
+  kind-by : Bool → Bool → Kind
+  kind-by here near = if here then Move else (if near then Local (others Wide f) else Global)
+
+  kind-is : (here near : Bool) → home ≡ here → local ≡ near → kind nodes st s f ≡ (if here then Move else (if near then Local (others Wide f) else Global))
+  unfolding kind kind-by
+  kind-is here near at_home in_group = ap₂ kind-by at_home in_group
+
+  -- the test that the fragment has a home that is online
+  home-by : (o : Option Seat) → option_map_or (λ seat. online_at nodes st seat.node) o false ≡ true → IsSomeAnd o (λ seat. IsTrue (online_at nodes st seat.node))
+  home-by (Some seat) e = e
+  home-by None e = absurd (cc)
+
+  by-home : (o : Option Seat) → IsSomeAnd o (λ seat. IsTrue (online_at nodes st seat.node)) → option_map_or (λ seat. online_at nodes st seat.node) o false ≡ true
+  by-home (Some seat) e = e
+  by-home None e = absurd e
+
+  is-away : home ≡ false → ¬ (IsAtHome nodes st s f)
+  is-away e at_home = (let both : true ≡ false = sym (by-home (homes_of st.homes s f.value) at_home) ∙ e in cc)
+
+  not-home : ¬ (IsAtHome nodes st s f) → (b : Bool) → home ≡ b → home ≡ false
+  not-home away true e = absurd (away (home-by (homes_of st.homes s f.value) e))
+  not-home away false e = e
 
   -- the test that no other of the class is missing
-  local-group : local ≡ true → IsFromItsGroup nodes st s f (others Wide f)
-  local-group e =
+  local-group : home ≡ false → local ≡ true → IsFromItsGroup nodes st s f (others Wide f)
+  local-group away e =
       let parts = and_parts _ _ e in
       record {
+        away = is-away away;
         group = parts.0;
         present = λ g share other. All-contains (λ (h : Fragment). gone h.value ≡ false) (others Wide f) g
             (All-list_any (λ (h : Fragment). gone h.value) (others Wide f) (not-true _ parts.1)) ((others-members f g).1 (share, other));
@@ -138,22 +161,38 @@ module _ (nodes : List NodeInfo) (st : State) (s : StripeNo) (f : Fragment) wher
   group-sources sources from =
       rising-same sources (others Wide f) from.rising (others-rising f) (λ h here. (others-members f h).1 ((from.members h).0 here)) (λ h here. (from.members h).1 ((others-members f h).0 here))
 
-  told-by : (sources : List Fragment) (b : Bool) → local ≡ b → kind nodes st s f ≡ Local sources → IsFromItsGroup nodes st s f sources
-  told-by sources true is e = subst (IsFromItsGroup nodes st s f) (same_local (others Wide f) sources (sym (kind-local is) ∙ e)) (local-group is)
-  told-by sources false is e = absurd (let never : Global ≡ Local sources = sym (kind-global is) ∙ e in cc)
+  told-by : (sources : List Fragment) (here near : Bool) → home ≡ here → local ≡ near → kind nodes st s f ≡ Local sources → IsFromItsGroup nodes st s f sources
+  told-by sources true near at_home in_group e = absurd (let never : Move ≡ Local sources = sym (kind-is true near at_home in_group) ∙ e in cc)
+  told-by sources false true away in_group e =
+      subst (IsFromItsGroup nodes st s f) (same_local (others Wide f) sources (sym (kind-is false true away in_group) ∙ e)) (local-group away in_group)
+  told-by sources false false away in_group e = absurd (let never : Global ≡ Local sources = sym (kind-is false false away in_group) ∙ e in cc)
 
   pub local-told : (sources : List Fragment) → kind nodes st s f ≡ Local sources → IsFromItsGroup nodes st s f sources
-  local-told sources e = told-by sources local refl e
+  local-told sources e = told-by sources home local refl refl e
 
   pub group-told : (sources : List Fragment) → IsFromItsGroup nodes st s f sources → kind nodes st s f ≡ Local sources
-  group-told sources from = kind-local (group-local sources from) ∙ ap Local (sym (group-sources sources from))
+  group-told sources from = kind-is false true (not-home from.away home refl) (group-local sources from) ∙ ap Local (sym (group-sources sources from))
 
-  pub global-told : kind nodes st s f ≡ Global → (sources : List Fragment) → ¬ (IsFromItsGroup nodes st s f sources)
-  global-told e sources from = (let never : Global ≡ Local sources = sym e ∙ group-told sources from in cc)
+  home-from : (here near : Bool) → home ≡ here → local ≡ near → kind nodes st s f ≡ Move → IsAtHome nodes st s f
+  home-from true near at_home in_group e = home-by (homes_of st.homes s f.value) at_home
+  home-from false true away in_group e = absurd (let never : Local (others Wide f) ≡ Move = sym (kind-is false true away in_group) ∙ e in cc)
+  home-from false false away in_group e = absurd (let never : Global ≡ Move = sym (kind-is false false away in_group) ∙ e in cc)
 
-  none-by : (b : Bool) → local ≡ b → ((sources : List Fragment) → ¬ (IsFromItsGroup nodes st s f sources)) → kind nodes st s f ≡ Global
-  none-by true is none = absurd (none (others Wide f) (local-group is))
-  none-by false is none = kind-global is
+  pub move-told : kind nodes st s f ≡ Move → IsAtHome nodes st s f
+  move-told e = home-from home local refl refl e
 
-  pub none-told : ((sources : List Fragment) → ¬ (IsFromItsGroup nodes st s f sources)) → kind nodes st s f ≡ Global
-  none-told none = none-by local refl none
+  pub home-told : IsAtHome nodes st s f → kind nodes st s f ≡ Move
+  home-told at_home = kind-is true local (by-home (homes_of st.homes s f.value) at_home) refl
+
+  pub global-told : kind nodes st s f ≡ Global → (¬ (IsAtHome nodes st s f)) × ((sources : List Fragment) → ¬ (IsFromItsGroup nodes st s f sources))
+  global-told e = (
+    λ at_home. (let never : Global ≡ Move = sym e ∙ home-told at_home in cc),
+    λ sources from. (let never : Global ≡ Local sources = sym e ∙ group-told sources from in cc),
+  )
+
+  none-by : (near : Bool) → local ≡ near → ¬ (IsAtHome nodes st s f) → ((sources : List Fragment) → ¬ (IsFromItsGroup nodes st s f sources)) → kind nodes st s f ≡ Global
+  none-by true in_group away none = absurd (none (others Wide f) (local-group (not-home away home refl) in_group))
+  none-by false in_group away none = kind-is false false (not-home away home refl) in_group
+
+  pub none-told : ¬ (IsAtHome nodes st s f) → ((sources : List Fragment) → ¬ (IsFromItsGroup nodes st s f sources)) → kind nodes st s f ≡ Global
+  none-told away none = none-by local refl away none

@@ -93,7 +93,7 @@ module _ (nodes : List NodeInfo) (past : List Entry) (st : State) (session : Ses
   answer-new : (o : Option LeaseRecord) → lease_of st s f ≡ o → (lease_answer nodes past st session s f o).0 ≡ Granted l k → IsNew (lease_answer nodes past st session s f o)
   answer-new (Some m) is e = absurd (let never : Refused (refusal.AlreadyLeased m.epoch) ≡ Granted l k = e in cc)
   answer-new None is e =
-      when-told (Granted l k) not_refused IsNew (not (needs st s f)) refusal.NotNeeded st _
+      when-told (Granted l k) not_refused IsNew (not (needs nodes st s f)) refusal.NotNeeded st _
       (when-told (Granted l k) not_refused IsNew (is_beyond_repair nodes st s f) refusal.Unrecoverable st _ (granted-new is (chosen nodes st s f) refl)) e
 
   -- the lease of a grant
@@ -136,7 +136,7 @@ module _ (nodes : List NodeInfo) (st : State) (session : SessionNo) (s r : Strip
   answer-keeps : (past : List Entry) (o : Option LeaseRecord) → lease_of st s f ≡ o → KeepsLease (lease_answer nodes past st session s f o).1
   answer-keeps past (Some l) is = refl
   answer-keeps past None is =
-      either-way KeepsLease (not (needs st s f)) refusal.NotNeeded st _ refl (λ needed.
+      either-way KeepsLease (not (needs nodes st s f)) refusal.NotNeeded st _ refl (λ needed.
       either-way KeepsLease (is_beyond_repair nodes st s f) refusal.Unrecoverable st _ refl (λ safe. granted-keeps past is (chosen nodes st s f)))
 
   pub lease-keeps : (past : List Entry) → KeepsLease (lease_outcome nodes past st session s f).1

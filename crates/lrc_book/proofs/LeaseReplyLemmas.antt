@@ -29,14 +29,6 @@ use Rattle.lrc_book.proofs.EndLemmas.{target-node}
 
 -- ---- Lease
 
-pub some-home : (o : Option Seat) → is_some o ≡ true → (seat : Seat) × (o ≡ Some seat)
-some-home (Some seat) e = (seat, refl)
-some-home None e = absurd (cc)
-
-pub no-home : (o : Option Seat) → is_some o ≡ false → o ≡ None
-no-home None e = refl
-no-home (Some seat) e = absurd (cc)
-
 lost-by : (b : Bool) (k : Kind) → (if b then None else Some k) ≡ None → b ≡ true
 lost-by true k e = refl
 lost-by false k e = absurd (let never : Some k ≡ None = e in cc)
@@ -63,58 +55,32 @@ module _ (nodes : List NodeInfo) (past : List Entry) (st : State) (session : Ses
     new-by : Bool → Bool → Reply
     new-by needed beyond = (refuse_if (not needed) refusal.NotNeeded st (refuse_if beyond refusal.Unrecoverable st (granted nodes past st session s f (chosen nodes st s f)))).0
 
-    new-is : (needed beyond : Bool) → needs st s f ≡ needed → is_beyond_repair nodes st s f ≡ beyond
+    new-is : (needed beyond : Bool) → needs nodes st s f ≡ needed → is_beyond_repair nodes st s f ≡ beyond
         → (lease_outcome nodes past st session s f).0 ≡ (refuse_if (not needed) refusal.NotNeeded st (refuse_if beyond refusal.Unrecoverable st (granted nodes past st session s f (chosen nodes st s f)))).0
     unfolding new-by
     new-is needed beyond is lost = reply-is true None there none ∙ ap₂ new-by is lost
 
-    needs-by : (o : Option Seat) → homes_of st.homes s f.value ≡ o → needs st s f ≡ is_none o
-    needs-by o is = ap₂ (λ (a : Bool) (p : Option Seat). a && is_none p) (lt-ltb f.value 16 f.in_range) is
+    pub lease-unneeded : needs nodes st s f ≡ false → (lease_outcome nodes past st session s f).0 ≡ Refused refusal.NotNeeded
+    lease-unneeded unneeded = new-is false (is_beyond_repair nodes st s f) unneeded refl
 
-    pub lease-homed : (seat : Seat) → homes_of st.homes s f.value ≡ Some seat → (lease_outcome nodes past st session s f).0 ≡ Refused refusal.NotNeeded
-    lease-homed seat home = new-is false (is_beyond_repair nodes st s f) (needs-by (Some seat) home) refl
+    pub lease-lost : needs nodes st s f ≡ true → repair_of nodes st s f ≡ None → (lease_outcome nodes past st session s f).0 ≡ Refused refusal.Unrecoverable
+    lease-lost needed lost = new-is true true needed (lost-by (is_beyond_repair nodes st s f) (kind nodes st s f) lost)
 
-    pub lease-lost : homes_of st.homes s f.value ≡ None → repair_of nodes st s f ≡ None → (lease_outcome nodes past st session s f).0 ≡ Refused refusal.Unrecoverable
-    lease-lost homeless lost = new-is true true (needs-by None homeless) (lost-by (is_beyond_repair nodes st s f) (kind nodes st s f) lost)
-
-    pub lease-new : (k : Kind) → homes_of st.homes s f.value ≡ None → repair_of nodes st s f ≡ Some k
+    pub lease-new : (k : Kind) → needs nodes st s f ≡ true → repair_of nodes st s f ≡ Some k
         → ((lease_outcome nodes past st session s f).0 ≡ (granted nodes past st session s f (chosen nodes st s f)).0) × (k ≡ kind nodes st s f)
-    lease-new k homeless able =
+    lease-new k needed able =
         let parts = able-by (is_beyond_repair nodes st s f) (kind nodes st s f) k able in
-        (new-is true false (needs-by None homeless) parts.0, sym parts.1)
+        (new-is true false needed parts.0, sym parts.1)
 
 -- ---- Done
 
-module _ (nodes : List NodeInfo) (st : State) where
-  online-by : (gone down : Bool) → (not (is_gone (if gone then Gone else Active)) && not down) ≡ (not gone && not down)
-  online-by true down = refl
-  online-by false down = refl
+module _ (nodes : List NodeInfo) (st : State) (session : SessionNo) (s : StripeNo) (f : Fragment) (e : ℕ) (l : Lease) (there : has_stripe st s ≡ true) (live : at_epoch e (lease_of st s f) ≡ Some l) (mine : is_held_by session l ≡ true) where
+  told-by : Bool → Option Lease → Reply
+  told-by known o = (refuse_if (not known) refusal.UnknownStripe st (done_answer nodes st session s f o)).0
 
-  online-known : (n : NodeNo) (o : Option NodeInfo) → node_at nodes n ≡ o → IsSome o → option_map_or (is_online st) o false ≡ (not (has_number st.gone n) && not (has_number st.down n))
-  online-known n None e some = absurd (let never : false ≡ true = some in cc)
-  online-known n (Some x) e some =
-      online-by (has_number st.gone x.number) (has_number st.down x.number)
-      ∙ ap (λ (m : NodeNo). not (has_number st.gone m) && not (has_number st.down m)) (sym (member-node_at nodes n x e).1)
+  held-by : Bool → Bool → Reply
+  held-by held online = (refuse_if (not held) (refusal.NotHolder l.holder) st (refuse_if (not online) (refusal.TargetOffline l.target.node) st (Ended, moved_in st s f l.target))).0
 
-  module _ (session : SessionNo) (s : StripeNo) (f : Fragment) (e : ℕ) (l : Lease) (there : has_stripe st s ≡ true) (live : at_epoch e (lease_of st s f) ≡ Some l) (mine : is_held_by session l ≡ true) where
-    some-by : (same : Bool) (m : Lease) → (if same then Some m else None) ≡ Some l → m ≡ l
-    some-by true m is = same_Some m l is
-    some-by false m is = absurd (let never : None ≡ Some l = is in cc)
-
-    epoch-by : (o : Option Lease) → at_epoch e o ≡ Some l → o ≡ Some l
-    epoch-by None is = absurd (let never : None ≡ Some l = is in cc)
-    epoch-by (Some m) is = ap (λ (x : Lease). Some x) (some-by (nat_eq m.epoch e) m is)
-
-    -- the test of its target's node
-    pub done-online : AreSeated nodes st → online_at nodes st l.target.node ≡ (not (has_number st.gone l.target.node) && not (has_number st.down l.target.node))
-    done-online seated = online-known l.target.node (node_at nodes l.target.node) refl (target-node nodes st s f l (epoch-by (lease_of st s f) live) seated)
-
-    told-by : Bool → Option Lease → Reply
-    told-by known o = (refuse_if (not known) refusal.UnknownStripe st (done_answer nodes st session s f o)).0
-
-    held-by : Bool → Bool → Reply
-    held-by held online = (refuse_if (not held) (refusal.NotHolder l.holder) st (refuse_if (not online) (refusal.TargetOffline l.target.node) st (Ended, moved_in st s f l.target))).0
-
-    pub done-held : (online : Bool) → online_at nodes st l.target.node ≡ online → (done_outcome nodes st session s f e).0 ≡ (refuse_if (not online) (refusal.TargetOffline l.target.node) st (Ended, moved_in st s f l.target)).0
-    unfolding done_outcome told-by held-by
-    done-held online is = ap₂ told-by there live ∙ ap₂ held-by mine is
+  pub done-held : (online : Bool) → online_at nodes st l.target.node ≡ online → (done_outcome nodes st session s f e).0 ≡ (refuse_if (not online) (refusal.TargetOffline l.target.node) st (Ended, moved_in st s f l.target)).0
+  unfolding done_outcome told-by held-by
+  done-held online is = ap₂ told-by there live ∙ ap₂ held-by mine is

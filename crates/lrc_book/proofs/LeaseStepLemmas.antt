@@ -12,13 +12,15 @@ use Rattle.lrc_topology.specs.declared.NodeInfo.{NodeInfo}
 use Rattle.lrc_topology.specs.declared.seat.Seat.{Seat}
 use Rattle.lrc_topology.specs.Nodes.{AreNodes}
 use Rattle.lrc_leases.specs.declared.lease.Lease.{Lease}
+use Rattle.lrc_stripes.specs.Stored.{StripeFragment}
 use Rattle.lrc_book.specs.declared.reply.Reply.TheVariants.{Ended}
 use Rattle.lrc_book.specs.declared.refusal.Refusal.TheVariants as refusal
 use Rattle.lrc_book.specs.declared.entry.Entry.{Entry}
 use Rattle.lrc_book.specs.States.{State, has_stripe, lease_of, online_at}
 use Rattle.lrc_book.specs.Placement.{chosen}
 use Rattle.lrc_book.specs.Repairs.{needs, is_beyond_repair}
-use Rattle.lrc_book.specs.Leases.{new_lease, granted, lease_answer, lease_outcome, without_lease, at_epoch, is_held_by, moved_in, done_answer, done_outcome, abandon_answer, abandon_outcome, revoke_outcome}
+use Rattle.lrc_book.specs.Leases.{new_lease, granted, lease_answer, lease_outcome, next_answer, next_outcome, without_lease, at_epoch, is_held_by, moved_in, done_answer, done_outcome, abandon_answer, abandon_outcome, revoke_outcome}
+use Rattle.lrc_book.specs.Urgency.{next_of}
 use Rattle.lrc_book.specs.Goodness.{AreSeated}
 use Rattle.lrc_book.proofs.MemberLemmas.{member-list_any}
 use Rattle.lrc_book.proofs.ChoiceLemmas.{chosen-choice}
@@ -48,7 +50,7 @@ module _ (nodes : List NodeInfo) (known : AreNodes nodes) (past : List Entry) (s
   answered-seated : AreSeated nodes st → has_stripe st s ≡ true → (o : Option Lease) → lease_of st s f ≡ o → AreSeated nodes (lease_answer nodes past st session s f o).1
   answered-seated seated there (Some l) e = seated
   answered-seated seated there None e =
-      either-way (AreSeated nodes) (not (needs st s f)) refusal.NotNeeded st _ seated
+      either-way (AreSeated nodes) (not (needs nodes st s f)) refusal.NotNeeded st _ seated
       (λ needed. either-way (AreSeated nodes) (is_beyond_repair nodes st s f) refusal.Unrecoverable st _ seated (λ safe. chosen-seated seated there e (chosen nodes st s f) refl))
 
   pub lease-seated : AreSeated nodes st → AreSeated nodes (lease_outcome nodes past st session s f).1
@@ -56,6 +58,15 @@ module _ (nodes : List NodeInfo) (known : AreNodes nodes) (past : List Entry) (s
   lease-seated seated =
       either-way (AreSeated nodes) (not (has_stripe st s)) refusal.UnknownStripe st (lease_answer nodes past st session s f (lease_of st s f)) seated
       (λ there. answered-seated seated (from_not _ there) (lease_of st s f) refl)
+
+module _ (nodes : List NodeInfo) (known : AreNodes nodes) (past : List Entry) (st : State) (session : SessionNo) where
+  next-by : AreSeated nodes st → (o : Option StripeFragment) → AreSeated nodes (next_answer nodes past st session o).1
+  next-by seated (Some p) = lease-seated nodes known past st session p.0 p.1 seated
+  next-by seated None = seated
+
+  pub next-seated : AreSeated nodes st → AreSeated nodes (next_outcome nodes past st session).1
+  unfolding next_outcome
+  next-seated seated = next-by seated (next_of nodes st)
 
 -- ---- ends
 

@@ -6,16 +6,18 @@ use Rattle.lrc_code.specs.declared.numbers.Fragment.{Fragment}
 use Rattle.lrc_topology.specs.declared.NodeInfo.{NodeInfo}
 use Rattle.lrc_topology.specs.declared.seat.Seat.{Seat}
 use Rattle.lrc_leases.specs.declared.lease.Lease.{Lease}
+use Rattle.lrc_stripes.specs.Stored.{StripeFragment}
 use Rattle.lrc_book.specs.declared.entry.Entry.{Entry}
 use Rattle.lrc_book.specs.declared.kind.Kind.{Kind}
-use Rattle.lrc_book.specs.declared.reply.Reply.TheVariants.{Granted, Ended, Refused}
+use Rattle.lrc_book.specs.declared.reply.Reply.TheVariants.{Granted, Idle, Ended, Refused}
 use Rattle.lrc_book.specs.declared.refusal.Refusal.{Refusal}
 use Rattle.lrc_book.specs.declared.refusal.Refusal.TheVariants as refusal
 use Rattle.lrc_book.specs.States.{State, has_stripe, lease_of}
 use Rattle.lrc_book.specs.Placement.{chosen}
 use Rattle.lrc_book.specs.Outcomes.{refuse_if}
+use Rattle.lrc_book.specs.Urgency.{next_of}
 use Rattle.lrc_book.specs.Repairs.{needs, is_beyond_repair}
-use Rattle.lrc_book.specs.Leases.{new_lease, granted, lease_answer, lease_outcome, at_epoch, done_answer, done_outcome}
+use Rattle.lrc_book.specs.Leases.{new_lease, granted, lease_answer, lease_outcome, next_answer, next_outcome, at_epoch, done_answer, done_outcome}
 use Rattle.lrc_book.specs.Stores.{IsGrant}
 
 same-lease : (a b : Lease) (k l : Kind) → Granted a k ≡ Granted b l → a ≡ b
@@ -39,12 +41,22 @@ module _ (nodes : List NodeInfo) (past : List Entry) (st : State) (session : Ses
   lease-by : (there : Bool) → has_stripe st s ≡ there → (o : Option Lease) → lease_of st s f ≡ o → (refuse_if (not there) refusal.UnknownStripe st (lease_answer nodes past st session s f o)).0 ≡ Granted l k → IsGrant nodes st l
   lease-by false is o live e = absurd (not-granted refusal.UnknownStripe l k e)
   lease-by true is (Some m) live e = absurd (not-granted (refusal.AlreadyLeased m.epoch) l k e)
-  lease-by true is None live e = granted-by is live (needs st s f) (is_beyond_repair nodes st s f) (chosen nodes st s f) refl e
+  lease-by true is None live e = granted-by is live (needs nodes st s f) (is_beyond_repair nodes st s f) (chosen nodes st s f) refl e
 
   -- a lease was granted: its stripe is there, its fragment had none, and its target was chosen
   pub lease-told : (lease_outcome nodes past st session s f).0 ≡ Granted l k → IsGrant nodes st l
   unfolding lease_outcome
   lease-told e = lease-by (has_stripe st s) refl (lease_of st s f) refl e
+
+module _ (nodes : List NodeInfo) (past : List Entry) (st : State) (session : SessionNo) (l : Lease) (k : Kind) where
+  next-by : (o : Option StripeFragment) → (next_answer nodes past st session o).0 ≡ Granted l k → IsGrant nodes st l
+  next-by (Some p) e = lease-told nodes past st session p.0 p.1 l k e
+  next-by None e = absurd (let never : Idle ≡ Granted l k = e in cc)
+
+  -- and so it is where the most urgent repair was asked for
+  pub next-told : (next_outcome nodes past st session).0 ≡ Granted l k → IsGrant nodes st l
+  unfolding next_outcome
+  next-told e = next-by (next_of nodes st) e
 
 module _ (nodes : List NodeInfo) (st : State) (session : SessionNo) (s : StripeNo) (f : Fragment) (e : ℕ) where
   live-by : (o : Option Lease) → lease_of st s f ≡ o → (done_answer nodes st session s f (at_epoch e o)).0 ≡ Ended → IsSome (lease_of st s f)

@@ -13,10 +13,26 @@ use Rattle.lrc_code.specs.Losses.{FragmentSet, bits_set, bits_of, is_recoverable
 use Rattle.lrc_code.proofs.BitsLemmas.{bits_set-bits_of, bits_of-below}
 use Rattle.lrc_topology.specs.declared.NodeInfo.{NodeInfo}
 use Rattle.lrc_stripes.specs.Levels.{homes_of, missing_if}
-use Rattle.lrc_book.specs.declared.kind.Kind.TheVariants.{Local, Global}
+use Rattle.lrc_book.specs.declared.kind.Kind.{Kind}
+use Rattle.lrc_book.specs.declared.kind.Kind.TheVariants.{Local, Global, Move}
 use Rattle.lrc_book.specs.States.{State, has_stripe, online_at, missing}
-use Rattle.lrc_book.specs.Repairs.{kind, is_global}
+use Rattle.lrc_book.specs.Repairs.{kind, is_global, is_safe, is_at_home}
 use Rattle.lrc_book.specs.Stores.{repair_of}
+
+-- what is answered by whether the fragment is at home
+unfoldable from-home : List NodeInfo → State → StripeNo → Fragment → Bool → Option Kind
+from-home nodes st s f home =
+    let k = if home then Move else (if is_local Wide (missing nodes st s) f then Local (others Wide f) else Global) in
+    if (not (is_safe nodes st s) && is_global k) then None else Some k
+
+moved-by : (safe : Bool) → (if (not safe && is_global Move) then None else Some Move) ≡ Some Move
+moved-by true = refl
+moved-by false = refl
+
+-- a fragment at home is moved
+pub repair-move : (nodes : List NodeInfo) (st : State) (s : StripeNo) (f : Fragment) → is_at_home nodes st s f ≡ true → repair_of nodes st s f ≡ Some Move
+unfolding kind from-home
+repair-move nodes st s f home = ap (from-home nodes st s f) home ∙ moved-by (is_safe nodes st s)
 
 module _ (nodes : List NodeInfo) (st : State) (s : StripeNo) where
   -- the bits of the number are the missing fragments, also behind the last of these
@@ -36,28 +52,32 @@ module _ (nodes : List NodeInfo) (st : State) (s : StripeNo) where
     mask-set : bits_set mask.bits ≡ missing nodes st s
     mask-set = ap (λ (m : LossMask). bits_set m.bits) (same_Some mask (record { bits = bits_of Wide (missing nodes st s) }) mask-is) ∙ fun_ext bits-both
 
-    module _ (f : Fragment) where
-      by-local : (local safe : Bool) (sources : List Fragment) → (if local then Some (others Wide f) else None) ≡ Some sources
-          → (if (not safe && is_global (if local then Local (others Wide f) else Global)) then None else Some (if local then Local (others Wide f) else Global)) ≡ Some (Local sources)
+    module _ (f : Fragment) (away : is_at_home nodes st s f ≡ false) where
+      -- what is answered where the fragment is not at home
+      abbrev repair-by : Bool → Bool → Option Kind
+      repair-by near safe = if (not safe && is_global (if near then Local (others Wide f) else Global)) then None else Some (if near then Local (others Wide f) else Global)
+
+      repair-away : repair_of nodes st s f ≡ repair-by (is_local Wide (missing nodes st s) f) (is_recoverable Wide (missing nodes st s))
+      unfolding kind from-home
+      repair-away = ap (from-home nodes st s f) away
+
+      by-local : (near safe : Bool) (sources : List Fragment) → (if near then Some (others Wide f) else None) ≡ Some sources → repair-by near safe ≡ Some (Local sources)
       by-local false safe sources e = absurd (let never : None ≡ Some sources = e in cc)
       by-local true true sources e = ap (λ (fs : List Fragment). Some (Local fs)) (same_Some (others Wide f) sources e)
       by-local true false sources e = ap (λ (fs : List Fragment). Some (Local fs)) (same_Some (others Wide f) sources e)
 
-      by-whole : (local safe : Bool) → (if local then Some (others Wide f) else None) ≡ None
-          → (if (not safe && is_global (if local then Local (others Wide f) else Global)) then None else Some (if local then Local (others Wide f) else Global)) ≡ (if safe then Some Global else None)
+      by-whole : (near safe : Bool) → (if near then Some (others Wide f) else None) ≡ None → repair-by near safe ≡ (if safe then Some Global else None)
       by-whole true safe e = absurd (let never : Some (others Wide f) ≡ None = e in cc)
       by-whole false true e = refl
       by-whole false false e = refl
 
       pub repair-local : (sources : List Fragment) → local_sources Wide (bits_set mask.bits) f ≡ Some sources → repair_of nodes st s f ≡ Some (Local sources)
-      unfolding kind
       repair-local sources found =
-          by-local (is_local Wide (missing nodes st s) f) (is_recoverable Wide (missing nodes st s)) sources (sym (ap (λ (m : FragmentSet). local_sources Wide m f) mask-set) ∙ found)
+          repair-away ∙ by-local (is_local Wide (missing nodes st s) f) (is_recoverable Wide (missing nodes st s)) sources (sym (ap (λ (m : FragmentSet). local_sources Wide m f) mask-set) ∙ found)
 
       pub repair-whole : (safe : Bool) → local_sources Wide (bits_set mask.bits) f ≡ None → is_recoverable Wide (bits_set mask.bits) ≡ safe → repair_of nodes st s f ≡ (if safe then Some Global else None)
-      unfolding kind
       repair-whole safe none able =
-          by-whole (is_local Wide (missing nodes st s) f) (is_recoverable Wide (missing nodes st s)) (sym (ap (λ (m : FragmentSet). local_sources Wide m f) mask-set) ∙ none)
+          repair-away ∙ by-whole (is_local Wide (missing nodes st s) f) (is_recoverable Wide (missing nodes st s)) (sym (ap (λ (m : FragmentSet). local_sources Wide m f) mask-set) ∙ none)
           ∙ ap (λ b. if b then Some Global else None) (sym (ap (is_recoverable Wide) mask-set) ∙ able)
 
   masked : Bool → Option LossMask

@@ -165,7 +165,7 @@ module _ (nodes : List NodeInfo) (past : List Entry) (st : State) (session : Ses
   answer-told : (o : Option LeaseRecord) → IsToldBy (Lease s f) (lease_answer nodes past st session s f o)
   unfolding IsToldBy
   answer-told (Some lease) = refl
-  answer-told None = needed-changed (needs st s f) (is_beyond_repair nodes st s f) (chosen nodes st s f)
+  answer-told None = needed-changed (needs nodes st s f) (is_beyond_repair nodes st s f) (chosen nodes st s f)
 
   lease-cases : (there : Bool) (o : Option LeaseRecord) → IsToldBy (Lease s f) (refuse_if (not there) refusal.UnknownStripe st (lease_answer nodes past st session s f o))
   unfolding IsToldBy
