@@ -1,11 +1,12 @@
 -- What a step answers and changes, case by case.
-use Rattle.std.proofs.Common.{◌≡◌, ℕ, Bool, true, false, not, nat_eq, if◌then◌else◌, ◌||◌, is_none, List, [], ◌∷◌, ◌++◌, length, map, drop, fold, Option, Some, None, Result, Ok, Err, refl, sym, ap, ◌∙◌, append_assoc, append-nil, arith}
+use Rattle.std.proofs.Common.{◌≡◌, ℕ, Bool, true, false, not, nat_eq, nat_lt, if◌then◌else◌, ◌||◌, is_none, List, [], ◌∷◌, ◌++◌, length, map, drop, fold, Option, Some, None, Result, Ok, Err, refl, sym, ap, ◌∙◌, append_assoc, append-nil, arith}
 use Rattle.std.specs.Option.{option_map_or}
 use Rattle.std.proofs.lemmas.List.Folds.{fold_stays}
 use Rattle.lrc_code.specs.declared.codes.Code.TheVariants.{Wide}
 use Rattle.lrc_code.specs.declared.numbers.StripeNo.{StripeNo}
 use Rattle.lrc_code.specs.declared.numbers.NodeNo.{NodeNo}
-use Rattle.lrc_topology.specs.Nodes.{node_at}
+use Rattle.lrc_code.specs.declared.numbers.UpgradeNo.{UpgradeNo}
+use Rattle.lrc_topology.specs.Nodes.{node_at, has_domain}
 use Rattle.lrc_code.specs.declared.numbers.SessionNo.{SessionNo}
 use Rattle.lrc_code.specs.declared.numbers.Fragment.{Fragment}
 use Rattle.lrc_code.specs.Codes.{fragments}
@@ -13,18 +14,21 @@ use Rattle.lrc_topology.specs.declared.NodeInfo.{NodeInfo}
 use Rattle.lrc_topology.specs.declared.seat.Seat.{Seat}
 use Rattle.lrc_topology.specs.declared.seat.Held.{Held}
 use Rattle.lrc_book.specs.declared.command.Command.{Command}
-use Rattle.lrc_book.specs.declared.command.Command.TheVariants.{Place, Drop, Lease, Done, Abandon, Revoke, Fail, Down, Up, Join}
-use Rattle.lrc_book.specs.declared.reply.Reply.TheVariants.{Dropped, Ended, Changed, Refused}
+use Rattle.lrc_book.specs.declared.command.Command.TheVariants.{Place, Drop, Lease, Next, Done, Abandon, Revoke, Fail, Down, Up, Drain, Undrain, Retire, Join, Upgrade, Upgraded}
+use Rattle.lrc_book.specs.declared.reply.Reply.TheVariants.{Dropped, Granted, Ended, Changed, Refused}
 use Rattle.lrc_book.specs.declared.refusal.Refusal.{Refusal}
 use Rattle.lrc_book.specs.declared.refusal.Refusal.TheVariants as refusal
 use Rattle.lrc_book.specs.declared.entry.Entry.{Entry}
 use Rattle.lrc_leases.specs.declared.lease.Lease.{Lease as LeaseRecord}
-use Rattle.lrc_book.specs.Repairs.{needs, is_beyond_repair}
-use Rattle.lrc_book.specs.Leases.{granted, lease_answer, lease_outcome, at_epoch, is_held_by, moved_in, without_lease, done_answer, done_outcome, abandon_answer, abandon_outcome, revoke_outcome}
-use Rattle.lrc_book.specs.States.{State, has_stripe, lease_of, online_at, mode_of, is_gone, is_down}
+use Rattle.lrc_book.specs.declared.kind.Kind.{Kind}
+use Rattle.lrc_book.specs.Urgency.{next_of}
+use Rattle.lrc_stripes.specs.Stored.{StripeFragment}
+use Rattle.lrc_book.specs.Repairs.{needs, kind, is_beyond_repair}
+use Rattle.lrc_book.specs.Leases.{new_lease, with_lease, granted, lease_answer, lease_outcome, next_answer, next_outcome, at_epoch, is_held_by, moved_in, without_lease, done_answer, done_outcome, abandon_answer, abandon_outcome, revoke_outcome}
+use Rattle.lrc_book.specs.States.{State, has_stripe, lease_of, online_at, mode_of, is_active, is_draining, is_gone, is_down, load}
 use Rattle.lrc_book.specs.Placement.{chosen, with_home, place_next, placed}
 use Rattle.lrc_book.specs.Outcomes.{Outcome, refuse_if}
-use Rattle.lrc_book.specs.Steps.{with_stripe, without_stripe, place_answer, place_outcome, drop_outcome, fail_outcome, down_outcome, up_outcome, join_outcome, step}
+use Rattle.lrc_book.specs.Steps.{with_stripe, without_stripe, place_answer, place_outcome, drop_outcome, with_gone, without_upgrading, fail_outcome, down_outcome, up_outcome, drain_outcome, undrain_outcome, retire_outcome, join_outcome, would_lose, upgrade_answer, upgrade_outcome, is_the_domain, upgraded_outcome, step}
 use Rattle.lrc_book.specs.Choices.{AreChosen}
 use Rattle.lrc_book.specs.Changes.{held_at, with_placed, with_done, changed_by}
 
@@ -146,35 +150,90 @@ module _ (nodes : List NodeInfo) (st : State) (n : NodeNo) where
   unfolding up_outcome
   up-changed = node-cases nodes st _ (Up n) (is_none (node_at nodes n)) (not (is_down st n)) refl (λ r. refl)
 
+  drain-changed : (drain_outcome nodes st n).1 ≡ changed_by st (Drain n) (drain_outcome nodes st n).0
+  unfolding drain_outcome
+  drain-changed = node-cases nodes st _ (Drain n) (is_none (node_at nodes n)) (not (is_active (mode_of st n))) refl (λ r. refl)
+
+  undrain-changed : (undrain_outcome nodes st n).1 ≡ changed_by st (Undrain n) (undrain_outcome nodes st n).0
+  unfolding undrain_outcome
+  undrain-changed = node-cases nodes st _ (Undrain n) (is_none (node_at nodes n)) (not (is_draining (mode_of st n))) refl (λ r. refl)
+
+  retire-cases : (known wrong full : Bool) (r : Refusal)
+      → (refuse_if known refusal.UnknownNode st (refuse_if wrong refusal.WrongMode st (refuse_if full r st (Changed, with_gone st n)))).1
+      ≡ changed_by st (Retire n) (refuse_if known refusal.UnknownNode st (refuse_if wrong refusal.WrongMode st (refuse_if full r st (Changed, with_gone st n)))).0
+  retire-cases true wrong full r = refl
+  retire-cases false true full r = refl
+  retire-cases false false true r = refl
+  retire-cases false false false r = refl
+
+  retire-changed : (retire_outcome nodes st n).1 ≡ changed_by st (Retire n) (retire_outcome nodes st n).0
+  unfolding retire_outcome
+  retire-changed = retire-cases (is_none (node_at nodes n)) (not (is_draining (mode_of st n))) (nat_lt 0 (load st n)) (refusal.NotEmpty (load st n))
+
   join-changed : (join_outcome nodes st n).1 ≡ changed_by st (Join n) (join_outcome nodes st n).0
   unfolding join_outcome
   join-changed = node-cases nodes st _ (Join n) (is_none (node_at nodes n)) (not (is_gone (mode_of st n))) refl (λ r. refl)
+
+module _ (nodes : List NodeInfo) (st : State) (u : UpgradeNo) where
+  upgrade-cases : (known : Bool) (upgrading : Option UpgradeNo) (lost : Option StripeNo)
+      → (refuse_if known refusal.UnknownDomain st (upgrade_answer st u upgrading lost)).1 ≡ changed_by st (Upgrade u) (refuse_if known refusal.UnknownDomain st (upgrade_answer st u upgrading lost)).0
+  upgrade-cases true upgrading lost = refl
+  upgrade-cases false (Some v) lost = refl
+  upgrade-cases false None (Some s) = refl
+  upgrade-cases false None None = refl
+
+  upgrade-changed : (upgrade_outcome nodes st u).1 ≡ changed_by st (Upgrade u) (upgrade_outcome nodes st u).0
+  unfolding upgrade_outcome
+  upgrade-changed = upgrade-cases (not (has_domain nodes u)) st.upgrading (would_lose nodes st u)
+
+  upgraded-cases : (known other : Bool)
+      → (refuse_if known refusal.UnknownDomain st (refuse_if other refusal.NotUpgrading st (Changed, without_upgrading st))).1
+      ≡ changed_by st (Upgraded u) (refuse_if known refusal.UnknownDomain st (refuse_if other refusal.NotUpgrading st (Changed, without_upgrading st))).0
+  upgraded-cases true other = refl
+  upgraded-cases false true = refl
+  upgraded-cases false false = refl
+
+  upgraded-changed : (upgraded_outcome nodes st u).1 ≡ changed_by st (Upgraded u) (upgraded_outcome nodes st u).0
+  unfolding upgraded_outcome
+  upgraded-changed = upgraded-cases (not (has_domain nodes u)) (not (is_the_domain u st.upgrading))
 
 module _ (nodes : List NodeInfo) (past : List Entry) (st : State) (session : SessionNo) (s : StripeNo) (f : Fragment) where
   IsToldBy : Command → Outcome → Type 0
   IsToldBy c o = o.1 ≡ changed_by st c o.0
 
-  needed-changed : (needed beyond : Bool) (seat : Option Seat)
-      → IsToldBy (Lease s f) (refuse_if (not needed) refusal.NotNeeded st (refuse_if beyond refusal.Unrecoverable st (granted nodes past st session s f seat)))
-  unfolding IsToldBy
-  needed-changed false beyond seat = refl
-  needed-changed true true seat = refl
-  needed-changed true false (Some seat) = refl
-  needed-changed true false None = refl
+  -- the command is one that adds the lease that is granted, and changes nothing where none is
+  record Grants (c : Command) : Type 0 where
+    granting : (lease : LeaseRecord) (k : Kind) → changed_by st c (Granted lease k) ≡ with_lease st lease
+    refusing : (r : Refusal) → changed_by st c (Refused r) ≡ st
 
-  answer-told : (o : Option LeaseRecord) → IsToldBy (Lease s f) (lease_answer nodes past st session s f o)
-  unfolding IsToldBy
-  answer-told (Some lease) = refl
-  answer-told None = needed-changed (needs nodes st s f) (is_beyond_repair nodes st s f) (chosen nodes st s f)
+  module _ (c : Command) (grants : Grants c) where
+    needed-changed : (needed beyond : Bool) (seat : Option Seat)
+        → IsToldBy c (refuse_if (not needed) refusal.NotNeeded st (refuse_if beyond refusal.Unrecoverable st (granted nodes past st session s f seat)))
+    unfolding IsToldBy
+    needed-changed false beyond seat = sym (grants.refusing refusal.NotNeeded)
+    needed-changed true true seat = sym (grants.refusing refusal.Unrecoverable)
+    needed-changed true false (Some seat) = sym (grants.granting (new_lease past session s f seat) (kind nodes st s f))
+    needed-changed true false None = sym (grants.refusing (refusal.NoLawfulNode f))
 
-  lease-cases : (there : Bool) (o : Option LeaseRecord) → IsToldBy (Lease s f) (refuse_if (not there) refusal.UnknownStripe st (lease_answer nodes past st session s f o))
-  unfolding IsToldBy
-  lease-cases false o = refl
-  lease-cases true o = answer-told o
+    answer-told : (o : Option LeaseRecord) → IsToldBy c (lease_answer nodes past st session s f o)
+    unfolding IsToldBy
+    answer-told (Some lease) = sym (grants.refusing (refusal.AlreadyLeased lease.epoch))
+    answer-told None = needed-changed (needs nodes st s f) (is_beyond_repair nodes st s f) (chosen nodes st s f)
+
+    lease-cases : (there : Bool) (o : Option LeaseRecord) → IsToldBy c (refuse_if (not there) refusal.UnknownStripe st (lease_answer nodes past st session s f o))
+    unfolding IsToldBy
+    lease-cases false o = sym (grants.refusing refusal.UnknownStripe)
+    lease-cases true o = answer-told o
+
+    lease-by : (lease_outcome nodes past st session s f).1 ≡ changed_by st c (lease_outcome nodes past st session s f).0
+    unfolding IsToldBy lease_outcome
+    lease-by = lease-cases (has_stripe st s) (lease_of st s f)
 
   lease-changed : (lease_outcome nodes past st session s f).1 ≡ changed_by st (Lease s f) (lease_outcome nodes past st session s f).0
-  unfolding IsToldBy lease_outcome
-  lease-changed = lease-cases (has_stripe st s) (lease_of st s f)
+  lease-changed = lease-by (Lease s f) (record { granting = λ lease k. refl; refusing = λ r. refl })
+
+  next-one : (lease_outcome nodes past st session s f).1 ≡ changed_by st Next (lease_outcome nodes past st session s f).0
+  next-one = lease-by Next (record { granting = λ lease k. refl; refusing = λ r. refl })
 
   module _ (e : ℕ) where
     held-changed : (mine online : Bool) (lease : LeaseRecord) → lease_of st s f ≡ Some lease
@@ -232,15 +291,30 @@ module _ (nodes : List NodeInfo) (past : List Entry) (st : State) (session : Ses
   unfolding IsToldBy revoke_outcome
   revoke-changed = revoke-cases (has_stripe st s) (is_none (lease_of st s f))
 
+module _ (nodes : List NodeInfo) (past : List Entry) (st : State) (session : SessionNo) where
+  next-cases : (o : Option StripeFragment) → (next_answer nodes past st session o).1 ≡ changed_by st Next (next_answer nodes past st session o).0
+  next-cases (Some p) = next-one nodes past st session p.0 p.1
+  next-cases None = refl
+
+  next-changed : (next_outcome nodes past st session).1 ≡ changed_by st Next (next_outcome nodes past st session).0
+  unfolding next_outcome
+  next-changed = next-cases (next_of nodes st)
+
 -- the state that a step leaves is told by the command and the reply
 pub step-changed : (nodes : List NodeInfo) (past : List Entry) (st : State) (session : SessionNo) (c : Command) → (step nodes past st session c).1 ≡ changed_by st c (step nodes past st session c).0
 step-changed nodes past st session (Place s) = place-changed nodes st s (has_stripe st s) refl
 step-changed nodes past st session (Drop s) = drop-changed st s
 step-changed nodes past st session (Lease s f) = lease-changed nodes past st session s f
+step-changed nodes past st session Next = next-changed nodes past st session
 step-changed nodes past st session (Done s f e) = done-changed nodes past st session s f e
 step-changed nodes past st session (Abandon s f e) = abandon-changed nodes past st session s f e
 step-changed nodes past st session (Revoke s f) = revoke-changed nodes past st session s f
 step-changed nodes past st session (Fail n) = fail-changed nodes st n
 step-changed nodes past st session (Down n) = down-changed nodes st n
 step-changed nodes past st session (Up n) = up-changed nodes st n
+step-changed nodes past st session (Drain n) = drain-changed nodes st n
+step-changed nodes past st session (Undrain n) = undrain-changed nodes st n
+step-changed nodes past st session (Retire n) = retire-changed nodes st n
 step-changed nodes past st session (Join n) = join-changed nodes st n
+step-changed nodes past st session (Upgrade u) = upgrade-changed nodes st u
+step-changed nodes past st session (Upgraded u) = upgraded-changed nodes st u
