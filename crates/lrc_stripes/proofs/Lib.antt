@@ -1,3 +1,4 @@
+pub mod ListLemmas
 pub mod MaskLemmas
 pub mod SiteLemmas
 pub mod RowLemmas
@@ -7,6 +8,7 @@ pub mod LevelLemmas
 pub mod HomelessLemmas
 pub mod WalkLemmas
 pub mod RankLemmas
+pub mod RepairLemmas
 pub mod PlaceLemmas
 pub mod UpgradeLemmas
 pub mod SearchLemmas

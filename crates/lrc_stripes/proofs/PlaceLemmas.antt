@@ -1,9 +1,8 @@
 -- The places that the rows list for a node are all its homes, in rising order.
-use Rattle.std.proofs.Common.{◌≡◌, ℕ, zero, suc, ◌+◌, ◌-◌, ◌<◌, ◌⊎◌, inl, inr, Bool, true, false, nat_eq, ltb, List, [], ◌∷◌, ◌++◌, length, map, filter, IsTrue, arith, refl, subst}
+use Rattle.std.proofs.Common.{◌≡◌, ℕ, ◌<◌, inl, inr, Bool, true, false, nat_eq, ltb, List, [], ◌∷◌, filter, IsTrue, arith, refl, subst}
 use Rattle.std.specs.List.{All, AllPairs, Contains, flat_map}
 use Rattle.std.specs.Option.{option_map_or}
-use Rattle.std.proofs.lemmas.Bool.{cases_Bool, cases_lt, eq-eqb, ne_eqb, eqb-true, lt-ltb, or_left, or_right, and_from}
-use Rattle.std.proofs.lemmas.List.{get_or-map, get_or_append_left, get_or-append_right, length-map, length-append}
+use Rattle.std.proofs.lemmas.Bool.{cases_Bool, eq-eqb, ne_eqb, eqb-true, lt-ltb, or_left, or_right, and_from}
 use Rattle.std.proofs.lemmas.List.Elements.{All-nil, All-append, All-map, All-weaker, All-contains, filter_passes, Contains-append_left, Contains-append_right, Contains-append_cases, Contains-get_or}
 use Rattle.std.proofs.lemmas.List.Kept.{AllPairs-filter}
 use Rattle.lrc_code.specs.declared.codes.Code.TheVariants.{Wide}
@@ -16,55 +15,10 @@ use Rattle.lrc_stripes.specs.declared.row.Row.{Row}
 use Rattle.lrc_stripes.specs.Stored.{StripeFragment, comes_before, AreHomesOn}
 use Rattle.lrc_stripes.specs.Tables.{Table, stored_in, row_at, row_homes}
 use Rattle.lrc_stripes.specs.Rows.{sits_on, row_places, places_from, IsRising}
+use Rattle.lrc_stripes.proofs.ListLemmas.{AllPairs-map, AllPairs-append, Contains-filter, Contains-map}
 use Rattle.lrc_stripes.proofs.MaskLemmas.{fragment-number}
 use Rattle.lrc_stripes.proofs.RowLemmas.{AreAbove}
 use Rattle.lrc_stripes.proofs.WalkLemmas.{places_from-first}
-
--- ---- lists
-
-AllPairs-map : {X Y : Type 0} (R : Y → Y → Type 0) (f : X → Y) (xs : List X) → AllPairs (λ a b. R (f a) (f b)) xs → AllPairs R (map f xs)
-AllPairs-map R f [] all i j d below within = absurd (omega (arith, within))
-AllPairs-map {X} {Y} R f (x ∷ xs) all i j d below within =
-    let w : j < length (x ∷ xs) = omega (arith, within, length-map (x ∷ xs) f) in
-    rw (get_or-map f (x ∷ xs) i x d (omega (arith, below, w)), get_or-map f (x ∷ xs) j x d w) (all i j x below w)
-
--- two lists in turn, the one before the other
-AllPairs-append : {X : Type 0} (R : X → X → Type 0) (xs ys : List X) → AllPairs R xs → AllPairs R ys → All (λ x. All (R x) ys) xs → AllPairs R (xs ++ ys)
-AllPairs-append R xs ys first second across i j d below within =
-    let w : j < length xs + length ys = rw (← length-append xs ys) within in
-    elim (cases_lt j (length xs)) [
-      | inl left ↦ rw (get_or_append_left xs ys d i (omega (arith, below, left)), get_or_append_left xs ys d j left) (first i j d below left)
-      | inr right ↦ rw (get_or-append_right xs ys (length xs) j d refl right) (elim (cases_lt i (length xs)) [
-        | inl here ↦ rw (get_or_append_left xs ys d i here) (across i d here (j - length xs) d (omega (arith, w, right)))
-        | inr there ↦ rw (get_or-append_right xs ys (length xs) i d refl there) (second (i - length xs) (j - length xs) d (omega (arith, below, there)) (omega (arith, w, right)))
-      ])
-    ]
-
-Contains-here : {X : Type 0} (x : X) (xs : List X) → Contains (x ∷ xs) x
-Contains-here x xs = (0, omega arith, refl)
-
-Contains-cons_cases : {X : Type 0} (x y : X) (xs : List X) → Contains (x ∷ xs) y → (x ≡ y) ⊎ Contains xs y
-Contains-cons_cases x y xs (zero, within, at) = inl at
-Contains-cons_cases x y xs (suc k, within, at) = inr (k, omega (arith, within), at)
-
-Contains-later : {X : Type 0} (x y : X) (xs : List X) → Contains xs y → Contains (x ∷ xs) y
-Contains-later x y xs (k, within, at) = (suc k, omega (arith, within), at)
-
-Contains-filter : {X : Type 0} (p : X → Bool) (xs : List X) (x : X) → p x ≡ true → Contains xs x → Contains (filter p xs) x
-Contains-filter p [] x passes among = absurd (omega (arith, among.1))
-Contains-filter p (y ∷ ys) x passes among = elim (Contains-cons_cases y x ys among) [
-  | inl here ↦ let hit : p y ≡ true = rw here passes in rw hit (subst (λ z. Contains (y ∷ filter p ys) z) here (Contains-here y (filter p ys)))
-  | inr later ↦
-      let rest = Contains-filter p ys x passes later in
-      elim (cases_Bool (p y)) [ inl hit ↦ rw hit (Contains-later y x (filter p ys) rest) | inr miss ↦ rw miss rest ]
-]
-
-Contains-map : {X Y : Type 0} (f : X → Y) (xs : List X) (x : X) → Contains xs x → Contains (map f xs) (f x)
-Contains-map f [] x among = absurd (omega (arith, among.1))
-Contains-map f (y ∷ ys) x among = elim (Contains-cons_cases y x ys among) [
-  | inl here ↦ subst (λ z. Contains (f y ∷ map f ys) (f z)) here (Contains-here (f y) (map f ys))
-  | inr later ↦ Contains-later (f y) (f x) (map f ys) (Contains-map f ys x later)
-]
 
 -- ---- fragments
 

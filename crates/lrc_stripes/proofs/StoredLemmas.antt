@@ -16,11 +16,11 @@ use Rattle.lrc_topology.specs.declared.NodeInfo.{NodeInfo}
 use Rattle.lrc_topology.specs.declared.seat.Seat.{Seat}
 use Rattle.lrc_stripes.specs.declared.row.Row.{Row}
 use Rattle.lrc_stripes.specs.declared.row.Site.{Site}
-use Rattle.lrc_stripes.specs.declared.level.Level.{Level}
-use Rattle.lrc_stripes.specs.Levels.{homeless_in, missing_in, missing_if, level_by, level_if}
+use Rattle.lrc_stripes.specs.Levels.{missing_in, missing_if, level_if}
 use Rattle.lrc_stripes.specs.Stored.{Stored, empty, with_stripe, without_stripe, with_home, with_offline, with_draining, with_spare, has_node, has_slot, missing_shown, level_shown}
 use Rattle.lrc_stripes.specs.Tables.{Table, stored_in, site_at, online_in, draining_in, row_at, row_homes}
 use Rattle.lrc_stripes.specs.Rows.{site_of, site_place, place_of, IsRising}
+use Rattle.lrc_stripes.specs.RankedRows.{row_level}
 use Rattle.lrc_stripes.proofs.SiteLemmas.{nodes-at_first, online-at_first, draining-at_first, nodes-set, said-set, said-kept, node_at-sites}
 use Rattle.lrc_stripes.proofs.RowLemmas.{row_at-insert, row_at-remove, row_at-set}
 
@@ -163,10 +163,9 @@ pub missing_shown-absent : (t : Table) (s : StripeNo) → row_at t.rows s ≡ No
 unfolding stored_in missing_if
 missing_shown-absent t s none = rw none refl
 
-pub level_shown-there : (t : Table) (s : StripeNo) (r : Row) (level : Level) (homeless missing : FragmentSet) → row_at t.rows s ≡ Some r → homeless ≡ homeless_in Wide (row_homes (Some r)) → missing ≡ missing_in Wide (online_in t.sites) (row_homes (Some r))
-    → level ≡ level_by Wide homeless missing → level_shown (stored_in t) s ≡ Some level
-unfolding stored_in level_if
-level_shown-there t s r level homeless missing found none gone is = rw found (ap₂ (λ (h m : FragmentSet). Some (level_by Wide h m)) (sym none) (sym gone) ∙ ap (λ (l : Level). Some l) (sym is))
+pub level_shown-there : (t : Table) (s : StripeNo) (r : Row) → row_at t.rows s ≡ Some r → level_shown (stored_in t) s ≡ Some (row_level t.sites r)
+unfolding stored_in level_if row_level
+level_shown-there t s r found = rw found refl
 
 pub level_shown-absent : (t : Table) (s : StripeNo) → row_at t.rows s ≡ None → level_shown (stored_in t) s ≡ None
 unfolding stored_in level_if

@@ -1,12 +1,12 @@
 ghost use Rattle.std.specs.Prelude.{◌≡◌, ◌≤◌, ◌↔◌, IsTrue, IsFalse, IfOk, IfErr, IfSome, IfNone, OnErr, OnOk, IsOk, None, Some};
 ghost use Rattle.lrc_code.specs.declared.codes.Code.TheVariants.{Wide};
 ghost use Rattle.lrc_code.specs.declared.fault.Fault.TheVariants.{OutOfMemory};
-ghost use Rattle.lrc_stripes.specs.Stored.{empty, with_stripe, without_stripe, with_home, with_offline, with_draining, with_spare, missing_shown, level_shown, has_node, has_slot, HasNoHome, AreHomesOn};
+ghost use Rattle.lrc_stripes.specs.Stored.{empty, with_stripe, without_stripe, with_home, with_offline, with_draining, with_spare, missing_shown, level_shown, has_node, has_slot, HasNoHome, AreHomesOn, AreWork, AreAtRisk};
 ghost use Rattle.lrc_stripes.specs.Tables.{stored_in};
 ghost use Rattle.lrc_stripes.specs.Upgrades.{is_lost_to, IsFirstLostTo};
 
 use crate::row::{Row, Site};
-use crate::{HomesOn, Level, Seat, losses, search, upgrades};
+use crate::{AtRisk, HomesOn, Level, Seat, Work, losses, search, upgrades};
 use lrc_code::{Fault, Fragment, LossMask, NodeNo, StripeNo, UpgradeNo};
 use lrc_topology::Topology;
 use std::alloc::Global;
@@ -157,8 +157,7 @@ impl Stripes {
         ensures { result ≡ level_shown (stored_in self.now) stripe }
     {
         let row = search::row(self.rows.as_slice(), stripe)?;
-        let missing = losses::missing(self.sites.as_slice(), row);
-        Some(Level::of(losses::homeless(row), missing))
+        Some(losses::level(self.sites.as_slice(), row))
     }
 
     /// The stripe of the least number that is recoverable now, and would not be with the nodes of this upgrade domain
@@ -193,6 +192,20 @@ impl Stripes {
         ensures { AreHomesOn (stored_in self.now) node result }
     {
         HomesOn::new(self.rows.as_slice(), node)
+    }
+
+    /// The stripes with a fragment that needs a lease, in the order of repair: by rank, and then by number.
+    pub fn work(&self) -> Work<'_>
+        ensures { AreWork (stored_in self.now) result }
+    {
+        Work::new(self.sites.as_slice(), self.rows.as_slice())
+    }
+
+    /// The stripes that are not whole and their levels, in the order of repair: by rank, and then by number.
+    pub fn at_risk(&self) -> AtRisk<'_>
+        ensures { AreAtRisk (stored_in self.now) result }
+    {
+        AtRisk::new(self.sites.as_slice(), self.rows.as_slice())
     }
 
     /// Whether the store has a node of this number.

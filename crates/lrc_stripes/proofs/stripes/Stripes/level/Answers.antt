@@ -8,5 +8,5 @@ returns-in_err-row c =
 
 pub returns : goal.returns
 returns c =
-    rw (← c.self.view_is) (sym (level_shown-there _ c.args.stripe c.in_ok-row.row.now c.of.result _ _ (sym (rw c.as_slice.ensures.value at c.in_ok-row.ensures))
-    c.homeless.ensures (rw c.as_slice-2.ensures.value at c.missing-missing.ensures) c.of.ensures))
+    rw (c.level.ensures, c.as_slice-2.ensures.value, ← c.self.view_is)
+    (sym (level_shown-there _ c.args.stripe c.in_ok-row.row.now (sym (rw c.as_slice.ensures.value at c.in_ok-row.ensures))))
