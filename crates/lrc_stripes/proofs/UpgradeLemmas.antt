@@ -1,7 +1,7 @@
 -- The stripes that become unrecoverable while an upgrade domain is offline.
-use Rattle.std.proofs.Common.{◌≡◌, ℕ, ◌<◌, ◌≤◌, inl, inr, Bool, true, false, not, ◌&&◌, if◌then◌else◌, nat_eq, List, [], ◌∷◌, find, map, Option, Some, None, is_some, is_none, option_map, IsFalse, IfSome, IfNone, arith, refl, sym, ap, ap₂, subst, ◌∙◌}
+use Rattle.std.proofs.Common.{◌≡◌, ℕ, ◌<◌, ◌≤◌, inl, inr, Bool, true, false, not, ◌&&◌, nat_eq, List, [], ◌∷◌, find, map, Option, Some, None, is_some, is_none, option_map, IsFalse, IfSome, IfNone, arith, refl, sym, ap, ap₂, subst, ◌∙◌}
 use Rattle.std.proofs.Math.Path.{fun_ext}
-use Rattle.std.specs.Option.{option_map_or, option_and_then}
+use Rattle.std.specs.Option.{option_map_or}
 use Rattle.std.proofs.lemmas.Bool.{cases_Bool, eq-eqb, ne_eqb}
 use Rattle.std.proofs.lemmas.Option.{same_Some}
 use Rattle.lrc_code.specs.declared.numbers.StripeNo.{StripeNo}
@@ -16,25 +16,25 @@ use Rattle.lrc_stripes.specs.declared.row.Site.{Site}
 use Rattle.lrc_stripes.specs.Levels.{missing_in}
 use Rattle.lrc_stripes.specs.Tables.{Table, stored_in, row_at, row_homes, site_at, online_in}
 use Rattle.lrc_stripes.specs.Upgrades.{is_in_domain, is_lost_to, IsFirstLostTo}
-use Rattle.lrc_stripes.specs.Rows.{IsRising, stays_online, domain_online, row_lost_to}
+use Rattle.lrc_stripes.specs.Rows.{IsRising, stays_online, domain_online, site_domain, is_safe_row, row_lost_to, first_lost}
 use Rattle.lrc_stripes.proofs.SiteLemmas.{node_at-sites}
 use Rattle.lrc_stripes.proofs.RowLemmas.{AreAbove, row_at-above, AreAbove-lower}
 
 -- ---- one fragment
 
--- by the node of its home
-abbrev domain_of : Option Site → Option UpgradeNo
-domain_of o = option_and_then (λ (x : Site). if x.is_offline then None else Some x.node.upgrade) o
-
-missing-site : (o : Option Site) → not (option_map_or (λ (x : Site). not x.is_offline) o false) ≡ is_none (domain_of o)
+missing-site : (o : Option Site) → not (option_map_or (λ (x : Site). not x.is_offline) o false) ≡ is_none (site_domain o)
 missing-site None = refl
 missing-site (Some x) = elim (cases_Bool x.is_offline) [
   | inl off ↦ rw off refl
   | inr on ↦ rw on refl
 ]
 
+-- where the domain, if it is online in one, is this one
+abbrev pub only_in : UpgradeNo → Option UpgradeNo → Bool
+only_in u o = option_map_or (λ other. same_upgrade other u) o true
+
 missing-site_without : (u : UpgradeNo) (o : Option Site)
-    → not (option_map_or (λ (x : Site). not x.is_offline && not (same_upgrade x.node.upgrade u)) o false) ≡ option_map_or (λ other. same_upgrade other u) (domain_of o) true
+    → not (option_map_or (λ (x : Site). not x.is_offline && not (same_upgrade x.node.upgrade u)) o false) ≡ only_in u (site_domain o)
 missing-site_without u None = refl
 missing-site_without u (Some x) = elim (cases_Bool x.is_offline) [
   | inl off ↦ rw off refl
@@ -44,42 +44,50 @@ missing-site_without u (Some x) = elim (cases_Bool x.is_offline) [
   ]
 ]
 
--- a fragment is missing exactly where its home is online in no domain
-pub missing-domain : (sites : List Site) (home : Option Seat) → option_map_or (λ seat. not (online_in sites seat.node)) home true ≡ is_none (domain_online sites home)
-missing-domain sites None = refl
-missing-domain sites (Some seat) = missing-site (site_at sites seat.node)
+module _ (sites : List Site) where
+  -- a fragment is missing exactly where its home is online in no domain
+  pub missing-domain : (home : Option Seat) → option_map_or (λ seat. not (online_in sites seat.node)) home true ≡ is_none (domain_online sites home)
+  missing-domain None = refl
+  missing-domain (Some seat) = missing-site (site_at sites seat.node)
 
--- and with a domain offline where it is online in no other
-pub missing-domain_without : (sites : List Site) (u : UpgradeNo) (home : Option Seat)
-    → option_map_or (λ seat. not (stays_online sites u seat.node)) home true ≡ option_map_or (λ other. same_upgrade other u) (domain_online sites home) true
-missing-domain_without sites u None = refl
-missing-domain_without sites u (Some seat) = missing-site_without u (site_at sites seat.node)
+  -- and with a domain offline where it is online in no other
+  pub missing-domain_without : (u : UpgradeNo) (home : Option Seat)
+      → option_map_or (λ seat. not (stays_online sites u seat.node)) home true ≡ only_in u (domain_online sites home)
+  missing-domain_without u None = refl
+  missing-domain_without u (Some seat) = missing-site_without u (site_at sites seat.node)
 
 -- ---- one stripe
 
 -- of two masks
 module _ (sites : List Site) (u : UpgradeNo) (r : Row) (now upgraded : ℕ)
-    (before : bits_set now ≡ missing_in Wide (online_in sites) (row_homes (Some r))) (after : bits_set upgraded ≡ missing_in Wide (stays_online sites u) (row_homes (Some r)))
+    (before : bits_set now ≡ missing_in Wide (online_in sites) (row_homes (Some r)))
+    (after : bits_set upgraded ≡ missing_in Wide (stays_online sites u) (row_homes (Some r)))
     (a : Bool) (first : a ≡ is_recoverable Wide (bits_set now)) where
   lost_row-is : row_lost_to sites u r ≡ (a && not (is_recoverable Wide (bits_set upgraded)))
   unfolding row_lost_to
   lost_row-is = rw first (sym (ap₂ (λ (m n : FragmentSet). is_recoverable Wide m && not (is_recoverable Wide n)) before after))
 
+  lost_row-by : (b : Bool) → a ≡ b → row_lost_to sites u r ≡ (b && not (is_recoverable Wide (bits_set upgraded)))
+  lost_row-by b e = lost_row-is ∙ ap (λ (x : Bool). x && not (is_recoverable Wide (bits_set upgraded))) e
+
   pub lost_row-safe : (b : Bool) → a ≡ true → b ≡ is_recoverable Wide (bits_set upgraded) → not b ≡ row_lost_to sites u r
-  lost_row-safe b safe second = ap not second ∙ sym (lost_row-is ∙ ap (λ (x : Bool). x && not (is_recoverable Wide (bits_set upgraded))) safe)
+  lost_row-safe b safe second = ap not second ∙ sym (lost_row-by true safe)
 
   pub lost_row-unsafe : a ≡ false → a ≡ row_lost_to sites u r
-  lost_row-unsafe unsafe = unsafe ∙ sym (lost_row-is ∙ ap (λ (x : Bool). x && not (is_recoverable Wide (bits_set upgraded))) unsafe)
+  lost_row-unsafe unsafe = unsafe ∙ sym (lost_row-by false unsafe)
 
-online-site : (u : UpgradeNo) (o : Option Site)
-    → (option_map_or (λ (x : Site). not x.is_offline) o false && not (option_map_or (λ m. same_upgrade m.upgrade u) (option_map (λ (x : Site). x.node) o) false))
-    ≡ option_map_or (λ (x : Site). not x.is_offline && not (same_upgrade x.node.upgrade u)) o false
-online-site u None = refl
-online-site u (Some x) = refl
+module _ (u : UpgradeNo) where
+  online-site : (o : Option Site)
+      → (option_map_or (λ (x : Site). not x.is_offline) o false
+      && not (option_map_or (λ m. same_upgrade m.upgrade u) (option_map (λ (x : Site). x.node) o) false))
+      ≡ option_map_or (λ (x : Site). not x.is_offline && not (same_upgrade x.node.upgrade u)) o false
+  online-site None = refl
+  online-site (Some x) = refl
 
--- the nodes that are online with the domain offline
-online-upgrade : (sites : List Site) (u : UpgradeNo) (n : NodeNo) → (online_in sites n && not (is_in_domain (map (λ (x : Site). x.node) sites) u n)) ≡ stays_online sites u n
-online-upgrade sites u n = rw (node_at-sites sites n) (online-site u (site_at sites n))
+  -- the nodes that are online with the domain offline
+  online-upgrade : (sites : List Site) (n : NodeNo)
+      → (online_in sites n && not (is_in_domain (map (λ (x : Site). x.node) sites) u n)) ≡ stays_online sites u n
+  online-upgrade sites n = rw (node_at-sites sites n) (online-site (site_at sites n))
 
 -- ---- the first of the rows
 
@@ -104,17 +112,23 @@ module _ (p : Row → Bool) where
 
   -- no row above a number is that of a stripe up to it
   above-passes : (n : ℕ) (rows : List Row) (s : StripeNo) → s.value ≤ n → AreAbove n rows → passes rows s ≡ false
-  above-passes n rows s le above = ap (λ (o : Option Row). option_map_or p o false) (row_at-above s rows (AreAbove-lower s.value n rows le above))
+  above-passes n rows s le above =
+      ap (λ (o : Option Row). option_map_or p o false) (row_at-above s rows (AreAbove-lower s.value n rows le above))
+
+  found-here : (r : Row) (rows : List Row) → IsRising (r ∷ rows) → p r ≡ true → IsFirst (r ∷ rows) r.stripe
+  found-here r rows rising hit = record {
+    found = rw (eq-eqb r.stripe.value r.stripe.value refl) hit;
+    first = λ t lower.
+        let apart = ne_eqb r.stripe.value t.value (λ same. omega (arith, same, lower)) in
+        rw apart (above-passes r.stripe.value rows t (omega (arith, lower)) rising.0);
+  }
 
   found-first : (rows : List Row) → IsRising rows → (q : Row) → find p rows ≡ Some q → IsFirst rows q.stripe
   found-first [] rising q found = absurd (let e : None ≡ Some q = found in cc)
   found-first (r ∷ rows) rising q found = elim (cases_Bool (p r)) [
     | inl hit ↦
         let e : Some r ≡ Some q = rw hit at found in
-        subst (λ (x : Row). IsFirst (r ∷ rows) x.stripe) (same_Some r q e) (record {
-          found = rw (eq-eqb r.stripe.value r.stripe.value refl) hit;
-          first = λ t lower. rw (ne_eqb r.stripe.value t.value (λ same. omega (arith, same, lower))) (above-passes r.stripe.value rows t (omega (arith, lower)) rising.0);
-        })
+        subst (λ (x : Row). IsFirst (r ∷ rows) x.stripe) (same_Some r q e) (found-here r rows rising hit)
     | inr miss ↦
         let rest = found-first rows rising.1 q (rw miss at found) in
         let apart : r.stripe.value ≡ q.stripe.value → ⊥ = λ same.
@@ -134,8 +148,7 @@ module _ (p : Row → Bool) where
 
 module _ (t : Table) (u : UpgradeNo) where
   lost-at : (o : Option Row)
-      → (is_some o && (is_recoverable Wide (missing_in Wide (online_in t.sites) (row_homes o)) && not (is_recoverable Wide (missing_in Wide (stays_online t.sites u) (row_homes o)))))
-      ≡ option_map_or (row_lost_to t.sites u) o false
+      → (is_some o && (is_safe_row (online_in t.sites) o && not (is_safe_row (stays_online t.sites u) o))) ≡ option_map_or (row_lost_to t.sites u) o false
   unfolding row_lost_to
   lost-at None = refl
   lost-at (Some r) = refl
@@ -143,24 +156,24 @@ module _ (t : Table) (u : UpgradeNo) where
   lost-passes : (s : StripeNo) → is_lost_to (stored_in t) u s ≡ passes (row_lost_to t.sites u) t.rows s
   unfolding stored_in is_lost_to
   lost-passes s =
-      ap (λ (online : NodeNo → Bool). is_some (row_at t.rows s)
-      && (is_recoverable Wide (missing_in Wide (online_in t.sites) (row_homes (row_at t.rows s))) && not (is_recoverable Wide (missing_in Wide online (row_homes (row_at t.rows s))))))
-      (fun_ext (λ n. online-upgrade t.sites u n))
-      ∙ lost-at (row_at t.rows s)
+      let o = row_at t.rows s in
+      ap (λ (online : NodeNo → Bool). is_some o && (is_safe_row (online_in t.sites) o && not (is_safe_row online o))) (fun_ext (λ n. online-upgrade u t.sites n)) ∙ lost-at o
 
-  first-at : IsRising t.rows → (o : Option Row) → find (row_lost_to t.sites u) t.rows ≡ o → IfSome (option_map (λ (r : Row). r.stripe) o) (IsFirstLostTo (stored_in t) u)
+  first-at : IsRising t.rows → (o : Option Row) → find (row_lost_to t.sites u) t.rows ≡ o
+      → IfSome (option_map (λ (r : Row). r.stripe) o) (IsFirstLostTo (stored_in t) u)
   first-at rising None e = tt
   first-at rising (Some r) e =
       let found = found-first (row_lost_to t.sites u) t.rows rising r e in
       record { lost = lost-passes r.stripe ∙ found.found; first = λ s lower. lost-passes s ∙ found.first s lower }
 
-  none-at : (o : Option Row) → find (row_lost_to t.sites u) t.rows ≡ o → IfNone (option_map (λ (r : Row). r.stripe) o) ((s : StripeNo) → IsFalse (is_lost_to (stored_in t) u s))
+  none-at : (o : Option Row) → find (row_lost_to t.sites u) t.rows ≡ o
+      → IfNone (option_map (λ (r : Row). r.stripe) o) ((s : StripeNo) → IsFalse (is_lost_to (stored_in t) u s))
   none-at None e = λ s. lost-passes s ∙ none-passes (row_lost_to t.sites u) t.rows e s
   none-at (Some r) e = tt
 
-  -- what the first row that row_lost_to answers
-  pub first_lost-found : IsRising t.rows → IfSome (option_map (λ (r : Row). r.stripe) (find (row_lost_to t.sites u) t.rows)) (IsFirstLostTo (stored_in t) u)
+  -- the first such row is of the first such stripe, and where there is no such row there is no such stripe
+  pub first_lost-found : IsRising t.rows → IfSome (first_lost t.sites u t.rows) (IsFirstLostTo (stored_in t) u)
   first_lost-found rising = first-at rising (find (row_lost_to t.sites u) t.rows) refl
 
-  pub first_lost-none : IfNone (option_map (λ (r : Row). r.stripe) (find (row_lost_to t.sites u) t.rows)) ((s : StripeNo) → IsFalse (is_lost_to (stored_in t) u s))
+  pub first_lost-none : IfNone (first_lost t.sites u t.rows) ((s : StripeNo) → IsFalse (is_lost_to (stored_in t) u s))
   first_lost-none = none-at (find (row_lost_to t.sites u) t.rows) refl

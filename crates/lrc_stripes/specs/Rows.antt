@@ -1,6 +1,6 @@
 -- Internal: no public clause reaches these definitions.
 -- The rows and the nodes as they are kept: where one stands, and what one says by itself.
-use Rattle.std.specs.Prelude.{ℕ, suc, ◌+◌, ◌<◌, ◌≤◌, Bool, false, not, ◌&&◌, if◌then◌else◌, nat_lt, List, [], ◌∷◌, length, ◌++◌, map, filter, drop, get_or, Option, Some, None, option_and_then}
+use Rattle.std.specs.Prelude.{ℕ, suc, ◌+◌, ◌<◌, ◌≤◌, Bool, false, not, ◌&&◌, if◌then◌else◌, nat_lt, List, [], ◌∷◌, length, ◌++◌, map, filter, drop, get_or, Option, Some, None, option_and_then, option_map, find}
 use Rattle.std.specs.Option.{option_map_or}
 use Rattle.std.specs.List.{AllByRecursion, list_any, flat_map}
 use Rattle.lrc_code.specs.declared.numbers.StripeNo.{StripeNo}
@@ -77,11 +77,22 @@ places_from n from (r ∷ rows) = row_places n from r ++ flat_map (row_places n 
 abbrev pub stays_online : List Site → UpgradeNo → NodeNo → Bool
 stays_online sites u n = option_map_or (λ x. not x.is_offline && not (same_upgrade x.node.upgrade u)) (site_at sites n) false
 
+-- the upgrade domain of a node, if that is online
+abbrev pub site_domain : Option Site → Option UpgradeNo
+site_domain o = option_and_then (λ x. if x.is_offline then None else Some x.node.upgrade) o
+
 -- the upgrade domain of a home's node, if that is online
 abbrev pub domain_online : List Site → Option Seat → Option UpgradeNo
-domain_online sites home = option_and_then (λ seat. option_and_then (λ x. if x.is_offline then None else Some x.node.upgrade) (site_at sites seat.node)) home
+domain_online sites home = option_and_then (λ seat. site_domain (site_at sites seat.node)) home
+
+-- with these nodes online, the missing fragments of the row are recoverable
+abbrev pub is_safe_row : (NodeNo → Bool) → Option Row → Bool
+is_safe_row online o = is_recoverable Wide (missing_in Wide online (row_homes o))
 
 -- the stripe of the row is recoverable, and would not be with the nodes of the domain offline
 unfoldable pub row_lost_to : List Site → UpgradeNo → Row → Bool
-row_lost_to sites u r =
-    is_recoverable Wide (missing_in Wide (online_in sites) (row_homes (Some r))) && not (is_recoverable Wide (missing_in Wide (stays_online sites u) (row_homes (Some r))))
+row_lost_to sites u r = is_safe_row (online_in sites) (Some r) && not (is_safe_row (stays_online sites u) (Some r))
+
+-- the stripe of the first such row
+abbrev pub first_lost : List Site → UpgradeNo → List Row → Option StripeNo
+first_lost sites u rows = option_map (λ r. r.stripe) (find (row_lost_to sites u) rows)

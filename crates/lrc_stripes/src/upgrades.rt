@@ -1,13 +1,13 @@
 //! Which stripe the upgrade of a domain would make unrecoverable.
 
-ghost use Rattle.std.specs.Prelude.{◌≡◌, Some, true, find, option_map};
+ghost use Rattle.std.specs.Prelude.{◌≡◌, Some, true};
 ghost use Rattle.std.specs.Option.{option_map_or};
 ghost use Rattle.lrc_code.specs.declared.codes.Code.TheVariants.{Wide};
 ghost use Rattle.lrc_code.specs.Losses.{bits_set};
 ghost use Rattle.lrc_code.specs.Numbers.{same_upgrade};
 ghost use Rattle.lrc_stripes.specs.Levels.{missing_in};
 ghost use Rattle.lrc_stripes.specs.Tables.{row_homes, online_in};
-ghost use Rattle.lrc_stripes.specs.Rows.{stays_online, domain_online, row_lost_to};
+ghost use Rattle.lrc_stripes.specs.Rows.{stays_online, domain_online, row_lost_to, first_lost};
 
 use crate::row::{Row, Site};
 use crate::{Seat, search};
@@ -42,7 +42,7 @@ impl Outlook {
 
 /// The first of the stripes that is recoverable, and would not be with the nodes of the domain offline.
 pub(crate) fn first_lost(sites: &[Site], rows: &[Row], domain: UpgradeNo) -> Option<StripeNo>
-    ensures { result ≡ option_map (λ r. r.stripe) (find (row_lost_to sites.now domain) rows.now) }
+    ensures { result ≡ first_lost sites.now domain rows.now }
 {
     let row = rows.iter().find(|row| is_lost_to(sites, domain, row))?;
     Some(row.stripe)

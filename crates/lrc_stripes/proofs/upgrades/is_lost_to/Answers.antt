@@ -3,9 +3,13 @@ use Rattle.lrc_stripes.proofs.upgrades.is_lost_to.Goals as goal
 
 pub returns-then-recoverable : goal.returns-then-recoverable
 returns-then-recoverable c =
-    lost_row-safe c.args.sites.now c.args.domain c.args.row.now _ _ c.of-outlook.ensures.now c.of-outlook.ensures.upgraded c.recoverable.result c.recoverable.ensures.value
-    c.recoverable-then-recoverable.result c.if-recoverable.true c.recoverable-then-recoverable.ensures.value
+    let masks = c.of-outlook.ensures in
+    let second = c.recoverable-then-recoverable in
+    lost_row-safe c.args.sites.now c.args.domain c.args.row.now _ _ masks.now masks.upgraded c.recoverable.result c.recoverable.ensures.value
+    second.result c.if-recoverable.true second.ensures.value
 
 pub returns-else-recoverable : goal.returns-else-recoverable
 returns-else-recoverable c =
-    lost_row-unsafe c.args.sites.now c.args.domain c.args.row.now _ _ c.of-outlook.ensures.now c.of-outlook.ensures.upgraded c.recoverable.result c.recoverable.ensures.value c.if-recoverable.false
+    let masks = c.of-outlook.ensures in
+    lost_row-unsafe c.args.sites.now c.args.domain c.args.row.now _ _ masks.now masks.upgraded c.recoverable.result c.recoverable.ensures.value
+    c.if-recoverable.false
