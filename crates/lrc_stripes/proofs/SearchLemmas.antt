@@ -72,4 +72,6 @@ module _ (rows : List Row) (s : StripeNo) (place : ℕ) (found : place ≡ place
     -- where another's row stands, there is none of the stripe
     pub row_at-other : IsRising rows → (r.stripe.value ≡ s.value → ⊥) → None ≡ row_at rows s
     row_at-other rising other =
-        none_there rows s (row_at rows s) refl (λ there. let own = row_at-place rows s r rising there in other (ap (λ (x : Row). x.stripe.value) at_place ∙ own.1))
+        none_there rows s (row_at rows s) refl (λ there.
+        let own = row_at-place rows s r rising there in
+        other (ap (λ (x : Row). x.stripe.value) at_place ∙ own.1))

@@ -148,7 +148,8 @@ module _ (p : Row → Bool) where
 
 module _ (t : Table) (u : UpgradeNo) where
   lost-at : (o : Option Row)
-      → (is_some o && (is_safe_row (online_in t.sites) o && not (is_safe_row (stays_online t.sites u) o))) ≡ option_map_or (row_lost_to t.sites u) o false
+      → (is_some o && (is_safe_row (online_in t.sites) o && not (is_safe_row (stays_online t.sites u) o)))
+      ≡ option_map_or (row_lost_to t.sites u) o false
   unfolding row_lost_to
   lost-at None = refl
   lost-at (Some r) = refl
@@ -157,7 +158,8 @@ module _ (t : Table) (u : UpgradeNo) where
   unfolding stored_in is_lost_to
   lost-passes s =
       let o = row_at t.rows s in
-      ap (λ (online : NodeNo → Bool). is_some o && (is_safe_row (online_in t.sites) o && not (is_safe_row online o))) (fun_ext (λ n. online-upgrade u t.sites n)) ∙ lost-at o
+      let same = fun_ext (λ n. online-upgrade u t.sites n) in
+      ap (λ (online : NodeNo → Bool). is_some o && (is_safe_row (online_in t.sites) o && not (is_safe_row online o))) same ∙ lost-at o
 
   first-at : IsRising t.rows → (o : Option Row) → find (row_lost_to t.sites u) t.rows ≡ o
       → IfSome (option_map (λ (r : Row). r.stripe) o) (IsFirstLostTo (stored_in t) u)

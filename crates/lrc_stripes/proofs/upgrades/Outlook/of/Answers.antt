@@ -26,14 +26,16 @@ loop-fragment-preserved c =
       now = elim c.if-is_none.branch [
         | then-is_none w ↦
             let hit = here ∙ w.if-is_none.true in
-            rw w.now-is (mask-next_true m i c.loop-fragment.now.bits w.with-now.result.bits _ number hit c.loop-fragment.invariant.now w.with-now.ensures)
+            let before = c.loop-fragment.invariant.now in
+            rw w.now-is (mask-next_true m i c.loop-fragment.now.bits w.with-now.result.bits _ number hit before w.with-now.ensures)
         | else-is_none w ↦ rw w.now-is (mask-next_false m i c.loop-fragment.now.bits (here ∙ w.if-is_none.false) c.loop-fragment.invariant.now)
       ];
       upgraded = elim c.if-is_missing_without.branch [
         | then-is_missing_without w ↦
             let hit = there ∙ w.if-is_missing_without.true in
             let before = c.loop-fragment.invariant.upgraded in
-            rw w.upgraded-is (mask-next_true n i c.loop-fragment.upgraded.bits w.with-upgraded.result.bits _ number hit before w.with-upgraded.ensures)
+            let so_far = c.loop-fragment.upgraded.bits in
+            rw w.upgraded-is (mask-next_true n i so_far w.with-upgraded.result.bits _ number hit before w.with-upgraded.ensures)
         | else-is_missing_without w ↦
             let miss = there ∙ w.if-is_missing_without.false in
             rw w.upgraded-is (mask-next_false n i c.loop-fragment.upgraded.bits miss c.loop-fragment.invariant.upgraded)

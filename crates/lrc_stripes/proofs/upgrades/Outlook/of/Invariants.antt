@@ -10,5 +10,6 @@ use Rattle.lrc_stripes.proofs.upgrades.Outlook.of.Given as goal
 abbrev pub invariant-loop-fragment : goal.invariant-loop-fragment
 invariant-loop-fragment l = record {
   now : (f : ℕ) → bits_set l.now.bits f ≡ (nat_lt f l.fragment-index && missing_in Wide (online_in l.sites) (row_homes (Some l.row)) f);
-  upgraded : (f : ℕ) → bits_set l.upgraded.bits f ≡ (nat_lt f l.fragment-index && missing_in Wide (stays_online l.sites l.domain) (row_homes (Some l.row)) f);
+  upgraded : (f : ℕ)
+      → bits_set l.upgraded.bits f ≡ (nat_lt f l.fragment-index && missing_in Wide (stays_online l.sites l.domain) (row_homes (Some l.row)) f);
 }
