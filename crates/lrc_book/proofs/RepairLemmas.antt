@@ -1,23 +1,36 @@
 -- From what a fragment is rebuilt, told by the mask of the missing fragments.
-use Rattle.std.proofs.Common.{◌≡◌, ℕ, ◌≤◌, Bool, true, false, not, ◌&&◌, if◌then◌else◌, nat_lt, eqb, List, Option, Some, None, refl, sym, ap, ◌∙◌, inl, inr, arith}
+use Rattle.std.proofs.Common.{◌≡◌, ℕ, ◌≤◌, Bool, true, false, not, ◌&&◌, if◌then◌else◌, nat_lt, eqb, lt-ltb, List, Option, Some, None, option_map, IsSomeAnd, refl, sym, ap, ap₂, ◌∙◌, subst, inl, inr, arith}
+use Rattle.std.specs.Option.{option_map_or}
 use Rattle.std.proofs.Math.Path.{fun_ext}
 use Rattle.std.proofs.lemmas.Bool.{cases_Bool, ltb-true, ltb-false}
 use Rattle.std.proofs.lemmas.Nat.Bits.{bit_at_above}
 use Rattle.std.proofs.lemmas.Option.{same_Some}
+use Rattle.std.proofs.lemmas.List.Elements.{All-contains}
 use Rattle.lrc_code.specs.declared.codes.Code.TheVariants.{Wide}
 use Rattle.lrc_code.specs.declared.losses.LossMask.{LossMask}
 use Rattle.lrc_code.specs.declared.numbers.StripeNo.{StripeNo}
+use Rattle.lrc_code.specs.declared.numbers.NodeNo.{NodeNo}
 use Rattle.lrc_code.specs.declared.numbers.Fragment.{Fragment}
 use Rattle.lrc_code.specs.Codes.{others}
 use Rattle.lrc_code.specs.Losses.{FragmentSet, bits_set, bits_of, is_recoverable, is_local, local_sources}
 use Rattle.lrc_code.proofs.BitsLemmas.{bits_set-bits_of, bits_of-below}
 use Rattle.lrc_topology.specs.declared.NodeInfo.{NodeInfo}
+use Rattle.lrc_topology.specs.declared.seat.Seat.{Seat}
+use Rattle.lrc_topology.specs.declared.seat.Held.{Held}
+use Rattle.lrc_topology.specs.Nodes.{node_at}
 use Rattle.lrc_stripes.specs.Levels.{homes_of, missing_if}
 use Rattle.lrc_book.specs.declared.kind.Kind.{Kind}
 use Rattle.lrc_book.specs.declared.kind.Kind.TheVariants.{Local, Global, Move}
-use Rattle.lrc_book.specs.States.{State, has_stripe, online_at, missing}
-use Rattle.lrc_book.specs.Repairs.{kind, is_global, is_safe, is_at_home}
-use Rattle.lrc_book.specs.Stores.{repair_of}
+use Rattle.lrc_stripes.specs.Tables.{stored_in}
+use Rattle.lrc_book.specs.declared.store.Store.{Store}
+use Rattle.lrc_book.specs.Goodness.{IsStanding}
+use Rattle.lrc_book.specs.States.{State, has_stripe, taken_seats, mode_of, is_draining, online_at, drains_at, missing}
+use Rattle.lrc_book.specs.Repairs.{kind, is_global, is_safe, is_at_home, needs}
+use Rattle.lrc_book.specs.Stores.{IsOf, repair_of}
+use Rattle.lrc_book.proofs.NodeLemmas.{member-node_at}
+use Rattle.lrc_book.proofs.StoredLemmas.{found-home}
+use Rattle.lrc_book.proofs.TakenLemmas.{home-seat}
+use Rattle.lrc_book.proofs.ClearLemmas.{home-kept}
 
 -- what is answered by whether the fragment is at home
 unfoldable from-home : List NodeInfo → State → StripeNo → Fragment → Bool → Option Kind
@@ -92,3 +105,25 @@ module _ (nodes : List NodeInfo) (st : State) (s : StripeNo) where
   pub unmasked : None ≡ missing_if (has_stripe st s) Wide (online_at nodes st) (homes_of st.homes s) → has_stripe st s ≡ false
   unfolding missing_if masked
   unmasked none = none-masked (has_stripe st s) none
+
+-- ---- which fragments need a lease
+
+module _ (st : State) (k : Store) (kept : IsOf st k) (s : StripeNo) (f : Fragment) where
+  drains-by : (n : NodeNo) (o : Option NodeInfo) (P : NodeInfo → Type 0) → node_at k.topology n ≡ o → IsSomeAnd o P → drains_at k.topology st n ≡ is_draining (mode_of st n)
+  drains-by n None P e some = absurd some
+  drains-by n (Some m) P e some =
+      ap (λ (o : Option NodeInfo). option_map_or (λ x. is_draining (mode_of st x.number)) o false) e ∙ ap (λ (x : NodeNo). is_draining (mode_of st x)) (sym (member-node_at k.topology n m e).1)
+
+  needs-by : (o : Option Seat) → homes_of st.homes s f.value ≡ o → needs k.topology st s f ≡ option_map_or (λ seat. drains_at k.topology st seat.node) o true
+  needs-by o is = ap₂ (λ (a : Bool) (p : Option Seat). a && option_map_or (λ seat. drains_at k.topology st seat.node) p true) (lt-ltb f.value 16 f.in_range) is
+
+  -- a fragment with a home needs one where the node is draining
+  pub needs-homed : (seat : Seat) → (stored_in k.stripes).homes s f.value ≡ Some seat → needs k.topology st s f ≡ is_draining (mode_of st seat.node)
+  needs-homed seat is =
+      let home = home-kept st k kept s f seat is in
+      let at = (found-home st s f.value home.0 home.1).0 in
+      let standing = All-contains (IsStanding k.topology st) (taken_seats st) home.0.seat kept.seated.standing (home-seat st home.0 at) in
+      needs-by (Some seat) (ap (option_map (λ (h : Held). h.seat)) home.1 ∙ ap (λ (a : Seat). Some a) home.2)
+      ∙ subst (λ (a : Seat). drains_at k.topology st a.node ≡ is_draining (mode_of st a.node)) home.2
+      (drains-by home.0.seat.node (node_at k.topology home.0.seat.node) _ refl standing)
+

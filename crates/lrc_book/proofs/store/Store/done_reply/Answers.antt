@@ -1,9 +1,7 @@
-use Rattle.std.proofs.Common.{rules, ◌≡◌, true, false, not, ◌&&◌, List, sym, ap, ap₂, ◌∙◌}
-use Rattle.lrc_code.specs.declared.numbers.NodeNo.{NodeNo}
+use Rattle.std.proofs.Common.{rules, ◌≡◌, true, false, sym, ap, ◌∙◌}
 use Rattle.lrc_stripes.specs.Stored.{Stored}
-use Rattle.lrc_book.specs.States.{has_number}
 use Rattle.lrc_book.specs.Leases.{is_held_by}
-use Rattle.lrc_book.proofs.LeaseReplyLemmas.{done-online, done-held}
+use Rattle.lrc_book.proofs.LeaseReplyLemmas.{done-held}
 use Rattle.lrc_book.proofs.store.Store.done_reply.Goals as goal
 
 pub returns-then-not-is_online : goal.returns-then-not-is_online
@@ -12,8 +10,7 @@ returns-then-not-is_online c = λ st kept.
     let there = sym (ap (λ (x : Stored). x.stripes c.args.stripe) kept.stripes_is) ∙ sym c.contains.ensures ∙ c.if-not-contains.false in
     let live = sym (c.lease_at.ensures st kept) ∙ c.in-Some.is in
     let mine : is_held_by c.args.session l ≡ true = search rules in
-    let online = done-online c.args.self.now.topology st c.args.session c.args.stripe c.args.fragment c.args.epoch l there live mine kept.seated
-    ∙ sym (ap₂ (λ (gone down : List NodeNo). not (has_number gone l.target.node) && not (has_number down l.target.node)) kept.gone_is kept.down_is) ∙ sym c.is_online.ensures ∙ c.if-not-is_online.true in
+    let online = sym (c.is_online.ensures st kept.modes_are) ∙ c.if-not-is_online.true in
     sym (done-held c.args.self.now.topology st c.args.session c.args.stripe c.args.fragment c.args.epoch l there live mine false online)
 
 pub returns-else-not-is_online : goal.returns-else-not-is_online
@@ -22,6 +19,5 @@ returns-else-not-is_online c = λ st kept.
     let there = sym (ap (λ (x : Stored). x.stripes c.args.stripe) kept.stripes_is) ∙ sym c.contains.ensures ∙ c.if-not-contains.false in
     let live = sym (c.lease_at.ensures st kept) ∙ c.in-Some.is in
     let mine : is_held_by c.args.session l ≡ true = search rules in
-    let online = done-online c.args.self.now.topology st c.args.session c.args.stripe c.args.fragment c.args.epoch l there live mine kept.seated
-    ∙ sym (ap₂ (λ (gone down : List NodeNo). not (has_number gone l.target.node) && not (has_number down l.target.node)) kept.gone_is kept.down_is) ∙ sym c.is_online.ensures ∙ c.if-not-is_online.false in
+    let online = sym (c.is_online.ensures st kept.modes_are) ∙ c.if-not-is_online.false in
     sym (done-held c.args.self.now.topology st c.args.session c.args.stripe c.args.fragment c.args.epoch l there live mine true online)

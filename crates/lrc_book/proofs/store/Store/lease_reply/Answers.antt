@@ -1,8 +1,7 @@
-use Rattle.std.proofs.Common.{is_some, sym, ap, ◌∙◌}
+use Rattle.std.proofs.Common.{sym, ap, ◌∙◌}
 use Rattle.lrc_stripes.specs.Stored.{Stored}
-use Rattle.lrc_stripes.specs.Levels.{homes_of}
 use Rattle.lrc_book.proofs.EndLemmas.{lease-kept}
-use Rattle.lrc_book.proofs.LeaseReplyLemmas.{lease-absent, lease-again, lease-homed, lease-lost, lease-new, some-home, no-home}
+use Rattle.lrc_book.proofs.LeaseReplyLemmas.{lease-absent, lease-again, lease-unneeded, lease-lost, lease-new}
 use Rattle.lrc_book.proofs.store.Store.lease_reply.Goals as goal
 
 pub returns-then-not-contains : goal.returns-then-not-contains
@@ -16,24 +15,23 @@ returns-in-Some c = λ st kept.
     let live = sym (lease-kept st c.args.self.now kept c.args.stripe c.args.fragment) ∙ sym c.lease.ensures.value ∙ c.in-Some.is in
     sym (lease-again c.args.self.now.topology c.args.history.now st c.args.session c.args.stripe c.args.fragment c.in-Some.lease there live)
 
-pub returns-then-is_some : goal.returns-then-is_some
-returns-then-is_some c = λ st kept.
+pub returns-then-not-needs_lease : goal.returns-then-not-needs_lease
+returns-then-not-needs_lease c = λ st kept.
     let there = sym (ap (λ (x : Stored). x.stripes c.args.stripe) kept.stripes_is) ∙ sym c.contains.ensures ∙ c.if-not-contains.false in
     let none = sym (lease-kept st c.args.self.now kept c.args.stripe c.args.fragment) ∙ sym c.lease.ensures.value ∙ c.in_default.is in
-    let home = some-home (homes_of st.homes c.args.stripe c.args.fragment.value) (ap is_some (sym (ap (λ (x : Stored). x.homes c.args.stripe c.args.fragment.value) kept.stripes_is) ∙ sym c.home.ensures) ∙ sym c.is_some.ensures ∙ c.if-is_some.true) in
-    sym (lease-homed c.args.self.now.topology c.args.history.now st c.args.session c.args.stripe c.args.fragment there none home.0 home.1)
+    sym (lease-unneeded c.args.self.now.topology c.args.history.now st c.args.session c.args.stripe c.args.fragment there none (sym (c.needs_lease.ensures st kept) ∙ c.if-not-needs_lease.true))
 
 pub returns-in-Some-repair_kind : goal.returns-in-Some-repair_kind
 returns-in-Some-repair_kind c = λ st kept.
     let there = sym (ap (λ (x : Stored). x.stripes c.args.stripe) kept.stripes_is) ∙ sym c.contains.ensures ∙ c.if-not-contains.false in
     let none = sym (lease-kept st c.args.self.now kept c.args.stripe c.args.fragment) ∙ sym c.lease.ensures.value ∙ c.in_default.is in
-    let homeless = no-home (homes_of st.homes c.args.stripe c.args.fragment.value) (ap is_some (sym (ap (λ (x : Stored). x.homes c.args.stripe c.args.fragment.value) kept.stripes_is) ∙ sym c.home.ensures) ∙ sym c.is_some.ensures ∙ c.if-is_some.false) in
-    let new = lease-new c.args.self.now.topology c.args.history.now st c.args.session c.args.stripe c.args.fragment there none c.in-Some-repair_kind.kind homeless (sym (c.repair_kind.ensures st kept) ∙ c.in-Some-repair_kind.is) in
+    let needed = sym (c.needs_lease.ensures st kept) ∙ c.if-not-needs_lease.false in
+    let new = lease-new c.args.self.now.topology c.args.history.now st c.args.session c.args.stripe c.args.fragment there none c.in-Some-repair_kind.kind needed (sym (c.repair_kind.ensures st kept) ∙ c.in-Some-repair_kind.is) in
     c.grant_reply.ensures st kept new.1 ∙ sym new.0
 
 pub returns-in-None : goal.returns-in-None
 returns-in-None c = λ st kept.
     let there = sym (ap (λ (x : Stored). x.stripes c.args.stripe) kept.stripes_is) ∙ sym c.contains.ensures ∙ c.if-not-contains.false in
     let none = sym (lease-kept st c.args.self.now kept c.args.stripe c.args.fragment) ∙ sym c.lease.ensures.value ∙ c.in_default.is in
-    let homeless = no-home (homes_of st.homes c.args.stripe c.args.fragment.value) (ap is_some (sym (ap (λ (x : Stored). x.homes c.args.stripe c.args.fragment.value) kept.stripes_is) ∙ sym c.home.ensures) ∙ sym c.is_some.ensures ∙ c.if-is_some.false) in
-    sym (lease-lost c.args.self.now.topology c.args.history.now st c.args.session c.args.stripe c.args.fragment there none homeless (sym (c.repair_kind.ensures st kept) ∙ c.in-None.is))
+    let needed = sym (c.needs_lease.ensures st kept) ∙ c.if-not-needs_lease.false in
+    sym (lease-lost c.args.self.now.topology c.args.history.now st c.args.session c.args.stripe c.args.fragment there none needed (sym (c.repair_kind.ensures st kept) ∙ c.in-None.is))
