@@ -7,6 +7,7 @@ use Rattle.std.proofs.lemmas.Bool.{cases_Bool, eqb-true, eqb-false, ne_eqb}
 use Rattle.std.proofs.lemmas.List.Folds.{list_any-append}
 use Rattle.std.proofs.lemmas.Map.Views.{any-filter_same}
 use Rattle.lrc_code.specs.declared.numbers.NodeNo.{NodeNo}
+use Rattle.lrc_code.specs.Numbers.{same_node}
 use Rattle.lrc_topology.specs.declared.NodeInfo.{NodeInfo}
 use Rattle.lrc_topology.specs.Nodes.{node_at}
 use Rattle.lrc_code.specs.declared.numbers.StripeNo.{StripeNo}
@@ -16,7 +17,7 @@ use Rattle.lrc_slots.specs.Slots.{Slots, with_eligible}
 use Rattle.lrc_slots.specs.Tables as slots
 use Rattle.lrc_slots.specs.Tables.{slots_of}
 use Rattle.lrc_stripes.specs.Levels.{homes_of}
-use Rattle.lrc_stripes.specs.Stored.{Stored, with_offline}
+use Rattle.lrc_stripes.specs.Stored.{Stored, with_offline, with_draining}
 use Rattle.lrc_stripes.specs.Tables as tables
 use Rattle.lrc_stripes.specs.Tables.{stored_in}
 use Rattle.lrc_leases.specs.declared.lease.Lease.{Lease}
@@ -24,13 +25,13 @@ use Rattle.lrc_leases.specs.Leased.{leased_of}
 use Rattle.lrc_leases.specs.Tables.{leased_in}
 use Rattle.lrc_book.specs.declared.store.Store.{Store}
 use Rattle.lrc_book.specs.Stores.{IsOf, IsOfBut, StaysAsItWas}
-use Rattle.lrc_book.specs.declared.mode.Mode.TheVariants.{Active, Gone}
-use Rattle.lrc_book.specs.States.{State, held_by, has_number, without_number, is_active, is_gone, is_online, takes_seats, online_at}
-use Rattle.lrc_book.specs.Steps.{with_gone, with_down, without_down, without_gone}
+use Rattle.lrc_book.specs.declared.mode.Mode.TheVariants.{Active, Draining, Gone}
+use Rattle.lrc_book.specs.States.{State, held_by, has_number, without_number, mode_of, is_active, is_draining, is_online, takes_seats, online_at, drains_at}
+use Rattle.lrc_book.specs.Steps.{with_gone, with_down, without_down, with_draining as with_draining_node, without_draining, without_gone}
 use Rattle.lrc_book.specs.Ties.{table_of}
 use Rattle.lrc_book.specs.Stores.{stored_of}
 use Rattle.lrc_book.proofs.NodeLemmas.{member-node_at}
-use Rattle.lrc_book.proofs.StoredLemmas.{same_online, test-sym, own-spare}
+use Rattle.lrc_book.proofs.StoredLemmas.{same_modes, same_lists, test-sym, own-spare}
 
 -- ---- numbers
 
@@ -52,86 +53,113 @@ module _ (numbers : List NodeNo) (n m : NodeNo) where
 
 -- ---- a node whose mode was changed
 
-abbrev pub online_number : State → NodeNo → Bool
-online_number st n = not (has_number st.gone n) && not (has_number st.down n)
+-- a node that is found
+some-node : (o : Option NodeInfo) → IsSome o → (n : NodeInfo) × (o ≡ Some n)
+some-node (Some n) there = (n, refl)
+some-node None there = absurd (let never : false ≡ true = there in cc)
 
-takes-by : (gone down : Bool) → (is_active (if gone then Gone else Active) && (not (is_gone (if gone then Gone else Active)) && not down)) ≡ (not gone && not down)
-takes-by true down = refl
-takes-by false down = refl
+and-swap : (a b : Bool) → (a && b) ≡ (b && a)
+and-swap true true = refl
+and-swap true false = refl
+and-swap false true = refl
+and-swap false false = refl
 
-online-by : (gone down : Bool) → (not (is_gone (if gone then Gone else Active)) && not down) ≡ (not gone && not down)
-online-by true down = refl
-online-by false down = refl
+not_not : (b : Bool) → not (not b) ≡ b
+not_not true = refl
+not_not false = refl
 
 module _ (node : NodeNo) (was st : State) (k : Store) (behind : IsOfBut node was st k) where
-  here-by : (test : NodeInfo → Bool) (b : Bool) (m : NodeNo) → eqb node.value m.value ≡ true → ((x : NodeInfo) → test x ≡ online_number st x.number) → (o : Option NodeInfo) → node_at k.topology m ≡ o → online_number st node ≡ option_map_or test o b
-  here-by test b m here is (Some x) e =
-      let number : x.number ≡ node = sym (member-node_at k.topology m x e).1 ∙ sym (ap (λ (v : ℕ). record { value = v }) (eqb-true node.value m.value here)) in
-      sym (is x ∙ ap (online_number st) number)
-  here-by test b m here is None e =
-      absurd (let never : false ≡ true = subst (λ (o : Option NodeInfo). IsSome o) e (subst (λ v. IsSome (node_at k.topology v)) (ap (λ (v : ℕ). record { value = v }) (eqb-true node.value m.value here)) behind.there) in cc)
+  row : (n : NodeInfo) × (node_at k.topology node ≡ Some n)
+  row = some-node (node_at k.topology node) behind.there
 
-  other-by : (before after : NodeInfo → Bool) (b : Bool) (m : NodeNo) → eqb node.value m.value ≡ false → ((x : NodeInfo) → StaysAsItWas was st x → before x ≡ after x) → (o : Option NodeInfo) → node_at k.topology m ≡ o → option_map_or before o b ≡ option_map_or after o b
-  other-by before after b m apart is (Some x) e =
-      is x (behind.others_stay x (λ same. eqb-false node.value m.value apart (ap (λ (n : NodeNo). n.value) (sym same ∙ sym (member-node_at k.topology m x e).1))))
-  other-by before after b m apart is None e = refl
+  -- the node takes seats where it is online and active
+  takes-here : (online_at k.topology st node && is_active (mode_of st node)) ≡ option_map_or (takes_seats st) (node_at k.topology node) true
+  takes-here =
+      let number = (member-node_at k.topology node row.0 row.1).1 in
+      subst (λ (o : Option NodeInfo). (option_map_or (is_online st) o false && is_active (mode_of st node)) ≡ option_map_or (takes_seats st) o true) (sym row.1)
+      (ap (λ (m : NodeNo). is_online st row.0 && is_active (mode_of st m)) number ∙ and-swap (is_online st row.0) (is_active (mode_of st row.0.number)))
+
+  drains-here : is_draining (mode_of st node) ≡ drains_at k.topology st node
+  drains-here =
+      let number = (member-node_at k.topology node row.0 row.1).1 in
+      subst (λ (o : Option NodeInfo). is_draining (mode_of st node) ≡ option_map_or (λ (m : NodeInfo). is_draining (mode_of st m.number)) o false) (sym row.1)
+      (ap (λ (m : NodeNo). is_draining (mode_of st m)) number)
+
+  -- a test of nodes at a number, where it was changed for this node alone
+  at-number : (told b : Bool) (before after : NodeInfo → Bool) → told ≡ option_map_or after (node_at k.topology node) b → ((x : NodeInfo) → StaysAsItWas was st x → before x ≡ after x) → (m : NodeNo)
+      → (if same_node node m then told else option_map_or before (node_at k.topology m) b) ≡ option_map_or after (node_at k.topology m) b
+  at-number told b before after here stays m = by (eqb node.value m.value) refl where
+    other : (o : Option NodeInfo) → eqb node.value m.value ≡ false → node_at k.topology m ≡ o → option_map_or before o b ≡ option_map_or after o b
+    other (Some x) apart e = stays x (behind.others_stay x (λ same. eqb-false node.value m.value apart (ap (λ (n : NodeNo). n.value) (sym same ∙ sym (member-node_at k.topology m x e).1))))
+    other None apart e = refl
+
+    by : (same : Bool) → eqb node.value m.value ≡ same → (if same then told else option_map_or before (node_at k.topology m) b) ≡ option_map_or after (node_at k.topology m) b
+    by true is = here ∙ ap (λ (n : NodeNo). option_map_or after (node_at k.topology n) b) (ap (λ (v : ℕ). record { value = v }) (eqb-true node.value m.value is))
+    by false is = other (node_at k.topology m) is refl
 
   -- the table follows
-  table-follows : with_eligible (table_of k.topology was) node (online_number st node) ≡ table_of k.topology st
+  table-follows : with_eligible (table_of k.topology was) node (online_at k.topology st node && is_active (mode_of st node)) ≡ table_of k.topology st
   table-follows =
-      ap (λ (eligible : NodeNo → Bool). record (table_of k.topology was) { eligible = eligible }) (fun_ext (λ m. elim (cases_Bool (eqb node.value m.value)) [
-        | inl here ↦ rw here (here-by (takes_seats st) true m here (λ x. takes-by (has_number st.gone x.number) (has_number st.down x.number)) (node_at k.topology m) refl)
-        | inr apart ↦ rw apart (other-by (takes_seats was) (takes_seats st) true m apart (λ x stays. stays.takes) (node_at k.topology m) refl)
-      ])) ∙ ap₂ (λ (hs : List Held) (ls : List Lease). record (table_of k.topology st) { taken = is_taken (map (λ h. h.seat) (hs ++ map held_by ls)) }) behind.homes_stay behind.leases_stay
+      ap (λ (eligible : NodeNo → Bool). record (table_of k.topology was) { eligible = eligible })
+      (fun_ext (at-number (online_at k.topology st node && is_active (mode_of st node)) true (takes_seats was) (takes_seats st) takes-here (λ x stays. stays.takes)))
+      ∙ ap₂ (λ (hs : List Held) (ls : List Lease). record (table_of k.topology st) { taken = is_taken (map (λ h. h.seat) (hs ++ map held_by ls)) }) behind.homes_stay behind.leases_stay
 
   -- and so do the stripes
-  stored-follows : (spare : ℕ) → with_offline (stored_of k.topology was spare) node (not (online_number st node)) ≡ stored_of k.topology st spare
+  stored-follows : (spare : ℕ) → with_draining (with_offline (stored_of k.topology was spare) node (not (online_at k.topology st node))) node (is_draining (mode_of st node)) ≡ stored_of k.topology st spare
   stored-follows spare =
-      same_online (stored_of k.topology was spare) _ (online_at k.topology st) (λ m. elim (cases_Bool (eqb node.value m.value)) [
-        | inl here ↦ rw here (not_not (online_number st node) ∙ here-by (is_online st) false m here (λ x. online-by (has_number st.gone x.number) (has_number st.down x.number)) (node_at k.topology m) refl)
-        | inr apart ↦ rw apart (other-by (is_online was) (is_online st) false m apart (λ x stays. stays.online) (node_at k.topology m) refl)
-      ])
-      ∙ ap (λ (ss : List StripeNo). record (stored_of k.topology st spare) { stripes = λ s. list_any (λ (t : StripeNo). eqb s.value t.value) ss; homes = λ s. homes_of was.homes s }) behind.stripes_stay
-      ∙ ap (λ (hs : List Held). record (stored_of k.topology st spare) { homes = λ s. homes_of hs s }) behind.homes_stay
-    where
-      not_not : (b : Bool) → not (not b) ≡ b
-      not_not true = refl
-      not_not false = refl
+      same_modes (stored_of k.topology was spare) _ (online_at k.topology st) _ (drains_at k.topology st)
+      (λ m. ap (λ (b : Bool). if same_node node m then b else online_at k.topology was m) (not_not (online_at k.topology st node))
+      ∙ at-number (online_at k.topology st node) false (is_online was) (is_online st) refl (λ x stays. stays.online) m)
+      (at-number (is_draining (mode_of st node)) false (λ n. is_draining (mode_of was n.number)) (λ n. is_draining (mode_of st n.number)) drains-here (λ x stays. stays.drains))
+      ∙ same_lists k.topology was st spare behind.stripes_stay behind.homes_stay
 
-  -- with both told, what is kept is that of the state
-  pub follows : (online : Bool) → online ≡ (not (has_number k.gone.items node) && not (has_number k.down.items node)) → (table : slots.Table) (stripes : tables.Table)
-      → slots_of table ≡ with_eligible (slots_of k.table) node online → stored_in stripes ≡ with_offline (stored_in k.stripes) node (not online) → IsOf st (record k { table = table; stripes = stripes })
-  follows online is table stripes set set_too =
-      let now : online ≡ online_number st node = is ∙ ap₂ (λ (gone down : List NodeNo). not (has_number gone node) && not (has_number down node)) behind.gone_is behind.down_is in record {
-        known = behind.known;
-        seated = behind.seated;
-        table_is = set ∙ ap₂ (λ (t : Slots) (b : Bool). with_eligible t node b) behind.table_is now ∙ table-follows;
-        stripes_is = own-spare k.topology st (stored_in stripes) (stored_in k.stripes).spare
-            (set_too ∙ ap₂ (λ (t : Stored) (b : Bool). with_offline t node (not b)) behind.stripes_is now ∙ stored-follows (stored_in k.stripes).spare);
-        leases_is = behind.leases_is ∙ ap (λ (ls : List Lease). leased_of ls (leased_in k.leases).spare) behind.leases_stay;
-        gone_is = behind.gone_is;
-        down_is = behind.down_is;
-      }
+  -- with all told, what is kept is that of the state
+  pub follows : (online active draining : Bool) → online ≡ online_at k.topology st node → active ≡ is_active (mode_of st node) → draining ≡ is_draining (mode_of st node)
+      → (table : slots.Table) (stripes drained : tables.Table) → slots_of table ≡ with_eligible (slots_of k.table) node (online && active)
+      → stored_in stripes ≡ with_offline (stored_in k.stripes) node (not online) → stored_in drained ≡ with_draining (stored_in stripes) node draining → IsOf st (record k { table = table; stripes = drained })
+  follows online active draining o a d table stripes drained set set_too set_last = record {
+    known = behind.known;
+    seated = behind.seated;
+    table_is = set ∙ ap₂ (λ (t : Slots) (b : Bool). with_eligible t node b) behind.table_is (ap₂ (λ (x y : Bool). x && y) o a) ∙ table-follows;
+    stripes_is = own-spare k.topology st (stored_in drained) (stored_in k.stripes).spare
+        (set_last ∙ ap₂ (λ (t : Stored) (b : Bool). with_draining t node b)
+        (set_too ∙ ap₂ (λ (t : Stored) (b : Bool). with_offline t node (not b)) behind.stripes_is o) d ∙ stored-follows (stored_in k.stripes).spare);
+    leases_is = behind.leases_is ∙ ap (λ (ls : List Lease). leased_of ls (leased_in k.leases).spare) behind.leases_stay;
+    modes_are = behind.modes_are;
+  }
 
 -- ---- the other nodes
 
 module _ (st : State) (node : NodeNo) where
-  others-by : (gone down : List NodeNo) → ((m : NodeNo) → eqb node.value m.value ≡ false → has_number gone m ≡ has_number st.gone m)
-      → ((m : NodeNo) → eqb node.value m.value ≡ false → has_number down m ≡ has_number st.down m) → (n : NodeInfo) → n.number ≢ node → StaysAsItWas st (record st { gone = gone; down = down }) n
-  others-by gone down same_gone same_down n other =
-      let apart = ne_eqb node.value n.number.value (λ e. other (ap (λ (v : ℕ). record { value = v }) (sym e))) in record {
-        takes = rw (same_gone n.number apart, same_down n.number apart) refl;
-        online = rw (same_gone n.number apart, same_down n.number apart) refl;
+  Stays : List NodeNo → List NodeNo → Type 0
+  Stays before after = (m : NodeNo) → eqb node.value m.value ≡ false → has_number after m ≡ has_number before m
+
+  others-by : (gone draining down : List NodeNo) → Stays st.gone gone → Stays st.draining draining → Stays st.down down
+      → (n : NodeInfo) → n.number ≢ node → StaysAsItWas st (record st { gone = gone; draining = draining; down = down }) n
+  others-by gone draining down same_gone same_draining same_down n other =
+      let apart = ne_eqb node.value n.number.value (λ e. other (ap (λ (v : ℕ). record { value = v }) (sym e))) in
+      let g = same_gone n.number apart in
+      let w = same_draining n.number apart in
+      let d = same_down n.number apart in record {
+        takes = rw (g, w, d) refl;
+        online = rw (g, w, d) refl;
+        drains = rw (g, w) refl;
       }
 
   pub others-gone : (n : NodeInfo) → n.number ≢ node → StaysAsItWas st (with_gone st node) n
-  others-gone = others-by (with_gone st node).gone (with_gone st node).down (added-apart st.gone node) (left-apart st.down node)
+  others-gone = others-by (with_gone st node).gone (with_gone st node).draining (with_gone st node).down (added-apart st.gone node) (left-apart st.draining node) (left-apart st.down node)
 
   pub others-down : (n : NodeInfo) → n.number ≢ node → StaysAsItWas st (with_down st node) n
-  others-down = others-by st.gone (with_down st node).down (λ m apart. refl) (added-apart st.down node)
+  others-down = others-by st.gone st.draining (with_down st node).down (λ m apart. refl) (λ m apart. refl) (added-apart st.down node)
 
   pub others-up : (n : NodeInfo) → n.number ≢ node → StaysAsItWas st (without_down st node) n
-  others-up = others-by st.gone (without_down st node).down (λ m apart. refl) (left-apart st.down node)
+  others-up = others-by st.gone st.draining (without_down st node).down (λ m apart. refl) (λ m apart. refl) (left-apart st.down node)
+
+  pub others-drain : (n : NodeInfo) → n.number ≢ node → StaysAsItWas st (with_draining_node st node) n
+  others-drain = others-by st.gone (with_draining_node st node).draining st.down (λ m apart. refl) (added-apart st.draining node) (λ m apart. refl)
+
+  pub others-undrain : (n : NodeInfo) → n.number ≢ node → StaysAsItWas st (without_draining st node) n
+  others-undrain = others-by st.gone (without_draining st node).draining st.down (λ m apart. refl) (left-apart st.draining node) (λ m apart. refl)
 
   pub others-joined : (n : NodeInfo) → n.number ≢ node → StaysAsItWas st (without_gone st node) n
-  others-joined = others-by (without_gone st node).gone st.down (left-apart st.gone node) (λ m apart. refl)
+  others-joined = others-by (without_gone st node).gone st.draining st.down (left-apart st.gone node) (λ m apart. refl) (λ m apart. refl)

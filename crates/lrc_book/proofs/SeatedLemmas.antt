@@ -1,33 +1,39 @@
 -- Each command leaves the stripes seated.
-use Rattle.std.proofs.Common.{inl, inr, ◌||◌, ℕ, if◌then◌else◌, is_none, ◌≡◌, ◌≢◌, ◌<◌, Bool, true, false, not, eqb, List, [], ◌∷◌, ◌++◌, map, filter, Option, Some, None, Result, Ok, Err, IsSomeAnd, arith, refl, sym, ap, ◌∙◌, subst}
+use Rattle.std.proofs.Common.{inl, inr, ◌||◌, ℕ, ◌+◌, cond, if◌then◌else◌, nat_lt, is_none, ◌≡◌, ◌≢◌, ◌<◌, Bool, true, false, not, eqb, List, [], ◌∷◌, ◌++◌, map, filter, Option, Some, None, Result, Ok, Err, IsSomeAnd, arith, refl, sym, ap, ◌∙◌, subst}
 use Rattle.std.specs.List.{All, Contains}
-use Rattle.std.proofs.lemmas.Bool.{cases_Bool, ne_eqb, eq-eqb, eqb-false, not-true, or_parts}
-use Rattle.std.proofs.lemmas.List.Elements.{All-nil, All-append, All-weaker, All-filter, All-map, All-contains, Contains-append_left, Contains-push, Contains-push_cases}
+use Rattle.std.proofs.lemmas.Bool.{cases_Bool, ne_eqb, eq-eqb, eqb-false, ltb-false, not-true, or_parts}
+use Rattle.std.proofs.lemmas.List.Elements.{All-nil, All-cons, All-head, All-tail, All-append, All-weaker, All-filter, All-map, All-contains, Contains-append_left, Contains-push, Contains-push_cases}
 use Rattle.std.proofs.lemmas.List.Folds.{list_any-append}
 use Rattle.std.proofs.lemmas.List.Kept.{AllPairs-filter}
+use Rattle.std.proofs.lemmas.List.Sums.{sum_by-cons}
 use Rattle.lrc_code.specs.declared.codes.Code.{Code}
 use Rattle.lrc_code.specs.declared.codes.Code.TheVariants.{Wide}
 use Rattle.lrc_code.specs.declared.numbers.StripeNo.{StripeNo}
 use Rattle.lrc_code.specs.declared.numbers.NodeNo.{NodeNo}
+use Rattle.lrc_code.specs.declared.numbers.UpgradeNo.{UpgradeNo}
 use Rattle.lrc_code.specs.declared.numbers.SessionNo.{SessionNo}
 use Rattle.lrc_code.specs.declared.numbers.Fragment.{Fragment}
 use Rattle.lrc_code.specs.Codes.{fragments}
 use Rattle.lrc_topology.specs.declared.NodeInfo.{NodeInfo}
 use Rattle.lrc_topology.specs.declared.seat.Seat.{Seat}
 use Rattle.lrc_topology.specs.declared.seat.Held.{Held}
-use Rattle.lrc_topology.specs.Nodes.{AreNodes, node_at}
+use Rattle.lrc_topology.specs.Nodes.{AreNodes, node_at, has_domain}
+use Rattle.lrc_topology.specs.Seats.{load_of}
 use Rattle.lrc_book.specs.declared.command.Command.{Command}
-use Rattle.lrc_book.specs.declared.command.Command.TheVariants.{Place, Drop, Lease, Done, Abandon, Revoke, Fail, Down, Up, Join}
+use Rattle.lrc_book.specs.declared.command.Command.TheVariants.{Place, Drop, Lease, Next, Done, Abandon, Revoke, Fail, Down, Up, Drain, Undrain, Retire, Join, Upgrade, Upgraded}
 use Rattle.lrc_book.specs.declared.reply.Reply.TheVariants.{Dropped, Changed}
 use Rattle.lrc_book.specs.declared.refusal.Refusal.TheVariants as refusal
 use Rattle.lrc_book.specs.declared.entry.Entry.{Entry}
-use Rattle.lrc_book.specs.declared.mode.Mode.TheVariants.{Active, Gone}
+use Rattle.lrc_book.specs.declared.mode.Mode.TheVariants.{Active, Draining, Gone}
 use Rattle.lrc_leases.specs.declared.lease.Lease.{Lease as LeaseRecord}
 use Rattle.lrc_leases.specs.Leased.{is_target_on}
-use Rattle.lrc_book.specs.States.{State, held_by, opening, has_stripe, has_number, without_number, mode_of, is_gone, is_down, code_of, seats_of, taken_seats}
+use Rattle.lrc_book.specs.States.{State, held_by, opening, has_stripe, has_number, without_number, mode_of, is_draining, is_gone, is_down, code_of, seats_of, taken_seats, load}
 use Rattle.lrc_book.specs.Placement.{placed}
 use Rattle.lrc_book.specs.Outcomes.{refuse_if}
-use Rattle.lrc_book.specs.Steps.{with_stripe, place_answer, place_outcome, is_other, without_stripe, drop_outcome, node_outcome, stands_on, hangs_on, emptied, with_gone, with_down, without_down, without_gone, fail_outcome, down_outcome, up_outcome, join_outcome, step}
+use Rattle.lrc_book.specs.Steps.{with_stripe, place_answer, place_outcome, is_other, without_stripe, drop_outcome, node_outcome, stands_on, hangs_on, emptied, with_gone, with_down, without_down, with_draining, without_draining, without_gone, fail_outcome, down_outcome, up_outcome, join_outcome, drain_outcome, undrain_outcome, retire_outcome, without_upgrading, upgrade_answer, upgrade_outcome, is_the_domain, upgraded_outcome, would_lose, step}
+use Rattle.lrc_stripes.specs.Stored.{StripeFragment}
+use Rattle.lrc_book.specs.Urgency.{next_of}
+use Rattle.lrc_book.specs.Leases.{next_answer, next_outcome}
 use Rattle.lrc_book.specs.Goodness.{IsStanding, AreSeated}
 use Rattle.lrc_book.proofs.MemberLemmas.{list_any-All, All-list_any, All-members, member-filter, filter-member, list_any-member}
 use Rattle.lrc_book.proofs.SeatingLists.{pairs-push}
@@ -113,8 +119,11 @@ module _ (nodes : List NodeInfo) (known : AreNodes nodes) (st : State) (s : Stri
 -- ---- nodes
 
 -- a node that the test of gone ones misses is not gone
-not_gone : (numbers : List NodeNo) (m : NodeNo) → has_number numbers m ≡ false → (if has_number numbers m then Gone else Active) ≢ Gone
-not_gone numbers m miss gone = (let active : Active ≡ Gone = rw miss at gone in cc)
+not_gone : (numbers draining : List NodeNo) (m : NodeNo) → has_number numbers m ≡ false → (if has_number numbers m then Gone else (if has_number draining m then Draining else Active)) ≢ Gone
+not_gone numbers draining m miss gone = other (has_number draining m) (rw miss at gone) where
+  other : (b : Bool) → (if b then Draining else Active) ≢ Gone
+  other true e = cc
+  other false e = cc
 
 gone-number : (st : State) (m : NodeNo) → mode_of st m ≢ Gone → has_number st.gone m ≡ false
 gone-number st m present = elim (cases_Bool (has_number st.gone m)) [ inl hit ↦ absurd (present (rw hit refl)) | inr miss ↦ miss ]
@@ -142,22 +151,22 @@ fewer-numbers numbers n m miss =
     (All-filter (λ (k : NodeNo). not (eqb n.value k.value)) (λ k. eqb m.value k.value ≡ false) numbers (All-list_any (λ (k : NodeNo). eqb m.value k.value) numbers miss))
 
 -- a change of modes leaves the stripes seated, where no seat's node is gone afterwards, and no node that is down
-modes-seated : (nodes : List NodeInfo) (st : State) (gone down : List NodeNo) → AreSeated nodes st
+modes-seated : (nodes : List NodeInfo) (st : State) (gone draining down : List NodeNo) (upgrading : Option UpgradeNo) → AreSeated nodes st
     → ((seat : Seat) → Contains (taken_seats st) seat → has_number gone seat.node ≡ false) → ((m : NodeNo) → Contains down m → has_number gone m ≡ false)
-    → AreSeated nodes (record st { gone = gone; down = down })
-modes-seated nodes st gone down seated present reachable =
-    let st' = record st { gone = gone; down = down } in
+    → AreSeated nodes (record st { gone = gone; draining = draining; down = down; upgrading = upgrading })
+modes-seated nodes st gone draining down upgrading seated present reachable =
+    let st' = record st { gone = gone; draining = draining; down = down; upgrading = upgrading } in
     record {
       stripes = seated.stripes;
       single = seated.single;
       standing = All-members (IsStanding nodes st') (taken_seats st) (λ seat here.
           let standing = All-contains (IsStanding nodes st) (taken_seats st) seat seated.standing here in
-          standing-by nodes (node_at nodes seat.node) seat.slot (mode_of st seat.node ≢ Gone) (mode_of st' seat.node ≢ Gone) standing (not_gone gone seat.node (present seat here)));
+          standing-by nodes (node_at nodes seat.node) seat.slot (mode_of st seat.node ≢ Gone) (mode_of st' seat.node ≢ Gone) standing (not_gone gone draining seat.node (present seat here)));
       lawful = seated.lawful;
       one_home = seated.one_home;
       one_lease = seated.one_lease;
       there = seated.there;
-      reachable = All-members (λ m. mode_of st' m ≢ Gone) down (λ m here. not_gone gone m (reachable m here));
+      reachable = All-members (λ m. mode_of st' m ≢ Gone) down (λ m here. not_gone gone draining m (reachable m here));
     }
 
 module _ (nodes : List NodeInfo) (st : State) (n : NodeNo) where
@@ -196,49 +205,141 @@ module _ (nodes : List NodeInfo) (st : State) (n : NodeNo) where
       let other : eqb m.value n.value ≡ false = ne_eqb m.value n.value (λ e. eqb-false n.value m.value apart (sym e)) in
       rw (list_any-append (λ (k : NodeNo). eqb m.value k.value) st.gone (n ∷ []), miss, other) refl
 
-  -- a node that is gone, with the homes on it
-  pub with_gone-seated : AreSeated nodes st → AreSeated nodes (with_gone (emptied st n) n)
-  with_gone-seated seated =
-      let left = kept-seated nodes st (λ h. not (stands_on n h)) (λ l. not (hangs_on st n l)) seated in
-      modes-seated nodes (emptied st n) (st.gone ++ n ∷ []) (without_number st.down n) left
-      (λ seat here. other-number seat.node (All-contains (λ (a : Seat). eqb n.value a.node.value ≡ false) (taken_seats (emptied st n)) seat emptied-apart here)
-      (gone-number (emptied st n) seat.node (standing-present nodes (emptied st n) seat (All-contains (IsStanding nodes (emptied st n)) (taken_seats (emptied st n)) seat left.standing here))))
+  -- so none is on it
+  pub emptied-load : load (emptied st n) n ≡ 0
+  emptied-load = none (taken_seats (emptied st n)) emptied-apart where
+    none : (seats : List Seat) → All (λ (seat : Seat). eqb n.value seat.node.value ≡ false) seats → load_of seats n ≡ 0
+    none [] apart = refl
+    none (seat ∷ seats) apart =
+        let away = ne_eqb seat.node.value n.value (λ e. eqb-false n.value seat.node.value (All-head (λ (seat : Seat). eqb n.value seat.node.value ≡ false) seat seats apart) (sym e)) in
+        rw (sum_by-cons (λ (seat : Seat). cond (eqb seat.node.value n.value) 1 0) seat seats, away) (none seats (All-tail (λ (seat : Seat). eqb n.value seat.node.value ≡ false) seat seats apart))
+
+  -- where no seat is on the node, each is on another
+  load-apart : (seats : List Seat) → load_of seats n ≡ 0 → All (λ (seat : Seat). eqb n.value seat.node.value ≡ false) seats
+  load-apart [] none = All-nil (λ (seat : Seat). eqb n.value seat.node.value ≡ false)
+  load-apart (seat ∷ seats) none =
+      let sum : cond (eqb seat.node.value n.value) 1 0 + load_of seats n ≡ 0 = sym (sum_by-cons (λ (seat : Seat). cond (eqb seat.node.value n.value) 1 0) seat seats) ∙ none in
+      elim (cases_Bool (eqb seat.node.value n.value)) [
+        | inl hit ↦ absurd (let one : 1 + load_of seats n ≡ 0 = rw hit at sum in omega (arith, one))
+        | inr miss ↦
+            let left : 0 + load_of seats n ≡ 0 = rw miss at sum in
+            All-cons (λ (seat : Seat). eqb n.value seat.node.value ≡ false) seat seats (ne_eqb n.value seat.node.value (λ e. eqb-false seat.node.value n.value miss (sym e))) (load-apart seats (omega (arith, left)))
+      ]
+
+  -- the stripes stay seated where the homes on a node are taken out
+  pub emptied-seated : AreSeated nodes st → AreSeated nodes (emptied st n)
+  emptied-seated seated = kept-seated nodes st (λ h. not (stands_on n h)) (λ l. not (hangs_on st n l)) seated
+
+  -- a node that is gone, on which no seat is
+  pub with_gone-seated : AreSeated nodes st → load st n ≡ 0 → AreSeated nodes (with_gone st n)
+  with_gone-seated seated none =
+      modes-seated nodes st (st.gone ++ n ∷ []) (without_number st.draining n) (without_number st.down n) st.upgrading seated
+      (λ seat here. other-number seat.node (All-contains (λ (a : Seat). eqb n.value a.node.value ≡ false) (taken_seats st) seat (load-apart (taken_seats st) none) here) (seat-present seated seat here))
       (λ m here. let parts = left-number st.down m here in other-number m parts.1 (down-present seated m parts.0))
 
   -- a node that is down, and was not gone
   pub with_down-seated : AreSeated nodes st → is_gone (mode_of st n) ≡ false → AreSeated nodes (with_down st n)
   with_down-seated seated active =
-      modes-seated nodes st st.gone (st.down ++ n ∷ []) seated (seat-present seated) (λ m here. elim (Contains-push_cases st.down n m here) [
+      modes-seated nodes st st.gone st.draining (st.down ++ n ∷ []) st.upgrading seated (seat-present seated) (λ m here. elim (Contains-push_cases st.down n m here) [
         | inl old ↦ down-present seated m old
         | inr new ↦ subst (λ k. has_number st.gone k ≡ false) new (active-number st n active)
       ])
 
   -- a node that is down no longer
   pub without_down-seated : AreSeated nodes st → AreSeated nodes (without_down st n)
-  without_down-seated seated = modes-seated nodes st st.gone (without_number st.down n) seated (seat-present seated) (λ m here. down-present seated m (left-number st.down m here).0)
+  without_down-seated seated =
+      modes-seated nodes st st.gone st.draining (without_number st.down n) st.upgrading seated (seat-present seated) (λ m here. down-present seated m (left-number st.down m here).0)
+
+  -- a node that is draining
+  pub with_draining-seated : AreSeated nodes st → AreSeated nodes (with_draining st n)
+  with_draining-seated seated = modes-seated nodes st st.gone (st.draining ++ n ∷ []) st.down st.upgrading seated (seat-present seated) (down-present seated)
+
+  -- a node that is draining no longer
+  pub without_draining-seated : AreSeated nodes st → AreSeated nodes (without_draining st n)
+  without_draining-seated seated = modes-seated nodes st st.gone (without_number st.draining n) st.down st.upgrading seated (seat-present seated) (down-present seated)
 
   -- a node that is gone no longer
   pub without_gone-seated : AreSeated nodes st → AreSeated nodes (without_gone st n)
   without_gone-seated seated =
-      modes-seated nodes st (without_number st.gone n) st.down seated (λ seat here. fewer-numbers st.gone n seat.node (seat-present seated seat here))
+      modes-seated nodes st (without_number st.gone n) st.draining st.down st.upgrading seated (λ seat here. fewer-numbers st.gone n seat.node (seat-present seated seat here))
       (λ m here. fewer-numbers st.gone n m (down-present seated m here))
+
+module _ (nodes : List NodeInfo) (st : State) (n : NodeNo) where
+  -- a node that is gone, with the seats on it
+  with_gone-emptied : AreSeated nodes st → AreSeated nodes (with_gone (emptied st n) n)
+  with_gone-emptied seated = with_gone-seated nodes (emptied st n) n (emptied-seated nodes st n seated) (emptied-load nodes st n)
 
   pub fail-seated : AreSeated nodes st → AreSeated nodes (fail_outcome nodes st n).1
   unfolding fail_outcome
-  fail-seated seated = changed-seated (is_gone (mode_of st n)) (with_gone (emptied st n) n) seated (λ right. with_gone-seated seated)
+  fail-seated seated = changed-seated nodes st n (is_gone (mode_of st n)) (with_gone (emptied st n) n) seated (λ right. with_gone-emptied seated)
 
   pub down-seated : AreSeated nodes st → AreSeated nodes (down_outcome nodes st n).1
   unfolding down_outcome
   down-seated seated =
-      changed-seated (is_gone (mode_of st n) || is_down st n) (with_down st n) seated (λ right. with_down-seated seated (or_parts (is_gone (mode_of st n)) (is_down st n) right).0)
+      changed-seated nodes st n (is_gone (mode_of st n) || is_down st n) (with_down st n) seated (λ right. with_down-seated nodes st n seated (or_parts (is_gone (mode_of st n)) (is_down st n) right).0)
 
   pub up-seated : AreSeated nodes st → AreSeated nodes (up_outcome nodes st n).1
   unfolding up_outcome
-  up-seated seated = changed-seated _ (without_down st n) seated (λ right. without_down-seated seated)
+  up-seated seated = changed-seated nodes st n _ (without_down st n) seated (λ right. without_down-seated nodes st n seated)
 
   pub join-seated : AreSeated nodes st → AreSeated nodes (join_outcome nodes st n).1
   unfolding join_outcome
-  join-seated seated = changed-seated _ (without_gone st n) seated (λ right. without_gone-seated seated)
+  join-seated seated = changed-seated nodes st n _ (without_gone st n) seated (λ right. without_gone-seated nodes st n seated)
+
+  pub drain-seated : AreSeated nodes st → AreSeated nodes (drain_outcome nodes st n).1
+  unfolding drain_outcome
+  drain-seated seated = changed-seated nodes st n _ (with_draining st n) seated (λ right. with_draining-seated nodes st n seated)
+
+  pub undrain-seated : AreSeated nodes st → AreSeated nodes (undrain_outcome nodes st n).1
+  unfolding undrain_outcome
+  undrain-seated seated = changed-seated nodes st n _ (without_draining st n) seated (λ right. without_draining-seated nodes st n seated)
+
+  pub retire-seated : AreSeated nodes st → AreSeated nodes (retire_outcome nodes st n).1
+  unfolding retire_outcome
+  retire-seated seated =
+      let last = refuse_if (nat_lt 0 (load st n)) (refusal.NotEmpty (load st n)) st (Changed, with_gone st n) in
+      either-way (AreSeated nodes) (is_none (node_at nodes n)) refusal.UnknownNode st (refuse_if (not (is_draining (mode_of st n))) refusal.WrongMode st last) seated
+      (λ known. either-way (AreSeated nodes) (not (is_draining (mode_of st n))) refusal.WrongMode st last seated
+      (λ right. either-way (AreSeated nodes) (nat_lt 0 (load st n)) (refusal.NotEmpty (load st n)) st (Changed, with_gone st n) seated
+      (λ none. with_gone-seated nodes st n seated (omega (arith, ltb-false 0 (load st n) none)))))
+
+-- ---- upgrades
+
+module _ (nodes : List NodeInfo) (st : State) where
+  -- an upgrade domain is upgrading, or none
+  pub upgrading-seated : (upgrading : Option UpgradeNo) → AreSeated nodes st → AreSeated nodes (record st { upgrading = upgrading })
+  upgrading-seated upgrading seated =
+      modes-seated nodes st st.gone st.draining st.down upgrading seated (λ seat here. gone-number st seat.node (standing-present nodes st seat (All-contains (IsStanding nodes st) (taken_seats st) seat seated.standing here)))
+      (λ m here. gone-number st m (All-contains (λ k. mode_of st k ≢ Gone) st.down m seated.reachable here))
+
+  upgrade-answered : (u : UpgradeNo) (upgrading : Option UpgradeNo) (lost : Option StripeNo) → AreSeated nodes st → AreSeated nodes (upgrade_answer st u upgrading lost).1
+  upgrade-answered u (Some v) lost seated = seated
+  upgrade-answered u None (Some s) seated = seated
+  upgrade-answered u None None seated = upgrading-seated (Some u) seated
+
+  pub upgrade-seated : (u : UpgradeNo) → AreSeated nodes st → AreSeated nodes (upgrade_outcome nodes st u).1
+  unfolding upgrade_outcome
+  upgrade-seated u seated =
+      either-way (AreSeated nodes) (not (has_domain nodes u)) refusal.UnknownDomain st (upgrade_answer st u st.upgrading (would_lose nodes st u)) seated
+      (λ known. upgrade-answered u st.upgrading (would_lose nodes st u) seated)
+
+  pub upgraded-seated : (u : UpgradeNo) → AreSeated nodes st → AreSeated nodes (upgraded_outcome nodes st u).1
+  unfolding upgraded_outcome
+  upgraded-seated u seated =
+      let last = refuse_if (not (is_the_domain u st.upgrading)) refusal.NotUpgrading st (Changed, without_upgrading st) in
+      either-way (AreSeated nodes) (not (has_domain nodes u)) refusal.UnknownDomain st last seated
+      (λ known. either-way (AreSeated nodes) (not (is_the_domain u st.upgrading)) refusal.NotUpgrading st (Changed, without_upgrading st) seated (λ right. upgrading-seated None seated))
+
+-- ---- the most urgent lease
+
+module _ (nodes : List NodeInfo) (known : AreNodes nodes) (past : List Entry) (st : State) (session : SessionNo) where
+  next-answered : (o : Option StripeFragment) → AreSeated nodes st → AreSeated nodes (next_answer nodes past st session o).1
+  next-answered (Some p) seated = lease-seated nodes known past st session p.0 p.1 seated
+  next-answered None seated = seated
+
+  pub next-seated : AreSeated nodes st → AreSeated nodes (next_outcome nodes past st session).1
+  unfolding next_outcome
+  next-seated seated = next-answered (next_of nodes st) seated
 
 -- ---- histories
 
@@ -266,3 +367,9 @@ step-seated nodes known past st session (Fail n) seated = fail-seated nodes st n
 step-seated nodes known past st session (Down n) seated = down-seated nodes st n seated
 step-seated nodes known past st session (Up n) seated = up-seated nodes st n seated
 step-seated nodes known past st session (Join n) seated = join-seated nodes st n seated
+step-seated nodes known past st session Next seated = next-seated nodes known past st session seated
+step-seated nodes known past st session (Drain n) seated = drain-seated nodes st n seated
+step-seated nodes known past st session (Undrain n) seated = undrain-seated nodes st n seated
+step-seated nodes known past st session (Retire n) seated = retire-seated nodes st n seated
+step-seated nodes known past st session (Upgrade u) seated = upgrade-seated nodes st u seated
+step-seated nodes known past st session (Upgraded u) seated = upgraded-seated nodes st u seated

@@ -1,7 +1,7 @@
 -- How what is stored of the stripes follows the state.
 use Rattle.std.proofs.Common.{◌≡◌, ◌≢◌, ℕ, ◌-◌, Bool, true, false, not, if◌then◌else◌, ◌&&◌, ◌||◌, nat_eq, eqb, List, [], ◌∷◌, map, filter, find, Option, Some, None, option_map, refl, sym, ap, ◌∙◌, inl, inr}
 use Rattle.std.proofs.Math.Path.{fun_ext}
-use Rattle.std.specs.List.{All, Contains}
+use Rattle.std.specs.List.{All, Contains, list_any}
 use Rattle.std.specs.Option.{option_or}
 use Rattle.std.proofs.lemmas.Bool.{cases_Bool, eqb-true, eq-eqb, ne_eqb, eqb-false, and_parts}
 use Rattle.std.proofs.lemmas.Option.{same_Some}
@@ -13,13 +13,14 @@ use Rattle.lrc_code.specs.declared.codes.Code.TheVariants.{Wide}
 use Rattle.lrc_code.specs.declared.numbers.StripeNo.{StripeNo}
 use Rattle.lrc_code.specs.declared.numbers.NodeNo.{NodeNo}
 use Rattle.lrc_code.specs.declared.numbers.Fragment.{Fragment}
+use Rattle.lrc_code.specs.Numbers.{same_stripe}
 use Rattle.lrc_topology.specs.declared.NodeInfo.{NodeInfo}
 use Rattle.lrc_topology.specs.declared.seat.Seat.{Seat}
 use Rattle.lrc_topology.specs.declared.seat.Held.{Held}
 use Rattle.lrc_stripes.specs.Levels.{home_of, homes_of}
 use Rattle.lrc_stripes.specs.Stored as stored
 use Rattle.lrc_stripes.specs.Stored.{Stored, has_node, HasNoHome}
-use Rattle.lrc_book.specs.States.{State, has_stripe, code_of, held_by, seats_of, taken_seats}
+use Rattle.lrc_book.specs.States.{State, has_stripe, code_of, held_by, seats_of, taken_seats, online_at, drains_at}
 use Rattle.lrc_book.specs.Placement.{with_home}
 use Rattle.lrc_book.specs.Steps.{with_stripe, is_other, without_stripe}
 use Rattle.lrc_book.specs.Goodness.{AreSeated}
@@ -86,8 +87,17 @@ same_code false = refl
 same_homes : (t : Stored) (homes homes' : StripeNo → ℕ → Option Seat) → ((s : StripeNo) (f : ℕ) → homes s f ≡ homes' s f) → ◌≡◌ {A = Stored} (record t { homes = homes }) (record t { homes = homes' })
 same_homes t homes homes' b = ap (λ (h : StripeNo → ℕ → Option Seat). record t { homes = h }) (fun_ext (λ s. fun_ext (b s)))
 
-pub same_online : (t : Stored) (online online' : NodeNo → Bool) → ((n : NodeNo) → online n ≡ online' n) → ◌≡◌ {A = Stored} (record t { online = online }) (record t { online = online' })
-same_online t online online' b = ap (λ (p : NodeNo → Bool). record t { online = p }) (fun_ext b)
+pub same_modes : (t : Stored) (online online' draining draining' : NodeNo → Bool) → ((n : NodeNo) → online n ≡ online' n) → ((n : NodeNo) → draining n ≡ draining' n)
+    → ◌≡◌ {A = Stored} (record t { online = online; draining = draining }) (record t { online = online'; draining = draining' })
+same_modes t online online' draining draining' a b =
+    ap (λ (p : NodeNo → Bool). record t { online = p; draining = draining }) (fun_ext a) ∙ ap (λ (p : NodeNo → Bool). record t { online = online'; draining = p }) (fun_ext b)
+
+-- a state's modes, with the stripes and homes of another that are the same
+pub same_lists : (nodes : List NodeInfo) (was st : State) (spare : ℕ) → was.stripes ≡ st.stripes → was.homes ≡ st.homes
+    → ◌≡◌ {A = Stored} (record (stored_of nodes was spare) { online = online_at nodes st; draining = drains_at nodes st }) (stored_of nodes st spare)
+same_lists nodes was st spare stripes homes =
+    ap (λ (ss : List StripeNo). record (stored_of nodes st spare) { stripes = λ s. list_any (same_stripe s) ss; homes = λ s. homes_of was.homes s }) stripes
+    ∙ ap (λ (hs : List Held). record (stored_of nodes st spare) { homes = λ s. homes_of hs s }) homes
 
 -- what is stored of a state with some room is so with its own
 pub own-spare : (nodes : List NodeInfo) (st : State) (t : Stored) (spare : ℕ) → t ≡ stored_of nodes st spare → t ≡ stored_of nodes st t.spare
