@@ -24,7 +24,9 @@ use Rattle.lrc_leases.specs.declared.lease.Lease.{Lease}
 use Rattle.lrc_leases.specs.Leased.{leased_of}
 use Rattle.lrc_leases.specs.Tables.{leased_in}
 use Rattle.lrc_book.specs.declared.store.Store.{Store}
-use Rattle.lrc_book.specs.Stores.{IsOf, IsOfBut, StaysAsItWas}
+use Rattle.lrc_book.specs.declared.modes.Modes.{Modes}
+use Rattle.lrc_book.specs.Goodness.{AreSeated}
+use Rattle.lrc_book.specs.Stores.{IsOf, IsOfBut, StaysAsItWas, AreModesOf}
 use Rattle.lrc_book.specs.declared.mode.Mode.TheVariants.{Active, Draining, Gone}
 use Rattle.lrc_book.specs.States.{State, held_by, has_number, without_number, mode_of, is_active, is_draining, is_online, takes_seats, online_at, drains_at}
 use Rattle.lrc_book.specs.Steps.{with_gone, with_down, without_down, with_draining as with_draining_node, without_draining, without_gone}
@@ -128,10 +130,28 @@ module _ (node : NodeNo) (was st : State) (k : Store) (behind : IsOfBut node was
     modes_are = behind.modes_are;
   }
 
+-- what is kept of a state is behind of one in which a node's mode was changed
+pub behind-of : (was st : State) (node : NodeNo) (k : Store) (modes : Modes) → IsOf was k → AreSeated k.topology st → IsSome (node_at k.topology node)
+    → record was { gone = st.gone; draining = st.draining; down = st.down; upgrading = st.upgrading } ≡ st
+    → ((n : NodeInfo) → n.number ≢ node → StaysAsItWas was st n) → AreModesOf st modes → IsOfBut node was st (record k { modes = modes })
+behind-of was st node k modes kept seated there same others told = record {
+  known = kept.known;
+  seated = seated;
+  there = there;
+  stripes_stay = ap (λ (x : State). x.stripes) same;
+  homes_stay = ap (λ (x : State). x.homes) same;
+  leases_stay = ap (λ (x : State). x.leases) same;
+  others_stay = others;
+  table_is = kept.table_is;
+  stripes_is = kept.stripes_is;
+  leases_is = kept.leases_is;
+  modes_are = told;
+}
+
 -- ---- the other nodes
 
 module _ (st : State) (node : NodeNo) where
-  Stays : List NodeNo → List NodeNo → Type 0
+  abbrev Stays : List NodeNo → List NodeNo → Type 0
   Stays before after = (m : NodeNo) → eqb node.value m.value ≡ false → has_number after m ≡ has_number before m
 
   others-by : (gone draining down : List NodeNo) → Stays st.gone gone → Stays st.draining draining → Stays st.down down

@@ -1,5 +1,5 @@
 -- Each command leaves the stripes seated.
-use Rattle.std.proofs.Common.{inl, inr, ◌||◌, ℕ, ◌+◌, cond, if◌then◌else◌, nat_lt, is_none, ◌≡◌, ◌≢◌, ◌<◌, Bool, true, false, not, eqb, List, [], ◌∷◌, ◌++◌, map, filter, Option, Some, None, Result, Ok, Err, IsSomeAnd, arith, refl, sym, ap, ◌∙◌, subst}
+use Rattle.std.proofs.Common.{inl, inr, ◌||◌, ℕ, ◌+◌, cond, zero-add, if◌then◌else◌, nat_lt, is_none, ◌≡◌, ◌≢◌, ◌<◌, Bool, true, false, not, eqb, List, [], ◌∷◌, ◌++◌, map, filter, Option, Some, None, Result, Ok, Err, IsSomeAnd, arith, refl, sym, ap, ◌∙◌, subst}
 use Rattle.std.specs.List.{All, Contains}
 use Rattle.std.proofs.lemmas.Bool.{cases_Bool, ne_eqb, eq-eqb, eqb-false, ltb-false, not-true, or_parts}
 use Rattle.std.proofs.lemmas.List.Elements.{All-nil, All-cons, All-head, All-tail, All-append, All-weaker, All-filter, All-map, All-contains, Contains-append_left, Contains-push, Contains-push_cases}
@@ -212,7 +212,7 @@ module _ (nodes : List NodeInfo) (st : State) (n : NodeNo) where
     none [] apart = refl
     none (seat ∷ seats) apart =
         let away = ne_eqb seat.node.value n.value (λ e. eqb-false n.value seat.node.value (All-head (λ (seat : Seat). eqb n.value seat.node.value ≡ false) seat seats apart) (sym e)) in
-        rw (sum_by-cons (λ (seat : Seat). cond (eqb seat.node.value n.value) 1 0) seat seats, away) (none seats (All-tail (λ (seat : Seat). eqb n.value seat.node.value ≡ false) seat seats apart))
+        rw (sum_by-cons (λ (seat : Seat). cond (eqb seat.node.value n.value) 1 0) seat seats, away, zero-add) (none seats (All-tail (λ (seat : Seat). eqb n.value seat.node.value ≡ false) seat seats apart))
 
   -- where no seat is on the node, each is on another
   load-apart : (seats : List Seat) → load_of seats n ≡ 0 → All (λ (seat : Seat). eqb n.value seat.node.value ≡ false) seats

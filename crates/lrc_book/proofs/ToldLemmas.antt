@@ -12,10 +12,10 @@ use Rattle.lrc_topology.specs.declared.seat.Held.{Held}
 use Rattle.lrc_topology.specs.Nodes.{node_at}
 use Rattle.lrc_book.specs.declared.reply.Reply.TheVariants.{Placed, Dropped, Changed, Refused}
 use Rattle.lrc_book.specs.declared.refusal.Refusal.TheVariants as refusal
-use Rattle.lrc_book.specs.States.{State, has_stripe, mode_of, is_gone, is_down}
+use Rattle.lrc_book.specs.States.{State, has_stripe, mode_of, is_active, is_draining, is_gone, is_down}
 use Rattle.lrc_book.specs.Placement.{placed}
 use Rattle.lrc_book.specs.Outcomes.{Outcome, refuse_if}
-use Rattle.lrc_book.specs.Steps.{with_stripe, without_stripe, place_answer, place_outcome, drop_outcome, fail_outcome, down_outcome, up_outcome, join_outcome}
+use Rattle.lrc_book.specs.Steps.{with_stripe, without_stripe, place_answer, place_outcome, drop_outcome, fail_outcome, down_outcome, up_outcome, join_outcome, drain_outcome, undrain_outcome}
 use Rattle.lrc_book.specs.Choices.{AreChosen}
 use Rattle.lrc_book.proofs.StepLemmas.{place-passed, place-there, placed-grown, seats-added}
 
@@ -79,3 +79,13 @@ module _ (nodes : List NodeInfo) (st : State) (n : NodeNo) where
   pub join-told : (join_outcome nodes st n).0 ≡ Changed → IsSome (node_at nodes n)
   unfolding join_outcome
   join-told e = (node-by st _ (node_at nodes n) (not (is_gone (mode_of st n))) e).0
+
+  -- one drains: it is known
+  pub drain-told : (drain_outcome nodes st n).0 ≡ Changed → IsSome (node_at nodes n)
+  unfolding drain_outcome
+  drain-told e = (node-by st _ (node_at nodes n) (not (is_active (mode_of st n))) e).0
+
+  -- one drains no longer: it is known
+  pub undrain-told : (undrain_outcome nodes st n).0 ≡ Changed → IsSome (node_at nodes n)
+  unfolding undrain_outcome
+  undrain-told e = (node-by st _ (node_at nodes n) (not (is_draining (mode_of st n))) e).0

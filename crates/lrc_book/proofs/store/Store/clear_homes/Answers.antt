@@ -6,7 +6,7 @@ use Rattle.lrc_book.proofs.EmptyLemmas.{here, emptying-start, emptying-stripe, e
 use Rattle.lrc_book.proofs.store.Store.clear_homes.Goals as goal
 
 pub loop-stripe-init : goal.loop-stripe-init
-loop-stripe-init g c = record { emptying = emptying-start g.st c.args.node c.args.self.now c.requires.0; nodes = refl; gone = refl; down = refl }
+loop-stripe-init g c = record { emptying = emptying-start g.st c.args.node c.args.self.now c.requires.0; nodes = refl; modes = refl }
 
 pub end_lease-requires : goal.end_lease-requires
 end_lease-requires g c = (here g.st c.args.node c.loop-stripe.self c.loop-stripe.invariant.emptying, c.loop-stripe.invariant.emptying.kept)
@@ -39,8 +39,7 @@ loop-stripe-preserved g c =
       emptying = emptying-more g.st c.args.node k e c.in-Some.stripe c.in-Some.fragment first c.clear_home.new.self (c.clear_home.ensures.nodes ∙ c.end_lease.ensures.nodes)
           (c.clear_home.ensures.kept (without_lease (here g.st c.args.node k e) c.in-Some.stripe c.in-Some.fragment) ended);
       nodes = c.clear_home.ensures.nodes ∙ c.end_lease.ensures.nodes ∙ c.loop-stripe.invariant.nodes;
-      gone = c.clear_home.ensures.lists.0 ∙ c.end_lease.ensures.lists.0 ∙ c.loop-stripe.invariant.gone;
-      down = c.clear_home.ensures.lists.1 ∙ c.end_lease.ensures.lists.1 ∙ c.loop-stripe.invariant.down;
+      modes = c.clear_home.ensures.modes ∙ c.end_lease.ensures.modes ∙ c.loop-stripe.invariant.modes;
     }
 
 pub returns-clause-kept : goal.returns-clause-kept

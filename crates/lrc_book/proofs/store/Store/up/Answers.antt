@@ -1,29 +1,13 @@
-use Rattle.std.proofs.lemmas.Fn.{filter_same}
-use Rattle.lrc_code.specs.declared.numbers.NodeNo.{NodeNo}
-use Rattle.std.proofs.Common.{not, nat_eq, filter, refl, ap, ◌∙◌, rules}
+use Rattle.std.proofs.Common.{refl}
+use Rattle.lrc_book.specs.Steps.{without_down}
 use Rattle.lrc_book.proofs.SeatedLemmas.{without_down-seated}
-use Rattle.lrc_book.proofs.ModeLemmas.{others-up}
+use Rattle.lrc_book.proofs.ModeLemmas.{behind-of, others-up}
 use Rattle.lrc_book.proofs.ToldLemmas.{up-told}
 use Rattle.lrc_book.proofs.store.Store.up.Goals as goal
 
 pub follow-requires : goal.follow-requires
 follow-requires g c =
     let nodes = c.args.self.now.topology in
-    let kept = c.requires.0 in
-    let told = up-told nodes g.st c.args.node c.requires.1 in (
-      g.st,
-      record {
-        known = kept.known;
-        seated = without_down-seated nodes g.st c.args.node kept.seated;
-        there = told;
-        stripes_stay = refl;
-        homes_stay = refl;
-        leases_stay = refl;
-        others_stay = others-up g.st c.args.node;
-        table_is = kept.table_is;
-        stripes_is = kept.stripes_is;
-        leases_is = kept.leases_is;
-        gone_is = kept.gone_is;
-        down_is = filter_same _ (λ (m : NodeNo). not (nat_eq c.args.node.value m.value)) _ (λ x b f' r. search rules) _ _ c.retain.ensures.filtered ∙ ap (filter (λ (m : NodeNo). not (nat_eq c.args.node.value m.value))) kept.down_is;
-      },
-    )
+    let kept = c.requires.kept in
+    let told = up-told nodes g.st c.args.node c.requires.told in
+    (g.st, behind-of g.st (without_down g.st c.args.node) c.args.node c.args.self.now _ kept (without_down-seated nodes g.st c.args.node kept.seated) told (refl) (others-up g.st c.args.node) (c.up.ensures g.st kept.modes_are))

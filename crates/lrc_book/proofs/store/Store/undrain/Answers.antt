@@ -1,0 +1,13 @@
+use Rattle.std.proofs.Common.{refl}
+use Rattle.lrc_book.specs.Steps.{without_draining}
+use Rattle.lrc_book.proofs.SeatedLemmas.{without_draining-seated}
+use Rattle.lrc_book.proofs.ModeLemmas.{behind-of, others-undrain}
+use Rattle.lrc_book.proofs.ToldLemmas.{undrain-told}
+use Rattle.lrc_book.proofs.store.Store.undrain.Goals as goal
+
+pub follow-requires : goal.follow-requires
+follow-requires g c =
+    let nodes = c.args.self.now.topology in
+    let kept = c.requires.kept in
+    let told = undrain-told nodes g.st c.args.node c.requires.told in
+    (g.st, behind-of g.st (without_draining g.st c.args.node) c.args.node c.args.self.now _ kept (without_draining-seated nodes g.st c.args.node kept.seated) told (refl) (others-undrain g.st c.args.node) (c.undrain.ensures g.st kept.modes_are))
