@@ -9,6 +9,7 @@ pub mod HomelessLemmas
 pub mod WalkLemmas
 pub mod RankLemmas
 pub mod RepairLemmas
+pub mod RepairLaws
 pub mod PlaceLemmas
 pub mod UpgradeLemmas
 pub mod SearchLemmas

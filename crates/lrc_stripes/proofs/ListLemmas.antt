@@ -1,5 +1,5 @@
 -- Pairs and elements of lists that are mapped, filtered and joined.
-use Rattle.std.proofs.Common.{◌≡◌, zero, suc, ◌+◌, ◌-◌, ◌<◌, ◌⊎◌, inl, inr, Bool, true, List, [], ◌∷◌, ◌++◌, length, map, filter, arith, refl, subst}
+use Rattle.std.proofs.Common.{◌≡◌, zero, suc, ◌+◌, ◌-◌, ◌<◌, ◌⊎◌, inl, inr, Bool, true, List, [], ◌∷◌, ◌++◌, length, map, filter, ◌↔◌, arith, refl, sym, ap, ◌∙◌, subst}
 use Rattle.std.specs.List.{All, AllPairs, Contains}
 use Rattle.std.proofs.lemmas.Bool.{cases_Bool, cases_lt}
 use Rattle.std.proofs.lemmas.List.{get_or-map, get_or_append_left, get_or-append_right, length-map, length-append}
@@ -61,3 +61,40 @@ Contains-unmap f (x ∷ xs) y among = elim (Contains-cons_cases (f x) y (map f x
   | inl here ↦ (x, Contains-here x xs, here)
   | inr later ↦ let rest = Contains-unmap f xs y later in (rest.0, Contains-later x rest.0 xs rest.1, rest.2)
 ]
+
+-- ---- lists that rise
+
+-- a later element comes behind the first
+AllPairs-first : {X : Type 0} (R : X → X → Type 0) (x y : X) (xs : List X) → AllPairs R (x ∷ xs) → Contains xs y → R x y
+AllPairs-first R x y xs rising (k, within, at) = subst (R x) at (rising zero (suc k) y (omega arith) (omega (arith, within)))
+
+AllPairs-tail : {X : Type 0} (R : X → X → Type 0) (x : X) (xs : List X) → AllPairs R (x ∷ xs) → AllPairs R xs
+AllPairs-tail R x xs rising i j d below within = rising (suc i) (suc j) d (omega (arith, below)) (omega (arith, within))
+
+module _ {X : Type 0} (R : X → X → Type 0) (one_way : (x y : X) → R x y → R y x → ⊥) where
+  same-first : (x y : X) (xs ys : List X) → AllPairs R (x ∷ xs) → AllPairs R (y ∷ ys) → Contains (y ∷ ys) x → Contains (x ∷ xs) y → x ≡ y
+  same-first x y xs ys rising rising' among among' = elim (Contains-cons_cases y x ys among) [
+    | inl same ↦ sym same
+    | inr later ↦ elim (Contains-cons_cases x y xs among') [
+      | inl same ↦ same
+      | inr later' ↦ absurd (one_way x y (AllPairs-first R x y xs rising later') (AllPairs-first R y x ys rising' later))
+    ]
+  ]
+
+  -- what stands behind the first stands behind an equal one
+  behind-first : (x y : X) (xs ys : List X) → x ≡ y → AllPairs R (x ∷ xs) → ((z : X) → Contains (x ∷ xs) z → Contains (y ∷ ys) z) → (z : X) → Contains xs z → Contains ys z
+  behind-first x y xs ys one rising within z among = elim (Contains-cons_cases y z ys (within z (Contains-later x z xs among))) [
+    | inl same ↦ let self : R x x = subst (R x) (sym (one ∙ same)) (AllPairs-first R x z xs rising among) in absurd (one_way x x self self)
+    | inr later ↦ later
+  ]
+
+  -- two rising lists with the same elements are one
+  pub same_rising : (xs ys : List X) → AllPairs R xs → AllPairs R ys → ((z : X) → Contains xs z ↔ Contains ys z) → xs ≡ ys
+  same_rising [] [] rising rising' same = refl
+  same_rising [] (y ∷ ys) rising rising' same = absurd (let none = (same y).1 (Contains-here y ys) in omega (arith, none.1))
+  same_rising (x ∷ xs) [] rising rising' same = absurd (let none = (same x).0 (Contains-here x xs) in omega (arith, none.1))
+  same_rising (x ∷ xs) (y ∷ ys) rising rising' same =
+      let one = same-first x y xs ys rising rising' ((same x).0 (Contains-here x xs)) ((same y).1 (Contains-here y ys)) in
+      let rest = same_rising xs ys (AllPairs-tail R x xs rising) (AllPairs-tail R y ys rising')
+      (λ z. (behind-first x y xs ys one rising (λ w. (same w).0) z, behind-first y x ys xs (sym one) rising' (λ w. (same w).1) z)) in
+      ap (λ (z : X). z ∷ xs) one ∙ ap (λ (zs : List X). y ∷ zs) rest
