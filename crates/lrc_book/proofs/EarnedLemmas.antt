@@ -1,28 +1,32 @@
 -- Each live lease was granted to its holder.
-use Rattle.std.proofs.Common.{◌≡◌, inl, inr, Bool, true, false, not, is_none, List, [], ◌∷◌, ◌++◌, fold, Option, Some, None, Result, Ok, Err, ℕ, sym, ap, ◌∙◌, subst}
+use Rattle.std.proofs.Common.{◌≡◌, inl, inr, Bool, true, false, not, is_none, List, [], ◌∷◌, ◌++◌, fold, Option, Some, None, Result, Ok, Err, ℕ, nat_lt, refl, sym, ap, ◌∙◌, subst}
 use Rattle.std.specs.List.{Contains}
 use Rattle.std.proofs.lemmas.List.Elements.{Contains-append_left, Contains-push, Contains-push_cases}
 use Rattle.lrc_code.specs.declared.codes.Code.TheVariants.{Wide}
 use Rattle.lrc_code.specs.declared.numbers.StripeNo.{StripeNo}
 use Rattle.lrc_code.specs.declared.numbers.NodeNo.{NodeNo}
+use Rattle.lrc_code.specs.declared.numbers.UpgradeNo.{UpgradeNo}
 use Rattle.lrc_code.specs.declared.numbers.SessionNo.{SessionNo}
 use Rattle.lrc_code.specs.declared.numbers.Fragment.{Fragment}
 use Rattle.lrc_topology.specs.declared.NodeInfo.{NodeInfo}
-use Rattle.lrc_topology.specs.Nodes.{node_at}
+use Rattle.lrc_topology.specs.Nodes.{node_at, has_domain}
 use Rattle.lrc_leases.specs.declared.lease.Lease.{Lease as LeaseRecord}
 use Rattle.lrc_book.specs.declared.kind.Kind.{Kind}
 use Rattle.lrc_book.specs.declared.command.Command.{Command}
-use Rattle.lrc_book.specs.declared.command.Command.TheVariants.{Place, Drop, Lease, Done, Abandon, Revoke, Fail, Down, Up, Join}
+use Rattle.lrc_book.specs.declared.command.Command.TheVariants.{Place, Drop, Lease, Next, Done, Abandon, Revoke, Fail, Down, Up, Drain, Undrain, Retire, Join, Upgrade, Upgraded}
 use Rattle.lrc_book.specs.declared.reply.Reply.{Reply}
-use Rattle.lrc_book.specs.declared.reply.Reply.TheVariants.{Dropped, Granted, Ended, Changed, Refused}
+use Rattle.lrc_book.specs.declared.reply.Reply.TheVariants.{Dropped, Granted, Idle, Ended, Changed, Refused}
 use Rattle.lrc_book.specs.declared.refusal.Refusal.{Refusal}
 use Rattle.lrc_book.specs.declared.refusal.Refusal.TheVariants as refusal
 use Rattle.lrc_book.specs.declared.entry.Entry.{Entry}
-use Rattle.lrc_book.specs.States.{State, has_stripe, lease_of, online_at}
+use Rattle.lrc_book.specs.States.{State, has_stripe, lease_of, mode_of, is_draining, load, online_at}
+use Rattle.lrc_book.specs.Urgency.{next_of}
+use Rattle.lrc_book.specs.Granting.{AsksFor}
+use Rattle.lrc_stripes.specs.Stored.{StripeFragment}
 use Rattle.lrc_book.specs.Placement.{placed}
 use Rattle.lrc_book.specs.Outcomes.{Outcome, refuse_if}
-use Rattle.lrc_book.specs.Leases.{without_lease, at_epoch, is_held_by, moved_in, done_answer, done_outcome, abandon_answer, abandon_outcome, revoke_outcome}
-use Rattle.lrc_book.specs.Steps.{with_stripe, place_answer, place_outcome, without_stripe, drop_outcome, node_outcome, fail_outcome, down_outcome, up_outcome, join_outcome, step}
+use Rattle.lrc_book.specs.Leases.{next_answer, next_outcome, without_lease, at_epoch, is_held_by, moved_in, done_answer, done_outcome, abandon_answer, abandon_outcome, revoke_outcome}
+use Rattle.lrc_book.specs.Steps.{with_stripe, place_answer, place_outcome, without_stripe, drop_outcome, node_outcome, with_gone, fail_outcome, down_outcome, up_outcome, drain_outcome, undrain_outcome, retire_outcome, join_outcome, without_upgrading, would_lose, upgrade_answer, upgrade_outcome, is_the_domain, upgraded_outcome, step}
 use Rattle.lrc_book.specs.Histories.{World, first_world, outcome_in, next_world, state_after, IsLegalFrom, IsLegal}
 use Rattle.lrc_book.proofs.MemberLemmas.{not-Contains-nil}
 use Rattle.lrc_book.proofs.LeaseLawLemmas.{lease-new}
@@ -83,6 +87,37 @@ module _ (l : LeaseRecord) (k : Kind) where
     unfolding join_outcome
     never-join = never-node nodes st n _ _
 
+    never-drain : Never (drain_outcome nodes st n)
+    unfolding drain_outcome
+    never-drain = never-node nodes st n _ _
+
+    never-undrain : Never (undrain_outcome nodes st n)
+    unfolding undrain_outcome
+    never-undrain = never-node nodes st n _ _
+
+    never-retire : Never (retire_outcome nodes st n)
+    unfolding retire_outcome
+    never-retire =
+        never-if st (is_none (node_at nodes n)) refusal.UnknownNode _
+        (never-if st (not (is_draining (mode_of st n))) refusal.WrongMode _
+        (never-if st (nat_lt 0 (load st n)) (refusal.NotEmpty (load st n)) (Changed, with_gone st n) no-change))
+
+  module _ (nodes : List NodeInfo) (st : State) (u : UpgradeNo) where
+    never-upgrade-by : (o : Option UpgradeNo) (lost : Option StripeNo) → Never (upgrade_answer st u o lost)
+    never-upgrade-by (Some v) lost = no-refusal (refusal.UpgradeRunning v)
+    never-upgrade-by None (Some s) = no-refusal (refusal.WouldLose s)
+    never-upgrade-by None None = no-change
+
+    never-upgrade : Never (upgrade_outcome nodes st u)
+    unfolding upgrade_outcome
+    never-upgrade = never-if st (not (has_domain nodes u)) refusal.UnknownDomain _ (never-upgrade-by st.upgrading (would_lose nodes st u))
+
+    never-upgraded : Never (upgraded_outcome nodes st u)
+    unfolding upgraded_outcome
+    never-upgraded =
+        never-if st (not (has_domain nodes u)) refusal.UnknownDomain _
+        (never-if st (not (is_the_domain u st.upgrading)) refusal.NotUpgrading (Changed, without_upgrading st) no-change)
+
   module _ (nodes : List NodeInfo) (st : State) (session : SessionNo) (s : StripeNo) (f : Fragment) where
     never-done-by : (o : Option LeaseRecord) → Never (done_answer nodes st session s f o)
     never-done-by None = no-refusal refusal.Stale
@@ -106,14 +141,26 @@ module _ (l : LeaseRecord) (k : Kind) where
     unfolding revoke_outcome
     never-revoke = never-if st (not (has_stripe st s)) refusal.UnknownStripe _ (never-if st (is_none (lease_of st s f)) refusal.NoLease (Ended, without_lease st s f) no-end)
 
-  -- the entry that grants the lease
-  abbrev grant_of : Entry
-  grant_of = record { session = l.holder; command = Lease l.stripe l.fragment; reply = Granted l k }
+  -- the entry in which the holder asked by this command, and was granted the lease
+  abbrev grant_of : Command → Entry
+  grant_of c = record { session = l.holder; command = c; reply = Granted l k }
 
-  asked : (nodes : List NodeInfo) (past : List Entry) (st : State) (session : SessionNo) (c : Command) → (step nodes past st session c).0 ≡ Granted l k → (c ≡ Lease l.stripe l.fragment) × (session ≡ l.holder)
+  no-idle : Idle ≡ Granted l k → ⊥
+  no-idle e = cc
+
+  next-by : (nodes : List NodeInfo) (past : List Entry) (st : State) (session : SessionNo) (o : Option StripeFragment) → (next_answer nodes past st session o).0 ≡ Granted l k → session ≡ l.holder
+  next-by nodes past st session (Some p) e = sym (ap (λ (x : LeaseRecord). x.holder) (lease-new nodes past st session p.0 p.1 l k e).own)
+  next-by nodes past st session None e = absurd (no-idle e)
+
+  next-asked : (nodes : List NodeInfo) (past : List Entry) (st : State) (session : SessionNo) → (next_outcome nodes past st session).0 ≡ Granted l k → session ≡ l.holder
+  unfolding next_outcome
+  next-asked nodes past st session e = next-by nodes past st session (next_of nodes st) e
+
+  asked : (nodes : List NodeInfo) (past : List Entry) (st : State) (session : SessionNo) (c : Command) → (step nodes past st session c).0 ≡ Granted l k → AsksFor l c × (session ≡ l.holder)
   asked nodes past st session (Lease s f) e =
       let new = lease-new nodes past st session s f l k e in
-      (sym (ap (λ (x : LeaseRecord). Lease x.stripe x.fragment) new.own), sym (ap (λ (x : LeaseRecord). x.holder) new.own))
+      (inl (sym (ap (λ (x : LeaseRecord). Lease x.stripe x.fragment) new.own)), sym (ap (λ (x : LeaseRecord). x.holder) new.own))
+  asked nodes past st session Next e = (inr refl, next-asked nodes past st session e)
   asked nodes past st session (Place s) e = absurd (never-place nodes st s e)
   asked nodes past st session (Drop s) e = absurd (never-drop st s e)
   asked nodes past st session (Done s f d) e = absurd (never-done nodes st session s f d e)
@@ -122,31 +169,40 @@ module _ (l : LeaseRecord) (k : Kind) where
   asked nodes past st session (Fail n) e = absurd (never-fail nodes st n e)
   asked nodes past st session (Down n) e = absurd (never-down nodes st n e)
   asked nodes past st session (Up n) e = absurd (never-up nodes st n e)
+  asked nodes past st session (Drain n) e = absurd (never-drain nodes st n e)
+  asked nodes past st session (Undrain n) e = absurd (never-undrain nodes st n e)
+  asked nodes past st session (Retire n) e = absurd (never-retire nodes st n e)
   asked nodes past st session (Join n) e = absurd (never-join nodes st n e)
+  asked nodes past st session (Upgrade u) e = absurd (never-upgrade nodes st u e)
+  asked nodes past st session (Upgraded u) e = absurd (never-upgraded nodes st u e)
 
-  entry-is : (nodes : List NodeInfo) (w : World) (x : Entry) → (outcome_in nodes w x.session x.command).0 ≡ x.reply → x.reply ≡ Granted l k → x ≡ grant_of
+  entry-is : (nodes : List NodeInfo) (w : World) (x : Entry) → (outcome_in nodes w x.session x.command).0 ≡ x.reply → x.reply ≡ Granted l k → AsksFor l x.command × (x ≡ grant_of x.command)
   entry-is nodes w x told reply =
-      let parts = asked nodes w.past w.state x.session x.command (told ∙ reply) in
-      ap (λ (c : Command). record { session = x.session; command = c; reply = x.reply }) parts.0
-      ∙ ap (λ (a : SessionNo). record { session = a; command = Lease l.stripe l.fragment; reply = x.reply }) parts.1
-      ∙ ap (λ (r : Reply). record { session = l.holder; command = Lease l.stripe l.fragment; reply = r }) reply
+      let parts = asked nodes w.past w.state x.session x.command (told ∙ reply) in (
+        parts.0,
+        ap (λ (a : SessionNo). record { session = a; command = x.command; reply = x.reply }) parts.1 ∙ ap (λ (r : Reply). record { session = l.holder; command = x.command; reply = r }) reply,
+      )
 
 -- ---- histories
 
 -- the lease was granted in one of the entries
 abbrev Earned : List Entry → LeaseRecord → Type 0
-Earned past l = (k : Kind) × Contains past (grant_of l k)
+Earned past l = (c : Command) × (k : Kind) × AsksFor l c × Contains past (grant_of l k c)
 
 abbrev AllEarned : World → Type 0
 AllEarned w = (l : LeaseRecord) → Contains w.state.leases l → Earned w.past l
 
+later-earned : (past : List Entry) (x : Entry) (l : LeaseRecord) → Earned past l → Earned (past ++ x ∷ []) l
+later-earned past x l old = (old.0, old.1, old.2, Contains-append_left past (x ∷ []) (grant_of l old.1 old.0) old.3)
+
 next-earned : (nodes : List NodeInfo) (w : World) (x : Entry) → (outcome_in nodes w x.session x.command).0 ≡ x.reply → AllEarned w → AllEarned (next_world nodes w x)
 next-earned nodes w x told all l here = elim (step-follows nodes w.past w.state x.session x.command) [
-  | inr none ↦ let old = all l (none.fewer l here) in (old.0, Contains-append_left w.past (x ∷ []) (grant_of l old.0) old.1)
+  | inr none ↦ later-earned w.past x l (all l (none.fewer l here))
   | inl grant ↦ elim (Contains-push_cases w.state.leases grant.lease l (subst (λ (ls : List LeaseRecord). Contains ls l) grant.leases here)) [
-    | inl before ↦ let old = all l before in (old.0, Contains-append_left w.past (x ∷ []) (grant_of l old.0) old.1)
-    | inr new ↦ subst (Earned (w.past ++ x ∷ [])) new
-        (grant.from, subst (Contains (w.past ++ x ∷ [])) (entry-is grant.lease grant.from nodes w x told (sym told ∙ grant.told)) (Contains-push w.past x))
+    | inl before ↦ later-earned w.past x l (all l before)
+    | inr new ↦
+        let own = entry-is grant.lease grant.from nodes w x told (sym told ∙ grant.told) in
+        subst (Earned (w.past ++ x ∷ [])) new (x.command, grant.from, own.0, subst (Contains (w.past ++ x ∷ [])) own.1 (Contains-push w.past x))
   ]
 ]
 

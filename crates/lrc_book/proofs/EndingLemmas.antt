@@ -1,27 +1,30 @@
 -- A live lease outlasts the commands that cannot end it.
-use Rattle.std.proofs.Common.{◌≡◌, ◌≢◌, inl, inr, Bool, true, false, not, is_none, List, [], ◌∷◌, filter, find, Option, Some, None, Result, Ok, Err, refl, sym, ap, ◌∙◌}
+use Rattle.std.proofs.Common.{◌≡◌, ◌≢◌, inl, inr, Bool, true, false, not, nat_lt, is_none, List, [], ◌∷◌, filter, find, Option, Some, None, Result, Ok, Err, refl, sym, ap, ◌∙◌}
 use Rattle.std.proofs.lemmas.Bool.{cases_Bool, ne_eqb}
 use Rattle.std.proofs.lemmas.Option.{same_Some}
 use Rattle.lrc_code.specs.declared.codes.Code.TheVariants.{Wide}
 use Rattle.lrc_code.specs.declared.numbers.StripeNo.{StripeNo}
 use Rattle.lrc_code.specs.declared.numbers.NodeNo.{NodeNo}
+use Rattle.lrc_code.specs.declared.numbers.UpgradeNo.{UpgradeNo}
 use Rattle.lrc_code.specs.declared.numbers.SessionNo.{SessionNo}
 use Rattle.lrc_code.specs.declared.numbers.Fragment.{Fragment}
 use Rattle.lrc_code.proofs.NumbersLemmas.{equal_stripes, equal_fragments}
 use Rattle.lrc_topology.specs.declared.NodeInfo.{NodeInfo}
-use Rattle.lrc_topology.specs.Nodes.{node_at}
+use Rattle.lrc_topology.specs.Nodes.{node_at, has_domain}
 use Rattle.lrc_leases.specs.declared.lease.Lease.{Lease as LeaseRecord}
 use Rattle.lrc_leases.specs.Leased.{is_of}
 use Rattle.lrc_leases.proofs.ListLemmas.{leases_in-own, is_of-parts, is_of-from}
 use Rattle.lrc_book.specs.declared.command.Command.{Command}
-use Rattle.lrc_book.specs.declared.command.Command.TheVariants.{Place, Drop, Lease, Done, Abandon, Revoke, Fail, Down, Up, Join}
+use Rattle.lrc_book.specs.declared.command.Command.TheVariants.{Place, Drop, Lease, Next, Done, Abandon, Revoke, Fail, Down, Up, Drain, Undrain, Retire, Join, Upgrade, Upgraded}
 use Rattle.lrc_book.specs.declared.reply.Reply.TheVariants.{Dropped, Changed}
 use Rattle.lrc_book.specs.declared.refusal.Refusal.TheVariants as refusal
 use Rattle.lrc_book.specs.declared.entry.Entry.{Entry}
-use Rattle.lrc_book.specs.States.{State, has_stripe, lease_of}
+use Rattle.lrc_book.specs.States.{State, has_stripe, lease_of, mode_of, is_draining, load}
+use Rattle.lrc_book.specs.Urgency.{next_of}
+use Rattle.lrc_stripes.specs.Stored.{StripeFragment}
 use Rattle.lrc_book.specs.Placement.{placed}
-use Rattle.lrc_book.specs.Leases.{lease_answer, lease_outcome}
-use Rattle.lrc_book.specs.Steps.{with_stripe, place_answer, place_outcome, is_other, without_stripe, drop_outcome, node_outcome, hangs_on, emptied, with_gone, with_down, without_down, without_gone, fail_outcome, down_outcome, up_outcome, join_outcome, step}
+use Rattle.lrc_book.specs.Leases.{lease_answer, lease_outcome, next_answer, next_outcome}
+use Rattle.lrc_book.specs.Steps.{with_stripe, place_answer, place_outcome, is_other, without_stripe, drop_outcome, node_outcome, hangs_on, emptied, with_gone, with_down, without_down, with_draining, without_draining, without_gone, fail_outcome, down_outcome, up_outcome, drain_outcome, undrain_outcome, retire_outcome, join_outcome, without_upgrading, would_lose, upgrade_answer, upgrade_outcome, is_the_domain, upgraded_outcome, step}
 use Rattle.lrc_book.specs.Endings.{CanEnd}
 use Rattle.lrc_book.proofs.StepLemmas.{placed-grown}
 use Rattle.lrc_book.proofs.OutcomeLemmas.{either-way}
@@ -97,6 +100,36 @@ module _ (nodes : List NodeInfo) (past : List Entry) (st : State) (session : Ses
   unfolding join_outcome
   join-lasts n = node-lasts n _ (without_gone st n) live
 
+  drain-lasts : (n : NodeNo) → Lasts (drain_outcome nodes st n).1
+  unfolding drain_outcome
+  drain-lasts n = node-lasts n _ (with_draining st n) live
+
+  undrain-lasts : (n : NodeNo) → Lasts (undrain_outcome nodes st n).1
+  unfolding undrain_outcome
+  undrain-lasts n = node-lasts n _ (without_draining st n) live
+
+  retire-lasts : (n : NodeNo) → Lasts (retire_outcome nodes st n).1
+  unfolding retire_outcome
+  retire-lasts n =
+      either-way Lasts (is_none (node_at nodes n)) refusal.UnknownNode st _ live (λ known.
+      either-way Lasts (not (is_draining (mode_of st n))) refusal.WrongMode st _ live (λ right.
+      either-way Lasts (nat_lt 0 (load st n)) (refusal.NotEmpty (load st n)) st (Changed, with_gone st n) live (λ empty. live)))
+
+  upgraded-by : (u : UpgradeNo) (o : Option UpgradeNo) (lost : Option StripeNo) → Lasts (upgrade_answer st u o lost).1
+  upgraded-by u (Some v) lost = live
+  upgraded-by u None (Some r) = live
+  upgraded-by u None None = live
+
+  upgrade-lasts : (u : UpgradeNo) → Lasts (upgrade_outcome nodes st u).1
+  unfolding upgrade_outcome
+  upgrade-lasts u = either-way Lasts (not (has_domain nodes u)) refusal.UnknownDomain st _ live (λ known. upgraded-by u st.upgrading (would_lose nodes st u))
+
+  upgraded-lasts : (u : UpgradeNo) → Lasts (upgraded_outcome nodes st u).1
+  unfolding upgraded_outcome
+  upgraded-lasts u =
+      either-way Lasts (not (has_domain nodes u)) refusal.UnknownDomain st _ live (λ known.
+      either-way Lasts (not (is_the_domain u st.upgrading)) refusal.NotUpgrading st (Changed, without_upgrading st) live (λ right. live))
+
   -- a lease asked for the same fragment is refused
   answered-lasts : (r : StripeNo) (g : Fragment) (o : Option LeaseRecord) → o ≡ Some l → Lasts (lease_answer nodes past st session r g o).1
   answered-lasts r g (Some m) e = live
@@ -120,11 +153,20 @@ module _ (nodes : List NodeInfo) (past : List Entry) (st : State) (session : Ses
       own-of : (r : StripeNo) (g : Fragment) → l.stripe ≡ r → l.fragment ≡ g → is_of r g.value l ≡ true
       own-of r g a b = is_of-from r g.value l (ap (λ (x : StripeNo). x.value) a) (ap (λ (x : Fragment). x.value) b)
 
+  next-by : (o : Option StripeFragment) → Lasts (next_answer nodes past st session o).1
+  next-by (Some p) = lease-lasts p.0 p.1
+  next-by None = live
+
+  next-lasts : Lasts (next_outcome nodes past st session).1
+  unfolding next_outcome
+  next-lasts = next-by (next_of nodes st)
+
   -- a lease that is live is live after each command that cannot end it
   pub lease-lasts-by : (c : Command) → ¬ (CanEnd st l c) → Lasts (step nodes past st session c).1
   lease-lasts-by (Place r) other = place-lasts r
   lease-lasts-by (Drop r) other = drop-lasts r other
   lease-lasts-by (Lease r g) other = lease-lasts r g
+  lease-lasts-by Next other = next-lasts
   lease-lasts-by (Done r g e) other = done-keeps nodes st session r s g f (apart-of r g other) e ∙ live
   lease-lasts-by (Abandon r g e) other = abandon-keeps nodes st session r s g f (apart-of r g other) e ∙ live
   lease-lasts-by (Revoke r g) other = revoke-keeps nodes st session r s g f (apart-of r g other) ∙ live
@@ -132,3 +174,8 @@ module _ (nodes : List NodeInfo) (past : List Entry) (st : State) (session : Ses
   lease-lasts-by (Down n) other = down-lasts n
   lease-lasts-by (Up n) other = up-lasts n
   lease-lasts-by (Join n) other = join-lasts n
+  lease-lasts-by (Drain n) other = drain-lasts n
+  lease-lasts-by (Undrain n) other = undrain-lasts n
+  lease-lasts-by (Retire n) other = retire-lasts n
+  lease-lasts-by (Upgrade u) other = upgrade-lasts u
+  lease-lasts-by (Upgraded u) other = upgraded-lasts u

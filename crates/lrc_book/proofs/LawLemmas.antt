@@ -1,34 +1,37 @@
 -- What the reply to a command says of the state before it, and of the one that it leaves.
-use Rattle.std.proofs.Common.{inl, inr, ◌≡◌, ℕ, Bool, true, false, not, ◌||◌, is_none, List, [], ◌∷◌, ◌++◌, length, fold, Option, Some, None, Result, Ok, Err, refl, sym, ap, ◌∙◌, append_assoc, append-nil, arith}
+use Rattle.std.proofs.Common.{inl, inr, ◌≡◌, ℕ, nat_lt, Bool, true, false, not, ◌||◌, is_none, List, [], ◌∷◌, ◌++◌, length, fold, Option, Some, None, Result, Ok, Err, refl, sym, ap, ◌∙◌, append_assoc, append-nil, arith}
 use Rattle.std.specs.Option.{option_map_or}
 use Rattle.std.proofs.lemmas.List.Folds.{fold_stays}
 use Rattle.lrc_code.specs.declared.codes.Code.{Code}
 use Rattle.lrc_code.specs.declared.codes.Code.TheVariants.{Wide}
 use Rattle.lrc_code.specs.declared.numbers.StripeNo.{StripeNo}
 use Rattle.lrc_code.specs.declared.numbers.NodeNo.{NodeNo}
+use Rattle.lrc_code.specs.declared.numbers.UpgradeNo.{UpgradeNo}
 use Rattle.lrc_code.specs.declared.numbers.SessionNo.{SessionNo}
 use Rattle.lrc_code.specs.declared.numbers.Fragment.{Fragment}
 use Rattle.lrc_code.specs.Codes.{fragments}
 use Rattle.lrc_topology.specs.declared.NodeInfo.{NodeInfo}
 use Rattle.lrc_topology.specs.declared.seat.Seat.{Seat}
 use Rattle.lrc_topology.specs.declared.seat.Held.{Held}
-use Rattle.lrc_topology.specs.Nodes.{node_at}
+use Rattle.lrc_topology.specs.Nodes.{node_at, has_domain}
 use Rattle.lrc_book.specs.declared.command.Command.{Command}
-use Rattle.lrc_book.specs.declared.command.Command.TheVariants.{Place, Drop, Lease, Done, Abandon, Revoke, Fail, Down, Up, Join}
+use Rattle.lrc_book.specs.declared.command.Command.TheVariants.{Place, Drop, Lease, Next, Done, Abandon, Revoke, Fail, Down, Up, Drain, Undrain, Retire, Join, Upgrade, Upgraded}
 use Rattle.lrc_book.specs.declared.reply.Reply.TheVariants.{Placed, Dropped, Ended, Changed, Refused}
 use Rattle.lrc_book.specs.declared.refusal.Refusal.{Refusal}
 use Rattle.lrc_book.specs.declared.refusal.Refusal.TheVariants as refusal
 use Rattle.lrc_book.specs.declared.entry.Entry.{Entry}
 use Rattle.lrc_leases.specs.declared.lease.Lease.{Lease as LeaseRecord}
-use Rattle.lrc_book.specs.States.{State, has_stripe, lease_of, online_at, mode_of, is_gone, is_down}
+use Rattle.lrc_book.specs.States.{State, has_stripe, lease_of, online_at, mode_of, is_active, is_draining, is_gone, is_down, load}
+use Rattle.lrc_book.specs.Urgency.{next_of}
+use Rattle.lrc_stripes.specs.Stored.{StripeFragment}
 use Rattle.lrc_book.specs.Repairs.{needs, is_beyond_repair}
-use Rattle.lrc_book.specs.Leases.{granted, lease_answer, lease_outcome, without_lease, at_epoch, is_held_by, moved_in, done_answer, done_outcome, abandon_answer, abandon_outcome, revoke_outcome}
+use Rattle.lrc_book.specs.Leases.{granted, lease_answer, lease_outcome, next_answer, next_outcome, without_lease, at_epoch, is_held_by, moved_in, done_answer, done_outcome, abandon_answer, abandon_outcome, revoke_outcome}
 use Rattle.lrc_book.specs.Placement.{chosen, with_home, place_next, placed}
 use Rattle.lrc_book.specs.Choices.{AreChosen, IsFirstWithout}
 use Rattle.lrc_book.specs.Changes.{held_at, with_placed}
 use Rattle.lrc_book.proofs.StepLemmas.{place-there, place-passed, seats-added}
 use Rattle.lrc_book.specs.Outcomes.{Outcome, refuse_if}
-use Rattle.lrc_book.specs.Steps.{with_stripe, without_stripe, place_answer, place_outcome, drop_outcome, node_outcome, fail_outcome, down_outcome, up_outcome, join_outcome, step}
+use Rattle.lrc_book.specs.Steps.{with_stripe, without_stripe, place_answer, place_outcome, drop_outcome, node_outcome, with_gone, fail_outcome, down_outcome, up_outcome, drain_outcome, undrain_outcome, retire_outcome, join_outcome, without_upgrading, would_lose, upgrade_answer, upgrade_outcome, is_the_domain, upgraded_outcome, step}
 
 -- ---- refused commands
 
@@ -75,6 +78,21 @@ module _ (nodes : List NodeInfo) (st : State) (n : NodeNo) where
   unfolding join_outcome
   keeps-join = keeps-node nodes st n (not (is_gone (mode_of st n))) _
 
+  keeps-drain : KeepsRefused st (drain_outcome nodes st n)
+  unfolding drain_outcome
+  keeps-drain = keeps-node nodes st n (not (is_active (mode_of st n))) _
+
+  keeps-undrain : KeepsRefused st (undrain_outcome nodes st n)
+  unfolding undrain_outcome
+  keeps-undrain = keeps-node nodes st n (not (is_draining (mode_of st n))) _
+
+  keeps-retire : KeepsRefused st (retire_outcome nodes st n)
+  unfolding retire_outcome
+  keeps-retire =
+      keeps-if st (is_none (node_at nodes n)) refusal.UnknownNode _
+      (keeps-if st (not (is_draining (mode_of st n))) refusal.WrongMode _
+      (keeps-if st (nat_lt 0 (load st n)) (refusal.NotEmpty (load st n)) (Changed, with_gone st n) (λ q e. absurd (cc))))
+
 module _ (nodes : List NodeInfo) (past : List Entry) (st : State) (session : SessionNo) (s : StripeNo) (f : Fragment) where
   keeps-granted : (o : Option Seat) → KeepsRefused st (granted nodes past st session s f o)
   keeps-granted None = λ q e. refl
@@ -83,7 +101,7 @@ module _ (nodes : List NodeInfo) (past : List Entry) (st : State) (session : Ses
   keeps-answer : (o : Option LeaseRecord) → KeepsRefused st (lease_answer nodes past st session s f o)
   keeps-answer (Some l) = λ q e. refl
   keeps-answer None =
-      keeps-if st (not (needs st s f)) refusal.NotNeeded _ (keeps-if st (is_beyond_repair nodes st s f) refusal.Unrecoverable _ (keeps-granted (chosen nodes st s f)))
+      keeps-if st (not (needs nodes st s f)) refusal.NotNeeded _ (keeps-if st (is_beyond_repair nodes st s f) refusal.Unrecoverable _ (keeps-granted (chosen nodes st s f)))
 
   keeps-lease : KeepsRefused st (lease_outcome nodes past st session s f)
   unfolding lease_outcome
@@ -112,18 +130,51 @@ module _ (nodes : List NodeInfo) (past : List Entry) (st : State) (session : Ses
   keeps-revoke =
       keeps-if st (not (has_stripe st s)) refusal.UnknownStripe _ (keeps-if st (is_none (lease_of st s f)) refusal.NoLease (Ended, without_lease st s f) (λ q e. absurd (cc)))
 
+-- the most urgent lease
+module _ (nodes : List NodeInfo) (past : List Entry) (st : State) (session : SessionNo) where
+  keeps-next-by : (o : Option StripeFragment) → KeepsRefused st (next_answer nodes past st session o)
+  keeps-next-by (Some p) = keeps-lease nodes past st session p.0 p.1
+  keeps-next-by None = λ q e. refl
+
+  keeps-next : KeepsRefused st (next_outcome nodes past st session)
+  unfolding next_outcome
+  keeps-next = keeps-next-by (next_of nodes st)
+
+-- upgrades
+module _ (nodes : List NodeInfo) (st : State) (u : UpgradeNo) where
+  keeps-upgrade-by : (o : Option UpgradeNo) (lost : Option StripeNo) → KeepsRefused st (upgrade_answer st u o lost)
+  keeps-upgrade-by (Some v) lost = λ q e. refl
+  keeps-upgrade-by None (Some s) = λ q e. refl
+  keeps-upgrade-by None None = λ q e. absurd (cc)
+
+  keeps-upgrade : KeepsRefused st (upgrade_outcome nodes st u)
+  unfolding upgrade_outcome
+  keeps-upgrade = keeps-if st (not (has_domain nodes u)) refusal.UnknownDomain _ (keeps-upgrade-by st.upgrading (would_lose nodes st u))
+
+  keeps-upgraded : KeepsRefused st (upgraded_outcome nodes st u)
+  unfolding upgraded_outcome
+  keeps-upgraded =
+      keeps-if st (not (has_domain nodes u)) refusal.UnknownDomain _
+      (keeps-if st (not (is_the_domain u st.upgrading)) refusal.NotUpgrading (Changed, without_upgrading st) (λ q e. absurd (cc)))
+
 -- A refused command leaves the state as it was.
 pub refused-keeps : (nodes : List NodeInfo) (past : List Entry) (st : State) (session : SessionNo) (c : Command) (r : Refusal) → (step nodes past st session c).0 ≡ Refused r → (step nodes past st session c).1 ≡ st
 refused-keeps nodes past st session (Place s) r e = keeps-place nodes st Wide s r e
 refused-keeps nodes past st session (Drop s) r e = keeps-drop st s r e
 refused-keeps nodes past st session (Lease s f) r e = keeps-lease nodes past st session s f r e
+refused-keeps nodes past st session Next r e = keeps-next nodes past st session r e
 refused-keeps nodes past st session (Done s f d) r e = keeps-done nodes past st session s f d r e
 refused-keeps nodes past st session (Abandon s f d) r e = keeps-abandon nodes past st session s f d r e
 refused-keeps nodes past st session (Revoke s f) r e = keeps-revoke nodes past st session s f r e
 refused-keeps nodes past st session (Fail n) r e = keeps-fail nodes st n r e
 refused-keeps nodes past st session (Down n) r e = keeps-down nodes st n r e
 refused-keeps nodes past st session (Up n) r e = keeps-up nodes st n r e
+refused-keeps nodes past st session (Drain n) r e = keeps-drain nodes st n r e
+refused-keeps nodes past st session (Undrain n) r e = keeps-undrain nodes st n r e
+refused-keeps nodes past st session (Retire n) r e = keeps-retire nodes st n r e
 refused-keeps nodes past st session (Join n) r e = keeps-join nodes st n r e
+refused-keeps nodes past st session (Upgrade u) r e = keeps-upgrade nodes st u r e
+refused-keeps nodes past st session (Upgraded u) r e = keeps-upgraded nodes st u r e
 
 -- ---- seats chosen one after the other
 

@@ -1,31 +1,34 @@
 -- Which leases a command leaves live, and how many it grants.
-use Rattle.std.proofs.Common.{◌≡◌, ◌⊎◌, ℕ, ◌+◌, inl, inr, Bool, true, false, not, is_none, cond, List, [], ◌∷◌, ◌++◌, filter, Option, Some, None, Result, Ok, Err, refl, ap, ◌∙◌, subst, arith}
+use Rattle.std.proofs.Common.{◌≡◌, ◌⊎◌, ℕ, ◌+◌, nat_lt, inl, inr, Bool, true, false, not, is_none, cond, List, [], ◌∷◌, ◌++◌, filter, Option, Some, None, Result, Ok, Err, refl, ap, ◌∙◌, subst, arith}
 use Rattle.std.specs.List.{Contains}
 use Rattle.std.proofs.lemmas.List.Sums.{sum_by-append, sum_by-cons}
 use Rattle.lrc_code.specs.declared.codes.Code.TheVariants.{Wide}
 use Rattle.lrc_code.specs.declared.numbers.StripeNo.{StripeNo}
 use Rattle.lrc_code.specs.declared.numbers.NodeNo.{NodeNo}
+use Rattle.lrc_code.specs.declared.numbers.UpgradeNo.{UpgradeNo}
 use Rattle.lrc_code.specs.declared.numbers.SessionNo.{SessionNo}
 use Rattle.lrc_code.specs.declared.numbers.Fragment.{Fragment}
 use Rattle.lrc_topology.specs.declared.NodeInfo.{NodeInfo}
 use Rattle.lrc_topology.specs.declared.seat.Seat.{Seat}
-use Rattle.lrc_topology.specs.Nodes.{node_at}
+use Rattle.lrc_topology.specs.Nodes.{node_at, has_domain}
 use Rattle.lrc_leases.specs.declared.lease.Lease.{Lease as LeaseRecord}
 use Rattle.lrc_leases.specs.Leased.{is_of}
 use Rattle.lrc_book.specs.declared.kind.Kind.{Kind}
 use Rattle.lrc_book.specs.declared.command.Command.{Command}
-use Rattle.lrc_book.specs.declared.command.Command.TheVariants.{Place, Drop, Lease, Done, Abandon, Revoke, Fail, Down, Up, Join}
+use Rattle.lrc_book.specs.declared.command.Command.TheVariants.{Place, Drop, Lease, Next, Done, Abandon, Revoke, Fail, Down, Up, Drain, Undrain, Retire, Join, Upgrade, Upgraded}
 use Rattle.lrc_book.specs.declared.reply.Reply.{Reply}
-use Rattle.lrc_book.specs.declared.reply.Reply.TheVariants.{Dropped, Granted, Ended, Changed, Refused}
+use Rattle.lrc_book.specs.declared.reply.Reply.TheVariants.{Dropped, Granted, Idle, Ended, Changed, Refused}
 use Rattle.lrc_book.specs.declared.refusal.Refusal.{Refusal}
 use Rattle.lrc_book.specs.declared.refusal.Refusal.TheVariants as refusal
 use Rattle.lrc_book.specs.declared.entry.Entry.{Entry}
-use Rattle.lrc_book.specs.States.{State, has_stripe, lease_of, online_at}
+use Rattle.lrc_book.specs.States.{State, has_stripe, lease_of, mode_of, is_draining, load, online_at}
+use Rattle.lrc_book.specs.Urgency.{next_of}
+use Rattle.lrc_stripes.specs.Stored.{StripeFragment}
 use Rattle.lrc_book.specs.Placement.{chosen, placed}
 use Rattle.lrc_book.specs.Repairs.{needs, kind, is_beyond_repair}
 use Rattle.lrc_book.specs.Outcomes.{Outcome, refuse_if}
-use Rattle.lrc_book.specs.Leases.{is_grant, grants, new_lease, granted, lease_answer, lease_outcome, without_lease, at_epoch, is_held_by, moved_in, done_answer, done_outcome, abandon_answer, abandon_outcome, revoke_outcome}
-use Rattle.lrc_book.specs.Steps.{with_stripe, place_answer, place_outcome, is_other, without_stripe, drop_outcome, node_outcome, hangs_on, emptied, with_gone, with_down, without_down, without_gone, fail_outcome, down_outcome, up_outcome, join_outcome, step}
+use Rattle.lrc_book.specs.Leases.{is_grant, grants, new_lease, granted, lease_answer, lease_outcome, next_answer, next_outcome, without_lease, at_epoch, is_held_by, moved_in, done_answer, done_outcome, abandon_answer, abandon_outcome, revoke_outcome}
+use Rattle.lrc_book.specs.Steps.{with_stripe, place_answer, place_outcome, is_other, without_stripe, drop_outcome, node_outcome, hangs_on, emptied, with_gone, with_down, without_down, with_draining, without_draining, without_gone, fail_outcome, down_outcome, up_outcome, drain_outcome, undrain_outcome, retire_outcome, join_outcome, with_upgrading, without_upgrading, would_lose, upgrade_answer, upgrade_outcome, is_the_domain, upgraded_outcome, step}
 use Rattle.lrc_book.proofs.MemberLemmas.{filter-member}
 use Rattle.lrc_book.proofs.StepLemmas.{placed-grown}
 
@@ -93,13 +96,24 @@ module _ (nodes : List NodeInfo) (past : List Entry) (st : State) (session : Ses
   leased-follows : (o : Option LeaseRecord) → lease_of st s f ≡ o → Follows past st (lease_answer nodes past st session s f o)
   leased-follows (Some l) e = same past st _ st (λ r g. refl) refl
   leased-follows None e =
-      refused-follows past st (not (needs st s f)) refusal.NotNeeded _
+      refused-follows past st (not (needs nodes st s f)) refusal.NotNeeded _
       (refused-follows past st (is_beyond_repair nodes st s f) refusal.Unrecoverable _ (granted-follows e (chosen nodes st s f)))
 
   lease-follows : Follows past st (lease_outcome nodes past st session s f)
   unfolding lease_outcome
   lease-follows = refused-follows past st (not (has_stripe st s)) refusal.UnknownStripe _ (leased-follows (lease_of st s f) refl)
 
+-- the most urgent lease
+module _ (nodes : List NodeInfo) (past : List Entry) (st : State) (session : SessionNo) where
+  next-by : (o : Option StripeFragment) → Follows past st (next_answer nodes past st session o)
+  next-by (Some p) = lease-follows nodes past st session p.0 p.1
+  next-by None = same past st Idle st (λ s f. refl) refl
+
+  next-follows : Follows past st (next_outcome nodes past st session)
+  unfolding next_outcome
+  next-follows = next-by (next_of nodes st)
+
+module _ (nodes : List NodeInfo) (past : List Entry) (st : State) (session : SessionNo) (s : StripeNo) (f : Fragment) where
   abbrev others : LeaseRecord → Bool
   others l = not (is_of s f.value l)
 
@@ -149,15 +163,54 @@ module _ (nodes : List NodeInfo) (past : List Entry) (st : State) (n : NodeNo) w
   unfolding join_outcome
   join-follows = node-follows _ _ (same past st Changed (without_gone st n) (λ r g. refl) refl)
 
+  drain-follows : Follows past st (drain_outcome nodes st n)
+  unfolding drain_outcome
+  drain-follows = node-follows _ _ (same past st Changed (with_draining st n) (λ r g. refl) refl)
+
+  undrain-follows : Follows past st (undrain_outcome nodes st n)
+  unfolding undrain_outcome
+  undrain-follows = node-follows _ _ (same past st Changed (without_draining st n) (λ r g. refl) refl)
+
+  retire-follows : Follows past st (retire_outcome nodes st n)
+  unfolding retire_outcome
+  retire-follows =
+      refused-follows past st (is_none (node_at nodes n)) refusal.UnknownNode _
+      (refused-follows past st (not (is_draining (mode_of st n))) refusal.WrongMode _
+      (refused-follows past st (nat_lt 0 (load st n)) (refusal.NotEmpty (load st n)) _ (same past st Changed (with_gone st n) (λ r g. refl) refl)))
+
+-- ---- upgrades
+
+module _ (nodes : List NodeInfo) (past : List Entry) (st : State) (u : UpgradeNo) where
+  upgrade-by : (o : Option UpgradeNo) (lost : Option StripeNo) → Follows past st (upgrade_answer st u o lost)
+  upgrade-by (Some v) lost = same past st _ st (λ r g. refl) refl
+  upgrade-by None (Some s) = same past st _ st (λ r g. refl) refl
+  upgrade-by None None = same past st Changed (with_upgrading st u) (λ r g. refl) refl
+
+  upgrade-follows : Follows past st (upgrade_outcome nodes st u)
+  unfolding upgrade_outcome
+  upgrade-follows = refused-follows past st (not (has_domain nodes u)) refusal.UnknownDomain _ (upgrade-by st.upgrading (would_lose nodes st u))
+
+  upgraded-follows : Follows past st (upgraded_outcome nodes st u)
+  unfolding upgraded_outcome
+  upgraded-follows =
+      refused-follows past st (not (has_domain nodes u)) refusal.UnknownDomain _
+      (refused-follows past st (not (is_the_domain u st.upgrading)) refusal.NotUpgrading _ (same past st Changed (without_upgrading st) (λ r g. refl) refl))
+
 -- Each command grants one lease, of a fragment that had none, or none; and all other live leases were there before.
 pub step-follows : (nodes : List NodeInfo) (past : List Entry) (st : State) (session : SessionNo) (c : Command) → Follows past st (step nodes past st session c)
 step-follows nodes past st session (Place s) = place-follows nodes s past st
 step-follows nodes past st session (Drop s) = drop-follows past st s
 step-follows nodes past st session (Lease s f) = lease-follows nodes past st session s f
+step-follows nodes past st session Next = next-follows nodes past st session
 step-follows nodes past st session (Done s f e) = done-follows nodes past st session s f e
 step-follows nodes past st session (Abandon s f e) = abandon-follows nodes past st session s f e
 step-follows nodes past st session (Revoke s f) = revoke-follows nodes past st session s f
 step-follows nodes past st session (Fail n) = fail-follows nodes past st n
 step-follows nodes past st session (Down n) = down-follows nodes past st n
 step-follows nodes past st session (Up n) = up-follows nodes past st n
+step-follows nodes past st session (Drain n) = drain-follows nodes past st n
+step-follows nodes past st session (Undrain n) = undrain-follows nodes past st n
+step-follows nodes past st session (Retire n) = retire-follows nodes past st n
 step-follows nodes past st session (Join n) = join-follows nodes past st n
+step-follows nodes past st session (Upgrade u) = upgrade-follows nodes past st u
+step-follows nodes past st session (Upgraded u) = upgraded-follows nodes past st u

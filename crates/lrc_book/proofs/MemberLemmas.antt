@@ -1,9 +1,14 @@
 -- Members of lists: what filters, searches and tests say of them.
-use Rattle.std.proofs.Common.{◌≡◌, zero, suc, Bool, true, false, List, [], ◌∷◌, map, filter, find, Some, arith, refl, ap, subst, inl, inr, ◌⊎◌}
-use Rattle.std.specs.List.{All, AllPairs, Contains, list_any}
+use Rattle.std.proofs.Common.{◌≡◌, zero, suc, ℕ, Bool, true, false, cond, List, [], ◌∷◌, map, filter, find, Some, arith, refl, ap, subst, inl, inr, ◌⊎◌}
+use Rattle.std.specs.List.{All, AllPairs, Contains, list_any, count_by}
 use Rattle.std.proofs.lemmas.Bool.{cases_Bool, or_parts}
 use Rattle.std.proofs.lemmas.Option.{same_Some}
 use Rattle.std.proofs.lemmas.List.Elements.{All-nil, All-cons, All-head, All-tail, All-weaker, All-contains_itself}
+use Rattle.std.proofs.lemmas.List.Sums.{sum_by-cons}
+
+no-one : (b : Bool) → ◌≡◌ {A = ℕ} (cond b 1 0) 0 → b ≡ false
+no-one true e = absurd (omega (arith, e))
+no-one false e = refl
 
 module _ {X : Type 0} where
   pub Contains-here : (x : X) (xs : List X) → Contains (x ∷ xs) x
@@ -81,6 +86,20 @@ module _ {X : Type 0} where
   pub list_any-All : (test : X → Bool) (xs : List X) → All (λ x. test x ≡ false) xs → list_any test xs ≡ false
   list_any-All test [] all = refl
   list_any-All test (x ∷ xs) all = rw (All-head (λ y. test y ≡ false) x xs all) (list_any-All test xs (All-tail (λ y. test y ≡ false) x xs all))
+
+  -- nothing is counted where no member passes
+  pub count-none : (test : X → Bool) (xs : List X) → count_by test xs ≡ 0 → All (λ x. test x ≡ false) xs
+  count-none test [] none = All-nil (λ x. test x ≡ false)
+  count-none test (x ∷ xs) none =
+      let parts = sum_by-cons (λ y. cond (test y) 1 0) x xs in
+      All-cons (λ y. test y ≡ false) x xs (no-one (test x) (omega (arith, parts, none))) (count-none test xs (omega (arith, parts, none)))
+
+  pub none-count : (test : X → Bool) (xs : List X) → All (λ x. test x ≡ false) xs → count_by test xs ≡ 0
+  none-count test [] all = refl
+  none-count test (x ∷ xs) all =
+      let parts = sum_by-cons (λ y. cond (test y) 1 0) x xs in
+      let own : ◌≡◌ {A = ℕ} (cond (test x) 1 0) 0 = rw (All-head (λ y. test y ≡ false) x xs all) refl in
+      let rest = none-count test xs (All-tail (λ y. test y ≡ false) x xs all) in omega (arith, parts, own, rest)
 
   -- pairs: the first element with each later one, and the later ones
   pub AllPairs-head : (R : X → X → Type 0) (x : X) (xs : List X) → AllPairs R (x ∷ xs) → All (R x) xs

@@ -14,9 +14,9 @@ use Rattle.lrc_leases.specs.declared.lease.Lease.{Lease as LeaseRecord}
 use Rattle.lrc_leases.specs.Leased.{is_of}
 use Rattle.lrc_leases.proofs.ListLemmas.{is_of-parts, find-some}
 use Rattle.lrc_book.specs.declared.command.Command.{Command}
-use Rattle.lrc_book.specs.declared.command.Command.TheVariants.{Place, Drop, Lease, Done, Abandon, Revoke, Fail, Down, Up, Join}
+use Rattle.lrc_book.specs.declared.command.Command.TheVariants.{Place, Drop, Lease, Next, Done, Abandon, Revoke, Fail, Down, Up, Drain, Undrain, Retire, Join, Upgrade, Upgraded}
 use Rattle.lrc_book.specs.declared.reply.Reply.{Reply}
-use Rattle.lrc_book.specs.declared.reply.Reply.TheVariants.{Placed, Dropped, Granted, Ended, Changed, Refused}
+use Rattle.lrc_book.specs.declared.reply.Reply.TheVariants.{Placed, Dropped, Granted, Idle, Ended, Changed, Refused}
 use Rattle.lrc_book.specs.declared.refusal.Refusal.{Refusal}
 use Rattle.lrc_book.specs.declared.refusal.Refusal.TheVariants as refusal
 use Rattle.lrc_book.specs.declared.entry.Entry.{Entry}
@@ -42,18 +42,25 @@ report-is s f e (Done t g d) hit =
 report-is s f e (Place t) hit = absurd (cc)
 report-is s f e (Drop t) hit = absurd (cc)
 report-is s f e (Lease t g) hit = absurd (cc)
+report-is s f e Next hit = absurd (cc)
 report-is s f e (Abandon t g d) hit = absurd (cc)
 report-is s f e (Revoke t g) hit = absurd (cc)
 report-is s f e (Fail n) hit = absurd (cc)
 report-is s f e (Down n) hit = absurd (cc)
 report-is s f e (Up n) hit = absurd (cc)
+report-is s f e (Drain n) hit = absurd (cc)
+report-is s f e (Undrain n) hit = absurd (cc)
+report-is s f e (Retire n) hit = absurd (cc)
 report-is s f e (Join n) hit = absurd (cc)
+report-is s f e (Upgrade u) hit = absurd (cc)
+report-is s f e (Upgraded u) hit = absurd (cc)
 
 ended-is : (r : Reply) → is_ended r ≡ true → r ≡ Ended
 ended-is Ended hit = refl
 ended-is (Placed seats) hit = absurd (cc)
 ended-is Dropped hit = absurd (cc)
 ended-is (Granted l k) hit = absurd (cc)
+ended-is Idle hit = absurd (cc)
 ended-is Changed hit = absurd (cc)
 ended-is (Refused r) hit = absurd (cc)
 

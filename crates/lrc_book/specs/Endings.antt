@@ -1,9 +1,11 @@
--- Which commands can end a live lease.
-use Rattle.std.specs.Prelude.{◌≡◌, IsTrue}
+-- Which commands can end a live lease, and what is left then.
+use Rattle.std.specs.Prelude.{◌≡◌, ◌≢◌, IsTrue, None}
+use Rattle.lrc_code.specs.declared.numbers.StripeNo.{StripeNo}
+use Rattle.lrc_code.specs.declared.numbers.Fragment.{Fragment}
 use Rattle.lrc_leases.specs.declared.lease.Lease.{Lease as LeaseRecord}
 use Rattle.lrc_book.specs.declared.command.Command.{Command}
 use Rattle.lrc_book.specs.declared.command.Command.TheVariants.{Done, Abandon, Revoke, Drop, Fail}
-use Rattle.lrc_book.specs.States.{State}
+use Rattle.lrc_book.specs.States.{State, lease_of}
 use Rattle.lrc_book.specs.Steps.{hangs_on}
 
 -- the command reports, gives back or revokes the lease of this fragment, drops its stripe, or fails a node on which the lease hangs
@@ -14,3 +16,9 @@ CanEnd st l (Revoke s f) = (l.stripe ≡ s) × (l.fragment ≡ f)
 CanEnd st l (Drop s) = l.stripe ≡ s
 CanEnd st l (Fail n) = IsTrue (hangs_on st n l)
 CanEnd st l _ = ⊥
+
+-- The second state is the first one, but that the fragment has no live lease: all others have those that they had.
+pub record IsWithoutLease (was : State) (s : StripeNo) (f : Fragment) (st : State) : Type 0 where
+  pub none : lease_of st s f ≡ None
+  pub others : (r : StripeNo) (g : Fragment) → (r ≡ s → g ≢ f) → lease_of st r g ≡ lease_of was r g
+  pub rest : st ≡ record was { leases = st.leases }

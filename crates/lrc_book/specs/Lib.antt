@@ -21,6 +21,7 @@ pub mod Sessions
 pub mod Choices
 pub mod Goodness
 pub mod Granting
+pub mod Upgrading
 pub mod Reporting
 pub mod Endings
 pub mod Changes

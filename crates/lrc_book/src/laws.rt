@@ -1,6 +1,6 @@
 //! Laws of the definitions, each the contract of a function that does nothing.
 
-ghost use Rattle.std.specs.Prelude.{◌≡◌, ◌≢◌, ◌↔◌, ℕ, ◌+◌, ◌≤◌, if◌then◌else◌, IsTrue, IsFalse, IsSomeAnd, List, All, Contains, Some, None};
+ghost use Rattle.std.specs.Prelude.{◌≡◌, ◌≢◌, ◌↔◌, ℕ, ◌+◌, ◌≤◌, if◌then◌else◌, IsTrue, IsFalse, IsSome, IsSomeAnd, List, map, All, AllPairs, Contains, Some, None};
 ghost use Rattle.lrc_code.specs.declared.codes.Code.TheVariants.{Wide};
 ghost use Rattle.lrc_code.specs.Codes.{fragments};
 ghost use Rattle.lrc_code.specs.declared.numbers.StripeNo.{StripeNo};
@@ -8,27 +8,35 @@ ghost use Rattle.lrc_code.specs.declared.numbers.Fragment.{Fragment};
 ghost use Rattle.lrc_topology.specs.declared.NodeInfo.{NodeInfo};
 ghost use Rattle.lrc_topology.specs.declared.seat.Seat.{Seat};
 ghost use Rattle.lrc_topology.specs.declared.seat.Held.{Held};
-ghost use Rattle.lrc_topology.specs.Nodes.{AreNodes};
+ghost use Rattle.lrc_topology.specs.Nodes.{AreNodes, node_at, has_domain};
 ghost use Rattle.lrc_code.specs.declared.numbers.SessionNo.{SessionNo};
 ghost use Rattle.lrc_code.specs.declared.numbers.NodeNo.{NodeNo};
 ghost use Rattle.lrc_book.specs.declared.entry.Entry.{Entry};
 ghost use Rattle.lrc_book.specs.declared.command.Command.{Command};
-ghost use Rattle.lrc_book.specs.declared.command.Command.TheVariants.{Place, Lease, Done, Abandon, Revoke};
-ghost use Rattle.lrc_book.specs.declared.reply.Reply.TheVariants.{Placed, Granted, Ended, Refused};
+ghost use Rattle.lrc_book.specs.declared.command.Command.TheVariants.{Place, Lease, Next, Done, Abandon, Revoke, Retire, Upgrade};
+ghost use Rattle.lrc_book.specs.declared.reply.Reply.TheVariants.{Placed, Granted, Idle, Ended, Changed, Refused};
 ghost use Rattle.lrc_book.specs.declared.refusal.Refusal.TheVariants as refusal;
 ghost use Rattle.lrc_book.specs.declared.refusal.Refusal.{Refusal};
 ghost use Rattle.lrc_book.specs.declared.kind.Kind.{Kind};
-ghost use Rattle.lrc_book.specs.declared.kind.Kind.TheVariants.{Local, Global};
+ghost use Rattle.lrc_book.specs.declared.kind.Kind.TheVariants.{Local, Global, Move};
 ghost use Rattle.lrc_stripes.specs.Levels.{homes_of};
+ghost use Rattle.lrc_stripes.specs.Stored.{StripeFragment};
+ghost use Rattle.lrc_stripes.specs.declared.level.Level.{Level};
+ghost use Rattle.lrc_stripes.specs.declared.level.Level.TheVariants.{Whole};
+ghost use Rattle.lrc_code.specs.declared.numbers.UpgradeNo.{UpgradeNo};
+ghost use Rattle.lrc_code.specs.Losses.{IsRecoverable, IsMargin};
+ghost use Rattle.lrc_book.specs.declared.mode.Mode.TheVariants.{Draining, Gone};
 ghost use Rattle.lrc_leases.specs.declared.lease.Lease.{Lease as LeaseRecord};
 ghost use Rattle.lrc_book.specs.Outcomes.{refused};
 ghost use Rattle.lrc_book.specs.Leases.{grants, new_lease, reports_taken};
-ghost use Rattle.lrc_book.specs.Repairs.{needs, is_safe, kind, IsFromItsGroup};
-ghost use Rattle.lrc_book.specs.Granting.{IsOwed};
+ghost use Rattle.lrc_book.specs.Repairs.{needs, is_safe, kind, IsAtHome, IsFromItsGroup};
+ghost use Rattle.lrc_book.specs.Urgency.{work, risk};
+ghost use Rattle.lrc_book.specs.Granting.{IsOwed, IsGrantable, IsMoreUrgent, IsMostUrgent, AsksFor};
+ghost use Rattle.lrc_book.specs.Upgrading.{WouldBeLost};
 ghost use Rattle.lrc_book.specs.Reporting.{IsReported};
-ghost use Rattle.lrc_book.specs.Endings.{CanEnd};
+ghost use Rattle.lrc_book.specs.Endings.{CanEnd, IsWithoutLease};
 ghost use Rattle.lrc_book.specs.Steps.{with_stripe, step};
-ghost use Rattle.lrc_book.specs.States.{State, has_stripe, lease_of, online_at};
+ghost use Rattle.lrc_book.specs.States.{State, has_stripe, code_of, taken_seats, load, lease_of, mode_of, online_at, missing, level, homes_shown};
 ghost use Rattle.lrc_book.specs.Placement.{chosen, is_beside};
 ghost use Rattle.lrc_book.specs.Choices.{IsFitting, IsChoice, AreChosen, IsFirstWithout};
 ghost use Rattle.lrc_book.specs.Histories.{IsLegal, outcome_in, world_after, state_after};
@@ -133,13 +141,16 @@ pub fn others_keep_their_leases()
         → (r ≡ s → g ≢ f) → lease_of (step nodes past st session (Revoke s f)).1 r g ≡ lease_of st r g }
 {}
 
-/// A fragment is rebuilt from its local group exactly where it is of one and no other of its class is missing. The
-/// sources are then the six others of its class, rising. Every other fragment is rebuilt from the whole stripe.
+/// A fragment is copied from its own home exactly where that is online. Else it is rebuilt from its local group exactly
+/// where it is of one and no other of its class is missing. The sources are then the six others of its class, rising.
+/// Every other fragment is rebuilt from the whole stripe.
 pub fn kinds_in_words()
+    ensures own { (nodes : List NodeInfo) (st : State) (s : StripeNo) (f : Fragment)
+        → (kind nodes st s f ≡ Move) ↔ IsAtHome nodes st s f }
     ensures local { (nodes : List NodeInfo) (st : State) (s : StripeNo) (f : Fragment) (sources : List Fragment)
         → (kind nodes st s f ≡ Local sources) ↔ IsFromItsGroup nodes st s f sources }
     ensures global { (nodes : List NodeInfo) (st : State) (s : StripeNo) (f : Fragment)
-        → (kind nodes st s f ≡ Global) ↔ ((sources : List Fragment) → ¬ (IsFromItsGroup nodes st s f sources)) }
+        → (kind nodes st s f ≡ Global) ↔ ((¬ (IsAtHome nodes st s f)) × ((sources : List Fragment) → ¬ (IsFromItsGroup nodes st s f sources))) }
 {}
 
 /// Lease is answered with a lease exactly where the fragment is owed one and a seat is chosen for it: the lease is then
@@ -153,10 +164,10 @@ pub fn a_lease_is_granted_where_it_is_owed()
     ensures leased { (nodes : List NodeInfo) (past : List Entry) (st : State) (session : SessionNo) (s : StripeNo) (f : Fragment) (e : ℕ)
         → ((step nodes past st session (Lease s f)).0 ≡ Refused (refusal.AlreadyLeased e)) ↔ (IsTrue (has_stripe st s) × IsSomeAnd (lease_of st s f) (λ l. l.epoch ≡ e)) }
     ensures not_needed { (nodes : List NodeInfo) (past : List Entry) (st : State) (session : SessionNo) (s : StripeNo) (f : Fragment)
-        → ((step nodes past st session (Lease s f)).0 ≡ Refused refusal.NotNeeded) ↔ (IsTrue (has_stripe st s) × (lease_of st s f ≡ None) × IsFalse (needs st s f)) }
+        → ((step nodes past st session (Lease s f)).0 ≡ Refused refusal.NotNeeded) ↔ (IsTrue (has_stripe st s) × (lease_of st s f ≡ None) × IsFalse (needs nodes st s f)) }
     ensures unrecoverable { (nodes : List NodeInfo) (past : List Entry) (st : State) (session : SessionNo) (s : StripeNo) (f : Fragment)
         → ((step nodes past st session (Lease s f)).0 ≡ Refused refusal.Unrecoverable)
-        ↔ (IsTrue (has_stripe st s) × (lease_of st s f ≡ None) × IsTrue (needs st s f) × (kind nodes st s f ≡ Global) × IsFalse (is_safe nodes st s)) }
+        ↔ (IsTrue (has_stripe st s) × (lease_of st s f ≡ None) × IsTrue (needs nodes st s f) × (kind nodes st s f ≡ Global) × IsFalse (is_safe nodes st s)) }
     ensures no_node { (nodes : List NodeInfo) (past : List Entry) (st : State) (session : SessionNo) (s : StripeNo) (f : Fragment) (g : Fragment)
         → ((step nodes past st session (Lease s f)).0 ≡ Refused (refusal.NoLawfulNode g))
         ↔ ((g ≡ f) × IsOwed nodes st s f × ((n : NodeInfo) → ¬ (IsFitting nodes st s f n))) }
@@ -188,11 +199,12 @@ pub fn leases_end_by_these_alone()
         → lease_of st s f ≡ Some l → ¬ (CanEnd st l command) → lease_of (step nodes past st session command).1 s f ≡ Some l }
 {}
 
-/// After a legal history each live lease was granted in one of its entries, to the session that holds it.
+/// After a legal history each live lease was granted in one of its entries, to the session that holds it, by Lease of
+/// its fragment or by Next.
 pub fn live_leases_were_granted()
     ensures { (nodes : List NodeInfo) (history : List Entry) (l : LeaseRecord)
         → IsLegal nodes history → Contains (state_after nodes history).leases l
-        → (k : Kind) × Contains history (record { session = l.holder; command = Lease l.stripe l.fragment; reply = Granted l k }) }
+        → (c : Command) × (k : Kind) × AsksFor l c × Contains history (record { session = l.holder; command = c; reply = Granted l k }) }
 {}
 
 /// After a report that is taken the fragment has no live lease, and its home is the target of the lease that it had.
