@@ -9,10 +9,11 @@ use Rattle.std.proofs.lemmas.Fmt.{digits_decimal, digits_value-decimal, decimal_
 use Rattle.std.proofs.lemmas.List.Splits.{slice_split_none, slice_split_at, join_with_byte-slice_split}
 use Rattle.std.proofs.lemmas.List.Sums.{AllPass-from_list_all}
 use Rattle.lrc_book.specs.declared.command.Command.{Command}
-use Rattle.lrc_book.specs.declared.command.Command.TheVariants.{Place, Drop, Lease, Done, Abandon, Revoke, Fail, Down, Up, Join}
+use Rattle.lrc_book.specs.declared.command.Command.TheVariants.{Place, Drop, Lease, Next, Done, Abandon, Revoke, Fail, Down, Up, Drain, Undrain, Retire, Join, Upgrade, Upgraded}
 use Rattle.lrc_code.specs.declared.numbers.StripeNo.{StripeNo}
 use Rattle.lrc_code.specs.declared.numbers.NodeNo.{NodeNo}
 use Rattle.lrc_code.specs.declared.numbers.Fragment.{Fragment}
+use Rattle.lrc_code.specs.declared.numbers.UpgradeNo.{UpgradeNo}
 use Rattle.lrc_script.specs.declared.script.Cause.{Cause}
 use Rattle.lrc_script.specs.declared.script.Cause.TheVariants.{WordCount, NotANumber, OutOfRange}
 use Rattle.lrc_script.specs.Scripts.{Form, same_text, is_number, argument_cause, or_else, arguments_cause, numbers_cause, form_cause, form_of, words_cause, words_of, is_passed_over, numbers_text, command_line, IsInRange, cause_of}
@@ -106,6 +107,11 @@ of_node_line : (word : List ℕ) (n : NodeNo) → n.value < 65536 → length wor
     → cause_of (word ++ 32 ∷ decimal n.value) ≡ None
 of_node_line word n small = good_line word n.value [] (65536 ∷ []) ((small, lit≤ tt), tt)
 
+of_domain_line : (word : List ℕ) (u : UpgradeNo) → u.value < 256 → length word + 11 ≤ 1024
+    → words_of (word ++ 32 ∷ decimal u.value) ≡ word ∷ words_of (decimal u.value) → nat_eq (get_or (word ++ 32 ∷ decimal u.value) 0 0) 35 ≡ false → form_of word ≡ Some (form_with word (256 ∷ []))
+    → cause_of (word ++ 32 ∷ decimal u.value) ≡ None
+of_domain_line word u small = good_line word u.value [] (256 ∷ []) ((small, lit≤ tt), tt)
+
 pub below_pair : (s : StripeNo) (f : Fragment) → AreBelow (s.value ∷ f.value ∷ []) (4096 ∷ 16 ∷ [])
 below_pair s f = ((s.in_range, lit≤ tt), ((f.in_range, lit≤ tt), tt))
 
@@ -116,13 +122,19 @@ pub cause_of-command_line : (command : Command) → IsInRange command → cause_
 cause_of-command_line (Place s) _ = of_stripe_line (codes "place") s (lit≤ tt) refl refl refl
 cause_of-command_line (Drop s) _ = of_stripe_line (codes "drop") s (lit≤ tt) refl refl refl
 cause_of-command_line (Lease s f) _ = good_line (codes "lease") s.value (f.value ∷ []) (4096 ∷ 16 ∷ []) (below_pair s f) (lit≤ tt) refl refl refl
+cause_of-command_line Next _ = cause_of-command (codes "next") (lit≤ tt) refl
 cause_of-command_line (Done s f e) small = good_line (codes "done") s.value (f.value ∷ e ∷ []) (4096 ∷ 16 ∷ 4294967296 ∷ []) (below_report s f e small) (lit≤ tt) refl refl refl
 cause_of-command_line (Abandon s f e) small = good_line (codes "abandon") s.value (f.value ∷ e ∷ []) (4096 ∷ 16 ∷ 4294967296 ∷ []) (below_report s f e small) (lit≤ tt) refl refl refl
 cause_of-command_line (Revoke s f) _ = good_line (codes "revoke") s.value (f.value ∷ []) (4096 ∷ 16 ∷ []) (below_pair s f) (lit≤ tt) refl refl refl
 cause_of-command_line (Fail n) small = of_node_line (codes "fail") n small (lit≤ tt) refl refl refl
 cause_of-command_line (Down n) small = of_node_line (codes "down") n small (lit≤ tt) refl refl refl
 cause_of-command_line (Up n) small = of_node_line (codes "up") n small (lit≤ tt) refl refl refl
+cause_of-command_line (Drain n) small = of_node_line (codes "drain") n small (lit≤ tt) refl refl refl
+cause_of-command_line (Undrain n) small = of_node_line (codes "undrain") n small (lit≤ tt) refl refl refl
+cause_of-command_line (Retire n) small = of_node_line (codes "retire") n small (lit≤ tt) refl refl refl
 cause_of-command_line (Join n) small = of_node_line (codes "join") n small (lit≤ tt) refl refl refl
+cause_of-command_line (Upgrade u) small = of_domain_line (codes "upgrade") u small (lit≤ tt) refl refl refl
+cause_of-command_line (Upgraded u) small = of_domain_line (codes "upgraded") u small (lit≤ tt) refl refl refl
 
 -- ---- a line without a cause
 
@@ -179,6 +191,15 @@ of_node name make in_range line [] below = absurd below
 of_node name make in_range line (n ∷ []) below = let node : NodeNo = record { value = n } in (make node, in_range node below.0.0, line node)
 of_node name make in_range line (n ∷ m ∷ ms) below = absurd below.1
 
+of_domain : (name : List ℕ) (make : UpgradeNo → Command) → ((u : UpgradeNo) → u.value < 256 → IsInRange (make u)) → ((u : UpgradeNo) → name ++ 32 ∷ decimal u.value ≡ command_line (make u)) → IsLine name (256 ∷ [])
+of_domain name make in_range line [] below = absurd below
+of_domain name make in_range line (n ∷ []) below = let domain : UpgradeNo = record { value = n } in (make domain, in_range domain below.0.0, line domain)
+of_domain name make in_range line (n ∷ m ∷ ms) below = absurd below.1
+
+of_none : (name : List ℕ) (command : Command) → IsInRange command → name ≡ command_line command → IsLine name []
+of_none name command in_range line [] below = (command, in_range, line)
+of_none name command in_range line (n ∷ ns) below = absurd below
+
 of_pair : (name : List ℕ) (make : StripeNo → Fragment → Command) → ((s : StripeNo) (f : Fragment) → IsInRange (make s f))
     → ((s : StripeNo) (f : Fragment) → name ++ 32 ∷ numbers_text (s.value ∷ f.value ∷ []) ≡ command_line (make s f)) → IsLine name (4096 ∷ 16 ∷ [])
 of_pair name make in_range line [] below = absurd below
@@ -226,13 +247,19 @@ module _ (word : List ℕ) (words : List (List ℕ)) where
       try_form (codes "place") (4096 ∷ []) _ (lit≤ tt, tt) (of_stripe (codes "place") Place (λ s. tt) (λ s. refl))
       (try_form (codes "drop") (4096 ∷ []) _ (lit≤ tt, tt) (of_stripe (codes "drop") Drop (λ s. tt) (λ s. refl))
       (try_form (codes "lease") (4096 ∷ 16 ∷ []) _ (lit≤ tt, (lit≤ tt, tt)) (of_pair (codes "lease") Lease (λ s f. tt) (λ s f. refl))
+      (try_form (codes "next") [] _ tt (of_none (codes "next") Next tt refl)
       (try_form (codes "done") (4096 ∷ 16 ∷ 4294967296 ∷ []) _ (lit≤ tt, (lit≤ tt, (lit≤ tt, tt))) (of_report (codes "done") Done (λ s f e small. small) (λ s f e. refl))
       (try_form (codes "abandon") (4096 ∷ 16 ∷ 4294967296 ∷ []) _ (lit≤ tt, (lit≤ tt, (lit≤ tt, tt))) (of_report (codes "abandon") Abandon (λ s f e small. small) (λ s f e. refl))
       (try_form (codes "revoke") (4096 ∷ 16 ∷ []) _ (lit≤ tt, (lit≤ tt, tt)) (of_pair (codes "revoke") Revoke (λ s f. tt) (λ s f. refl))
       (try_form (codes "fail") (65536 ∷ []) _ (lit≤ tt, tt) (of_node (codes "fail") Fail (λ n small. small) (λ n. refl))
       (try_form (codes "down") (65536 ∷ []) _ (lit≤ tt, tt) (of_node (codes "down") Down (λ n small. small) (λ n. refl))
       (try_form (codes "up") (65536 ∷ []) _ (lit≤ tt, tt) (of_node (codes "up") Up (λ n small. small) (λ n. refl))
-      (try_form (codes "join") (65536 ∷ []) None (lit≤ tt, tt) (of_node (codes "join") Join (λ n small. small) (λ n. refl)) (λ good. cc))))))))))
+      (try_form (codes "drain") (65536 ∷ []) _ (lit≤ tt, tt) (of_node (codes "drain") Drain (λ n small. small) (λ n. refl))
+      (try_form (codes "undrain") (65536 ∷ []) _ (lit≤ tt, tt) (of_node (codes "undrain") Undrain (λ n small. small) (λ n. refl))
+      (try_form (codes "retire") (65536 ∷ []) _ (lit≤ tt, tt) (of_node (codes "retire") Retire (λ n small. small) (λ n. refl))
+      (try_form (codes "join") (65536 ∷ []) _ (lit≤ tt, tt) (of_node (codes "join") Join (λ n small. small) (λ n. refl))
+      (try_form (codes "upgrade") (256 ∷ []) _ (lit≤ tt, tt) (of_domain (codes "upgrade") Upgrade (λ u small. small) (λ u. refl))
+      (try_form (codes "upgraded") (256 ∷ []) None (lit≤ tt, tt) (of_domain (codes "upgraded") Upgraded (λ u small. small) (λ u. refl)) (λ good. cc))))))))))))))))
 
 -- a line whose words have no cause is the line of a command
 pub words_cause-none : (line : List ℕ) → words_cause (words_of line) ≡ None → (command : Command) × IsInRange command × (line ≡ command_line command)

@@ -1,6 +1,6 @@
 -- Words, lines and what they are read as.
-use Rattle.std.proofs.Common.{◌≡◌, ◌≢◌, ℕ, suc, ◌+◌, nat_eq, nat_lt, count_by, ◌-◌, ◌*◌, ◌^◌, ◌<◌, ◌≤◌, Bool, true, false, not, ◌&&◌, ◌||◌, List, [], ◌∷◌, length, get_or, take, decimal, codes, ◌++◌, rules, Option, Some, None, refl, sym, ap, ◌∙◌, arith}
-use borrow.Author.Tests.{ltb-true, lt-ltb, le-ltb, eqb-true, eq-eqb}
+use Rattle.std.proofs.Common.{◌≡◌, ◌≢◌, ℕ, suc, ◌+◌, nat_eq, nat_lt, count_by, ◌-◌, ◌*◌, ◌^◌, ◌<◌, ◌≤◌, Bool, true, false, not, ◌&&◌, ◌||◌, List, [], ◌∷◌, length, get_or, take, decimal, codes, rules, Option, Some, None, refl, sym, ap, ◌∙◌, arith}
+use borrow.Author.Tests.{ltb-true, lt-ltb, le-ltb, eqb-true, eq-eqb, ne_eqb}
 use Rattle.std.specs.List.{list_all, starts_with, join_with_byte}
 use Rattle.std.specs.Bool.{Decides}
 use Rattle.std.proofs.lemmas.List.{take_all}
@@ -11,12 +11,12 @@ use Rattle.std.proofs.lemmas.Str.Parse.{IsNumeralModel, numerals_by_value}
 use Rattle.std.proofs.lemmas.Fmt.{decimal-digits_value}
 use Rattle.std.proofs.lemmas.Int.Digits.{digits_value_more}
 use Rattle.std.proofs.lemmas.List.Sums.{AllPass-from_list_all}
-use Rattle.lrc_script.specs.declared.script.Cause.TheVariants.{UnknownWord, OutOfRange}
+use Rattle.lrc_script.specs.declared.script.Cause.TheVariants.{WordCount, OutOfRange}
 use Rattle.std.proofs.lemmas.Bool.Decides.{nat_tests}
 use Rattle.std.specs.Borrow.{Bor}
 use Rattle.std.proofs.lemmas.List.Splits.{length-slice_split, join_with_byte-slice_split}
 use Rattle.lrc_script.specs.Cuts.{IsCut, words_behind}
-use Rattle.lrc_script.specs.Scripts.{same_text, is_number, argument_cause, form_of, form_cause, words_cause, cause_of, is_passed_over, words_of}
+use Rattle.lrc_script.specs.Scripts.{same_text, is_number, argument_cause, node_forms, form_in, numbers_cause, form_cause, words_cause, cause_of, is_passed_over, words_of}
 use Rattle.lrc_script.proofs.CutLemmas.{pieces_behind, slice_split-cut}
 
 -- ---- texts
@@ -112,23 +112,16 @@ words_behind-more rest more line tail word there some cut one =
 
 -- ---- commands
 
--- the line of a word and one more
-pub line-one : (line word argument name text : List ℕ) (rest : Option (Bor (List ℕ))) → IsCut 32 line word rest → words_behind rest ≡ argument ∷ [] → word ≡ name → argument ≡ text → line ≡ name ++ 32 ∷ text
-line-one line word argument name text rest cut one named written =
-    let words = words_of-cut line word rest cut ∙ ap (λ ws. word ∷ ws) one in
-    sym (join_with_byte-slice_split 32 line) ∙ ap (join_with_byte 32) words ∙ ap (λ w. w ++ 32 ∷ argument) named ∙ ap (λ w. name ++ 32 ∷ w) written
+-- the line of a word and these behind it
+pub line-words :
+    (line word name : List ℕ) (words : List (List ℕ)) (rest : Option (Bor (List ℕ))) → IsCut 32 line word rest → words_behind rest ≡ words → word ≡ name
+    → line ≡ join_with_byte 32 (name ∷ words)
+line-words line word name words rest cut behind named =
+    sym (join_with_byte-slice_split 32 line) ∙ ap (join_with_byte 32) (words_of-cut line word rest cut ∙ ap (λ ws. word ∷ ws) behind ∙ ap (λ w. w ∷ words) named)
 
--- the line of a word and two more
-pub line-two : (line word first second name : List ℕ) (rest : Option (Bor (List ℕ))) → IsCut 32 line word rest → words_behind rest ≡ first ∷ second ∷ [] → word ≡ name → line ≡ join_with_byte 32 (name ∷ first ∷ second ∷ [])
-line-two line word first second name rest cut two named =
-    let words = words_of-cut line word rest cut ∙ ap (λ ws. word ∷ ws) two in
-    sym (join_with_byte-slice_split 32 line) ∙ ap (join_with_byte 32) words ∙ ap (λ w. join_with_byte 32 (w ∷ first ∷ second ∷ [])) named
-
--- the line of a word and three more
-pub line-three : (line word first second third name : List ℕ) (rest : Option (Bor (List ℕ))) → IsCut 32 line word rest → words_behind rest ≡ first ∷ second ∷ third ∷ [] → word ≡ name → line ≡ join_with_byte 32 (name ∷ first ∷ second ∷ third ∷ [])
-line-three line word first second third name rest cut three named =
-    let words = words_of-cut line word rest cut ∙ ap (λ ws. word ∷ ws) three in
-    sym (join_with_byte-slice_split 32 line) ∙ ap (join_with_byte 32) words ∙ ap (λ w. join_with_byte 32 (w ∷ first ∷ second ∷ third ∷ [])) named
+-- some word stands behind a space
+pub no_words-cause : (line : Bor (List ℕ)) → numbers_cause (words_of line.now) [] ≡ Some WordCount
+no_words-cause line = let split = words_of-some line.now in rw (split.2, ne_eqb (suc (length split.1)) 0 (omega arith)) refl
 
 -- words behind a cut are one more than those behind its first word
 pub words_behind-next : (rest more : Option (Bor (List ℕ))) (line : Bor (List ℕ)) (word : List ℕ) (words : List (List ℕ)) → rest ≡ Some line → IsCut 32 line.now word more → words_behind more ≡ words → words_behind rest ≡ word ∷ words
@@ -139,24 +132,39 @@ words_behind-count rest more line word n there cut other same =
     let count = ap length (words_behind-next rest more line word (words_behind more) there cut refl) in
     other (omega (arith, same, count))
 
-form_of-none : (word : List ℕ) → word ≢ codes "place" → word ≢ codes "drop" → word ≢ codes "lease" → word ≢ codes "done" → word ≢ codes "abandon" → word ≢ codes "revoke" → word ≢ codes "fail" → word ≢ codes "down" → word ≢ codes "up" → word ≢ codes "join" → form_of word ≡ None
-form_of-none word no_place no_drop no_lease no_done no_abandon no_revoke no_fail no_down no_up no_join =
-    rw (
+-- the word of no command on stripes
+pub words_cause-node :
+    (line word : List ℕ) (rest : Option (Bor (List ℕ))) → IsCut 32 line word rest
+    → word ≢ codes "place" → word ≢ codes "drop" → word ≢ codes "lease" → word ≢ codes "next"
+    → word ≢ codes "done" → word ≢ codes "abandon" → word ≢ codes "revoke"
+    → words_cause (words_of line) ≡ form_cause (words_behind rest) (form_in node_forms word)
+words_cause-node line word rest cut no_place no_drop no_lease no_next no_done no_abandon no_revoke =
+    ap words_cause (words_of-cut line word rest cut) ∙ rw (
       same_text-false word (codes "place") no_place,
       same_text-false word (codes "drop") no_drop,
       same_text-false word (codes "lease") no_lease,
+      same_text-false word (codes "next") no_next,
       same_text-false word (codes "done") no_done,
       same_text-false word (codes "abandon") no_abandon,
       same_text-false word (codes "revoke") no_revoke,
+    ) refl
+
+-- the word of no command on nodes
+pub node_form-none :
+    (word : List ℕ) → word ≢ codes "fail" → word ≢ codes "down" → word ≢ codes "up" → word ≢ codes "drain" → word ≢ codes "undrain"
+    → word ≢ codes "retire" → word ≢ codes "join" → word ≢ codes "upgrade" → word ≢ codes "upgraded" → form_in node_forms word ≡ None
+node_form-none word no_fail no_down no_up no_drain no_undrain no_retire no_join no_upgrade no_upgraded =
+    rw (
       same_text-false word (codes "fail") no_fail,
       same_text-false word (codes "down") no_down,
       same_text-false word (codes "up") no_up,
+      same_text-false word (codes "drain") no_drain,
+      same_text-false word (codes "undrain") no_undrain,
+      same_text-false word (codes "retire") no_retire,
       same_text-false word (codes "join") no_join,
+      same_text-false word (codes "upgrade") no_upgrade,
+      same_text-false word (codes "upgraded") no_upgraded,
     ) refl
-
-pub words_cause-unknown : (line word : List ℕ) (rest : Option (Bor (List ℕ))) → IsCut 32 line word rest → word ≢ codes "place" → word ≢ codes "drop" → word ≢ codes "lease" → word ≢ codes "done" → word ≢ codes "abandon" → word ≢ codes "revoke" → word ≢ codes "fail" → word ≢ codes "down" → word ≢ codes "up" → word ≢ codes "join" → words_cause (words_of line) ≡ Some UnknownWord
-words_cause-unknown line word rest cut no_place no_drop no_lease no_done no_abandon no_revoke no_fail no_down no_up no_join =
-    ap words_cause (words_of-cut line word rest cut) ∙ ap (form_cause (words_behind rest)) (form_of-none word no_place no_drop no_lease no_done no_abandon no_revoke no_fail no_down no_up no_join)
 
 -- ---- lines
 

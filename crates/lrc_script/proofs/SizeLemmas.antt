@@ -3,7 +3,7 @@ use Rattle.std.proofs.Common.{◌≡◌, ℕ, suc, ◌+◌, ◌*◌, ◌≤◌, 
 use Rattle.std.specs.List.{slice_split, onto_first}
 use Rattle.std.proofs.lemmas.Fmt.{decimal_nonempty}
 use Rattle.lrc_book.specs.declared.command.Command.{Command}
-use Rattle.lrc_book.specs.declared.command.Command.TheVariants.{Place, Drop, Lease, Done, Abandon, Revoke, Fail, Down, Up, Join}
+use Rattle.lrc_book.specs.declared.command.Command.TheVariants.{Place, Drop, Lease, Next, Done, Abandon, Revoke, Fail, Down, Up, Drain, Undrain, Retire, Join, Upgrade, Upgraded}
 use Rattle.lrc_script.specs.Scripts.{lines_of, is_passed_over, numbers_text, command_line, IsInRange, IsScript}
 
 -- the bytes of the lines, with one for the end of each
@@ -32,13 +32,19 @@ length-command_line : (c : Command) → IsInRange c → 4 ≤ length (command_li
 length-command_line (Place s) _ = omega (arith, length-append (codes "place ") (decimal s.value))
 length-command_line (Drop s) _ = omega (arith, length-append (codes "drop ") (decimal s.value))
 length-command_line (Lease s f) _ = omega (arith, length-append (codes "lease ") (numbers_text (s.value ∷ f.value ∷ [])))
+length-command_line Next _ = omega arith
 length-command_line (Done s f e) _ = omega (arith, length-append (codes "done ") (numbers_text (s.value ∷ f.value ∷ e ∷ [])))
 length-command_line (Abandon s f e) _ = omega (arith, length-append (codes "abandon ") (numbers_text (s.value ∷ f.value ∷ e ∷ [])))
 length-command_line (Revoke s f) _ = omega (arith, length-append (codes "revoke ") (numbers_text (s.value ∷ f.value ∷ [])))
 length-command_line (Fail n) _ = omega (arith, length-append (codes "fail ") (decimal n.value))
 length-command_line (Down n) _ = omega (arith, length-append (codes "down ") (decimal n.value))
 length-command_line (Up n) small = let digit = decimal_nonempty n.value (omega (arith, small)) in omega (arith, length-append (codes "up ") (decimal n.value), digit)
+length-command_line (Drain n) _ = omega (arith, length-append (codes "drain ") (decimal n.value))
+length-command_line (Undrain n) _ = omega (arith, length-append (codes "undrain ") (decimal n.value))
+length-command_line (Retire n) _ = omega (arith, length-append (codes "retire ") (decimal n.value))
 length-command_line (Join n) _ = omega (arith, length-append (codes "join ") (decimal n.value))
+length-command_line (Upgrade u) _ = omega (arith, length-append (codes "upgrade ") (decimal u.value))
+length-command_line (Upgraded u) _ = omega (arith, length-append (codes "upgraded ") (decimal u.value))
 
 size_of-commands : (cs : List Command) → All IsInRange cs → 5 * length cs ≤ size_of (map command_line cs)
 size_of-commands [] _ = omega arith

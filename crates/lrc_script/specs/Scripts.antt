@@ -4,7 +4,7 @@ use Rattle.std.specs.List.{slice_split, list_all, starts_with, join_with_byte}
 use Rattle.std.specs.Char.{is_ascii_digit}
 use Rattle.std.specs.Str.Parse.{digits_value}
 use Rattle.lrc_book.specs.declared.command.Command.{Command}
-use Rattle.lrc_book.specs.declared.command.Command.TheVariants.{Place, Drop, Lease, Done, Abandon, Revoke, Fail, Down, Up, Join}
+use Rattle.lrc_book.specs.declared.command.Command.TheVariants.{Place, Drop, Lease, Next, Done, Abandon, Revoke, Fail, Down, Up, Drain, Undrain, Retire, Join, Upgrade, Upgraded}
 use Rattle.lrc_script.specs.declared.script.Cause.{Cause}
 use Rattle.lrc_script.specs.declared.script.ScriptError.{ScriptError}
 use Rattle.lrc_script.specs.declared.script.ScriptError.TheVariants.{Bad, OutOfMemory}
@@ -29,26 +29,39 @@ abbrev pub command_line : Command → List ℕ
 command_line (Place s) = codes "place " ++ decimal s.value
 command_line (Drop s) = codes "drop " ++ decimal s.value
 command_line (Lease s f) = codes "lease " ++ numbers_text (s.value ∷ f.value ∷ [])
+command_line Next = codes "next"
 command_line (Done s f e) = codes "done " ++ numbers_text (s.value ∷ f.value ∷ e ∷ [])
 command_line (Abandon s f e) = codes "abandon " ++ numbers_text (s.value ∷ f.value ∷ e ∷ [])
 command_line (Revoke s f) = codes "revoke " ++ numbers_text (s.value ∷ f.value ∷ [])
 command_line (Fail n) = codes "fail " ++ decimal n.value
 command_line (Down n) = codes "down " ++ decimal n.value
 command_line (Up n) = codes "up " ++ decimal n.value
+command_line (Drain n) = codes "drain " ++ decimal n.value
+command_line (Undrain n) = codes "undrain " ++ decimal n.value
+command_line (Retire n) = codes "retire " ++ decimal n.value
 command_line (Join n) = codes "join " ++ decimal n.value
+command_line (Upgrade u) = codes "upgrade " ++ decimal u.value
+command_line (Upgraded u) = codes "upgraded " ++ decimal u.value
 
--- a command's node has a number below 65,536, and its epoch is below 4,294,967,296; those of a stripe and a fragment are in their range by their types
+-- a command's node has a number below 65,536, its upgrade domain one below 256, and its epoch is below 4,294,967,296;
+-- the numbers of a stripe and a fragment are in their range by their types
 abbrev pub IsInRange : Command → Type 0
 IsInRange (Place s) = Unit {0}
 IsInRange (Drop s) = Unit {0}
 IsInRange (Lease s f) = Unit {0}
+IsInRange Next = Unit {0}
 IsInRange (Done s f e) = e < 4294967296
 IsInRange (Abandon s f e) = e < 4294967296
 IsInRange (Revoke s f) = Unit {0}
 IsInRange (Fail n) = n.value < 65536
 IsInRange (Down n) = n.value < 65536
 IsInRange (Up n) = n.value < 65536
+IsInRange (Drain n) = n.value < 65536
+IsInRange (Undrain n) = n.value < 65536
+IsInRange (Retire n) = n.value < 65536
 IsInRange (Join n) = n.value < 65536
+IsInRange (Upgrade u) = u.value < 256
+IsInRange (Upgraded u) = u.value < 256
 
 -- these are the commands of the lines, in order: no line is too long, and each line that is not passed over is that of a command
 pub record IsScript (lines : List (List ℕ)) (commands : List Command) : Type 0 where
@@ -63,21 +76,34 @@ pub record Form : Type 0 where
   pub word : List ℕ
   pub bounds : List ℕ
 
-abbrev pub forms : List Form
-forms =
+-- the forms of the commands on stripes and their fragments
+abbrev pub stripe_forms : List Form
+stripe_forms =
     record { word = codes "place"; bounds = 4096 ∷ [] } ∷ record { word = codes "drop"; bounds = 4096 ∷ [] }
-    ∷ record { word = codes "lease"; bounds = 4096 ∷ 16 ∷ [] } ∷ record { word = codes "done"; bounds = 4096 ∷ 16 ∷ 4294967296 ∷ [] }
-    ∷ record { word = codes "abandon"; bounds = 4096 ∷ 16 ∷ 4294967296 ∷ [] } ∷ record { word = codes "revoke"; bounds = 4096 ∷ 16 ∷ [] }
-    ∷ record { word = codes "fail"; bounds = 65536 ∷ [] } ∷ record { word = codes "down"; bounds = 65536 ∷ [] }
-    ∷ record { word = codes "up"; bounds = 65536 ∷ [] } ∷ record { word = codes "join"; bounds = 65536 ∷ [] } ∷ []
+    ∷ record { word = codes "lease"; bounds = 4096 ∷ 16 ∷ [] } ∷ record { word = codes "next"; bounds = [] }
+    ∷ record { word = codes "done"; bounds = 4096 ∷ 16 ∷ 4294967296 ∷ [] } ∷ record { word = codes "abandon"; bounds = 4096 ∷ 16 ∷ 4294967296 ∷ [] }
+    ∷ record { word = codes "revoke"; bounds = 4096 ∷ 16 ∷ [] } ∷ []
+
+-- those of the commands on nodes and upgrade domains
+abbrev pub node_forms : List Form
+node_forms =
+    record { word = codes "fail"; bounds = 65536 ∷ [] } ∷ record { word = codes "down"; bounds = 65536 ∷ [] }
+    ∷ record { word = codes "up"; bounds = 65536 ∷ [] } ∷ record { word = codes "drain"; bounds = 65536 ∷ [] }
+    ∷ record { word = codes "undrain"; bounds = 65536 ∷ [] } ∷ record { word = codes "retire"; bounds = 65536 ∷ [] }
+    ∷ record { word = codes "join"; bounds = 65536 ∷ [] } ∷ record { word = codes "upgrade"; bounds = 256 ∷ [] }
+    ∷ record { word = codes "upgraded"; bounds = 256 ∷ [] } ∷ []
 
 -- the two texts are one
 abbrev pub same_text : List ℕ → List ℕ → Bool
 same_text xs ys = nat_eq (length xs) (length ys) && starts_with nat_eq xs ys
 
+-- the form that begins with this word
+abbrev pub form_in : List Form → List ℕ → Option Form
+form_in forms word = find (λ form. same_text word form.word) forms
+
 -- the form of the command that begins with this word
 abbrev pub form_of : List ℕ → Option Form
-form_of word = find (λ form. same_text word form.word) forms
+form_of word = form_in (stripe_forms ++ node_forms) word
 
 -- `0`, or a digit from 1 to 9 and any digits after it
 abbrev pub is_number : List ℕ → Bool

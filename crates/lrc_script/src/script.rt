@@ -1,14 +1,14 @@
 ghost use Rattle.std.specs.Prelude.{◌≡◌, ◌≢◌, ℕ, ◌+◌, ◌^◌, ◌<◌, ◌≤◌, [], ◌∷◌, length, decimal, OnOk, IfOk, IfErr, MatchResult};
 ghost use Rattle.std.specs.Char.{is_ascii_digit};
-ghost use Rattle.std.specs.List.{list_all};
+ghost use Rattle.std.specs.List.{list_all, join_with_byte};
 ghost use Rattle.std.specs.Result.{result_err};
-ghost use Rattle.lrc_script.specs.Scripts.{lines_of, words_of, is_passed_over, is_number, command_line, IsInRange, IsScript, argument_cause, numbers_cause, words_cause, cause_of, first_bad, IsFirstBad};
+ghost use Rattle.lrc_script.specs.Scripts.{lines_of, words_of, is_passed_over, is_number, command_line, IsInRange, IsScript, argument_cause, numbers_cause, node_forms, form_in, form_cause, words_cause, cause_of, first_bad, IsFirstBad};
 ghost use Rattle.lrc_script.specs.Cuts.{words_behind, IsReadAs};
 ghost use Rattle.lrc_script.specs.declared.script.Cause.TheVariants as causes;
 
 use crate::cut::cut;
 use lrc_book::Command;
-use lrc_code::{Fragment, NodeNo, StripeNo};
+use lrc_code::{Fragment, NodeNo, StripeNo, UpgradeNo};
 use std::alloc::{AllocError, AllocFailed, Global};
 use thiserror::Error;
 
@@ -122,12 +122,15 @@ fn parse_command(line: &[u8]) -> Result<Command, Cause>
 {
     let (word, rest) = cut(line, b' ');
     if word == b"place".as_slice() {
-        Ok(Command::Place(parse_stripe(only_word(rest)?)?))
+        Ok(Command::Place(only_stripe(rest)?))
     } else if word == b"drop".as_slice() {
-        Ok(Command::Drop(parse_stripe(only_word(rest)?)?))
+        Ok(Command::Drop(only_stripe(rest)?))
     } else if word == b"lease".as_slice() {
         let (stripe, fragment) = parse_pair(rest)?;
         Ok(Command::Lease(stripe, fragment))
+    } else if word == b"next".as_slice() {
+        no_word(rest)?;
+        Ok(Command::Next)
     } else if word == b"done".as_slice() {
         let (stripe, fragment, epoch) = parse_report(rest)?;
         Ok(Command::Done(stripe, fragment, epoch))
@@ -137,16 +140,47 @@ fn parse_command(line: &[u8]) -> Result<Command, Cause>
     } else if word == b"revoke".as_slice() {
         let (stripe, fragment) = parse_pair(rest)?;
         Ok(Command::Revoke(stripe, fragment))
-    } else if word == b"fail".as_slice() {
-        Ok(Command::Fail(parse_node(only_word(rest)?)?))
+    } else {
+        parse_node_command(word, rest)
+    }
+}
+
+/// The command on a node or an upgrade domain that has this first word, and the rest behind it.
+fn parse_node_command(word: &[u8], rest: Option<&[u8]>) -> Result<Command, Cause>
+    ensures command { IfOk result (λ command. IsInRange command × (join_with_byte 32 (word.now ∷ words_behind rest.entry) ≡ command_line command)) }
+    ensures cause { result_err result ≡ form_cause (words_behind rest.entry) (form_in node_forms word.now) }
+{
+    if word == b"fail".as_slice() {
+        Ok(Command::Fail(only_node(rest)?))
     } else if word == b"down".as_slice() {
-        Ok(Command::Down(parse_node(only_word(rest)?)?))
+        Ok(Command::Down(only_node(rest)?))
     } else if word == b"up".as_slice() {
-        Ok(Command::Up(parse_node(only_word(rest)?)?))
+        Ok(Command::Up(only_node(rest)?))
+    } else if word == b"drain".as_slice() {
+        Ok(Command::Drain(only_node(rest)?))
+    } else if word == b"undrain".as_slice() {
+        Ok(Command::Undrain(only_node(rest)?))
+    } else if word == b"retire".as_slice() {
+        Ok(Command::Retire(only_node(rest)?))
     } else if word == b"join".as_slice() {
-        Ok(Command::Join(parse_node(only_word(rest)?)?))
+        Ok(Command::Join(only_node(rest)?))
+    } else if word == b"upgrade".as_slice() {
+        Ok(Command::Upgrade(only_domain(rest)?))
+    } else if word == b"upgraded".as_slice() {
+        Ok(Command::Upgraded(only_domain(rest)?))
     } else {
         Err(Cause::UnknownWord)
+    }
+}
+
+/// Nothing stands behind the first word of a command.
+fn no_word(rest: Option<&[u8]>) -> Result<(), Cause>
+    ensures ok { OnOk result (words_behind rest.entry ≡ []) }
+    ensures cause { result_err result ≡ numbers_cause (words_behind rest.entry) [] }
+{
+    match rest {
+        None => Ok(()),
+        Some(_) => Err(Cause::WordCount),
     }
 }
 
@@ -182,6 +216,30 @@ fn three_words(rest: Option<&[u8]>) -> Result<(&[u8], &[u8], &[u8]), Cause>
     let (first, behind) = cut(rest, b' ');
     let (second, third) = two_words(behind)?;
     Ok((first, second, third))
+}
+
+/// The stripe that a command has behind its first word.
+fn only_stripe(rest: Option<&[u8]>) -> Result<StripeNo, Cause>
+    ensures number { IfOk result (λ stripe. words_behind rest.entry ≡ decimal stripe.value ∷ []) }
+    ensures cause { result_err result ≡ numbers_cause (words_behind rest.entry) (4096 ∷ []) }
+{
+    parse_stripe(only_word(rest)?)
+}
+
+/// The node that a command has behind its first word.
+fn only_node(rest: Option<&[u8]>) -> Result<NodeNo, Cause>
+    ensures number { IfOk result (λ node. (node.value < 65536) × (words_behind rest.entry ≡ decimal node.value ∷ [])) }
+    ensures cause { result_err result ≡ numbers_cause (words_behind rest.entry) (65536 ∷ []) }
+{
+    parse_node(only_word(rest)?)
+}
+
+/// The upgrade domain that a command has behind its first word.
+fn only_domain(rest: Option<&[u8]>) -> Result<UpgradeNo, Cause>
+    ensures number { IfOk result (λ domain. (domain.value < 256) × (words_behind rest.entry ≡ decimal domain.value ∷ [])) }
+    ensures cause { result_err result ≡ numbers_cause (words_behind rest.entry) (256 ∷ []) }
+{
+    parse_domain(only_word(rest)?)
 }
 
 /// The stripe and the fragment that a command has behind its first word.
@@ -221,6 +279,14 @@ fn parse_node(word: &[u8]) -> Result<NodeNo, Cause>
 {
     let number = argument(word, 65536)?;
     Ok(NodeNo::new(number as u16).unwrap())
+}
+
+fn parse_domain(word: &[u8]) -> Result<UpgradeNo, Cause>
+    ensures number { IfOk result (λ domain. (domain.value < 256) × (word.now ≡ decimal domain.value)) }
+    ensures cause { result_err result ≡ argument_cause word.now 256 }
+{
+    let number = argument(word, 256)?;
+    Ok(UpgradeNo::new(number as u8).unwrap())
 }
 
 fn parse_fragment(word: &[u8]) -> Result<Fragment, Cause>

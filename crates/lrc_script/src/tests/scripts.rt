@@ -2,7 +2,7 @@
 
 use crate::{Cause, ScriptError, parse_script};
 use lrc_book::Command;
-use lrc_code::{Fragment, StripeNo};
+use lrc_code::{Fragment, NodeNo, StripeNo, UpgradeNo};
 use std::alloc::Global;
 use std::process::Abort;
 use std::test::Fail;
@@ -38,6 +38,11 @@ fn bad_lines(rt: HostRuntime) -> Result<(), Fail> {
         " place 1",
         "Place 1",
         "DROP 1",
+        "NEXT",
+        "nexts",
+        "next\r",
+        "upgrades 1",
+        "un drain 1",
         "place\t1",
         "place\u{0}1",
         "%%%",
@@ -55,6 +60,12 @@ fn bad_lines(rt: HostRuntime) -> Result<(), Fail> {
         "done x 16",
         "done 1 3 1 1",
         "revoke 1  3",
+        "next 1",
+        "next ",
+        "drain",
+        "retire 1 1",
+        "upgrade 1 ",
+        "upgraded",
     ];
     let no_numbers = [
         "place ",
@@ -70,6 +81,10 @@ fn bad_lines(rt: HostRuntime) -> Result<(), Fail> {
         "lease x 16",
         "done 1 3 01",
         "abandon 1 -3 1",
+        "undrain ",
+        "retire 01",
+        "upgrade +1",
+        "upgraded u1",
     ];
     let out_of_range = [
         "place 4096",
@@ -80,6 +95,11 @@ fn bad_lines(rt: HostRuntime) -> Result<(), Fail> {
         "done 1 3 4294967296",
         "abandon 1 3 99999999999999999999999",
         "revoke 1 99999999999999999999999",
+        "drain 65536",
+        "undrain 99999999999999999999999",
+        "retire 65536",
+        "upgrade 256",
+        "upgraded 65535",
     ];
     let alloc = rt.alloc();
     check(&rt, alloc, &unknown_words, Some((102, Cause::UnknownWord)))?;
@@ -147,6 +167,35 @@ fn lines_of_leases_have_their_numbers_in_order(rt: HostRuntime) -> Result<(), Fa
     assert_eq!(rt; commands[1], Command::Done(stripe, fragment, 4294967295));
     assert_eq!(rt; commands[2], Command::Abandon(last, greatest, 0));
     assert_eq!(rt; commands[3], Command::Revoke(seventh, first));
+    Ok(())
+}
+
+#[test]
+fn lines_of_nodes_and_domains_have_one_number(rt: HostRuntime) -> Result<(), Fail> {
+    let text =
+        b"drain 65535\nundrain 0\nretire 17\njoin 65535\nupgrade 255\nupgraded 0\nnext\nfail 17\ndown 0\nup 17";
+    let commands = parse_script(rt.alloc(), text, 1)?;
+    assert_eq!(rt; commands.len(), 10);
+    let (Some(zero), Some(middle), Some(last)) = (
+        NodeNo::new(0),
+        NodeNo::new(17),
+        NodeNo::new(65535),
+    ) else {
+        return Err("no such numbers".into());
+    };
+    let (Some(first_domain), Some(last_domain)) = (UpgradeNo::new(0), UpgradeNo::new(255)) else {
+        return Err("no such numbers".into());
+    };
+    assert_eq!(rt; commands[0], Command::Drain(last));
+    assert_eq!(rt; commands[1], Command::Undrain(zero));
+    assert_eq!(rt; commands[2], Command::Retire(middle));
+    assert_eq!(rt; commands[3], Command::Join(last));
+    assert_eq!(rt; commands[4], Command::Upgrade(last_domain));
+    assert_eq!(rt; commands[5], Command::Upgraded(first_domain));
+    assert_eq!(rt; commands[6], Command::Next);
+    assert_eq!(rt; commands[7], Command::Fail(middle));
+    assert_eq!(rt; commands[8], Command::Down(zero));
+    assert_eq!(rt; commands[9], Command::Up(middle));
     Ok(())
 }
 
