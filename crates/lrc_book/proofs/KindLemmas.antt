@@ -25,7 +25,7 @@ use Rattle.lrc_book.proofs.FragmentLemmas.{all-fragments}
 
 -- ---- rising lists
 
-abbrev IsRising : List Fragment → Type 0
+abbrev pub IsRising : List Fragment → Type 0
 IsRising fs = AllPairs (λ f g. f.value < g.value) fs
 
 are_rising : List Fragment → Bool
@@ -41,7 +41,7 @@ rising-from (f ∷ fs) e =
     (All-weaker _ (λ g. f.value < g.value) (λ g below. ltb-true f.value g.value (not-false _ below)) fs (All-list_any (λ (g : Fragment). not (nat_lt f.value g.value)) fs (not-true _ parts.0)))
     (rising-from fs parts.1)
 
-fragments-rising : IsRising (fragments Wide)
+pub fragments-rising : IsRising (fragments Wide)
 unfolding are_rising
 fragments-rising = rising-from (fragments Wide) refl
 

@@ -36,6 +36,8 @@ pub mod EndLemmas
 pub mod BesideLemmas
 pub mod LeaseToldLemmas
 pub mod RepairLemmas
+pub mod RisingLemmas
+pub mod UrgencyLemmas
 pub mod LeaseReplyLemmas
 pub mod OpeningLemmas
 pub mod GrantingLemmas
