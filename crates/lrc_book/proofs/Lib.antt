@@ -46,3 +46,4 @@ pub mod EndingLemmas
 pub mod EarnedLemmas
 pub mod MovedLemmas
 pub mod GivenBackLemmas
+pub mod SafeUpgradeLemmas

@@ -126,4 +126,3 @@ module _ (st : State) (k : Store) (kept : IsOf st k) (s : StripeNo) (f : Fragmen
       needs-by (Some seat) (ap (option_map (λ (h : Held). h.seat)) home.1 ∙ ap (λ (a : Seat). Some a) home.2)
       ∙ subst (λ (a : Seat). drains_at k.topology st a.node ≡ is_draining (mode_of st a.node)) home.2
       (drains-by home.0.seat.node (node_at k.topology home.0.seat.node) _ refl standing)
-

@@ -220,3 +220,30 @@ pub fn a_lease_is_given_back_by_its_holder_alone()
     ensures { (nodes : List NodeInfo) (past : List Entry) (st : State) (session : SessionNo) (s : StripeNo) (f : Fragment) (e : ℕ)
         → ((step nodes past st session (Abandon s f e)).0 ≡ Ended) ↔ ((l : LeaseRecord) × IsReported st s f e l × (l.holder ≡ session)) }
 {}
+
+/// Upgrade is refused for a stripe exactly where a node is in the domain, no domain is upgrading, and the stripe is the
+/// least of those that are recoverable and would not be with the domain upgrading; it is done where there is none such.
+/// After a legal history it is never refused for a stripe that is whole. Where it is done, each stripe that was
+/// recoverable still is, and each that was whole withstands at least one further loss.
+pub fn upgrades_are_safe()
+    ensures lost { (nodes : List NodeInfo) (past : List Entry) (st : State) (session : SessionNo) (u : UpgradeNo) (s : StripeNo)
+        → ((step nodes past st session (Upgrade u)).0 ≡ Refused (refusal.WouldLose s))
+        ↔ (IsTrue (has_domain nodes u) × (st.upgrading ≡ None) × WouldBeLost nodes st u s × ((r : StripeNo) → WouldBeLost nodes st u r → s.value ≤ r.value)) }
+    ensures unknown { (nodes : List NodeInfo) (past : List Entry) (st : State) (session : SessionNo) (u : UpgradeNo)
+        → ((step nodes past st session (Upgrade u)).0 ≡ Refused refusal.UnknownDomain) ↔ IsFalse (has_domain nodes u) }
+    ensures running { (nodes : List NodeInfo) (past : List Entry) (st : State) (session : SessionNo) (u v : UpgradeNo)
+        → ((step nodes past st session (Upgrade u)).0 ≡ Refused (refusal.UpgradeRunning v)) ↔ (IsTrue (has_domain nodes u) × (st.upgrading ≡ Some v)) }
+    ensures done { (nodes : List NodeInfo) (past : List Entry) (st : State) (session : SessionNo) (u : UpgradeNo)
+        → ((step nodes past st session (Upgrade u)).0 ≡ Changed)
+        ↔ (IsTrue (has_domain nodes u) × (st.upgrading ≡ None) × ((s : StripeNo) → ¬ (WouldBeLost nodes st u s))) }
+    ensures recoverable { (nodes : List NodeInfo) (past : List Entry) (st : State) (session : SessionNo) (u : UpgradeNo) (s : StripeNo)
+        → (step nodes past st session (Upgrade u)).0 ≡ Changed → IsTrue (has_stripe st s) → IsRecoverable (code_of st s) (missing nodes st s)
+        → IsRecoverable (code_of st s) (missing nodes (step nodes past st session (Upgrade u)).1 s) }
+    ensures whole { (nodes : List NodeInfo) (history : List Entry) (session : SessionNo) (u : UpgradeNo) (s : StripeNo)
+        → AreNodes nodes → IsLegal nodes history → level nodes (state_after nodes history) s ≡ Whole
+        → (outcome_in nodes (world_after nodes history) session (Upgrade u)).0 ≢ Refused (refusal.WouldLose s) }
+    ensures margin { (nodes : List NodeInfo) (history : List Entry) (session : SessionNo) (u : UpgradeNo) (s : StripeNo)
+        → AreNodes nodes → IsLegal nodes history → level nodes (state_after nodes history) s ≡ Whole
+        → (outcome_in nodes (world_after nodes history) session (Upgrade u)).0 ≡ Changed
+        → (t : ℕ) × (1 ≤ t) × IsMargin (code_of (state_after nodes history) s) (missing nodes (outcome_in nodes (world_after nodes history) session (Upgrade u)).1 s) t }
+{}
