@@ -27,6 +27,7 @@ pub mod FragmentLemmas
 pub mod StoredLemmas
 pub mod ModesLemmas
 pub mod ModeLemmas
+pub mod DomainLemmas
 pub mod ClearLemmas
 pub mod EmptyLemmas
 pub mod ToldLemmas

@@ -60,13 +60,13 @@ some-node : (o : Option NodeInfo) → IsSome o → (n : NodeInfo) × (o ≡ Some
 some-node (Some n) there = (n, refl)
 some-node None there = absurd (let never : false ≡ true = there in cc)
 
-and-swap : (a b : Bool) → (a && b) ≡ (b && a)
+pub and-swap : (a b : Bool) → (a && b) ≡ (b && a)
 and-swap true true = refl
 and-swap true false = refl
 and-swap false true = refl
 and-swap false false = refl
 
-not_not : (b : Bool) → not (not b) ≡ b
+pub not_not : (b : Bool) → not (not b) ≡ b
 not_not true = refl
 not_not false = refl
 

@@ -1,6 +1,6 @@
 -- What a reply tells of the state that it was given in.
-use Rattle.std.proofs.Common.{◌≡◌, Bool, true, false, not, ◌||◌, List, map, drop, length, Option, Some, None, IsSome, is_none, Result, Ok, Err, refl, sym, ap, ◌∙◌, subst}
-use Rattle.std.proofs.lemmas.Bool.{or_parts}
+use Rattle.std.proofs.Common.{◌≡◌, ◌≢◌, ◌≤◌, nat_lt, arith, Bool, true, false, not, ◌||◌, List, map, drop, length, Option, Some, None, IsSome, is_none, Result, Ok, Err, refl, sym, ap, ◌∙◌, subst}
+use Rattle.std.proofs.lemmas.Bool.{or_parts, ltb-false}
 use Rattle.lrc_code.specs.declared.codes.Code.TheVariants.{Wide}
 use Rattle.lrc_code.specs.declared.numbers.StripeNo.{StripeNo}
 use Rattle.lrc_code.specs.declared.numbers.NodeNo.{NodeNo}
@@ -12,10 +12,10 @@ use Rattle.lrc_topology.specs.declared.seat.Held.{Held}
 use Rattle.lrc_topology.specs.Nodes.{node_at}
 use Rattle.lrc_book.specs.declared.reply.Reply.TheVariants.{Placed, Dropped, Changed, Refused}
 use Rattle.lrc_book.specs.declared.refusal.Refusal.TheVariants as refusal
-use Rattle.lrc_book.specs.States.{State, has_stripe, mode_of, is_active, is_draining, is_gone, is_down}
+use Rattle.lrc_book.specs.States.{State, has_stripe, mode_of, is_active, is_draining, is_gone, is_down, load}
 use Rattle.lrc_book.specs.Placement.{placed}
 use Rattle.lrc_book.specs.Outcomes.{Outcome, refuse_if}
-use Rattle.lrc_book.specs.Steps.{with_stripe, without_stripe, place_answer, place_outcome, drop_outcome, fail_outcome, down_outcome, up_outcome, join_outcome, drain_outcome, undrain_outcome}
+use Rattle.lrc_book.specs.Steps.{with_stripe, without_stripe, place_answer, place_outcome, drop_outcome, fail_outcome, down_outcome, up_outcome, join_outcome, drain_outcome, undrain_outcome, node_outcome, retire_outcome, with_gone}
 use Rattle.lrc_book.specs.Choices.{AreChosen}
 use Rattle.lrc_book.proofs.StepLemmas.{place-passed, place-there, placed-grown, seats-added}
 
@@ -54,7 +54,7 @@ pub drop-told : (st : State) (s : StripeNo) → (drop_outcome st s).0 ≡ Droppe
 unfolding drop_outcome
 drop-told st s e = drop-by st s (has_stripe st s) e
 
-node-by : (st changed : State) (o : Option NodeInfo) (wrong : Bool) → (refuse_if (is_none o) refusal.UnknownNode st (refuse_if wrong refusal.WrongMode st (Changed, changed))).0 ≡ Changed → IsSome o × (wrong ≡ false)
+pub node-by : (st changed : State) (o : Option NodeInfo) (wrong : Bool) → (refuse_if (is_none o) refusal.UnknownNode st (refuse_if wrong refusal.WrongMode st (Changed, changed))).0 ≡ Changed → IsSome o × (wrong ≡ false)
 node-by st changed None wrong e = absurd (let never : Refused refusal.UnknownNode ≡ Changed = e in cc)
 node-by st changed (Some n) true e = absurd (let never : Refused refusal.WrongMode ≡ Changed = e in cc)
 node-by st changed (Some n) false e = (refl, refl)
@@ -89,3 +89,47 @@ module _ (nodes : List NodeInfo) (st : State) (n : NodeNo) where
   pub undrain-told : (undrain_outcome nodes st n).0 ≡ Changed → IsSome (node_at nodes n)
   unfolding undrain_outcome
   undrain-told e = (node-by st _ (node_at nodes n) (not (is_draining (mode_of st n))) e).0
+
+-- ---- a node that retires
+
+passes-by : (st changed : State) (last : Outcome) (o : Option NodeInfo) (wrong : Bool) → (refuse_if (is_none o) refusal.UnknownNode st (refuse_if wrong refusal.WrongMode st (Changed, changed))).0 ≡ Changed
+    → refuse_if (is_none o) refusal.UnknownNode st (refuse_if wrong refusal.WrongMode st last) ≡ last
+passes-by st changed last None wrong e = absurd (let never : Refused refusal.UnknownNode ≡ Changed = e in cc)
+passes-by st changed last (Some n) true e = absurd (let never : Refused refusal.WrongMode ≡ Changed = e in cc)
+passes-by st changed last (Some n) false e = refl
+
+stops-by : (st changed : State) (last : Outcome) (o : Option NodeInfo) (wrong : Bool) → (refuse_if (is_none o) refusal.UnknownNode st (refuse_if wrong refusal.WrongMode st (Changed, changed))).0 ≢ Changed
+    → (refuse_if (is_none o) refusal.UnknownNode st (refuse_if wrong refusal.WrongMode st last)).0 ≡ (refuse_if (is_none o) refusal.UnknownNode st (refuse_if wrong refusal.WrongMode st (Changed, changed))).0
+stops-by st changed last None wrong e = refl
+stops-by st changed last (Some n) true e = refl
+stops-by st changed last (Some n) false e = absurd (e refl)
+
+module _ (nodes : List NodeInfo) (st : State) (n : NodeNo) where
+  abbrev last : Outcome
+  last = refuse_if (nat_lt 0 (load st n)) (refusal.NotEmpty (load st n)) st (Changed, with_gone st n)
+
+  -- where it drains, the seats on it decide
+  pub retire-passes : (node_outcome nodes st n (not (is_draining (mode_of st n))) st).0 ≡ Changed → (retire_outcome nodes st n).0 ≡ (refuse_if (nat_lt 0 (load st n)) (refusal.NotEmpty (load st n)) st (Changed, st)).0
+  unfolding retire_outcome
+  retire-passes e = ap (λ (o : Outcome). o.0) (passes-by st st last (node_at nodes n) (not (is_draining (mode_of st n))) e) ∙ either (nat_lt 0 (load st n)) where
+    either : (b : Bool) → (refuse_if b (refusal.NotEmpty (load st n)) st (Changed, with_gone st n)).0 ≡ (refuse_if b (refusal.NotEmpty (load st n)) st (Changed, st)).0
+    either true = refl
+    either false = refl
+
+  -- and else it is refused as any command on a node
+  pub retire-stops : (node_outcome nodes st n (not (is_draining (mode_of st n))) st).0 ≢ Changed → (retire_outcome nodes st n).0 ≡ (node_outcome nodes st n (not (is_draining (mode_of st n))) st).0
+  unfolding retire_outcome
+  retire-stops e = stops-by st st last (node_at nodes n) (not (is_draining (mode_of st n))) e
+
+  -- one retired: it is known, and no seat is on it
+  pub retire-told : (retire_outcome nodes st n).0 ≡ Changed → IsSome (node_at nodes n) × (load st n ≡ 0)
+  unfolding retire_outcome
+  retire-told e = told-by (node_at nodes n) (not (is_draining (mode_of st n))) e where
+    empty-by : (b : Bool) → (refuse_if b (refusal.NotEmpty (load st n)) st (Changed, with_gone st n)).0 ≡ Changed → b ≡ false
+    empty-by true e = absurd (let never : Refused (refusal.NotEmpty (load st n)) ≡ Changed = e in cc)
+    empty-by false e = refl
+
+    told-by : (o : Option NodeInfo) (wrong : Bool) → (refuse_if (is_none o) refusal.UnknownNode st (refuse_if wrong refusal.WrongMode st last)).0 ≡ Changed → IsSome o × (load st n ≡ 0)
+    told-by None wrong e = absurd (let never : Refused refusal.UnknownNode ≡ Changed = e in cc)
+    told-by (Some m) true e = absurd (let never : Refused refusal.WrongMode ≡ Changed = e in cc)
+    told-by (Some m) false e = (refl, let low = ltb-false 0 (load st n) (empty-by (nat_lt 0 (load st n)) e) in omega (arith, low))

@@ -135,7 +135,10 @@ impl Book {
         ensures { result ≡ mode_shown self.now.nodes (state_of self.now) node }
     {
         match self.store.topology.node(node) {
-            Some(info) => Some((self.store.modes.mode(node), self.store.modes.is_online(&info))),
+            Some(info) => Some((
+                self.store.modes.mode(info.number),
+                self.store.modes.is_online(&info),
+            )),
             None => None,
         }
     }

@@ -8,7 +8,7 @@ ghost use Rattle.lrc_book.specs.States.{State};
 ghost use Rattle.lrc_book.specs.Steps.{step};
 ghost use Rattle.lrc_book.specs.Changes.{IsAnswer, IsStep, changed_by};
 ghost use Rattle.lrc_book.specs.Books.{state_of};
-ghost use Rattle.lrc_book.specs.Stores.{IsOf, has_room};
+ghost use Rattle.lrc_book.specs.Stores.{IsOf, IsTied, has_room};
 
 use crate::plan::Plan;
 use crate::store::Store;
@@ -92,7 +92,8 @@ impl Book {
 impl Store {
     /// The reply of the plain placement object after these entries.
     fn reply(&self, history: &[Entry], session: SessionNo, command: Command) -> Reply
-        requires { length history.now < 1000000 }
+        requires tied { IsTied self.now }
+        requires few { length history.now < 1000000 }
         ensures { (st : State) → IsOf st self.now → result ≡ (step self.now.topology history.now st session command).0 }
     {
         match command {

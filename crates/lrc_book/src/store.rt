@@ -127,7 +127,8 @@ impl Store {
     {
         let is_online = self.is_online(node);
         let mode = self.modes.mode(node);
-        self.table.set_eligible(node, is_online && mode == Mode::Active);
+        self.table
+            .set_eligible(node, is_online && mode == Mode::Active);
         self.stripes.set_offline(node, !is_online);
         self.stripes.set_draining(node, mode == Mode::Draining);
     }

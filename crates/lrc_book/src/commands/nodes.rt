@@ -8,7 +8,7 @@ ghost use Rattle.lrc_book.specs.Steps.{node_outcome, fail_outcome, down_outcome,
 ghost use Rattle.lrc_book.specs.Outcomes.{refuse_if};
 ghost use Rattle.lrc_book.specs.declared.refusal.Refusal.TheVariants as refusal;
 ghost use Rattle.lrc_book.specs.Changes.{without_targets};
-ghost use Rattle.lrc_book.specs.Stores.{IsOf, has_room, has_room_for_node};
+ghost use Rattle.lrc_book.specs.Stores.{IsOf, IsTied, has_room, has_room_for_node};
 
 use crate::store::Store;
 use crate::{Mode, Refusal, Reply};
@@ -179,6 +179,7 @@ impl Store {
     }
 
     pub(crate) fn retire_reply(&self, node: NodeNo) -> Reply
+        requires { IsTied self.now }
         ensures { (st : State) → IsOf st self.now → result ≡ (retire_outcome self.now.topology st node).0 }
     {
         match self.node_reply(node, self.modes.mode(node) != Mode::Draining) {
@@ -189,13 +190,15 @@ impl Store {
 
     /// The reply to the command that takes a node out which is draining: refused where seats are on it.
     fn reply_if_empty(&self, node: NodeNo) -> Reply
-        requires { IsSome (node_at self.now.topology node) }
+        requires tied { IsTied self.now }
+        requires known { IsSome (node_at self.now.topology node) }
         ensures { (st : State) → IsOf st self.now → result ≡ (refuse_if (nat_lt 0 (load st node)) (refusal.NotEmpty (load st node)) st (Changed, st)).0 }
     {
-        match self.table.load(node) {
-            0 => Reply::Changed,
-            load => Reply::Refused(Refusal::NotEmpty(load)),
+        let load = self.table.load(node);
+        if load > 0 {
+            return Reply::Refused(Refusal::NotEmpty(load));
         }
+        Reply::Changed
     }
 
     pub(crate) fn join_reply(&self, node: NodeNo) -> Reply
