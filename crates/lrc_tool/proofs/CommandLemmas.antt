@@ -1,5 +1,5 @@
 -- Lines and commands: each line is that of one command, and good lines have commands.
-use Rattle.std.proofs.Common.{◌≡◌, ℕ, ◌+◌, ◌*◌, ◌<◌, ◌≤◌, inl, inr, false, nat_eq, get_or, not, filter, All, List, [], ◌∷◌, length, map, Option, Some, None, codes, decimal, refl, sym, ap, ◌∙◌, arith}
+use Rattle.std.proofs.Common.{◌≡◌, ℕ, ◌+◌, ◌*◌, ◌<◌, ◌≤◌, inl, inr, false, nat_eq, get_or, not, filter, All, List, [], ◌∷◌, length, map, ◌++◌, Option, Some, None, codes, decimal, refl, sym, ap, ◌∙◌, arith}
 use borrow.Author.Tests.{ne_eqb}
 use Rattle.std.proofs.lemmas.List.{append_cancel_left}
 use Rattle.std.proofs.lemmas.List.Elements.{All-nil, All-cons, All-head, All-tail}
@@ -7,9 +7,10 @@ use Rattle.std.proofs.lemmas.Fmt.{decimal_injective}
 use Rattle.lrc_code.specs.declared.numbers.StripeNo.{StripeNo}
 use Rattle.lrc_code.specs.declared.numbers.NodeNo.{NodeNo}
 use Rattle.lrc_code.specs.declared.numbers.Fragment.{Fragment}
+use Rattle.lrc_code.specs.declared.numbers.UpgradeNo.{UpgradeNo}
 use Rattle.lrc_code.proofs.NumbersLemmas.{equal_stripes, equal_nodes, equal_fragments}
 use Rattle.lrc_book.specs.declared.command.Command.{Command}
-use Rattle.lrc_book.specs.declared.command.Command.TheVariants.{Place, Drop, Lease, Done, Abandon, Revoke, Fail, Down, Up, Join}
+use Rattle.lrc_book.specs.declared.command.Command.TheVariants.{Place, Drop, Lease, Next, Done, Abandon, Revoke, Fail, Down, Up, Drain, Undrain, Retire, Join, Upgrade, Upgraded}
 use Rattle.lrc_script.specs.Scripts.{is_passed_over, numbers_text, words_of, command_line, IsInRange, IsScript, BadLine, or_else, first_bad, cause_of}
 use Rattle.lrc_script.specs.Bundles.{Script}
 use Rattle.lrc_script.proofs.CauseLemmas.{cause_of-good, AreBelow, words_of-numbers, below_pair, below_report}
@@ -27,6 +28,9 @@ same_stripe s t e =
 
 same_node : (m n : NodeNo) → m.value < 65536 → n.value < 65536 → decimal m.value ≡ decimal n.value → m ≡ n
 same_node m n a b e = equal_nodes m n (decimal_injective m.value n.value (omega (arith, a)) (omega (arith, b)) e)
+
+same_domain : (u v : UpgradeNo) → u.value < 256 → v.value < 256 → decimal u.value ≡ decimal v.value → u ≡ v
+same_domain u v a b e = ap (λ n. record { value = n }) (decimal_injective u.value v.value (omega (arith, a)) (omega (arith, b)) e)
 
 -- rows of numbers with one text are one row
 same_words : (m n : ℕ) (ms ns bounds : List ℕ) → AreBelow (m ∷ ms) bounds → AreBelow (n ∷ ns) bounds → numbers_text (m ∷ ms) ≡ numbers_text (n ∷ ns) → map decimal (m ∷ ms) ≡ map decimal (n ∷ ns)
@@ -63,17 +67,28 @@ abbrev letters : List ℕ → ℕ
 letters (x ∷ y ∷ z ∷ more) = 1000000 * x + 1000 * y + z
 letters other = 0
 
+no_space_d : (xs ys : List ℕ) → codes " " ++ xs ≡ codes "d " ++ ys → ⊥
+no_space_d xs ys e = let first = ap (λ l. get_or l 0 0) e in absurd (omega (arith, first))
+
 same_command : (c d : Command) → IsInRange c → IsInRange d → command_line c ≡ command_line d → c ≡ d
 same_command (Place s) (Place t) a b e = ap Place (same_stripe s t (append_cancel_left (codes "place ") _ _ e))
 same_command (Drop s) (Drop t) a b e = ap Drop (same_stripe s t (append_cancel_left (codes "drop ") _ _ e))
 same_command (Lease s f) (Lease t g) a b e = same_pair Lease s t f g (append_cancel_left (codes "lease ") _ _ e)
+same_command Next Next a b e = refl
 same_command (Done s f m) (Done t g n) a b e = same_report Done s t f g m n a b (append_cancel_left (codes "done ") _ _ e)
 same_command (Abandon s f m) (Abandon t g n) a b e = same_report Abandon s t f g m n a b (append_cancel_left (codes "abandon ") _ _ e)
 same_command (Revoke s f) (Revoke t g) a b e = same_pair Revoke s t f g (append_cancel_left (codes "revoke ") _ _ e)
 same_command (Fail m) (Fail n) a b e = ap Fail (same_node m n a b (append_cancel_left (codes "fail ") _ _ e))
 same_command (Down m) (Down n) a b e = ap Down (same_node m n a b (append_cancel_left (codes "down ") _ _ e))
 same_command (Up m) (Up n) a b e = ap Up (same_node m n a b (append_cancel_left (codes "up ") _ _ e))
+same_command (Drain m) (Drain n) a b e = ap Drain (same_node m n a b (append_cancel_left (codes "drain ") _ _ e))
+same_command (Undrain m) (Undrain n) a b e = ap Undrain (same_node m n a b (append_cancel_left (codes "undrain ") _ _ e))
+same_command (Retire m) (Retire n) a b e = ap Retire (same_node m n a b (append_cancel_left (codes "retire ") _ _ e))
 same_command (Join m) (Join n) a b e = ap Join (same_node m n a b (append_cancel_left (codes "join ") _ _ e))
+same_command (Upgrade u) (Upgrade v) a b e = ap Upgrade (same_domain u v a b (append_cancel_left (codes "upgrade ") _ _ e))
+same_command (Upgraded u) (Upgraded v) a b e = ap Upgraded (same_domain u v a b (append_cancel_left (codes "upgraded ") _ _ e))
+same_command (Upgrade u) (Upgraded v) a b e = absurd (no_space_d _ _ (append_cancel_left (codes "upgrade") _ _ e))
+same_command (Upgraded u) (Upgrade v) a b e = absurd (no_space_d _ _ (append_cancel_left (codes "upgrade") _ _ (sym e)))
 same_command c d a b e = absurd (let bad : letters (command_line c) ≡ letters (command_line d) = ap letters e in omega (arith, bad))
 
 same_commands : (cs ds : List Command) → All IsInRange cs → All IsInRange ds → map command_line cs ≡ map command_line ds → cs ≡ ds

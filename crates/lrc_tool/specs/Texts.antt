@@ -7,9 +7,9 @@ use Rattle.lrc_topology.specs.declared.error.TopologyError.TheVariants.{Syntax, 
 use Rattle.lrc_book.specs.declared.Lease.{Lease}
 use Rattle.lrc_book.specs.declared.entry.Entry.{Entry}
 use Rattle.lrc_book.specs.declared.kind.Kind.{Kind}
-use Rattle.lrc_book.specs.declared.kind.Kind.TheVariants.{Local, Global}
+use Rattle.lrc_book.specs.declared.kind.Kind.TheVariants.{Local, Global, Move}
 use Rattle.lrc_book.specs.declared.reply.Reply.{Reply}
-use Rattle.lrc_book.specs.declared.reply.Reply.TheVariants.{Placed, Dropped, Granted, Ended, Changed, Refused}
+use Rattle.lrc_book.specs.declared.reply.Reply.TheVariants.{Placed, Dropped, Granted, Idle, Ended, Changed, Refused}
 use Rattle.lrc_book.specs.declared.refusal.Refusal.{Refusal}
 use Rattle.lrc_book.specs.declared.refusal.Refusal.TheVariants as refusal
 use Rattle.lrc_book.specs.Sessions.{entries_of, sessions}
@@ -35,6 +35,7 @@ lease_text lease = decimal lease.stripe.value ++ codes " " ++ decimal lease.frag
 abbrev pub kind_text : Kind → List ℕ
 kind_text (Local sources) = codes "local" ++ spaced (map (λ f. decimal f.value) sources)
 kind_text Global = codes "global"
+kind_text Move = codes "move"
 
 -- the code of a refused command, and its detail where it has one
 abbrev pub refusal_text : Refusal → List ℕ
@@ -43,6 +44,10 @@ refusal_text refusal.StripeExists = codes "102"
 refusal_text (refusal.NoLawfulNode fragment) = codes "103 " ++ decimal fragment.value
 refusal_text refusal.UnknownNode = codes "104"
 refusal_text refusal.WrongMode = codes "105"
+refusal_text refusal.UnknownDomain = codes "106"
+refusal_text (refusal.UpgradeRunning domain) = codes "107 " ++ decimal domain.value
+refusal_text refusal.NotUpgrading = codes "108"
+refusal_text (refusal.WouldLose stripe) = codes "109 " ++ decimal stripe.value
 refusal_text (refusal.AlreadyLeased epoch) = codes "110 " ++ decimal epoch
 refusal_text refusal.NotNeeded = codes "111"
 refusal_text refusal.Unrecoverable = codes "112"
@@ -50,12 +55,14 @@ refusal_text refusal.Stale = codes "113"
 refusal_text (refusal.NotHolder holder) = codes "114 " ++ decimal holder.value
 refusal_text (refusal.TargetOffline node) = codes "115 " ++ decimal node.value
 refusal_text refusal.NoLease = codes "116"
+refusal_text (refusal.NotEmpty load) = codes "117 " ++ decimal load
 
 -- what is printed of a reply
 abbrev pub reply_text : Reply → List ℕ
 reply_text (Placed seats) = codes "placed" ++ spaced (map seat_text seats)
 reply_text Dropped = codes "dropped"
 reply_text (Granted lease kind) = codes "granted " ++ lease_text lease ++ codes " " ++ kind_text kind
+reply_text Idle = codes "idle"
 reply_text Ended = codes "ended"
 reply_text Changed = codes "changed"
 reply_text (Refused refusal) = codes "refused " ++ refusal_text refusal

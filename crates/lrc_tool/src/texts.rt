@@ -56,6 +56,7 @@ fn push_kind(out: &mut String, kind: &Kind) -> Result<(), AllocError>
             push_sources(out, sources.as_slice())
         }
         Kind::Global => out.push_str("global"),
+        Kind::Move => out.push_str("move"),
     }
 }
 
@@ -71,6 +72,16 @@ fn push_refusal(out: &mut String, refusal: &Refusal) -> Result<(), AllocError>
         }
         Refusal::UnknownNode => out.push_str("104"),
         Refusal::WrongMode => out.push_str("105"),
+        Refusal::UnknownDomain => out.push_str("106"),
+        Refusal::UpgradeRunning(domain) => {
+            let number = domain.value;
+            write!(out, "107 {number}")
+        }
+        Refusal::NotUpgrading => out.push_str("108"),
+        Refusal::WouldLose(stripe) => {
+            let number = stripe.value;
+            write!(out, "109 {number}")
+        }
         Refusal::AlreadyLeased(epoch) => write!(out, "110 {epoch}"),
         Refusal::NotNeeded => out.push_str("111"),
         Refusal::Unrecoverable => out.push_str("112"),
@@ -84,6 +95,7 @@ fn push_refusal(out: &mut String, refusal: &Refusal) -> Result<(), AllocError>
             write!(out, "115 {number}")
         }
         Refusal::NoLease => out.push_str("116"),
+        Refusal::NotEmpty(load) => write!(out, "117 {load}"),
     }
 }
 
@@ -102,6 +114,7 @@ fn push_reply(out: &mut String, reply: &Reply) -> Result<(), AllocError>
             out.push_str(" ")?;
             push_kind(out, kind)
         }
+        Reply::Idle => out.push_str("idle"),
         Reply::Ended => out.push_str("ended"),
         Reply::Changed => out.push_str("changed"),
         Reply::Refused(refusal) => {
