@@ -71,6 +71,12 @@ fn set_offline(rt: &impl Abort, stripes: &mut Stripes, number: u16, is_offline: 
     stripes.set_offline(node, is_offline);
 }
 
+fn set_draining(rt: &impl Abort, stripes: &mut Stripes, number: u16, is_draining: bool) {
+    let node = node(number);
+    assert!(rt; stripes.has_node(node));
+    stripes.set_draining(node, is_draining);
+}
+
 /// One stripe, with fragment f in slot 1 of node f.
 fn one_stripe(rt: &impl Abort, alloc: Global, stripe: StripeNo) -> Result<Stripes, Fail> {
     let topology = nodes(alloc, 20)?;
@@ -114,10 +120,7 @@ fn offline_nodes_make_unavailable_and_lost_homes_lost(rt: HostRuntime) -> Result
     assert_eq!(rt; stripes.level(stripe), Some(Level::AtRisk(2)));
 
     set_offline(&rt, &mut stripes, 3, false);
-    for number in [0, 1, 2, 4] {
-        let fragment = Fragment::new(number).ok_or("a fragment")?;
-        clear_home(&rt, &mut stripes, stripe, fragment);
-    }
+    clear_homes(&rt, &mut stripes, stripe, &[0, 1, 2, 4])?;
     assert_eq!(rt; stripes.missing(stripe), Some(LossMask::from_bits(0x0017)));
     assert_eq!(rt; stripes.level(stripe), Some(Level::Lost));
     Ok(())
@@ -164,6 +167,95 @@ fn lose_to_upgrades(
     set_offline(rt, stripes, 4, true);
     assert_eq!(rt; stripes.would_lose(UpgradeNo { value: 0 }), None);
     Ok(())
+}
+
+/// Each stripe has fragment f on node f. The first misses none, the next two miss one and bear any two more, the last misses
+/// three of one group and bears none.
+#[test]
+fn work_and_risk_go_by_rank_and_then_by_number(rt: HostRuntime) -> Result<(), Fail> {
+    let topology = nodes(rt.alloc(), 20)?;
+    let mut stripes = Stripes::new(rt.alloc(), &topology)?;
+    stripes.reserve(4)?;
+    let named = [
+        StripeNo::new(2).ok_or("stripe 2")?,
+        StripeNo::new(5).ok_or("stripe 5")?,
+        StripeNo::new(7).ok_or("stripe 7")?,
+        StripeNo::new(9).ok_or("stripe 9")?,
+    ];
+    add_in_slot(&rt, &mut stripes, named[3], 3);
+    add_in_slot(&rt, &mut stripes, named[1], 1);
+    add_in_slot(&rt, &mut stripes, named[2], 2);
+    add_in_slot(&rt, &mut stripes, named[0], 0);
+    clear_homes(&rt, &mut stripes, named[1], &[0])?;
+    clear_homes(&rt, &mut stripes, named[2], &[14])?;
+    clear_homes(&rt, &mut stripes, named[3], &[0, 1, 2])?;
+    drain_and_lose(&rt, &mut stripes, named);
+    Ok(())
+}
+
+fn clear_homes(
+    rt: &impl Abort,
+    stripes: &mut Stripes,
+    stripe: StripeNo,
+    fragments: &[u8],
+) -> Result<(), Fail> {
+    for number in fragments {
+        let fragment = Fragment::new(*number).ok_or("a fragment")?;
+        clear_home(rt, stripes, stripe, fragment);
+    }
+    Ok(())
+}
+
+/// Each stripe has a fragment on node 15, which drains, and one on node 4, which goes offline: then the first misses one, the
+/// next two miss two and bear any one more, and what the last misses is not recoverable.
+fn drain_and_lose(
+    rt: &impl Abort,
+    stripes: &mut Stripes,
+    [second, fifth, seventh, ninth]: [StripeNo; 4],
+) {
+    let at_risk = [
+        (ninth, Level::AtRisk(0)),
+        (fifth, Level::AtRisk(2)),
+        (seventh, Level::AtRisk(2)),
+    ];
+    assert_work(rt, stripes, &[ninth, fifth, seventh]);
+    assert_at_risk(rt, stripes, &at_risk);
+
+    set_draining(rt, stripes, 15, true);
+    assert_work(rt, stripes, &[ninth, fifth, seventh, second]);
+    assert_at_risk(rt, stripes, &at_risk);
+
+    set_offline(rt, stripes, 4, true);
+    assert_work(rt, stripes, &[fifth, seventh, second, ninth]);
+    assert_at_risk(
+        rt,
+        stripes,
+        &[
+            (fifth, Level::AtRisk(1)),
+            (seventh, Level::AtRisk(1)),
+            (second, Level::AtRisk(2)),
+            (ninth, Level::Unavailable),
+        ],
+    );
+
+    set_draining(rt, stripes, 15, false);
+    assert_work(rt, stripes, &[fifth, seventh, ninth]);
+}
+
+fn assert_work(rt: &impl Abort, stripes: &Stripes, expected: &[StripeNo]) {
+    let mut work = stripes.work();
+    for stripe in expected {
+        assert_eq!(rt; work.next(), Some(*stripe));
+    }
+    assert_eq!(rt; work.next(), None);
+}
+
+fn assert_at_risk(rt: &impl Abort, stripes: &Stripes, expected: &[(StripeNo, Level)]) {
+    let mut at_risk = stripes.at_risk();
+    for row in expected {
+        assert_eq!(rt; at_risk.next(), Some(*row));
+    }
+    assert_eq!(rt; at_risk.next(), None);
 }
 
 #[test]
