@@ -1,5 +1,5 @@
 -- Ranks of rows, and the walk over the rows by rank.
-use Rattle.std.proofs.Common.{◌≡◌, ℕ, suc, ◌+◌, ◌-◌, ◌<◌, ◌≤◌, inl, inr, Bool, true, false, ◌&&◌, nat_lt, List, [], ◌∷◌, length, get_or, Option, Some, None, unwrap_or, arith, refl, sym, ap, ap₂, ◌∙◌}
+use Rattle.std.proofs.Common.{◌≡◌, ℕ, suc, ◌+◌, ◌-◌, ◌<◌, ◌≤◌, inl, inr, Bool, true, false, ◌&&◌, nat_lt, List, [], ◌∷◌, length, get_or, Option, Some, None, unwrap_or, arith, refl, sym, ap, ◌∙◌}
 use Rattle.std.specs.List.{list_any, range_with_len}
 use Rattle.std.proofs.lemmas.Bool.{cases_Bool, lt-ltb, and_from, or_cases}
 use Rattle.std.proofs.lemmas.List.Folds.{list_any_at}
@@ -10,9 +10,9 @@ use Rattle.lrc_code.proofs.MarginLemmas.{by_margin, margin-few}
 use Rattle.lrc_topology.specs.declared.seat.Seat.{Seat}
 use Rattle.lrc_stripes.specs.declared.row.Row.{Row}
 use Rattle.lrc_stripes.specs.declared.row.Site.{Site}
-use Rattle.lrc_stripes.specs.Levels.{homeless_in, missing_in, needs_in, has_some, level_by, rank_by}
+use Rattle.lrc_stripes.specs.Levels.{missing_in, needs_in, has_some, rank_by}
 use Rattle.lrc_stripes.specs.Tables.{row_homes, online_in, draining_in}
-use Rattle.lrc_stripes.specs.RankedRows.{row_rank, row_level, row_needs, is_to_move, of_rank, ranked_from}
+use Rattle.lrc_stripes.specs.RankedRows.{row_rank, row_needs, is_to_move, of_rank, ranked_from}
 use Rattle.lrc_stripes.proofs.LevelLemmas.{has_some-from, has_some-none}
 
 -- ---- ranks
@@ -35,11 +35,7 @@ pub row_rank-margin : (sites : List Site) (r : Row) (missing : FragmentSet) (mar
 unfolding row_rank rank_by
 row_rank-margin sites r missing margin gone is = ap (λ (o : Option ℕ). unwrap_or o 4) is ∙ ap (λ (m : FragmentSet). unwrap_or (margin_of Wide m) 4) gone
 
--- ---- levels, and what needs a lease
-
-pub row_level-masks : (sites : List Site) (r : Row) (homeless missing : FragmentSet) → homeless ≡ homeless_in Wide (row_homes (Some r)) → missing ≡ missing_in Wide (online_in sites) (row_homes (Some r)) → level_by Wide homeless missing ≡ row_level sites r
-unfolding row_level
-row_level-masks sites r homeless missing none gone = ap₂ (level_by Wide) none gone
+-- ---- what needs a lease
 
 any-at : {X : Type 0} (p : X → Bool) (xs : List X) (d : X) → list_any p xs ≡ true → (k : ℕ) × (k < length xs) × (p (get_or xs k d) ≡ true)
 any-at p [] d e = absurd (cc)

@@ -39,6 +39,7 @@ pub(crate) fn missing(sites: &[Site], row: &Row) -> LossMask
 }
 
 /// The level of a stripe.
+#[tactic(auto, unfolding(crate::specs::RankedRows::row_level))]
 pub(crate) fn level(sites: &[Site], row: &Row) -> Level
     ensures { result ≡ row_level sites.now row.now }
 {
