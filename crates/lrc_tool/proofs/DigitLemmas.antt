@@ -3,7 +3,7 @@ use Rattle.std.proofs.Common.{◌≡◌, ℕ, suc, ◌-◌, ◌/◌, ◌%◌, �
 use Rattle.std.specs.Fmt.{digits, digits_onto, digit_glyph, padded_integral, format_spec, char_count}
 use Rattle.std.proofs.lemmas.Bool.{cases_lt, eq-eqb, ne_eqb}
 use Rattle.std.proofs.lemmas.Fmt.{hex_one_digit, hex_two_digits}
-use Rattle.lrc_tool.specs.Tables.{mask_digits}
+use Rattle.lrc_tool.specs.Tables.{mask_field}
 
 abbrev glyph : ℕ → ℕ
 glyph d = digit_glyph false d
@@ -31,7 +31,7 @@ four_digits n large small =
     ∙ last (n / 16 / 16 / 16) 60 (glyph (n / 16 / 16 % 16) ∷ glyph (n / 16 % 16) ∷ glyph (n % 16) ∷ []) (omega arith)
 
 -- what `{:04x}` writes of a mask
-pub mask_written : (n : ℕ) → n < 65536 → padded_integral (format_spec 32 0 4 4 (2 ^ 64 - 1)) false [] (digits 16 false n) ≡ mask_digits n
+pub mask_written : (n : ℕ) → n < 65536 → padded_integral (format_spec 32 0 4 4 (2 ^ 64 - 1)) false [] (digits 16 false n) ≡ mask_field n
 unfolding padded_integral char_count
 mask_written n small =
     let d : n / 1 % 16 ≡ n % 16 = omega arith in

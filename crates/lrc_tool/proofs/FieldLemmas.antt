@@ -16,8 +16,8 @@ use Rattle.lrc_topology.specs.declared.NodeInfo.{NodeInfo}
 use Rattle.lrc_book.specs.declared.Level.{Level}
 use Rattle.lrc_book.specs.declared.Level.TheVariants.{Whole, AtRisk, Unavailable, Lost}
 use Rattle.lrc_book.specs.declared.mode.Mode.{Mode}
-use Rattle.lrc_book.specs.declared.mode.Mode.TheVariants.{Active, Gone}
-use Rattle.lrc_tool.specs.Tables.{row_line, level_text, margin_field, mask_digits, risk_line, mode_text, online_text, load_line}
+use Rattle.lrc_book.specs.declared.mode.Mode.TheVariants.{Active, Draining, Gone}
+use Rattle.lrc_tool.specs.Tables.{row_line, level_text, margin_field, mask_field, risk_line, mode_text, online_text, load_line}
 
 -- the field is written as it is
 abbrev pub IsPlain : List ℕ → Type 0
@@ -48,7 +48,7 @@ glyph_plain d small = agree_below_at (λ d. needs_byte default_writer (digit_gly
 glyph_at : (n : ℕ) → needs_byte default_writer (digit_glyph false (n % 16)) ≡ false
 glyph_at n = glyph_plain (n % 16) (omega arith)
 
-pub mask_plain : (bits : ℕ) → IsPlain (mask_digits bits)
+pub mask_plain : (bits : ℕ) → IsPlain (mask_field bits)
 mask_plain bits = rw (glyph_at (bits / 4096), glyph_at (bits / 256), glyph_at (bits / 16), glyph_at (bits / 1)) refl
 
 -- ---- rows
@@ -77,6 +77,7 @@ margin_plain (Some m) h = decimal_plain m (omega (arith, h))
 
 mode_plain : (m : Mode) → IsPlain (mode_text m)
 mode_plain Active = refl
+mode_plain Draining = refl
 mode_plain Gone = refl
 
 online_plain : (b : Bool) → IsPlain (online_text b)
@@ -85,13 +86,13 @@ online_plain false = refl
 
 -- the fields of a row, each what it is to be
 pub risk_written : (stripe : StripeNo) (level : Level) (missing : ℕ) (m : Option ℕ) (number word margin mask : List ℕ) → IfSome m (λ x. x ≤ 3) → m ≡ margin_of Wide (bits_set missing)
-    → number ≡ decimal stripe.value → word ≡ level_text level → margin ≡ margin_field m → mask ≡ mask_digits missing
+    → number ≡ decimal stripe.value → word ≡ level_text level → margin ≡ margin_field m → mask ≡ mask_field missing
     → row_text default_writer (number ∷ word ∷ margin ∷ mask ∷ []) ≡ risk_line stripe level missing
 unfolding risk_line
 risk_written stripe level missing m number word margin mask few is a b c d =
     let range = stripe.in_range in
     rw (a, b, c, d, ← is)
-    (row_plain (decimal stripe.value) (level_text level) (margin_field m ∷ mask_digits missing ∷ [])
+    (row_plain (decimal stripe.value) (level_text level) (margin_field m ∷ mask_field missing ∷ [])
     (decimal_plain stripe.value (omega (arith, range)), (level_plain level, (margin_plain m few, (mask_plain missing, tt)))))
 
 pub load_written : (node : NodeInfo) (mode : Mode) (online : Bool) (seats : ℕ) (number word state load slots : List ℕ) → node.number.value < 65536 → seats < 4294967296 → node.slots < 65536
@@ -102,3 +103,17 @@ load_written node mode online seats number word state load slots x y z a b c d e
     rw (a, b, c, d, e)
     (row_plain (decimal node.number.value) (mode_text mode) (online_text online ∷ decimal seats ∷ decimal node.slots ∷ [])
     (decimal_plain node.number.value (omega (arith, x)), (mode_plain mode, (online_plain online, (decimal_plain seats (omega (arith, y)), (decimal_plain node.slots (omega (arith, z)), tt))))))
+
+-- ---- the headers
+
+abbrev fields_of_risk : List (List ℕ)
+fields_of_risk = codes "stripe" ∷ codes "level" ∷ codes "margin" ∷ codes "missing" ∷ []
+
+abbrev fields_of_loads : List (List ℕ)
+fields_of_loads = codes "node" ∷ codes "mode" ∷ codes "online" ∷ codes "load" ∷ codes "slots" ∷ []
+
+pub risk_header : row_text default_writer fields_of_risk ≡ codes "stripe,level,margin,missing\n"
+risk_header = row_plain (codes "stripe") (codes "level") (codes "margin" ∷ codes "missing" ∷ []) (refl, (refl, (refl, (refl, tt))))
+
+pub load_header : row_text default_writer fields_of_loads ≡ codes "node,mode,online,load,slots\n"
+load_header = row_plain (codes "node") (codes "mode") (codes "online" ∷ codes "load" ∷ codes "slots" ∷ []) (refl, (refl, (refl, (refl, (refl, tt)))))

@@ -1,5 +1,5 @@
 -- The history of a bundle with at most one script: there is one, and no other.
-use Rattle.std.proofs.Common.{◌≡◌, ℕ, ◌≤◌, lit≤, All, List, [], ◌∷◌, length, get_or, map, flat_map, refl, sym, ap, subst, ◌∙◌, arith, append-nil}
+use Rattle.std.proofs.Common.{◌≡◌, ℕ, ◌≤◌, lit≤, All, List, [], ◌∷◌, ◌++◌, length, get_or, map, flat_map, refl, sym, ap, subst, ◌∙◌, arith, append-nil}
 use Rattle.std.specs.Coded.{le_prop}
 use Rattle.std.proofs.lemmas.List.Elements.{All-head, All-tail, All-nil, All-cons}
 use Rattle.lrc_code.specs.declared.numbers.SessionNo.{SessionNo}
@@ -7,12 +7,14 @@ use Rattle.lrc_topology.specs.declared.NodeInfo.{NodeInfo}
 use Rattle.lrc_book.specs.declared.command.Command.{Command}
 use Rattle.lrc_book.specs.declared.entry.Entry.{Entry}
 use Rattle.lrc_book.specs.declared.reply.Reply.{Reply}
-use Rattle.lrc_book.specs.Histories.{World, first_world, outcome_in, next_world, IsLegalFrom}
+use Rattle.lrc_book.specs.Histories.{World, first_world, outcome_in, next_world, state_after, IsLegalFrom}
 use Rattle.lrc_book.specs.Sessions.{commands_of, commands_of_each}
 use Rattle.lrc_tool.specs.Limits.{script_limit}
+use Rattle.lrc_tool.specs.Tables.{tables_text}
 use Rattle.lrc_tool.specs.Texts.{script_text, output_text}
 use Rattle.lrc_tool.specs.Outputs.{IsPlayed}
-use Rattle.lrc_tool.proofs.SessionLemmas.{IsFirst, commands_alone, none_played, IsPlayedBy, one_played}
+use Rattle.lrc_tool.specs.Plays.{AreMade}
+use Rattle.lrc_tool.proofs.SessionLemmas.{IsFirst, commands_alone, none_made, IsPlayedBy, one_made, played_with_tables}
 
 -- ---- no other
 
@@ -88,10 +90,17 @@ module _ (nodes : List NodeInfo) where
   is_alone w [] = All-nil IsFirst
   is_alone w (c ∷ cs) = let w' = next_world nodes w (next_entry w c) in All-cons IsFirst (next_entry w c) (history_of w' cs) refl (is_alone w' cs)
 
-  pub some_play : (scripts : List (List Command)) → length scripts ≤ script_limit → (text : List ℕ) × IsPlayed nodes scripts text
-  some_play [] few = ([], none_played nodes)
-  some_play (commands ∷ []) few =
+  -- the calls, with the tables of the state behind them
+  some_made : (scripts : List (List Command)) → length scripts ≤ script_limit → (history : List Entry) × (text : List ℕ) × AreMade nodes scripts history text
+  some_made [] few = ([], [], none_made nodes)
+  some_made (commands ∷ []) few =
       let h = history_of first_world commands in
       let by : IsPlayedBy nodes commands h (script_text h 1) = record { legal = is_legal first_world commands; made = has_all first_world commands; alone = is_alone first_world commands; printed = refl } in
-      (script_text h 1, one_played nodes commands h (script_text h 1) by)
-  some_play (commands ∷ others ∷ more) few = absurd (omega (arith, few))
+      (h, script_text h 1, one_made nodes commands h (script_text h 1) by)
+  some_made (commands ∷ others ∷ more) few = absurd (omega (arith, few))
+
+  pub some_play : (scripts : List (List Command)) → length scripts ≤ script_limit → (text : List ℕ) × IsPlayed nodes scripts text
+  some_play scripts few =
+      let (h, text, made) = some_made scripts few in
+      let whole = text ++ tables_text nodes (state_after nodes h) in
+      (whole, played_with_tables nodes nodes scripts h text whole made refl refl)

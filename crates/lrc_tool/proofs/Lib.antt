@@ -9,6 +9,7 @@ pub mod CheckLemmas
 pub mod ReadLemmas
 pub mod DigitLemmas
 pub mod FieldLemmas
+pub mod TableLemmas
 pub mod Rows
 mod RowsOfPlacing
 mod RowsOfNodes

@@ -12,8 +12,8 @@ use Rattle.lrc_book.specs.Histories.{World, first_world, outcome_in, next_world,
 use Rattle.lrc_tool.specs.declared.streams.RunFault.TheVariants.{OutOfMemory}
 use Rattle.lrc_tool.specs.Faults.{run_fault}
 use Rattle.lrc_tool.specs.Texts.{reply_line, script_text}
-use Rattle.lrc_tool.specs.Outputs.{IsPlayed}
-use Rattle.lrc_tool.proofs.SessionLemmas.{IsFirst, IsPlayedBy, one_played, script_text-push}
+use Rattle.lrc_tool.specs.Plays.{AreMade}
+use Rattle.lrc_tool.proofs.SessionLemmas.{IsFirst, IsPlayedBy, one_made, script_text-push}
 
 -- a history with one more legal entry is legal
 legal_from_more : (nodes : List NodeInfo) (w : World) (h : List Entry) (e : Entry) → IsLegalFrom nodes w h
@@ -38,8 +38,8 @@ module _ (nodes : List NodeInfo) (commands : List Command) (i : ℕ) (history : 
         printed = next ∙ ap (λ t. t ++ reply_line (i + 1) e.reply) so_far.printed ∙ ap (λ n. script_text history 1 ++ reply_line n e.reply) place ∙ sym (script_text-push history e first);
       }
 
-  pub played_all : length commands ≤ i → IsPlayed nodes (commands ∷ []) text
-  played_all done = one_played nodes commands history text (subst (λ (cs : List Command). IsPlayedBy nodes cs history text) (take_all i commands done) so_far)
+  pub all_made : length commands ≤ i → AreMade nodes (commands ∷ []) history text
+  all_made done = one_made nodes commands history text (subst (λ (cs : List Command). IsPlayedBy nodes cs history text) (take_all i commands done) so_far)
 
 -- a book with room for one more entry is not full
 pub not_full : {T : Type 0} (fault : Fault) (n limit : ℕ) → (IsErrOf {T = T} (Err fault) book.HistoryFull → n ≡ limit) → n < limit → run_fault fault ≡ OutOfMemory

@@ -13,7 +13,7 @@ use Rattle.lrc_book.specs.declared.command.Command.{Command}
 use Rattle.lrc_book.specs.declared.command.Command.TheVariants as command
 use Rattle.lrc_book.specs.States.{missing}
 use Rattle.lrc_book.specs.Histories.{World, first_world, outcome_in, next_world}
-use Rattle.lrc_tool.specs.Texts.{output_text}
+use Rattle.lrc_tool.specs.Texts.{replies_text}
 
 -- ---- commands
 
@@ -103,13 +103,13 @@ played_by nodes calls = fold (called nodes) first_world calls
 abbrev pub played : List NodeInfo → List Command → World
 played nodes script = played_by nodes (map (λ c. (session, c)) script)
 
--- the text of a run of the script
+-- what is printed of the replies of the script
 abbrev pub printed : List NodeInfo → List Command → List ℕ
-printed nodes script = output_text nodes 1 (played nodes script).past
+printed nodes script = replies_text 1 (played nodes script).past
 
--- the text of a run of two scripts, whose calls came in this order
+-- what is printed of the replies of two scripts, whose calls came in this order
 abbrev pub printed_by_two : List NodeInfo → List (SessionNo × Command) → List ℕ
-printed_by_two nodes calls = output_text nodes 2 (played_by nodes calls).past
+printed_by_two nodes calls = replies_text 2 (played_by nodes calls).past
 
 -- ---- what is missing
 

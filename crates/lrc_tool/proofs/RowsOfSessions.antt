@@ -1,5 +1,5 @@
 -- Two sessions in one history: what is printed of their scripts, each with its own calls and their places in the whole history.
-use Rattle.std.proofs.Common.{◌≤◌, List, [], ◌∷◌, lit≤, refl, codes}
+use Rattle.std.proofs.Common.{◌≤◌, List, [], ◌∷◌, ◌++◌, lit≤, refl, codes}
 use Rattle.std.specs.Fmt.{digits}
 use Rattle.std.proofs.lemmas.List.Elements.{All-nil, All-cons}
 use Rattle.lrc_code.specs.declared.numbers.SessionNo.{SessionNo}
@@ -7,7 +7,9 @@ use Rattle.lrc_book.specs.declared.command.Command.{Command}
 use Rattle.lrc_book.specs.declared.entry.Entry.{Entry}
 use Rattle.lrc_book.specs.declared.reply.Reply.TheVariants.{Refused}
 use Rattle.lrc_book.specs.declared.refusal.Refusal.TheVariants.{UnknownStripe}
+use Rattle.lrc_book.specs.States.{opening}
 use Rattle.lrc_book.specs.Steps.{drop_outcome}
+use Rattle.lrc_tool.specs.Tables.{tables_text}
 use Rattle.lrc_tool.specs.Outputs.{IsPlayed}
 use Rattle.lrc_tool.proofs.Rows.{session, second, remove, ten_domains}
 
@@ -22,7 +24,7 @@ abbrev later : List Entry
 later = refused_to session (remove 2) ∷ refused_to second (remove 3) ∷ []
 
 two_sessions_in_turn :
-    IsPlayed ten_domains ((remove 2 ∷ []) ∷ (remove 1 ∷ remove 3 ∷ []) ∷ []) (codes "script 1\n2 refused 101\nscript 2\n1 refused 101\n3 refused 101\n")
+    IsPlayed ten_domains ((remove 2 ∷ []) ∷ (remove 1 ∷ remove 3 ∷ []) ∷ []) (codes "script 1\n2 refused 101\nscript 2\n1 refused 101\n3 refused 101\n" ++ tables_text ten_domains opening)
 unfolding drop_outcome digits
 two_sessions_in_turn = record {
   history = refused_to second (remove 1) ∷ later;

@@ -6,10 +6,12 @@ use Rattle.std.proofs.lemmas.List.Concat.{flat_map-append}
 use Rattle.lrc_topology.specs.declared.NodeInfo.{NodeInfo}
 use Rattle.lrc_book.specs.declared.command.Command.{Command}
 use Rattle.lrc_book.specs.declared.entry.Entry.{Entry}
-use Rattle.lrc_book.specs.Histories.{IsLegal}
+use Rattle.lrc_book.specs.Histories.{IsLegal, state_after}
 use Rattle.lrc_book.specs.Sessions.{NumberedEntry, numbered_from, is_of, entries_of, commands_of}
 use Rattle.lrc_tool.specs.Texts.{reply_line, script_line, script_text}
+use Rattle.lrc_tool.specs.Tables.{tables_text}
 use Rattle.lrc_tool.specs.Outputs.{IsPlayed}
+use Rattle.lrc_tool.specs.Plays.{AreMade}
 
 -- the entry is of session 1
 abbrev pub IsFirst : Entry → Type 0
@@ -62,8 +64,8 @@ script_text-push h e first =
 -- ---- scripts
 
 -- no script
-pub none_played : (nodes : List NodeInfo) → IsPlayed nodes [] []
-none_played nodes = record { history = []; legal = tt; made = refl; alone = All-nil (λ e. e.session.value ≤ 0); printed = refl }
+pub none_made : (nodes : List NodeInfo) → AreMade nodes [] [] []
+none_made nodes = record { legal = tt; made = refl; alone = All-nil (λ e. e.session.value ≤ 0); printed = refl }
 
 -- the calls of the only script, and what is printed of them
 pub record IsPlayedBy (nodes : List NodeInfo) (commands : List Command) (history : List Entry) (text : List ℕ) : Type 0 where
@@ -72,11 +74,21 @@ pub record IsPlayedBy (nodes : List NodeInfo) (commands : List Command) (history
   pub alone : All IsFirst history
   pub printed : text ≡ script_text history 1
 
-pub one_played : (nodes : List NodeInfo) (commands : List Command) (history : List Entry) (text : List ℕ) → IsPlayedBy nodes commands history text → IsPlayed nodes (commands ∷ []) text
-one_played nodes commands history text by = record {
-  history = history;
+pub one_made : (nodes : List NodeInfo) (commands : List Command) (history : List Entry) (text : List ℕ) → IsPlayedBy nodes commands history text → AreMade nodes (commands ∷ []) history text
+one_made nodes commands history text by = record {
   legal = by.legal;
   made = ap (λ cs. cs ∷ []) (commands_alone history by.alone ∙ by.made);
   alone = λ k d within. omega (arith, by.alone k d within);
   printed = by.printed ∙ sym (append-nil (script_text history 1));
+}
+
+-- with the tables behind it, it is what is printed
+pub played_with_tables : (nodes kept : List NodeInfo) (scripts : List (List Command)) (history : List Entry) (text whole : List ℕ) → AreMade nodes scripts history text → kept ≡ nodes
+    → whole ≡ text ++ tables_text kept (state_after kept history) → IsPlayed nodes scripts whole
+played_with_tables nodes kept scripts history text whole made same is = record {
+  history = history;
+  legal = made.legal;
+  made = made.made;
+  alone = made.alone;
+  printed = is ∙ ap (λ (ns : List NodeInfo). text ++ tables_text ns (state_after ns history)) same ∙ ap (λ t. t ++ tables_text nodes (state_after nodes history)) made.printed;
 }

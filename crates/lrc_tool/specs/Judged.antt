@@ -1,6 +1,6 @@
 -- Internal: no public clause reaches these definitions.
 -- What the checks of a bundle tell: a refusal, or nodes and the commands of its scripts.
-use Rattle.std.specs.Prelude.{◌≡◌, ℕ, ◌≤◌, List, [], ◌∷◌, length, map, sum_by, string_bytes, Option, None, Vec}
+use Rattle.std.specs.Prelude.{◌≡◌, ℕ, ◌≤◌, List, [], ◌∷◌, length, map, sum_by, Option, None, Vec}
 use Rattle.std.specs.List.{AllZip}
 use Rattle.lrc_topology.specs.declared.NodeInfo.{NodeInfo}
 use Rattle.lrc_topology.specs.Documents.{IsTopologyOf}
@@ -54,7 +54,7 @@ pub record IsAccepted {Z : Type 0} (bundle : List ℕ) (nodes : List NodeInfo) (
   pub commands : AreCommandsOf (scripts_of bundle) (lists_of scripts)
   pub few : AreFew scripts
 
--- a check of this bundle fails, or it has these nodes and these commands
+-- a check of this bundle fails, or it has this text of these nodes, and these commands
 abbrev pub IsJudged : List ℕ → Judged → Type 0
-IsJudged bundle (Refused output) = IsRefusal bundle (string_bytes output.text) output.status
-IsJudged bundle (Good topology scripts) = IsAccepted bundle topology scripts.items
+IsJudged bundle (Refused output) = IsRefusal bundle output.text.items output.status
+IsJudged bundle (Good text topology scripts) = (text.now ≡ topology_of bundle) × IsAccepted bundle topology scripts.items

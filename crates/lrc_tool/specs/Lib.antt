@@ -5,13 +5,14 @@ pub use Rattle.lrc_book.specs.Sessions
 pub use Rattle.lrc_script.specs.Scripts
 pub use Rattle.lrc_script.specs.Bundles
 pub mod Limits
-pub mod Texts
 pub mod Tables
+pub mod Texts
 pub mod Writers
 pub mod Streams
 pub mod Reads
 pub mod Faults
 pub mod Outputs
+pub mod Plays
 pub mod Judged
 pub mod Recoveries
 pub mod Checks

@@ -3,13 +3,14 @@ use Rattle.std.specs.Prelude.{ℕ, ◌/◌, ◌%◌, Bool, true, false, List, []
 use Rattle.std.specs.Fmt.{digit_glyph}
 use Rattle.lrc_code.specs.declared.codes.Code.TheVariants.{Wide}
 use Rattle.lrc_code.specs.declared.numbers.StripeNo.{StripeNo}
-use Rattle.lrc_code.specs.Losses.{margin_of, bits_set}
+use Rattle.lrc_code.specs.Losses.{margin_of, bits_set, bits_of}
 use Rattle.lrc_topology.specs.declared.NodeInfo.{NodeInfo}
 use Rattle.lrc_book.specs.declared.Level.{Level}
 use Rattle.lrc_book.specs.declared.Level.TheVariants.{Whole, AtRisk, Unavailable, Lost}
 use Rattle.lrc_book.specs.declared.mode.Mode.{Mode}
-use Rattle.lrc_book.specs.declared.mode.Mode.TheVariants.{Active, Gone}
-use Rattle.lrc_book.specs.States.{State, load, mode_of, is_online}
+use Rattle.lrc_book.specs.declared.mode.Mode.TheVariants.{Active, Draining, Gone}
+use Rattle.lrc_book.specs.States.{State, code_of, load, mode_of, is_online, missing}
+use Rattle.lrc_book.specs.Urgency.{risk}
 
 -- ---- rows
 
@@ -32,17 +33,26 @@ margin_field (Some margin) = decimal margin
 margin_field None = codes "-"
 
 -- four hexadecimal digits in lower case, of a number below 65,536
-abbrev pub mask_digits : ℕ → List ℕ
-mask_digits bits = map (λ place. digit_glyph false (bits / place % 16)) (4096 ∷ 256 ∷ 16 ∷ 1 ∷ [])
+abbrev pub mask_field : ℕ → List ℕ
+mask_field bits = map (λ place. digit_glyph false (bits / place % 16)) (4096 ∷ 256 ∷ 16 ∷ 1 ∷ [])
 
 -- the row of a stripe of this number and level, whose missing fragments are the bits of a number
 unfoldable pub risk_line : StripeNo → Level → ℕ → List ℕ
-risk_line stripe level missing = row_line (decimal stripe.value ∷ level_text level ∷ margin_field (margin_of Wide (bits_set missing)) ∷ mask_digits missing ∷ [])
+risk_line stripe level missing = row_line (decimal stripe.value ∷ level_text level ∷ margin_field (margin_of Wide (bits_set missing)) ∷ mask_field missing ∷ [])
+
+-- the row of a stripe at risk
+abbrev pub risk_row : List NodeInfo → State → StripeNo × Level → List ℕ
+risk_row nodes st risky = risk_line risky.0 risky.1 (bits_of (code_of st risky.0) (missing nodes st risky.0))
+
+-- a row for each stripe that is not whole, in the order of repair
+abbrev pub risk_table : List NodeInfo → State → List ℕ
+risk_table nodes st = codes "risk\nstripe,level,margin,missing\n" ++ flat_map (risk_row nodes st) (risk nodes st)
 
 -- ---- loads
 
 abbrev pub mode_text : Mode → List ℕ
 mode_text Active = codes "active"
+mode_text Draining = codes "draining"
 mode_text Gone = codes "gone"
 
 abbrev pub online_text : Bool → List ℕ
@@ -60,3 +70,8 @@ load_row st node = load_line node (mode_of st node.number) (is_online st node) (
 -- a row for each node, in the order of the file
 abbrev pub load_table : List NodeInfo → State → List ℕ
 load_table nodes st = codes "load\nnode,mode,online,load,slots\n" ++ flat_map (load_row st) nodes
+
+-- ---- both
+
+abbrev pub tables_text : List NodeInfo → State → List ℕ
+tables_text nodes st = risk_table nodes st ++ load_table nodes st

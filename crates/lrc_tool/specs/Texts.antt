@@ -12,10 +12,12 @@ use Rattle.lrc_book.specs.declared.reply.Reply.{Reply}
 use Rattle.lrc_book.specs.declared.reply.Reply.TheVariants.{Placed, Dropped, Granted, Idle, Ended, Changed, Refused}
 use Rattle.lrc_book.specs.declared.refusal.Refusal.{Refusal}
 use Rattle.lrc_book.specs.declared.refusal.Refusal.TheVariants as refusal
+use Rattle.lrc_book.specs.Histories.{state_after}
 use Rattle.lrc_book.specs.Sessions.{entries_of, sessions}
 use Rattle.lrc_script.specs.declared.script.Cause.{Cause}
 use Rattle.lrc_script.specs.declared.script.Cause.TheVariants as cause
 use Rattle.lrc_script.specs.Scripts.{BadLine}
+use Rattle.lrc_tool.specs.Tables.{tables_text}
 
 -- ---- replies
 
@@ -79,9 +81,13 @@ script_line script = codes "script " ++ decimal script ++ codes "\n"
 abbrev pub script_text : List Entry → ℕ → List ℕ
 script_text history script = script_line script ++ flat_map (λ e. reply_line e.place e.entry.reply) (entries_of script history)
 
--- what is printed of so many scripts, over these nodes, where this is the history that they made
+-- what is printed of so many scripts, where this is the history that they made
+abbrev pub replies_text : ℕ → List Entry → List ℕ
+replies_text count history = flat_map (script_text history) (sessions count)
+
+-- the same, and behind it what is printed of the state in which the history leaves these nodes
 abbrev pub output_text : List NodeInfo → ℕ → List Entry → List ℕ
-output_text nodes count history = flat_map (script_text history) (sessions count)
+output_text nodes count history = replies_text count history ++ tables_text nodes (state_after nodes history)
 
 -- ---- refusals of input
 

@@ -48,27 +48,29 @@ pub fn check<R: Source, W: Sink>(
 {
     let bundle = read_all(alloc, source, BUNDLE_LIMIT)?;
     let output = check_of(alloc, bundle.as_slice())?;
-    write_all(sink, output.text.as_bytes())?;
+    write_all(sink, output.text.as_slice())?;
     Ok(output.status)
 }
 
 /// The output of a check of this bundle.
 fn check_of(alloc: Global, bundle: &[u8]) -> Result<Output, RunFault>
-    ensures line { IfOk result (λ o. IsCheck bundle.now (string_bytes o.text) o.status) }
+    ensures line { IfOk result (λ o. IsCheck bundle.now (o.text.items) o.status) }
     ensures err { IfErr result (λ e. e ≡ fault.OutOfMemory) }
 {
     match judge(alloc, bundle)? {
         Judged::Refused(output) => Ok(output),
-        Judged::Good { topology, scripts } => {
-            counted(alloc, topology.nodes().len(), scripts.as_slice())
-        }
+        Judged::Good {
+            topology,
+            scripts,
+            ..
+        } => { counted(alloc, topology.nodes().len(), scripts.as_slice()) }
     }
 }
 
 /// The output for so many nodes and the commands of these scripts.
 fn counted(alloc: Global, nodes: usize, scripts: &[Vec<Command>]) -> Result<Output, RunFault>
     requires { AreFew scripts.now }
-    ensures line { IfOk result (λ o. string_bytes o.text ≡ counts_line nodes (length scripts.now) (sum_by (λ script. length script.items) scripts.now)) }
+    ensures line { IfOk result (λ o. o.text.items ≡ counts_line nodes (length scripts.now) (sum_by (λ script. length script.items) scripts.now)) }
     ensures status { IfOk result (λ o. o.status ≡ ended.Done) }
     ensures err { IfErr result (λ e. e ≡ fault.OutOfMemory) }
 {
@@ -76,7 +78,10 @@ fn counted(alloc: Global, nodes: usize, scripts: &[Vec<Command>]) -> Result<Outp
     let mut text = String::new(alloc);
     push_counts(&mut text, nodes, scripts.len(), commands)?;
     let status = Status::Done;
-    Ok(Output { text, status })
+    Ok(Output {
+        text: text.into_bytes(),
+        status,
+    })
 }
 
 fn push_counts(

@@ -1,4 +1,4 @@
-ghost use Rattle.std.specs.Prelude.{◌≡◌, string_bytes, IfOk, IfErr};
+ghost use Rattle.std.specs.Prelude.{◌≡◌, IfOk, IfErr};
 ghost use Rattle.lrc_tool.specs.Texts.{topology_line, bad_line_text};
 ghost use Rattle.lrc_tool.specs.declared.status.Status.TheVariants as ended;
 ghost use Rattle.lrc_tool.specs.declared.streams.RunFault.TheVariants as fault;
@@ -13,41 +13,50 @@ use std::alloc::Global;
 /// What a call writes, and how it ends.
 #[derive(Drop)]
 pub(crate) struct Output {
-    pub text: String,
+    pub text: Vec<u8>,
     pub status: Status,
 }
 
 /// The output for a bad line of a script.
 pub(crate) fn bad_line(alloc: Global, line: u64, cause: Cause) -> Result<Output, RunFault>
-    ensures text { IfOk result (λ o. string_bytes o.text ≡ bad_line_text (record { line = line; cause = cause })) }
+    ensures text { IfOk result (λ o. o.text.items ≡ bad_line_text (record { line = line; cause = cause })) }
     ensures status { IfOk result (λ o. o.status ≡ ended.BadLine) }
     ensures err { IfErr result (λ e. e ≡ fault.OutOfMemory) }
 {
     let mut text = String::new(alloc);
     push_bad_line(&mut text, line, cause)?;
     let status = Status::BadLine;
-    Ok(Output { text, status })
+    Ok(Output {
+        text: text.into_bytes(),
+        status,
+    })
 }
 
 /// The output for a refused topology.
 pub(crate) fn refused_topology(alloc: Global, error: TopologyError) -> Result<Output, RunFault>
-    ensures text { IfOk result (λ o. string_bytes o.text ≡ topology_line error) }
+    ensures text { IfOk result (λ o. o.text.items ≡ topology_line error) }
     ensures status { IfOk result (λ o. o.status ≡ ended.Refused) }
     ensures err { IfErr result (λ e. e ≡ fault.OutOfMemory) }
 {
     let mut text = String::new(alloc);
     push_topology_line(&mut text, error)?;
     let status = Status::Refused;
-    Ok(Output { text, status })
+    Ok(Output {
+        text: text.into_bytes(),
+        status,
+    })
 }
 
 /// The output for a bundle that is refused by this line.
 pub(crate) fn refused(alloc: Global, line: &str) -> Result<Output, RunFault>
-    ensures text { IfOk result (λ o. string_bytes o.text ≡ line.now) }
+    ensures text { IfOk result (λ o. o.text.items ≡ line.now) }
     ensures status { IfOk result (λ o. o.status ≡ ended.Refused) }
     ensures err { IfErr result (λ e. e ≡ fault.OutOfMemory) }
 {
     let text = String::from_str(alloc, line)?;
     let status = Status::Refused;
-    Ok(Output { text, status })
+    Ok(Output {
+        text: text.into_bytes(),
+        status,
+    })
 }

@@ -1,40 +1,62 @@
-ghost use Rattle.std.specs.Prelude.{◌≡◌, ◌≤◌, [], ◌∷◌, length, string_bytes, IfOk, IfErr};
+ghost use Rattle.std.specs.Prelude.{◌≡◌, ◌≤◌, [], ◌∷◌, length, string_bytes, IfOk, OnOk, IfErr};
 ghost use Rattle.lrc_tool.specs.Judged.{lists_of, AreFew};
+ghost use Rattle.lrc_tool.specs.Plays.{AreMade};
 ghost use Rattle.lrc_tool.specs.Outputs.{IsPlayed};
 ghost use Rattle.lrc_tool.specs.declared.streams.RunFault.TheVariants as fault;
 
 use crate::streams::RunFault;
+use crate::tables::with_tables;
 use crate::texts::{push_reply_line, push_script_line};
 use lrc_book::{Book, Command, HISTORY_LIMIT};
 use lrc_code::SessionNo;
 use lrc_topology::Topology;
 use std::alloc::Global;
 
-/// Makes the commands of the scripts on a new book, and answers what is printed of them.
+/// Makes the commands of the scripts on a new book, and answers what is printed of them, with the tables of these nodes.
 pub(crate) fn play(
     alloc: Global,
+    nodes: &Topology,
     topology: Topology,
     scripts: &[Vec<Command>],
+) -> Result<Vec<u8>, RunFault>
+    requires same { topology ≡ nodes.now }
+    requires few { AreFew scripts.now }
+    ensures played { IfOk result (λ text. IsPlayed nodes.now (lists_of scripts.now) text.items) }
+    ensures err { IfErr result (λ e. e ≡ fault.OutOfMemory) }
+{
+    let mut book = Book::new(alloc, topology)?;
+    let replies = play_scripts(alloc, &mut book, scripts)?;
+    with_tables(alloc, replies.into_bytes(), nodes, &book)
+}
+
+/// Makes the commands of the scripts on a new book, and answers what is printed of the replies.
+fn play_scripts(
+    alloc: Global,
+    book: &mut Book,
+    scripts: &[Vec<Command>],
 ) -> Result<String, RunFault>
-    requires { AreFew scripts.now }
-    ensures played { IfOk result (λ text. IsPlayed topology (lists_of scripts.now) (string_bytes text)) }
+    requires fresh { (book.old.history ≡ []) × (book.old.limit ≡ HISTORY_LIMIT) }
+    requires few { AreFew scripts.now }
+    ensures made { IfOk result (λ text. AreMade book.old.nodes (lists_of scripts.now) book.new.history (string_bytes text)) }
+    ensures nodes { OnOk result (book.new.nodes ≡ book.old.nodes) }
     ensures err { IfErr result (λ e. e ≡ fault.OutOfMemory) }
 {
     match scripts {
         [] => Ok(String::new(alloc)),
-        [script, ..] => play_alone(alloc, topology, script.as_slice()),
+        [script, ..] => play_alone(alloc, book, script.as_slice()),
     }
 }
 
 /// Makes the commands of the only script, all by session 1.
-fn play_alone(alloc: Global, topology: Topology, commands: &[Command]) -> Result<String, RunFault>
+fn play_alone(alloc: Global, book: &mut Book, commands: &[Command]) -> Result<String, RunFault>
+    requires fresh { (book.old.history ≡ []) × (book.old.limit ≡ HISTORY_LIMIT) }
     // The history has room for them.
-    requires { length commands.now ≤ HISTORY_LIMIT }
-    ensures played { IfOk result (λ text. IsPlayed topology (commands.now ∷ []) (string_bytes text)) }
+    requires few { length commands.now ≤ HISTORY_LIMIT }
+    ensures made { IfOk result (λ text. AreMade book.old.nodes (commands.now ∷ []) book.new.history (string_bytes text)) }
+    ensures nodes { OnOk result (book.new.nodes ≡ book.old.nodes) }
     ensures err { IfErr result (λ e. e ≡ fault.OutOfMemory) }
 {
     let session = SessionNo::new(1).unwrap();
-    let mut book = Book::new(alloc, topology)?;
     let mut text = String::new(alloc);
     push_script_line(&mut text, session)?;
     for (index, command) in commands.iter().enumerate() {

@@ -1,7 +1,8 @@
 //! Running a bundle, from the bytes in to the bytes out.
 
-ghost use Rattle.std.specs.Prelude.{◌≡◌, ◌≢◌, ◌||◌, ◌⊎◌, ◌+◌, true, OnOk, string_bytes, IfOk, IfErr, IfSome, IsErrOf};
+ghost use Rattle.std.specs.Prelude.{◌≡◌, ◌≢◌, ◌||◌, ◌⊎◌, ◌+◌, true, OnOk, IfOk, IfErr, IfSome, IsErrOf};
 ghost use Rattle.std.specs.Io.KnownBytes.{Keeps};
+ghost use Rattle.lrc_topology.specs.Documents.{IsTopologyOf};
 ghost use Rattle.lrc_tool.specs.Streams.{is_read_fault, is_write_fault, ConsumesAtMost};
 ghost use Rattle.lrc_tool.specs.Outputs.{IsOutput, WritesOutput, WritesPartOfOutput};
 ghost use Rattle.lrc_tool.specs.declared.streams.RunFault.TheVariants as fault;
@@ -12,6 +13,7 @@ use crate::output::Output;
 use crate::play::play;
 use crate::status::Status;
 use crate::streams::{RunFault, Sink, Source, read_all, write_all};
+use lrc_topology::Topology;
 use std::alloc::Global;
 
 /// Runs the bundle that the source holds: reads it, makes the commands of its scripts, and then writes the whole output.
@@ -40,21 +42,37 @@ pub fn run<R: Source, W: Sink>(
 {
     let bundle = read_all(alloc, source, BUNDLE_LIMIT)?;
     let output = output_of(alloc, bundle.as_slice())?;
-    write_all(sink, output.text.as_bytes())?;
+    write_all(sink, output.text.as_slice())?;
     Ok(output.status)
 }
 
 /// The output of a run of this bundle.
 fn output_of(alloc: Global, bundle: &[u8]) -> Result<Output, RunFault>
-    ensures output { IfOk result (λ o. IsOutput bundle.now (string_bytes o.text) o.status) }
+    ensures output { IfOk result (λ o. IsOutput bundle.now (o.text.items) o.status) }
     ensures err { IfErr result (λ e. e ≡ fault.OutOfMemory) }
 {
     match judge(alloc, bundle)? {
         Judged::Refused(output) => Ok(output),
-        Judged::Good { topology, scripts } => {
-            let text = play(alloc, topology, scripts.as_slice())?;
+        Judged::Good {
+            text,
+            topology,
+            scripts,
+        } => {
+            let again = read_again(alloc, text)?;
+            let text = play(alloc, &topology, again, scripts.as_slice())?;
             let status = Status::Done;
             Ok(Output { text, status })
         }
+    }
+}
+
+/// The nodes of a text that was accepted, once more.
+fn read_again(alloc: Global, text: &[u8]) -> Result<Topology, RunFault>
+    ensures read { IfOk result (IsTopologyOf text.now) }
+    ensures err { IfErr result (λ e. e ≡ fault.OutOfMemory) }
+{
+    match Topology::read(alloc, text) {
+        Ok(topology) => Ok(topology),
+        Err(_) => Err(RunFault::OutOfMemory),
     }
 }

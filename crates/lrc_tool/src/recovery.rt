@@ -35,13 +35,13 @@ pub fn recover<W: Sink>(alloc: Global, mask: &str, sink: &mut W) -> Result<Statu
     ensures write { W.has_failed sink.new ≡ (W.has_failed sink.old || is_write_fault result) }
 {
     let output = recovery_of(alloc, mask)?;
-    write_all(sink, output.text.as_bytes())?;
+    write_all(sink, output.text.as_slice())?;
     Ok(output.status)
 }
 
 /// The line for this word, and how it ends.
 fn recovery_of(alloc: Global, word: &str) -> Result<Output, RunFault>
-    ensures text { IfOk result (λ o. string_bytes o.text ≡ recovery_text word.now) }
+    ensures text { IfOk result (λ o. o.text.items ≡ recovery_text word.now) }
     ensures status { IfOk result (λ o. o.status ≡ recovery_status word.now) }
     ensures err { IfErr result (λ e. e ≡ fault.OutOfMemory) }
 {
@@ -56,7 +56,10 @@ fn recovery_of(alloc: Global, word: &str) -> Result<Output, RunFault>
             Status::Refused
         }
     };
-    Ok(Output { text, status })
+    Ok(Output {
+        text: text.into_bytes(),
+        status,
+    })
 }
 
 /// The number that a word of exactly four hexadecimal digits writes.

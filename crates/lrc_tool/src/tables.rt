@@ -1,18 +1,70 @@
 //! The tables of stripes at risk and of loads.
 
-ghost use Rattle.std.specs.Prelude.{◌≡◌, ◌++◌, [], ◌∷◌, decimal, string_bytes, IfOk, OnOk, IfErr};
+ghost use Rattle.std.specs.Prelude.{◌≡◌, ◌++◌, codes, string_bytes, IfOk, OnOk, IfErr};
 ghost use Rattle.lrc_code.specs.declared.codes.Code.TheVariants.{Wide};
 ghost use Rattle.lrc_code.specs.Losses.{bits_set, margin_of};
-ghost use Rattle.lrc_tool.specs.Tables.{level_text, margin_field, mask_digits, risk_line, mode_text, online_text, load_line};
+ghost use Rattle.lrc_book.specs.Books.{state_of};
+ghost use Rattle.lrc_tool.specs.Tables.{level_text, margin_field, mask_field, risk_line, risk_table, mode_text, online_text, load_line, load_table, tables_text};
 ghost use Rattle.lrc_tool.specs.Writers.{text_in, IsBetweenRows};
 ghost use Rattle.lrc_tool.specs.declared.streams.RunFault.TheVariants as fault;
 
 use crate::streams::RunFault;
-use crate::table::{Table, push_row};
-use lrc_book::{Level, Mode};
+use crate::table::{Table, push_row, table_behind, text_of_table};
+use lrc_book::{Book, Level, Mode};
 use lrc_code::{LossMask, StripeNo};
-use lrc_topology::NodeInfo;
+use lrc_topology::{NodeInfo, Topology};
 use std::alloc::{AllocError, Global};
+
+/// The text, and the tables behind it.
+pub(crate) fn with_tables(
+    alloc: Global,
+    text: Vec<u8>,
+    nodes: &Topology,
+    book: &Book,
+) -> Result<Vec<u8>, RunFault>
+    requires { nodes.now ≡ book.now.nodes }
+    ensures text { IfOk result (λ v. v.items ≡ text.items ++ tables_text book.now.nodes (state_of book.now)) }
+    ensures err { IfErr result (λ e. e ≡ fault.OutOfMemory) }
+{
+    let text = with_risk_table(alloc, text, book)?;
+    with_load_table(alloc, text, nodes, book)
+}
+
+fn with_risk_table(alloc: Global, mut text: Vec<u8>, book: &Book) -> Result<Vec<u8>, RunFault>
+    ensures text { IfOk result (λ v. v.items ≡ text.items ++ risk_table book.now.nodes (state_of book.now)) }
+    ensures err { IfErr result (λ e. e ≡ fault.OutOfMemory) }
+{
+    let rows = book.risk(alloc)?;
+    text.extend_from_slice(b"risk\n")?;
+    let mut table = table_behind(text);
+    push_risk_header(&mut table)?;
+    for (stripe, level) in rows.as_slice() {
+        let missing = book.missing(*stripe).unwrap();
+        push_risk_row(alloc, &mut table, *stripe, *level, missing)?;
+    }
+    text_of_table(table)
+}
+
+fn with_load_table(
+    alloc: Global,
+    mut text: Vec<u8>,
+    nodes: &Topology,
+    book: &Book,
+) -> Result<Vec<u8>, RunFault>
+    requires { nodes.now ≡ book.now.nodes }
+    ensures text { IfOk result (λ v. v.items ≡ text.items ++ load_table book.now.nodes (state_of book.now)) }
+    ensures err { IfErr result (λ e. e ≡ fault.OutOfMemory) }
+{
+    text.extend_from_slice(b"load\n")?;
+    let mut table = table_behind(text);
+    push_load_header(&mut table)?;
+    for node in nodes.nodes() {
+        let (mode, online) = book.mode(node.number).unwrap();
+        let load = book.load(node.number).unwrap();
+        push_load_row(alloc, &mut table, node, mode, online, load)?;
+    }
+    text_of_table(table)
+}
 
 // ---- words
 
@@ -32,6 +84,7 @@ fn mode_word(mode: Mode) -> &'static str
 {
     match mode {
         Mode::Active => "active",
+        Mode::Draining => "draining",
         Mode::Gone => "gone",
     }
 }
@@ -53,12 +106,43 @@ fn margin_word(alloc: Global, margin: Option<u8>) -> Result<String, AllocError>
 
 /// Four hexadecimal digits.
 fn mask_word(alloc: Global, bits: u16) -> Result<String, AllocError>
-    ensures { IfOk result (λ word. string_bytes word ≡ mask_digits bits) }
+    ensures { IfOk result (λ word. string_bytes word ≡ mask_field bits) }
 {
     format!(in alloc; "{bits:04x}")
 }
 
 // ---- rows
+
+fn push_risk_header(table: &mut Table) -> Result<(), RunFault>
+    requires { IsBetweenRows table.old }
+    ensures row { OnOk result (text_in table.new ≡ text_in table.old ++ codes "stripe,level,margin,missing\n") }
+    ensures between { OnOk result (IsBetweenRows table.new) }
+    ensures err { IfErr result (λ e. e ≡ fault.OutOfMemory) }
+{
+    let fields = [
+        b"stripe".as_slice(),
+        b"level".as_slice(),
+        b"margin".as_slice(),
+        b"missing".as_slice(),
+    ];
+    push_row(table, fields.as_slice())
+}
+
+fn push_load_header(table: &mut Table) -> Result<(), RunFault>
+    requires { IsBetweenRows table.old }
+    ensures row { OnOk result (text_in table.new ≡ text_in table.old ++ codes "node,mode,online,load,slots\n") }
+    ensures between { OnOk result (IsBetweenRows table.new) }
+    ensures err { IfErr result (λ e. e ≡ fault.OutOfMemory) }
+{
+    let fields = [
+        b"node".as_slice(),
+        b"mode".as_slice(),
+        b"online".as_slice(),
+        b"load".as_slice(),
+        b"slots".as_slice(),
+    ];
+    push_row(table, fields.as_slice())
+}
 
 /// Adds the row of a stripe of this level that misses these fragments.
 fn push_risk_row(

@@ -1,7 +1,7 @@
 use Rattle.std.proofs.Common.{◌<◌, length, sym, ◌∙◌, arith}
 use Rattle.std.proofs.lemmas.Result.{err_from_is_err_and}
 use Rattle.lrc_book.specs.declared.entry.Entry.{Entry}
-use Rattle.lrc_tool.proofs.PlayLemmas.{as_many, played_more, played_all, not_full}
+use Rattle.lrc_tool.proofs.PlayLemmas.{as_many, played_more, all_made, not_full}
 use Rattle.lrc_tool.proofs.play.play_alone.Goals as goal
 
 pub returns-in_err-reply-clause-err : goal.returns-in_err-reply-clause-err
@@ -20,5 +20,5 @@ loop-index-preserved c =
       played = played_more _ c.args.commands.now c.loop-index.index _ _ c.loop-index.invariant.played entry _ _ c.loop-index.invariant.nodes c.loop-index-test.true c.index-commands-index.is (rw c.unwrap-session.ensures at c.new.ensures.value) (sym c.in_ok-reply.ensures.reply) c.in_ok-push_reply_line.ensures;
     })
 
-pub returns-clause-played : goal.returns-clause-played
-returns-clause-played c = played_all _ c.args.commands.now c.loop-index.index _ _ c.loop-index.invariant.played c.loop-index-test.false
+pub returns-clause-made : goal.returns-clause-made
+returns-clause-made c = all_made _ c.args.commands.now c.loop-index.index _ _ c.loop-index.invariant.played c.loop-index-test.false

@@ -4,7 +4,7 @@ use Rattle.lrc_tool.proofs.play.play_alone.Given as goal
 
 abbrev pub invariant-loop-index : goal.invariant-loop-index
 invariant-loop-index l = record {
-  nodes : l.book.nodes ≡ l.fn.topology;
+  nodes : l.book.nodes ≡ l.fn.book.nodes;
   limit : l.book.limit ≡ 1000000;
-  played : IsPlayedBy l.fn.topology (take l.index l.commands) l.book.history (string_bytes l.text);
+  played : IsPlayedBy l.fn.book.nodes (take l.index l.commands) l.book.history (string_bytes l.text);
 }
