@@ -48,3 +48,5 @@ pub mod EarnedLemmas
 pub mod MovedLemmas
 pub mod GivenBackLemmas
 pub mod SafeUpgradeLemmas
+pub mod MostUrgentLemmas
+pub mod RetiredLemmas

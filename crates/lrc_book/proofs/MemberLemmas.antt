@@ -20,6 +20,10 @@ module _ {X : Type 0} where
   pub not-Contains-nil : (x : X) → Contains [] x → ⊥
   not-Contains-nil x h = absurd (omega (arith, h.1))
 
+  pub no-member : (xs : List X) → ((x : X) → Contains xs x → ⊥) → xs ≡ []
+  no-member [] none = refl
+  no-member (x ∷ xs) none = absurd (none x (Contains-here x xs))
+
   -- what is true of each member is true of all
   pub All-members : (P : X → Type 0) (xs : List X) → ((x : X) → Contains xs x → P x) → All P xs
   All-members P xs h = All-weaker (Contains xs) P h xs (All-contains_itself xs)

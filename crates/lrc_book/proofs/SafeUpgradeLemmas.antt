@@ -42,7 +42,7 @@ use Rattle.lrc_book.specs.Choices.{AreApart}
 use Rattle.lrc_book.specs.Goodness.{KeepApart, AreSeated}
 use Rattle.lrc_book.specs.Steps.{with_upgrading, is_lost_to, would_lose, upgrade_answer, upgrade_outcome}
 use Rattle.lrc_book.specs.Upgrading.{WouldBeLost}
-use Rattle.lrc_book.proofs.MemberLemmas.{Contains-here, not-Contains-nil, All-members, filter-member, member-filter, list_any-member, none-count, AllPairs-head, AllPairs-tail}
+use Rattle.lrc_book.proofs.MemberLemmas.{not-Contains-nil, no-member, All-members, filter-member, member-filter, list_any-member, none-count, AllPairs-head, AllPairs-tail}
 use Rattle.lrc_book.proofs.GrantingLemmas.{passed, stopped}
 use Rattle.lrc_book.proofs.PairLemmas.{pairs-members}
 use Rattle.lrc_book.proofs.SeatingLemmas.{KeepApart-turn, fragments-distinct}
@@ -258,10 +258,6 @@ module _ (nodes : List NodeInfo) (st : State) (u : UpgradeNo) where
   none-words e s so =
       let xs = filter (is_lost_to nodes st u) st.stripes in
       not-Contains-nil s (subst (λ (ys : List StripeNo). Contains ys s) ((least-none lower xs).0 e) (said-lost s so))
-
-  no-member : {X : Type 0} (xs : List X) → ((x : X) → Contains xs x → ⊥) → xs ≡ []
-  no-member [] none = refl
-  no-member (x ∷ xs) none = absurd (none x (Contains-here x xs))
 
   pub words-none : ((s : StripeNo) → ¬ (WouldBeLost nodes st u s)) → would_lose nodes st u ≡ None
   unfolding would_lose

@@ -148,9 +148,9 @@ module _ (ranks : StripeNo → ℕ) where
       AllPairs-append (λ p q. is_repaired_before ranks p q ≡ true) (fragments_at s) (fragments_in stripes) (at-strict s)
       (fragments-strict stripes (AllPairs-tail (λ s t. comes_first ranks s t ≡ true) s stripes strict))
       (All-members _ (fragments_at s) (λ p here. All-members (λ q. is_repaired_before ranks p q ≡ true) (fragments_in stripes) (λ q there.
-        let later = All-contains (λ t. comes_first ranks s t ≡ true) stripes q.0 (AllPairs-head (λ s t. comes_first ranks s t ≡ true) s stripes strict) (fragments-into stripes q there) in
-        let ahead : comes_first ranks p.0 q.0 ≡ true = subst (λ t. comes_first ranks t q.0 ≡ true) (sym (at-stripe s p here)) later in
-        or_left (comes_first ranks p.0 q.0) _ ahead)))
+      let later = All-contains (λ t. comes_first ranks s t ≡ true) stripes q.0 (AllPairs-head (λ s t. comes_first ranks s t ≡ true) s stripes strict) (fragments-into stripes q there) in
+      let ahead : comes_first ranks p.0 q.0 ≡ true = subst (λ t. comes_first ranks t q.0 ≡ true) (sym (at-stripe s p here)) later in
+      or_left (comes_first ranks p.0 q.0) _ ahead)))
 
 -- ---- the first that passes a test, stripe by stripe
 
@@ -227,9 +227,9 @@ module _ (nodes : List NodeInfo) (st : State) (spare : ℕ) where
         first-least (is_repaired_before (rank nodes st)) (fragment-order (rank nodes st)) (fragment-ties (rank nodes st)) (filter test (all_fragments st)) (filter test (fragments_in stripes))
         (AllPairs-filter (λ p q. is_repaired_before (rank nodes st) p q ≡ true) test (fragments_in stripes) (fragments-strict (rank nodes st) stripes are.rising))
         (λ p here. let at = filter-member test (fragments_in st.stripes) p here in
-          member-filter test (fragments_in stripes) p (fragments-from stripes p (work-from p.0 (fragments-into st.stripes p at.0) (granted-works p at.1))) at.1)
+        member-filter test (fragments_in stripes) p (fragments-from stripes p (work-from p.0 (fragments-into st.stripes p at.0) (granted-works p at.1))) at.1)
         (λ p here. let at = filter-member test (fragments_in stripes) p here in
-          member-filter test (fragments_in st.stripes) p (fragments-from st.stripes p (work-into p.0 (fragments-into stripes p at.0)).0) at.1)
+        member-filter test (fragments_in st.stripes) p (fragments-from st.stripes p (work-into p.0 (fragments-into stripes p at.0)).0) at.1)
         ∙ sym (find-first test (fragments_in stripes))
 
   -- ---- stripes at risk
@@ -267,8 +267,8 @@ module _ (nodes : List NodeInfo) (st : State) (spare : ℕ) where
         (AllPairs-map (λ s t. comes_first (rank nodes st) s t ≡ true) (λ (r : StripeLevel). r.0) rows are.rising)
         (λ s here. let at = filter-member is_risky st.stripes s here in map-member (λ (r : StripeLevel). r.0) rows (s, level nodes st s) (risk-from s at.0 at.1))
         (λ s here. let (r, at, same) = Contains-unmap (λ (r : StripeLevel). r.0) rows s here in
-          let parts = risk-into r at in
-          subst (Contains (filter is_risky st.stripes)) same (member-filter is_risky st.stripes r.0 parts.0 parts.1))
+        let parts = risk-into r at in
+        subst (Contains (filter is_risky st.stripes)) same (member-filter is_risky st.stripes r.0 parts.0 parts.1))
 
     -- what is kept lists the stripes at risk as the state does
     pub risk-is : AllPairs (λ s t. s ≢ t) st.stripes → rows ≡ risk nodes st

@@ -247,3 +247,43 @@ pub fn upgrades_are_safe()
         → (outcome_in nodes (world_after nodes history) session (Upgrade u)).0 ≡ Changed
         → (t : ℕ) × (1 ≤ t) × IsMargin (code_of (state_after nodes history) s) (missing nodes (outcome_in nodes (world_after nodes history) session (Upgrade u)).1 s) t }
 {}
+
+/// Next does what Lease of the most urgent fragment does: of those that are owed a lease and may go to some node, the
+/// first by the rank of its stripe, the stripe's number and its own.
+pub fn next_is_most_urgent()
+    ensures told { (nodes : List NodeInfo) (past : List Entry) (st : State) (session : SessionNo) (l : LeaseRecord) (k : Kind)
+        → (step nodes past st session Next).0 ≡ Granted l k → IsMostUrgent nodes st (l.stripe, l.fragment) }
+    ensures granted { (nodes : List NodeInfo) (past : List Entry) (st : State) (session : SessionNo) (s : StripeNo) (f : Fragment)
+        → IsMostUrgent nodes st (s, f) → step nodes past st session Next ≡ step nodes past st session (Lease s f) }
+    ensures leased { (nodes : List NodeInfo) (past : List Entry) (st : State) (session : SessionNo) (l : LeaseRecord) (k : Kind)
+        → (step nodes past st session Next).0 ≡ Granted l k → step nodes past st session Next ≡ step nodes past st session (Lease l.stripe l.fragment) }
+{}
+
+/// Next is idle exactly where no fragment is both owed a lease and may go to some node, and changes nothing then. It is
+/// never refused.
+pub fn idle_where_nothing_is_grantable()
+    ensures idle { (nodes : List NodeInfo) (past : List Entry) (st : State) (session : SessionNo)
+        → ((step nodes past st session Next).0 ≡ Idle) ↔ ((p : StripeFragment) → ¬ (IsGrantable nodes st p)) }
+    ensures same { (nodes : List NodeInfo) (past : List Entry) (st : State) (session : SessionNo)
+        → (step nodes past st session Next).0 ≡ Idle → (step nodes past st session Next).1 ≡ st }
+    ensures never { (nodes : List NodeInfo) (past : List Entry) (st : State) (session : SessionNo) (r : Refusal)
+        → (step nodes past st session Next).0 ≢ Refused r }
+{}
+
+/// Retire takes a node out of the store exactly where it is a draining one and no seat is on it. It is refused for its
+/// load exactly where it is a draining one and so many seats are on it.
+pub fn retired_nodes_are_empty()
+    ensures done { (nodes : List NodeInfo) (past : List Entry) (st : State) (session : SessionNo) (n : NodeNo)
+        → ((step nodes past st session (Retire n)).0 ≡ Changed)
+        ↔ (IsSome (node_at nodes n) × (mode_of st n ≡ Draining) × All (λ seat. seat.node ≢ n) (taken_seats st)) }
+    ensures empty { (nodes : List NodeInfo) (past : List Entry) (st : State) (session : SessionNo) (n : NodeNo)
+        → (step nodes past st session (Retire n)).0 ≡ Changed
+        → (mode_of (step nodes past st session (Retire n)).1 n ≡ Gone) × All (λ seat. seat.node ≢ n) (taken_seats (step nodes past st session (Retire n)).1) }
+    ensures loaded { (nodes : List NodeInfo) (past : List Entry) (st : State) (session : SessionNo) (n : NodeNo) (k : ℕ)
+        → ((step nodes past st session (Retire n)).0 ≡ Refused (refusal.NotEmpty k))
+        ↔ (IsSome (node_at nodes n) × (mode_of st n ≡ Draining) × (load st n ≡ k) × (1 ≤ k)) }
+    ensures unknown { (nodes : List NodeInfo) (past : List Entry) (st : State) (session : SessionNo) (n : NodeNo)
+        → ((step nodes past st session (Retire n)).0 ≡ Refused refusal.UnknownNode) ↔ (node_at nodes n ≡ None) }
+    ensures wrong { (nodes : List NodeInfo) (past : List Entry) (st : State) (session : SessionNo) (n : NodeNo)
+        → ((step nodes past st session (Retire n)).0 ≡ Refused refusal.WrongMode) ↔ (IsSome (node_at nodes n) × (mode_of st n ≢ Draining)) }
+{}
