@@ -31,9 +31,11 @@ unfolding row_rank
 row_rank-few sites r = rank_by-few Wide (missing_in Wide (online_in sites) (row_homes (Some r)))
 
 -- the rank of the margin of a mask of the missing fragments
-pub row_rank-margin : (sites : List Site) (r : Row) (missing : FragmentSet) (margin : Option ℕ) → missing ≡ missing_in Wide (online_in sites) (row_homes (Some r)) → margin ≡ margin_of Wide missing → unwrap_or margin 4 ≡ row_rank sites r
+pub row_rank-margin : (sites : List Site) (r : Row) (missing : FragmentSet) (margin : Option ℕ)
+    → missing ≡ missing_in Wide (online_in sites) (row_homes (Some r)) → margin ≡ margin_of Wide missing → unwrap_or margin 4 ≡ row_rank sites r
 unfolding row_rank rank_by
-row_rank-margin sites r missing margin gone is = ap (λ (o : Option ℕ). unwrap_or o 4) is ∙ ap (λ (m : FragmentSet). unwrap_or (margin_of Wide m) 4) gone
+row_rank-margin sites r missing margin gone is =
+    ap (λ (o : Option ℕ). unwrap_or o 4) is ∙ ap (λ (m : FragmentSet). unwrap_or (margin_of Wide m) 4) gone
 
 -- ---- what needs a lease
 
@@ -45,7 +47,8 @@ any-at p (x ∷ xs) d e = elim (or_cases _ _ e) [
 ]
 
 -- a test of one of sixteen homes is one of the fragments
-some-any : (p : Option Seat → Bool) (homes : List (Option Seat)) → length homes ≡ 16 → list_any p homes ≡ has_some Wide (λ f. nat_lt f 16 && p (get_or homes f None))
+some-any : (p : Option Seat → Bool) (homes : List (Option Seat)) → length homes ≡ 16
+    → list_any p homes ≡ has_some Wide (λ f. nat_lt f 16 && p (get_or homes f None))
 some-any p homes long = elim (cases_Bool (list_any p homes)) [
   | inl some ↦
       let (f, within, hit) = any-at p homes None some in
@@ -63,11 +66,14 @@ row_needs-some sites r = some-any (is_to_move sites) r.homes r.sixteen
 -- ---- the walk over rows by rank
 
 -- where none of a rank is left, the next rank's rows are
-pub ranked_from-next : (sites : List Site) (rows : List Row) (rank : ℕ) (left : List Row) → rank < 4 → of_rank sites rank left ≡ [] → ranked_from sites rows (rank + 1) rows ≡ ranked_from sites rows rank left
+pub ranked_from-next : (sites : List Site) (rows : List Row) (rank : ℕ) (left : List Row) → rank < 4 → of_rank sites rank left ≡ []
+    → ranked_from sites rows (rank + 1) rows ≡ ranked_from sites rows rank left
 ranked_from-next sites rows rank left more none =
-    let more_ranks : range_with_len (rank + 1) (4 - rank) ≡ (rank + 1) ∷ range_with_len (rank + 1 + 1) (4 - (rank + 1)) = ap (range_with_len (rank + 1)) (let e : 4 - rank ≡ suc (4 - (rank + 1)) = omega (arith, more) in e) in
+    let e : 4 - rank ≡ suc (4 - (rank + 1)) = omega (arith, more) in
+    let more_ranks : range_with_len (rank + 1) (4 - rank) ≡ (rank + 1) ∷ range_with_len (rank + 1 + 1) (4 - (rank + 1)) = ap (range_with_len (rank + 1)) e in
     rw (none, more_ranks) refl
 
 -- where none of the last rank is, none is left
-pub ranked_from-last : (sites : List Site) (rows : List Row) (rank : ℕ) (left : List Row) → rank ≡ 4 → of_rank sites rank left ≡ [] → ranked_from sites rows rank left ≡ []
+pub ranked_from-last : (sites : List Site) (rows : List Row) (rank : ℕ) (left : List Row) → rank ≡ 4 → of_rank sites rank left ≡ []
+    → ranked_from sites rows rank left ≡ []
 ranked_from-last sites rows rank left last none = rw (none, last) refl

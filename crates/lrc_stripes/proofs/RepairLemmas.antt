@@ -1,5 +1,5 @@
 -- The rows in the order of repair stand for all stripes that have work, and for all that are at risk.
-use Rattle.std.proofs.Common.{◌≡◌, ℕ, zero, suc, ◌+◌, ◌<◌, ◌≤◌, ◌⊎◌, inl, inr, Bool, true, false, not, nat_eq, List, [], ◌∷◌, length, get_or, filter, Option, Some, None, IsTrue, IsFalse, arith, refl, sym, ap, ◌∙◌, subst}
+use Rattle.std.proofs.Common.{◌≡◌, ℕ, zero, suc, ◌+◌, ◌<◌, ◌≤◌, ◌⊎◌, inl, inr, Bool, true, false, not, nat_eq, List, [], ◌∷◌, get_or, filter, Option, Some, None, IsTrue, IsFalse, arith, refl, sym, ap, ◌∙◌, subst}
 use Rattle.std.specs.List.{All, AllPairs, Contains, flat_map, range_with_len}
 use Rattle.std.proofs.lemmas.Bool.{cases_Bool, cases_eq, eq-eqb, ne_eqb, eqb-true, lt-ltb, or_left, or_right, and_from, not-true, not_from_false}
 use Rattle.std.proofs.lemmas.List.Elements.{All-nil, All-append, All-weaker, All-contains, All-from_recursion, filter_passes, Contains-append_left, Contains-append_right, Contains-append_cases, Contains-get_or}
@@ -35,31 +35,38 @@ module _ (sites : List Site) where
 
   rows-lower : (rows : List Row) → IsRising rows → AllPairs IsLower rows
   rows-lower [] rising = λ i j d below within. absurd (omega (arith, within))
-  rows-lower (r ∷ rows) rising = AllPairs-cons IsLower r rows (All-from_recursion (λ q. r.stripe.value < q.stripe.value) rows rising.0) (rows-lower rows rising.1)
+  rows-lower (r ∷ rows) rising =
+      AllPairs-cons IsLower r rows (All-from_recursion (IsLower r) rows rising.0) (rows-lower rows rising.1)
 
   of_rank-same : (k : ℕ) (rows : List Row) → All (λ r. row_rank sites r ≡ k) (of_rank sites k rows)
   of_rank-same k rows =
-      All-weaker (λ r. nat_eq (row_rank sites r) k ≡ true) (λ r. row_rank sites r ≡ k) (λ r hit. eqb-true _ _ hit) (of_rank sites k rows) (filter_passes (λ r. nat_eq (row_rank sites r) k) rows)
+      let passed = filter_passes (λ r. nat_eq (row_rank sites r) k) rows in
+      All-weaker (λ r. nat_eq (row_rank sites r) k ≡ true) (λ r. row_rank sites r ≡ k) (λ r hit. eqb-true _ _ hit) (of_rank sites k rows) passed
 
   of_rank-before : (k : ℕ) (rows : List Row) → IsRising rows → AllPairs IsBefore (of_rank sites k rows)
   of_rank-before k rows rising i j d below within =
-      let same : (i : ℕ) → i < length (of_rank sites k rows) → row_rank sites (get_or (of_rank sites k rows) i d) ≡ k = λ i inside. of_rank-same k rows i d inside in
-      inr (same i (omega (arith, below, within)) ∙ sym (same j within), AllPairs-filter IsLower (λ r. nat_eq (row_rank sites r) k) rows (rows-lower rows rising) i j d below within)
+      let first = of_rank-same k rows i d (omega (arith, below, within)) in
+      let second = of_rank-same k rows j d within in
+      let lower = AllPairs-filter IsLower (λ r. nat_eq (row_rank sites r) k) rows (rows-lower rows rising) in
+      inr (first ∙ sym second, lower i j d below within)
 
   ranks-above : (rows : List Row) (a n : ℕ) → All (λ q. a ≤ row_rank sites q) (ranks rows a n)
   ranks-above rows a zero = All-nil (λ q. a ≤ row_rank sites q)
   ranks-above rows a (suc n) =
-      All-append (λ q. a ≤ row_rank sites q) (of_rank sites a rows) (ranks rows (a + 1) n)
-      (All-weaker (λ q. row_rank sites q ≡ a) (λ q. a ≤ row_rank sites q) (λ q same. omega (arith, same)) (of_rank sites a rows) (of_rank-same a rows))
-      (All-weaker (λ q. a + 1 ≤ row_rank sites q) (λ q. a ≤ row_rank sites q) (λ q more. omega (arith, more)) (ranks rows (a + 1) n) (ranks-above rows (a + 1) n))
+      let first = of_rank sites a rows in
+      let later = ranks rows (a + 1) n in
+      All-append (λ q. a ≤ row_rank sites q) first later
+      (All-weaker (λ q. row_rank sites q ≡ a) (λ q. a ≤ row_rank sites q) (λ q same. omega (arith, same)) first (of_rank-same a rows))
+      (All-weaker (λ q. a + 1 ≤ row_rank sites q) (λ q. a ≤ row_rank sites q) (λ q more. omega (arith, more)) later (ranks-above rows (a + 1) n))
 
   ranks-before : (rows : List Row) → IsRising rows → (a n : ℕ) → AllPairs IsBefore (ranks rows a n)
   ranks-before rows rising a zero = λ i j d below within. absurd (omega (arith, within))
   ranks-before rows rising a (suc n) =
       let later = ranks rows (a + 1) n in
+      let above = ranks-above rows (a + 1) n in
       AllPairs-append IsBefore (of_rank sites a rows) later (of_rank-before a rows rising) (ranks-before rows rising (a + 1) n)
       (All-weaker (λ r. row_rank sites r ≡ a) (λ r. All (IsBefore r) later)
-      (λ r same. All-weaker (λ q. a + 1 ≤ row_rank sites q) (IsBefore r) (λ q more. inl (omega (arith, same, more))) later (ranks-above rows (a + 1) n))
+      (λ r same. All-weaker (λ q. a + 1 ≤ row_rank sites q) (IsBefore r) (λ q more. inl (omega (arith, same, more))) later above)
       (of_rank sites a rows) (of_rank-same a rows))
 
   ranks-among : (rows : List Row) (a n : ℕ) (r : Row) → Contains (ranks rows a n) r → Contains rows r
@@ -72,7 +79,9 @@ module _ (sites : List Site) where
   ranks-all : (rows : List Row) (a n : ℕ) (r : Row) → a ≤ row_rank sites r → row_rank sites r < a + n → Contains rows r → Contains (ranks rows a n) r
   ranks-all rows a zero r least most among = absurd (omega (arith, least, most))
   ranks-all rows a (suc n) r least most among = elim (cases_eq (row_rank sites r) a) [
-    | inl same ↦ Contains-append_left (of_rank sites a rows) (ranks rows (a + 1) n) r (Contains-filter (λ q. nat_eq (row_rank sites q) a) rows r (eq-eqb _ _ same) among)
+    | inl same ↦
+        let found = Contains-filter (λ q. nat_eq (row_rank sites q) a) rows r (eq-eqb _ _ same) among in
+        Contains-append_left (of_rank sites a rows) (ranks rows (a + 1) n) r found
     | inr other ↦
         Contains-append_right (of_rank sites a rows) (ranks rows (a + 1) n) r
         (ranks-all rows (a + 1) n r (omega (arith, least, other)) (omega (arith, most)) among)
@@ -94,7 +103,8 @@ row_at-own [] r rising among = absurd (omega (arith, among.1))
 row_at-own (q ∷ rows) r rising among = elim (Contains-cons_cases q r rows among) [
   | inl same ↦ subst (λ (x : Row). row_at (q ∷ rows) x.stripe ≡ Some x) same (rw (eq-eqb q.stripe.value q.stripe.value refl) refl)
   | inr later ↦
-      let lower = All-contains (λ p. q.stripe.value < p.stripe.value) rows r (All-from_recursion (λ p. q.stripe.value < p.stripe.value) rows rising.0) later in
+      let all_lower = All-from_recursion (λ p. q.stripe.value < p.stripe.value) rows rising.0 in
+      let lower = All-contains (λ p. q.stripe.value < p.stripe.value) rows r all_lower later in
       rw (ne_eqb q.stripe.value r.stripe.value (λ e. omega (arith, e, lower))) (row_at-own rows r rising.1 later)
 ]
 
@@ -125,8 +135,9 @@ module _ (t : Table) (rising : IsRising t.rows) where
 
   ordered-first : AllPairs (λ (r q : Row). IsFirst r.stripe q.stripe) ordered
   ordered-first i j d below within =
-      first-before (get_or ordered i d) (get_or ordered j d) (ordered-among _ (Contains-get_or ordered i d (omega (arith, below, within)))) (ordered-among _ (Contains-get_or ordered j d within))
-      (ranks-before t.sites t.rows rising 0 5 i j d below within)
+      let first = ordered-among _ (Contains-get_or ordered i d (omega (arith, below, within))) in
+      let second = ordered-among _ (Contains-get_or ordered j d within) in
+      first-before (get_or ordered i d) (get_or ordered j d) first second (ranks-before t.sites t.rows rising 0 5 i j d below within)
 
   -- ---- work
 
@@ -153,7 +164,8 @@ module _ (t : Table) (rising : IsRising t.rows) where
 
   pub are_work : AreWork (stored_in t) (work_of t.sites ordered)
   are_work = record {
-    rising = AllPairs-map IsFirst (λ (q : Row). q.stripe) (filter (row_needs t.sites) ordered) (AllPairs-filter (λ r q. IsFirst r.stripe q.stripe) (row_needs t.sites) ordered ordered-first);
+    rising = AllPairs-map IsFirst (λ (q : Row). q.stripe) (filter (row_needs t.sites) ordered)
+        (AllPairs-filter (λ r q. IsFirst r.stripe q.stripe) (row_needs t.sites) ordered ordered-first);
     each = λ s. (work-listed s, work-lists_at s (row_at t.rows s) refl);
   }
 
@@ -170,20 +182,24 @@ module _ (t : Table) (rising : IsRising t.rows) where
       let (r, kept, own) = Contains-unmap with_level (filter risky ordered) (s, l) among in
       let (there, risk) = Contains-unfilter risky ordered r kept in
       let level : row_level t.sites r ≡ l = ap (λ (p : StripeLevel). p.1) own in
-      let found = subst (λ (x : StripeNo). row_at t.rows x ≡ Some r) (ap (λ (p : StripeLevel). p.0) own) (row_at-own t.rows r rising (ordered-among r there)) in
+      let stripe : r.stripe ≡ s = ap (λ (p : StripeLevel). p.0) own in
+      let found = subst (λ (x : StripeNo). row_at t.rows x ≡ Some r) stripe (row_at-own t.rows r rising (ordered-among r there)) in
       (level_shown-there t s r found ∙ ap (λ (x : Level). Some x) level, subst (λ (x : Level). IsFalse (is_whole x)) level (not-true _ risk))
 
-  risk-lists_at : (s : StripeNo) (l : Level) (o : Option Row) → row_at t.rows s ≡ o → level_shown (stored_in t) s ≡ Some l → IsFalse (is_whole l) → Contains (risk_of t.sites ordered) (s, l)
+  risk-lists_at : (s : StripeNo) (l : Level) (o : Option Row) → row_at t.rows s ≡ o → level_shown (stored_in t) s ≡ Some l → IsFalse (is_whole l)
+      → Contains (risk_of t.sites ordered) (s, l)
   risk-lists_at s l None none shown risk = absurd (let e : None ≡ Some l = sym (level_shown-absent t s none) ∙ shown in cc)
   risk-lists_at s l (Some r) found shown risk =
       let (there, own) = row_at-found t.rows s r found in
       let level : row_level t.sites r ≡ l = same_Some _ _ (sym (level_shown-there t s r found) ∙ shown) in
       let kept = Contains-filter risky ordered r (not_from_false _ (rw level risk)) (ordered-all r there) in
       let listed = Contains-map with_level (filter risky ordered) r kept in
-      subst (λ (x : Level). Contains (risk_of t.sites ordered) (s, x)) level (subst (λ (x : StripeNo). Contains (risk_of t.sites ordered) (x, row_level t.sites r)) own listed)
+      let own_listed = subst (λ (x : StripeNo). Contains (risk_of t.sites ordered) (x, row_level t.sites r)) own listed in
+      subst (λ (x : Level). Contains (risk_of t.sites ordered) (s, x)) level own_listed
 
   pub are_at_risk : AreAtRisk (stored_in t) (risk_of t.sites ordered)
   are_at_risk = record {
-    rising = AllPairs-map (λ (p q : StripeLevel). IsFirst p.0 q.0) with_level (filter risky ordered) (AllPairs-filter (λ r q. IsFirst r.stripe q.stripe) risky ordered ordered-first);
+    rising = AllPairs-map (λ (p q : StripeLevel). IsFirst p.0 q.0) with_level (filter risky ordered)
+        (AllPairs-filter (λ r q. IsFirst r.stripe q.stripe) risky ordered ordered-first);
     each = λ s l. (risk-listed s l, λ both. risk-lists_at s l (row_at t.rows s) refl both.0 both.1);
   }

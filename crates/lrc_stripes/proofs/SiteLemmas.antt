@@ -55,7 +55,8 @@ said_in says sites n = option_map_or says (site_at sites n) false
 
 module _ (n : NodeNo) (x d : Site) where
   -- the nodes stay
-  pub nodes-set : (sites : List Site) → x.node ≡ (get_or sites (site_place sites n) d).node → map (λ y. y.node) (set sites (site_place sites n) x) ≡ map (λ y. y.node) sites
+  pub nodes-set : (sites : List Site) → x.node ≡ (get_or sites (site_place sites n) d).node
+      → map (λ y. y.node) (set sites (site_place sites n) x) ≡ map (λ y. y.node) sites
   nodes-set [] own = refl
   nodes-set (y ∷ sites) own = elim (cases_Bool (nat_eq n.value y.node.number.value)) [
     | inl here ↦ let same : x.node ≡ y.node = rw here at own in rw here (ap (λ (m : NodeInfo). m ∷ map (λ z. z.node) sites) same)
@@ -63,7 +64,8 @@ module _ (n : NodeNo) (x d : Site) where
   ]
 
   -- the node set says its own, and the others as before
-  said-set_at : (says : Site → Bool) (sites : List Site) (m : NodeNo) → x.node ≡ (get_or sites (site_place sites n) d).node → site_place sites n < length sites
+  said-set_at : (says : Site → Bool) (sites : List Site) (m : NodeNo)
+      → x.node ≡ (get_or sites (site_place sites n) d).node → site_place sites n < length sites
       → said_in says (set sites (site_place sites n) x) m ≡ (if nat_eq n.value m.value then says x else said_in says sites m)
   said-set_at says [] m own within = absurd (omega (arith, within))
   said-set_at says (y ∷ sites) m own within = elim (cases_Bool (nat_eq n.value y.node.number.value)) [
@@ -79,7 +81,9 @@ module _ (n : NodeNo) (x d : Site) where
     | inr later ↦
         let rest : suc (site_place sites n) < suc (length sites) = rw later at within in
         rw later (elim (cases_Bool (nat_eq m.value y.node.number.value)) [
-          | inl hit ↦ let apart : nat_eq n.value m.value ≡ false = ne_eqb _ _ (λ e. eqb-false _ _ later (e ∙ eqb-true _ _ hit)) in rw (hit, apart) refl
+          | inl hit ↦
+              let apart : nat_eq n.value m.value ≡ false = ne_eqb _ _ (λ e. eqb-false _ _ later (e ∙ eqb-true _ _ hit)) in
+              rw (hit, apart) refl
           | inr miss ↦ rw miss (said-set_at says sites m (rw later at own) (omega (arith, rest)))
         ])
   ]
@@ -88,7 +92,8 @@ module _ (n : NodeNo) (x d : Site) where
       → said_in says (set sites (site_place sites n) x) ≡ λ m. if nat_eq n.value m.value then says x else said_in says sites m
   said-set says sites own within = fun_ext (λ m. said-set_at says sites m own within)
 
-  said-kept_at : (says : Site → Bool) (sites : List Site) (m : NodeNo) → x.node ≡ (get_or sites (site_place sites n) d).node → says x ≡ says (get_or sites (site_place sites n) d)
+  said-kept_at : (says : Site → Bool) (sites : List Site) (m : NodeNo)
+      → x.node ≡ (get_or sites (site_place sites n) d).node → says x ≡ says (get_or sites (site_place sites n) d)
       → said_in says (set sites (site_place sites n) x) m ≡ said_in says sites m
   said-kept_at says [] m own kept = refl
   said-kept_at says (y ∷ sites) m own kept = elim (cases_Bool (nat_eq n.value y.node.number.value)) [
@@ -107,7 +112,8 @@ module _ (n : NodeNo) (x d : Site) where
   ]
 
   -- what it says as before, all say as before
-  pub said-kept : (says : Site → Bool) (sites : List Site) → x.node ≡ (get_or sites (site_place sites n) d).node → says x ≡ says (get_or sites (site_place sites n) d)
+  pub said-kept : (says : Site → Bool) (sites : List Site)
+      → x.node ≡ (get_or sites (site_place sites n) d).node → says x ≡ says (get_or sites (site_place sites n) d)
       → said_in says (set sites (site_place sites n) x) ≡ said_in says sites
   said-kept says sites own kept = fun_ext (λ m. said-kept_at says sites m own kept)
 

@@ -26,35 +26,54 @@ use Rattle.lrc_stripes.proofs.RowLemmas.{row_at-insert, row_at-remove, row_at-se
 
 -- ---- at first
 
-pub stored_in-at_first : (nodes : List NodeInfo) (sites : List Site) (rows : List Row) → sites ≡ map site_of nodes → rows ≡ [] → stored_in (record { sites = sites; rows = rows; spare = 0 }) ≡ empty nodes
+pub stored_in-at_first : (nodes : List NodeInfo) (sites : List Site) (rows : List Row) → sites ≡ map site_of nodes → rows ≡ []
+    → stored_in (record { sites = sites; rows = rows; spare = 0 }) ≡ empty nodes
 unfolding stored_in
 stored_in-at_first nodes sites rows e none =
-    rw (e, none) (ap (λ (ns : List NodeInfo). record (stored_in (record { sites = map site_of nodes; rows = []; spare = 0 })) { nodes = ns }) (nodes-at_first nodes)
+    let t = stored_in (record { sites = map site_of nodes; rows = []; spare = 0 }) in
+    rw (e, none) (ap (λ (ns : List NodeInfo). record t { nodes = ns }) (nodes-at_first nodes)
     ∙ ap₂ (λ (o b : NodeNo → Bool). record (empty nodes) { online = o; draining = b }) (online-at_first nodes) (draining-at_first nodes))
 
 -- ---- a node set offline or draining, or no longer
 
-module _ (sites : List Site) (rows : List Row) (spare : ℕ) (n : NodeNo) (b : Bool) (old : Site) (at : old ≡ get_or sites (site_place sites n) old) (within : site_place sites n < length sites) where
+module _ (sites : List Site) (rows : List Row) (spare : ℕ) (n : NodeNo) (b : Bool) where
+  -- where the node stands
+  abbrev place : ℕ
+  place = site_place sites n
+
   abbrev before : Stored
   before = stored_in (record { sites = sites; rows = rows; spare = spare })
 
-  pub stored_in-set_offline : stored_in (record { sites = set sites (site_place sites n) (record old { is_offline = b }); rows = rows; spare = spare }) ≡ with_offline before n b
-  unfolding stored_in
-  stored_in-set_offline =
-      let x : Site = record old { is_offline = b } in
-      let own = ap (λ (y : Site). y.node) at in
-      ap (λ (ns : List NodeInfo). record before { nodes = ns; online = online_in (set sites (site_place sites n) x); draining = draining_in (set sites (site_place sites n) x) }) (nodes-set n x old sites own)
-      ∙ ap₂ (λ (o d : NodeNo → Bool). record before { online = o; draining = d }) (said-set n x old (λ y. not y.is_offline) sites own within)
-      (said-kept n x old (λ y. y.is_draining) sites own (ap (λ (y : Site). y.is_draining) at))
+  -- with this in its place
+  abbrev after : Site → Stored
+  after x = stored_in (record { sites = set sites place x; rows = rows; spare = spare })
 
-  pub stored_in-set_draining : stored_in (record { sites = set sites (site_place sites n) (record old { is_draining = b }); rows = rows; spare = spare }) ≡ with_draining before n b
-  unfolding stored_in
-  stored_in-set_draining =
-      let x : Site = record old { is_draining = b } in
-      let own = ap (λ (y : Site). y.node) at in
-      ap (λ (ns : List NodeInfo). record before { nodes = ns; online = online_in (set sites (site_place sites n) x); draining = draining_in (set sites (site_place sites n) x) }) (nodes-set n x old sites own)
-      ∙ ap₂ (λ (o d : NodeNo → Bool). record before { online = o; draining = d }) (said-kept n x old (λ y. not y.is_offline) sites own (ap (λ (y : Site). not y.is_offline) at))
-      (said-set n x old (λ y. y.is_draining) sites own within)
+  module _ (old : Site) (at : old ≡ get_or sites place old) (within : place < length sites) where
+    -- the nodes stay
+    after-set : (x : Site) → x.node ≡ (get_or sites place old).node → (online draining : NodeNo → Bool)
+        → online_in (set sites place x) ≡ online → draining_in (set sites place x) ≡ draining → after x ≡ record before { online = online; draining = draining }
+    unfolding stored_in
+    after-set x own online draining ons drains =
+        let on = online_in (set sites place x) in
+        let drain = draining_in (set sites place x) in
+        ap (λ (ns : List NodeInfo). record before { nodes = ns; online = on; draining = drain }) (nodes-set n x old sites own)
+        ∙ ap₂ (λ (o d : NodeNo → Bool). record before { online = o; draining = d }) ons drains
+
+    pub stored_in-set_offline : after (record old { is_offline = b }) ≡ with_offline before n b
+    unfolding stored_in
+    stored_in-set_offline =
+        let x : Site = record old { is_offline = b } in
+        let own = ap (λ (y : Site). y.node) at in
+        after-set x own _ _ (said-set n x old (λ y. not y.is_offline) sites own within)
+        (said-kept n x old (λ y. y.is_draining) sites own (ap (λ (y : Site). y.is_draining) at))
+
+    pub stored_in-set_draining : after (record old { is_draining = b }) ≡ with_draining before n b
+    unfolding stored_in
+    stored_in-set_draining =
+        let x : Site = record old { is_draining = b } in
+        let own = ap (λ (y : Site). y.node) at in
+        after-set x own _ _ (said-kept n x old (λ y. not y.is_offline) sites own (ap (λ (y : Site). not y.is_offline) at))
+        (said-set n x old (λ y. y.is_draining) sites own within)
 
 -- ---- the row of one stripe changed
 

@@ -15,4 +15,6 @@ unfolding stored_in
 returns c =
     let known = site_place-within c.self.inside.sites.items c.args.node (rw (← c.self.view_is) at c.requires) in
     let place = rw c.as_slice.ensures.value at c.site_place-place.ensures.value in
-    rw (place, ← c.self.view_is) (stored_in-set_offline c.self.inside.sites.items c.self.inside.rows.items c.self.inside.spare c.args.node c.args.is_offline c.index_mut.result.now (rw place at c.index_mut.ensures.value) known)
+    rw (place, ← c.self.view_is)
+    (stored_in-set_offline c.self.inside.sites.items c.self.inside.rows.items c.self.inside.spare c.args.node c.args.is_offline
+    c.index_mut.result.now (rw place at c.index_mut.ensures.value) known)
