@@ -28,6 +28,7 @@ pub mod StoredLemmas
 pub mod ModesLemmas
 pub mod ModeLemmas
 pub mod DomainLemmas
+pub mod UpgradeLemmas
 pub mod ClearLemmas
 pub mod EmptyLemmas
 pub mod ToldLemmas

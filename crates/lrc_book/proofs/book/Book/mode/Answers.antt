@@ -1,4 +1,4 @@
-use Rattle.std.proofs.Common.{Some, Option, option_map, Bool, ap, ap₂, sym, ◌∙◌}
+use Rattle.std.proofs.Common.{Some, option_map, Bool, ap, ap₂, sym, ◌∙◌}
 use Rattle.lrc_topology.specs.declared.NodeInfo.{NodeInfo}
 use Rattle.lrc_book.specs.declared.mode.Mode.{Mode}
 use Rattle.lrc_book.specs.States.{mode_of, is_online, mode_shown}

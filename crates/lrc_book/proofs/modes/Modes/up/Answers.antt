@@ -1,4 +1,4 @@
-use Rattle.std.proofs.Common.{not, nat_eq, List, [], ◌∷◌, ◌++◌, filter, ap, ◌∙◌, rules}
+use Rattle.std.proofs.Common.{not, nat_eq, filter, ap, ◌∙◌, rules}
 use Rattle.std.proofs.lemmas.Fn.{filter_same}
 use Rattle.lrc_code.specs.declared.numbers.NodeNo.{NodeNo}
 use Rattle.lrc_book.proofs.modes.Modes.up.Goals as goal

@@ -1,5 +1,3 @@
-use Rattle.std.proofs.Common.{◌≡◌, true}
-use Rattle.lrc_book.specs.Stores.{has_room_for_node}
 use Rattle.lrc_book.proofs.SeatedLemmas.{emptied-load}
 use Rattle.lrc_book.proofs.ModesLemmas.{room-node}
 use Rattle.lrc_book.proofs.ToldLemmas.{fail-told}

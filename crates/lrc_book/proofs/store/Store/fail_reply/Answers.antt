@@ -1,4 +1,4 @@
-use Rattle.std.proofs.Common.{Bool, not, ap, ◌∙◌}
+use Rattle.std.proofs.Common.{Bool, ap, ◌∙◌}
 use Rattle.lrc_book.specs.States.{is_gone}
 use Rattle.lrc_book.proofs.ModesLemmas.{same-gone}
 use Rattle.lrc_book.specs.Steps.{node_outcome, fail_outcome, emptied, with_gone}

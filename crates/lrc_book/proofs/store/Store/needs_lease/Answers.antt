@@ -1,4 +1,4 @@
-use Rattle.std.proofs.Common.{Bool, ◌≡◌, refl, sym, ap, ◌∙◌}
+use Rattle.std.proofs.Common.{◌≡◌, refl, sym, ap, ◌∙◌}
 use denote.Enum.Bare.{sameb}
 use Rattle.lrc_book.specs.contracts.mode.Mode.{the_type}
 use Rattle.lrc_book.specs.declared.mode.Mode.{Mode}

@@ -1,6 +1,6 @@
 use Rattle.std.proofs.Common.{◌≡◌, Bool, not, ap, ◌∙◌, sym}
 use Rattle.lrc_topology.specs.Nodes.{node_at}
-use Rattle.lrc_book.specs.States.{State, opening, mode_of, is_draining, load}
+use Rattle.lrc_book.specs.States.{opening, mode_of, is_draining}
 use Rattle.lrc_book.specs.Steps.{node_outcome, retire_outcome}
 use Rattle.lrc_book.proofs.ModesLemmas.{same-draining}
 use Rattle.lrc_book.proofs.ToldLemmas.{node-by, retire-passes, retire-stops}
