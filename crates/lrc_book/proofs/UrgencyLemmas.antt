@@ -162,7 +162,7 @@ module _ (test : StripeFragment → Bool) where
     | inr miss ↦ rw miss (find-map s fs)
   ]
 
-  find-turn : (s : StripeNo) (stripes : List StripeNo)
+  pub find-turn : (s : StripeNo) (stripes : List StripeNo)
       → find test (fragments_in (s ∷ stripes)) ≡ option_or (option_map (λ f. (s, f)) (find (λ f. test (s, f)) (fragments Wide))) (find test (fragments_in stripes))
   find-turn s stripes = find-append test (map (λ f. (s, f)) (fragments Wide)) (fragments_in stripes) ∙ ap (λ o. option_or o (find test (fragments_in stripes))) (find-map s (fragments Wide))
 

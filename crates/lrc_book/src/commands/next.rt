@@ -41,10 +41,12 @@ impl Store {
         requires { IsTrue ((stored_in self.now.stripes).stripes stripe) }
         ensures { (st : State) → IsOf st self.now → result ≡ find (λ f. is_grantable self.now.topology st (stripe, f)) (fragments Wide) }
     {
-        Fragment::all()
-            .iter()
-            .copied()
-            .find(|fragment| self.is_grantable(stripe, *fragment))
+        for fragment in Fragment::all().iter() {
+            if self.is_grantable(stripe, *fragment) {
+                return Some(*fragment);
+            }
+        }
+        None
     }
 
     /// Whether a lease of a fragment of a stripe that is there would be granted.

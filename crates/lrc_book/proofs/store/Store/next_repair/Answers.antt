@@ -1,0 +1,41 @@
+use Rattle.std.proofs.Common.{IsTrue, suc, List, Option, find, option_map, sym, ap, ◌∙◌, subst, arith}
+use Rattle.std.specs.List.{All}
+use Rattle.std.specs.Option.{option_or}
+use Rattle.std.proofs.lemmas.Bool.{and_parts}
+use Rattle.lrc_code.specs.declared.numbers.StripeNo.{StripeNo}
+use Rattle.lrc_code.specs.declared.numbers.Fragment.{Fragment}
+use Rattle.lrc_stripes.specs.Stored.{Stored, AreWork}
+use Rattle.lrc_stripes.specs.Tables.{stored_in}
+use Rattle.lrc_book.specs.Urgency.{is_grantable}
+use Rattle.lrc_book.proofs.MemberLemmas.{All-members}
+use Rattle.lrc_book.proofs.UrgencyLemmas.{fragments_in, find-turn, next-first}
+use Rattle.lrc_book.proofs.store.Store.next_repair.Goals as goal
+
+pub loop-stripe-init : goal.loop-stripe-init
+loop-stripe-init c =
+    let stripes = c.into_iter-stripe-iterator.result in
+    let kept_here = stored_in c.args.self.now.stripes in
+    let are = subst (AreWork kept_here) (sym c.into_iter-stripe-iterator.ensures.into_iter_gives) c.work-stripe-items.ensures in (
+      All-members (λ s. IsTrue (kept_here.stripes s)) stripes (λ s here. (and_parts (kept_here.stripes s) _ ((are.each s).0 here)).0),
+      λ st kept. next-first c.args.self.now.topology st kept_here.spare stripes (subst (λ (t : Stored). AreWork t stripes) kept.stripes_is are),
+    )
+
+pub returns-in-Some-grantable_fragment : goal.returns-in-Some-grantable_fragment
+returns-in-Some-grantable_fragment c = λ st kept.
+    let test = is_grantable c.args.self.now.topology st in
+    let rest = c.next.new.self in
+    sym (
+    c.loop-stripe.invariant.1 st kept ∙ ap (λ (left : List StripeNo). find test (fragments_in left)) c.in-Some.ensures.steps ∙ find-turn test c.in-Some.stripe rest
+    ∙ ap (λ (o : Option Fragment). option_or (option_map (λ f. (c.in-Some.stripe, f)) o) (find test (fragments_in rest))) (sym (c.grantable_fragment.ensures st kept) ∙ c.in-Some-grantable_fragment.is)
+    )
+
+pub loop-stripe-preserved : goal.loop-stripe-preserved
+loop-stripe-preserved c =
+    let rest = c.next.new.self in
+    let there = subst (All (λ s. IsTrue ((stored_in c.args.self.now.stripes).stripes s))) c.in-Some.ensures.steps c.loop-stripe.invariant.0 in (
+      λ k d within. there (suc k) d (omega (arith, within)),
+      λ st kept.
+          let test = is_grantable c.args.self.now.topology st in
+          c.loop-stripe.invariant.1 st kept ∙ ap (λ (left : List StripeNo). find test (fragments_in left)) c.in-Some.ensures.steps ∙ find-turn test c.in-Some.stripe rest
+          ∙ ap (λ (o : Option Fragment). option_or (option_map (λ f. (c.in-Some.stripe, f)) o) (find test (fragments_in rest))) (sym (c.grantable_fragment.ensures st kept) ∙ c.in_default.is),
+    )
