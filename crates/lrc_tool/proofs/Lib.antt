@@ -15,6 +15,9 @@ mod RowsOfPlacing
 mod RowsOfNodes
 mod RowsOfLeases
 mod RowsOfLeaseRefusals
+mod RowsOfRepair
+mod RowsOfDraining
+mod RowsOfUpgrades
 mod RowsOfHistories
 mod RowsOfSessions
 pub mod MaskLemmas

@@ -1,5 +1,5 @@
 -- Scripts on small stores, and what the definitions answer to them.
-use Rattle.std.proofs.Common.{ℕ, ◌%◌, List, [], ◌∷◌, map, filter, fold, Option, lit<}
+use Rattle.std.proofs.Common.{ℕ, ◌%◌, List, [], ◌∷◌, ◌++◌, map, filter, fold, Option, lit<, codes}
 use Rattle.std.proofs.lemmas.Nat.{mod_below}
 use Rattle.lrc_code.specs.declared.numbers.StripeNo.{StripeNo}
 use Rattle.lrc_code.specs.declared.numbers.SessionNo.{SessionNo}
@@ -41,6 +41,9 @@ remove s = command.Drop (stripe s)
 abbrev pub lease : ℕ → ℕ → Command
 lease s f = command.Lease (stripe s) (fragment f)
 
+abbrev pub next : Command
+next = command.Next
+
 abbrev pub done : ℕ → ℕ → ℕ → Command
 done s f e = command.Done (stripe s) (fragment f) e
 
@@ -59,8 +62,23 @@ down n = command.Down (node_number n)
 abbrev pub up : ℕ → Command
 up n = command.Up (node_number n)
 
+abbrev pub drain : ℕ → Command
+drain n = command.Drain (node_number n)
+
+abbrev pub undrain : ℕ → Command
+undrain n = command.Undrain (node_number n)
+
+abbrev pub retire : ℕ → Command
+retire n = command.Retire (node_number n)
+
 abbrev pub join : ℕ → Command
 join n = command.Join (node_number n)
+
+abbrev pub upgrade : ℕ → Command
+upgrade u = command.Upgrade (record { value = u })
+
+abbrev pub upgraded : ℕ → Command
+upgraded u = command.Upgraded (record { value = u })
 
 -- ---- stores
 
@@ -110,6 +128,14 @@ printed nodes script = replies_text 1 (played nodes script).past
 -- what is printed of the replies of two scripts, whose calls came in this order
 abbrev pub printed_by_two : List NodeInfo → List (SessionNo × Command) → List ℕ
 printed_by_two nodes calls = replies_text 2 (played_by nodes calls).past
+
+-- what is printed of a script that begins by placing stripe 1, up to the line of that
+abbrev pub one_placed : List ℕ
+one_placed = codes "script 1\n1 placed 0:0 1:0 2:0 3:0 4:0 5:0 6:0 7:0 8:0 9:0 10:0 11:0 16:0 12:0 13:0 14:0\n"
+
+-- the same of one that places two stripes
+abbrev pub two_placed : List ℕ
+two_placed = one_placed ++ codes "2 placed 15:0 17:0 18:0 19:0 0:1 1:1 2:1 3:1 4:1 5:1 6:1 7:1 12:1 8:1 9:1 10:1\n"
 
 -- ---- what is missing
 
