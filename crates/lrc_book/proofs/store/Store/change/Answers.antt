@@ -5,7 +5,9 @@ use Rattle.lrc_book.specs.States.{State}
 use Rattle.lrc_book.specs.Steps.{step}
 use Rattle.lrc_book.specs.Changes.{changed_by}
 use Rattle.lrc_book.specs.Stores.{IsOf}
-use Rattle.lrc_book.proofs.LeaseToldLemmas.{lease-told, done-told}
+use Rattle.lrc_book.proofs.LeaseToldLemmas.{lease-told, next-told, done-told}
+use Rattle.lrc_book.proofs.ToldLemmas.{retire-told}
+use Rattle.lrc_book.proofs.ModesLemmas.{room-node}
 use Rattle.lrc_book.proofs.store.Store.change.Goals as goal
 
 pub grant-requires : goal.grant-requires
@@ -14,6 +16,21 @@ grant-requires g c =
     let told = c.requires.1.1 in
     let e = sym (ap (λ (command : Command). (step nodes told.past g.st told.session command).0) c.in-Lease-Granted.is-0) ∙ told.told ∙ c.in-Lease-Granted.is-1 in
     (c.requires.0, (c.requires.1.0, lease-told nodes told.past g.st told.session c.in-Lease-Granted.field-0-0 c.in-Lease-Granted.field-1-0 c.in-Lease-Granted.lease c.in-Lease-Granted.field-1-1 e))
+
+pub grant-requires-in-Next-Granted : goal.grant-requires-in-Next-Granted
+grant-requires-in-Next-Granted g c =
+    let nodes = c.args.self.now.topology in
+    let told = c.requires.1.1 in
+    let e = sym (ap (λ (command : Command). (step nodes told.past g.st told.session command).0) c.in-Next-Granted.is-0) ∙ told.told ∙ c.in-Next-Granted.is-1 in
+    (c.requires.0, (c.requires.1.0, next-told nodes told.past g.st told.session c.in-Next-Granted.lease c.in-Next-Granted.field-1-1 e))
+
+pub leave-requires : goal.leave-requires
+leave-requires g c =
+    let nodes = c.args.self.now.topology in
+    let told = c.requires.1.1 in
+    let node = c.in-Retire-Changed.node in
+    let e = sym (ap (λ (command : Command). (step nodes told.past g.st told.session command).0) c.in-Retire-Changed.is-0) ∙ told.told ∙ c.in-Retire-Changed.is-1 in
+    (c.requires.0, (room-node c.args.self.now c.requires.1.0, retire-told nodes g.st node e))
 
 pub move_in-requires : goal.move_in-requires
 move_in-requires g c =

@@ -23,3 +23,18 @@ ghost-grant g a = g.st
 
 abbrev pub ghost-move_in : goal.ghost-move_in
 ghost-move_in g a = g.st
+
+abbrev pub ghost-drain : goal.ghost-drain
+ghost-drain g a = g.st
+
+abbrev pub ghost-undrain : goal.ghost-undrain
+ghost-undrain g a = g.st
+
+abbrev pub ghost-leave : goal.ghost-leave
+ghost-leave g a = g.st
+
+abbrev pub ghost-upgrade : goal.ghost-upgrade
+ghost-upgrade g a = g.st
+
+abbrev pub ghost-upgraded : goal.ghost-upgraded
+ghost-upgraded g a = g.st
