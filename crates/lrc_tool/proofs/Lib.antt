@@ -20,4 +20,5 @@ mod RowsOfDraining
 mod RowsOfUpgrades
 mod RowsOfHistories
 mod RowsOfSessions
+mod RowsOfTables
 pub mod MaskLemmas
