@@ -179,7 +179,7 @@ refused-keeps nodes past st session (Upgraded u) r e = keeps-upgraded nodes st u
 -- ---- seats chosen one after the other
 
 -- there is a seat for each fragment
-chosen-length : (nodes : List NodeInfo) (st : State) (s : StripeNo) (fs : List Fragment) (seats : List Seat) → AreChosen nodes st s fs seats → length seats ≡ length fs
+pub chosen-length : (nodes : List NodeInfo) (st : State) (s : StripeNo) (fs : List Fragment) (seats : List Seat) → AreChosen nodes st s fs seats → length seats ≡ length fs
 chosen-length nodes st s [] [] all = refl
 chosen-length nodes st s (f ∷ fs) (x ∷ xs) all = let rest = chosen-length nodes (with_home st s f x) s fs xs all.1 in omega (arith, rest)
 chosen-length nodes st s [] (x ∷ xs) all = absurd all

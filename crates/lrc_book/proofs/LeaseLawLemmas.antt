@@ -104,11 +104,11 @@ module _ (nodes : List NodeInfo) (past : List Entry) (st : State) (session : Ses
 -- ---- other leases
 
 module _ (nodes : List NodeInfo) (st : State) (session : SessionNo) (s r : StripeNo) (f g : Fragment) (apart : r ≡ s → g ≢ f) where
-  abbrev KeepsLease : State → Type 0
+  abbrev pub KeepsLease : State → Type 0
   KeepsLease next = lease_of next r g ≡ lease_of st r g
 
   -- a lease of the one fragment is none of the other
-  not-both : (same_stripe s r && nat_eq f.value g.value) ≡ false
+  pub not-both : (same_stripe s r && nat_eq f.value g.value) ≡ false
   not-both = elim (cases_Bool (same_stripe s r && nat_eq f.value g.value)) [
     | inr other ↦ other
     | inl both ↦
@@ -116,7 +116,7 @@ module _ (nodes : List NodeInfo) (st : State) (session : SessionNo) (s r : Strip
         absurd (apart (sym (equal_stripes s r (eqb-true _ _ parts.0))) (sym (equal_fragments f g (eqb-true _ _ parts.1))))
   ]
 
-  ended-keeps : KeepsLease (without_lease st s f)
+  pub ended-keeps : KeepsLease (without_lease st s f)
   ended-keeps = ap (λ (t : Leased). t.leases r g.value) (leased_of-less st.leases s f 0) ∙ rw not-both refl
 
   new-keeps : (l : LeaseRecord) → l.stripe ≡ s → l.fragment ≡ f → lease_of st l.stripe l.fragment ≡ None → KeepsLease (with_lease st l)

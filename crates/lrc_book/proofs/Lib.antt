@@ -51,3 +51,5 @@ pub mod GivenBackLemmas
 pub mod SafeUpgradeLemmas
 pub mod MostUrgentLemmas
 pub mod RetiredLemmas
+pub mod ListedLemmas
+pub mod PlacedHomesLemmas

@@ -1,5 +1,5 @@
 -- What a report that is taken leaves.
-use Rattle.std.proofs.Common.{◌≡◌, true, ◌&&◌, nat_eq, Option, Some, None, List, ℕ, refl, sym, ap, ◌∙◌}
+use Rattle.std.proofs.Common.{◌≡◌, ◌≢◌, true, false, not, ◌&&◌, nat_eq, Option, Some, None, List, ℕ, refl, sym, ap, ◌∙◌}
 use Rattle.std.proofs.lemmas.Bool.{eq-eqb}
 use Rattle.std.proofs.lemmas.Option.{same_Some}
 use Rattle.lrc_code.specs.declared.numbers.StripeNo.{StripeNo}
@@ -15,18 +15,21 @@ use Rattle.lrc_leases.specs.declared.lease.Lease.{Lease as LeaseRecord}
 use Rattle.lrc_leases.specs.Leased.{Leased}
 use Rattle.lrc_leases.proofs.ListLemmas.{leased_of-less}
 use Rattle.lrc_book.specs.declared.reply.Reply.TheVariants.{Ended}
+use Rattle.lrc_book.specs.declared.refusal.Refusal.TheVariants as refusal
 use Rattle.lrc_book.specs.Outcomes.{Outcome}
-use Rattle.lrc_book.specs.States.{State, lease_of}
+use Rattle.lrc_book.specs.States.{State, has_stripe, lease_of, online_at}
 use Rattle.lrc_book.specs.Placement.{with_home}
-use Rattle.lrc_book.specs.Leases.{without_lease, without_home, moved_in, done_outcome}
+use Rattle.lrc_book.specs.Leases.{without_lease, without_home, at_epoch, is_held_by, moved_in, done_answer, done_outcome}
 use Rattle.lrc_book.proofs.StoredLemmas.{stored-home, stored-clear}
+use Rattle.lrc_book.proofs.OutcomeLemmas.{either-way}
+use Rattle.lrc_book.proofs.LeaseLawLemmas.{not-both}
 use Rattle.lrc_book.proofs.ReportedLemmas.{done-told, done-ends}
 
 module _ (nodes : List NodeInfo) (st : State) (s : StripeNo) (f : Fragment) where
   own : (same_stripe s s && nat_eq f.value f.value) ≡ true
   own = rw (eq-eqb s.value s.value refl, eq-eqb f.value f.value refl) refl
 
-  none-left : lease_of (without_lease st s f) s f ≡ None
+  pub none-left : lease_of (without_lease st s f) s f ≡ None
   none-left = ap (λ (t : Leased). t.leases s f.value) (leased_of-less st.leases s f 0) ∙ rw own refl
 
   no-seat : (o : Option Held) → homes_of st.homes s f.value ≡ None → home_of st.homes s f.value ≡ o → o ≡ None
@@ -55,3 +58,28 @@ module _ (nodes : List NodeInfo) (st : State) (session : SessionNo) (s : StripeN
       let base = without_home (without_lease st s f) s f in
       ap (λ (x : State). homes_of x.homes s f.value) moved
       ∙ settled nodes base s f l.target (no-seat nodes base s f (home_of base.homes s f.value) (cleared nodes (without_lease st s f) s f) refl)
+
+-- ---- every other home
+
+module _ (nodes : List NodeInfo) (st : State) (session : SessionNo) (s r : StripeNo) (f g : Fragment) (apart : r ≡ s → g ≢ f) where
+  abbrev KeepsHome : State → Type 0
+  KeepsHome next = homes_of next.homes r g.value ≡ homes_of st.homes r g.value
+
+  both : (same_stripe s r && nat_eq f.value g.value) ≡ false
+  both = not-both nodes st session s r f g apart
+
+  moved-keeps : (seat : Seat) → KeepsHome (moved_in st s f seat)
+  moved-keeps seat =
+      let base = without_home (without_lease st s f) s f in
+      sym (ap (λ (t : Stored). t.homes r g.value) (stored-home nodes base 0 s f seat (no-seat nodes base s f (home_of base.homes s f.value) (cleared nodes (without_lease st s f) s f) refl)))
+      ∙ rw both (sym (ap (λ (t : Stored). t.homes r g.value) (stored-clear nodes (without_lease st s f) 0 s f)) ∙ rw both refl)
+
+  keeps-by : (o : Option LeaseRecord) → KeepsHome (done_answer nodes st session s f o).1
+  keeps-by None = refl
+  keeps-by (Some l) =
+      either-way KeepsHome (not (is_held_by session l)) (refusal.NotHolder l.holder) st _ refl (λ held.
+      either-way KeepsHome (not (online_at nodes st l.target.node)) (refusal.TargetOffline l.target.node) st (Ended, moved_in st s f l.target) refl (λ online. moved-keeps l.target))
+
+  pub homes-keep : (e : ℕ) → KeepsHome (done_outcome nodes st session s f e).1
+  unfolding done_outcome
+  homes-keep e = either-way KeepsHome (not (has_stripe st s)) refusal.UnknownStripe st _ refl (λ there. keeps-by (at_epoch e (lease_of st s f)))

@@ -39,16 +39,16 @@ held-session session l hit = equal_sessions l.holder session (eqb-true l.holder.
 pub session-held : (session : SessionNo) (l : LeaseRecord) → l.holder ≡ session → is_held_by session l ≡ true
 session-held session l same = eq-eqb l.holder.value session.value (ap (λ (x : SessionNo). x.value) same)
 
-not-held : (session : SessionNo) (l : LeaseRecord) → is_held_by session l ≡ false → l.holder ≢ session
+pub not-held : (session : SessionNo) (l : LeaseRecord) → is_held_by session l ≡ false → l.holder ≢ session
 not-held session l miss same = let both : true ≡ false = sym (session-held session l same) ∙ miss in cc
 
-held-not : (session : SessionNo) (l : LeaseRecord) → l.holder ≢ session → is_held_by session l ≡ false
+pub held-not : (session : SessionNo) (l : LeaseRecord) → l.holder ≢ session → is_held_by session l ≡ false
 held-not session l other = ne_eqb l.holder.value session.value (λ same. other (equal_sessions l.holder session same))
 
 pub at-own : (e : ℕ) (l : LeaseRecord) → l.epoch ≡ e → at_epoch e (Some l) ≡ Some l
 at-own e l same = rw (eq-eqb l.epoch e same) refl
 
-at-none : (e : ℕ) (o : Option LeaseRecord) → at_epoch e o ≡ None → (l : LeaseRecord) → o ≡ Some l → l.epoch ≢ e
+pub at-none : (e : ℕ) (o : Option LeaseRecord) → at_epoch e o ≡ None → (l : LeaseRecord) → o ≡ Some l → l.epoch ≢ e
 at-none e o none l live same = let both : Some l ≡ None = sym (ap (at_epoch e) live ∙ at-own e l same) ∙ none in cc
 
 module _ (nodes : List NodeInfo) (st : State) (session : SessionNo) (s : StripeNo) (f : Fragment) (e : ℕ) where

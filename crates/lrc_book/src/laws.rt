@@ -208,17 +208,55 @@ pub fn live_leases_were_granted()
 {}
 
 /// After a report that is taken the fragment has no live lease, and its home is the target of the lease that it had.
+/// Every other fragment has the home that it had.
 pub fn a_report_moves_its_fragment()
-    ensures { (nodes : List NodeInfo) (past : List Entry) (st : State) (session : SessionNo) (s : StripeNo) (f : Fragment) (e : ℕ) (l : LeaseRecord)
+    ensures moved { (nodes : List NodeInfo) (past : List Entry) (st : State) (session : SessionNo) (s : StripeNo) (f : Fragment) (e : ℕ) (l : LeaseRecord)
         → lease_of st s f ≡ Some l → (step nodes past st session (Done s f e)).0 ≡ Ended
         → (lease_of (step nodes past st session (Done s f e)).1 s f ≡ None)
         × (homes_of (step nodes past st session (Done s f e)).1.homes s f.value ≡ Some l.target) }
+    ensures others { (nodes : List NodeInfo) (past : List Entry) (st : State) (session : SessionNo) (s r : StripeNo) (f g : Fragment) (e : ℕ)
+        → (r ≡ s → g ≢ f) → homes_of (step nodes past st session (Done s f e)).1.homes r g.value ≡ homes_of st.homes r g.value }
 {}
 
-/// Abandon ends the lease exactly where the session holds the live lease of the fragment and it has this epoch.
+/// Abandon ends the lease exactly where the session holds the live lease of the fragment and it has this epoch: then the
+/// fragment has none, and nothing else is changed. Each refusal is told exactly where what it says is so, and none before
+/// it.
 pub fn a_lease_is_given_back_by_its_holder_alone()
-    ensures { (nodes : List NodeInfo) (past : List Entry) (st : State) (session : SessionNo) (s : StripeNo) (f : Fragment) (e : ℕ)
+    ensures ended { (nodes : List NodeInfo) (past : List Entry) (st : State) (session : SessionNo) (s : StripeNo) (f : Fragment) (e : ℕ)
         → ((step nodes past st session (Abandon s f e)).0 ≡ Ended) ↔ ((l : LeaseRecord) × IsReported st s f e l × (l.holder ≡ session)) }
+    ensures unknown { (nodes : List NodeInfo) (past : List Entry) (st : State) (session : SessionNo) (s : StripeNo) (f : Fragment) (e : ℕ)
+        → ((step nodes past st session (Abandon s f e)).0 ≡ Refused refusal.UnknownStripe) ↔ IsFalse (has_stripe st s) }
+    ensures stale { (nodes : List NodeInfo) (past : List Entry) (st : State) (session : SessionNo) (s : StripeNo) (f : Fragment) (e : ℕ)
+        → ((step nodes past st session (Abandon s f e)).0 ≡ Refused refusal.Stale)
+        ↔ (IsTrue (has_stripe st s) × ((l : LeaseRecord) → lease_of st s f ≡ Some l → l.epoch ≢ e)) }
+    ensures others { (nodes : List NodeInfo) (past : List Entry) (st : State) (session : SessionNo) (s : StripeNo) (f : Fragment) (e : ℕ) (x : SessionNo)
+        → ((step nodes past st session (Abandon s f e)).0 ≡ Refused (refusal.NotHolder x))
+        ↔ ((l : LeaseRecord) × IsReported st s f e l × (l.holder ≡ x) × (x ≢ session)) }
+    ensures after { (nodes : List NodeInfo) (past : List Entry) (st : State) (session : SessionNo) (s : StripeNo) (f : Fragment) (e : ℕ)
+        → (step nodes past st session (Abandon s f e)).0 ≡ Ended → IsWithoutLease st s f (step nodes past st session (Abandon s f e)).1 }
+{}
+
+/// Revoke ends the lease exactly where the fragment has a live one, whoever holds it: then the fragment has none, and
+/// nothing else is changed. Each refusal is told exactly where what it says is so, and none before it.
+pub fn a_lease_is_revoked_whoever_holds_it()
+    ensures ended { (nodes : List NodeInfo) (past : List Entry) (st : State) (session : SessionNo) (s : StripeNo) (f : Fragment)
+        → ((step nodes past st session (Revoke s f)).0 ≡ Ended) ↔ (IsTrue (has_stripe st s) × IsSome (lease_of st s f)) }
+    ensures unknown { (nodes : List NodeInfo) (past : List Entry) (st : State) (session : SessionNo) (s : StripeNo) (f : Fragment)
+        → ((step nodes past st session (Revoke s f)).0 ≡ Refused refusal.UnknownStripe) ↔ IsFalse (has_stripe st s) }
+    ensures none { (nodes : List NodeInfo) (past : List Entry) (st : State) (session : SessionNo) (s : StripeNo) (f : Fragment)
+        → ((step nodes past st session (Revoke s f)).0 ≡ Refused refusal.NoLease) ↔ (IsTrue (has_stripe st s) × (lease_of st s f ≡ None)) }
+    ensures after { (nodes : List NodeInfo) (past : List Entry) (st : State) (session : SessionNo) (s : StripeNo) (f : Fragment)
+        → (step nodes past st session (Revoke s f)).0 ≡ Ended → IsWithoutLease st s f (step nodes past st session (Revoke s f)).1 }
+{}
+
+/// The seats that Place tells are the homes of the stripe's sixteen fragments, in their order. Every other stripe has the
+/// homes that it had.
+pub fn placed_seats_are_the_homes()
+    ensures told { (nodes : List NodeInfo) (past : List Entry) (st : State) (session : SessionNo) (s : StripeNo) (seats : List Seat)
+        → AreSeated nodes st → (step nodes past st session (Place s)).0 ≡ Placed seats
+        → homes_shown (step nodes past st session (Place s)).1 s ≡ Some (map (λ seat. Some seat) seats) }
+    ensures others { (nodes : List NodeInfo) (past : List Entry) (st : State) (session : SessionNo) (s r : StripeNo)
+        → r ≢ s → homes_shown (step nodes past st session (Place s)).1 r ≡ homes_shown st r }
 {}
 
 /// Upgrade is refused for a stripe exactly where a node is in the domain, no domain is upgrading, and the stripe is the
@@ -286,4 +324,22 @@ pub fn retired_nodes_are_empty()
         → ((step nodes past st session (Retire n)).0 ≡ Refused refusal.UnknownNode) ↔ (node_at nodes n ≡ None) }
     ensures wrong { (nodes : List NodeInfo) (past : List Entry) (st : State) (session : SessionNo) (n : NodeNo)
         → ((step nodes past st session (Retire n)).0 ≡ Refused refusal.WrongMode) ↔ (IsSome (node_at nodes n) × (mode_of st n ≢ Draining)) }
+{}
+
+/// The risk list has each stripe that is not whole, with its level, and no other. In a state whose stripes are seated it
+/// has each once, by rank and by number.
+pub fn risk_lists_all()
+    ensures each { (nodes : List NodeInfo) (st : State) (s : StripeNo) (l : Level)
+        → Contains (risk nodes st) (s, l) ↔ (IsTrue (has_stripe st s) × (level nodes st s ≡ l) × (l ≢ Whole)) }
+    ensures rising { (nodes : List NodeInfo) (st : State)
+        → AreSeated nodes st → AllPairs (λ a b. IsMoreUrgent nodes st a.0 b.0) (risk nodes st) }
+{}
+
+/// The work list has each stripe with a fragment that needs a lease, and no other. In a state whose stripes are seated it
+/// has each once, by rank and by number.
+pub fn work_lists_all()
+    ensures each { (nodes : List NodeInfo) (st : State) (s : StripeNo)
+        → Contains (work nodes st) s ↔ (IsTrue (has_stripe st s) × ((f : Fragment) × IsTrue (needs nodes st s f))) }
+    ensures rising { (nodes : List NodeInfo) (st : State)
+        → AreSeated nodes st → AllPairs (λ a b. IsMoreUrgent nodes st a b) (work nodes st) }
 {}

@@ -1,0 +1,130 @@
+-- The homes of a stripe that was placed, and of all others.
+use Rattle.std.proofs.Common.{◌≡◌, ◌≢◌, ℕ, Bool, true, false, ◌&&◌, ◌||◌, nat_eq, if◌then◌else◌, List, [], ◌∷◌, ◌++◌, map, length, get_or, find, Option, Some, None, option_map, Result, Ok, Err, refl, sym, ap, ap₂, ◌∙◌, subst, arith}
+use Rattle.std.specs.List.{All, AllPairs, list_any}
+use Rattle.std.specs.Option.{option_or}
+use Rattle.std.proofs.lemmas.Bool.{cases_Bool, eq-eqb, eqb-true, ne_eqb}
+use Rattle.std.proofs.lemmas.List.Elements.{All-head, All-tail, All-weaker, Contains-push}
+use Rattle.std.proofs.lemmas.List.Folds.{find-append, list_any-append}
+use Rattle.lrc_code.specs.declared.codes.Code.TheVariants.{Wide}
+use Rattle.lrc_code.specs.declared.numbers.StripeNo.{StripeNo}
+use Rattle.lrc_code.specs.declared.numbers.SessionNo.{SessionNo}
+use Rattle.lrc_code.specs.declared.numbers.Fragment.{Fragment}
+use Rattle.lrc_code.specs.Numbers.{same_stripe}
+use Rattle.lrc_code.specs.Codes.{fragments}
+use Rattle.lrc_code.proofs.NumbersLemmas.{equal_stripes, equal_fragments}
+use Rattle.lrc_topology.specs.declared.NodeInfo.{NodeInfo}
+use Rattle.lrc_topology.specs.declared.seat.Seat.{Seat}
+use Rattle.lrc_topology.specs.declared.seat.Held.{Held}
+use Rattle.lrc_stripes.specs.Levels.{home_of, homes_of}
+use Rattle.lrc_book.specs.declared.command.Command.TheVariants.{Place}
+use Rattle.lrc_book.specs.declared.reply.Reply.TheVariants.{Placed}
+use Rattle.lrc_book.specs.declared.refusal.Refusal.TheVariants as refusal
+use Rattle.lrc_book.specs.declared.entry.Entry.{Entry}
+use Rattle.lrc_book.specs.States.{State, has_stripe, homes_shown}
+use Rattle.lrc_book.specs.Placement.{placed}
+use Rattle.lrc_book.specs.Goodness.{AreSeated}
+use Rattle.lrc_book.specs.Steps.{with_stripe, place_answer, place_outcome, step}
+use Rattle.lrc_book.specs.Changes.{held_at, with_placed, changed_by}
+use Rattle.lrc_book.proofs.MemberLemmas.{list_any-member, AllPairs-head, AllPairs-tail}
+use Rattle.lrc_book.proofs.SeatingLemmas.{fragments-distinct}
+use Rattle.lrc_book.proofs.OutcomeLemmas.{either-way}
+use Rattle.lrc_book.proofs.StepLemmas.{placed-grown, step-changed}
+use Rattle.lrc_book.proofs.StoredLemmas.{no_home}
+use Rattle.lrc_book.proofs.ToldLemmas.{place-told}
+use Rattle.lrc_book.proofs.LawLemmas.{chosen-length}
+
+abbrev home_in : Option Held → Option Seat
+home_in o = option_map (λ (h : Held). h.seat) o
+
+-- ---- the homes that a placement adds
+
+map-agree : {X Y : Type 0} (v w : X → Y) (xs : List X) → All (λ x. v x ≡ w x) xs → map v xs ≡ map w xs
+map-agree v w [] all = refl
+map-agree {X} {Y} v w (x ∷ xs) all = ap₂ (λ (y : Y) (ys : List Y). y ∷ ys) (All-head (λ x. v x ≡ w x) x xs all) (map-agree v w xs (All-tail (λ x. v x ≡ w x) x xs all))
+
+-- another fragment's home is passed over
+passed-over : (s : StripeNo) (f g : Fragment) (seat : Seat) (homes : List Held) → f ≢ g → homes_of (record { stripe = s; fragment = f; seat = seat } ∷ homes) s g.value ≡ homes_of homes s g.value
+passed-over s f g seat homes other = rw (eq-eqb s.value s.value refl, ne_eqb f.value g.value (λ same. other (equal_fragments f g same))) refl
+
+added-homes : (s : StripeNo) (fs : List Fragment) (seats : List Seat) → AllPairs (λ f g. f ≢ g) fs → length seats ≡ length fs
+    → map (λ (f : Fragment). homes_of (held_at s fs seats) s f.value) fs ≡ map (λ (seat : Seat). Some seat) seats
+added-homes s [] [] distinct e = refl
+added-homes s [] (x ∷ xs) distinct e = absurd (omega (arith, e))
+added-homes s (f ∷ fs) [] distinct e = absurd (omega (arith, e))
+added-homes s (f ∷ fs) (x ∷ xs) distinct e =
+    let more : length xs ≡ length fs = omega (arith, e) in
+    let later = held_at s fs xs in
+    let own : homes_of (record { stripe = s; fragment = f; seat = x } ∷ later) s f.value ≡ Some x = rw (eq-eqb s.value s.value refl, eq-eqb f.value f.value refl) refl in
+    let rest = map-agree (λ (g : Fragment). homes_of (record { stripe = s; fragment = f; seat = x } ∷ later) s g.value) (λ (g : Fragment). homes_of later s g.value) fs
+    (All-weaker (λ g. f ≢ g) _ (λ g other. passed-over s f g x later other) fs (AllPairs-head (λ f g. f ≢ g) f fs distinct)) in
+    ap₂ (λ (o : Option Seat) (os : List (Option Seat)). o ∷ os) own (rest ∙ added-homes s fs xs (AllPairs-tail (λ f g. f ≢ g) f fs distinct) more)
+
+-- none of them is another stripe's
+none-added : (s r : StripeNo) (fs : List Fragment) (seats : List Seat) (n : ℕ) → r ≢ s → home_of (held_at s fs seats) r n ≡ None
+none-added s r [] [] n other = refl
+none-added s r [] (x ∷ xs) n other = refl
+none-added s r (f ∷ fs) [] n other = refl
+none-added s r (f ∷ fs) (x ∷ xs) n other = rw (ne_eqb s.value r.value (λ same. other (equal_stripes r s (sym same)))) (none-added s r fs xs n other)
+
+after-none : (o p : Option Held) → o ≡ None → option_or o p ≡ p
+after-none None p none = refl
+after-none (Some h) p none = absurd (cc)
+
+before-none : (o p : Option Held) → p ≡ None → option_or o p ≡ o
+before-none None p none = none
+before-none (Some h) p none = refl
+
+homes-append : (homes more : List Held) (s : StripeNo) (n : ℕ) → home_of (homes ++ more) s n ≡ option_or (home_of homes s n) (home_of more s n)
+homes-append homes more s n = find-append (λ (h : Held). same_stripe h.stripe s && nat_eq h.fragment.value n) homes more
+
+-- ---- what is shown
+
+abbrev seats_by : List Held → StripeNo → List (Option Seat)
+seats_by homes s = map (λ (f : Fragment). homes_of homes s f.value) (fragments Wide)
+
+abbrev shown : Bool → List (Option Seat) → Option (List (Option Seat))
+shown there seats = if there then Some seats else None
+
+module _ (nodes : List NodeInfo) (st : State) (s : StripeNo) where
+  placed-homes : (seats : List Seat) → AreSeated nodes st → has_stripe st s ≡ false → length seats ≡ 16 → homes_shown (with_placed st s seats) s ≡ Some (map (λ (seat : Seat). Some seat) seats)
+  placed-homes seats seated absent sixteen =
+      let there : has_stripe (with_placed st s seats) s ≡ true = list_any-member (same_stripe s) (st.stripes ++ s ∷ []) s (Contains-push st.stripes s) (eq-eqb s.value s.value refl) in
+      let added = held_at s (fragments Wide) seats in
+      let same : seats_by (st.homes ++ added) s ≡ seats_by added s = map-agree (λ (f : Fragment). homes_of (st.homes ++ added) s f.value) (λ (f : Fragment). homes_of added s f.value) (fragments Wide)
+      (λ i d within. ap home_in (homes-append st.homes added s (get_or (fragments Wide) i d).value
+      ∙ after-none (home_of st.homes s (get_or (fragments Wide) i d).value) (home_of added s (get_or (fragments Wide) i d).value) (no_home nodes st s (get_or (fragments Wide) i d).value seated absent))) in
+      ap (λ (b : Bool). shown b (seats_by (st.homes ++ added) s)) there ∙ ap Some (same ∙ added-homes s (fragments Wide) seats (fragments-distinct Wide) sixteen)
+
+  abbrev Shows : StripeNo → State → Type 0
+  Shows r next = homes_shown next r ≡ homes_shown st r
+
+  other-homes : (r : StripeNo) (seats : List Seat) → r ≢ s → Shows r (with_placed st s seats)
+  other-homes r seats other =
+      let added = held_at s (fragments Wide) seats in
+      let there : has_stripe (with_placed st s seats) r ≡ has_stripe st r =
+      list_any-append (same_stripe r) st.stripes (s ∷ []) ∙ rw (ne_eqb r.value s.value (λ same. other (equal_stripes r s same))) (or_none (has_stripe st r)) in
+      let same : seats_by (st.homes ++ added) r ≡ seats_by st.homes r = map-agree (λ (f : Fragment). homes_of (st.homes ++ added) r f.value) (λ (f : Fragment). homes_of st.homes r f.value) (fragments Wide)
+      (λ i d within. ap home_in (homes-append st.homes added r (get_or (fragments Wide) i d).value
+      ∙ before-none (home_of st.homes r (get_or (fragments Wide) i d).value) (home_of added r (get_or (fragments Wide) i d).value) (none-added s r (fragments Wide) seats (get_or (fragments Wide) i d).value other))) in
+      ap (λ (b : Bool). shown b (seats_by (st.homes ++ added) r)) there ∙ ap (shown (has_stripe st r)) same
+    where
+      or_none : (b : Bool) → (b || false) ≡ b
+      or_none true = refl
+      or_none false = refl
+
+  shows-by : (r : StripeNo) (p : Result State Fragment) → placed nodes (with_stripe st Wide s) s ≡ p → r ≢ s → Shows r (place_answer st s p).1
+  shows-by r (Err f) is other = refl
+  shows-by r (Ok done) is other = let g = placed-grown nodes st s done is in subst (Shows r) (sym g.is) (other-homes r g.seats other)
+
+  -- every other stripe keeps its homes
+  pub place-others : (r : StripeNo) → r ≢ s → Shows r (place_outcome nodes st Wide s).1
+  unfolding place_outcome
+  place-others r other = either-way (Shows r) (has_stripe st s) refusal.StripeExists st _ refl (λ absent. shows-by r (placed nodes (with_stripe st Wide s) s) refl other)
+
+  -- the seats that are told are the homes
+  pub place-homes : (past : List Entry) (session : SessionNo) (seats : List Seat) → AreSeated nodes st → (place_outcome nodes st Wide s).0 ≡ Placed seats
+      → homes_shown (place_outcome nodes st Wide s).1 s ≡ Some (map (λ (seat : Seat). Some seat) seats)
+  place-homes past session seats seated told =
+      let parts = place-told nodes st s seats told in
+      ap (λ (next : State). homes_shown next s) (step-changed nodes past st session (Place s) ∙ ap (changed_by st (Place s)) told)
+      ∙ placed-homes seats seated parts.absent (chosen-length nodes (with_stripe st Wide s) s (fragments Wide) seats parts.chosen_are)
