@@ -42,22 +42,30 @@ whole-not Lost other = refl
 module _ (nodes : List NodeInfo) (st : State) where
   -- ---- stripes of one kind, by rank and number
 
-  listed : (test : StripeNo → Bool) (s : StripeNo) → Contains (by_rank nodes st (filter test st.stripes)) s → (has_stripe st s ≡ true) × (test s ≡ true)
+  listed : (test : StripeNo → Bool) (s : StripeNo) → Contains (by_rank nodes st (filter test st.stripes)) s
+      → (has_stripe st s ≡ true) × (test s ≡ true)
   listed test s here =
       let xs = filter test st.stripes in
-      let m = filter-member test st.stripes s (Contains-permutation (by_rank nodes st xs) xs s (IsPermutation-sym xs (by_rank nodes st xs) (in_order-permutation (comes_first (rank nodes st)) xs)) here) in
+      let m = filter-member test st.stripes s
+      (Contains-permutation (by_rank nodes st xs) xs s
+      (IsPermutation-sym xs (by_rank nodes st xs) (in_order-permutation (comes_first (rank nodes st)) xs)) here) in
       (list_any-member (same_stripe s) st.stripes s m.0 (eq-eqb s.value s.value refl), m.1)
 
-  listed-from : (test : StripeNo → Bool) (s : StripeNo) → has_stripe st s ≡ true → test s ≡ true → Contains (by_rank nodes st (filter test st.stripes)) s
+  listed-from : (test : StripeNo → Bool) (s : StripeNo) → has_stripe st s ≡ true → test s ≡ true
+      → Contains (by_rank nodes st (filter test st.stripes)) s
   listed-from test s there pass =
       let xs = filter test st.stripes in
-      Contains-permutation xs (by_rank nodes st xs) s (in_order-permutation (comes_first (rank nodes st)) xs) (member-filter test st.stripes s (stripe-there st s there) pass)
+      Contains-permutation xs (by_rank nodes st xs) s (in_order-permutation (comes_first (rank nodes st)) xs)
+      (member-filter test st.stripes s (stripe-there st s there) pass)
 
-  rising : (test : StripeNo → Bool) → AllPairs (λ s t. s ≢ t) st.stripes → AllPairs (IsMoreUrgent nodes st) (by_rank nodes st (filter test st.stripes))
+  rising : (test : StripeNo → Bool) → AllPairs (λ s t. s ≢ t) st.stripes
+      → AllPairs (IsMoreUrgent nodes st) (by_rank nodes st (filter test st.stripes))
   rising test distinct =
       let xs = filter test st.stripes in
-      let strict = in_order-strict (comes_first (rank nodes st)) (stripe-order (rank nodes st)) (stripe-ties (rank nodes st)) xs (AllPairs-filter (λ s t. s ≢ t) test st.stripes distinct) in
-      λ i j d below within. (stripe-words nodes st (get_or (by_rank nodes st xs) i d) (get_or (by_rank nodes st xs) j d)).0 (strict i j d below within)
+      let strict = in_order-strict (comes_first (rank nodes st)) (stripe-order (rank nodes st)) (stripe-ties (rank nodes st)) xs
+      (AllPairs-filter (λ s t. s ≢ t) test st.stripes distinct) in
+      λ i j d below within. (stripe-words nodes st (get_or (by_rank nodes st xs) i d) (get_or (by_rank nodes st xs) j d)).0
+      (strict i j d below within)
 
   -- ---- the two lists
 
@@ -69,7 +77,8 @@ module _ (nodes : List NodeInfo) (st : State) where
 
   pub listed-work : (s : StripeNo) → has_stripe st s ≡ true → (f : Fragment) → needs nodes st s f ≡ true → Contains (work nodes st) s
   unfolding work
-  listed-work s there f need = listed-from (has_work nodes st) s there (list_any-member (needs nodes st s) (fragments (code_of st s)) f (all-fragments f) need)
+  listed-work s there f need =
+      listed-from (has_work nodes st) s there (list_any-member (needs nodes st s) (fragments (code_of st s)) f (all-fragments f) need)
 
   pub work-rising : AllPairs (λ s t. s ≢ t) st.stripes → AllPairs (IsMoreUrgent nodes st) (work nodes st)
   unfolding work
@@ -99,4 +108,5 @@ module _ (nodes : List NodeInfo) (st : State) where
 
   pub risk-rising : AllPairs (λ s t. s ≢ t) st.stripes → AllPairs (λ (a b : StripeLevel). IsMoreUrgent nodes st a.0 b.0) (risk nodes st)
   unfolding risk
-  risk-rising distinct = AllPairs-map (λ (a b : StripeLevel). IsMoreUrgent nodes st a.0 b.0) row (by_rank nodes st (filter risky st.stripes)) (rising risky distinct)
+  risk-rising distinct =
+      AllPairs-map (λ (a b : StripeLevel). IsMoreUrgent nodes st a.0 b.0) row (by_rank nodes st (filter risky st.stripes)) (rising risky distinct)

@@ -73,7 +73,8 @@ none-from None e = refl
 none-from (Some l) e = absurd (cc)
 
 module _ (nodes : List NodeInfo) (st : State) (s : StripeNo) (f : Fragment) where
-  node-by : (o : Option NodeInfo) → chosen_node nodes st s f ≡ o → is_some (option_and_then (free_seat (taken_seats st)) o) ≡ true → (n : NodeInfo) × IsFitting nodes st s f n
+  node-by : (o : Option NodeInfo) → chosen_node nodes st s f ≡ o → is_some (option_and_then (free_seat (taken_seats st)) o) ≡ true
+      → (n : NodeInfo) × IsFitting nodes st s f n
   node-by (Some n) is e = (n, node-fits nodes st s f n is)
   node-by None is e = absurd (cc)
 
@@ -81,7 +82,8 @@ module _ (nodes : List NodeInfo) (st : State) (s : StripeNo) (f : Fragment) wher
   unfolding chosen
   node-of e = node-by (chosen_node nodes st s f) refl e
 
-  seat-by : (n : NodeInfo) → IsFitting nodes st s f n → (o : Option Seat) → chosen nodes st s f ≡ o → (seat : Seat) × (chosen nodes st s f ≡ Some seat)
+  seat-by : (n : NodeInfo) → IsFitting nodes st s f n → (o : Option Seat) → chosen nodes st s f ≡ o
+      → (seat : Seat) × (chosen nodes st s f ≡ Some seat)
   seat-by n fitting (Some seat) is = (seat, is)
   seat-by n fitting None is = absurd (none-fitting nodes st s f is n fitting)
 
@@ -96,9 +98,17 @@ module _ (nodes : List NodeInfo) (st : State) where
       let need = and_parts (needs nodes st p.0 p.1) _ free.1 in
       let rest = and_parts (not (is_beyond_repair nodes st p.0 p.1)) _ need.1 in
       let found = node-of nodes st p.0 p.1 rest.1 in
-      let there : has_stripe st p.0 ≡ true = list_any-member (same_stripe p.0) st.stripes p.0 (fragments-into st.stripes p m.0) (eq-eqb p.0.value p.0.value refl) in
+      let there : has_stripe st p.0 ≡ true = list_any-member (same_stripe p.0) st.stripes p.0 (fragments-into st.stripes p m.0)
+      (eq-eqb p.0.value p.0.value refl) in
       record {
-        owed = record { there = there; none = none-from (lease_of st p.0 p.1) free.0; needed = need.0; suffices = suffices-from (is_safe nodes st p.0) (kind nodes st p.0 p.1) rest.0 };
+        owed =
+            record {
+              there = there;
+              none = none-from (lease_of st p.0 p.1) free.0;
+              needed = need.0;
+              suffices = suffices-from (is_safe nodes st p.0)
+                  (kind nodes st p.0 p.1) rest.0;
+            };
         node = found.0;
         fitting = found.1;
       }
@@ -109,7 +119,8 @@ module _ (nodes : List NodeInfo) (st : State) where
       member-filter (is_grantable nodes st) (all_fragments st) p (fragments-from st.stripes p (stripe-there st p.0 so.owed.there))
       (and_from (is_none (lease_of st p.0 p.1)) _ (ap (λ (o : Option LeaseRecord). is_none o) so.owed.none)
       (and_from (needs nodes st p.0 p.1) _ so.owed.needed
-      (and_from (not (is_beyond_repair nodes st p.0 p.1)) _ (from-suffices (is_safe nodes st p.0) (kind nodes st p.0 p.1) so.owed.suffices) (ap (λ (o : Option Seat). is_some o) seat.1))))
+      (and_from (not (is_beyond_repair nodes st p.0 p.1)) _ (from-suffices (is_safe nodes st p.0) (kind nodes st p.0 p.1) so.owed.suffices)
+      (ap (λ (o : Option Seat). is_some o) seat.1))))
 
   -- ---- the first of them
 
@@ -125,7 +136,8 @@ module _ (nodes : List NodeInfo) (st : State) where
   next-urgent p e = record {
     grantable = grantable-words p (least-listed before p candidates e);
     first = λ q so other.
-        let behind = All-contains (λ (z : StripeFragment). before z p ≡ false) candidates q (least-none_before before (fragment-order (rank nodes st)) p candidates e) (words-grantable q so) in
+        let behind = All-contains (λ (z : StripeFragment). before z p ≡ false) candidates q
+        (least-none_before before (fragment-order (rank nodes st)) p candidates e) (words-grantable q so) in
         before-words nodes st p q (first-by p q behind other (before p q) refl);
   }
 
@@ -133,19 +145,22 @@ module _ (nodes : List NodeInfo) (st : State) where
   behind-by p most q here false is = refl
   behind-by p most q here true is =
       let order = fragment-order (rank nodes st) in
-      let other : q ≢ p = λ same. (let both : true ≡ false = sym is ∙ ap (λ (z : StripeFragment). before z p) same ∙ not_before-itself before order p in cc) in
+      let other : q ≢ p = λ same.
+      (let both : true ≡ false = sym is ∙ ap (λ (z : StripeFragment). before z p) same ∙ not_before-itself before order p in cc) in
       let ahead = words-before nodes st p q (most.first q (grantable-words q here) other) in
       absurd (let both : true ≡ false = sym is ∙ order.one_way p q ahead in cc)
 
   urgent-next : (p : StripeFragment) → IsMostUrgent nodes st p → next_of nodes st ≡ Some p
   unfolding next_of
   urgent-next p most =
-      least-only before (fragment-order (rank nodes st)) p candidates (λ a b in_a in_b x y. fragment-ties (rank nodes st) a b x y) (words-grantable p most.grantable)
+      least-only before (fragment-order (rank nodes st)) p candidates (λ a b in_a in_b x y. fragment-ties (rank nodes st) a b x y)
+      (words-grantable p most.grantable)
       (All-members (λ (z : StripeFragment). before z p ≡ false) candidates (λ q here. behind-by p most q here (before q p) refl))
 
   none-next : next_of nodes st ≡ None → (p : StripeFragment) → ¬ (IsGrantable nodes st p)
   unfolding next_of
-  none-next e p so = not-Contains-nil p (subst (λ (xs : List StripeFragment). Contains xs p) ((least-none before candidates).0 e) (words-grantable p so))
+  none-next e p so =
+      not-Contains-nil p (subst (λ (xs : List StripeFragment). Contains xs p) ((least-none before candidates).0 e) (words-grantable p so))
 
   next-none : ((p : StripeFragment) → ¬ (IsGrantable nodes st p)) → next_of nodes st ≡ None
   unfolding next_of
@@ -159,20 +174,23 @@ module _ (nodes : List NodeInfo) (past : List Entry) (st : State) (session : Ses
   next-is o is = ap (next_answer nodes past st session) is
 
   -- Lease of a grantable fragment is answered with a lease
-  grantable-granted : (p : StripeFragment) → IsGrantable nodes st p → (l : LeaseRecord) × ((lease_outcome nodes past st session p.0 p.1).0 ≡ Granted l (kind nodes st p.0 p.1))
+  grantable-granted : (p : StripeFragment) → IsGrantable nodes st p
+      → (l : LeaseRecord) × ((lease_outcome nodes past st session p.0 p.1).0 ≡ Granted l (kind nodes st p.0 p.1))
   grantable-granted p so =
       let seat = seat-by nodes st p.0 p.1 so.node so.fitting (chosen nodes st p.0 p.1) refl in
       let l = new_lease past session p.0 p.1 seat.0 in
       (l, tell-granted nodes past st session p.0 p.1 l (kind nodes st p.0 p.1) (so.owed, seat.1, refl, refl))
 
   -- where a fragment is the most urgent, Next is Lease of it
-  pub urgent-leased : (s : StripeNo) (f : Fragment) → IsMostUrgent nodes st (s, f) → next_outcome nodes past st session ≡ lease_outcome nodes past st session s f
+  pub urgent-leased : (s : StripeNo) (f : Fragment) → IsMostUrgent nodes st (s, f)
+      → next_outcome nodes past st session ≡ lease_outcome nodes past st session s f
   urgent-leased s f most = next-is (Some (s, f)) (urgent-next nodes st (s, f) most)
 
   no-grant : (l : LeaseRecord) (k : Kind) → Idle ≢ Granted l k
   no-grant l k e = cc
 
-  urgent-by : (l : LeaseRecord) (k : Kind) (o : Option StripeFragment) → next_of nodes st ≡ o → (next_answer nodes past st session o).0 ≡ Granted l k → IsMostUrgent nodes st (l.stripe, l.fragment)
+  urgent-by : (l : LeaseRecord) (k : Kind) (o : Option StripeFragment) → next_of nodes st ≡ o → (next_answer nodes past st session o).0 ≡ Granted l k
+      → IsMostUrgent nodes st (l.stripe, l.fragment)
   urgent-by l k None is e = absurd (no-grant l k e)
   urgent-by l k (Some p) is e =
       let own = (lease-new nodes past st session p.0 p.1 l k e).own in
@@ -181,7 +199,8 @@ module _ (nodes : List NodeInfo) (past : List Entry) (st : State) (session : Ses
       subst (IsMostUrgent nodes st) same (next-urgent nodes st p is)
 
   -- what it grants is the most urgent
-  pub granted-urgent : (l : LeaseRecord) (k : Kind) → (next_outcome nodes past st session).0 ≡ Granted l k → IsMostUrgent nodes st (l.stripe, l.fragment)
+  pub granted-urgent : (l : LeaseRecord) (k : Kind) → (next_outcome nodes past st session).0 ≡ Granted l k
+      → IsMostUrgent nodes st (l.stripe, l.fragment)
   granted-urgent l k told = urgent-by l k (next_of nodes st) refl (sym (ap (λ (o : Outcome). o.0) (next-is (next_of nodes st) refl)) ∙ told)
 
   no-idle : (l : LeaseRecord) (k : Kind) → Granted l k ≢ Idle

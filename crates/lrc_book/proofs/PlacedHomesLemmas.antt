@@ -40,10 +40,12 @@ home_in o = option_map (λ (h : Held). h.seat) o
 
 map-agree : {X Y : Type 0} (v w : X → Y) (xs : List X) → All (λ x. v x ≡ w x) xs → map v xs ≡ map w xs
 map-agree v w [] all = refl
-map-agree {X} {Y} v w (x ∷ xs) all = ap₂ (λ (y : Y) (ys : List Y). y ∷ ys) (All-head (λ x. v x ≡ w x) x xs all) (map-agree v w xs (All-tail (λ x. v x ≡ w x) x xs all))
+map-agree {X} {Y} v w (x ∷ xs) all =
+    ap₂ (λ (y : Y) (ys : List Y). y ∷ ys) (All-head (λ x. v x ≡ w x) x xs all) (map-agree v w xs (All-tail (λ x. v x ≡ w x) x xs all))
 
 -- another fragment's home is passed over
-passed-over : (s : StripeNo) (f g : Fragment) (seat : Seat) (homes : List Held) → f ≢ g → homes_of (record { stripe = s; fragment = f; seat = seat } ∷ homes) s g.value ≡ homes_of homes s g.value
+passed-over : (s : StripeNo) (f g : Fragment) (seat : Seat) (homes : List Held) → f ≢ g
+    → homes_of (record { stripe = s; fragment = f; seat = seat } ∷ homes) s g.value ≡ homes_of homes s g.value
 passed-over s f g seat homes other = rw (eq-eqb s.value s.value refl, ne_eqb f.value g.value (λ same. other (equal_fragments f g same))) refl
 
 added-homes : (s : StripeNo) (fs : List Fragment) (seats : List Seat) → AllPairs (λ f g. f ≢ g) fs → length seats ≡ length fs
@@ -54,8 +56,10 @@ added-homes s (f ∷ fs) [] distinct e = absurd (omega (arith, e))
 added-homes s (f ∷ fs) (x ∷ xs) distinct e =
     let more : length xs ≡ length fs = omega (arith, e) in
     let later = held_at s fs xs in
-    let own : homes_of (record { stripe = s; fragment = f; seat = x } ∷ later) s f.value ≡ Some x = rw (eq-eqb s.value s.value refl, eq-eqb f.value f.value refl) refl in
-    let rest = map-agree (λ (g : Fragment). homes_of (record { stripe = s; fragment = f; seat = x } ∷ later) s g.value) (λ (g : Fragment). homes_of later s g.value) fs
+    let own : homes_of (record { stripe = s; fragment = f; seat = x } ∷ later) s f.value ≡ Some x = rw
+    (eq-eqb s.value s.value refl, eq-eqb f.value f.value refl) refl in
+    let rest = map-agree (λ (g : Fragment). homes_of (record { stripe = s; fragment = f; seat = x } ∷ later) s g.value)
+    (λ (g : Fragment). homes_of later s g.value) fs
     (All-weaker (λ g. f ≢ g) _ (λ g other. passed-over s f g x later other) fs (AllPairs-head (λ f g. f ≢ g) f fs distinct)) in
     ap₂ (λ (o : Option Seat) (os : List (Option Seat)). o ∷ os) own (rest ∙ added-homes s fs xs (AllPairs-tail (λ f g. f ≢ g) f fs distinct) more)
 
@@ -86,14 +90,19 @@ abbrev shown : Bool → List (Option Seat) → Option (List (Option Seat))
 shown there seats = if there then Some seats else None
 
 module _ (nodes : List NodeInfo) (st : State) (s : StripeNo) where
-  placed-homes : (seats : List Seat) → AreSeated nodes st → has_stripe st s ≡ false → length seats ≡ 16 → homes_shown (with_placed st s seats) s ≡ Some (map (λ (seat : Seat). Some seat) seats)
+  placed-homes : (seats : List Seat) → AreSeated nodes st → has_stripe st s ≡ false → length seats ≡ 16
+      → homes_shown (with_placed st s seats) s ≡ Some (map (λ (seat : Seat). Some seat) seats)
   placed-homes seats seated absent sixteen =
-      let there : has_stripe (with_placed st s seats) s ≡ true = list_any-member (same_stripe s) (st.stripes ++ s ∷ []) s (Contains-push st.stripes s) (eq-eqb s.value s.value refl) in
+      let there : has_stripe (with_placed st s seats) s ≡ true = list_any-member (same_stripe s) (st.stripes ++ s ∷ []) s
+      (Contains-push st.stripes s) (eq-eqb s.value s.value refl) in
       let added = held_at s (fragments Wide) seats in
-      let same : seats_by (st.homes ++ added) s ≡ seats_by added s = map-agree (λ (f : Fragment). homes_of (st.homes ++ added) s f.value) (λ (f : Fragment). homes_of added s f.value) (fragments Wide)
+      let same : seats_by (st.homes ++ added) s ≡ seats_by added s = map-agree (λ (f : Fragment). homes_of (st.homes ++ added) s f.value)
+      (λ (f : Fragment). homes_of added s f.value) (fragments Wide)
       (λ i d within. ap home_in (homes-append st.homes added s (get_or (fragments Wide) i d).value
-      ∙ after-none (home_of st.homes s (get_or (fragments Wide) i d).value) (home_of added s (get_or (fragments Wide) i d).value) (no_home nodes st s (get_or (fragments Wide) i d).value seated absent))) in
-      ap (λ (b : Bool). shown b (seats_by (st.homes ++ added) s)) there ∙ ap Some (same ∙ added-homes s (fragments Wide) seats (fragments-distinct Wide) sixteen)
+      ∙ after-none (home_of st.homes s (get_or (fragments Wide) i d).value) (home_of added s (get_or (fragments Wide) i d).value)
+      (no_home nodes st s (get_or (fragments Wide) i d).value seated absent))) in
+      ap (λ (b : Bool). shown b (seats_by (st.homes ++ added) s)) there ∙ ap Some
+      (same ∙ added-homes s (fragments Wide) seats (fragments-distinct Wide) sixteen)
 
   abbrev Shows : StripeNo → State → Type 0
   Shows r next = homes_shown next r ≡ homes_shown st r
@@ -102,10 +111,13 @@ module _ (nodes : List NodeInfo) (st : State) (s : StripeNo) where
   other-homes r seats other =
       let added = held_at s (fragments Wide) seats in
       let there : has_stripe (with_placed st s seats) r ≡ has_stripe st r =
-      list_any-append (same_stripe r) st.stripes (s ∷ []) ∙ rw (ne_eqb r.value s.value (λ same. other (equal_stripes r s same))) (or_none (has_stripe st r)) in
-      let same : seats_by (st.homes ++ added) r ≡ seats_by st.homes r = map-agree (λ (f : Fragment). homes_of (st.homes ++ added) r f.value) (λ (f : Fragment). homes_of st.homes r f.value) (fragments Wide)
+      list_any-append (same_stripe r) st.stripes (s ∷ [])
+      ∙ rw (ne_eqb r.value s.value (λ same. other (equal_stripes r s same))) (or_none (has_stripe st r)) in
+      let same : seats_by (st.homes ++ added) r ≡ seats_by st.homes r = map-agree (λ (f : Fragment). homes_of (st.homes ++ added) r f.value)
+      (λ (f : Fragment). homes_of st.homes r f.value) (fragments Wide)
       (λ i d within. ap home_in (homes-append st.homes added r (get_or (fragments Wide) i d).value
-      ∙ before-none (home_of st.homes r (get_or (fragments Wide) i d).value) (home_of added r (get_or (fragments Wide) i d).value) (none-added s r (fragments Wide) seats (get_or (fragments Wide) i d).value other))) in
+      ∙ before-none (home_of st.homes r (get_or (fragments Wide) i d).value) (home_of added r (get_or (fragments Wide) i d).value)
+      (none-added s r (fragments Wide) seats (get_or (fragments Wide) i d).value other))) in
       ap (λ (b : Bool). shown b (seats_by (st.homes ++ added) r)) there ∙ ap (shown (has_stripe st r)) same
     where
       or_none : (b : Bool) → (b || false) ≡ b
@@ -119,10 +131,12 @@ module _ (nodes : List NodeInfo) (st : State) (s : StripeNo) where
   -- every other stripe keeps its homes
   pub place-others : (r : StripeNo) → r ≢ s → Shows r (place_outcome nodes st Wide s).1
   unfolding place_outcome
-  place-others r other = either-way (Shows r) (has_stripe st s) refusal.StripeExists st _ refl (λ absent. shows-by r (placed nodes (with_stripe st Wide s) s) refl other)
+  place-others r other =
+      either-way (Shows r) (has_stripe st s) refusal.StripeExists st _ refl (λ absent. shows-by r (placed nodes (with_stripe st Wide s) s) refl other)
 
   -- the seats that are told are the homes
-  pub place-homes : (past : List Entry) (session : SessionNo) (seats : List Seat) → AreSeated nodes st → (place_outcome nodes st Wide s).0 ≡ Placed seats
+  pub place-homes : (past : List Entry) (session : SessionNo) (seats : List Seat) → AreSeated nodes st
+      → (place_outcome nodes st Wide s).0 ≡ Placed seats
       → homes_shown (place_outcome nodes st Wide s).1 s ≡ Some (map (λ (seat : Seat). Some seat) seats)
   place-homes past session seats seated told =
       let parts = place-told nodes st s seats told in

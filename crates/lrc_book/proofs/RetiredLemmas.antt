@@ -42,12 +42,15 @@ mode-other m other false is = is
 
 load-none : (seats : List Seat) (n : NodeNo) → load_of seats n ≡ 0 → All (λ (seat : Seat). seat.node ≢ n) seats
 load-none seats n none =
-    All-weaker _ (λ (seat : Seat). seat.node ≢ n) (λ seat miss same. eqb-false seat.node.value n.value miss (ap (λ (m : NodeNo). m.value) same)) seats (count-none (λ (seat : Seat). same_node seat.node n) seats none)
+    All-weaker _ (λ (seat : Seat). seat.node ≢ n)
+    (λ seat miss same. eqb-false seat.node.value n.value miss (ap (λ (m : NodeNo). m.value) same)) seats
+    (count-none (λ (seat : Seat). same_node seat.node n) seats none)
 
 none-load : (seats : List Seat) (n : NodeNo) → All (λ (seat : Seat). seat.node ≢ n) seats → load_of seats n ≡ 0
 none-load seats n none =
     none-count (λ (seat : Seat). same_node seat.node n) seats
-    (All-weaker (λ (seat : Seat). seat.node ≢ n) _ (λ seat other. ne_eqb seat.node.value n.value (λ same. other (equal_nodes seat.node n same))) seats none)
+    (All-weaker (λ (seat : Seat). seat.node ≢ n) _
+    (λ seat other. ne_eqb seat.node.value n.value (λ same. other (equal_nodes seat.node n same))) seats none)
 
 -- ---- what is told
 
@@ -107,20 +110,24 @@ module _ (nodes : List NodeInfo) (st : State) (n : NodeNo) where
   answer-known known = passed (is_none (node_at nodes n)) refusal.UnknownNode st after_node (known-some (node_at nodes n) known)
 
   answer-drains : Drains → retire_outcome nodes st n ≡ after_mode
-  answer-drains drains = answer-known drains.0 ∙ passed (not (is_draining (mode_of st n))) refusal.WrongMode st after_mode (ap not (mode-draining (mode_of st n) drains.1))
+  answer-drains drains =
+      answer-known drains.0
+      ∙ passed (not (is_draining (mode_of st n))) refusal.WrongMode st after_mode (ap not (mode-draining (mode_of st n) drains.1))
 
   pub tell-retired : Says Changed → retire_outcome nodes st n ≡ (Changed, with_gone st n)
   tell-retired so = answer-drains (so.0, so.1) ∙ passed (nat_lt 0 (load st n)) (refusal.NotEmpty (load st n)) st last (ap (nat_lt 0) so.2)
 
   pub tell-loaded : (k : ℕ) → Says (Refused (refusal.NotEmpty k)) → (retire_outcome nodes st n).0 ≡ Refused (refusal.NotEmpty k)
   tell-loaded k so =
-      ap (λ (o : Outcome). o.0) (answer-drains (so.0, so.1)) ∙ stopped (nat_lt 0 (load st n)) (refusal.NotEmpty (load st n)) st last (ap (nat_lt 0) so.2 ∙ lt-ltb 0 k so.3)
+      ap (λ (o : Outcome). o.0) (answer-drains (so.0, so.1)) ∙ stopped (nat_lt 0 (load st n)) (refusal.NotEmpty (load st n)) st last
+      (ap (nat_lt 0) so.2 ∙ lt-ltb 0 k so.3)
       ∙ ap (λ (j : ℕ). Refused (refusal.NotEmpty j)) so.2
 
   pub tell-wrong : Says (Refused refusal.WrongMode) → (retire_outcome nodes st n).0 ≡ Refused refusal.WrongMode
   tell-wrong so =
       ap (λ (o : Outcome). o.0) (answer-known so.0)
-      ∙ stopped (not (is_draining (mode_of st n))) refusal.WrongMode st after_mode (ap not (mode-other (mode_of st n) so.1 (is_draining (mode_of st n)) refl))
+      ∙ stopped (not (is_draining (mode_of st n))) refusal.WrongMode st after_mode
+      (ap not (mode-other (mode_of st n) so.1 (is_draining (mode_of st n)) refl))
 
   pub tell-unknown : node_at nodes n ≡ None → (retire_outcome nodes st n).0 ≡ Refused refusal.UnknownNode
   unfolding retire_outcome
@@ -131,13 +138,18 @@ module _ (nodes : List NodeInfo) (st : State) (n : NodeNo) where
   pub retired-empty : (retire_outcome nodes st n).0 ≡ Changed → All (λ (seat : Seat). seat.node ≢ n) (taken_seats st)
   retired-empty told = load-none (taken_seats st) n (retire-told Changed told).2
 
-  pub empty-retired : IsSome (node_at nodes n) → mode_of st n ≡ Draining → All (λ (seat : Seat). seat.node ≢ n) (taken_seats st) → (retire_outcome nodes st n).0 ≡ Changed
+  pub empty-retired : IsSome (node_at nodes n) → mode_of st n ≡ Draining → All (λ (seat : Seat). seat.node ≢ n) (taken_seats st)
+      → (retire_outcome nodes st n).0 ≡ Changed
   empty-retired known drains none = ap (λ (o : Outcome). o.0) (tell-retired (known, drains, none-load (taken_seats st) n none))
 
   gone-now : mode_of (with_gone st n) n ≡ Gone
-  gone-now = let hit : has_number (st.gone ++ n ∷ []) n ≡ true = list_any-member (same_node n) (st.gone ++ n ∷ []) n (Contains-push st.gone n) (eq-eqb n.value n.value refl) in rw hit refl
+  gone-now =
+      let hit : has_number (st.gone ++ n ∷ []) n ≡ true = list_any-member (same_node n) (st.gone ++ n ∷ []) n (Contains-push st.gone n)
+      (eq-eqb n.value n.value refl) in rw hit refl
 
-  pub retired-after : (retire_outcome nodes st n).0 ≡ Changed → (mode_of (retire_outcome nodes st n).1 n ≡ Gone) × All (λ (seat : Seat). seat.node ≢ n) (taken_seats (retire_outcome nodes st n).1)
+  pub retired-after : (retire_outcome nodes st n).0 ≡ Changed
+      → (mode_of (retire_outcome nodes st n).1 n ≡ Gone) × All (λ (seat : Seat). seat.node ≢ n) (taken_seats (retire_outcome nodes st n).1)
   retired-after told =
-      subst (λ (next : State). (mode_of next n ≡ Gone) × All (λ (seat : Seat). seat.node ≢ n) (taken_seats next)) (sym (ap (λ (o : Outcome). o.1) (tell-retired (retire-told Changed told))))
+      subst (λ (next : State). (mode_of next n ≡ Gone) × All (λ (seat : Seat). seat.node ≢ n) (taken_seats next))
+      (sym (ap (λ (o : Outcome). o.1) (tell-retired (retire-told Changed told))))
       (gone-now, retired-empty told)

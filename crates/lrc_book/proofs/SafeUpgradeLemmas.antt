@@ -59,7 +59,8 @@ at_most_one {X} test (x ∷ xs) pairs = elim (cases_Bool (test x)) [
       let others = AllPairs-head (λ (a b : X). test a ≡ true → test b ≡ true → ⊥) x xs pairs in
       let parts = sum_by-cons (λ (y : X). cond (test y) 1 0) x xs in
       let own : ◌≡◌ {A = ℕ} (cond (test x) 1 0) 1 = rw hit refl in
-      let rest = none-count test xs (All-weaker (λ (b : X). test x ≡ true → test b ≡ true → ⊥) (λ y. test y ≡ false) (λ y apart. missed (test y) (apart hit)) xs others) in omega (arith, parts, own, rest)
+      let none = All-weaker (λ (b : X). test x ≡ true → test b ≡ true → ⊥) (λ y. test y ≡ false) (λ y apart. missed (test y) (apart hit)) xs others in
+      let rest = none-count test xs none in omega (arith, parts, own, rest)
   | inr miss ↦
       let parts = sum_by-cons (λ (y : X). cond (test y) 1 0) x xs in
       let own : ◌≡◌ {A = ℕ} (cond (test x) 1 0) 0 = rw miss refl in
@@ -77,10 +78,12 @@ count-numbers m (f ∷ fs) =
     ∙ ap (λ (n : ℕ). cond (m f.value) 1 0 + n) (count-numbers m fs) ∙ sym (sum_by-cons (λ (g : Fragment). cond (m g.value) 1 0) f fs)
 
 -- pairs of different members, by their members
-pairs-by : {X : Type 0} (R : X → X → Type 0) (xs : List X) → AllPairs (λ a b. a ≢ b) xs → ((a b : X) → Contains xs a → Contains xs b → a ≢ b → R a b) → AllPairs R xs
+pairs-by : {X : Type 0} (R : X → X → Type 0) (xs : List X) → AllPairs (λ a b. a ≢ b) xs → ((a b : X) → Contains xs a → Contains xs b → a ≢ b → R a b)
+    → AllPairs R xs
 pairs-by R xs apart each i j d below within =
     let low : i < length xs = omega (arith, below, within) in
-    each (get_or xs i d) (get_or xs j d) (i, low, get_or_default xs i (get_or xs i d) d low) (j, within, get_or_default xs j (get_or xs j d) d within) (apart i j d below within)
+    each (get_or xs i d) (get_or xs j d) (i, low, get_or_default xs i (get_or xs i d) d low)
+    (j, within, get_or_default xs j (get_or xs j d) d within) (apart i j d below within)
 
 -- no two fragments of one class are in the set
 abbrev HasNoTwo : FragmentSet → Type 0
@@ -101,7 +104,8 @@ class-one m none c =
     let fs = filter (of_class c) (fragments Wide) in
     let few = at_most_one (λ (f : Fragment). m f.value) fs (pairs-by (λ (f g : Fragment). m f.value ≡ true → m g.value ≡ true → ⊥) fs
     (AllPairs-filter (λ (f g : Fragment). f ≢ g) (of_class c) (fragments Wide) (fragments-distinct Wide))
-    (λ f g here there other. none f g other (both-share c f g (filter-member (of_class c) (fragments Wide) f here).1 (filter-member (of_class c) (fragments Wide) g there).1))) in
+    (λ f g here there other. none f g other
+    (both-share c f g (filter-member (of_class c) (fragments Wide) f here).1 (filter-member (of_class c) (fragments Wide) g there).1))) in
     subst (λ (ns : List ℕ). count_by m ns ≤ 1) (members-class Wide c) (subst (λ (n : ℕ). n ≤ 1) (sym (count-numbers m fs)) few)
 
 few-beyond : (a b c : ℕ) → a ≤ 1 → b ≤ 1 → c ≤ 1 → (a - 1) + (b - 1) + c ≤ 1
@@ -109,7 +113,8 @@ few-beyond a b c x y z = omega (arith, x, y, z)
 
 module _ (m : FragmentSet) (none : HasNoTwo m) where
   excess-one : excess Wide m ≤ 1
-  excess-one = few-beyond (losses_in Wide A m) (losses_in Wide B m) (losses_in Wide G m) (class-one m none A) (class-one m none B) (class-one m none G)
+  excess-one =
+      few-beyond (losses_in Wide A m) (losses_in Wide B m) (losses_in Wide G m) (class-one m none A) (class-one m none B) (class-one m none G)
 
   recoverable-still : IsRecoverable Wide m
   recoverable-still = (by_counts Wide m).1 (two (excess Wide m) excess-one)
@@ -123,7 +128,12 @@ module _ (m : FragmentSet) (none : HasNoTwo m) where
     where
       left : (e : ℕ) → e ≤ 1 → 1 ≤ 2 - e
       left e x = omega (arith, x)
-  margin-by false is = (3 - losses_in Wide G m, left (losses_in Wide G m) (class-one m none G), margin_all_whole Wide m recoverable-still (zero_of (losses_in Wide A m + losses_in Wide B m) (ltb-false _ _ is)))
+  margin-by false is = (
+    3 - losses_in Wide G m,
+    left (losses_in Wide G m) (class-one m none G),
+    margin_all_whole Wide m recoverable-still
+        (zero_of (losses_in Wide A m + losses_in Wide B m) (ltb-false _ _ is)),
+  )
     where
       left : (c : ℕ) → c ≤ 1 → 1 ≤ 3 - c
       left c x = omega (arith, x)
@@ -151,7 +161,8 @@ module _ (nodes : List NodeInfo) (st : State) (u : UpgradeNo) (s : StripeNo) (se
   none-missing : NoneMissing (code_of st s) (missing nodes st s)
   none-missing = ((law_whole (code_of st s) (homeless st s) (missing nodes st s)).0 whole).1
 
-  domain-of : (gone down other same : Bool) → (not gone && (not down && not other)) ≡ true → (not gone && (not down && not same)) ≡ false → same ≡ true
+  domain-of : (gone down other same : Bool) → (not gone && (not down && not other)) ≡ true → (not gone && (not down && not same)) ≡ false
+      → same ≡ true
   domain-of true down other same online offline = absurd (cc)
   domain-of false true other same online offline = absurd (cc)
   domain-of false false other true online offline = refl
@@ -161,10 +172,12 @@ module _ (nodes : List NodeInfo) (st : State) (u : UpgradeNo) (s : StripeNo) (se
       → not (option_map_or (is_online st) o false) ≡ false → not (option_map_or (is_online then) o false) ≡ true → IsTaken f
   by-node f h found None at online offline = absurd (cc)
   by-node f h found (Some n) at online offline =
-      let same = domain-of (is_gone (mode_of st n.number)) (is_down st n.number) (is_upgrading st n) (same_upgrade u n.upgrade) (not-false _ online) (not-true _ offline) in
+      let same = domain-of (is_gone (mode_of st n.number)) (is_down st n.number) (is_upgrading st n) (same_upgrade u n.upgrade) (not-false _ online)
+      (not-true _ offline) in
       record { home = h; found = found; node = n; at = at; within = ap (λ (v : ℕ). record { value = v }) (eqb-true u.value n.upgrade.value same) }
 
-  by-home : (f : ℕ) (o : Option Held) → home_of st.homes s f ≡ o → option_map_or (λ (seat : Seat). not (online_at nodes st seat.node)) (option_map (λ (h : Held). h.seat) o) true ≡ false
+  by-home : (f : ℕ) (o : Option Held) → home_of st.homes s f ≡ o
+      → option_map_or (λ (seat : Seat). not (online_at nodes st seat.node)) (option_map (λ (h : Held). h.seat) o) true ≡ false
       → option_map_or (λ (seat : Seat). not (online_at nodes then seat.node)) (option_map (λ (h : Held). h.seat) o) true ≡ true → IsTaken f
   by-home f None found online offline = absurd (cc)
   by-home f (Some h) found online offline = by-node f h found (node_at nodes h.seat.node) refl online offline
@@ -174,7 +187,8 @@ module _ (nodes : List NodeInfo) (st : State) (u : UpgradeNo) (s : StripeNo) (se
   and_false false b is e = absurd (cc)
 
   taken : (f : ℕ) → f < 16 → missing nodes then s f ≡ true → IsTaken f
-  taken f within hit = by-home f (home_of st.homes s f) refl (and_false _ _ (lt-ltb f 16 within) (none-missing f within)) (and_parts (nat_lt f 16) _ hit).1
+  taken f within hit =
+      by-home f (home_of st.homes s f) refl (and_false _ _ (lt-ltb f 16 within) (none-missing f within)) (and_parts (nat_lt f 16) _ hit).1
 
   own_stripe : (f : ℕ) (t : IsTaken f) → t.home.stripe ≡ s
   own_stripe f t = equal_stripes t.home.stripe s (eqb-true _ _ (and_parts _ _ (found-home st s f t.home t.found).1).0)
@@ -185,7 +199,8 @@ module _ (nodes : List NodeInfo) (st : State) (u : UpgradeNo) (s : StripeNo) (se
   among : (f : ℕ) (t : IsTaken f) → Contains (seats_of st) t.home
   among f t = Contains-append_left st.homes (map held_by st.leases) t.home (found-home st s f t.home t.found).0
 
-  both-known : (P : NodeInfo → NodeInfo → Type 0) (o p : Option NodeInfo) (n m : NodeInfo) → o ≡ Some n → p ≡ Some m → IfSome o (λ x. IfSome p (P x)) → P n m
+  both-known : (P : NodeInfo → NodeInfo → Type 0) (o p : Option NodeInfo) (n m : NodeInfo) → o ≡ Some n → p ≡ Some m → IfSome o (λ x. IfSome p (P x))
+      → P n m
   both-known P (Some x) (Some y) n m at there both = subst (λ (z : NodeInfo). P z m) (same_Some x n at) (subst (P x) (same_Some y m there) both)
   both-known P (Some x) None n m at there both = absurd (cc)
   both-known P None p n m at there both = absurd (cc)
@@ -196,10 +211,13 @@ module _ (nodes : List NodeInfo) (st : State) (u : UpgradeNo) (s : StripeNo) (se
       let t = taken f.value f.in_range here in
       let v = taken g.value g.in_range there in
       let apart_homes : t.home.fragment ≢ v.home.fragment = λ same. other (sym (own_fragment f t) ∙ same ∙ own_fragment g v) in
-      let keep = pairs-members (KeepApart nodes st) (KeepApart-turn nodes st) (seats_of st) t.home v.home seated.lawful (among f.value t) (among g.value v) (λ same. apart_homes (ap (λ (h : Held). h.fragment) same)) in
-      let apart = both-known (λ n m. AreApart (code_of st t.home.stripe) t.home.fragment n v.home.fragment m) (node_at nodes t.home.seat.node) (node_at nodes v.home.seat.node) t.node v.node t.at v.at
+      let keep = pairs-members (KeepApart nodes st) (KeepApart-turn nodes st) (seats_of st) t.home v.home seated.lawful (among f.value t)
+      (among g.value v) (λ same. apart_homes (ap (λ (h : Held). h.fragment) same)) in
+      let apart = both-known (λ n m. AreApart (code_of st t.home.stripe) t.home.fragment n v.home.fragment m) (node_at nodes t.home.seat.node)
+      (node_at nodes v.home.seat.node) t.node v.node t.at v.at
       (keep (own_stripe f.value t ∙ sym (own_stripe g.value v)) apart_homes) in
-      apart.upgrades (ap (λ (x : Fragment). share_class Wide x v.home.fragment) (own_fragment f t) ∙ ap (share_class Wide f) (own_fragment g v) ∙ class) (sym t.within ∙ v.within)
+      apart.upgrades (ap (λ (x : Fragment). share_class Wide x v.home.fragment) (own_fragment f t) ∙ ap (share_class Wide f) (own_fragment g v)
+      ∙ class) (sym t.within ∙ v.within)
 
   pub whole-recoverable : IsRecoverable (code_of st s) (missing nodes then s)
   whole-recoverable = recoverable-still (missing nodes then s) no_two
@@ -225,7 +243,8 @@ module _ (nodes : List NodeInfo) (st : State) (u : UpgradeNo) where
   said-lost s so =
       let now = missing nodes (with_upgrading st u) s in
       member-filter (is_lost_to nodes st u) st.stripes s (stripe-there st s so.there)
-      (and_from _ _ ((by_test (code_of st s) (missing nodes st s)).1 so.recoverable) (ap not (missed (is_recoverable (code_of st s) now) (λ still. so.lost ((by_test (code_of st s) now).0 still)))))
+      (and_from _ _ ((by_test (code_of st s) (missing nodes st s)).1 so.recoverable)
+      (ap not (missed (is_recoverable (code_of st s) now) (λ still. so.lost ((by_test (code_of st s) now).0 still)))))
     where
       missed : (b : Bool) → (b ≡ true → ⊥) → b ≡ false
       missed true never = absurd (never refl)
@@ -235,18 +254,23 @@ module _ (nodes : List NodeInfo) (st : State) (u : UpgradeNo) where
   lower s t = nat_lt s.value t.value
 
   no_ties : (xs : List StripeNo) → HasNoTies lower xs
-  no_ties xs a b here there x y = equal_stripes a b (let most = ltb-false a.value b.value x in let least = ltb-false b.value a.value y in omega (arith, most, least))
+  no_ties xs a b here there x y =
+      equal_stripes a b (let most = ltb-false a.value b.value x in let least = ltb-false b.value a.value y in omega (arith, most, least))
 
   -- the least of the stripes that would be lost
-  pub lost-words : (s : StripeNo) → would_lose nodes st u ≡ Some s → WouldBeLost nodes st u s × ((r : StripeNo) → WouldBeLost nodes st u r → s.value ≤ r.value)
+  pub lost-words : (s : StripeNo) → would_lose nodes st u ≡ Some s
+      → WouldBeLost nodes st u s × ((r : StripeNo) → WouldBeLost nodes st u r → s.value ≤ r.value)
   unfolding would_lose
   lost-words s e = (
     lost-said s (least-listed lower s (filter (is_lost_to nodes st u) st.stripes) e),
     λ r so. ltb-false r.value s.value
-        (All-contains (λ (r : StripeNo). lower r s ≡ false) _ r (least-none_before lower (IsStrictWeakOrder-by_number (λ (x : StripeNo). x.value)) s (filter (is_lost_to nodes st u) st.stripes) e) (said-lost r so)),
+        (All-contains (λ (r : StripeNo). lower r s ≡ false) _ r
+        (least-none_before lower (IsStrictWeakOrder-by_number (λ (x : StripeNo). x.value)) s (filter (is_lost_to nodes st u) st.stripes) e)
+        (said-lost r so)),
   )
 
-  pub words-lost : (s : StripeNo) → WouldBeLost nodes st u s → ((r : StripeNo) → WouldBeLost nodes st u r → s.value ≤ r.value) → would_lose nodes st u ≡ Some s
+  pub words-lost : (s : StripeNo) → WouldBeLost nodes st u s → ((r : StripeNo) → WouldBeLost nodes st u r → s.value ≤ r.value)
+      → would_lose nodes st u ≡ Some s
   unfolding would_lose
   words-lost s so first =
       let xs = filter (is_lost_to nodes st u) st.stripes in
@@ -274,12 +298,14 @@ module _ (nodes : List NodeInfo) (st : State) (u : UpgradeNo) where
   Says (Refused (refusal.WouldLose s)) = (has_domain nodes u ≡ true) × (st.upgrading ≡ None) × (would_lose nodes st u ≡ Some s)
   Says _ = ⊥
 
-  by-answer : has_domain nodes u ≡ true → (o : Option UpgradeNo) → st.upgrading ≡ o → (lost : Option StripeNo) → would_lose nodes st u ≡ lost → Says (upgrade_answer st u o lost).0
+  by-answer : has_domain nodes u ≡ true → (o : Option UpgradeNo) → st.upgrading ≡ o → (lost : Option StripeNo) → would_lose nodes st u ≡ lost
+      → Says (upgrade_answer st u o lost).0
   by-answer known (Some v) runs lost is = (known, runs)
   by-answer known None runs (Some s) is = (known, runs, is)
   by-answer known None runs None is = (known, runs, is)
 
-  by-domain : (b : Bool) → has_domain nodes u ≡ b → Says (refuse_if (not b) refusal.UnknownDomain st (upgrade_answer st u st.upgrading (would_lose nodes st u))).0
+  by-domain : (b : Bool) → has_domain nodes u ≡ b
+      → Says (refuse_if (not b) refusal.UnknownDomain st (upgrade_answer st u st.upgrading (would_lose nodes st u))).0
   by-domain false is = is
   by-domain true is = by-answer is st.upgrading refl (would_lose nodes st u) refl
 
@@ -291,7 +317,8 @@ module _ (nodes : List NodeInfo) (st : State) (u : UpgradeNo) where
   pub upgrade-told : (r : Reply) → (upgrade_outcome nodes st u).0 ≡ r → Says r
   upgrade-told r told = subst Says told says
 
-  answer-known : (o : Option UpgradeNo) (lost : Option StripeNo) → has_domain nodes u ≡ true → st.upgrading ≡ o → would_lose nodes st u ≡ lost → upgrade_outcome nodes st u ≡ upgrade_answer st u o lost
+  answer-known : (o : Option UpgradeNo) (lost : Option StripeNo) → has_domain nodes u ≡ true → st.upgrading ≡ o → would_lose nodes st u ≡ lost
+      → upgrade_outcome nodes st u ≡ upgrade_answer st u o lost
   unfolding upgrade_outcome
   answer-known o lost known runs is =
       passed (not (has_domain nodes u)) refusal.UnknownDomain st (upgrade_answer st u st.upgrading (would_lose nodes st u)) (ap not known)
@@ -316,7 +343,8 @@ module _ (nodes : List NodeInfo) (st : State) (u : UpgradeNo) where
   upgrade-after told = ap (λ (o : Outcome). o.1) (upgraded-to (upgrade-told Changed told))
 
   -- a stripe that was recoverable is so with the domain upgrading
-  still-by : (s : StripeNo) → ((s : StripeNo) → ¬ (WouldBeLost nodes st u s)) → has_stripe st s ≡ true → IsRecoverable (code_of st s) (missing nodes st s)
+  still-by : (s : StripeNo) → ((s : StripeNo) → ¬ (WouldBeLost nodes st u s)) → has_stripe st s ≡ true
+      → IsRecoverable (code_of st s) (missing nodes st s)
       → (b : Bool) → is_safe nodes (with_upgrading st u) s ≡ b → IsRecoverable (code_of st s) (missing nodes (with_upgrading st u) s)
   still-by s none there recoverable true is = (by_test (code_of st s) (missing nodes (with_upgrading st u) s)).0 is
   still-by s none there recoverable false is = absurd (none s (record {
@@ -325,7 +353,8 @@ module _ (nodes : List NodeInfo) (st : State) (u : UpgradeNo) where
     lost = λ still. (let both : true ≡ false = sym ((by_test (code_of st s) (missing nodes (with_upgrading st u) s)).1 still) ∙ is in cc);
   }))
 
-  pub upgrade-keeps : (s : StripeNo) → (upgrade_outcome nodes st u).0 ≡ Changed → has_stripe st s ≡ true → IsRecoverable (code_of st s) (missing nodes st s)
+  pub upgrade-keeps : (s : StripeNo) → (upgrade_outcome nodes st u).0 ≡ Changed → has_stripe st s ≡ true
+      → IsRecoverable (code_of st s) (missing nodes st s)
       → IsRecoverable (code_of st s) (missing nodes (upgrade_outcome nodes st u).1 s)
   upgrade-keeps s told there recoverable =
       subst (λ (next : State). IsRecoverable (code_of st s) (missing nodes next s)) (sym (upgrade-after told))
@@ -333,9 +362,11 @@ module _ (nodes : List NodeInfo) (st : State) (u : UpgradeNo) where
 
   -- one that was whole is not told, and withstands one loss more
   pub whole-safe : (s : StripeNo) → AreSeated nodes st → level nodes st s ≡ Whole → (upgrade_outcome nodes st u).0 ≢ Refused (refusal.WouldLose s)
-  whole-safe s seated whole told = (lost-words nodes st u s (upgrade-told (Refused (refusal.WouldLose s)) told).2).0.lost (whole-recoverable nodes st u s seated whole)
+  whole-safe s seated whole told =
+      (lost-words nodes st u s (upgrade-told (Refused (refusal.WouldLose s)) told).2).0.lost (whole-recoverable nodes st u s seated whole)
 
   pub whole-left : (s : StripeNo) → AreSeated nodes st → level nodes st s ≡ Whole → (upgrade_outcome nodes st u).0 ≡ Changed
       → (t : ℕ) × (1 ≤ t) × IsMargin (code_of st s) (missing nodes (upgrade_outcome nodes st u).1 s) t
   whole-left s seated whole told =
-      subst (λ (next : State). (t : ℕ) × (1 ≤ t) × IsMargin (code_of st s) (missing nodes next s) t) (sym (upgrade-after told)) (whole-margin nodes st u s seated whole)
+      subst (λ (next : State). (t : ℕ) × (1 ≤ t) × IsMargin (code_of st s) (missing nodes next s) t) (sym (upgrade-after told))
+      (whole-margin nodes st u s seated whole)
