@@ -8,6 +8,7 @@ mod nodes;
 mod placing;
 mod recoveries;
 mod streams;
+mod tables;
 
 use crate::{Plain, Status, run};
 use std::alloc::Global;
@@ -20,6 +21,64 @@ const TEN_DOMAINS: [u8; 20] = [0, 1, 2, 3, 4, 5, 6, 7, 8, 9, 0, 1, 2, 3, 4, 5, 6
 const SIX_DOMAINS: [u8; 20] = [0, 1, 2, 3, 4, 5, 0, 1, 2, 3, 4, 5, 0, 1, 2, 3, 4, 5, 0, 1];
 
 const SIXTEEN_NODES: [u8; 16] = [0, 1, 2, 3, 4, 5, 6, 7, 0, 1, 2, 3, 4, 5, 0, 1];
+
+/// What is printed where stripe 1 is placed on twenty nodes with four slots in ten upgrade domains.
+const ONE_PLACED: &str = "\
+script 1
+1 placed 0:0 1:0 2:0 3:0 4:0 5:0 6:0 7:0 8:0 9:0 10:0 11:0 16:0 12:0 13:0 14:0
+risk
+stripe,level,margin,missing
+load
+node,mode,online,load,slots
+0,active,yes,1,4
+1,active,yes,1,4
+2,active,yes,1,4
+3,active,yes,1,4
+4,active,yes,1,4
+5,active,yes,1,4
+6,active,yes,1,4
+7,active,yes,1,4
+8,active,yes,1,4
+9,active,yes,1,4
+10,active,yes,1,4
+11,active,yes,1,4
+12,active,yes,1,4
+13,active,yes,1,4
+14,active,yes,1,4
+15,active,yes,0,4
+16,active,yes,1,4
+17,active,yes,0,4
+18,active,yes,0,4
+19,active,yes,0,4
+";
+
+/// What is printed of these nodes without a script.
+const NO_SCRIPT: &str = "\
+risk
+stripe,level,margin,missing
+load
+node,mode,online,load,slots
+0,active,yes,0,4
+1,active,yes,0,4
+2,active,yes,0,4
+3,active,yes,0,4
+4,active,yes,0,4
+5,active,yes,0,4
+6,active,yes,0,4
+7,active,yes,0,4
+8,active,yes,0,4
+9,active,yes,0,4
+10,active,yes,0,4
+11,active,yes,0,4
+12,active,yes,0,4
+13,active,yes,0,4
+14,active,yes,0,4
+15,active,yes,0,4
+16,active,yes,0,4
+17,active,yes,0,4
+18,active,yes,0,4
+19,active,yes,0,4
+";
 
 /// The topology of nodes in these upgrade domains, with as many slots on each, and then the scripts.
 fn bundle(alloc: Global, upgrades: &[u8], slots: u16, scripts: &[u8]) -> Result<Vec<u8>, Fail> {
@@ -40,6 +99,7 @@ fn over_twenty(alloc: Global, scripts: &[u8]) -> Result<Vec<u8>, Fail> {
     bundle(alloc, &TEN_DOMAINS, 4, scripts)
 }
 
+/// The output of a run up to its tables, which stand exactly where the run is done.
 fn expect_output(
     rt: &impl Abort,
     alloc: Global,
@@ -50,8 +110,24 @@ fn expect_output(
     let mut source = Plain::new(bundle);
     let mut sink = Plain::new(Vec::new(alloc));
     let result = run(alloc, &mut source, &mut sink);
-    assert_eq!(rt; std::str::from_utf8(sink.inner.as_slice())?, text);
+    let output = std::str::from_utf8(sink.inner.as_slice())?;
+    let (front, has_tables) = match output.split_once("risk\nstripe,level,margin,missing\n") {
+        Some((front, _)) => (front, true),
+        None => (output, false),
+    };
+    assert_eq!(rt; front, text);
     assert_eq!(rt; result, Ok(status));
+    assert_eq!(rt; has_tables, status == Status::Done);
+    Ok(())
+}
+
+/// The whole output of a run that is done.
+fn expect_whole(rt: &impl Abort, alloc: Global, bundle: &[u8], output: &str) -> Result<(), Fail> {
+    let mut source = Plain::new(bundle);
+    let mut sink = Plain::new(Vec::new(alloc));
+    let result = run(alloc, &mut source, &mut sink);
+    assert_eq!(rt; std::str::from_utf8(sink.inner.as_slice())?, output);
+    assert_eq!(rt; result, Ok(Status::Done));
     Ok(())
 }
 

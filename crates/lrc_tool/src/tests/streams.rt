@@ -1,16 +1,12 @@
 //! Runs, checks and recoveries whose reader or writer fails.
 
 use super::fakes::{Dribble, Endless, Failure, Faltering, Filling};
-use super::over_twenty;
+use super::{NO_SCRIPT, ONE_PLACED, over_twenty};
 use crate::{Plain, RunFault, Sink, Source, Status, check, run};
 use std::alloc::Global;
 use std::io;
 use std::process::Abort;
 use std::test::Fail;
-
-/// What a run of twenty nodes and `place 1` writes.
-const ONE_PLACED: &[u8] =
-    b"script 1\n1 placed 0:0 1:0 2:0 3:0 4:0 5:0 6:0 7:0 8:0 9:0 10:0 11:0 16:0 12:0 13:0 14:0\n";
 
 /// What a run says of a bundle that is too long.
 fn expect_too_long(rt: &impl Abort, alloc: Global, source: &mut impl Source) -> Result<(), Fail> {
@@ -66,7 +62,7 @@ fn expect_read(
     } else {
         assert_eq!(rt; result, Ok(Status::Done));
         assert_eq!(rt; source.failed(), failed);
-        assert_eq!(rt; sink.inner.as_slice(), ONE_PLACED);
+        assert_eq!(rt; sink.inner.as_slice(), ONE_PLACED.as_bytes());
     }
     Ok(())
 }
@@ -156,11 +152,20 @@ fn after_a_failed_write_a_prefix_is_written(rt: HostRuntime) -> Result<(), Fail>
         for failed in [false, true] {
             for fails_at in 1..ONE_PLACED.len() + 3 {
                 let bundle = placed.as_slice();
-                expect_written(&rt, alloc, bundle, ONE_PLACED, failure, fails_at, failed)?;
+                expect_written(
+                    &rt,
+                    alloc,
+                    bundle,
+                    ONE_PLACED.as_bytes(),
+                    failure,
+                    fails_at,
+                    failed,
+                )?;
             }
-            // An output without a byte is flushed too.
-            for fails_at in 1..3 {
-                expect_written(&rt, alloc, empty.as_slice(), &[], failure, fails_at, failed)?;
+            for fails_at in NO_SCRIPT.len()..NO_SCRIPT.len() + 3 {
+                let bundle = empty.as_slice();
+                let output = NO_SCRIPT.as_bytes();
+                expect_written(&rt, alloc, bundle, output, failure, fails_at, failed)?;
             }
         }
     }
