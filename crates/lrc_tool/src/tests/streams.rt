@@ -1,12 +1,23 @@
 //! Runs, checks and recoveries whose reader or writer fails.
 
 use super::fakes::{Dribble, Endless, Failure, Faltering, Filling};
-use super::{NO_SCRIPT, ONE_PLACED, over_twenty};
+use super::{ONE_PLACED, bundle, over_twenty};
 use crate::{Plain, RunFault, Sink, Source, Status, check, run};
 use std::alloc::Global;
 use std::io;
 use std::process::Abort;
 use std::test::Fail;
+
+/// What is printed where stripe 1 is to be placed on one node alone.
+const ONE_NODE: &[u8] = b"\
+script 1
+1 refused 103 1
+risk
+stripe,level,margin,missing
+load
+node,mode,online,load,slots
+0,active,yes,0,4
+";
 
 /// What a run says of a bundle that is too long.
 fn expect_too_long(rt: &impl Abort, alloc: Global, source: &mut impl Source) -> Result<(), Fail> {
@@ -141,8 +152,7 @@ fn expect_written(
 #[test]
 fn after_a_failed_write_a_prefix_is_written(rt: HostRuntime) -> Result<(), Fail> {
     let alloc = rt.alloc();
-    let placed = over_twenty(alloc, b"%%\nplace 1\n")?;
-    let empty = over_twenty(alloc, b"")?;
+    let bytes = bundle(alloc, &[0], 4, b"%%\nplace 1\n")?;
     let failures = [
         Failure::Error(io::ErrorKind::BrokenPipe),
         Failure::Error(io::ErrorKind::Interrupted),
@@ -150,22 +160,9 @@ fn after_a_failed_write_a_prefix_is_written(rt: HostRuntime) -> Result<(), Fail>
     ];
     for failure in failures {
         for failed in [false, true] {
-            for fails_at in 1..ONE_PLACED.len() + 3 {
-                let bundle = placed.as_slice();
-                expect_written(
-                    &rt,
-                    alloc,
-                    bundle,
-                    ONE_PLACED.as_bytes(),
-                    failure,
-                    fails_at,
-                    failed,
-                )?;
-            }
-            for fails_at in NO_SCRIPT.len()..NO_SCRIPT.len() + 3 {
-                let bundle = empty.as_slice();
-                let output = NO_SCRIPT.as_bytes();
-                expect_written(&rt, alloc, bundle, output, failure, fails_at, failed)?;
+            for fails_at in 1..ONE_NODE.len() + 3 {
+                let bundle = bytes.as_slice();
+                expect_written(&rt, alloc, bundle, ONE_NODE, failure, fails_at, failed)?;
             }
         }
     }
