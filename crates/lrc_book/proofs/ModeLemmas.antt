@@ -78,47 +78,61 @@ module _ (node : NodeNo) (was st : State) (k : Store) (behind : IsOfBut node was
   takes-here : (online_at k.topology st node && is_active (mode_of st node)) ≡ option_map_or (takes_seats st) (node_at k.topology node) true
   takes-here =
       let number = (member-node_at k.topology node row.0 row.1).1 in
-      subst (λ (o : Option NodeInfo). (option_map_or (is_online st) o false && is_active (mode_of st node)) ≡ option_map_or (takes_seats st) o true) (sym row.1)
-      (ap (λ (m : NodeNo). is_online st row.0 && is_active (mode_of st m)) number ∙ and-swap (is_online st row.0) (is_active (mode_of st row.0.number)))
+      subst (λ (o : Option NodeInfo). (option_map_or (is_online st) o false && is_active (mode_of st node)) ≡ option_map_or (takes_seats st) o true)
+      (sym row.1)
+      (ap (λ (m : NodeNo). is_online st row.0 && is_active (mode_of st m)) number
+      ∙ and-swap (is_online st row.0) (is_active (mode_of st row.0.number)))
 
   drains-here : is_draining (mode_of st node) ≡ drains_at k.topology st node
   drains-here =
       let number = (member-node_at k.topology node row.0 row.1).1 in
-      subst (λ (o : Option NodeInfo). is_draining (mode_of st node) ≡ option_map_or (λ (m : NodeInfo). is_draining (mode_of st m.number)) o false) (sym row.1)
+      subst (λ (o : Option NodeInfo). is_draining (mode_of st node) ≡ option_map_or (λ (m : NodeInfo). is_draining (mode_of st m.number)) o false)
+      (sym row.1)
       (ap (λ (m : NodeNo). is_draining (mode_of st m)) number)
 
   -- a test of nodes at a number, where it was changed for this node alone
-  at-number : (told b : Bool) (before after : NodeInfo → Bool) → told ≡ option_map_or after (node_at k.topology node) b → ((x : NodeInfo) → StaysAsItWas was st x → before x ≡ after x) → (m : NodeNo)
+  at-number : (told b : Bool) (before after : NodeInfo → Bool) → told ≡ option_map_or after (node_at k.topology node) b
+      → ((x : NodeInfo) → StaysAsItWas was st x → before x ≡ after x) → (m : NodeNo)
       → (if same_node node m then told else option_map_or before (node_at k.topology m) b) ≡ option_map_or after (node_at k.topology m) b
   at-number told b before after here stays m = by (eqb node.value m.value) refl where
     other : (o : Option NodeInfo) → eqb node.value m.value ≡ false → node_at k.topology m ≡ o → option_map_or before o b ≡ option_map_or after o b
-    other (Some x) apart e = stays x (behind.others_stay x (λ same. eqb-false node.value m.value apart (ap (λ (n : NodeNo). n.value) (sym same ∙ sym (member-node_at k.topology m x e).1))))
+    other (Some x) apart e =
+        let number = (member-node_at k.topology m x e).1 in
+        stays x (behind.others_stay x (λ same. eqb-false node.value m.value apart (ap (λ (n : NodeNo). n.value) (sym same ∙ sym number))))
     other None apart e = refl
 
-    by : (same : Bool) → eqb node.value m.value ≡ same → (if same then told else option_map_or before (node_at k.topology m) b) ≡ option_map_or after (node_at k.topology m) b
-    by true is = here ∙ ap (λ (n : NodeNo). option_map_or after (node_at k.topology n) b) (ap (λ (v : ℕ). record { value = v }) (eqb-true node.value m.value is))
+    by : (same : Bool) → eqb node.value m.value ≡ same → (if same then told else option_map_or before (node_at k.topology m) b)
+        ≡ option_map_or after (node_at k.topology m) b
+    by true is = here ∙ ap (λ (n : NodeNo). option_map_or after (node_at k.topology n) b)
+        (ap (λ (v : ℕ). record { value = v }) (eqb-true node.value m.value is))
     by false is = other (node_at k.topology m) is refl
 
   -- the table follows
   table-follows : with_eligible (table_of k.topology was) node (online_at k.topology st node && is_active (mode_of st node)) ≡ table_of k.topology st
   table-follows =
       ap (λ (eligible : NodeNo → Bool). record (table_of k.topology was) { eligible = eligible })
-      (fun_ext (at-number (online_at k.topology st node && is_active (mode_of st node)) true (takes_seats was) (takes_seats st) takes-here (λ x stays. stays.takes)))
-      ∙ ap₂ (λ (hs : List Held) (ls : List Lease). record (table_of k.topology st) { taken = is_taken (map (λ h. h.seat) (hs ++ map held_by ls)) }) behind.homes_stay behind.leases_stay
+      (fun_ext (at-number (online_at k.topology st node && is_active (mode_of st node)) true (takes_seats was) (takes_seats st) takes-here
+      (λ x stays. stays.takes)))
+      ∙ ap₂ (λ (hs : List Held) (ls : List Lease). record (table_of k.topology st) { taken = is_taken (map (λ h. h.seat) (hs ++ map held_by ls)) })
+      behind.homes_stay behind.leases_stay
 
   -- and so do the stripes
-  stored-follows : (spare : ℕ) → with_draining (with_offline (stored_of k.topology was spare) node (not (online_at k.topology st node))) node (is_draining (mode_of st node)) ≡ stored_of k.topology st spare
+  stored-follows : (spare : ℕ) → with_draining (with_offline (stored_of k.topology was spare) node (not (online_at k.topology st node))) node
+      (is_draining (mode_of st node)) ≡ stored_of k.topology st spare
   stored-follows spare =
       same_modes (stored_of k.topology was spare) _ (online_at k.topology st) _ (drains_at k.topology st)
       (λ m. ap (λ (b : Bool). if same_node node m then b else online_at k.topology was m) (not_not (online_at k.topology st node))
       ∙ at-number (online_at k.topology st node) false (is_online was) (is_online st) refl (λ x stays. stays.online) m)
-      (at-number (is_draining (mode_of st node)) false (λ n. is_draining (mode_of was n.number)) (λ n. is_draining (mode_of st n.number)) drains-here (λ x stays. stays.drains))
+      (at-number (is_draining (mode_of st node)) false (λ n. is_draining (mode_of was n.number)) (λ n. is_draining (mode_of st n.number)) drains-here
+      (λ x stays. stays.drains))
       ∙ same_lists k.topology was st spare behind.stripes_stay behind.homes_stay
 
   -- with all told, what is kept is that of the state
-  pub follows : (online active draining : Bool) → online ≡ online_at k.topology st node → active ≡ is_active (mode_of st node) → draining ≡ is_draining (mode_of st node)
+  pub follows : (online active draining : Bool) → online ≡ online_at k.topology st node → active ≡ is_active (mode_of st node)
+      → draining ≡ is_draining (mode_of st node)
       → (table : slots.Table) (stripes drained : tables.Table) → slots_of table ≡ with_eligible (slots_of k.table) node (online && active)
-      → stored_in stripes ≡ with_offline (stored_in k.stripes) node (not online) → stored_in drained ≡ with_draining (stored_in stripes) node draining → IsOf st (record k { table = table; stripes = drained })
+      → stored_in stripes ≡ with_offline (stored_in k.stripes) node (not online)
+      → stored_in drained ≡ with_draining (stored_in stripes) node draining → IsOf st (record k { table = table; stripes = drained })
   follows online active draining o a d table stripes drained set set_too set_last = record {
     known = behind.known;
     seated = behind.seated;
@@ -167,7 +181,8 @@ module _ (st : State) (node : NodeNo) where
       }
 
   pub others-gone : (n : NodeInfo) → n.number ≢ node → StaysAsItWas st (with_gone st node) n
-  others-gone = others-by (with_gone st node).gone (with_gone st node).draining (with_gone st node).down (added-apart st.gone node) (left-apart st.draining node) (left-apart st.down node)
+  others-gone = others-by (with_gone st node).gone (with_gone st node).draining (with_gone st node).down (added-apart st.gone node)
+      (left-apart st.draining node) (left-apart st.down node)
 
   pub others-down : (n : NodeInfo) → n.number ≢ node → StaysAsItWas st (with_down st node) n
   others-down = others-by st.gone st.draining (with_down st node).down (λ m apart. refl) (λ m apart. refl) (added-apart st.down node)

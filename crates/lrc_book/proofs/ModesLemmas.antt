@@ -13,7 +13,8 @@ use Rattle.lrc_book.specs.declared.store.Store.{Store}
 use Rattle.lrc_book.specs.Stores.{AreModesOf, has_room, has_room_for_node}
 
 -- what is kept of the modes is that of each state that differs in its stripes, homes and leases alone
-pub same-modes : (was st : State) (m : Modes) → record was { stripes = st.stripes; homes = st.homes; leases = st.leases } ≡ st → AreModesOf was m → AreModesOf st m
+pub same-modes : (was st : State) (m : Modes) → record was { stripes = st.stripes; homes = st.homes; leases = st.leases } ≡ st → AreModesOf was m
+    → AreModesOf st m
 same-modes was st m e kept = subst (λ (x : State). AreModesOf x m) e (record {
   gone_is = kept.gone_is;
   draining_is = kept.draining_is;

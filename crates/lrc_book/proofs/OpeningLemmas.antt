@@ -30,12 +30,15 @@ drains-first : (o : Option NodeInfo) → false ≡ option_map_or (λ (n : NodeIn
 drains-first None = refl
 drains-first (Some n) = refl
 
-pub opening-kept : (k : Store) → AreNodes k.topology → slots_of k.table ≡ all_free k.topology → stored_in k.stripes ≡ stored.empty k.topology → leased_in k.leases ≡ leased.empty → AreModesOf opening k.modes → IsOf opening k
+pub opening-kept : (k : Store) → AreNodes k.topology → slots_of k.table ≡ all_free k.topology → stored_in k.stripes ≡ stored.empty k.topology
+    → leased_in k.leases ≡ leased.empty → AreModesOf opening k.modes → IsOf opening k
 opening-kept k known table stripes leases modes = record {
   known = known;
   seated = opening-seated k.topology;
   table_is = table ∙ ap (λ (eligible : NodeNo → Bool). record (all_free k.topology) { eligible = eligible }) (fun_ext (λ n. takes-first (node_at k.topology n)));
-  stripes_is = own-spare k.topology opening (stored_in k.stripes) 0 (stripes ∙ same_modes (stored.empty k.topology) _ (online_at k.topology opening) _ (drains_at k.topology opening) (λ n. online-first (node_at k.topology n)) (λ n. drains-first (node_at k.topology n)));
+  stripes_is = own-spare k.topology opening (stored_in k.stripes) 0
+      (stripes ∙ same_modes (stored.empty k.topology) _ (online_at k.topology opening) _ (drains_at k.topology opening)
+      (λ n. online-first (node_at k.topology n)) (λ n. drains-first (node_at k.topology n)));
   leases_is = own-room [] (leased_in k.leases) 0 leases;
   modes_are = modes;
 }

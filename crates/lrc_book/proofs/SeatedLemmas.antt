@@ -119,7 +119,8 @@ module _ (nodes : List NodeInfo) (known : AreNodes nodes) (st : State) (s : Stri
 -- ---- nodes
 
 -- a node that the test of gone ones misses is not gone
-not_gone : (numbers draining : List NodeNo) (m : NodeNo) → has_number numbers m ≡ false → (if has_number numbers m then Gone else (if has_number draining m then Draining else Active)) ≢ Gone
+not_gone : (numbers draining : List NodeNo) (m : NodeNo) → has_number numbers m ≡ false
+    → (if has_number numbers m then Gone else (if has_number draining m then Draining else Active)) ≢ Gone
 not_gone numbers draining m miss gone = other (has_number draining m) (rw miss at gone) where
   other : (b : Bool) → (if b then Draining else Active) ≢ Gone
   other true e = cc
@@ -161,7 +162,8 @@ modes-seated nodes st gone draining down upgrading seated present reachable =
       single = seated.single;
       standing = All-members (IsStanding nodes st') (taken_seats st) (λ seat here.
           let standing = All-contains (IsStanding nodes st) (taken_seats st) seat seated.standing here in
-          standing-by nodes (node_at nodes seat.node) seat.slot (mode_of st seat.node ≢ Gone) (mode_of st' seat.node ≢ Gone) standing (not_gone gone draining seat.node (present seat here)));
+          standing-by nodes (node_at nodes seat.node) seat.slot (mode_of st seat.node ≢ Gone) (mode_of st' seat.node ≢ Gone) standing
+              (not_gone gone draining seat.node (present seat here)));
       lawful = seated.lawful;
       one_home = seated.one_home;
       one_lease = seated.one_lease;
@@ -211,19 +213,23 @@ module _ (nodes : List NodeInfo) (st : State) (n : NodeNo) where
     none : (seats : List Seat) → All (λ (seat : Seat). eqb n.value seat.node.value ≡ false) seats → load_of seats n ≡ 0
     none [] apart = refl
     none (seat ∷ seats) apart =
-        let away = ne_eqb seat.node.value n.value (λ e. eqb-false n.value seat.node.value (All-head (λ (seat : Seat). eqb n.value seat.node.value ≡ false) seat seats apart) (sym e)) in
-        rw (sum_by-cons (λ (seat : Seat). cond (eqb seat.node.value n.value) 1 0) seat seats, away, zero-add) (none seats (All-tail (λ (seat : Seat). eqb n.value seat.node.value ≡ false) seat seats apart))
+        let away = ne_eqb seat.node.value n.value (λ e. eqb-false n.value seat.node.value
+            (All-head (λ (seat : Seat). eqb n.value seat.node.value ≡ false) seat seats apart) (sym e)) in
+        rw (sum_by-cons (λ (seat : Seat). cond (eqb seat.node.value n.value) 1 0) seat seats, away, zero-add)
+            (none seats (All-tail (λ (seat : Seat). eqb n.value seat.node.value ≡ false) seat seats apart))
 
   -- where no seat is on the node, each is on another
   load-apart : (seats : List Seat) → load_of seats n ≡ 0 → All (λ (seat : Seat). eqb n.value seat.node.value ≡ false) seats
   load-apart [] none = All-nil (λ (seat : Seat). eqb n.value seat.node.value ≡ false)
   load-apart (seat ∷ seats) none =
-      let sum : cond (eqb seat.node.value n.value) 1 0 + load_of seats n ≡ 0 = sym (sum_by-cons (λ (seat : Seat). cond (eqb seat.node.value n.value) 1 0) seat seats) ∙ none in
+      let sum : cond (eqb seat.node.value n.value) 1 0 + load_of seats n ≡ 0 =
+      sym (sum_by-cons (λ (seat : Seat). cond (eqb seat.node.value n.value) 1 0) seat seats) ∙ none in
       elim (cases_Bool (eqb seat.node.value n.value)) [
         | inl hit ↦ absurd (let one : 1 + load_of seats n ≡ 0 = rw hit at sum in omega (arith, one))
         | inr miss ↦
             let left : 0 + load_of seats n ≡ 0 = rw miss at sum in
-            All-cons (λ (seat : Seat). eqb n.value seat.node.value ≡ false) seat seats (ne_eqb n.value seat.node.value (λ e. eqb-false seat.node.value n.value miss (sym e))) (load-apart seats (omega (arith, left)))
+            All-cons (λ (seat : Seat). eqb n.value seat.node.value ≡ false) seat seats
+                (ne_eqb n.value seat.node.value (λ e. eqb-false seat.node.value n.value miss (sym e))) (load-apart seats (omega (arith, left)))
       ]
 
   -- the stripes stay seated where the homes on a node are taken out
@@ -234,13 +240,15 @@ module _ (nodes : List NodeInfo) (st : State) (n : NodeNo) where
   pub with_gone-seated : AreSeated nodes st → load st n ≡ 0 → AreSeated nodes (with_gone st n)
   with_gone-seated seated none =
       modes-seated nodes st (st.gone ++ n ∷ []) (without_number st.draining n) (without_number st.down n) st.upgrading seated
-      (λ seat here. other-number seat.node (All-contains (λ (a : Seat). eqb n.value a.node.value ≡ false) (taken_seats st) seat (load-apart (taken_seats st) none) here) (seat-present seated seat here))
+      (λ seat here. other-number seat.node (All-contains (λ (a : Seat). eqb n.value a.node.value ≡ false) (taken_seats st) seat
+      (load-apart (taken_seats st) none) here) (seat-present seated seat here))
       (λ m here. let parts = left-number st.down m here in other-number m parts.1 (down-present seated m parts.0))
 
   -- a node that is down, and was not gone
   pub with_down-seated : AreSeated nodes st → is_gone (mode_of st n) ≡ false → AreSeated nodes (with_down st n)
   with_down-seated seated active =
-      modes-seated nodes st st.gone st.draining (st.down ++ n ∷ []) st.upgrading seated (seat-present seated) (λ m here. elim (Contains-push_cases st.down n m here) [
+      modes-seated nodes st st.gone st.draining (st.down ++ n ∷ []) st.upgrading seated (seat-present seated)
+          (λ m here. elim (Contains-push_cases st.down n m here) [
         | inl old ↦ down-present seated m old
         | inr new ↦ subst (λ k. has_number st.gone k ≡ false) new (active-number st n active)
       ])
@@ -248,20 +256,24 @@ module _ (nodes : List NodeInfo) (st : State) (n : NodeNo) where
   -- a node that is down no longer
   pub without_down-seated : AreSeated nodes st → AreSeated nodes (without_down st n)
   without_down-seated seated =
-      modes-seated nodes st st.gone st.draining (without_number st.down n) st.upgrading seated (seat-present seated) (λ m here. down-present seated m (left-number st.down m here).0)
+      modes-seated nodes st st.gone st.draining (without_number st.down n) st.upgrading seated (seat-present seated)
+          (λ m here. down-present seated m (left-number st.down m here).0)
 
   -- a node that is draining
   pub with_draining-seated : AreSeated nodes st → AreSeated nodes (with_draining st n)
-  with_draining-seated seated = modes-seated nodes st st.gone (st.draining ++ n ∷ []) st.down st.upgrading seated (seat-present seated) (down-present seated)
+  with_draining-seated seated = modes-seated nodes st st.gone (st.draining ++ n ∷ []) st.down st.upgrading seated (seat-present seated)
+      (down-present seated)
 
   -- a node that is draining no longer
   pub without_draining-seated : AreSeated nodes st → AreSeated nodes (without_draining st n)
-  without_draining-seated seated = modes-seated nodes st st.gone (without_number st.draining n) st.down st.upgrading seated (seat-present seated) (down-present seated)
+  without_draining-seated seated = modes-seated nodes st st.gone (without_number st.draining n) st.down st.upgrading seated (seat-present seated)
+      (down-present seated)
 
   -- a node that is gone no longer
   pub without_gone-seated : AreSeated nodes st → AreSeated nodes (without_gone st n)
   without_gone-seated seated =
-      modes-seated nodes st (without_number st.gone n) st.draining st.down st.upgrading seated (λ seat here. fewer-numbers st.gone n seat.node (seat-present seated seat here))
+      modes-seated nodes st (without_number st.gone n) st.draining st.down st.upgrading seated
+          (λ seat here. fewer-numbers st.gone n seat.node (seat-present seated seat here))
       (λ m here. fewer-numbers st.gone n m (down-present seated m here))
 
 module _ (nodes : List NodeInfo) (st : State) (n : NodeNo) where
@@ -276,7 +288,8 @@ module _ (nodes : List NodeInfo) (st : State) (n : NodeNo) where
   pub down-seated : AreSeated nodes st → AreSeated nodes (down_outcome nodes st n).1
   unfolding down_outcome
   down-seated seated =
-      changed-seated nodes st n (is_gone (mode_of st n) || is_down st n) (with_down st n) seated (λ right. with_down-seated nodes st n seated (or_parts (is_gone (mode_of st n)) (is_down st n) right).0)
+      changed-seated nodes st n (is_gone (mode_of st n) || is_down st n) (with_down st n) seated
+          (λ right. with_down-seated nodes st n seated (or_parts (is_gone (mode_of st n)) (is_down st n) right).0)
 
   pub up-seated : AreSeated nodes st → AreSeated nodes (up_outcome nodes st n).1
   unfolding up_outcome
@@ -298,7 +311,8 @@ module _ (nodes : List NodeInfo) (st : State) (n : NodeNo) where
   unfolding retire_outcome
   retire-seated seated =
       let last = refuse_if (nat_lt 0 (load st n)) (refusal.NotEmpty (load st n)) st (Changed, with_gone st n) in
-      either-way (AreSeated nodes) (is_none (node_at nodes n)) refusal.UnknownNode st (refuse_if (not (is_draining (mode_of st n))) refusal.WrongMode st last) seated
+      either-way (AreSeated nodes) (is_none (node_at nodes n)) refusal.UnknownNode st
+          (refuse_if (not (is_draining (mode_of st n))) refusal.WrongMode st last) seated
       (λ known. either-way (AreSeated nodes) (not (is_draining (mode_of st n))) refusal.WrongMode st last seated
       (λ right. either-way (AreSeated nodes) (nat_lt 0 (load st n)) (refusal.NotEmpty (load st n)) st (Changed, with_gone st n) seated
       (λ none. with_gone-seated nodes st n seated (omega (arith, ltb-false 0 (load st n) none)))))
@@ -309,10 +323,13 @@ module _ (nodes : List NodeInfo) (st : State) where
   -- an upgrade domain is upgrading, or none
   pub upgrading-seated : (upgrading : Option UpgradeNo) → AreSeated nodes st → AreSeated nodes (record st { upgrading = upgrading })
   upgrading-seated upgrading seated =
-      modes-seated nodes st st.gone st.draining st.down upgrading seated (λ seat here. gone-number st seat.node (standing-present nodes st seat (All-contains (IsStanding nodes st) (taken_seats st) seat seated.standing here)))
+      modes-seated nodes st st.gone st.draining st.down upgrading seated
+          (λ seat here. gone-number st seat.node (standing-present nodes st seat
+          (All-contains (IsStanding nodes st) (taken_seats st) seat seated.standing here)))
       (λ m here. gone-number st m (All-contains (λ k. mode_of st k ≢ Gone) st.down m seated.reachable here))
 
-  upgrade-answered : (u : UpgradeNo) (upgrading : Option UpgradeNo) (lost : Option StripeNo) → AreSeated nodes st → AreSeated nodes (upgrade_answer st u upgrading lost).1
+  upgrade-answered : (u : UpgradeNo) (upgrading : Option UpgradeNo) (lost : Option StripeNo) → AreSeated nodes st
+      → AreSeated nodes (upgrade_answer st u upgrading lost).1
   upgrade-answered u (Some v) lost seated = seated
   upgrade-answered u None (Some s) seated = seated
   upgrade-answered u None None seated = upgrading-seated (Some u) seated
@@ -320,7 +337,8 @@ module _ (nodes : List NodeInfo) (st : State) where
   pub upgrade-seated : (u : UpgradeNo) → AreSeated nodes st → AreSeated nodes (upgrade_outcome nodes st u).1
   unfolding upgrade_outcome
   upgrade-seated u seated =
-      either-way (AreSeated nodes) (not (has_domain nodes u)) refusal.UnknownDomain st (upgrade_answer st u st.upgrading (would_lose nodes st u)) seated
+      either-way (AreSeated nodes) (not (has_domain nodes u)) refusal.UnknownDomain st
+          (upgrade_answer st u st.upgrading (would_lose nodes st u)) seated
       (λ known. upgrade-answered u st.upgrading (would_lose nodes st u) seated)
 
   pub upgraded-seated : (u : UpgradeNo) → AreSeated nodes st → AreSeated nodes (upgraded_outcome nodes st u).1
@@ -328,7 +346,8 @@ module _ (nodes : List NodeInfo) (st : State) where
   upgraded-seated u seated =
       let last = refuse_if (not (is_the_domain u st.upgrading)) refusal.NotUpgrading st (Changed, without_upgrading st) in
       either-way (AreSeated nodes) (not (has_domain nodes u)) refusal.UnknownDomain st last seated
-      (λ known. either-way (AreSeated nodes) (not (is_the_domain u st.upgrading)) refusal.NotUpgrading st (Changed, without_upgrading st) seated (λ right. upgrading-seated None seated))
+      (λ known. either-way (AreSeated nodes) (not (is_the_domain u st.upgrading)) refusal.NotUpgrading st (Changed, without_upgrading st) seated
+      (λ right. upgrading-seated None seated))
 
 -- ---- the most urgent lease
 

@@ -29,5 +29,6 @@ load-kept st k kept n there = ap (λ (t : Slots). load_at t n) kept.table_is ∙
   by : (o : Option NodeInfo) → node_at k.topology n ≡ o → IsSome o → load_at (table_of k.topology st) n ≡ load st n
   by (Some m) found known =
       same_Some (load_at (table_of k.topology st) n) (load st n)
-      (load-shown k.topology st n m kept.known kept.seated found ∙ ap (option_map (λ (x : NodeInfo). load st x.number)) found ∙ ap (λ (x : NodeNo). Some (load st x)) (sym (member-node_at k.topology n m found).1))
+      (load-shown k.topology st n m kept.known kept.seated found ∙ ap (option_map (λ (x : NodeInfo). load st x.number)) found
+      ∙ ap (λ (x : NodeNo). Some (load st x)) (sym (member-node_at k.topology n m found).1))
   by None found known = absurd (let never : false ≡ true = known in cc)

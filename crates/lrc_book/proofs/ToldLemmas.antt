@@ -54,7 +54,9 @@ pub drop-told : (st : State) (s : StripeNo) → (drop_outcome st s).0 ≡ Droppe
 unfolding drop_outcome
 drop-told st s e = drop-by st s (has_stripe st s) e
 
-pub node-by : (st changed : State) (o : Option NodeInfo) (wrong : Bool) → (refuse_if (is_none o) refusal.UnknownNode st (refuse_if wrong refusal.WrongMode st (Changed, changed))).0 ≡ Changed → IsSome o × (wrong ≡ false)
+pub node-by : (st changed : State) (o : Option NodeInfo) (wrong : Bool)
+    → (refuse_if (is_none o) refusal.UnknownNode st (refuse_if wrong refusal.WrongMode st (Changed, changed))).0 ≡ Changed
+    → IsSome o × (wrong ≡ false)
 node-by st changed None wrong e = absurd (let never : Refused refusal.UnknownNode ≡ Changed = e in cc)
 node-by st changed (Some n) true e = absurd (let never : Refused refusal.WrongMode ≡ Changed = e in cc)
 node-by st changed (Some n) false e = (refl, refl)
@@ -92,14 +94,17 @@ module _ (nodes : List NodeInfo) (st : State) (n : NodeNo) where
 
 -- ---- a node that retires
 
-passes-by : (st changed : State) (last : Outcome) (o : Option NodeInfo) (wrong : Bool) → (refuse_if (is_none o) refusal.UnknownNode st (refuse_if wrong refusal.WrongMode st (Changed, changed))).0 ≡ Changed
+passes-by : (st changed : State) (last : Outcome) (o : Option NodeInfo) (wrong : Bool)
+    → (refuse_if (is_none o) refusal.UnknownNode st (refuse_if wrong refusal.WrongMode st (Changed, changed))).0 ≡ Changed
     → refuse_if (is_none o) refusal.UnknownNode st (refuse_if wrong refusal.WrongMode st last) ≡ last
 passes-by st changed last None wrong e = absurd (let never : Refused refusal.UnknownNode ≡ Changed = e in cc)
 passes-by st changed last (Some n) true e = absurd (let never : Refused refusal.WrongMode ≡ Changed = e in cc)
 passes-by st changed last (Some n) false e = refl
 
-stops-by : (st changed : State) (last : Outcome) (o : Option NodeInfo) (wrong : Bool) → (refuse_if (is_none o) refusal.UnknownNode st (refuse_if wrong refusal.WrongMode st (Changed, changed))).0 ≢ Changed
-    → (refuse_if (is_none o) refusal.UnknownNode st (refuse_if wrong refusal.WrongMode st last)).0 ≡ (refuse_if (is_none o) refusal.UnknownNode st (refuse_if wrong refusal.WrongMode st (Changed, changed))).0
+stops-by : (st changed : State) (last : Outcome) (o : Option NodeInfo) (wrong : Bool)
+    → (refuse_if (is_none o) refusal.UnknownNode st (refuse_if wrong refusal.WrongMode st (Changed, changed))).0 ≢ Changed
+    → (refuse_if (is_none o) refusal.UnknownNode st (refuse_if wrong refusal.WrongMode st last)).0
+    ≡ (refuse_if (is_none o) refusal.UnknownNode st (refuse_if wrong refusal.WrongMode st (Changed, changed))).0
 stops-by st changed last None wrong e = refl
 stops-by st changed last (Some n) true e = refl
 stops-by st changed last (Some n) false e = absurd (e refl)
@@ -109,15 +114,19 @@ module _ (nodes : List NodeInfo) (st : State) (n : NodeNo) where
   last = refuse_if (nat_lt 0 (load st n)) (refusal.NotEmpty (load st n)) st (Changed, with_gone st n)
 
   -- where it drains, the seats on it decide
-  pub retire-passes : (node_outcome nodes st n (not (is_draining (mode_of st n))) st).0 ≡ Changed → (retire_outcome nodes st n).0 ≡ (refuse_if (nat_lt 0 (load st n)) (refusal.NotEmpty (load st n)) st (Changed, st)).0
+  pub retire-passes : (node_outcome nodes st n (not (is_draining (mode_of st n))) st).0 ≡ Changed
+      → (retire_outcome nodes st n).0 ≡ (refuse_if (nat_lt 0 (load st n)) (refusal.NotEmpty (load st n)) st (Changed, st)).0
   unfolding retire_outcome
-  retire-passes e = ap (λ (o : Outcome). o.0) (passes-by st st last (node_at nodes n) (not (is_draining (mode_of st n))) e) ∙ either (nat_lt 0 (load st n)) where
-    either : (b : Bool) → (refuse_if b (refusal.NotEmpty (load st n)) st (Changed, with_gone st n)).0 ≡ (refuse_if b (refusal.NotEmpty (load st n)) st (Changed, st)).0
+  retire-passes e = ap (λ (o : Outcome). o.0) (passes-by st st last (node_at nodes n) (not (is_draining (mode_of st n))) e)
+      ∙ either (nat_lt 0 (load st n)) where
+    either : (b : Bool) → (refuse_if b (refusal.NotEmpty (load st n)) st (Changed, with_gone st n)).0
+        ≡ (refuse_if b (refusal.NotEmpty (load st n)) st (Changed, st)).0
     either true = refl
     either false = refl
 
   -- and else it is refused as any command on a node
-  pub retire-stops : (node_outcome nodes st n (not (is_draining (mode_of st n))) st).0 ≢ Changed → (retire_outcome nodes st n).0 ≡ (node_outcome nodes st n (not (is_draining (mode_of st n))) st).0
+  pub retire-stops : (node_outcome nodes st n (not (is_draining (mode_of st n))) st).0 ≢ Changed
+      → (retire_outcome nodes st n).0 ≡ (node_outcome nodes st n (not (is_draining (mode_of st n))) st).0
   unfolding retire_outcome
   retire-stops e = stops-by st st last (node_at nodes n) (not (is_draining (mode_of st n))) e
 
@@ -129,7 +138,8 @@ module _ (nodes : List NodeInfo) (st : State) (n : NodeNo) where
     empty-by true e = absurd (let never : Refused (refusal.NotEmpty (load st n)) ≡ Changed = e in cc)
     empty-by false e = refl
 
-    told-by : (o : Option NodeInfo) (wrong : Bool) → (refuse_if (is_none o) refusal.UnknownNode st (refuse_if wrong refusal.WrongMode st last)).0 ≡ Changed → IsSome o × (load st n ≡ 0)
+    told-by : (o : Option NodeInfo) (wrong : Bool) → (refuse_if (is_none o) refusal.UnknownNode st (refuse_if wrong refusal.WrongMode st last)).0
+        ≡ Changed → IsSome o × (load st n ≡ 0)
     told-by None wrong e = absurd (let never : Refused refusal.UnknownNode ≡ Changed = e in cc)
     told-by (Some m) true e = absurd (let never : Refused refusal.WrongMode ≡ Changed = e in cc)
     told-by (Some m) false e = (refl, let low = ltb-false 0 (load st n) (empty-by (nat_lt 0 (load st n)) e) in omega (arith, low))

@@ -33,19 +33,22 @@ use Rattle.lrc_code.proofs.NumbersLemmas.{equal_stripes}
 -- ---- the domain that is upgrading
 
 -- whether the upgrading domain is this one, as the code tests it
-pub the-domain : (eq : UpgradeNo → UpgradeNo → Bool) → ((a b : UpgradeNo) → eq a b ≡ same_upgrade a b) → (u : UpgradeNo) (o : Option UpgradeNo) → option_eq eq o (Some u) ≡ is_the_domain u o
+pub the-domain : (eq : UpgradeNo → UpgradeNo → Bool) → ((a b : UpgradeNo) → eq a b ≡ same_upgrade a b) → (u : UpgradeNo) (o : Option UpgradeNo)
+    → option_eq eq o (Some u) ≡ is_the_domain u o
 the-domain eq is u None = refl
 the-domain eq is u (Some v) = is v u ∙ test-sym v.value u.value
 
 -- ---- what is told
 
-upgrade-by : (st : State) (u : UpgradeNo) (unknown : Bool) (upgrading : Option UpgradeNo) (lost : Option StripeNo) → (refuse_if unknown refusal.UnknownDomain st (upgrade_answer st u upgrading lost)).0 ≡ Changed → upgrading ≡ None
+upgrade-by : (st : State) (u : UpgradeNo) (unknown : Bool) (upgrading : Option UpgradeNo) (lost : Option StripeNo)
+    → (refuse_if unknown refusal.UnknownDomain st (upgrade_answer st u upgrading lost)).0 ≡ Changed → upgrading ≡ None
 upgrade-by st u true upgrading lost e = absurd (let never : Refused refusal.UnknownDomain ≡ Changed = e in cc)
 upgrade-by st u false (Some v) lost e = absurd (let never : Refused (refusal.UpgradeRunning v) ≡ Changed = e in cc)
 upgrade-by st u false None lost e = refl
 
 upgraded-by : (st : State) (u : UpgradeNo) (unknown : Bool) (upgrading : Option UpgradeNo)
-    → (refuse_if unknown refusal.UnknownDomain st (refuse_if (not (is_the_domain u upgrading)) refusal.NotUpgrading st (Changed, without_upgrading st))).0 ≡ Changed → upgrading ≡ Some u
+    → (refuse_if unknown refusal.UnknownDomain st (refuse_if (not (is_the_domain u upgrading)) refusal.NotUpgrading st
+    (Changed, without_upgrading st))).0 ≡ Changed → upgrading ≡ Some u
 upgraded-by st u true upgrading e = absurd (let never : Refused refusal.UnknownDomain ≡ Changed = e in cc)
 upgraded-by st u false None e = absurd (let never : Refused refusal.NotUpgrading ≡ Changed = e in cc)
 upgraded-by st u false (Some v) e = elim (cases_Bool (same_upgrade u v)) [
@@ -74,10 +77,13 @@ module _ (nodes : List NodeInfo) (st : State) (u : UpgradeNo) where
   unfolding upgrade_outcome
   known-answer there = rw there refl
 
-  pub upgrade-running : has_domain nodes u ≡ true → (v : UpgradeNo) → st.upgrading ≡ Some v → (upgrade_outcome nodes st u).0 ≡ Refused (refusal.UpgradeRunning v)
-  upgrade-running there v running = ap (λ (o : Outcome). o.0) (known-answer there) ∙ ap (λ (o : Option UpgradeNo). (upgrade_answer st u o (would_lose nodes st u)).0) running
+  pub upgrade-running : has_domain nodes u ≡ true → (v : UpgradeNo) → st.upgrading ≡ Some v
+      → (upgrade_outcome nodes st u).0 ≡ Refused (refusal.UpgradeRunning v)
+  upgrade-running there v running = ap (λ (o : Outcome). o.0) (known-answer there)
+      ∙ ap (λ (o : Option UpgradeNo). (upgrade_answer st u o (would_lose nodes st u)).0) running
 
-  pub upgrade-lost : has_domain nodes u ≡ true → st.upgrading ≡ None → (s : StripeNo) → would_lose nodes st u ≡ Some s → (upgrade_outcome nodes st u).0 ≡ Refused (refusal.WouldLose s)
+  pub upgrade-lost : has_domain nodes u ≡ true → st.upgrading ≡ None → (s : StripeNo) → would_lose nodes st u ≡ Some s
+      → (upgrade_outcome nodes st u).0 ≡ Refused (refusal.WouldLose s)
   upgrade-lost there none s lost =
       ap (λ (o : Outcome). o.0) (known-answer there) ∙ ap₂ (λ (o : Option UpgradeNo) (l : Option StripeNo). (upgrade_answer st u o l).0) none lost
 
@@ -89,7 +95,8 @@ module _ (nodes : List NodeInfo) (st : State) (u : UpgradeNo) where
   unfolding upgraded_outcome
   upgraded-unknown none = rw none refl
 
-  pub upgraded-other : has_domain nodes u ≡ true → is_the_domain u st.upgrading ≡ false → (upgraded_outcome nodes st u).0 ≡ Refused refusal.NotUpgrading
+  pub upgraded-other : has_domain nodes u ≡ true → is_the_domain u st.upgrading ≡ false
+      → (upgraded_outcome nodes st u).0 ≡ Refused refusal.NotUpgrading
   unfolding upgraded_outcome
   upgraded-other there other = rw (there, other) refl
 
@@ -109,16 +116,20 @@ module _ (nodes : List NodeInfo) (st : State) (u : UpgradeNo) where
 
   online-with : st.upgrading ≡ None → (n : NodeNo) → online_at nodes (with_upgrading st u) n ≡ (online_at nodes st n && not (is_in_domain nodes u n))
   online-with none n = by (node_at nodes n) where
-    by : (o : Option NodeInfo) → option_map_or (is_online (with_upgrading st u)) o false ≡ (option_map_or (is_online st) o false && not (option_map_or (λ m. same_upgrade m.upgrade u) o false))
+    by : (o : Option NodeInfo) → option_map_or (is_online (with_upgrading st u)) o false
+        ≡ (option_map_or (is_online st) o false && not (option_map_or (λ m. same_upgrade m.upgrade u) o false))
     by None = refl
     by (Some m) =
         offline-by (is_gone (mode_of st m.number)) (is_down st m.number) m.upgrade.value u.value
-        ∙ ap (λ (o : Option UpgradeNo). (not (is_gone (mode_of st m.number)) && (not (is_down st m.number) && not (option_map_or (λ v. same_upgrade v m.upgrade) o false))) && not (same_upgrade m.upgrade u)) (sym none)
+        ∙ ap (λ (o : Option UpgradeNo). (not (is_gone (mode_of st m.number)) &&
+        (not (is_down st m.number) && not (option_map_or (λ v. same_upgrade v m.upgrade) o false))) && not (same_upgrade m.upgrade u)) (sym none)
 
-  lost-as : st.upgrading ≡ None → (spare : ℕ) (s : StripeNo) → upgrades.is_lost_to (stored_of nodes st spare) u s ≡ (has_stripe st s && is_lost_to nodes st u s)
+  lost-as : st.upgrading ≡ None → (spare : ℕ) (s : StripeNo)
+      → upgrades.is_lost_to (stored_of nodes st spare) u s ≡ (has_stripe st s && is_lost_to nodes st u s)
   unfolding upgrades.is_lost_to
   lost-as none spare s =
-      ap (λ (online : NodeNo → Bool). has_stripe st s && (is_safe nodes st s && not (is_recoverable (code_of st s) (missing_in (code_of st s) online (homes_of st.homes s))))) (sym (fun_ext (online-with none)))
+      ap (λ (online : NodeNo → Bool). has_stripe st s && (is_safe nodes st s && not
+          (is_recoverable (code_of st s) (missing_in (code_of st s) online (homes_of st.homes s))))) (sym (fun_ext (online-with none)))
 
   no-ties : HasNoTies (λ (s t : StripeNo). nat_lt s.value t.value) (filter (is_lost_to nodes st u) st.stripes)
   no-ties = λ a b here there before after.
@@ -131,27 +142,32 @@ module _ (nodes : List NodeInfo) (st : State) (u : UpgradeNo) where
   unfolding would_lose
   lost-first none spare s told =
       let parts = and_parts (has_stripe st s) (is_lost_to nodes st u s) (sym (lost-as none spare s) ∙ told.lost) in
-      least-only (λ (s t : StripeNo). nat_lt s.value t.value) (IsStrictWeakOrder-by_number (λ (s : StripeNo). s.value)) s (filter (is_lost_to nodes st u) st.stripes) no-ties
+      least-only (λ (s t : StripeNo). nat_lt s.value t.value) (IsStrictWeakOrder-by_number (λ (s : StripeNo). s.value)) s
+          (filter (is_lost_to nodes st u) st.stripes) no-ties
       (member-filter (is_lost_to nodes st u) st.stripes s (stripe-member st s parts.0) parts.1)
-      (All-members (λ (r : StripeNo). nat_lt r.value s.value ≡ false) (filter (is_lost_to nodes st u) st.stripes) (λ r here. not-before r (filter-member (is_lost_to nodes st u) st.stripes r here)))
+      (All-members (λ (r : StripeNo). nat_lt r.value s.value ≡ false) (filter (is_lost_to nodes st u) st.stripes)
+      (λ r here. not-before r (filter-member (is_lost_to nodes st u) st.stripes r here)))
     where
       not-before : (r : StripeNo) → Contains st.stripes r × (is_lost_to nodes st u r ≡ true) → nat_lt r.value s.value ≡ false
       not-before r h = elim (cases_Bool (nat_lt r.value s.value)) [
         | inr miss ↦ miss
         | inl hit ↦ absurd (
-            let there : has_stripe st r ≡ true = list_any-member (λ (t : StripeNo). eqb r.value t.value) st.stripes r h.0 (eq-eqb r.value r.value refl) in
+            let there : has_stripe st r ≡ true = list_any-member (λ (t : StripeNo). eqb r.value t.value) st.stripes r h.0
+                (eq-eqb r.value r.value refl) in
             let lost : upgrades.is_lost_to (stored_of nodes st spare) u r ≡ true = lost-as none spare r ∙ rw (there, h.1) refl in
             let both : true ≡ false = sym lost ∙ told.first r (ltb-true r.value s.value hit) in cc)
       ]
 
   -- where there is none, none is
-  pub lost-none : st.upgrading ≡ None → (spare : ℕ) → ((s : StripeNo) → IsFalse (upgrades.is_lost_to (stored_of nodes st spare) u s)) → would_lose nodes st u ≡ None
+  pub lost-none : st.upgrading ≡ None → (spare : ℕ) → ((s : StripeNo) → IsFalse (upgrades.is_lost_to (stored_of nodes st spare) u s))
+      → would_lose nodes st u ≡ None
   unfolding would_lose
   lost-none none spare told = go (least (λ (s t : StripeNo). nat_lt s.value t.value) (filter (is_lost_to nodes st u) st.stripes)) refl where
     go : (o : Option StripeNo) → least (λ (s t : StripeNo). nat_lt s.value t.value) (filter (is_lost_to nodes st u) st.stripes) ≡ o → o ≡ None
     go None e = refl
     go (Some r) e = absurd (
-        let h = filter-member (is_lost_to nodes st u) st.stripes r (least-listed (λ (s t : StripeNo). nat_lt s.value t.value) r (filter (is_lost_to nodes st u) st.stripes) e) in
+        let h = filter-member (is_lost_to nodes st u) st.stripes r
+            (least-listed (λ (s t : StripeNo). nat_lt s.value t.value) r (filter (is_lost_to nodes st u) st.stripes) e) in
         let there : has_stripe st r ≡ true = list_any-member (λ (t : StripeNo). eqb r.value t.value) st.stripes r h.0 (eq-eqb r.value r.value refl) in
         let lost : upgrades.is_lost_to (stored_of nodes st spare) u r ≡ true = lost-as none spare r ∙ rw (there, h.1) refl in
         let both : true ≡ false = sym lost ∙ told r in cc)

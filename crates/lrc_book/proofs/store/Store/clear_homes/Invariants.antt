@@ -5,7 +5,11 @@ use Rattle.lrc_book.proofs.EmptyLemmas.{IsEmptying}
 use Rattle.lrc_book.proofs.store.Store.clear_homes.Given as goal
 
 abbrev pub invariant-loop-stripe : goal.invariant-loop-stripe
-invariant-loop-stripe g l = record { emptying : IsEmptying g.st l.node l.self; nodes : l.self.topology ≡ l.initial.self.topology; modes : l.self.modes ≡ l.initial.self.modes }
+invariant-loop-stripe g l = record {
+  emptying : IsEmptying g.st l.node l.self;
+  nodes : l.self.topology ≡ l.initial.self.topology;
+  modes : l.self.modes ≡ l.initial.self.modes;
+}
 
 abbrev pub decreases-loop-stripe : goal.decreases-loop-stripe
 decreases-loop-stripe g l = load_at (slots_of l.self.table) l.node

@@ -5,7 +5,11 @@ use Rattle.lrc_book.proofs.EmptyLemmas.{IsEnding}
 use Rattle.lrc_book.proofs.store.Store.end_targets.Given as goal
 
 abbrev pub invariant-loop-lease : goal.invariant-loop-lease
-invariant-loop-lease g l = record { ending : IsEnding g.st l.node l.self; nodes : l.self.topology ≡ l.initial.self.topology; modes : l.self.modes ≡ l.initial.self.modes }
+invariant-loop-lease g l = record {
+  ending : IsEnding g.st l.node l.self;
+  nodes : l.self.topology ≡ l.initial.self.topology;
+  modes : l.self.modes ≡ l.initial.self.modes;
+}
 
 abbrev pub decreases-loop-lease : goal.decreases-loop-lease
 decreases-loop-lease g l = load_at (slots_of l.self.table) l.node
