@@ -68,7 +68,7 @@ module _ (nodes : List NodeInfo) (known : AreNodes nodes) (before after : NodeIn
     by : (o : Option NodeInfo) → node_at nodes m ≡ o → option_map_or before o b ≡ option_map_or (mixed before after nodes) o b
     by (Some n) e =
         let left : is_left nodes n ≡ true = list_any-member (λ (x : NodeInfo). same_node n.number x.number) nodes n (member-node_at nodes m n e).0
-            (eq-eqb n.number.value n.number.value refl) in
+        (eq-eqb n.number.value n.number.value refl) in
         rw left refl
     by None e = refl
 
@@ -104,7 +104,7 @@ module _ (nodes : List NodeInfo) (known : AreNodes nodes) (before after : NodeIn
       by true hit =
           let number : n.number ≡ m = ap (λ (v : ℕ). record { value = v }) (eqb-true n.number.value m.value hit) in
           is ∙ sym (ap (λ (k : NodeNo). option_map_or (mixed before after rest) (node_at nodes k) b) (sym number)
-              ∙ ap (λ (o : Option NodeInfo). option_map_or (mixed before after rest) o b) here
+          ∙ ap (λ (o : Option NodeInfo). option_map_or (mixed before after rest) o b) here
           ∙ ap (λ (l : Bool). if l then before n else after n) passed)
       by false miss = other (node_at nodes m) refl miss
 
@@ -118,7 +118,7 @@ module _ (nodes : List NodeInfo) (known : AreNodes nodes) (before after : NodeIn
       by true hit =
           let number : n.number ≡ m = ap (λ (v : ℕ). record { value = v }) (eqb-true n.number.value m.value hit) in
           sym stays ∙ sym (ap (λ (k : NodeNo). option_map_or (mixed before after (n ∷ rest)) (node_at nodes k) b) (sym number)
-              ∙ ap (λ (o : Option NodeInfo). option_map_or (mixed before after (n ∷ rest)) o b) here
+          ∙ ap (λ (o : Option NodeInfo). option_map_or (mixed before after (n ∷ rest)) o b) here
           ∙ ap (λ (l : Bool). if l then before n else after n) first)
       by false miss = refl
 

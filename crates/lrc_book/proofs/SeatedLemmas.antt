@@ -163,7 +163,7 @@ modes-seated nodes st gone draining down upgrading seated present reachable =
       standing = All-members (IsStanding nodes st') (taken_seats st) (λ seat here.
           let standing = All-contains (IsStanding nodes st) (taken_seats st) seat seated.standing here in
           standing-by nodes (node_at nodes seat.node) seat.slot (mode_of st seat.node ≢ Gone) (mode_of st' seat.node ≢ Gone) standing
-              (not_gone gone draining seat.node (present seat here)));
+          (not_gone gone draining seat.node (present seat here)));
       lawful = seated.lawful;
       one_home = seated.one_home;
       one_lease = seated.one_lease;
@@ -214,9 +214,9 @@ module _ (nodes : List NodeInfo) (st : State) (n : NodeNo) where
     none [] apart = refl
     none (seat ∷ seats) apart =
         let away = ne_eqb seat.node.value n.value (λ e. eqb-false n.value seat.node.value
-            (All-head (λ (seat : Seat). eqb n.value seat.node.value ≡ false) seat seats apart) (sym e)) in
+        (All-head (λ (seat : Seat). eqb n.value seat.node.value ≡ false) seat seats apart) (sym e)) in
         rw (sum_by-cons (λ (seat : Seat). cond (eqb seat.node.value n.value) 1 0) seat seats, away, zero-add)
-            (none seats (All-tail (λ (seat : Seat). eqb n.value seat.node.value ≡ false) seat seats apart))
+        (none seats (All-tail (λ (seat : Seat). eqb n.value seat.node.value ≡ false) seat seats apart))
 
   -- where no seat is on the node, each is on another
   load-apart : (seats : List Seat) → load_of seats n ≡ 0 → All (λ (seat : Seat). eqb n.value seat.node.value ≡ false) seats
@@ -229,7 +229,7 @@ module _ (nodes : List NodeInfo) (st : State) (n : NodeNo) where
         | inr miss ↦
             let left : 0 + load_of seats n ≡ 0 = rw miss at sum in
             All-cons (λ (seat : Seat). eqb n.value seat.node.value ≡ false) seat seats
-                (ne_eqb n.value seat.node.value (λ e. eqb-false seat.node.value n.value miss (sym e))) (load-apart seats (omega (arith, left)))
+            (ne_eqb n.value seat.node.value (λ e. eqb-false seat.node.value n.value miss (sym e))) (load-apart seats (omega (arith, left)))
       ]
 
   -- the stripes stay seated where the homes on a node are taken out
@@ -248,7 +248,7 @@ module _ (nodes : List NodeInfo) (st : State) (n : NodeNo) where
   pub with_down-seated : AreSeated nodes st → is_gone (mode_of st n) ≡ false → AreSeated nodes (with_down st n)
   with_down-seated seated active =
       modes-seated nodes st st.gone st.draining (st.down ++ n ∷ []) st.upgrading seated (seat-present seated)
-          (λ m here. elim (Contains-push_cases st.down n m here) [
+      (λ m here. elim (Contains-push_cases st.down n m here) [
         | inl old ↦ down-present seated m old
         | inr new ↦ subst (λ k. has_number st.gone k ≡ false) new (active-number st n active)
       ])
@@ -257,7 +257,7 @@ module _ (nodes : List NodeInfo) (st : State) (n : NodeNo) where
   pub without_down-seated : AreSeated nodes st → AreSeated nodes (without_down st n)
   without_down-seated seated =
       modes-seated nodes st st.gone st.draining (without_number st.down n) st.upgrading seated (seat-present seated)
-          (λ m here. down-present seated m (left-number st.down m here).0)
+      (λ m here. down-present seated m (left-number st.down m here).0)
 
   -- a node that is draining
   pub with_draining-seated : AreSeated nodes st → AreSeated nodes (with_draining st n)
@@ -273,7 +273,7 @@ module _ (nodes : List NodeInfo) (st : State) (n : NodeNo) where
   pub without_gone-seated : AreSeated nodes st → AreSeated nodes (without_gone st n)
   without_gone-seated seated =
       modes-seated nodes st (without_number st.gone n) st.draining st.down st.upgrading seated
-          (λ seat here. fewer-numbers st.gone n seat.node (seat-present seated seat here))
+      (λ seat here. fewer-numbers st.gone n seat.node (seat-present seated seat here))
       (λ m here. fewer-numbers st.gone n m (down-present seated m here))
 
 module _ (nodes : List NodeInfo) (st : State) (n : NodeNo) where
@@ -289,7 +289,7 @@ module _ (nodes : List NodeInfo) (st : State) (n : NodeNo) where
   unfolding down_outcome
   down-seated seated =
       changed-seated nodes st n (is_gone (mode_of st n) || is_down st n) (with_down st n) seated
-          (λ right. with_down-seated nodes st n seated (or_parts (is_gone (mode_of st n)) (is_down st n) right).0)
+      (λ right. with_down-seated nodes st n seated (or_parts (is_gone (mode_of st n)) (is_down st n) right).0)
 
   pub up-seated : AreSeated nodes st → AreSeated nodes (up_outcome nodes st n).1
   unfolding up_outcome
@@ -312,7 +312,7 @@ module _ (nodes : List NodeInfo) (st : State) (n : NodeNo) where
   retire-seated seated =
       let last = refuse_if (nat_lt 0 (load st n)) (refusal.NotEmpty (load st n)) st (Changed, with_gone st n) in
       either-way (AreSeated nodes) (is_none (node_at nodes n)) refusal.UnknownNode st
-          (refuse_if (not (is_draining (mode_of st n))) refusal.WrongMode st last) seated
+      (refuse_if (not (is_draining (mode_of st n))) refusal.WrongMode st last) seated
       (λ known. either-way (AreSeated nodes) (not (is_draining (mode_of st n))) refusal.WrongMode st last seated
       (λ right. either-way (AreSeated nodes) (nat_lt 0 (load st n)) (refusal.NotEmpty (load st n)) st (Changed, with_gone st n) seated
       (λ none. with_gone-seated nodes st n seated (omega (arith, ltb-false 0 (load st n) none)))))
@@ -324,8 +324,8 @@ module _ (nodes : List NodeInfo) (st : State) where
   pub upgrading-seated : (upgrading : Option UpgradeNo) → AreSeated nodes st → AreSeated nodes (record st { upgrading = upgrading })
   upgrading-seated upgrading seated =
       modes-seated nodes st st.gone st.draining st.down upgrading seated
-          (λ seat here. gone-number st seat.node (standing-present nodes st seat
-          (All-contains (IsStanding nodes st) (taken_seats st) seat seated.standing here)))
+      (λ seat here. gone-number st seat.node (standing-present nodes st seat
+      (All-contains (IsStanding nodes st) (taken_seats st) seat seated.standing here)))
       (λ m here. gone-number st m (All-contains (λ k. mode_of st k ≢ Gone) st.down m seated.reachable here))
 
   upgrade-answered : (u : UpgradeNo) (upgrading : Option UpgradeNo) (lost : Option StripeNo) → AreSeated nodes st
@@ -338,7 +338,7 @@ module _ (nodes : List NodeInfo) (st : State) where
   unfolding upgrade_outcome
   upgrade-seated u seated =
       either-way (AreSeated nodes) (not (has_domain nodes u)) refusal.UnknownDomain st
-          (upgrade_answer st u st.upgrading (would_lose nodes st u)) seated
+      (upgrade_answer st u st.upgrading (would_lose nodes st u)) seated
       (λ known. upgrade-answered u st.upgrading (would_lose nodes st u) seated)
 
   pub upgraded-seated : (u : UpgradeNo) → AreSeated nodes st → AreSeated nodes (upgraded_outcome nodes st u).1

@@ -92,14 +92,16 @@ pub same_modes : (t : Stored) (online online' draining draining' : NodeNo → Bo
     → ◌≡◌ {A = Stored} (record t { online = online; draining = draining }) (record t { online = online'; draining = draining' })
 same_modes t online online' draining draining' a b =
     ap (λ (p : NodeNo → Bool). record t { online = p; draining = draining }) (fun_ext a)
-        ∙ ap (λ (p : NodeNo → Bool). record t { online = online'; draining = p }) (fun_ext b)
+    ∙ ap (λ (p : NodeNo → Bool). record t { online = online'; draining = p }) (fun_ext b)
 
 -- a state's modes, with the stripes and homes of another that are the same
 pub same_lists : (nodes : List NodeInfo) (was st : State) (spare : ℕ) → was.stripes ≡ st.stripes → was.homes ≡ st.homes
     → ◌≡◌ {A = Stored} (record (stored_of nodes was spare) { online = online_at nodes st; draining = drains_at nodes st }) (stored_of nodes st spare)
 same_lists nodes was st spare stripes homes =
-    ap (λ (ss : List StripeNo). record (stored_of nodes st spare) { stripes = λ s. list_any (same_stripe s) ss;
-        homes = λ s. homes_of was.homes s }) stripes
+    ap (λ (ss : List StripeNo). record (stored_of nodes st spare) {
+      stripes = λ s. list_any (same_stripe s) ss;
+      homes = λ s. homes_of was.homes s;
+    }) stripes
     ∙ ap (λ (hs : List Held). record (stored_of nodes st spare) { homes = λ s. homes_of hs s }) homes
 
 -- what is stored of a state with some room is so with its own

@@ -119,10 +119,10 @@ module _ (nodes : List NodeInfo) (st : State) (n : NodeNo) where
   unfolding retire_outcome
   retire-passes e = ap (λ (o : Outcome). o.0) (passes-by st st last (node_at nodes n) (not (is_draining (mode_of st n))) e)
       ∙ either (nat_lt 0 (load st n)) where
-    either : (b : Bool) → (refuse_if b (refusal.NotEmpty (load st n)) st (Changed, with_gone st n)).0
-        ≡ (refuse_if b (refusal.NotEmpty (load st n)) st (Changed, st)).0
-    either true = refl
-    either false = refl
+        either : (b : Bool) → (refuse_if b (refusal.NotEmpty (load st n)) st (Changed, with_gone st n)).0
+            ≡ (refuse_if b (refusal.NotEmpty (load st n)) st (Changed, st)).0
+        either true = refl
+        either false = refl
 
   -- and else it is refused as any command on a node
   pub retire-stops : (node_outcome nodes st n (not (is_draining (mode_of st n))) st).0 ≢ Changed

@@ -129,7 +129,7 @@ module _ (nodes : List NodeInfo) (st : State) (u : UpgradeNo) where
   unfolding upgrades.is_lost_to
   lost-as none spare s =
       ap (λ (online : NodeNo → Bool). has_stripe st s && (is_safe nodes st s && not
-          (is_recoverable (code_of st s) (missing_in (code_of st s) online (homes_of st.homes s))))) (sym (fun_ext (online-with none)))
+      (is_recoverable (code_of st s) (missing_in (code_of st s) online (homes_of st.homes s))))) (sym (fun_ext (online-with none)))
 
   no-ties : HasNoTies (λ (s t : StripeNo). nat_lt s.value t.value) (filter (is_lost_to nodes st u) st.stripes)
   no-ties = λ a b here there before after.
@@ -143,7 +143,7 @@ module _ (nodes : List NodeInfo) (st : State) (u : UpgradeNo) where
   lost-first none spare s told =
       let parts = and_parts (has_stripe st s) (is_lost_to nodes st u s) (sym (lost-as none spare s) ∙ told.lost) in
       least-only (λ (s t : StripeNo). nat_lt s.value t.value) (IsStrictWeakOrder-by_number (λ (s : StripeNo). s.value)) s
-          (filter (is_lost_to nodes st u) st.stripes) no-ties
+      (filter (is_lost_to nodes st u) st.stripes) no-ties
       (member-filter (is_lost_to nodes st u) st.stripes s (stripe-member st s parts.0) parts.1)
       (All-members (λ (r : StripeNo). nat_lt r.value s.value ≡ false) (filter (is_lost_to nodes st u) st.stripes)
       (λ r here. not-before r (filter-member (is_lost_to nodes st u) st.stripes r here)))
@@ -153,7 +153,7 @@ module _ (nodes : List NodeInfo) (st : State) (u : UpgradeNo) where
         | inr miss ↦ miss
         | inl hit ↦ absurd (
             let there : has_stripe st r ≡ true = list_any-member (λ (t : StripeNo). eqb r.value t.value) st.stripes r h.0
-                (eq-eqb r.value r.value refl) in
+            (eq-eqb r.value r.value refl) in
             let lost : upgrades.is_lost_to (stored_of nodes st spare) u r ≡ true = lost-as none spare r ∙ rw (there, h.1) refl in
             let both : true ≡ false = sym lost ∙ told.first r (ltb-true r.value s.value hit) in cc)
       ]
@@ -167,7 +167,7 @@ module _ (nodes : List NodeInfo) (st : State) (u : UpgradeNo) where
     go None e = refl
     go (Some r) e = absurd (
         let h = filter-member (is_lost_to nodes st u) st.stripes r
-            (least-listed (λ (s t : StripeNo). nat_lt s.value t.value) r (filter (is_lost_to nodes st u) st.stripes) e) in
+        (least-listed (λ (s t : StripeNo). nat_lt s.value t.value) r (filter (is_lost_to nodes st u) st.stripes) e) in
         let there : has_stripe st r ≡ true = list_any-member (λ (t : StripeNo). eqb r.value t.value) st.stripes r h.0 (eq-eqb r.value r.value refl) in
         let lost : upgrades.is_lost_to (stored_of nodes st spare) u r ≡ true = lost-as none spare r ∙ rw (there, h.1) refl in
         let both : true ≡ false = sym lost ∙ told r in cc)

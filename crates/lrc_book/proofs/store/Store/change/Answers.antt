@@ -22,7 +22,7 @@ grant-requires-in-Next-Granted g c =
     let nodes = c.args.self.now.topology in
     let told = c.requires.1.1 in
     let e = sym (ap (λ (command : Command). (step nodes told.past g.st told.session command).0) c.in-Next-Granted.is-0) ∙ told.told
-        ∙ c.in-Next-Granted.is-1 in
+    ∙ c.in-Next-Granted.is-1 in
     (c.requires.0, (c.requires.1.0, next-told nodes told.past g.st told.session c.in-Next-Granted.lease c.in-Next-Granted.field-1-1 e))
 
 pub leave-requires : goal.leave-requires
@@ -31,7 +31,7 @@ leave-requires g c =
     let told = c.requires.1.1 in
     let node = c.in-Retire-Changed.node in
     let e = sym (ap (λ (command : Command). (step nodes told.past g.st told.session command).0) c.in-Retire-Changed.is-0) ∙ told.told
-        ∙ c.in-Retire-Changed.is-1 in
+    ∙ c.in-Retire-Changed.is-1 in
     (c.requires.0, (room-node c.args.self.now c.requires.1.0, retire-told nodes g.st node e))
 
 pub move_in-requires : goal.move_in-requires

@@ -10,7 +10,7 @@ unfolding down_outcome
 returns c = λ st kept.
     let changed = with_down st c.args.node in
     let gone : c.eq.result ≡ is_gone (mode_of st c.args.node) = c.eq.ensures ∙ same-gone c.mode.result
-        ∙ ap is_gone (c.mode.ensures st kept.modes_are) in
+    ∙ ap is_gone (c.mode.ensures st kept.modes_are) in
     let wrong : c.if-eq.is_wrong ≡ (is_gone (mode_of st c.args.node) || is_down st c.args.node) = elim c.if-eq.branch [
       | then-eq w ↦ w.is_wrong-is ∙ w.if-eq.true ∙ sym (ap (λ (b : Bool). b || is_down st c.args.node) (sym gone ∙ w.if-eq.true))
       | else-eq w ↦ w.is_wrong-is ∙ w.is_down-is_wrong.ensures st kept.modes_are

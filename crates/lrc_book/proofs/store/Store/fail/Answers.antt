@@ -11,7 +11,10 @@ leave-requires g c = (
   c.empty.ensures.kept,
   (
     rw c.empty.ensures.modes (room-node c.args.self.now c.requires.1.0),
-    (rw c.empty.ensures.nodes
-    (fail-told c.args.self.now.topology g.st c.args.node c.requires.1.1), emptied-load c.args.self.now.topology g.st c.args.node),
+    (
+      rw c.empty.ensures.nodes
+          (fail-told c.args.self.now.topology g.st c.args.node c.requires.1.1),
+      emptied-load c.args.self.now.topology g.st c.args.node,
+    ),
   ),
 )

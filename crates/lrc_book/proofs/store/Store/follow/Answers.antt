@@ -17,7 +17,7 @@ returns-clause-kept g c =
       | else-is_online w ↦ w.set_eligible-is ∙ w.if-is_online.false ∙ sym (ap (λ (b : Bool). b && is_active mode) w.if-is_online.false)
     ] in
     follows c.args.node c.requires.0 g.st c.args.self.now behind online (is_active mode) c.eq-2.result
-        (c.is_online-is_online.ensures g.st behind.modes_are) (ap is_active (c.mode-mode.ensures g.st behind.modes_are))
+    (c.is_online-is_online.ensures g.st behind.modes_are) (ap is_active (c.mode-mode.ensures g.st behind.modes_are))
     (c.eq-2.ensures ∙ same-draining mode
     ∙ ap is_draining (c.mode-mode.ensures g.st behind.modes_are)) c.set_eligible.new.self c.set_offline.new.self c.set_draining.new.self
     (c.set_eligible.ensures ∙ ap (with_eligible (slots_of c.args.self.now.table) c.args.node) eligible) c.set_offline.ensures c.set_draining.ensures

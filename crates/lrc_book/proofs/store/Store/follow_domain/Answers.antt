@@ -24,7 +24,7 @@ set_eligible-requires g c =
     let table = c.loop-node.self.1.1.0 in
     let stripes = c.loop-node.self.1.1.1.0 in
     let following = subst
-        (IsFollowing c.args.domain g.st c.args.self.now.topology table stripes) c.in-Some.ensures.steps c.loop-node.invariant.following in
+    (IsFollowing c.args.domain g.st c.args.self.now.topology table stripes) c.in-Some.ensures.steps c.loop-node.invariant.following in
     following-slots c.args.domain g.st c.args.self.now.topology c.requires.1.known table stripes c.in-Some.node.now c.next.new.self following
 
 pub set_offline-requires : goal.set_offline-requires
@@ -32,7 +32,7 @@ set_offline-requires g c =
     let table = c.loop-node.self.1.1.0 in
     let stripes = c.loop-node.self.1.1.1.0 in
     let following = subst
-        (IsFollowing c.args.domain g.st c.args.self.now.topology table stripes) c.in-Some.ensures.steps c.loop-node.invariant.following in
+    (IsFollowing c.args.domain g.st c.args.self.now.topology table stripes) c.in-Some.ensures.steps c.loop-node.invariant.following in
     following-sites c.args.domain g.st c.args.self.now.topology c.requires.1.known table stripes c.in-Some.node.now c.next.new.self following
 
 pub loop-node-preserved-then-eq : goal.loop-node-preserved-then-eq
@@ -40,7 +40,7 @@ loop-node-preserved-then-eq g c =
     let table = c.loop-node.self.1.1.0 in
     let stripes = c.loop-node.self.1.1.1.0 in
     let following = subst
-        (IsFollowing c.args.domain g.st c.args.self.now.topology table stripes) c.in-Some.ensures.steps c.loop-node.invariant.following in
+    (IsFollowing c.args.domain g.st c.args.self.now.topology table stripes) c.in-Some.ensures.steps c.loop-node.invariant.following in
     let modes = subst (λ (m : Modes). AreModesOf g.st m) (sym c.loop-node.invariant.modes) c.requires.1.modes_are in
     let online = c.is_online-is_online.result in
     let active = c.eq-is_active.result in
@@ -61,7 +61,7 @@ loop-node-preserved g c =
     let table = c.loop-node.self.1.1.0 in
     let stripes = c.loop-node.self.1.1.1.0 in
     let following = subst
-        (IsFollowing c.args.domain g.st c.args.self.now.topology table stripes) c.in-Some.ensures.steps c.loop-node.invariant.following in
+    (IsFollowing c.args.domain g.st c.args.self.now.topology table stripes) c.in-Some.ensures.steps c.loop-node.invariant.following in
     record {
       following = following-skip c.args.domain g.st c.args.self.now.topology c.requires.1.known table stripes c.in-Some.node.now c.next.new.self following
           (λ same. eqb-false c.in-Some.node.now.upgrade.value c.args.domain.value (sym c.eq.ensures ∙ c.if-eq.false)
@@ -72,7 +72,7 @@ loop-node-preserved g c =
 pub returns-clause-kept : goal.returns-clause-kept
 returns-clause-kept g c =
     let following = subst
-        (IsFollowing c.args.domain g.st c.args.self.now.topology c.loop-node.self.1.1.0 c.loop-node.self.1.1.1.0) c.in-None.ensures.steps.0 c.loop-node.invariant.following in
+    (IsFollowing c.args.domain g.st c.args.self.now.topology c.loop-node.self.1.1.0 c.loop-node.self.1.1.1.0) c.in-None.ensures.steps.0 c.loop-node.invariant.following in
     subst (λ (m : Modes). IsOf g.st (record c.args.self.now { table = c.loop-node.self.1.1.0; stripes = c.loop-node.self.1.1.1.0; modes = m }))
-        (sym c.loop-node.invariant.modes)
+    (sym c.loop-node.invariant.modes)
     (following-end c.args.domain c.requires.0 g.st c.args.self.now c.loop-node.self.1.1.0 c.loop-node.self.1.1.1.0 c.requires.1 following)

@@ -9,6 +9,8 @@ pub follow-requires : goal.follow-requires
 follow-requires g c =
     let nodes = c.args.self.now.topology in
     let kept = c.requires.0 in
-    let told = join-told nodes g.st c.args.node c.requires.1 in
-    (g.st, behind-of g.st (without_gone g.st c.args.node) c.args.node c.args.self.now _ kept
-    (without_gone-seated nodes g.st c.args.node kept.seated) told refl (others-joined g.st c.args.node) (c.join.ensures g.st kept.modes_are))
+    let told = join-told nodes g.st c.args.node c.requires.1 in (
+      g.st,
+      behind-of g.st (without_gone g.st c.args.node) c.args.node c.args.self.now _ kept
+          (without_gone-seated nodes g.st c.args.node kept.seated) told refl (others-joined g.st c.args.node) (c.join.ensures g.st kept.modes_are),
+    )

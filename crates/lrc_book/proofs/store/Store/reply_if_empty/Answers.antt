@@ -15,13 +15,13 @@ load-load-requires c = subst (λ (t : Slots). IsSome (node_at t.nodes c.args.nod
 pub returns-then-load-gt0 : goal.returns-then-load-gt0
 returns-then-load-gt0 c = λ st kept.
     let counted : load st c.args.node ≡ c.load-load.result = sym
-        (c.load-load.ensures.value ∙ load-kept st c.args.self.now kept c.args.node c.requires.known) in
+    (c.load-load.ensures.value ∙ load-kept st c.args.self.now kept c.args.node c.requires.known) in
     sym (ap (λ (count : ℕ). (refuse_if (nat_lt 0 count) (refusal.NotEmpty count) st (Changed, st)).0) counted
-        ∙ rw (lt-ltb 0 c.load-load.result (let some = c.if-load-gt0.true in omega (arith, some))) refl)
+    ∙ rw (lt-ltb 0 c.load-load.result (let some = c.if-load-gt0.true in omega (arith, some))) refl)
 
 pub returns : goal.returns
 returns c = λ st kept.
     let counted : load st c.args.node ≡ c.load-load.result = sym
-        (c.load-load.ensures.value ∙ load-kept st c.args.self.now kept c.args.node c.requires.known) in
+    (c.load-load.ensures.value ∙ load-kept st c.args.self.now kept c.args.node c.requires.known) in
     let none : load st c.args.node ≡ 0 = counted ∙ (let few = c.if-load-gt0.false in omega (arith, few)) in
     sym (ap (λ (count : ℕ). (refuse_if (nat_lt 0 count) (refusal.NotEmpty count) st (Changed, st)).0) none)

@@ -15,7 +15,7 @@ pub returns-in-Changed : goal.returns-in-Changed
 unfolding retire_outcome
 returns-in-Changed c = λ st kept.
     let wrong : c.ne.result ≡ not (is_draining (mode_of st c.args.node)) = c.ne.ensures
-        ∙ ap not (same-draining c.mode.result ∙ ap is_draining (c.mode.ensures st kept.modes_are)) in
+    ∙ ap not (same-draining c.mode.result ∙ ap is_draining (c.mode.ensures st kept.modes_are)) in
     c.reply_if_empty.ensures st kept
     ∙ sym (retire-passes c.args.self.now.topology st c.args.node
     (ap (λ (b : Bool). (node_outcome c.args.self.now.topology st c.args.node b st).0) (sym wrong) ∙ sym (c.node_reply.ensures st st)
@@ -24,7 +24,7 @@ returns-in-Changed c = λ st kept.
 pub returns-in_default : goal.returns-in_default
 returns-in_default c = λ st kept.
     let wrong : c.ne.result ≡ not (is_draining (mode_of st c.args.node)) = c.ne.ensures
-        ∙ ap not (same-draining c.mode.result ∙ ap is_draining (c.mode.ensures st kept.modes_are)) in
+    ∙ ap not (same-draining c.mode.result ∙ ap is_draining (c.mode.ensures st kept.modes_are)) in
     let told : c.node_reply.result ≡ (node_outcome c.args.self.now.topology st c.args.node (not (is_draining (mode_of st c.args.node))) st).0 =
     c.node_reply.ensures st st ∙ ap (λ (b : Bool). (node_outcome c.args.self.now.topology st c.args.node b st).0) wrong in
     told ∙ sym (retire-stops c.args.self.now.topology st c.args.node (λ e. c.in_default.not-Changed (told ∙ e)))

@@ -9,6 +9,8 @@ pub follow-requires : goal.follow-requires
 follow-requires g c =
     let nodes = c.args.self.now.topology in
     let kept = c.requires.0 in
-    let told = up-told nodes g.st c.args.node c.requires.1 in
-    (g.st, behind-of g.st (without_down g.st c.args.node) c.args.node c.args.self.now _ kept
-    (without_down-seated nodes g.st c.args.node kept.seated) told refl (others-up g.st c.args.node) (c.up.ensures g.st kept.modes_are))
+    let told = up-told nodes g.st c.args.node c.requires.1 in (
+      g.st,
+      behind-of g.st (without_down g.st c.args.node) c.args.node c.args.self.now _ kept
+          (without_down-seated nodes g.st c.args.node kept.seated) told refl (others-up g.st c.args.node) (c.up.ensures g.st kept.modes_are),
+    )

@@ -13,15 +13,15 @@ returns-then-not-has_upgrade_domain c = λ st kept. sym (upgrade-unknown c.args.
 pub returns-in-Some : goal.returns-in-Some
 returns-in-Some c = λ st kept.
     sym (upgrade-running c.args.self.now.topology st c.args.domain
-        (sym c.has_upgrade_domain.ensures ∙ c.if-not-has_upgrade_domain.false) c.in-Some.upgrading (sym kept.modes_are.upgrading_is ∙ c.in-Some.is))
+    (sym c.has_upgrade_domain.ensures ∙ c.if-not-has_upgrade_domain.false) c.in-Some.upgrading (sym kept.modes_are.upgrading_is ∙ c.in-Some.is))
 
 pub returns-in-Some-would_lose : goal.returns-in-Some-would_lose
 returns-in-Some-would_lose c = λ st kept.
     let none = sym kept.modes_are.upgrading_is ∙ c.in_default.is in
     let found = subst (λ
-        (t : Stored). IsFirstLostTo t c.args.domain c.in-Some-would_lose.stripe) kept.stripes_is c.in-Some-would_lose.ensures.found in
+    (t : Stored). IsFirstLostTo t c.args.domain c.in-Some-would_lose.stripe) kept.stripes_is c.in-Some-would_lose.ensures.found in
     sym (upgrade-lost c.args.self.now.topology st c.args.domain
-        (sym c.has_upgrade_domain.ensures ∙ c.if-not-has_upgrade_domain.false) none c.in-Some-would_lose.stripe
+    (sym c.has_upgrade_domain.ensures ∙ c.if-not-has_upgrade_domain.false) none c.in-Some-would_lose.stripe
     (lost-first c.args.self.now.topology st c.args.domain none (stored_in c.args.self.now.stripes).spare c.in-Some-would_lose.stripe found))
 
 pub returns-in-None : goal.returns-in-None
