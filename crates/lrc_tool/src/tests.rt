@@ -2,13 +2,16 @@
 
 mod bundles;
 mod checks;
+mod draining;
 mod fakes;
 mod leases;
 mod nodes;
 mod placing;
 mod recoveries;
+mod repair;
 mod streams;
 mod tables;
+mod upgrades;
 
 use crate::{Plain, Status, run};
 use std::alloc::Global;
@@ -80,6 +83,14 @@ node,mode,online,load,slots
 19,active,yes,0,4
 ";
 
+/// What is printed of a script that begins by placing a stripe on twenty nodes, up to the line of that.
+const PLACING_ONE: &str =
+    "script 1\n1 placed 0:0 1:0 2:0 3:0 4:0 5:0 6:0 7:0 8:0 9:0 10:0 11:0 16:0 12:0 13:0 14:0\n";
+
+/// The same of one that places two stripes.
+const PLACING_TWO: &str =
+    "script 1\n1 placed 0:0 1:0 2:0 3:0 4:0 5:0 6:0 7:0 8:0 9:0 10:0 11:0 16:0 12:0 13:0 14:0\n2 placed 15:0 17:0 18:0 19:0 0:1 1:1 2:1 3:1 4:1 5:1 6:1 7:1 12:1 8:1 9:1 10:1\n";
+
 /// The topology of nodes in these upgrade domains, with as many slots on each, and then the scripts.
 fn bundle(alloc: Global, upgrades: &[u8], slots: u16, scripts: &[u8]) -> Result<Vec<u8>, Fail> {
     let mut text = String::new(alloc);
@@ -129,6 +140,49 @@ fn expect_whole(rt: &impl Abort, alloc: Global, bundle: &[u8], output: &str) -> 
     assert_eq!(rt; std::str::from_utf8(sink.inner.as_slice())?, output);
     assert_eq!(rt; result, Ok(Status::Done));
     Ok(())
+}
+
+/// A script on twenty nodes with four slots, and what is printed of it.
+#[derive(Clone, Copy)]
+struct Run {
+    pub script: &'static str,
+    /// The first lines that are printed, up to those of the stripes that the script begins by placing.
+    pub placed: &'static str,
+    /// The lines of the other replies.
+    pub replies: &'static str,
+    /// The rows of the stripes at risk.
+    pub risk: &'static str,
+    /// A letter for each node: `a` for active, `d` for draining, `g` for gone; a capital where a node of the store is offline.
+    pub modes: &'static str,
+    /// A digit for the load of each node.
+    pub loads: &'static str,
+}
+
+/// The row of a node with four slots behind its number.
+fn load_row(alloc: Global, number: usize, mode: u8, load: u8) -> Result<String, Fail> {
+    let words = match mode {
+        b'a' => "active,yes",
+        b'A' => "active,no",
+        b'd' => "draining,yes",
+        b'D' => "draining,no",
+        _ => "gone,no",
+    };
+    let load = char::from(load);
+    Ok(format!(in alloc; "{number},{words},{load},4\n")?)
+}
+
+/// The script prints its replies and both tables, and nothing else.
+fn expect_run(rt: &impl Abort, alloc: Global, run: Run) -> Result<(), Fail> {
+    let mut text = format!(in alloc;
+        "{}{}risk\nstripe,level,margin,missing\n{}load\nnode,mode,online,load,slots\n",
+        run.placed, run.replies, run.risk
+    )?;
+    for (number, (mode, load)) in run.modes.bytes().zip(run.loads.bytes()).enumerate() {
+        text.push_str(load_row(alloc, number, mode, load)?.as_str())?;
+    }
+    let script = format!(in alloc; "%%\n{}", run.script)?;
+    let bytes = over_twenty(alloc, script.as_bytes())?;
+    expect_whole(rt, alloc, bytes.as_slice(), text.as_str())
 }
 
 #[test]

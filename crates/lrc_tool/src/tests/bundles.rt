@@ -27,6 +27,10 @@ fn scripts_are_read_by_their_lines(rt: HostRuntime) -> Result<(), Fail> {
             Status::BadLine,
         ),
         ("%%\nnext\r\n", "line 102 cause 1\n", Status::BadLine),
+        ("%%\nnext 1\n", "line 102 cause 2\n", Status::BadLine),
+        ("%%\nupgrade 256\n", "line 102 cause 4\n", Status::BadLine),
+        ("%%\nnext", "script 1\n1 idle\n", Status::Done),
+        ("%%\nupgrade 255", "script 1\n1 refused 106\n", Status::Done),
         ("%%\nplace 1\r\n", "line 102 cause 3\n", Status::BadLine),
         ("%%\n%%\n", "bundle 2\n", Status::Refused),
     ];
@@ -63,7 +67,7 @@ fn commands_of_nodes_have_one_number(rt: HostRuntime) -> Result<(), Fail> {
         ),
         ("s 1", "line 102 cause 1\n", Status::BadLine),
     ];
-    for word in ["fail", "down", "up", "join"] {
+    for word in ["fail", "down", "up", "drain", "undrain", "retire", "join"] {
         for (rest, text, status) in table {
             let script = format!(in alloc; "%%\n{word}{rest}\n")?;
             let bytes = over_twenty(alloc, script.as_bytes())?;

@@ -1,6 +1,6 @@
 //! What commands on leases answer.
 
-use super::{TEN_DOMAINS, bundle, expect_output, over_twenty};
+use super::{PLACING_ONE, Run, TEN_DOMAINS, bundle, expect_output, expect_run, over_twenty};
 use crate::Status;
 use std::alloc::Global;
 use std::process::Abort;
@@ -121,4 +121,49 @@ fn nothing_is_leased_of_a_stripe_that_is_not_there(rt: HostRuntime) -> Result<()
     let text = "script 1\n1 refused 101\n2 refused 101\n3 refused 101\n4 refused 101\n";
     let bytes = over_twenty(alloc, script)?;
     expect_output(&rt, alloc, bytes.as_slice(), text, Status::Done)
+}
+
+#[test]
+fn missing_fragments_are_told_of_stripes_at_risk(rt: HostRuntime) -> Result<(), Fail> {
+    let runs = [
+        // A lease is no home.
+        Run {
+            script: "place 1\nfail 3\nlease 1 3\n",
+            placed: PLACING_ONE,
+            replies: "2 changed\n3 granted 1 3 17:0 epoch 1 local 0 1 2 4 5 12\n",
+            risk: "1,risk,2,0008\n",
+            modes: "aaagaaaaaaaaaaaaaaaa",
+            loads: "11101111111111101100",
+        },
+        // A fragment that was rebuilt is not missing.
+        Run {
+            script: "place 1\nfail 3\nlease 1 3\nlease 1 3\ndone 1 3 2\ndone 1 3 1\n",
+            placed: PLACING_ONE,
+            replies: "2 changed\n3 granted 1 3 17:0 epoch 1 local 0 1 2 4 5 12\n4 refused 110 1\n5 refused 113\n6 ended\n",
+            risk: "",
+            modes: "aaagaaaaaaaaaaaaaaaa",
+            loads: "11101111111111101100",
+        },
+        // What is on nodes that are down is missing, but not homeless.
+        Run {
+            script: "place 1\ndown 0\ndown 1\ndown 2\ndown 3\nlease 1 0\n",
+            placed: PLACING_ONE,
+            replies: "2 changed\n3 changed\n4 changed\n5 changed\n6 refused 111\n",
+            risk: "1,unavailable,-,000f\n",
+            modes: "AAAAaaaaaaaaaaaaaaaa",
+            loads: "11111111111111101000",
+        },
+        Run {
+            script: "place 1\nfail 0\nfail 1\nfail 2\nfail 4\nfail 6\nlease 1 0\nlease 1 6\n",
+            placed: PLACING_ONE,
+            replies: "2 changed\n3 changed\n4 changed\n5 changed\n6 changed\n7 refused 112\n8 granted 1 6 15:0 epoch 1 local 7 8 9 10 11 13\n",
+            risk: "1,lost,-,0057\n",
+            modes: "gggagagaaaaaaaaaaaaa",
+            loads: "00010101111111111000",
+        },
+    ];
+    for run in runs {
+        expect_run(&rt, rt.alloc(), run)?;
+    }
+    Ok(())
 }
