@@ -62,11 +62,13 @@ same_stripe s t e =
     subst (λ n. (h : n < 4096) → s ≡ record { value = n; in_range = h }) e
     (λ h. ap (λ (g : s.value < 4096). record { value = s.value; in_range = g }) (stripe_bound s.value s.in_range h)) t.in_range
 
-unclashed : (code : Code) (f g : Fragment) (n : NodeInfo) (o : Option NodeInfo) → option_map_or (λ m. clashes code f n g m) o false ≡ false → IfSome o (λ m. AreApart code f n g m)
+unclashed : (code : Code) (f g : Fragment) (n : NodeInfo) (o : Option NodeInfo) → option_map_or (λ m. clashes code f n g m) o false ≡ false
+    → IfSome o (λ m. AreApart code f n g m)
 unclashed code f g n None e = tt
 unclashed code f g n (Some m) e = apart-clashes code f n g m e
 
-clash-free : (code : Code) (f g : Fragment) (n : NodeInfo) (o : Option NodeInfo) → IfSome o (λ m. AreApart code f n g m) → option_map_or (λ m. clashes code f n g m) o false ≡ false
+clash-free : (code : Code) (f g : Fragment) (n : NodeInfo) (o : Option NodeInfo) → IfSome o (λ m. AreApart code f n g m)
+    → option_map_or (λ m. clashes code f n g m) o false ≡ false
 clash-free code f g n None apart = refl
 clash-free code f g n (Some m) apart = clashes-apart code f n g m apart
 
@@ -100,7 +102,8 @@ mode-active Draining e = absurd (cc)
 mode-active Gone e = absurd (cc)
 
 free-from : (st : State) (n : NodeInfo) (k : ℕ) → k < n.slots → is_taken (taken_seats st) n.number k ≡ false → IsFree st n k
-free-from st n k within e = record { within = within; free = λ h. (let hit = member-taken (taken_seats st) n.number k h in let both : true ≡ false = sym hit ∙ e in cc) }
+free-from st n k within e =
+    record { within = within; free = λ h. (let hit = member-taken (taken_seats st) n.number k h in let both : true ≡ false = sym hit ∙ e in cc) }
 
 room-found : (st : State) (n : NodeInfo) (o : Option ℕ) → free_slot (taken_seats st) n ≡ o → is_some o ≡ true → (slot : ℕ) × IsFree st n slot
 room-found st n None e is = absurd (cc)
@@ -133,7 +136,8 @@ module _ (nodes : List NodeInfo) (st : State) (s : StripeNo) (f : Fragment) (n :
       record {
         known = here;
         eligible = eligible-words st n parts.0;
-        lawful = All-weaker _ (IsApartFrom nodes st s f n) (bars-apart nodes st s f n) (seats_of st) (All-list_any (bars nodes st s f n) (seats_of st) (not-true _ parts.1));
+        lawful =
+            All-weaker _ (IsApartFrom nodes st s f n) (bars-apart nodes st s f n) (seats_of st) (All-list_any (bars nodes st s f n) (seats_of st) (not-true _ parts.1));
       }
 
   pub words-fits : IsFitting nodes st s f n → fits nodes st s f n ≡ true
@@ -160,7 +164,8 @@ module _ (nodes : List NodeInfo) (st : State) (s : StripeNo) (f : Fragment) wher
       not-Contains-nil n (subst (λ xs. Contains xs n) ((least-none (is_preferred (taken_seats st)) (filter (fits nodes st s f) nodes)).0 e)
       (member-filter (fits nodes st s f) nodes n fitting.known (words-fits nodes st s f n fitting)))
 
-  on-slot : (seat : Seat) (n : NodeInfo) (o : Option ℕ) → AreNodes nodes → chosen_node nodes st s f ≡ Some n → free_slot (taken_seats st) n ≡ o → option_map (seat_on n.number) o ≡ Some seat → IsChoice nodes st s f seat
+  on-slot : (seat : Seat) (n : NodeInfo) (o : Option ℕ) → AreNodes nodes → chosen_node nodes st s f ≡ Some n → free_slot (taken_seats st) n ≡ o
+      → option_map (seat_on n.number) o ≡ Some seat → IsChoice nodes st s f seat
   on-slot seat n None known e found is = absurd (cc)
   on-slot seat n (Some k) known e found is =
       let h = first_slot-found (is_taken (taken_seats st) n.number) 0 n.slots k found in
@@ -168,7 +173,8 @@ module _ (nodes : List NodeInfo) (st : State) (s : StripeNo) (f : Fragment) wher
       subst (IsChoice nodes st s f) (same_Some (seat_on n.number k) seat is) (record {
         node = n;
         fitting = fitting;
-        first = λ m other apart. lighter-total (load st n.number) n.number (load st m.number) m.number (not_before n m e other) (λ same. apart (sym (same_node nodes known n m fitting.known other.known same)));
+        first =
+            λ m other apart. lighter-total (load st n.number) n.number (load st m.number) m.number (not_before n m e other) (λ same. apart (sym (same_node nodes known n m fitting.known other.known same)));
         on = refl;
         free = free-from st n k (omega (arith, h.1)) h.2;
         least = λ j below. taken-member (taken_seats st) n.number j (h.3 j (omega arith) below);
@@ -180,7 +186,8 @@ module _ (nodes : List NodeInfo) (st : State) (s : StripeNo) (f : Fragment) wher
       option_and_then_some (free_seat (taken_seats st)) (chosen_node nodes st s f) seat e (λ n here there. on-slot seat n (free_slot (taken_seats st) n) known here refl there)
 
   -- the node of a choice is the one that the rule finds
-  same-choice : (seat : Seat) (choice : IsChoice nodes st s f seat) → AreNodes nodes → (n : NodeInfo) → chosen_node nodes st s f ≡ Some n → n ≡ choice.node
+  same-choice : (seat : Seat) (choice : IsChoice nodes st s f seat) → AreNodes nodes → (n : NodeInfo) → chosen_node nodes st s f ≡ Some n
+      → n ≡ choice.node
   same-choice seat choice known n e = elim (cases_eq n.number.value choice.node.number.value) [
     | inl same ↦ same_node nodes known n choice.node (node-fits n e).known choice.fitting.known same
     | inr other ↦
@@ -204,7 +211,8 @@ module _ (nodes : List NodeInfo) (st : State) (s : StripeNo) (f : Fragment) wher
   pub choice-slot : (seat : Seat) (choice : IsChoice nodes st s f seat) → free_slot (taken_seats st) choice.node ≡ Some seat.slot
   choice-slot seat choice = least-slot seat choice (free_slot (taken_seats st) choice.node) refl
 
-  found-choice : (seat : Seat) → IsChoice nodes st s f seat → AreNodes nodes → (o : Option NodeInfo) → chosen_node nodes st s f ≡ o → option_and_then (free_seat (taken_seats st)) o ≡ Some seat
+  found-choice : (seat : Seat) → IsChoice nodes st s f seat → AreNodes nodes → (o : Option NodeInfo) → chosen_node nodes st s f ≡ o
+      → option_and_then (free_seat (taken_seats st)) o ≡ Some seat
   found-choice seat choice known None e = absurd (none-fits e choice.node choice.fitting)
   found-choice seat choice known (Some n) e =
       ap (free_seat (taken_seats st)) (same-choice seat choice known n e) ∙ ap (option_map (seat_on choice.node.number)) (choice-slot seat choice)
@@ -218,7 +226,8 @@ module _ (nodes : List NodeInfo) (st : State) (s : StripeNo) (f : Fragment) wher
   no-slot n eligible None found e = absurd (let is = all-taken st n None found eligible.room in cc)
   no-slot n eligible (Some k) found e = cc
 
-  no-node : (o : Option NodeInfo) → chosen_node nodes st s f ≡ o → option_and_then (free_seat (taken_seats st)) o ≡ None → (n : NodeInfo) → IsFitting nodes st s f n → ⊥
+  no-node : (o : Option NodeInfo) → chosen_node nodes st s f ≡ o → option_and_then (free_seat (taken_seats st)) o ≡ None → (n : NodeInfo)
+      → IsFitting nodes st s f n → ⊥
   no-node None found e n fitting = none-fits found n fitting
   no-node (Some m) found e n fitting = no-slot m (node-fits m found).eligible (free_slot (taken_seats st) m) refl e
 
@@ -226,7 +235,8 @@ module _ (nodes : List NodeInfo) (st : State) (s : StripeNo) (f : Fragment) wher
   unfolding chosen
   none-fitting e = no-node (chosen_node nodes st s f) refl e
 
-  none-found : ((n : NodeInfo) → IsFitting nodes st s f n → ⊥) → (o : Option NodeInfo) → chosen_node nodes st s f ≡ o → option_and_then (free_seat (taken_seats st)) o ≡ None
+  none-found : ((n : NodeInfo) → IsFitting nodes st s f n → ⊥) → (o : Option NodeInfo) → chosen_node nodes st s f ≡ o
+      → option_and_then (free_seat (taken_seats st)) o ≡ None
   none-found none None e = refl
   none-found none (Some n) e = absurd (none n (node-fits n e))
 

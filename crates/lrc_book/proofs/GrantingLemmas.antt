@@ -33,13 +33,15 @@ module _ (nodes : List NodeInfo) (past : List Entry) (st : State) (session : Ses
   SaysRefused refusal.UnknownStripe = has_stripe st s ≡ false
   SaysRefused (refusal.AlreadyLeased e) = (has_stripe st s ≡ true) × IsSomeAnd (lease_of st s f) (λ l. l.epoch ≡ e)
   SaysRefused refusal.NotNeeded = (has_stripe st s ≡ true) × (lease_of st s f ≡ None) × (needs nodes st s f ≡ false)
-  SaysRefused refusal.Unrecoverable = (has_stripe st s ≡ true) × (lease_of st s f ≡ None) × (needs nodes st s f ≡ true) × (kind nodes st s f ≡ Global) × (is_safe nodes st s ≡ false)
+  SaysRefused refusal.Unrecoverable =
+      (has_stripe st s ≡ true) × (lease_of st s f ≡ None) × (needs nodes st s f ≡ true) × (kind nodes st s f ≡ Global) × (is_safe nodes st s ≡ false)
   SaysRefused (refusal.NoLawfulNode g) = (g ≡ f) × IsOwed nodes st s f × (chosen nodes st s f ≡ None)
   SaysRefused _ = ⊥
 
   -- what each answer says
   abbrev pub Says : Reply → Type 0
-  Says (Granted l k) = IsOwed nodes st s f × (chosen nodes st s f ≡ Some l.target) × (l ≡ new_lease past session s f l.target) × (k ≡ kind nodes st s f)
+  Says (Granted l k) =
+      IsOwed nodes st s f × (chosen nodes st s f ≡ Some l.target) × (l ≡ new_lease past session s f l.target) × (k ≡ kind nodes st s f)
   Says (Refused r) = SaysRefused r
   Says _ = ⊥
 
@@ -47,9 +49,11 @@ module _ (nodes : List NodeInfo) (past : List Entry) (st : State) (session : Ses
   by-seat owed (Some seat) e = (owed, e, refl, refl)
   by-seat owed None e = (refl, owed, e)
 
-  by-kind : has_stripe st s ≡ true → lease_of st s f ≡ None → needs nodes st s f ≡ true → (safe : Bool) → is_safe nodes st s ≡ safe → (k : Kind) → kind nodes st s f ≡ k
+  by-kind : has_stripe st s ≡ true → lease_of st s f ≡ None → needs nodes st s f ≡ true → (safe : Bool) → is_safe nodes st s ≡ safe → (k : Kind)
+      → kind nodes st s f ≡ k
       → Says (refuse_if (not safe && is_global k) refusal.Unrecoverable st (granted nodes past st session s f (chosen nodes st s f))).0
-  by-kind there none needed true is k from = by-seat (record { there = there; none = none; needed = needed; suffices = λ g. is }) (chosen nodes st s f) refl
+  by-kind there none needed true is k from =
+      by-seat (record { there = there; none = none; needed = needed; suffices = λ g. is }) (chosen nodes st s f) refl
   by-kind there none needed false is Global from = (there, none, needed, from, is)
   by-kind there none needed false is Move from =
       by-seat (record { there = there; none = none; needed = needed; suffices = λ g. absurd (let never : Move ≡ Global = sym from ∙ g in cc) }) (chosen nodes st s f) refl
@@ -65,7 +69,8 @@ module _ (nodes : List NodeInfo) (past : List Entry) (st : State) (session : Ses
   by-lease there (Some l) is = (there, subst (λ (o : Option LeaseRecord). IsSomeAnd o (λ k. k.epoch ≡ l.epoch)) (sym is) refl)
   by-lease there None is = by-need there is (needs nodes st s f) refl
 
-  by-stripe : (b : Bool) → has_stripe st s ≡ b → Says (refuse_if (not b) refusal.UnknownStripe st (lease_answer nodes past st session s f (lease_of st s f))).0
+  by-stripe : (b : Bool) → has_stripe st s ≡ b
+      → Says (refuse_if (not b) refusal.UnknownStripe st (lease_answer nodes past st session s f (lease_of st s f))).0
   by-stripe false is = is
   by-stripe true is = by-lease is (lease_of st s f) refl
 
@@ -81,18 +86,21 @@ module _ (nodes : List NodeInfo) (past : List Entry) (st : State) (session : Ses
 
   answer-there : has_stripe st s ≡ true → lease_outcome nodes past st session s f ≡ lease_answer nodes past st session s f (lease_of st s f)
   unfolding lease_outcome
-  answer-there there = passed (not (has_stripe st s)) refusal.UnknownStripe st (lease_answer nodes past st session s f (lease_of st s f)) (ap not there)
+  answer-there there =
+      passed (not (has_stripe st s)) refusal.UnknownStripe st (lease_answer nodes past st session s f (lease_of st s f)) (ap not there)
 
   abbrev after_needs : Outcome
   after_needs = refuse_if (is_beyond_repair nodes st s f) refusal.Unrecoverable st (granted nodes past st session s f (chosen nodes st s f))
 
-  answer-none : has_stripe st s ≡ true → lease_of st s f ≡ None → lease_outcome nodes past st session s f ≡ refuse_if (not (needs nodes st s f)) refusal.NotNeeded st after_needs
+  answer-none : has_stripe st s ≡ true → lease_of st s f ≡ None
+      → lease_outcome nodes past st session s f ≡ refuse_if (not (needs nodes st s f)) refusal.NotNeeded st after_needs
   answer-none there none = answer-there there ∙ ap (lease_answer nodes past st session s f) none
 
   answer-needed : has_stripe st s ≡ true → lease_of st s f ≡ None → needs nodes st s f ≡ true → lease_outcome nodes past st session s f ≡ after_needs
   answer-needed there none needed = answer-none there none ∙ passed (not (needs nodes st s f)) refusal.NotNeeded st after_needs (ap not needed)
 
-  not-beyond : (safe : Bool) → is_safe nodes st s ≡ safe → (k : Kind) → kind nodes st s f ≡ k → (kind nodes st s f ≡ Global → is_safe nodes st s ≡ true) → (not safe && is_global k) ≡ false
+  not-beyond : (safe : Bool) → is_safe nodes st s ≡ safe → (k : Kind) → kind nodes st s f ≡ k
+      → (kind nodes st s f ≡ Global → is_safe nodes st s ≡ true) → (not safe && is_global k) ≡ false
   not-beyond true is k from suffices = refl
   not-beyond false is (Local sources) from suffices = refl
   not-beyond false is Move from suffices = refl
@@ -108,7 +116,8 @@ module _ (nodes : List NodeInfo) (past : List Entry) (st : State) (session : Ses
       ap (λ (o : Outcome). o.0) (answer-owed says.0 ∙ ap (granted nodes past st session s f) says.1)
       ∙ ap (λ (m : LeaseRecord). Granted m (kind nodes st s f)) (sym says.2) ∙ ap (Granted l) (sym says.3)
 
-  pub tell-none : (g : Fragment) → SaysRefused (refusal.NoLawfulNode g) → (lease_outcome nodes past st session s f).0 ≡ Refused (refusal.NoLawfulNode g)
+  pub tell-none : (g : Fragment) → SaysRefused (refusal.NoLawfulNode g)
+      → (lease_outcome nodes past st session s f).0 ≡ Refused (refusal.NoLawfulNode g)
   tell-none g says =
       ap (λ (o : Outcome). o.0) (answer-owed says.1 ∙ ap (granted nodes past st session s f) says.2)
       ∙ ap (λ (h : Fragment). Refused (refusal.NoLawfulNode h)) (sym says.0)
@@ -119,9 +128,11 @@ module _ (nodes : List NodeInfo) (past : List Entry) (st : State) (session : Ses
       ∙ stopped (is_beyond_repair nodes st s f) refusal.Unrecoverable st _ (ap (λ (k : Kind). not (is_safe nodes st s) && is_global k) says.3 ∙ ap (λ (b : Bool). not b && true) says.4)
 
   pub tell-not_needed : SaysRefused refusal.NotNeeded → (lease_outcome nodes past st session s f).0 ≡ Refused refusal.NotNeeded
-  tell-not_needed says = ap (λ (o : Outcome). o.0) (answer-none says.0 says.1) ∙ stopped (not (needs nodes st s f)) refusal.NotNeeded st _ (ap not says.2)
+  tell-not_needed says =
+      ap (λ (o : Outcome). o.0) (answer-none says.0 says.1) ∙ stopped (not (needs nodes st s f)) refusal.NotNeeded st _ (ap not says.2)
 
-  already : (e : ℕ) (o : Option LeaseRecord) → IsSomeAnd o (λ l. l.epoch ≡ e) → (lease_answer nodes past st session s f o).0 ≡ Refused (refusal.AlreadyLeased e)
+  already : (e : ℕ) (o : Option LeaseRecord) → IsSomeAnd o (λ l. l.epoch ≡ e)
+      → (lease_answer nodes past st session s f o).0 ≡ Refused (refusal.AlreadyLeased e)
   already e (Some l) same = ap (λ (n : ℕ). Refused (refusal.AlreadyLeased n)) same
   already e None none = absurd none
 

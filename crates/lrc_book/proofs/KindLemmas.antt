@@ -1,8 +1,10 @@
 -- From what a fragment is rebuilt, in words.
-use Rattle.std.proofs.Common.{◌≡◌, ◌≢◌, ◌<◌, ◌↔◌, inl, inr, Bool, true, false, not, ◌&&◌, if◌then◌else◌, nat_lt, IsTrue, IsSomeAnd, Option, Some, None, List, [], ◌∷◌, refl, sym, ap, ap₂, ◌∙◌, subst, arith}
+use Rattle.std.proofs.Common.{◌≡◌, ◌≢◌, ◌<◌, ◌↔◌, ℕ, get_or, Bool, true, false, not, ◌&&◌, if◌then◌else◌, nat_lt, IsTrue, IsSomeAnd, Option, Some, None, List, [], ◌∷◌, refl, sym, ap, ap₂, ◌∙◌, subst, arith}
 use Rattle.std.specs.List.{AllPairs, Contains, list_any}
 use Rattle.std.specs.Option.{option_map_or}
-use Rattle.std.proofs.lemmas.Bool.{cases_order, eqb-false, ne_eqb, ltb-true, and_parts, not-true, not-false}
+use Rattle.std.specs.Cmp.{IsStrictWeakOrder}
+use Rattle.std.proofs.lemmas.Bool.Decides.{nat_tests}
+use Rattle.std.proofs.lemmas.Bool.{lt-ltb, eqb-false, ne_eqb, ltb-true, and_parts, not-true, not-false}
 use Rattle.std.proofs.lemmas.List.Elements.{All-weaker, All-contains}
 use Rattle.std.proofs.lemmas.List.Kept.{AllPairs-cons, AllPairs-filter}
 use Rattle.std.proofs.lemmas.List.Sums.{length-filter}
@@ -20,8 +22,9 @@ use Rattle.lrc_book.specs.declared.kind.Kind.{Kind}
 use Rattle.lrc_book.specs.declared.kind.Kind.TheVariants.{Local, Global, Move}
 use Rattle.lrc_book.specs.States.{State, online_at, missing}
 use Rattle.lrc_book.specs.Repairs.{kind, is_at_home, IsAtHome, IsFromItsGroup}
-use Rattle.lrc_book.proofs.MemberLemmas.{All-members, filter-member, member-filter, All-list_any, list_any-All, Contains-here, Contains-later, Contains-cases, not-Contains-nil, AllPairs-head, AllPairs-tail}
+use Rattle.lrc_book.proofs.MemberLemmas.{All-members, filter-member, member-filter, All-list_any, list_any-All}
 use Rattle.lrc_book.proofs.FragmentLemmas.{all-fragments}
+use Rattle.lrc_book.proofs.RisingLemmas.{IsStrict, strict-same}
 
 -- ---- rising lists
 
@@ -45,39 +48,33 @@ pub fragments-rising : IsRising (fragments Wide)
 unfolding are_rising
 fragments-rising = rising-from (fragments Wide) refl
 
--- a later member of a rising list is greater than its first
-above-first : (f : Fragment) (fs : List Fragment) (g : Fragment) → IsRising (f ∷ fs) → Contains fs g → f.value < g.value
-above-first f fs g rising here = All-contains (λ (h : Fragment). f.value < h.value) fs g (AllPairs-head (λ f g. f.value < g.value) f fs rising) here
+-- one number below another
+abbrev is_lower : Fragment → Fragment → Bool
+is_lower f g = nat_lt f.value g.value
 
--- the first of one is the least of the other
-at-least : (f g : Fragment) (gs : List Fragment) → IsRising (g ∷ gs) → Contains (g ∷ gs) f → f.value < g.value → ⊥
-at-least f g gs rising here below = elim (Contains-cases g f gs here) [
-  | inl same ↦ let e = ap (λ (h : Fragment). h.value) same in absurd (omega (arith, below, e))
-  | inr later ↦ let above = above-first g gs f rising later in absurd (omega (arith, below, above))
-]
+lower-once : (n m : ℕ) → nat_lt n m ≡ true → nat_lt m n ≡ false
+lower-once n m h = grind (arith, nat_tests)
 
-rest-members : (f : Fragment) (fs gs : List Fragment) → IsRising (f ∷ fs) → ((h : Fragment) → Contains (f ∷ fs) h → Contains (f ∷ gs) h) → (h : Fragment) → Contains fs h → Contains gs h
-rest-members f fs gs rising into h here = elim (Contains-cases f h gs (into h (Contains-later f h fs here))) [
-  | inl same ↦ let above = above-first f fs h rising here in let e = ap (λ (k : Fragment). k.value) same in absurd (omega (arith, above, e))
-  | inr later ↦ later
-]
+lower-chain : (n m k : ℕ) → nat_lt n m ≡ false → nat_lt m k ≡ false → nat_lt n k ≡ false
+lower-chain n m k h i = grind (arith, nat_tests)
+
+lower-tie : (n m : ℕ) → nat_lt n m ≡ false → nat_lt m n ≡ false → n ≡ m
+lower-tie n m h k = grind (arith, nat_tests)
+
+lower-order : IsStrictWeakOrder is_lower
+lower-order = record {
+  one_way = λ f g. lower-once f.value g.value;
+  chain = λ f g h. lower-chain f.value g.value h.value;
+}
+
+rising-strict : (fs : List Fragment) → IsRising fs → IsStrict is_lower fs
+rising-strict fs rising = λ i j d below within. lt-ltb (get_or fs i d).value (get_or fs j d).value (rising i j d below within)
 
 -- rising lists of the same members are one list
-rising-same : (fs gs : List Fragment) → IsRising fs → IsRising gs → ((h : Fragment) → Contains fs h → Contains gs h) → ((h : Fragment) → Contains gs h → Contains fs h) → fs ≡ gs
-rising-same [] [] up down into back = refl
-rising-same [] (g ∷ gs) up down into back = absurd (not-Contains-nil g (back g (Contains-here g gs)))
-rising-same (f ∷ fs) [] up down into back = absurd (not-Contains-nil f (into f (Contains-here f fs)))
-rising-same (f ∷ fs) (g ∷ gs) up down into back = elim (cases_order f.value g.value) [
-  | inl same ↦
-      let first : f ≡ g = equal_fragments f g same in
-      let up' : IsRising (g ∷ fs) = subst (λ (h : Fragment). IsRising (h ∷ fs)) first up in
-      let into' = subst (λ (k : Fragment). (h : Fragment) → Contains (k ∷ fs) h → Contains (g ∷ gs) h) first into in
-      let back' = subst (λ (k : Fragment). (h : Fragment) → Contains (g ∷ gs) h → Contains (k ∷ fs) h) first back in
-      ap (λ (h : Fragment). h ∷ fs) first
-      ∙ ap (λ hs. g ∷ hs) (rising-same fs gs (AllPairs-tail (λ f g. f.value < g.value) g fs up') (AllPairs-tail (λ f g. f.value < g.value) g gs down) (rest-members g fs gs up' into') (rest-members g gs fs down back'))
-  | inr (inl below) ↦ absurd (at-least f g gs down (into f (Contains-here f fs)) below)
-  | inr (inr above) ↦ absurd (at-least g f fs up (back g (Contains-here g gs)) above)
-]
+rising-same : (fs gs : List Fragment) → IsRising fs → IsRising gs
+    → ((h : Fragment) → Contains fs h → Contains gs h) → ((h : Fragment) → Contains gs h → Contains fs h) → fs ≡ gs
+rising-same fs gs up down =
+    strict-same is_lower lower-order (λ f g h k. equal_fragments f g (lower-tie f.value g.value h k)) fs gs (rising-strict fs up) (rising-strict gs down)
 
 -- ---- the others of a class
 
@@ -116,16 +113,19 @@ module _ (nodes : List NodeInfo) (st : State) (s : StripeNo) (f : Fragment) wher
   kind-by : Bool → Bool → Kind
   kind-by here near = if here then Move else (if near then Local (others Wide f) else Global)
 
-  kind-is : (here near : Bool) → home ≡ here → local ≡ near → kind nodes st s f ≡ (if here then Move else (if near then Local (others Wide f) else Global))
+  kind-is : (here near : Bool) → home ≡ here → local ≡ near
+      → kind nodes st s f ≡ (if here then Move else (if near then Local (others Wide f) else Global))
   unfolding kind kind-by
   kind-is here near at_home in_group = ap₂ kind-by at_home in_group
 
   -- the test that the fragment has a home that is online
-  home-by : (o : Option Seat) → option_map_or (λ seat. online_at nodes st seat.node) o false ≡ true → IsSomeAnd o (λ seat. IsTrue (online_at nodes st seat.node))
+  home-by : (o : Option Seat) → option_map_or (λ seat. online_at nodes st seat.node) o false ≡ true
+      → IsSomeAnd o (λ seat. IsTrue (online_at nodes st seat.node))
   home-by (Some seat) e = e
   home-by None e = absurd (cc)
 
-  by-home : (o : Option Seat) → IsSomeAnd o (λ seat. IsTrue (online_at nodes st seat.node)) → option_map_or (λ seat. online_at nodes st seat.node) o false ≡ true
+  by-home : (o : Option Seat) → IsSomeAnd o (λ seat. IsTrue (online_at nodes st seat.node))
+      → option_map_or (λ seat. online_at nodes st seat.node) o false ≡ true
   by-home (Some seat) e = e
   by-home None e = absurd e
 
@@ -161,7 +161,8 @@ module _ (nodes : List NodeInfo) (st : State) (s : StripeNo) (f : Fragment) wher
   group-sources sources from =
       rising-same sources (others Wide f) from.rising (others-rising f) (λ h here. (others-members f h).1 ((from.members h).0 here)) (λ h here. (from.members h).1 ((others-members f h).0 here))
 
-  told-by : (sources : List Fragment) (here near : Bool) → home ≡ here → local ≡ near → kind nodes st s f ≡ Local sources → IsFromItsGroup nodes st s f sources
+  told-by : (sources : List Fragment) (here near : Bool) → home ≡ here → local ≡ near → kind nodes st s f ≡ Local sources
+      → IsFromItsGroup nodes st s f sources
   told-by sources true near at_home in_group e = absurd (let never : Move ≡ Local sources = sym (kind-is true near at_home in_group) ∙ e in cc)
   told-by sources false true away in_group e =
       subst (IsFromItsGroup nodes st s f) (same_local (others Wide f) sources (sym (kind-is false true away in_group) ∙ e)) (local-group away in_group)
@@ -190,7 +191,8 @@ module _ (nodes : List NodeInfo) (st : State) (s : StripeNo) (f : Fragment) wher
     λ sources from. (let never : Global ≡ Local sources = sym e ∙ group-told sources from in cc),
   )
 
-  none-by : (near : Bool) → local ≡ near → ¬ (IsAtHome nodes st s f) → ((sources : List Fragment) → ¬ (IsFromItsGroup nodes st s f sources)) → kind nodes st s f ≡ Global
+  none-by : (near : Bool) → local ≡ near → ¬ (IsAtHome nodes st s f) → ((sources : List Fragment) → ¬ (IsFromItsGroup nodes st s f sources))
+      → kind nodes st s f ≡ Global
   none-by true in_group away none = absurd (none (others Wide f) (local-group (not-home away home refl) in_group))
   none-by false in_group away none = kind-is false false (not-home away home refl) in_group
 

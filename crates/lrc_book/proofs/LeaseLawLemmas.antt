@@ -28,7 +28,8 @@ use Rattle.lrc_book.proofs.OutcomeLemmas.{either-way, when-told}
 -- ---- stale epochs
 
 -- a live lease of a good state has the last epoch of its fragment
-pub live-epoch : (nodes : List NodeInfo) (past : List Entry) (st : State) (s : StripeNo) (f : Fragment) (l : LeaseRecord) → IsGood nodes past st → lease_of st s f ≡ Some l → l.epoch ≡ grants past s f
+pub live-epoch : (nodes : List NodeInfo) (past : List Entry) (st : State) (s : StripeNo) (f : Fragment) (l : LeaseRecord) → IsGood nodes past st
+    → lease_of st s f ≡ Some l → l.epoch ≡ grants past s f
 live-epoch nodes past st s f l good live =
     let own = leases_in-own st.leases s f.value l live in
     All-contains (λ k. k.epoch ≡ grants past k.stripe k.fragment) st.leases l good.current (leases_in-contains st.leases s f.value l live)
@@ -38,7 +39,8 @@ pub none-at : (e : ℕ) (o : Option LeaseRecord) → ((l : LeaseRecord) → o �
 none-at e None other = refl
 none-at e (Some l) other = rw (ne_eqb l.epoch e (other l refl)) refl
 
-stale-by : (st : State) (b : Bool) → refuse_if (not b) refusal.UnknownStripe st (refused refusal.Stale st) ≡ refused (if b then refusal.Stale else refusal.UnknownStripe) st
+stale-by : (st : State) (b : Bool)
+    → refuse_if (not b) refusal.UnknownStripe st (refused refusal.Stale st) ≡ refused (if b then refusal.Stale else refusal.UnknownStripe) st
 stale-by st true = refl
 stale-by st false = refl
 
@@ -49,12 +51,16 @@ module _ (nodes : List NodeInfo) (past : List Entry) (st : State) (session : Ses
   -- a report of another epoch is refused
   pub done-stale : done_outcome nodes st session s f e ≡ refused (if has_stripe st s then refusal.Stale else refusal.UnknownStripe) st
   unfolding done_outcome
-  done-stale = ap (λ (o : Option LeaseRecord). refuse_if (not (has_stripe st s)) refusal.UnknownStripe st (done_answer nodes st session s f o)) none-live ∙ stale-by st (has_stripe st s)
+  done-stale =
+      ap (λ (o : Option LeaseRecord). refuse_if (not (has_stripe st s)) refusal.UnknownStripe st (done_answer nodes st session s f o)) none-live
+      ∙ stale-by st (has_stripe st s)
 
   -- and so is a lease of another epoch that is given back
   pub abandon-stale : abandon_outcome st session s f e ≡ refused (if has_stripe st s then refusal.Stale else refusal.UnknownStripe) st
   unfolding abandon_outcome
-  abandon-stale = ap (λ (o : Option LeaseRecord). refuse_if (not (has_stripe st s)) refusal.UnknownStripe st (abandon_answer st session s f o)) none-live ∙ stale-by st (has_stripe st s)
+  abandon-stale =
+      ap (λ (o : Option LeaseRecord). refuse_if (not (has_stripe st s)) refusal.UnknownStripe st (abandon_answer st session s f o)) none-live
+      ∙ stale-by st (has_stripe st s)
 
 -- ---- grants
 
@@ -75,7 +81,8 @@ module _ (nodes : List NodeInfo) (past : List Entry) (st : State) (session : Ses
       let own : lease_of (with_lease st m) m.stripe m.fragment ≡ Some m = ap (λ (t : Leased). t.leases m.stripe m.fragment.value) (leased_of-append st.leases m 0 none-own) ∙ rw (is_of-own m) refl in
       sym (ap (λ (r : StripeNo). lease_of (with_lease st m) r m.fragment) is_stripe ∙ ap (lease_of (with_lease st m) s) is_fragment) ∙ own
 
-  granted-new : lease_of st s f ≡ None → (o : Option Seat) → chosen nodes st s f ≡ o → (granted nodes past st session s f o).0 ≡ Granted l k → IsNew (granted nodes past st session s f o)
+  granted-new : lease_of st s f ≡ None → (o : Option Seat) → chosen nodes st s f ≡ o → (granted nodes past st session s f o).0 ≡ Granted l k
+      → IsNew (granted nodes past st session s f o)
   granted-new none None is e = absurd (let never : Refused (refusal.NoLawfulNode f) ≡ Granted l k = e in cc)
   granted-new none (Some seat) is e =
       let same = same_granted (new_lease past session s f seat) l (kind nodes st s f) k e in
@@ -90,7 +97,8 @@ module _ (nodes : List NodeInfo) (past : List Entry) (st : State) (session : Ses
   not_refused : (r : Refusal) → Refused r ≢ Granted l k
   not_refused r e = cc
 
-  answer-new : (o : Option LeaseRecord) → lease_of st s f ≡ o → (lease_answer nodes past st session s f o).0 ≡ Granted l k → IsNew (lease_answer nodes past st session s f o)
+  answer-new : (o : Option LeaseRecord) → lease_of st s f ≡ o → (lease_answer nodes past st session s f o).0 ≡ Granted l k
+      → IsNew (lease_answer nodes past st session s f o)
   answer-new (Some m) is e = absurd (let never : Refused (refusal.AlreadyLeased m.epoch) ≡ Granted l k = e in cc)
   answer-new None is e =
       when-told (Granted l k) not_refused IsNew (not (needs nodes st s f)) refusal.NotNeeded st _
@@ -155,11 +163,13 @@ module _ (nodes : List NodeInfo) (st : State) (session : SessionNo) (s r : Strip
 
   abandon-by-keeps : (o : Option LeaseRecord) → KeepsLease (abandon_answer st session s f o).1
   abandon-by-keeps None = refl
-  abandon-by-keeps (Some l) = either-way KeepsLease (not (is_held_by session l)) (refusal.NotHolder l.holder) st (Ended, without_lease st s f) refl (λ held. ended-keeps)
+  abandon-by-keeps (Some l) =
+      either-way KeepsLease (not (is_held_by session l)) (refusal.NotHolder l.holder) st (Ended, without_lease st s f) refl (λ held. ended-keeps)
 
   pub abandon-keeps : (e : ℕ) → KeepsLease (abandon_outcome st session s f e).1
   unfolding abandon_outcome
-  abandon-keeps e = either-way KeepsLease (not (has_stripe st s)) refusal.UnknownStripe st _ refl (λ there. abandon-by-keeps (at_epoch e (lease_of st s f)))
+  abandon-keeps e =
+      either-way KeepsLease (not (has_stripe st s)) refusal.UnknownStripe st _ refl (λ there. abandon-by-keeps (at_epoch e (lease_of st s f)))
 
   pub revoke-keeps : KeepsLease (revoke_outcome st s f).1
   unfolding revoke_outcome

@@ -1,31 +1,22 @@
 -- The replies to the commands of leases, case by case.
-use Rattle.std.proofs.Common.{◌≡◌, ℕ, Bool, true, false, not, ◌&&◌, nat_eq, if◌then◌else◌, lt-ltb, List, Option, Some, None, is_none, is_some, IsSome, refl, sym, ap, ap₂, ◌∙◌}
-use Rattle.std.specs.Option.{option_map_or}
+use Rattle.std.proofs.Common.{◌≡◌, ℕ, Bool, true, false, not, if◌then◌else◌, List, Option, Some, None, refl, sym, ap₂, ◌∙◌}
 use Rattle.std.proofs.lemmas.Option.{same_Some}
 use Rattle.lrc_code.specs.declared.numbers.StripeNo.{StripeNo}
-use Rattle.lrc_code.specs.declared.numbers.NodeNo.{NodeNo}
 use Rattle.lrc_code.specs.declared.numbers.SessionNo.{SessionNo}
 use Rattle.lrc_code.specs.declared.numbers.Fragment.{Fragment}
 use Rattle.lrc_topology.specs.declared.NodeInfo.{NodeInfo}
-use Rattle.lrc_topology.specs.declared.seat.Seat.{Seat}
-use Rattle.lrc_topology.specs.Nodes.{node_at}
-use Rattle.lrc_stripes.specs.Levels.{homes_of}
 use Rattle.lrc_leases.specs.declared.lease.Lease.{Lease}
 use Rattle.lrc_book.specs.declared.entry.Entry.{Entry}
 use Rattle.lrc_book.specs.declared.kind.Kind.{Kind}
-use Rattle.lrc_book.specs.declared.mode.Mode.TheVariants.{Active, Gone}
 use Rattle.lrc_book.specs.declared.reply.Reply.{Reply}
 use Rattle.lrc_book.specs.declared.reply.Reply.TheVariants.{Ended, Refused}
 use Rattle.lrc_book.specs.declared.refusal.Refusal.TheVariants as refusal
-use Rattle.lrc_book.specs.States.{State, has_stripe, has_number, lease_of, is_gone, is_online, online_at}
+use Rattle.lrc_book.specs.States.{State, has_stripe, lease_of, online_at}
 use Rattle.lrc_book.specs.Placement.{chosen}
-use Rattle.lrc_book.specs.Goodness.{AreSeated}
 use Rattle.lrc_book.specs.Outcomes.{refuse_if}
 use Rattle.lrc_book.specs.Repairs.{needs, kind, is_beyond_repair}
 use Rattle.lrc_book.specs.Leases.{granted, lease_answer, lease_outcome, at_epoch, is_held_by, moved_in, done_answer, done_outcome}
 use Rattle.lrc_book.specs.Stores.{repair_of}
-use Rattle.lrc_book.proofs.NodeLemmas.{member-node_at}
-use Rattle.lrc_book.proofs.EndLemmas.{target-node}
 
 -- ---- Lease
 
@@ -41,19 +32,22 @@ module _ (nodes : List NodeInfo) (past : List Entry) (st : State) (session : Ses
   reply-by : Bool → Option Lease → Reply
   reply-by there o = (refuse_if (not there) refusal.UnknownStripe st (lease_answer nodes past st session s f o)).0
 
-  reply-is : (there : Bool) (o : Option Lease) → has_stripe st s ≡ there → lease_of st s f ≡ o → (lease_outcome nodes past st session s f).0 ≡ (refuse_if (not there) refusal.UnknownStripe st (lease_answer nodes past st session s f o)).0
+  reply-is : (there : Bool) (o : Option Lease) → has_stripe st s ≡ there → lease_of st s f ≡ o
+      → (lease_outcome nodes past st session s f).0 ≡ (refuse_if (not there) refusal.UnknownStripe st (lease_answer nodes past st session s f o)).0
   unfolding lease_outcome reply-by
   reply-is there o is live = ap₂ reply-by is live
 
   pub lease-absent : has_stripe st s ≡ false → (lease_outcome nodes past st session s f).0 ≡ Refused refusal.UnknownStripe
   lease-absent absent = reply-is false (lease_of st s f) absent refl
 
-  pub lease-again : (l : Lease) → has_stripe st s ≡ true → lease_of st s f ≡ Some l → (lease_outcome nodes past st session s f).0 ≡ Refused (refusal.AlreadyLeased l.epoch)
+  pub lease-again : (l : Lease) → has_stripe st s ≡ true → lease_of st s f ≡ Some l
+      → (lease_outcome nodes past st session s f).0 ≡ Refused (refusal.AlreadyLeased l.epoch)
   lease-again l there live = reply-is true (Some l) there live
 
   module _ (there : has_stripe st s ≡ true) (none : lease_of st s f ≡ None) where
     new-by : Bool → Bool → Reply
-    new-by needed beyond = (refuse_if (not needed) refusal.NotNeeded st (refuse_if beyond refusal.Unrecoverable st (granted nodes past st session s f (chosen nodes st s f)))).0
+    new-by needed beyond =
+        (refuse_if (not needed) refusal.NotNeeded st (refuse_if beyond refusal.Unrecoverable st (granted nodes past st session s f (chosen nodes st s f)))).0
 
     new-is : (needed beyond : Bool) → needs nodes st s f ≡ needed → is_beyond_repair nodes st s f ≡ beyond
         → (lease_outcome nodes past st session s f).0 ≡ (refuse_if (not needed) refusal.NotNeeded st (refuse_if beyond refusal.Unrecoverable st (granted nodes past st session s f (chosen nodes st s f)))).0
@@ -63,7 +57,8 @@ module _ (nodes : List NodeInfo) (past : List Entry) (st : State) (session : Ses
     pub lease-unneeded : needs nodes st s f ≡ false → (lease_outcome nodes past st session s f).0 ≡ Refused refusal.NotNeeded
     lease-unneeded unneeded = new-is false (is_beyond_repair nodes st s f) unneeded refl
 
-    pub lease-lost : needs nodes st s f ≡ true → repair_of nodes st s f ≡ None → (lease_outcome nodes past st session s f).0 ≡ Refused refusal.Unrecoverable
+    pub lease-lost : needs nodes st s f ≡ true → repair_of nodes st s f ≡ None
+        → (lease_outcome nodes past st session s f).0 ≡ Refused refusal.Unrecoverable
     lease-lost needed lost = new-is true true needed (lost-by (is_beyond_repair nodes st s f) (kind nodes st s f) lost)
 
     pub lease-new : (k : Kind) → needs nodes st s f ≡ true → repair_of nodes st s f ≡ Some k
@@ -79,8 +74,10 @@ module _ (nodes : List NodeInfo) (st : State) (session : SessionNo) (s : StripeN
   told-by known o = (refuse_if (not known) refusal.UnknownStripe st (done_answer nodes st session s f o)).0
 
   held-by : Bool → Bool → Reply
-  held-by held online = (refuse_if (not held) (refusal.NotHolder l.holder) st (refuse_if (not online) (refusal.TargetOffline l.target.node) st (Ended, moved_in st s f l.target))).0
+  held-by held online =
+      (refuse_if (not held) (refusal.NotHolder l.holder) st (refuse_if (not online) (refusal.TargetOffline l.target.node) st (Ended, moved_in st s f l.target))).0
 
-  pub done-held : (online : Bool) → online_at nodes st l.target.node ≡ online → (done_outcome nodes st session s f e).0 ≡ (refuse_if (not online) (refusal.TargetOffline l.target.node) st (Ended, moved_in st s f l.target)).0
+  pub done-held : (online : Bool) → online_at nodes st l.target.node ≡ online
+      → (done_outcome nodes st session s f e).0 ≡ (refuse_if (not online) (refusal.TargetOffline l.target.node) st (Ended, moved_in st s f l.target)).0
   unfolding done_outcome told-by held-by
   done-held online is = ap₂ told-by there live ∙ ap₂ held-by mine is

@@ -29,7 +29,8 @@ use Rattle.lrc_book.proofs.LeaseGoodLemmas.{granted-seated, ended-seated, moved-
 
 -- a stripe that the test finds is one of the stripes
 pub stripe-there : (st : State) (s : StripeNo) → has_stripe st s ≡ true → Contains st.stripes s
-stripe-there st s e = let m = member-list_any (same_stripe s) st.stripes e in subst (Contains st.stripes) (sym (equal_stripes s m.0 (eqb-true _ _ m.2))) m.1
+stripe-there st s e =
+    let m = member-list_any (same_stripe s) st.stripes e in subst (Contains st.stripes) (sym (equal_stripes s m.0 (eqb-true _ _ m.2))) m.1
 
 -- what has an epoch is there
 pub at_epoch-some : (e : ℕ) (o : Option Lease) (l : Lease) → at_epoch e o ≡ Some l → (o ≡ Some l) × (l.epoch ≡ e)
@@ -42,12 +43,14 @@ at_epoch-some e (Some k) l is = elim (cases_Bool (nat_eq k.epoch e)) [
 -- ---- grants
 
 module _ (nodes : List NodeInfo) (known : AreNodes nodes) (past : List Entry) (st : State) (session : SessionNo) (s : StripeNo) (f : Fragment) where
-  chosen-seated : AreSeated nodes st → has_stripe st s ≡ true → lease_of st s f ≡ None → (o : Option Seat) → chosen nodes st s f ≡ o → AreSeated nodes (granted nodes past st session s f o).1
+  chosen-seated : AreSeated nodes st → has_stripe st s ≡ true → lease_of st s f ≡ None → (o : Option Seat) → chosen nodes st s f ≡ o
+      → AreSeated nodes (granted nodes past st session s f o).1
   chosen-seated seated there none None e = seated
   chosen-seated seated there none (Some seat) e =
       granted-seated nodes known st (new_lease past session s f seat) seated (chosen-choice nodes st s f seat known e) (stripe-there st s there) none
 
-  answered-seated : AreSeated nodes st → has_stripe st s ≡ true → (o : Option Lease) → lease_of st s f ≡ o → AreSeated nodes (lease_answer nodes past st session s f o).1
+  answered-seated : AreSeated nodes st → has_stripe st s ≡ true → (o : Option Lease) → lease_of st s f ≡ o
+      → AreSeated nodes (lease_answer nodes past st session s f o).1
   answered-seated seated there (Some l) e = seated
   answered-seated seated there None e =
       either-way (AreSeated nodes) (not (needs nodes st s f)) refusal.NotNeeded st _ seated
@@ -80,17 +83,21 @@ module _ (nodes : List NodeInfo) (st : State) (session : SessionNo) (s : StripeN
 
   pub done-seated : AreSeated nodes st → AreSeated nodes (done_outcome nodes st session s f e).1
   unfolding done_outcome
-  done-seated seated = either-way (AreSeated nodes) (not (has_stripe st s)) refusal.UnknownStripe st _ seated (λ there. done-by seated (at_epoch e (lease_of st s f)) refl)
+  done-seated seated =
+      either-way (AreSeated nodes) (not (has_stripe st s)) refusal.UnknownStripe st _ seated (λ there. done-by seated (at_epoch e (lease_of st s f)) refl)
 
   abandon-by : AreSeated nodes st → (o : Option Lease) → AreSeated nodes (abandon_answer st session s f o).1
   abandon-by seated None = seated
-  abandon-by seated (Some l) = either-way (AreSeated nodes) (not (is_held_by session l)) (refusal.NotHolder l.holder) st (Ended, without_lease st s f) seated (λ held. ended-seated nodes st s f seated)
+  abandon-by seated (Some l) =
+      either-way (AreSeated nodes) (not (is_held_by session l)) (refusal.NotHolder l.holder) st (Ended, without_lease st s f) seated (λ held. ended-seated nodes st s f seated)
 
   pub abandon-seated : AreSeated nodes st → AreSeated nodes (abandon_outcome st session s f e).1
   unfolding abandon_outcome
-  abandon-seated seated = either-way (AreSeated nodes) (not (has_stripe st s)) refusal.UnknownStripe st _ seated (λ there. abandon-by seated (at_epoch e (lease_of st s f)))
+  abandon-seated seated =
+      either-way (AreSeated nodes) (not (has_stripe st s)) refusal.UnknownStripe st _ seated (λ there. abandon-by seated (at_epoch e (lease_of st s f)))
 
-pub revoke-seated : (nodes : List NodeInfo) (st : State) (s : StripeNo) (f : Fragment) → AreSeated nodes st → AreSeated nodes (revoke_outcome st s f).1
+pub revoke-seated : (nodes : List NodeInfo) (st : State) (s : StripeNo) (f : Fragment) → AreSeated nodes st
+    → AreSeated nodes (revoke_outcome st s f).1
 unfolding revoke_outcome
 revoke-seated nodes st s f seated =
     either-way (AreSeated nodes) (not (has_stripe st s)) refusal.UnknownStripe st _ seated (λ there.

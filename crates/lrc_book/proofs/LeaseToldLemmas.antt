@@ -38,7 +38,8 @@ module _ (nodes : List NodeInfo) (past : List Entry) (st : State) (session : Ses
   granted-by there new true false (Some seat) is e =
       subst (IsGrant nodes st) (same-lease (new_lease past session s f seat) l _ k e) (record { there = there; new = new; chosen_is = is })
 
-  lease-by : (there : Bool) → has_stripe st s ≡ there → (o : Option Lease) → lease_of st s f ≡ o → (refuse_if (not there) refusal.UnknownStripe st (lease_answer nodes past st session s f o)).0 ≡ Granted l k → IsGrant nodes st l
+  lease-by : (there : Bool) → has_stripe st s ≡ there → (o : Option Lease) → lease_of st s f ≡ o
+      → (refuse_if (not there) refusal.UnknownStripe st (lease_answer nodes past st session s f o)).0 ≡ Granted l k → IsGrant nodes st l
   lease-by false is o live e = absurd (not-granted refusal.UnknownStripe l k e)
   lease-by true is (Some m) live e = absurd (not-granted (refusal.AlreadyLeased m.epoch) l k e)
   lease-by true is None live e = granted-by is live (needs nodes st s f) (is_beyond_repair nodes st s f) (chosen nodes st s f) refl e
@@ -63,7 +64,8 @@ module _ (nodes : List NodeInfo) (st : State) (session : SessionNo) (s : StripeN
   live-by None live told = absurd (not-ended refusal.Stale told)
   live-by (Some l) live told = rw live refl
 
-  done-by : (there : Bool) → has_stripe st s ≡ there → (refuse_if (not there) refusal.UnknownStripe st (done_answer nodes st session s f (at_epoch e (lease_of st s f)))).0 ≡ Ended
+  done-by : (there : Bool) → has_stripe st s ≡ there
+      → (refuse_if (not there) refusal.UnknownStripe st (done_answer nodes st session s f (at_epoch e (lease_of st s f)))).0 ≡ Ended
       → (has_stripe st s ≡ true) × IsSome (lease_of st s f)
   done-by false is told = absurd (not-ended refusal.UnknownStripe told)
   done-by true is told = (is, live-by (lease_of st s f) refl told)

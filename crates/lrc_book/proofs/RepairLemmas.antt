@@ -43,7 +43,8 @@ moved-by true = refl
 moved-by false = refl
 
 -- a fragment at home is moved
-pub repair-move : (nodes : List NodeInfo) (st : State) (s : StripeNo) (f : Fragment) → is_at_home nodes st s f ≡ true → repair_of nodes st s f ≡ Some Move
+pub repair-move : (nodes : List NodeInfo) (st : State) (s : StripeNo) (f : Fragment) → is_at_home nodes st s f ≡ true
+    → repair_of nodes st s f ≡ Some Move
 unfolding kind from-home
 repair-move nodes st s f home = ap (from-home nodes st s f) home ∙ moved-by (is_safe nodes st s)
 
@@ -63,34 +64,42 @@ module _ (nodes : List NodeInfo) (st : State) (s : StripeNo) where
     mask-is = is ∙ ap (λ b. if b then Some (record { bits = bits_of Wide (missing nodes st s) }) else None) there
 
     mask-set : bits_set mask.bits ≡ missing nodes st s
-    mask-set = ap (λ (m : LossMask). bits_set m.bits) (same_Some mask (record { bits = bits_of Wide (missing nodes st s) }) mask-is) ∙ fun_ext bits-both
+    mask-set =
+        ap (λ (m : LossMask). bits_set m.bits) (same_Some mask (record { bits = bits_of Wide (missing nodes st s) }) mask-is) ∙ fun_ext bits-both
 
     module _ (f : Fragment) (away : is_at_home nodes st s f ≡ false) where
       -- what is answered where the fragment is not at home
       abbrev repair-by : Bool → Bool → Option Kind
-      repair-by near safe = if (not safe && is_global (if near then Local (others Wide f) else Global)) then None else Some (if near then Local (others Wide f) else Global)
+      repair-by near safe =
+          if (not safe && is_global (if near then Local (others Wide f) else Global)) then None else Some (if near then Local (others Wide f) else Global)
 
       repair-away : repair_of nodes st s f ≡ repair-by (is_local Wide (missing nodes st s) f) (is_recoverable Wide (missing nodes st s))
       unfolding kind from-home
       repair-away = ap (from-home nodes st s f) away
 
-      by-local : (near safe : Bool) (sources : List Fragment) → (if near then Some (others Wide f) else None) ≡ Some sources → repair-by near safe ≡ Some (Local sources)
+      by-local : (near safe : Bool) (sources : List Fragment) → (if near then Some (others Wide f) else None) ≡ Some sources
+          → repair-by near safe ≡ Some (Local sources)
       by-local false safe sources e = absurd (let never : None ≡ Some sources = e in cc)
       by-local true true sources e = ap (λ (fs : List Fragment). Some (Local fs)) (same_Some (others Wide f) sources e)
       by-local true false sources e = ap (λ (fs : List Fragment). Some (Local fs)) (same_Some (others Wide f) sources e)
 
-      by-whole : (near safe : Bool) → (if near then Some (others Wide f) else None) ≡ None → repair-by near safe ≡ (if safe then Some Global else None)
+      by-whole : (near safe : Bool) → (if near then Some (others Wide f) else None) ≡ None
+          → repair-by near safe ≡ (if safe then Some Global else None)
       by-whole true safe e = absurd (let never : Some (others Wide f) ≡ None = e in cc)
       by-whole false true e = refl
       by-whole false false e = refl
 
-      pub repair-local : (sources : List Fragment) → local_sources Wide (bits_set mask.bits) f ≡ Some sources → repair_of nodes st s f ≡ Some (Local sources)
+      pub repair-local : (sources : List Fragment) → local_sources Wide (bits_set mask.bits) f ≡ Some sources
+          → repair_of nodes st s f ≡ Some (Local sources)
       repair-local sources found =
-          repair-away ∙ by-local (is_local Wide (missing nodes st s) f) (is_recoverable Wide (missing nodes st s)) sources (sym (ap (λ (m : FragmentSet). local_sources Wide m f) mask-set) ∙ found)
+          repair-away
+          ∙ by-local (is_local Wide (missing nodes st s) f) (is_recoverable Wide (missing nodes st s)) sources (sym (ap (λ (m : FragmentSet). local_sources Wide m f) mask-set) ∙ found)
 
-      pub repair-whole : (safe : Bool) → local_sources Wide (bits_set mask.bits) f ≡ None → is_recoverable Wide (bits_set mask.bits) ≡ safe → repair_of nodes st s f ≡ (if safe then Some Global else None)
+      pub repair-whole : (safe : Bool) → local_sources Wide (bits_set mask.bits) f ≡ None → is_recoverable Wide (bits_set mask.bits) ≡ safe
+          → repair_of nodes st s f ≡ (if safe then Some Global else None)
       repair-whole safe none able =
-          repair-away ∙ by-whole (is_local Wide (missing nodes st s) f) (is_recoverable Wide (missing nodes st s)) (sym (ap (λ (m : FragmentSet). local_sources Wide m f) mask-set) ∙ none)
+          repair-away
+          ∙ by-whole (is_local Wide (missing nodes st s) f) (is_recoverable Wide (missing nodes st s)) (sym (ap (λ (m : FragmentSet). local_sources Wide m f) mask-set) ∙ none)
           ∙ ap (λ b. if b then Some Global else None) (sym (ap (is_recoverable Wide) mask-set) ∙ able)
 
   masked : Bool → Option LossMask
@@ -109,13 +118,17 @@ module _ (nodes : List NodeInfo) (st : State) (s : StripeNo) where
 -- ---- which fragments need a lease
 
 module _ (st : State) (k : Store) (kept : IsOf st k) (s : StripeNo) (f : Fragment) where
-  drains-by : (n : NodeNo) (o : Option NodeInfo) (P : NodeInfo → Type 0) → node_at k.topology n ≡ o → IsSomeAnd o P → drains_at k.topology st n ≡ is_draining (mode_of st n)
+  drains-by : (n : NodeNo) (o : Option NodeInfo) (P : NodeInfo → Type 0) → node_at k.topology n ≡ o → IsSomeAnd o P
+      → drains_at k.topology st n ≡ is_draining (mode_of st n)
   drains-by n None P e some = absurd some
   drains-by n (Some m) P e some =
-      ap (λ (o : Option NodeInfo). option_map_or (λ x. is_draining (mode_of st x.number)) o false) e ∙ ap (λ (x : NodeNo). is_draining (mode_of st x)) (sym (member-node_at k.topology n m e).1)
+      ap (λ (o : Option NodeInfo). option_map_or (λ x. is_draining (mode_of st x.number)) o false) e
+      ∙ ap (λ (x : NodeNo). is_draining (mode_of st x)) (sym (member-node_at k.topology n m e).1)
 
-  needs-by : (o : Option Seat) → homes_of st.homes s f.value ≡ o → needs k.topology st s f ≡ option_map_or (λ seat. drains_at k.topology st seat.node) o true
-  needs-by o is = ap₂ (λ (a : Bool) (p : Option Seat). a && option_map_or (λ seat. drains_at k.topology st seat.node) p true) (lt-ltb f.value 16 f.in_range) is
+  needs-by : (o : Option Seat) → homes_of st.homes s f.value ≡ o
+      → needs k.topology st s f ≡ option_map_or (λ seat. drains_at k.topology st seat.node) o true
+  needs-by o is =
+      ap₂ (λ (a : Bool) (p : Option Seat). a && option_map_or (λ seat. drains_at k.topology st seat.node) p true) (lt-ltb f.value 16 f.in_range) is
 
   -- a fragment with a home needs one where the node is draining
   pub needs-homed : (seat : Seat) → (stored_in k.stripes).homes s f.value ≡ Some seat → needs k.topology st s f ≡ is_draining (mode_of st seat.node)

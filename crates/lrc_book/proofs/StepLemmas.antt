@@ -49,7 +49,8 @@ drop-front [] ys = refl
 drop-front (x ∷ xs) ys = drop-front xs ys
 
 -- the homes that were added stand on these seats
-pub seats-added : (s : StripeNo) (homes : List Held) (seats : List Seat) → length seats ≡ 16 → map (λ h. h.seat) (drop (length homes) (homes ++ held_at s (fragments Wide) seats)) ≡ seats
+pub seats-added : (s : StripeNo) (homes : List Held) (seats : List Seat) → length seats ≡ 16
+    → map (λ h. h.seat) (drop (length homes) (homes ++ held_at s (fragments Wide) seats)) ≡ seats
 seats-added s homes seats sixteen = rw (drop-front homes (held_at s (fragments Wide) seats)) (seats-held_at s (fragments Wide) seats sixteen)
 
 refused-if : (met : Bool) (r : _) (st : State) (other : Outcome) → met ≡ true → refuse_if met r st other ≡ (Refused r, st)
@@ -74,15 +75,19 @@ pub record IsGrown (nodes : List NodeInfo) (s : StripeNo) (fs : List Fragment) (
   pub chosen_are : AreChosen nodes st s fs seats
   pub is : done ≡ record st { homes = st.homes ++ held_at s fs seats }
 
-grown-more : (nodes : List NodeInfo) (s : StripeNo) (f : Fragment) (fs : List Fragment) (st done : State) (seat : Seat) → chosen nodes st s f ≡ Some seat → IsGrown nodes s fs (with_home st s f seat) done → IsGrown nodes s (f ∷ fs) st done
+grown-more : (nodes : List NodeInfo) (s : StripeNo) (f : Fragment) (fs : List Fragment) (st done : State) (seat : Seat)
+    → chosen nodes st s f ≡ Some seat → IsGrown nodes s fs (with_home st s f seat) done → IsGrown nodes s (f ∷ fs) st done
 grown-more nodes s f fs st done seat here g = record {
   seats = seat ∷ g.seats;
   all = omega (arith, g.all);
   chosen_are = (here, g.chosen_are);
-  is = g.is ∙ ap (λ (hs : List Held). record st { homes = hs }) (append_assoc st.homes (record { stripe = s; fragment = f; seat = seat } ∷ []) (held_at s fs g.seats));
+  is =
+      g.is
+      ∙ ap (λ (hs : List Held). record st { homes = hs }) (append_assoc st.homes (record { stripe = s; fragment = f; seat = seat } ∷ []) (held_at s fs g.seats));
 }
 
-never-ends : (nodes : List NodeInfo) (s : StripeNo) (fs : List Fragment) (f : Fragment) (done : State) → fold (place_next nodes s) (Err f) fs ≡ Ok done → ⊥
+never-ends : (nodes : List NodeInfo) (s : StripeNo) (fs : List Fragment) (f : Fragment) (done : State)
+    → fold (place_next nodes s) (Err f) fs ≡ Ok done → ⊥
 never-ends nodes s fs f done e = let stays = sym (fold_stays (place_next nodes s) (Err f) (λ x. refl) fs) ∙ e in cc
 
 grown-turn :
@@ -95,11 +100,14 @@ grown-turn nodes s f fs st done None here rest e = absurd (never-ends nodes s fs
 same_ok : (st done : State) → ◌≡◌ {A = Result State Fragment} (Ok st) (Ok done) → st ≡ done
 same_ok st done e = cc
 
-placing-grown : (nodes : List NodeInfo) (s : StripeNo) (fs : List Fragment) (st done : State) → fold (place_next nodes s) (Ok st) fs ≡ Ok done → IsGrown nodes s fs st done
-placing-grown nodes s [] st done e = record { seats = []; all = refl; chosen_are = tt; is = sym (same_ok st done e) ∙ ap (λ (hs : List Held). record st { homes = hs }) (sym (append-nil st.homes)) }
+placing-grown : (nodes : List NodeInfo) (s : StripeNo) (fs : List Fragment) (st done : State) → fold (place_next nodes s) (Ok st) fs ≡ Ok done
+    → IsGrown nodes s fs st done
+placing-grown nodes s [] st done e =
+    record { seats = []; all = refl; chosen_are = tt; is = sym (same_ok st done e) ∙ ap (λ (hs : List Held). record st { homes = hs }) (sym (append-nil st.homes)) }
 placing-grown nodes s (f ∷ fs) st done e = grown-turn nodes s f fs st done (chosen nodes st s f) refl (λ next. placing-grown nodes s fs next done) e
 
-answer-changed : (nodes : List NodeInfo) (st : State) (s : StripeNo) (r : Result State Fragment) → ((done : State) → r ≡ Ok done → IsGrown nodes s (fragments Wide) (with_stripe st Wide s) done)
+answer-changed : (nodes : List NodeInfo) (st : State) (s : StripeNo) (r : Result State Fragment)
+    → ((done : State) → r ≡ Ok done → IsGrown nodes s (fragments Wide) (with_stripe st Wide s) done)
     → (place_answer st s r).1 ≡ changed_by st (Place s) (place_answer st s r).0
 answer-changed nodes st s (Err f) grown = refl
 answer-changed nodes st s (Ok done) grown =
@@ -107,21 +115,27 @@ answer-changed nodes st s (Ok done) grown =
     let added : map (λ h. h.seat) (drop (length st.homes) done.homes) ≡ g.seats = ap (λ (x : State). map (λ h. h.seat) (drop (length st.homes) x.homes)) g.is ∙ seats-added s st.homes g.seats g.all in
     g.is ∙ ap (with_placed st s) (sym added)
 
-pub place-passed : (nodes : List NodeInfo) (st : State) (s : StripeNo) → has_stripe st s ≡ false → place_outcome nodes st Wide s ≡ place_answer st s (placed nodes (with_stripe st Wide s) s)
+pub place-passed : (nodes : List NodeInfo) (st : State) (s : StripeNo) → has_stripe st s ≡ false
+    → place_outcome nodes st Wide s ≡ place_answer st s (placed nodes (with_stripe st Wide s) s)
 unfolding place_outcome
 place-passed nodes st s absent = passed-if _ _ st _ absent
 
-pub placed-grown : (nodes : List NodeInfo) (st : State) (s : StripeNo) (done : State) → placed nodes (with_stripe st Wide s) s ≡ Ok done → IsGrown nodes s (fragments Wide) (with_stripe st Wide s) done
+pub placed-grown : (nodes : List NodeInfo) (st : State) (s : StripeNo) (done : State) → placed nodes (with_stripe st Wide s) s ≡ Ok done
+    → IsGrown nodes s (fragments Wide) (with_stripe st Wide s) done
 unfolding placed
 placed-grown nodes st s done e = placing-grown nodes s (fragments Wide) (with_stripe st Wide s) done e
 
-place-changed : (nodes : List NodeInfo) (st : State) (s : StripeNo) (there : Bool) → has_stripe st s ≡ there → (place_outcome nodes st Wide s).1 ≡ changed_by st (Place s) (place_outcome nodes st Wide s).0
-place-changed nodes st s true e = let o = place-there nodes st s e in ap (λ (o : Outcome). o.1) o ∙ sym (ap (λ (o : Outcome). changed_by st (Place s) o.0) o)
+place-changed : (nodes : List NodeInfo) (st : State) (s : StripeNo) (there : Bool) → has_stripe st s ≡ there
+    → (place_outcome nodes st Wide s).1 ≡ changed_by st (Place s) (place_outcome nodes st Wide s).0
+place-changed nodes st s true e =
+    let o = place-there nodes st s e in ap (λ (o : Outcome). o.1) o ∙ sym (ap (λ (o : Outcome). changed_by st (Place s) o.0) o)
 place-changed nodes st s false e =
     let o = place-passed nodes st s e in
-    ap (λ (o : Outcome). o.1) o ∙ answer-changed nodes st s (placed nodes (with_stripe st Wide s) s) (placed-grown nodes st s) ∙ sym (ap (λ (o : Outcome). changed_by st (Place s) o.0) o)
+    ap (λ (o : Outcome). o.1) o ∙ answer-changed nodes st s (placed nodes (with_stripe st Wide s) s) (placed-grown nodes st s)
+    ∙ sym (ap (λ (o : Outcome). changed_by st (Place s) o.0) o)
 
-drop-cases : (st : State) (s : StripeNo) (there : Bool) → (refuse_if (not there) refusal.UnknownStripe st (Dropped, without_stripe st s)).1 ≡ changed_by st (Drop s) (refuse_if (not there) refusal.UnknownStripe st (Dropped, without_stripe st s)).0
+drop-cases : (st : State) (s : StripeNo) (there : Bool)
+    → (refuse_if (not there) refusal.UnknownStripe st (Dropped, without_stripe st s)).1 ≡ changed_by st (Drop s) (refuse_if (not there) refusal.UnknownStripe st (Dropped, without_stripe st s)).0
 drop-cases st s true = refl
 drop-cases st s false = refl
 
@@ -220,7 +234,8 @@ module _ (nodes : List NodeInfo) (past : List Entry) (st : State) (session : Ses
     answer-told (Some lease) = sym (grants.refusing (refusal.AlreadyLeased lease.epoch))
     answer-told None = needed-changed (needs nodes st s f) (is_beyond_repair nodes st s f) (chosen nodes st s f)
 
-    lease-cases : (there : Bool) (o : Option LeaseRecord) → IsToldBy c (refuse_if (not there) refusal.UnknownStripe st (lease_answer nodes past st session s f o))
+    lease-cases : (there : Bool) (o : Option LeaseRecord)
+        → IsToldBy c (refuse_if (not there) refusal.UnknownStripe st (lease_answer nodes past st session s f o))
     unfolding IsToldBy
     lease-cases false o = sym (grants.refusing refusal.UnknownStripe)
     lease-cases true o = answer-told o
@@ -243,7 +258,8 @@ module _ (nodes : List NodeInfo) (past : List Entry) (st : State) (session : Ses
     held-changed true false lease live = refl
     held-changed true true lease live = sym (ap (with_done st s f) live)
 
-    epoch-changed : (same : Bool) (lease : LeaseRecord) → lease_of st s f ≡ Some lease → IsToldBy (Done s f e) (done_answer nodes st session s f (if same then Some lease else None))
+    epoch-changed : (same : Bool) (lease : LeaseRecord) → lease_of st s f ≡ Some lease
+        → IsToldBy (Done s f e) (done_answer nodes st session s f (if same then Some lease else None))
     unfolding IsToldBy
     epoch-changed false lease live = refl
     epoch-changed true lease live = held-changed (is_held_by session lease) (online_at nodes st lease.target.node) lease live
@@ -253,7 +269,8 @@ module _ (nodes : List NodeInfo) (past : List Entry) (st : State) (session : Ses
     live-changed None none = refl
     live-changed (Some lease) live = epoch-changed (nat_eq lease.epoch e) lease live
 
-    done-cases : (there : Bool) → IsToldBy (Done s f e) (refuse_if (not there) refusal.UnknownStripe st (done_answer nodes st session s f (at_epoch e (lease_of st s f))))
+    done-cases : (there : Bool)
+        → IsToldBy (Done s f e) (refuse_if (not there) refusal.UnknownStripe st (done_answer nodes st session s f (at_epoch e (lease_of st s f))))
     unfolding IsToldBy
     done-cases false = refl
     done-cases true = live-changed (lease_of st s f) refl
@@ -262,7 +279,8 @@ module _ (nodes : List NodeInfo) (past : List Entry) (st : State) (session : Ses
     unfolding IsToldBy done_outcome
     done-changed = done-cases (has_stripe st s)
 
-    given-changed : (mine : Bool) (lease : LeaseRecord) → IsToldBy (Abandon s f e) (refuse_if (not mine) (refusal.NotHolder lease.holder) st (Ended, without_lease st s f))
+    given-changed : (mine : Bool) (lease : LeaseRecord)
+        → IsToldBy (Abandon s f e) (refuse_if (not mine) (refusal.NotHolder lease.holder) st (Ended, without_lease st s f))
     unfolding IsToldBy
     given-changed false lease = refl
     given-changed true lease = refl
@@ -272,7 +290,8 @@ module _ (nodes : List NodeInfo) (past : List Entry) (st : State) (session : Ses
     back-changed None = refl
     back-changed (Some lease) = given-changed (is_held_by session lease) lease
 
-    abandon-cases : (there : Bool) → IsToldBy (Abandon s f e) (refuse_if (not there) refusal.UnknownStripe st (abandon_answer st session s f (at_epoch e (lease_of st s f))))
+    abandon-cases : (there : Bool)
+        → IsToldBy (Abandon s f e) (refuse_if (not there) refusal.UnknownStripe st (abandon_answer st session s f (at_epoch e (lease_of st s f))))
     unfolding IsToldBy
     abandon-cases false = refl
     abandon-cases true = back-changed (at_epoch e (lease_of st s f))
@@ -281,7 +300,8 @@ module _ (nodes : List NodeInfo) (past : List Entry) (st : State) (session : Ses
     unfolding IsToldBy abandon_outcome
     abandon-changed = abandon-cases (has_stripe st s)
 
-  revoke-cases : (there none : Bool) → IsToldBy (Revoke s f) (refuse_if (not there) refusal.UnknownStripe st (refuse_if none refusal.NoLease st (Ended, without_lease st s f)))
+  revoke-cases : (there none : Bool)
+      → IsToldBy (Revoke s f) (refuse_if (not there) refusal.UnknownStripe st (refuse_if none refusal.NoLease st (Ended, without_lease st s f)))
   unfolding IsToldBy
   revoke-cases false none = refl
   revoke-cases true true = refl
@@ -301,7 +321,8 @@ module _ (nodes : List NodeInfo) (past : List Entry) (st : State) (session : Ses
   next-changed = next-cases (next_of nodes st)
 
 -- the state that a step leaves is told by the command and the reply
-pub step-changed : (nodes : List NodeInfo) (past : List Entry) (st : State) (session : SessionNo) (c : Command) → (step nodes past st session c).1 ≡ changed_by st c (step nodes past st session c).0
+pub step-changed : (nodes : List NodeInfo) (past : List Entry) (st : State) (session : SessionNo) (c : Command)
+    → (step nodes past st session c).1 ≡ changed_by st c (step nodes past st session c).0
 step-changed nodes past st session (Place s) = place-changed nodes st s (has_stripe st s) refl
 step-changed nodes past st session (Drop s) = drop-changed st s
 step-changed nodes past st session (Lease s f) = lease-changed nodes past st session s f

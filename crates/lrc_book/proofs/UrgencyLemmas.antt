@@ -1,10 +1,10 @@
 -- The order of repair: what the stripes that are kept list by rank is what the state says.
-use Rattle.std.proofs.Common.{◌≡◌, ◌≢◌, ℕ, ◌<◌, inl, inr, Bool, true, false, not, ◌&&◌, ◌||◌, if◌then◌else◌, nat_lt, nat_eq, IsTrue, List, [], ◌∷◌, ◌++◌, map, filter, find, get_or, flat_map, Option, Some, None, is_none, option_map, IsSome, refl, sym, ap, ap₂, ◌∙◌, subst, arith}
+use Rattle.std.proofs.Common.{◌≡◌, ◌≢◌, ℕ, ◌<◌, inl, inr, Bool, true, false, not, ◌&&◌, ◌||◌, if◌then◌else◌, nat_lt, nat_eq, List, [], ◌∷◌, map, filter, find, get_or, flat_map, Option, Some, None, is_none, option_map, refl, sym, ap, ap₂, ◌∙◌, subst, arith}
 use Rattle.std.specs.Option.{option_or}
 use Rattle.std.proofs.lemmas.Bool.Decides.{nat_tests}
 use Rattle.std.specs.Cmp.{IsStrictWeakOrder}
-use Rattle.std.specs.List.{All, AllPairs, AllByRecursion, Contains, list_any}
-use Rattle.std.proofs.lemmas.Bool.{cases_Bool, cases_eq, and_parts, and_from, or_left, not-true, eqb-true, lt-ltb, eq-eqb}
+use Rattle.std.specs.List.{AllPairs, AllByRecursion, Contains}
+use Rattle.std.proofs.lemmas.Bool.{cases_Bool, cases_eq, and_parts, and_from, or_left, not-true, lt-ltb, eq-eqb}
 use Rattle.std.proofs.lemmas.List.Elements.{All-contains, recursion_from_All, Contains-append_left, Contains-append_right, Contains-append_cases}
 use Rattle.std.proofs.lemmas.List.Kept.{AllPairs-filter}
 use Rattle.std.proofs.lemmas.List.Folds.{find-append}
@@ -14,9 +14,8 @@ use Rattle.lrc_code.specs.declared.numbers.StripeNo.{StripeNo}
 use Rattle.lrc_code.specs.declared.numbers.Fragment.{Fragment}
 use Rattle.lrc_code.specs.Numbers.{same_stripe}
 use Rattle.lrc_code.specs.Codes.{fragments}
-use Rattle.lrc_code.specs.Order.{least}
 use Rattle.lrc_code.proofs.NumbersLemmas.{equal_stripes, equal_fragments}
-use Rattle.lrc_code.proofs.OrderLemmas.{first, find-first, not_before-itself}
+use Rattle.lrc_code.proofs.OrderLemmas.{find-first, not_before-itself}
 use Rattle.lrc_topology.specs.declared.NodeInfo.{NodeInfo}
 use Rattle.lrc_stripes.specs.declared.level.Level.{Level}
 use Rattle.lrc_stripes.specs.Levels.{homes_of, needs_in, has_some, comes_first, is_whole, level_if}
@@ -26,7 +25,6 @@ use Rattle.lrc_stripes.proofs.ListLemmas.{AllPairs-map, AllPairs-append, Contain
 use Rattle.lrc_book.specs.States.{State, has_stripe, code_of, lease_of, drains_at, rank, level}
 use Rattle.lrc_book.specs.Repairs.{needs}
 use Rattle.lrc_book.specs.Urgency.{by_rank, has_work, work, risk, is_grantable, all_fragments, is_repaired_before, next_of}
-use Rattle.lrc_book.specs.Goodness.{AreSeated}
 use Rattle.lrc_book.specs.Stores.{stored_of}
 use Rattle.lrc_book.proofs.MemberLemmas.{All-members, Contains-here, Contains-later, Contains-cases, not-Contains-nil, AllPairs-head, AllPairs-tail, filter-member, member-filter, list_any-member, member-list_any, map-member}
 use Rattle.lrc_book.proofs.FragmentLemmas.{all-fragments}
@@ -43,7 +41,8 @@ module _ (a n b m : ℕ) where
   stripe-tie : (nat_lt a b || (nat_eq a b && nat_lt n m)) ≡ false → (nat_lt b a || (nat_eq b a && nat_lt m n)) ≡ false → n ≡ m
   stripe-tie h k = grind (arith, nat_tests)
 
-  stripe-chain : (c o : ℕ) → (nat_lt a b || (nat_eq a b && nat_lt n m)) ≡ false → (nat_lt b c || (nat_eq b c && nat_lt m o)) ≡ false → (nat_lt a c || (nat_eq a c && nat_lt n o)) ≡ false
+  stripe-chain : (c o : ℕ) → (nat_lt a b || (nat_eq a b && nat_lt n m)) ≡ false
+      → (nat_lt b c || (nat_eq b c && nat_lt m o)) ≡ false → (nat_lt a c || (nat_eq a c && nat_lt n o)) ≡ false
   stripe-chain c o h k = grind (arith, nat_tests)
 
 module _ (ranks : StripeNo → ℕ) where
@@ -77,7 +76,8 @@ module _ (a n f b m g : ℕ) (linked : n ≡ m → a ≡ b) where
     | inr other ↦ absurd (grind (arith, nat_tests))
   ]
 
-  fragment-chain : (c o k : ℕ) → (m ≡ o → b ≡ c) → (n ≡ o → a ≡ c) → goes a n f b m g ≡ false → goes b m g c o k ≡ false → goes a n f c o k ≡ false
+  fragment-chain : (c o k : ℕ) → (m ≡ o → b ≡ c) → (n ≡ o → a ≡ c)
+      → goes a n f b m g ≡ false → goes b m g c o k ≡ false → goes a n f c o k ≡ false
   fragment-chain c o k next both h i = elim (cases_eq n m) [
     | inl same ↦ let e = linked same in elim (cases_eq m o) [
       | inl also ↦ let d = next also in grind (arith, nat_tests)
@@ -99,7 +99,9 @@ module _ (ranks : StripeNo → ℕ) where
   pub fragment-order : IsStrictWeakOrder (is_repaired_before ranks)
   fragment-order = record {
     one_way = λ p q. fragment-once (ranks p.0) p.0.value p.1.value (ranks q.0) q.0.value q.1.value (linked p.0 q.0);
-    chain = λ p q r. fragment-chain (ranks p.0) p.0.value p.1.value (ranks q.0) q.0.value q.1.value (linked p.0 q.0) (ranks r.0) r.0.value r.1.value (linked q.0 r.0) (linked p.0 r.0);
+    chain = λ p q r.
+        fragment-chain (ranks p.0) p.0.value p.1.value (ranks q.0) q.0.value q.1.value (linked p.0 q.0)
+        (ranks r.0) r.0.value r.1.value (linked q.0 r.0) (linked p.0 r.0);
   }
 
   pub fragment-ties : (p q : StripeFragment) → is_repaired_before ranks p q ≡ false → is_repaired_before ranks q p ≡ false → p ≡ q
@@ -140,17 +142,20 @@ module _ (ranks : StripeNo → ℕ) where
   at-lower s f g below = rw (stripe-self ranks s, eq-eqb s.value s.value refl) (lt-ltb f.value g.value below)
 
   at-strict : (s : StripeNo) → IsStrict (is_repaired_before ranks) (fragments_at s)
-  at-strict s = AllPairs-map (λ p q. is_repaired_before ranks p q ≡ true) (λ f. (s, f)) (fragments Wide) (λ i j d below within. at-lower s (get_or (fragments Wide) i d) (get_or (fragments Wide) j d) (fragments-rising i j d below within))
+  at-strict s =
+      AllPairs-map (λ p q. is_repaired_before ranks p q ≡ true) (λ f. (s, f)) (fragments Wide)
+      (λ i j d below within. at-lower s (get_or (fragments Wide) i d) (get_or (fragments Wide) j d) (fragments-rising i j d below within))
 
-  pub fragments-strict : (stripes : List StripeNo) → IsStrict (comes_first ranks) stripes → IsStrict (is_repaired_before ranks) (fragments_in stripes)
+  pub fragments-strict : (stripes : List StripeNo) → IsStrict (comes_first ranks) stripes
+      → IsStrict (is_repaired_before ranks) (fragments_in stripes)
   fragments-strict [] strict = strict-nil (is_repaired_before ranks)
   fragments-strict (s ∷ stripes) strict =
+      let ahead = AllPairs-head (λ s t. comes_first ranks s t ≡ true) s stripes strict in
       AllPairs-append (λ p q. is_repaired_before ranks p q ≡ true) (fragments_at s) (fragments_in stripes) (at-strict s)
       (fragments-strict stripes (AllPairs-tail (λ s t. comes_first ranks s t ≡ true) s stripes strict))
       (All-members _ (fragments_at s) (λ p here. All-members (λ q. is_repaired_before ranks p q ≡ true) (fragments_in stripes) (λ q there.
-      let later = All-contains (λ t. comes_first ranks s t ≡ true) stripes q.0 (AllPairs-head (λ s t. comes_first ranks s t ≡ true) s stripes strict) (fragments-into stripes q there) in
-      let ahead : comes_first ranks p.0 q.0 ≡ true = subst (λ t. comes_first ranks t q.0 ≡ true) (sym (at-stripe s p here)) later in
-      or_left (comes_first ranks p.0 q.0) _ ahead)))
+      let later = All-contains (λ t. comes_first ranks s t ≡ true) stripes q.0 ahead (fragments-into stripes q there) in
+      or_left (comes_first ranks p.0 q.0) _ (subst (λ t. comes_first ranks t q.0 ≡ true) (sym (at-stripe s p here)) later))))
 
 -- ---- the first that passes a test, stripe by stripe
 
@@ -163,10 +168,14 @@ module _ (test : StripeFragment → Bool) where
   ]
 
   pub find-turn : (s : StripeNo) (stripes : List StripeNo)
-      → find test (fragments_in (s ∷ stripes)) ≡ option_or (option_map (λ f. (s, f)) (find (λ f. test (s, f)) (fragments Wide))) (find test (fragments_in stripes))
-  find-turn s stripes = find-append test (map (λ f. (s, f)) (fragments Wide)) (fragments_in stripes) ∙ ap (λ o. option_or o (find test (fragments_in stripes))) (find-map s (fragments Wide))
+      → find test (fragments_in (s ∷ stripes))
+      ≡ option_or (option_map (λ f. (s, f)) (find (λ f. test (s, f)) (fragments Wide))) (find test (fragments_in stripes))
+  find-turn s stripes =
+      find-append test (map (λ f. (s, f)) (fragments Wide)) (fragments_in stripes)
+      ∙ ap (λ o. option_or o (find test (fragments_in stripes))) (find-map s (fragments Wide))
 
-paired : (levels : StripeNo → Level) (rows : List StripeLevel) → AllByRecursion (λ r. levels r.0 ≡ r.1) rows → map (λ s. (s, levels s)) (map (λ r. r.0) rows) ≡ rows
+paired : (levels : StripeNo → Level) (rows : List StripeLevel) → AllByRecursion (λ r. levels r.0 ≡ r.1) rows
+    → map (λ s. (s, levels s)) (map (λ r. r.0) rows) ≡ rows
 paired levels [] all = refl
 paired levels (r ∷ rows) all = ap₂ (λ (l : Level) (rest : List StripeLevel). (r.0, l) ∷ rest) all.0 (paired levels rows all.1)
 
@@ -199,7 +208,9 @@ module _ (nodes : List NodeInfo) (st : State) (spare : ℕ) where
         (stripe-there st s parts.0, some-needed s parts.1)
 
     work-from : (s : StripeNo) → Contains st.stripes s → has_work nodes st s ≡ true → Contains stripes s
-    work-from s there has = (are.each s).1 (and_from (has_stripe st s) (has_some Wide (needed s)) (list_any-member (same_stripe s) st.stripes s there (eq-eqb s.value s.value refl)) (needed-some s has))
+    work-from s there has =
+        let listed = list_any-member (same_stripe s) st.stripes s there (eq-eqb s.value s.value refl) in
+        (are.each s).1 (and_from (has_stripe st s) (has_some Wide (needed s)) listed (needed-some s has))
 
     -- each is there
     pub work-there : (s : StripeNo) → Contains stripes s → has_stripe st s ≡ true
@@ -209,7 +220,8 @@ module _ (nodes : List NodeInfo) (st : State) (spare : ℕ) where
     pub work-is : AllPairs (λ s t. s ≢ t) st.stripes → stripes ≡ work nodes st
     unfolding work
     work-is distinct =
-        strict-in_order (comes_first (rank nodes st)) (stripe-order (rank nodes st)) (stripe-ties (rank nodes st)) (filter (has_work nodes st) st.stripes) stripes
+        let ranks = rank nodes st in
+        strict-in_order (comes_first ranks) (stripe-order ranks) (stripe-ties ranks) (filter (has_work nodes st) st.stripes) stripes
         (AllPairs-filter (λ s t. s ≢ t) (has_work nodes st) st.stripes distinct) are.rising
         (λ s here. let at = filter-member (has_work nodes st) st.stripes s here in work-from s at.0 at.1)
         (λ s here. let at = work-into s here in member-filter (has_work nodes st) st.stripes s at.0 at.1)
@@ -224,11 +236,16 @@ module _ (nodes : List NodeInfo) (st : State) (spare : ℕ) where
     unfolding next_of
     next-first =
         let test = is_grantable nodes st in
-        first-least (is_repaired_before (rank nodes st)) (fragment-order (rank nodes st)) (fragment-ties (rank nodes st)) (filter test (all_fragments st)) (filter test (fragments_in stripes))
-        (AllPairs-filter (λ p q. is_repaired_before (rank nodes st) p q ≡ true) test (fragments_in stripes) (fragments-strict (rank nodes st) stripes are.rising))
-        (λ p here. let at = filter-member test (fragments_in st.stripes) p here in
-        member-filter test (fragments_in stripes) p (fragments-from stripes p (work-from p.0 (fragments-into st.stripes p at.0) (granted-works p at.1))) at.1)
-        (λ p here. let at = filter-member test (fragments_in stripes) p here in
+        let ranks = rank nodes st in
+        first-least (is_repaired_before ranks) (fragment-order ranks) (fragment-ties ranks)
+        (filter test (all_fragments st)) (filter test (fragments_in stripes))
+        (AllPairs-filter (λ p q. is_repaired_before ranks p q ≡ true) test (fragments_in stripes) (fragments-strict ranks stripes are.rising))
+        (λ p here.
+        let at = filter-member test (fragments_in st.stripes) p here in
+        let listed = work-from p.0 (fragments-into st.stripes p at.0) (granted-works p at.1) in
+        member-filter test (fragments_in stripes) p (fragments-from stripes p listed) at.1)
+        (λ p here.
+        let at = filter-member test (fragments_in stripes) p here in
         member-filter test (fragments_in st.stripes) p (fragments-from st.stripes p (work-into p.0 (fragments-into stripes p at.0)).0) at.1)
         ∙ sym (find-first test (fragments_in stripes))
 
@@ -245,7 +262,8 @@ module _ (nodes : List NodeInfo) (st : State) (spare : ℕ) where
     unfolding level_if shown-by
     shown-is s there e = ap (λ b. shown-by b s) e
 
-    shown-some : (s : StripeNo) (l : Level) (there : Bool) → has_stripe st s ≡ there → level_shown kept s ≡ Some l → Contains st.stripes s × (level nodes st s ≡ l)
+    shown-some : (s : StripeNo) (l : Level) (there : Bool) → has_stripe st s ≡ there → level_shown kept s ≡ Some l
+        → Contains st.stripes s × (level nodes st s ≡ l)
     shown-some s l true e told = (stripe-there st s e, same_Some (level nodes st s) l (sym (shown-is s true e) ∙ told))
     shown-some s l false e told = absurd (let never : None ≡ Some l = sym (shown-is s false e) ∙ told in cc)
 
@@ -257,15 +275,18 @@ module _ (nodes : List NodeInfo) (st : State) (spare : ℕ) where
 
     risk-from : (s : StripeNo) → Contains st.stripes s → is_risky s ≡ true → Contains rows (s, level nodes st s)
     risk-from s there risky =
-        (are.each s (level nodes st s)).1
-        (shown-is s true (list_any-member (same_stripe s) st.stripes s there (eq-eqb s.value s.value refl)), not-true (is_whole (level nodes st s)) risky)
+        let listed = list_any-member (same_stripe s) st.stripes s there (eq-eqb s.value s.value refl) in
+        (are.each s (level nodes st s)).1 (shown-is s true listed, not-true (is_whole (level nodes st s)) risky)
 
     firsts-are : AllPairs (λ s t. s ≢ t) st.stripes → map (λ r. r.0) rows ≡ by_rank nodes st (filter is_risky st.stripes)
     firsts-are distinct =
-        strict-in_order (comes_first (rank nodes st)) (stripe-order (rank nodes st)) (stripe-ties (rank nodes st)) (filter is_risky st.stripes) (map (λ r. r.0) rows)
+        let ranks = rank nodes st in
+        strict-in_order (comes_first ranks) (stripe-order ranks) (stripe-ties ranks) (filter is_risky st.stripes) (map (λ r. r.0) rows)
         (AllPairs-filter (λ s t. s ≢ t) is_risky st.stripes distinct)
-        (AllPairs-map (λ s t. comes_first (rank nodes st) s t ≡ true) (λ (r : StripeLevel). r.0) rows are.rising)
-        (λ s here. let at = filter-member is_risky st.stripes s here in map-member (λ (r : StripeLevel). r.0) rows (s, level nodes st s) (risk-from s at.0 at.1))
+        (AllPairs-map (λ s t. comes_first ranks s t ≡ true) (λ (r : StripeLevel). r.0) rows are.rising)
+        (λ s here.
+        let at = filter-member is_risky st.stripes s here in
+        map-member (λ (r : StripeLevel). r.0) rows (s, level nodes st s) (risk-from s at.0 at.1))
         (λ s here. let (r, at, same) = Contains-unmap (λ (r : StripeLevel). r.0) rows s here in
         let parts = risk-into r at in
         subst (Contains (filter is_risky st.stripes)) same (member-filter is_risky st.stripes r.0 parts.0 parts.1))
@@ -274,5 +295,6 @@ module _ (nodes : List NodeInfo) (st : State) (spare : ℕ) where
     pub risk-is : AllPairs (λ s t. s ≢ t) st.stripes → rows ≡ risk nodes st
     unfolding risk
     risk-is distinct =
-        sym (paired (level nodes st) rows (recursion_from_All (λ r. level nodes st r.0 ≡ r.1) rows (All-members (λ r. level nodes st r.0 ≡ r.1) rows (λ r here. (risk-into r here).2))))
+        let shows = All-members (λ r. level nodes st r.0 ≡ r.1) rows (λ r here. (risk-into r here).2) in
+        sym (paired (level nodes st) rows (recursion_from_All (λ r. level nodes st r.0 ≡ r.1) rows shows))
         ∙ ap (map (λ s. (s, level nodes st s))) (firsts-are distinct)

@@ -1,8 +1,7 @@
 -- The order of repair: which stripes have work, which are at risk, and which fragment's lease comes next.
-use Rattle.std.specs.Prelude.{◌≡◌, ℕ, Bool, not, ◌&&◌, ◌||◌, nat_lt, IsTrue, IsFalse, List, AllPairs, Contains, map, filter, flat_map, Option, is_none, is_some}
+use Rattle.std.specs.Prelude.{ℕ, Bool, not, ◌&&◌, ◌||◌, nat_lt, List, map, filter, flat_map, Option, is_none, is_some}
 use Rattle.std.specs.List.{list_any}
 use Rattle.lrc_code.specs.declared.numbers.StripeNo.{StripeNo}
-use Rattle.lrc_code.specs.declared.numbers.Fragment.{Fragment}
 use Rattle.lrc_code.specs.Numbers.{same_stripe}
 use Rattle.lrc_code.specs.Codes.{fragments}
 use Rattle.lrc_code.specs.Order.{least, in_order}
