@@ -35,7 +35,8 @@ pub opening-kept : (k : Store) → AreNodes k.topology → slots_of k.table ≡ 
 opening-kept k known table stripes leases modes = record {
   known = known;
   seated = opening-seated k.topology;
-  table_is = table ∙ ap (λ (eligible : NodeNo → Bool). record (all_free k.topology) { eligible = eligible }) (fun_ext (λ n. takes-first (node_at k.topology n)));
+  table_is = table ∙ ap (λ (eligible : NodeNo → Bool). record (all_free k.topology) { eligible = eligible })
+      (fun_ext (λ n. takes-first (node_at k.topology n)));
   stripes_is = own-spare k.topology opening (stored_in k.stripes) 0
       (stripes ∙ same_modes (stored.empty k.topology) _ (online_at k.topology opening) _ (drains_at k.topology opening)
       (λ n. online-first (node_at k.topology n)) (λ n. drains-first (node_at k.topology n)));

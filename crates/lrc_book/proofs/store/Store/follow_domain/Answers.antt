@@ -21,26 +21,26 @@ loop-node-init g c = record {
 
 pub set_eligible-requires : goal.set_eligible-requires
 set_eligible-requires g c =
+    let nodes = c.args.self.now.topology in
     let table = c.loop-node.self.1.1.0 in
     let stripes = c.loop-node.self.1.1.1.0 in
-    let following = subst
-    (IsFollowing c.args.domain g.st c.args.self.now.topology table stripes) c.in-Some.ensures.steps c.loop-node.invariant.following in
-    following-slots c.args.domain g.st c.args.self.now.topology c.requires.1.known table stripes c.in-Some.node.now c.next.new.self following
+    let following = subst (IsFollowing c.args.domain g.st nodes table stripes) c.in-Some.ensures.steps c.loop-node.invariant.following in
+    following-slots c.args.domain g.st nodes c.requires.1.known table stripes c.in-Some.node.now c.next.new.self following
 
 pub set_offline-requires : goal.set_offline-requires
 set_offline-requires g c =
+    let nodes = c.args.self.now.topology in
     let table = c.loop-node.self.1.1.0 in
     let stripes = c.loop-node.self.1.1.1.0 in
-    let following = subst
-    (IsFollowing c.args.domain g.st c.args.self.now.topology table stripes) c.in-Some.ensures.steps c.loop-node.invariant.following in
-    following-sites c.args.domain g.st c.args.self.now.topology c.requires.1.known table stripes c.in-Some.node.now c.next.new.self following
+    let following = subst (IsFollowing c.args.domain g.st nodes table stripes) c.in-Some.ensures.steps c.loop-node.invariant.following in
+    following-sites c.args.domain g.st nodes c.requires.1.known table stripes c.in-Some.node.now c.next.new.self following
 
 pub loop-node-preserved-then-eq : goal.loop-node-preserved-then-eq
 loop-node-preserved-then-eq g c =
+    let nodes = c.args.self.now.topology in
     let table = c.loop-node.self.1.1.0 in
     let stripes = c.loop-node.self.1.1.1.0 in
-    let following = subst
-    (IsFollowing c.args.domain g.st c.args.self.now.topology table stripes) c.in-Some.ensures.steps c.loop-node.invariant.following in
+    let following = subst (IsFollowing c.args.domain g.st nodes table stripes) c.in-Some.ensures.steps c.loop-node.invariant.following in
     let modes = subst (λ (m : Modes). AreModesOf g.st m) (sym c.loop-node.invariant.modes) c.requires.1.modes_are in
     let online = c.is_online-is_online.result in
     let active = c.eq-is_active.result in
@@ -49,7 +49,7 @@ loop-node-preserved-then-eq g c =
       | else-is_online w ↦ w.set_eligible-is ∙ w.if-is_online.false ∙ sym (ap (λ (b : Bool). b && active) w.if-is_online.false)
     ] in
     record {
-      following = following-set c.args.domain g.st c.args.self.now.topology c.requires.1.known table stripes c.in-Some.node.now c.next.new.self following online active
+      following = following-set c.args.domain g.st nodes c.requires.1.known table stripes c.in-Some.node.now c.next.new.self following online active
           (c.is_online-is_online.ensures g.st modes) (c.eq-is_active.ensures ∙ same-active c.mode.result
           ∙ ap is_active (c.mode.ensures g.st modes)) c.set_eligible.new.self c.set_offline.new.self
           (c.set_eligible.ensures ∙ ap (with_eligible (slots_of table) c.in-Some.node.now.number) eligible) c.set_offline.ensures;
@@ -58,12 +58,12 @@ loop-node-preserved-then-eq g c =
 
 pub loop-node-preserved : goal.loop-node-preserved
 loop-node-preserved g c =
+    let nodes = c.args.self.now.topology in
     let table = c.loop-node.self.1.1.0 in
     let stripes = c.loop-node.self.1.1.1.0 in
-    let following = subst
-    (IsFollowing c.args.domain g.st c.args.self.now.topology table stripes) c.in-Some.ensures.steps c.loop-node.invariant.following in
+    let following = subst (IsFollowing c.args.domain g.st nodes table stripes) c.in-Some.ensures.steps c.loop-node.invariant.following in
     record {
-      following = following-skip c.args.domain g.st c.args.self.now.topology c.requires.1.known table stripes c.in-Some.node.now c.next.new.self following
+      following = following-skip c.args.domain g.st nodes c.requires.1.known table stripes c.in-Some.node.now c.next.new.self following
           (λ same. eqb-false c.in-Some.node.now.upgrade.value c.args.domain.value (sym c.eq.ensures ∙ c.if-eq.false)
           (ap (λ (u : UpgradeNo). u.value) same));
       modes = c.loop-node.invariant.modes;
@@ -71,8 +71,9 @@ loop-node-preserved g c =
 
 pub returns-clause-kept : goal.returns-clause-kept
 returns-clause-kept g c =
-    let following = subst
-    (IsFollowing c.args.domain g.st c.args.self.now.topology c.loop-node.self.1.1.0 c.loop-node.self.1.1.1.0) c.in-None.ensures.steps.0 c.loop-node.invariant.following in
-    subst (λ (m : Modes). IsOf g.st (record c.args.self.now { table = c.loop-node.self.1.1.0; stripes = c.loop-node.self.1.1.1.0; modes = m }))
+    let table = c.loop-node.self.1.1.0 in
+    let stripes = c.loop-node.self.1.1.1.0 in
+    let following = subst (IsFollowing c.args.domain g.st c.args.self.now.topology table stripes) c.in-None.ensures.steps.0 c.loop-node.invariant.following in
+    subst (λ (m : Modes). IsOf g.st (record c.args.self.now { table = table; stripes = stripes; modes = m }))
     (sym c.loop-node.invariant.modes)
-    (following-end c.args.domain c.requires.0 g.st c.args.self.now c.loop-node.self.1.1.0 c.loop-node.self.1.1.1.0 c.requires.1 following)
+    (following-end c.args.domain c.requires.0 g.st c.args.self.now table stripes c.requires.1 following)
