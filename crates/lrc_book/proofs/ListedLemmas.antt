@@ -1,14 +1,13 @@
 -- Which stripes the lists of work and of risk have, and in which order.
-use Rattle.std.proofs.Common.{◌≡◌, ◌≢◌, Bool, true, false, not, IsTrue, IsFalse, List, map, filter, get_or, refl, sym, ap, ◌∙◌, subst}
-use Rattle.std.specs.List.{AllPairs, Contains, list_any}
-use Rattle.std.proofs.lemmas.Bool.{eq-eqb, not-true}
+use Rattle.std.proofs.Common.{◌≡◌, ◌≢◌, Bool, true, not, List, map, filter, get_or, refl, sym, ap, ◌∙◌, subst}
+use Rattle.std.specs.List.{AllPairs, Contains}
+use Rattle.std.proofs.lemmas.Bool.{eq-eqb}
 use Rattle.std.proofs.lemmas.List.Kept.{AllPairs-filter}
 use Rattle.std.proofs.lemmas.List.Sorted.{IsPermutation-sym, Contains-permutation}
 use Rattle.lrc_code.specs.declared.numbers.StripeNo.{StripeNo}
 use Rattle.lrc_code.specs.declared.numbers.Fragment.{Fragment}
 use Rattle.lrc_code.specs.Numbers.{same_stripe}
 use Rattle.lrc_code.specs.Codes.{fragments}
-use Rattle.lrc_code.specs.Order.{in_order}
 use Rattle.lrc_code.proofs.OrderLemmas.{in_order-permutation}
 use Rattle.lrc_topology.specs.declared.NodeInfo.{NodeInfo}
 use Rattle.lrc_stripes.specs.declared.level.Level.{Level}

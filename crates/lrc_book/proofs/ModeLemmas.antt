@@ -1,22 +1,19 @@
 -- How the slot table and the stored stripes follow the mode of a node.
-use Rattle.std.proofs.Common.{◌≡◌, ◌≢◌, ap₂, map, ℕ, Bool, true, false, not, if◌then◌else◌, ◌&&◌, ◌||◌, eqb, List, [], ◌∷◌, ◌++◌, Option, Some, None, IsSome, refl, sym, ap, ◌∙◌, subst, inl, inr}
+use Rattle.std.proofs.Common.{◌≡◌, ◌≢◌, ap₂, map, ℕ, Bool, true, false, not, if◌then◌else◌, ◌&&◌, ◌||◌, eqb, List, [], ◌∷◌, ◌++◌, Option, Some, None, IsSome, refl, sym, ap, ◌∙◌, subst}
 use Rattle.std.proofs.Math.Path.{fun_ext}
-use Rattle.std.specs.List.{list_any}
 use Rattle.std.specs.Option.{option_map_or}
-use Rattle.std.proofs.lemmas.Bool.{cases_Bool, eqb-true, eqb-false, ne_eqb}
+use Rattle.std.proofs.lemmas.Bool.{eqb-true, eqb-false, ne_eqb}
 use Rattle.std.proofs.lemmas.List.Folds.{list_any-append}
 use Rattle.std.proofs.lemmas.Map.Views.{any-filter_same}
 use Rattle.lrc_code.specs.declared.numbers.NodeNo.{NodeNo}
 use Rattle.lrc_code.specs.Numbers.{same_node}
 use Rattle.lrc_topology.specs.declared.NodeInfo.{NodeInfo}
 use Rattle.lrc_topology.specs.Nodes.{node_at}
-use Rattle.lrc_code.specs.declared.numbers.StripeNo.{StripeNo}
 use Rattle.lrc_topology.specs.declared.seat.Held.{Held}
 use Rattle.lrc_topology.specs.Seats.{is_taken}
 use Rattle.lrc_slots.specs.Slots.{Slots, with_eligible}
 use Rattle.lrc_slots.specs.Tables as slots
 use Rattle.lrc_slots.specs.Tables.{slots_of}
-use Rattle.lrc_stripes.specs.Levels.{homes_of}
 use Rattle.lrc_stripes.specs.Stored.{Stored, with_offline, with_draining}
 use Rattle.lrc_stripes.specs.Tables as tables
 use Rattle.lrc_stripes.specs.Tables.{stored_in}
@@ -27,7 +24,6 @@ use Rattle.lrc_book.specs.declared.store.Store.{Store}
 use Rattle.lrc_book.specs.declared.modes.Modes.{Modes}
 use Rattle.lrc_book.specs.Goodness.{AreSeated}
 use Rattle.lrc_book.specs.Stores.{IsOf, IsOfBut, StaysAsItWas, AreModesOf}
-use Rattle.lrc_book.specs.declared.mode.Mode.TheVariants.{Active, Draining, Gone}
 use Rattle.lrc_book.specs.States.{State, held_by, has_number, without_number, mode_of, is_active, is_draining, is_online, takes_seats, online_at, drains_at}
 use Rattle.lrc_book.specs.Steps.{with_gone, with_down, without_down, with_draining as with_draining_node, without_draining, without_gone}
 use Rattle.lrc_book.specs.Ties.{table_of}

@@ -1,14 +1,13 @@
 -- What Next does: the lease of the first fragment in the order of repair that is owed one and may go to some node.
-use Rattle.std.proofs.Common.{◌≡◌, ◌≢◌, ◌⊎◌, ◌<◌, ◌↔◌, inl, inr, Bool, true, false, not, ◌&&◌, ◌||◌, nat_lt, nat_eq, IsTrue, List, [], ◌∷◌, filter, Option, Some, None, is_none, is_some, refl, sym, ap, ap₂, ◌∙◌, subst}
+use Rattle.std.proofs.Common.{◌≡◌, ◌≢◌, ◌↔◌, inl, inr, Bool, true, false, not, ◌&&◌, IsTrue, List, filter, Option, Some, None, is_none, is_some, refl, sym, ap, ap₂, ◌∙◌, subst}
 use Rattle.std.specs.List.{Contains}
 use Rattle.std.specs.Option.{option_and_then}
-use Rattle.std.proofs.lemmas.Bool.{cases_Bool, eqb-true, eq-eqb, ltb-true, lt-ltb, and_parts, and_from, or_cases, or_left, or_right}
+use Rattle.std.proofs.lemmas.Bool.{eqb-true, eq-eqb, ltb-true, lt-ltb, and_parts, and_from, or_cases, or_left, or_right}
 use Rattle.std.proofs.lemmas.List.Elements.{All-contains}
 use Rattle.lrc_code.specs.declared.numbers.StripeNo.{StripeNo}
 use Rattle.lrc_code.specs.declared.numbers.SessionNo.{SessionNo}
 use Rattle.lrc_code.specs.declared.numbers.Fragment.{Fragment}
 use Rattle.lrc_code.specs.Numbers.{same_stripe}
-use Rattle.lrc_code.specs.Order.{least}
 use Rattle.lrc_code.proofs.NumbersLemmas.{equal_stripes}
 use Rattle.lrc_code.proofs.OrderLemmas.{not_before-itself, least-none, least-listed, least-none_before, least-only}
 use Rattle.lrc_topology.specs.declared.NodeInfo.{NodeInfo}
@@ -28,7 +27,7 @@ use Rattle.lrc_book.specs.Placement.{chosen_node, chosen}
 use Rattle.lrc_book.specs.Choices.{IsFitting}
 use Rattle.lrc_book.specs.Repairs.{needs, is_safe, kind, is_global, is_beyond_repair}
 use Rattle.lrc_book.specs.Urgency.{is_grantable, all_fragments, is_repaired_before, next_of}
-use Rattle.lrc_book.specs.Granting.{IsOwed, IsGrantable, IsMoreUrgent, IsRepairedBefore, IsMostUrgent}
+use Rattle.lrc_book.specs.Granting.{IsGrantable, IsMoreUrgent, IsRepairedBefore, IsMostUrgent}
 use Rattle.lrc_book.specs.Outcomes.{Outcome}
 use Rattle.lrc_book.specs.Leases.{new_lease, lease_outcome, next_answer, next_outcome}
 use Rattle.lrc_book.proofs.MemberLemmas.{All-members, not-Contains-nil, no-member, filter-member, member-filter, list_any-member}

@@ -1,8 +1,8 @@
 -- The homes of a stripe that was placed, and of all others.
-use Rattle.std.proofs.Common.{◌≡◌, ◌≢◌, ℕ, Bool, true, false, ◌&&◌, ◌||◌, nat_eq, if◌then◌else◌, List, [], ◌∷◌, ◌++◌, map, length, get_or, find, Option, Some, None, option_map, Result, Ok, Err, refl, sym, ap, ap₂, ◌∙◌, subst, arith}
-use Rattle.std.specs.List.{All, AllPairs, list_any}
+use Rattle.std.proofs.Common.{◌≡◌, ◌≢◌, ℕ, Bool, true, false, ◌&&◌, ◌||◌, nat_eq, if◌then◌else◌, List, [], ◌∷◌, ◌++◌, map, length, get_or, Option, Some, None, option_map, Result, Ok, Err, refl, sym, ap, ap₂, ◌∙◌, subst, arith}
+use Rattle.std.specs.List.{All, AllPairs}
 use Rattle.std.specs.Option.{option_or}
-use Rattle.std.proofs.lemmas.Bool.{cases_Bool, eq-eqb, eqb-true, ne_eqb}
+use Rattle.std.proofs.lemmas.Bool.{eq-eqb, ne_eqb}
 use Rattle.std.proofs.lemmas.List.Elements.{All-head, All-tail, All-weaker, Contains-push}
 use Rattle.std.proofs.lemmas.List.Folds.{find-append, list_any-append}
 use Rattle.lrc_code.specs.declared.codes.Code.TheVariants.{Wide}
@@ -23,7 +23,7 @@ use Rattle.lrc_book.specs.declared.entry.Entry.{Entry}
 use Rattle.lrc_book.specs.States.{State, has_stripe, homes_shown}
 use Rattle.lrc_book.specs.Placement.{placed}
 use Rattle.lrc_book.specs.Goodness.{AreSeated}
-use Rattle.lrc_book.specs.Steps.{with_stripe, place_answer, place_outcome, step}
+use Rattle.lrc_book.specs.Steps.{with_stripe, place_answer, place_outcome}
 use Rattle.lrc_book.specs.Changes.{held_at, with_placed, changed_by}
 use Rattle.lrc_book.proofs.MemberLemmas.{list_any-member, AllPairs-head, AllPairs-tail}
 use Rattle.lrc_book.proofs.SeatingLemmas.{fragments-distinct}

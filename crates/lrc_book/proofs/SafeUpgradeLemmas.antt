@@ -1,12 +1,11 @@
 -- An upgrade takes at most one fragment of each class of a whole stripe offline, and is refused for the first stripe that it would lose.
-use Rattle.std.proofs.Common.{◌≡◌, ◌≢◌, ◌⊎◌, ℕ, ◌+◌, ◌-◌, ◌≤◌, ◌<◌, inl, inr, Bool, true, false, not, ◌&&◌, nat_lt, cond, List, [], ◌∷◌, map, filter, length, get_or, Option, Some, None, option_map, IfSome, IsTrue, arith, refl, sym, ap, ◌∙◌, subst}
-use Rattle.std.specs.List.{All, AllPairs, Contains, count_by, list_any}
+use Rattle.std.proofs.Common.{◌≡◌, ◌≢◌, ℕ, ◌+◌, ◌-◌, ◌≤◌, ◌<◌, inl, inr, Bool, true, false, not, ◌&&◌, nat_lt, cond, List, [], ◌∷◌, map, filter, length, get_or, Option, Some, None, option_map, IfSome, IsTrue, arith, refl, sym, ap, ◌∙◌, subst}
+use Rattle.std.specs.List.{AllPairs, Contains, count_by}
 use Rattle.std.specs.Option.{option_map_or}
-use Rattle.std.specs.Cmp.{IsStrictWeakOrder}
-use Rattle.std.proofs.lemmas.Bool.{cases_Bool, eqb-true, eq-eqb, ltb-true, ltb-false, le-ltb, lt-ltb, not-true, not-false, and_parts, and_from, true_from_ne_false}
+use Rattle.std.proofs.lemmas.Bool.{cases_Bool, eqb-true, eq-eqb, ltb-true, ltb-false, le-ltb, lt-ltb, not-true, not-false, and_parts, and_from}
 use Rattle.std.proofs.lemmas.Option.{same_Some}
 use Rattle.std.proofs.lemmas.List.{get_or_default}
-use Rattle.std.proofs.lemmas.List.Elements.{All-head, All-tail, All-weaker, All-contains, Contains-append_left}
+use Rattle.std.proofs.lemmas.List.Elements.{All-weaker, All-contains, Contains-append_left}
 use Rattle.std.proofs.lemmas.List.Kept.{AllPairs-filter}
 use Rattle.std.proofs.lemmas.List.MinMax.{IsStrictWeakOrder-by_number}
 use Rattle.std.proofs.lemmas.List.Sums.{sum_by-cons}
@@ -17,10 +16,10 @@ use Rattle.lrc_code.specs.declared.numbers.StripeNo.{StripeNo}
 use Rattle.lrc_code.specs.declared.numbers.UpgradeNo.{UpgradeNo}
 use Rattle.lrc_code.specs.declared.numbers.Fragment.{Fragment}
 use Rattle.lrc_code.specs.Numbers.{same_stripe, same_upgrade}
-use Rattle.lrc_code.specs.Codes.{fragments, members, class_of, are_one_class, share_class}
+use Rattle.lrc_code.specs.Codes.{fragments, class_of, are_one_class, share_class}
 use Rattle.lrc_code.specs.Losses.{FragmentSet, losses_in, excess, IsRecoverable, is_recoverable, IsMargin}
-use Rattle.lrc_code.specs.Order.{least, HasNoTies}
-use Rattle.lrc_code.proofs.CodesLemmas.{members-class, same_class-iff, are_one_class-iff}
+use Rattle.lrc_code.specs.Order.{HasNoTies}
+use Rattle.lrc_code.proofs.CodesLemmas.{members-class, are_one_class-iff}
 use Rattle.lrc_code.proofs.LossesLemmas.{by_counts, by_test}
 use Rattle.lrc_code.proofs.MarginLemmas.{margin_lost, margin_all_whole}
 use Rattle.lrc_code.proofs.NumbersLemmas.{equal_stripes, equal_fragments}
@@ -30,7 +29,7 @@ use Rattle.lrc_topology.specs.declared.seat.Seat.{Seat}
 use Rattle.lrc_topology.specs.declared.seat.Held.{Held}
 use Rattle.lrc_topology.specs.Nodes.{node_at, has_domain}
 use Rattle.lrc_stripes.specs.declared.level.Level.TheVariants.{Whole}
-use Rattle.lrc_stripes.specs.Levels.{home_of, homes_of, NoneMissing}
+use Rattle.lrc_stripes.specs.Levels.{home_of, NoneMissing}
 use Rattle.lrc_stripes.proofs.LevelLemmas.{law_whole}
 use Rattle.lrc_book.specs.declared.reply.Reply.{Reply}
 use Rattle.lrc_book.specs.declared.reply.Reply.TheVariants.{Changed, Refused}
@@ -46,7 +45,7 @@ use Rattle.lrc_book.proofs.MemberLemmas.{not-Contains-nil, no-member, All-member
 use Rattle.lrc_book.proofs.GrantingLemmas.{passed, stopped}
 use Rattle.lrc_book.proofs.PairLemmas.{pairs-members}
 use Rattle.lrc_book.proofs.SeatingLemmas.{KeepApart-turn, fragments-distinct}
-use Rattle.lrc_book.proofs.StoredLemmas.{is_of, found-home}
+use Rattle.lrc_book.proofs.StoredLemmas.{found-home}
 use Rattle.lrc_book.proofs.LeaseStepLemmas.{stripe-there}
 
 -- ---- counting

@@ -1,7 +1,7 @@
 -- The commands on upgrade domains: what their replies tell, and which stripe an upgrade would lose.
-use Rattle.std.proofs.Common.{◌≡◌, ◌≢◌, ◌<◌, ℕ, arith, Bool, true, false, not, ◌&&◌, nat_lt, eqb, List, filter, Option, Some, None, IsTrue, IsFalse, refl, sym, ap, ap₂, ◌∙◌, subst, inl, inr}
+use Rattle.std.proofs.Common.{◌≡◌, ℕ, arith, Bool, true, false, not, ◌&&◌, nat_lt, eqb, List, filter, Option, Some, None, IsFalse, refl, sym, ap, ap₂, ◌∙◌, inl, inr}
 use Rattle.std.proofs.Math.Path.{fun_ext}
-use Rattle.std.specs.List.{All, Contains}
+use Rattle.std.specs.List.{Contains}
 use Rattle.std.specs.Option.{option_map_or, option_eq}
 use Rattle.std.proofs.lemmas.Bool.{cases_Bool, eqb-true, eq-eqb, and_parts, ltb-true, ltb-false}
 use Rattle.std.proofs.lemmas.List.MinMax.{IsStrictWeakOrder-by_number}
@@ -15,7 +15,6 @@ use Rattle.lrc_code.proofs.OrderLemmas.{least-listed, least-only}
 use Rattle.lrc_topology.specs.declared.NodeInfo.{NodeInfo}
 use Rattle.lrc_topology.specs.Nodes.{node_at, has_domain}
 use Rattle.lrc_stripes.specs.Levels.{homes_of, missing_in}
-use Rattle.lrc_stripes.specs.Stored.{Stored}
 use Rattle.lrc_stripes.specs.Upgrades as upgrades
 use Rattle.lrc_stripes.specs.Upgrades.{is_in_domain, with_upgrade, IsFirstLostTo}
 use Rattle.lrc_book.specs.declared.reply.Reply.TheVariants.{Changed, Refused}
