@@ -21,6 +21,7 @@ row_line (field ∷ fields) = field ++ flat_map (λ f. codes "," ++ f) fields ++
 
 -- ---- stripes at risk
 
+-- the word for a level
 abbrev pub level_text : Level → List ℕ
 level_text Whole = codes "whole"
 level_text (AtRisk margin) = codes "risk"
@@ -50,11 +51,13 @@ risk_table nodes st = codes "risk\nstripe,level,margin,missing\n" ++ flat_map (r
 
 -- ---- loads
 
+-- the word for a mode
 abbrev pub mode_text : Mode → List ℕ
 mode_text Active = codes "active"
 mode_text Draining = codes "draining"
 mode_text Gone = codes "gone"
 
+-- the word for a node that is online, and for one that is not
 abbrev pub online_text : Bool → List ℕ
 online_text true = codes "yes"
 online_text false = codes "no"
@@ -71,7 +74,8 @@ load_row st node = load_line node (mode_of st node.number) (is_online st node) (
 abbrev pub load_table : List NodeInfo → State → List ℕ
 load_table nodes st = codes "load\nnode,mode,online,load,slots\n" ++ flat_map (load_row st) nodes
 
--- ---- both
+-- ---- both tables
 
+-- what is printed of a state over these nodes
 abbrev pub tables_text : List NodeInfo → State → List ℕ
 tables_text nodes st = risk_table nodes st ++ load_table nodes st
