@@ -68,7 +68,8 @@ module _ (l : LeaseRecord) (k : Kind) where
   never-drop st s = never-if st (not (has_stripe st s)) refusal.UnknownStripe (Dropped, without_stripe st s) no-drop
 
   never-node : (nodes : List NodeInfo) (st : State) (n : NodeNo) (wrong : Bool) (changed : State) → Never (node_outcome nodes st n wrong changed)
-  never-node nodes st n wrong changed = never-if st (is_none (node_at nodes n)) refusal.UnknownNode _ (never-if st wrong refusal.WrongMode (Changed, changed) no-change)
+  never-node nodes st n wrong changed =
+      never-if st (is_none (node_at nodes n)) refusal.UnknownNode _ (never-if st wrong refusal.WrongMode (Changed, changed) no-change)
 
   module _ (nodes : List NodeInfo) (st : State) (n : NodeNo) where
     never-fail : Never (fail_outcome nodes st n)
@@ -139,7 +140,9 @@ module _ (l : LeaseRecord) (k : Kind) where
 
     never-revoke : Never (revoke_outcome st s f)
     unfolding revoke_outcome
-    never-revoke = never-if st (not (has_stripe st s)) refusal.UnknownStripe _ (never-if st (is_none (lease_of st s f)) refusal.NoLease (Ended, without_lease st s f) no-end)
+    never-revoke =
+        never-if st (not (has_stripe st s)) refusal.UnknownStripe _
+        (never-if st (is_none (lease_of st s f)) refusal.NoLease (Ended, without_lease st s f) no-end)
 
   -- the entry in which the holder asked by this command, and was granted the lease
   abbrev grant_of : Command → Entry
@@ -148,15 +151,18 @@ module _ (l : LeaseRecord) (k : Kind) where
   no-idle : Idle ≡ Granted l k → ⊥
   no-idle e = cc
 
-  next-by : (nodes : List NodeInfo) (past : List Entry) (st : State) (session : SessionNo) (o : Option StripeFragment) → (next_answer nodes past st session o).0 ≡ Granted l k → session ≡ l.holder
+  next-by : (nodes : List NodeInfo) (past : List Entry) (st : State) (session : SessionNo) (o : Option StripeFragment)
+      → (next_answer nodes past st session o).0 ≡ Granted l k → session ≡ l.holder
   next-by nodes past st session (Some p) e = sym (ap (λ (x : LeaseRecord). x.holder) (lease-new nodes past st session p.0 p.1 l k e).own)
   next-by nodes past st session None e = absurd (no-idle e)
 
-  next-asked : (nodes : List NodeInfo) (past : List Entry) (st : State) (session : SessionNo) → (next_outcome nodes past st session).0 ≡ Granted l k → session ≡ l.holder
+  next-asked : (nodes : List NodeInfo) (past : List Entry) (st : State) (session : SessionNo) → (next_outcome nodes past st session).0 ≡ Granted l k
+      → session ≡ l.holder
   unfolding next_outcome
   next-asked nodes past st session e = next-by nodes past st session (next_of nodes st) e
 
-  asked : (nodes : List NodeInfo) (past : List Entry) (st : State) (session : SessionNo) (c : Command) → (step nodes past st session c).0 ≡ Granted l k → AsksFor l c × (session ≡ l.holder)
+  asked : (nodes : List NodeInfo) (past : List Entry) (st : State) (session : SessionNo) (c : Command)
+      → (step nodes past st session c).0 ≡ Granted l k → AsksFor l c × (session ≡ l.holder)
   asked nodes past st session (Lease s f) e =
       let new = lease-new nodes past st session s f l k e in
       (inl (sym (ap (λ (x : LeaseRecord). Lease x.stripe x.fragment) new.own)), sym (ap (λ (x : LeaseRecord). x.holder) new.own))
@@ -176,11 +182,13 @@ module _ (l : LeaseRecord) (k : Kind) where
   asked nodes past st session (Upgrade u) e = absurd (never-upgrade nodes st u e)
   asked nodes past st session (Upgraded u) e = absurd (never-upgraded nodes st u e)
 
-  entry-is : (nodes : List NodeInfo) (w : World) (x : Entry) → (outcome_in nodes w x.session x.command).0 ≡ x.reply → x.reply ≡ Granted l k → AsksFor l x.command × (x ≡ grant_of x.command)
+  entry-is : (nodes : List NodeInfo) (w : World) (x : Entry) → (outcome_in nodes w x.session x.command).0 ≡ x.reply → x.reply ≡ Granted l k
+      → AsksFor l x.command × (x ≡ grant_of x.command)
   entry-is nodes w x told reply =
       let parts = asked nodes w.past w.state x.session x.command (told ∙ reply) in (
         parts.0,
-        ap (λ (a : SessionNo). record { session = a; command = x.command; reply = x.reply }) parts.1 ∙ ap (λ (r : Reply). record { session = l.holder; command = x.command; reply = r }) reply,
+        ap (λ (a : SessionNo). record { session = a; command = x.command; reply = x.reply }) parts.1
+            ∙ ap (λ (r : Reply). record { session = l.holder; command = x.command; reply = r }) reply,
       )
 
 -- ---- histories
@@ -195,7 +203,8 @@ AllEarned w = (l : LeaseRecord) → Contains w.state.leases l → Earned w.past 
 later-earned : (past : List Entry) (x : Entry) (l : LeaseRecord) → Earned past l → Earned (past ++ x ∷ []) l
 later-earned past x l old = (old.0, old.1, old.2, Contains-append_left past (x ∷ []) (grant_of l old.1 old.0) old.3)
 
-next-earned : (nodes : List NodeInfo) (w : World) (x : Entry) → (outcome_in nodes w x.session x.command).0 ≡ x.reply → AllEarned w → AllEarned (next_world nodes w x)
+next-earned : (nodes : List NodeInfo) (w : World) (x : Entry) → (outcome_in nodes w x.session x.command).0 ≡ x.reply → AllEarned w
+    → AllEarned (next_world nodes w x)
 next-earned nodes w x told all l here = elim (step-follows nodes w.past w.state x.session x.command) [
   | inr none ↦ later-earned w.past x l (all l (none.fewer l here))
   | inl grant ↦ elim (Contains-push_cases w.state.leases grant.lease l (subst (λ (ls : List LeaseRecord). Contains ls l) grant.leases here)) [
@@ -206,7 +215,8 @@ next-earned nodes w x told all l here = elim (step-follows nodes w.past w.state 
   ]
 ]
 
-worlds-earned : (nodes : List NodeInfo) (w : World) (history : List Entry) → IsLegalFrom nodes w history → AllEarned w → AllEarned (fold (next_world nodes) w history)
+worlds-earned : (nodes : List NodeInfo) (w : World) (history : List Entry) → IsLegalFrom nodes w history → AllEarned w
+    → AllEarned (fold (next_world nodes) w history)
 worlds-earned nodes w [] legal all = all
 worlds-earned nodes w (x ∷ xs) legal all = worlds-earned nodes (next_world nodes w x) xs legal.1 (next-earned nodes w x legal.0 all)
 
@@ -214,6 +224,7 @@ first-earned : AllEarned first_world
 first-earned l here = absurd (not-Contains-nil l here)
 
 -- after a legal history each live lease was granted in it to its holder
-pub history-earned : (nodes : List NodeInfo) (history : List Entry) → IsLegal nodes history → (l : LeaseRecord) → Contains (state_after nodes history).leases l → Earned history l
+pub history-earned : (nodes : List NodeInfo) (history : List Entry) → IsLegal nodes history → (l : LeaseRecord)
+    → Contains (state_after nodes history).leases l → Earned history l
 history-earned nodes history legal l here =
     subst (λ (past : List Entry). Earned past l) (past-after nodes history) (worlds-earned nodes first_world history legal first-earned l here)

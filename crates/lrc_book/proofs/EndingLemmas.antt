@@ -46,7 +46,8 @@ find-filter {X} p keep (y ∷ ys) x e kept = elim (cases_Bool (p y)) [
       ]
 ]
 
-module _ (nodes : List NodeInfo) (past : List Entry) (st : State) (session : SessionNo) (s : StripeNo) (f : Fragment) (l : LeaseRecord) (live : lease_of st s f ≡ Some l) where
+module _ (nodes : List NodeInfo) (past : List Entry) (st : State) (session : SessionNo) (s : StripeNo) (f : Fragment) (l : LeaseRecord)
+    (live : lease_of st s f ≡ Some l) where
   abbrev Lasts : State → Type 0
   Lasts next = lease_of next s f ≡ Some l
 
@@ -66,7 +67,8 @@ module _ (nodes : List NodeInfo) (past : List Entry) (st : State) (session : Ses
 
   place-lasts : (r : StripeNo) → Lasts (place_outcome nodes st Wide r).1
   unfolding place_outcome
-  place-lasts r = either-way Lasts (has_stripe st r) refusal.StripeExists st _ live (λ absent. placed-lasts r (placed nodes (with_stripe st Wide r) r) refl)
+  place-lasts r =
+      either-way Lasts (has_stripe st r) refusal.StripeExists st _ live (λ absent. placed-lasts r (placed nodes (with_stripe st Wide r) r) refl)
 
   other-stripe : (r : StripeNo) → l.stripe ≢ r → is_other r l.stripe ≡ true
   other-stripe r other = ap not (ne_eqb r.value l.stripe.value (λ same. other (sym (equal_stripes r l.stripe same))))
@@ -79,14 +81,17 @@ module _ (nodes : List NodeInfo) (past : List Entry) (st : State) (session : Ses
 
   node-lasts : (n : NodeNo) (wrong : Bool) (changed : State) → Lasts changed → Lasts (node_outcome nodes st n wrong changed).1
   node-lasts n wrong changed after =
-      either-way Lasts (is_none (node_at nodes n)) refusal.UnknownNode st _ live (λ known. either-way Lasts wrong refusal.WrongMode st (Changed, changed) live (λ right. after))
+      either-way Lasts (is_none (node_at nodes n)) refusal.UnknownNode st _ live
+      (λ known. either-way Lasts wrong refusal.WrongMode st (Changed, changed) live (λ right. after))
 
   stays-on : (n : NodeNo) → hangs_on st n l ≢ true → not (hangs_on st n l) ≡ true
   stays-on n free = elim (cases_Bool (hangs_on st n l)) [ inl hit ↦ absurd (free hit) | inr miss ↦ ap not miss ]
 
   fail-lasts : (n : NodeNo) → hangs_on st n l ≢ true → Lasts (fail_outcome nodes st n).1
   unfolding fail_outcome
-  fail-lasts n free = node-lasts n _ (with_gone (emptied st n) n) (find-filter (is_of s f.value) (λ (k : LeaseRecord). not (hangs_on st n k)) st.leases l live (stays-on n free))
+  fail-lasts n free =
+      node-lasts n _ (with_gone (emptied st n) n)
+      (find-filter (is_of s f.value) (λ (k : LeaseRecord). not (hangs_on st n k)) st.leases l live (stays-on n free))
 
   down-lasts : (n : NodeNo) → Lasts (down_outcome nodes st n).1
   unfolding down_outcome
@@ -122,7 +127,8 @@ module _ (nodes : List NodeInfo) (past : List Entry) (st : State) (session : Ses
 
   upgrade-lasts : (u : UpgradeNo) → Lasts (upgrade_outcome nodes st u).1
   unfolding upgrade_outcome
-  upgrade-lasts u = either-way Lasts (not (has_domain nodes u)) refusal.UnknownDomain st _ live (λ known. upgraded-by u st.upgrading (would_lose nodes st u))
+  upgrade-lasts u =
+      either-way Lasts (not (has_domain nodes u)) refusal.UnknownDomain st _ live (λ known. upgraded-by u st.upgrading (would_lose nodes st u))
 
   upgraded-lasts : (u : UpgradeNo) → Lasts (upgraded_outcome nodes st u).1
   unfolding upgraded_outcome

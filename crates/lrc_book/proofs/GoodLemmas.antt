@@ -38,10 +38,12 @@ turn-false k l miss = elim (cases_Bool (is_of k.stripe k.fragment.value l)) [
 ]
 
 -- the epochs stay those of the last grants, with one more entry
-current-push : (past : List Entry) (st : State) (e : Entry) (o : Outcome) → o.0 ≡ e.reply → Follows past st o → AreCurrent past st.leases → AreCurrent (past ++ e ∷ []) o.1.leases
+current-push : (past : List Entry) (st : State) (e : Entry) (o : Outcome) → o.0 ≡ e.reply → Follows past st o → AreCurrent past st.leases
+    → AreCurrent (past ++ e ∷ []) o.1.leases
 current-push past st e o told (inr none) current = All-members (λ l. l.epoch ≡ grants (past ++ e ∷ []) l.stripe l.fragment) o.1.leases (λ l here.
     let before = All-contains (λ k. k.epoch ≡ grants past k.stripe k.fragment) st.leases l current (none.fewer l here) in
-    let no : is_grant l.stripe l.fragment e.reply ≡ false = subst (λ (r : Reply). is_grant l.stripe l.fragment r ≡ false) told (none.none l.stripe l.fragment) in
+    let no : is_grant l.stripe l.fragment e.reply ≡ false = subst (λ (r : Reply). is_grant l.stripe l.fragment r ≡ false) told
+    (none.none l.stripe l.fragment) in
     before ∙ sym (grants-push past e l.stripe l.fragment ∙ ap (λ (b : Bool). grants past l.stripe l.fragment + cond b 1 0) no ∙ omega arith))
 current-push past st e o told (inl grant) current = All-members (λ l. l.epoch ≡ grants (past ++ e ∷ []) l.stripe l.fragment) o.1.leases (λ l here.
     let reply : e.reply ≡ Granted grant.lease grant.from = sym told ∙ grant.told in
@@ -52,8 +54,10 @@ current-push past st e o told (inl grant) current = All-members (λ l. l.epoch �
           let no : is_grant l.stripe l.fragment e.reply ≡ false = ap (is_grant l.stripe l.fragment) reply ∙ miss in
           before ∙ sym (grants-push past e l.stripe l.fragment ∙ ap (λ (b : Bool). grants past l.stripe l.fragment + cond b 1 0) no ∙ omega arith)
       | inr new ↦ subst (λ (k : Lease). k.epoch ≡ grants (past ++ e ∷ []) k.stripe k.fragment) new (
-          let own : is_grant grant.lease.stripe grant.lease.fragment e.reply ≡ true = ap (is_grant grant.lease.stripe grant.lease.fragment) reply ∙ is_of-own grant.lease in
-          grant.epoch ∙ sym (grants-push past e grant.lease.stripe grant.lease.fragment ∙ ap (λ (b : Bool). grants past grant.lease.stripe grant.lease.fragment + cond b 1 0) own))
+          let own : is_grant grant.lease.stripe grant.lease.fragment e.reply ≡ true = ap (is_grant grant.lease.stripe grant.lease.fragment) reply
+          ∙ is_of-own grant.lease in
+          grant.epoch ∙ sym (grants-push past e grant.lease.stripe grant.lease.fragment
+          ∙ ap (λ (b : Bool). grants past grant.lease.stripe grant.lease.fragment + cond b 1 0) own))
     ])
 
 -- ---- histories
@@ -75,17 +79,23 @@ pub opening-good : (nodes : List NodeInfo) → IsGood nodes [] opening
 opening-good nodes = record { seated = opening-seated nodes; current = All-nil (λ l. l.epoch ≡ grants [] l.stripe l.fragment) }
 
 -- An entry whose reply is the step's leaves all good,
-pub next-good : (nodes : List NodeInfo) → AreNodes nodes → (w : World) (e : Entry) → (outcome_in nodes w e.session e.command).0 ≡ e.reply → IsGoodIn nodes w → IsGoodIn nodes (next_world nodes w e)
+pub next-good : (nodes : List NodeInfo) → AreNodes nodes → (w : World) (e : Entry) → (outcome_in nodes w e.session e.command).0 ≡ e.reply
+    → IsGoodIn nodes w → IsGoodIn nodes (next_world nodes w e)
 next-good nodes known w e told good = record {
   seated = step-seated nodes known w.past w.state e.session e.command good.seated;
-  current = current-push w.past w.state e (outcome_in nodes w e.session e.command) told (step-follows nodes w.past w.state e.session e.command) good.current;
+  current =
+      current-push w.past w.state e (outcome_in nodes w e.session e.command) told
+      (step-follows nodes w.past w.state e.session e.command) good.current;
 }
 
 -- and so do legal entries.
-worlds-good : (nodes : List NodeInfo) → AreNodes nodes → (w : World) (history : List Entry) → IsLegalFrom nodes w history → IsGoodIn nodes w → IsGoodIn nodes (fold (next_world nodes) w history)
+worlds-good : (nodes : List NodeInfo) → AreNodes nodes → (w : World) (history : List Entry) → IsLegalFrom nodes w history → IsGoodIn nodes w
+    → IsGoodIn nodes (fold (next_world nodes) w history)
 worlds-good nodes known w [] legal good = good
 worlds-good nodes known w (e ∷ es) legal good = worlds-good nodes known (next_world nodes w e) es legal.1 (next-good nodes known w e legal.0 good)
 
-pub state_after-good : (nodes : List NodeInfo) → AreNodes nodes → (history : List Entry) → IsLegal nodes history → IsGood nodes history (state_after nodes history)
+pub state_after-good : (nodes : List NodeInfo) → AreNodes nodes → (history : List Entry) → IsLegal nodes history
+    → IsGood nodes history (state_after nodes history)
 state_after-good nodes known history legal =
-    subst (λ past. IsGood nodes past (state_after nodes history)) (past-after nodes history) (worlds-good nodes known first_world history legal (opening-good nodes))
+    subst (λ past. IsGood nodes past (state_after nodes history)) (past-after nodes history)
+    (worlds-good nodes known first_world history legal (opening-good nodes))

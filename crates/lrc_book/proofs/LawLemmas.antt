@@ -47,7 +47,8 @@ keeps-placed : (st : State) (s : StripeNo) (r : Result State Fragment) → Keeps
 keeps-placed st s (Err f) = λ q e. refl
 keeps-placed st s (Ok done) = λ q e. absurd (cc)
 
-keeps-node : (nodes : List NodeInfo) (st : State) (n : NodeNo) (wrong : Bool) (changed : State) → KeepsRefused st (node_outcome nodes st n wrong changed)
+keeps-node : (nodes : List NodeInfo) (st : State) (n : NodeNo) (wrong : Bool) (changed : State)
+    → KeepsRefused st (node_outcome nodes st n wrong changed)
 keeps-node nodes st n wrong changed =
     keeps-if st (is_none (node_at nodes n)) refusal.UnknownNode (refuse_if wrong refusal.WrongMode st (Changed, changed))
     (keeps-if st wrong refusal.WrongMode (Changed, changed) (λ q e. absurd (cc)))
@@ -55,7 +56,8 @@ keeps-node nodes st n wrong changed =
 keeps-place : (nodes : List NodeInfo) (st : State) (code : Code) (s : StripeNo) → KeepsRefused st (place_outcome nodes st code s)
 unfolding place_outcome
 keeps-place nodes st code s =
-    keeps-if st (has_stripe st s) refusal.StripeExists (place_answer st s (placed nodes (with_stripe st code s) s)) (keeps-placed st s (placed nodes (with_stripe st code s) s))
+    keeps-if st (has_stripe st s) refusal.StripeExists (place_answer st s (placed nodes (with_stripe st code s) s))
+    (keeps-placed st s (placed nodes (with_stripe st code s) s))
 
 keeps-drop : (st : State) (s : StripeNo) → KeepsRefused st (drop_outcome st s)
 unfolding drop_outcome
@@ -101,7 +103,8 @@ module _ (nodes : List NodeInfo) (past : List Entry) (st : State) (session : Ses
   keeps-answer : (o : Option LeaseRecord) → KeepsRefused st (lease_answer nodes past st session s f o)
   keeps-answer (Some l) = λ q e. refl
   keeps-answer None =
-      keeps-if st (not (needs nodes st s f)) refusal.NotNeeded _ (keeps-if st (is_beyond_repair nodes st s f) refusal.Unrecoverable _ (keeps-granted (chosen nodes st s f)))
+      keeps-if st (not (needs nodes st s f)) refusal.NotNeeded _
+      (keeps-if st (is_beyond_repair nodes st s f) refusal.Unrecoverable _ (keeps-granted (chosen nodes st s f)))
 
   keeps-lease : KeepsRefused st (lease_outcome nodes past st session s f)
   unfolding lease_outcome
@@ -111,7 +114,8 @@ module _ (nodes : List NodeInfo) (past : List Entry) (st : State) (session : Ses
   keeps-done-by None = λ q e. refl
   keeps-done-by (Some l) =
       keeps-if st (not (is_held_by session l)) (refusal.NotHolder l.holder) _
-      (keeps-if st (not (online_at nodes st l.target.node)) (refusal.TargetOffline l.target.node) (Ended, moved_in st s f l.target) (λ q e. absurd (cc)))
+      (keeps-if st (not (online_at nodes st l.target.node)) (refusal.TargetOffline l.target.node) (Ended, moved_in st s f l.target)
+      (λ q e. absurd (cc)))
 
   keeps-done : (e : ℕ) → KeepsRefused st (done_outcome nodes st session s f e)
   unfolding done_outcome
@@ -128,7 +132,8 @@ module _ (nodes : List NodeInfo) (past : List Entry) (st : State) (session : Ses
   keeps-revoke : KeepsRefused st (revoke_outcome st s f)
   unfolding revoke_outcome
   keeps-revoke =
-      keeps-if st (not (has_stripe st s)) refusal.UnknownStripe _ (keeps-if st (is_none (lease_of st s f)) refusal.NoLease (Ended, without_lease st s f) (λ q e. absurd (cc)))
+      keeps-if st (not (has_stripe st s)) refusal.UnknownStripe _
+      (keeps-if st (is_none (lease_of st s f)) refusal.NoLease (Ended, without_lease st s f) (λ q e. absurd (cc)))
 
 -- the most urgent lease
 module _ (nodes : List NodeInfo) (past : List Entry) (st : State) (session : SessionNo) where
@@ -158,7 +163,8 @@ module _ (nodes : List NodeInfo) (st : State) (u : UpgradeNo) where
       (keeps-if st (not (is_the_domain u st.upgrading)) refusal.NotUpgrading (Changed, without_upgrading st) (λ q e. absurd (cc)))
 
 -- A refused command leaves the state as it was.
-pub refused-keeps : (nodes : List NodeInfo) (past : List Entry) (st : State) (session : SessionNo) (c : Command) (r : Refusal) → (step nodes past st session c).0 ≡ Refused r → (step nodes past st session c).1 ≡ st
+pub refused-keeps : (nodes : List NodeInfo) (past : List Entry) (st : State) (session : SessionNo) (c : Command) (r : Refusal)
+    → (step nodes past st session c).0 ≡ Refused r → (step nodes past st session c).1 ≡ st
 refused-keeps nodes past st session (Place s) r e = keeps-place nodes st Wide s r e
 refused-keeps nodes past st session (Drop s) r e = keeps-drop st s r e
 refused-keeps nodes past st session (Lease s f) r e = keeps-lease nodes past st session s f r e
@@ -179,7 +185,8 @@ refused-keeps nodes past st session (Upgraded u) r e = keeps-upgraded nodes st u
 -- ---- seats chosen one after the other
 
 -- there is a seat for each fragment
-pub chosen-length : (nodes : List NodeInfo) (st : State) (s : StripeNo) (fs : List Fragment) (seats : List Seat) → AreChosen nodes st s fs seats → length seats ≡ length fs
+pub chosen-length : (nodes : List NodeInfo) (st : State) (s : StripeNo) (fs : List Fragment) (seats : List Seat) → AreChosen nodes st s fs seats
+    → length seats ≡ length fs
 chosen-length nodes st s [] [] all = refl
 chosen-length nodes st s (f ∷ fs) (x ∷ xs) all = let rest = chosen-length nodes (with_home st s f x) s fs xs all.1 in omega (arith, rest)
 chosen-length nodes st s [] (x ∷ xs) all = absurd all
@@ -195,15 +202,18 @@ chosen-placed : (nodes : List NodeInfo) (s : StripeNo) (st : State) (fs : List F
 chosen-placed nodes s st [] [] all = ap (λ (hs : List Held). Ok (record st { homes = hs })) (sym (append-nil st.homes))
 chosen-placed nodes s st (f ∷ fs) (x ∷ xs) all =
     ap (λ (o : Option Seat). fold (place_next nodes s) (turn s st f o) fs) all.0 ∙ chosen-placed nodes s (with_home st s f x) fs xs all.1
-    ∙ ap (λ (hs : List Held). Ok (record st { homes = hs })) (append_assoc st.homes (record { stripe = s; fragment = f; seat = x } ∷ []) (held_at s fs xs))
+    ∙ ap (λ (hs : List Held). Ok (record st { homes = hs }))
+    (append_assoc st.homes (record { stripe = s; fragment = f; seat = x } ∷ []) (held_at s fs xs))
 chosen-placed nodes s st [] (x ∷ xs) all = absurd all
 chosen-placed nodes s st (f ∷ fs) [] all = absurd all
 
 -- it stops at the first fragment that finds no seat
-none-placed : (nodes : List NodeInfo) (s : StripeNo) (st : State) (fs : List Fragment) (f : Fragment) → IsFirstWithout nodes st s fs f → fold (place_next nodes s) (Ok st) fs ≡ Err f
+none-placed : (nodes : List NodeInfo) (s : StripeNo) (st : State) (fs : List Fragment) (f : Fragment) → IsFirstWithout nodes st s fs f
+    → fold (place_next nodes s) (Ok st) fs ≡ Err f
 none-placed nodes s st [] f first = absurd first
 none-placed nodes s st (g ∷ gs) f (inl here) =
-    ap (λ (o : Option Seat). fold (place_next nodes s) (turn s st g o) gs) here.0 ∙ fold_stays (place_next nodes s) (Err g) (λ x. refl) gs ∙ ap (λ (x : Fragment). Err x) here.1
+    ap (λ (o : Option Seat). fold (place_next nodes s) (turn s st g o) gs) here.0 ∙ fold_stays (place_next nodes s) (Err g) (λ x. refl) gs
+    ∙ ap (λ (x : Fragment). Err x) here.1
 none-placed nodes s st (g ∷ gs) f (inr later) =
     ap (λ (o : Option Seat). fold (place_next nodes s) (turn s st g o) gs) later.1 ∙ none-placed nodes s (with_home st s g later.0) gs f later.2
 
@@ -217,7 +227,8 @@ placed-none-turn nodes s st g gs f None none rest e = inl (none, same_error g f 
     same_error g f e = cc
 placed-none-turn nodes s st g gs f (Some seat) some rest e = inr (seat, some, rest (with_home st s g seat) e)
 
-placed-none : (nodes : List NodeInfo) (s : StripeNo) (st : State) (fs : List Fragment) (f : Fragment) → fold (place_next nodes s) (Ok st) fs ≡ Err f → IsFirstWithout nodes st s fs f
+placed-none : (nodes : List NodeInfo) (s : StripeNo) (st : State) (fs : List Fragment) (f : Fragment) → fold (place_next nodes s) (Ok st) fs ≡ Err f
+    → IsFirstWithout nodes st s fs f
 placed-none nodes s st [] f e = absurd (cc)
 placed-none nodes s st (g ∷ gs) f e = placed-none-turn nodes s st g gs f (chosen nodes st s g) refl (λ next. placed-none nodes s next gs f) e
 
@@ -232,7 +243,8 @@ module _ (nodes : List NodeInfo) (st : State) (s : StripeNo) where
   chosen-all seats all = chosen-placed nodes s begun (fragments Wide) seats all
 
   -- seats that are chosen for a stripe that is absent are the reply
-  pub chosen-told : (seats : List Seat) → has_stripe st s ≡ false → AreChosen nodes begun s (fragments Wide) seats → (place_outcome nodes st Wide s).0 ≡ Placed seats
+  pub chosen-told : (seats : List Seat) → has_stripe st s ≡ false → AreChosen nodes begun s (fragments Wide) seats
+      → (place_outcome nodes st Wide s).0 ≡ Placed seats
   chosen-told seats absent all =
       ap (λ (o : Outcome). o.0) (place-passed nodes st s absent ∙ ap (place_answer st s) (chosen-all seats all))
       ∙ ap Placed (seats-added s st.homes seats (chosen-length nodes begun s (fragments Wide) seats all))
@@ -246,17 +258,22 @@ module _ (nodes : List NodeInfo) (st : State) (s : StripeNo) where
   all-none f e = placed-none nodes s begun (fragments Wide) f e
 
   -- and so is the first fragment that finds no seat
-  pub none-told : (f : Fragment) → has_stripe st s ≡ false → IsFirstWithout nodes begun s (fragments Wide) f → (place_outcome nodes st Wide s).0 ≡ Refused (refusal.NoLawfulNode f)
+  pub none-told : (f : Fragment) → has_stripe st s ≡ false → IsFirstWithout nodes begun s (fragments Wide) f
+      → (place_outcome nodes st Wide s).0 ≡ Refused (refusal.NoLawfulNode f)
   none-told f absent first = ap (λ (o : Outcome). o.0) (place-passed nodes st s absent ∙ ap (place_answer st s) (none-all f first))
 
-  refused-by : (f : Fragment) (r : Result State Fragment) → placed nodes begun s ≡ r → (place_answer st s r).0 ≡ Refused (refusal.NoLawfulNode f) → IsFirstWithout nodes begun s (fragments Wide) f
+  refused-by : (f : Fragment) (r : Result State Fragment) → placed nodes begun s ≡ r → (place_answer st s r).0 ≡ Refused (refusal.NoLawfulNode f)
+      → IsFirstWithout nodes begun s (fragments Wide) f
   refused-by f (Ok done) is e = absurd (cc)
   refused-by f (Err g) is e = let same : g ≡ f = cc in all-none f (is ∙ ap (λ (x : Fragment). Err x) same)
 
   told-by : (f : Fragment) (there : Bool) → has_stripe st s ≡ there → (place_outcome nodes st Wide s).0 ≡ Refused (refusal.NoLawfulNode f)
       → (has_stripe st s ≡ false) × IsFirstWithout nodes begun s (fragments Wide) f
-  told-by f true hit e = absurd (let never : Refused refusal.StripeExists ≡ Refused (refusal.NoLawfulNode f) = sym (ap (λ (o : Outcome). o.0) (place-there nodes st s hit)) ∙ e in cc)
+  told-by f true hit e =
+      absurd (let never : Refused refusal.StripeExists ≡ Refused (refusal.NoLawfulNode f) = sym
+      (ap (λ (o : Outcome). o.0) (place-there nodes st s hit)) ∙ e in cc)
   told-by f false miss e = (miss, refused-by f (placed nodes begun s) refl (sym (ap (λ (o : Outcome). o.0) (place-passed nodes st s miss)) ∙ e))
 
-  pub told-none : (f : Fragment) → (place_outcome nodes st Wide s).0 ≡ Refused (refusal.NoLawfulNode f) → (has_stripe st s ≡ false) × IsFirstWithout nodes begun s (fragments Wide) f
+  pub told-none : (f : Fragment) → (place_outcome nodes st Wide s).0 ≡ Refused (refusal.NoLawfulNode f)
+      → (has_stripe st s ≡ false) × IsFirstWithout nodes begun s (fragments Wide) f
   told-none f e = told-by f (has_stripe st s) refl e

@@ -35,7 +35,8 @@ use Rattle.lrc_book.proofs.StepLemmas.{placed-grown}
 -- ---- how many grants
 
 -- one more entry is one more grant, or none
-pub grants-push : (past : List Entry) (e : Entry) (s : StripeNo) (f : Fragment) → grants (past ++ e ∷ []) s f ≡ grants past s f + cond (is_grant s f e.reply) 1 0
+pub grants-push : (past : List Entry) (e : Entry) (s : StripeNo) (f : Fragment)
+    → grants (past ++ e ∷ []) s f ≡ grants past s f + cond (is_grant s f e.reply) 1 0
 grants-push past e s f =
     let one = λ (x : Entry). cond (is_grant s f x.reply) 1 0 in
     sum_by-append one past (e ∷ []) ∙ ap (λ (n : ℕ). grants past s f + n) (sum_by-cons one e [] ∙ omega arith)
@@ -63,8 +64,10 @@ module _ (past : List Entry) (st : State) where
   same : (r : Reply) (next : State) → ((s : StripeNo) (f : Fragment) → is_grant s f r ≡ false) → next.leases ≡ st.leases → Follows past st (r, next)
   same r next none is = inr (record { none = none; fewer = λ l here. subst (λ (ls : List LeaseRecord). Contains ls l) is here })
 
-  fewer : (r : Reply) (next : State) (q : LeaseRecord → Bool) → ((s : StripeNo) (f : Fragment) → is_grant s f r ≡ false) → next.leases ≡ filter q st.leases → Follows past st (r, next)
-  fewer r next q none is = inr (record { none = none; fewer = λ l here. (filter-member q st.leases l (subst (λ (ls : List LeaseRecord). Contains ls l) is here)).0 })
+  fewer : (r : Reply) (next : State) (q : LeaseRecord → Bool) → ((s : StripeNo) (f : Fragment) → is_grant s f r ≡ false)
+      → next.leases ≡ filter q st.leases → Follows past st (r, next)
+  fewer r next q none is =
+      inr (record { none = none; fewer = λ l here. (filter-member q st.leases l (subst (λ (ls : List LeaseRecord). Contains ls l) is here)).0 })
 
   refused-follows : (met : Bool) (r : Refusal) (other : Outcome) → Follows past st other → Follows past st (refuse_if met r st other)
   refused-follows true r other next = same (Refused r) st (λ s f. refl) refl
@@ -73,25 +76,29 @@ module _ (past : List Entry) (st : State) where
 -- ---- stripes
 
 module _ (nodes : List NodeInfo) (s : StripeNo) where
-  answer-follows : (past : List Entry) (st : State) (r : Result State Fragment) → placed nodes (with_stripe st Wide s) s ≡ r → Follows past st (place_answer st s r)
+  answer-follows : (past : List Entry) (st : State) (r : Result State Fragment) → placed nodes (with_stripe st Wide s) s ≡ r
+      → Follows past st (place_answer st s r)
   answer-follows past st (Ok done) e = same past st _ done (λ r f. refl) (ap (λ (x : State). x.leases) (placed-grown nodes st s done e).is)
   answer-follows past st (Err f) e = same past st _ st (λ r f. refl) refl
 
   place-follows : (past : List Entry) (st : State) → Follows past st (place_outcome nodes st Wide s)
   unfolding place_outcome
-  place-follows past st = refused-follows past st (has_stripe st s) refusal.StripeExists _ (answer-follows past st (placed nodes (with_stripe st Wide s) s) refl)
+  place-follows past st =
+      refused-follows past st (has_stripe st s) refusal.StripeExists _ (answer-follows past st (placed nodes (with_stripe st Wide s) s) refl)
 
 drop-follows : (past : List Entry) (st : State) (s : StripeNo) → Follows past st (drop_outcome st s)
 unfolding drop_outcome
 drop-follows past st s =
-    refused-follows past st (not (has_stripe st s)) refusal.UnknownStripe _ (fewer past st Dropped (without_stripe st s) (λ (l : LeaseRecord). is_other s l.stripe) (λ r f. refl) refl)
+    refused-follows past st (not (has_stripe st s)) refusal.UnknownStripe _
+    (fewer past st Dropped (without_stripe st s) (λ (l : LeaseRecord). is_other s l.stripe) (λ r f. refl) refl)
 
 -- ---- leases
 
 module _ (nodes : List NodeInfo) (past : List Entry) (st : State) (session : SessionNo) (s : StripeNo) (f : Fragment) where
   granted-follows : lease_of st s f ≡ None → (o : Option Seat) → Follows past st (granted nodes past st session s f o)
   granted-follows none None = same past st _ st (λ r g. refl) refl
-  granted-follows none (Some seat) = inl (record { lease = new_lease past session s f seat; from = kind nodes st s f; told = refl; leases = refl; none = none; epoch = refl })
+  granted-follows none (Some seat) =
+      inl (record { lease = new_lease past session s f seat; from = kind nodes st s f; told = refl; leases = refl; none = none; epoch = refl })
 
   leased-follows : (o : Option LeaseRecord) → lease_of st s f ≡ o → Follows past st (lease_answer nodes past st session s f o)
   leased-follows (Some l) e = same past st _ st (λ r g. refl) refl
@@ -121,7 +128,8 @@ module _ (nodes : List NodeInfo) (past : List Entry) (st : State) (session : Ses
   done-by None = same past st _ st (λ r g. refl) refl
   done-by (Some l) =
       refused-follows past st (not (is_held_by session l)) (refusal.NotHolder l.holder) _
-      (refused-follows past st (not (online_at nodes st l.target.node)) (refusal.TargetOffline l.target.node) _ (fewer past st Ended (moved_in st s f l.target) others (λ r g. refl) refl))
+      (refused-follows past st (not (online_at nodes st l.target.node)) (refusal.TargetOffline l.target.node) _
+      (fewer past st Ended (moved_in st s f l.target) others (λ r g. refl) refl))
 
   done-follows : (e : ℕ) → Follows past st (done_outcome nodes st session s f e)
   unfolding done_outcome
@@ -129,7 +137,9 @@ module _ (nodes : List NodeInfo) (past : List Entry) (st : State) (session : Ses
 
   abandon-by : (o : Option LeaseRecord) → Follows past st (abandon_answer st session s f o)
   abandon-by None = same past st _ st (λ r g. refl) refl
-  abandon-by (Some l) = refused-follows past st (not (is_held_by session l)) (refusal.NotHolder l.holder) _ (fewer past st Ended (without_lease st s f) others (λ r g. refl) refl)
+  abandon-by (Some l) =
+      refused-follows past st (not (is_held_by session l)) (refusal.NotHolder l.holder) _
+      (fewer past st Ended (without_lease st s f) others (λ r g. refl) refl)
 
   abandon-follows : (e : ℕ) → Follows past st (abandon_outcome st session s f e)
   unfolding abandon_outcome
@@ -145,7 +155,8 @@ module _ (nodes : List NodeInfo) (past : List Entry) (st : State) (session : Ses
 
 module _ (nodes : List NodeInfo) (past : List Entry) (st : State) (n : NodeNo) where
   node-follows : (wrong : Bool) (changed : State) → Follows past st (Changed, changed) → Follows past st (node_outcome nodes st n wrong changed)
-  node-follows wrong changed next = refused-follows past st (is_none (node_at nodes n)) refusal.UnknownNode _ (refused-follows past st wrong refusal.WrongMode _ next)
+  node-follows wrong changed next =
+      refused-follows past st (is_none (node_at nodes n)) refusal.UnknownNode _ (refused-follows past st wrong refusal.WrongMode _ next)
 
   fail-follows : Follows past st (fail_outcome nodes st n)
   unfolding fail_outcome
@@ -194,10 +205,12 @@ module _ (nodes : List NodeInfo) (past : List Entry) (st : State) (u : UpgradeNo
   unfolding upgraded_outcome
   upgraded-follows =
       refused-follows past st (not (has_domain nodes u)) refusal.UnknownDomain _
-      (refused-follows past st (not (is_the_domain u st.upgrading)) refusal.NotUpgrading _ (same past st Changed (without_upgrading st) (λ r g. refl) refl))
+      (refused-follows past st (not (is_the_domain u st.upgrading)) refusal.NotUpgrading _
+      (same past st Changed (without_upgrading st) (λ r g. refl) refl))
 
 -- Each command grants one lease, of a fragment that had none, or none; and all other live leases were there before.
-pub step-follows : (nodes : List NodeInfo) (past : List Entry) (st : State) (session : SessionNo) (c : Command) → Follows past st (step nodes past st session c)
+pub step-follows : (nodes : List NodeInfo) (past : List Entry) (st : State) (session : SessionNo) (c : Command)
+    → Follows past st (step nodes past st session c)
 step-follows nodes past st session (Place s) = place-follows nodes s past st
 step-follows nodes past st session (Drop s) = drop-follows past st s
 step-follows nodes past st session (Lease s f) = lease-follows nodes past st session s f

@@ -23,13 +23,18 @@ use Rattle.lrc_book.proofs.PairLemmas.{All-kept, pairs-kept, beside-left_out}
 use Rattle.lrc_book.proofs.SeatingLemmas.{HasNone, held_on, MayStand, KeepApart-turn, held-single, held-standing, inserted-seated, leased-seated, choice-stands}
 
 -- some homes and some leases left out
-pub kept-seated : (nodes : List NodeInfo) (st : State) (p : Held → Bool) (q : Lease → Bool) → AreSeated nodes st → AreSeated nodes (record st { homes = filter p st.homes; leases = filter q st.leases })
+pub kept-seated : (nodes : List NodeInfo) (st : State) (p : Held → Bool) (q : Lease → Bool) → AreSeated nodes st
+    → AreSeated nodes (record st { homes = filter p st.homes; leases = filter q st.leases })
 kept-seated nodes st p q seated =
     let st' = record st { homes = filter p st.homes; leases = filter q st.leases } in
     record {
       stripes = seated.stripes;
-      single = pairs-map (λ a b. a ≢ b) (λ (h : Held). h.seat) (seats_of st') (pairs-kept held_by p q st.homes st.leases (λ h g. h.seat ≢ g.seat) (held-single nodes st seated));
-      standing = All-map (IsStanding nodes st) (λ (h : Held). h.seat) (seats_of st') (All-kept held_by p q st.homes st.leases (λ h. IsStanding nodes st h.seat) (held-standing nodes st seated));
+      single =
+          pairs-map (λ a b. a ≢ b) (λ (h : Held). h.seat) (seats_of st')
+          (pairs-kept held_by p q st.homes st.leases (λ h g. h.seat ≢ g.seat) (held-single nodes st seated));
+      standing =
+          All-map (IsStanding nodes st) (λ (h : Held). h.seat) (seats_of st')
+          (All-kept held_by p q st.homes st.leases (λ h. IsStanding nodes st h.seat) (held-standing nodes st seated));
       lawful = pairs-kept held_by p q st.homes st.leases (KeepApart nodes st) seated.lawful;
       one_home = AllPairs-filter (λ h g. h.stripe ≡ g.stripe → h.fragment ≢ g.fragment) p st.homes seated.one_home;
       one_lease = one_each-filter q st.leases seated.one_lease;
@@ -42,19 +47,32 @@ filter-all [] = refl
 filter-all (x ∷ xs) = ap (λ ys. x ∷ ys) (filter-all xs)
 
 is_home_of-own : (s : StripeNo) (f : Fragment) (h : Held) → h.stripe ≡ s → h.fragment ≡ f → is_home_of s f h ≡ true
-is_home_of-own s f h stripe fragment = rw (eq-eqb h.stripe.value s.value (ap (λ (t : StripeNo). t.value) stripe), eq-eqb h.fragment.value f.value (ap (λ (g : Fragment). g.value) fragment)) refl
+is_home_of-own s f h stripe fragment =
+    rw (
+      eq-eqb h.stripe.value s.value (ap (λ (t : StripeNo). t.value) stripe),
+      eq-eqb h.fragment.value f.value
+          (ap (λ (g : Fragment). g.value) fragment),
+    ) refl
 
 -- homes alone left out, and leases alone
-pub homes-seated : (nodes : List NodeInfo) (st : State) (p : Held → Bool) → AreSeated nodes st → AreSeated nodes (record st { homes = filter p st.homes })
-homes-seated nodes st p seated = subst (λ (ls : List Lease). AreSeated nodes (record st { homes = filter p st.homes; leases = ls })) (filter-all st.leases) (kept-seated nodes st p (λ l. true) seated)
+pub homes-seated : (nodes : List NodeInfo) (st : State) (p : Held → Bool) → AreSeated nodes st
+    → AreSeated nodes (record st { homes = filter p st.homes })
+homes-seated nodes st p seated =
+    subst (λ (ls : List Lease). AreSeated nodes (record st { homes = filter p st.homes; leases = ls })) (filter-all st.leases)
+    (kept-seated nodes st p (λ l. true) seated)
 
-pub leases-seated : (nodes : List NodeInfo) (st : State) (q : Lease → Bool) → AreSeated nodes st → AreSeated nodes (record st { leases = filter q st.leases })
-leases-seated nodes st q seated = subst (λ (hs : List Held). AreSeated nodes (record st { homes = hs; leases = filter q st.leases })) (filter-all st.homes) (kept-seated nodes st (λ h. true) q seated)
+pub leases-seated : (nodes : List NodeInfo) (st : State) (q : Lease → Bool) → AreSeated nodes st
+    → AreSeated nodes (record st { leases = filter q st.leases })
+leases-seated nodes st q seated =
+    subst (λ (hs : List Held). AreSeated nodes (record st { homes = hs; leases = filter q st.leases })) (filter-all st.homes)
+    (kept-seated nodes st (λ h. true) q seated)
 
 -- a lease granted on a chosen seat, for a fragment that has none
-pub granted-seated : (nodes : List NodeInfo) → AreNodes nodes → (st : State) (l : Lease) → AreSeated nodes st → IsChoice nodes st l.stripe l.fragment l.target → Contains st.stripes l.stripe
+pub granted-seated : (nodes : List NodeInfo) → AreNodes nodes → (st : State) (l : Lease) → AreSeated nodes st
+    → IsChoice nodes st l.stripe l.fragment l.target → Contains st.stripes l.stripe
     → lease_of st l.stripe l.fragment ≡ None → AreSeated nodes (with_lease st l)
-granted-seated nodes known st l seated choice there none = leased-seated nodes st seated l (choice-stands nodes known st l.stripe l.fragment l.target choice there) none
+granted-seated nodes known st l seated choice there none =
+    leased-seated nodes st seated l (choice-stands nodes known st l.stripe l.fragment l.target choice there) none
 
 module _ (nodes : List NodeInfo) (st : State) (s : StripeNo) (f : Fragment) where
   -- the lease of a fragment ended
@@ -76,7 +94,8 @@ module _ (nodes : List NodeInfo) (st : State) (s : StripeNo) (f : Fragment) wher
 
     own : held_by l ≡ held_on s f l.target
     own = let parts = leases_in-own st.leases s f.value l live in
-        ap (λ (r : StripeNo). record { stripe = r; fragment = l.fragment; seat = l.target }) parts.0 ∙ ap (λ (g : Fragment). record { stripe = s; fragment = g; seat = l.target }) (equal_fragments l.fragment f parts.1)
+        ap (λ (r : StripeNo). record { stripe = r; fragment = l.fragment; seat = l.target }) parts.0
+        ∙ ap (λ (g : Fragment). record { stripe = s; fragment = g; seat = l.target }) (equal_fragments l.fragment f parts.1)
 
     among : Contains (seats_of st) (held_by l)
     among = Contains-append_right st.homes (map held_by st.leases) (held_by l) (map-member held_by st.leases l found.0)
@@ -85,8 +104,12 @@ module _ (nodes : List NodeInfo) (st : State) (s : StripeNo) (f : Fragment) wher
     target-stands : MayStand nodes cleared (held_by l)
     target-stands = record {
       standing = All-contains (λ h. IsStanding nodes st h.seat) (seats_of st) (held_by l) (held-standing nodes st seated) among;
-      others = beside-left_out held_by p q st.homes st.leases (λ h g. h.seat ≢ g.seat) (held-single nodes st seated) (λ h g other e. other (sym e)) l found.0 (not_from_true _ found.1);
-      apart = beside-left_out held_by p q st.homes st.leases (KeepApart nodes st) seated.lawful (KeepApart-turn nodes st) l found.0 (not_from_true _ found.1);
+      others =
+          beside-left_out held_by p q st.homes st.leases (λ h g. h.seat ≢ g.seat) (held-single nodes st seated)
+          (λ h g other e. other (sym e)) l found.0 (not_from_true _ found.1);
+      apart =
+          beside-left_out held_by p q st.homes st.leases (KeepApart nodes st) seated.lawful (KeepApart-turn nodes st) l found.0
+          (not_from_true _ found.1);
       there = All-contains (λ h. Contains st.stripes h.stripe) (seats_of st) (held_by l) seated.there among;
     }
 
@@ -97,4 +120,5 @@ module _ (nodes : List NodeInfo) (st : State) (s : StripeNo) (f : Fragment) wher
     -- the target of the lease as its fragment's home
     pub moved-seated : AreSeated nodes (moved_in st s f l.target)
     moved-seated =
-        inserted-seated nodes cleared (kept-seated nodes st p q seated) (held_on s f l.target) (subst (MayStand nodes cleared) own target-stands) left-none
+        inserted-seated nodes cleared (kept-seated nodes st p q seated) (held_on s f l.target)
+        (subst (MayStand nodes cleared) own target-stands) left-none

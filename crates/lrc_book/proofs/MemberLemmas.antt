@@ -85,7 +85,8 @@ module _ {X : Type 0} where
 
   pub All-list_any : (test : X → Bool) (xs : List X) → list_any test xs ≡ false → All (λ x. test x ≡ false) xs
   All-list_any test [] e = All-nil (λ x. test x ≡ false)
-  All-list_any test (x ∷ xs) e = let parts = or_parts (test x) (list_any test xs) e in All-cons (λ y. test y ≡ false) x xs parts.0 (All-list_any test xs parts.1)
+  All-list_any test (x ∷ xs) e =
+      let parts = or_parts (test x) (list_any test xs) e in All-cons (λ y. test y ≡ false) x xs parts.0 (All-list_any test xs parts.1)
 
   pub list_any-All : (test : X → Bool) (xs : List X) → All (λ x. test x ≡ false) xs → list_any test xs ≡ false
   list_any-All test [] all = refl

@@ -42,7 +42,8 @@ module _ (nodes : List NodeInfo) (st : State) (s : StripeNo) (f : Fragment) wher
   settled : (seat : Seat) → home_of st.homes s f.value ≡ None → homes_of (with_home st s f seat).homes s f.value ≡ Some seat
   settled seat none = sym (ap (λ (t : Stored). t.homes s f.value) (stored-home nodes st 0 s f seat none)) ∙ rw own refl
 
-module _ (nodes : List NodeInfo) (st : State) (session : SessionNo) (s : StripeNo) (f : Fragment) (e : ℕ) (l : LeaseRecord) (live : lease_of st s f ≡ Some l) (told : (done_outcome nodes st session s f e).0 ≡ Ended) where
+module _ (nodes : List NodeInfo) (st : State) (session : SessionNo) (s : StripeNo) (f : Fragment) (e : ℕ) (l : LeaseRecord)
+    (live : lease_of st s f ≡ Some l) (told : (done_outcome nodes st session s f e).0 ≡ Ended) where
   moved : (done_outcome nodes st session s f e).1 ≡ moved_in st s f l.target
   moved =
       let says = done-told nodes st session s f e Ended told in
@@ -71,14 +72,16 @@ module _ (nodes : List NodeInfo) (st : State) (session : SessionNo) (s r : Strip
   moved-keeps : (seat : Seat) → KeepsHome (moved_in st s f seat)
   moved-keeps seat =
       let base = without_home (without_lease st s f) s f in
-      sym (ap (λ (t : Stored). t.homes r g.value) (stored-home nodes base 0 s f seat (no-seat nodes base s f (home_of base.homes s f.value) (cleared nodes (without_lease st s f) s f) refl)))
+      sym (ap (λ (t : Stored). t.homes r g.value)
+      (stored-home nodes base 0 s f seat (no-seat nodes base s f (home_of base.homes s f.value) (cleared nodes (without_lease st s f) s f) refl)))
       ∙ rw both (sym (ap (λ (t : Stored). t.homes r g.value) (stored-clear nodes (without_lease st s f) 0 s f)) ∙ rw both refl)
 
   keeps-by : (o : Option LeaseRecord) → KeepsHome (done_answer nodes st session s f o).1
   keeps-by None = refl
   keeps-by (Some l) =
       either-way KeepsHome (not (is_held_by session l)) (refusal.NotHolder l.holder) st _ refl (λ held.
-      either-way KeepsHome (not (online_at nodes st l.target.node)) (refusal.TargetOffline l.target.node) st (Ended, moved_in st s f l.target) refl (λ online. moved-keeps l.target))
+      either-way KeepsHome (not (online_at nodes st l.target.node)) (refusal.TargetOffline l.target.node) st (Ended, moved_in st s f l.target) refl
+      (λ online. moved-keeps l.target))
 
   pub homes-keep : (e : ℕ) → KeepsHome (done_outcome nodes st session s f e).1
   unfolding done_outcome

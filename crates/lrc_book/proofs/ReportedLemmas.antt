@@ -75,7 +75,8 @@ module _ (nodes : List NodeInfo) (st : State) (session : SessionNo) (s : StripeN
   done-online l own held false is = (l, own, held, refl, is)
 
   done-held : (l : LeaseRecord) → IsReported st s f e l → (b : Bool) → is_held_by session l ≡ b
-      → SaysDone (refuse_if (not b) (refusal.NotHolder l.holder) st (refuse_if (not (online_at nodes st l.target.node)) (refusal.TargetOffline l.target.node) st (Ended, moved_in st s f l.target))).0
+      → SaysDone (refuse_if (not b) (refusal.NotHolder l.holder) st
+      (refuse_if (not (online_at nodes st l.target.node)) (refusal.TargetOffline l.target.node) st (Ended, moved_in st s f l.target))).0
   done-held l own true is = done-online l own (held-session session l is) (online_at nodes st l.target.node) refl
   done-held l own false is = (l, own, refl, not-held session l is)
 
@@ -85,7 +86,8 @@ module _ (nodes : List NodeInfo) (st : State) (session : SessionNo) (s : StripeN
       let live = at_epoch-some e (lease_of st s f) l is in
       done-held l (record { there = there; live = live.0; epoch = live.1 }) (is_held_by session l) refl
 
-  done-stripe : (b : Bool) → has_stripe st s ≡ b → SaysDone (refuse_if (not b) refusal.UnknownStripe st (done_answer nodes st session s f (at_epoch e (lease_of st s f)))).0
+  done-stripe : (b : Bool) → has_stripe st s ≡ b
+      → SaysDone (refuse_if (not b) refusal.UnknownStripe st (done_answer nodes st session s f (at_epoch e (lease_of st s f)))).0
   done-stripe false is = is
   done-stripe true is = done-lease is (at_epoch e (lease_of st s f)) refl
 
@@ -97,7 +99,8 @@ module _ (nodes : List NodeInfo) (st : State) (session : SessionNo) (s : StripeN
   pub done-told : (r : Reply) → (done_outcome nodes st session s f e).0 ≡ r → SaysDone r
   done-told r told = subst SaysDone told done-says
 
-  done-there : has_stripe st s ≡ true → (o : Option LeaseRecord) → at_epoch e (lease_of st s f) ≡ o → done_outcome nodes st session s f e ≡ done_answer nodes st session s f o
+  done-there : has_stripe st s ≡ true → (o : Option LeaseRecord) → at_epoch e (lease_of st s f) ≡ o
+      → done_outcome nodes st session s f e ≡ done_answer nodes st session s f o
   unfolding done_outcome
   done-there there o is =
       passed (not (has_stripe st s)) refusal.UnknownStripe st (done_answer nodes st session s f (at_epoch e (lease_of st s f))) (ap not there)
@@ -107,14 +110,18 @@ module _ (nodes : List NodeInfo) (st : State) (session : SessionNo) (s : StripeN
   reported-at l own = ap (at_epoch e) own.live ∙ at-own e l own.epoch
 
   done-mine : (l : LeaseRecord) → IsReported st s f e l → l.holder ≡ session
-      → done_outcome nodes st session s f e ≡ refuse_if (not (online_at nodes st l.target.node)) (refusal.TargetOffline l.target.node) st (Ended, moved_in st s f l.target)
+      → done_outcome nodes st session s f e ≡ refuse_if (not (online_at nodes st l.target.node)) (refusal.TargetOffline l.target.node) st
+      (Ended, moved_in st s f l.target)
   done-mine l own held =
       done-there own.there (Some l) (reported-at l own)
       ∙ passed (not (is_held_by session l)) (refusal.NotHolder l.holder) st _ (ap not (session-held session l held))
 
   -- and what is so, is told
-  pub done-ends : (l : LeaseRecord) → IsReported st s f e l → l.holder ≡ session → online_at nodes st l.target.node ≡ true → done_outcome nodes st session s f e ≡ (Ended, moved_in st s f l.target)
-  done-ends l own held online = done-mine l own held ∙ passed (not (online_at nodes st l.target.node)) (refusal.TargetOffline l.target.node) st (Ended, moved_in st s f l.target) (ap not online)
+  pub done-ends : (l : LeaseRecord) → IsReported st s f e l → l.holder ≡ session → online_at nodes st l.target.node ≡ true
+      → done_outcome nodes st session s f e ≡ (Ended, moved_in st s f l.target)
+  done-ends l own held online =
+      done-mine l own held ∙ passed (not (online_at nodes st l.target.node)) (refusal.TargetOffline l.target.node) st
+      (Ended, moved_in st s f l.target) (ap not online)
 
   pub tell-done : SaysDone Ended → (done_outcome nodes st session s f e).0 ≡ Ended
   tell-done so = ap (λ (o : Outcome). o.0) (done-ends so.0 so.1 so.2 so.3)
@@ -122,13 +129,15 @@ module _ (nodes : List NodeInfo) (st : State) (session : SessionNo) (s : StripeN
   pub tell-offline : (n : NodeNo) → IsOffline n → (done_outcome nodes st session s f e).0 ≡ Refused (refusal.TargetOffline n)
   tell-offline n so =
       ap (λ (o : Outcome). o.0) (done-mine so.0 so.1 so.2)
-      ∙ stopped (not (online_at nodes st so.0.target.node)) (refusal.TargetOffline so.0.target.node) st _ (ap (λ (m : NodeNo). not (online_at nodes st m)) so.3 ∙ ap not so.4)
+      ∙ stopped (not (online_at nodes st so.0.target.node)) (refusal.TargetOffline so.0.target.node) st _
+      (ap (λ (m : NodeNo). not (online_at nodes st m)) so.3 ∙ ap not so.4)
       ∙ ap (λ (m : NodeNo). Refused (refusal.TargetOffline m)) so.3
 
   pub tell-others : (x : SessionNo) → IsOthers x → (done_outcome nodes st session s f e).0 ≡ Refused (refusal.NotHolder x)
   tell-others x so =
       ap (λ (o : Outcome). o.0) (done-there so.1.there (Some so.0) (reported-at so.0 so.1))
-      ∙ stopped (not (is_held_by session so.0)) (refusal.NotHolder so.0.holder) st _ (ap not (held-not session so.0 (subst (λ (y : SessionNo). y ≢ session) (sym so.2) so.3)))
+      ∙ stopped (not (is_held_by session so.0)) (refusal.NotHolder so.0.holder) st _
+      (ap not (held-not session so.0 (subst (λ (y : SessionNo). y ≢ session) (sym so.2) so.3)))
       ∙ ap (λ (y : SessionNo). Refused (refusal.NotHolder y)) so.2
 
   pub tell-stale : IsStale → (done_outcome nodes st session s f e).0 ≡ Refused refusal.Stale

@@ -47,7 +47,8 @@ use Rattle.lrc_book.proofs.LeaseStepLemmas.{lease-seated, done-seated, abandon-s
 -- a stripe that is not there is none of the stripes
 pub not_there : (st : State) (s : StripeNo) → has_stripe st s ≡ false → (t : StripeNo) → Contains st.stripes t → t ≢ s
 not_there st s e t here same =
-    let hit = list_any-member (λ (u : StripeNo). eqb s.value u.value) st.stripes t here (eq-eqb s.value t.value (ap (λ (x : StripeNo). x.value) (sym same))) in
+    let hit = list_any-member (λ (u : StripeNo). eqb s.value u.value) st.stripes t here
+    (eq-eqb s.value t.value (ap (λ (x : StripeNo). x.value) (sym same))) in
     let both : true ≡ false = sym hit ∙ e in cc
 
 module _ (nodes : List NodeInfo) (known : AreNodes nodes) (st : State) (s : StripeNo) where
@@ -60,26 +61,33 @@ module _ (nodes : List NodeInfo) (known : AreNodes nodes) (st : State) (s : Stri
     lawful = seated.lawful;
     one_home = seated.one_home;
     one_lease = seated.one_lease;
-    there = All-weaker (λ h. Contains st.stripes h.stripe) (λ h. Contains (st.stripes ++ s ∷ []) h.stripe) (λ h here. Contains-append_left st.stripes (s ∷ []) h.stripe here) (seats_of st) seated.there;
+    there =
+        All-weaker (λ h. Contains st.stripes h.stripe) (λ h. Contains (st.stripes ++ s ∷ []) h.stripe)
+        (λ h here. Contains-append_left st.stripes (s ∷ []) h.stripe here) (seats_of st) seated.there;
     reachable = seated.reachable;
   }
 
-  pub stripe-placing : (code : Code) → AreSeated nodes st → has_stripe st s ≡ false → IsPlacing nodes s (with_stripe st code s) (fragments (code_of (with_stripe st code s) s))
+  pub stripe-placing : (code : Code) → AreSeated nodes st → has_stripe st s ≡ false
+      → IsPlacing nodes s (with_stripe st code s) (fragments (code_of (with_stripe st code s) s))
   stripe-placing Wide seated e = record {
     seated = stripe-seated Wide seated e;
     there = Contains-push st.stripes s;
     distinct = fragments-distinct (code_of (with_stripe st Wide s) s);
     absent = All-members (HasNone s st.homes) (fragments (code_of (with_stripe st Wide s) s))
-        (λ f here. All-weaker (λ h. Contains st.stripes h.stripe) (λ h. h.stripe ≡ s → h.fragment ≢ f) (λ h there stripe. absurd (not_there st s e h.stripe there stripe)) st.homes
+        (λ f here. All-weaker (λ h. Contains st.stripes h.stripe) (λ h. h.stripe ≡ s → h.fragment ≢ f)
+        (λ h there stripe. absurd (not_there st s e h.stripe there stripe)) st.homes
         (homes-all (λ h. Contains st.stripes h.stripe) st seated.there));
   }
 
   -- all fragments of a new stripe placed
-  pub placed-seated : (code : Code) (final : State) → AreSeated nodes st → has_stripe st s ≡ false → placed nodes (with_stripe st code s) s ≡ Ok final → AreSeated nodes final
+  pub placed-seated : (code : Code) (final : State) → AreSeated nodes st → has_stripe st s ≡ false
+      → placed nodes (with_stripe st code s) s ≡ Ok final → AreSeated nodes final
   unfolding placed
-  placed-seated code final seated e done = placing nodes known s (with_stripe st code s) (fragments (code_of (with_stripe st code s) s)) final (stripe-placing code seated e) done
+  placed-seated code final seated e done =
+      placing nodes known s (with_stripe st code s) (fragments (code_of (with_stripe st code s) s)) final (stripe-placing code seated e) done
 
-  answer-seated : (code : Code) (r : Result State Fragment) → AreSeated nodes st → has_stripe st s ≡ false → placed nodes (with_stripe st code s) s ≡ r → AreSeated nodes (place_answer st s r).1
+  answer-seated : (code : Code) (r : Result State Fragment) → AreSeated nodes st → has_stripe st s ≡ false
+      → placed nodes (with_stripe st code s) s ≡ r → AreSeated nodes (place_answer st s r).1
   answer-seated code (Ok final) seated e done = placed-seated code final seated e done
   answer-seated code (Err f) seated e done = seated
 
@@ -105,16 +113,21 @@ module _ (nodes : List NodeInfo) (known : AreNodes nodes) (st : State) (s : Stri
         one_lease = left.one_lease;
         there = All-append (λ h. Contains (filter (is_other s) st.stripes) h.stripe) (filter p st.homes) (map held_by (filter q st.leases))
             (All-members (λ h. Contains (filter (is_other s) st.stripes) h.stripe) (filter p st.homes)
-            (λ h here. let m = filter-member p st.homes h here in stays h.stripe (All-contains (λ g. Contains st.stripes g.stripe) st.homes h (homes-all (λ g. Contains st.stripes g.stripe) st seated.there) m.0) m.1))
+            (λ h here. let m = filter-member p st.homes h here in
+            stays h.stripe (All-contains (λ g. Contains st.stripes g.stripe) st.homes h
+            (homes-all (λ g. Contains st.stripes g.stripe) st seated.there) m.0) m.1))
             (All-map (λ h. Contains (filter (is_other s) st.stripes) h.stripe) held_by (filter q st.leases)
             (All-members (λ l. Contains (filter (is_other s) st.stripes) l.stripe) (filter q st.leases)
-            (λ l here. let m = filter-member q st.leases l here in stays l.stripe (All-contains (λ k. Contains st.stripes k.stripe) st.leases l (leases-all (λ g. Contains st.stripes g.stripe) st seated.there) m.0) m.1)));
+            (λ l here. let m = filter-member q st.leases l here in
+            stays l.stripe (All-contains (λ k. Contains st.stripes k.stripe) st.leases l
+            (leases-all (λ g. Contains st.stripes g.stripe) st seated.there) m.0) m.1)));
         reachable = seated.reachable;
       }
 
   pub drop-seated : AreSeated nodes st → AreSeated nodes (drop_outcome st s).1
   unfolding drop_outcome
-  drop-seated seated = either-way (AreSeated nodes) (not (has_stripe st s)) refusal.UnknownStripe st (Dropped, without_stripe st s) seated (λ e. without-seated seated)
+  drop-seated seated =
+      either-way (AreSeated nodes) (not (has_stripe st s)) refusal.UnknownStripe st (Dropped, without_stripe st s) seated (λ e. without-seated seated)
 
 -- ---- nodes
 
@@ -133,7 +146,8 @@ gone-number st m present = elim (cases_Bool (has_number st.gone m)) [ inl hit �
 pub active-number : (st : State) (m : NodeNo) → is_gone (mode_of st m) ≡ false → has_number st.gone m ≡ false
 active-number st m e = elim (cases_Bool (has_number st.gone m)) [ inl hit ↦ (let both : true ≡ false = rw hit at e in cc) | inr miss ↦ miss ]
 
-standing-by : (nodes : List NodeInfo) (o : Option NodeInfo) (slot : ℕ) (P Q : Type 0) → IsSomeAnd o (λ n. (slot < n.slots) × P) → Q → IsSomeAnd o (λ n. (slot < n.slots) × Q)
+standing-by : (nodes : List NodeInfo) (o : Option NodeInfo) (slot : ℕ) (P Q : Type 0) → IsSomeAnd o (λ n. (slot < n.slots) × P) → Q
+    → IsSomeAnd o (λ n. (slot < n.slots) × Q)
 standing-by nodes (Some n) slot P Q standing q = (standing.0, q)
 standing-by nodes None slot P Q standing q = standing
 
@@ -149,11 +163,13 @@ standing-present nodes st seat standing = present-by (node_at nodes seat.node) s
 fewer-numbers : (numbers : List NodeNo) (n m : NodeNo) → has_number numbers m ≡ false → has_number (without_number numbers n) m ≡ false
 fewer-numbers numbers n m miss =
     list_any-All (λ (k : NodeNo). eqb m.value k.value) (without_number numbers n)
-    (All-filter (λ (k : NodeNo). not (eqb n.value k.value)) (λ k. eqb m.value k.value ≡ false) numbers (All-list_any (λ (k : NodeNo). eqb m.value k.value) numbers miss))
+    (All-filter (λ (k : NodeNo). not (eqb n.value k.value)) (λ k. eqb m.value k.value ≡ false) numbers
+    (All-list_any (λ (k : NodeNo). eqb m.value k.value) numbers miss))
 
 -- a change of modes leaves the stripes seated, where no seat's node is gone afterwards, and no node that is down
 modes-seated : (nodes : List NodeInfo) (st : State) (gone draining down : List NodeNo) (upgrading : Option UpgradeNo) → AreSeated nodes st
-    → ((seat : Seat) → Contains (taken_seats st) seat → has_number gone seat.node ≡ false) → ((m : NodeNo) → Contains down m → has_number gone m ≡ false)
+    → ((seat : Seat) → Contains (taken_seats st) seat → has_number gone seat.node ≡ false)
+    → ((m : NodeNo) → Contains down m → has_number gone m ≡ false)
     → AreSeated nodes (record st { gone = gone; draining = draining; down = down; upgrading = upgrading })
 modes-seated nodes st gone draining down upgrading seated present reachable =
     let st' = record st { gone = gone; draining = draining; down = down; upgrading = upgrading } in
@@ -172,14 +188,16 @@ modes-seated nodes st gone draining down upgrading seated present reachable =
     }
 
 module _ (nodes : List NodeInfo) (st : State) (n : NodeNo) where
-  changed-seated : (wrong : Bool) (changed : State) → AreSeated nodes st → (wrong ≡ false → AreSeated nodes changed) → AreSeated nodes (node_outcome nodes st n wrong changed).1
+  changed-seated : (wrong : Bool) (changed : State) → AreSeated nodes st → (wrong ≡ false → AreSeated nodes changed)
+      → AreSeated nodes (node_outcome nodes st n wrong changed).1
   changed-seated wrong changed seated next =
       either-way (AreSeated nodes) (is_none (node_at nodes n)) refusal.UnknownNode st (refuse_if wrong refusal.WrongMode st (Changed, changed)) seated
       (λ known. either-way (AreSeated nodes) wrong refusal.WrongMode st (Changed, changed) seated next)
 
   -- a seat's node is not gone
   pub seat-present : AreSeated nodes st → (seat : Seat) → Contains (taken_seats st) seat → has_number st.gone seat.node ≡ false
-  seat-present seated seat here = gone-number st seat.node (standing-present nodes st seat (All-contains (IsStanding nodes st) (taken_seats st) seat seated.standing here))
+  seat-present seated seat here =
+      gone-number st seat.node (standing-present nodes st seat (All-contains (IsStanding nodes st) (taken_seats st) seat seated.standing here))
 
   -- nor is a node that is down
   pub down-present : AreSeated nodes st → (m : NodeNo) → Contains st.down m → has_number st.gone m ≡ false
@@ -375,7 +393,8 @@ opening-seated nodes = record {
 }
 
 -- Each command leaves the stripes seated.
-pub step-seated : (nodes : List NodeInfo) → AreNodes nodes → (past : List Entry) (st : State) (session : SessionNo) (command : Command) → AreSeated nodes st → AreSeated nodes (step nodes past st session command).1
+pub step-seated : (nodes : List NodeInfo) → AreNodes nodes → (past : List Entry) (st : State) (session : SessionNo) (command : Command)
+    → AreSeated nodes st → AreSeated nodes (step nodes past st session command).1
 step-seated nodes known past st session (Place s) seated = place-seated nodes known st s Wide seated
 step-seated nodes known past st session (Drop s) seated = drop-seated nodes known st s seated
 step-seated nodes known past st session (Lease s f) seated = lease-seated nodes known past st session s f seated

@@ -50,9 +50,11 @@ pub leases-all : (P : Held → Type 0) (st : State) → All P (seats_of st) → 
 leases-all P st all = All-unmap P held_by st.leases (All-right P st.homes (map held_by st.leases) all)
 
 AreApart-turn : (code : Code) (f g : Fragment) (n m : NodeInfo) → AreApart code f n g m → AreApart code g m f n
-AreApart-turn code f g n m apart = record { faults = λ e. apart.faults (sym e); upgrades = λ class e. apart.upgrades (share_class-turn code f g ∙ class) (sym e) }
+AreApart-turn code f g n m apart =
+    record { faults = λ e. apart.faults (sym e); upgrades = λ class e. apart.upgrades (share_class-turn code f g ∙ class) (sym e) }
 
-apart-turn : (code : Code) (f g : Fragment) (o p : Option NodeInfo) → IfSome o (λ n. IfSome p (λ m. AreApart code f n g m)) → IfSome p (λ m. IfSome o (λ n. AreApart code g m f n))
+apart-turn : (code : Code) (f g : Fragment) (o p : Option NodeInfo) → IfSome o (λ n. IfSome p (λ m. AreApart code f n g m))
+    → IfSome p (λ m. IfSome o (λ n. AreApart code g m f n))
 apart-turn code f g None None h = tt
 apart-turn code f g None (Some m) h = tt
 apart-turn code f g (Some n) None h = tt
@@ -61,7 +63,8 @@ apart-turn code f g (Some n) (Some m) h = AreApart-turn code f g n m h
 -- being apart is the same both ways
 pub KeepApart-turn : (nodes : List NodeInfo) (st : State) (h g : Held) → KeepApart nodes st h g → KeepApart nodes st g h
 KeepApart-turn nodes st h g apart stripe fragment =
-    apart-turn (code_of st h.stripe) h.fragment g.fragment (node_at nodes h.seat.node) (node_at nodes g.seat.node) (apart (sym stripe) (λ e. fragment (sym e)))
+    apart-turn (code_of st h.stripe) h.fragment g.fragment (node_at nodes h.seat.node) (node_at nodes g.seat.node)
+    (apart (sym stripe) (λ e. fragment (sym e)))
 
 other-turn : (h g : Held) → h.seat ≢ g.seat → g.seat ≢ h.seat
 other-turn h g other = λ e. other (sym e)
@@ -87,14 +90,19 @@ module _ (nodes : List NodeInfo) (st : State) (seated : AreSeated nodes st) wher
       All-append P (st.homes ++ y ∷ []) targets (All-push P st.homes y (All-left P st.homes targets all) own) (All-right P st.homes targets all)
 
   -- one more home, of a fragment that had none
-  pub inserted-seated : (y : Held) → MayStand nodes st y → HasNone y.stripe st.homes y.fragment → AreSeated nodes (record st { homes = st.homes ++ y ∷ [] })
+  pub inserted-seated : (y : Held) → MayStand nodes st y → HasNone y.stripe st.homes y.fragment
+      → AreSeated nodes (record st { homes = st.homes ++ y ∷ [] })
   inserted-seated y may absent =
       let st' = record st { homes = st.homes ++ y ∷ [] } in
       let targets = map held_by st.leases in
       record {
         stripes = seated.stripes;
-        single = pairs-map (λ a b. a ≢ b) (λ (h : Held). h.seat) (seats_of st') (pairs-insert (λ h g. h.seat ≢ g.seat) other-turn st.homes targets y held-single may.others);
-        standing = All-map (IsStanding nodes st) (λ (h : Held). h.seat) (seats_of st') (All-inserted (λ h. IsStanding nodes st h.seat) y held-standing may.standing);
+        single =
+            pairs-map (λ a b. a ≢ b) (λ (h : Held). h.seat) (seats_of st')
+            (pairs-insert (λ h g. h.seat ≢ g.seat) other-turn st.homes targets y held-single may.others);
+        standing =
+            All-map (IsStanding nodes st) (λ (h : Held). h.seat) (seats_of st')
+            (All-inserted (λ h. IsStanding nodes st h.seat) y held-standing may.standing);
         lawful = pairs-insert (KeepApart nodes st) (KeepApart-turn nodes st) st.homes targets y seated.lawful may.apart;
         one_home = pairs-push (λ h g. h.stripe ≡ g.stripe → h.fragment ≢ g.fragment) st.homes y seated.one_home absent;
         one_lease = seated.one_lease;
@@ -107,17 +115,21 @@ module _ (nodes : List NodeInfo) (st : State) (seated : AreSeated nodes st) wher
   leased-seated l may none =
       let y = held_by l in
       let held : seats_of (with_lease st l) ≡ seats_of st ++ y ∷ [] =
-      ap (λ (hs : List Held). st.homes ++ hs) (map-append held_by st.leases (l ∷ [])) ∙ sym (append_assoc st.homes (map held_by st.leases) (y ∷ [])) in
+      ap (λ (hs : List Held). st.homes ++ hs) (map-append held_by st.leases (l ∷ [])) ∙ sym
+      (append_assoc st.homes (map held_by st.leases) (y ∷ [])) in
       record {
         stripes = seated.stripes;
         single = pairs-map (λ a b. a ≢ b) (λ (h : Held). h.seat) (seats_of (with_lease st l))
             (subst (AllPairs (λ h g. h.seat ≢ g.seat)) (sym held) (pairs-push (λ h g. h.seat ≢ g.seat) (seats_of st) y held-single may.others));
         standing = All-map (IsStanding nodes st) (λ (h : Held). h.seat) (seats_of (with_lease st l))
-            (subst (All (λ h. IsStanding nodes st h.seat)) (sym held) (All-push (λ h. IsStanding nodes st h.seat) (seats_of st) y held-standing may.standing));
+            (subst (All (λ h. IsStanding nodes st h.seat)) (sym held)
+            (All-push (λ h. IsStanding nodes st h.seat) (seats_of st) y held-standing may.standing));
         lawful = subst (AllPairs (KeepApart nodes st)) (sym held) (pairs-push (KeepApart nodes st) (seats_of st) y seated.lawful may.apart);
         one_home = seated.one_home;
         one_lease = one_each-append st.leases l seated.one_lease none;
-        there = subst (All (λ h. Contains st.stripes h.stripe)) (sym held) (All-push (λ h. Contains st.stripes h.stripe) (seats_of st) y seated.there may.there);
+        there =
+            subst (All (λ h. Contains st.stripes h.stripe)) (sym held)
+            (All-push (λ h. Contains st.stripes h.stripe) (seats_of st) y seated.there may.there);
         reachable = seated.reachable;
       }
 
@@ -125,7 +137,8 @@ module _ (nodes : List NodeInfo) (known : AreNodes nodes) (st : State) (s : Stri
   -- a seat that is chosen is none of those that are held
   pub choice-new : IsChoice nodes st s f seat → All (λ a. a ≢ seat) (taken_seats st)
   choice-new choice =
-      All-members (λ a. a ≢ seat) (taken_seats st) (λ a here same. choice.free.free (subst (Contains (taken_seats st)) (same ∙ ap (λ n. seat_on n seat.slot) choice.on) here))
+      All-members (λ a. a ≢ seat) (taken_seats st)
+      (λ a here same. choice.free.free (subst (Contains (taken_seats st)) (same ∙ ap (λ n. seat_on n seat.slot) choice.on) here))
 
   choice-found : IsChoice nodes st s f seat → (n : NodeInfo) → Contains nodes n → seat.node ≡ n.number → node_at nodes seat.node ≡ Some n
   choice-found choice n here on = ap (node_at nodes) on ∙ node_at-member nodes known n here
@@ -139,26 +152,31 @@ module _ (nodes : List NodeInfo) (known : AreNodes nodes) (st : State) (s : Stri
 
   choice-standing : IsChoice nodes st s f seat → IsStanding nodes st seat
   choice-standing choice =
-      subst (λ o. IsSomeAnd o (λ (n : NodeInfo). (seat.slot < n.slots) × (mode_of st seat.node ≢ Gone))) (sym (choice-found choice choice.node choice.fitting.known choice.on))
+      subst (λ o. IsSomeAnd o (λ (n : NodeInfo). (seat.slot < n.slots) × (mode_of st seat.node ≢ Gone)))
+      (sym (choice-found choice choice.node choice.fitting.known choice.on))
       (choice.free.within, choice-present choice)
 
   -- it is apart from the seats of the stripe's other fragments
   choice-apart : (choice : IsChoice nodes st s f seat) (h : Held) → IsApartFrom nodes st s f choice.node h → KeepApart nodes st h (held_on s f seat)
   choice-apart choice h apart stripe fragment =
       IfSome_then (node_at nodes h.seat.node) (apart stripe fragment) (λ m a.
-      subst (λ o. IfSome o (λ n. AreApart (code_of st h.stripe) h.fragment m f n)) (sym (choice-found choice choice.node choice.fitting.known choice.on))
+      subst (λ o. IfSome o (λ n. AreApart (code_of st h.stripe) h.fragment m f n))
+      (sym (choice-found choice choice.node choice.fitting.known choice.on))
       (subst (λ t. AreApart (code_of st t) h.fragment m f choice.node) (sym stripe) (AreApart-turn (code_of st s) f h.fragment choice.node m a)))
 
   pub choice-stands : IsChoice nodes st s f seat → Contains st.stripes s → MayStand nodes st (held_on s f seat)
   choice-stands choice there = record {
     standing = choice-standing choice;
     others = All-unmap (λ a. a ≢ seat) (λ (h : Held). h.seat) (seats_of st) (choice-new choice);
-    apart = All-weaker (IsApartFrom nodes st s f choice.node) (λ h. KeepApart nodes st h (held_on s f seat)) (choice-apart choice) (seats_of st) choice.fitting.lawful;
+    apart =
+        All-weaker (IsApartFrom nodes st s f choice.node) (λ h. KeepApart nodes st h (held_on s f seat)) (choice-apart choice)
+        (seats_of st) choice.fitting.lawful;
     there = there;
   }
 
   -- a home on a chosen seat, for a fragment that has none
-  pub home-seated : AreSeated nodes st → IsChoice nodes st s f seat → Contains st.stripes s → HasNone s st.homes f → AreSeated nodes (with_home st s f seat)
+  pub home-seated : AreSeated nodes st → IsChoice nodes st s f seat → Contains st.stripes s → HasNone s st.homes f
+      → AreSeated nodes (with_home st s f seat)
   home-seated seated choice there absent = inserted-seated nodes st seated (held_on s f seat) (choice-stands choice there) absent
 
 -- ---- placing
@@ -171,7 +189,8 @@ pub record IsPlacing (nodes : List NodeInfo) (s : StripeNo) (st : State) (rest :
   pub absent : All (HasNone s st.homes) rest
 
 module _ (nodes : List NodeInfo) (known : AreNodes nodes) (s : StripeNo) where
-  pub placing-some : (st : State) (f : Fragment) (fs : List Fragment) (seat : Seat) → IsPlacing nodes s st (f ∷ fs) → chosen nodes st s f ≡ Some seat → IsPlacing nodes s (with_home st s f seat) fs
+  pub placing-some : (st : State) (f : Fragment) (fs : List Fragment) (seat : Seat) → IsPlacing nodes s st (f ∷ fs) → chosen nodes st s f ≡ Some seat
+      → IsPlacing nodes s (with_home st s f seat) fs
   placing-some st f fs seat p e =
       let absent = All-head (HasNone s st.homes) f fs p.absent in
       record {
@@ -180,16 +199,20 @@ module _ (nodes : List NodeInfo) (known : AreNodes nodes) (s : StripeNo) where
         distinct = AllPairs-tail (λ f g. f ≢ g) f fs p.distinct;
         absent = All-weaker (λ g. HasNone s st.homes g × (f ≢ g)) (HasNone s (st.homes ++ held_on s f seat ∷ []))
             (λ g parts. All-push (λ h. h.stripe ≡ s → h.fragment ≢ g) st.homes (held_on s f seat) parts.0 (λ stripe same. parts.1 same)) fs
-            (All-both (HasNone s st.homes) (λ g. f ≢ g) fs (All-tail (HasNone s st.homes) f fs p.absent) (AllPairs-head (λ f g. f ≢ g) f fs p.distinct));
+            (All-both (HasNone s st.homes) (λ g. f ≢ g) fs (All-tail (HasNone s st.homes) f fs p.absent)
+            (AllPairs-head (λ f g. f ≢ g) f fs p.distinct));
       }
 
   placing-next : (st : State) (f : Fragment) (fs : List Fragment) (final : State) → IsPlacing nodes s st (f ∷ fs)
-      → ((next : State) → IsPlacing nodes s next fs → fold (place_next nodes s) (Ok next) fs ≡ Ok final → AreSeated nodes final) → (o : Option Seat) → chosen nodes st s f ≡ o
+      → ((next : State) → IsPlacing nodes s next fs → fold (place_next nodes s) (Ok next) fs ≡ Ok final → AreSeated nodes final) → (o : Option Seat)
+      → chosen nodes st s f ≡ o
       → fold (place_next nodes s) (option_map_or (λ seat. Ok (with_home st s f seat)) o (Err f)) fs ≡ Ok final → AreSeated nodes final
-  placing-next st f fs final p again None none e = absurd (let stuck = fold_stays (place_next nodes s) (Err f) (λ x. refl) fs in let never : Err f ≡ Ok final = sym stuck ∙ e in cc)
+  placing-next st f fs final p again None none e =
+      absurd (let stuck = fold_stays (place_next nodes s) (Err f) (λ x. refl) fs in let never : Err f ≡ Ok final = sym stuck ∙ e in cc)
   placing-next st f fs final p again (Some seat) some e = again (with_home st s f seat) (placing-some st f fs seat p some) e
 
-  pub placing : (st : State) (fs : List Fragment) (final : State) → IsPlacing nodes s st fs → fold (place_next nodes s) (Ok st) fs ≡ Ok final → AreSeated nodes final
+  pub placing : (st : State) (fs : List Fragment) (final : State) → IsPlacing nodes s st fs → fold (place_next nodes s) (Ok st) fs ≡ Ok final
+      → AreSeated nodes final
   placing st [] final p e = let same : st ≡ final = cc in subst (AreSeated nodes) same p.seated
   placing st (f ∷ fs) final p e = placing-next st f fs final p (λ next q g. placing next fs final q g) (chosen nodes st s f) refl e
 
@@ -203,7 +226,8 @@ distinct-from [] e = λ i j d below within. absurd (omega arith)
 distinct-from (f ∷ fs) e =
     let parts = and_parts (not (list_any (λ (g : Fragment). eqb f.value g.value) fs)) (are_distinct fs) e in
     AllPairs-cons (λ f g. f ≢ g) f fs
-    (All-weaker _ (λ g. f ≢ g) (λ g other same. eqb-false f.value g.value other (ap (λ (x : Fragment). x.value) same)) fs (All-list_any (λ (g : Fragment). eqb f.value g.value) fs (not-true _ parts.0)))
+    (All-weaker _ (λ g. f ≢ g) (λ g other same. eqb-false f.value g.value other (ap (λ (x : Fragment). x.value) same)) fs
+    (All-list_any (λ (g : Fragment). eqb f.value g.value) fs (not-true _ parts.0)))
     (distinct-from fs parts.1)
 
 -- no two of a stripe's fragments are one

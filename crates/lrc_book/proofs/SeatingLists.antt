@@ -14,12 +14,14 @@ module _ {X Y : Type 0} (R : Y → Y → Type 0) (f : X → Y) where
   pub pairs-map : (xs : List X) → AllPairs (λ x y. R (f x) (f y)) xs → AllPairs R (map f xs)
   pairs-map [] pairs = λ i j d below within. absurd (omega arith)
   pairs-map (x ∷ xs) pairs =
-      AllPairs-cons R (f x) (map f xs) (All-map (R (f x)) f xs (AllPairs-head (λ x y. R (f x) (f y)) x xs pairs)) (pairs-map xs (AllPairs-tail (λ x y. R (f x) (f y)) x xs pairs))
+      AllPairs-cons R (f x) (map f xs) (All-map (R (f x)) f xs (AllPairs-head (λ x y. R (f x) (f y)) x xs pairs))
+      (pairs-map xs (AllPairs-tail (λ x y. R (f x) (f y)) x xs pairs))
 
   pub pairs-unmap : (xs : List X) → AllPairs R (map f xs) → AllPairs (λ x y. R (f x) (f y)) xs
   pairs-unmap [] pairs = λ i j d below within. absurd (omega arith)
   pairs-unmap (x ∷ xs) pairs =
-      AllPairs-cons (λ x y. R (f x) (f y)) x xs (All-unmap (R (f x)) f xs (AllPairs-head R (f x) (map f xs) pairs)) (pairs-unmap xs (AllPairs-tail R (f x) (map f xs) pairs))
+      AllPairs-cons (λ x y. R (f x) (f y)) x xs (All-unmap (R (f x)) f xs (AllPairs-head R (f x) (map f xs) pairs))
+      (pairs-unmap xs (AllPairs-tail R (f x) (map f xs) pairs))
 
 pub pairs-push : {X : Type 0} (R : X → X → Type 0) (xs : List X) (y : X) → AllPairs R xs → All (λ x. R x y) xs → AllPairs R (xs ++ y ∷ [])
 pairs-push R xs y pairs all = all_pairs_push R xs y pairs all

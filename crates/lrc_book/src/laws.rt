@@ -162,12 +162,15 @@ pub fn a_lease_is_granted_where_it_is_owed()
     ensures unknown { (nodes : List NodeInfo) (past : List Entry) (st : State) (session : SessionNo) (s : StripeNo) (f : Fragment)
         → ((step nodes past st session (Lease s f)).0 ≡ Refused refusal.UnknownStripe) ↔ IsFalse (has_stripe st s) }
     ensures leased { (nodes : List NodeInfo) (past : List Entry) (st : State) (session : SessionNo) (s : StripeNo) (f : Fragment) (e : ℕ)
-        → ((step nodes past st session (Lease s f)).0 ≡ Refused (refusal.AlreadyLeased e)) ↔ (IsTrue (has_stripe st s) × IsSomeAnd (lease_of st s f) (λ l. l.epoch ≡ e)) }
+        → ((step nodes past st session (Lease s f)).0 ≡ Refused (refusal.AlreadyLeased e))
+        ↔ (IsTrue (has_stripe st s) × IsSomeAnd (lease_of st s f) (λ l. l.epoch ≡ e)) }
     ensures not_needed { (nodes : List NodeInfo) (past : List Entry) (st : State) (session : SessionNo) (s : StripeNo) (f : Fragment)
-        → ((step nodes past st session (Lease s f)).0 ≡ Refused refusal.NotNeeded) ↔ (IsTrue (has_stripe st s) × (lease_of st s f ≡ None) × IsFalse (needs nodes st s f)) }
+        → ((step nodes past st session (Lease s f)).0 ≡ Refused refusal.NotNeeded)
+        ↔ (IsTrue (has_stripe st s) × (lease_of st s f ≡ None) × IsFalse (needs nodes st s f)) }
     ensures unrecoverable { (nodes : List NodeInfo) (past : List Entry) (st : State) (session : SessionNo) (s : StripeNo) (f : Fragment)
         → ((step nodes past st session (Lease s f)).0 ≡ Refused refusal.Unrecoverable)
-        ↔ (IsTrue (has_stripe st s) × (lease_of st s f ≡ None) × IsTrue (needs nodes st s f) × (kind nodes st s f ≡ Global) × IsFalse (is_safe nodes st s)) }
+        ↔ (IsTrue (has_stripe st s) × (lease_of st s f ≡ None) × IsTrue (needs nodes st s f) × (kind nodes st s f ≡ Global)
+        × IsFalse (is_safe nodes st s)) }
     ensures no_node { (nodes : List NodeInfo) (past : List Entry) (st : State) (session : SessionNo) (s : StripeNo) (f : Fragment) (g : Fragment)
         → ((step nodes past st session (Lease s f)).0 ≡ Refused (refusal.NoLawfulNode g))
         ↔ ((g ≡ f) × IsOwed nodes st s f × ((n : NodeInfo) → ¬ (IsFitting nodes st s f n))) }
@@ -266,11 +269,13 @@ pub fn placed_seats_are_the_homes()
 pub fn upgrades_are_safe()
     ensures lost { (nodes : List NodeInfo) (past : List Entry) (st : State) (session : SessionNo) (u : UpgradeNo) (s : StripeNo)
         → ((step nodes past st session (Upgrade u)).0 ≡ Refused (refusal.WouldLose s))
-        ↔ (IsTrue (has_domain nodes u) × (st.upgrading ≡ None) × WouldBeLost nodes st u s × ((r : StripeNo) → WouldBeLost nodes st u r → s.value ≤ r.value)) }
+        ↔ (IsTrue (has_domain nodes u) × (st.upgrading ≡ None) × WouldBeLost nodes st u s
+        × ((r : StripeNo) → WouldBeLost nodes st u r → s.value ≤ r.value)) }
     ensures unknown { (nodes : List NodeInfo) (past : List Entry) (st : State) (session : SessionNo) (u : UpgradeNo)
         → ((step nodes past st session (Upgrade u)).0 ≡ Refused refusal.UnknownDomain) ↔ IsFalse (has_domain nodes u) }
     ensures running { (nodes : List NodeInfo) (past : List Entry) (st : State) (session : SessionNo) (u v : UpgradeNo)
-        → ((step nodes past st session (Upgrade u)).0 ≡ Refused (refusal.UpgradeRunning v)) ↔ (IsTrue (has_domain nodes u) × (st.upgrading ≡ Some v)) }
+        → ((step nodes past st session (Upgrade u)).0 ≡ Refused (refusal.UpgradeRunning v))
+        ↔ (IsTrue (has_domain nodes u) × (st.upgrading ≡ Some v)) }
     ensures done { (nodes : List NodeInfo) (past : List Entry) (st : State) (session : SessionNo) (u : UpgradeNo)
         → ((step nodes past st session (Upgrade u)).0 ≡ Changed)
         ↔ (IsTrue (has_domain nodes u) × (st.upgrading ≡ None) × ((s : StripeNo) → ¬ (WouldBeLost nodes st u s))) }
@@ -283,7 +288,8 @@ pub fn upgrades_are_safe()
     ensures margin { (nodes : List NodeInfo) (history : List Entry) (session : SessionNo) (u : UpgradeNo) (s : StripeNo)
         → AreNodes nodes → IsLegal nodes history → level nodes (state_after nodes history) s ≡ Whole
         → (outcome_in nodes (world_after nodes history) session (Upgrade u)).0 ≡ Changed
-        → (t : ℕ) × (1 ≤ t) × IsMargin (code_of (state_after nodes history) s) (missing nodes (outcome_in nodes (world_after nodes history) session (Upgrade u)).1 s) t }
+        → (t : ℕ) × (1 ≤ t)
+        × IsMargin (code_of (state_after nodes history) s) (missing nodes (outcome_in nodes (world_after nodes history) session (Upgrade u)).1 s) t }
 {}
 
 /// Next does what Lease of the most urgent fragment does: of those that are owed a lease and may go to some node, the
@@ -294,7 +300,8 @@ pub fn next_is_most_urgent()
     ensures granted { (nodes : List NodeInfo) (past : List Entry) (st : State) (session : SessionNo) (s : StripeNo) (f : Fragment)
         → IsMostUrgent nodes st (s, f) → step nodes past st session Next ≡ step nodes past st session (Lease s f) }
     ensures leased { (nodes : List NodeInfo) (past : List Entry) (st : State) (session : SessionNo) (l : LeaseRecord) (k : Kind)
-        → (step nodes past st session Next).0 ≡ Granted l k → step nodes past st session Next ≡ step nodes past st session (Lease l.stripe l.fragment) }
+        → (step nodes past st session Next).0 ≡ Granted l k
+        → step nodes past st session Next ≡ step nodes past st session (Lease l.stripe l.fragment) }
 {}
 
 /// Next is idle exactly where no fragment is both owed a lease and may go to some node, and changes nothing then. It is
@@ -316,7 +323,8 @@ pub fn retired_nodes_are_empty()
         ↔ (IsSome (node_at nodes n) × (mode_of st n ≡ Draining) × All (λ seat. seat.node ≢ n) (taken_seats st)) }
     ensures empty { (nodes : List NodeInfo) (past : List Entry) (st : State) (session : SessionNo) (n : NodeNo)
         → (step nodes past st session (Retire n)).0 ≡ Changed
-        → (mode_of (step nodes past st session (Retire n)).1 n ≡ Gone) × All (λ seat. seat.node ≢ n) (taken_seats (step nodes past st session (Retire n)).1) }
+        → (mode_of (step nodes past st session (Retire n)).1 n ≡ Gone)
+        × All (λ seat. seat.node ≢ n) (taken_seats (step nodes past st session (Retire n)).1) }
     ensures loaded { (nodes : List NodeInfo) (past : List Entry) (st : State) (session : SessionNo) (n : NodeNo) (k : ℕ)
         → ((step nodes past st session (Retire n)).0 ≡ Refused (refusal.NotEmpty k))
         ↔ (IsSome (node_at nodes n) × (mode_of st n ≡ Draining) × (load st n ≡ k) × (1 ≤ k)) }

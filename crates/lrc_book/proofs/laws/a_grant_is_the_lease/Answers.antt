@@ -18,4 +18,5 @@ returns-clause-own c = λ nodes past st session s f l k told.
     )
 
 pub returns-clause-target : goal.returns-clause-target
-returns-clause-target c = λ nodes past st session s f l k known told. chosen-choice nodes st s f l.target known (lease-new nodes past st session s f l k told).seat
+returns-clause-target c =
+    λ nodes past st session s f l k known told. chosen-choice nodes st s f l.target known (lease-new nodes past st session s f l k told).seat

@@ -8,4 +8,5 @@ pub returns-clause-granted : goal.returns-clause-granted
 returns-clause-granted c = λ nodes past st session s f most. urgent-leased nodes past st session s f most
 
 pub returns-clause-leased : goal.returns-clause-leased
-returns-clause-leased c = λ nodes past st session l k told. urgent-leased nodes past st session l.stripe l.fragment (granted-urgent nodes past st session l k told)
+returns-clause-leased c =
+    λ nodes past st session l k told. urgent-leased nodes past st session l.stripe l.fragment (granted-urgent nodes past st session l k told)

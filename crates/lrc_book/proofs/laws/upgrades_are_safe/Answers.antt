@@ -31,7 +31,11 @@ pub returns-clause-recoverable : goal.returns-clause-recoverable
 returns-clause-recoverable c = λ nodes past st session u s told there safe. upgrade-keeps nodes st u s told there safe
 
 pub returns-clause-whole : goal.returns-clause-whole
-returns-clause-whole c = λ nodes history session u s known legal whole. whole-safe nodes (state_after nodes history) u s (state_after-good nodes known history legal).seated whole
+returns-clause-whole c =
+    λ nodes history session u s known legal whole. whole-safe nodes (state_after nodes history) u s
+    (state_after-good nodes known history legal).seated whole
 
 pub returns-clause-margin : goal.returns-clause-margin
-returns-clause-margin c = λ nodes history session u s known legal whole told. whole-left nodes (state_after nodes history) u s (state_after-good nodes known history legal).seated whole told
+returns-clause-margin c =
+    λ nodes history session u s known legal whole told. whole-left nodes (state_after nodes history) u s
+    (state_after-good nodes known history legal).seated whole told
