@@ -109,7 +109,8 @@ module _ (nodes : List NodeInfo) (past : List Entry) (st : State) (session : Ses
   answer-owed : IsOwed nodes st s f → lease_outcome nodes past st session s f ≡ granted nodes past st session s f (chosen nodes st s f)
   answer-owed owed =
       answer-needed owed.there owed.none owed.needed
-      ∙ passed (is_beyond_repair nodes st s f) refusal.Unrecoverable st (granted nodes past st session s f (chosen nodes st s f)) (not-beyond (is_safe nodes st s) refl (kind nodes st s f) refl owed.suffices)
+      ∙ passed (is_beyond_repair nodes st s f) refusal.Unrecoverable st (granted nodes past st session s f (chosen nodes st s f))
+      (not-beyond (is_safe nodes st s) refl (kind nodes st s f) refl owed.suffices)
 
   pub tell-granted : (l : LeaseRecord) (k : Kind) → Says (Granted l k) → (lease_outcome nodes past st session s f).0 ≡ Granted l k
   tell-granted l k says =

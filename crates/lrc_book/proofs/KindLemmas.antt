@@ -41,7 +41,8 @@ rising-from [] e = λ i j d below within. absurd (omega arith)
 rising-from (f ∷ fs) e =
     let parts = and_parts (not (list_any (λ (g : Fragment). not (nat_lt f.value g.value)) fs)) (are_rising fs) e in
     AllPairs-cons (λ f g. f.value < g.value) f fs
-    (All-weaker _ (λ g. f.value < g.value) (λ g below. ltb-true f.value g.value (not-false _ below)) fs (All-list_any (λ (g : Fragment). not (nat_lt f.value g.value)) fs (not-true _ parts.0)))
+    (All-weaker _ (λ g. f.value < g.value) (λ g below. ltb-true f.value g.value (not-false _ below)) fs
+    (All-list_any (λ (g : Fragment). not (nat_lt f.value g.value)) fs (not-true _ parts.0)))
     (rising-from fs parts.1)
 
 pub fragments-rising : IsRising (fragments Wide)
@@ -74,7 +75,8 @@ rising-strict fs rising = λ i j d below within. lt-ltb (get_or fs i d).value (g
 rising-same : (fs gs : List Fragment) → IsRising fs → IsRising gs
     → ((h : Fragment) → Contains fs h → Contains gs h) → ((h : Fragment) → Contains gs h → Contains fs h) → fs ≡ gs
 rising-same fs gs up down =
-    strict-same is_lower lower-order (λ f g h k. equal_fragments f g (lower-tie f.value g.value h k)) fs gs (rising-strict fs up) (rising-strict gs down)
+    strict-same is_lower lower-order (λ f g h k. equal_fragments f g (lower-tie f.value g.value h k)) fs gs (rising-strict fs up)
+    (rising-strict gs down)
 
 -- ---- the others of a class
 
@@ -154,18 +156,21 @@ module _ (nodes : List NodeInfo) (st : State) (s : StripeNo) (f : Fragment) wher
   group-local sources from =
       let none : list_any (λ (h : Fragment). gone h.value) (others Wide f) ≡ false =
       list_any-All (λ (h : Fragment). gone h.value) (others Wide f)
-      (All-members (λ (h : Fragment). gone h.value ≡ false) (others Wide f) (λ h here. let parts = (others-members f h).0 here in from.present h parts.0 parts.1)) in
+      (All-members (λ (h : Fragment). gone h.value ≡ false) (others Wide f)
+      (λ h here. let parts = (others-members f h).0 here in from.present h parts.0 parts.1)) in
       rw (from.group, none) refl
 
   group-sources : (sources : List Fragment) → IsFromItsGroup nodes st s f sources → sources ≡ others Wide f
   group-sources sources from =
-      rising-same sources (others Wide f) from.rising (others-rising f) (λ h here. (others-members f h).1 ((from.members h).0 here)) (λ h here. (from.members h).1 ((others-members f h).0 here))
+      rising-same sources (others Wide f) from.rising (others-rising f) (λ h here. (others-members f h).1 ((from.members h).0 here))
+      (λ h here. (from.members h).1 ((others-members f h).0 here))
 
   told-by : (sources : List Fragment) (here near : Bool) → home ≡ here → local ≡ near → kind nodes st s f ≡ Local sources
       → IsFromItsGroup nodes st s f sources
   told-by sources true near at_home in_group e = absurd (let never : Move ≡ Local sources = sym (kind-is true near at_home in_group) ∙ e in cc)
   told-by sources false true away in_group e =
-      subst (IsFromItsGroup nodes st s f) (same_local (others Wide f) sources (sym (kind-is false true away in_group) ∙ e)) (local-group away in_group)
+      subst (IsFromItsGroup nodes st s f) (same_local (others Wide f) sources (sym (kind-is false true away in_group) ∙ e))
+      (local-group away in_group)
   told-by sources false false away in_group e = absurd (let never : Global ≡ Local sources = sym (kind-is false false away in_group) ∙ e in cc)
 
   pub local-told : (sources : List Fragment) → kind nodes st s f ≡ Local sources → IsFromItsGroup nodes st s f sources

@@ -77,8 +77,10 @@ module _ (nodes : List NodeInfo) (past : List Entry) (st : State) (session : Ses
 
   new-live : (m : LeaseRecord) → (m.stripe ≡ s) → (m.fragment ≡ f) → lease_of st s f ≡ None → lease_of (with_lease st m) s f ≡ Some m
   new-live m is_stripe is_fragment none =
-      let none-own : lease_of st m.stripe m.fragment ≡ None = ap (λ (r : StripeNo). lease_of st r m.fragment) is_stripe ∙ ap (lease_of st s) is_fragment ∙ none in
-      let own : lease_of (with_lease st m) m.stripe m.fragment ≡ Some m = ap (λ (t : Leased). t.leases m.stripe m.fragment.value) (leased_of-append st.leases m 0 none-own) ∙ rw (is_of-own m) refl in
+      let none-own : lease_of st m.stripe m.fragment ≡ None =
+      ap (λ (r : StripeNo). lease_of st r m.fragment) is_stripe ∙ ap (lease_of st s) is_fragment ∙ none in
+      let own : lease_of (with_lease st m) m.stripe m.fragment ≡ Some m =
+      ap (λ (t : Leased). t.leases m.stripe m.fragment.value) (leased_of-append st.leases m 0 none-own) ∙ rw (is_of-own m) refl in
       sym (ap (λ (r : StripeNo). lease_of (with_lease st m) r m.fragment) is_stripe ∙ ap (lease_of (with_lease st m) s) is_fragment) ∙ own
 
   granted-new : lease_of st s f ≡ None → (o : Option Seat) → chosen nodes st s f ≡ o → (granted nodes past st session s f o).0 ≡ Granted l k
@@ -155,7 +157,8 @@ module _ (nodes : List NodeInfo) (st : State) (session : SessionNo) (s r : Strip
   done-by-keeps None = refl
   done-by-keeps (Some l) =
       either-way KeepsLease (not (is_held_by session l)) (refusal.NotHolder l.holder) st _ refl (λ held.
-      either-way KeepsLease (not (online_at nodes st l.target.node)) (refusal.TargetOffline l.target.node) st (Ended, moved_in st s f l.target) refl (λ online. ended-keeps))
+      either-way KeepsLease (not (online_at nodes st l.target.node)) (refusal.TargetOffline l.target.node) st (Ended, moved_in st s f l.target) refl
+      (λ online. ended-keeps))
 
   pub done-keeps : (e : ℕ) → KeepsLease (done_outcome nodes st session s f e).1
   unfolding done_outcome

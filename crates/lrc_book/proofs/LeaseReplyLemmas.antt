@@ -29,12 +29,12 @@ able-by true k told e = absurd (let never : None ≡ Some told = e in cc)
 able-by false k told e = (refl, same_Some k told e)
 
 module _ (nodes : List NodeInfo) (past : List Entry) (st : State) (session : SessionNo) (s : StripeNo) (f : Fragment) where
-  reply-by : Bool → Option Lease → Reply
+  abbrev reply-by : Bool → Option Lease → Reply
   reply-by there o = (refuse_if (not there) refusal.UnknownStripe st (lease_answer nodes past st session s f o)).0
 
   reply-is : (there : Bool) (o : Option Lease) → has_stripe st s ≡ there → lease_of st s f ≡ o
-      → (lease_outcome nodes past st session s f).0 ≡ (refuse_if (not there) refusal.UnknownStripe st (lease_answer nodes past st session s f o)).0
-  unfolding lease_outcome reply-by
+      → (lease_outcome nodes past st session s f).0 ≡ reply-by there o
+  unfolding lease_outcome
   reply-is there o is live = ap₂ reply-by is live
 
   pub lease-absent : has_stripe st s ≡ false → (lease_outcome nodes past st session s f).0 ≡ Refused refusal.UnknownStripe
@@ -45,13 +45,13 @@ module _ (nodes : List NodeInfo) (past : List Entry) (st : State) (session : Ses
   lease-again l there live = reply-is true (Some l) there live
 
   module _ (there : has_stripe st s ≡ true) (none : lease_of st s f ≡ None) where
-    new-by : Bool → Bool → Reply
+    abbrev new-by : Bool → Bool → Reply
     new-by needed beyond =
-        (refuse_if (not needed) refusal.NotNeeded st (refuse_if beyond refusal.Unrecoverable st (granted nodes past st session s f (chosen nodes st s f)))).0
+        (refuse_if (not needed) refusal.NotNeeded st
+        (refuse_if beyond refusal.Unrecoverable st (granted nodes past st session s f (chosen nodes st s f)))).0
 
     new-is : (needed beyond : Bool) → needs nodes st s f ≡ needed → is_beyond_repair nodes st s f ≡ beyond
-        → (lease_outcome nodes past st session s f).0 ≡ (refuse_if (not needed) refusal.NotNeeded st (refuse_if beyond refusal.Unrecoverable st (granted nodes past st session s f (chosen nodes st s f)))).0
-    unfolding new-by
+        → (lease_outcome nodes past st session s f).0 ≡ new-by needed beyond
     new-is needed beyond is lost = reply-is true None there none ∙ ap₂ new-by is lost
 
     pub lease-unneeded : needs nodes st s f ≡ false → (lease_outcome nodes past st session s f).0 ≡ Refused refusal.NotNeeded
@@ -69,15 +69,18 @@ module _ (nodes : List NodeInfo) (past : List Entry) (st : State) (session : Ses
 
 -- ---- Done
 
-module _ (nodes : List NodeInfo) (st : State) (session : SessionNo) (s : StripeNo) (f : Fragment) (e : ℕ) (l : Lease) (there : has_stripe st s ≡ true) (live : at_epoch e (lease_of st s f) ≡ Some l) (mine : is_held_by session l ≡ true) where
-  told-by : Bool → Option Lease → Reply
+module _ (nodes : List NodeInfo) (st : State) (session : SessionNo) (s : StripeNo) (f : Fragment) (e : ℕ) (l : Lease) where
+  abbrev told-by : Bool → Option Lease → Reply
   told-by known o = (refuse_if (not known) refusal.UnknownStripe st (done_answer nodes st session s f o)).0
 
-  held-by : Bool → Bool → Reply
+  abbrev held-by : Bool → Bool → Reply
   held-by held online =
-      (refuse_if (not held) (refusal.NotHolder l.holder) st (refuse_if (not online) (refusal.TargetOffline l.target.node) st (Ended, moved_in st s f l.target))).0
+      (refuse_if (not held) (refusal.NotHolder l.holder) st
+      (refuse_if (not online) (refusal.TargetOffline l.target.node) st (Ended, moved_in st s f l.target))).0
 
-  pub done-held : (online : Bool) → online_at nodes st l.target.node ≡ online
-      → (done_outcome nodes st session s f e).0 ≡ (refuse_if (not online) (refusal.TargetOffline l.target.node) st (Ended, moved_in st s f l.target)).0
-  unfolding done_outcome told-by held-by
-  done-held online is = ap₂ told-by there live ∙ ap₂ held-by mine is
+  pub done-held : has_stripe st s ≡ true → at_epoch e (lease_of st s f) ≡ Some l → is_held_by session l ≡ true
+      → (online : Bool) → online_at nodes st l.target.node ≡ online
+      → (done_outcome nodes st session s f e).0
+      ≡ (refuse_if (not online) (refusal.TargetOffline l.target.node) st (Ended, moved_in st s f l.target)).0
+  unfolding done_outcome
+  done-held there live mine online is = ap₂ told-by there live ∙ ap₂ held-by mine is

@@ -54,7 +54,8 @@ module _ (nodes : List NodeInfo) (known : AreNodes nodes) (past : List Entry) (s
   answered-seated seated there (Some l) e = seated
   answered-seated seated there None e =
       either-way (AreSeated nodes) (not (needs nodes st s f)) refusal.NotNeeded st _ seated
-      (λ needed. either-way (AreSeated nodes) (is_beyond_repair nodes st s f) refusal.Unrecoverable st _ seated (λ safe. chosen-seated seated there e (chosen nodes st s f) refl))
+      (λ needed. either-way (AreSeated nodes) (is_beyond_repair nodes st s f) refusal.Unrecoverable st _ seated
+      (λ safe. chosen-seated seated there e (chosen nodes st s f) refl))
 
   pub lease-seated : AreSeated nodes st → AreSeated nodes (lease_outcome nodes past st session s f).1
   unfolding lease_outcome
@@ -78,27 +79,32 @@ module _ (nodes : List NodeInfo) (st : State) (session : SessionNo) (s : StripeN
   done-by seated None is = seated
   done-by seated (Some l) is =
       either-way (AreSeated nodes) (not (is_held_by session l)) (refusal.NotHolder l.holder) st _ seated (λ held.
-      either-way (AreSeated nodes) (not (online_at nodes st l.target.node)) (refusal.TargetOffline l.target.node) st (Ended, moved_in st s f l.target) seated (λ online.
+      either-way (AreSeated nodes) (not (online_at nodes st l.target.node)) (refusal.TargetOffline l.target.node) st
+      (Ended, moved_in st s f l.target) seated (λ online.
       moved-seated nodes st s f l (at_epoch-some e (lease_of st s f) l is).0 seated))
 
   pub done-seated : AreSeated nodes st → AreSeated nodes (done_outcome nodes st session s f e).1
   unfolding done_outcome
   done-seated seated =
-      either-way (AreSeated nodes) (not (has_stripe st s)) refusal.UnknownStripe st _ seated (λ there. done-by seated (at_epoch e (lease_of st s f)) refl)
+      either-way (AreSeated nodes) (not (has_stripe st s)) refusal.UnknownStripe st _ seated
+      (λ there. done-by seated (at_epoch e (lease_of st s f)) refl)
 
   abandon-by : AreSeated nodes st → (o : Option Lease) → AreSeated nodes (abandon_answer st session s f o).1
   abandon-by seated None = seated
   abandon-by seated (Some l) =
-      either-way (AreSeated nodes) (not (is_held_by session l)) (refusal.NotHolder l.holder) st (Ended, without_lease st s f) seated (λ held. ended-seated nodes st s f seated)
+      either-way (AreSeated nodes) (not (is_held_by session l)) (refusal.NotHolder l.holder) st (Ended, without_lease st s f) seated
+      (λ held. ended-seated nodes st s f seated)
 
   pub abandon-seated : AreSeated nodes st → AreSeated nodes (abandon_outcome st session s f e).1
   unfolding abandon_outcome
   abandon-seated seated =
-      either-way (AreSeated nodes) (not (has_stripe st s)) refusal.UnknownStripe st _ seated (λ there. abandon-by seated (at_epoch e (lease_of st s f)))
+      either-way (AreSeated nodes) (not (has_stripe st s)) refusal.UnknownStripe st _ seated
+      (λ there. abandon-by seated (at_epoch e (lease_of st s f)))
 
 pub revoke-seated : (nodes : List NodeInfo) (st : State) (s : StripeNo) (f : Fragment) → AreSeated nodes st
     → AreSeated nodes (revoke_outcome st s f).1
 unfolding revoke_outcome
 revoke-seated nodes st s f seated =
     either-way (AreSeated nodes) (not (has_stripe st s)) refusal.UnknownStripe st _ seated (λ there.
-    either-way (AreSeated nodes) (is_none (lease_of st s f)) refusal.NoLease st (Ended, without_lease st s f) seated (λ live. ended-seated nodes st s f seated))
+    either-way (AreSeated nodes) (is_none (lease_of st s f)) refusal.NoLease st (Ended, without_lease st s f) seated
+    (λ live. ended-seated nodes st s f seated))

@@ -31,7 +31,8 @@ not-ended r e = cc
 
 module _ (nodes : List NodeInfo) (past : List Entry) (st : State) (session : SessionNo) (s : StripeNo) (f : Fragment) (l : Lease) (k : Kind) where
   granted-by : has_stripe st s ≡ true → lease_of st s f ≡ None → (needed beyond : Bool) (seat : Option Seat) → chosen nodes st s f ≡ seat
-      → (refuse_if (not needed) refusal.NotNeeded st (refuse_if beyond refusal.Unrecoverable st (granted nodes past st session s f seat))).0 ≡ Granted l k → IsGrant nodes st l
+      → (refuse_if (not needed) refusal.NotNeeded st (refuse_if beyond refusal.Unrecoverable st (granted nodes past st session s f seat))).0
+      ≡ Granted l k → IsGrant nodes st l
   granted-by there new false beyond seat is e = absurd (not-granted refusal.NotNeeded l k e)
   granted-by there new true true seat is e = absurd (not-granted refusal.Unrecoverable l k e)
   granted-by there new true false None is e = absurd (not-granted (refusal.NoLawfulNode f) l k e)

@@ -71,7 +71,8 @@ module _ (nodes : List NodeInfo) (st : State) (s : StripeNo) where
       -- what is answered where the fragment is not at home
       abbrev repair-by : Bool → Bool → Option Kind
       repair-by near safe =
-          if (not safe && is_global (if near then Local (others Wide f) else Global)) then None else Some (if near then Local (others Wide f) else Global)
+          if (not safe && is_global (if near then Local (others Wide f) else Global)) then None
+          else Some (if near then Local (others Wide f) else Global)
 
       repair-away : repair_of nodes st s f ≡ repair-by (is_local Wide (missing nodes st s) f) (is_recoverable Wide (missing nodes st s))
       unfolding kind from-home
@@ -93,13 +94,15 @@ module _ (nodes : List NodeInfo) (st : State) (s : StripeNo) where
           → repair_of nodes st s f ≡ Some (Local sources)
       repair-local sources found =
           repair-away
-          ∙ by-local (is_local Wide (missing nodes st s) f) (is_recoverable Wide (missing nodes st s)) sources (sym (ap (λ (m : FragmentSet). local_sources Wide m f) mask-set) ∙ found)
+          ∙ by-local (is_local Wide (missing nodes st s) f) (is_recoverable Wide (missing nodes st s)) sources
+          (sym (ap (λ (m : FragmentSet). local_sources Wide m f) mask-set) ∙ found)
 
       pub repair-whole : (safe : Bool) → local_sources Wide (bits_set mask.bits) f ≡ None → is_recoverable Wide (bits_set mask.bits) ≡ safe
           → repair_of nodes st s f ≡ (if safe then Some Global else None)
       repair-whole safe none able =
           repair-away
-          ∙ by-whole (is_local Wide (missing nodes st s) f) (is_recoverable Wide (missing nodes st s)) (sym (ap (λ (m : FragmentSet). local_sources Wide m f) mask-set) ∙ none)
+          ∙ by-whole (is_local Wide (missing nodes st s) f) (is_recoverable Wide (missing nodes st s))
+          (sym (ap (λ (m : FragmentSet). local_sources Wide m f) mask-set) ∙ none)
           ∙ ap (λ b. if b then Some Global else None) (sym (ap (is_recoverable Wide) mask-set) ∙ able)
 
   masked : Bool → Option LossMask

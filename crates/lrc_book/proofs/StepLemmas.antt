@@ -112,7 +112,8 @@ answer-changed : (nodes : List NodeInfo) (st : State) (s : StripeNo) (r : Result
 answer-changed nodes st s (Err f) grown = refl
 answer-changed nodes st s (Ok done) grown =
     let g = grown done refl in
-    let added : map (λ h. h.seat) (drop (length st.homes) done.homes) ≡ g.seats = ap (λ (x : State). map (λ h. h.seat) (drop (length st.homes) x.homes)) g.is ∙ seats-added s st.homes g.seats g.all in
+    let added : map (λ h. h.seat) (drop (length st.homes) done.homes) ≡ g.seats =
+    ap (λ (x : State). map (λ h. h.seat) (drop (length st.homes) x.homes)) g.is ∙ seats-added s st.homes g.seats g.all in
     g.is ∙ ap (with_placed st s) (sym added)
 
 pub place-passed : (nodes : List NodeInfo) (st : State) (s : StripeNo) → has_stripe st s ≡ false
@@ -135,7 +136,8 @@ place-changed nodes st s false e =
     ∙ sym (ap (λ (o : Outcome). changed_by st (Place s) o.0) o)
 
 drop-cases : (st : State) (s : StripeNo) (there : Bool)
-    → (refuse_if (not there) refusal.UnknownStripe st (Dropped, without_stripe st s)).1 ≡ changed_by st (Drop s) (refuse_if (not there) refusal.UnknownStripe st (Dropped, without_stripe st s)).0
+    → (refuse_if (not there) refusal.UnknownStripe st (Dropped, without_stripe st s)).1
+    ≡ changed_by st (Drop s) (refuse_if (not there) refusal.UnknownStripe st (Dropped, without_stripe st s)).0
 drop-cases st s true = refl
 drop-cases st s false = refl
 
@@ -174,7 +176,8 @@ module _ (nodes : List NodeInfo) (st : State) (n : NodeNo) where
 
   retire-cases : (known wrong full : Bool) (r : Refusal)
       → (refuse_if known refusal.UnknownNode st (refuse_if wrong refusal.WrongMode st (refuse_if full r st (Changed, with_gone st n)))).1
-      ≡ changed_by st (Retire n) (refuse_if known refusal.UnknownNode st (refuse_if wrong refusal.WrongMode st (refuse_if full r st (Changed, with_gone st n)))).0
+      ≡ changed_by st (Retire n)
+      (refuse_if known refusal.UnknownNode st (refuse_if wrong refusal.WrongMode st (refuse_if full r st (Changed, with_gone st n)))).0
   retire-cases true wrong full r = refl
   retire-cases false true full r = refl
   retire-cases false false true r = refl
@@ -190,7 +193,8 @@ module _ (nodes : List NodeInfo) (st : State) (n : NodeNo) where
 
 module _ (nodes : List NodeInfo) (st : State) (u : UpgradeNo) where
   upgrade-cases : (known : Bool) (upgrading : Option UpgradeNo) (lost : Option StripeNo)
-      → (refuse_if known refusal.UnknownDomain st (upgrade_answer st u upgrading lost)).1 ≡ changed_by st (Upgrade u) (refuse_if known refusal.UnknownDomain st (upgrade_answer st u upgrading lost)).0
+      → (refuse_if known refusal.UnknownDomain st (upgrade_answer st u upgrading lost)).1
+      ≡ changed_by st (Upgrade u) (refuse_if known refusal.UnknownDomain st (upgrade_answer st u upgrading lost)).0
   upgrade-cases true upgrading lost = refl
   upgrade-cases false (Some v) lost = refl
   upgrade-cases false None (Some s) = refl
@@ -202,7 +206,8 @@ module _ (nodes : List NodeInfo) (st : State) (u : UpgradeNo) where
 
   upgraded-cases : (known other : Bool)
       → (refuse_if known refusal.UnknownDomain st (refuse_if other refusal.NotUpgrading st (Changed, without_upgrading st))).1
-      ≡ changed_by st (Upgraded u) (refuse_if known refusal.UnknownDomain st (refuse_if other refusal.NotUpgrading st (Changed, without_upgrading st))).0
+      ≡ changed_by st (Upgraded u)
+      (refuse_if known refusal.UnknownDomain st (refuse_if other refusal.NotUpgrading st (Changed, without_upgrading st))).0
   upgraded-cases true other = refl
   upgraded-cases false true = refl
   upgraded-cases false false = refl
