@@ -6,7 +6,7 @@ use lrc_code::{Fragment, SessionNo, StripeNo};
 use std::process::Abort;
 use std::test::Fail;
 
-fn fragment(number: u8) -> Result<Fragment, Fail> {
+pub(super) fn fragment(number: u8) -> Result<Fragment, Fail> {
     Ok(Fragment::new(number).ok_or("a fragment")?)
 }
 
@@ -14,7 +14,7 @@ fn session(number: u8) -> Result<SessionNo, Fail> {
     Ok(SessionNo::new(number).ok_or("a session")?)
 }
 
-fn local(numbers: [u8; 6]) -> Result<Kind, Fail> {
+pub(super) fn local(numbers: [u8; 6]) -> Result<Kind, Fail> {
     let mut sources = [fragment(0)?; 6];
     for i in 0..6 {
         sources[i] = fragment(numbers[i])?;
