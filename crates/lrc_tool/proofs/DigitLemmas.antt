@@ -24,7 +24,8 @@ three_digits n large small =
     whole n ∙ step n 63 [] (omega arith) ∙ step (n / 16) 62 (glyph (n % 16) ∷ []) (omega arith)
     ∙ last (n / 16 / 16) 61 (glyph (n / 16 % 16) ∷ glyph (n % 16) ∷ []) (omega arith)
 
-four_digits : (n : ℕ) → 4096 ≤ n → n < 65536 → digits 16 false n ≡ glyph (n / 16 / 16 / 16 % 16) ∷ glyph (n / 16 / 16 % 16) ∷ glyph (n / 16 % 16) ∷ glyph (n % 16) ∷ []
+four_digits : (n : ℕ) → 4096 ≤ n → n < 65536
+    → digits 16 false n ≡ glyph (n / 16 / 16 / 16 % 16) ∷ glyph (n / 16 / 16 % 16) ∷ glyph (n / 16 % 16) ∷ glyph (n % 16) ∷ []
 four_digits n large small =
     whole n ∙ step n 63 [] (omega arith) ∙ step (n / 16) 62 (glyph (n % 16) ∷ []) (omega arith)
     ∙ step (n / 16 / 16) 61 (glyph (n / 16 % 16) ∷ glyph (n % 16) ∷ []) (omega arith)
@@ -36,12 +37,27 @@ unfolding padded_integral char_count
 mask_written n small =
     let d : n / 1 % 16 ≡ n % 16 = omega arith in
     elim (cases_lt n 16) [
-      | inl one ↦ let a : n / 4096 % 16 ≡ 0 = omega arith in let b : n / 256 % 16 ≡ 0 = omega arith in let c : n / 16 % 16 ≡ 0 = omega arith in let e : n % 16 ≡ n = omega arith in rw (hex_one_digit false n one, a, b, c, d, e) refl
+      | inl one ↦
+          let a : n / 4096 % 16 ≡ 0 = omega arith in
+          let b : n / 256 % 16 ≡ 0 = omega arith in
+          let c : n / 16 % 16 ≡ 0 = omega arith in
+          let e : n % 16 ≡ n = omega arith in
+          rw (hex_one_digit false n one, a, b, c, d, e) refl
       | inr more ↦ elim (cases_lt n 256) [
-        | inl two ↦ let a : n / 4096 % 16 ≡ 0 = omega arith in let b : n / 256 % 16 ≡ 0 = omega arith in let c : n / 16 % 16 ≡ n / 16 = omega arith in rw (hex_two_digits false n more two, a, b, c, d) refl
+        | inl two ↦
+            let a : n / 4096 % 16 ≡ 0 = omega arith in
+            let b : n / 256 % 16 ≡ 0 = omega arith in
+            let c : n / 16 % 16 ≡ n / 16 = omega arith in
+            rw (hex_two_digits false n more two, a, b, c, d) refl
         | inr more ↦ elim (cases_lt n 4096) [
-          | inl three ↦ let a : n / 4096 % 16 ≡ 0 = omega arith in let b : n / 256 % 16 ≡ n / 16 / 16 % 16 = omega arith in rw (three_digits n more three, a, b, d) refl
-          | inr more ↦ let a : n / 4096 % 16 ≡ n / 16 / 16 / 16 % 16 = omega arith in let b : n / 256 % 16 ≡ n / 16 / 16 % 16 = omega arith in rw (four_digits n more small, a, b, d) refl
+          | inl three ↦
+              let a : n / 4096 % 16 ≡ 0 = omega arith in
+              let b : n / 256 % 16 ≡ n / 16 / 16 % 16 = omega arith in
+              rw (three_digits n more three, a, b, d) refl
+          | inr more ↦
+              let a : n / 4096 % 16 ≡ n / 16 / 16 / 16 % 16 = omega arith in
+              let b : n / 256 % 16 ≡ n / 16 / 16 % 16 = omega arith in
+              rw (four_digits n more small, a, b, d) refl
         ]
       ]
     ]

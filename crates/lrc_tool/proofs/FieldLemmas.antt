@@ -59,7 +59,8 @@ fields_plain [] all = refl
 fields_plain (f ∷ fs) all = rw (all.0, fields_plain fs all.1) refl
 
 -- a row of two fields at least
-pub row_plain : (first next : List ℕ) (fields : List (List ℕ)) → AllByRecursion IsPlain (first ∷ next ∷ fields) → row_text default_writer (first ∷ next ∷ fields) ≡ row_line (first ∷ next ∷ fields)
+pub row_plain : (first next : List ℕ) (fields : List (List ℕ)) → AllByRecursion IsPlain (first ∷ next ∷ fields)
+    → row_text default_writer (first ∷ next ∷ fields) ≡ row_line (first ∷ next ∷ fields)
 unfolding is_blank
 row_plain first next fields all = rw (all.0, fields_plain (next ∷ fields) all.1) (simp (append_assoc, append-nil))
 
@@ -85,7 +86,8 @@ online_plain true = refl
 online_plain false = refl
 
 -- the fields of a row, each what it is to be
-pub risk_written : (stripe : StripeNo) (level : Level) (missing : ℕ) (m : Option ℕ) (number word margin mask : List ℕ) → IfSome m (λ x. x ≤ 3) → m ≡ margin_of Wide (bits_set missing)
+pub risk_written : (stripe : StripeNo) (level : Level) (missing : ℕ) (m : Option ℕ) (number word margin mask : List ℕ) → IfSome m (λ x. x ≤ 3)
+    → m ≡ margin_of Wide (bits_set missing)
     → number ≡ decimal stripe.value → word ≡ level_text level → margin ≡ margin_field m → mask ≡ mask_field missing
     → row_text default_writer (number ∷ word ∷ margin ∷ mask ∷ []) ≡ risk_line stripe level missing
 unfolding risk_line
@@ -95,7 +97,8 @@ risk_written stripe level missing m number word margin mask few is a b c d =
     (row_plain (decimal stripe.value) (level_text level) (margin_field m ∷ mask_field missing ∷ [])
     (decimal_plain stripe.value (omega (arith, range)), (level_plain level, (margin_plain m few, (mask_plain missing, tt)))))
 
-pub load_written : (node : NodeInfo) (mode : Mode) (online : Bool) (seats : ℕ) (number word state load slots : List ℕ) → node.number.value < 65536 → seats < 4294967296 → node.slots < 65536
+pub load_written : (node : NodeInfo) (mode : Mode) (online : Bool) (seats : ℕ) (number word state load slots : List ℕ)
+    → node.number.value < 65536 → seats < 4294967296 → node.slots < 65536
     → number ≡ decimal node.number.value → word ≡ mode_text mode → state ≡ online_text online → load ≡ decimal seats → slots ≡ decimal node.slots
     → row_text default_writer (number ∷ word ∷ state ∷ load ∷ slots ∷ []) ≡ load_line node mode online seats
 unfolding load_line

@@ -30,7 +30,8 @@ all_mapped : {X Y : Type 0} (P : Y → Type 0) (f : X → Y) (xs : List X) → A
 all_mapped P f [] all = tt
 all_mapped P f (x ∷ xs) all = (all.0, all_mapped P f xs all.1)
 
-all_sorted : {X : Type 0} (P : X → Type 0) (before : X → X → Bool) (sorted xs : List X) → AllByRecursion P sorted → AllByRecursion P xs → AllByRecursion P (fold (put_before before) sorted xs)
+all_sorted : {X : Type 0} (P : X → Type 0) (before : X → X → Bool) (sorted xs : List X) → AllByRecursion P sorted → AllByRecursion P xs
+    → AllByRecursion P (fold (put_before before) sorted xs)
 all_sorted P before sorted [] done all = done
 all_sorted P before sorted (x ∷ xs) done all = all_sorted P before (put_before before sorted x) xs (all-put_before before P sorted x all.0 done) all.1
 
@@ -40,10 +41,12 @@ all_sorted P before sorted (x ∷ xs) done all = all_sorted P before (put_before
 pub each_found : (nodes : List NodeInfo) → AreNodes nodes → AllByRecursion (λ n. node_at nodes n.number ≡ Some n) nodes
 each_found nodes known = all_weaker (Contains nodes) (λ (n : NodeInfo). node_at nodes n.number ≡ Some n) (node_at-member nodes known) nodes (each_listed nodes)
 
-pub load_told : (nodes : List NodeInfo) (st : State) (n : NodeInfo) → node_at nodes n.number ≡ Some n → load_shown nodes st n.number ≡ Some (load st n.number)
+pub load_told : (nodes : List NodeInfo) (st : State) (n : NodeInfo) → node_at nodes n.number ≡ Some n
+    → load_shown nodes st n.number ≡ Some (load st n.number)
 load_told nodes st n found = rw found refl
 
-pub mode_told : (nodes : List NodeInfo) (st : State) (n : NodeInfo) → node_at nodes n.number ≡ Some n → mode_shown nodes st n.number ≡ Some (mode_of st n.number, is_online st n)
+pub mode_told : (nodes : List NodeInfo) (st : State) (n : NodeInfo) → node_at nodes n.number ≡ Some n
+    → mode_shown nodes st n.number ≡ Some (mode_of st n.number, is_online st n)
 mode_told nodes st n found = rw found refl
 
 -- ---- stripes
@@ -61,7 +64,8 @@ each_there nodes st =
     all_mapped (λ (r : StripeNo × Level). has_stripe st r.0 ≡ true) (λ s. (s, level nodes st s)) (by_rank nodes st (filter test st.stripes))
     (all_sorted P (comes_first (rank nodes st)) [] (filter test st.stripes) tt (all_kept P test st.stripes all))
 
-pub missing_told : (nodes : List NodeInfo) (st : State) (s : StripeNo) → has_stripe st s ≡ true → missing_shown nodes st s ≡ Some (record { bits = bits_of (code_of st s) (missing nodes st s) })
+pub missing_told : (nodes : List NodeInfo) (st : State) (s : StripeNo) → has_stripe st s ≡ true
+    → missing_shown nodes st s ≡ Some (record { bits = bits_of (code_of st s) (missing nodes st s) })
 unfolding missing_if
 missing_told nodes st s there = rw there refl
 
@@ -69,7 +73,8 @@ missing_told nodes st s there = rw there refl
 
 module _ (nodes : List NodeInfo) (st : State) where
   -- the rows, behind the name of the table and its header
-  pub loads_told : (kept its : List NodeInfo) (done header behind items text : List ℕ) → done ++ flat_map (load_row st) its ≡ header ++ flat_map (load_row st) kept → its ≡ []
+  pub loads_told : (kept its : List NodeInfo) (done header behind items text : List ℕ)
+      → done ++ flat_map (load_row st) its ≡ header ++ flat_map (load_row st) kept → its ≡ []
       → header ≡ behind ++ codes "node,mode,online,load,slots\n" → behind ≡ items → items ≡ text ++ codes "load\n" → kept ≡ nodes → done ≡ text ++ load_table nodes st
   loads_told kept its done header behind items text told empty a b c same =
       let rows = flat_map (load_row st) kept in
@@ -79,7 +84,8 @@ module _ (nodes : List NodeInfo) (st : State) where
       ∙ append_assoc text (codes "load\n") (codes "node,mode,online,load,slots\n" ++ rows)
       ∙ ap (λ (ns : List NodeInfo). text ++ load_table ns st) same
 
-  pub risks_told : (rows : List (StripeNo × Level)) (i : ℕ) (done header behind items text : List ℕ) → done ≡ header ++ flat_map (risk_row nodes st) (take i rows) → length rows ≤ i
+  pub risks_told : (rows : List (StripeNo × Level)) (i : ℕ) (done header behind items text : List ℕ)
+      → done ≡ header ++ flat_map (risk_row nodes st) (take i rows) → length rows ≤ i
       → header ≡ behind ++ codes "stripe,level,margin,missing\n" → behind ≡ items → items ≡ text ++ codes "risk\n" → rows ≡ risk nodes st → done ≡ text ++ risk_table nodes st
   risks_told rows i done header behind items text told all a b c is =
       let lines = flat_map (risk_row nodes st) rows in
@@ -107,7 +113,8 @@ module _ (nodes : List NodeInfo) (st : State) where
         ∙ ap (λ t. flat_map f (take i rows) ++ t) (append-nil (f (get_or rows i row))) ∙ ap (λ r. flat_map f (take i rows) ++ f r) (sym here)
 
     -- one row more
-    pub risks_more : (header old new : List ℕ) (mask : LossMask) → old ≡ header ++ flat_map (risk_row nodes st) (take i rows) → Some mask ≡ missing_shown nodes st row.0
+    pub risks_more : (header old new : List ℕ) (mask : LossMask) → old ≡ header ++ flat_map (risk_row nodes st) (take i rows)
+        → Some mask ≡ missing_shown nodes st row.0
         → new ≡ old ++ risk_line row.0 row.1 mask.bits → new ≡ header ++ flat_map (risk_row nodes st) (take (i + 1) rows)
     risks_more header old new mask so_far told next =
         let bits : mask.bits ≡ bits_of (code_of st row.0) (missing nodes st row.0) = ap (λ (m : LossMask). m.bits) (same_Some _ _ (told ∙ missing_at)) in
@@ -115,7 +122,8 @@ module _ (nodes : List NodeInfo) (st : State) where
         ∙ append_assoc header (flat_map (risk_row nodes st) (take i rows)) (risk_row nodes st row) ∙ ap (λ t. header ++ t) (sym row_next)
 
 -- the nodes to come are found in the book
-pub found_in : (nodes kept its : List NodeInfo) → AreNodes nodes → nodes ≡ kept → its ≡ nodes → AllByRecursion (λ n. node_at kept n.number ≡ Some n) its
+pub found_in : (nodes kept its : List NodeInfo) → AreNodes nodes → nodes ≡ kept → its ≡ nodes
+    → AllByRecursion (λ n. node_at kept n.number ≡ Some n) its
 found_in nodes kept its known same is =
     subst (λ (ns : List NodeInfo). AllByRecursion (λ n. node_at kept n.number ≡ Some n) ns) (sym is)
     (subst (λ (ns : List NodeInfo). AllByRecursion (λ n. node_at ns n.number ≡ Some n) nodes) same (each_found nodes known))

@@ -39,7 +39,8 @@ mask_field bits = map (λ place. digit_glyph false (bits / place % 16)) (4096 �
 
 -- the row of a stripe of this number and level, whose missing fragments are the bits of a number
 unfoldable pub risk_line : StripeNo → Level → ℕ → List ℕ
-risk_line stripe level missing = row_line (decimal stripe.value ∷ level_text level ∷ margin_field (margin_of Wide (bits_set missing)) ∷ mask_field missing ∷ [])
+risk_line stripe level missing =
+    row_line (decimal stripe.value ∷ level_text level ∷ margin_field (margin_of Wide (bits_set missing)) ∷ mask_field missing ∷ [])
 
 -- the row of a stripe at risk
 abbrev pub risk_row : List NodeInfo → State → StripeNo × Level → List ℕ
@@ -64,7 +65,8 @@ online_text false = codes "no"
 
 -- the row of a node with this mode, which is online or not, and with so many seats on it
 unfoldable pub load_line : NodeInfo → Mode → Bool → ℕ → List ℕ
-load_line node mode online seats = row_line (decimal node.number.value ∷ mode_text mode ∷ online_text online ∷ decimal seats ∷ decimal node.slots ∷ [])
+load_line node mode online seats =
+    row_line (decimal node.number.value ∷ mode_text mode ∷ online_text online ∷ decimal seats ∷ decimal node.slots ∷ [])
 
 -- the row of a node
 abbrev pub load_row : State → NodeInfo → List ℕ
