@@ -13,3 +13,4 @@ pub mod Errors
 pub mod Locked
 pub mod Closing
 pub mod Runs
+pub mod Rooms
