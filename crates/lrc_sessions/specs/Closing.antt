@@ -10,4 +10,5 @@ use Rattle.lrc_sessions.specs.declared.closing.Closing.{Closing}
 -- calls, and the counts are those of the sessions by rising number.
 abbrev pub Closes : List NodeInfo → ℕ → List SessionView → Closing → Type 0
 Closes nodes count ss c =
-    AreAll count ss × (c.book.nodes ≡ nodes) × IsLegal nodes c.book.history × (c.made ≡ counts_of count ss) × (length c.book.history ≡ total_made c.made)
+    AreAll count ss × (c.book.nodes ≡ nodes) × IsLegal nodes c.book.history × (c.made ≡ counts_of count ss)
+    × (length c.book.history ≡ total_made c.made)

@@ -26,4 +26,5 @@ abbrev pub AreRun : {Z : Type 0} → Type 0 → List (Vec Command Z) → List Se
 AreRun {Z} may_stop scripts before after tracks =
     (length after ≡ length scripts) × (length tracks ≡ length scripts)
     × ((i : ℕ) (s : Vec Command Z) (b a : SessionView) (t : Track) → i < length scripts
-    → IsRun may_stop (slice_index_or scripts i s).items (slice_index_or before i b) (slice_index_or after i a) (slice_index_or tracks i t).receipts (slice_index_or tracks i t).stopped)
+    → IsRun may_stop (slice_index_or scripts i s).items (slice_index_or before i b) (slice_index_or after i a)
+    (slice_index_or tracks i t).receipts (slice_index_or tracks i t).stopped)

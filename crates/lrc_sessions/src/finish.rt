@@ -24,7 +24,8 @@ impl<N: Naming> Manager<N> {
     /// `FinishError::SessionsOut` where the sessions that come in are not those of the numbers from 1 to the manager's count, each
     /// once; it hands back the manager and the sessions unchanged.
     pub fn finish(self, sessions: Vec<Session<N>>) -> Result<Closing, FinishError<N>>
-        ensures { MatchResult result (Closes N.topology self.count sessions.items) (λ e. (¬ AreAll self.count sessions.items) × (e ≡ FinishError.SessionsOut self sessions)) }
+        ensures { MatchResult result (Closes N.topology self.count sessions.items)
+            (λ e. (¬ AreAll self.count sessions.items) × (e ≡ FinishError.SessionsOut self sessions)) }
     {
         if !are_all(sessions.as_slice(), self.count()) {
             return Err(FinishError::SessionsOut(self, sessions));

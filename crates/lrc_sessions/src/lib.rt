@@ -13,6 +13,8 @@ mod receipt;
 mod room;
 mod run;
 mod session;
+#[cfg(test)]
+mod tests;
 mod track;
 mod worker;
 

@@ -31,7 +31,8 @@ impl<N: Naming> Model for Manager<N> {
 
     ghost view = { λ m. record { count = m.count } };
 
-    ghost invariant = { λ m. (m.count ≡ N.count) × (N.parts ≡ 8) × (1 ≤ m.count) × (m.count ≤ vec_capacity m.made) × (m.made.items ≡ []) };
+    ghost invariant = { λ m. (m.count ≡ N.count) × (N.parts ≡ 8) × (1 ≤ m.count)
+        × (m.count ≤ vec_capacity m.made) × (m.made.items ≡ []) };
 }
 
 impl<N: Naming> Manager<N> {

@@ -26,7 +26,8 @@ impl Model for Parts {
 
     ghost view = { λ p. record { topology = p.book.nodes; count = p.count; name = p.tally.name; shares = p.tally.parts } };
 
-    ghost invariant = { λ p. (p.book.history ≡ []) × (p.book.limit ≡ HISTORY_LIMIT) × (p.tally.parts ≡ 8) × (1 ≤ p.count) × (p.count ≤ 8) };
+    ghost invariant = { λ p. (p.book.history ≡ []) × (p.book.limit ≡ HISTORY_LIMIT) × (p.tally.parts ≡ 8)
+        × (1 ≤ p.count) × (p.count ≤ 8) };
 }
 
 impl Parts {

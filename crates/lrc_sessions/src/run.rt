@@ -75,9 +75,12 @@ fn run_workers<N: Naming + Send + Sync, R: Threads + Wait + Sync, G: Gate + Sync
 )
     requires same { length workers.old.items ≡ length scripts.now }
     requires empty { (i : ℕ) (w : _) → i < length scripts.now → (slice_index_or workers.old.items i w).receipts.items ≡ [] }
-    requires room { (i : ℕ) (w : _) (s : _) → i < length scripts.now → length (slice_index_or scripts.now i s).items ≤ vec_capacity (slice_index_or workers.old.items i w).receipts }
+    requires room { (i : ℕ) (w : _) (s : _) → i < length scripts.now
+        → length (slice_index_or scripts.now i s).items ≤ vec_capacity (slice_index_or workers.old.items i w).receipts }
     ensures same { length workers.new.items ≡ length scripts.now }
-    ensures run { (i : ℕ) (w : _) (s : _) → i < length scripts.now → IsRun G.may_stop (slice_index_or scripts.now i s).items (slice_index_or workers.old.items i w).session (slice_index_or workers.new.items i w).session (slice_index_or workers.new.items i w).receipts.items (slice_index_or workers.new.items i w).stopped }
+    ensures run { (i : ℕ) (w : _) (s : _) → i < length scripts.now
+        → IsRun G.may_stop (slice_index_or scripts.now i s).items (slice_index_or workers.old.items i w).session
+        (slice_index_or workers.new.items i w).session (slice_index_or workers.new.items i w).receipts.items (slice_index_or workers.new.items i w).stopped }
 {
     if workers.is_empty() {
         return;
@@ -88,8 +91,10 @@ fn run_workers<N: Naming + Send + Sync, R: Threads + Wait + Sync, G: Gate + Sync
         workers.as_mut_slice(),
         threads,
         &|i: usize, worker: &mut Worker<N>|
-            requires { (i < length scripts.now) × (worker.old.receipts.items ≡ []) × ((s : _) → length (slice_index_or scripts.now i s).items ≤ vec_capacity worker.old.receipts) }
-            ensures { (s : _) → IsRun G.may_stop (slice_index_or scripts.entry.now i s).items worker.old.session worker.new.session worker.new.receipts.items worker.new.stopped }
+            requires { (i < length scripts.now) × (worker.old.receipts.items ≡ [])
+                × ((s : _) → length (slice_index_or scripts.now i s).items ≤ vec_capacity worker.old.receipts) }
+            ensures { (s : _) → IsRun G.may_stop (slice_index_or scripts.entry.now i s).items
+                worker.old.session worker.new.session worker.new.receipts.items worker.new.stopped }
         { worker.run(rt, manager, scripts[i].as_slice(), gate) },
     );
 }
