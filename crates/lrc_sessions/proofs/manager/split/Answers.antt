@@ -1,4 +1,5 @@
 use Rattle.std.proofs.Common.{rules, ◌≡◌, ◌+◌, ap, ◌∙◌, sym, subst}
+use Rattle.lrc_sessions.specs.Views.{fresh}
 use Rattle.lrc_sessions.proofs.Counting.{fresh_push}
 use Rattle.lrc_sessions.proofs.manager.split.Goals as goal
 
