@@ -1,0 +1,11 @@
+use Rattle.std.proofs.Common.{◌≡◌, ◌+◌, ◌≤◌, length, vec_capacity}
+use Rattle.lrc_sessions.proofs.worker.make_calls.Given as goal
+
+abbrev pub invariant-loop-command : goal.invariant-loop-command
+invariant-loop-command g l = record {
+  count : l.n ≡ l.command-index;
+  number_is : l.session.number ≡ l.initial.session.number;
+  made_is : l.session.made ≡ l.initial.session.made + length l.receipts.items;
+  len_is : length l.receipts.items ≡ l.command-index;
+  room : length l.script ≤ vec_capacity l.receipts;
+}

@@ -1,0 +1,29 @@
+-- Which sessions end a manager, and how many calls each has made.
+use Rattle.std.specs.Prelude.{◌≡◌, ℕ, ◌≤◌, ◌==◌, cond, nat_le, List, map, count_by, sum_by}
+use Rattle.lrc_code.specs.declared.numbers.SessionNo.{SessionNo}
+use Rattle.lrc_book.specs.Sessions.{sessions}
+use Rattle.lrc_sessions.specs.Views.{SessionView}
+
+-- how many of the sessions have the number
+abbrev pub times : ℕ → List SessionView → ℕ
+times k ss = count_by (λ (s : SessionView). s.number == k) ss
+
+-- of the numbers that a session can have, the sessions have 1 to count, each once, and no other
+abbrev pub AreAll : ℕ → List SessionView → Type 0
+AreAll count ss = (k : ℕ) → 1 ≤ k → k ≤ 8 → times k ss ≡ cond (nat_le k count) 1 0
+
+-- how many calls the sessions with this number made
+abbrev pub made_of : ℕ → List SessionView → ℕ
+made_of k ss = sum_by (λ (s : SessionView). cond (s.number == k) s.made 0) ss
+
+-- each number from 1 to count, and how many calls were made under it
+abbrev pub counts_of : ℕ → List SessionView → List (ℕ × ℕ)
+counts_of count ss = map (λ k. (k, made_of k ss)) (sessions count)
+
+-- how many calls these are together
+abbrev pub total_made : List (ℕ × ℕ) → ℕ
+total_made counts = sum_by (λ (c : ℕ × ℕ). c.1) counts
+
+-- a session's number with its count, as contracts see them
+abbrev pub shown : SessionNo × ℕ → ℕ × ℕ
+shown c = (c.0.value, c.1)

@@ -1,0 +1,16 @@
+pub use Rattle.lrc_code.specs.Order
+pub use Rattle.lrc_topology.specs.Nodes
+pub use Rattle.lrc_book.specs.States
+pub use Rattle.lrc_book.specs.Outcomes
+pub use Rattle.lrc_book.specs.Steps
+pub use Rattle.lrc_book.specs.Histories
+pub use Rattle.lrc_book.specs.Sessions
+pub use Rattle.lrc_book.specs.Goodness
+pub use Rattle.lrc_book.specs.Books
+pub mod Views
+pub mod Counts
+pub mod Errors
+pub mod Locked
+pub mod Closing
+pub mod Runs
+pub mod Rooms

@@ -1,0 +1,25 @@
+-- What the lock keeps, and what one locked call does.
+use Rattle.std.specs.Prelude.{◌≡◌, ℕ, ◌≤◌, List, [], ◌∷◌, ◌++◌, length}
+use Rattle.lrc_code.specs.declared.numbers.SessionNo.{SessionNo}
+use Rattle.lrc_topology.specs.declared.NodeInfo.{NodeInfo}
+use Rattle.lrc_book.specs.declared.book.TheConstants.{HISTORY_LIMIT}
+use Rattle.lrc_book.specs.declared.command.Command.{Command}
+use Rattle.lrc_book.specs.declared.entry.Entry.{Entry}
+use Rattle.lrc_book.specs.declared.reply.Reply.{Reply}
+use Rattle.lrc_book.specs.Histories.{outcome_in, world_after, state_after, IsLegal}
+use Rattle.lrc_book.specs.Goodness.{IsGood}
+use Rattle.lrc_book.specs.Books.{BookView}
+
+-- Whenever the lock is free: the book is one over these nodes, its history is legal and leaves a good state, and has as many
+-- entries as the tally counts calls, at most the limit.
+abbrev pub IsLocked : List NodeInfo → ℕ → BookView → Type 0
+IsLocked nodes total b =
+    (b.nodes ≡ nodes) × (b.limit ≡ HISTORY_LIMIT) × IsLegal nodes b.history × IsGood nodes b.history (state_after nodes b.history)
+    × (length b.history ≡ total) × (length b.history ≤ HISTORY_LIMIT)
+
+-- One call of the session with this number: the reply is the step's, and the history has one entry more, of the session, its
+-- command and the reply.
+abbrev pub IsMade : List NodeInfo → List Entry → ℕ → Command → Reply → List Entry → Type 0
+IsMade nodes before number command reply after =
+    (session : SessionNo) × (session.value ≡ number) × (reply ≡ (outcome_in nodes (world_after nodes before) session command).0)
+    × (after ≡ before ++ record { session = session; command = command; reply = reply } ∷ [])

@@ -1,0 +1,37 @@
+ghost use Rattle.std.specs.Prelude.{◌≡◌, map};
+ghost use Rattle.lrc_sessions.specs.Counts.{shown};
+
+use lrc_book::Book;
+use lrc_code::SessionNo;
+use std::marker::Model;
+
+/// How many calls each session made, by rising number.
+#[derive(Drop)]
+pub struct Counts {
+    pub(crate) items: Vec<(SessionNo, u64)>,
+}
+
+impl Model for Counts {
+    ghost use Rattle.std.specs.Prelude.{ℕ, List, map};
+    ghost use Rattle.lrc_sessions.specs.Counts.{shown};
+
+    ghost Value = { List (ℕ × ℕ) };
+
+    ghost view = { λ c. map shown c.items.items };
+}
+
+impl Counts {
+    /// The number of each session, and the count of its calls that were made.
+    pub fn as_slice(&self) -> &[(SessionNo, u64)]
+        ensures { map shown result.now ≡ self.now }
+    {
+        self.items.as_slice()
+    }
+}
+
+/// What is left of a manager.
+#[derive(Drop)]
+pub struct Closing {
+    pub book: Book,
+    pub made: Counts,
+}

@@ -1,0 +1,55 @@
+ghost use Rattle.std.specs.Prelude.{◌≡◌, ◌≤◌, IfOk, IfErr};
+ghost use Rattle.lrc_sessions.specs.Views.{PartsView};
+ghost use Rattle.lrc_sessions.specs.Errors.{OpenFits};
+
+use crate::error::OpenError;
+use lrc_book::Book;
+use lrc_topology::Topology;
+use std::alloc::Global;
+use std::marker::Model;
+use std::sync::ledger::Blank;
+
+/// What a manager is made of before it has a naming: a new book, a new ledger of eight parts, and how many sessions there will be.
+#[derive(Drop)]
+pub struct Parts {
+    pub(crate) book: Book,
+    pub(crate) tally: Blank,
+    pub(crate) count: u8,
+}
+
+impl Model for Parts {
+    ghost use Rattle.std.specs.Prelude.{◌≡◌, ◌≤◌, []};
+    ghost use Rattle.lrc_book.specs.declared.book.TheConstants.{HISTORY_LIMIT};
+    ghost use Rattle.lrc_sessions.specs.Views.{PartsView};
+
+    ghost Value = { PartsView };
+
+    ghost view = { λ p. record { topology = p.book.nodes; count = p.count; name = p.tally.name; shares = p.tally.parts } };
+
+    ghost invariant = { λ p. (p.book.history ≡ []) × (p.book.limit ≡ HISTORY_LIMIT) × (p.tally.parts ≡ 8)
+        × (1 ≤ p.count) × (p.count ≤ 8) };
+}
+
+impl Parts {
+    /// Parts for a manager of so many sessions over these nodes, with a history of at most 1,000,000 entries.
+    ///
+    /// # Errors
+    ///
+    /// `OpenError::BadCount` where the count is not 1 to 8, before all else; else only `OpenError::OutOfMemory`.
+    pub fn new(alloc: Global, topology: Topology, count: u8) -> Result<Parts, OpenError>
+        ensures ok { IfOk result (λ p. (p.topology ≡ topology) × (p.count ≡ count) × (1 ≤ count) × (count ≤ 8)) }
+        ensures err { IfErr result (OpenFits count) }
+    {
+        if count < 1 || count > 8 {
+            return Err(OpenError::BadCount);
+        }
+        let Ok(book) = Book::new(alloc, topology) else {
+            return Err(OpenError::OutOfMemory);
+        };
+        Ok(Parts {
+            book,
+            tally: Blank::new(8),
+            count,
+        })
+    }
+}

@@ -1,0 +1,109 @@
+//! Two scripts that only two threads can end.
+
+ghost use Rattle.std.specs.Prelude.{⊤};
+
+use super::{parts, run_all, stripe};
+use crate::{Closing, Gate, GateError, Track};
+use lrc_book::Command;
+use lrc_code::SessionNo;
+use std::alloc::Global;
+use std::marker::Brand;
+use std::process::Abort;
+use std::sync::atomic::{AtomicBool, AtomicU64, Ordering};
+use std::test::Fail;
+
+/// How often a held call looks whether the other has come.
+const TURNS: u32 = 100_000_000;
+
+/// A gate for sessions 1 and 2: the second call of each is held until the gate is asked for that of the other.
+#[derive(Drop)]
+struct Meeting {
+    first: AtomicBool,
+    second: AtomicBool,
+    asked: AtomicU64,
+    told: AtomicU64,
+    gave_up: AtomicBool,
+}
+
+impl Meeting {
+    fn new() -> Meeting {
+        Meeting {
+            first: AtomicBool::new(false),
+            second: AtomicBool::new(false),
+            asked: AtomicU64::new(0),
+            told: AtomicU64::new(0),
+            gave_up: AtomicBool::new(false),
+        }
+    }
+}
+
+impl Gate for Meeting {
+    ghost use Rattle.std.specs.Prelude.{⊤};
+
+    ghost may_stop = { ⊤ };
+
+    fn before(&self, session: SessionNo, n: u64) -> Result<(), GateError> {
+        self.asked.fetch_add(1, Ordering::SeqCst);
+        if n != 2 {
+            return Ok(());
+        }
+        let (mine, other) = if session.get() == 1 {
+            (&self.first, &self.second)
+        } else {
+            (&self.second, &self.first)
+        };
+        mine.store(true, Ordering::SeqCst);
+        for _ in 0..TURNS {
+            if other.load(Ordering::SeqCst) {
+                return Ok(());
+            }
+        }
+        self.gave_up.store(true, Ordering::SeqCst);
+        Err(GateError)
+    }
+
+    fn after(&self, _session: SessionNo, _n: u64) {
+        self.told.fetch_add(1, Ordering::SeqCst);
+    }
+}
+
+#[test]
+fn two_scripts_run_on_two_threads(rt: HostRuntime) -> Result<(), Fail> {
+    let scripts = meeting_scripts(rt.alloc())?;
+    assert_eq!(rt; scripts.len(), 2);
+    let parts = parts(rt.alloc(), 2)?;
+    let gate = Meeting::new();
+    let (closing, tracks) = run_all::<Brand, _, _>(
+        &rt,
+        rt.alloc(),
+        parts,
+        scripts.as_slice(),
+        &gate,
+    );
+    expect_meeting(&rt, &gate, &closing, tracks.as_slice());
+    Ok(())
+}
+
+fn meeting_scripts(alloc: Global) -> Result<Vec<Vec<Command>>, Fail> {
+    let mut places = Vec::new(alloc);
+    places.push(Command::Place(stripe(1)?))?;
+    places.push(Command::Place(stripe(2)?))?;
+    let mut drops = Vec::new(alloc);
+    drops.push(Command::Drop(stripe(3)?))?;
+    drops.push(Command::Drop(stripe(4)?))?;
+    let mut scripts = Vec::new(alloc);
+    scripts.push(places)?;
+    scripts.push(drops)?;
+    Ok(scripts)
+}
+
+fn expect_meeting(rt: &impl Abort, gate: &Meeting, closing: &Closing, tracks: &[Track]) {
+    for track in tracks {
+        assert_eq!(rt; track.stopped, None);
+        assert_eq!(rt; track.receipts.as_slice().len(), 2);
+    }
+    assert!(rt; !gate.gave_up.load(Ordering::SeqCst));
+    assert_eq!(rt; gate.asked.load(Ordering::SeqCst), 4);
+    assert_eq!(rt; gate.told.load(Ordering::SeqCst), 4);
+    assert_eq!(rt; closing.book.history().len(), 4);
+}

@@ -1,0 +1,144 @@
+//! Eight sessions at once, whose history is replayed by one thread.
+
+use super::{parts, run_all, topology};
+use crate::{Closing, OpenGate, Receipt, Track};
+use lrc_book::{Book, Command, Entry};
+use lrc_code::{Fragment, NodeNo, SessionNo, StripeNo};
+use std::alloc::Global;
+use std::marker::Brand;
+use std::process::Abort;
+use std::sync::Wait;
+use std::test::Fail;
+use std::thread::Threads;
+
+/// How many calls each script has.
+const CALLS: usize = 40;
+
+#[test]
+fn sixteen_runs_of_eight_scripts_are_those_of_one_thread(rt: HostRuntime) -> Result<(), Fail> {
+    for run in 0..16 {
+        run_mixed(&rt, rt.alloc(), run)?;
+    }
+    Ok(())
+}
+
+fn run_mixed<R: Threads + Wait + Abort + Sync>(
+    rt: &R,
+    alloc: Global,
+    run: u64,
+) -> Result<(), Fail> {
+    let scripts = mixed_scripts(alloc, run)?;
+    assert_eq!(rt; scripts.len(), 8);
+    let parts = parts(alloc, 8)?;
+    let (closing, tracks) = run_all::<Brand, _, _>(rt, alloc, parts, scripts.as_slice(), &OpenGate);
+    let mut fresh = Book::new(alloc, topology(alloc)?)?;
+    expect_replayed(rt, &closing.book, &mut fresh);
+    expect_tracks(rt, &closing, scripts.as_slice(), tracks.as_slice());
+    Ok(())
+}
+
+/// The scripts of one run: commands of every kind, over six stripes and all nodes.
+fn mixed_scripts(alloc: Global, run: u64) -> Result<Vec<Vec<Command>>, Fail> {
+    let mut number = run;
+    let mut scripts = Vec::new(alloc);
+    for _ in 0..8 {
+        let mut script = Vec::new(alloc);
+        for _ in 0..CALLS {
+            number = number
+                .wrapping_mul(6_364_136_223_846_793_005)
+                .wrapping_add(1_442_695_040_888_963_407);
+            script.push(command_of(number / 4_294_967_296))?;
+        }
+        scripts.push(script)?;
+    }
+    Ok(scripts)
+}
+
+/// The command that a number stands for.
+fn command_of(number: u64) -> Command {
+    let stripe = StripeNo {
+        value: (number / 16 % 6) as u16,
+    };
+    let fragment = Fragment {
+        value: (number / 128 % 16) as u8,
+    };
+    let node = NodeNo {
+        value: (number / 128 % 21) as u16,
+    };
+    let epoch = (number / 4_096 % 3 + 1) as u32;
+    match number % 16 {
+        0 | 1 | 2 => Command::Place(stripe),
+        3 => Command::Drop(stripe),
+        4 | 5 | 6 => Command::Lease(stripe, fragment),
+        7 | 8 => Command::Done(stripe, fragment, epoch),
+        9 => Command::Abandon(stripe, fragment, epoch),
+        10 => Command::Revoke(stripe, fragment),
+        11 => Command::Fail(node),
+        12 => Command::Down(node),
+        13 => Command::Up(node),
+        _ => Command::Join(node),
+    }
+}
+
+/// One thread that makes the calls of the book in their order gets its replies, and leaves its stripes and nodes.
+fn expect_replayed(rt: &impl Abort, book: &Book, fresh: &mut Book) {
+    for entry in book.history() {
+        assert_eq!(rt; fresh.call(entry.session, entry.command), Ok(entry.reply));
+    }
+    for number in 0..6 {
+        let stripe = StripeNo { value: number };
+        assert_eq!(rt; fresh.homes(stripe), book.homes(stripe));
+        assert_eq!(rt; fresh.level(stripe), book.level(stripe));
+    }
+    for value in 0..21 {
+        let node = NodeNo { value };
+        assert_eq!(rt; fresh.load(node), book.load(node));
+        assert_eq!(rt; fresh.mode(node), book.mode(node));
+    }
+}
+
+/// Each track has the receipts of its whole script, and the counts are theirs.
+fn expect_tracks(rt: &impl Abort, closing: &Closing, scripts: &[Vec<Command>], tracks: &[Track]) {
+    assert_eq!(rt; tracks.len(), scripts.len());
+    assert_eq!(rt; closing.made.as_slice().len(), scripts.len());
+    assert_eq!(rt; closing.book.history().len(), scripts.len() * CALLS);
+    for i in 0..scripts.len() {
+        let (session, made) = closing.made.as_slice()[i];
+        assert_eq!(rt; (session.get() as usize, made), (i + 1, CALLS as u64));
+        assert_eq!(rt; tracks[i].stopped, None);
+        expect_in_order(
+            rt,
+            closing.book.history(),
+            session,
+            scripts[i].as_slice(),
+            tracks[i].receipts.as_slice(),
+        );
+    }
+}
+
+/// The entries of a session are the calls of its script in order, and its receipts are their places and replies.
+fn expect_in_order(
+    rt: &impl Abort,
+    history: &[Entry],
+    session: SessionNo,
+    script: &[Command],
+    receipts: &[Receipt],
+) {
+    let mut made = 0;
+    for (i, entry) in history.iter().enumerate() {
+        if entry.session == session {
+            assert!(rt; made < script.len() && made < receipts.len());
+            assert_eq!(rt; entry.command, script[made]);
+            let place = i as u64 + 1;
+            assert_eq!(rt;
+                receipts[made],
+                Receipt {
+                    place,
+                    reply: entry.reply
+                }
+            );
+            made += 1;
+        }
+    }
+    assert_eq!(rt; (made, made), (script.len(), receipts.len()));
+}
