@@ -53,3 +53,4 @@ pub mod MostUrgentLemmas
 pub mod RetiredLemmas
 pub mod ListedLemmas
 pub mod PlacedHomesLemmas
+pub mod StayingLemmas

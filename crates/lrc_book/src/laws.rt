@@ -34,7 +34,7 @@ ghost use Rattle.lrc_book.specs.Urgency.{work, risk};
 ghost use Rattle.lrc_book.specs.Granting.{IsOwed, IsGrantable, IsMoreUrgent, IsMostUrgent, AsksFor};
 ghost use Rattle.lrc_book.specs.Upgrading.{WouldBeLost};
 ghost use Rattle.lrc_book.specs.Reporting.{IsReported};
-ghost use Rattle.lrc_book.specs.Endings.{CanEnd, IsWithoutLease};
+ghost use Rattle.lrc_book.specs.Endings.{CanEnd, CanMove, IsDropOf, IsWithoutLease};
 ghost use Rattle.lrc_book.specs.Steps.{with_stripe, step};
 ghost use Rattle.lrc_book.specs.States.{State, has_stripe, code_of, taken_seats, load, lease_of, mode_of, online_at, missing, level, homes_shown};
 ghost use Rattle.lrc_book.specs.Placement.{chosen, is_beside};
@@ -200,6 +200,20 @@ pub fn a_report_is_taken_from_the_holder_alone()
 pub fn leases_end_by_these_alone()
     ensures { (nodes : List NodeInfo) (past : List Entry) (st : State) (session : SessionNo) (command : Command) (s : StripeNo) (f : Fragment) (l : LeaseRecord)
         → lease_of st s f ≡ Some l → ¬ (CanEnd st l command) → lease_of (step nodes past st session command).1 s f ≡ Some l }
+{}
+
+/// A home is there unchanged after every command, unless this is Done of its fragment, Drop of its stripe, or Fail of the
+/// node that it is on.
+pub fn homes_end_by_these_alone()
+    ensures { (nodes : List NodeInfo) (past : List Entry) (st : State) (session : SessionNo) (command : Command) (s : StripeNo) (f : Fragment) (seat : Seat)
+        → homes_of st.homes s f.value ≡ Some seat → ¬ (CanMove s f seat command)
+        → homes_of (step nodes past st session command).1.homes s f.value ≡ Some seat }
+{}
+
+/// A stripe that is there is there after every command but its Drop.
+pub fn stripes_end_by_drop_alone()
+    ensures { (nodes : List NodeInfo) (past : List Entry) (st : State) (session : SessionNo) (command : Command) (s : StripeNo)
+        → IsTrue (has_stripe st s) → ¬ (IsDropOf s command) → IsTrue (has_stripe (step nodes past st session command).1 s) }
 {}
 
 /// After a legal history each live lease was granted in one of its entries, to the session that holds it, by Lease of
