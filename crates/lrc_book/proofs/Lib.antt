@@ -54,3 +54,5 @@ pub mod RetiredLemmas
 pub mod ListedLemmas
 pub mod PlacedHomesLemmas
 pub mod StayingLemmas
+pub mod NodeWordsLemmas
+pub mod UpgradedLemmas
