@@ -56,3 +56,4 @@ pub mod PlacedHomesLemmas
 pub mod StayingLemmas
 pub mod NodeWordsLemmas
 pub mod UpgradedLemmas
+pub mod JoinedLemmas

@@ -204,7 +204,7 @@ module _ (nodes : List NodeInfo) (st : State) (n : NodeNo) where
 abbrev mode_by : Bool → Bool → Mode
 mode_by gone draining = if gone then Gone else (if draining then Draining else Active)
 
-active-there : (gone draining : Bool) → mode_by gone draining ≡ Active → gone ≡ false
+pub active-there : (gone draining : Bool) → mode_by gone draining ≡ Active → gone ≡ false
 active-there false draining e = refl
 active-there true draining e = absurd (cc)
 

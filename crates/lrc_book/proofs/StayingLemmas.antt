@@ -1,5 +1,5 @@
 -- Which homes and which stripes outlast a command.
-use Rattle.std.proofs.Common.{◌≡◌, ◌≢◌, ◌&&◌, ◌||◌, inl, inr, Bool, true, not, nat_eq, nat_lt, is_none, List, [], ◌∷◌, ◌++◌, filter, find, Option, Some, None, option_map, Result, Ok, Err, ℕ, refl, sym, ap, ◌∙◌, subst}
+use Rattle.std.proofs.Common.{◌≡◌, ◌≢◌, ◌&&◌, ◌||◌, inl, inr, Bool, true, false, not, nat_eq, nat_lt, is_none, List, [], ◌∷◌, ◌++◌, filter, find, Option, Some, None, option_map, Result, Ok, Err, ℕ, refl, sym, ap, ◌∙◌, subst}
 use Rattle.std.specs.Option.{option_or}
 use Rattle.std.specs.List.{list_any}
 use Rattle.std.proofs.lemmas.Bool.{cases_Bool, and_parts, eqb-true, ne_eqb}
@@ -40,16 +40,24 @@ use Rattle.lrc_book.proofs.EndingLemmas.{find-filter}
 use Rattle.lrc_book.proofs.MovedLemmas.{homes-keep}
 use Rattle.lrc_book.proofs.PlacedHomesLemmas.{homes-append}
 
--- ---- commands that change neither homes nor stripes
+-- ---- a command on a node
+
+module _ (nodes : List NodeInfo) (st : State) (P : State → Type 0) (now : P st) where
+  pub node-stays : (n : NodeNo) (wrong : Bool) (changed : State) → (wrong ≡ false → P changed) → P (node_outcome nodes st n wrong changed).1
+  node-stays n wrong changed after =
+      either-way P (is_none (node_at nodes n)) refusal.UnknownNode st _ now
+      (λ known. either-way P wrong refusal.WrongMode st (Changed, changed) now after)
+
+-- ---- commands that change neither homes nor stripes, nor the mode of a node
 
 module _ (nodes : List NodeInfo) (past : List Entry) (st : State) (session : SessionNo) (P : State → Type 0)
-    (kept : (next : State) → next.homes ≡ st.homes → next.stripes ≡ st.stripes → P next) where
+    (kept : (next : State) → next.homes ≡ st.homes → next.stripes ≡ st.stripes → next.gone ≡ st.gone → next.draining ≡ st.draining → P next) where
   before : P st
-  before = kept st refl refl
+  before = kept st refl refl refl refl
 
   granted-stays : (s : StripeNo) (f : Fragment) (o : Option Seat) → P (granted nodes past st session s f o).1
   granted-stays s f None = before
-  granted-stays s f (Some seat) = kept (with_lease st (new_lease past session s f seat)) refl refl
+  granted-stays s f (Some seat) = kept (with_lease st (new_lease past session s f seat)) refl refl refl refl
 
   answer-stays : (s : StripeNo) (f : Fragment) (o : Option LeaseRecord) → P (lease_answer nodes past st session s f o).1
   answer-stays s f (Some l) = before
@@ -70,7 +78,7 @@ module _ (nodes : List NodeInfo) (past : List Entry) (st : State) (session : Ses
   next-stays = next-by (next_of nodes st)
 
   less-stays : (s : StripeNo) (f : Fragment) → P (without_lease st s f)
-  less-stays s f = kept (without_lease st s f) refl refl
+  less-stays s f = kept (without_lease st s f) refl refl refl refl
 
   abandon-by : (s : StripeNo) (f : Fragment) (o : Option LeaseRecord) → P (abandon_answer st session s f o).1
   abandon-by s f None = before
@@ -88,43 +96,18 @@ module _ (nodes : List NodeInfo) (past : List Entry) (st : State) (session : Ses
       either-way P (not (has_stripe st s)) refusal.UnknownStripe st _ before (λ there.
       either-way P (is_none (lease_of st s f)) refusal.NoLease st (Ended, without_lease st s f) before (λ live. less-stays s f))
 
-  pub node-stays : (n : NodeNo) (wrong : Bool) (changed : State) → P changed → P (node_outcome nodes st n wrong changed).1
-  node-stays n wrong changed after =
-      either-way P (is_none (node_at nodes n)) refusal.UnknownNode st _ before
-      (λ known. either-way P wrong refusal.WrongMode st (Changed, changed) before (λ right. after))
-
   pub down-stays : (n : NodeNo) → P (down_outcome nodes st n).1
   unfolding down_outcome
-  down-stays n = node-stays n _ (with_down st n) (kept (with_down st n) refl refl)
+  down-stays n = node-stays nodes st P before n _ (with_down st n) (λ right. kept (with_down st n) refl refl refl refl)
 
   pub up-stays : (n : NodeNo) → P (up_outcome nodes st n).1
   unfolding up_outcome
-  up-stays n = node-stays n _ (without_down st n) (kept (without_down st n) refl refl)
-
-  pub join-stays : (n : NodeNo) → P (join_outcome nodes st n).1
-  unfolding join_outcome
-  join-stays n = node-stays n _ (without_gone st n) (kept (without_gone st n) refl refl)
-
-  pub drain-stays : (n : NodeNo) → P (drain_outcome nodes st n).1
-  unfolding drain_outcome
-  drain-stays n = node-stays n _ (with_draining st n) (kept (with_draining st n) refl refl)
-
-  pub undrain-stays : (n : NodeNo) → P (undrain_outcome nodes st n).1
-  unfolding undrain_outcome
-  undrain-stays n = node-stays n _ (without_draining st n) (kept (without_draining st n) refl refl)
-
-  pub retire-stays : (n : NodeNo) → P (retire_outcome nodes st n).1
-  unfolding retire_outcome
-  retire-stays n =
-      either-way P (is_none (node_at nodes n)) refusal.UnknownNode st _ before (λ known.
-      either-way P (not (is_draining (mode_of st n))) refusal.WrongMode st _ before (λ right.
-      either-way P (nat_lt 0 (load st n)) (refusal.NotEmpty (load st n)) st (Changed, with_gone st n) before
-      (λ empty. kept (with_gone st n) refl refl)))
+  up-stays n = node-stays nodes st P before n _ (without_down st n) (λ right. kept (without_down st n) refl refl refl refl)
 
   upgrade-by : (u : UpgradeNo) (o : Option UpgradeNo) (lost : Option StripeNo) → P (upgrade_answer st u o lost).1
   upgrade-by u (Some v) lost = before
   upgrade-by u None (Some r) = before
-  upgrade-by u None None = kept (upgrade_answer st u None None).1 refl refl
+  upgrade-by u None None = kept (upgrade_answer st u None None).1 refl refl refl refl
 
   pub upgrade-stays : (u : UpgradeNo) → P (upgrade_outcome nodes st u).1
   unfolding upgrade_outcome
@@ -136,7 +119,34 @@ module _ (nodes : List NodeInfo) (past : List Entry) (st : State) (session : Ses
   upgraded-stays u =
       either-way P (not (has_domain nodes u)) refusal.UnknownDomain st _ before (λ known.
       either-way P (not (is_the_domain u st.upgrading)) refusal.NotUpgrading st (Changed, without_upgrading st) before
-      (λ right. kept (without_upgrading st) refl refl))
+      (λ right. kept (without_upgrading st) refl refl refl refl))
+
+-- ---- commands that change the mode of a node alone
+
+module _ (nodes : List NodeInfo) (st : State) (P : State → Type 0)
+    (kept : (next : State) → next.homes ≡ st.homes → next.stripes ≡ st.stripes → P next) where
+  unchanged : P st
+  unchanged = kept st refl refl
+
+  pub join-stays : (n : NodeNo) → P (join_outcome nodes st n).1
+  unfolding join_outcome
+  join-stays n = node-stays nodes st P unchanged n _ (without_gone st n) (λ right. kept (without_gone st n) refl refl)
+
+  pub drain-stays : (n : NodeNo) → P (drain_outcome nodes st n).1
+  unfolding drain_outcome
+  drain-stays n = node-stays nodes st P unchanged n _ (with_draining st n) (λ right. kept (with_draining st n) refl refl)
+
+  pub undrain-stays : (n : NodeNo) → P (undrain_outcome nodes st n).1
+  unfolding undrain_outcome
+  undrain-stays n = node-stays nodes st P unchanged n _ (without_draining st n) (λ right. kept (without_draining st n) refl refl)
+
+  pub retire-stays : (n : NodeNo) → P (retire_outcome nodes st n).1
+  unfolding retire_outcome
+  retire-stays n =
+      either-way P (is_none (node_at nodes n)) refusal.UnknownNode st _ unchanged (λ known.
+      either-way P (not (is_draining (mode_of st n))) refusal.WrongMode st _ unchanged (λ right.
+      either-way P (nat_lt 0 (load st n)) (refusal.NotEmpty (load st n)) st (Changed, with_gone st n) unchanged
+      (λ empty. kept (with_gone st n) refl refl)))
 
 -- ---- homes
 
@@ -212,28 +222,28 @@ module _ (nodes : List NodeInfo) (past : List Entry) (st : State) (session : Ses
   fail-home : (n : NodeNo) → seat.node ≢ n → Stays (fail_outcome nodes st n).1
   unfolding fail_outcome
   fail-home n other =
-      node-stays nodes past st session Stays kept-home n _ (with_gone (emptied st n) n)
-      (filtered (λ (h : Held). not (stands_on n h)) (other-node n other))
+      node-stays nodes st Stays own n _ (with_gone (emptied st n) n)
+      (λ right. filtered (λ (h : Held). not (stands_on n h)) (other-node n other))
 
   -- a home stays where it is at each command that cannot move it
   pub home-stays-by : (c : Command) → ¬ (CanMove s f seat c) → Stays (step nodes past st session c).1
   home-stays-by (Place r) other = place-home r
   home-stays-by (Drop r) other = drop-home r other
-  home-stays-by (Lease r g) other = lease-stays nodes past st session Stays kept-home r g
-  home-stays-by Next other = next-stays nodes past st session Stays kept-home
+  home-stays-by (Lease r g) other = lease-stays nodes past st session Stays (λ next h s g d. kept-home next h s) r g
+  home-stays-by Next other = next-stays nodes past st session Stays (λ next h s g d. kept-home next h s)
   home-stays-by (Done r g e) other =
       homes-keep nodes st session r s g f (λ same_stripe same_fragment. other (same_stripe, same_fragment)) e ∙ own
-  home-stays-by (Abandon r g e) other = abandon-stays nodes past st session Stays kept-home r g e
-  home-stays-by (Revoke r g) other = revoke-stays nodes past st session Stays kept-home r g
+  home-stays-by (Abandon r g e) other = abandon-stays nodes past st session Stays (λ next h s g d. kept-home next h s) r g e
+  home-stays-by (Revoke r g) other = revoke-stays nodes past st session Stays (λ next h s g d. kept-home next h s) r g
   home-stays-by (Fail n) other = fail-home n other
-  home-stays-by (Down n) other = down-stays nodes past st session Stays kept-home n
-  home-stays-by (Up n) other = up-stays nodes past st session Stays kept-home n
-  home-stays-by (Join n) other = join-stays nodes past st session Stays kept-home n
-  home-stays-by (Drain n) other = drain-stays nodes past st session Stays kept-home n
-  home-stays-by (Undrain n) other = undrain-stays nodes past st session Stays kept-home n
-  home-stays-by (Retire n) other = retire-stays nodes past st session Stays kept-home n
-  home-stays-by (Upgrade u) other = upgrade-stays nodes past st session Stays kept-home u
-  home-stays-by (Upgraded u) other = upgraded-stays nodes past st session Stays kept-home u
+  home-stays-by (Down n) other = down-stays nodes past st session Stays (λ next h s g d. kept-home next h s) n
+  home-stays-by (Up n) other = up-stays nodes past st session Stays (λ next h s g d. kept-home next h s) n
+  home-stays-by (Join n) other = join-stays nodes st Stays kept-home n
+  home-stays-by (Drain n) other = drain-stays nodes st Stays kept-home n
+  home-stays-by (Undrain n) other = undrain-stays nodes st Stays kept-home n
+  home-stays-by (Retire n) other = retire-stays nodes st Stays kept-home n
+  home-stays-by (Upgrade u) other = upgrade-stays nodes past st session Stays (λ next h s g d. kept-home next h s) u
+  home-stays-by (Upgraded u) other = upgraded-stays nodes past st session Stays (λ next h s g d. kept-home next h s) u
 
 -- ---- stripes
 
@@ -292,23 +302,23 @@ module _ (nodes : List NodeInfo) (past : List Entry) (st : State) (session : Ses
 
   fail-there : (n : NodeNo) → IsThere (fail_outcome nodes st n).1
   unfolding fail_outcome
-  fail-there n = node-stays nodes past st session IsThere kept-stripe n _ (with_gone (emptied st n) n) there
+  fail-there n = node-stays nodes st IsThere there n _ (with_gone (emptied st n) n) (λ right. there)
 
   -- a stripe is there after each command but its Drop
   pub stripe-stays-by : (c : Command) → ¬ (IsDropOf s c) → IsThere (step nodes past st session c).1
   stripe-stays-by (Place r) other = place-there r
   stripe-stays-by (Drop r) other = drop-there r other
-  stripe-stays-by (Lease r g) other = lease-stays nodes past st session IsThere kept-stripe r g
-  stripe-stays-by Next other = next-stays nodes past st session IsThere kept-stripe
+  stripe-stays-by (Lease r g) other = lease-stays nodes past st session IsThere (λ next h s g d. kept-stripe next h s) r g
+  stripe-stays-by Next other = next-stays nodes past st session IsThere (λ next h s g d. kept-stripe next h s)
   stripe-stays-by (Done r g e) other = done-there r g e
-  stripe-stays-by (Abandon r g e) other = abandon-stays nodes past st session IsThere kept-stripe r g e
-  stripe-stays-by (Revoke r g) other = revoke-stays nodes past st session IsThere kept-stripe r g
+  stripe-stays-by (Abandon r g e) other = abandon-stays nodes past st session IsThere (λ next h s g d. kept-stripe next h s) r g e
+  stripe-stays-by (Revoke r g) other = revoke-stays nodes past st session IsThere (λ next h s g d. kept-stripe next h s) r g
   stripe-stays-by (Fail n) other = fail-there n
-  stripe-stays-by (Down n) other = down-stays nodes past st session IsThere kept-stripe n
-  stripe-stays-by (Up n) other = up-stays nodes past st session IsThere kept-stripe n
-  stripe-stays-by (Join n) other = join-stays nodes past st session IsThere kept-stripe n
-  stripe-stays-by (Drain n) other = drain-stays nodes past st session IsThere kept-stripe n
-  stripe-stays-by (Undrain n) other = undrain-stays nodes past st session IsThere kept-stripe n
-  stripe-stays-by (Retire n) other = retire-stays nodes past st session IsThere kept-stripe n
-  stripe-stays-by (Upgrade u) other = upgrade-stays nodes past st session IsThere kept-stripe u
-  stripe-stays-by (Upgraded u) other = upgraded-stays nodes past st session IsThere kept-stripe u
+  stripe-stays-by (Down n) other = down-stays nodes past st session IsThere (λ next h s g d. kept-stripe next h s) n
+  stripe-stays-by (Up n) other = up-stays nodes past st session IsThere (λ next h s g d. kept-stripe next h s) n
+  stripe-stays-by (Join n) other = join-stays nodes st IsThere kept-stripe n
+  stripe-stays-by (Drain n) other = drain-stays nodes st IsThere kept-stripe n
+  stripe-stays-by (Undrain n) other = undrain-stays nodes st IsThere kept-stripe n
+  stripe-stays-by (Retire n) other = retire-stays nodes st IsThere kept-stripe n
+  stripe-stays-by (Upgrade u) other = upgrade-stays nodes past st session IsThere (λ next h s g d. kept-stripe next h s) u
+  stripe-stays-by (Upgraded u) other = upgraded-stays nodes past st session IsThere (λ next h s g d. kept-stripe next h s) u

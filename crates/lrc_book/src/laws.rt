@@ -349,7 +349,8 @@ pub fn idle_where_nothing_is_grantable()
 
 /// Each command on a node is done exactly where the store has the node and the command is right for it. It is refused as
 /// of the wrong mode exactly where the store has the node and it is not. Fail leaves the node Gone, not down, and with no
-/// seat on it. Down and Up leave its mode as it was, Drain and Undrain whether it is down.
+/// seat on it. Down and Up leave its mode as it was, Drain and Undrain whether it is down. After a legal history Join
+/// leaves it Active, not down, and with no seat on it.
 pub fn node_commands_in_words()
     ensures fail { (nodes : List NodeInfo) (past : List Entry) (st : State) (session : SessionNo) (n : NodeNo)
         → ((step nodes past st session (Fail n)).0 ≡ Changed) ↔ (IsSome (node_at nodes n) × (mode_of st n ≢ Gone)) }
@@ -408,6 +409,11 @@ pub fn node_commands_in_words()
         → ((step nodes past st session (Join n)).0 ≡ Refused refusal.UnknownNode) ↔ (node_at nodes n ≡ None) }
     ensures join_wrong { (nodes : List NodeInfo) (past : List Entry) (st : State) (session : SessionNo) (n : NodeNo)
         → ((step nodes past st session (Join n)).0 ≡ Refused refusal.WrongMode) ↔ (IsSome (node_at nodes n) × (mode_of st n ≢ Gone)) }
+    ensures joined { (nodes : List NodeInfo) (history : List Entry) (session : SessionNo) (n : NodeNo)
+        → AreNodes nodes → IsLegal nodes history → (outcome_in nodes (world_after nodes history) session (Join n)).0 ≡ Changed
+        → (mode_of (outcome_in nodes (world_after nodes history) session (Join n)).1 n ≡ Active)
+        × IsFalse (is_down (outcome_in nodes (world_after nodes history) session (Join n)).1 n)
+        × All (λ seat. seat.node ≢ n) (taken_seats (outcome_in nodes (world_after nodes history) session (Join n)).1) }
 {}
 
 /// Retire takes a node out of the store exactly where it is a draining one and no seat is on it. It is refused for its

@@ -3,6 +3,7 @@ use Rattle.lrc_book.specs.declared.mode.Mode.TheVariants.{Active, Draining, Gone
 use Rattle.lrc_book.specs.States.{State, mode_of, is_active, is_draining, is_gone, is_down}
 use Rattle.lrc_book.specs.Steps.{emptied, with_gone, with_down, without_down, with_draining, without_draining, without_gone, fail_outcome, down_outcome, up_outcome, drain_outcome, undrain_outcome, join_outcome}
 use Rattle.lrc_book.proofs.NodeWordsLemmas.{gone-mode, mode-gone, active-mode, mode-active, draining-mode, mode-draining, fails-not, not-fails, flips-false, flips-true, down-right, right-down, down-wrong, wrong-down, changed-words, wrong-words, unknown-words, left-by, fail-is, down-is, up-is, drain-is, undrain-is, join-is, added-here, left-here, IsEmptied, failed-here, drained-here, undrained-here}
+use Rattle.lrc_book.proofs.JoinedLemmas.{joined-after}
 use Rattle.lrc_book.proofs.laws.node_commands_in_words.Goals as goal
 
 pub returns-clause-fail : goal.returns-clause-fail
@@ -128,3 +129,7 @@ returns-clause-join_wrong c = λ nodes past st session n.
     (mode_of st n ≢ Gone)
     (λ wrong. fails-not (is_gone (mode_of st n)) (mode_of st n ≡ Gone) (mode-gone (mode_of st n)) (flips-true (is_gone (mode_of st n)) wrong))
     (λ other. ap not (not-fails (is_gone (mode_of st n)) (mode_of st n ≡ Gone) (gone-mode (mode_of st n)) other))
+
+pub returns-clause-joined : goal.returns-clause-joined
+returns-clause-joined c = λ nodes history session n known legal told.
+    let left = joined-after nodes history n known legal told in (left.active, left.up, left.none)
