@@ -36,8 +36,8 @@ use Rattle.lrc_book.proofs.NodeWordsLemmas.{gone-mode, active-mode, flips-false,
 
 -- ---- no node is both gone and draining
 
-abbrev pub AreApart : State → Type 0
-AreApart st = (m : NodeNo) → has_number st.gone m ≡ true → has_number st.draining m ≡ false
+abbrev pub NoneBoth : State → Type 0
+NoneBoth st = (m : NodeNo) → has_number st.gone m ≡ true → has_number st.draining m ≡ false
 
 never-both : (b : Bool) → b ≡ true → b ≡ false → ⊥
 never-both b hit miss = (let both : true ≡ false = sym hit ∙ miss in cc)
@@ -50,55 +50,55 @@ part-of : (c b : Bool) → (c && b) ≡ true → b ≡ true
 part-of true b e = e
 part-of false b e = absurd (cc)
 
-module _ (nodes : List NodeInfo) (past : List Entry) (st : State) (session : SessionNo) (apart : AreApart st) where
-  kept-apart : (next : State) → next.homes ≡ st.homes → next.stripes ≡ st.stripes → next.gone ≡ st.gone → next.draining ≡ st.draining → AreApart next
+module _ (nodes : List NodeInfo) (past : List Entry) (st : State) (session : SessionNo) (apart : NoneBoth st) where
+  kept-apart : (next : State) → next.homes ≡ st.homes → next.stripes ≡ st.stripes → next.gone ≡ st.gone → next.draining ≡ st.draining → NoneBoth next
   kept-apart next same_homes same_stripes same_gone same_draining m gone =
       ap (λ (numbers : List NodeNo). has_number numbers m) same_draining
       ∙ apart m (ap (λ (numbers : List NodeNo). has_number numbers m) (sym same_gone) ∙ gone)
 
-  placed-apart : (r : StripeNo) (o : Result State Fragment) → placed nodes (with_stripe st Wide r) r ≡ o → AreApart (place_answer st r o).1
+  placed-apart : (r : StripeNo) (o : Result State Fragment) → placed nodes (with_stripe st Wide r) r ≡ o → NoneBoth (place_answer st r o).1
   placed-apart r (Err g) e = apart
-  placed-apart r (Ok done) e = subst AreApart (sym (placed-grown nodes st r done e).is) apart
+  placed-apart r (Ok done) e = subst NoneBoth (sym (placed-grown nodes st r done e).is) apart
 
-  place-apart : (r : StripeNo) → AreApart (place_outcome nodes st Wide r).1
+  place-apart : (r : StripeNo) → NoneBoth (place_outcome nodes st Wide r).1
   unfolding place_outcome
   place-apart r =
-      either-way AreApart (has_stripe st r) refusal.StripeExists st _ apart (λ absent. placed-apart r (placed nodes (with_stripe st Wide r) r) refl)
+      either-way NoneBoth (has_stripe st r) refusal.StripeExists st _ apart (λ absent. placed-apart r (placed nodes (with_stripe st Wide r) r) refl)
 
-  drop-apart : (r : StripeNo) → AreApart (drop_outcome st r).1
+  drop-apart : (r : StripeNo) → NoneBoth (drop_outcome st r).1
   unfolding drop_outcome
-  drop-apart r = either-way AreApart (not (has_stripe st r)) refusal.UnknownStripe st (Dropped, without_stripe st r) apart (λ there. apart)
+  drop-apart r = either-way NoneBoth (not (has_stripe st r)) refusal.UnknownStripe st (Dropped, without_stripe st r) apart (λ there. apart)
 
-  done-by : (r : StripeNo) (g : Fragment) (o : Option LeaseRecord) → AreApart (done_answer nodes st session r g o).1
+  done-by : (r : StripeNo) (g : Fragment) (o : Option LeaseRecord) → NoneBoth (done_answer nodes st session r g o).1
   done-by r g None = apart
   done-by r g (Some l) =
-      either-way AreApart (not (is_held_by session l)) (refusal.NotHolder l.holder) st _ apart (λ held.
-      either-way AreApart (not (online_at nodes st l.target.node)) (refusal.TargetOffline l.target.node) st (Ended, moved_in st r g l.target) apart
+      either-way NoneBoth (not (is_held_by session l)) (refusal.NotHolder l.holder) st _ apart (λ held.
+      either-way NoneBoth (not (online_at nodes st l.target.node)) (refusal.TargetOffline l.target.node) st (Ended, moved_in st r g l.target) apart
       (λ online. apart))
 
-  done-apart : (r : StripeNo) (g : Fragment) (e : ℕ) → AreApart (done_outcome nodes st session r g e).1
+  done-apart : (r : StripeNo) (g : Fragment) (e : ℕ) → NoneBoth (done_outcome nodes st session r g e).1
   unfolding done_outcome
   done-apart r g e =
-      either-way AreApart (not (has_stripe st r)) refusal.UnknownStripe st _ apart (λ known. done-by r g (at_epoch e (lease_of st r g)))
+      either-way NoneBoth (not (has_stripe st r)) refusal.UnknownStripe st _ apart (λ known. done-by r g (at_epoch e (lease_of st r g)))
 
-  gone-apart : (n : NodeNo) → AreApart (with_gone st n)
+  gone-apart : (n : NodeNo) → NoneBoth (with_gone st n)
   gone-apart n m gone = elim (cases_Bool (eqb n.value m.value)) [
     | inl same ↦ left st.draining n m true same
     | inr other ↦ left-apart st.draining n m other ∙ apart m (sym (added-apart st.gone n m other) ∙ gone)
   ]
 
-  fail-apart : (n : NodeNo) → AreApart (fail_outcome nodes st n).1
+  fail-apart : (n : NodeNo) → NoneBoth (fail_outcome nodes st n).1
   unfolding fail_outcome
-  fail-apart n = node-stays nodes st AreApart apart n _ (with_gone (emptied st n) n) (λ right. gone-apart n)
+  fail-apart n = node-stays nodes st NoneBoth apart n _ (with_gone (emptied st n) n) (λ right. gone-apart n)
 
-  retire-apart : (n : NodeNo) → AreApart (retire_outcome nodes st n).1
+  retire-apart : (n : NodeNo) → NoneBoth (retire_outcome nodes st n).1
   unfolding retire_outcome
   retire-apart n =
-      either-way AreApart (is_none (node_at nodes n)) refusal.UnknownNode st _ apart (λ known.
-      either-way AreApart (not (is_draining (mode_of st n))) refusal.WrongMode st _ apart (λ right.
-      either-way AreApart (nat_lt 0 (load st n)) (refusal.NotEmpty (load st n)) st (Changed, with_gone st n) apart (λ empty. gone-apart n)))
+      either-way NoneBoth (is_none (node_at nodes n)) refusal.UnknownNode st _ apart (λ known.
+      either-way NoneBoth (not (is_draining (mode_of st n))) refusal.WrongMode st _ apart (λ right.
+      either-way NoneBoth (nat_lt 0 (load st n)) (refusal.NotEmpty (load st n)) st (Changed, with_gone st n) apart (λ empty. gone-apart n)))
 
-  drained-apart : (n : NodeNo) → has_number st.gone n ≡ false → AreApart (with_draining st n)
+  drained-apart : (n : NodeNo) → has_number st.gone n ≡ false → NoneBoth (with_draining st n)
   drained-apart n here m gone = elim (cases_Bool (eqb n.value m.value)) [
     | inl same ↦
         let number : n ≡ m = equal_nodes n m (eqb-true n.value m.value same) in
@@ -106,45 +106,45 @@ module _ (nodes : List NodeInfo) (past : List Entry) (st : State) (session : Ses
     | inr other ↦ added-apart st.draining n m other ∙ apart m gone
   ]
 
-  drain-apart : (n : NodeNo) → AreApart (drain_outcome nodes st n).1
+  drain-apart : (n : NodeNo) → NoneBoth (drain_outcome nodes st n).1
   unfolding drain_outcome
-  drain-apart n = node-stays nodes st AreApart apart n _ (with_draining st n) (λ right.
+  drain-apart n = node-stays nodes st NoneBoth apart n _ (with_draining st n) (λ right.
       drained-apart n (active-there (has_number st.gone n) (has_number st.draining n)
       (active-mode (mode_of st n) (flips-false (is_active (mode_of st n)) right))))
 
-  undrain-apart : (n : NodeNo) → AreApart (undrain_outcome nodes st n).1
+  undrain-apart : (n : NodeNo) → NoneBoth (undrain_outcome nodes st n).1
   unfolding undrain_outcome
-  undrain-apart n = node-stays nodes st AreApart apart n _ (without_draining st n) (λ right m gone.
+  undrain-apart n = node-stays nodes st NoneBoth apart n _ (without_draining st n) (λ right m gone.
       left st.draining n m (eqb n.value m.value) refl ∙ none-of-less (has_number st.draining m) (apart m gone) (not (eqb n.value m.value)))
 
-  join-apart : (n : NodeNo) → AreApart (join_outcome nodes st n).1
+  join-apart : (n : NodeNo) → NoneBoth (join_outcome nodes st n).1
   unfolding join_outcome
-  join-apart n = node-stays nodes st AreApart apart n _ (without_gone st n) (λ right m gone.
+  join-apart n = node-stays nodes st NoneBoth apart n _ (without_gone st n) (λ right m gone.
       apart m (part-of (not (eqb n.value m.value)) (has_number st.gone m) (sym (left st.gone n m (eqb n.value m.value) refl) ∙ gone)))
 
-  step-apart : (c : Command) → AreApart (step nodes past st session c).1
+  step-apart : (c : Command) → NoneBoth (step nodes past st session c).1
   step-apart (Place r) = place-apart r
   step-apart (Drop r) = drop-apart r
-  step-apart (Lease r g) = lease-stays nodes past st session AreApart kept-apart r g
-  step-apart Next = next-stays nodes past st session AreApart kept-apart
+  step-apart (Lease r g) = lease-stays nodes past st session NoneBoth kept-apart r g
+  step-apart Next = next-stays nodes past st session NoneBoth kept-apart
   step-apart (Done r g e) = done-apart r g e
-  step-apart (Abandon r g e) = abandon-stays nodes past st session AreApart kept-apart r g e
-  step-apart (Revoke r g) = revoke-stays nodes past st session AreApart kept-apart r g
+  step-apart (Abandon r g e) = abandon-stays nodes past st session NoneBoth kept-apart r g e
+  step-apart (Revoke r g) = revoke-stays nodes past st session NoneBoth kept-apart r g
   step-apart (Fail n) = fail-apart n
-  step-apart (Down n) = down-stays nodes past st session AreApart kept-apart n
-  step-apart (Up n) = up-stays nodes past st session AreApart kept-apart n
+  step-apart (Down n) = down-stays nodes past st session NoneBoth kept-apart n
+  step-apart (Up n) = up-stays nodes past st session NoneBoth kept-apart n
   step-apart (Join n) = join-apart n
   step-apart (Drain n) = drain-apart n
   step-apart (Undrain n) = undrain-apart n
   step-apart (Retire n) = retire-apart n
-  step-apart (Upgrade u) = upgrade-stays nodes past st session AreApart kept-apart u
-  step-apart (Upgraded u) = upgraded-stays nodes past st session AreApart kept-apart u
+  step-apart (Upgrade u) = upgrade-stays nodes past st session NoneBoth kept-apart u
+  step-apart (Upgraded u) = upgraded-stays nodes past st session NoneBoth kept-apart u
 
-worlds-apart : (nodes : List NodeInfo) (w : World) (history : List Entry) → AreApart w.state → AreApart (fold (next_world nodes) w history).state
+worlds-apart : (nodes : List NodeInfo) (w : World) (history : List Entry) → NoneBoth w.state → NoneBoth (fold (next_world nodes) w history).state
 worlds-apart nodes w [] apart = apart
 worlds-apart nodes w (e ∷ es) apart = worlds-apart nodes (next_world nodes w e) es (step-apart nodes w.past w.state e.session apart e.command)
 
-state_after-apart : (nodes : List NodeInfo) (history : List Entry) → AreApart (state_after nodes history)
+state_after-apart : (nodes : List NodeInfo) (history : List Entry) → NoneBoth (state_after nodes history)
 state_after-apart nodes history = worlds-apart nodes first_world history (λ m gone. refl)
 
 -- ---- a node that joins
@@ -155,7 +155,8 @@ pub record IsJoined (n : NodeNo) (next : State) : Type 0 where
   pub up : is_down next n ≡ false
   pub none : All (λ (seat : Seat). seat.node ≢ n) (taken_seats next)
 
-module _ (nodes : List NodeInfo) (st : State) (n : NodeNo) (seated : AreSeated nodes st) (apart : AreApart st) (gone : has_number st.gone n ≡ true) where
+module _ (nodes : List NodeInfo) (st : State) (n : NodeNo) (seated : AreSeated nodes st) (apart : NoneBoth st)
+    (gone : has_number st.gone n ≡ true) where
   up-by : (b : Bool) → has_number st.down n ≡ b → b ≡ false
   up-by false is = refl
   up-by true is =

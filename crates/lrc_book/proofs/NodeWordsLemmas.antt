@@ -44,16 +44,6 @@ mode-active Active e = refl
 mode-active Gone e = absurd (cc)
 mode-active Draining e = absurd (cc)
 
-pub draining-mode : (m : Mode) → is_draining m ≡ true → m ≡ Draining
-draining-mode Draining e = refl
-draining-mode Active e = absurd (cc)
-draining-mode Gone e = absurd (cc)
-
-pub mode-draining : (m : Mode) → m ≡ Draining → is_draining m ≡ true
-mode-draining Draining e = refl
-mode-draining Active e = absurd (cc)
-mode-draining Gone e = absurd (cc)
-
 -- a test that fails, and what it says where it holds
 pub fails-not : (b : Bool) (X : Type 0) → (X → b ≡ true) → b ≡ false → ¬ X
 fails-not b X hit miss x = (let both : true ≡ false = sym (hit x) ∙ miss in cc)
@@ -108,7 +98,8 @@ module _ (st : State) (n : NodeNo) where
 
 -- ---- what is told
 
-module _ (nodes : List NodeInfo) (st : State) (n : NodeNo) (wrong : Bool) (next : State) (o : Outcome) (is : o ≡ node_outcome nodes st n wrong next) where
+module _ (nodes : List NodeInfo) (st : State) (n : NodeNo) (wrong : Bool) (next : State) (o : Outcome)
+    (is : o ≡ node_outcome nodes st n wrong next) where
   -- what each answer says
   abbrev Says : Reply → Type 0
   Says Changed = IsSome (node_at nodes n) × (wrong ≡ false)

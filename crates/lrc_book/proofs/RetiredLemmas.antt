@@ -23,12 +23,12 @@ use Rattle.lrc_book.proofs.GrantingLemmas.{passed, stopped}
 
 -- ---- draining nodes and empty ones
 
-draining-mode : (m : Mode) → is_draining m ≡ true → m ≡ Draining
+pub draining-mode : (m : Mode) → is_draining m ≡ true → m ≡ Draining
 draining-mode Draining e = refl
 draining-mode Active e = absurd (cc)
 draining-mode Gone e = absurd (cc)
 
-mode-draining : (m : Mode) → m ≡ Draining → is_draining m ≡ true
+pub mode-draining : (m : Mode) → m ≡ Draining → is_draining m ≡ true
 mode-draining Draining e = refl
 mode-draining Active e = absurd (cc)
 mode-draining Gone e = absurd (cc)

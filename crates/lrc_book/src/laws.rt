@@ -121,12 +121,15 @@ pub fn one_done_a_grant()
 /// Right after a grant the live lease of the fragment is the one that was told. Its holder is the session that asked,
 /// its target the seat that is chosen for the fragment, its epoch one more than the grants before it.
 pub fn a_grant_is_the_lease()
-    ensures live { (nodes : List NodeInfo) (past : List Entry) (st : State) (session : SessionNo) (s : StripeNo) (f : Fragment) (l : LeaseRecord) (k : Kind)
+    ensures live { (nodes : List NodeInfo) (past : List Entry) (st : State) (session : SessionNo)
+        (s : StripeNo) (f : Fragment) (l : LeaseRecord) (k : Kind)
         → (step nodes past st session (Lease s f)).0 ≡ Granted l k → lease_of (step nodes past st session (Lease s f)).1 s f ≡ Some l }
-    ensures own { (nodes : List NodeInfo) (past : List Entry) (st : State) (session : SessionNo) (s : StripeNo) (f : Fragment) (l : LeaseRecord) (k : Kind)
+    ensures own { (nodes : List NodeInfo) (past : List Entry) (st : State) (session : SessionNo)
+        (s : StripeNo) (f : Fragment) (l : LeaseRecord) (k : Kind)
         → (step nodes past st session (Lease s f)).0 ≡ Granted l k
         → (l.stripe ≡ s) × (l.fragment ≡ f) × (l.holder ≡ session) × (l.epoch ≡ grants past s f + 1) × (k ≡ kind nodes st s f) }
-    ensures target { (nodes : List NodeInfo) (past : List Entry) (st : State) (session : SessionNo) (s : StripeNo) (f : Fragment) (l : LeaseRecord) (k : Kind)
+    ensures target { (nodes : List NodeInfo) (past : List Entry) (st : State) (session : SessionNo)
+        (s : StripeNo) (f : Fragment) (l : LeaseRecord) (k : Kind)
         → AreNodes nodes → (step nodes past st session (Lease s f)).0 ≡ Granted l k → IsChoice nodes st s f l.target }
 {}
 
@@ -157,7 +160,8 @@ pub fn kinds_in_words()
 /// Lease is answered with a lease exactly where the fragment is owed one and a seat is chosen for it: the lease is then
 /// the session's on this seat. Each refusal is told exactly where what it says is so, and none before it.
 pub fn a_lease_is_granted_where_it_is_owed()
-    ensures granted { (nodes : List NodeInfo) (past : List Entry) (st : State) (session : SessionNo) (s : StripeNo) (f : Fragment) (l : LeaseRecord) (k : Kind)
+    ensures granted { (nodes : List NodeInfo) (past : List Entry) (st : State) (session : SessionNo)
+        (s : StripeNo) (f : Fragment) (l : LeaseRecord) (k : Kind)
         → AreNodes nodes → ((step nodes past st session (Lease s f)).0 ≡ Granted l k)
         ↔ (IsOwed nodes st s f × IsChoice nodes st s f l.target × (l ≡ new_lease past session s f l.target) × (k ≡ kind nodes st s f)) }
     ensures unknown { (nodes : List NodeInfo) (past : List Entry) (st : State) (session : SessionNo) (s : StripeNo) (f : Fragment)
@@ -188,10 +192,12 @@ pub fn a_report_is_taken_from_the_holder_alone()
     ensures stale { (nodes : List NodeInfo) (past : List Entry) (st : State) (session : SessionNo) (s : StripeNo) (f : Fragment) (e : ℕ)
         → ((step nodes past st session (Done s f e)).0 ≡ Refused refusal.Stale)
         ↔ (IsTrue (has_stripe st s) × ((l : LeaseRecord) → lease_of st s f ≡ Some l → l.epoch ≢ e)) }
-    ensures others { (nodes : List NodeInfo) (past : List Entry) (st : State) (session : SessionNo) (s : StripeNo) (f : Fragment) (e : ℕ) (x : SessionNo)
+    ensures others { (nodes : List NodeInfo) (past : List Entry) (st : State) (session : SessionNo)
+        (s : StripeNo) (f : Fragment) (e : ℕ) (x : SessionNo)
         → ((step nodes past st session (Done s f e)).0 ≡ Refused (refusal.NotHolder x))
         ↔ ((l : LeaseRecord) × IsReported st s f e l × (l.holder ≡ x) × (x ≢ session)) }
-    ensures offline { (nodes : List NodeInfo) (past : List Entry) (st : State) (session : SessionNo) (s : StripeNo) (f : Fragment) (e : ℕ) (n : NodeNo)
+    ensures offline { (nodes : List NodeInfo) (past : List Entry) (st : State) (session : SessionNo)
+        (s : StripeNo) (f : Fragment) (e : ℕ) (n : NodeNo)
         → ((step nodes past st session (Done s f e)).0 ≡ Refused (refusal.TargetOffline n))
         ↔ ((l : LeaseRecord) × IsReported st s f e l × (l.holder ≡ session) × (l.target.node ≡ n) × IsFalse (online_at nodes st n)) }
 {}
@@ -199,14 +205,16 @@ pub fn a_report_is_taken_from_the_holder_alone()
 /// A live lease is there unchanged after every command, unless this is Done, Abandon or Revoke of its fragment, Drop of
 /// its stripe, or Fail of the node of its target or of its fragment's home.
 pub fn leases_end_by_these_alone()
-    ensures { (nodes : List NodeInfo) (past : List Entry) (st : State) (session : SessionNo) (command : Command) (s : StripeNo) (f : Fragment) (l : LeaseRecord)
+    ensures { (nodes : List NodeInfo) (past : List Entry) (st : State) (session : SessionNo)
+        (command : Command) (s : StripeNo) (f : Fragment) (l : LeaseRecord)
         → lease_of st s f ≡ Some l → ¬ (CanEnd st l command) → lease_of (step nodes past st session command).1 s f ≡ Some l }
 {}
 
 /// A home is there unchanged after every command, unless this is Done of its fragment, Drop of its stripe, or Fail of the
 /// node that it is on.
 pub fn homes_end_by_these_alone()
-    ensures { (nodes : List NodeInfo) (past : List Entry) (st : State) (session : SessionNo) (command : Command) (s : StripeNo) (f : Fragment) (seat : Seat)
+    ensures { (nodes : List NodeInfo) (past : List Entry) (st : State) (session : SessionNo)
+        (command : Command) (s : StripeNo) (f : Fragment) (seat : Seat)
         → homes_of st.homes s f.value ≡ Some seat → ¬ (CanMove s f seat command)
         → homes_of (step nodes past st session command).1.homes s f.value ≡ Some seat }
 {}
@@ -228,7 +236,8 @@ pub fn live_leases_were_granted()
 /// After a report that is taken the fragment has no live lease, and its home is the target of the lease that it had.
 /// Every other fragment has the home that it had.
 pub fn a_report_moves_its_fragment()
-    ensures moved { (nodes : List NodeInfo) (past : List Entry) (st : State) (session : SessionNo) (s : StripeNo) (f : Fragment) (e : ℕ) (l : LeaseRecord)
+    ensures moved { (nodes : List NodeInfo) (past : List Entry) (st : State) (session : SessionNo)
+        (s : StripeNo) (f : Fragment) (e : ℕ) (l : LeaseRecord)
         → lease_of st s f ≡ Some l → (step nodes past st session (Done s f e)).0 ≡ Ended
         → (lease_of (step nodes past st session (Done s f e)).1 s f ≡ None)
         × (homes_of (step nodes past st session (Done s f e)).1.homes s f.value ≡ Some l.target) }
@@ -247,7 +256,8 @@ pub fn a_lease_is_given_back_by_its_holder_alone()
     ensures stale { (nodes : List NodeInfo) (past : List Entry) (st : State) (session : SessionNo) (s : StripeNo) (f : Fragment) (e : ℕ)
         → ((step nodes past st session (Abandon s f e)).0 ≡ Refused refusal.Stale)
         ↔ (IsTrue (has_stripe st s) × ((l : LeaseRecord) → lease_of st s f ≡ Some l → l.epoch ≢ e)) }
-    ensures others { (nodes : List NodeInfo) (past : List Entry) (st : State) (session : SessionNo) (s : StripeNo) (f : Fragment) (e : ℕ) (x : SessionNo)
+    ensures others { (nodes : List NodeInfo) (past : List Entry) (st : State) (session : SessionNo)
+        (s : StripeNo) (f : Fragment) (e : ℕ) (x : SessionNo)
         → ((step nodes past st session (Abandon s f e)).0 ≡ Refused (refusal.NotHolder x))
         ↔ ((l : LeaseRecord) × IsReported st s f e l × (l.holder ≡ x) × (x ≢ session)) }
     ensures after { (nodes : List NodeInfo) (past : List Entry) (st : State) (session : SessionNo) (s : StripeNo) (f : Fragment) (e : ℕ)
@@ -368,7 +378,8 @@ pub fn node_commands_in_words()
     ensures down_unknown { (nodes : List NodeInfo) (past : List Entry) (st : State) (session : SessionNo) (n : NodeNo)
         → ((step nodes past st session (Down n)).0 ≡ Refused refusal.UnknownNode) ↔ (node_at nodes n ≡ None) }
     ensures down_wrong { (nodes : List NodeInfo) (past : List Entry) (st : State) (session : SessionNo) (n : NodeNo)
-        → ((step nodes past st session (Down n)).0 ≡ Refused refusal.WrongMode) ↔ (IsSome (node_at nodes n) × ((mode_of st n ≡ Gone) ⊎ IsTrue (is_down st n))) }
+        → ((step nodes past st session (Down n)).0 ≡ Refused refusal.WrongMode)
+        ↔ (IsSome (node_at nodes n) × ((mode_of st n ≡ Gone) ⊎ IsTrue (is_down st n))) }
     ensures taken_down { (nodes : List NodeInfo) (past : List Entry) (st : State) (session : SessionNo) (n : NodeNo)
         → (step nodes past st session (Down n)).0 ≡ Changed
         → IsTrue (is_down (step nodes past st session (Down n)).1 n)

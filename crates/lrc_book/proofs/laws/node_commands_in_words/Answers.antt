@@ -2,7 +2,8 @@ use Rattle.std.proofs.Common.{◌≡◌, ◌≢◌, ◌||◌, ◌⊎◌, true, f
 use Rattle.lrc_book.specs.declared.mode.Mode.TheVariants.{Active, Draining, Gone}
 use Rattle.lrc_book.specs.States.{State, mode_of, is_active, is_draining, is_gone, is_down}
 use Rattle.lrc_book.specs.Steps.{emptied, with_gone, with_down, without_down, with_draining, without_draining, without_gone, fail_outcome, down_outcome, up_outcome, drain_outcome, undrain_outcome, join_outcome}
-use Rattle.lrc_book.proofs.NodeWordsLemmas.{gone-mode, mode-gone, active-mode, mode-active, draining-mode, mode-draining, fails-not, not-fails, flips-false, flips-true, down-right, right-down, down-wrong, wrong-down, changed-words, wrong-words, unknown-words, left-by, fail-is, down-is, up-is, drain-is, undrain-is, join-is, added-here, left-here, IsEmptied, failed-here, drained-here, undrained-here}
+use Rattle.lrc_book.proofs.NodeWordsLemmas.{gone-mode, mode-gone, active-mode, mode-active, fails-not, not-fails, flips-false, flips-true, down-right, right-down, down-wrong, wrong-down, changed-words, wrong-words, unknown-words, left-by, fail-is, down-is, up-is, drain-is, undrain-is, join-is, added-here, left-here, IsEmptied, failed-here, drained-here, undrained-here}
+use Rattle.lrc_book.proofs.RetiredLemmas.{draining-mode, mode-draining}
 use Rattle.lrc_book.proofs.JoinedLemmas.{joined-after}
 use Rattle.lrc_book.proofs.laws.node_commands_in_words.Goals as goal
 
@@ -23,7 +24,9 @@ returns-clause-fail_wrong c = λ nodes past st session n.
 
 pub returns-clause-failed : goal.returns-clause-failed
 returns-clause-failed c = λ nodes past st session n told.
-    let left = left-by nodes st n (is_gone (mode_of st n)) (with_gone (emptied st n) n) (fail_outcome nodes st n) (fail-is nodes st n) (IsEmptied st n) (λ right. failed-here st n nodes) told in (left.gone, left.up, left.none)
+    let left = left-by nodes st n (is_gone (mode_of st n)) (with_gone (emptied st n) n) (fail_outcome nodes st n) (fail-is nodes st n)
+    (IsEmptied st n) (λ right. failed-here st n nodes) told in
+    (left.gone, left.up, left.none)
 
 pub returns-clause-down : goal.returns-clause-down
 returns-clause-down c = λ nodes past st session n.
@@ -104,7 +107,8 @@ pub returns-clause-undrain_wrong : goal.returns-clause-undrain_wrong
 returns-clause-undrain_wrong c = λ nodes past st session n.
     wrong-words nodes st n (not (is_draining (mode_of st n))) (without_draining st n) (undrain_outcome nodes st n) (undrain-is nodes st n)
     (mode_of st n ≢ Draining)
-    (λ wrong. fails-not (is_draining (mode_of st n)) (mode_of st n ≡ Draining) (mode-draining (mode_of st n)) (flips-true (is_draining (mode_of st n)) wrong))
+    (λ wrong. fails-not (is_draining (mode_of st n)) (mode_of st n ≡ Draining) (mode-draining (mode_of st n))
+    (flips-true (is_draining (mode_of st n)) wrong))
     (λ other. ap not (not-fails (is_draining (mode_of st n)) (mode_of st n ≡ Draining) (draining-mode (mode_of st n)) other))
 
 pub returns-clause-undrained : goal.returns-clause-undrained
