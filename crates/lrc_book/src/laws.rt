@@ -289,7 +289,7 @@ pub fn placed_seats_are_the_homes()
 
 /// Upgrade is refused for a stripe exactly where a node is in the domain, no domain is upgrading, and the stripe is the
 /// least of those that are recoverable and would not be with the domain upgrading; it is done where there is none such.
-/// It is refused as unknown exactly where no node is in the domain, and for the domain that is upgrading where one is.
+/// It is refused as unknown exactly where no node is in the domain, and else for the domain that is upgrading, if one is.
 /// After a legal history it is never refused for a stripe that is whole. Where it is done, each stripe that was
 /// recoverable still is, and each that was whole withstands at least one further loss.
 pub fn upgrades_are_safe()
@@ -358,7 +358,7 @@ pub fn idle_where_nothing_is_grantable()
 {}
 
 /// Each command on a node is done exactly where the store has the node and the command is right for it. It is refused as
-/// of the wrong mode exactly where the store has the node and it is not. Fail leaves the node Gone, not down, and with no
+/// unknown exactly where the store has no such node, and else as of the wrong mode where it is not right. Fail leaves the node Gone, not down, and with no
 /// seat on it. Down and Up leave its mode as it was, Drain and Undrain whether it is down. After a legal history Join
 /// leaves it Active, not down, and with no seat on it.
 pub fn node_commands_in_words()
