@@ -31,7 +31,7 @@ use Rattle.lrc_book.proofs.OutcomeLemmas.{either-way}
 use Rattle.lrc_book.proofs.LeaseLawLemmas.{lease-keeps, done-keeps, abandon-keeps, revoke-keeps}
 
 -- what is found first is found first among those that are kept, if it is kept
-find-filter : {X : Type 0} (p keep : X → Bool) (xs : List X) (x : X) → find p xs ≡ Some x → keep x ≡ true → find p (filter keep xs) ≡ Some x
+pub find-filter : {X : Type 0} (p keep : X → Bool) (xs : List X) (x : X) → find p xs ≡ Some x → keep x ≡ true → find p (filter keep xs) ≡ Some x
 find-filter p keep [] x e kept = e
 find-filter {X} p keep (y ∷ ys) x e kept = elim (cases_Bool (p y)) [
   | inl hit ↦

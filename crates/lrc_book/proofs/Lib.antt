@@ -53,3 +53,7 @@ pub mod MostUrgentLemmas
 pub mod RetiredLemmas
 pub mod ListedLemmas
 pub mod PlacedHomesLemmas
+pub mod StayingLemmas
+pub mod NodeWordsLemmas
+pub mod UpgradedLemmas
+pub mod JoinedLemmas

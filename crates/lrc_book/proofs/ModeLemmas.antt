@@ -41,7 +41,7 @@ module _ (numbers : List NodeNo) (n m : NodeNo) where
       or_false true = refl
       or_false false = refl
 
-  left : (b : Bool) → eqb n.value m.value ≡ b → has_number (without_number numbers n) m ≡ (not b && has_number numbers m)
+  pub left : (b : Bool) → eqb n.value m.value ≡ b → has_number (without_number numbers n) m ≡ (not b && has_number numbers m)
   left b is =
       any-filter_same (λ (k : NodeNo). eqb m.value k.value) (λ k. not (eqb n.value k.value)) (not b)
       (λ k hit. ap (λ v. not (eqb n.value v)) (sym (eqb-true m.value k.value hit)) ∙ ap not is) numbers

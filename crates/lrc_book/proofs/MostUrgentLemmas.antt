@@ -237,3 +237,17 @@ module _ (nodes : List NodeInfo) (past : List Entry) (st : State) (session : Ses
   -- it is never refused
   pub never-refused : (r : Refusal) → (next_outcome nodes past st session).0 ≢ Refused r
   never-refused r told = never-by r (next_of nodes st) refl (sym (ap (λ (o : Outcome). o.0) (next-is (next_of nodes st) refl)) ∙ told)
+
+  granted-if : (o : Option StripeFragment) → next_of nodes st ≡ o → (next_answer nodes past st session o).0 ≢ Idle
+      → (l : LeaseRecord) × (k : Kind) × ((next_answer nodes past st session o).0 ≡ Granted l k)
+  granted-if None is busy = absurd (busy refl)
+  granted-if (Some p) is busy =
+      let given = grantable-granted p (next-urgent nodes st p is).grantable in (given.0, kind nodes st p.0 p.1, given.1)
+
+  -- what is not idle is granted
+  pub busy-granted : (next_outcome nodes past st session).0 ≢ Idle
+      → (l : LeaseRecord) × (k : Kind) × ((next_outcome nodes past st session).0 ≡ Granted l k)
+  busy-granted busy =
+      let same = ap (λ (o : Outcome). o.0) (next-is (next_of nodes st) refl) in
+      let given = granted-if (next_of nodes st) refl (λ idle. busy (same ∙ idle)) in
+      (given.0, given.1, same ∙ given.2)

@@ -78,7 +78,7 @@ before-none : (o p : Option Held) → p ≡ None → option_or o p ≡ o
 before-none None p none = none
 before-none (Some h) p none = refl
 
-homes-append : (homes more : List Held) (s : StripeNo) (n : ℕ) → home_of (homes ++ more) s n ≡ option_or (home_of homes s n) (home_of more s n)
+pub homes-append : (homes more : List Held) (s : StripeNo) (n : ℕ) → home_of (homes ++ more) s n ≡ option_or (home_of homes s n) (home_of more s n)
 homes-append homes more s n = find-append (λ (h : Held). same_stripe h.stripe s && nat_eq h.fragment.value n) homes more
 
 -- ---- what is shown

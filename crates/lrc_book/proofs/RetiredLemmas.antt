@@ -23,12 +23,12 @@ use Rattle.lrc_book.proofs.GrantingLemmas.{passed, stopped}
 
 -- ---- draining nodes and empty ones
 
-draining-mode : (m : Mode) → is_draining m ≡ true → m ≡ Draining
+pub draining-mode : (m : Mode) → is_draining m ≡ true → m ≡ Draining
 draining-mode Draining e = refl
 draining-mode Active e = absurd (cc)
 draining-mode Gone e = absurd (cc)
 
-mode-draining : (m : Mode) → m ≡ Draining → is_draining m ≡ true
+pub mode-draining : (m : Mode) → m ≡ Draining → is_draining m ≡ true
 mode-draining Draining e = refl
 mode-draining Active e = absurd (cc)
 mode-draining Gone e = absurd (cc)
@@ -142,7 +142,7 @@ module _ (nodes : List NodeInfo) (st : State) (n : NodeNo) where
       → (retire_outcome nodes st n).0 ≡ Changed
   empty-retired known drains none = ap (λ (o : Outcome). o.0) (tell-retired (known, drains, none-load (taken_seats st) n none))
 
-  gone-now : mode_of (with_gone st n) n ≡ Gone
+  pub gone-now : mode_of (with_gone st n) n ≡ Gone
   gone-now =
       let hit : has_number (st.gone ++ n ∷ []) n ≡ true = list_any-member (same_node n) (st.gone ++ n ∷ []) n (Contains-push st.gone n)
       (eq-eqb n.value n.value refl) in rw hit refl

@@ -208,7 +208,7 @@ module _ (nodes : List NodeInfo) (st : State) (n : NodeNo) where
   left-number numbers m here = let parts = filter-member (λ (k : NodeNo). not (eqb n.value k.value)) numbers m here in (parts.0, not-true _ parts.1)
 
   -- no seat that is left stands on the node
-  emptied-apart : All (λ (seat : Seat). eqb n.value seat.node.value ≡ false) (taken_seats (emptied st n))
+  pub emptied-apart : All (λ (seat : Seat). eqb n.value seat.node.value ≡ false) (taken_seats (emptied st n))
   emptied-apart =
       let p = λ (h : Held). not (stands_on n h) in
       let q = λ (l : LeaseRecord). not (hangs_on st n l) in

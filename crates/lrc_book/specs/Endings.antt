@@ -1,7 +1,8 @@
--- Which commands can end a live lease, and what is left then.
+-- Which commands can end a live lease, a home or a stripe, and what is left of a lease then.
 use Rattle.std.specs.Prelude.{◌≡◌, ◌≢◌, IsTrue, None}
 use Rattle.lrc_code.specs.declared.numbers.StripeNo.{StripeNo}
 use Rattle.lrc_code.specs.declared.numbers.Fragment.{Fragment}
+use Rattle.lrc_topology.specs.declared.seat.Seat.{Seat}
 use Rattle.lrc_leases.specs.declared.lease.Lease.{Lease as LeaseRecord}
 use Rattle.lrc_book.specs.declared.command.Command.{Command}
 use Rattle.lrc_book.specs.declared.command.Command.TheVariants.{Done, Abandon, Revoke, Drop, Fail}
@@ -16,6 +17,18 @@ CanEnd st l (Revoke s f) = (l.stripe ≡ s) × (l.fragment ≡ f)
 CanEnd st l (Drop s) = l.stripe ≡ s
 CanEnd st l (Fail n) = IsTrue (hangs_on st n l)
 CanEnd st l _ = ⊥
+
+-- the command reports this fragment, drops its stripe, or fails the node of its home on this seat
+abbrev pub CanMove : StripeNo → Fragment → Seat → Command → Type 0
+CanMove s f seat (Done r g e) = (s ≡ r) × (f ≡ g)
+CanMove s f seat (Drop r) = s ≡ r
+CanMove s f seat (Fail n) = seat.node ≡ n
+CanMove s f seat _ = ⊥
+
+-- the command drops this stripe
+abbrev pub IsDropOf : StripeNo → Command → Type 0
+IsDropOf s (Drop r) = s ≡ r
+IsDropOf s _ = ⊥
 
 -- The second state is the first one, but that the fragment has no live lease: all others have those that they had.
 pub record IsWithoutLease (was : State) (s : StripeNo) (f : Fragment) (st : State) : Type 0 where

@@ -34,7 +34,15 @@ use Rattle.lrc_book.specs.Ties.{table_of, bars_fault, bars_upgrade}
 -- the stripes, codes, homes and the online and the draining nodes of the state, with room for so many more stripes
 abbrev pub stored_of : List NodeInfo → State → ℕ → Stored
 stored_of nodes st spare =
-    record { nodes = nodes; stripes = has_stripe st; code = code_of st; homes = λ s. homes_of st.homes s; online = online_at nodes st; draining = drains_at nodes st; spare = spare }
+    record {
+      nodes = nodes;
+      stripes = has_stripe st;
+      code = code_of st;
+      homes = λ s. homes_of st.homes s;
+      online = online_at nodes st;
+      draining = drains_at nodes st;
+      spare = spare;
+    }
 
 -- the lists of nodes and the upgrading domain are those of the state
 pub record AreModesOf (st : State) (m : Modes) : Type 0 where

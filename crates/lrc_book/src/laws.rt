@@ -1,6 +1,6 @@
 //! Laws of the definitions, each the contract of a function that does nothing.
 
-ghost use Rattle.std.specs.Prelude.{◌≡◌, ◌≢◌, ◌↔◌, ℕ, ◌+◌, ◌≤◌, if◌then◌else◌, IsTrue, IsFalse, IsSome, IsSomeAnd, List, map, All, AllPairs, Contains, Some, None};
+ghost use Rattle.std.specs.Prelude.{◌≡◌, ◌≢◌, ◌↔◌, ◌⊎◌, ℕ, ◌+◌, ◌≤◌, if◌then◌else◌, IsTrue, IsFalse, IsSome, IsSomeAnd, List, map, All, AllPairs, Contains, Some, None};
 ghost use Rattle.lrc_code.specs.declared.codes.Code.TheVariants.{Wide};
 ghost use Rattle.lrc_code.specs.Codes.{fragments};
 ghost use Rattle.lrc_code.specs.declared.numbers.StripeNo.{StripeNo};
@@ -13,7 +13,7 @@ ghost use Rattle.lrc_code.specs.declared.numbers.SessionNo.{SessionNo};
 ghost use Rattle.lrc_code.specs.declared.numbers.NodeNo.{NodeNo};
 ghost use Rattle.lrc_book.specs.declared.entry.Entry.{Entry};
 ghost use Rattle.lrc_book.specs.declared.command.Command.{Command};
-ghost use Rattle.lrc_book.specs.declared.command.Command.TheVariants.{Place, Lease, Next, Done, Abandon, Revoke, Retire, Upgrade};
+ghost use Rattle.lrc_book.specs.declared.command.Command.TheVariants.{Place, Lease, Next, Done, Abandon, Revoke, Fail, Down, Up, Drain, Undrain, Retire, Join, Upgrade, Upgraded};
 ghost use Rattle.lrc_book.specs.declared.reply.Reply.TheVariants.{Placed, Granted, Idle, Ended, Changed, Refused};
 ghost use Rattle.lrc_book.specs.declared.refusal.Refusal.TheVariants as refusal;
 ghost use Rattle.lrc_book.specs.declared.refusal.Refusal.{Refusal};
@@ -25,7 +25,7 @@ ghost use Rattle.lrc_stripes.specs.declared.level.Level.{Level};
 ghost use Rattle.lrc_stripes.specs.declared.level.Level.TheVariants.{Whole};
 ghost use Rattle.lrc_code.specs.declared.numbers.UpgradeNo.{UpgradeNo};
 ghost use Rattle.lrc_code.specs.Losses.{IsRecoverable, IsMargin};
-ghost use Rattle.lrc_book.specs.declared.mode.Mode.TheVariants.{Draining, Gone};
+ghost use Rattle.lrc_book.specs.declared.mode.Mode.TheVariants.{Active, Draining, Gone};
 ghost use Rattle.lrc_leases.specs.declared.lease.Lease.{Lease as LeaseRecord};
 ghost use Rattle.lrc_book.specs.Outcomes.{refused};
 ghost use Rattle.lrc_book.specs.Leases.{grants, new_lease, reports_taken};
@@ -34,9 +34,9 @@ ghost use Rattle.lrc_book.specs.Urgency.{work, risk};
 ghost use Rattle.lrc_book.specs.Granting.{IsOwed, IsGrantable, IsMoreUrgent, IsMostUrgent, AsksFor};
 ghost use Rattle.lrc_book.specs.Upgrading.{WouldBeLost};
 ghost use Rattle.lrc_book.specs.Reporting.{IsReported};
-ghost use Rattle.lrc_book.specs.Endings.{CanEnd, IsWithoutLease};
+ghost use Rattle.lrc_book.specs.Endings.{CanEnd, CanMove, IsDropOf, IsWithoutLease};
 ghost use Rattle.lrc_book.specs.Steps.{with_stripe, step};
-ghost use Rattle.lrc_book.specs.States.{State, has_stripe, code_of, taken_seats, load, lease_of, mode_of, online_at, missing, level, homes_shown};
+ghost use Rattle.lrc_book.specs.States.{State, has_stripe, code_of, taken_seats, load, lease_of, mode_of, is_down, online_at, missing, level, homes_shown};
 ghost use Rattle.lrc_book.specs.Placement.{chosen, is_beside};
 ghost use Rattle.lrc_book.specs.Choices.{IsFitting, IsChoice, AreChosen, IsFirstWithout};
 ghost use Rattle.lrc_book.specs.Histories.{IsLegal, outcome_in, world_after, state_after};
@@ -55,7 +55,8 @@ pub fn none_is_chosen_where_no_node_fits()
         → (chosen nodes st s f ≡ None) ↔ ((n : NodeInfo) → ¬ (IsFitting nodes st s f n)) }
 {}
 
-/// After each legal history every placement is lawful, and every seat is held once and is a slot of a node.
+/// After each legal history every placement is lawful, every seat is held once and is a slot of a node that is not gone,
+/// each fragment has one home and one lease at most, and the epoch of each live lease is the last that was granted.
 pub fn legal_histories_leave_good_states()
     ensures { (nodes : List NodeInfo) (history : List Entry)
         → AreNodes nodes → IsLegal nodes history → IsGood nodes history (state_after nodes history) }
@@ -120,12 +121,15 @@ pub fn one_done_a_grant()
 /// Right after a grant the live lease of the fragment is the one that was told. Its holder is the session that asked,
 /// its target the seat that is chosen for the fragment, its epoch one more than the grants before it.
 pub fn a_grant_is_the_lease()
-    ensures live { (nodes : List NodeInfo) (past : List Entry) (st : State) (session : SessionNo) (s : StripeNo) (f : Fragment) (l : LeaseRecord) (k : Kind)
+    ensures live { (nodes : List NodeInfo) (past : List Entry) (st : State) (session : SessionNo)
+        (s : StripeNo) (f : Fragment) (l : LeaseRecord) (k : Kind)
         → (step nodes past st session (Lease s f)).0 ≡ Granted l k → lease_of (step nodes past st session (Lease s f)).1 s f ≡ Some l }
-    ensures own { (nodes : List NodeInfo) (past : List Entry) (st : State) (session : SessionNo) (s : StripeNo) (f : Fragment) (l : LeaseRecord) (k : Kind)
+    ensures own { (nodes : List NodeInfo) (past : List Entry) (st : State) (session : SessionNo)
+        (s : StripeNo) (f : Fragment) (l : LeaseRecord) (k : Kind)
         → (step nodes past st session (Lease s f)).0 ≡ Granted l k
         → (l.stripe ≡ s) × (l.fragment ≡ f) × (l.holder ≡ session) × (l.epoch ≡ grants past s f + 1) × (k ≡ kind nodes st s f) }
-    ensures target { (nodes : List NodeInfo) (past : List Entry) (st : State) (session : SessionNo) (s : StripeNo) (f : Fragment) (l : LeaseRecord) (k : Kind)
+    ensures target { (nodes : List NodeInfo) (past : List Entry) (st : State) (session : SessionNo)
+        (s : StripeNo) (f : Fragment) (l : LeaseRecord) (k : Kind)
         → AreNodes nodes → (step nodes past st session (Lease s f)).0 ≡ Granted l k → IsChoice nodes st s f l.target }
 {}
 
@@ -156,7 +160,8 @@ pub fn kinds_in_words()
 /// Lease is answered with a lease exactly where the fragment is owed one and a seat is chosen for it: the lease is then
 /// the session's on this seat. Each refusal is told exactly where what it says is so, and none before it.
 pub fn a_lease_is_granted_where_it_is_owed()
-    ensures granted { (nodes : List NodeInfo) (past : List Entry) (st : State) (session : SessionNo) (s : StripeNo) (f : Fragment) (l : LeaseRecord) (k : Kind)
+    ensures granted { (nodes : List NodeInfo) (past : List Entry) (st : State) (session : SessionNo)
+        (s : StripeNo) (f : Fragment) (l : LeaseRecord) (k : Kind)
         → AreNodes nodes → ((step nodes past st session (Lease s f)).0 ≡ Granted l k)
         ↔ (IsOwed nodes st s f × IsChoice nodes st s f l.target × (l ≡ new_lease past session s f l.target) × (k ≡ kind nodes st s f)) }
     ensures unknown { (nodes : List NodeInfo) (past : List Entry) (st : State) (session : SessionNo) (s : StripeNo) (f : Fragment)
@@ -187,10 +192,12 @@ pub fn a_report_is_taken_from_the_holder_alone()
     ensures stale { (nodes : List NodeInfo) (past : List Entry) (st : State) (session : SessionNo) (s : StripeNo) (f : Fragment) (e : ℕ)
         → ((step nodes past st session (Done s f e)).0 ≡ Refused refusal.Stale)
         ↔ (IsTrue (has_stripe st s) × ((l : LeaseRecord) → lease_of st s f ≡ Some l → l.epoch ≢ e)) }
-    ensures others { (nodes : List NodeInfo) (past : List Entry) (st : State) (session : SessionNo) (s : StripeNo) (f : Fragment) (e : ℕ) (x : SessionNo)
+    ensures others { (nodes : List NodeInfo) (past : List Entry) (st : State) (session : SessionNo)
+        (s : StripeNo) (f : Fragment) (e : ℕ) (x : SessionNo)
         → ((step nodes past st session (Done s f e)).0 ≡ Refused (refusal.NotHolder x))
         ↔ ((l : LeaseRecord) × IsReported st s f e l × (l.holder ≡ x) × (x ≢ session)) }
-    ensures offline { (nodes : List NodeInfo) (past : List Entry) (st : State) (session : SessionNo) (s : StripeNo) (f : Fragment) (e : ℕ) (n : NodeNo)
+    ensures offline { (nodes : List NodeInfo) (past : List Entry) (st : State) (session : SessionNo)
+        (s : StripeNo) (f : Fragment) (e : ℕ) (n : NodeNo)
         → ((step nodes past st session (Done s f e)).0 ≡ Refused (refusal.TargetOffline n))
         ↔ ((l : LeaseRecord) × IsReported st s f e l × (l.holder ≡ session) × (l.target.node ≡ n) × IsFalse (online_at nodes st n)) }
 {}
@@ -198,8 +205,24 @@ pub fn a_report_is_taken_from_the_holder_alone()
 /// A live lease is there unchanged after every command, unless this is Done, Abandon or Revoke of its fragment, Drop of
 /// its stripe, or Fail of the node of its target or of its fragment's home.
 pub fn leases_end_by_these_alone()
-    ensures { (nodes : List NodeInfo) (past : List Entry) (st : State) (session : SessionNo) (command : Command) (s : StripeNo) (f : Fragment) (l : LeaseRecord)
+    ensures { (nodes : List NodeInfo) (past : List Entry) (st : State) (session : SessionNo)
+        (command : Command) (s : StripeNo) (f : Fragment) (l : LeaseRecord)
         → lease_of st s f ≡ Some l → ¬ (CanEnd st l command) → lease_of (step nodes past st session command).1 s f ≡ Some l }
+{}
+
+/// A home is there unchanged after every command, unless this is Done of its fragment, Drop of its stripe, or Fail of the
+/// node that it is on.
+pub fn homes_end_by_these_alone()
+    ensures { (nodes : List NodeInfo) (past : List Entry) (st : State) (session : SessionNo)
+        (command : Command) (s : StripeNo) (f : Fragment) (seat : Seat)
+        → homes_of st.homes s f.value ≡ Some seat → ¬ (CanMove s f seat command)
+        → homes_of (step nodes past st session command).1.homes s f.value ≡ Some seat }
+{}
+
+/// A stripe that is there is there after every command but its Drop.
+pub fn stripes_end_by_drop_alone()
+    ensures { (nodes : List NodeInfo) (past : List Entry) (st : State) (session : SessionNo) (command : Command) (s : StripeNo)
+        → IsTrue (has_stripe st s) → ¬ (IsDropOf s command) → IsTrue (has_stripe (step nodes past st session command).1 s) }
 {}
 
 /// After a legal history each live lease was granted in one of its entries, to the session that holds it, by Lease of
@@ -213,7 +236,8 @@ pub fn live_leases_were_granted()
 /// After a report that is taken the fragment has no live lease, and its home is the target of the lease that it had.
 /// Every other fragment has the home that it had.
 pub fn a_report_moves_its_fragment()
-    ensures moved { (nodes : List NodeInfo) (past : List Entry) (st : State) (session : SessionNo) (s : StripeNo) (f : Fragment) (e : ℕ) (l : LeaseRecord)
+    ensures moved { (nodes : List NodeInfo) (past : List Entry) (st : State) (session : SessionNo)
+        (s : StripeNo) (f : Fragment) (e : ℕ) (l : LeaseRecord)
         → lease_of st s f ≡ Some l → (step nodes past st session (Done s f e)).0 ≡ Ended
         → (lease_of (step nodes past st session (Done s f e)).1 s f ≡ None)
         × (homes_of (step nodes past st session (Done s f e)).1.homes s f.value ≡ Some l.target) }
@@ -232,7 +256,8 @@ pub fn a_lease_is_given_back_by_its_holder_alone()
     ensures stale { (nodes : List NodeInfo) (past : List Entry) (st : State) (session : SessionNo) (s : StripeNo) (f : Fragment) (e : ℕ)
         → ((step nodes past st session (Abandon s f e)).0 ≡ Refused refusal.Stale)
         ↔ (IsTrue (has_stripe st s) × ((l : LeaseRecord) → lease_of st s f ≡ Some l → l.epoch ≢ e)) }
-    ensures others { (nodes : List NodeInfo) (past : List Entry) (st : State) (session : SessionNo) (s : StripeNo) (f : Fragment) (e : ℕ) (x : SessionNo)
+    ensures others { (nodes : List NodeInfo) (past : List Entry) (st : State) (session : SessionNo)
+        (s : StripeNo) (f : Fragment) (e : ℕ) (x : SessionNo)
         → ((step nodes past st session (Abandon s f e)).0 ≡ Refused (refusal.NotHolder x))
         ↔ ((l : LeaseRecord) × IsReported st s f e l × (l.holder ≡ x) × (x ≢ session)) }
     ensures after { (nodes : List NodeInfo) (past : List Entry) (st : State) (session : SessionNo) (s : StripeNo) (f : Fragment) (e : ℕ)
@@ -264,6 +289,7 @@ pub fn placed_seats_are_the_homes()
 
 /// Upgrade is refused for a stripe exactly where a node is in the domain, no domain is upgrading, and the stripe is the
 /// least of those that are recoverable and would not be with the domain upgrading; it is done where there is none such.
+/// It is refused as unknown exactly where no node is in the domain, and else for the domain that is upgrading, if one is.
 /// After a legal history it is never refused for a stripe that is whole. Where it is done, each stripe that was
 /// recoverable still is, and each that was whole withstands at least one further loss.
 pub fn upgrades_are_safe()
@@ -292,8 +318,22 @@ pub fn upgrades_are_safe()
         × IsMargin (code_of (state_after nodes history) s) (missing nodes (outcome_in nodes (world_after nodes history) session (Upgrade u)).1 s) t }
 {}
 
+/// Upgraded is done exactly where a node is in the domain and it is upgrading: no domain is upgrading then. Each refusal
+/// is told exactly where what it says is so, and none before it.
+pub fn upgraded_in_words()
+    ensures done { (nodes : List NodeInfo) (past : List Entry) (st : State) (session : SessionNo) (u : UpgradeNo)
+        → ((step nodes past st session (Upgraded u)).0 ≡ Changed) ↔ (IsTrue (has_domain nodes u) × (st.upgrading ≡ Some u)) }
+    ensures unknown { (nodes : List NodeInfo) (past : List Entry) (st : State) (session : SessionNo) (u : UpgradeNo)
+        → ((step nodes past st session (Upgraded u)).0 ≡ Refused refusal.UnknownDomain) ↔ IsFalse (has_domain nodes u) }
+    ensures other { (nodes : List NodeInfo) (past : List Entry) (st : State) (session : SessionNo) (u : UpgradeNo)
+        → ((step nodes past st session (Upgraded u)).0 ≡ Refused refusal.NotUpgrading)
+        ↔ (IsTrue (has_domain nodes u) × (st.upgrading ≢ Some u)) }
+    ensures none { (nodes : List NodeInfo) (past : List Entry) (st : State) (session : SessionNo) (u : UpgradeNo)
+        → (step nodes past st session (Upgraded u)).0 ≡ Changed → (step nodes past st session (Upgraded u)).1.upgrading ≡ None }
+{}
+
 /// Next does what Lease of the most urgent fragment does: of those that are owed a lease and may go to some node, the
-/// first by the rank of its stripe, the stripe's number and its own.
+/// first by the rank of its stripe, the stripe's number and its own. What is not Idle is granted.
 pub fn next_is_most_urgent()
     ensures told { (nodes : List NodeInfo) (past : List Entry) (st : State) (session : SessionNo) (l : LeaseRecord) (k : Kind)
         → (step nodes past st session Next).0 ≡ Granted l k → IsMostUrgent nodes st (l.stripe, l.fragment) }
@@ -302,6 +342,8 @@ pub fn next_is_most_urgent()
     ensures leased { (nodes : List NodeInfo) (past : List Entry) (st : State) (session : SessionNo) (l : LeaseRecord) (k : Kind)
         → (step nodes past st session Next).0 ≡ Granted l k
         → step nodes past st session Next ≡ step nodes past st session (Lease l.stripe l.fragment) }
+    ensures busy { (nodes : List NodeInfo) (past : List Entry) (st : State) (session : SessionNo)
+        → (step nodes past st session Next).0 ≢ Idle → (l : LeaseRecord) × (k : Kind) × ((step nodes past st session Next).0 ≡ Granted l k) }
 {}
 
 /// Next is idle exactly where no fragment is both owed a lease and may go to some node, and changes nothing then. It is
@@ -315,8 +357,79 @@ pub fn idle_where_nothing_is_grantable()
         → (step nodes past st session Next).0 ≢ Refused r }
 {}
 
+/// Each command on a node is done exactly where the store has the node and the command is right for it. It is refused as
+/// unknown exactly where the store has no such node, and else as of the wrong mode where it is not right. Fail leaves the node Gone, not down, and with no
+/// seat on it. Down and Up leave its mode as it was, Drain and Undrain whether it is down. After a legal history Join
+/// leaves it Active, not down, and with no seat on it.
+pub fn node_commands_in_words()
+    ensures fail { (nodes : List NodeInfo) (past : List Entry) (st : State) (session : SessionNo) (n : NodeNo)
+        → ((step nodes past st session (Fail n)).0 ≡ Changed) ↔ (IsSome (node_at nodes n) × (mode_of st n ≢ Gone)) }
+    ensures fail_unknown { (nodes : List NodeInfo) (past : List Entry) (st : State) (session : SessionNo) (n : NodeNo)
+        → ((step nodes past st session (Fail n)).0 ≡ Refused refusal.UnknownNode) ↔ (node_at nodes n ≡ None) }
+    ensures fail_wrong { (nodes : List NodeInfo) (past : List Entry) (st : State) (session : SessionNo) (n : NodeNo)
+        → ((step nodes past st session (Fail n)).0 ≡ Refused refusal.WrongMode) ↔ (IsSome (node_at nodes n) × (mode_of st n ≡ Gone)) }
+    ensures failed { (nodes : List NodeInfo) (past : List Entry) (st : State) (session : SessionNo) (n : NodeNo)
+        → (step nodes past st session (Fail n)).0 ≡ Changed
+        → (mode_of (step nodes past st session (Fail n)).1 n ≡ Gone)
+        × IsFalse (is_down (step nodes past st session (Fail n)).1 n)
+        × All (λ seat. seat.node ≢ n) (taken_seats (step nodes past st session (Fail n)).1) }
+    ensures down { (nodes : List NodeInfo) (past : List Entry) (st : State) (session : SessionNo) (n : NodeNo)
+        → ((step nodes past st session (Down n)).0 ≡ Changed) ↔ (IsSome (node_at nodes n) × (mode_of st n ≢ Gone) × IsFalse (is_down st n)) }
+    ensures down_unknown { (nodes : List NodeInfo) (past : List Entry) (st : State) (session : SessionNo) (n : NodeNo)
+        → ((step nodes past st session (Down n)).0 ≡ Refused refusal.UnknownNode) ↔ (node_at nodes n ≡ None) }
+    ensures down_wrong { (nodes : List NodeInfo) (past : List Entry) (st : State) (session : SessionNo) (n : NodeNo)
+        → ((step nodes past st session (Down n)).0 ≡ Refused refusal.WrongMode)
+        ↔ (IsSome (node_at nodes n) × ((mode_of st n ≡ Gone) ⊎ IsTrue (is_down st n))) }
+    ensures taken_down { (nodes : List NodeInfo) (past : List Entry) (st : State) (session : SessionNo) (n : NodeNo)
+        → (step nodes past st session (Down n)).0 ≡ Changed
+        → IsTrue (is_down (step nodes past st session (Down n)).1 n)
+        × (mode_of (step nodes past st session (Down n)).1 n ≡ mode_of st n) }
+    ensures up { (nodes : List NodeInfo) (past : List Entry) (st : State) (session : SessionNo) (n : NodeNo)
+        → ((step nodes past st session (Up n)).0 ≡ Changed) ↔ (IsSome (node_at nodes n) × IsTrue (is_down st n)) }
+    ensures up_unknown { (nodes : List NodeInfo) (past : List Entry) (st : State) (session : SessionNo) (n : NodeNo)
+        → ((step nodes past st session (Up n)).0 ≡ Refused refusal.UnknownNode) ↔ (node_at nodes n ≡ None) }
+    ensures up_wrong { (nodes : List NodeInfo) (past : List Entry) (st : State) (session : SessionNo) (n : NodeNo)
+        → ((step nodes past st session (Up n)).0 ≡ Refused refusal.WrongMode) ↔ (IsSome (node_at nodes n) × IsFalse (is_down st n)) }
+    ensures brought_up { (nodes : List NodeInfo) (past : List Entry) (st : State) (session : SessionNo) (n : NodeNo)
+        → (step nodes past st session (Up n)).0 ≡ Changed
+        → IsFalse (is_down (step nodes past st session (Up n)).1 n)
+        × (mode_of (step nodes past st session (Up n)).1 n ≡ mode_of st n) }
+    ensures drain { (nodes : List NodeInfo) (past : List Entry) (st : State) (session : SessionNo) (n : NodeNo)
+        → ((step nodes past st session (Drain n)).0 ≡ Changed) ↔ (IsSome (node_at nodes n) × (mode_of st n ≡ Active)) }
+    ensures drain_unknown { (nodes : List NodeInfo) (past : List Entry) (st : State) (session : SessionNo) (n : NodeNo)
+        → ((step nodes past st session (Drain n)).0 ≡ Refused refusal.UnknownNode) ↔ (node_at nodes n ≡ None) }
+    ensures drain_wrong { (nodes : List NodeInfo) (past : List Entry) (st : State) (session : SessionNo) (n : NodeNo)
+        → ((step nodes past st session (Drain n)).0 ≡ Refused refusal.WrongMode) ↔ (IsSome (node_at nodes n) × (mode_of st n ≢ Active)) }
+    ensures drained { (nodes : List NodeInfo) (past : List Entry) (st : State) (session : SessionNo) (n : NodeNo)
+        → (step nodes past st session (Drain n)).0 ≡ Changed
+        → (mode_of (step nodes past st session (Drain n)).1 n ≡ Draining)
+        × (is_down (step nodes past st session (Drain n)).1 n ≡ is_down st n) }
+    ensures undrain { (nodes : List NodeInfo) (past : List Entry) (st : State) (session : SessionNo) (n : NodeNo)
+        → ((step nodes past st session (Undrain n)).0 ≡ Changed) ↔ (IsSome (node_at nodes n) × (mode_of st n ≡ Draining)) }
+    ensures undrain_unknown { (nodes : List NodeInfo) (past : List Entry) (st : State) (session : SessionNo) (n : NodeNo)
+        → ((step nodes past st session (Undrain n)).0 ≡ Refused refusal.UnknownNode) ↔ (node_at nodes n ≡ None) }
+    ensures undrain_wrong { (nodes : List NodeInfo) (past : List Entry) (st : State) (session : SessionNo) (n : NodeNo)
+        → ((step nodes past st session (Undrain n)).0 ≡ Refused refusal.WrongMode) ↔ (IsSome (node_at nodes n) × (mode_of st n ≢ Draining)) }
+    ensures undrained { (nodes : List NodeInfo) (past : List Entry) (st : State) (session : SessionNo) (n : NodeNo)
+        → (step nodes past st session (Undrain n)).0 ≡ Changed
+        → (mode_of (step nodes past st session (Undrain n)).1 n ≡ Active)
+        × (is_down (step nodes past st session (Undrain n)).1 n ≡ is_down st n) }
+    ensures join { (nodes : List NodeInfo) (past : List Entry) (st : State) (session : SessionNo) (n : NodeNo)
+        → ((step nodes past st session (Join n)).0 ≡ Changed) ↔ (IsSome (node_at nodes n) × (mode_of st n ≡ Gone)) }
+    ensures join_unknown { (nodes : List NodeInfo) (past : List Entry) (st : State) (session : SessionNo) (n : NodeNo)
+        → ((step nodes past st session (Join n)).0 ≡ Refused refusal.UnknownNode) ↔ (node_at nodes n ≡ None) }
+    ensures join_wrong { (nodes : List NodeInfo) (past : List Entry) (st : State) (session : SessionNo) (n : NodeNo)
+        → ((step nodes past st session (Join n)).0 ≡ Refused refusal.WrongMode) ↔ (IsSome (node_at nodes n) × (mode_of st n ≢ Gone)) }
+    ensures joined { (nodes : List NodeInfo) (history : List Entry) (session : SessionNo) (n : NodeNo)
+        → AreNodes nodes → IsLegal nodes history → (outcome_in nodes (world_after nodes history) session (Join n)).0 ≡ Changed
+        → (mode_of (outcome_in nodes (world_after nodes history) session (Join n)).1 n ≡ Active)
+        × IsFalse (is_down (outcome_in nodes (world_after nodes history) session (Join n)).1 n)
+        × All (λ seat. seat.node ≢ n) (taken_seats (outcome_in nodes (world_after nodes history) session (Join n)).1) }
+{}
+
 /// Retire takes a node out of the store exactly where it is a draining one and no seat is on it. It is refused for its
-/// load exactly where it is a draining one and so many seats are on it.
+/// load exactly where it is a draining one and so many seats are on it, as unknown where the store has no such node, and as
+/// of the wrong mode where it has it and it is not draining. Where it is done, the node is Gone and no seat is on it.
 pub fn retired_nodes_are_empty()
     ensures done { (nodes : List NodeInfo) (past : List Entry) (st : State) (session : SessionNo) (n : NodeNo)
         → ((step nodes past st session (Retire n)).0 ≡ Changed)

@@ -192,7 +192,8 @@ impl Store {
     fn reply_if_empty(&self, node: NodeNo) -> Reply
         requires tied { IsTied self.now }
         requires known { IsSome (node_at self.now.topology node) }
-        ensures { (st : State) → IsOf st self.now → result ≡ (refuse_if (nat_lt 0 (load st node)) (refusal.NotEmpty (load st node)) st (Changed, st)).0 }
+        ensures { (st : State) → IsOf st self.now
+            → result ≡ (refuse_if (nat_lt 0 (load st node)) (refusal.NotEmpty (load st node)) st (Changed, st)).0 }
     {
         let load = self.table.load(node);
         if load > 0 {

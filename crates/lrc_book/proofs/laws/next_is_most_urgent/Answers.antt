@@ -1,4 +1,4 @@
-use Rattle.lrc_book.proofs.MostUrgentLemmas.{granted-urgent, urgent-leased}
+use Rattle.lrc_book.proofs.MostUrgentLemmas.{granted-urgent, urgent-leased, busy-granted}
 use Rattle.lrc_book.proofs.laws.next_is_most_urgent.Goals as goal
 
 pub returns-clause-told : goal.returns-clause-told
@@ -10,3 +10,6 @@ returns-clause-granted c = λ nodes past st session s f most. urgent-leased node
 pub returns-clause-leased : goal.returns-clause-leased
 returns-clause-leased c =
     λ nodes past st session l k told. urgent-leased nodes past st session l.stripe l.fragment (granted-urgent nodes past st session l k told)
+
+pub returns-clause-busy : goal.returns-clause-busy
+returns-clause-busy c = λ nodes past st session busy. busy-granted nodes past st session busy
