@@ -1,7 +1,9 @@
 -- What the checks of a bundle tell, from its parts, and what it is answered then.
-use Rattle.std.proofs.Common.{◌≡◌, ℕ, suc, ◌+◌, ◌<◌, ◌≤◌, All, List, [], ◌∷◌, ◌++◌, length, get_or, take, drop, sum_by, Option, Some, None, Result, Ok, Err, IfOk, Vec, Global, refl, sym, ap, subst, ◌∙◌, arith}
+use Rattle.std.proofs.Common.{◌*◌, ◌≡◌, ℕ, suc, ◌+◌, ◌<◌, ◌≤◌, All, List, [], ◌∷◌, ◌++◌, length, get_or, take, drop, sum_by, Option, Some, None, Result, Ok, Err, IfOk, Vec, Global, refl, sym, ap, subst, ◌∙◌, arith}
 use Rattle.std.specs.List.{AllZip}
 use Rattle.std.proofs.lemmas.Bool.{le-ltb}
+use Rattle.std.proofs.lemmas.List.Elements.{All-nil, All-cons, All-head, All-tail}
+use Rattle.std.proofs.lemmas.List.Sums.{sum_by-cons}
 use Rattle.std.proofs.lemmas.List.{take_more, drop_more, take-append-drop, length-map}
 use Rattle.lrc_topology.specs.declared.NodeInfo.{NodeInfo}
 use Rattle.lrc_topology.specs.Documents.{IsTopologyOf}
@@ -97,15 +99,26 @@ texts_commands (s ∷ ss) (t ∷ ts) [] held are all = absurd all
 texts_commands (s ∷ ss) (t ∷ ts) (l ∷ ls) held are all =
     ((IsScript-holds t.text.now s.lines l (text_holds s ss t are.0 held)).0 all.0, texts_commands ss ts ls (λ k d within. held (suc k) d (omega arith)) are.1 all.1)
 
--- one script has few commands
-few_in_one : (ts : List ScriptText) (vs : List (Vec Command Global)) → length vs ≤ 1 → AllZip IsTextScript ts (lists_of vs) → All (λ t. t.first_line + length t.text.now ≤ bundle_limit) ts → sum_by (λ v. length v.items) vs ≤ 1000000
-few_in_one ts [] few all within = omega arith
-few_in_one [] (v ∷ vs) few all within = absurd all
-few_in_one (t ∷ ts) (v ∷ []) few all within =
+-- a script has few commands
+abbrev HasFew : Vec Command Global → Type 0
+HasFew v = length v.items ≤ 1000000
+
+each_few : (ts : List ScriptText) (vs : List (Vec Command Global)) → AllZip IsTextScript ts (lists_of vs) → All (λ t. t.first_line + length t.text.now ≤ bundle_limit) ts → All HasFew vs
+each_few ts [] all within = All-nil HasFew
+each_few [] (v ∷ vs) all within = absurd all
+each_few (t ∷ ts) (v ∷ vs) all within =
     let short : t.first_line + length t.text.now ≤ bundle_limit = within 0 t (omega arith) in
     let bound = few_commands t.text.now v.items all.0 in
-    omega (arith, bound, short)
-few_in_one ts (v ∷ v' ∷ vs) few all within = absurd (omega (arith, few))
+    All-cons HasFew v vs (omega (arith, bound, short)) (each_few ts vs all.1 (λ k d below. within (suc k) d (omega arith)))
+
+-- and so have all together
+few_in_all : (vs : List (Vec Command Global)) → All HasFew vs → sum_by (λ v. length v.items) vs ≤ length vs * 1000000
+few_in_all [] all = omega arith
+few_in_all (v ∷ vs) all =
+    let one = sum_by-cons (λ (x : Vec Command Global). length x.items) v vs in
+    let few = All-head HasFew v vs all in
+    let more = few_in_all vs (All-tail HasFew v vs all) in
+    omega (arith, one, few, more)
 
 -- ---- the bundle
 
@@ -117,13 +130,15 @@ module _ (bundle : List ℕ) (nodes : List NodeInfo) (texts : List ScriptText) (
   pub judged_good : (scripts : List (Vec Command Global)) → All (λ t. t.first_line + length t.text.now ≤ length bundle) texts → AreParsed texts (lists_of scripts) → IsAccepted bundle nodes scripts
   judged_good scripts within parsed =
       let commands = texts_commands (scripts_of bundle) texts (lists_of scripts) (bundle_texts bundle) are parsed.commands in
-      let many : length scripts ≤ 1 = omega (arith, as_many_lists (scripts_of bundle) (lists_of scripts) commands, length-map scripts (λ (v : Vec Command Global). v.items), few) in
+      let many : length scripts ≤ script_limit = omega (arith, as_many_lists (scripts_of bundle) (lists_of scripts) commands, length-map scripts (λ (v : Vec Command Global). v.items), few) in
+      let each = each_few texts scripts parsed.commands (λ k d below. omega (arith, within k d below, short)) in
+      let all = few_in_all scripts each in
       record {
         early = not_refused bundle short few;
         read = read;
         no_bad = texts_bad (scripts_of bundle) texts (bundle_texts bundle) are ∙ parsed.no_bad;
         commands = commands;
-        few = record { scripts_few = many; commands_few = few_in_one texts scripts many parsed.commands (λ k d below. omega (arith, within k d below, short)) };
+        few = record { scripts_few = many; each_few = each; commands_few = omega (arith, many, all) };
       }
 
   pub judged_bad : (line line' : ℕ) (cause cause' : Cause) (text : List ℕ) (status : Status) → first_bad_in texts ≡ Some (record { line = line; cause = cause })

@@ -106,7 +106,7 @@ fn perform(rt: &HostRuntime) -> Result<Status, Stop> {
         Request::Run => {
             let mut source = Plain::new(rt.reader());
             let mut sink = Plain::new(io::writer(rt));
-            Ok(run(alloc, &mut source, &mut sink)?)
+            Ok(run(rt, alloc, &mut source, &mut sink)?)
         }
         Request::Check => {
             let mut source = Plain::new(rt.reader());
