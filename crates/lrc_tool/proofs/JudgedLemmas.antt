@@ -1,5 +1,6 @@
 -- What the checks of a bundle tell, from its parts, and what it is answered then.
-use Rattle.std.proofs.Common.{◌*◌, ◌≡◌, ℕ, suc, ◌+◌, ◌<◌, ◌≤◌, All, List, [], ◌∷◌, ◌++◌, length, get_or, take, drop, sum_by, Option, Some, None, Result, Ok, Err, IfOk, Vec, Global, refl, sym, ap, subst, ◌∙◌, arith}
+use Rattle.std.proofs.Common.{Bool, true, false, if◌then◌else◌, nat_lt, ◌*◌, ◌≡◌, ℕ, suc, ◌+◌, ◌<◌, ◌≤◌, All, List, [], ◌∷◌, ◌++◌, length, get_or, take, drop, sum_by, Option, Some, None, Result, Ok, Err, IfOk, Vec, Global, refl, sym, ap, subst, ◌∙◌, arith}
+use borrow.Author.Tests.{ltb-false}
 use Rattle.std.specs.List.{AllZip}
 use Rattle.std.proofs.lemmas.Bool.{le-ltb}
 use Rattle.std.proofs.lemmas.List.Elements.{All-nil, All-cons, All-head, All-tail}
@@ -23,7 +24,7 @@ use Rattle.lrc_tool.specs.Limits.{bundle_limit, script_limit}
 use Rattle.lrc_tool.specs.Texts.{bad_line_text}
 use Rattle.lrc_tool.specs.Outputs.{early_refusal, first_bad_of, AreCommandsOf, Answer, IsAnsweredUnless, IsAnsweredOver, IsAnswered}
 use Rattle.lrc_tool.proofs.CommandLemmas.{as_many_lists}
-use Rattle.lrc_tool.specs.Judged.{lists_of, first_bad_in, AreParsed, NoAnswer, IsRefusal, IsAccepted}
+use Rattle.lrc_tool.specs.Judged.{lists_of, first_bad_in, AreParsed, NoAnswer, IsRefusal, IsAccepted, HasSeveral}
 
 -- two facts of a value that there is
 pub IfOk-both : {X E : Type 0} (r : Result X E) (P Q R : X → Type 0) → ((x : X) → P x → Q x → R x) → IfOk r P → IfOk r Q → IfOk r R
@@ -160,3 +161,21 @@ pub good_to_any : (answer : Answer) (bundle text : List ℕ) (status : Status) (
     → answer nodes (scripts_of bundle) text → status ≡ ended.Done → IsAnswered answer bundle text status
 good_to_any answer bundle text status nodes scripts good h end =
     subst (λ (o : Option (List ℕ)). IsAnsweredUnless answer o bundle text status) (sym good.early) (Ok nodes, good.read, after_good answer nodes (scripts_of bundle) _ text status good.no_bad h end)
+
+-- as many scripts are read as there are
+lists_many : {Z : Type 0} (scripts : List Script) (lists : List (Vec Command Z)) → AreCommandsOf scripts (lists_of lists) → length lists ≡ length scripts
+lists_many {Z} scripts lists are = sym (length-map lists (λ (v : Vec Command Z). v.items)) ∙ as_many_lists scripts (lists_of lists) are
+
+pub few_lists : {Z : Type 0} (scripts : List Script) (lists : List (Vec Command Z)) → AreCommandsOf scripts (lists_of lists) → length scripts ≤ 1 → length lists ≤ 1
+few_lists scripts lists are few = subst (λ n. n ≤ 1) (sym (lists_many scripts lists are)) few
+
+-- an accepted bundle is not too long
+not_long : (long many : Bool) (first second : List ℕ) → (if long then Some first else (if many then Some second else None)) ≡ None → long ≡ false
+not_long true many first second e = absurd (cc)
+not_long false many first second e = refl
+
+pub several_accepted : {Z : Type 0} (bundle : List ℕ) (nodes : List NodeInfo) (lists : List (Vec Command Z)) → IsAccepted bundle nodes lists → 1 < length lists → HasSeveral bundle
+several_accepted bundle nodes lists good several = record {
+  short = ltb-false bundle_limit (length bundle) (not_long (nat_lt bundle_limit (length bundle)) (nat_lt script_limit (length (scripts_of bundle))) _ _ good.early);
+  several = subst (λ n. 1 < n) (lists_many (scripts_of bundle) lists good.commands) several;
+}

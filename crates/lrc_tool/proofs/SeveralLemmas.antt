@@ -1,7 +1,10 @@
 -- Sessions that ran their scripts are still those that were opened.
-use Rattle.std.proofs.Common.{◌≡◌, ℕ, zero, suc, ◌+◌, ◌<◌, ◌≤◌, ◌==◌, nat_le, List, [], ◌∷◌, ◌++◌, length, get_or, Vec, refl, sym, ap, ◌∙◌, arith}
+use Rattle.std.proofs.Common.{◌≡◌, ℕ, zero, suc, ◌+◌, ◌<◌, ◌≤◌, ◌==◌, nat_le, List, [], ◌∷◌, ◌++◌, length, get_or, Vec, Global, Result, Ok, Err, IfOk, IfErr, refl, sym, ap, subst, ◌∙◌, arith}
 use Rattle.std.proofs.lemmas.List.Sums.{sum_by-append, sum_by-cons}
 use Rattle.std.proofs.lemmas.Bool.Decides.{nat_tests}
+use Rattle.std.proofs.lemmas.List.FromFn.{length-map-range_with_len}
+use Rattle.lrc_code.specs.declared.fault.Fault.{Fault}
+use Rattle.lrc_code.specs.declared.fault.Fault.TheVariants as fault
 use Rattle.lrc_book.specs.declared.command.Command.{Command}
 use Rattle.lrc_sessions.specs.declared.track.Track.{Track}
 use Rattle.lrc_sessions.specs.Views.{SessionView, fresh}
@@ -28,15 +31,18 @@ last b = record { number = b + 1; made = 0 }
 none_below : (k : ℕ) → 1 ≤ k → 0 ≡ only (nat_le k 0) 1
 none_below k low = grind (arith, nat_tests)
 
-one_more : (k b : ℕ) → 1 ≤ k → only (nat_le k b) 1 + only (b + 1 == k) 1 ≡ only (nat_le k (b + 1)) 1
+one_more : (k b : ℕ) → 1 ≤ k → only (nat_le k b) 1 + (0 + only (b + 1 == k) 1) ≡ only (nat_le k (b + 1)) 1
 one_more k b low = grind (arith, nat_tests)
+
+fresh_next : (k b : ℕ) → 1 ≤ k → times k (fresh b) ≡ only (nat_le k b) 1 → times k (fresh (b + 1)) ≡ only (nat_le k (b + 1)) 1
+fresh_next k b low so_far =
+    sym (ap (times k) (fresh_push b (fresh b) (last b) refl refl))
+    ∙ sum_by-append (λ (x : SessionView). only (x.number == k) 1) (fresh b) (last b ∷ [])
+    ∙ ap (λ n. n + (0 + only (b + 1 == k) 1)) so_far ∙ one_more k b low
 
 fresh_times : (k b : ℕ) → 1 ≤ k → times k (fresh b) ≡ only (nat_le k b) 1
 fresh_times k zero low = none_below k low
-fresh_times k (suc b) low =
-    sym (ap (times k) (fresh_push b (fresh b) (last b) refl refl))
-    ∙ sum_by-append (λ (x : SessionView). only (x.number == k) 1) (fresh b) (last b ∷ [])
-    ∙ ap (λ n. n + only (b + 1 == k) 1) (fresh_times k b low) ∙ one_more k b low
+fresh_times k (suc b) low = let next : b + 1 ≡ suc b = omega arith in subst (λ n. times k (fresh n) ≡ only (nat_le k n) 1) next (fresh_next k b low (fresh_times k b low))
 
 -- sessions that were just opened are all
 all_fresh : (count : ℕ) → AreAll count (fresh count)
@@ -54,3 +60,13 @@ all_ran count may_stop scripts before after tracks is len ran k low high =
     let below : i < length scripts = omega (arith, within, ran.0) in
     (ran.2 i (some_of scripts i below) b a (some_of tracks i (omega (arith, below, ran.1))) below).0)
     ∙ all_opened count before is k low high
+
+pub length_fresh : (count : ℕ) → length (fresh count) ≡ count
+length_fresh count = length-map-range_with_len (λ (k : ℕ). record { number = k; made = 0 }) 1 count
+
+-- whether they ran them or had no room to
+pub all_left : {Z : Type 0} (count : ℕ) (may_stop : Type 0) (scripts : List (Vec Command Z)) (before after : Vec SessionView Global) (ran : Result (Vec Track Global) Fault)
+    → before.items ≡ fresh count → length before.items ≡ length scripts
+    → IfOk ran (λ tracks. AreRun may_stop scripts before.items after.items tracks.items) → IfErr ran (λ e. (e ≡ fault.OutOfMemory) × (after ≡ before)) → AreAll count after.items
+all_left count may_stop scripts before after (Ok tracks) is len ok err = all_ran count may_stop scripts before.items after.items tracks.items is len ok
+all_left count may_stop scripts before after (Err e) is len ok err = all_opened count after.items (ap (λ v. v.items) err.1 ∙ is)

@@ -74,7 +74,7 @@ fn a_check_refuses_what_a_run_refuses(rt: HostRuntime) -> Result<(), Fail> {
         expect_line(&rt, alloc, bundle.as_bytes(), line, status)?;
     }
     let topologies = [
-        ("%\nx\n%%\n%%\n%%\n%%\n%%\n%%\n%%\n%%\n", "bundle 2\n"),
+        ("%%\nx\n%%\n%%\n%%\n%%\n%%\n%%\n%%\n%%\n", "bundle 2\n"),
         ("%%\nx\n", "topology 2\n"),
         ("[[node]]\nnumber = \n%%\nx\n", "topology 1\n"),
         ("[[node]]\nnumber = 0\n", "topology 3 0\n"),
