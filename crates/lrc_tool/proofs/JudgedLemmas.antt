@@ -1,5 +1,5 @@
 -- What the checks of a bundle tell, from its parts, and what it is answered then.
-use Rattle.std.proofs.Common.{Bool, true, false, if◌then◌else◌, nat_lt, ◌*◌, ◌≡◌, ℕ, suc, ◌+◌, ◌<◌, ◌≤◌, All, List, [], ◌∷◌, ◌++◌, length, get_or, take, drop, sum_by, Option, Some, None, Result, Ok, Err, IfOk, Vec, Global, refl, sym, ap, subst, ◌∙◌, arith}
+use Rattle.std.proofs.Common.{◌⊎◌, inl, inr, Bool, true, false, if◌then◌else◌, nat_lt, ◌*◌, ◌≡◌, ℕ, suc, ◌+◌, ◌<◌, ◌≤◌, All, List, [], ◌∷◌, ◌++◌, length, get_or, take, drop, sum_by, Option, Some, None, Result, Ok, Err, IfOk, Vec, Global, refl, sym, ap, subst, ◌∙◌, arith}
 use borrow.Author.Tests.{ltb-false}
 use Rattle.std.specs.List.{AllZip}
 use Rattle.std.proofs.lemmas.Bool.{le-ltb}
@@ -179,3 +179,8 @@ several_accepted bundle nodes lists good several = record {
   short = ltb-false bundle_limit (length bundle) (not_long (nat_lt bundle_limit (length bundle)) (nat_lt script_limit (length (scripts_of bundle))) _ _ good.early);
   several = subst (λ n. 1 < n) (lists_many (scripts_of bundle) lists good.commands) several;
 }
+
+pub several_or : {Z : Type 0} (A B : Type 0) (bundle : List ℕ) (nodes : List NodeInfo) (lists : List (Vec Command Z)) → IsAccepted bundle nodes lists
+    → A ⊎ (B × (1 < length lists)) → A ⊎ (B × HasSeveral bundle)
+several_or A B bundle nodes lists good (inl a) = inl a
+several_or A B bundle nodes lists good (inr b) = inr (b.0, several_accepted bundle nodes lists good b.1)
