@@ -48,11 +48,17 @@ __attribute__((destructor)) static void end(void) {
   if (file >= 0) syscall(SYS_write, file, text, length), close(file);
 }
 
+// A program that may start threads ends so, and no destructor is called then.
+void _exit(int status) {
+  end();
+  for (;;) syscall(SYS_exit_group, status);
+}
+
 // What the program asks for before its own start, by the C library alone, is neither counted nor refused.
 static int is_refused(void) {
   if (!is_ready) return 0;
-  requests += 1;
-  if (requests != refuse && (!refuse_from || requests < refuse_from)) return 0;
+  unsigned long nth = __atomic_add_fetch(&requests, 1, __ATOMIC_SEQ_CST);
+  if (nth != refuse && (!refuse_from || nth < refuse_from)) return 0;
   errno = ENOMEM;
   return 1;
 }

@@ -1,6 +1,5 @@
 -- Each bundle has an answer, and only one.
-use Rattle.std.proofs.Common.{◌≡◌, ◌≢◌, ℕ, ◌≤◌, ◌↔◌, inl, inr, Bool, true, false, if◌then◌else◌, nat_lt, List, length, Option, Some, None, Result, Ok, Err, refl, sym, ap, subst, ◌∙◌}
-use borrow.Author.Tests.{ltb-false}
+use Rattle.std.proofs.Common.{[], ◌∷◌, arith, ◌≡◌, ◌≢◌, ℕ, ◌≤◌, ◌↔◌, inl, inr, List, length, Option, Some, None, Result, Ok, Err, refl, sym, ap, subst, ◌∙◌}
 use Rattle.lrc_topology.specs.declared.NodeInfo.{NodeInfo}
 use Rattle.lrc_topology.specs.declared.error.TopologyError.{TopologyError}
 use Rattle.lrc_topology.proofs.AnswerLemmas.{one_topology, topology_or_refusal, one_refusal}
@@ -10,22 +9,13 @@ use Rattle.lrc_script.specs.Scripts.{BadLine}
 use Rattle.lrc_script.specs.Bundles.{Script, scripts_of, topology_of}
 use Rattle.lrc_tool.specs.declared.status.Status.{Status}
 use Rattle.lrc_tool.specs.declared.status.Status.TheVariants as ended
-use Rattle.lrc_tool.specs.Limits.{bundle_limit, script_limit}
 use Rattle.lrc_tool.specs.Texts.{topology_line, bad_line_text}
-use Rattle.lrc_tool.specs.Outputs.{early_refusal, Reads, first_bad_of, Answer, IsAnsweredOver, IsAnsweredAfter, IsAnsweredUnless, IsAnswered, IsPlayed, ArePlayed, IsOutput}
+use Rattle.lrc_tool.specs.Outputs.{early_refusal, Reads, first_bad_of, Answer, IsAnsweredOver, IsAnsweredAfter, IsAnsweredUnless, IsAnswered, AreCommandsOf, IsPlayed, ArePlayed, ArePrinted, IsOutput}
 use Rattle.lrc_tool.specs.Checks.{counted_line, AreCounted, IsCheck}
 use Rattle.lrc_tool.proofs.CommandLemmas.{as_many_lists, same_lists, some_lists}
 use Rattle.lrc_tool.proofs.HistoryLemmas.{same_play, some_play}
 
--- ---- bundles that are not refused early
-
-neither : (long many : Bool) (first second : List ℕ) → (if long then Some first else (if many then Some second else None)) ≡ None → many ≡ false
-neither true many first second e = absurd (cc)
-neither false true first second e = absurd (cc)
-neither false false first second e = refl
-
-few_scripts : (bundle : List ℕ) → early_refusal bundle ≡ None → length (scripts_of bundle) ≤ script_limit
-few_scripts bundle early = ltb-false script_limit (length (scripts_of bundle)) (neither (nat_lt bundle_limit (length bundle)) (nat_lt script_limit (length (scripts_of bundle))) _ _ early)
+-- ---- outcomes
 
 some_outcome : (text : List ℕ) → (outcome : Result (List NodeInfo) TopologyError) × Reads text outcome
 some_outcome text = elim (each_text_is_told text) [ inl accepted ↦ (Ok accepted.0, accepted.1) | inr refused ↦ (Err refused.0, (refused.1, refused.2)) ]
@@ -38,76 +28,81 @@ same_outcome text (Ok ns) (Err e) h k = absurd (k.0 (topology_or_refusal text ns
 same_outcome text (Err e) (Ok ns) h k = absurd (h.0 (topology_or_refusal text ns e k h.1))
 same_outcome text (Err e) (Err f) h k = ap Err (one_refusal text e f h.0 k.0 h.1 k.1)
 
--- nodes and not too many scripts have one answer
-abbrev IsOneAnswer : Answer → Type 0
-IsOneAnswer answer = (nodes : List NodeInfo) (scripts : List Script) (t u : List ℕ) → length scripts ≤ script_limit → answer nodes scripts t → answer nodes scripts u → t ≡ u
+-- nodes and at most so many scripts have one answer
+abbrev IsOneAnswer : ℕ → Answer → Type 0
+IsOneAnswer most answer = (nodes : List NodeInfo) (scripts : List Script) (t u : List ℕ) → length scripts ≤ most → answer nodes scripts t → answer nodes scripts u → t ≡ u
 
-module _ (answer : Answer) (one : IsOneAnswer answer) where
-  over_one : (nodes : List NodeInfo) (scripts : List Script) (found : Option BadLine) (t u : List ℕ) (s r : Status) → length scripts ≤ script_limit → IsAnsweredOver answer nodes scripts found t s
+module _ (answer : Answer) (most : ℕ) (one : IsOneAnswer most answer) where
+  over_one : (nodes : List NodeInfo) (scripts : List Script) (found : Option BadLine) (t u : List ℕ) (s r : Status) → length scripts ≤ most → IsAnsweredOver answer nodes scripts found t s
       → IsAnsweredOver answer nodes scripts found u r → (t ≡ u) × (s ≡ r)
   over_one nodes scripts (Some bad) t u s r few h k = (h.0 ∙ sym k.0, h.1 ∙ sym k.1)
   over_one nodes scripts None t u s r few h k = (one nodes scripts t u few h.0 k.0, h.1 ∙ sym k.1)
 
-  after_one : (o : Result (List NodeInfo) TopologyError) (scripts : List Script) (t u : List ℕ) (s r : Status) → length scripts ≤ script_limit → IsAnsweredAfter answer o scripts t s
+  after_one : (o : Result (List NodeInfo) TopologyError) (scripts : List Script) (t u : List ℕ) (s r : Status) → length scripts ≤ most → IsAnsweredAfter answer o scripts t s
       → IsAnsweredAfter answer o scripts u r → (t ≡ u) × (s ≡ r)
   after_one (Err e) scripts t u s r few h k = (h.0 ∙ sym k.0, h.1 ∙ sym k.1)
   after_one (Ok nodes) scripts t u s r few h k = over_one nodes scripts (first_bad_of scripts) t u s r few h k
 
-  unless_one : (early : Option (List ℕ)) (bundle t u : List ℕ) (s r : Status) → early_refusal bundle ≡ early → IsAnsweredUnless answer early bundle t s → IsAnsweredUnless answer early bundle u r
+  unless_one : (early : Option (List ℕ)) (bundle t u : List ℕ) (s r : Status) → length (scripts_of bundle) ≤ most → IsAnsweredUnless answer early bundle t s → IsAnsweredUnless answer early bundle u r
       → (t ≡ u) × (s ≡ r)
-  unless_one (Some line) bundle t u s r is h k = (h.0 ∙ sym k.0, h.1 ∙ sym k.1)
-  unless_one None bundle t u s r is (o, read, h) (p, read', k) =
-      after_one p (scripts_of bundle) t u s r (few_scripts bundle is)
+  unless_one (Some line) bundle t u s r few h k = (h.0 ∙ sym k.0, h.1 ∙ sym k.1)
+  unless_one None bundle t u s r few (o, read, h) (p, read', k) =
+      after_one p (scripts_of bundle) t u s r few
       (subst (λ (x : Result (List NodeInfo) TopologyError). IsAnsweredAfter answer x (scripts_of bundle) t s) (same_outcome (topology_of bundle) o p read read') h) k
 
-  one_answer : (bundle t u : List ℕ) (s r : Status) → IsAnswered answer bundle t s → IsAnswered answer bundle u r → (t ≡ u) × (s ≡ r)
-  one_answer bundle t u s r h k = unless_one (early_refusal bundle) bundle t u s r refl h k
+  one_answer : (bundle t u : List ℕ) (s r : Status) → length (scripts_of bundle) ≤ most → IsAnswered answer bundle t s → IsAnswered answer bundle u r → (t ≡ u) × (s ≡ r)
+  one_answer bundle t u s r few h k = unless_one (early_refusal bundle) bundle t u s r few h k
 
-one_play : IsOneAnswer ArePlayed
-one_play nodes scripts t u few (lists, are, p) (others, too, q) =
+same_printed : (nodes : List NodeInfo) (scripts : List Script) (t u : List ℕ) → length scripts ≤ 1 → ArePlayed nodes scripts t → ArePlayed nodes scripts u → t ≡ u
+same_printed nodes scripts t u few (lists, are, p) (others, too, q) =
     let same = same_lists scripts lists others are too in
-    same_play nodes others t u (subst (λ n. n ≤ script_limit) (sym (as_many_lists scripts others too)) few) (subst (λ (ls : List (List Command)). IsPlayed nodes ls t) same p) q
+    same_play nodes others t u (subst (λ n. n ≤ 1) (sym (as_many_lists scripts others too)) few) (subst (λ (ls : List (List Command)). IsPlayed nodes ls t) same p) q
 
-pub one_output : (bundle text other : List ℕ) (status another : Status) → IsOutput bundle text status → IsOutput bundle other another → (text ≡ other) × (status ≡ another)
-one_output = one_answer ArePlayed one_play
+one_play : IsOneAnswer 1 ArePrinted
+one_play nodes scripts t u few p q = same_printed nodes scripts t u few (p few) (q few)
+
+pub one_output : (bundle text other : List ℕ) (status another : Status) → length (scripts_of bundle) ≤ 1 → IsOutput bundle text status → IsOutput bundle other another → (text ≡ other) × (status ≡ another)
+one_output = one_answer ArePrinted 1 one_play
 
 pub one_check : (bundle text other : List ℕ) (status another : Status) → IsCheck bundle text status → IsCheck bundle other another → (text ≡ other) × (status ≡ another)
-one_check = one_answer AreCounted (λ nodes scripts t u few h k. h ∙ sym k)
+one_check bundle text other status another = one_answer AreCounted (length (scripts_of bundle)) (λ nodes scripts t u few h k. h ∙ sym k) bundle text other status another (omega arith)
 
 -- ---- some answer
 
--- nodes and not too many scripts without a bad line have an answer
+-- nodes and scripts without a bad line have an answer
 abbrev IsSomeAnswer : Answer → Type 0
-IsSomeAnswer answer = (nodes : List NodeInfo) (scripts : List Script) → length scripts ≤ script_limit → first_bad_of scripts ≡ None → (text : List ℕ) × answer nodes scripts text
+IsSomeAnswer answer = (nodes : List NodeInfo) (scripts : List Script) → first_bad_of scripts ≡ None → (text : List ℕ) × answer nodes scripts text
 
 module _ (answer : Answer) (some : IsSomeAnswer answer) where
-  over_some : (nodes : List NodeInfo) (scripts : List Script) (found : Option BadLine) → length scripts ≤ script_limit → first_bad_of scripts ≡ found
+  over_some : (nodes : List NodeInfo) (scripts : List Script) (found : Option BadLine) → first_bad_of scripts ≡ found
       → (text : List ℕ) × (status : Status) × IsAnsweredOver answer nodes scripts found text status
-  over_some nodes scripts (Some bad) few is = (bad_line_text bad, ended.BadLine, (refl, refl))
-  over_some nodes scripts None few is = let one = some nodes scripts few is in (one.0, ended.Done, (one.1, refl))
+  over_some nodes scripts (Some bad) is = (bad_line_text bad, ended.BadLine, (refl, refl))
+  over_some nodes scripts None is = let one = some nodes scripts is in (one.0, ended.Done, (one.1, refl))
 
-  after_some : (o : Result (List NodeInfo) TopologyError) (scripts : List Script) → length scripts ≤ script_limit → (text : List ℕ) × (status : Status) × IsAnsweredAfter answer o scripts text status
-  after_some (Err e) scripts few = (topology_line e, ended.Refused, (refl, refl))
-  after_some (Ok nodes) scripts few = over_some nodes scripts (first_bad_of scripts) few refl
+  after_some : (o : Result (List NodeInfo) TopologyError) (scripts : List Script) → (text : List ℕ) × (status : Status) × IsAnsweredAfter answer o scripts text status
+  after_some (Err e) scripts = (topology_line e, ended.Refused, (refl, refl))
+  after_some (Ok nodes) scripts = over_some nodes scripts (first_bad_of scripts) refl
 
-  unless_some : (early : Option (List ℕ)) (bundle : List ℕ) → early_refusal bundle ≡ early → (text : List ℕ) × (status : Status) × IsAnsweredUnless answer early bundle text status
-  unless_some (Some line) bundle is = (line, ended.Refused, (refl, refl))
-  unless_some None bundle is =
+  unless_some : (early : Option (List ℕ)) (bundle : List ℕ) → (text : List ℕ) × (status : Status) × IsAnsweredUnless answer early bundle text status
+  unless_some (Some line) bundle = (line, ended.Refused, (refl, refl))
+  unless_some None bundle =
       let read = some_outcome (topology_of bundle) in
-      let one = after_some read.0 (scripts_of bundle) (few_scripts bundle is) in
+      let one = after_some read.0 (scripts_of bundle) in
       (one.0, one.1, (read.0, read.1, one.2))
 
   some_answer : (bundle : List ℕ) → (text : List ℕ) × (status : Status) × IsAnswered answer bundle text status
-  some_answer bundle = unless_some (early_refusal bundle) bundle refl
+  some_answer bundle = unless_some (early_refusal bundle) bundle
+
+some_printed : (nodes : List NodeInfo) (scripts : List Script) (lists : List (List Command)) → AreCommandsOf scripts lists → (text : List ℕ) × ArePrinted nodes scripts text
+some_printed nodes scripts [] are = let one = some_play nodes [] (omega arith) in (one.0, λ _. ([], are, one.1))
+some_printed nodes scripts (c ∷ []) are = let one = some_play nodes (c ∷ []) (omega arith) in (one.0, λ _. (c ∷ [], are, one.1))
+some_printed nodes scripts (c ∷ d ∷ more) are = let many = as_many_lists scripts (c ∷ d ∷ more) are in ([], λ few. absurd (omega (arith, few, many)))
 
 pub some_output : (bundle : List ℕ) → (text : List ℕ) × (status : Status) × IsOutput bundle text status
-some_output = some_answer ArePlayed (λ nodes scripts few good.
-    let made = some_lists scripts good in
-    let one = some_play nodes made.0 (subst (λ n. n ≤ script_limit) (sym (as_many_lists scripts made.0 made.1)) few) in
-    (one.0, (made.0, made.1, one.1)))
+some_output = some_answer ArePrinted (λ nodes scripts good. let made = some_lists scripts good in some_printed nodes scripts made.0 made.1)
 
 pub some_check : (bundle : List ℕ) → (text : List ℕ) × (status : Status) × IsCheck bundle text status
-some_check = some_answer AreCounted (λ nodes scripts few good. (counted_line (length nodes) scripts, refl))
+some_check = some_answer AreCounted (λ nodes scripts good. (counted_line (length nodes) scripts, refl))
 
 -- ---- refusals
 
@@ -126,4 +121,4 @@ module _ (a b : Answer) (status : Status) (refused : status ≢ ended.Done) wher
 
 pub refused_alike : (bundle text : List ℕ) (status : Status) → status ≢ ended.Done → IsCheck bundle text status ↔ IsOutput bundle text status
 refused_alike bundle text status refused =
-    (unless_other AreCounted ArePlayed status refused (early_refusal bundle) bundle text, unless_other ArePlayed AreCounted status refused (early_refusal bundle) bundle text)
+    (unless_other AreCounted ArePrinted status refused (early_refusal bundle) bundle text, unless_other ArePrinted AreCounted status refused (early_refusal bundle) bundle text)

@@ -9,7 +9,6 @@ use Rattle.lrc_book.specs.declared.entry.Entry.{Entry}
 use Rattle.lrc_book.specs.declared.reply.Reply.{Reply}
 use Rattle.lrc_book.specs.Histories.{World, first_world, outcome_in, next_world, state_after, IsLegalFrom}
 use Rattle.lrc_book.specs.Sessions.{commands_of, commands_of_each}
-use Rattle.lrc_tool.specs.Limits.{script_limit}
 use Rattle.lrc_tool.specs.Tables.{tables_text}
 use Rattle.lrc_tool.specs.Texts.{script_text, output_text}
 use Rattle.lrc_tool.specs.Outputs.{IsPlayed}
@@ -46,13 +45,13 @@ same_history nodes w (x ∷ h) (y ∷ g) p q e a b =
     let more = same_history nodes (next_world nodes w y) h g after q.1 rest (All-tail IsFirst x h a) (All-tail IsFirst y g b) in
     cc
 
-module _ (scripts : List (List Command)) (few : length scripts ≤ script_limit) (h : List Entry) (within : All (λ e. e.session.value ≤ length scripts) h) where
+module _ (scripts : List (List Command)) (few : length scripts ≤ 1) (h : List Entry) (within : All (λ e. e.session.value ≤ length scripts) h) where
   -- with one script at most all entries are of session 1
   all_first : All IsFirst h
   all_first k d below = let range = (get_or h k d).session.in_range in omega (arith, range.0, within k d below, few)
 
 -- and their commands are those of the script, if there is one
-all_made : (scripts : List (List Command)) → length scripts ≤ script_limit → (h : List Entry) → All (λ e. e.session.value ≤ length scripts) h → commands_of_each (length scripts) h ≡ scripts
+all_made : (scripts : List (List Command)) → length scripts ≤ 1 → (h : List Entry) → All (λ e. e.session.value ≤ length scripts) h → commands_of_each (length scripts) h ≡ scripts
     → map (λ e. e.command) h ≡ flat_map (λ commands. commands) scripts
 all_made [] few [] within made = refl
 all_made [] few (e ∷ h) within made = let range = e.session.in_range in absurd (omega (arith, range.0, All-head (λ x. x.session.value ≤ 0) e h within))
@@ -61,7 +60,7 @@ all_made (commands ∷ []) few h within made =
     sym (commands_alone h (all_first (commands ∷ []) few h within)) ∙ only ∙ sym (append-nil commands)
 all_made (commands ∷ others ∷ more) few h within made = absurd (omega (arith, few))
 
-pub same_play : (nodes : List NodeInfo) (scripts : List (List Command)) (t u : List ℕ) → length scripts ≤ script_limit → IsPlayed nodes scripts t → IsPlayed nodes scripts u → t ≡ u
+pub same_play : (nodes : List NodeInfo) (scripts : List (List Command)) (t u : List ℕ) → length scripts ≤ 1 → IsPlayed nodes scripts t → IsPlayed nodes scripts u → t ≡ u
 same_play nodes scripts t u few p q =
     let made = all_made scripts few p.history p.alone p.made ∙ sym (all_made scripts few q.history q.alone q.made) in
     let same = same_history nodes first_world p.history q.history p.legal q.legal made (all_first scripts few p.history p.alone) (all_first scripts few q.history q.alone) in
@@ -91,7 +90,7 @@ module _ (nodes : List NodeInfo) where
   is_alone w (c ∷ cs) = let w' = next_world nodes w (next_entry w c) in All-cons IsFirst (next_entry w c) (history_of w' cs) refl (is_alone w' cs)
 
   -- the calls, with the tables of the state behind them
-  some_made : (scripts : List (List Command)) → length scripts ≤ script_limit → (history : List Entry) × (text : List ℕ) × AreMade nodes scripts history text
+  some_made : (scripts : List (List Command)) → length scripts ≤ 1 → (history : List Entry) × (text : List ℕ) × AreMade nodes scripts history text
   some_made [] few = ([], [], none_made nodes)
   some_made (commands ∷ []) few =
       let h = history_of first_world commands in
@@ -99,7 +98,7 @@ module _ (nodes : List NodeInfo) where
       (h, script_text h 1, one_made nodes commands h (script_text h 1) by)
   some_made (commands ∷ others ∷ more) few = absurd (omega (arith, few))
 
-  pub some_play : (scripts : List (List Command)) → length scripts ≤ script_limit → (text : List ℕ) × IsPlayed nodes scripts text
+  pub some_play : (scripts : List (List Command)) → length scripts ≤ 1 → (text : List ℕ) × IsPlayed nodes scripts text
   some_play scripts few =
       let (h, text, made) = some_made scripts few in
       let whole = text ++ tables_text nodes (state_after nodes h) in

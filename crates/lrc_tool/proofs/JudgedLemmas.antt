@@ -1,7 +1,10 @@
 -- What the checks of a bundle tell, from its parts, and what it is answered then.
-use Rattle.std.proofs.Common.{◌≡◌, ℕ, suc, ◌+◌, ◌<◌, ◌≤◌, All, List, [], ◌∷◌, ◌++◌, length, get_or, take, drop, sum_by, Option, Some, None, Result, Ok, Err, IfOk, Vec, Global, refl, sym, ap, subst, ◌∙◌, arith}
+use Rattle.std.proofs.Common.{◌⊎◌, inl, inr, Bool, true, false, if◌then◌else◌, nat_lt, ◌*◌, ◌≡◌, ℕ, suc, ◌+◌, ◌<◌, ◌≤◌, All, List, [], ◌∷◌, ◌++◌, length, get_or, take, drop, sum_by, Option, Some, None, Result, Ok, Err, IfOk, Vec, Global, refl, sym, ap, subst, ◌∙◌, arith}
+use borrow.Author.Tests.{ltb-false}
 use Rattle.std.specs.List.{AllZip}
 use Rattle.std.proofs.lemmas.Bool.{le-ltb}
+use Rattle.std.proofs.lemmas.List.Elements.{All-nil, All-cons, All-head, All-tail}
+use Rattle.std.proofs.lemmas.List.Sums.{sum_by-cons}
 use Rattle.std.proofs.lemmas.List.{take_more, drop_more, take-append-drop, length-map}
 use Rattle.lrc_topology.specs.declared.NodeInfo.{NodeInfo}
 use Rattle.lrc_topology.specs.Documents.{IsTopologyOf}
@@ -21,7 +24,7 @@ use Rattle.lrc_tool.specs.Limits.{bundle_limit, script_limit}
 use Rattle.lrc_tool.specs.Texts.{bad_line_text}
 use Rattle.lrc_tool.specs.Outputs.{early_refusal, first_bad_of, AreCommandsOf, Answer, IsAnsweredUnless, IsAnsweredOver, IsAnswered}
 use Rattle.lrc_tool.proofs.CommandLemmas.{as_many_lists}
-use Rattle.lrc_tool.specs.Judged.{lists_of, first_bad_in, AreParsed, NoAnswer, IsRefusal, IsAccepted}
+use Rattle.lrc_tool.specs.Judged.{lists_of, first_bad_in, AreParsed, NoAnswer, IsRefusal, IsAccepted, HasSeveral}
 
 -- two facts of a value that there is
 pub IfOk-both : {X E : Type 0} (r : Result X E) (P Q R : X → Type 0) → ((x : X) → P x → Q x → R x) → IfOk r P → IfOk r Q → IfOk r R
@@ -97,15 +100,26 @@ texts_commands (s ∷ ss) (t ∷ ts) [] held are all = absurd all
 texts_commands (s ∷ ss) (t ∷ ts) (l ∷ ls) held are all =
     ((IsScript-holds t.text.now s.lines l (text_holds s ss t are.0 held)).0 all.0, texts_commands ss ts ls (λ k d within. held (suc k) d (omega arith)) are.1 all.1)
 
--- one script has few commands
-few_in_one : (ts : List ScriptText) (vs : List (Vec Command Global)) → length vs ≤ 1 → AllZip IsTextScript ts (lists_of vs) → All (λ t. t.first_line + length t.text.now ≤ bundle_limit) ts → sum_by (λ v. length v.items) vs ≤ 1000000
-few_in_one ts [] few all within = omega arith
-few_in_one [] (v ∷ vs) few all within = absurd all
-few_in_one (t ∷ ts) (v ∷ []) few all within =
+-- a script has few commands
+abbrev HasFew : Vec Command Global → Type 0
+HasFew v = length v.items ≤ 1000000
+
+each_few : (ts : List ScriptText) (vs : List (Vec Command Global)) → AllZip IsTextScript ts (lists_of vs) → All (λ t. t.first_line + length t.text.now ≤ bundle_limit) ts → All HasFew vs
+each_few ts [] all within = All-nil HasFew
+each_few [] (v ∷ vs) all within = absurd all
+each_few (t ∷ ts) (v ∷ vs) all within =
     let short : t.first_line + length t.text.now ≤ bundle_limit = within 0 t (omega arith) in
     let bound = few_commands t.text.now v.items all.0 in
-    omega (arith, bound, short)
-few_in_one ts (v ∷ v' ∷ vs) few all within = absurd (omega (arith, few))
+    All-cons HasFew v vs (omega (arith, bound, short)) (each_few ts vs all.1 (λ k d below. within (suc k) d (omega arith)))
+
+-- and so have all together
+few_in_all : (vs : List (Vec Command Global)) → All HasFew vs → sum_by (λ v. length v.items) vs ≤ length vs * 1000000
+few_in_all [] all = omega arith
+few_in_all (v ∷ vs) all =
+    let one = sum_by-cons (λ (x : Vec Command Global). length x.items) v vs in
+    let few = All-head HasFew v vs all in
+    let more = few_in_all vs (All-tail HasFew v vs all) in
+    omega (arith, one, few, more)
 
 -- ---- the bundle
 
@@ -117,13 +131,15 @@ module _ (bundle : List ℕ) (nodes : List NodeInfo) (texts : List ScriptText) (
   pub judged_good : (scripts : List (Vec Command Global)) → All (λ t. t.first_line + length t.text.now ≤ length bundle) texts → AreParsed texts (lists_of scripts) → IsAccepted bundle nodes scripts
   judged_good scripts within parsed =
       let commands = texts_commands (scripts_of bundle) texts (lists_of scripts) (bundle_texts bundle) are parsed.commands in
-      let many : length scripts ≤ 1 = omega (arith, as_many_lists (scripts_of bundle) (lists_of scripts) commands, length-map scripts (λ (v : Vec Command Global). v.items), few) in
+      let many : length scripts ≤ script_limit = omega (arith, as_many_lists (scripts_of bundle) (lists_of scripts) commands, length-map scripts (λ (v : Vec Command Global). v.items), few) in
+      let each = each_few texts scripts parsed.commands (λ k d below. omega (arith, within k d below, short)) in
+      let all = few_in_all scripts each in
       record {
         early = not_refused bundle short few;
         read = read;
         no_bad = texts_bad (scripts_of bundle) texts (bundle_texts bundle) are ∙ parsed.no_bad;
         commands = commands;
-        few = record { scripts_few = many; commands_few = few_in_one texts scripts many parsed.commands (λ k d below. omega (arith, within k d below, short)) };
+        few = record { scripts_few = many; each_few = each; commands_few = omega (arith, many, all) };
       }
 
   pub judged_bad : (line line' : ℕ) (cause cause' : Cause) (text : List ℕ) (status : Status) → first_bad_in texts ≡ Some (record { line = line; cause = cause })
@@ -145,3 +161,26 @@ pub good_to_any : (answer : Answer) (bundle text : List ℕ) (status : Status) (
     → answer nodes (scripts_of bundle) text → status ≡ ended.Done → IsAnswered answer bundle text status
 good_to_any answer bundle text status nodes scripts good h end =
     subst (λ (o : Option (List ℕ)). IsAnsweredUnless answer o bundle text status) (sym good.early) (Ok nodes, good.read, after_good answer nodes (scripts_of bundle) _ text status good.no_bad h end)
+
+-- as many scripts are read as there are
+lists_many : {Z : Type 0} (scripts : List Script) (lists : List (Vec Command Z)) → AreCommandsOf scripts (lists_of lists) → length lists ≡ length scripts
+lists_many {Z} scripts lists are = sym (length-map lists (λ (v : Vec Command Z). v.items)) ∙ as_many_lists scripts (lists_of lists) are
+
+pub few_lists : {Z : Type 0} (scripts : List Script) (lists : List (Vec Command Z)) → AreCommandsOf scripts (lists_of lists) → length scripts ≤ 1 → length lists ≤ 1
+few_lists scripts lists are few = subst (λ n. n ≤ 1) (sym (lists_many scripts lists are)) few
+
+-- an accepted bundle is not too long
+not_long : (long many : Bool) (first second : List ℕ) → (if long then Some first else (if many then Some second else None)) ≡ None → long ≡ false
+not_long true many first second e = absurd (cc)
+not_long false many first second e = refl
+
+pub several_accepted : {Z : Type 0} (bundle : List ℕ) (nodes : List NodeInfo) (lists : List (Vec Command Z)) → IsAccepted bundle nodes lists → 1 < length lists → HasSeveral bundle
+several_accepted bundle nodes lists good several = record {
+  short = ltb-false bundle_limit (length bundle) (not_long (nat_lt bundle_limit (length bundle)) (nat_lt script_limit (length (scripts_of bundle))) _ _ good.early);
+  several = subst (λ n. 1 < n) (lists_many (scripts_of bundle) lists good.commands) several;
+}
+
+pub several_or : {Z : Type 0} (A B : Type 0) (bundle : List ℕ) (nodes : List NodeInfo) (lists : List (Vec Command Z)) → IsAccepted bundle nodes lists
+    → A ⊎ (B × (1 < length lists)) → A ⊎ (B × HasSeveral bundle)
+several_or A B bundle nodes lists good (inl a) = inl a
+several_or A B bundle nodes lists good (inr b) = inr (b.0, several_accepted bundle nodes lists good b.1)

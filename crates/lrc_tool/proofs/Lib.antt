@@ -22,3 +22,4 @@ mod RowsOfHistories
 mod RowsOfSessions
 mod RowsOfTables
 pub mod MaskLemmas
+pub mod SeveralLemmas

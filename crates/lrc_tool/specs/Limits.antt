@@ -7,4 +7,4 @@ bundle_limit = 4194304
 
 -- the most scripts of a bundle
 abbrev pub script_limit : ℕ
-script_limit = 1
+script_limit = 8

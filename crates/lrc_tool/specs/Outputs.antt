@@ -94,14 +94,18 @@ AreCommandsOf scripts lists = AllZip (λ script commands. IsScript script.lines 
 abbrev pub ArePlayed : Answer
 ArePlayed nodes scripts text = (lists : List (List Command)) × AreCommandsOf scripts lists × IsPlayed nodes lists text
 
+-- what is written for nodes and scripts that pass all checks; of two scripts or more nothing is said but that they do
+abbrev pub ArePrinted : Answer
+ArePrinted nodes scripts text = length scripts ≤ 1 → ArePlayed nodes scripts text
+
 -- a run of this bundle writes this text and ends with this status
 abbrev pub IsOutput : List ℕ → List ℕ → Status → Type 0
-IsOutput bundle text status = IsAnswered ArePlayed bundle text status
+IsOutput bundle text status = IsAnswered ArePrinted bundle text status
 
 -- the output of this bundle was written, whole, behind what was written before
 abbrev pub WritesOutput : Option (List ℕ) → Option (List ℕ) → List ℕ → Status → Type 0
-WritesOutput old new bundle status = Writes ArePlayed old new bundle status
+WritesOutput old new bundle status = Writes ArePrinted old new bundle status
 
 -- a prefix of the output of this bundle was written behind what was written before
 abbrev pub WritesPartOfOutput : Option (List ℕ) → Option (List ℕ) → List ℕ → Type 0
-WritesPartOfOutput old new bundle = WritesPart ArePlayed old new bundle
+WritesPartOfOutput old new bundle = WritesPart ArePrinted old new bundle

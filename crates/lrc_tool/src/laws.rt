@@ -1,9 +1,9 @@
 //! Laws of the definitions, each the contract of a function that does nothing.
 
-ghost use Rattle.std.specs.Prelude.{◌≡◌, ◌≢◌, ◌↔◌, ℕ, List, length};
+ghost use Rattle.std.specs.Prelude.{◌≡◌, ◌≢◌, ◌↔◌, ◌≤◌, ℕ, List, length};
 ghost use Rattle.lrc_book.specs.declared.command.Command.{Command};
 ghost use Rattle.lrc_script.specs.Scripts.{IsScript};
-ghost use Rattle.lrc_script.specs.Bundles.{Script};
+ghost use Rattle.lrc_script.specs.Bundles.{Script, scripts_of};
 ghost use Rattle.lrc_tool.specs.declared.status.Status.{Status};
 ghost use Rattle.lrc_tool.specs.declared.status.Status.TheVariants.{Done};
 ghost use Rattle.lrc_tool.specs.Outputs.{IsOutput};
@@ -14,9 +14,9 @@ pub fn some_output()
     ensures { (bundle : List ℕ) → (text : List ℕ) × (status : Status) × IsOutput bundle text status }
 {}
 
-/// The output of a run is a function of its bundle: no other text and no other status fit it.
+/// The output of a run is a function of its bundle, where this has one script or none: no other text and no other status fit it.
 pub fn one_output()
-    ensures { (bundle text other : List ℕ) (status another : Status)
+    ensures { (bundle text other : List ℕ) (status another : Status) → length (scripts_of bundle) ≤ 1
         → IsOutput bundle text status → IsOutput bundle other another → (text ≡ other) × (status ≡ another) }
 {}
 

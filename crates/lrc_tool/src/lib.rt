@@ -16,6 +16,7 @@ mod tables;
 #[cfg(test)]
 mod tests;
 mod texts;
+mod together;
 
 pub use checking::check;
 pub use lrc_script::{Cause, ScriptError, parse_script};

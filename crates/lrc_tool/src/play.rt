@@ -12,7 +12,7 @@ use lrc_code::SessionNo;
 use lrc_topology::Topology;
 use std::alloc::Global;
 
-/// Makes the commands of the scripts on a new book, and answers what is printed of them, with the tables of these nodes.
+/// Makes the commands of the only script, if there is one, on a new book, and answers what is printed of them, with the tables of these nodes.
 pub(crate) fn play(
     alloc: Global,
     nodes: &Topology,
@@ -21,6 +21,7 @@ pub(crate) fn play(
 ) -> Result<Vec<u8>, RunFault>
     requires same { topology ≡ nodes.now }
     requires few { AreFew scripts.now }
+    requires alone { length scripts.now ≤ 1 }
     ensures played { IfOk result (λ text. IsPlayed nodes.now (lists_of scripts.now) text.items) }
     ensures err { IfErr result (λ e. e ≡ fault.OutOfMemory) }
 {
@@ -29,7 +30,7 @@ pub(crate) fn play(
     with_tables(alloc, replies.into_bytes(), nodes, &book)
 }
 
-/// Makes the commands of the scripts on a new book, and answers what is printed of the replies.
+/// Makes the commands of the only script, if there is one, and answers what is printed of the replies.
 fn play_scripts(
     alloc: Global,
     book: &mut Book,
@@ -37,6 +38,7 @@ fn play_scripts(
 ) -> Result<String, RunFault>
     requires fresh { (book.old.history ≡ []) × (book.old.limit ≡ HISTORY_LIMIT) }
     requires few { AreFew scripts.now }
+    requires alone { length scripts.now ≤ 1 }
     ensures made { IfOk result (λ text. AreMade book.old.nodes (lists_of scripts.now) book.new.history (string_bytes text)) }
     ensures nodes { OnOk result (book.new.nodes ≡ book.old.nodes) }
     ensures err { IfErr result (λ e. e ≡ fault.OutOfMemory) }

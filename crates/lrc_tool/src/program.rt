@@ -1,10 +1,12 @@
 //! Running a bundle, from the bytes in to the bytes out.
 
-ghost use Rattle.std.specs.Prelude.{◌≡◌, ◌≢◌, ◌||◌, ◌⊎◌, ◌+◌, true, OnOk, IfOk, IfErr, IfSome, IsErrOf};
+ghost use Rattle.std.specs.Prelude.{◌≡◌, ◌≢◌, ◌||◌, ◌⊎◌, ◌+◌, ◌<◌, ◌≤◌, true, length, OnOk, IfOk, IfErr, IfSome, IsErrOf};
 ghost use Rattle.std.specs.Io.KnownBytes.{Keeps};
 ghost use Rattle.lrc_topology.specs.Documents.{IsTopologyOf};
 ghost use Rattle.lrc_tool.specs.Streams.{is_read_fault, is_write_fault, ConsumesAtMost};
-ghost use Rattle.lrc_tool.specs.Outputs.{IsOutput, WritesOutput, WritesPartOfOutput};
+ghost use Rattle.lrc_script.specs.Bundles.{scripts_of};
+ghost use Rattle.lrc_tool.specs.Judged.{lists_of, AreFew, HasSeveral};
+ghost use Rattle.lrc_tool.specs.Outputs.{IsPlayed, IsOutput, WritesOutput, WritesPartOfOutput};
 ghost use Rattle.lrc_tool.specs.declared.streams.RunFault.TheVariants as fault;
 
 use crate::judging::{Judged, judge};
@@ -13,11 +15,22 @@ use crate::output::Output;
 use crate::play::play;
 use crate::status::Status;
 use crate::streams::{RunFault, Sink, Source, read_all, write_all};
+use crate::together::play_together;
+use lrc_book::Command;
 use lrc_topology::Topology;
 use std::alloc::Global;
+use std::sync::Wait;
+use std::thread::Threads;
 
-/// Runs the bundle that the source holds: reads it, makes the commands of its scripts, and then writes the whole output.
-pub fn run<R: Source, W: Sink>(
+/// Runs the bundle that the source holds: reads it, makes the commands of its scripts, and then writes the whole output. Two or
+/// more scripts run at once, each in a thread of its own where the system gives one.
+///
+/// # Errors
+///
+/// `OutOfMemory` where there is no room, `HistoryFull` where the scripts make more than 1,000,000 calls, `Read` where the bundle
+/// is not read, and `Write` where the output is not written.
+pub fn run<R: Source, W: Sink, T: Threads + Wait + Sync>(
+    rt: &T,
     alloc: Global,
     source: &mut R,
     sink: &mut W,
@@ -35,21 +48,26 @@ pub fn run<R: Source, W: Sink>(
     // However long the source is, one byte more than a bundle may have is the most that is read of it.
     ensures most { ConsumesAtMost (BUNDLE_LIMIT + 1) (R.left source.old) (R.left source.new) }
 
-    // It stops by a read where one failed, by a write where one failed, and else for want of memory alone.
+    // It stops by a read where one failed, by a write where one failed, by a full history only where there are two scripts or
+    // more, and else for want of memory alone.
     ensures read { R.has_failed source.new ≡ (R.has_failed source.old || is_read_fault result) }
     ensures write { W.has_failed sink.new ≡ (W.has_failed sink.old || is_write_fault result) }
-    ensures err { IfErr result (λ e. (e ≡ fault.OutOfMemory) ⊎ (e ≡ fault.Read) ⊎ (e ≡ fault.Write)) }
+    ensures full { IsErrOf result fault.HistoryFull → IfSome (R.left source.old) (λ bundle. 1 < length (scripts_of bundle)) }
 {
     let bundle = read_all(alloc, source, BUNDLE_LIMIT)?;
-    let output = output_of(alloc, bundle.as_slice())?;
+    let output = output_of(rt, alloc, bundle.as_slice())?;
     write_all(sink, output.text.as_slice())?;
     Ok(output.status)
 }
 
 /// The output of a run of this bundle.
-fn output_of(alloc: Global, bundle: &[u8]) -> Result<Output, RunFault>
+fn output_of<T: Threads + Wait + Sync>(
+    rt: &T,
+    alloc: Global,
+    bundle: &[u8],
+) -> Result<Output, RunFault>
     ensures output { IfOk result (λ o. IsOutput bundle.now (o.text.items) o.status) }
-    ensures err { IfErr result (λ e. e ≡ fault.OutOfMemory) }
+    ensures err { IfErr result (λ e. (e ≡ fault.OutOfMemory) ⊎ ((e ≡ fault.HistoryFull) × HasSeveral bundle.now)) }
 {
     match judge(alloc, bundle)? {
         Judged::Refused(output) => Ok(output),
@@ -59,11 +77,30 @@ fn output_of(alloc: Global, bundle: &[u8]) -> Result<Output, RunFault>
             scripts,
         } => {
             let again = read_again(alloc, text)?;
-            let text = play(alloc, &topology, again, scripts.as_slice())?;
+            let text = play_all(rt, alloc, &topology, again, scripts.as_slice())?;
             let status = Status::Done;
             Ok(Output { text, status })
         }
     }
+}
+
+/// Makes the commands of the scripts on a new book, and answers what is printed of them, with the tables of these nodes.
+fn play_all<T: Threads + Wait + Sync>(
+    rt: &T,
+    alloc: Global,
+    nodes: &Topology,
+    topology: Topology,
+    scripts: &[Vec<Command>],
+) -> Result<Vec<u8>, RunFault>
+    requires same { topology ≡ nodes.now }
+    requires few { AreFew scripts.now }
+    ensures played { IfOk result (λ text. length scripts.now ≤ 1 → IsPlayed nodes.now (lists_of scripts.now) text.items) }
+    ensures err { IfErr result (λ e. (e ≡ fault.OutOfMemory) ⊎ ((e ≡ fault.HistoryFull) × (1 < length scripts.now))) }
+{
+    if scripts.len() > 1 {
+        return play_together(rt, alloc, nodes, topology, scripts);
+    }
+    play(alloc, nodes, topology, scripts)
 }
 
 /// The nodes of a text that was accepted, once more.

@@ -9,6 +9,7 @@ mod nodes;
 mod placing;
 mod recoveries;
 mod repair;
+mod several;
 mod streams;
 mod tables;
 mod upgrades;
@@ -16,7 +17,9 @@ mod upgrades;
 use crate::{Plain, Status, run};
 use std::alloc::Global;
 use std::process::Abort;
+use std::sync::Wait;
 use std::test::Fail;
+use std::thread::Threads;
 
 /// The upgrade domains of the nodes of a store, each of which is in a fault domain of its own.
 const TEN_DOMAINS: [u8; 20] = [0, 1, 2, 3, 4, 5, 6, 7, 8, 9, 0, 1, 2, 3, 4, 5, 6, 7, 8, 9];
@@ -112,7 +115,7 @@ fn over_twenty(alloc: Global, scripts: &[u8]) -> Result<Vec<u8>, Fail> {
 
 /// The output of a run up to its tables, which stand exactly where the run is done.
 fn expect_output(
-    rt: &impl Abort,
+    rt: &(impl Threads + Wait + Abort + Sync),
     alloc: Global,
     bundle: &[u8],
     text: &str,
@@ -120,7 +123,7 @@ fn expect_output(
 ) -> Result<(), Fail> {
     let mut source = Plain::new(bundle);
     let mut sink = Plain::new(Vec::new(alloc));
-    let result = run(alloc, &mut source, &mut sink);
+    let result = run(rt, alloc, &mut source, &mut sink);
     let output = std::str::from_utf8(sink.inner.as_slice())?;
     let (front, has_tables) = match output.split_once("risk\nstripe,level,margin,missing\n") {
         Some((front, _)) => (front, true),
@@ -133,10 +136,15 @@ fn expect_output(
 }
 
 /// The whole output of a run that is done.
-fn expect_whole(rt: &impl Abort, alloc: Global, bundle: &[u8], output: &str) -> Result<(), Fail> {
+fn expect_whole(
+    rt: &(impl Threads + Wait + Abort + Sync),
+    alloc: Global,
+    bundle: &[u8],
+    output: &str,
+) -> Result<(), Fail> {
     let mut source = Plain::new(bundle);
     let mut sink = Plain::new(Vec::new(alloc));
-    let result = run(alloc, &mut source, &mut sink);
+    let result = run(rt, alloc, &mut source, &mut sink);
     assert_eq!(rt; std::str::from_utf8(sink.inner.as_slice())?, output);
     assert_eq!(rt; result, Ok(Status::Done));
     Ok(())
@@ -172,7 +180,11 @@ fn load_row(alloc: Global, number: usize, mode: u8, load: u8) -> Result<String, 
 }
 
 /// The script prints its replies and both tables, and nothing else.
-fn expect_run(rt: &impl Abort, alloc: Global, run: Run) -> Result<(), Fail> {
+fn expect_run(
+    rt: &(impl Threads + Wait + Abort + Sync),
+    alloc: Global,
+    run: Run,
+) -> Result<(), Fail> {
     let mut text = format!(in alloc;
         "{}{}risk\nstripe,level,margin,missing\n{}load\nnode,mode,online,load,slots\n",
         run.placed, run.replies, run.risk

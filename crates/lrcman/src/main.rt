@@ -9,6 +9,8 @@ use clap::{Arg, ArgAction, Command, Error};
 use lrc_tool::{Plain, RunFault, Status, check, recover, run};
 use std::alloc::{AllocError, Global};
 use std::process::ExitCode;
+use std::sync::Wait;
+use std::thread::Threads;
 use std::{env, io};
 
 /// What the command line asks for.
@@ -99,14 +101,15 @@ fn parse_request<'a>(alloc: Global, words: &'a [String]) -> Result<Request<'a>, 
     }
 }
 
-fn perform(rt: &HostRuntime) -> Result<Status, Stop> {
+/// Does what the command line asks for; scripts run on these threads.
+fn perform<T: Threads + Wait + Sync>(rt: &HostRuntime, threads: &T) -> Result<Status, Stop> {
     let alloc = rt.alloc();
     let words = env::args(rt)?.collect::<Vec<String>>(alloc)?;
     match parse_request(alloc, words.as_slice())? {
         Request::Run => {
             let mut source = Plain::new(rt.reader());
             let mut sink = Plain::new(io::writer(rt));
-            Ok(run(alloc, &mut source, &mut sink)?)
+            Ok(run(threads, alloc, &mut source, &mut sink)?)
         }
         Request::Check => {
             let mut source = Plain::new(rt.reader());
@@ -121,7 +124,7 @@ fn perform(rt: &HostRuntime) -> Result<Status, Stop> {
 }
 
 fn main(rt: HostRuntime) -> ExitCode {
-    match perform(&rt) {
+    match perform(&rt, &rt) {
         Ok(status) => ExitCode::from(status as u8),
         Err(stop) => {
             let _ = eprintln!(&rt; "{stop}");

@@ -32,7 +32,11 @@ fn scripts_are_read_by_their_lines(rt: HostRuntime) -> Result<(), Fail> {
         ("%%\nnext", "script 1\n1 idle\n", Status::Done),
         ("%%\nupgrade 255", "script 1\n1 refused 106\n", Status::Done),
         ("%%\nplace 1\r\n", "line 102 cause 3\n", Status::BadLine),
-        ("%%\n%%\n", "bundle 2\n", Status::Refused),
+        (
+            "%%\n%%\n%%\n%%\n%%\n%%\n%%\n%%\n%%\n",
+            "bundle 2\n",
+            Status::Refused,
+        ),
     ];
     for (script, text, status) in table {
         let bytes = over_twenty(alloc, script.as_bytes())?;
@@ -137,7 +141,7 @@ fn every_prefix_is_answered(rt: HostRuntime) -> Result<(), Fail> {
     for end in 0..bytes.len() {
         let mut source = Plain::new(&bytes.as_slice()[..end]);
         let mut sink = Plain::new(Vec::new(alloc));
-        assert!(rt; run(alloc, &mut source, &mut sink).is_ok());
+        assert!(rt; run(&rt, alloc, &mut source, &mut sink).is_ok());
     }
     Ok(())
 }

@@ -56,7 +56,11 @@ fn a_check_counts_what_a_bundle_has(rt: HostRuntime) -> Result<(), Fail> {
 fn a_check_refuses_what_a_run_refuses(rt: HostRuntime) -> Result<(), Fail> {
     let alloc = rt.alloc();
     let scripts = [
-        ("%%\n%%\n", "bundle 2\n", Status::Refused),
+        (
+            "%%\n%%\n%%\n%%\n%%\n%%\n%%\n%%\n%%\n",
+            "bundle 2\n",
+            Status::Refused,
+        ),
         ("%%\nplace 4096\n", "line 6 cause 4\n", Status::BadLine),
         ("%%\nplace 1\nplace\n", "line 7 cause 2\n", Status::BadLine),
         (
@@ -70,7 +74,7 @@ fn a_check_refuses_what_a_run_refuses(rt: HostRuntime) -> Result<(), Fail> {
         expect_line(&rt, alloc, bundle.as_bytes(), line, status)?;
     }
     let topologies = [
-        ("%%\nx\n%%\n", "bundle 2\n"),
+        ("%%\nx\n%%\n%%\n%%\n%%\n%%\n%%\n%%\n%%\n", "bundle 2\n"),
         ("%%\nx\n", "topology 2\n"),
         ("[[node]]\nnumber = \n%%\nx\n", "topology 1\n"),
         ("[[node]]\nnumber = 0\n", "topology 3 0\n"),

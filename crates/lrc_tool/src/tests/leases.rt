@@ -4,11 +4,13 @@ use super::{PLACING_ONE, Run, TEN_DOMAINS, bundle, expect_output, expect_run, ov
 use crate::Status;
 use std::alloc::Global;
 use std::process::Abort;
+use std::sync::Wait;
 use std::test::Fail;
+use std::thread::Threads;
 
 /// A script that begins by placing stripe 1 prints this behind the line of that.
 fn expect_replies(
-    rt: &impl Abort,
+    rt: &(impl Threads + Wait + Abort + Sync),
     alloc: Global,
     script: &[u8],
     replies: &str,

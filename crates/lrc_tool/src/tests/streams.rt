@@ -6,7 +6,9 @@ use crate::{Plain, RunFault, Sink, Source, Status, check, run};
 use std::alloc::Global;
 use std::io;
 use std::process::Abort;
+use std::sync::Wait;
 use std::test::Fail;
+use std::thread::Threads;
 
 /// What is printed where stripe 1 is to be placed on one node alone.
 const ONE_NODE: &[u8] = b"\
@@ -20,9 +22,13 @@ node,mode,online,load,slots
 ";
 
 /// What a run says of a bundle that is too long.
-fn expect_too_long(rt: &impl Abort, alloc: Global, source: &mut impl Source) -> Result<(), Fail> {
+fn expect_too_long(
+    rt: &(impl Threads + Wait + Abort + Sync),
+    alloc: Global,
+    source: &mut impl Source,
+) -> Result<(), Fail> {
     let mut sink = Plain::new(Vec::new(alloc));
-    let result = run(alloc, source, &mut sink);
+    let result = run(rt, alloc, source, &mut sink);
     assert_eq!(rt; result, Ok(Status::Refused));
     assert_eq!(rt; sink.inner.as_slice(), b"bundle 1\n".as_slice());
     assert!(rt; !source.failed());
@@ -42,13 +48,16 @@ fn behind_a_byte_too_many_nothing_is_read(rt: HostRuntime) -> Result<(), Fail> {
     assert_eq!(rt; source.inner.left, 0);
     let mut sink = Plain::new(Vec::new(alloc));
     let mut source = Plain::new(Filling { left: 4_194_304 });
-    assert_eq!(rt; run(alloc, &mut source, &mut sink), Err(RunFault::Read));
+    assert_eq!(rt;
+        run(&rt, alloc, &mut source, &mut sink),
+        Err(RunFault::Read)
+    );
     Ok(())
 }
 
 /// What a run does whose source fails at this one of its calls, and may have failed before.
 fn expect_read(
-    rt: &impl Abort,
+    rt: &(impl Threads + Wait + Abort + Sync),
     alloc: Global,
     bundle: &[u8],
     kind: io::ErrorKind,
@@ -65,7 +74,7 @@ fn expect_read(
     });
     source.failed = failed;
     let mut sink = Plain::new(Vec::new(alloc));
-    let result = run(alloc, &mut source, &mut sink);
+    let result = run(rt, alloc, &mut source, &mut sink);
     if fails_at <= calls {
         assert_eq!(rt; result, Err(RunFault::Read));
         assert!(rt; source.failed());
@@ -114,7 +123,7 @@ fn a_check_reads_to_the_end_and_no_further(rt: HostRuntime) -> Result<(), Fail> 
 
 /// What a run does whose sink fails at this one of its calls, and may have failed before.
 fn expect_written(
-    rt: &impl Abort,
+    rt: &(impl Threads + Wait + Abort + Sync),
     alloc: Global,
     bundle: &[u8],
     output: &[u8],
@@ -132,7 +141,7 @@ fn expect_written(
         failure,
     });
     sink.failed = failed;
-    let result = run(alloc, &mut source, &mut sink);
+    let result = run(rt, alloc, &mut source, &mut sink);
     if fails_at <= calls {
         assert_eq!(rt; result, Err(RunFault::Write));
         assert!(rt; sink.failed());

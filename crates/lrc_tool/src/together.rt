@@ -1,0 +1,109 @@
+//! Several scripts at once, each by a session of its own.
+
+ghost use Rattle.std.specs.Prelude.{◌≡◌, ◌<◌, ◌≤◌, ◌⊎◌, length, IfOk, IfErr};
+ghost use Rattle.lrc_tool.specs.declared.streams.RunFault.TheVariants as fault;
+
+use crate::streams::RunFault;
+use crate::tables::with_tables;
+use crate::texts::{push_reply_line, push_script_line};
+use lrc_book::{Book, Command};
+use lrc_code::SessionNo;
+use lrc_sessions::{
+    FinishError, Manager, Naming, OpenGate, Parts, Receipt, Stop, Track, run_sessions,
+};
+use lrc_topology::Topology;
+use std::alloc::{AllocError, Global};
+use std::marker::Brand;
+use std::sync::Wait;
+use std::thread::Threads;
+
+/// What scripts leave: the book, and the track of each.
+#[derive(Drop)]
+struct Played {
+    book: Book,
+    tracks: Vec<Track>,
+}
+
+/// Makes the commands of two to eight scripts on a new book, each by a session of its own, and answers what is printed of them,
+/// with the tables of these nodes.
+pub(crate) fn play_together<T: Threads + Wait + Sync>(
+    rt: &T,
+    alloc: Global,
+    nodes: &Topology,
+    topology: Topology,
+    scripts: &[Vec<Command>],
+) -> Result<Vec<u8>, RunFault>
+    requires same { topology ≡ nodes.now }
+    requires several { (1 < length scripts.now) × (length scripts.now ≤ 8) }
+    ensures err { IfErr result (λ e. (e ≡ fault.OutOfMemory) ⊎ (e ≡ fault.HistoryFull)) }
+{
+    let Ok(parts) = Parts::new(alloc, topology, scripts.len() as u8) else {
+        return Err(RunFault::OutOfMemory);
+    };
+    let played = run_each::<Brand, _>(rt, alloc, parts, scripts)?;
+    let text = print_tracks(alloc, played.tracks.as_slice())?;
+    with_tables(alloc, text.into_bytes(), nodes, &played.book)
+}
+
+/// Runs each script by a session of its own, and ends their manager.
+fn run_each<N: Naming + Send + Sync, T: Threads + Wait + Sync>(
+    rt: &T,
+    alloc: Global,
+    parts: Parts,
+    scripts: &[Vec<Command>],
+) -> Result<Played, RunFault>
+    requires topology { parts.topology ≡ N.topology }
+    requires count { parts.count ≡ N.count }
+    requires name { parts.name ≡ N.name }
+    requires shares { parts.shares ≡ N.parts }
+    requires scripts { (length scripts.now ≡ parts.count) × (parts.count ≤ 8) }
+    ensures nodes { IfOk result (λ p. p.book.nodes ≡ parts.topology) }
+    ensures tracks { IfOk result (λ p. length p.tracks.items ≤ 8) }
+    ensures err { IfErr result (λ e. (e ≡ fault.OutOfMemory) ⊎ (e ≡ fault.HistoryFull)) }
+{
+    let Ok((manager, sessions)) = Manager::<N>::open(alloc, parts) else {
+        return Err(RunFault::OutOfMemory);
+    };
+    let (sessions, ran) = run_sessions(rt, alloc, &manager, sessions, scripts, &OpenGate);
+    match manager.finish(sessions) {
+        Ok(closing) => Ok(Played {
+            book: closing.book,
+            tracks: unstopped(ran?)?,
+        }),
+        Err(FinishError::SessionsOut(_manager, _sessions)) => unreachable!(),
+    }
+}
+
+/// The tracks, where no fault stopped one; else the fault that stopped the first of those.
+fn unstopped(tracks: Vec<Track>) -> Result<Vec<Track>, RunFault>
+    ensures ok { IfOk result (λ v. v.items ≡ tracks.items) }
+    ensures err { IfErr result (λ e. (e ≡ fault.OutOfMemory) ⊎ (e ≡ fault.HistoryFull)) }
+{
+    for track in tracks.as_slice() {
+        if let Some(Stop::Fault(fault)) = track.stopped {
+            return Err(fault.into());
+        }
+    }
+    Ok(tracks)
+}
+
+/// What is printed of the tracks of the sessions from 1 on, in order.
+fn print_tracks(alloc: Global, tracks: &[Track]) -> Result<String, RunFault>
+    requires { length tracks.now ≤ 8 }
+    ensures err { IfErr result (λ e. e ≡ fault.OutOfMemory) }
+{
+    let mut text = String::new(alloc);
+    for (index, track) in tracks.iter().enumerate() {
+        let session = SessionNo::new(index as u8 + 1).unwrap();
+        push_script_line(&mut text, session)?;
+        push_receipts(&mut text, track.receipts.as_slice())?;
+    }
+    Ok(text)
+}
+
+fn push_receipts(out: &mut String, receipts: &[Receipt]) -> Result<(), AllocError> {
+    for receipt in receipts {
+        push_reply_line(out, receipt.place as usize, &receipt.reply)?;
+    }
+    Ok(())
+}

@@ -1,0 +1,326 @@
+"""The rules of the stripe manager, written down once more after docs/RULES.md: plain, slow, and no part of the program.
+
+A `Store` takes a call after the other and answers the text of each reply. Everything is asked of the homes and leases
+that there are; nothing is kept beside them but the count of grants."""
+from collections import Counter, namedtuple
+from functools import cache
+from itertools import combinations
+
+CLASSES = {"A": frozenset([0, 1, 2, 3, 4, 5, 12]), "B": frozenset([6, 7, 8, 9, 10, 11, 13]), "G": frozenset([14, 15])}
+FRAGMENTS = range(16)
+
+Node = namedtuple("Node", "fault upgrade slots")
+Lease = namedtuple("Lease", "holder target epoch")
+
+
+class Refused(Exception):
+    """A command is refused, with its number and what it tells."""
+
+
+def class_of(fragment):
+    return next(name for name, members in CLASSES.items() if fragment in members)
+
+
+@cache
+def is_recoverable(missing):
+    """At most two are left after at most one member of A and at most one of B are taken out."""
+    one_of_a = [None, *(missing & CLASSES["A"])]
+    one_of_b = [None, *(missing & CLASSES["B"])]
+    return any(len(missing - {a, b}) <= 2 for a in one_of_a for b in one_of_b)
+
+
+@cache
+def margin(missing):
+    """How many more may be missing, whichever they are; None where the set is not recoverable."""
+    if not is_recoverable(missing):
+        return None
+    others = [fragment for fragment in FRAGMENTS if fragment not in missing]
+    more = 0
+    while more < len(others) and all(is_recoverable(missing | set(extra)) for extra in combinations(others, more + 1)):
+        more += 1
+    return more
+
+
+class Store:
+    """Nodes by their numbers, in the order of the file, and what is held on them."""
+
+    def __init__(self, nodes):
+        self.nodes = nodes
+        self.mode = dict.fromkeys(nodes, "active")
+        self.down = set()
+        self.upgrading = None
+        self.stripes = set()
+        self.homes = {}  # (stripe, fragment): (node, slot)
+        self.leases = {}  # (stripe, fragment): Lease
+        self.grants = Counter()  # (stripe, fragment): how many leases were granted
+
+    # What is asked of a store.
+
+    def is_online(self, node):
+        return self.mode[node] != "gone" and node not in self.down and self.nodes[node].upgrade != self.upgrading
+
+    def held(self):
+        """Each seat that is held, with its stripe and fragment: the homes and the targets."""
+        yield from self.homes.items()
+        for key, lease in self.leases.items():
+            yield key, lease.target
+
+    def slots_in_use(self):
+        """The slots that are held, of each node."""
+        slots = {node: set() for node in self.nodes}
+        for _, (node, slot) in self.held():
+            slots[node].add(slot)
+        return slots
+
+    def load(self, node):
+        return sum(seat[0] == node for _, seat in self.held())
+
+    def homeless(self, stripe):
+        return frozenset(fragment for fragment in FRAGMENTS if (stripe, fragment) not in self.homes)
+
+    def missing(self, stripe):
+        """The fragments without a home on a node that is online."""
+        homes = {fragment: self.homes.get((stripe, fragment)) for fragment in FRAGMENTS}
+        return frozenset(fragment for fragment, home in homes.items() if home is None or not self.is_online(home[0]))
+
+    def rank(self, stripe):
+        left = margin(self.missing(stripe))
+        return 4 if left is None else left
+
+    def level(self, stripe):
+        """The level of a stripe as the risk table writes it, or None where it is Whole."""
+        if not is_recoverable(self.homeless(stripe)):
+            return "lost"
+        missing = self.missing(stripe)
+        if not is_recoverable(missing):
+            return "unavailable"
+        return "risk" if missing else None
+
+    def is_lawful(self, key, node):
+        """Whether a fragment may go to the node, beside the seats of the other fragments of its stripe."""
+        stripe, fragment = key
+        for (other_stripe, other), (beside, _) in self.held():
+            if other_stripe != stripe or other == fragment:
+                continue
+            if self.nodes[beside].fault == self.nodes[node].fault:
+                return False
+            if class_of(other) == class_of(fragment) and self.nodes[beside].upgrade == self.nodes[node].upgrade:
+                return False
+        return True
+
+    def choice(self, key):
+        """The seat for a fragment, or Refused."""
+        in_use = self.slots_in_use()
+        free = {number: set(range(node.slots)) - in_use[number] for number, node in self.nodes.items()}
+        eligible = [node for node in self.nodes if self.mode[node] == "active" and self.is_online(node) and free[node]]
+        fitting = [node for node in eligible if self.is_lawful(key, node)]
+        if not fitting:
+            raise Refused(103, key[1])
+        node = min(fitting, key=lambda node: (len(in_use[node]), node))
+        return node, min(free[node])
+
+    def needs_lease(self, key):
+        return key not in self.homes or self.mode[self.homes[key][0]] == "draining"
+
+    def kind(self, key):
+        """The kind of a lease and its sources, as a reply tells them."""
+        stripe, fragment = key
+        if key in self.homes and self.is_online(self.homes[key][0]):
+            return "move"
+        others = CLASSES[class_of(fragment)] - {fragment}
+        if fragment in CLASSES["G"] or others & self.missing(stripe):
+            return "global"
+        return " ".join(["local", *map(str, sorted(others))])
+
+    # The commands, each a method of its name; it answers a reply or is Refused, and changes nothing then.
+
+    def call(self, session, line):
+        """The reply to the command of a line."""
+        word, *numbers = line.split(" ")
+        try:
+            reply = getattr(self, "do_" + word)(session, *map(int, numbers))
+        except Refused as refused:
+            return " ".join(map(str, ["refused", *refused.args]))
+        return reply
+
+    def known(self, stripe):
+        if stripe not in self.stripes:
+            raise Refused(101)
+
+    def forget(self, kept_home, kept_lease):
+        """Keeps these homes and these leases alone."""
+        self.homes = {key: home for key, home in self.homes.items() if kept_home(key, home)}
+        self.leases = {key: lease for key, lease in self.leases.items() if kept_lease(key, lease)}
+
+    def do_place(self, session, stripe):
+        if stripe in self.stripes:
+            raise Refused(102)
+        try:
+            for fragment in FRAGMENTS:
+                self.homes[stripe, fragment] = self.choice((stripe, fragment))
+        except Refused:
+            self.forget(lambda key, _: key[0] != stripe, lambda key, _: True)
+            raise
+        self.stripes.add(stripe)
+        seats = ["%d:%d" % self.homes[stripe, fragment] for fragment in FRAGMENTS]
+        return " ".join(["placed", *seats])
+
+    def do_drop(self, session, stripe):
+        self.known(stripe)
+        self.stripes.remove(stripe)
+        self.forget(lambda key, _: key[0] != stripe, lambda key, _: key[0] != stripe)
+        return "dropped"
+
+    def owed(self, key):
+        """The target of the lease that would be granted for a fragment, or Refused."""
+        stripe, fragment = key
+        self.known(stripe)
+        if key in self.leases:
+            raise Refused(110, self.leases[key].epoch)
+        if not self.needs_lease(key):
+            raise Refused(111)
+        if self.kind(key) == "global" and not is_recoverable(self.missing(stripe)):
+            raise Refused(112)
+        return self.choice(key)
+
+    def is_owed(self, key):
+        try:
+            self.owed(key)
+        except Refused:
+            return False
+        return True
+
+    def do_lease(self, session, *key):
+        target, kind = self.owed(key), self.kind(key)
+        self.grants[key] += 1
+        self.leases[key] = Lease(session, target, self.grants[key])
+        return "granted %d %d %d:%d epoch %d %s" % (*key, *target, self.grants[key], kind)
+
+    def do_next(self, session):
+        by_need = sorted(self.stripes, key=lambda stripe: (self.rank(stripe), stripe))
+        for stripe in by_need:
+            for fragment in FRAGMENTS:
+                if self.is_owed((stripe, fragment)):
+                    return self.do_lease(session, stripe, fragment)
+        return "idle"
+
+    def own_lease(self, session, key, epoch):
+        """The live lease of a fragment, which has this epoch and is held by this session, or Refused."""
+        self.known(key[0])
+        lease = self.leases.get(key)
+        if lease is None or lease.epoch != epoch:
+            raise Refused(113)
+        if lease.holder != session:
+            raise Refused(114, lease.holder)
+        return lease
+
+    def do_done(self, session, stripe, fragment, epoch):
+        key = stripe, fragment
+        lease = self.own_lease(session, key, epoch)
+        if not self.is_online(lease.target[0]):
+            raise Refused(115, lease.target[0])
+        self.homes[key] = lease.target
+        del self.leases[key]
+        return "ended"
+
+    def do_abandon(self, session, stripe, fragment, epoch):
+        self.own_lease(session, (stripe, fragment), epoch)
+        del self.leases[stripe, fragment]
+        return "ended"
+
+    def do_revoke(self, session, *key):
+        self.known(key[0])
+        if key not in self.leases:
+            raise Refused(116)
+        del self.leases[key]
+        return "ended"
+
+    def expect(self, node, fits):
+        """The node is one of the topology, and its mode allows the command."""
+        if node not in self.nodes:
+            raise Refused(104)
+        if not fits(self.mode[node], node in self.down):
+            raise Refused(105)
+
+    def turn(self, node, mode):
+        """The node is in this mode, and not down."""
+        self.mode[node] = mode
+        self.down.discard(node)
+        return "changed"
+
+    def do_fail(self, session, node):
+        self.expect(node, lambda mode, down: mode != "gone")
+        was_on = {key for key, home in self.homes.items() if home[0] == node}
+        self.forget(
+            lambda key, _: key not in was_on,
+            lambda key, lease: key not in was_on and lease.target[0] != node,
+        )
+        return self.turn(node, "gone")
+
+    def do_down(self, session, node):
+        self.expect(node, lambda mode, down: mode != "gone" and not down)
+        self.down.add(node)
+        return "changed"
+
+    def do_up(self, session, node):
+        self.expect(node, lambda mode, down: down)
+        self.down.remove(node)
+        return "changed"
+
+    def do_drain(self, session, node):
+        self.expect(node, lambda mode, down: mode == "active")
+        self.mode[node] = "draining"
+        return "changed"
+
+    def do_undrain(self, session, node):
+        self.expect(node, lambda mode, down: mode == "draining")
+        self.mode[node] = "active"
+        return "changed"
+
+    def do_retire(self, session, node):
+        self.expect(node, lambda mode, down: mode == "draining")
+        if self.load(node):
+            raise Refused(117, self.load(node))
+        return self.turn(node, "gone")
+
+    def do_join(self, session, node):
+        self.expect(node, lambda mode, down: mode == "gone")
+        return self.turn(node, "active")
+
+    def known_domain(self, domain):
+        if all(node.upgrade != domain for node in self.nodes.values()):
+            raise Refused(106)
+
+    def do_upgrade(self, session, domain):
+        self.known_domain(domain)
+        if self.upgrading is not None:
+            raise Refused(107, self.upgrading)
+        recoverable = [stripe for stripe in sorted(self.stripes) if is_recoverable(self.missing(stripe))]
+        self.upgrading = domain
+        for stripe in recoverable:
+            if not is_recoverable(self.missing(stripe)):
+                self.upgrading = None
+                raise Refused(109, stripe)
+        return "changed"
+
+    def do_upgraded(self, session, domain):
+        self.known_domain(domain)
+        if self.upgrading != domain:
+            raise Refused(108)
+        self.upgrading = None
+        return "changed"
+
+    # The tables.
+
+    def risk_rows(self):
+        for stripe in sorted(self.stripes, key=lambda stripe: (self.rank(stripe), stripe)):
+            level, missing = self.level(stripe), self.missing(stripe)
+            if level is not None:
+                left = margin(missing) if level == "risk" else "-"
+                bits = sum(1 << fragment for fragment in missing)
+                yield f"{stripe},{level},{left},{bits:04x}"
+
+    def load_rows(self):
+        for number, node in self.nodes.items():
+            online = "yes" if self.is_online(number) else "no"
+            yield f"{number},{self.mode[number]},{online},{self.load(number)},{node.slots}"
