@@ -1,0 +1,409 @@
+-- The flags of words, read and written.
+use Rattle.std.proofs.Common.{below_more, bit_and, bit_or, subst, min, ◌-◌, ◌≡◌, ◌≢◌, ℕ, zero, suc, ◌+◌, ◌*◌, ◌/◌, ◌%◌, ◌^◌, ◌<◌, ◌≤◌, Bool, true, false, ◌||◌, eqb, List, length, get_or, set, replicate, arith, refl, sym, ap, ◌∙◌, inl, inr, w64}
+use Rattle.std.proofs.Math.ListN.{length-set}
+use Rattle.std.proofs.lemmas.Bool.{cases_eq, cases_lt, eq-eqb, eqb-true}
+use Rattle.std.proofs.lemmas.List.{length-replicate, ext_get_or, get_or_past, get_or-set_same, get_or-set_other}
+use Rattle.std.proofs.lemmas.List.FromFn.{length-map-range_with_len, get_or-map-range_with_len}
+use Rattle.std.proofs.lemmas.Nat.Bits.{shr_and_one, bit_at-zero, bit_at_set_same, bit_at_set_other, bit_at_clear_same, bit_at_clear_other, bit_at_ones, bit_at-trailing_ones, bit_at-trailing_zeros, bit_at_and, bit_at_or, bit_at_not, bit_at-lt, bit_at_above, same_from_bits_below}
+use Rattle.std.proofs.lemmas.Nat.{shr-shr, or_lt}
+use Rattle.std.proofs.Math.Nat.{div-le_self}
+use Rattle.std.specs.Int.{bit_at, bit_not, trailing_zeros, trailing_ones}
+use Rattle.lrc_bits.specs.Flags.{flag, flags, IsFirstAbsent, IsFirstOutside, IsFirstFrom}
+
+-- there are 64 flags a word
+pub length-flags : (words : List ℕ) → length (flags words) ≡ 64 * length words
+unfolding flags
+length-flags words = length-map-range_with_len (flag words) 0 (64 * length words)
+
+-- the flag of a place, which is none beyond the last
+pub get_or-flags : (words : List ℕ) (k : ℕ) → get_or (flags words) k false ≡ flag words k
+unfolding flags
+get_or-flags words k = elim (cases_lt k (64 * length words)) [
+  | inl within ↦ get_or-map-range_with_len (flag words) 0 (64 * length words) k k false within (omega arith)
+  | inr past ↦
+      let beyond : length words ≤ k / 64 = omega (arith, past) in
+      let none : get_or words (k / 64) 0 ≡ 0 = get_or_past words (k / 64) 0 beyond in
+      let long : length (flags words) ≤ k = omega (arith, length-flags words, past) in
+      get_or_past (flags words) k false long ∙ sym (ap (λ n. eqb n 1) (ap (λ w. bit_at w (k % 64)) none ∙ bit_at-zero (k % 64)))
+]
+
+-- the word of a place and its bit there
+split : (j k : ℕ) → j ≢ k → j / 64 ≡ k / 64 → j % 64 ≢ k % 64
+split j k differ same e = differ (omega (arith, same, e))
+
+-- a word is written whose bits are as before but for one
+pub flags-set : (words : List ℕ) (k v : ℕ) (b : Bool) → k < 64 * length words → eqb (bit_at v (k % 64)) 1 ≡ b
+    → ((i : ℕ) → i < 64 → i ≢ k % 64 → bit_at v i ≡ bit_at (get_or words (k / 64) 0) i) → flags (set words (k / 64) v) ≡ set (flags words) k b
+flags-set words k v b within here others =
+    let inside : k / 64 < length words = omega (arith, within) in
+    let long : length (flags (set words (k / 64) v)) ≡ length (set (flags words) k b) =
+    length-flags (set words (k / 64) v)
+    ∙ (ap (λ n. 64 * n) (length-set words (k / 64) v) ∙ sym (length-set (flags words) k b ∙ length-flags words)) in
+    let place : k < length (flags words) = rw (length-flags words) within in
+    ext_get_or false _ _ long (λ j below. get_or-flags (set words (k / 64) v) j ∙ (elim (cases_eq j k) [
+      | inl same ↦
+          rw same (ap (λ w. eqb (bit_at w (k % 64)) 1) (get_or-set_same words (k / 64) v 0 inside)
+          ∙ (here ∙ sym (get_or-set_same (flags words) k b false place)))
+      | inr differ ↦ elim (cases_eq (j / 64) (k / 64)) [
+        | inl word ↦
+            rw word (ap (λ w. eqb (bit_at w (j % 64)) 1) (get_or-set_same words (k / 64) v 0 inside)
+            ∙ (ap (λ n. eqb n 1) (others (j % 64) (omega arith) (split j k differ word))
+            ∙ sym (get_or-set_other (flags words) k j b false differ
+            ∙ (get_or-flags words j ∙ ap (λ w. eqb (bit_at (get_or words w 0) (j % 64)) 1) word))))
+        | inr word ↦
+            ap (λ w. eqb (bit_at w (j % 64)) 1) (get_or-set_other words (k / 64) (j / 64) v 0 word)
+            ∙ sym (get_or-set_other (flags words) k j b false differ ∙ get_or-flags words j)
+      ]
+    ]))
+
+-- ---- what a set of so many words says
+
+-- a place within the flags has a word
+pub word-within : (words : List ℕ) (xs : List Bool) (k w : ℕ) → length words ≡ w → flags words ≡ xs → k < length xs → k / 64 < w
+word-within words xs k w long view within =
+    let all : length xs ≡ 64 * length words = ap length (sym view) ∙ length-flags words in
+    omega (arith, all, within, long)
+
+-- a place within the flags is one of so many words
+pub place-within : (words : List ℕ) (xs : List Bool) (k : ℕ) → flags words ≡ xs → k < length xs → k < 64 * length words
+place-within words xs k view within =
+    let all : length xs ≡ 64 * length words = ap length (sym view) ∙ length-flags words in
+    omega (arith, all, within)
+
+-- the test of a bit
+pub shifted-bit : (words : List ℕ) (xs : List Bool) (k : ℕ) → flags words ≡ xs
+    → eqb (bit_and (get_or words (k / 64) 0 / 2 ^ (k % 64)) 1) 1 ≡ get_or xs k false
+shifted-bit words xs k view = ap (λ n. eqb n 1) (shr_and_one (get_or words (k / 64) 0) (k % 64))
+    ∙ (sym (get_or-flags words k) ∙ ap (λ ys. get_or ys k false) view)
+
+-- a bit is set
+pub flags-insert : (words : List ℕ) (xs : List Bool) (k : ℕ) → flags words ≡ xs → k < length xs
+    → flags (set words (k / 64) (bit_or (get_or words (k / 64) 0) (1 * 2 ^ (k % 64) % 2 ^ 64))) ≡ set xs k true
+flags-insert words xs k view within =
+    let word = get_or words (k / 64) 0 in
+    let small : k % 64 < 64 = omega arith in
+    flags-set words k (bit_or word (1 * 2 ^ (k % 64) % 2 ^ 64)) true (place-within words xs k view within)
+    (eq-eqb _ _ (bit_at_set_same w64 word (k % 64) small)) (λ i below other. bit_at_set_other w64 word (k % 64) small i other)
+    ∙ ap (λ ys. set ys k true) view
+
+-- a bit is cleared
+pub flags-remove : (words : List ℕ) (xs : List Bool) (k : ℕ) → flags words ≡ xs → k < length xs
+    → flags (set words (k / 64) (bit_and (get_or words (k / 64) 0) (bit_not w64 (1 * 2 ^ (k % 64) % 2 ^ 64)))) ≡ set xs k false
+flags-remove words xs k view within =
+    let word = get_or words (k / 64) 0 in
+    let small : k % 64 < 64 = omega arith in
+    let here : bit_at (bit_and word (bit_not w64 (1 * 2 ^ (k % 64) % 2 ^ 64))) (k % 64) ≡ 0 = bit_at_clear_same w64 word (k % 64) small in
+    flags-set words k (bit_and word (bit_not w64 (1 * 2 ^ (k % 64) % 2 ^ 64))) false (place-within words xs k view within)
+    (ap (λ n. eqb n 1) here) (λ i below other. bit_at_clear_other w64 word (k % 64) small i below other)
+    ∙ ap (λ ys. set ys k false) view
+
+-- each word of an empty set is 0
+no_words : (w i d : ℕ) → get_or (replicate {A = ℕ} w 0) i 0 ≡ 0
+no_words zero i d = refl
+no_words (suc n) zero d = refl
+no_words (suc n) (suc i) d = no_words n i d
+
+-- no flag of an empty set is set
+no_flags : (n i : ℕ) → get_or (replicate n false) i false ≡ false
+no_flags zero i = refl
+no_flags (suc n) zero = refl
+no_flags (suc n) (suc i) = no_flags n i
+
+-- no bit is set
+pub flags-none : (w : ℕ) → flags (replicate w 0) ≡ replicate (64 * w) false
+flags-none w = ext_get_or false _ _ (length-flags (replicate w 0) ∙ (ap (λ n. 64 * n) (length-replicate w 0) ∙ sym (length-replicate (64 * w) false)))
+    (λ j below. get_or-flags (replicate w 0) j
+    ∙ (ap (λ n. eqb n 1) (ap (λ x. bit_at x (j % 64)) (no_words w (j / 64) 0) ∙ bit_at-zero (j % 64)) ∙ sym (no_flags (64 * w) j)))
+
+-- ---- one word after another
+
+-- a flag is a bit of its word
+at_word : (words : List ℕ) (i t : ℕ) → t < 64 → flag words (i * 64 + t) ≡ eqb (bit_at (get_or words i 0) t) 1
+at_word words i t small =
+    let word : (i * 64 + t) / 64 ≡ i = omega (arith, small) in
+    let place : (i * 64 + t) % 64 ≡ t = omega (arith, small) in
+    rw (word, place) refl
+
+-- the flags of a set, read by their words
+pub read : (words : List ℕ) (xs : List Bool) (k : ℕ) → flags words ≡ xs → get_or xs k false ≡ flag words k
+read words xs k view = ap (λ ys. get_or ys k false) (sym view) ∙ get_or-flags words k
+
+-- the places of words below are those before the word's own, and its own up to the bit
+in_word : (P : ℕ → Type 0) (i t : ℕ) → t ≤ 64 → ((j : ℕ) → j < 64 * i → P j) → ((b : ℕ) → b < t → P (i * 64 + b)) → (j : ℕ)
+    → j < i * 64 + t → P j
+in_word P i t small before here j below = elim (cases_lt j (64 * i)) [
+  | inl low ↦ before j low
+  | inr high ↦
+      let same : i * 64 + (j - i * 64) ≡ j = omega (arith, high) in
+      subst P same (here (j - i * 64) (omega (arith, high, below)))
+]
+
+-- one more word is full
+pub full-more : (words : List ℕ) (i : ℕ) → ((j : ℕ) → j < 64 * i → flag words j ≡ true) → get_or words i 0 ≡ 2 ^ 64 - 1
+    → (j : ℕ) → j < 64 * (i + 1) → flag words j ≡ true
+full-more words i all full j below =
+    in_word (λ k. flag words k ≡ true) i 64 (omega arith) all
+    (λ b small. at_word words i b small ∙ eq-eqb _ _ (ap (λ w. bit_at w b) full ∙ bit_at_ones 64 b small)) j (omega (arith, below))
+
+-- the first place that is lacked lies in the first word that is not full
+pub found-absent : (words : List ℕ) (xs : List Bool) (i : ℕ) → flags words ≡ xs → i < length words
+    → ((j : ℕ) → j < 64 * i → flag words j ≡ true)
+    → get_or words i 0 + 1 < 2 ^ 64 → IsFirstAbsent xs (i * 64 + trailing_ones w64 (get_or words i 0))
+found-absent words xs i view within all small =
+    let w = get_or words i 0 in
+    let h = bit_at-trailing_ones w64 w small in
+    let t = trailing_ones w64 w in
+    let low : t < 64 = h.0 in
+    let long : length xs ≡ 64 * length words = ap length (sym view) ∙ length-flags words in
+    let miss : bit_at w t ≡ 0 = h.1 in
+    record {
+      within = omega (arith, low, long, within);
+      lacks = read words xs (i * 64 + t) view ∙ (at_word words i t low ∙ ap (λ n. eqb n 1) miss);
+      first = λ j below. read words xs j view ∙ in_word (λ k. flag words k ≡ true) i t (omega (arith, low)) all
+          (λ b less. at_word words i b (omega (arith, less, low)) ∙ eq-eqb _ _ (h.2 b less)) j below;
+    }
+
+-- where all words are full, every number is there
+pub found-none_absent : (words : List ℕ) (xs : List Bool) → flags words ≡ xs
+    → ((j : ℕ) → j < 64 * length words → flag words j ≡ true) → (j : ℕ) → j < length xs → get_or xs j false ≡ true
+found-none_absent words xs view all j below = read words xs j view ∙ all j (place-within words xs j view below)
+
+-- ---- the first place that one has and the other lacks
+
+-- a bit that one word has and the other lacks
+and_not-one : (a b t : ℕ) → b < 2 ^ 64 → t < 64 → bit_at (bit_and a (2 ^ 64 - 1 - b)) t ≡ 1 → (bit_at a t ≡ 1) × (bit_at b t ≡ 0)
+and_not-one a b t small within one =
+    let both : bit_at (bit_and a (2 ^ 64 - 1 - b)) t ≡ min (bit_at a t) (bit_at (2 ^ 64 - 1 - b) t) = bit_at_and a (2 ^ 64 - 1 - b) t in
+    let other : bit_at (2 ^ 64 - 1 - b) t ≡ 1 - bit_at b t = bit_at_not w64 b t small within in
+    let p = bit_at-lt a t in
+    let q = bit_at-lt b t in
+    (omega (arith, both, other, one, p, q), omega (arith, both, other, one, p, q))
+
+-- where the bit is 0, the other word has what the one has
+and_not-zero : (a b t : ℕ) → b < 2 ^ 64 → t < 64 → bit_at (bit_and a (2 ^ 64 - 1 - b)) t ≡ 0 → bit_at a t ≡ 1 → bit_at b t ≡ 1
+and_not-zero a b t small within none has =
+    let both : bit_at (bit_and a (2 ^ 64 - 1 - b)) t ≡ min (bit_at a t) (bit_at (2 ^ 64 - 1 - b) t) = bit_at_and a (2 ^ 64 - 1 - b) t in
+    let other : bit_at (2 ^ 64 - 1 - b) t ≡ 1 - bit_at b t = bit_at_not w64 b t small within in
+    let q = bit_at-lt b t in
+    omega (arith, both, other, none, has, q)
+
+-- a flag that is set is a bit that is 1
+is_one : (words : List ℕ) (i t : ℕ) → t < 64 → flag words (i * 64 + t) ≡ true → bit_at (get_or words i 0) t ≡ 1
+is_one words i t small hit = eqb-true _ 1 (sym (at_word words i t small) ∙ hit)
+
+-- a bit that is 1 is a flag that is set
+is_flag : (words : List ℕ) (i t : ℕ) → t < 64 → bit_at (get_or words i 0) t ≡ 1 → flag words (i * 64 + t) ≡ true
+is_flag words i t small one = at_word words i t small ∙ eq-eqb _ 1 one
+
+module _ (words others : List ℕ) (i : ℕ) (fits : get_or others i 0 < 2 ^ 64)
+    (before : (j : ℕ) → j < 64 * i → flag words j ≡ true → flag others j ≡ true) where
+  -- what the word has below the bit, the other word has too
+  here_too : (t : ℕ) → t ≤ 64 → ((b : ℕ) → b < t → bit_at (bit_and (get_or words i 0) (2 ^ 64 - 1 - get_or others i 0)) b ≡ 0)
+      → (j : ℕ) → j < i * 64 + t → flag words j ≡ true → flag others j ≡ true
+  here_too t small none =
+      in_word (λ k. flag words k ≡ true → flag others k ≡ true) i t small before
+      (λ b less hit. let low : b < 64 = omega (arith, less, small) in is_flag others i b low
+      (and_not-zero (get_or words i 0) (get_or others i 0) b fits low (none b less) (is_one words i b low hit)))
+
+  -- one more word has nothing outside the other
+  pub inside-more : bit_and (get_or words i 0) (2 ^ 64 - 1 - get_or others i 0) ≡ 0 → (j : ℕ) → j < 64 * (i + 1)
+      → flag words j ≡ true → flag others j ≡ true
+  inside-more empty j below = here_too 64 (omega arith) (λ b less. ap (λ w. bit_at w b) empty ∙ bit_at-zero b) j (omega (arith, below))
+
+  -- the first bit outside the other is the first place outside it
+  pub found-outside : (xs ys : List Bool) → flags words ≡ xs → flags others ≡ ys → i < length words
+      → bit_and (get_or words i 0) (2 ^ 64 - 1 - get_or others i 0) ≢ 0
+      → bit_and (get_or words i 0) (2 ^ 64 - 1 - get_or others i 0) < 2 ^ 64
+      → IsFirstOutside xs ys (i * 64 + trailing_zeros w64 (bit_and (get_or words i 0) (2 ^ 64 - 1 - get_or others i 0)))
+  found-outside xs ys view view_other within some small =
+      let left : ℕ = bit_and (get_or words i 0) (2 ^ 64 - 1 - get_or others i 0) in
+      let t : ℕ = trailing_zeros w64 left in
+      let h = bit_at-trailing_zeros w64 left (omega (arith, some)) small in
+      let low : t < 64 = h.0 in
+      let bits = and_not-one (get_or words i 0) (get_or others i 0) t fits low h.1 in
+      let long : length xs ≡ 64 * length words = ap length (sym view) ∙ length-flags words in
+      record {
+        within = omega (arith, low, long, within);
+        has = read words xs (i * 64 + t) view ∙ is_flag words i t low bits.0;
+        lacks = read others ys (i * 64 + t) view_other ∙ (at_word others i t low ∙ ap (λ n. eqb n 1) bits.1);
+        first = λ j below hit. read others ys j view_other ∙ here_too t (omega (arith, low)) h.2 j below (sym (read words xs j view) ∙ hit);
+      }
+
+-- where no word has a bit outside, no place is outside
+pub found-none_outside : (words others : List ℕ) (xs ys : List Bool) → flags words ≡ xs → flags others ≡ ys
+    → ((j : ℕ) → j < 64 * length words → flag words j ≡ true → flag others j ≡ true) → (j : ℕ) → get_or xs j false ≡ true → get_or ys j false ≡ true
+found-none_outside words others xs ys view view_other all j hit = elim (cases_lt j (64 * length words)) [
+  | inl within ↦ read others ys j view_other ∙ all j within (sym (read words xs j view) ∙ hit)
+  | inr past ↦ absurd (
+      let beyond : length words ≤ j / 64 = omega (arith, past) in
+      let none : get_or words (j / 64) 0 ≡ 0 = get_or_past words (j / 64) 0 beyond in
+      let miss : flag words j ≡ false = ap (λ n. eqb n 1) (ap (λ w. bit_at w (j % 64)) none ∙ bit_at-zero (j % 64)) in
+      let clash : true ≡ false = sym hit ∙ (read words xs j view ∙ miss) in cc)
+]
+
+-- ---- the first place from one on
+
+-- a bit that is 0 is a flag that is not set
+is_off : (words : List ℕ) (i t : ℕ) → t < 64 → bit_at (get_or words i 0) t ≡ 0 → flag words (i * 64 + t) ≡ false
+is_off words i t small none = at_word words i t small ∙ ap (λ n. eqb n 1) none
+
+-- the bits of a word that is shifted
+shifted : (w s b : ℕ) → bit_at (w / 2 ^ s) b ≡ bit_at w (s + b)
+shifted w s b = ap (λ x. x % 2) (shr-shr w s b)
+
+module _ (words : List ℕ) (from : ℕ) where
+  -- none from the place on up to a bit of its word
+  off_in_word : (t : ℕ) → from % 64 + t ≤ 64 → ((b : ℕ) → b < t → bit_at (get_or words (from / 64) 0 / 2 ^ (from % 64)) b ≡ 0)
+      → (j : ℕ) → from ≤ j → j < from + t → flag words j ≡ false
+  off_in_word t small none j low high =
+      let s : ℕ = from % 64 in
+      let b : ℕ = j - from in
+      let less : b < t = omega (arith, low, high) in
+      let bit : bit_at (get_or words (from / 64) 0) (s + b) ≡ 0 = sym (shifted (get_or words (from / 64) 0) s b) ∙ none b less in
+      let inside : s + b < 64 = omega (arith, small, less) in
+      let same : from / 64 * 64 + (s + b) ≡ j = omega (arith, low) in
+      subst (λ k. flag words k ≡ false) same (is_off words (from / 64) (s + b) inside bit)
+
+  -- the rest of the first word has no bit
+  pub off-start : get_or words (from / 64) 0 / 2 ^ (from % 64) ≡ 0 → (j : ℕ) → from ≤ j → j < 64 * (from / 64 + 1) → flag words j ≡ false
+  off-start empty j low high =
+      off_in_word (64 - from % 64) (omega arith) (λ b less. ap (λ w. bit_at w b) empty ∙ bit_at-zero b) j low (omega (arith, high))
+
+  -- one more word has no bit
+  pub off-more : (i : ℕ) → ((j : ℕ) → from ≤ j → j < 64 * i → flag words j ≡ false) → get_or words i 0 ≡ 0 → (j : ℕ) → from ≤ j
+      → j < 64 * (i + 1) → flag words j ≡ false
+  off-more i before empty j low high =
+      in_word (λ k. from ≤ k → flag words k ≡ false) i 64 (omega arith) (λ k less later. before k later less)
+      (λ b small later. is_off words i b small (ap (λ w. bit_at w b) empty ∙ bit_at-zero b)) j (omega (arith, high)) low
+
+  module _ (xs : List Bool) (view : flags words ≡ xs) where
+    -- the first bit of the rest of the first word is the first place
+    pub found-start : get_or words (from / 64) 0 < 2 ^ 64 → from / 64 < length words → get_or words (from / 64) 0 / 2 ^ (from % 64) ≢ 0
+        → get_or words (from / 64) 0 / 2 ^ (from % 64) < 2 ^ 64
+        → IsFirstFrom xs from (from + trailing_zeros w64 (get_or words (from / 64) 0 / 2 ^ (from % 64)))
+    found-start fits within some small =
+        let s : ℕ = from % 64 in
+        let w : ℕ = get_or words (from / 64) 0 in
+        let t : ℕ = trailing_zeros w64 (w / 2 ^ s) in
+        let h = bit_at-trailing_zeros w64 (w / 2 ^ s) (omega (arith, some)) small in
+        let bit : bit_at w (s + t) ≡ 1 = sym (shifted w s t) ∙ h.1 in
+        let inside : s + t < 64 = elim (cases_lt (s + t) 64) [
+          | inl less ↦ less
+          | inr more ↦ absurd (let none : bit_at w (s + t) ≡ 0 = bit_at_above w 64 (s + t) fits more in omega (arith, none, bit))
+        ] in
+        let same : from / 64 * 64 + (s + t) ≡ from + t = omega arith in
+        let long : length xs ≡ 64 * length words = ap length (sym view) ∙ length-flags words in
+        record {
+          within = omega (arith, inside, long, within, same);
+          has = read words xs (from + t) view ∙ subst (λ k. flag words k ≡ true) same (is_flag words (from / 64) (s + t) inside bit);
+          later = omega arith;
+          first = λ j low high. read words xs j view ∙ off_in_word t (omega (arith, inside)) h.2 j low high;
+        }
+
+    -- the first bit of a later word is the first place
+    pub found-later : (i : ℕ) → i < length words → from ≤ i * 64 → ((j : ℕ) → from ≤ j → j < 64 * i → flag words j ≡ false)
+        → get_or words i 0 ≢ 0 → get_or words i 0 < 2 ^ 64
+        → IsFirstFrom xs from (i * 64 + trailing_zeros w64 (get_or words i 0))
+    found-later i within beyond before some small =
+        let w : ℕ = get_or words i 0 in
+        let t : ℕ = trailing_zeros w64 w in
+        let h = bit_at-trailing_zeros w64 w (omega (arith, some)) small in
+        let low : t < 64 = h.0 in
+        let long : length xs ≡ 64 * length words = ap length (sym view) ∙ length-flags words in
+        record {
+          within = omega (arith, low, long, within);
+          has = read words xs (i * 64 + t) view ∙ is_flag words i t low h.1;
+          later = omega (arith, beyond);
+          first = λ j above below. read words xs j view ∙ in_word (λ k. from ≤ k → flag words k ≡ false) i t (omega (arith, low))
+              (λ k less later. before k later less)
+              (λ b less later. is_off words i b (omega (arith, less, low)) (h.2 b less)) j below above;
+        }
+
+    -- where no word has a bit, there is no place
+    pub found-none_from : ((j : ℕ) → from ≤ j → j < 64 * length words → flag words j ≡ false) → (j : ℕ) → from ≤ j
+        → get_or xs j false ≡ false
+    found-none_from all j above = elim (cases_lt j (64 * length words)) [
+      | inl within ↦ read words xs j view ∙ all j above within
+      | inr past ↦
+          let long : length xs ≡ 64 * length words = ap length (sym view) ∙ length-flags words in
+          let beyond : length xs ≤ j = omega (arith, past, long) in
+          get_or_past xs j false beyond
+    ]
+
+-- ---- unions, and sets of nothing
+
+-- a flag of two words joined is a flag of one
+or_flag : (a b t : ℕ) → eqb (bit_at (bit_or a b) t) 1 ≡ (eqb (bit_at a t) 1 || eqb (bit_at b t) 1)
+or_flag a b t =
+    let both = bit_at_or a b t in
+    let p = bit_at-lt a t in
+    let q = bit_at-lt b t in
+    elim (cases_eq (bit_at a t) 1) [
+      | inl one ↦ let all : bit_at (bit_or a b) t ≡ 1 = omega (arith, both, one, q) in rw (eq-eqb _ 1 all, eq-eqb _ 1 one) refl
+      | inr none ↦
+          let zero : bit_at a t ≡ 0 = omega (arith, none, p) in
+          let other : bit_at (bit_or a b) t ≡ bit_at b t = omega (arith, both, zero, q) in
+          rw (other, zero) refl
+    ]
+
+-- words that are joined one by one hold what either held
+pub flags-union : (new old others : List ℕ) (xs ys zs : List Bool) → flags new ≡ xs → flags old ≡ ys → flags others ≡ zs
+    → length new ≡ length old → length others ≡ length old
+    → ((j : ℕ) → j < length old → get_or new j 0 ≡ bit_or (get_or old j 0) (get_or others j 0)) → (k : ℕ) → get_or xs k false
+    ≡ (get_or ys k false || get_or zs k false)
+flags-union new old others xs ys zs a b c same also each k =
+    rw (read new xs k a, read old ys k b, read others zs k c) (elim (cases_lt (k / 64) (length old)) [
+      | inl within ↦ rw (each (k / 64) within) (or_flag (get_or old (k / 64) 0) (get_or others (k / 64) 0) (k % 64))
+      | inr past ↦
+          let p : length new ≤ k / 64 = omega (arith, past, same) in
+          let q : length others ≤ k / 64 = omega (arith, past, also) in
+          rw (get_or_past new (k / 64) 0 p, get_or_past old (k / 64) 0 past, get_or_past others (k / 64) 0 q, bit_at-zero (k % 64)) refl
+    ])
+
+-- words joined are 0 where both are
+pub or-zero : (a b : ℕ) → a < 2 ^ 64 → b < 2 ^ 64 → bit_or a b ≡ 0 → (a ≡ 0) × (b ≡ 0)
+or-zero a b small also none = (
+  same_from_bits_below 64 a 0 small (omega arith) (λ i within. let e = part i in e.0 ∙ sym (bit_at-zero i)),
+  same_from_bits_below 64 b 0 also (omega arith) (λ i within. let e = part i in e.1 ∙ sym (bit_at-zero i)),
+) where
+  part : (i : ℕ) → (bit_at a i ≡ 0) × (bit_at b i ≡ 0)
+  part i = let both = bit_at_or a b i in let zero : bit_at (bit_or a b) i ≡ 0 = ap (λ w. bit_at w i) none ∙ bit_at-zero i in
+      (omega (arith, both, zero), omega (arith, both, zero))
+
+-- and where both are 0, they are 0 joined
+pub or-both_zero : (a b : ℕ) → a ≡ 0 → b ≡ 0 → bit_or a b ≡ 0
+or-both_zero a b p q = rw (p, q) refl
+
+-- where all words are 0, no flag is set
+pub flags-empty : (words : List ℕ) (xs : List Bool) → flags words ≡ xs → ((j : ℕ) → j < length words → get_or words j 0 ≡ 0)
+    → (k : ℕ) → get_or xs k false ≡ false
+flags-empty words xs view none k = read words xs k view ∙ (elim (cases_lt (k / 64) (length words)) [
+  | inl within ↦ rw (none (k / 64) within, bit_at-zero (k % 64)) refl
+  | inr past ↦ rw (get_or_past words (k / 64) 0 past, bit_at-zero (k % 64)) refl
+])
+
+-- a bit that is not 1 is 0
+bit_off : (n : ℕ) → n < 2 → eqb n 1 ≡ false → n ≡ 0
+bit_off zero small off = refl
+bit_off (suc zero) small off = absurd (cc)
+bit_off (suc (suc n)) small off = absurd (omega (arith, small))
+
+-- where no flag is set, each word is 0
+pub empty-flags : (words : List ℕ) (xs : List Bool) → flags words ≡ xs → ((k : ℕ) → get_or xs k false ≡ false) → (j : ℕ)
+    → get_or words j 0 < 2 ^ 64 → get_or words j 0 ≡ 0
+empty-flags words xs view none j small =
+    same_from_bits_below 64 (get_or words j 0) 0 small (omega arith)
+    (λ i within. bit_off _ (bit_at-lt (get_or words j 0) i)
+    (sym (at_word words j i within) ∙ (sym (read words xs (j * 64 + i) view) ∙ none (j * 64 + i))) ∙ sym (bit_at-zero i))
+
+-- a word that is shifted right stays a word
+pub shifted-small : (w s : ℕ) → w < 2 ^ 64 → w / 2 ^ s < 2 ^ 64
+shifted-small w s small = omega (arith, div-le_self w (2 ^ s))
+
+-- words joined stay a word
+pub or-small : (a b : ℕ) → a < 2 ^ 64 → b < 2 ^ 64 → bit_or a b < 2 ^ 64
+or-small a b small also = or_lt 64 a b small also
+
+-- what holds below a number and at it holds below the next
+pub up_to : (P : ℕ → Type 0) (i : ℕ) → ((j : ℕ) → j < i → P j) → P i → (j : ℕ) → j < i + 1 → P j
+up_to P i before here = below_more P i before here

@@ -1,0 +1,8 @@
+//! Sets of small numbers as bits, seen as lists of truth values.
+#![tactic(auto)]
+
+mod bit_set;
+#[cfg(test)]
+mod tests;
+
+pub use bit_set::BitSet;

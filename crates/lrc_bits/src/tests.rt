@@ -1,0 +1,66 @@
+//! Sets beside lists of truth values that hold the same numbers.
+
+ghost use Rattle.std.specs.Prelude.{◌≡◌, length};
+
+use crate::BitSet;
+use std::process::Abort;
+use std::test::Fail;
+
+/// Whether a set holds the numbers that a list marks, and finds the first present and absent ones where a plain
+/// search does.
+fn agree(set: &BitSet<2>, plain: &[bool; 128]) -> bool
+    requires { length set.now ≡ 128 }
+{
+    let mut same = set.first_absent() == plain.iter().position(|mark| !*mark);
+    same = same && set.first_from(0) == plain.iter().position(|mark| *mark);
+    same = same && set.is_empty() == !plain.iter().any(|mark| *mark);
+    for place in 0..128usize {
+        same = same && set.contains(place) == plain[place];
+    }
+    same
+}
+
+#[test]
+fn a_set_answers_as_a_list_does(rt: HostRuntime) -> Result<(), Fail> {
+    let mut set = BitSet::<2>::new();
+    let mut plain = [false; 128];
+    assert!(rt; agree(&set, &plain));
+    for step in 0..384usize {
+        let place = step * 37 % 128;
+        if plain[place] {
+            set.remove(place);
+        } else {
+            set.insert(place);
+        }
+        plain[place] = !plain[place];
+        assert!(rt; agree(&set, &plain));
+    }
+    Ok(())
+}
+
+#[test]
+fn a_search_goes_on_in_the_next_word(rt: HostRuntime) -> Result<(), Fail> {
+    let mut set = BitSet::<3>::new();
+    set.insert(63);
+    set.insert(130);
+    assert_eq!(rt; set.first_from(0), Some(63));
+    assert_eq!(rt; set.first_from(63), Some(63));
+    assert_eq!(rt; set.first_from(64), Some(130));
+    assert_eq!(rt; set.first_from(131), None);
+    assert_eq!(rt; set.first_from(192), None);
+    Ok(())
+}
+
+#[test]
+fn what_another_set_holds_is_passed_over(rt: HostRuntime) -> Result<(), Fail> {
+    let mut set = BitSet::<2>::new();
+    let mut other = BitSet::<2>::new();
+    set.insert(5);
+    set.insert(64);
+    assert_eq!(rt; set.first_outside(&other), Some(5));
+    other.insert(5);
+    assert_eq!(rt; set.first_outside(&other), Some(64));
+    other.insert_all(&set);
+    assert_eq!(rt; set.first_outside(&other), None);
+    Ok(())
+}
