@@ -1,26 +1,19 @@
-ghost use Rattle.std.specs.Prelude.{◌≡◌, ℕ, ◌<◌, ◌≤◌, ◌↔◌, ◌^◌, ◌||◌, if◌then◌else◌, IsTrue, nat_eq, All, length, IsSome, IfSome, Option, map, option_map};
+ghost use Rattle.std.specs.Prelude.{◌≡◌, ℕ, ◌<◌, ◌≤◌, ◌↔◌, ◌^◌, ◌||◌, ◌&&◌, not, if◌then◌else◌, IsTrue, nat_eq, nat_lt, bit_and, count_ones, IsSome, IfSome, Option, map, option_map};
 ghost use Rattle.std.specs.List.{list_any};
 ghost use Rattle.lrc_code.specs.declared.codes.Code.TheVariants.{Wide};
-ghost use Rattle.lrc_code.specs.Codes.{members, is_in_group, others};
+ghost use Rattle.lrc_code.specs.Codes.{is_in_group, others};
 ghost use Rattle.lrc_code.specs.Losses.{losses_in, excess, IsRecoverable, is_recoverable, IsMargin, bits_set, margin_of, local_sources};
 
 use crate::{Class, Fragment};
 
-const MEMBERS_OF_A: [u8; 7] = [0, 1, 2, 3, 4, 5, 12];
-
-const MEMBERS_OF_B: [u8; 7] = [6, 7, 8, 9, 10, 11, 13];
-
-const MEMBERS_OF_G: [u8; 2] = [14, 15];
-
-fn members_of(class: Class) -> &'static [u8]
-    ensures list { result.now ≡ members Wide class }
-    ensures numbers { All (λ f. f < 16) result.now }
-    ensures few { length result.now ≤ 7 }
+// The members of a class, each as its bit.
+fn members_of(class: Class) -> u16
+    ensures { (bits : ℕ) → count_ones (bit_and bits result) ≡ losses_in Wide class (bits_set bits) }
 {
     match class {
-        Class::A => &MEMBERS_OF_A,
-        Class::B => &MEMBERS_OF_B,
-        Class::G => &MEMBERS_OF_G,
+        Class::A => 0b0001_0000_0011_1111,
+        Class::B => 0b0010_1111_1100_0000,
+        Class::G => 0b1100_0000_0000_0000,
     }
 }
 
@@ -83,27 +76,37 @@ impl LossMask {
         }
     }
 
+    /// The same losses but for this one.
+    pub fn without(self, fragment: Fragment) -> Self
+        ensures { (f : ℕ) → bits_set result.bits f ≡ (not (nat_eq f fragment.value) && bits_set self.bits f) }
+    {
+        LossMask {
+            bits: self.bits & !(1 << fragment.get()),
+        }
+    }
+
     /// How many fragments of a class are lost.
     pub fn class_losses(self, class: Class) -> u8
         ensures value { result ≡ losses_in Wide class (bits_set self.bits) }
         ensures few { result ≤ 7 }
     {
-        let bits = self.bits;
-        let losses = members_of(class)
-            .iter()
-            .filter(|number| (bits >> **number) & 1 == 1)
-            .count();
-        losses as u8
+        (self.bits & members_of(class)).count_ones() as u8
     }
 
-    /// How many losses are beyond one in each local group, with all global ones.
+    // Whether a fragment of the class is lost.
+    fn touches(self, class: Class) -> bool
+        ensures { result ≡ nat_lt 0 (losses_in Wide class (bits_set self.bits)) }
+    {
+        self.bits & members_of(class) != 0
+    }
+
+    // How many losses are beyond one in each local group, with all global ones.
     fn excess(self) -> u8
         ensures { result ≡ excess Wide (bits_set self.bits) }
     {
-        let a = self.class_losses(Class::A);
-        let b = self.class_losses(Class::B);
-        let g = self.class_losses(Class::G);
-        a.saturating_sub(1) + b.saturating_sub(1) + g
+        // A local parity makes up for one loss of its group.
+        let repaired = u8::from(self.touches(Class::A)) + u8::from(self.touches(Class::B));
+        self.bits.count_ones() as u8 - repaired
     }
 
     /// Whether the code rebuilds all of the lost fragments.
@@ -126,10 +129,10 @@ impl LossMask {
         if excess > 2 {
             return None;
         }
-        if self.class_losses(Class::A) + self.class_losses(Class::B) >= 1 {
+        if self.touches(Class::A) || self.touches(Class::B) {
             Some(2 - excess)
         } else {
-            Some(3 - self.class_losses(Class::G))
+            Some(3 - excess)
         }
     }
 

@@ -8,18 +8,18 @@ pub returns-then-excess-gt2-clause-recoverable : goal.returns-then-excess-gt2-cl
 returns-then-excess-gt2-clause-recoverable c =
     (margin-clauses (bits_set c.args.self.bits) None (sym (margin_of-lost Wide (bits_set c.args.self.bits) (λ few. omega (arith, few, c.excess-excess.ensures, c.if-excess-gt2.true))))).1
 
-pub returns-then-class_losses-ge1-clause-margin : goal.returns-then-class_losses-ge1-clause-margin
-returns-then-class_losses-ge1-clause-margin c =
+pub returns-then-touches-2-clause-margin : goal.returns-then-touches-2-clause-margin
+returns-then-touches-2-clause-margin c =
     let value : Some (2 - c.excess-excess.result) ≡ margin_of Wide (bits_set c.args.self.bits) = search rules in (margin-clauses (bits_set c.args.self.bits) (Some (2 - c.excess-excess.result)) value).0
 
-pub returns-then-class_losses-ge1-clause-recoverable : goal.returns-then-class_losses-ge1-clause-recoverable
-returns-then-class_losses-ge1-clause-recoverable c =
+pub returns-then-touches-2-clause-recoverable : goal.returns-then-touches-2-clause-recoverable
+returns-then-touches-2-clause-recoverable c =
     let value : Some (2 - c.excess-excess.result) ≡ margin_of Wide (bits_set c.args.self.bits) = search rules in (margin-clauses (bits_set c.args.self.bits) (Some (2 - c.excess-excess.result)) value).1
 
-pub returns-else-class_losses-ge1-clause-margin : goal.returns-else-class_losses-ge1-clause-margin
-returns-else-class_losses-ge1-clause-margin c =
-    let value : Some (3 - c.class_losses-else-class_losses-ge1.result) ≡ margin_of Wide (bits_set c.args.self.bits) = search rules in (margin-clauses (bits_set c.args.self.bits) (Some (3 - c.class_losses-else-class_losses-ge1.result)) value).0
+pub returns-else-touches-2-clause-margin : goal.returns-else-touches-2-clause-margin
+returns-else-touches-2-clause-margin c =
+    let value : Some (3 - c.excess-excess.result) ≡ margin_of Wide (bits_set c.args.self.bits) = search rules in (margin-clauses (bits_set c.args.self.bits) (Some (3 - c.excess-excess.result)) value).0
 
-pub returns-else-class_losses-ge1-clause-recoverable : goal.returns-else-class_losses-ge1-clause-recoverable
-returns-else-class_losses-ge1-clause-recoverable c =
-    let value : Some (3 - c.class_losses-else-class_losses-ge1.result) ≡ margin_of Wide (bits_set c.args.self.bits) = search rules in (margin-clauses (bits_set c.args.self.bits) (Some (3 - c.class_losses-else-class_losses-ge1.result)) value).1
+pub returns-else-touches-2-clause-recoverable : goal.returns-else-touches-2-clause-recoverable
+returns-else-touches-2-clause-recoverable c =
+    let value : Some (3 - c.excess-excess.result) ≡ margin_of Wide (bits_set c.args.self.bits) = search rules in (margin-clauses (bits_set c.args.self.bits) (Some (3 - c.excess-excess.result)) value).1
