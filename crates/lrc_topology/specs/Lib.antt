@@ -1,5 +1,6 @@
 pub use Rattle.lrc_code.specs.Numbers
 pub mod Nodes
+pub mod Index
 pub mod Seats
 pub mod Faults
 pub mod Documents

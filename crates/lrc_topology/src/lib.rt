@@ -3,6 +3,7 @@
 
 mod error;
 pub mod laws;
+mod node_index;
 mod read;
 mod seat;
 #[cfg(test)]
@@ -11,6 +12,7 @@ mod topology;
 
 pub use error::TopologyError;
 use lrc_code::{FaultNo, NodeNo, UpgradeNo};
+pub use node_index::NodeIndex;
 pub use seat::{Held, Seat};
 pub use topology::Topology;
 

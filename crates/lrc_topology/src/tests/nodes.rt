@@ -1,7 +1,7 @@
 //! The nodes of texts that are taken, and how they are looked up.
 
 use super::{answer, entry, numbered, twenty};
-use crate::{NodeInfo, Topology, TopologyError};
+use crate::{NodeIndex, NodeInfo, Topology, TopologyError};
 use lrc_code::{FaultNo, NodeNo, UpgradeNo};
 use std::test::Fail;
 
@@ -75,6 +75,25 @@ fn nodes_and_domains_are_found(rt: HostRuntime) -> Result<(), Fail> {
     }
     assert_eq!(rt; topology.node(NodeNo { value: 20 }), None);
     assert_eq!(rt; topology.nodes().count(), 20);
+    Ok(())
+}
+
+#[test]
+fn places_are_found_by_number(rt: HostRuntime) -> Result<(), Fail> {
+    let text = numbered(rt.alloc(), &["9", "65535", "0", "1"])?;
+    let topology = Topology::read(rt.alloc(), text.as_bytes())?;
+    let index = NodeIndex::new(rt.alloc(), &topology)?;
+    for (number, want) in [
+        (9, Some(0)),
+        (65535, Some(1)),
+        (0, Some(2)),
+        (1, Some(3)),
+        (2, None),
+        (65534, None),
+    ] {
+        let got = index.place(NodeNo { value: number });
+        assert_eq!(rt; got, want, "node {number}");
+    }
     Ok(())
 }
 
