@@ -56,7 +56,8 @@ pub MayTake-may_take : (t : Slots) (b : Barred) (n : NodeInfo) → MayTake t b n
 MayTake-may_take t b n h =
     let room : is_some (least_free t n) ≡ true = elim (cases_Bool (is_some (least_free t n))) [
       | inl hit ↦ hit
-      | inr miss ↦ absurd (let full = (least_free-none t n).0 (none-known _ miss) h.room.0 h.room.1 in let e : true ≡ false = sym full ∙ h.room.2 in cc)
+      | inr miss ↦ absurd (let full = (least_free-none t n).0 (none-known _ miss) h.room.0 h.room.1 in let e : true ≡ false = sym
+          full ∙ h.room.2 in cc)
     ] in
     and_from _ _ (and_from _ _ h.eligible room) (not_from_false _ (or_from _ _ h.fault h.upgrade))
 
@@ -75,7 +76,8 @@ next_node-none t b = (
       let all : AllByRecursion (λ x. ⊥) (filter (may_take t b) t.nodes) = rw left tt in
       at-each (λ n. may_take t b n ≡ true → ⊥) t.nodes n (all-filtered (may_take t b) (λ x. ⊥) t.nodes all) listed (MayTake-may_take t b n h),
   λ none. let all : AllByRecursion (λ n. may_take t b n ≡ false) t.nodes =
-      recursion_from_All _ t.nodes (λ k d within. false_from_ne_true _ (λ hit. none _ (Contains-get_or t.nodes k d within) (may_take-MayTake t b _ hit))) in
+      recursion_from_All _ t.nodes (λ k d within. false_from_ne_true _
+      (λ hit. none _ (Contains-get_or t.nodes k d within) (may_take-MayTake t b _ hit))) in
       ap (least (is_chosen_before t)) (filter-none (may_take t b) t.nodes all),
 )
 
@@ -86,13 +88,16 @@ next_node-IsNext t b n e =
       listed = least-all (is_chosen_before t) (Contains t.nodes) n (filter test t.nodes) (all_kept _ test t.nodes (each_listed t.nodes)) e;
       allowed = may_take-MayTake t b n (least-all (is_chosen_before t) (λ x. test x ≡ true) n (filter test t.nodes) (all-passes test t.nodes) e);
       first = λ m listed h differ.
-          let later = at-each (λ y. test y ≡ true → is_chosen_before t y n ≡ false) t.nodes m (all-filtered test _ t.nodes (least-first (is_chosen_before t) (chosen-order t) n (filter test t.nodes) e)) listed (MayTake-may_take t b m h) in
+          let later = at-each (λ y. test y ≡ true → is_chosen_before t y n ≡ false) t.nodes m
+          (all-filtered test _ t.nodes (least-first (is_chosen_before t) (chosen-order t) n (filter test t.nodes) e)) listed
+          (MayTake-may_take t b m h) in
           lighter-total (taken_count t n) n.number (taken_count t m) m.number later (λ same. differ (equal_nodes m.number n.number (sym same)));
     }
 
 pub next_node-some : (t : Slots) (b : Barred) (n : NodeInfo) → AreNodes t.nodes → (next_node t b ≡ Some n) ↔ IsNext t b n
 next_node-some t b n known = (next_node-IsNext t b n, λ h. next_from t b n known h (next_node t b) refl) where
-  next_from : (t : Slots) (b : Barred) (n : NodeInfo) → AreNodes t.nodes → IsNext t b n → (o : Option NodeInfo) → next_node t b ≡ o → next_node t b ≡ Some n
+  next_from : (t : Slots) (b : Barred) (n : NodeInfo) → AreNodes t.nodes → IsNext t b n → (o : Option NodeInfo)
+      → next_node t b ≡ o → next_node t b ≡ Some n
   next_from t b n known h None e = absurd ((next_node-none t b).0 e n h.listed h.allowed)
   next_from t b n known h (Some m) e =
       let other = next_node-IsNext t b m e in

@@ -7,3 +7,8 @@ pub mod NodeLemmas
 pub mod ChoiceLemmas
 pub mod LawLemmas
 pub mod SeatLemmas
+pub mod RowLemmas
+pub mod SetLemmas
+pub mod IndexLemmas
+pub mod SetupLemmas
+pub mod BarredNodesLemmas

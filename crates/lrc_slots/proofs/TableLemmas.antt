@@ -79,15 +79,19 @@ module _ (rows : Table) (n : NodeNo) (r : Row) (i : ℕ) (found : row_at rows n 
   row-here d = rw (row-place_of rows n i place).0 (get_or_from_slice_get rows _ r d (sym (find_at (is_of n) rows) ∙ found))
 
   -- the rows that are found after one is put in the place of another of the same node
-  pub row_at-set : (y : Row) → y.node ≡ r.node → (m : NodeNo) → row_at (set rows i y) m ≡ cond (eqb n.value m.value) (Some y) (row_at rows m)
+  pub row_at-set : (y : Row) → y.node ≡ r.node → (m : NodeNo)
+      → row_at (set rows i y) m ≡ cond (eqb n.value m.value) (Some y) (row_at rows m)
   row_at-set y stays m =
-      let number : y.node.number.value ≡ n.value = ap (λ (x : NodeInfo). x.number.value) stays ∙ ap (λ (m : NodeNo). m.value) (sym (row-number rows n r found)) in
+      let number : y.node.number.value ≡ n.value = ap (λ (x : NodeInfo). x.number.value) stays ∙ ap (λ (m : NodeNo). m.value)
+      (sym (row-number rows n r found)) in
       let at_i = row-place_of rows n i place in
       elim (cases_eq n.value m.value) [
         | inl e ↦ rw (eq-eqb _ _ e, ← equal_nodes n m e) (find-set (is_of n) rows i y at_i.0 at_i.1 (eq-eqb _ _ (sym number)))
         | inr other ↦
             rw (ne_eqb _ _ other)
-            (find_past (is_of m) rows i y r (rw (row-here r) (ne_eqb _ _ (λ e. other (sym (e ∙ ap (λ (x : NodeNo). x.value) (sym (row-number rows n r found))))))) (ne_eqb _ _ (λ e. other (sym (e ∙ number)))))
+            (find_past (is_of m) rows i y r
+            (rw (row-here r) (ne_eqb _ _ (λ e. other
+            (sym (e ∙ ap (λ (x : NodeNo). x.value) (sym (row-number rows n r found))))))) (ne_eqb _ _ (λ e. other (sym (e ∙ number)))))
       ]
 
   pub nodes-set : (y : Row) → y.node ≡ r.node → map (λ x. x.node) (set rows i y) ≡ map (λ x. x.node) rows
@@ -108,21 +112,25 @@ module _ (rows : Table) (n : NodeNo) (r : Row) (i : ℕ) (found : row_at rows n 
   ])))
 
   -- a slot is marked as taken
-  pub slots_of-taken : (slot : ℕ) → slot < length r.taken → slots_of (set rows i (record r { taken = set r.taken slot true })) ≡ with_taken (slots_of rows) n (Some slot)
+  pub slots_of-taken : (slot : ℕ) → slot < length r.taken
+      → slots_of (set rows i (record r { taken = set r.taken slot true })) ≡ with_taken (slots_of rows) n (Some slot)
   unfolding slots_of
   slots_of-taken slot within =
       let y : Row = record r { taken = set r.taken slot true } in
-      same_slots _ _ (nodes-set y refl) (eligible-same y refl refl) (fun_ext (λ m. fun_ext (λ k. rw (row_at-set y refl m) (elim (cases_eq n.value m.value) [
+      same_slots _ _ (nodes-set y refl) (eligible-same y refl refl)
+      (fun_ext (λ m. fun_ext (λ k. rw (row_at-set y refl m) (elim (cases_eq n.value m.value) [
         | inl e ↦ rw (eq-eqb _ _ e, ← equal_nodes n m e, found) (get_or-set_true r.taken slot k within)
         | inr other ↦ rw (ne_eqb _ _ other) (sym (or-false _))
       ]))))
 
   -- a slot is marked as free
-  pub slots_of-free : (slot : ℕ) → slot < length r.taken → slots_of (set rows i (record r { taken = set r.taken slot false })) ≡ with_free (slots_of rows) n slot
+  pub slots_of-free : (slot : ℕ) → slot < length r.taken
+      → slots_of (set rows i (record r { taken = set r.taken slot false })) ≡ with_free (slots_of rows) n slot
   unfolding slots_of
   slots_of-free slot within =
       let y : Row = record r { taken = set r.taken slot false } in
-      same_slots _ _ (nodes-set y refl) (eligible-same y refl refl) (fun_ext (λ m. fun_ext (λ k. rw (row_at-set y refl m) (elim (cases_eq n.value m.value) [
+      same_slots _ _ (nodes-set y refl) (eligible-same y refl refl)
+      (fun_ext (λ m. fun_ext (λ k. rw (row_at-set y refl m) (elim (cases_eq n.value m.value) [
         | inl e ↦ rw (eq-eqb _ _ e, ← equal_nodes n m e, found) (get_or-set_false r.taken slot k within)
         | inr other ↦ rw (ne_eqb _ _ other) (sym (and-true _))
       ]))))
@@ -163,10 +171,12 @@ unfolding slots_of
 taken-alone rows n r found = ap (λ (o : Option Row). λ k. option_map_or (λ x. is_marked x k) o false) found
 
 -- a taken slot is one of the row
-pub taken-within : (rows : Table) (n : NodeNo) (k : ℕ) (r : Row) → row_at rows n ≡ Some r → (slots_of rows).taken n k ≡ true → k < length r.taken
+pub taken-within : (rows : Table) (n : NodeNo) (k : ℕ) (r : Row) → row_at rows n ≡ Some r → (slots_of rows).taken n k ≡ true
+    → k < length r.taken
 taken-within rows n k r found hit = elim (cases_lt k (length r.taken)) [
   | inl within ↦ within
-  | inr past ↦ absurd (let miss : false ≡ true = sym (get_or_past r.taken k false past) ∙ (ap (λ (taken : ℕ → Bool). taken k) (sym (taken-alone rows n r found)) ∙ hit) in cc)
+  | inr past ↦ absurd (let miss : false ≡ true = sym (get_or_past r.taken k false past)
+      ∙ (ap (λ (taken : ℕ → Bool). taken k) (sym (taken-alone rows n r found)) ∙ hit) in cc)
 ]
 
 -- no slot of a node that has no place is taken
@@ -182,16 +192,25 @@ pub node-alone : (rows : Table) (n : NodeNo) (r : Row) → row_at rows n ≡ Som
 unfolding slots_of
 node-alone rows n r found = node_at-rows rows n ∙ ap (option_map (λ x. x.node)) found
 
-pub least_free-alone : (rows : Table) (n : NodeNo) (r : Row) → row_at rows n ≡ Some r → least_free_at (slots_of rows) n ≡ least_free (alone r) r.node
+-- at a number that has no place there is no node
+pub node-absent : (rows : Table) (n : NodeNo) → place_of rows n ≡ None → node_at (slots_of rows).nodes n ≡ None
+unfolding slots_of
+node-absent rows n none = node_at-rows rows n ∙ ap (option_map (λ x. x.node)) (row_at-absent rows n none)
+
+pub least_free-alone : (rows : Table) (n : NodeNo) (r : Row) → row_at rows n ≡ Some r
+    → least_free_at (slots_of rows) n ≡ least_free (alone r) r.node
 least_free-alone rows n r found =
-    rw (node-alone rows n r found) (ap (λ (taken : ℕ → Bool). first_slot taken 0 r.node.slots) (rw (← row-number rows n r found) (taken-alone rows n r found)))
+    rw (node-alone rows n r found) (ap (λ (taken : ℕ → Bool). first_slot taken 0 r.node.slots)
+    (rw (← row-number rows n r found) (taken-alone rows n r found)))
 
 pub load-alone : (rows : Table) (n : NodeNo) (r : Row) → row_at rows n ≡ Some r → load_at (slots_of rows) n ≡ taken_count (alone r) r.node
 load-alone rows n r found =
-    rw (node-alone rows n r found) (ap (λ (taken : ℕ → Bool). count_by taken (range_with_len 0 r.node.slots)) (rw (← row-number rows n r found) (taken-alone rows n r found)))
+    rw (node-alone rows n r found) (ap (λ (taken : ℕ → Bool). count_by taken (range_with_len 0 r.node.slots))
+    (rw (← row-number rows n r found) (taken-alone rows n r found)))
 
 -- each node has at most 256 slots
-pub slots-few : (rows : Table) (n : NodeNo) (r : Row) → AllByRecursion IsInRange (map (λ x. x.node) rows) → row_at rows n ≡ Some r → r.node.slots ≤ 256
+pub slots-few : (rows : Table) (n : NodeNo) (r : Row) → AllByRecursion IsInRange (map (λ x. x.node) rows)
+    → row_at rows n ≡ Some r → r.node.slots ≤ 256
 slots-few [] n r ranges found = absurd (cc)
 slots-few (x ∷ xs) n r ranges found = elim (cases_Bool (is_of n x)) [
   | inl hit ↦
@@ -228,5 +247,6 @@ slots_of-fresh nodes = same_slots _ _ (nodes-fresh nodes)
     (fun_ext (λ n. fun_ext (λ k. rw (row_at-fresh nodes n) (taken-fresh (node_at nodes n) k))))
 
 -- all nodes have got their row
-pub fresh-all : (rows : Table) (rest nodes : List NodeInfo) → rows ++ map fresh_row rest ≡ map fresh_row nodes → rest ≡ [] → rows ≡ map fresh_row nodes
+pub fresh-all : (rows : Table) (rest nodes : List NodeInfo) → rows ++ map fresh_row rest ≡ map fresh_row nodes → rest ≡ []
+    → rows ≡ map fresh_row nodes
 fresh-all rows rest nodes so_far done = sym (append-nil rows) ∙ (rw done at so_far)

@@ -1,7 +1,7 @@
 -- Internal: no public clause reaches these definitions.
 -- The rows of a table: where one stands, and what one says by itself.
-use Rattle.std.specs.Prelude.{ℕ, Bool, true, false, [], ◌∷◌, replicate, Option}
-use Rattle.std.specs.List.{position}
+use Rattle.std.specs.Prelude.{◌≡◌, ℕ, ◌≤◌, Bool, true, false, List, [], ◌∷◌, length, take, get_or, replicate, count_by, Option}
+use Rattle.std.specs.List.{position, range_with_len}
 use Rattle.lrc_code.specs.declared.numbers.NodeNo.{NodeNo}
 use Rattle.lrc_topology.specs.declared.NodeInfo.{NodeInfo}
 use Rattle.lrc_topology.specs.Seats.{is_lighter}
@@ -13,6 +13,16 @@ use Rattle.lrc_slots.specs.Tables.{Row, Table, is_of, is_marked}
 -- where the row of a node stands
 abbrev pub place_of : Table → NodeNo → Option ℕ
 place_of rows n = position (is_of n) rows
+
+-- a node whose first slots are marked so
+abbrev pub row_of : NodeInfo → Bool → List Bool → Row
+row_of node eligible marks = record { node = node; eligible = eligible; taken = take node.slots marks }
+
+-- marks of a node's slots, of which so many are taken; nothing is said of marks beyond the last slot
+pub record AreMarks (node : NodeInfo) (load : ℕ) (marks : List Bool) : Type 0 where
+  pub few : node.slots ≤ 256
+  pub all : length marks ≡ 256
+  pub counted : load ≡ count_by (λ k. get_or (take node.slots marks) k false) (range_with_len 0 node.slots)
 
 -- a node that is eligible, with all slots free
 abbrev pub fresh_row : NodeInfo → Row

@@ -1,12 +1,16 @@
 //! Which slots of the nodes are taken, and the node that takes the next seat. Only `SlotTable::new` takes memory.
 #![tactic(auto)]
 
+mod barred_nodes;
 pub mod laws;
 mod node_slots;
+mod rank_sets;
+mod setup;
 mod table;
 mod taken;
 #[cfg(test)]
 mod tests;
 
+pub use barred_nodes::BarredNodes;
 pub use table::SlotTable;
 pub use taken::Taken;

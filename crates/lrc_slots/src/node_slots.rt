@@ -1,46 +1,46 @@
-ghost use Rattle.std.specs.Prelude.{◌≡◌, ◌≤◌, ◌<◌, length, IsTrue, IfOk, IfSome, option_copied, slice_set};
-ghost use Rattle.lrc_code.specs.Order.{better};
+ghost use Rattle.std.specs.Prelude.{◌≡◌, ℕ, ◌≤◌, ◌<◌, length, true, false, IsTrue, IfSome, slice_set};
+ghost use Rattle.lrc_slots.specs.Indexes.{is_entry_of, is_listed};
 ghost use Rattle.lrc_slots.specs.Slots.{least_free, taken_count};
-ghost use Rattle.lrc_slots.specs.Tables.{barred, is_marked};
-ghost use Rattle.lrc_slots.specs.Rows.{fresh_row, alone, is_open, precedes};
+ghost use Rattle.lrc_slots.specs.Tables.{is_marked};
+ghost use Rattle.lrc_slots.specs.Rows.{fresh_row, alone};
 
-use crate::Taken;
+use lrc_bits::BitSet;
 use lrc_code::NodeNo;
 use lrc_topology::NodeInfo;
-use std::alloc::{AllocError, Global};
 use std::marker::Model;
 
-/// A node of the table, and for each of its slots whether it is taken.
+/// A node of the table, whether it is eligible, its taken slots and their number.
 #[derive(Drop)]
 pub(crate) struct NodeSlots {
     node: NodeInfo,
     eligible: bool,
-    taken: Vec<bool>,
+    load: u16,
+    marks: BitSet<4>,
 }
 
 impl Model for NodeSlots {
-    ghost use Rattle.std.specs.Prelude.{◌≡◌, length};
     ghost use Rattle.lrc_slots.specs.Tables.{Row};
+    ghost use Rattle.lrc_slots.specs.Rows.{row_of, AreMarks};
 
     ghost Value = { Row };
 
-    ghost view = { λ s. record { node = s.node; eligible = s.eligible; taken = s.taken.items } };
+    ghost view = { λ s. row_of s.node s.eligible s.marks };
 
-    ghost invariant = { λ s. length s.taken.items ≡ s.node.slots };
+    ghost invariant = { λ s. AreMarks s.node s.load s.marks };
 }
 
 impl NodeSlots {
     /// Eligible, with every slot free.
-    pub(crate) fn new(alloc: Global, node: NodeInfo) -> Result<NodeSlots, AllocError>
-        ensures { IfOk result (λ r. r ≡ fresh_row node) }
+    pub(crate) fn new(node: NodeInfo) -> NodeSlots
+        requires { node.slots ≤ 256 }
+        ensures { result ≡ fresh_row node }
     {
-        let mut taken = Vec::new(alloc);
-        taken.resize(node.slots as usize, false)?;
-        Ok(NodeSlots {
+        NodeSlots {
             node,
             eligible: true,
-            taken,
-        })
+            load: 0,
+            marks: BitSet::new(),
+        }
     }
 
     pub(crate) fn number(&self) -> NodeNo
@@ -49,12 +49,18 @@ impl NodeSlots {
         self.node.number
     }
 
+    pub(crate) fn node(&self) -> NodeInfo
+        ensures { result ≡ self.now.node }
+    {
+        self.node
+    }
+
     pub(crate) fn is_taken(&self, slot: u16) -> bool
         ensures value { result ≡ is_marked self.now slot }
         ensures within { IsTrue result → slot < self.now.node.slots }
     {
         if slot < self.node.slots {
-            self.taken[slot as usize]
+            self.marks.contains(slot as usize)
         } else {
             false
         }
@@ -64,13 +70,18 @@ impl NodeSlots {
     pub(crate) fn first_free(&self) -> Option<u16>
         ensures value { result ≡ least_free (alone self.now) self.now.node }
         ensures within { IfSome result (λ k. k < length self.now.taken) }
+        ensures free { IfSome result (λ k. is_marked self.now k ≡ false) }
     {
-        for slot in 0..self.node.slots {
-            if !self.is_taken(slot) {
-                return Some(slot);
+        match self.marks.first_absent() {
+            Some(slot) => {
+                if slot < self.node.slots as usize {
+                    Some(slot as u16)
+                } else {
+                    None
+                }
             }
+            None => None,
         }
-        None
     }
 
     /// The number of taken slots.
@@ -78,59 +89,44 @@ impl NodeSlots {
         ensures value { result ≡ taken_count (alone self.now) self.now.node }
         ensures few { result ≤ self.now.node.slots }
     {
-        let mut count = 0;
-        for slot in 0..self.node.slots {
-            if self.is_taken(slot) {
-                count += 1;
-            }
-        }
-        count
+        self.load as u32
     }
 
-    /// Sets whether a slot is taken.
-    pub(crate) fn mark(&mut self, slot: u16, is_taken: bool)
-        requires { slot < length self.old.taken }
-        ensures { self.new ≡ record self.old { taken = slice_set self.old.taken slot is_taken } }
+    /// The load, if the node is eligible and has a free slot.
+    pub(crate) fn entry(&self) -> Option<u16>
+        ensures value { (k : ℕ) → is_entry_of result k ≡ is_listed self.now k }
+        ensures few { IfSome result (λ load. load < 256) }
     {
-        self.taken[slot as usize] = is_taken;
+        if self.eligible && self.load < self.node.slots {
+            Some(self.load)
+        } else {
+            None
+        }
+    }
+
+    /// Takes a free slot.
+    pub(crate) fn take(&mut self, slot: u16)
+        requires within { slot < length self.old.taken }
+        requires free { is_marked self.old slot ≡ false }
+        ensures { self.new ≡ record self.old { taken = slice_set self.old.taken slot true } }
+    {
+        self.marks.insert(slot as usize);
+        self.load += 1;
+    }
+
+    /// Frees a taken slot.
+    pub(crate) fn free(&mut self, slot: u16)
+        requires within { slot < length self.old.taken }
+        requires taken { is_marked self.old slot ≡ true }
+        ensures { self.new ≡ record self.old { taken = slice_set self.old.taken slot false } }
+    {
+        self.marks.remove(slot as usize);
+        self.load -= 1;
     }
 
     pub(crate) fn set_eligible(&mut self, eligible: bool)
         ensures { self.new ≡ record self.old { eligible = eligible } }
     {
         self.eligible = eligible;
-    }
-
-    /// Whether the node is eligible, has a free slot and is in no barred domain.
-    pub(crate) fn may_take(&self, bars: &Taken) -> bool
-        ensures { result ≡ is_open (barred bars.now) self.now }
-    {
-        let is_barred = bars.has_fault(self.node.fault) || bars.has_upgrade(self.node.upgrade);
-        self.eligible && self.first_free().is_some() && !is_barred
-    }
-
-    /// Whether the node has less load than the other, or as much and a lower number.
-    pub(crate) fn is_chosen_before(&self, other: &NodeSlots) -> bool
-        ensures { result ≡ precedes self.now other.now }
-    {
-        let load = self.load();
-        let other_load = other.load();
-        load < other_load || (load == other_load && self.number() < other.number())
-    }
-}
-
-/// The row of the two whose node is chosen before the other's.
-pub(crate) fn first_of<'a>(best: Option<&'a NodeSlots>, row: &'a NodeSlots) -> &'a NodeSlots
-    ensures { Some result.now ≡ better precedes (option_copied best.entry) row.now }
-{
-    match best {
-        Some(other) => {
-            if row.is_chosen_before(other) {
-                row
-            } else {
-                other
-            }
-        }
-        None => row,
     }
 }

@@ -1,37 +1,52 @@
-ghost use Rattle.std.specs.Prelude.{◌≡◌, ◌≤◌, ◌<◌, length, IsSome, IsSomeAnd, IsTrue, IfSome, IfOk, IfErr, map, filter, option_copied};
+ghost use Rattle.std.specs.Prelude.{◌≡◌, ◌≤◌, ◌<◌, length, IsSome, IsSomeAnd, IsTrue, IfSome, IfOk, IfErr, map, filter, option_copied, All, Contains};
 ghost use Rattle.lrc_code.specs.declared.fault.Fault.TheVariants.{OutOfMemory};
 ghost use Rattle.lrc_code.specs.Order.{least};
 ghost use Rattle.lrc_topology.specs.Nodes.{AreNodes, node_at};
 ghost use Rattle.lrc_slots.specs.Slots.{all_free, least_free_at, load_at, with_taken, with_free, with_eligible};
 ghost use Rattle.lrc_slots.specs.Next.{next_number};
 ghost use Rattle.lrc_slots.specs.Tables.{slots_of, barred};
-ghost use Rattle.lrc_slots.specs.Rows.{place_of, is_open, precedes};
+ghost use Rattle.lrc_slots.specs.Barred.{Barred, with_fault, with_upgrade};
+ghost use Rattle.lrc_slots.specs.BarredNodes.{AreBarredNodes};
+ghost use Rattle.lrc_slots.specs.Rows.{fresh_row, place_of, is_open, precedes};
 
-use crate::Taken;
-use crate::node_slots::{NodeSlots, first_of};
-use lrc_code::{Fault, NodeNo};
-use lrc_topology::Topology;
-use std::alloc::Global;
+use crate::node_slots::NodeSlots;
+use crate::rank_sets::RankSets;
+use crate::{BarredNodes, Taken, setup};
+use lrc_code::{Fault, FaultNo, NodeNo, UpgradeNo};
+use lrc_topology::{NodeIndex, NodeInfo, Topology};
+use std::alloc::{AllocError, Global};
 use std::marker::Model;
 
 /// The taken slots of the nodes of a topology, and which of the nodes are eligible.
 ///
-/// Calls on a node ask for one of that topology; `Topology::node` is the test.
+/// Calls on a node ask for one of that topology; `SlotTable::node` is the test.
 #[derive(Drop)]
 pub struct SlotTable {
+    /// In the order of the file.
     rows: Vec<NodeSlots>,
+    /// Where the row of each node stands.
+    index: NodeIndex,
+    /// For each row its node's rank: how many nodes have a lower number.
+    ranks: Vec<u16>,
+    /// For each rank the place of the row.
+    order: Vec<u16>,
+    /// The ranks of the nodes that are eligible and have a free slot, by load.
+    by_load: RankSets,
+    /// The ranks of all nodes, by fault domain.
+    by_fault: RankSets,
+    /// The ranks of all nodes, by upgrade domain.
+    by_upgrade: RankSets,
 }
 
 impl Model for SlotTable {
-    ghost use Rattle.std.specs.Prelude.{map};
-    ghost use Rattle.lrc_topology.specs.Nodes.{AreNodes};
     ghost use Rattle.lrc_slots.specs.Tables.{Table};
+    ghost use Rattle.lrc_slots.specs.Indexes.{AreIndexed};
 
     ghost Value = { Table };
 
     ghost view = { λ t. t.rows.items };
 
-    ghost invariant = { λ t. AreNodes (map (λ r. r.node) t.rows.items) };
+    ghost invariant = { λ t. AreIndexed t.rows.items t.index t.ranks.items t.order.items t.by_load t.by_fault t.by_upgrade };
 }
 
 impl SlotTable {
@@ -44,11 +59,52 @@ impl SlotTable {
         ensures value { IfOk result (λ t. slots_of t ≡ all_free topology.now) }
         ensures err { IfErr result (λ e. e ≡ OutOfMemory) }
     {
+        let index = NodeIndex::new(alloc, topology)?;
         let mut rows = Vec::with_capacity(alloc, topology.len())?;
         for node in topology.nodes() {
-            rows.push(NodeSlots::new(alloc, *node)?)?;
+            rows.push(NodeSlots::new(*node))?;
         }
-        Ok(SlotTable { rows })
+        Ok(SlotTable::of_rows(alloc, rows, index)?)
+    }
+
+    /// The table of these rows, and where they stand.
+    fn of_rows(
+        alloc: Global,
+        rows: Vec<NodeSlots>,
+        index: NodeIndex,
+    ) -> Result<SlotTable, AllocError>
+        requires nodes { AreNodes (map (λ r. r.node) rows.items) }
+        requires numbers { index ≡ map (λ r. r.node.number) rows.items }
+        requires fresh { All (λ r. r ≡ fresh_row r.node) rows.items }
+        ensures { IfOk result (λ t. t ≡ rows.items) }
+    {
+        let ranks = setup::ranks(alloc, &rows)?;
+        let mut order = setup::zeros(alloc, 512)?;
+        setup::set_order(&mut order, &ranks);
+        let loads = setup::zeros(alloc, rows.len())?;
+        let faults = setup::faults(alloc, &rows)?;
+        let upgrades = setup::upgrades(alloc, &rows)?;
+        let by_load = setup::sets_by(alloc, &loads, &ranks)?;
+        let by_fault = setup::sets_by(alloc, &faults, &ranks)?;
+        let by_upgrade = setup::sets_by(alloc, &upgrades, &ranks)?;
+        Ok(SlotTable {
+            rows,
+            index,
+            ranks,
+            order,
+            by_load,
+            by_fault,
+            by_upgrade,
+        })
+    }
+
+    /// The node of a number; `None` where there is none.
+    pub fn node(&self, number: NodeNo) -> Option<NodeInfo>
+        ensures { result ≡ node_at (slots_of self.now).nodes number }
+    {
+        let place = self.position(number)?;
+        let row = &self.rows[place];
+        Some(row.node())
     }
 
     /// The least free slot of a node; `None` where all are taken.
@@ -69,7 +125,11 @@ impl SlotTable {
         let place = self.place(node);
         let row = &mut self.rows[place];
         let slot = row.first_free()?;
-        row.mark(slot, true);
+        let lighter = row.entry();
+        row.take(slot);
+        let heavier = row.entry();
+        let rank = self.ranks[place] as usize;
+        self.by_load.relist(rank, lighter, heavier);
         Some(slot)
     }
 
@@ -80,7 +140,11 @@ impl SlotTable {
     {
         let place = self.place(node);
         let row = &mut self.rows[place];
-        row.mark(slot, false);
+        let heavier = row.entry();
+        row.free(slot);
+        let lighter = row.entry();
+        let rank = self.ranks[place] as usize;
+        self.by_load.relist(rank, heavier, lighter);
     }
 
     /// The number of taken slots of a node, at most 256.
@@ -100,7 +164,11 @@ impl SlotTable {
     {
         let place = self.place(node);
         let row = &mut self.rows[place];
+        let before = row.entry();
         row.set_eligible(eligible);
+        let after = row.entry();
+        let rank = self.ranks[place] as usize;
+        self.by_load.relist(rank, before, after);
     }
 
     /// Whether a slot of a node is taken; `false` beyond the node's last slot, and for a node that is not of the
@@ -124,29 +192,52 @@ impl SlotTable {
         ensures node { result ≡ next_number (slots_of self.now) (barred bars.now) }
         ensures known { IfSome result (λ n. IsSome (node_at (slots_of self.now).nodes n)) }
     {
-        let row = self.first_open(bars)?;
+        let barred_nodes = bars.nodes(&self.by_fault, &self.by_upgrade);
+        self.choose_outside(&barred_nodes)
+    }
+
+    /// Bars the nodes of a fault domain too.
+    pub fn bar_fault_in(&self, barred_nodes: &mut BarredNodes, domain: FaultNo)
+        ensures { (b : Barred) → AreBarredNodes (slots_of self.now).nodes b barred_nodes.old
+            → AreBarredNodes (slots_of self.now).nodes (with_fault b domain) barred_nodes.new }
+    {
+        barred_nodes.bar(self.by_fault.ranks_of(domain.value as usize));
+    }
+
+    /// Bars the nodes of an upgrade domain too.
+    pub fn bar_upgrade_in(&self, barred_nodes: &mut BarredNodes, domain: UpgradeNo)
+        ensures { (b : Barred) → AreBarredNodes (slots_of self.now).nodes b barred_nodes.old
+            → AreBarredNodes (slots_of self.now).nodes (with_upgrade b domain) barred_nodes.new }
+    {
+        barred_nodes.bar(self.by_upgrade.ranks_of(domain.value as usize));
+    }
+
+    /// The node that `choose` answers where the same domains are barred.
+    pub fn choose_outside(&self, barred_nodes: &BarredNodes) -> Option<NodeNo>
+        ensures node { (b : Barred) → AreBarredNodes (slots_of self.now).nodes b barred_nodes.now → result ≡ next_number (slots_of self.now) b }
+        ensures known { IfSome result (λ n. IsSome (node_at (slots_of self.now).nodes n)) }
+    {
+        let row = self.first_open(barred_nodes)?;
         Some(row.number())
     }
 
     /// The row that is chosen before all others that may take a seat.
-    fn first_open(&self, bars: &Taken) -> Option<&NodeSlots>
-        ensures row { option_copied result ≡ least precedes (filter (is_open (barred bars.now)) self.now) }
+    fn first_open(&self, barred_nodes: &BarredNodes) -> Option<&NodeSlots>
+        ensures row { (b : Barred) → AreBarredNodes (map (λ r. r.node) self.now) b barred_nodes.now
+            → option_copied result ≡ least precedes (filter (is_open b) self.now) }
+        ensures known { IfSome result (λ r. Contains self.now r.now) }
         ensures nodes { AreNodes (map (λ r. r.node) self.now) }
     {
-        let mut best: Option<&NodeSlots> = None;
-        for row in self.rows.iter() {
-            if row.may_take(bars) {
-                best = Some(first_of(best, row));
-            }
-        }
-        best
+        let rank = self.by_load.first_outside(barred_nodes.ranks())?;
+        let place = self.order[rank] as usize;
+        Some(&self.rows[place])
     }
 
     /// Where the row of a node stands; `None` for a node that is not of the topology.
     fn position(&self, node: NodeNo) -> Option<usize>
         ensures { result ≡ place_of self.now node }
     {
-        self.rows.iter().position(|row| node == row.number())
+        self.index.place(node)
     }
 
     /// The same for a node of the topology.

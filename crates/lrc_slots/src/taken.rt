@@ -1,15 +1,19 @@
-ghost use Rattle.std.specs.Prelude.{◌≡◌};
+ghost use Rattle.std.specs.Prelude.{◌≡◌, ℕ, ◌↔◌, ◌⊎◌, true, false, get_or};
+ghost use Rattle.lrc_slots.specs.Indexes.{IsJoined};
 ghost use Rattle.lrc_slots.specs.Barred.{no_bars, with_fault, with_upgrade};
 ghost use Rattle.lrc_slots.specs.Tables.{barred};
 
+use crate::BarredNodes;
+use crate::rank_sets::RankSets;
+use lrc_bits::BitSet;
 use lrc_code::{FaultNo, UpgradeNo};
 use std::marker::Model;
 
 /// The domains that a stripe has taken: no node of them is chosen.
 #[derive(Drop)]
 pub struct Taken {
-    faults: [bool; 256],
-    upgrades: [bool; 256],
+    faults: BitSet<4>,
+    upgrades: BitSet<4>,
 }
 
 impl Model for Taken {
@@ -18,6 +22,10 @@ impl Model for Taken {
     ghost Value = { Bars };
 
     ghost view = { λ t. record { faults = t.faults; upgrades = t.upgrades } };
+
+    ghost use Rattle.std.specs.Prelude.{◌≡◌, length};
+
+    ghost invariant = { λ t. (length t.faults ≡ 256) × (length t.upgrades ≡ 256) };
 }
 
 impl Taken {
@@ -26,8 +34,8 @@ impl Taken {
         ensures { barred result ≡ no_bars }
     {
         Taken {
-            faults: [false; 256],
-            upgrades: [false; 256],
+            faults: BitSet::new(),
+            upgrades: BitSet::new(),
         }
     }
 
@@ -35,27 +43,23 @@ impl Taken {
     pub fn bar_fault(&mut self, domain: FaultNo)
         ensures { barred self.new ≡ with_fault (barred self.old) domain }
     {
-        self.faults[domain.value as usize] = true;
+        self.faults.insert(domain.value as usize);
     }
 
     /// Bars the nodes of an upgrade domain too.
     pub fn bar_upgrade(&mut self, domain: UpgradeNo)
         ensures { barred self.new ≡ with_upgrade (barred self.old) domain }
     {
-        self.upgrades[domain.value as usize] = true;
+        self.upgrades.insert(domain.value as usize);
     }
 
-    #[tactic(auto, unfolding(crate::specs::Tables::barred))]
-    pub(crate) fn has_fault(&self, domain: FaultNo) -> bool
-        ensures { result ≡ (barred self.now).faults domain }
+    /// The nodes of barred domains.
+    pub(crate) fn nodes(&self, by_fault: &RankSets, by_upgrade: &RankSets) -> BarredNodes
+        ensures { (r : ℕ) → (get_or result r false ≡ true) ↔ (IsJoined self.now.faults by_fault.now r ⊎ IsJoined self.now.upgrades by_upgrade.now r) }
     {
-        self.faults[domain.value as usize]
-    }
-
-    #[tactic(auto, unfolding(crate::specs::Tables::barred))]
-    pub(crate) fn has_upgrade(&self, domain: UpgradeNo) -> bool
-        ensures { result ≡ (barred self.now).upgrades domain }
-    {
-        self.upgrades[domain.value as usize]
+        let mut ranks = BitSet::new();
+        by_fault.join(&self.faults, &mut ranks);
+        by_upgrade.join(&self.upgrades, &mut ranks);
+        BarredNodes::of_ranks(ranks)
     }
 }

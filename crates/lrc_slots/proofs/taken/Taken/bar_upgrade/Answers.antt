@@ -3,4 +3,5 @@ use Rattle.lrc_slots.proofs.BarLemmas.{barred-upgrade}
 use Rattle.lrc_slots.proofs.taken.Taken.bar_upgrade.Goals as goal
 
 pub returns : goal.returns
-returns c = rw (← c.self.view_is) (barred-upgrade (record { faults = c.self.inside.faults; upgrades = c.self.inside.upgrades }) c.args.domain (omega arith))
+returns c = rw (c.insert.ensures, ← c.self.view_is)
+    (barred-upgrade (record { faults = c.self.inside.faults; upgrades = c.self.inside.upgrades }) c.args.domain (omega arith))

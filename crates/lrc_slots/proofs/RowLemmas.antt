@@ -1,0 +1,173 @@
+-- One row kept as marks and a count.
+use Rattle.std.proofs.Common.{◌≡◌, ◌≢◌, ℕ, zero, suc, ◌+◌, ◌-◌, ◌<◌, ◌≤◌, Bool, true, false, ◌&&◌, eqb, is_some, cond, zero-add, length-take-le, ◌∷◌, List, length, get_or, set, take, replicate, Option, Some, None, arith, refl, sym, ap, ◌∙◌}
+use Rattle.std.proofs.Math.ListN.{length-set}
+use Rattle.std.proofs.Math.Seq.{take-set-lt}
+use Rattle.std.proofs.lemmas.List.Sums.{count_by-le-length, sum_by-cons}
+use Rattle.std.proofs.lemmas.List.FromFn.{length-range_with_len}
+use Rattle.std.proofs.lemmas.List.{get_or-take, get_or-set_same, get_or-set_other, length-replicate}
+use Rattle.std.specs.List.{count_by, range_with_len}
+use Rattle.lrc_bits.specs.Flags.{IsFirstAbsent}
+use Rattle.lrc_topology.specs.declared.NodeInfo.{NodeInfo}
+use Rattle.lrc_slots.specs.Slots.{least_free, taken_count}
+use Rattle.lrc_slots.specs.Tables.{is_marked}
+use Rattle.lrc_slots.specs.Rows.{row_of, AreMarks, alone, fresh_row}
+use Rattle.lrc_slots.specs.Indexes.{is_listed}
+use Rattle.lrc_slots.proofs.CountLemmas.{first_slot-is, first_slot-all, first_slot-found, first_slot-none, count-one}
+use Rattle.lrc_slots.proofs.MarkLemmas.{get_or-replicate_same}
+
+-- the first places of a list that is long enough
+pub taken-length : (node : NodeInfo) (load : ℕ) (marks : List Bool) → AreMarks node load marks → length (take node.slots marks) ≡ node.slots
+taken-length node load marks h = length-take-le node.slots marks (omega (arith, h.few, h.all))
+
+-- a mark of a slot is read from the marks
+pub marked-within : (n k : ℕ) (marks : List Bool) → k < n → get_or (take n marks) k false ≡ get_or marks k false
+marked-within n k marks within = get_or-take n marks k false within
+
+-- what the search for an absent mark finds
+pub least_free-found : (node : NodeInfo) (eligible : Bool) (marks : List Bool) (k : ℕ) → IsFirstAbsent marks k → k < node.slots
+    → least_free (alone (row_of node eligible marks)) node ≡ Some k
+least_free-found node eligible marks k h within =
+    first_slot-is (is_marked (row_of node eligible marks)) 0 node.slots k (omega arith) (omega (arith, within))
+    (marked-within node.slots k marks within ∙ h.lacks)
+    (λ j low less. marked-within node.slots j marks (omega (arith, less, within)) ∙ h.first j less)
+
+-- an absent mark past the last slot is no free slot
+pub least_free-past : (node : NodeInfo) (eligible : Bool) (marks : List Bool) (k : ℕ) → IsFirstAbsent marks k → node.slots ≤ k
+    → least_free (alone (row_of node eligible marks)) node ≡ None
+least_free-past node eligible marks k h past =
+    first_slot-all (is_marked (row_of node eligible marks)) 0 node.slots
+    (λ j low less. let within : j < node.slots = omega (arith, less) in marked-within node.slots j marks within ∙ h.first j
+    (omega (arith, within, past)))
+
+-- where all marks are there, no slot is free
+pub least_free-none : (node : NodeInfo) (eligible : Bool) (load : ℕ) (marks : List Bool) → AreMarks node load marks
+    → ((j : ℕ) → j < length marks → get_or marks j false ≡ true)
+    → least_free (alone (row_of node eligible marks)) node ≡ None
+least_free-none node eligible load marks h all =
+    first_slot-all (is_marked (row_of node eligible marks)) 0 node.slots
+    (λ j low less. let within : j < node.slots = omega (arith, less) in marked-within node.slots j marks within ∙ all j
+    (omega (arith, within, h.few, h.all)))
+
+-- ---- a write
+
+-- a mark is set, and no other changes
+module _ (node : NodeInfo) (load : ℕ) (marks : List Bool) (k : ℕ) (h : AreMarks node load marks) (within : k < node.slots) where
+  -- the slot is one of the node
+  inside : k < length (take node.slots marks)
+  inside = rw (taken-length node load marks h) within
+
+  -- the slot reads as it was written
+  pub written-here : (b : Bool) → get_or (take node.slots (set marks k b)) k false ≡ b
+  written-here b = ap (λ xs. get_or xs k false) (take-set-lt node.slots marks k b within) ∙ get_or-set_same (take node.slots marks) k b false inside
+
+  -- every other slot reads as before
+  pub written-other : (b : Bool) (j : ℕ) → j ≢ k → get_or (take node.slots (set marks k b)) j false ≡ get_or (take node.slots marks) j false
+  written-other b j other = ap (λ xs. get_or xs j false) (take-set-lt node.slots marks k b within) ∙ get_or-set_other
+      (take node.slots marks) k j b false other
+
+  -- a slot is taken that was free
+  pub marks-taken : get_or (take node.slots marks) k false ≡ false → AreMarks node (load + 1) (set marks k true)
+  marks-taken miss =
+      let more = count-one (λ j. get_or (take node.slots marks) j false)
+      (λ j. get_or (take node.slots (set marks k true)) j false) k 0 node.slots (omega arith) (omega (arith, within)) miss
+      (written-here true) (written-other true) in
+      record { few = h.few; all = length-set marks k true ∙ h.all; counted = omega (arith, more, h.counted) }
+
+  -- a slot is free that was taken
+  pub marks-freed : get_or (take node.slots marks) k false ≡ true → (0 < load) × AreMarks node (load - 1) (set marks k false)
+  marks-freed hit =
+      let less = count-one (λ j. get_or (take node.slots (set marks k false)) j false)
+      (λ j. get_or (take node.slots marks) j false) k 0 node.slots (omega arith) (omega (arith, within)) (written-here false) hit
+      (λ j other. sym (written-other false j other)) in
+      (omega (arith, less, h.counted), record { few = h.few; all = length-set marks k false ∙ h.all; counted = omega (arith, less, h.counted) })
+
+  -- a row whose mark is written is the row with that slot written
+  pub row-written : (eligible b : Bool)
+      → row_of node eligible (set marks k b) ≡ record (row_of node eligible marks) { taken = set (take node.slots marks) k b }
+  row-written eligible b = ap (λ xs. record { node = node; eligible = eligible; taken = xs }) (take-set-lt node.slots marks k b within)
+
+-- no more slots are taken than there are
+pub load-most : (node : NodeInfo) (load : ℕ) (marks : List Bool) → AreMarks node load marks → load ≤ node.slots
+load-most node load marks h =
+    let most = count_by-le-length (λ k. get_or (take node.slots marks) k false) (range_with_len 0 node.slots) in
+    let long = length-range_with_len 0 node.slots in
+    omega (arith, most, long, h.counted)
+
+-- ---- a new row
+
+-- the first of many marks that are not there
+front : (n m : ℕ) → n ≤ m → take n (replicate m false) ≡ replicate n false
+front zero m few = refl
+front (suc n) zero few = absurd (omega (arith, few))
+front (suc n) (suc m) few = ap (λ xs. false ∷ xs) (front n m (omega (arith, few)))
+
+-- marks that are not there make a row with all slots free
+pub row-fresh : (node : NodeInfo) → node.slots ≤ 256 → row_of node true (replicate 256 false) ≡ fresh_row node
+row-fresh node few = ap (λ xs. record { node = node; eligible = true; taken = xs }) (front node.slots 256 few)
+
+-- where none passes, none is counted
+none_counted : (t : ℕ → Bool) (a n : ℕ) → ((j : ℕ) → t j ≡ false) → count_by t (range_with_len a n) ≡ 0
+none_counted t a zero none = refl
+none_counted t a (suc n) none = rw (sum_by-cons (λ j. cond (t j) 1 0) a (range_with_len (a + 1) n), none a)
+    (zero-add _ ∙ none_counted t (a + 1) n none)
+
+-- of marks that are not there none is taken
+pub marks-fresh : (node : NodeInfo) → node.slots ≤ 256 → AreMarks node 0 (replicate 256 false)
+marks-fresh node few = record {
+  few = few;
+  all = length-replicate 256 false;
+  counted = sym (none_counted (λ k. get_or (take node.slots (replicate 256 false)) k false) 0 node.slots
+      (λ j. ap (λ xs. get_or xs j false) (front node.slots 256 few) ∙ get_or-replicate_same node.slots j false));
+}
+
+-- ---- under which load a row stands
+
+-- where all pass, all are counted
+all_counted : (t : ℕ → Bool) (a n : ℕ) → ((j : ℕ) → a ≤ j → j < a + n → t j ≡ true) → count_by t (range_with_len a n) ≡ n
+all_counted t a zero all = refl
+all_counted t a (suc n) all =
+    let rest = all_counted t (a + 1) n (λ j low high. all j (omega (arith, low)) (omega (arith, high))) in
+    rw (sum_by-cons (λ j. cond (t j) 1 0) a (range_with_len (a + 1) n), all a (omega arith) (omega arith)) (omega (arith, rest))
+
+module _ (node : NodeInfo) (load : ℕ) (marks : List Bool) (h : AreMarks node load marks) where
+  -- a slot is taken
+  mark : ℕ → Bool
+  mark k = get_or (take node.slots marks) k false
+
+  -- where a slot is free, fewer are taken than there are
+  room-below : (k : ℕ) → k < node.slots → get_or (take node.slots marks) k false ≡ false → load < node.slots
+  room-below k within miss =
+      let one = marks-taken node load marks k h within miss in
+      let most = load-most node (load + 1) (set marks k true) one in
+      omega (arith, most)
+
+  -- a row with room has a free slot
+  room-some : (eligible : Bool) → load < node.slots → is_some (least_free (alone (row_of node eligible marks)) node) ≡ true
+  room-some eligible room = go (least_free (alone (row_of node eligible marks)) node) refl where
+    go : (o : Option ℕ) → least_free (alone (row_of node eligible marks)) node ≡ o → is_some o ≡ true
+    go (Some k) e = refl
+    go None e = absurd (
+        let all = all_counted (λ k. get_or (take node.slots marks) k false) 0 node.slots
+        (λ j low high. first_slot-none (is_marked (row_of node eligible marks)) 0 node.slots e j low high) in
+        omega (arith, all, room, h.counted))
+
+  -- a full row has no free slot
+  full-none : (eligible : Bool) → node.slots ≤ load → is_some (least_free (alone (row_of node eligible marks)) node) ≡ false
+  full-none eligible full = go (least_free (alone (row_of node eligible marks)) node) refl where
+    go : (o : Option ℕ) → least_free (alone (row_of node eligible marks)) node ≡ o → is_some o ≡ false
+    go None e = refl
+    go (Some k) e = absurd (
+        let found = first_slot-found (is_marked (row_of node eligible marks)) 0 node.slots k e in
+        let less = room-below k (omega (arith, found.1)) found.2 in
+        omega (arith, less, full))
+
+  -- an eligible row with room stands under its load
+  pub listed-room : load < node.slots → (k : ℕ) → eqb load k ≡ is_listed (row_of node true marks) k
+  listed-room room k = rw (room-some true room, ← h.counted) refl
+
+  -- a full row stands under no load
+  pub listed-full : (eligible : Bool) → node.slots ≤ load → (k : ℕ) → false ≡ is_listed (row_of node eligible marks) k
+  listed-full eligible full k = rw (full-none eligible full) (off eligible (eqb (taken_count (alone (row_of node eligible marks)) node) k)) where
+    off : (a b : Bool) → false ≡ (a && false && b)
+    off true b = refl
+    off false b = refl

@@ -1,0 +1,103 @@
+-- Sets of ranks by load.
+use Rattle.std.proofs.Common.{◌≡◌, ◌≢◌, ℕ, zero, suc, add-one, ◌+◌, ◌<◌, Bool, true, false, not, ◌&&◌, ◌||◌, eqb, cond, List, [], ◌∷◌, ◌++◌, length, get_or, set, replicate, arith, refl, sym, ap, ◌∙◌, inl, inr}
+use Rattle.std.proofs.lemmas.Bool.{cases_Bool, cases_eq, eq-eqb, ne_eqb}
+use Rattle.std.proofs.lemmas.List.{length-replicate}
+use Rattle.std.specs.List.{All}
+use Rattle.lrc_slots.specs.Indexes.{listed, AreSets, is_entry}
+use Rattle.lrc_slots.proofs.MarkLemmas.{get_or-replicate_same, or-false, and-true}
+
+-- ---- no rank at all
+
+-- in copies of a set without a rank it stands under no number
+sets_at : (n l : ℕ) (set : List Bool) (r : ℕ) → get_or set r false ≡ false → listed (replicate n set) l r ≡ false
+sets_at zero l set r none = refl
+sets_at (suc n) zero set r none = none
+sets_at (suc n) (suc l) set r none = sets_at n l set r none
+
+-- in new sets no rank stands under a number
+pub none-listed : (n l r : ℕ) → listed (replicate n (replicate 512 false)) l r ≡ false
+none-listed n l r = sets_at n l (replicate 512 false) r (get_or-replicate_same 512 r false)
+
+-- what holds of an element holds of each copy
+at : {X : Type 0} (P : X → Type 0) (n : ℕ) (x : X) → P x → (k : ℕ) (d : X) → k < n → P (get_or (replicate n x) k d)
+at P zero x p k d within = absurd (omega (arith, within))
+at P (suc n) x p zero d within = p
+at P (suc n) x p (suc k) d within = at P n x p k d (omega (arith, within))
+
+-- the same, for all
+all_same : {X : Type 0} (P : X → Type 0) (n : ℕ) (x : X) → P x → All P (replicate n x)
+all_same P n x p = λ k d within. at P n x p k d (rw (length-replicate n x) at within)
+
+-- new sets mark no number
+pub sets-none : AreSets (replicate 256 (replicate 512 false)) (replicate 256 false)
+sets-none = record {
+  loads = length-replicate 256 (replicate 512 false);
+  ranks = all_same (λ xs. length xs ≡ 512) 256 (replicate 512 false) (length-replicate 512 false);
+  marks = length-replicate 256 false;
+  covered = λ l r hit. absurd (let clash : true ≡ false = sym hit ∙ none-listed 256 l r in cc);
+}
+
+-- one more copy at the end
+pub sets-more : (n : ℕ) (set : List Bool) → replicate n set ++ set ∷ [] ≡ replicate (n + 1) set
+sets-more n set = rw add-one (more n set) where
+  more : (n : ℕ) (set : List Bool) → replicate n set ++ set ∷ [] ≡ replicate (suc n) set
+  more zero set = refl
+  more (suc n) set = ap (λ xs. set ∷ xs) (more n set)
+
+-- ---- a rank moved from one number to another
+
+-- what is there and taken out is gone
+gone : (b : Bool) → (b && not (b && true)) ≡ false
+gone true = refl
+gone false = refl
+
+-- what is there stays
+here : (b : Bool) → (b && true) ≡ b
+here true = refl
+here false = refl
+
+module _ (number rank : ℕ) (old : ℕ → ℕ → Bool) where
+  -- another rank is not the entry
+  elsewhere : (k r : ℕ) → rank ≢ r → is_entry number rank k r ≡ false
+  elsewhere k r differ = rw (ne_eqb rank r differ) (off (eqb number k)) where
+    off : (b : Bool) → (b && false) ≡ false
+    off true = refl
+    off false = refl
+
+  -- the rank is taken from under its number
+  pub unlisted : ((k : ℕ) → old k rank ≡ eqb number k) → (k r : ℕ)
+      → (old k r && not (is_entry number rank k r)) ≡ cond (eqb rank r) false (old k r)
+  unlisted shown k r = elim (cases_eq rank r) [
+    | inl same ↦ rw (← same, shown k, eq-eqb rank rank refl) (gone (eqb number k))
+    | inr differ ↦ rw (elsewhere k r differ, ne_eqb rank r differ) (and-true (old k r))
+  ]
+
+  -- the rank is put under a number
+  pub enlisted : ((k : ℕ) → old k rank ≡ false) → (k r : ℕ)
+      → (old k r || is_entry number rank k r) ≡ cond (eqb rank r) (eqb number k) (old k r)
+  enlisted none k r = elim (cases_eq rank r) [
+    | inl same ↦ rw (← same, none k, eq-eqb rank rank refl) (here (eqb number k))
+    | inr differ ↦ rw (elsewhere k r differ, ne_eqb rank r differ) (or-false (old k r))
+  ]
+
+-- a rank under no number is under none after
+pub unlisted-none : (rank : ℕ) (old : ℕ → ℕ → Bool) → ((k : ℕ) → old k rank ≡ false) → (k r : ℕ)
+    → old k r ≡ cond (eqb rank r) false (old k r)
+unlisted-none rank old none k r = elim (cases_eq rank r) [
+  | inl same ↦ rw (eq-eqb rank r same, ← same) (none k)
+  | inr differ ↦ rw (ne_eqb rank r differ) refl
+]
+
+-- taken from under one load, and put under another
+pub moved-twice : (rank : ℕ) (old mid new entry : ℕ → ℕ → Bool) → ((k r : ℕ) → mid k r ≡ cond (eqb rank r) false (old k r))
+    → ((k r : ℕ) → new k r ≡ cond (eqb rank r) (entry k r) (mid k r))
+    → (k r : ℕ) → new k r ≡ cond (eqb rank r) (entry k r) (old k r)
+moved-twice rank old mid new entry first second k r = elim (cases_Bool (eqb rank r)) [
+  | inl same ↦ rw (second k r, same) refl
+  | inr other ↦ rw (second k r, first k r, other) refl
+]
+
+-- the rank that was taken out is under no number
+pub unlisted-rank : (rank : ℕ) (old new : ℕ → ℕ → Bool) → ((k r : ℕ) → new k r ≡ cond (eqb rank r) false (old k r)) → (k : ℕ)
+    → new k rank ≡ false
+unlisted-rank rank old new moved k = moved k rank ∙ rw (eq-eqb rank rank refl) refl

@@ -1,0 +1,144 @@
+ghost use Rattle.std.specs.Prelude.{◌≡◌, ℕ, ◌<◌, ◌||◌, ◌&&◌, ◌⊎◌, if◌then◌else◌, nat_eq, not, true, false, length, get_or, IfOk, IfSome};
+ghost use Rattle.lrc_slots.specs.Indexes.{listed, is_entry, is_entry_of, FindsLeast};
+
+use lrc_bits::BitSet;
+use std::alloc::{AllocError, Global};
+use std::marker::Model;
+
+/// The ranks of nodes by a number of theirs, as their load or their fault domain.
+#[derive(Drop)]
+pub(crate) struct RankSets {
+    /// For each number below 256 the ranks of its nodes.
+    sets: Vec<BitSet<8>>,
+    /// The numbers whose set is not empty.
+    used: BitSet<4>,
+}
+
+impl Model for RankSets {
+    ghost use Rattle.std.specs.Prelude.{List, Bool};
+    ghost use Rattle.lrc_slots.specs.Indexes.{AreSets};
+
+    ghost Value = { List (List Bool) };
+
+    ghost view = { λ s. s.sets.items };
+
+    ghost invariant = { λ s. AreSets s.sets.items s.used };
+}
+
+impl RankSets {
+    /// No node under any load.
+    pub(crate) fn new(alloc: Global) -> Result<RankSets, AllocError>
+        ensures { IfOk result (λ s. (l r : ℕ) → listed s l r ≡ false) }
+    {
+        let mut sets = Vec::with_capacity(alloc, 256)?;
+        for _ in 0..256usize {
+            sets.push(BitSet::new())?;
+        }
+        Ok(RankSets {
+            sets,
+            used: BitSet::new(),
+        })
+    }
+
+    /// Puts a node under a load.
+    pub(crate) fn insert(&mut self, load: usize, rank: usize)
+        requires load { load < 256 }
+        requires rank { rank < 512 }
+        ensures { (l r : ℕ) → listed self.new l r ≡ (listed self.old l r || is_entry load rank l r) }
+    {
+        let set = &mut self.sets[load];
+        set.insert(rank);
+        self.used.insert(load);
+    }
+
+    /// Takes a node from under a load.
+    pub(crate) fn remove(&mut self, load: usize, rank: usize)
+        requires load { load < 256 }
+        requires rank { rank < 512 }
+        ensures { (l r : ℕ) → listed self.new l r ≡ (listed self.old l r && not (is_entry load rank l r)) }
+    {
+        let set = &mut self.sets[load];
+        set.remove(rank);
+        if set.is_empty() {
+            self.used.remove(load);
+        }
+    }
+
+    /// The least rank of the least load that is not in the mask.
+    pub(crate) fn first_outside(&self, mask: &BitSet<8>) -> Option<usize>
+        ensures { FindsLeast self.now mask.now result }
+    {
+        let mut from = 0;
+        while let Some(load) = self.used.first_from(from) {
+            let set = &self.sets[load];
+            if let Some(rank) = set.first_outside(mask) {
+                return Some(rank);
+            }
+            from = load + 1;
+        }
+        None
+    }
+
+    /// The ranks under a number.
+    pub(crate) fn ranks_of(&self, number: usize) -> &BitSet<8>
+        requires { number < 256 }
+        ensures long { length result.now ≡ 512 }
+        ensures members { (r : ℕ) → get_or result.now r false ≡ listed self.now number r }
+    {
+        &self.sets[number]
+    }
+
+    /// Takes a rank from under the one number, if any, and puts it under the other, if any.
+    pub(crate) fn relist(&mut self, rank: usize, before: Option<u16>, after: Option<u16>)
+        requires rank { rank < 512 }
+        requires before { IfSome before (λ l. l < 256) }
+        requires after { IfSome after (λ l. l < 256) }
+        requires shown { (k : ℕ) → listed self.old k rank ≡ is_entry_of before k }
+        ensures { (k r : ℕ) → listed self.new k r ≡ (if nat_eq rank r then is_entry_of after k else listed self.old k r) }
+    {
+        self.unlist(rank, before);
+        self.enlist(rank, after);
+    }
+
+    /// Takes a rank from under its number, if it has one.
+    fn unlist(&mut self, rank: usize, entry: Option<u16>)
+        requires rank { rank < 512 }
+        requires few { IfSome entry (λ l. l < 256) }
+        requires shown { (k : ℕ) → listed self.old k rank ≡ is_entry_of entry k }
+        ensures { (k r : ℕ) → listed self.new k r ≡ (if nat_eq rank r then false else listed self.old k r) }
+    {
+        match entry {
+            Some(number) => self.remove(number as usize, rank),
+            None => {}
+        }
+    }
+
+    /// Puts a rank that has no number under one, if it gets one.
+    fn enlist(&mut self, rank: usize, entry: Option<u16>)
+        requires rank { rank < 512 }
+        requires few { IfSome entry (λ l. l < 256) }
+        requires none { (k : ℕ) → listed self.old k rank ≡ false }
+        ensures { (k r : ℕ) → listed self.new k r ≡ (if nat_eq rank r then is_entry_of entry k else listed self.old k r) }
+    {
+        match entry {
+            Some(number) => self.insert(number as usize, rank),
+            None => {}
+        }
+    }
+
+    /// Puts the ranks of all named numbers into a mask.
+    pub(crate) fn join(&self, named: &BitSet<4>, mask: &mut BitSet<8>)
+        requires { length named.now ≡ 256 }
+        ensures same { length mask.new ≡ length mask.old }
+        ensures only { (r : ℕ) → get_or mask.new r false ≡ true
+            → (get_or mask.old r false ≡ true) ⊎ ((d : ℕ) × (get_or named.now d false ≡ true) × (listed self.now d r ≡ true)) }
+        ensures keeps { (r : ℕ) → get_or mask.old r false ≡ true → get_or mask.new r false ≡ true }
+        ensures adds { (d r : ℕ) → get_or named.now d false ≡ true → listed self.now d r ≡ true → get_or mask.new r false ≡ true }
+    {
+        let mut from = 0;
+        while let Some(number) = named.first_from(from) {
+            mask.insert_all(&self.sets[number]);
+            from = number + 1;
+        }
+    }
+}
