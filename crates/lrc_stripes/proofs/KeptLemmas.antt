@@ -1,61 +1,206 @@
--- What each change of the rows keeps, at the place that a search has found.
-use Rattle.std.proofs.Common.{◌≡◌, ℕ, ◌-◌, ◌<◌, ◌≤◌, true, false, List, length, get_or, set, replicate, Option, Some, None, is_some, arith, sym, ap, ◌∙◌}
-use Rattle.std.specs.List.{insert, remove}
-use Rattle.std.proofs.lemmas.List.{length-set}
-use Rattle.std.proofs.lemmas.List.Edits.{length-insert, length-remove}
+-- What each change of a row keeps.
+use Rattle.std.proofs.Common.{◌≡◌, ℕ, zero, suc, ◌<◌, inl, inr, Bool, true, false, not, ◌&&◌, ◌||◌, if◌then◌else◌, nat_lt, List, [], ◌∷◌, length, get_or, set, replicate, Option, Some, None, is_some, is_none, arith, refl, sym, ap, ◌∙◌, subst}
+use Rattle.std.specs.List.{list_any}
+use Rattle.std.proofs.lemmas.Bool.{cases_Bool, cases_eq, eq-eqb, ne_eqb, eqb-true, lt-ltb}
+use Rattle.std.proofs.lemmas.List.{get_or-set_same, get_or-set_other}
+use Rattle.std.proofs.lemmas.Option.{same_Some}
+use Rattle.lrc_code.specs.declared.losses.LossMask.{LossMask}
 use Rattle.lrc_code.specs.declared.numbers.StripeNo.{StripeNo}
-use Rattle.lrc_code.specs.declared.numbers.Fragment.{Fragment}
-use Rattle.lrc_code.specs.declared.codes.Code.TheVariants.{Wide}
+use Rattle.lrc_code.specs.declared.numbers.NodeNo.{NodeNo}
+use Rattle.lrc_code.specs.Numbers.{same_stripe, same_node}
+use Rattle.lrc_code.proofs.NumbersLemmas.{equal_stripes}
+use Rattle.lrc_topology.specs.declared.NodeInfo.{NodeInfo}
 use Rattle.lrc_topology.specs.declared.seat.Seat.{Seat}
+use Rattle.lrc_stripes.specs.declared.losses.Losses.{Losses}
 use Rattle.lrc_stripes.specs.declared.row.Row.{Row}
-use Rattle.lrc_stripes.specs.declared.row.Site.{Site}
-use Rattle.lrc_stripes.specs.Stored.{with_stripe, without_stripe, with_home, with_spare}
-use Rattle.lrc_stripes.specs.Tables.{stored_in, row_at}
-use Rattle.lrc_stripes.specs.Rows.{IsKept, place_of}
-use Rattle.lrc_stripes.proofs.RowLemmas.{place_of-within, row_at-place, rising-insert, rising-remove, rising-set}
-use Rattle.lrc_stripes.proofs.StoredLemmas.{stored_in-insert, stored_in-remove, stored_in-set_home}
+use Rattle.lrc_stripes.specs.Rows.{sits_on, is_missing, is_to_move}
+use Rattle.lrc_stripes.specs.Sites.{Sited, first_sites}
+use Rattle.lrc_stripes.specs.Masks.{AreAll, AreWith, AreLosses, IsFull, IsPut, IsMaskOf}
+use Rattle.lrc_stripes.specs.Kept.{IsKept, is_row_on}
+use Rattle.lrc_stripes.proofs.SitedLemmas.{same-turned}
 
-module _ (sites : List Site) (rows slice : List Row) (s : StripeNo) (place spare capacity : ℕ) (read : slice ≡ rows) (found : place ≡ place_of slice s) (kept : IsKept rows spare capacity) where
-  found_in : place ≡ place_of rows s
-  found_in = rw (← read) found
+-- ---- masks of homes
 
-  -- ---- of a stripe that is there
+-- a list of one value reads as that value everywhere
+pub replicated : {X : Type 0} (n i : ℕ) (d : X) → get_or (replicate n d) i d ≡ d
+replicated zero i d = refl
+replicated (suc n) zero d = refl
+replicated (suc n) (suc i) d = replicated n i d
 
-  pub place-within : is_some (row_at rows s) ≡ true → place < length rows
-  place-within there = rw found_in (place_of-within rows s there)
+and-true : (b : Bool) → b ≡ (b && true)
+and-true true = refl
+and-true false = refl
 
-  pub kept-remove : is_some (row_at rows s) ≡ true → IsKept (remove rows place) spare capacity
-  kept-remove there =
-      let shorter = length-remove rows place (place-within there) in
-      record { rising = rw found_in (rising-remove rows s kept.rising); room = omega (arith, shorter, kept.room) }
+or-turned : (a b c : Bool) → (a || (b || c)) ≡ (b || (a || c))
+or-turned true true c = refl
+or-turned true false c = refl
+or-turned false true c = refl
+or-turned false false c = refl
 
-  pub stored_in-remove_at : is_some (row_at rows s) ≡ true → stored_in (record { sites = sites; rows = remove rows place; spare = spare }) ≡ with_spare (without_stripe (stored_in (record { sites = sites; rows = rows; spare = spare })) s) spare
-  stored_in-remove_at there = rw found_in (stored_in-remove sites rows s spare spare kept.rising there)
+module _ (test : Option Seat → Bool) where
+  -- without homes
+  mask-bare : test None ≡ true → (homes : List (Option Seat)) → homes ≡ replicate 16 None → (mask : LossMask) → IsFull mask → IsMaskOf test homes mask
+  mask-bare bare homes none mask full f =
+      full f ∙ and-true (nat_lt f 16) ∙ ap (λ (b : Bool). nat_lt f 16 && b) (sym (ap test (ap (λ (hs : List (Option Seat)). get_or hs f None) none ∙ replicated 16 f None) ∙ bare) ∙ refl)
 
-  module _ (old : Row) (x : Row) (at : old ≡ get_or rows place old) (own : x.stripe ≡ old.stripe) where
-    pub kept-set : IsKept (set rows place x) spare capacity
-    kept-set =
-        let same : x.stripe.value ≡ (get_or rows place old).stripe.value = rw (← at) (ap (λ (t : StripeNo). t.value) own) in
-        let long = length-set rows place x in
-        record { rising = rising-set rows place x old same kept.rising; room = omega (arith, long, kept.room) }
+  -- with one home
+  mask-set : (homes : List (Option Seat)) (f : ℕ) (home : Option Seat) (before after : LossMask) → f < 16 → length homes ≡ 16
+      → IsMaskOf test homes before → IsPut f (test home) before after → IsMaskOf test (set homes f home) after
+  mask-set homes f home before after within long is put g = put g ∙ (elim (cases_eq g f) [
+    | inl same ↦
+        rw (eq-eqb g f same, same, lt-ltb f 16 within) (ap test (sym (get_or-set_same homes f home None (omega (arith, within, long)))))
+    | inr other ↦
+        rw (ne_eqb g f other) (is g ∙ ap (λ (h : Option Seat). nat_lt g 16 && test h) (sym (get_or-set_other homes f g home None other)))
+  ])
 
-    pub stored_in-set_at : is_some (row_at rows s) ≡ true → (f : Fragment) (home : Option Seat) → x.homes ≡ set old.homes f.value home
-        → stored_in (record { sites = sites; rows = set rows place x; spare = spare }) ≡ with_home (stored_in (record { sites = sites; rows = rows; spare = spare })) s f home
-    stored_in-set_at there f home changed =
-        let here = row_at-place rows s old kept.rising there in
-        let mine : old ≡ get_or rows (place_of rows s) old = at ∙ ap (λ (p : ℕ). get_or rows p old) found_in in
-        let row : row_at rows s ≡ Some old = here.0 ∙ ap (λ (r : Row). Some r) (sym mine) in
-        let number : x.stripe.value ≡ s.value = ap (λ (t : StripeNo). t.value) own ∙ (ap (λ (r : Row). r.stripe.value) mine ∙ here.1) in
-        rw found_in (stored_in-set_home sites rows s x old f home spare kept.rising row number changed)
+-- ---- the masks of one row
 
-  -- ---- of a stripe that is not there
+pub losses-bare : (online draining : NodeNo → Bool) (homes : List (Option Seat)) (l : Losses) → homes ≡ replicate 16 None → AreAll l → AreLosses online draining homes l
+losses-bare online draining homes l none all = record {
+  homeless = mask-bare is_none refl homes none l.homeless all.homeless;
+  missing = mask-bare (is_missing online) refl homes none l.missing all.missing;
+  needs = mask-bare (is_to_move draining) refl homes none l.needs all.needs;
+}
 
-  module _ (x : Row) (own : x.stripe ≡ s) (absent : is_some (row_at rows s) ≡ false) (within : place ≤ length rows) (room : 1 ≤ spare) where
-    pub kept-insert : (more : ℕ) → capacity ≤ more → IsKept (insert rows place x) (spare - 1) more
-    kept-insert more large =
-        let longer = length-insert rows place x within in
-        let e : place_of rows x.stripe ≡ place = rw own (sym found_in) in
-        record { rising = rw (← e) (rising-insert x rows kept.rising (rw own absent)); room = omega (arith, longer, kept.room, large, room) }
+pub losses-with : (sites : Sited) (homes : List (Option Seat)) (f : ℕ) (home : Option Seat) (before after : Losses) → f < 16 → length homes ≡ 16
+    → AreLosses sites.online sites.draining homes before → AreWith sites f home before after → AreLosses sites.online sites.draining (set homes f home) after
+losses-with sites homes f home before after within long are with = record {
+  homeless = mask-set is_none homes f home before.homeless after.homeless within long are.homeless with.homeless;
+  missing = mask-set (is_missing sites.online) homes f home before.missing after.missing within long are.missing with.missing;
+  needs = mask-set (is_to_move sites.draining) homes f home before.needs after.needs within long are.needs with.needs;
+}
 
-    pub stored_in-insert_at : x.homes ≡ replicate 16 None → stored_in (record { sites = sites; rows = insert rows place x; spare = spare - 1 }) ≡ with_stripe (stored_in (record { sites = sites; rows = rows; spare = spare })) Wide s
-    stored_in-insert_at bare = rw (found_in, ← own) (stored_in-insert sites rows x spare bare (rw own absent))
+-- ---- one row changed
+
+module _ (sites : Sited) (rows : StripeNo → Option Row) (kept : IsKept sites rows) (stripe : StripeNo) where
+  -- a stripe of this number is this one
+  alike : (s : StripeNo) → same_stripe stripe s ≡ true → stripe ≡ s
+  alike s same = equal_stripes stripe s (eqb-true _ _ same)
+
+  pub kept-put : (o : Option Row) (on : NodeNo → StripeNo → Bool) (after : StripeNo → Option Row) → after ≡ (λ s. if same_stripe stripe s then o else rows s)
+      → ((r : Row) → o ≡ Some r → AreLosses sites.online sites.draining r.homes r.losses)
+      → ((n : NodeNo) (s : StripeNo) → on n s ≡ (if same_stripe stripe s then is_row_on n o else sites.on n s))
+      → IsKept (record sites { on = on }) after
+  kept-put o on after is losses listed = subst (λ (a : StripeNo → Option Row). IsKept (record sites { on = on }) a) (sym is) (record {
+    losses = λ s r e. elim (cases_Bool (same_stripe stripe s)) [
+      | inl same ↦ losses r (rw same at e)
+      | inr other ↦ kept.losses s r (rw other at e)
+    ];
+    listed = λ n s. listed n s ∙ (elim (cases_Bool (same_stripe stripe s)) [
+      | inl same ↦ rw same refl
+      | inr other ↦ rw other (kept.listed n s)
+    ]);
+  })
+
+  own-on : (n : NodeNo) (s : StripeNo) → same_stripe stripe s ≡ true → sites.on n s ≡ is_row_on n (rows stripe)
+  own-on n s same = kept.listed n s ∙ ap (λ (t : StripeNo). is_row_on n (rows t)) (sym (alike s same))
+
+  any-bare : (n : NodeNo) (k : ℕ) → list_any (sits_on n) (replicate k None) ≡ false
+  any-bare n zero = refl
+  any-bare n (suc k) = any-bare n k
+
+  -- a row without homes
+  pub kept-add : (r : Row) (after : StripeNo → Option Row) → is_some (rows stripe) ≡ false → r.homes ≡ replicate 16 None → AreAll r.losses
+      → after ≡ (λ s. if same_stripe stripe s then Some r else rows s) → IsKept sites after
+  kept-add r after absent none all is = kept-put (Some r) sites.on after is
+      (λ q e. subst (λ (x : Row). AreLosses sites.online sites.draining x.homes x.losses) (same_Some r q e) (losses-bare sites.online sites.draining r.homes r.losses none all))
+      (λ n s. elim (cases_Bool (same_stripe stripe s)) [
+        | inl same ↦ rw same (own-on n s same ∙ no-row n (rows stripe) absent ∙ sym (ap (list_any (sits_on n)) none ∙ any-bare n 16))
+        | inr other ↦ rw other refl
+      ])
+    where
+      no-row : (n : NodeNo) (o : Option Row) → is_some o ≡ false → is_row_on n o ≡ false
+      no-row n None e = refl
+      no-row n (Some q) e = absurd (let f : true ≡ false = e in cc)
+
+  module _ (r : Row) (found : rows stripe ≡ Some r) where
+    here-on : (n : NodeNo) (s : StripeNo) → same_stripe stripe s ≡ true → sites.on n s ≡ list_any (sits_on n) r.homes
+    here-on n s same = own-on n s same ∙ ap (is_row_on n) found
+
+    here-losses : AreLosses sites.online sites.draining r.homes r.losses
+    here-losses = kept.losses stripe r found
+
+    -- no row
+    pub kept-remove : (after : StripeNo → Option Row) → after ≡ (λ s. if same_stripe stripe s then None else rows s)
+        → IsKept (record sites { on = λ n s. not (same_stripe stripe s && list_any (sits_on n) r.homes) && sites.on n s }) after
+    kept-remove after is = kept-put None (λ n s. not (same_stripe stripe s && list_any (sits_on n) r.homes) && sites.on n s) after is
+        (λ q e. absurd (let f : None ≡ Some q = e in cc))
+        (λ n s. elim (cases_Bool (same_stripe stripe s)) [
+          | inl same ↦ rw (same, here-on n s same) (gone (list_any (sits_on n) r.homes))
+          | inr other ↦ rw other refl
+        ])
+      where
+        gone : (a : Bool) → (not a && a) ≡ false
+        gone true = refl
+        gone false = refl
+
+    -- the old home or one of the new ones is on the node exactly where the new home or one of the old ones is
+    any-set : (p : Option Seat → Bool) (homes : List (Option Seat)) (f : ℕ) (home : Option Seat) → f < length homes
+        → (p home || list_any p homes) ≡ (p (get_or homes f None) || list_any p (set homes f home))
+    any-set p [] f home within = absurd (omega (arith, within))
+    any-set p (h ∷ hs) zero home within = or-turned (p home) (p h) (list_any p hs)
+    any-set p (h ∷ hs) (suc f) home within =
+        or-turned (p home) (p h) (list_any p hs) ∙ ap (λ (b : Bool). p h || b) (any-set p hs f home (omega (arith, within)))
+        ∙ or-turned (p h) (p (get_or hs f None)) (list_any p (set hs f home))
+
+    module _ (q : Row) (f : ℕ) (low : f < 16) where
+      many : f < length r.homes
+      many = let all = r.sixteen in omega (arith, low, all)
+
+      rehomed : (home : Option Seat) → q.homes ≡ set r.homes f home → AreWith sites f home r.losses q.losses → (x : Row) → Some q ≡ Some x → AreLosses sites.online sites.draining x.homes x.losses
+      rehomed home homes with x e =
+          subst (λ (y : Row). AreLosses sites.online sites.draining y.homes y.losses) (same_Some q x e)
+          (subst (λ (hs : List (Option Seat)). AreLosses sites.online sites.draining hs q.losses) (sym homes)
+          (losses-with sites r.homes f home r.losses q.losses low r.sixteen here-losses with))
+
+      -- a home where there was none
+      pub kept-set_home : (seat : Seat) (after : StripeNo → Option Row) → get_or r.homes f None ≡ None → q.homes ≡ set r.homes f (Some seat) → AreWith sites f (Some seat) r.losses q.losses
+          → after ≡ (λ s. if same_stripe stripe s then Some q else rows s)
+          → IsKept (record sites { on = λ n s. (same_node seat.node n && same_stripe stripe s) || sites.on n s }) after
+      kept-set_home seat after bare homes with is = kept-put (Some q) (λ n s. (same_node seat.node n && same_stripe stripe s) || sites.on n s) after is
+          (rehomed (Some seat) homes with)
+          (λ n s. elim (cases_Bool (same_stripe stripe s)) [
+            | inl same ↦
+                let both = any-set (sits_on n) r.homes f (Some seat) many in
+                let none : (sits_on n (get_or r.homes f None) || list_any (sits_on n) (set r.homes f (Some seat))) ≡ list_any (sits_on n) (set r.homes f (Some seat)) =
+                ap (λ (h : Option Seat). sits_on n h || list_any (sits_on n) (set r.homes f (Some seat))) bare in
+                rw (same, here-on n s same) (first (same_node seat.node n) (list_any (sits_on n) r.homes) (same_node n seat.node) (same-turned seat.node.value n.value) ∙ both ∙ none ∙ ap (list_any (sits_on n)) (sym homes))
+            | inr other ↦ rw other (second (same_node seat.node n) (sites.on n s))
+          ])
+        where
+          first : (a b c : Bool) → a ≡ c → ((a && true) || b) ≡ (c || b)
+          first true b c e = ap (λ (x : Bool). x || b) e
+          first false b c e = ap (λ (x : Bool). x || b) e
+
+          second : (a b : Bool) → ((a && false) || b) ≡ b
+          second true b = refl
+          second false b = refl
+
+      -- no home any more
+      pub kept-clear_home : (after : StripeNo → Option Row) → q.homes ≡ set r.homes f None → AreWith sites f None r.losses q.losses → after ≡ (λ s. if same_stripe stripe s then Some q else rows s)
+          → IsKept (record sites { on = λ n s. not (same_stripe stripe s && (sits_on n (get_or r.homes f None) && not (list_any (sits_on n) q.homes))) && sites.on n s }) after
+      kept-clear_home after homes with is =
+          kept-put (Some q) (λ n s. not (same_stripe stripe s && (sits_on n (get_or r.homes f None) && not (list_any (sits_on n) q.homes))) && sites.on n s) after is
+          (rehomed None homes with)
+          (λ n s. elim (cases_Bool (same_stripe stripe s)) [
+            | inl same ↦
+                let both : list_any (sits_on n) r.homes ≡ (sits_on n (get_or r.homes f None) || list_any (sits_on n) q.homes) =
+                any-set (sits_on n) r.homes f None many ∙ ap (λ (hs : List (Option Seat)). sits_on n (get_or r.homes f None) || list_any (sits_on n) hs) (sym homes) in
+                rw (same, here-on n s same, both) (left (sits_on n (get_or r.homes f None)) (list_any (sits_on n) q.homes))
+            | inr other ↦ rw other refl
+          ])
+        where
+          left : (a b : Bool) → (not (a && not b) && (a || b)) ≡ b
+          left true true = refl
+          left true false = refl
+          left false true = refl
+          left false false = refl
+
+-- ---- at first
+
+pub kept-first : (nodes : List NodeInfo) (z : Sited) (rows : StripeNo → Option Row) → z ≡ first_sites nodes → rows ≡ (λ s. None) → IsKept z rows
+kept-first nodes z rows at none =
+    subst (λ (y : Sited). IsKept y rows) (sym at) (subst (λ (a : StripeNo → Option Row). IsKept (first_sites nodes) a) (sym none) (record {
+      losses = λ s r e. absurd (let f : None ≡ Some r = e in cc);
+      listed = λ n s. refl;
+    }))

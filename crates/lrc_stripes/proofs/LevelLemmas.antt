@@ -66,7 +66,7 @@ has_some-none code m none = false_from_ne_true (has_some code m) (λ some. let (
 none_losses : (m : FragmentSet) → NoneMissing Wide m → size_of Wide m ≡ 0
 none_losses m none = let z = ltb-false 0 (size_of Wide m) (has_some-none Wide m none) in omega (arith, z)
 
-none_recoverable : (code : Code) (m : FragmentSet) → NoneMissing code m → IsRecoverable code m
+pub none_recoverable : (code : Code) (m : FragmentSet) → NoneMissing code m → IsRecoverable code m
 none_recoverable Wide m none = three_recoverable Wide m (let z = none_losses m none in omega (arith, z))
 
 none_margin : (code : Code) (m : FragmentSet) (t : ℕ) → NoneMissing code m → IsMargin code m t → t ≡ 3

@@ -1,5 +1,7 @@
 -- Masks of fragments, built fragment by fragment.
-use Rattle.std.proofs.Common.{◌≡◌, ℕ, ◌+◌, ◌<◌, inl, inr, Bool, true, false, ◌&&◌, ◌||◌, eqb, ltb, List, get_or, refl, sym, ◌∙◌, arith, zero-add, not, Option, Some, None, is_some, is_none}
+use Rattle.std.proofs.Common.{◌≡◌, ℕ, ◌+◌, ◌<◌, inl, inr, Bool, true, false, ◌&&◌, ◌||◌, eqb, ltb, List, get_or, refl, sym, ◌∙◌, arith, zero-add, not, if◌then◌else◌, ap, min, max, ◌-◌, bit_or, bit_and, w16, Option, Some, None, is_some, is_none}
+use Rattle.std.specs.Int.{bit_at, bit_not}
+use Rattle.std.proofs.lemmas.Nat.Bits.{bit_at_or, bit_at_and, bit_at_not, bit_at-lt, bit_at_above, bit_at_ones, bit_at-zero}
 use Rattle.std.proofs.lemmas.Bool.{cases_eq, cases_lt, eq-eqb, ne_eqb, lt-ltb, le-ltb}
 use Rattle.std.proofs.lemmas.List.{get_or-map}
 use Rattle.std.proofs.lemmas.List.FromFn.{get_or-range_with_len}
@@ -50,3 +52,64 @@ is_none-answer (Some x) false e = refl
 -- the number of the fragment at a place of the array of all
 pub item-number : (items : List Fragment) (i : ℕ) (d : Fragment) → items ≡ fragments Wide → i < 16 → (get_or items i d).value ≡ i
 item-number items i d all within = rw all (fragment-number i d within)
+
+-- ---- masks joined and taken apart
+
+module _ (a b c f : ℕ) where
+  pub put-in : c ≡ bit_or a b → bits_set c f ≡ (if bits_set b f then true else bits_set a f)
+  put-in is =
+      let joined : bit_at c f ≡ max (bit_at a f) (bit_at b f) = ap (λ (n : ℕ). bit_at n f) is ∙ bit_at_or a b f in
+      let low = bit_at-lt a f in
+      elim (cases_eq (bit_at b f) 1) [
+        | inl one ↦ rw (eq-eqb _ _ one) (eq-eqb _ _ (omega (arith, joined, one, low)))
+        | inr other ↦
+            let none = bit_at-lt b f in
+            let same : bit_at c f ≡ bit_at a f = omega (arith, joined, other, none, low) in
+            rw (ne_eqb _ _ other) (ap (λ (n : ℕ). eqb n 1) same)
+      ]
+
+  pub put-out : c ≡ bit_and a (bit_not w16 b) → a < 65536 → b < 65536 → bits_set c f ≡ (if bits_set b f then false else bits_set a f)
+  put-out is small few =
+      let met : bit_at c f ≡ min (bit_at a f) (bit_at (bit_not w16 b) f) = ap (λ (n : ℕ). bit_at n f) is ∙ bit_at_and a (bit_not w16 b) f in
+      elim (cases_lt f 16) [
+        | inl within ↦
+            let turned : bit_at (bit_not w16 b) f ≡ 1 - bit_at b f = bit_at_not w16 b f few within in
+            elim (cases_eq (bit_at b f) 1) [
+              | inl one ↦ rw (eq-eqb _ _ one) (ne_eqb _ _ (λ e. omega (arith, met, turned, one, e)))
+              | inr other ↦
+                  let none = bit_at-lt b f in
+                  let low = bit_at-lt a f in
+                  let same : bit_at c f ≡ bit_at a f = omega (arith, met, turned, other, none, low) in
+                  rw (ne_eqb _ _ other) (ap (λ (n : ℕ). eqb n 1) same)
+            ]
+        | inr past ↦
+            let a_none : bit_at a f ≡ 0 = bit_at_above a 16 f small past in
+            let b_none : bit_at b f ≡ 0 = bit_at_above b 16 f few past in
+            let c_none : bit_at c f ≡ 0 = omega (arith, met, a_none) in
+            rw (a_none, b_none, c_none) refl
+      ]
+
+-- every fragment is in the mask of sixteen bits
+pub full-mask : (b : ℕ) → b ≡ 65535 → (f : ℕ) → bits_set b f ≡ ltb f 16
+full-mask b all f = elim (cases_lt f 16) [
+  | inl within ↦
+      let one : bit_at b f ≡ 1 = ap (λ (n : ℕ). bit_at n f) all ∙ bit_at_ones 16 f within in
+      rw (lt-ltb f 16 within) (eq-eqb _ _ one)
+  | inr past ↦
+      let none : bit_at b f ≡ 0 = ap (λ (n : ℕ). bit_at n f) all ∙ bit_at_above 65535 16 f (omega arith) past in
+      rw (le-ltb f 16 past, none) refl
+]
+
+-- the mask of one fragment
+pub one-mask : (zero_bits one f g : ℕ) → zero_bits ≡ 0 → bits_set one g ≡ (eqb g f || bits_set zero_bits g) → bits_set one g ≡ eqb g f
+one-mask zero_bits one f g none is =
+    let no : bits_set zero_bits g ≡ false = rw (none, bit_at-zero g) refl in
+    is ∙ ap (λ (b : Bool). eqb g f || b) no ∙ or-false (eqb g f)
+  where
+    or-false : (b : Bool) → (b || false) ≡ b
+    or-false true = refl
+    or-false false = refl
+
+pub put-one : (before after one f : ℕ) (b : Bool) → ((g : ℕ) → bits_set one g ≡ eqb g f) → ((g : ℕ) → bits_set after g ≡ (if bits_set one g then b else bits_set before g))
+    → (g : ℕ) → bits_set after g ≡ (if eqb g f then b else bits_set before g)
+put-one before after one f b is put g = put g ∙ ap (λ (x : Bool). if x then b else bits_set before g) (is g)

@@ -1,24 +1,28 @@
--- The places that the rows list for a node are all its homes, in rising order.
-use Rattle.std.proofs.Common.{◌≡◌, ℕ, ◌<◌, inl, inr, Bool, true, false, nat_eq, ltb, List, [], ◌∷◌, filter, IsTrue, arith, refl, subst}
+-- The places that are listed for a node are all its homes, in rising order.
+use Rattle.std.proofs.Common.{◌≡◌, ℕ, suc, ◌<◌, inl, inr, Bool, true, false, ltb, List, [], ◌∷◌, filter, Option, Some, None, IsTrue, arith, refl, sym, ap, ◌∙◌, subst}
 use Rattle.std.specs.List.{All, AllPairs, Contains, flat_map}
 use Rattle.std.specs.Option.{option_map_or}
-use Rattle.std.proofs.lemmas.Bool.{cases_Bool, eq-eqb, ne_eqb, eqb-true, lt-ltb, or_left, or_right, and_from}
-use Rattle.std.proofs.lemmas.List.Elements.{All-nil, All-append, All-map, All-weaker, All-contains, filter_passes, Contains-append_left, Contains-append_right, Contains-append_cases, Contains-get_or}
+use Rattle.std.proofs.lemmas.Bool.{eq-eqb, lt-ltb, or_left, or_right, and_from}
+use Rattle.std.proofs.lemmas.List.Folds.{list_any_at}
+use Rattle.std.proofs.lemmas.List.Elements.{All-nil, All-append, All-map, All-weaker, All-contains, filter_passes, Contains-append_left, Contains-append_right, Contains-get_or}
 use Rattle.std.proofs.lemmas.List.Kept.{AllPairs-filter}
 use Rattle.lrc_code.specs.declared.codes.Code.TheVariants.{Wide}
 use Rattle.lrc_code.specs.declared.numbers.StripeNo.{StripeNo}
 use Rattle.lrc_code.specs.declared.numbers.NodeNo.{NodeNo}
 use Rattle.lrc_code.specs.declared.numbers.Fragment.{Fragment}
 use Rattle.lrc_code.specs.Codes.{fragments}
-use Rattle.lrc_code.proofs.NumbersLemmas.{equal_fragments, equal_stripes}
+use Rattle.lrc_code.specs.Numbers.{same_node}
+use Rattle.lrc_code.proofs.NumbersLemmas.{equal_fragments}
 use Rattle.lrc_stripes.specs.declared.row.Row.{Row}
 use Rattle.lrc_stripes.specs.Stored.{StripeFragment, comes_before, AreHomesOn}
-use Rattle.lrc_stripes.specs.Tables.{Table, stored_in, row_at, row_homes}
-use Rattle.lrc_stripes.specs.Rows.{sits_on, row_places, places_from, IsRising}
-use Rattle.lrc_stripes.proofs.ListLemmas.{AllPairs-map, AllPairs-append, Contains-filter, Contains-map}
+use Rattle.lrc_stripes.specs.Sets.{members_from}
+use Rattle.lrc_stripes.specs.Sites.{SiteTable, sited}
+use Rattle.lrc_stripes.specs.Tables.{stored_in, rows_in, row_homes}
+use Rattle.lrc_stripes.specs.Rows.{sits_on, sits_at}
+use Rattle.lrc_stripes.specs.Kept.{IsKept, is_row_on, row_places, places_from}
+use Rattle.lrc_stripes.proofs.ListLemmas.{AllPairs-map, AllPairs-append, Contains-cons_cases, Contains-filter, Contains-map}
 use Rattle.lrc_stripes.proofs.MaskLemmas.{fragment-number}
-use Rattle.lrc_stripes.proofs.RowLemmas.{AreAbove}
-use Rattle.lrc_stripes.proofs.WalkLemmas.{places_from-first}
+use Rattle.lrc_stripes.proofs.MemberLemmas.{IsLower, members-all, members-rising}
 
 -- ---- fragments
 
@@ -30,76 +34,113 @@ fragments-rise i j d below within =
 
 -- every fragment is one of all
 fragments-all : (f : Fragment) → Contains (fragments Wide) f
-fragments-all f = subst (Contains (fragments Wide)) (equal_fragments _ f (fragment-number f.value f f.in_range)) (Contains-get_or (fragments Wide) f.value f f.in_range)
+fragments-all f =
+    subst (Contains (fragments Wide)) (equal_fragments _ f (fragment-number f.value f f.in_range)) (Contains-get_or (fragments Wide) f.value f f.in_range)
 
--- ---- the places of one row, and of all
+-- ---- the places of one stripe, and of all
 
 abbrev Rises : StripeFragment → StripeFragment → Type 0
 Rises p q = IsTrue (comes_before p q)
 
-module _ (n : NodeNo) where
-  -- the places of rows
-  abbrev places : List Row → List StripeFragment
-  places rows = flat_map (row_places n 0) rows
-
+module _ (n : NodeNo) (rows : StripeNo → Option Row) where
   -- the fragment has its home on the node, by these rows
-  abbrev on_node : List Row → StripeFragment → Bool
-  on_node rows p = option_map_or (λ seat. nat_eq n.value seat.node.value) (row_homes (row_at rows p.0) p.1.value) false
+  abbrev on_node : StripeFragment → Bool
+  on_node p = option_map_or (λ seat. same_node n seat.node) (row_homes (rows p.0) p.1.value) false
 
-  row_places-rise : (r : Row) → AllPairs Rises (row_places n 0 r)
-  row_places-rise r =
-      let among : Fragment → Fragment → Type 0 = λ f g. Rises (r.stripe, f) (r.stripe, g) in
+  -- the places of stripes
+  abbrev places : List StripeNo → List StripeFragment
+  places xs = flat_map (λ s. row_places n 0 s (rows s)) xs
+
+  -- a place of this stripe
+  abbrev IsOwn : StripeNo → StripeFragment → Type 0
+  IsOwn s p = (p.0 ≡ s) × (on_node p ≡ true)
+
+  own-at : (s : StripeNo) (o : Option Row) → rows s ≡ o → All (IsOwn s) (row_places n 0 s o)
+  own-at s None none = All-nil (IsOwn s)
+  own-at s (Some r) there =
+      All-map (IsOwn s) (λ f. let p : StripeFragment = (s, f) in p) (filter (sits_at n r.homes) (fragments Wide))
+      (All-weaker (λ f. sits_at n r.homes f ≡ true) (λ f. IsOwn s (s, f))
+      (λ f sits. (refl, ap (λ (o : Option Row). option_map_or (λ seat. same_node n seat.node) (row_homes o f.value) false) there ∙ sits))
+      (filter (sits_at n r.homes) (fragments Wide)) (filter_passes (sits_at n r.homes) (fragments Wide)))
+
+  own : (s : StripeNo) → All (IsOwn s) (row_places n 0 s (rows s))
+  own s = own-at s (rows s) refl
+
+  rise-at : (s : StripeNo) (o : Option Row) → AllPairs Rises (row_places n 0 s o)
+  rise-at s None = λ i j d below within. absurd (omega (arith, within))
+  rise-at s (Some r) =
+      let among : Fragment → Fragment → Type 0 = λ f g. Rises (s, f) (s, g) in
       let each : AllPairs among (fragments Wide) = λ i j d below within.
-      or_right (ltb r.stripe.value r.stripe.value) _ (and_from _ _ (eq-eqb r.stripe.value r.stripe.value refl) (lt-ltb _ _ (fragments-rise i j d below within))) in
-      AllPairs-map Rises (λ f. let p : StripeFragment = (r.stripe, f) in p) (filter (sits_on n r) (fragments Wide)) (AllPairs-filter among (sits_on n r) (fragments Wide) each)
-
-  -- a place of this row
-  abbrev IsOwn : Row → StripeFragment → Type 0
-  IsOwn r p = (p.0 ≡ r.stripe) × (sits_on n r p.1 ≡ true)
-
-  row_places-own : (r : Row) → All (IsOwn r) (row_places n 0 r)
-  row_places-own r =
-      let passed : All (λ f. sits_on n r f ≡ true) (filter (sits_on n r) (fragments Wide)) = filter_passes (sits_on n r) (fragments Wide) in
-      All-map (IsOwn r) (λ f. let p : StripeFragment = (r.stripe, f) in p) (filter (sits_on n r) (fragments Wide))
-      (All-weaker (λ f. sits_on n r f ≡ true) (λ f. IsOwn r (r.stripe, f)) (λ f passes. (refl, passes)) (filter (sits_on n r) (fragments Wide)) passed)
+      or_right (ltb s.value s.value) _ (and_from _ _ (eq-eqb s.value s.value refl) (lt-ltb _ _ (fragments-rise i j d below within))) in
+      AllPairs-map Rises (λ f. let p : StripeFragment = (s, f) in p) (filter (sits_at n r.homes) (fragments Wide))
+      (AllPairs-filter among (sits_at n r.homes) (fragments Wide) each)
 
   -- a place of a stripe with a higher number
-  abbrev IsHigher : ℕ → StripeFragment → Type 0
-  IsHigher m p = m < p.0.value
+  abbrev IsHigher : StripeNo → StripeFragment → Type 0
+  IsHigher s p = s.value < p.0.value
 
-  places-above : (m : ℕ) (rows : List Row) → AreAbove m rows → All (IsHigher m) (places rows)
-  places-above m [] above = All-nil (IsHigher m)
-  places-above m (r ∷ rows) above =
-      All-append (IsHigher m) (row_places n 0 r) (places rows) (All-weaker (IsOwn r) (IsHigher m) (λ p own. rw own.0 above.0) (row_places n 0 r) (row_places-own r)) (places-above m rows above.1)
+  places-higher : (s : StripeNo) (xs : List StripeNo) → All (IsLower s) xs → All (IsHigher s) (places xs)
+  places-higher s [] all = All-nil (IsHigher s)
+  places-higher s (x ∷ xs) all =
+      let first : s.value < x.value = all 0 x (omega arith) in
+      All-append (IsHigher s) (row_places n 0 x (rows x)) (places xs)
+      (All-weaker (IsOwn x) (IsHigher s) (λ p is. subst (λ (y : StripeNo). s.value < y.value) (sym is.0) first) (row_places n 0 x (rows x)) (own x))
+      (places-higher s xs (λ i d within. all (suc i) d (omega (arith, within))))
 
-  places-rise : (rows : List Row) → IsRising rows → AllPairs Rises (places rows)
-  places-rise [] rising = λ i j d below within. absurd (omega (arith, within))
-  places-rise (r ∷ rows) rising =
-      AllPairs-append Rises (row_places n 0 r) (places rows) (row_places-rise r) (places-rise rows rising.1)
-      (All-weaker (IsOwn r) (λ p. All (Rises p) (places rows))
-      (λ p own. All-weaker (IsHigher r.stripe.value) (Rises p) (λ q higher. let lower : p.0.value < q.0.value = rw own.0 higher in or_left _ _ (lt-ltb _ _ lower)) (places rows) (places-above r.stripe.value rows rising.0))
-      (row_places n 0 r) (row_places-own r))
+  places-rise : (xs : List StripeNo) → AllPairs IsLower xs → AllPairs Rises (places xs)
+  places-rise [] all = λ i j d below within. absurd (omega (arith, within))
+  places-rise (x ∷ xs) all =
+      AllPairs-append Rises (row_places n 0 x (rows x)) (places xs) (rise-at x (rows x))
+      (places-rise xs (λ i j d below within. all (suc i) (suc j) d (omega (arith, below)) (omega (arith, within))))
+      (All-weaker (IsOwn x) (λ p. All (Rises p) (places xs))
+      (λ p is. All-weaker (IsHigher x) (Rises p)
+      (λ q higher. or_left _ _ (lt-ltb _ _ (subst (λ (y : StripeNo). y.value < q.0.value) (sym is.0) higher)))
+      (places xs) (places-higher x xs (λ j d within. all 0 (suc j) d (omega arith) (omega (arith, within)))))
+      (row_places n 0 x (rows x)) (own x))
 
-  listed-on : (rows : List Row) → IsRising rows → (p : StripeFragment) → Contains (places rows) p → on_node rows p ≡ true
-  listed-on [] rising p among = absurd (omega (arith, among.1))
-  listed-on (r ∷ rows) rising p among = elim (Contains-append_cases (row_places n 0 r) (places rows) p among) [
-    | inl here ↦ let own = All-contains (IsOwn r) (row_places n 0 r) p (row_places-own r) here in rw (own.0, eq-eqb r.stripe.value r.stripe.value refl) own.1
-    | inr later ↦
-        let above = All-contains (IsHigher r.stripe.value) (places rows) p (places-above r.stripe.value rows rising.0) later in
-        rw (ne_eqb r.stripe.value p.0.value (λ e. omega (arith, e, above))) (listed-on rows rising.1 p later)
-  ]
+  places-on : (xs : List StripeNo) → All (λ p. on_node p ≡ true) (places xs)
+  places-on [] = All-nil (λ p. on_node p ≡ true)
+  places-on (x ∷ xs) =
+      All-append (λ p. on_node p ≡ true) (row_places n 0 x (rows x)) (places xs)
+      (All-weaker (IsOwn x) (λ p. on_node p ≡ true) (λ p is. is.1) (row_places n 0 x (rows x)) (own x)) (places-on xs)
 
-  on-listed : (rows : List Row) → (p : StripeFragment) → on_node rows p ≡ true → Contains (places rows) p
-  on-listed [] p hit = absurd (cc)
-  on-listed (r ∷ rows) p hit = elim (cases_Bool (nat_eq r.stripe.value p.0.value)) [
+  lists-at : (s : StripeNo) (f : Fragment) (o : Option Row) → rows s ≡ o → on_node (s, f) ≡ true → Contains (row_places n 0 s o) (s, f)
+  lists-at s f None none on = absurd (let off : on_node (s, f) ≡ false = ap (λ (o : Option Row). option_map_or (λ seat. same_node n seat.node) (row_homes o f.value) false) none in let clash : true ≡ false = sym on ∙ off in cc)
+  lists-at s f (Some r) there on =
+      let sits : sits_at n r.homes f ≡ true = sym (ap (λ (o : Option Row). option_map_or (λ seat. same_node n seat.node) (row_homes o f.value) false) there) ∙ on in
+      Contains-map (λ g. let p : StripeFragment = (s, g) in p) (filter (sits_at n r.homes) (fragments Wide)) f
+      (Contains-filter (sits_at n r.homes) (fragments Wide) f sits (fragments-all f))
+
+  places-list : (xs : List StripeNo) (s : StripeNo) (f : Fragment) → on_node (s, f) ≡ true → Contains xs s → Contains (places xs) (s, f)
+  places-list [] s f on among = absurd (omega (arith, among.1))
+  places-list (x ∷ xs) s f on among = elim (Contains-cons_cases x s xs among) [
     | inl here ↦
-        let own : r.stripe ≡ p.0 = equal_stripes r.stripe p.0 (eqb-true _ _ here) in
-        let sits : sits_on n r p.1 ≡ true = rw here at hit in
-        let found = Contains-map (λ f. let q : StripeFragment = (r.stripe, f) in q) _ p.1 (Contains-filter (sits_on n r) (fragments Wide) p.1 sits (fragments-all p.1)) in
-        Contains-append_left (row_places n 0 r) (places rows) p (subst (λ (s : StripeNo). let q : StripeFragment = (s, p.1) in Contains (row_places n 0 r) q) own found)
-    | inr later ↦ Contains-append_right (row_places n 0 r) (places rows) p (on-listed rows p (rw later at hit))
+        Contains-append_left (row_places n 0 x (rows x)) (places xs) (s, f)
+        (subst (λ (y : StripeNo). Contains (row_places n 0 y (rows y)) (s, f)) (sym here) (lists-at s f (rows s) refl on))
+    | inr later ↦ Contains-append_right (row_places n 0 x (rows x)) (places xs) (s, f) (places-list xs s f on later)
   ]
 
-  pub are_homes : (t : Table) → IsRising t.rows → AreHomesOn (stored_in t) n (places_from n 0 t.rows)
-  unfolding stored_in
-  are_homes t rising = rw (places_from-first n t.rows) (record { rising = places-rise t.rows rising; each = λ p. (listed-on t.rows rising p, on-listed t.rows p) })
+  -- a stripe with a fragment on the node has a row there
+  on-row : (s : StripeNo) (f : Fragment) (o : Option Row) → rows s ≡ o → on_node (s, f) ≡ true → is_row_on n o ≡ true
+  on-row s f None none on = absurd (let off : on_node (s, f) ≡ false = ap (λ (o : Option Row). option_map_or (λ seat. same_node n seat.node) (row_homes o f.value) false) none in let clash : true ≡ false = sym on ∙ off in cc)
+  on-row s f (Some r) there on =
+      let sits : sits_at n r.homes f ≡ true = sym (ap (λ (o : Option Row). option_map_or (λ seat. same_node n seat.node) (row_homes o f.value) false) there) ∙ on in
+      let long = r.sixteen in
+      let low = f.in_range in
+      list_any_at (sits_on n) r.homes f.value None (omega (arith, long, low)) sits
+
+-- ---- of a store
+
+pub are_homes : (sites : SiteTable) (rows : List (Option Row)) (spare : ℕ) → IsKept (sited sites) (rows_in rows) → (n : NodeNo)
+    → AreHomesOn (stored_in (record { sites = sites.list; rows = rows; spare = spare })) n (places_from n (rows_in rows) ((sited sites).on n) 0)
+unfolding stored_in
+are_homes sites rows spare kept n =
+    let set = (sited sites).on n in
+    record {
+      rising = places-rise n (rows_in rows) (members_from set 0) (members-rising set 0);
+      each = λ p. (
+        λ among. All-contains (λ q. on_node n (rows_in rows) q ≡ true) (places n (rows_in rows) (members_from set 0)) p (places-on n (rows_in rows) (members_from set 0)) among,
+        λ on. places-list n (rows_in rows) (members_from set 0) p.0 p.1 on
+            (members-all set 0 p.0 (kept.listed n p.0 ∙ on-row n (rows_in rows) p.0 p.1 (rows_in rows p.0) refl on) (omega arith)),
+      );
+    }

@@ -1,15 +1,21 @@
 -- The nodes as they are kept: where one stands, and what setting one changes.
-use Rattle.std.proofs.Common.{◌≡◌, suc, ◌<◌, inl, inr, Bool, true, false, if◌then◌else◌, nat_eq, List, [], ◌∷◌, length, map, get_or, set, IsSome, option_map, arith, refl, sym, ap, ◌∙◌}
+use Rattle.std.proofs.Common.{◌≡◌, ℕ, zero, suc, ◌<◌, ◌≤◌, inl, inr, Bool, true, false, if◌then◌else◌, nat_eq, nat_lt, List, [], ◌∷◌, ◌++◌, length, map, get_or, set, IsSome, Some, None, option_map, arith, refl, sym, ap, ◌∙◌, subst}
 use Rattle.std.proofs.Math.Path.{fun_ext}
+use Rattle.std.proofs.Math.ListN.{length-set}
+use Rattle.std.specs.List.{position_or_len, All}
 use Rattle.std.specs.Option.{option_map_or}
-use Rattle.std.proofs.lemmas.Bool.{cases_Bool, cases_eq, eq-eqb, ne_eqb, eqb-true, eqb-false}
+use Rattle.std.proofs.lemmas.Bool.{cases_Bool, cases_eq, cases_lt, eq-eqb, ne_eqb, eqb-true, eqb-false, lt-ltb, le-ltb}
+use Rattle.std.proofs.lemmas.List.{get_or-set_same, get_or-set_other, length-map, append_assoc}
 use Rattle.lrc_code.specs.declared.numbers.NodeNo.{NodeNo}
+use Rattle.lrc_code.specs.declared.numbers.StripeNo.{StripeNo}
+use Rattle.lrc_code.specs.Numbers.{same_node}
+use Rattle.lrc_code.proofs.NumbersLemmas.{equal_nodes}
 use Rattle.lrc_topology.specs.declared.NodeInfo.{NodeInfo}
-use Rattle.lrc_topology.specs.Nodes.{node_at}
-use Rattle.lrc_stripes.specs.declared.row.Site.{Site}
+use Rattle.lrc_topology.specs.Nodes.{node_at, place_in}
+use Rattle.lrc_stripes.specs.declared.site.Site.{Site}
 use Rattle.lrc_stripes.specs.Stored.{has_node}
-use Rattle.lrc_stripes.specs.Tables.{site_at, online_in, draining_in}
-use Rattle.lrc_stripes.specs.Rows.{site_of, site_place}
+use Rattle.lrc_stripes.specs.Sets.{has}
+use Rattle.lrc_stripes.specs.Sites.{site_of, site_at, site_place, online_in, draining_in, IsPlaceOf, AreSites}
 
 -- ---- at first
 
@@ -92,6 +98,16 @@ module _ (n : NodeNo) (x d : Site) where
       → said_in says (set sites (site_place sites n) x) ≡ λ m. if nat_eq n.value m.value then says x else said_in says sites m
   said-set says sites own within = fun_ext (λ m. said-set_at says sites m own within)
 
+  -- every node stands where it stood
+  pub place-set : (sites : List Site) → x.node ≡ (get_or sites (site_place sites n) d).node → (m : NodeNo) → site_place (set sites (site_place sites n) x) m ≡ site_place sites m
+  place-set [] own m = refl
+  place-set (y ∷ sites) own m = elim (cases_Bool (nat_eq n.value y.node.number.value)) [
+    | inl here ↦
+        let same : x.node ≡ y.node = rw here at own in
+        rw here (ap (λ (k : NodeInfo). if same_node m k.number then 0 else suc (site_place sites m)) same)
+    | inr later ↦ rw later (ap (λ (k : ℕ). if same_node m y.node.number then 0 else suc k) (place-set sites (rw later at own) m))
+  ]
+
   said-kept_at : (says : Site → Bool) (sites : List Site) (m : NodeNo)
       → x.node ≡ (get_or sites (site_place sites n) d).node → says x ≡ says (get_or sites (site_place sites n) d)
       → said_in says (set sites (site_place sites n) x) m ≡ said_in says sites m
@@ -124,3 +140,108 @@ node_at-sites (x ∷ sites) n = elim (cases_Bool (nat_eq n.value x.node.number.v
   | inl here ↦ rw here refl
   | inr later ↦ rw later (node_at-sites sites n)
 ]
+
+-- ---- look-ups
+
+-- a node stands where its site_place is, if that is within
+pub site_at-place : (sites : List Site) (n : NodeNo) (d : Site) → site_place sites n < length sites → site_at sites n ≡ Some (get_or sites (site_place sites n) d)
+site_at-place [] n d within = absurd (omega (arith, within))
+site_at-place (x ∷ sites) n d within = elim (cases_Bool (nat_eq n.value x.node.number.value)) [
+  | inl here ↦ rw here refl
+  | inr later ↦
+      let rest : suc (site_place sites n) < suc (length sites) = rw later at within in
+      rw later (site_at-place sites n d (omega (arith, rest)))
+]
+
+pub site_at-past : (sites : List Site) (n : NodeNo) → length sites ≤ site_place sites n → site_at sites n ≡ None
+site_at-past [] n past = refl
+site_at-past (x ∷ sites) n past = elim (cases_Bool (nat_eq n.value x.node.number.value)) [
+  | inl here ↦ absurd (let none : suc (length sites) ≤ 0 = rw here at past in omega (arith, none))
+  | inr later ↦
+      let rest : suc (length sites) ≤ suc (site_place sites n) = rw later at past in
+      rw later (site_at-past sites n (omega (arith, rest)))
+]
+
+-- the numbers of the nodes
+abbrev numbers : List Site → List NodeNo
+numbers sites = map (λ x. x.node.number) sites
+
+-- the place is the first of the number among those of all nodes
+site_place-first : (sites : List Site) (n : NodeNo) → position_or_len (λ m. same_node n m) (numbers sites) ≡ site_place sites n
+site_place-first [] n = refl
+site_place-first (x ∷ sites) n = elim (cases_Bool (nat_eq n.value x.node.number.value)) [
+  | inl here ↦ rw here refl
+  | inr later ↦ rw (later, site_place-first sites n) (omega arith)
+]
+
+pub place-found : (sites : List Site) (sets : List (List Bool)) (n : NodeNo) → length sets ≡ length sites → IsPlaceOf (record { list = sites; stripes = sets }) n (place_in (numbers sites) n)
+place-found sites sets n long =
+    let count : length (numbers sites) ≡ length sites = length-map sites (λ (x : Site). x.node.number) in
+    subst (λ (k : ℕ). IsPlaceOf (record { list = sites; stripes = sets }) n (if nat_lt k (length (numbers sites)) then Some k else None)) (sym (site_place-first sites n)) (elim (cases_lt (site_place sites n) (length (numbers sites))) [
+      | inl within ↦ rw (lt-ltb _ _ within) (refl, omega (arith, within, count), long)
+      | inr past ↦ rw (le-ltb _ _ past) (omega (arith, past, count), long)
+    ])
+
+-- ---- the stripes of the nodes
+
+-- the node at its place has the number
+place_number : (sites : List Site) (n : NodeNo) (d : Site) → site_place sites n < length sites → n.value ≡ (get_or sites (site_place sites n) d).node.number.value
+place_number [] n d within = absurd (omega (arith, within))
+place_number (x ∷ sites) n d within = elim (cases_Bool (nat_eq n.value x.node.number.value)) [
+  | inl here ↦ rw here (eqb-true _ _ here)
+  | inr later ↦
+      let rest : suc (site_place sites n) < suc (length sites) = rw later at within in
+      rw later (place_number sites n d (omega (arith, rest)))
+]
+
+-- a node that stands for none
+abbrev pub no_site : Site
+no_site = record { node = record { number = record { value = 0 }; fault = record { value = 0 }; upgrade = record { value = 0 }; slots = 0 }; is_offline = false; is_draining = false }
+
+-- two numbers with one place within are one
+one_place : (sites : List Site) (n m : NodeNo) → site_place sites n ≡ site_place sites m → site_place sites n < length sites → n.value ≡ m.value
+one_place sites n m same within =
+    let d = no_site in
+    place_number sites n d within ∙ (ap (λ (p : ℕ). (get_or sites p d).node.number.value) same ∙ sym (place_number sites m d (omega (arith, within, same))))
+
+module _ (sites : List Site) (sets : List (List Bool)) (long : length sets ≡ length sites) where
+  -- the set of one node changed
+  pub on-changed : (n : NodeNo) (more : List Bool) (m : NodeNo) (s : StripeNo) → site_place sites n < length sites
+      → has (get_or (set sets (site_place sites n) more) (site_place sites m) []) s ≡ (if same_node n m then has more s else has (get_or sets (site_place sites m) []) s)
+  on-changed n more m s within = elim (cases_eq n.value m.value) [
+    | inl same ↦
+        rw (eq-eqb _ _ same) (subst (λ (k : NodeNo). has (get_or (set sets (site_place sites n) more) (site_place sites k) []) s ≡ has more s) (equal_nodes n m same)
+        (ap (λ (bits : List Bool). has bits s) (get_or-set_same sets (site_place sites n) more [] (omega (arith, within, long)))))
+    | inr other ↦
+        rw (ne_eqb _ _ other) (ap (λ (bits : List Bool). has bits s) (get_or-set_other sets (site_place sites n) (site_place sites m) more []
+        (λ e. other (one_place sites n m (sym e) within))))
+  ]
+
+-- ---- what is kept of all nodes
+
+map-set : {X Y : Type 0} (f : X → Y) (xs : List X) (p : ℕ) (y d : X) → f y ≡ f (get_or xs p d) → map f (set xs p y) ≡ map f xs
+map-set f [] p y d same = refl
+map-set f (x ∷ xs) zero y d same = ap (λ z. z ∷ map f xs) same
+map-set f (x ∷ xs) (suc p) y d same = ap (λ zs. f x ∷ zs) (map-set f xs p y d same)
+
+pub sites-set : (sites : List Site) (sets : List (List Bool)) (ns : List NodeNo) (p : ℕ) (x y : Site) → AreSites sites sets ns → x ≡ get_or sites p x → y.node ≡ x.node
+    → AreSites (set sites p y) sets ns
+sites-set sites sets ns p x y are here own = record {
+  long = are.long ∙ sym (length-set sites p y);
+  found = are.found ∙ sym (map-set (λ (z : Site). z.node.number) sites p y x (ap (λ (k : NodeInfo). k.number) own ∙ ap (λ (z : Site). z.node.number) here));
+}
+
+-- ---- at first
+
+pub numbers-at_first : (nodes : List NodeInfo) → map (λ n. n.number) nodes ≡ map (λ (x : Site). x.node.number) (map site_of nodes)
+numbers-at_first [] = refl
+numbers-at_first (n ∷ nodes) = ap (λ (ns : List NodeNo). n.number ∷ ns) (numbers-at_first nodes)
+
+pub sets-none : (sets : List (List Bool)) → All (λ set. has set ≡ (λ s. false)) sets → (k : ℕ) → has (get_or sets k []) ≡ (λ s. false)
+sets-none [] none k = fun_ext (λ s. refl)
+sets-none (x ∷ sets) none zero = none 0 [] (omega arith)
+sets-none (x ∷ sets) none (suc k) = sets-none sets (λ i d within. none (suc i) d (omega (arith, within))) k
+
+pub made-more : (xs : List Site) (n : NodeInfo) (rest left all : List NodeInfo) → left ≡ n ∷ rest → xs ++ map site_of left ≡ map site_of all
+    → (xs ++ site_of n ∷ []) ++ map site_of rest ≡ map site_of all
+made-more xs n rest left all is made = append_assoc xs (site_of n ∷ []) (map site_of rest) ∙ ap (λ (ns : List NodeInfo). xs ++ map site_of ns) (sym is) ∙ made

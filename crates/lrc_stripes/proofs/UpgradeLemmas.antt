@@ -1,181 +1,187 @@
 -- The stripes that become unrecoverable while an upgrade domain is offline.
-use Rattle.std.proofs.Common.{◌≡◌, ℕ, ◌<◌, ◌≤◌, inl, inr, Bool, true, false, not, ◌&&◌, nat_eq, List, [], ◌∷◌, find, map, Option, Some, None, is_some, is_none, option_map, IsFalse, IfSome, IfNone, arith, refl, sym, ap, ap₂, subst, ◌∙◌}
+use Rattle.std.proofs.Common.{◌≡◌, ℕ, ◌+◌, ◌<◌, ◌≤◌, inl, inr, Bool, true, false, not, ◌&&◌, ◌||◌, nat_lt, eqb, ltb, List, [], ◌∷◌, get_or, Option, Some, None, IfSome, IfNone, arith, refl, sym, ap, ◌∙◌}
 use Rattle.std.proofs.Math.Path.{fun_ext}
+use Rattle.std.specs.List.{list_any}
 use Rattle.std.specs.Option.{option_map_or}
-use Rattle.std.proofs.lemmas.Bool.{cases_Bool, eq-eqb, ne_eqb}
-use Rattle.std.proofs.lemmas.Option.{same_Some}
+use Rattle.std.proofs.lemmas.Bool.{cases_Bool, cases_lt, eqb-true, eq-eqb, ltb-true, and_parts, and_from, or_left, or_right}
+use Rattle.std.proofs.lemmas.List.Folds.{list_any_at}
+use Rattle.lrc_code.specs.declared.codes.Code.TheVariants.{Wide}
 use Rattle.lrc_code.specs.declared.numbers.StripeNo.{StripeNo}
 use Rattle.lrc_code.specs.declared.numbers.NodeNo.{NodeNo}
 use Rattle.lrc_code.specs.declared.numbers.UpgradeNo.{UpgradeNo}
-use Rattle.lrc_code.specs.declared.codes.Code.TheVariants.{Wide}
-use Rattle.lrc_code.specs.Numbers.{same_upgrade}
+use Rattle.lrc_code.specs.Numbers.{same_node, same_upgrade}
 use Rattle.lrc_code.specs.Losses.{FragmentSet, bits_set, is_recoverable}
+use Rattle.lrc_code.proofs.NumbersLemmas.{equal_nodes, equal_stripes}
+use Rattle.lrc_topology.specs.declared.NodeInfo.{NodeInfo}
 use Rattle.lrc_topology.specs.declared.seat.Seat.{Seat}
+use Rattle.lrc_topology.specs.Nodes.{node_at}
 use Rattle.lrc_stripes.specs.declared.row.Row.{Row}
-use Rattle.lrc_stripes.specs.declared.row.Site.{Site}
 use Rattle.lrc_stripes.specs.Levels.{missing_in}
-use Rattle.lrc_stripes.specs.Tables.{Table, stored_in, row_at, row_homes, site_at, online_in}
+use Rattle.lrc_stripes.specs.Sites.{SiteTable, Sited, sited, online_in}
+use Rattle.lrc_stripes.specs.Rows.{sits_on}
+use Rattle.lrc_stripes.specs.Tables.{Table, stored_in, rows_in, row_homes}
+use Rattle.lrc_stripes.specs.Kept.{IsKept, is_row_on}
 use Rattle.lrc_stripes.specs.Upgrades.{is_in_domain, is_lost_to, IsFirstLostTo}
-use Rattle.lrc_stripes.specs.Rows.{IsRising, stays_online, domain_online, site_domain, is_safe_row, row_lost_to, first_lost}
-use Rattle.lrc_stripes.proofs.SiteLemmas.{node_at-sites}
-use Rattle.lrc_stripes.proofs.RowLemmas.{AreAbove, row_at-above, AreAbove-lower}
+use Rattle.lrc_stripes.specs.Looming.{is_home_in, missing_without, is_row_lost, lost_in, IsFirstIn}
+use Rattle.lrc_stripes.proofs.MaskLemmas.{below-next_true, below-next_false}
+use Rattle.lrc_stripes.proofs.RepairLemmas.{kept-missing}
 
--- ---- one fragment
+-- ---- the mask with the domain offline
 
-missing-site : (o : Option Site) → not (option_map_or (λ (x : Site). not x.is_offline) o false) ≡ is_none (site_domain o)
-missing-site None = refl
-missing-site (Some x) = elim (cases_Bool x.is_offline) [
-  | inl off ↦ rw off refl
-  | inr on ↦ rw on refl
-]
+-- the members of a mask, and those of a set among those below the next number
+module _ (base : ℕ → Bool) (m : ℕ → Bool) (i : ℕ) where
+  pub mask-join_true : (bits next k : ℕ) → k ≡ i → m i ≡ true → ((f : ℕ) → bits_set bits f ≡ (base f || (ltb f i && m f)))
+      → ((f : ℕ) → bits_set next f ≡ (eqb f k || bits_set bits f)) → (f : ℕ) → bits_set next f ≡ (base f || (ltb f (i + 1) && m f))
+  mask-join_true bits next k same hit before after f =
+      after f ∙ rw (same, before f) (swap (eqb f i) (base f) (ltb f i && m f) ∙ ap (λ b. base f || b) (below-next_true m i f hit)) where
+        swap : (a b c : Bool) → (a || (b || c)) ≡ (b || (a || c))
+        swap true true c = refl
+        swap true false c = refl
+        swap false b c = refl
 
--- where the domain, if it is online in one, is this one
-abbrev pub only_in : UpgradeNo → Option UpgradeNo → Bool
-only_in u o = option_map_or (λ other. same_upgrade other u) o true
+  pub mask-join_false : (bits : ℕ) → m i ≡ false → ((f : ℕ) → bits_set bits f ≡ (base f || (ltb f i && m f))) → (f : ℕ) → bits_set bits f ≡ (base f || (ltb f (i + 1) && m f))
+  mask-join_false bits miss before f = before f ∙ ap (λ b. base f || b) (below-next_false m i f miss)
 
-missing-site_without : (u : UpgradeNo) (o : Option Site)
-    → not (option_map_or (λ (x : Site). not x.is_offline && not (same_upgrade x.node.upgrade u)) o false) ≡ only_in u (site_domain o)
-missing-site_without u None = refl
-missing-site_without u (Some x) = elim (cases_Bool x.is_offline) [
-  | inl off ↦ rw off refl
-  | inr on ↦ elim (cases_Bool (nat_eq x.node.upgrade.value u.value)) [
-    | inl same ↦ rw (on, same) refl
-    | inr other ↦ rw (on, other) refl
-  ]
-]
+-- ---- one row, by its masks
 
-module _ (sites : List Site) where
-  -- a fragment is missing exactly where its home is online in no domain
-  pub missing-domain : (home : Option Seat) → option_map_or (λ seat. not (online_in sites seat.node)) home true ≡ is_none (domain_online sites home)
-  missing-domain None = refl
-  missing-domain (Some seat) = missing-site (site_at sites seat.node)
+module _ (sites : Sited) (u : UpgradeNo) (r : Row) (a : Bool) (first : a ≡ is_recoverable Wide (bits_set r.losses.missing.bits)) where
+  lost_row-by : (b : Bool) → a ≡ b → is_row_lost sites u r ≡ (b && not (is_recoverable Wide (missing_without sites.nodes u r)))
+  unfolding is_row_lost
+  lost_row-by b e = ap (λ (x : Bool). x && not (is_recoverable Wide (missing_without sites.nodes u r))) (sym first ∙ e)
 
-  -- and with a domain offline where it is online in no other
-  pub missing-domain_without : (u : UpgradeNo) (home : Option Seat)
-      → option_map_or (λ seat. not (stays_online sites u seat.node)) home true ≡ only_in u (domain_online sites home)
-  missing-domain_without u None = refl
-  missing-domain_without u (Some seat) = missing-site_without u (site_at sites seat.node)
+  pub lost_row-safe : (without : ℕ) (b : Bool) → a ≡ true → ((f : ℕ) → bits_set without f ≡ missing_without sites.nodes u r f) → b ≡ is_recoverable Wide (bits_set without)
+      → not b ≡ is_row_lost sites u r
+  lost_row-safe without b safe same second =
+      ap not (second ∙ ap (is_recoverable Wide) (fun_ext same)) ∙ sym (lost_row-by true safe)
 
--- ---- one stripe
-
--- of two masks
-module _ (sites : List Site) (u : UpgradeNo) (r : Row) (now upgraded : ℕ)
-    (before : bits_set now ≡ missing_in Wide (online_in sites) (row_homes (Some r)))
-    (after : bits_set upgraded ≡ missing_in Wide (stays_online sites u) (row_homes (Some r)))
-    (a : Bool) (first : a ≡ is_recoverable Wide (bits_set now)) where
-  lost_row-is : row_lost_to sites u r ≡ (a && not (is_recoverable Wide (bits_set upgraded)))
-  unfolding row_lost_to
-  lost_row-is = rw first (sym (ap₂ (λ (m n : FragmentSet). is_recoverable Wide m && not (is_recoverable Wide n)) before after))
-
-  lost_row-by : (b : Bool) → a ≡ b → row_lost_to sites u r ≡ (b && not (is_recoverable Wide (bits_set upgraded)))
-  lost_row-by b e = lost_row-is ∙ ap (λ (x : Bool). x && not (is_recoverable Wide (bits_set upgraded))) e
-
-  pub lost_row-safe : (b : Bool) → a ≡ true → b ≡ is_recoverable Wide (bits_set upgraded) → not b ≡ row_lost_to sites u r
-  lost_row-safe b safe second = ap not second ∙ sym (lost_row-by true safe)
-
-  pub lost_row-unsafe : a ≡ false → a ≡ row_lost_to sites u r
+  pub lost_row-unsafe : a ≡ false → a ≡ is_row_lost sites u r
   lost_row-unsafe unsafe = unsafe ∙ sym (lost_row-by false unsafe)
 
-module _ (u : UpgradeNo) where
-  online-site : (o : Option Site)
-      → (option_map_or (λ (x : Site). not x.is_offline) o false
-      && not (option_map_or (λ m. same_upgrade m.upgrade u) (option_map (λ (x : Site). x.node) o) false))
-      ≡ option_map_or (λ (x : Site). not x.is_offline && not (same_upgrade x.node.upgrade u)) o false
-  online-site None = refl
-  online-site (Some x) = refl
+-- ---- the stripes near a domain
 
-  -- the nodes that are online with the domain offline
-  online-upgrade : (sites : List Site) (n : NodeNo)
-      → (online_in sites n && not (is_in_domain (map (λ (x : Site). x.node) sites) u n)) ≡ stays_online sites u n
-  online-upgrade sites n = rw (node_at-sites sites n) (online-site (site_at sites n))
+-- a test of the node of a number is one of the nodes, beside a test of its number
+any-node : (nodes : List NodeInfo) (n : NodeNo) (p : NodeInfo → Bool) (q : NodeNo → Bool) → option_map_or p (node_at nodes n) false ≡ true → q n ≡ true
+    → list_any (λ m. p m && q m.number) nodes ≡ true
+any-node [] n p q hit there = absurd (cc)
+any-node (x ∷ nodes) n p q hit there = elim (cases_Bool (same_node n x.number)) [
+  | inl here ↦
+      let own : p x ≡ true = rw here at hit in
+      let number : q x.number ≡ true = ap q (sym (equal_nodes n x.number (eqb-true n.value x.number.value here))) ∙ there in
+      or_left _ _ (and_from _ _ own number)
+  | inr later ↦ or_right _ _ (any-node nodes n p q (rw later at hit) there)
+]
 
--- ---- the first of the rows
+module _ (sites : Sited) (rows : StripeNo → Option Row) (kept : IsKept sites rows) (u : UpgradeNo) (s : StripeNo) where
+  -- a stripe with a home in the domain is on one of its nodes
+  near-home : (r : Row) → rows s ≡ Some r → (f : ℕ) → f < 16 → (home : Option Seat) → get_or r.homes f None ≡ home → is_home_in sites.nodes u home ≡ true
+      → list_any (λ n. same_upgrade n.upgrade u && sites.on n.number s) sites.nodes ≡ true
+  near-home r found f within None at hit = absurd (cc)
+  near-home r found f within (Some seat) at hit =
+      let sits : sits_on seat.node (get_or r.homes f None) ≡ true = ap (sits_on seat.node) at ∙ eq-eqb seat.node.value seat.node.value refl in
+      let any : list_any (sits_on seat.node) r.homes ≡ true = list_any_at (sits_on seat.node) r.homes f None (let long = r.sixteen in omega (arith, within, long)) sits in
+      let on : sites.on seat.node s ≡ true = kept.listed seat.node s ∙ (ap (is_row_on seat.node) found ∙ any) in
+      any-node sites.nodes seat.node (λ m. same_upgrade m.upgrade u) (λ n. sites.on n s) hit on
 
-module _ (p : Row → Bool) where
-  -- the row of a stripe passes
-  abbrev pub passes : List Row → StripeNo → Bool
-  passes rows s = option_map_or p (row_at rows s) false
-
-  pub record IsFirst (rows : List Row) (s : StripeNo) : Type 0 where
-    pub found : passes rows s ≡ true
-    pub first : (t : StripeNo) → t.value < s.value → passes rows t ≡ false
-
-  none-passes : (rows : List Row) → find p rows ≡ None → (s : StripeNo) → passes rows s ≡ false
-  none-passes [] none s = refl
-  none-passes (r ∷ rows) none s = elim (cases_Bool (p r)) [
-    | inl hit ↦ absurd (let e : Some r ≡ None = rw hit at none in cc)
-    | inr miss ↦ elim (cases_Bool (nat_eq r.stripe.value s.value)) [
-      | inl here ↦ rw here miss
-      | inr later ↦ rw later (none-passes rows (rw miss at none) s)
+  -- a stripe with no home in the domain is not lost to it
+  pub far-safe : list_any (λ n. same_upgrade n.upgrade u && sites.on n.number s) sites.nodes ≡ false → lost_in sites rows u s ≡ false
+  unfolding is_row_lost
+  far-safe far = by (rows s) refl where
+    none : (r : Row) → rows s ≡ Some r → (f : ℕ) → (nat_lt f 16 && is_home_in sites.nodes u (get_or r.homes f None)) ≡ false
+    none r found f = elim (cases_Bool (nat_lt f 16 && is_home_in sites.nodes u (get_or r.homes f None))) [
+      | inl hit ↦
+          let both = and_parts (nat_lt f 16) (is_home_in sites.nodes u (get_or r.homes f None)) hit in
+          let near = near-home r found f (ltb-true f 16 both.0) (get_or r.homes f None) refl both.1 in
+          absurd (let clash : true ≡ false = sym near ∙ far in cc)
+      | inr miss ↦ miss
     ]
+
+    same : (r : Row) → rows s ≡ Some r → missing_without sites.nodes u r ≡ bits_set r.losses.missing.bits
+    same r found = fun_ext (λ f. ap (λ b. bits_set r.losses.missing.bits f || b) (none r found f) ∙ or-none (bits_set r.losses.missing.bits f)) where
+      or-none : (b : Bool) → (b || false) ≡ b
+      or-none true = refl
+      or-none false = refl
+
+    and-not : (b : Bool) → (b && not b) ≡ false
+    and-not true = refl
+    and-not false = refl
+
+    by : (o : Option Row) → rows s ≡ o → lost_in sites rows u s ≡ false
+    by None e = rw e refl
+    by (Some r) e =
+        ap (λ (o : Option Row). option_map_or (is_row_lost sites u) o false) e
+        ∙ (ap (λ (m : FragmentSet). is_recoverable Wide (bits_set r.losses.missing.bits) && not (is_recoverable Wide m)) (same r e)
+        ∙ and-not (is_recoverable Wide (bits_set r.losses.missing.bits)))
+
+-- none below the next stripe passes, where none below a number does, the next is the first near one, and it fails
+pub none-more : (test near : StripeNo → Bool) (from : ℕ) (s : StripeNo) → ((t : StripeNo) → near t ≡ false → test t ≡ false)
+    → ((t : StripeNo) → t.value < from → test t ≡ false) → ((t : StripeNo) → from ≤ t.value → t.value < s.value → near t ≡ false) → test s ≡ false
+    → (t : StripeNo) → t.value < s.value + 1 → test t ≡ false
+none-more test near from s far before first miss t below = elim (cases_lt t.value from) [
+  | inl low ↦ before t low
+  | inr high ↦ elim (cases_lt t.value s.value) [
+    | inl between ↦ far t (first t high between)
+    | inr past ↦ ap test (equal_stripes t s (omega (arith, below, past))) ∙ miss
   ]
+]
 
-  -- no row above a number is that of a stripe up to it
-  above-passes : (n : ℕ) (rows : List Row) (s : StripeNo) → s.value ≤ n → AreAbove n rows → passes rows s ≡ false
-  above-passes n rows s le above =
-      ap (λ (o : Option Row). option_map_or p o false) (row_at-above s rows (AreAbove-lower s.value n rows le above))
+pub none-below : (test near : StripeNo → Bool) (from : ℕ) (s : StripeNo) → ((t : StripeNo) → near t ≡ false → test t ≡ false)
+    → ((t : StripeNo) → t.value < from → test t ≡ false) → ((t : StripeNo) → from ≤ t.value → t.value < s.value → near t ≡ false)
+    → (t : StripeNo) → t.value < s.value → test t ≡ false
+none-below test near from s far before first t below = elim (cases_lt t.value from) [
+  | inl low ↦ before t low
+  | inr high ↦ far t (first t high below)
+]
 
-  found-here : (r : Row) (rows : List Row) → IsRising (r ∷ rows) → p r ≡ true → IsFirst (r ∷ rows) r.stripe
-  found-here r rows rising hit = record {
-    found = rw (eq-eqb r.stripe.value r.stripe.value refl) hit;
-    first = λ t lower.
-        let apart = ne_eqb r.stripe.value t.value (λ same. omega (arith, same, lower)) in
-        rw apart (above-passes r.stripe.value rows t (omega (arith, lower)) rising.0);
-  }
-
-  found-first : (rows : List Row) → IsRising rows → (q : Row) → find p rows ≡ Some q → IsFirst rows q.stripe
-  found-first [] rising q found = absurd (let e : None ≡ Some q = found in cc)
-  found-first (r ∷ rows) rising q found = elim (cases_Bool (p r)) [
-    | inl hit ↦
-        let e : Some r ≡ Some q = rw hit at found in
-        subst (λ (x : Row). IsFirst (r ∷ rows) x.stripe) (same_Some r q e) (found-here r rows rising hit)
-    | inr miss ↦
-        let rest = found-first rows rising.1 q (rw miss at found) in
-        let apart : r.stripe.value ≡ q.stripe.value → ⊥ = λ same.
-        let none = above-passes r.stripe.value rows q.stripe (omega (arith, same)) rising.0 in
-        let e : true ≡ false = sym rest.found ∙ none in
-        cc in
-        record {
-          found = rw (ne_eqb r.stripe.value q.stripe.value apart) rest.found;
-          first = λ t lower. elim (cases_Bool (nat_eq r.stripe.value t.value)) [
-            | inl here ↦ rw here miss
-            | inr later ↦ rw later (rest.first t lower)
-          ];
-        }
-  ]
+pub none-left : (test near : StripeNo → Bool) (from : ℕ) → ((t : StripeNo) → near t ≡ false → test t ≡ false)
+    → ((t : StripeNo) → t.value < from → test t ≡ false) → ((t : StripeNo) → from ≤ t.value → near t ≡ false) → (t : StripeNo) → test t ≡ false
+none-left test near from far before none t = elim (cases_lt t.value from) [
+  | inl low ↦ before t low
+  | inr high ↦ far t (none t high)
+]
 
 -- ---- of a store
 
-module _ (t : Table) (u : UpgradeNo) where
-  lost-at : (o : Option Row)
-      → (is_some o && (is_safe_row (online_in t.sites) o && not (is_safe_row (stays_online t.sites u) o)))
-      ≡ option_map_or (row_lost_to t.sites u) o false
-  unfolding row_lost_to
-  lost-at None = refl
-  lost-at (Some r) = refl
+module _ (sites : SiteTable) (rows : List (Option Row)) (spare : ℕ) (kept : IsKept (sited sites) (rows_in rows)) (u : UpgradeNo) where
+  abbrev store : Table
+  store = record { sites = sites.list; rows = rows; spare = spare }
 
-  lost-passes : (s : StripeNo) → is_lost_to (stored_in t) u s ≡ passes (row_lost_to t.sites u) t.rows s
-  unfolding stored_in is_lost_to
-  lost-passes s =
-      let o = row_at t.rows s in
-      let same = fun_ext (λ n. online-upgrade u t.sites n) in
-      ap (λ (online : NodeNo → Bool). is_some o && (is_safe_row (online_in t.sites) o && not (is_safe_row online o))) same ∙ lost-at o
+  with-domain : (r : Row) (s : StripeNo) → rows_in rows s ≡ Some r → (f : ℕ)
+      → missing_in Wide (λ n. online_in sites.list n && not (is_in_domain (sited sites).nodes u n)) (row_homes (Some r)) f ≡ missing_without (sited sites).nodes u r f
+  with-domain r s found f =
+      by (nat_lt f 16) (get_or r.homes f None) ∙ ap (λ b. b || (nat_lt f 16 && is_home_in (sited sites).nodes u (get_or r.homes f None))) (sym (ap (λ (m : FragmentSet). m f) (kept-missing sites rows kept s r found))) where
+        some : (a b c : Bool) → (a && not (b && not c)) ≡ ((a && not b) || (a && c))
+        some true true c = not-not c where
+          not-not : (c : Bool) → not (not c) ≡ c
+          not-not true = refl
+          not-not false = refl
+        some true false c = refl
+        some false b c = refl
 
-  first-at : IsRising t.rows → (o : Option Row) → find (row_lost_to t.sites u) t.rows ≡ o
-      → IfSome (option_map (λ (r : Row). r.stripe) o) (IsFirstLostTo (stored_in t) u)
-  first-at rising None e = tt
-  first-at rising (Some r) e =
-      let found = found-first (row_lost_to t.sites u) t.rows rising r e in
-      record { lost = lost-passes r.stripe ∙ found.found; first = λ s lower. lost-passes s ∙ found.first s lower }
+        by : (a : Bool) (home : Option Seat)
+            → (a && option_map_or (λ seat. not (online_in sites.list seat.node && not (is_in_domain (sited sites).nodes u seat.node))) home true)
+            ≡ ((a && option_map_or (λ seat. not (online_in sites.list seat.node)) home true) || (a && is_home_in (sited sites).nodes u home))
+        by true None = refl
+        by false None = refl
+        by a (Some seat) = some a (online_in sites.list seat.node) (is_in_domain (sited sites).nodes u seat.node)
 
-  none-at : (o : Option Row) → find (row_lost_to t.sites u) t.rows ≡ o
-      → IfNone (option_map (λ (r : Row). r.stripe) o) ((s : StripeNo) → IsFalse (is_lost_to (stored_in t) u s))
-  none-at None e = λ s. lost-passes s ∙ none-passes (row_lost_to t.sites u) t.rows e s
-  none-at (Some r) e = tt
+  -- a stripe is lost to the domain where its row is
+  pub lost-is : (s : StripeNo) → is_lost_to (stored_in store) u s ≡ lost_in (sited sites) (rows_in rows) u s
+  unfolding stored_in is_lost_to is_row_lost sited
+  lost-is s = by (rows_in rows s) refl where
+    by : (o : Option Row) → rows_in rows s ≡ o → is_lost_to (stored_in store) u s ≡ lost_in (sited sites) (rows_in rows) u s
+    by None none = rw none refl
+    by (Some r) found =
+        rw found (ap (λ (m : FragmentSet). is_recoverable Wide m && not (is_recoverable Wide (missing_in Wide (λ n. online_in sites.list n && not (is_in_domain (sited sites).nodes u n)) (row_homes (Some r)))))
+        (sym (kept-missing sites rows kept s r found))
+        ∙ ap (λ (m : FragmentSet). is_recoverable Wide (bits_set r.losses.missing.bits) && not (is_recoverable Wide m)) (fun_ext (with-domain r s found)))
 
-  -- the first such row is of the first such stripe, and where there is no such row there is no such stripe
-  pub first_lost-found : IsRising t.rows → IfSome (first_lost t.sites u t.rows) (IsFirstLostTo (stored_in t) u)
-  first_lost-found rising = first-at rising (find (row_lost_to t.sites u) t.rows) refl
+  pub lost-first : (s : StripeNo) → IsFirstIn (lost_in (sited sites) (rows_in rows) u) s → IsFirstLostTo (stored_in store) u s
+  lost-first s is = record { lost = lost-is s ∙ is.has; first = λ t lower. lost-is t ∙ is.first t lower }
 
-  pub first_lost-none : IfNone (first_lost t.sites u t.rows) ((s : StripeNo) → IsFalse (is_lost_to (stored_in t) u s))
-  first_lost-none = none-at (find (row_lost_to t.sites u) t.rows) refl
+pub some-more : {X : Type 0} (P Q : X → Type 0) (o : Option X) → ((x : X) → P x → Q x) → IfSome o P → IfSome o Q
+some-more P Q None more is = tt
+some-more P Q (Some x) more is = more x is
+
+pub none-more_of : {X : Type 0} (P Q : Type 0) (o : Option X) → (P → Q) → IfNone o P → IfNone o Q
+none-more_of P Q None more is = more is
+none-more_of P Q (Some x) more is = tt

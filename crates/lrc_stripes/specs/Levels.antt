@@ -1,12 +1,12 @@
 -- Missing fragments, levels and ranks, from homes and from the nodes that are online.
-use Rattle.std.specs.Prelude.{ℕ, ◌<◌, IsTrue, IsFalse, Bool, true, false, not, ◌&&◌, ◌||◌, if◌then◌else◌, nat_lt, nat_eq, List, find, Option, Some, None, is_none, unwrap_or, option_map}
+use Rattle.std.specs.Prelude.{ℕ, ◌<◌, IsTrue, IsFalse, Bool, true, false, not, ◌&&◌, ◌||◌, if◌then◌else◌, nat_lt, nat_eq, List, map, find, Option, Some, None, is_none, unwrap_or, option_map}
 use Rattle.std.specs.Option.{option_map_or}
 use Rattle.lrc_code.specs.declared.codes.Code.{Code}
 use Rattle.lrc_code.specs.declared.losses.LossMask.{LossMask}
 use Rattle.lrc_code.specs.declared.numbers.StripeNo.{StripeNo}
 use Rattle.lrc_code.specs.declared.numbers.NodeNo.{NodeNo}
 use Rattle.lrc_code.specs.Numbers.{same_stripe}
-use Rattle.lrc_code.specs.Codes.{has_fragment, fragment_count}
+use Rattle.lrc_code.specs.Codes.{has_fragment, fragment_count, fragments}
 use Rattle.lrc_code.specs.Losses.{FragmentSet, size_of, bits_of, is_recoverable, margin_of}
 use Rattle.lrc_topology.specs.declared.seat.Seat.{Seat}
 use Rattle.lrc_topology.specs.declared.seat.Held.{Held}
@@ -85,9 +85,17 @@ rank_at Lost = 4
 
 -- ---- what is shown of a stripe, if it is there
 
+-- the homes of a stripe's fragments, in rising order of these
+unfoldable pub homes_if : Bool → Code → Homes → Option (List (Option Seat))
+homes_if there code homes = if there then Some (map (λ f. homes f.value) (fragments code)) else None
+
 -- the missing fragments of a stripe of this code with these homes
 unfoldable pub missing_if : Bool → Code → (NodeNo → Bool) → Homes → Option LossMask
 missing_if there code online homes = if there then Some (record { bits = bits_of code (missing_in code online homes) }) else None
+
+-- the fragments of such a stripe that need a lease
+unfoldable pub needs_if : Bool → Code → (NodeNo → Bool) → Homes → Option LossMask
+needs_if there code draining homes = if there then Some (record { bits = bits_of code (needs_in code draining homes) }) else None
 
 -- its level
 unfoldable pub level_if : Bool → Code → (NodeNo → Bool) → Homes → Option Level

@@ -8,5 +8,9 @@ pub mod Levels
 pub mod Stored
 pub mod Upgrades
 pub mod Tables
+pub mod Sets
 pub mod Rows
-pub mod RankedRows
+pub mod Sites
+pub mod Masks
+pub mod Kept
+pub mod Looming

@@ -13,7 +13,7 @@ use Rattle.lrc_topology.specs.declared.NodeInfo.{NodeInfo}
 use Rattle.lrc_topology.specs.declared.seat.Seat.{Seat}
 use Rattle.lrc_topology.specs.Nodes.{node_at}
 use Rattle.lrc_stripes.specs.declared.level.Level.{Level}
-use Rattle.lrc_stripes.specs.Levels.{Homes, missing_in, needs_in, missing_if, level_if, has_some, rank_by, comes_first, is_whole}
+use Rattle.lrc_stripes.specs.Levels.{Homes, missing_in, needs_in, homes_if, missing_if, needs_if, level_if, has_some, rank_by, comes_first, is_whole}
 
 -- The nodes in the order of the file, a test of the stripes that there are, the code of each, the homes of each one's fragments,
 -- a test of the nodes that are online and one of those that are draining, and for how many more stripes there is room. A stripe
@@ -76,11 +76,19 @@ with_draining t n b = record t { draining = λ m. if same_node n m then b else t
 abbrev pub with_spare : Stored → ℕ → Stored
 with_spare t spare = record t { spare = spare }
 
--- ---- what is missing
+-- ---- what is shown of one stripe
+
+-- the homes of a stripe's fragments, in rising order of these; none where there is no such stripe
+abbrev pub homes_shown : Stored → StripeNo → Option (List (Option Seat))
+homes_shown t s = homes_if (t.stripes s) (t.code s) (t.homes s)
 
 -- the missing fragments of a stripe; none where there is no such stripe
 abbrev pub missing_shown : Stored → StripeNo → Option LossMask
 missing_shown t s = missing_if (t.stripes s) (t.code s) t.online (t.homes s)
+
+-- the fragments of a stripe that need a lease; none where there is no such stripe
+abbrev pub needs_shown : Stored → StripeNo → Option LossMask
+needs_shown t s = needs_if (t.stripes s) (t.code s) t.draining (t.homes s)
 
 -- the level of a stripe; none where there is no such stripe
 abbrev pub level_shown : Stored → StripeNo → Option Level

@@ -1,38 +1,41 @@
 ghost use Rattle.std.specs.Prelude.{◌≡◌, List};
 ghost use Rattle.std.specs.Iterator.{YieldsFirst, item_count};
-ghost use Rattle.lrc_stripes.specs.RankedRows.{risk_of, ranked_from};
+ghost use Rattle.lrc_stripes.specs.Tables.{rows_in};
+ghost use Rattle.lrc_stripes.specs.Masks.{risk_rank};
+ghost use Rattle.lrc_stripes.specs.Kept.{levels_of, queue_from, queued};
 
+use crate::Level;
 use crate::ranked::Ranked;
-use crate::row::{Row, Site};
-use crate::{Level, losses};
+use crate::rows::Rows;
 use lrc_code::StripeNo;
 use std::marker::Model;
 
 /// The stripes that are not whole and their levels, in the order of repair: by rank, and then by number.
 #[derive(Drop)]
 pub struct AtRisk<'a> {
-    sites: &'a [Site],
-    rows: Ranked<'a>,
+    rows: &'a Rows,
+    stripes: Ranked<'a>,
 }
 
 impl<'a> Model for AtRisk<'a> {
     ghost use Rattle.std.specs.Prelude.{List};
     ghost use Rattle.lrc_stripes.specs.Stored.{StripeLevel};
-    ghost use Rattle.lrc_stripes.specs.RankedRows.{risk_of};
+    ghost use Rattle.lrc_stripes.specs.Tables.{rows_in};
+    ghost use Rattle.lrc_stripes.specs.Kept.{levels_of};
 
     ghost Value = { List StripeLevel };
 
-    ghost view = { λ w. risk_of w.sites.now w.rows };
+    ghost view = { λ w. levels_of (rows_in w.rows.now) w.stripes };
 }
 
 impl<'a> AtRisk<'a> {
-    /// The stripes of these rows that are not whole, by these nodes.
-    pub(crate) fn new(sites: &'a [Site], rows: &'a [Row]) -> AtRisk<'a>
-        ensures { result ≡ risk_of sites.now (ranked_from sites.now rows.now 0 rows.now) }
+    /// The stripes of these rows that are not whole.
+    pub(crate) fn new(rows: &'a Rows) -> AtRisk<'a>
+        ensures { result ≡ levels_of (rows_in rows.now) (queue_from (queued risk_rank (rows_in rows.now)) 0 0) }
     {
         AtRisk {
-            sites,
-            rows: Ranked::new(sites, rows),
+            rows,
+            stripes: rows.at_risk(),
         }
     }
 }
@@ -47,12 +50,7 @@ impl<'a> Iterator for AtRisk<'a> {
     ghost remaining = { item_count (λ (left : List StripeLevel). left) };
 
     fn next(&mut self) -> Option<(StripeNo, Level)> {
-        while let Some(row) = self.rows.next_row() {
-            let level = losses::level(self.sites, row);
-            if !level.is_whole() {
-                return Some((row.stripe, level));
-            }
-        }
-        None
+        let stripe = self.stripes.next_stripe()?;
+        Some((stripe, self.rows.level(stripe)))
     }
 }

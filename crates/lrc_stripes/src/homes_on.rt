@@ -1,45 +1,54 @@
-ghost use Rattle.std.specs.Prelude.{◌≡◌, ◌≤◌, List, find, drop, false};
-ghost use Rattle.std.specs.Option.{option_map_or};
+ghost use Rattle.std.specs.Prelude.{◌≡◌, ◌≤◌, List};
 ghost use Rattle.std.specs.Iterator.{YieldsFirst, item_count};
-ghost use Rattle.lrc_code.specs.declared.codes.Code.TheVariants.{Wide};
-ghost use Rattle.lrc_code.specs.Codes.{fragments};
-ghost use Rattle.lrc_code.specs.Numbers.{same_node};
-ghost use Rattle.lrc_stripes.specs.Rows.{sits_on, places_from};
+ghost use Rattle.lrc_stripes.specs.Sites.{sited};
+ghost use Rattle.lrc_stripes.specs.Tables.{rows_in};
+ghost use Rattle.lrc_stripes.specs.Kept.{places_from, FindsPlace};
 
-use crate::Seat;
-use crate::row::Row;
+use crate::rows::Rows;
+use crate::sites::Sites;
 use lrc_code::{Fragment, NodeNo, StripeNo};
 use std::marker::Model;
 
 /// The fragments with a home on one node, in rising order of stripe and fragment.
 #[derive(Drop)]
 pub struct HomesOn<'a> {
-    rows: &'a [Row],
+    sites: &'a Sites,
+    rows: &'a Rows,
     node: NodeNo,
+    /// The stripe whose fragments are being listed.
+    stripe: Option<StripeNo>,
+    /// The number of the first of its fragments that are left.
     next: usize,
+    /// The number from which on all stripes are left.
+    from: usize,
 }
 
 impl<'a> Model for HomesOn<'a> {
-    ghost use Rattle.std.specs.Prelude.{◌≤◌, List};
+    ghost use Rattle.std.specs.Prelude.{◌≤◌, ◌++◌, List};
     ghost use Rattle.lrc_stripes.specs.Stored.{StripeFragment};
-    ghost use Rattle.lrc_stripes.specs.Rows.{places_from};
+    ghost use Rattle.lrc_stripes.specs.Sites.{sited};
+    ghost use Rattle.lrc_stripes.specs.Tables.{rows_in};
+    ghost use Rattle.lrc_stripes.specs.Kept.{places_of, places_from};
 
     ghost Value = { List StripeFragment };
 
-    ghost view = { λ h. places_from h.node h.next h.rows.now };
+    ghost view = { λ h. places_of h.node (rows_in h.rows.now) h.stripe h.next ++ places_from h.node (rows_in h.rows.now) ((sited h.sites.now).on h.node) h.from };
 
     ghost invariant = { λ h. h.next ≤ 16 };
 }
 
 impl<'a> HomesOn<'a> {
     /// The fragments of the rows whose homes are on the node.
-    pub(crate) fn new(rows: &'a [Row], node: NodeNo) -> HomesOn<'a>
-        ensures { result ≡ places_from node 0 rows.now }
+    pub(crate) fn new(sites: &'a Sites, rows: &'a Rows, node: NodeNo) -> HomesOn<'a>
+        ensures { result ≡ places_from node (rows_in rows.now) ((sited sites.now).on node) 0 }
     {
         HomesOn {
+            sites,
             rows,
             node,
+            stripe: None,
             next: 0,
+            from: 0,
         }
     }
 }
@@ -54,43 +63,31 @@ impl<'a> Iterator for HomesOn<'a> {
     ghost remaining = { item_count (λ (places : List StripeFragment). places) };
 
     fn next(&mut self) -> Option<(StripeNo, Fragment)> {
-        while let Some((row, others)) = self.rows.split_first() {
-            if let Some(fragment) = next_on(row, self.node, self.next) {
-                self.next = fragment.value as usize + 1;
-                return Some((row.stripe, fragment));
+        loop {
+            if let Some(place) = next_of(self.rows, self.node, self.stripe, self.next) {
+                self.next = place.1.value as usize + 1;
+                return Some(place);
             }
-            self.rows = others;
+            let stripe = self.sites.first_on(self.node, self.from)?;
+            self.stripe = Some(stripe);
             self.next = 0;
+            self.from = stripe.value as usize + 1;
         }
-        None
     }
 }
 
-/// The first of a row's fragments from this number on whose home is on the node.
-fn next_on(row: &Row, node: NodeNo, from: usize) -> Option<Fragment>
+/// The first of a stripe's fragments from this number on whose home is on the node.
+fn next_of(
+    rows: &Rows,
+    node: NodeNo,
+    stripe: Option<StripeNo>,
+    from: usize,
+) -> Option<(StripeNo, Fragment)>
     requires { from ≤ 16 }
-    ensures { result ≡ find (sits_on node row.now) (drop from (fragments Wide)) }
+    ensures { FindsPlace node (rows_in rows.now) stripe from result }
 {
-    let all = Fragment::all();
-    first_on(row, &all[from..], node)
-}
-
-/// The first of these fragments whose home is on the node.
-fn first_on(row: &Row, fragments: &[Fragment], node: NodeNo) -> Option<Fragment>
-    ensures { result ≡ find (sits_on node row.now) fragments.now }
-{
-    fragments
-        .iter()
-        .copied()
-        .find(|fragment| is_on(row.homes[fragment.value as usize], node))
-}
-
-/// Whether a home is on the node.
-fn is_on(home: Option<Seat>, node: NodeNo) -> bool
-    ensures { result ≡ option_map_or (λ seat. same_node node seat.node) home false }
-{
-    match home {
-        Some(seat) => node == seat.node,
-        None => false,
-    }
+    let stripe = stripe?;
+    let row = rows.get(stripe)?;
+    let fragment = row.next_on(node, from)?;
+    Some((stripe, fragment))
 }

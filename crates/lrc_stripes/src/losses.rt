@@ -1,57 +1,137 @@
-//! The fragments of a stripe that have no home, those that are missing, and the level that these give.
+ghost use Rattle.std.specs.Prelude.{◌≡◌, ◌<◌, ◌≤◌, IfSome};
+ghost use Rattle.lrc_stripes.specs.Rows.{is_missing, is_to_move};
+ghost use Rattle.lrc_stripes.specs.Sites.{sited};
+ghost use Rattle.lrc_stripes.specs.Masks.{AreAll, AreWith, level_of, rank_of, work_rank, risk_rank};
 
-ghost use Rattle.std.specs.Prelude.{◌≡◌, Some, true, not};
-ghost use Rattle.std.specs.Option.{option_map_or};
-ghost use Rattle.lrc_code.specs.declared.codes.Code.TheVariants.{Wide};
-ghost use Rattle.lrc_code.specs.Losses.{bits_set};
-ghost use Rattle.lrc_stripes.specs.Levels.{homeless_in, missing_in};
-ghost use Rattle.lrc_stripes.specs.RankedRows.{row_level};
-ghost use Rattle.lrc_stripes.specs.Tables.{row_homes, online_in};
-
-use crate::row::{Row, Site};
-use crate::{Level, Seat, search};
+use crate::ranks::Ranks;
+use crate::sites::Sites;
+use crate::{Level, Seat, masks};
 use lrc_code::{Fragment, LossMask};
 
-/// The fragments without a home.
-pub(crate) fn homeless(row: &Row) -> LossMask
-    ensures { bits_set result.bits ≡ homeless_in Wide (row_homes (Some row.now)) }
-{
-    let mut mask = LossMask::from_bits(0);
-    for fragment in Fragment::all() {
-        if row.homes[fragment.value as usize].is_none() {
-            mask = mask.with(fragment);
+/// The fragments of a stripe that have no home, those that are missing, and those that need a lease.
+#[derive(Clone, Copy)]
+pub(crate) struct Losses {
+    pub(crate) homeless: LossMask,
+    pub(crate) missing: LossMask,
+    pub(crate) needs: LossMask,
+}
+
+impl Losses {
+    /// Those of a stripe none of whose fragments has a home.
+    pub(crate) fn all() -> Losses
+        ensures { AreAll result }
+    {
+        let all = LossMask::from_bits(0xffff);
+        Losses {
+            homeless: all,
+            missing: all,
+            needs: all,
         }
     }
-    mask
-}
 
-/// Those, and the ones whose home node is not online.
-pub(crate) fn missing(sites: &[Site], row: &Row) -> LossMask
-    ensures { bits_set result.bits ≡ missing_in Wide (online_in sites.now) (row_homes (Some row.now)) }
-{
-    let mut mask = LossMask::from_bits(0);
-    for fragment in Fragment::all() {
-        if is_missing(sites, row.homes[fragment.value as usize]) {
-            mask = mask.with(fragment);
+    /// The same, where a fragment has this home or none.
+    pub(crate) fn with_home(self, sites: &Sites, fragment: Fragment, home: Option<Seat>) -> Losses
+        ensures { AreWith (sited sites.now) fragment.value home self result }
+    {
+        let one = LossMask::from_bits(0).with(fragment);
+        Losses {
+            homeless: masks::put(self.homeless, one, home.is_none()),
+            missing: masks::put(self.missing, one, is_missing(sites, home)),
+            needs: masks::put(self.needs, one, is_to_move(sites, home)),
         }
     }
-    mask
+
+    /// The fragments that are missing.
+    pub(crate) fn missing(self) -> LossMask
+        ensures value { result ≡ self.missing }
+        ensures few { result.bits < 65536 }
+    {
+        self.missing
+    }
+
+    /// The fragments that need a lease.
+    pub(crate) fn needs(self) -> LossMask
+        ensures value { result ≡ self.needs }
+        ensures few { result.bits < 65536 }
+    {
+        self.needs
+    }
+
+    /// How far the stripe is from loss.
+    #[tactic(auto, unfolding(crate::specs::Masks::level_of))]
+    pub(crate) fn level(self) -> Level
+        ensures { result ≡ level_of self }
+    {
+        Level::of(self.homeless, self.missing)
+    }
+
+    /// The rank of the stripe where it has work, and where a fragment is missing.
+    pub(crate) fn ranks(self) -> Ranks
+        ensures work { result.work ≡ work_rank self }
+        ensures risk { result.risk ≡ risk_rank self }
+        ensures work_few { IfSome result.work (λ k. k ≤ 4) }
+        ensures risk_few { IfSome result.risk (λ k. k ≤ 4) }
+    {
+        let rank = self.rank();
+        Ranks {
+            work: self.work_rank(rank),
+            risk: self.risk_rank(rank),
+        }
+    }
+
+    /// The rank where the stripe has work.
+    fn work_rank(self, rank: u8) -> Option<u8>
+        requires value { rank ≡ rank_of self }
+        requires few { rank ≤ 4 }
+        ensures value { result ≡ work_rank self }
+        ensures few { IfSome result (λ k. k ≤ 4) }
+    {
+        if self.needs.bits() == 0 {
+            None
+        } else {
+            Some(rank)
+        }
+    }
+
+    /// The rank where a fragment of the stripe is missing.
+    fn risk_rank(self, rank: u8) -> Option<u8>
+        requires value { rank ≡ rank_of self }
+        requires few { rank ≤ 4 }
+        ensures value { result ≡ risk_rank self }
+        ensures few { IfSome result (λ k. k ≤ 4) }
+    {
+        if self.missing.bits() == 0 {
+            None
+        } else {
+            Some(rank)
+        }
+    }
+
+    /// The margin of the missing fragments, 0 to 3, and 4 where they are not recoverable.
+    fn rank(self) -> u8
+        ensures value { result ≡ rank_of self }
+        ensures few { result ≤ 4 }
+    {
+        self.missing.margin().unwrap_or(4)
+    }
 }
 
-/// The level of a stripe.
-#[tactic(auto, unfolding(crate::specs::RankedRows::row_level))]
-pub(crate) fn level(sites: &[Site], row: &Row) -> Level
-    ensures { result ≡ row_level sites.now row.now }
-{
-    Level::of(homeless(row), missing(sites, row))
-}
-
-/// Whether a fragment with this home is missing.
-fn is_missing(sites: &[Site], home: Option<Seat>) -> bool
-    ensures { result ≡ option_map_or (λ seat. not (online_in sites.now seat.node)) home true }
+/// Whether a fragment with this home, if it has one, is missing.
+fn is_missing(sites: &Sites, home: Option<Seat>) -> bool
+    ensures { result ≡ is_missing (sited sites.now).online home }
 {
     match home {
-        Some(seat) => !search::is_online(sites, seat.node),
+        Some(seat) => !sites.is_online(seat.node),
+        None => true,
+    }
+}
+
+/// Whether a fragment with this home, if it has one, needs a lease.
+fn is_to_move(sites: &Sites, home: Option<Seat>) -> bool
+    ensures { result ≡ is_to_move (sited sites.now).draining home }
+{
+    match home {
+        Some(seat) => sites.is_draining(seat.node),
         None => true,
     }
 }

@@ -1,12 +1,14 @@
 ghost use Rattle.std.specs.Prelude.{◌≡◌, ◌≤◌, ◌↔◌, IsTrue, IsFalse, IfOk, IfErr, IfSome, IfNone, OnErr, OnOk, IsOk, None, Some};
 ghost use Rattle.lrc_code.specs.declared.codes.Code.TheVariants.{Wide};
 ghost use Rattle.lrc_code.specs.declared.fault.Fault.TheVariants.{OutOfMemory};
-ghost use Rattle.lrc_stripes.specs.Stored.{empty, with_stripe, without_stripe, with_home, with_offline, with_draining, with_spare, missing_shown, level_shown, has_node, has_slot, HasNoHome, AreHomesOn, AreWork, AreAtRisk};
+ghost use Rattle.lrc_stripes.specs.Stored.{empty, with_stripe, without_stripe, with_home, with_offline, with_draining, with_spare, homes_shown, missing_shown, needs_shown, level_shown, has_node, has_slot, HasNoHome, AreHomesOn, AreWork, AreAtRisk};
 ghost use Rattle.lrc_stripes.specs.Tables.{stored_in};
 ghost use Rattle.lrc_stripes.specs.Upgrades.{is_lost_to, IsFirstLostTo};
 
-use crate::row::{Row, Site};
-use crate::{AtRisk, HomesOn, Level, Seat, Work, losses, search, upgrades};
+use crate::row::Row;
+use crate::rows::Rows;
+use crate::sites::Sites;
+use crate::{AtRisk, HomesOn, Level, Seat, Work, upgrades};
 use lrc_code::{Fault, Fragment, LossMask, NodeNo, StripeNo, UpgradeNo};
 use lrc_topology::Topology;
 use std::alloc::Global;
@@ -15,21 +17,22 @@ use std::marker::Model;
 /// The stripes of a store, the homes of their fragments, and the nodes that are offline or draining.
 #[derive(Drop)]
 pub struct Stripes {
-    sites: Vec<Site>,
-    rows: Vec<Row>,
+    sites: Sites,
+    rows: Rows,
     spare: u32,
 }
 
 impl Model for Stripes {
-    ghost use Rattle.std.specs.Vec.{vec_capacity};
     ghost use Rattle.lrc_stripes.specs.Tables.{Table};
-    ghost use Rattle.lrc_stripes.specs.Rows.{IsKept};
+    ghost use Rattle.lrc_stripes.specs.Tables.{rows_in};
+    ghost use Rattle.lrc_stripes.specs.Sites.{sited};
+    ghost use Rattle.lrc_stripes.specs.Kept.{IsKept};
 
     ghost Value = { Table };
 
-    ghost view = { λ t. record { sites = t.sites.items; rows = t.rows.items; spare = t.spare } };
+    ghost view = { λ t. record { sites = t.sites.list; rows = t.rows; spare = t.spare } };
 
-    ghost invariant = { λ t. IsKept t.rows.items t.spare (vec_capacity t.rows) };
+    ghost invariant = { λ t. IsKept (sited t.sites) (rows_in t.rows) };
 }
 
 #[tactic(auto, unfolding(crate::specs::Tables::stored_in))]
@@ -43,17 +46,9 @@ impl Stripes {
         ensures value { IfOk result (λ t. stored_in t ≡ empty topology.now) }
         ensures err { IfErr result (λ e. e ≡ OutOfMemory) }
     {
-        let mut sites = Vec::with_capacity(alloc, topology.len())?;
-        for node in topology.nodes() {
-            sites.push(Site {
-                node: *node,
-                is_offline: false,
-                is_draining: false,
-            })?;
-        }
         Ok(Stripes {
-            sites,
-            rows: Vec::new(alloc),
+            sites: Sites::new(alloc, topology)?,
+            rows: Rows::new(alloc)?,
             spare: 0,
         })
     }
@@ -71,7 +66,6 @@ impl Stripes {
         ensures unchanged { OnErr result (stored_in self.new ≡ stored_in self.old) }
         ensures err { IfErr result (λ e. e ≡ OutOfMemory) }
     {
-        self.rows.reserve(count as usize)?;
         self.spare = self.spare.max(count);
         Ok(())
     }
@@ -87,7 +81,7 @@ impl Stripes {
     pub fn contains(&self, stripe: StripeNo) -> bool
         ensures { result ≡ (stored_in self.now).stripes stripe }
     {
-        search::row(self.rows.as_slice(), stripe).is_some()
+        self.rows.get(stripe).is_some()
     }
 
     /// Adds a stripe of the code `Wide`, none of whose fragments has a home, in room that there is for it.
@@ -96,12 +90,7 @@ impl Stripes {
         requires room { 1 ≤ (stored_in self.old).spare }
         ensures { stored_in self.new ≡ with_stripe (stored_in self.old) Wide stripe }
     {
-        let place = search::place(self.rows.as_slice(), stripe);
-        let row = Row {
-            stripe,
-            homes: [None; 16],
-        };
-        self.rows.insert(place, row).unwrap();
+        self.rows.put(stripe, Some(Row::new()));
         self.spare -= 1;
     }
 
@@ -111,8 +100,10 @@ impl Stripes {
         ensures stripe { stored_in self.new ≡ with_spare (without_stripe (stored_in self.old) stripe) (stored_in self.new).spare }
         ensures spare { (stored_in self.old).spare ≤ (stored_in self.new).spare }
     {
-        let place = search::place(self.rows.as_slice(), stripe);
-        self.rows.remove(place);
+        if let Some(row) = self.rows.get(stripe) {
+            self.sites.leave(stripe, row);
+            self.rows.put(stripe, None);
+        }
     }
 
     /// The home of a fragment of a stripe, if it has one.
@@ -120,8 +111,16 @@ impl Stripes {
         requires { IsTrue ((stored_in self.now).stripes stripe) }
         ensures { result ≡ (stored_in self.now).homes stripe fragment.value }
     {
-        let row = search::row(self.rows.as_slice(), stripe)?;
+        let row = self.rows.get(stripe)?;
         row.homes[fragment.value as usize]
+    }
+
+    /// The homes of a stripe's fragments, in rising order of these; `None` where the stripe is not there.
+    pub fn homes(&self, stripe: StripeNo) -> Option<[Option<Seat>; 16]>
+        ensures { result ≡ homes_shown (stored_in self.now) stripe }
+    {
+        let row = self.rows.get(stripe)?;
+        Some(row.homes)
     }
 
     /// Gives a fragment without a home one on a seat that is no other's home.
@@ -132,7 +131,11 @@ impl Stripes {
         requires unused { HasNoHome (stored_in self.old) seat }
         ensures { stored_in self.new ≡ with_home (stored_in self.old) stripe fragment (Some seat) }
     {
-        self.put_home(stripe, fragment, Some(seat));
+        if let Some(row) = self.rows.get(stripe) {
+            let losses = row.losses.with_home(&self.sites, fragment, Some(seat));
+            self.sites.insert(seat.node, stripe);
+            self.rows.set_home(stripe, fragment, seat, losses);
+        }
     }
 
     /// Takes a fragment's home away, if it has one.
@@ -140,7 +143,12 @@ impl Stripes {
         requires { IsTrue ((stored_in self.old).stripes stripe) }
         ensures { stored_in self.new ≡ with_home (stored_in self.old) stripe fragment None }
     {
-        self.put_home(stripe, fragment, None);
+        if let Some(row) = self.rows.get(stripe) {
+            let left = row.with_home(&self.sites, fragment, None);
+            self.sites
+                .unseat(stripe, row.homes[fragment.value as usize], &left);
+            self.rows.put(stripe, Some(left));
+        }
     }
 
     /// The fragments of a stripe that have no home, or one on a node that is not online; `None` where the stripe is
@@ -148,16 +156,25 @@ impl Stripes {
     pub fn missing(&self, stripe: StripeNo) -> Option<LossMask>
         ensures { result ≡ missing_shown (stored_in self.now) stripe }
     {
-        let row = search::row(self.rows.as_slice(), stripe)?;
-        Some(losses::missing(self.sites.as_slice(), row))
+        let row = self.rows.get(stripe)?;
+        Some(row.losses.missing())
+    }
+
+    /// The fragments of a stripe that need a lease: those that have no home, or one on a draining node; `None` where
+    /// the stripe is not there.
+    pub fn needs(&self, stripe: StripeNo) -> Option<LossMask>
+        ensures { result ≡ needs_shown (stored_in self.now) stripe }
+    {
+        let row = self.rows.get(stripe)?;
+        Some(row.losses.needs())
     }
 
     /// The level of a stripe; `None` where it is not there.
     pub fn level(&self, stripe: StripeNo) -> Option<Level>
         ensures { result ≡ level_shown (stored_in self.now) stripe }
     {
-        let row = search::row(self.rows.as_slice(), stripe)?;
-        Some(losses::level(self.sites.as_slice(), row))
+        let row = self.rows.get(stripe)?;
+        Some(row.losses.level())
     }
 
     /// The stripe of the least number that is recoverable now, and would not be with the nodes of this upgrade domain
@@ -166,7 +183,7 @@ impl Stripes {
         ensures found { IfSome result (IsFirstLostTo (stored_in self.now) domain) }
         ensures none { IfNone result ((s : StripeNo) → IsFalse (is_lost_to (stored_in self.now) domain s)) }
     {
-        upgrades::first_lost(self.sites.as_slice(), self.rows.as_slice(), domain)
+        upgrades::first_lost(&self.sites, &self.rows, domain)
     }
 
     /// Sets whether a node is offline.
@@ -174,8 +191,10 @@ impl Stripes {
         requires { IsTrue (has_node (stored_in self.old).nodes node) }
         ensures { stored_in self.new ≡ with_offline (stored_in self.old) node is_offline }
     {
-        let place = search::site_place(self.sites.as_slice(), node);
-        self.sites[place].is_offline = is_offline;
+        if self.sites.is_online(node) == is_offline {
+            self.sites.set_offline(node, is_offline);
+            self.rows.renew_missing(&self.sites, node, is_offline);
+        }
     }
 
     /// Sets whether a node is draining.
@@ -183,44 +202,46 @@ impl Stripes {
         requires { IsTrue (has_node (stored_in self.old).nodes node) }
         ensures { stored_in self.new ≡ with_draining (stored_in self.old) node is_draining }
     {
-        let place = search::site_place(self.sites.as_slice(), node);
-        self.sites[place].is_draining = is_draining;
+        if self.sites.is_draining(node) != is_draining {
+            self.sites.set_draining(node, is_draining);
+            self.rows.renew_needs(&self.sites, node, is_draining);
+        }
     }
 
     /// The fragments with a home on a node, in rising order of stripe and fragment.
     pub fn homes_on(&self, node: NodeNo) -> HomesOn<'_>
         ensures { AreHomesOn (stored_in self.now) node result }
     {
-        HomesOn::new(self.rows.as_slice(), node)
+        HomesOn::new(&self.sites, &self.rows, node)
     }
 
     /// The stripes with a fragment that needs a lease, in the order of repair: by rank, and then by number.
     pub fn work(&self) -> Work<'_>
         ensures { AreWork (stored_in self.now) result }
     {
-        Work::new(self.sites.as_slice(), self.rows.as_slice())
+        Work::new(self.rows.work())
     }
 
     /// The stripes that are not whole and their levels, in the order of repair: by rank, and then by number.
     pub fn at_risk(&self) -> AtRisk<'_>
         ensures { AreAtRisk (stored_in self.now) result }
     {
-        AtRisk::new(self.sites.as_slice(), self.rows.as_slice())
+        AtRisk::new(&self.rows)
     }
 
     /// Whether the store has a node of this number.
     pub fn has_node(&self, node: NodeNo) -> bool
         ensures { result ≡ has_node (stored_in self.now).nodes node }
     {
-        search::site(self.sites.as_slice(), node).is_some()
+        self.sites.node(node).is_some()
     }
 
     /// Whether the seat is a slot of one of the nodes.
     pub fn has_slot(&self, seat: Seat) -> bool
         ensures { result ≡ has_slot (stored_in self.now).nodes seat }
     {
-        match search::site(self.sites.as_slice(), seat.node) {
-            Some(site) => seat.slot < site.node.slots,
+        match self.sites.node(seat.node) {
+            Some(node) => seat.slot < node.slots,
             None => false,
         }
     }
@@ -229,15 +250,13 @@ impl Stripes {
     pub fn is_without_home(&self, seat: Seat) -> bool
         ensures { IsTrue result ↔ HasNoHome (stored_in self.now) seat }
     {
-        !search::is_held(self.rows.as_slice(), seat)
-    }
-
-    /// Gives a fragment of a stripe this home, or none.
-    fn put_home(&mut self, stripe: StripeNo, fragment: Fragment, home: Option<Seat>)
-        requires { IsTrue ((stored_in self.old).stripes stripe) }
-        ensures { stored_in self.new ≡ with_home (stored_in self.old) stripe fragment home }
-    {
-        let place = search::place(self.rows.as_slice(), stripe);
-        self.rows[place].homes[fragment.value as usize] = home;
+        let mut from = 0;
+        while let Some(stripe) = self.sites.first_on(seat.node, from) {
+            if self.rows.holds(stripe, seat) {
+                return false;
+            }
+            from = stripe.value as usize + 1;
+        }
+        true
     }
 }

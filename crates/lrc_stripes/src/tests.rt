@@ -1,3 +1,6 @@
+mod beside;
+mod plain_store;
+
 use crate::{Level, Seat, Stripes};
 use lrc_code::{Fragment, LossMask, NodeNo, StripeNo, UpgradeNo};
 use lrc_topology::Topology;
@@ -258,6 +261,29 @@ fn assert_at_risk(rt: &impl Abort, stripes: &Stripes, expected: &[(StripeNo, Lev
     assert_eq!(rt; at_risk.next(), None);
 }
 
+/// Fragment f is on node f. Offline nodes have no part in it, and a fragment without a home needs one wherever it was.
+#[test]
+fn homeless_and_draining_fragments_need_a_lease(rt: HostRuntime) -> Result<(), Fail> {
+    let stripe = StripeNo::new(6).ok_or("stripe 6")?;
+    let other = StripeNo::new(7).ok_or("stripe 7")?;
+    let mut stripes = one_stripe(&rt, rt.alloc(), stripe)?;
+    set_offline(&rt, &mut stripes, 5, true);
+    assert_eq!(rt; stripes.needs(stripe), Some(LossMask::from_bits(0x0000)));
+
+    set_draining(&rt, &mut stripes, 3, true);
+    set_draining(&rt, &mut stripes, 14, true);
+    assert_eq!(rt; stripes.needs(stripe), Some(LossMask::from_bits(0x4008)));
+
+    clear_homes(&rt, &mut stripes, stripe, &[0, 3])?;
+    assert_eq!(rt; stripes.needs(stripe), Some(LossMask::from_bits(0x4009)));
+
+    set_draining(&rt, &mut stripes, 3, false);
+    set_draining(&rt, &mut stripes, 14, false);
+    assert_eq!(rt; stripes.needs(stripe), Some(LossMask::from_bits(0x0009)));
+    assert_eq!(rt; stripes.needs(other), None);
+    Ok(())
+}
+
 #[test]
 fn homes_on_a_node_rise(rt: HostRuntime) -> Result<(), Fail> {
     let first = StripeNo::new(3).ok_or("stripe 3")?;
@@ -282,6 +308,26 @@ fn homes_on_a_node_rise(rt: HostRuntime) -> Result<(), Fail> {
         places.as_slice(),
         [(first, ninth), (second, fourth), (second, ninth)].as_slice()
     );
+    Ok(())
+}
+
+#[test]
+fn homes_of_a_stripe_stand_by_their_fragments(rt: HostRuntime) -> Result<(), Fail> {
+    let stripe = StripeNo::new(8).ok_or("stripe 8")?;
+    let other = StripeNo::new(9).ok_or("stripe 9")?;
+    let third = Fragment::new(3).ok_or("fragment 3")?;
+    let last = Fragment::new(15).ok_or("fragment 15")?;
+    let topology = nodes(rt.alloc(), 20)?;
+    let mut stripes = Stripes::new(rt.alloc(), &topology)?;
+    stripes.reserve(1)?;
+    add(&rt, &mut stripes, stripe);
+    set_home(&rt, &mut stripes, stripe, last, seat(5, 2));
+    set_home(&rt, &mut stripes, stripe, third, seat(7, 0));
+    let mut expected = [None; 16];
+    expected[3] = Some(seat(7, 0));
+    expected[15] = Some(seat(5, 2));
+    assert_eq!(rt; stripes.homes(stripe), Some(expected));
+    assert_eq!(rt; stripes.homes(other), None);
     Ok(())
 }
 

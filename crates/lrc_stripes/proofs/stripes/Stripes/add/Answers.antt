@@ -1,24 +1,17 @@
-use Rattle.std.proofs.Common.{◌≡◌, ◌≤◌, false, is_some, refl, length}
-use Rattle.lrc_stripes.specs.Tables.{stored_in, row_at}
-use Rattle.lrc_stripes.proofs.KeptLemmas.{kept-insert, stored_in-insert_at}
+use Rattle.std.proofs.Common.{◌≡◌, false, is_some}
+use Rattle.lrc_stripes.specs.Sites.{sited}
+use Rattle.lrc_stripes.specs.Tables.{stored_in, rows_in}
+use Rattle.lrc_stripes.proofs.KeptLemmas.{kept-add}
+use Rattle.lrc_stripes.proofs.StoredLemmas.{stored-add}
 use Rattle.lrc_stripes.proofs.stripes.Stripes.add.Goals as goal
 
 pub invariant_of-self : goal.invariant_of-self
 unfolding stored_in
 invariant_of-self c =
-    let absent : is_some (row_at c.self.inside.rows.items c.args.stripe) ≡ false = rw (← c.self.view_is) at c.requires.absent in
-    let room : 1 ≤ c.self.inside.spare = rw (← c.self.view_is) at c.requires.room in
-    let within : c.place-place.result ≤ length c.self.inside.rows.items = rw (← c.as_slice.ensures.value) c.place-place.ensures.within in
-    let items = rw c.unwrap.ensures at c.insert.ensures.items in
-    rw items (kept-insert c.self.inside.sites.items c.self.inside.rows.items c.as_slice.result.now c.args.stripe c.place-place.result _ _
-    c.as_slice.ensures.value c.place-place.ensures.value c.self.invariant _ refl absent within room _ c.insert.ensures.capacity)
+    let absent : is_some (rows_in c.self.inside.rows c.args.stripe) ≡ false = rw (← c.self.view_is) at c.requires.absent in
+    kept-add (sited c.self.inside.sites) (rows_in c.self.inside.rows) c.self.invariant c.args.stripe c.new.result (rows_in c.put.new.self) absent c.new.ensures.homes c.new.ensures.losses c.put.ensures
 
 pub returns : goal.returns
-unfolding stored_in
+unfolding stored_in sited
 returns c =
-    let absent : is_some (row_at c.self.inside.rows.items c.args.stripe) ≡ false = rw (← c.self.view_is) at c.requires.absent in
-    let room : 1 ≤ c.self.inside.spare = rw (← c.self.view_is) at c.requires.room in
-    let within : c.place-place.result ≤ length c.self.inside.rows.items = rw (← c.as_slice.ensures.value) c.place-place.ensures.within in
-    let items = rw c.unwrap.ensures at c.insert.ensures.items in
-    rw (items, ← c.self.view_is) (stored_in-insert_at c.self.inside.sites.items c.self.inside.rows.items c.as_slice.result.now c.args.stripe c.place-place.result _ _
-    c.as_slice.ensures.value c.place-place.ensures.value c.self.invariant _ refl absent within room refl)
+    rw (← c.self.view_is) (stored-add (sited c.self.inside.sites) (rows_in c.self.inside.rows) (rows_in c.put.new.self) c.args.stripe c.new.result c.self.inside.spare c.new.ensures.homes c.put.ensures)

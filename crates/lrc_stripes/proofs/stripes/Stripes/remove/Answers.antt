@@ -1,26 +1,18 @@
-use Rattle.std.proofs.Common.{◌≡◌, true, is_some, arith}
-use Rattle.lrc_stripes.specs.Tables.{stored_in, row_at}
-use Rattle.lrc_stripes.proofs.KeptLemmas.{place-within, kept-remove, stored_in-remove_at}
+use Rattle.std.proofs.Common.{sym, ap, subst, ◌∙◌}
+use Rattle.lrc_stripes.specs.Kept.{IsKept}
+use Rattle.lrc_stripes.specs.Sites.{Sited, sited}
+use Rattle.lrc_stripes.specs.Tables.{stored_in, rows_in}
+use Rattle.lrc_stripes.proofs.KeptLemmas.{kept-remove}
+use Rattle.lrc_stripes.proofs.StoredLemmas.{stored_by, stored-remove}
 use Rattle.lrc_stripes.proofs.stripes.Stripes.remove.Goals as goal
 
-pub remove-requires : goal.remove-requires
-unfolding stored_in
-remove-requires c =
-    let there : is_some (row_at c.self.inside.rows.items c.args.stripe) ≡ true = rw (← c.self.view_is) at c.requires in
-    let within = place-within c.self.inside.sites.items c.self.inside.rows.items c.as_slice.result.now c.args.stripe c.place-place.result _ _
-    c.as_slice.ensures.value c.place-place.ensures.value c.self.invariant there in
-    omega (arith, within, c.self.inside.rows.ok.0)
-
 pub invariant_of-self : goal.invariant_of-self
-unfolding stored_in
 invariant_of-self c =
-    let there : is_some (row_at c.self.inside.rows.items c.args.stripe) ≡ true = rw (← c.self.view_is) at c.requires in
-    rw (c.remove.ensures.items, c.remove.ensures.capacity) (kept-remove c.self.inside.sites.items c.self.inside.rows.items c.as_slice.result.now c.args.stripe c.place-place.result _ _
-    c.as_slice.ensures.value c.place-place.ensures.value c.self.invariant there)
+    subst (λ (z : Sited). IsKept z (rows_in c.put.new.self)) (sym c.leave.ensures)
+    (kept-remove (sited c.self.inside.sites) (rows_in c.self.inside.rows) c.self.invariant c.args.stripe c.in-Some.row.now (sym c.in-Some.ensures) (rows_in c.put.new.self) c.put.ensures)
 
-pub returns-clause-stripe : goal.returns-clause-stripe
-unfolding stored_in
-returns-clause-stripe c =
-    let there : is_some (row_at c.self.inside.rows.items c.args.stripe) ≡ true = rw (← c.self.view_is) at c.requires in
-    rw (c.remove.ensures.items, ← c.self.view_is) (stored_in-remove_at c.self.inside.sites.items c.self.inside.rows.items c.as_slice.result.now c.args.stripe c.place-place.result _ _
-    c.as_slice.ensures.value c.place-place.ensures.value c.self.invariant there)
+pub returns-in-Some-clause-stripe : goal.returns-in-Some-clause-stripe
+unfolding stored_in sited
+returns-in-Some-clause-stripe c =
+    rw (← c.self.view_is) (ap (λ (z : Sited). stored_by z (rows_in c.put.new.self) c.self.inside.spare) c.leave.ensures
+    ∙ stored-remove (sited c.self.inside.sites) (rows_in c.self.inside.rows) (rows_in c.put.new.self) c.args.stripe c.self.inside.spare c.put.ensures)

@@ -1,20 +1,30 @@
-use Rattle.std.proofs.Common.{arith}
+use Rattle.lrc_stripes.specs.Sites.{sited}
 use Rattle.lrc_stripes.specs.Tables.{stored_in}
-use Rattle.lrc_stripes.proofs.SiteLemmas.{site_place-within}
-use Rattle.lrc_stripes.proofs.StoredLemmas.{stored_in-set_draining}
+use Rattle.lrc_stripes.proofs.RenewLemmas.{kept-draining, stored-draining}
+use Rattle.lrc_stripes.proofs.StoredLemmas.{draining-stays}
 use Rattle.lrc_stripes.proofs.stripes.Stripes.set_draining.Goals as goal
 
-pub index_mut-requires : goal.index_mut-requires
-unfolding stored_in
-index_mut-requires c =
-    let known = site_place-within c.self.inside.sites.items c.args.node (rw (← c.self.view_is) at c.requires) in
-    rw (c.site_place-place.ensures.value, c.as_slice.ensures.value) (omega (arith, known, c.self.inside.sites.ok.0))
+pub set_draining-requires : goal.set_draining-requires
+unfolding stored_in sited
+set_draining-requires c = rw (← c.self.view_is) at c.requires
 
-pub returns : goal.returns
-unfolding stored_in
-returns c =
-    let known = site_place-within c.self.inside.sites.items c.args.node (rw (← c.self.view_is) at c.requires) in
-    let place = rw c.as_slice.ensures.value at c.site_place-place.ensures.value in
-    rw (place, ← c.self.view_is)
-    (stored_in-set_draining c.self.inside.sites.items c.self.inside.rows.items c.self.inside.spare c.args.node c.args.is_draining
-    c.index_mut.result.now (rw place at c.index_mut.ensures.value) known)
+pub invariant_of-self : goal.invariant_of-self
+invariant_of-self c =
+    let s = c.self.inside in
+    let e = c.renew_needs.ensures in
+    kept-draining s.sites c.set_draining.new.self s.rows c.renew_needs.new.self s.spare c.self.invariant c.args.node c.args.is_draining c.set_draining.ensures (record { listed = e.listed; others = e.others })
+
+pub returns-then-is_draining : goal.returns-then-is_draining
+returns-then-is_draining c =
+    let s = c.self.inside in
+    let e = c.renew_needs.ensures in
+    rw (← c.self.view_is)
+    (stored-draining s.sites c.set_draining.new.self s.rows c.renew_needs.new.self s.spare c.self.invariant c.args.node c.args.is_draining c.set_draining.ensures (record { listed = e.listed; others = e.others }))
+
+pub returns-else-is_draining : goal.returns-else-is_draining
+unfolding stored_in sited
+returns-else-is_draining c =
+    let s = c.self.inside in
+    let alike = c.if-is_draining.false in
+    rw (← c.self.view_is)
+    (draining-stays (stored_in (record { sites = s.sites.list; rows = s.rows; spare = s.spare })) c.args.node c.args.is_draining (rw c.is_draining.ensures at alike))

@@ -1,5 +1,8 @@
-use Rattle.lrc_stripes.proofs.RepairLemmas.{are_work}
+use Rattle.lrc_stripes.proofs.RepairLemmas.{kept-losses, are_work}
 use Rattle.lrc_stripes.proofs.stripes.Stripes.work.Goals as goal
 
 pub returns : goal.returns
-returns c = rw (c.new.ensures, c.as_slice.ensures.value, c.as_slice-2.ensures.value, ← c.self.view_is) (are_work _ c.self.invariant.rising)
+returns c =
+    let s = c.self.inside in
+    rw (c.new.ensures, c.work.ensures, ← c.self.view_is)
+    (are_work (record { sites = s.sites.list; rows = s.rows; spare = s.spare }) (kept-losses s.sites s.rows c.self.invariant))

@@ -1,0 +1,192 @@
+-- Rows by the stripes' numbers, and the queues that follow from them.
+use Rattle.std.proofs.Common.{◌≡◌, ℕ, zero, suc, ◌<◌, ◌≤◌, ◌+◌, inl, inr, Bool, true, false, cond, List, length, get_or, set, replicate, Option, Some, None, option_and_then, arith, refl, sym, ap, ◌∙◌, subst}
+use Rattle.std.proofs.Math.Path.{fun_ext}
+use Rattle.std.proofs.Math.ListN.{length-set}
+use Rattle.std.proofs.lemmas.Bool.{cases_eq, cases_lt, eq-eqb, ne_eqb, eqb-true}
+use Rattle.std.proofs.lemmas.List.{length-replicate, get_or-set_same, get_or-set_other}
+use Rattle.lrc_code.specs.declared.numbers.NodeNo.{NodeNo}
+use Rattle.lrc_code.specs.declared.numbers.StripeNo.{StripeNo}
+use Rattle.lrc_code.specs.Numbers.{same_stripe}
+use Rattle.lrc_code.proofs.NumbersLemmas.{equal_stripes}
+use Rattle.lrc_stripes.specs.declared.losses.Losses.{Losses}
+use Rattle.lrc_stripes.specs.declared.row.Row.{Row}
+use Rattle.lrc_stripes.specs.Sets.{at_rank, IsNext}
+use Rattle.lrc_stripes.specs.Tables.{rows_in}
+use Rattle.lrc_stripes.specs.Masks.{work_rank, risk_rank, is_at, IsPutOn}
+use Rattle.lrc_stripes.specs.Kept.{AreQueued, AreRenewed, IsRenewed, IsWithLosses, IsMissingOn, IsToMoveOn, queued}
+
+-- ---- no rows
+
+abbrev no_row : Option Row
+no_row = None
+
+none_at : (n i : ℕ) → get_or (replicate n no_row) i None ≡ None
+none_at zero i = refl
+none_at (suc n) zero = refl
+none_at (suc n) (suc i) = none_at n i
+
+pub rows_in-none : (list : List (Option Row)) (n : ℕ) → list ≡ replicate n None → rows_in list ≡ (λ s. None)
+rows_in-none list n is = ap rows_in is ∙ fun_ext (λ s. none_at n s.value)
+
+queued-none : (rank : Losses → Option ℕ) (rows : StripeNo → Option Row) → rows ≡ (λ s. None) → (λ (k : ℕ) (s : StripeNo). false) ≡ queued rank rows
+queued-none rank rows none = fun_ext (λ k. fun_ext (λ s. ap (λ (r : StripeNo → Option Row). queued rank r k s) (sym none)))
+
+pub are_queued-none : (list : List (Option Row)) (n : ℕ) (work risk : List (List Bool)) → n ≡ 4096 → list ≡ replicate n None
+    → at_rank work ≡ (λ k s. false) → at_rank risk ≡ (λ k s. false) → AreQueued list work risk
+are_queued-none list n work risk all is no_work no_risk = record {
+  long = ap length is ∙ (length-replicate n no_row ∙ all);
+  works = no_work ∙ queued-none work_rank (rows_in list) (rows_in-none list n is);
+  risks = no_risk ∙ queued-none risk_rank (rows_in list) (rows_in-none list n is);
+}
+
+-- ---- one row
+
+module _ (list : List (Option Row)) (stripe : StripeNo) (row : Option Row) (within : stripe.value < length list) where
+  rows_at-set : (s : StripeNo) → rows_in (set list stripe.value row) s ≡ cond (same_stripe stripe s) row (rows_in list s)
+  rows_at-set s = elim (cases_eq s.value stripe.value) [
+    | inl same ↦
+        ap (λ n. get_or (set list stripe.value row) n None) same ∙ (get_or-set_same list stripe.value row None within
+        ∙ ap (λ b. cond b row (rows_in list s)) (sym (eq-eqb stripe.value s.value (sym same))))
+    | inr other ↦
+        get_or-set_other list stripe.value s.value row None other
+        ∙ ap (λ b. cond b row (rows_in list s)) (sym (ne_eqb stripe.value s.value (λ e. other (sym e))))
+  ]
+
+  pub rows_in-set : rows_in (set list stripe.value row) ≡ (λ s. cond (same_stripe stripe s) row (rows_in list s))
+  rows_in-set = fun_ext rows_at-set
+
+  -- the queue where the stripe has moved to its row's rank
+  queued-set : (rank : Losses → Option ℕ) (old new : ℕ → StripeNo → Bool) (after : Option ℕ) → old ≡ queued rank (rows_in list)
+      → after ≡ option_and_then (λ r. rank r.losses) row → new ≡ (λ k s. cond (same_stripe stripe s) (is_at k after) (old k s))
+      → new ≡ queued rank (rows_in (set list stripe.value row))
+  queued-set rank old new after was is moved = moved ∙ fun_ext (λ k. fun_ext (λ s. by k s (same_stripe stripe s) refl)) where
+    by : (k : ℕ) (s : StripeNo) (b : Bool) → same_stripe stripe s ≡ b → cond (same_stripe stripe s) (is_at k after) (old k s) ≡ queued rank (rows_in (set list stripe.value row)) k s
+    by k s true same =
+        ap (λ b. cond b (is_at k after) (old k s)) same
+        ∙ (ap (is_at k) is ∙ ap (λ (o : Option Row). is_at k (option_and_then (λ r. rank r.losses) o)) (sym (rows_at-set s ∙ ap (λ b. cond b row (rows_in list s)) same)))
+    by k s false other =
+        ap (λ b. cond b (is_at k after) (old k s)) other
+        ∙ (ap (λ (q : ℕ → StripeNo → Bool). q k s) was
+        ∙ ap (λ (o : Option Row). is_at k (option_and_then (λ r. rank r.losses) o)) (sym (rows_at-set s ∙ ap (λ b. cond b row (rows_in list s)) other)))
+
+  pub are_queued-set : (work risk new_work new_risk : List (List Bool)) (work_after risk_after : Option ℕ) → AreQueued list work risk
+      → work_after ≡ option_and_then (λ r. work_rank r.losses) row → risk_after ≡ option_and_then (λ r. risk_rank r.losses) row
+      → at_rank new_work ≡ (λ k s. cond (same_stripe stripe s) (is_at k work_after) (at_rank work k s))
+      → at_rank new_risk ≡ (λ k s. cond (same_stripe stripe s) (is_at k risk_after) (at_rank risk k s))
+      → AreQueued (set list stripe.value row) new_work new_risk
+  are_queued-set work risk new_work new_risk work_after risk_after are work_is risk_is work_moved risk_moved = record {
+    long = length-set list stripe.value row ∙ are.long;
+    works = queued-set work_rank (at_rank work) (at_rank new_work) work_after are.works work_is work_moved;
+    risks = queued-set risk_rank (at_rank risk) (at_rank new_risk) risk_after are.risks risk_is risk_moved;
+  }
+
+-- one row becomes another
+pub renewed-set : (R : Row → Row → Type 0) (now next : StripeNo → Option Row) (s : StripeNo) (o : Option Row) → next ≡ (λ t. cond (same_stripe s t) o (now t))
+    → IsRenewed R (now s) o → AreRenewed (same_stripe s) R now next
+renewed-set R now next s o put renewed = record {
+  listed = λ t same.
+      let to : next t ≡ o = ap (λ (f : StripeNo → Option Row). f t) put ∙ ap (λ b. cond b o (now t)) same in
+      subst (λ (x : Option Row). IsRenewed R (now t) x) (sym to) (subst (λ (x : StripeNo). IsRenewed R (now x) o) (equal_stripes s t (eqb-true s.value t.value same)) renewed);
+  others = λ t other. ap (λ (f : StripeNo → Option Row). f t) put ∙ ap (λ b. cond b o (now t)) other;
+}
+
+-- what becomes of the rows by that
+pub renewed-as_put : (R : Row → Row → Type 0) (now next : StripeNo → Option Row) (s : StripeNo) (r : Row) → now s ≡ Some r → AreRenewed (same_stripe s) R now next
+    → (q : Row) × (next ≡ (λ t. cond (same_stripe s t) (Some q) (now t))) × R r q
+renewed-as_put R now next s r there one =
+    let changed : IsRenewed R (Some r) (next s) = subst (λ (o : Option Row). IsRenewed R o (next s)) there (one.listed s (eq-eqb s.value s.value refl)) in (
+      changed.0,
+      fun_ext (λ t. elim (cases_eq s.value t.value) [
+        | inl same ↦
+            ap next (sym (equal_stripes s t same)) ∙ (changed.1 ∙ ap (λ b. cond b (Some changed.0) (now t)) (sym (eq-eqb s.value t.value same)))
+        | inr other ↦ one.others t (ne_eqb s.value t.value other) ∙ ap (λ b. cond b (Some changed.0) (now t)) (sym (ne_eqb s.value t.value other))
+      ]),
+      changed.2,
+    )
+
+-- the masks put, as the rows have them
+pub missing_on-put : (n : NodeNo) (are_in : Bool) (losses : Losses) (r q : Row) → losses.homeless ≡ r.losses.homeless → IsPutOn n are_in r.homes r.losses.missing losses.missing
+    → losses.needs ≡ r.losses.needs → IsWithLosses losses r q → IsMissingOn n are_in r q
+missing_on-put n are_in losses r q homeless missing needs is = record {
+  homes = is.homes;
+  homeless = ap (λ (l : Losses). l.homeless) is.losses ∙ homeless;
+  missing = subst (λ (l : Losses). IsPutOn n are_in r.homes r.losses.missing l.missing) (sym is.losses) missing;
+  needs = ap (λ (l : Losses). l.needs) is.losses ∙ needs;
+}
+
+pub to_move_on-put : (n : NodeNo) (are_in : Bool) (losses : Losses) (r q : Row) → losses.homeless ≡ r.losses.homeless → losses.missing ≡ r.losses.missing
+    → IsPutOn n are_in r.homes r.losses.needs losses.needs → IsWithLosses losses r q → IsToMoveOn n are_in r q
+to_move_on-put n are_in losses r q homeless missing needs is = record {
+  homes = is.homes;
+  homeless = ap (λ (l : Losses). l.homeless) is.losses ∙ homeless;
+  missing = ap (λ (l : Losses). l.missing) is.losses ∙ missing;
+  needs = subst (λ (l : Losses). IsPutOn n are_in r.homes r.losses.needs l.needs) (sym is.losses) needs;
+}
+
+-- ---- the rows of a set, in turn
+
+module _ (set_of : StripeNo → Bool) (R : Row → Row → Type 0) (before : StripeNo → Option Row) where
+  -- those of the set below a number have become others, and all the rest are as they were
+  pub record AreRenewedTo (now : StripeNo → Option Row) (from : ℕ) : Type 0 where
+    pub passed : (s : StripeNo) → s.value < from → set_of s ≡ true → IsRenewed R (before s) (now s)
+    pub left : (s : StripeNo) → from ≤ s.value → now s ≡ before s
+    pub others : (s : StripeNo) → set_of s ≡ false → now s ≡ before s
+
+  pub renewed-first : AreRenewedTo before 0
+  renewed-first = record { passed = λ s below. absurd (omega (arith, below)); left = λ s later. refl; others = λ s lacks. refl }
+
+  pub renewed-next : (now next : StripeNo → Option Row) (from : ℕ) (s : StripeNo) → IsNext set_of from s → AreRenewedTo now from
+      → ((t : StripeNo) → same_stripe s t ≡ false → next t ≡ now t) → IsRenewed R (before s) (next s) → AreRenewedTo next (s.value + 1)
+  renewed-next now next from s is so_far rest renewed = record {
+    passed = λ t below there. elim (cases_eq s.value t.value) [
+      | inl same ↦ subst (λ (x : StripeNo). IsRenewed R (before x) (next x)) (equal_stripes s t same) renewed
+      | inr other ↦
+          let lower : t.value < s.value = omega (arith, below, other) in
+          elim (cases_lt t.value from) [
+            | inl old ↦ subst (IsRenewed R (before t)) (sym (rest t (ne_eqb s.value t.value other))) (so_far.passed t old there)
+            | inr new ↦ absurd (let miss = is.first t new lower in let clash : true ≡ false = sym there ∙ miss in cc)
+          ]
+    ];
+    left = λ t later.
+        let less = is.later in
+        rest t (ne_eqb s.value t.value (λ e. omega (arith, e, later))) ∙ so_far.left t (omega (arith, less, later));
+    others = λ t lacks. elim (cases_eq s.value t.value) [
+      | inl same ↦
+          absurd (let hit : set_of t ≡ true = ap set_of (sym (equal_stripes s t same)) ∙ is.has in let clash : true ≡ false = sym hit ∙ lacks in cc)
+      | inr other ↦ rest t (ne_eqb s.value t.value other) ∙ so_far.others t lacks
+    ];
+  }
+
+  -- the next stripe's row becomes another
+  pub renewed-put : (now next : StripeNo → Option Row) (from : ℕ) (s : StripeNo) (r q : Row) → IsNext set_of from s → AreRenewedTo now from → now s ≡ Some r
+      → next ≡ (λ t. cond (same_stripe s t) (Some q) (now t)) → R r q → AreRenewedTo next (s.value + 1)
+  renewed-put now next from s r q is so_far there put holds =
+      let was : before s ≡ Some r = let later = is.later in sym (so_far.left s later) ∙ there in
+      let to : next s ≡ Some q = ap (λ (f : StripeNo → Option Row). f s) put ∙ ap (λ b. cond b (Some q) (now s)) (eq-eqb s.value s.value refl) in
+      renewed-next now next from s is so_far (λ t other. ap (λ (f : StripeNo → Option Row). f t) put ∙ ap (λ b. cond b (Some q) (now t)) other)
+      (subst (λ (o : Option Row). IsRenewed R o (next s)) (sym was) (q, to, holds))
+
+  -- it becomes another by a change of it alone
+  pub renewed-one : (Q : Row → Row → Type 0) (now next : StripeNo → Option Row) (from : ℕ) (s : StripeNo) (r : Row) → IsNext set_of from s → AreRenewedTo now from
+      → now s ≡ Some r → AreRenewed (same_stripe s) Q now next → ((q : Row) → Q r q → R r q) → AreRenewedTo next (s.value + 1)
+  renewed-one Q now next from s r is so_far there one gives =
+      let was : before s ≡ Some r = let later = is.later in sym (so_far.left s later) ∙ there in
+      let changed : IsRenewed Q (Some r) (next s) = subst (λ (o : Option Row). IsRenewed Q o (next s)) there (one.listed s (eq-eqb s.value s.value refl)) in
+      renewed-next now next from s is so_far one.others
+      (subst (λ (o : Option Row). IsRenewed R o (next s)) (sym was) (changed.0, changed.1, gives changed.0 changed.2))
+
+  -- it has none
+  pub renewed-absent : (now : StripeNo → Option Row) (from : ℕ) (s : StripeNo) → IsNext set_of from s → AreRenewedTo now from → now s ≡ None
+      → AreRenewedTo now (s.value + 1)
+  renewed-absent now from s is so_far none =
+      let was : before s ≡ None = let later = is.later in sym (so_far.left s later) ∙ none in
+      renewed-next now now from s is so_far (λ t other. refl) (subst (λ (o : Option Row). IsRenewed R o (now s)) (sym was) none)
+
+  pub renewed-all : (now : StripeNo → Option Row) (from : ℕ) → ((t : StripeNo) → from ≤ t.value → set_of t ≡ false) → AreRenewedTo now from → AreRenewed set_of R before now
+  renewed-all now from none so_far = record {
+    listed = λ s there. elim (cases_lt s.value from) [
+      | inl below ↦ so_far.passed s below there
+      | inr later ↦ absurd (let miss = none s later in let clash : true ≡ false = sym there ∙ miss in cc)
+    ];
+    others = so_far.others;
+  }

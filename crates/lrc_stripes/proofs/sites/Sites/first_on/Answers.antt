@@ -1,0 +1,16 @@
+use Rattle.std.proofs.Common.{arith, refl}
+use Rattle.lrc_stripes.proofs.SitedLemmas.{found, missed-on, set-same}
+use Rattle.lrc_stripes.proofs.sites.Sites.first_on.Goals as goal
+
+pub returns-in_err-place : goal.returns-in_err-place
+returns-in_err-place c = rw c.from_residual.ensures (λ t later. missed-on c.args.self.now.list c.args.self.now.stripes c.args.self.now refl c.args.number c.in_err-place.ensures t)
+
+pub index-requires : goal.index-requires
+index-requires c =
+    let at = found c.self.inside.list.items c.self.inside.stripes.items c.args.self.now c.self.view_is c.args.number c.in_ok-place.place c.in_ok-place.ensures in
+    omega (arith, at.1, at.2, c.self.inside.stripes.ok.0)
+
+pub returns : goal.returns
+returns c =
+    rw (← set-same c.self.inside.list.items c.self.inside.stripes.items c.args.self.now c.self.view_is c.args.number c.in_ok-place.place c.in_ok-place.ensures c.index.result.now c.index.result.now
+    c.index.ensures) c.first_from.ensures

@@ -1,0 +1,118 @@
+-- Internal: no public clause reaches these definitions.
+-- What is kept of the stripes beside their homes: the masks of each row, and the stripes on each node.
+use Rattle.std.specs.Prelude.{◌≡◌, ℕ, ◌+◌, ◌-◌, Bool, true, false, List, [], ◌∷◌, ◌++◌, length, set, map, filter, drop, Option, Some, None, option_and_then}
+use Rattle.std.specs.Option.{option_map_or}
+use Rattle.std.specs.List.{list_any, flat_map, range_with_len}
+use Rattle.lrc_code.specs.declared.codes.Code.TheVariants.{Wide}
+use Rattle.lrc_code.specs.declared.numbers.StripeNo.{StripeNo}
+use Rattle.lrc_code.specs.declared.numbers.NodeNo.{NodeNo}
+use Rattle.lrc_code.specs.Codes.{fragments}
+use Rattle.lrc_topology.specs.declared.seat.Seat.{Seat}
+use Rattle.lrc_stripes.specs.declared.level.Level.{Level}
+use Rattle.lrc_stripes.specs.declared.level.Level.TheVariants.{Whole}
+use Rattle.lrc_stripes.specs.declared.losses.Losses.{Losses}
+use Rattle.lrc_stripes.specs.declared.row.Row.{Row}
+use Rattle.lrc_stripes.specs.Stored.{StripeFragment, StripeLevel}
+use Rattle.lrc_stripes.specs.Rows.{sits_on, sits_at, is_on_seat}
+use Rattle.lrc_stripes.specs.Masks.{IsPutOn, AreLosses, work_rank, risk_rank, is_at, level_of}
+use Rattle.lrc_stripes.specs.Sets.{at_rank, members_from}
+use Rattle.lrc_stripes.specs.Sites.{Sited}
+use Rattle.lrc_stripes.specs.Tables.{rows_in}
+
+-- one of the row's fragments has its home on the node
+abbrev pub is_row_on : NodeNo → Option Row → Bool
+is_row_on n o = option_map_or (λ r. list_any (sits_on n) r.homes) o false
+
+-- The masks of each row are those of its homes, and the stripes of a node are those with a home there.
+pub record IsKept (sites : Sited) (rows : StripeNo → Option Row) : Type 0 where
+  pub losses : (s : StripeNo) (r : Row) → rows s ≡ Some r → AreLosses sites.online sites.draining r.homes r.losses
+  pub listed : (n : NodeNo) (s : StripeNo) → sites.on n s ≡ is_row_on n (rows s)
+
+-- one of the row's fragments has its home on the seat
+abbrev pub holds : Seat → Option Row → Bool
+holds seat o = option_map_or (λ r. list_any (is_on_seat seat) r.homes) o false
+
+-- the row has become another, if there is one
+abbrev pub IsRenewed : (Row → Row → Type 0) → Option Row → Option Row → Type 0
+IsRenewed R None after = after ≡ None
+IsRenewed R (Some r) after = (q : Row) × (after ≡ Some q) × R r q
+
+-- each row of a stripe of the set has become another, and the others are as they were
+pub record AreRenewed (set : StripeNo → Bool) (R : Row → Row → Type 0) (before after : StripeNo → Option Row) : Type 0 where
+  pub listed : (s : StripeNo) → set s ≡ true → IsRenewed R (before s) (after s)
+  pub others : (s : StripeNo) → set s ≡ false → after s ≡ before s
+
+-- the row with these losses
+pub record IsWithLosses (given : Losses) (before after : Row) : Type 0 where
+  pub homes : after.homes ≡ before.homes
+  pub losses : after.losses ≡ given
+
+-- the row where a fragment has this home, with these losses
+pub record IsSeated (f : ℕ) (seat : Seat) (given : Losses) (before after : Row) : Type 0 where
+  pub homes : after.homes ≡ set before.homes f (Some seat)
+  pub losses : after.losses ≡ given
+
+-- the row where the fragments with a home on the node are missing or not, as told
+pub record IsMissingOn (n : NodeNo) (are_missing : Bool) (before after : Row) : Type 0 where
+  pub homes : after.homes ≡ before.homes
+  pub homeless : after.losses.homeless ≡ before.losses.homeless
+  pub missing : IsPutOn n are_missing before.homes before.losses.missing after.losses.missing
+  pub needs : after.losses.needs ≡ before.losses.needs
+
+-- the row where the fragments with a home on the node need a lease or not, as told
+pub record IsToMoveOn (n : NodeNo) (are_to_move : Bool) (before after : Row) : Type 0 where
+  pub homes : after.homes ≡ before.homes
+  pub homeless : after.losses.homeless ≡ before.losses.homeless
+  pub missing : after.losses.missing ≡ before.losses.missing
+  pub needs : IsPutOn n are_to_move before.homes before.losses.needs after.losses.needs
+
+-- ---- the homes on a node
+
+-- the fragments of a stripe on the node, from this number on
+abbrev pub row_places : NodeNo → ℕ → StripeNo → Option Row → List StripeFragment
+row_places n from s None = []
+row_places n from s (Some r) = map (λ f. (s, f)) (filter (sits_at n r.homes) (drop from (fragments Wide)))
+
+-- those of the stripes of a set from a number on
+abbrev pub places_from : NodeNo → (StripeNo → Option Row) → (StripeNo → Bool) → ℕ → List StripeFragment
+places_from n rows set from = flat_map (λ s. row_places n 0 s (rows s)) (members_from set from)
+
+-- those of a stripe, if there is one, from a fragment on
+abbrev pub places_of : NodeNo → (StripeNo → Option Row) → Option StripeNo → ℕ → List StripeFragment
+places_of n rows None next = []
+places_of n rows (Some s) next = row_places n next s (rows s)
+
+-- what a search for the next of a stripe's fragments on the node finds: none is left, or this one and those behind it
+abbrev pub FindsPlace : NodeNo → (StripeNo → Option Row) → Option StripeNo → ℕ → Option StripeFragment → Type 0
+FindsPlace n rows stripe from None = places_of n rows stripe from ≡ []
+FindsPlace n rows stripe from (Some p) = places_of n rows stripe from ≡ p ∷ places_of n rows stripe (p.1.value + 1)
+
+-- ---- the stripes in the order of repair
+
+-- the stripes of a queue from a number on within this rank, and those of all higher ranks
+abbrev pub queue_from : (ℕ → StripeNo → Bool) → ℕ → ℕ → List StripeNo
+queue_from queue rank from =
+    members_from (queue rank) from ++ flat_map (λ k. members_from (queue k) 0) (range_with_len (rank + 1) (4 - rank))
+
+-- ---- the rows
+
+-- the stripes of each rank, by the ranks of their rows' masks
+abbrev pub queued : (Losses → Option ℕ) → (StripeNo → Option Row) → ℕ → StripeNo → Bool
+queued rank rows k s = is_at k (option_and_then (λ r. rank r.losses) (rows s))
+
+-- There is a place for each stripe, and each queue has the stripes at their ranks.
+pub record AreQueued (list : List (Option Row)) (work risk : List (List Bool)) : Type 0 where
+  pub long : length list ≡ 4096
+  pub works : at_rank work ≡ queued work_rank (rows_in list)
+  pub risks : at_rank risk ≡ queued risk_rank (rows_in list)
+
+-- ---- levels
+
+-- the level of a row; whole where there is none
+abbrev pub level_in : Option Row → Level
+level_in None = Whole
+level_in (Some r) = level_of r.losses
+
+-- the stripes with the levels of their rows
+abbrev pub levels_of : (StripeNo → Option Row) → List StripeNo → List StripeLevel
+levels_of rows stripes = map (λ s. (s, level_in (rows s))) stripes

@@ -1,0 +1,34 @@
+-- Internal: no public clause reaches these definitions.
+-- Which rows become unrecoverable while an upgrade domain is offline, by the masks that are kept.
+use Rattle.std.specs.Prelude.{◌<◌, Bool, false, not, ◌&&◌, ◌||◌, nat_lt, IsTrue, IsFalse, List, get_or, Option, None}
+use Rattle.std.specs.Option.{option_map_or}
+use Rattle.lrc_code.specs.declared.codes.Code.TheVariants.{Wide}
+use Rattle.lrc_code.specs.declared.numbers.StripeNo.{StripeNo}
+use Rattle.lrc_code.specs.declared.numbers.UpgradeNo.{UpgradeNo}
+use Rattle.lrc_code.specs.Losses.{FragmentSet, bits_set, is_recoverable}
+use Rattle.lrc_topology.specs.declared.NodeInfo.{NodeInfo}
+use Rattle.lrc_topology.specs.declared.seat.Seat.{Seat}
+use Rattle.lrc_stripes.specs.declared.row.Row.{Row}
+use Rattle.lrc_stripes.specs.Upgrades.{is_in_domain}
+use Rattle.lrc_stripes.specs.Sites.{Sited}
+
+-- the home is on a node of the domain
+abbrev pub is_home_in : List NodeInfo → UpgradeNo → Option Seat → Bool
+is_home_in nodes u home = option_map_or (λ seat. is_in_domain nodes u seat.node) home false
+
+-- the missing fragments of the row, and those with a home in the domain
+abbrev pub missing_without : List NodeInfo → UpgradeNo → Row → FragmentSet
+missing_without nodes u r f = bits_set r.losses.missing.bits f || (nat_lt f 16 && is_home_in nodes u (get_or r.homes f None))
+
+-- the stripe of the row is recoverable, and would not be with the nodes of the domain offline
+unfoldable pub is_row_lost : Sited → UpgradeNo → Row → Bool
+is_row_lost sites u r = is_recoverable Wide (bits_set r.losses.missing.bits) && not (is_recoverable Wide (missing_without sites.nodes u r))
+
+-- the stripe has such a row
+abbrev pub lost_in : Sited → (StripeNo → Option Row) → UpgradeNo → StripeNo → Bool
+lost_in sites rows u s = option_map_or (is_row_lost sites u) (rows s) false
+
+-- the stripe passes the test, and none of a lower number does
+pub record IsFirstIn (test : StripeNo → Bool) (s : StripeNo) : Type 0 where
+  pub has : IsTrue (test s)
+  pub first : (t : StripeNo) → t.value < s.value → IsFalse (test t)

@@ -1,0 +1,73 @@
+-- Internal: no public clause reaches these definitions.
+-- The masks that a row keeps, and the ranks that follow from them.
+use Rattle.std.specs.Prelude.{◌≡◌, ℕ, ◌&&◌, Bool, false, if◌then◌else◌, nat_lt, nat_eq, List, get_or, Option, Some, None, is_none}
+use Rattle.std.specs.Option.{option_map_or}
+use Rattle.lrc_code.specs.declared.codes.Code.TheVariants.{Wide}
+use Rattle.lrc_code.specs.declared.losses.LossMask.{LossMask}
+use Rattle.lrc_code.specs.declared.numbers.NodeNo.{NodeNo}
+use Rattle.lrc_code.specs.Losses.{bits_set}
+use Rattle.lrc_topology.specs.declared.seat.Seat.{Seat}
+use Rattle.lrc_stripes.specs.declared.level.Level.{Level}
+use Rattle.lrc_stripes.specs.declared.losses.Losses.{Losses}
+use Rattle.lrc_stripes.specs.Levels.{level_by, rank_by}
+use Rattle.lrc_stripes.specs.Rows.{sits_on, is_missing, is_to_move}
+use Rattle.lrc_stripes.specs.Sites.{Sited}
+
+-- ---- masks
+
+-- every fragment is in the mask
+abbrev pub IsFull : LossMask → Type 0
+IsFull mask = (f : ℕ) → bits_set mask.bits f ≡ nat_lt f 16
+
+-- every fragment is in each mask
+pub record AreAll (l : Losses) : Type 0 where
+  pub homeless : IsFull l.homeless
+  pub missing : IsFull l.missing
+  pub needs : IsFull l.needs
+
+-- the mask has this of one fragment, and of the others what the former mask has
+abbrev pub IsPut : ℕ → Bool → LossMask → LossMask → Type 0
+IsPut f is_in before after = (g : ℕ) → bits_set after.bits g ≡ (if nat_eq g f then is_in else bits_set before.bits g)
+
+-- the masks where one fragment has this home
+pub record AreWith (sites : Sited) (f : ℕ) (home : Option Seat) (before after : Losses) : Type 0 where
+  pub homeless : IsPut f (is_none home) before.homeless after.homeless
+  pub missing : IsPut f (is_missing sites.online home) before.missing after.missing
+  pub needs : IsPut f (is_to_move sites.draining home) before.needs after.needs
+
+-- the mask has the fragments with a home on the node or not, as told, and of the others what the former mask has
+abbrev pub IsPutOn : NodeNo → Bool → List (Option Seat) → LossMask → LossMask → Type 0
+IsPutOn n are_in homes before after =
+    (g : ℕ) → bits_set after.bits g ≡ (if nat_lt g 16 && sits_on n (get_or homes g None) then are_in else bits_set before.bits g)
+
+-- the mask has the fragments whose homes pass the test
+abbrev pub IsMaskOf : (Option Seat → Bool) → List (Option Seat) → LossMask → Type 0
+IsMaskOf test homes mask = (f : ℕ) → bits_set mask.bits f ≡ (nat_lt f 16 && test (get_or homes f None))
+
+-- the masks are those of the homes, by the nodes that are online and those that are draining
+pub record AreLosses (online draining : NodeNo → Bool) (homes : List (Option Seat)) (l : Losses) : Type 0 where
+  pub homeless : IsMaskOf is_none homes l.homeless
+  pub missing : IsMaskOf (is_missing online) homes l.missing
+  pub needs : IsMaskOf (is_to_move draining) homes l.needs
+
+-- ---- ranks
+
+-- how far a stripe with these masks is from loss
+unfoldable pub level_of : Losses → Level
+level_of l = level_by Wide (bits_set l.homeless.bits) (bits_set l.missing.bits)
+
+-- its rank
+abbrev pub rank_of : Losses → ℕ
+rank_of l = rank_by Wide (bits_set l.missing.bits)
+
+-- its rank, where it has work
+abbrev pub work_rank : Losses → Option ℕ
+work_rank l = if nat_eq l.needs.bits 0 then None else Some (rank_of l)
+
+-- its rank, where a fragment is missing
+abbrev pub risk_rank : Losses → Option ℕ
+risk_rank l = if nat_eq l.missing.bits 0 then None else Some (rank_of l)
+
+-- the rank is this one
+abbrev pub is_at : ℕ → Option ℕ → Bool
+is_at k o = option_map_or (λ rank. nat_eq rank k) o false

@@ -1,0 +1,43 @@
+//! Masks of fragments, by the nodes that the fragments' homes are on.
+
+ghost use Rattle.std.specs.Prelude.{◌≡◌, ℕ, if◌then◌else◌, ◌&&◌, nat_lt, get_or, length, None};
+ghost use Rattle.lrc_code.specs.Losses.{bits_set};
+ghost use Rattle.lrc_stripes.specs.Rows.{sits_on};
+
+use crate::Seat;
+use lrc_code::{Fragment, LossMask, NodeNo};
+
+/// The fragments whose homes are on the node.
+pub(crate) fn fragments_on(homes: &[Option<Seat>; 16], node: NodeNo) -> LossMask
+    requires { length homes.now ≡ 16 }
+    ensures { (f : ℕ) → bits_set result.bits f ≡ (nat_lt f 16 && sits_on node (get_or homes.now f None)) }
+{
+    let mut mask = LossMask::from_bits(0);
+    for fragment in Fragment::all() {
+        if is_on(homes[fragment.value as usize], node) {
+            mask = mask.with(fragment);
+        }
+    }
+    mask
+}
+
+/// The mask with all of these fragments or without them, as told.
+pub(crate) fn put(mask: LossMask, fragments: LossMask, are_in: bool) -> LossMask
+    ensures { (f : ℕ) → bits_set result.bits f ≡ (if bits_set fragments.bits f then are_in else bits_set mask.bits f) }
+{
+    if are_in {
+        LossMask::from_bits(mask.bits | fragments.bits)
+    } else {
+        LossMask::from_bits(mask.bits & !fragments.bits)
+    }
+}
+
+/// Whether a home is on the node.
+pub(crate) fn is_on(home: Option<Seat>, node: NodeNo) -> bool
+    ensures { result ≡ sits_on node home }
+{
+    match home {
+        Some(seat) => node == seat.node,
+        None => false,
+    }
+}

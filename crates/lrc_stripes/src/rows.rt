@@ -1,0 +1,206 @@
+ghost use Rattle.std.specs.Prelude.{◌≡◌, ℕ, ◌≤◌, if◌then◌else◌, length, get_or, option_and_then, replicate, None, IfOk, IfErr, IfSome};
+ghost use Rattle.std.specs.Option.{option_copied};
+ghost use Rattle.lrc_code.specs.Numbers.{same_stripe};
+ghost use Rattle.lrc_code.specs.declared.fault.Fault.TheVariants.{OutOfMemory};
+ghost use Rattle.lrc_stripes.specs.Masks.{work_rank, risk_rank};
+ghost use Rattle.lrc_stripes.specs.Sites.{sited};
+ghost use Rattle.lrc_stripes.specs.Tables.{rows_in};
+ghost use Rattle.lrc_stripes.specs.Kept.{queue_from, queued, level_in, holds, AreRenewed, IsRenewed, IsWithLosses, IsSeated, IsMissingOn, IsToMoveOn};
+
+use crate::losses::Losses;
+use crate::queue::Queue;
+use crate::ranked::Ranked;
+use crate::ranks::Ranks;
+use crate::row::Row;
+use crate::sites::Sites;
+use crate::{Level, Seat};
+use lrc_code::{Fault, Fragment, NodeNo, StripeNo};
+use std::alloc::{AllocError, Global};
+use std::marker::Model;
+
+/// The rows of the stripes that are there, and the stripes that have work and those with a missing fragment by rank.
+#[derive(Drop)]
+pub(crate) struct Rows {
+    /// By the stripe's number.
+    list: Vec<Option<Row>>,
+    work: Queue,
+    risk: Queue,
+}
+
+impl Model for Rows {
+    ghost use Rattle.std.specs.Prelude.{List, Option};
+    ghost use Rattle.lrc_stripes.specs.declared.row.Row.{Row as AnyRow};
+    ghost use Rattle.lrc_stripes.specs.Kept.{AreQueued};
+
+    ghost Value = { List (Option AnyRow) };
+
+    ghost view = { λ t. t.list.items };
+
+    ghost invariant = { λ t. AreQueued t.list.items t.work t.risk };
+}
+
+impl Rows {
+    /// No rows, and room for all that there can be.
+    pub(crate) fn new(alloc: Global) -> Result<Rows, Fault>
+        ensures value { IfOk result (λ t. rows_in t ≡ λ s. None) }
+        ensures err { IfErr result (λ e. e ≡ OutOfMemory) }
+    {
+        Ok(Rows {
+            list: none(alloc, 4096)?,
+            work: Queue::new(alloc)?,
+            risk: Queue::new(alloc)?,
+        })
+    }
+
+    /// The row of a stripe, if it is there.
+    pub(crate) fn get(&self, stripe: StripeNo) -> Option<&Row>
+        ensures { option_copied result ≡ rows_in self.now stripe }
+    {
+        self.list[stripe.value as usize].as_ref()
+    }
+
+    /// Gives a stripe this row or none.
+    pub(crate) fn put(&mut self, stripe: StripeNo, row: Option<Row>)
+        ensures { rows_in self.new ≡ λ s. if same_stripe stripe s then row else rows_in self.old s }
+    {
+        let before = ranks(self.get(stripe));
+        let after = ranks(row.as_ref());
+        self.work.relist(stripe, before.work, after.work);
+        self.risk.relist(stripe, before.risk, after.risk);
+        self.list[stripe.value as usize] = row;
+    }
+
+    /// Gives the row of a stripe, if it is there, these losses.
+    fn set_losses(&mut self, stripe: StripeNo, losses: Losses)
+        ensures { AreRenewed (same_stripe stripe) (IsWithLosses losses) (rows_in self.old) (rows_in self.new) }
+    {
+        let before = ranks(self.get(stripe));
+        let place = &mut self.list[stripe.value as usize];
+        put_losses(place, losses);
+        let after = ranks(place.as_ref());
+        self.work.relist(stripe, before.work, after.work);
+        self.risk.relist(stripe, before.risk, after.risk);
+    }
+
+    /// Gives a fragment of a stripe, if the stripe is there, this home, and the stripe these losses.
+    pub(crate) fn set_home(
+        &mut self,
+        stripe: StripeNo,
+        fragment: Fragment,
+        seat: Seat,
+        losses: Losses,
+    )
+        ensures { AreRenewed (same_stripe stripe) (IsSeated fragment.value seat losses) (rows_in self.old) (rows_in self.new) }
+    {
+        let before = ranks(self.get(stripe));
+        let place = &mut self.list[stripe.value as usize];
+        put_home(place, fragment, seat, losses);
+        let after = ranks(place.as_ref());
+        self.work.relist(stripe, before.work, after.work);
+        self.risk.relist(stripe, before.risk, after.risk);
+    }
+
+    /// Whether one of a stripe's fragments has its home on the seat.
+    pub(crate) fn holds(&self, stripe: StripeNo, seat: Seat) -> bool
+        ensures { result ≡ holds seat (rows_in self.now stripe) }
+    {
+        match self.get(stripe) {
+            Some(row) => row.holds(seat),
+            None => false,
+        }
+    }
+
+    /// Sets whether the fragments with a home on the node are missing.
+    pub(crate) fn renew_missing(&mut self, sites: &Sites, node: NodeNo, are_missing: bool)
+        ensures { AreRenewed ((sited sites.now).on node) (IsMissingOn node are_missing) (rows_in self.old) (rows_in self.new) }
+    {
+        let mut from = 0;
+        while let Some(stripe) = sites.first_on(node, from) {
+            if let Some(row) = self.get(stripe) {
+                let losses = row.with_missing(node, are_missing);
+                self.set_losses(stripe, losses);
+            }
+            from = stripe.value as usize + 1;
+        }
+    }
+
+    /// Sets whether the fragments with a home on the node need a lease.
+    pub(crate) fn renew_needs(&mut self, sites: &Sites, node: NodeNo, are_to_move: bool)
+        ensures { AreRenewed ((sited sites.now).on node) (IsToMoveOn node are_to_move) (rows_in self.old) (rows_in self.new) }
+    {
+        let mut from = 0;
+        while let Some(stripe) = sites.first_on(node, from) {
+            if let Some(row) = self.get(stripe) {
+                let losses = row.with_needs(node, are_to_move);
+                self.set_losses(stripe, losses);
+            }
+            from = stripe.value as usize + 1;
+        }
+    }
+
+    /// The level of a stripe; that of a whole one where it is not there.
+    pub(crate) fn level(&self, stripe: StripeNo) -> Level
+        ensures { result ≡ level_in (rows_in self.now stripe) }
+    {
+        match self.get(stripe) {
+            Some(row) => row.losses.level(),
+            None => Level::Whole,
+        }
+    }
+
+    /// The stripes that have work, in the order of repair.
+    pub(crate) fn work(&self) -> Ranked<'_>
+        ensures { result ≡ queue_from (queued work_rank (rows_in self.now)) 0 0 }
+    {
+        Ranked::new(&self.work)
+    }
+
+    /// The stripes with a missing fragment, in the order of repair.
+    pub(crate) fn at_risk(&self) -> Ranked<'_>
+        ensures { result ≡ queue_from (queued risk_rank (rows_in self.now)) 0 0 }
+    {
+        Ranked::new(&self.risk)
+    }
+}
+
+/// So many places without a row.
+fn none(alloc: Global, count: usize) -> Result<Vec<Option<Row>>, AllocError>
+    ensures { IfOk result (λ v. v.items ≡ replicate count None) }
+{
+    vec![in alloc; None; count]
+}
+
+/// Gives a row, if there is one, these losses.
+fn put_losses(row: &mut Option<Row>, losses: Losses)
+    ensures { IsRenewed (IsWithLosses losses) row.old row.new }
+{
+    if let Some(row) = row {
+        row.losses = losses;
+    }
+}
+
+/// Gives a fragment of a row, if there is one, this home, and the row these losses.
+fn put_home(row: &mut Option<Row>, fragment: Fragment, seat: Seat, losses: Losses)
+    ensures { IsRenewed (IsSeated fragment.value seat losses) row.old row.new }
+{
+    if let Some(row) = row {
+        row.homes[fragment.value as usize] = Some(seat);
+        row.losses = losses;
+    }
+}
+
+/// The ranks of a stripe that has this row or none.
+fn ranks(row: Option<&Row>) -> Ranks
+    ensures work { result.work ≡ option_and_then (λ r. work_rank r.losses) (option_copied row.entry) }
+    ensures risk { result.risk ≡ option_and_then (λ r. risk_rank r.losses) (option_copied row.entry) }
+    ensures work_few { IfSome result.work (λ k. k ≤ 4) }
+    ensures risk_few { IfSome result.risk (λ k. k ≤ 4) }
+{
+    match row {
+        Some(row) => row.losses.ranks(),
+        None => Ranks {
+            work: None,
+            risk: None,
+        },
+    }
+}

@@ -1,0 +1,190 @@
+ghost use Rattle.std.specs.Prelude.{◌≡◌, ◌&&◌, ◌||◌, not, if◌then◌else◌, IfOk, IfErr, IsTrue};
+ghost use Rattle.std.specs.List.{list_any};
+ghost use Rattle.lrc_code.specs.Numbers.{same_stripe, same_node, same_upgrade};
+ghost use Rattle.lrc_code.specs.declared.fault.Fault.TheVariants.{OutOfMemory};
+ghost use Rattle.lrc_topology.specs.Nodes.{node_at};
+ghost use Rattle.lrc_stripes.specs.Stored.{has_node};
+ghost use Rattle.lrc_stripes.specs.Sets.{FindsNext, has};
+ghost use Rattle.lrc_stripes.specs.Rows.{sits_on};
+ghost use Rattle.lrc_stripes.specs.Sites.{sited, first_sites, IsPlaceOf};
+
+use crate::Seat;
+use crate::row::Row;
+use crate::site::Site;
+use crate::stripe_set::StripeSet;
+use lrc_code::{Fault, NodeNo, StripeNo, UpgradeNo};
+use lrc_topology::{NodeIndex, NodeInfo, Topology};
+use std::alloc::Global;
+use std::marker::Model;
+
+/// The nodes of a store: which are offline or draining, and for each the stripes with a home there.
+#[derive(Drop)]
+pub(crate) struct Sites {
+    /// In the order of the file.
+    list: Vec<Site>,
+    /// In the same order.
+    stripes: Vec<StripeSet>,
+    places: NodeIndex,
+}
+
+impl Model for Sites {
+    ghost use Rattle.lrc_stripes.specs.Sites.{SiteTable, AreSites};
+
+    ghost Value = { SiteTable };
+
+    ghost view = { λ t. record { list = t.list.items; stripes = t.stripes.items } };
+
+    ghost invariant = { λ t. AreSites t.list.items t.stripes.items t.places };
+}
+
+impl Sites {
+    /// The nodes of the topology, each online and not draining, and without stripes.
+    pub(crate) fn new(alloc: Global, topology: &Topology) -> Result<Sites, Fault>
+        ensures value { IfOk result (λ t. sited t ≡ first_sites topology.now) }
+        ensures err { IfErr result (λ e. e ≡ OutOfMemory) }
+    {
+        let mut list = Vec::with_capacity(alloc, topology.len())?;
+        let mut stripes = Vec::with_capacity(alloc, topology.len())?;
+        for node in topology.nodes() {
+            list.push(Site {
+                node: *node,
+                is_offline: false,
+                is_draining: false,
+            })?;
+            stripes.push(StripeSet::new())?;
+        }
+        Ok(Sites {
+            list,
+            stripes,
+            places: NodeIndex::new(alloc, topology)?,
+        })
+    }
+
+    /// The node of a number, if it is there.
+    pub(crate) fn node(&self, number: NodeNo) -> Option<NodeInfo>
+        ensures { result ≡ node_at (sited self.now).nodes number }
+    {
+        let place = self.place(number)?;
+        Some(self.list[place].node)
+    }
+
+    /// Whether the node of a number is online; a number that is no node is not.
+    pub(crate) fn is_online(&self, number: NodeNo) -> bool
+        ensures { result ≡ (sited self.now).online number }
+    {
+        match self.place(number) {
+            Some(place) => !self.list[place].is_offline,
+            None => false,
+        }
+    }
+
+    /// Whether the node of a number is draining; a number that is no node is not.
+    pub(crate) fn is_draining(&self, number: NodeNo) -> bool
+        ensures { result ≡ (sited self.now).draining number }
+    {
+        match self.place(number) {
+            Some(place) => self.list[place].is_draining,
+            None => false,
+        }
+    }
+
+    /// Sets whether a node is offline.
+    pub(crate) fn set_offline(&mut self, number: NodeNo, is_offline: bool)
+        requires { IsTrue (has_node (sited self.old).nodes number) }
+        ensures { sited self.new ≡ record (sited self.old) { online = λ n. if same_node number n then not is_offline else (sited self.old).online n } }
+    {
+        if let Some(place) = self.place(number) {
+            self.list[place].is_offline = is_offline;
+        }
+    }
+
+    /// Sets whether a node is draining.
+    pub(crate) fn set_draining(&mut self, number: NodeNo, is_draining: bool)
+        requires { IsTrue (has_node (sited self.old).nodes number) }
+        ensures { sited self.new ≡ record (sited self.old) { draining = λ n. if same_node number n then is_draining else (sited self.old).draining n } }
+    {
+        if let Some(place) = self.place(number) {
+            self.list[place].is_draining = is_draining;
+        }
+    }
+
+    /// Puts a stripe among those with a home on the node.
+    pub(crate) fn insert(&mut self, number: NodeNo, stripe: StripeNo)
+        requires { IsTrue (has_node (sited self.old).nodes number) }
+        ensures { sited self.new ≡ record (sited self.old) { on = λ n s. (same_node number n && same_stripe stripe s) || (sited self.old).on n s } }
+    {
+        if let Some(place) = self.place(number) {
+            let set = &mut self.stripes[place];
+            set.insert(stripe);
+        }
+    }
+
+    /// Takes a stripe from those with a home on the node.
+    pub(crate) fn remove(&mut self, number: NodeNo, stripe: StripeNo)
+        ensures { sited self.new ≡ record (sited self.old) { on = λ n s. not (same_node number n && same_stripe stripe s) && (sited self.old).on n s } }
+    {
+        if let Some(place) = self.place(number) {
+            let set = &mut self.stripes[place];
+            set.remove(stripe);
+        }
+    }
+
+    /// Takes a stripe off the nodes of all of its homes.
+    pub(crate) fn leave(&mut self, stripe: StripeNo, row: &Row)
+        ensures { sited self.new ≡ record (sited self.old) { on = λ n s. not (same_stripe stripe s && list_any (sits_on n) row.now.homes) && (sited self.old).on n s } }
+    {
+        for home in row.homes {
+            if let Some(seat) = home {
+                self.remove(seat.node, stripe);
+            }
+        }
+    }
+
+    /// Takes a stripe off the node of a former home, where it has no other home.
+    pub(crate) fn unseat(&mut self, stripe: StripeNo, home: Option<Seat>, left: &Row)
+        ensures { sited self.new ≡ record (sited self.old) { on = λ n s. not (same_stripe stripe s && (sits_on n home && not (list_any (sits_on n) left.now.homes))) && (sited self.old).on n s } }
+    {
+        if let Some(seat) = home {
+            if !left.is_on(seat.node) {
+                self.remove(seat.node, stripe);
+            }
+        }
+    }
+
+    /// The first stripe from this number on that has a home on the node.
+    pub(crate) fn first_on(&self, number: NodeNo, from: usize) -> Option<StripeNo>
+        ensures { FindsNext ((sited self.now).on number) from result }
+    {
+        let place = self.place(number)?;
+        self.stripes[place].first_from(from)
+    }
+
+    /// The stripes with a home on a node of the upgrade domain.
+    pub(crate) fn stripes_in(&self, domain: UpgradeNo) -> StripeSet
+        ensures { has result ≡ λ s. list_any (λ n. same_upgrade n.upgrade domain && (sited self.now).on n.number s) (sited self.now).nodes }
+    {
+        let mut found = StripeSet::new();
+        for site in self.list.iter() {
+            if site.node.upgrade == domain {
+                self.join(site.node.number, &mut found);
+            }
+        }
+        found
+    }
+
+    /// Puts the stripes with a home on the node into a set.
+    fn join(&self, number: NodeNo, set: &mut StripeSet)
+        ensures { has set.new ≡ λ s. has set.old s || (sited self.now).on number s }
+    {
+        if let Some(place) = self.place(number) {
+            set.insert_all(&self.stripes[place]);
+        }
+    }
+
+    /// Where the node of a number stands.
+    fn place(&self, number: NodeNo) -> Option<usize>
+        ensures { IsPlaceOf self.now number result }
+    {
+        self.places.place(number)
+    }
+}

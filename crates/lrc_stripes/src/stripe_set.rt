@@ -1,0 +1,65 @@
+ghost use Rattle.std.specs.Prelude.{◌≡◌, ◌&&◌, ◌||◌, not, false};
+ghost use Rattle.lrc_code.specs.Numbers.{same_stripe};
+ghost use Rattle.lrc_stripes.specs.Sets.{FindsNext, has};
+
+use lrc_bits::BitSet;
+use lrc_code::StripeNo;
+use std::marker::Model;
+
+/// A set of stripes.
+#[derive(Drop)]
+pub(crate) struct StripeSet {
+    bits: BitSet<64>,
+}
+
+impl Model for StripeSet {
+    ghost use Rattle.std.specs.Prelude.{◌≡◌, Bool, List, length};
+
+    ghost Value = { List Bool };
+
+    ghost view = { λ s. s.bits };
+
+    ghost invariant = { λ s. length s.bits ≡ 4096 };
+}
+
+impl StripeSet {
+    /// The empty set.
+    pub(crate) fn new() -> StripeSet
+        ensures { has result ≡ λ s. false }
+    {
+        StripeSet {
+            bits: BitSet::new(),
+        }
+    }
+
+    /// Puts a stripe into the set.
+    pub(crate) fn insert(&mut self, stripe: StripeNo)
+        ensures { has self.new ≡ λ s. same_stripe stripe s || has self.old s }
+    {
+        self.bits.insert(stripe.value as usize);
+    }
+
+    /// Takes a stripe out of the set.
+    pub(crate) fn remove(&mut self, stripe: StripeNo)
+        ensures { has self.new ≡ λ s. not (same_stripe stripe s) && has self.old s }
+    {
+        self.bits.remove(stripe.value as usize);
+    }
+
+    /// Puts all stripes of the other set into this one.
+    pub(crate) fn insert_all(&mut self, other: &StripeSet)
+        ensures { has self.new ≡ λ s. has self.old s || has other.now s }
+    {
+        self.bits.insert_all(&other.bits);
+    }
+
+    /// The first stripe of the set from this number on.
+    pub(crate) fn first_from(&self, from: usize) -> Option<StripeNo>
+        ensures { FindsNext (has self.now) from result }
+    {
+        let number = self.bits.first_from(from)?;
+        Some(StripeNo {
+            value: number as u16,
+        })
+    }
+}
