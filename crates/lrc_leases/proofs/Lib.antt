@@ -1,2 +1,5 @@
 pub mod ListLemmas
 pub mod SlabLemmas
+pub mod ChainLemmas
+pub mod TargetLemmas
+pub mod MaskLemmas

@@ -1,8 +1,8 @@
 -- The leases that a slab holds, and what an insert and a removal change of them.
-use Rattle.std.proofs.Common.{◌≡◌, ◌≢◌, ℕ, ◌+◌, ◌-◌, ◌<◌, ◌≤◌, inl, inr, true, false, ◌&&◌, if◌then◌else◌, nat_eq, List, [], ◌∷◌, length, get_or, map, filter, Option, Some, None, IsSomeAnd, IsTrue, arith, refl, sym, ap, ◌∙◌, subst}
+use Rattle.std.proofs.Common.{◌≡◌, ◌≢◌, ℕ, ◌+◌, ◌-◌, ◌<◌, ◌≤◌, inl, inr, true, false, ◌&&◌, if◌then◌else◌, nat_eq, nat_lt, List, [], ◌∷◌, length, get_or, map, Option, Some, None, arith, refl, sym, ap, ◌∙◌, subst}
 use Rattle.std.proofs.Math.Path.{fun_ext}
 use Rattle.std.specs.List.{All, AllPairs, Contains}
-use Rattle.std.proofs.lemmas.Bool.{cases_Bool, cases_eq, eq-eqb, eqb-true, and_parts, and_from, false_from_ne_true}
+use Rattle.std.proofs.lemmas.Bool.{cases_Bool, cases_eq, eq-eqb, ne_eqb, eqb-true, and_parts, and_from, false_from_ne_true}
 use Rattle.std.proofs.lemmas.List.{get_or-map, length-map}
 use Rattle.std.proofs.lemmas.List.Elements.{All-nil, All-cons, All-weaker, Contains-get_or}
 use Rattle.std.proofs.lemmas.List.Kept.{AllPairs-cons}
@@ -11,12 +11,12 @@ use Rattle.slab.specs.Slab.{Slab, get, entries, entries_from, Updates}
 use Rattle.slab.proofs.SlabLemmas.{Contains-cons, Contains-cons_cases, Contains-entries}
 use Rattle.lrc_code.specs.declared.numbers.StripeNo.{StripeNo}
 use Rattle.lrc_code.specs.declared.numbers.Fragment.{Fragment}
-use Rattle.lrc_code.specs.declared.numbers.NodeNo.{NodeNo}
 use Rattle.lrc_code.specs.Numbers.{same_stripe}
 use Rattle.lrc_leases.specs.declared.lease.Lease.{Lease}
-use Rattle.lrc_leases.specs.Leased.{LeaseMap, is_of, leases_in, leased_of, with_lease, without_lease, with_spare, AreOneEach, is_target_on, AreTargetsOn}
-use Rattle.lrc_leases.specs.Kept.{leases_of, HasAt, AreSingle}
-use Rattle.lrc_leases.proofs.ListLemmas.{find-some, find-none, none-find, one-find, same_answers, Contains-filter, filter-contains, is_of-parts, is_of-from, is_of-own, is_of-both, one_each-filter}
+use Rattle.lrc_leases.specs.Leased.{LeaseMap, is_of, leases_in, leased_of, with_lease, without_lease, with_spare, AreOneEach}
+use Rattle.lrc_leases.specs.Granted.{spot}
+use Rattle.lrc_leases.specs.Kept.{leases_of, HasAt, HasNone, AreSingle, AreAt, near, is_lease_of}
+use Rattle.lrc_leases.proofs.ListLemmas.{find-some, find-none, none-find, one-find, same_answers, is_of-parts, is_of-from, is_of-both}
 
 -- ---- lists of pairs
 
@@ -69,13 +69,13 @@ contains-at slab l among =
     (e.0, (Contains-entries slab e.0 e.1).0 there ∙ ap (λ (x : Lease). Some x) same)
 
 -- what a look-up finds stands under a key
-found-at : (slab : Slab Lease) (s : StripeNo) (f : ℕ) (l : Lease) → leases_in (leases_of slab) s f ≡ Some l → (key : ℕ) × (get slab key ≡ Some l) × (is_of s f l ≡ true)
+pub found-at : (slab : Slab Lease) (s : StripeNo) (f : ℕ) (l : Lease) → leases_in (leases_of slab) s f ≡ Some l → (key : ℕ) × (get slab key ≡ Some l) × (is_of s f l ≡ true)
 found-at slab s f l found =
     let (among, passes) = find-some (is_of s f) (leases_of slab) l found in
     let (key, at) = contains-at slab l among in
     (key, at, passes)
 
-none-at : (slab : Slab Lease) (s : StripeNo) (f : ℕ) → leases_in (leases_of slab) s f ≡ None → (key : ℕ) (l : Lease) → get slab key ≡ Some l → is_of s f l ≡ false
+pub none-at : (slab : Slab Lease) (s : StripeNo) (f : ℕ) → leases_in (leases_of slab) s f ≡ None → (key : ℕ) (l : Lease) → get slab key ≡ Some l → is_of s f l ≡ false
 none-at slab s f none key l at = find-none (is_of s f) (leases_of slab) l none (at-contains slab key l at)
 
 -- where no lease of the fragment stands under a key, none is found
@@ -102,20 +102,34 @@ one_each slab single =
     let rising = keys-rise 0 slab.slots i j d below within in
     omega (arith, same, rising))
 
--- the leases with targets on a node are those that the walk lists
-pub are_targets : (slab : Slab Lease) (n : NodeNo) (spare : ℕ) → AreSingle slab → AreTargetsOn (leased_of (leases_of slab) spare) n (filter (is_target_on n) (leases_of slab))
-are_targets slab n spare single = record {
-  once = one_each-filter (is_target_on n) (leases_of slab) (one_each slab single);
-  each = λ l. (
-    λ among.
-        let (there, on) = Contains-filter (is_target_on n) (leases_of slab) l among in
-        let (key, at) = contains-at slab l there in
-        (at-found slab single l.stripe l.fragment.value key l at (is_of-own l), on),
-    λ both.
-        let (key, at, own) = found-at slab l.stripe l.fragment.value l both.0 in
-        filter-contains (is_target_on n) (leases_of slab) l (at-contains slab key l at) both.1,
-  );
-}
+-- ---- the place of a fragment
+
+-- what is under no key is not there
+pub none-under : (o : Option Lease) (s : StripeNo) (f : ℕ) (l : Lease) → is_lease_of s f o ≡ false → o ≡ Some l → is_of s f l ≡ false
+none-under None s f l miss there = absurd (let e : None ≡ Some l = there in cc)
+none-under (Some k) s f l miss there = subst (λ m. is_of s f m ≡ false) (same_Some k l there) miss
+
+-- two fragments have two places
+pub spot-apart : (s t : StripeNo) (f g : Fragment) → spot s f ≡ spot t g → (s.value ≡ t.value) × (f.value ≡ g.value)
+spot-apart s t f g same = (omega (arith, same, f.in_range, g.in_range), omega (arith, same, f.in_range, g.in_range))
+
+near-low : (key n : ℕ) → near key ≡ n → n ≢ 65535 → key ≡ n
+near-low key n shown low = elim (cases_Bool (nat_lt key 65535)) [
+  | inl small ↦ rw small at shown
+  | inr large ↦ absurd (low (sym (rw large at shown)))
+]
+
+-- a key that stands for itself is the only one under which the fragment's lease can be
+pub at-place : (slab : Slab Lease) (keys : List ℕ) (s : StripeNo) (f : Fragment) (near_key : ℕ) → AreAt slab keys → get_or keys (spot s f) 0 ≡ near_key → near_key ≢ 65535
+    → is_lease_of s f.value (get slab near_key) ≡ false → HasNone slab s f.value
+at-place slab keys s f near_key at here low miss key l there = elim (cases_Bool (is_of s f.value l)) [
+  | inl own ↦
+      let parts = is_of-parts s f.value l own in
+      let place : spot l.stripe l.fragment ≡ spot s f = omega (arith, parts.0, parts.1) in
+      let same : near_key ≡ key = sym (near-low key near_key (sym (at key l there) ∙ (ap (λ n. get_or keys n 0) place ∙ here)) low) in
+      none-under (get slab near_key) s f.value l miss (ap (get slab) same ∙ there)
+  | inr other ↦ other
+]
 
 -- ---- one more
 
@@ -138,6 +152,20 @@ module _ (old new : Slab Lease) (key : ℕ) (l : Lease) (single : AreSingle old)
           absurd (apart i k (sym (updates.others i away) ∙ at) (subst (λ x. is_of x.stripe x.fragment.value k ≡ true) same own))
       | inr other ↦ single i j k m (sym (updates.others i away) ∙ at) (sym (updates.others j other) ∙ there) own
     ]
+  ]
+
+  pub at-insert : (keys keys_new : List ℕ) → AreAt old keys → ((i : ℕ) → get_or keys_new i 0 ≡ (if nat_eq i (spot l.stripe l.fragment) then near key else get_or keys i 0)) → AreAt new keys_new
+  at-insert keys keys_new at written i k there = elim (cases_eq i key) [
+    | inl here ↦
+        let same : k ≡ l = same_Some k l (sym there ∙ (ap (get new) here ∙ updates.changed)) in
+        let place : spot k.stripe k.fragment ≡ spot l.stripe l.fragment = ap (λ (m : Lease). spot m.stripe m.fragment) same in
+        written (spot k.stripe k.fragment) ∙ (rw (eq-eqb _ _ place) (ap near (sym here)))
+    | inr other ↦
+        let before : get old i ≡ Some k = sym (updates.others i other) ∙ there in
+        let away : spot k.stripe k.fragment ≢ spot l.stripe l.fragment = λ same.
+        let parts = spot-apart k.stripe l.stripe k.fragment l.fragment same in
+        apart i k before (is_of-from l.stripe l.fragment.value k parts.0 parts.1) in
+        written (spot k.stripe k.fragment) ∙ (rw (ne_eqb _ _ away) (at i k before))
   ]
 
   found-insert : (s : StripeNo) (f : ℕ) → leases_in (leases_of new) s f ≡ (if is_of s f l then Some l else leases_in (leases_of old) s f)
@@ -172,6 +200,9 @@ module _ (old new : Slab Lease) (key : ℕ) (s : StripeNo) (f : Fragment) (l : L
   pub single-remove : AreSingle new
   single-remove i j k m at there same = single i j k m (before i k at) (before j m there) same
 
+  pub at-remove : (keys : List ℕ) → AreAt old keys → AreAt new keys
+  at-remove keys at i k there = at i k (before i k there)
+
   found-remove : (r : StripeNo) (g : ℕ) → leases_in (leases_of new) r g ≡ (if same_stripe s r && nat_eq f.value g then None else leases_in (leases_of old) r g)
   found-remove r g = elim (cases_Bool (same_stripe s r && nat_eq f.value g)) [
     | inl same ↦
@@ -200,8 +231,8 @@ module _ (old new : Slab Lease) (key : ℕ) (s : StripeNo) (f : Fragment) (l : L
 
 -- ---- what a search for the key has found
 
-under_some : (o : Option Lease) (s : StripeNo) (f : ℕ) → IsSomeAnd o (λ l. IsTrue (is_of s f l)) → (l : Lease) × (o ≡ Some l) × (is_of s f l ≡ true)
-under_some None s f has = absurd has
+under_some : (o : Option Lease) (s : StripeNo) (f : ℕ) → is_lease_of s f o ≡ true → (l : Lease) × (o ≡ Some l) × (is_of s f l ≡ true)
+under_some None s f has = absurd (cc)
 under_some (Some l) s f has = (l, refl, has)
 
 pub under : (slab : Slab Lease) (key : ℕ) (s : StripeNo) (f : ℕ) → HasAt slab key s f → (l : Lease) × (get slab key ≡ Some l) × (is_of s f l ≡ true)

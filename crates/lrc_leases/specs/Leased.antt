@@ -1,10 +1,11 @@
 -- What the live leases are: at most one for each fragment of a stripe.
-use Rattle.std.specs.Prelude.{◌≡◌, ◌≢◌, ℕ, ◌-◌, Bool, ◌&&◌, if◌then◌else◌, nat_eq, List, find, Option, Some, None, IsTrue, ◌↔◌}
+use Rattle.std.specs.Prelude.{◌≡◌, ◌≢◌, ℕ, ◌-◌, Bool, ◌&&◌, if◌then◌else◌, nat_eq, List, find, Option, Some, None, is_some, IsTrue, ◌↔◌}
 use Rattle.std.specs.List.{Contains, AllPairs}
 use Rattle.lrc_code.specs.declared.numbers.StripeNo.{StripeNo}
 use Rattle.lrc_code.specs.declared.numbers.Fragment.{Fragment}
 use Rattle.lrc_code.specs.declared.numbers.NodeNo.{NodeNo}
 use Rattle.lrc_code.specs.Numbers.{same_stripe, same_node}
+use Rattle.lrc_code.specs.Losses.{FragmentSet}
 use Rattle.lrc_leases.specs.declared.lease.Lease.{Lease}
 
 -- the lease of each fragment of each stripe, by the number of the fragment; none where it has none
@@ -30,6 +31,10 @@ with_lease t l = record t { leases = λ s f. if is_of s f l then Some l else t.l
 -- the lease of a fragment of a stripe taken out
 abbrev pub without_lease : Leased → StripeNo → Fragment → Leased
 without_lease t s f = record t { leases = λ r g. if same_stripe s r && nat_eq f.value g then None else t.leases r g }
+
+-- the fragments of a stripe that have a lease
+abbrev pub leased_at : Leased → StripeNo → FragmentSet
+leased_at t s f = is_some (t.leases s f)
 
 -- there is room for so many more leases
 abbrev pub with_spare : Leased → ℕ → Leased

@@ -1,11 +1,18 @@
-ghost use Rattle.std.specs.Prelude.{◌≡◌, ◌≤◌, IfOk, IfErr, IfSome, IfNone, OnErr, OnOk, IsOk, None};
+ghost use Rattle.std.specs.Prelude.{◌≡◌, ◌≤◌, ℕ, IfOk, IfErr, IfSome, IfNone, OnErr, OnOk, IsOk, None};
 ghost use Rattle.lrc_code.specs.declared.fault.Fault.TheVariants.{OutOfMemory};
-ghost use Rattle.lrc_leases.specs.Leased.{empty, with_lease, without_lease, with_spare, AreTargetsOn};
+ghost use Rattle.lrc_code.specs.Losses.{bits_set};
+ghost use Rattle.lrc_leases.specs.Leased.{empty, with_lease, without_lease, with_spare, leased_at, AreTargetsOn};
+ghost use Rattle.lrc_leases.specs.Kept.{numbered, target_at};
 ghost use Rattle.lrc_leases.specs.Tables.{leased_in};
 
-use crate::search::key_of;
+use crate::arrays::write;
+use crate::chains::Chains;
+use crate::masks::Masks;
+use crate::search::{key_of, near};
+use crate::spot::{SPOTS, fragment_of, number_of, spot_of};
+use crate::targets_on::chain_of;
 use crate::{Lease, TargetsOn};
-use lrc_code::{Fault, Fragment, NodeNo, StripeNo};
+use lrc_code::{Fault, Fragment, LossMask, NodeNo, StripeNo};
 use slab::Slab;
 use std::alloc::Global;
 use std::marker::Model;
@@ -14,30 +21,45 @@ use std::marker::Model;
 #[derive(Drop)]
 pub struct Leases {
     slab: Slab<Lease>,
+    /// The key of each fragment's lease, as `near` shows it; what stands for a fragment without a lease means nothing.
+    keys: Vec<u16>,
+    /// The leases by the node of their target.
+    targets: Chains,
+    /// The fragments that have a lease.
+    masks: Masks,
     spare: u32,
 }
 
 impl Model for Leases {
     ghost use Rattle.lrc_leases.specs.Tables.{Table};
+    ghost use Rattle.std.specs.Prelude.{vec_capacity};
     ghost use Rattle.lrc_leases.specs.Kept.{leases_of, IsKept};
 
     ghost Value = { Table };
 
     ghost view = { λ t. record { leases = leases_of t.slab; spare = t.spare } };
 
-    ghost invariant = { λ t. IsKept t.slab t.spare };
+    ghost invariant = { λ t. IsKept t.slab t.keys.items (vec_capacity t.keys) t.targets t.masks t.spare };
 }
 
 #[tactic(auto, unfolding(crate::specs::Tables::leased_in))]
 impl Leases {
     /// No leases and no room for any.
-    pub fn new(alloc: Global) -> Leases
-        ensures { leased_in result ≡ empty }
+    ///
+    /// # Errors
+    ///
+    /// Only `Fault::OutOfMemory`.
+    pub fn new(alloc: Global) -> Result<Leases, Fault>
+        ensures value { IfOk result (λ leases. leased_in leases ≡ empty) }
+        ensures err { IfErr result (λ e. e ≡ OutOfMemory) }
     {
-        Leases {
+        Ok(Leases {
             slab: Slab::new(alloc),
+            keys: Vec::with_capacity(alloc, SPOTS)?,
+            targets: Chains::new(alloc)?,
+            masks: Masks::new(alloc)?,
             spare: 0,
-        }
+        })
     }
 
     /// Makes room for so many more leases. Nothing else changes, and on `Err` nothing at all.
@@ -70,8 +92,15 @@ impl Leases {
         ensures value { result ≡ (leased_in self.now).leases stripe fragment.value }
         ensures own { IfSome result (λ lease. (lease.stripe ≡ stripe) × (lease.fragment ≡ fragment)) }
     {
-        let key = key_of(&self.slab, stripe, fragment)?;
+        let key = key_of(&self.slab, &self.keys, stripe, fragment)?;
         self.slab.get(key).copied()
+    }
+
+    /// The fragments of a stripe that have a lease.
+    pub fn leased(&self, stripe: StripeNo) -> LossMask
+        ensures { (f : ℕ) → bits_set result.bits f ≡ leased_at (leased_in self.now) stripe f }
+    {
+        self.masks.mask(stripe)
     }
 
     /// Adds the lease of a fragment that has none, in room that there is for it.
@@ -80,7 +109,14 @@ impl Leases {
         requires room { 1 ≤ (leased_in self.old).spare }
         ensures { leased_in self.new ≡ with_lease (leased_in self.old) lease }
     {
-        self.slab.insert_reserved(lease);
+        let spot = spot_of(lease.stripe, lease.fragment);
+        let key = self.slab.insert_reserved(lease);
+        write(&mut self.keys, spot, near(key), 0);
+        self.targets.add(
+            chain_of(lease.target.node),
+            number_of(lease.stripe, lease.fragment),
+        );
+        self.masks.add(lease.stripe, lease.fragment);
         self.spare -= 1;
     }
 
@@ -91,14 +127,38 @@ impl Leases {
         ensures spare { (leased_in self.old).spare ≤ (leased_in self.new).spare }
         ensures none { IfNone result (leased_in self.new ≡ leased_in self.old) }
     {
-        let key = key_of(&self.slab, stripe, fragment)?;
-        self.slab.try_remove(key)
+        let key = key_of(&self.slab, &self.keys, stripe, fragment)?;
+        let lease = self.slab.remove(key);
+        self.targets
+            .remove(chain_of(lease.target.node), number_of(stripe, fragment));
+        self.masks.remove(stripe, fragment);
+        Some(lease)
     }
 
     /// The leases whose target is on a node, in no order of their own.
     pub fn targets_on(&self, node: NodeNo) -> TargetsOn<'_>
         ensures { AreTargetsOn (leased_in self.now) node result }
     {
-        TargetsOn::new(&self.slab, node)
+        TargetsOn::new(self, self.targets.walk(chain_of(node)), node)
+    }
+
+    /// The lease with this number, if its target is on a node.
+    pub(crate) fn target(&self, number: usize, node: NodeNo) -> Option<Lease>
+        ensures { result ≡ target_at self.now.leases node number }
+    {
+        let lease = self.numbered(number)?;
+        if lease.target.node == node {
+            Some(lease)
+        } else {
+            None
+        }
+    }
+
+    /// The lease of the fragment with this number.
+    fn numbered(&self, number: usize) -> Option<Lease>
+        ensures { result ≡ numbered self.now.leases number }
+    {
+        let (stripe, fragment) = fragment_of(number)?;
+        self.lease(stripe, fragment)
     }
 }

@@ -1,12 +1,19 @@
 //! The live repair leases of a store: who may rebuild or move which fragment, and onto which seat.
 #![tactic(auto)]
 
+mod arrays;
+mod chains;
+mod grants;
 pub mod laws;
 mod lease;
 mod leases;
+mod masks;
 mod search;
+mod spot;
 mod targets_on;
+mod walk;
 
+pub use grants::Grants;
 pub use lease::Lease;
 pub use leases::Leases;
 pub use targets_on::TargetsOn;

@@ -1,15 +1,63 @@
-//! The look-up in the slab.
+//! The look-up of a lease.
 
 ghost use Rattle.std.specs.Prelude.{◌≡◌, IfSome, IfNone};
-ghost use Rattle.lrc_leases.specs.Kept.{HasAt, HasNone};
+ghost use Rattle.slab.specs.Slab.{get};
+ghost use Rattle.lrc_leases.specs.Kept.{HasAt, HasNone, AreAt, near, is_lease_of};
 ghost use Rattle.lrc_leases.specs.Leased.{is_of};
 
 use crate::Lease;
+use crate::arrays::value_at;
+use crate::spot::spot_of;
 use lrc_code::{Fragment, StripeNo};
 use slab::Slab;
 
-/// The key of the fragment's lease, if there is one.
-pub(crate) fn key_of(slab: &Slab<Lease>, stripe: StripeNo, fragment: Fragment) -> Option<usize>
+/// Stands for every key from here on.
+const FAR: u16 = u16::MAX;
+
+/// A key in sixteen bits, or `FAR`: no more leases can be live than there are such keys, but a slab doesn't promise low
+/// ones.
+pub(crate) fn near(key: usize) -> u16
+    ensures { result ≡ near key }
+{
+    if key < FAR as usize { key as u16 } else { FAR }
+}
+
+/// The key of the fragment's lease, if there is one. A fragment without a lease may have any number among the keys, so
+/// what stands under the key is looked at.
+pub(crate) fn key_of(
+    slab: &Slab<Lease>,
+    keys: &Vec<u16>,
+    stripe: StripeNo,
+    fragment: Fragment,
+) -> Option<usize>
+    requires { AreAt slab.now keys.now.items }
+    ensures found { IfSome result (λ key. HasAt slab.now key stripe fragment.value) }
+    ensures none { IfNone result (HasNone slab.now stripe fragment.value) }
+{
+    let near = value_at(keys, spot_of(stripe, fragment), 0);
+    if near == FAR {
+        return search(slab, stripe, fragment);
+    }
+    let key = near as usize;
+    if has_at(slab, key, stripe, fragment) {
+        Some(key)
+    } else {
+        None
+    }
+}
+
+/// Whether the fragment's lease stands under a key.
+fn has_at(slab: &Slab<Lease>, key: usize, stripe: StripeNo, fragment: Fragment) -> bool
+    ensures { result ≡ is_lease_of stripe fragment.value (get slab.now key) }
+{
+    match slab.get(key) {
+        Some(lease) => is_of(lease, stripe, fragment),
+        None => false,
+    }
+}
+
+/// The same as `key_of`, by a look at each lease.
+fn search(slab: &Slab<Lease>, stripe: StripeNo, fragment: Fragment) -> Option<usize>
     ensures found { IfSome result (λ key. HasAt slab.now key stripe fragment.value) }
     ensures none { IfNone result (HasNone slab.now stripe fragment.value) }
 {

@@ -1,37 +1,47 @@
-ghost use Rattle.std.specs.Prelude.{◌≡◌, List, filter};
+ghost use Rattle.std.specs.Prelude.{◌≡◌, ◌<◌, List, filter_map};
 ghost use Rattle.std.specs.Iterator.{YieldsFirst, item_count};
-ghost use Rattle.lrc_leases.specs.Leased.{is_target_on};
-ghost use Rattle.lrc_leases.specs.Kept.{leases_of};
+ghost use Rattle.lrc_leases.specs.Kept.{chain_of, target_at};
 
-use crate::Lease;
+use crate::chains::CHAINS;
+use crate::walk::Walk;
+use crate::{Lease, Leases};
 use lrc_code::NodeNo;
-use slab::Slab;
 use std::marker::Model;
+
+/// The chain of the leases whose target is on a node. Nodes whose numbers are 512 apart share one.
+pub(crate) fn chain_of(node: NodeNo) -> usize
+    ensures value { result ≡ chain_of node }
+    ensures low { result < 512 }
+{
+    usize::from(node.value) % CHAINS
+}
 
 /// The leases whose target is on one node.
 #[derive(Drop)]
 pub struct TargetsOn<'a> {
-    entries: slab::Iter<'a, Lease>,
+    leases: &'a Leases,
+    numbers: Walk<'a>,
     node: NodeNo,
 }
 
 impl<'a> Model for TargetsOn<'a> {
-    ghost use Rattle.std.specs.Prelude.{List, map, filter};
+    ghost use Rattle.std.specs.Prelude.{List, filter_map};
     ghost use Rattle.lrc_leases.specs.declared.lease.Lease.{Lease as OneLease};
-    ghost use Rattle.lrc_leases.specs.Leased.{is_target_on};
+    ghost use Rattle.lrc_leases.specs.Kept.{target_at};
 
     ghost Value = { List OneLease };
 
-    ghost view = { λ w. filter (is_target_on w.node) (map (λ e. e.1) w.entries) };
+    ghost view = { λ w. filter_map (target_at w.leases.now.leases w.node) w.numbers };
 }
 
 impl<'a> TargetsOn<'a> {
-    /// Those of the leases in the slab.
-    pub(crate) fn new(slab: &'a Slab<Lease>, node: NodeNo) -> TargetsOn<'a>
-        ensures { result ≡ filter (is_target_on node) (leases_of slab.now) }
+    /// Those of the leases with these numbers.
+    pub(crate) fn new(leases: &'a Leases, numbers: Walk<'a>, node: NodeNo) -> TargetsOn<'a>
+        ensures { result ≡ filter_map (target_at leases.now.leases node) numbers.entry }
     {
         TargetsOn {
-            entries: slab.iter(),
+            leases,
+            numbers,
             node,
         }
     }
@@ -47,9 +57,9 @@ impl<'a> Iterator for TargetsOn<'a> {
     ghost remaining = { item_count (λ (leases : List OneLease). leases) };
 
     fn next(&mut self) -> Option<Lease> {
-        while let Some((_, lease)) = self.entries.next() {
-            if lease.target.node == self.node {
-                return Some(*lease);
+        while let Some(number) = self.numbers.next() {
+            if let Some(lease) = self.leases.target(number, self.node) {
+                return Some(lease);
             }
         }
         None

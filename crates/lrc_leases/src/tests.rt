@@ -1,4 +1,4 @@
-use crate::{Lease, Leases};
+use crate::{Grants, Lease, Leases};
 use lrc_code::{Fragment, NodeNo, SessionNo, StripeNo};
 use lrc_topology::Seat;
 use std::alloc::Global;
@@ -27,7 +27,7 @@ fn add(rt: &impl Abort, leases: &mut Leases, lease: Lease) {
 
 /// Leases of fragments 3, 4 and 9, the first and the last with targets on node 17.
 fn three(rt: &impl Abort, alloc: Global) -> Result<Leases, Fail> {
-    let mut leases = Leases::new(alloc);
+    let mut leases = Leases::new(alloc)?;
     leases.reserve(3)?;
     add(rt, &mut leases, lease(3, 17, 0).ok_or("fragment 3")?);
     add(rt, &mut leases, lease(4, 16, 2).ok_or("fragment 4")?);
@@ -58,6 +58,21 @@ fn a_removed_lease_is_answered_once(rt: HostRuntime) -> Result<(), Fail> {
 }
 
 #[test]
+fn the_leased_fragments_of_a_stripe_are_a_mask(rt: HostRuntime) -> Result<(), Fail> {
+    let mut leases = three(&rt, rt.alloc())?;
+    let fourth = lease(4, 16, 2).ok_or("fragment 4")?;
+    let other = StripeNo::new(2).ok_or("stripe 2")?;
+    let before = leases.leased(fourth.stripe).bits();
+    let _fourth = leases.remove(fourth.stripe, fourth.fragment);
+    let after = leases.leased(fourth.stripe).bits();
+    assert_eq!(rt;
+        [before, after, leases.leased(other).bits()],
+        [0x0218, 0x0208, 0]
+    );
+    Ok(())
+}
+
+#[test]
 fn targets_on_a_node_are_given_each_once(rt: HostRuntime) -> Result<(), Fail> {
     let leases = three(&rt, rt.alloc())?;
     let mut slots = Vec::new(rt.alloc());
@@ -66,5 +81,38 @@ fn targets_on_a_node_are_given_each_once(rt: HostRuntime) -> Result<(), Fail> {
     }
     assert_eq!(rt; slots.len(), 2);
     assert!(rt; slots.contains(&0) && slots.contains(&1));
+    Ok(())
+}
+
+#[test]
+fn a_lease_that_is_gone_is_on_no_node(rt: HostRuntime) -> Result<(), Fail> {
+    let mut leases = three(&rt, rt.alloc())?;
+    let third = lease(3, 17, 0).ok_or("fragment 3")?;
+    let _third = leases.remove(third.stripe, third.fragment);
+    let mut fragments = Vec::new(rt.alloc());
+    for lease in leases.targets_on(NodeNo { value: 17 }) {
+        fragments.push(lease.fragment.get())?;
+    }
+    assert!(rt; fragments.as_slice() == [9].as_slice());
+    Ok(())
+}
+
+/// Counts one more grant.
+fn grant(rt: &impl Abort, grants: &mut Grants, stripe: StripeNo, fragment: Fragment) {
+    assert!(rt; grants.count(stripe, fragment) < u32::MAX);
+    grants.add(stripe, fragment);
+}
+
+#[test]
+fn grants_are_counted_for_each_fragment_of_each_stripe_number(rt: HostRuntime) -> Result<(), Fail> {
+    let mut grants = Grants::new(rt.alloc())?;
+    let last = StripeNo::new(4095).ok_or("stripe 4095")?;
+    let other = StripeNo::new(4094).ok_or("stripe 4094")?;
+    let fragment = Fragment::new(15).ok_or("fragment 15")?;
+    grant(&rt, &mut grants, last, fragment);
+    grant(&rt, &mut grants, last, fragment);
+    grant(&rt, &mut grants, other, fragment);
+    assert_eq!(rt; grants.count(last, fragment), 2);
+    assert_eq!(rt; grants.count(other, fragment), 1);
     Ok(())
 }

@@ -1,23 +1,44 @@
-use Rattle.std.proofs.Common.{◌≡◌, ◌≤◌, None, arith}
-use Rattle.lrc_leases.specs.Leased.{leases_in}
+use Rattle.std.proofs.Common.{◌≡◌, ◌-◌, ◌≤◌, None, arith, refl, sym, ◌∙◌, subst}
+use Rattle.lrc_leases.specs.Leased.{leases_in, leased_of, with_lease}
+use Rattle.lrc_leases.specs.Masks.{AreMasks}
+use Rattle.lrc_leases.proofs.MaskLemmas.{masks-with}
 use Rattle.lrc_leases.specs.Tables.{leased_in}
 use Rattle.lrc_leases.specs.Kept.{leases_of}
-use Rattle.lrc_leases.proofs.SlabLemmas.{single-insert, leased-insert}
+use Rattle.lrc_leases.proofs.SlabLemmas.{single-insert, at-insert, leased-insert}
+use Rattle.lrc_leases.proofs.TargetLemmas.{fresh-number, listed-insert}
 use Rattle.lrc_leases.proofs.leases.Leases.add.Goals as goal
+
+pub add-requires-clause-fresh : goal.add-requires-clause-fresh
+unfolding leased_in
+add-requires-clause-fresh c =
+    let none : leases_in (leases_of c.self.inside.slab) c.args.lease.stripe c.args.lease.fragment.value ≡ None = rw (← c.self.view_is) at c.requires.absent in
+    rw c.number_of.ensures.value (fresh-number c.self.inside.slab c.self.inside.targets c.args.lease c.self.invariant.targets_are none)
 
 pub invariant_of-self : goal.invariant_of-self
 unfolding leased_in
 invariant_of-self c =
     let none : leases_in (leases_of c.self.inside.slab) c.args.lease.stripe c.args.lease.fragment.value ≡ None = rw (← c.self.view_is) at c.requires.absent in
     let room : 1 ≤ c.self.inside.spare = rw (← c.self.view_is) at c.requires.room in
+    let insert = c.insert_reserved-key in
+    let masks = c.add-2 in
+    let before = leased_of (leases_of c.self.inside.slab) c.self.inside.spare in
+    let live : leased_of (leases_of insert.new.self) (c.self.inside.spare - 1) ≡ with_lease before c.args.lease =
+    leased-insert c.self.inside.slab insert.new.self insert.result c.args.lease c.self.invariant.single insert.ensures.updates insert.ensures.was_vacant none c.self.inside.spare in
     record {
-      single = single-insert c.self.inside.slab c.insert_reserved.new.self c.insert_reserved.result c.args.lease c.self.invariant.single c.insert_reserved.ensures.updates c.insert_reserved.ensures.was_vacant none;
-      room = omega (arith, c.insert_reserved.ensures.len, c.insert_reserved.ensures.capacity, c.self.invariant.room, room);
+      single = single-insert c.self.inside.slab insert.new.self insert.result c.args.lease c.self.invariant.single insert.ensures.updates insert.ensures.was_vacant none;
+      at = at-insert c.self.inside.slab insert.new.self insert.result c.args.lease c.self.invariant.single insert.ensures.updates insert.ensures.was_vacant none
+          c.self.inside.keys.items c.write.new.values.items c.self.invariant.at (λ i. c.write.ensures.value i ∙ rw (c.spot_of-spot.ensures.value, c.near.ensures) refl);
+      long = omega (arith, c.write.ensures.capacity, c.self.invariant.long);
+      targets_are = listed-insert c.self.inside.slab insert.new.self insert.result c.args.lease insert.ensures.updates insert.ensures.was_vacant
+          c.self.inside.targets c.add.new.self c.self.invariant.targets_are (λ d. c.add.ensures d ∙ rw (c.chain_of.ensures.value, c.number_of.ensures.value) refl);
+      marked = subst (AreMasks masks.new.self) (sym live) (masks-with c.self.inside.masks masks.new.self before c.self.invariant.marked c.args.lease masks.ensures);
+      room = omega (arith, insert.ensures.len, insert.ensures.capacity, c.self.invariant.room, room);
     }
 
 pub returns : goal.returns
 unfolding leased_in
 returns c =
     let none : leases_in (leases_of c.self.inside.slab) c.args.lease.stripe c.args.lease.fragment.value ≡ None = rw (← c.self.view_is) at c.requires.absent in
+    let insert = c.insert_reserved-key in
     rw (← c.self.view_is)
-    (leased-insert c.self.inside.slab c.insert_reserved.new.self c.insert_reserved.result c.args.lease c.self.invariant.single c.insert_reserved.ensures.updates c.insert_reserved.ensures.was_vacant none c.self.inside.spare)
+    (leased-insert c.self.inside.slab insert.new.self insert.result c.args.lease c.self.invariant.single insert.ensures.updates insert.ensures.was_vacant none c.self.inside.spare)

@@ -1,0 +1,38 @@
+use Rattle.std.proofs.Common.{refl, arith}
+use Rattle.lrc_leases.specs.Chains.{ChainTable}
+use Rattle.lrc_leases.proofs.ChainLemmas.{after-low, before-low, chained-less, walked-less}
+use Rattle.lrc_leases.proofs.chains.Chains.remove.Goals as goal
+
+pub write-requires-2 : goal.write-requires-2
+write-requires-2 c =
+    let t : ChainTable = record { firsts = c.self.inside.firsts.items; after = c.self.inside.after.items; before = c.self.inside.before.items } in
+    omega (arith, c.value_at-before.ensures, before-low t c.self.invariant.chained c.args.chain c.args.number (rw (← c.self.view_is) at c.requires.there), c.self.invariant.after_fit)
+
+pub write-requires-3 : goal.write-requires-3
+write-requires-3 c =
+    let t : ChainTable = record { firsts = c.self.inside.firsts.items; after = c.self.inside.after.items; before = c.self.inside.before.items } in
+    omega (arith, c.value_at-after.ensures, after-low t c.self.invariant.chained c.args.chain c.args.number (rw (← c.self.view_is) at c.requires.there), c.self.invariant.before_fit)
+
+pub invariant_of-self : goal.invariant_of-self
+invariant_of-self c =
+    let t : ChainTable = record { firsts = c.self.inside.firsts.items; after = c.self.inside.after.items; before = c.self.inside.before.items } in
+    let next : ChainTable = record { firsts = c.write.new.values.items; after = c.write-2.new.values.items; before = c.write-3.new.values.items } in
+    record {
+      chained = chained-less t next c.args.chain c.args.number c.self.invariant.chained (rw (← c.self.view_is) at c.requires.there)
+          (λ i. rw (c.write.ensures.value i, c.first_without.ensures, c.value_at-first.ensures, c.value_at-after.ensures) refl)
+          (λ i. rw (c.write-2.ensures.value i, c.value_at-before.ensures, c.value_at-after.ensures) refl)
+          (λ i. rw (c.write-3.ensures.value i, c.value_at-after.ensures, c.value_at-before.ensures) refl);
+      firsts_fit = omega (arith, c.write.ensures.capacity, c.self.invariant.firsts_fit);
+      after_fit = omega (arith, c.write-2.ensures.capacity, c.self.invariant.after_fit);
+      before_fit = omega (arith, c.write-3.ensures.capacity, c.self.invariant.before_fit);
+    }
+
+pub returns : goal.returns
+returns c =
+    let t : ChainTable = record { firsts = c.self.inside.firsts.items; after = c.self.inside.after.items; before = c.self.inside.before.items } in
+    let next : ChainTable = record { firsts = c.write.new.values.items; after = c.write-2.new.values.items; before = c.write-3.new.values.items } in
+    rw (← c.self.view_is)
+    (walked-less t next c.args.chain c.args.number c.self.invariant.chained (rw (← c.self.view_is) at c.requires.there)
+    (λ i. rw (c.write.ensures.value i, c.first_without.ensures, c.value_at-first.ensures, c.value_at-after.ensures) refl)
+    (λ i. rw (c.write-2.ensures.value i, c.value_at-before.ensures, c.value_at-after.ensures) refl)
+    (λ i. rw (c.write-3.ensures.value i, c.value_at-after.ensures, c.value_at-before.ensures) refl))
