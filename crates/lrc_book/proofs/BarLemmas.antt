@@ -1,9 +1,8 @@
 -- The domains that are barred for a fragment, filled seat by seat.
-use Rattle.std.proofs.Common.{◌≡◌, ◌≢◌, ℕ, ◌+◌, ◌<◌, Bool, true, false, ◌||◌, ◌↔◌, inl, inr, List, [], ◌∷◌, ◌++◌, map, length, take, get_or, refl, sym, ap, ap₂, ◌∙◌}
+use Rattle.std.proofs.Common.{◌≡◌, ◌≢◌, ℕ, ◌+◌, ◌<◌, Bool, true, false, eqb, ◌&&◌, ◌||◌, Option, Some, None, option_and_then, ◌↔◌, inl, inr, List, [], ◌∷◌, ◌++◌, map, length, take, get_or, refl, sym, ap, ap₂, ◌∙◌}
 use Rattle.std.proofs.Math.Path.{fun_ext}
 use Rattle.std.specs.List.{All, Contains, list_any}
 use Rattle.std.proofs.lemmas.Bool.{eq-eqb, ne_eqb, cases_Bool, and_parts, false_from_ne_true}
-use Rattle.std.proofs.lemmas.List.{take_more}
 use Rattle.std.proofs.lemmas.List.Elements.{All-nil, All-cons, All-head, All-tail, All-weaker, All-contains, Contains-append_left, Contains-append_right, Contains-append_cases}
 use Rattle.std.proofs.lemmas.List.Folds.{list_any-append}
 use Rattle.lrc_code.specs.declared.codes.Code.{Code}
@@ -11,17 +10,21 @@ use Rattle.lrc_code.specs.declared.numbers.StripeNo.{StripeNo}
 use Rattle.lrc_code.specs.declared.numbers.FaultNo.{FaultNo}
 use Rattle.lrc_code.specs.declared.numbers.UpgradeNo.{UpgradeNo}
 use Rattle.lrc_code.specs.declared.numbers.Fragment.{Fragment}
-use Rattle.lrc_code.specs.Codes.{fragments}
+use Rattle.lrc_code.specs.Codes.{fragments, share_class}
+use Rattle.lrc_code.specs.Numbers.{same_fault, same_upgrade}
+use Rattle.lrc_code.specs.declared.codes.Code.TheVariants.{Wide}
+use Rattle.lrc_topology.specs.Nodes.{node_at}
 use Rattle.lrc_code.proofs.NumbersLemmas.{equal_fragments}
 use Rattle.lrc_topology.specs.declared.NodeInfo.{NodeInfo}
 use Rattle.lrc_topology.specs.declared.seat.Seat.{Seat}
 use Rattle.lrc_topology.specs.declared.seat.Held.{Held}
-use Rattle.lrc_slots.specs.Barred.{Barred, no_bars}
+use Rattle.lrc_slots.specs.Barred.{Barred}
 use Rattle.lrc_book.specs.States.{State, has_stripe, held_by, seats_of}
 use Rattle.lrc_book.specs.Changes.{held_at}
 use Rattle.lrc_book.specs.Goodness.{AreSeated}
 use Rattle.lrc_book.specs.Ties.{with_homes, bars_fault, bars_upgrade, bars_in}
-use Rattle.lrc_book.specs.Stores.{with_held}
+use Rattle.lrc_book.specs.Stores.{with_held, with_seat}
+use Rattle.lrc_book.specs.Planning.{with_node}
 use Rattle.lrc_book.specs.Placement.{is_beside}
 use Rattle.lrc_book.proofs.MemberLemmas.{list_any-member, member-list_any}
 use Rattle.lrc_book.proofs.ChoiceLemmas.{same_stripe}
@@ -29,12 +32,20 @@ use Rattle.lrc_book.proofs.SeatingLemmas.{fragments-distinct}
 use Rattle.lrc_book.proofs.SeatedLemmas.{not_there}
 use Rattle.lrc_book.proofs.TableLemmas.{pairs-before}
 
-or_none : (b : Bool) → b ≡ (b || false)
+pub or_none : (b : Bool) → b ≡ (b || false)
 or_none true = refl
 or_none false = refl
 
+or_nothing : (b c : Bool) → b ≡ (b || (c && false))
+or_nothing b true = or_none b
+or_nothing b false = or_none b
+
 pub same_bars : (b c : Barred) → ((d : FaultNo) → b.faults d ≡ c.faults d) → ((d : UpgradeNo) → b.upgrades d ≡ c.upgrades d) → b ≡ c
 same_bars b c e f = ap₂ (λ g h. record { faults = g; upgrades = h }) (fun_ext e) (fun_ext f)
+
+-- a test of a list with one element more
+pub or_last : {X : Type 0} (test : X → Bool) (xs : List X) (h : X) → (list_any test xs || test h) ≡ list_any test (xs ++ h ∷ [])
+or_last test xs h = ap (λ b. list_any test xs || b) (or_none (test h)) ∙ sym (list_any-append test xs (h ∷ []))
 
 -- a test that the members of two lists pass alike
 any-members : {X : Type 0} (test : X → Bool) (xs ys : List X) → ((x : X) → Contains xs x → test x ≡ true → Contains ys x) → ((y : X) → Contains ys y → test y ≡ true → Contains xs y) → list_any test xs ≡ list_any test ys
@@ -48,26 +59,43 @@ any-members test xs ys down up = elim (cases_Bool (list_any test ys)) [
 
 -- ---- what one seat bars
 
-module _ (nodes : List NodeInfo) (code : Code) (s : StripeNo) (f : Fragment) (b : Barred) (h : Held) where
-  -- a seat of the fragment itself, or of another stripe, bars nothing
-  pub held-other : is_beside s f h ≡ false → b ≡ with_held nodes code s f b h
-  held-other e = same_bars b (with_held nodes code s f b h) (λ d. rw e (or_none (b.faults d))) (λ d. rw e (or_none (b.upgrades d)))
+pub node-faults : (one : Bool) (b : Barred) (n : NodeInfo) (d : FaultNo) → (with_node one b n).faults d ≡ (b.faults d || same_fault d n.fault)
+node-faults true b n d = refl
+node-faults false b n d = refl
+
+pub node-upgrades : (one : Bool) (b : Barred) (n : NodeInfo) (d : UpgradeNo)
+    → (with_node one b n).upgrades d ≡ (b.upgrades d || (one && same_upgrade d n.upgrade))
+node-upgrades true b n d = refl
+node-upgrades false b n d = or_none (b.upgrades d)
+
+module _ (nodes : List NodeInfo) (s : StripeNo) (f g : Fragment) (b : Barred) where
+  -- a seat of the fragment itself bars nothing
+  pub seat-own : (o : Option Seat) → eqb g.value f.value ≡ true → b ≡ with_seat nodes s f b g o
+  seat-own None own = refl
+  seat-own (Some seat) own = same_bars b (with_seat nodes s f b g (Some seat))
+      (λ d. rw (eq-eqb s.value s.value refl, own) (or_none (b.faults d)))
+      (λ d. rw (eq-eqb s.value s.value refl, own) (or_none (b.upgrades d)))
+
+  -- a seat of another fragment bars the domains of its node
+  pub seat-barred : (o : Option Seat) (n : NodeInfo) → option_and_then (λ (x : Seat). node_at nodes x.node) o ≡ Some n → eqb g.value f.value ≡ false
+      → with_node (share_class Wide f g) b n ≡ with_seat nodes s f b g o
+  seat-barred None n found other = absurd cc
+  seat-barred (Some seat) n found other = same_bars (with_node (share_class Wide f g) b n) (with_seat nodes s f b g (Some seat))
+      (λ d. rw (eq-eqb s.value s.value refl, other, found) (node-faults (share_class Wide f g) b n d))
+      (λ d. rw (eq-eqb s.value s.value refl, other, found) (node-upgrades (share_class Wide f g) b n d))
+
+  -- and none, where the store has no such node
+  pub seat-nowhere : (o : Option Seat) → option_and_then (λ (x : Seat). node_at nodes x.node) o ≡ None → b ≡ with_seat nodes s f b g o
+  seat-nowhere None gone = refl
+  seat-nowhere (Some seat) gone = same_bars b (with_seat nodes s f b g (Some seat))
+      (λ d. rw gone (or_nothing (b.faults d) (is_beside s f (record { stripe = s; fragment = g; seat = seat }))))
+      (λ d. rw gone (or_nothing (b.upgrades d) (is_beside s f (record { stripe = s; fragment = g; seat = seat }))))
 
 -- ---- what several seats bar
 
 module _ (nodes : List NodeInfo) (code : Code) (s : StripeNo) (f : Fragment) where
-  pub bars_in-nil : no_bars ≡ bars_in nodes code s f []
-  bars_in-nil = refl
-
-  or_last : (test : Held → Bool) (xs : List Held) (h : Held) → (list_any test xs || test h) ≡ list_any test (xs ++ h ∷ [])
-  or_last test xs h = ap (λ b. list_any test xs || b) (or_none (test h)) ∙ sym (list_any-append test xs (h ∷ []))
-
   pub bars_in-push : (xs : List Held) (h : Held) → with_held nodes code s f (bars_in nodes code s f xs) h ≡ bars_in nodes code s f (xs ++ h ∷ [])
   bars_in-push xs h = same_bars _ (bars_in nodes code s f (xs ++ h ∷ [])) (λ d. or_last (bars_fault nodes s f d) xs h) (λ d. or_last (bars_upgrade nodes code s f d) xs h)
-
-  -- one seat more of a list that is gone through
-  pub bars_in-more : (xs : List Held) (i : ℕ) (d : Held) → i < length xs → with_held nodes code s f (bars_in nodes code s f (take i xs)) (get_or xs i d) ≡ bars_in nodes code s f (take (i + 1) xs)
-  bars_in-more xs i d within = bars_in-push (take i xs) (get_or xs i d) ∙ ap (bars_in nodes code s f) (sym (take_more xs i d within))
 
   -- lists with the same seats of the stripe's other fragments bar the same
   pub bars_in-same : (xs ys : List Held) → ((h : Held) → is_beside s f h ≡ true → Contains xs h ↔ Contains ys h) → bars_in nodes code s f xs ≡ bars_in nodes code s f ys

@@ -1,8 +1,9 @@
 -- The seats of a stripe's fragments, gathered fragment by fragment: the home of each, and its lease's target.
-use Rattle.std.proofs.Common.{◌≡◌, ℕ, ◌+◌, ◌<◌, eqb, List, [], ◌∷◌, ◌++◌, map, length, take, get_or, Option, Some, None, option_map, refl, sym, ap, ◌∙◌, subst, inl, inr, append_assoc, append-nil}
+use Rattle.std.proofs.Common.{◌≡◌, ℕ, ◌+◌, ◌<◌, true, if◌then◌else◌, IsTrue, IsSome, eqb, List, [], ◌∷◌, ◌++◌, map, length, take, get_or, Option, Some, None, option_map, refl, sym, ap, ◌∙◌, subst, inl, inr, append_assoc, append-nil}
 use Rattle.std.specs.List.{Contains}
 use Rattle.std.proofs.lemmas.Bool.{eqb-true, and_parts}
-use Rattle.std.proofs.lemmas.List.{take_more}
+use Rattle.std.proofs.lemmas.List.{take_more, get_or-map}
+use Rattle.std.proofs.lemmas.Option.{same_Some}
 use Rattle.std.proofs.lemmas.List.Elements.{Contains-append_left, Contains-append_right, Contains-append_cases}
 use Rattle.lrc_code.specs.declared.codes.Code.TheVariants.{Wide}
 use Rattle.lrc_code.specs.declared.numbers.StripeNo.{StripeNo}
@@ -13,10 +14,11 @@ use Rattle.lrc_topology.specs.declared.NodeInfo.{NodeInfo}
 use Rattle.lrc_topology.specs.declared.seat.Seat.{Seat}
 use Rattle.lrc_topology.specs.declared.seat.Held.{Held}
 use Rattle.lrc_slots.specs.Barred.{Barred}
-use Rattle.lrc_stripes.specs.Levels.{home_of, homes_of}
+use Rattle.lrc_stripes.specs.Levels.{home_of, homes_of, homes_if}
+use Rattle.lrc_stripes.specs.Stored.{Stored, homes_shown}
 use Rattle.lrc_leases.specs.declared.lease.Lease.{Lease}
 use Rattle.lrc_leases.proofs.ListLemmas.{leases_in-own, leases_in-contains, contains-leases_in}
-use Rattle.lrc_book.specs.States.{State, held_by, seats_of, lease_of}
+use Rattle.lrc_book.specs.States.{State, has_stripe, held_by, seats_of, lease_of}
 use Rattle.lrc_book.specs.Goodness.{AreSeated}
 use Rattle.lrc_book.specs.Ties.{bars_in, bars_of}
 use Rattle.lrc_book.specs.Stores.{with_seat}
@@ -24,8 +26,26 @@ use Rattle.lrc_book.proofs.MemberLemmas.{Contains-here, Contains-cases, not-Cont
 use Rattle.lrc_book.proofs.TakenLemmas.{member-map}
 use Rattle.lrc_book.proofs.StoredLemmas.{found-home}
 use Rattle.lrc_book.proofs.ClearLemmas.{home-only}
-use Rattle.lrc_book.proofs.FragmentLemmas.{all-fragments}
+use Rattle.lrc_book.proofs.FragmentLemmas.{fragment-at, all-fragments}
 use Rattle.lrc_book.proofs.BarLemmas.{bars_in-push, bars_in-same}
+
+-- a stripe that is there has a list of its fragments' homes
+pub homes-some : (t : Stored) (s : StripeNo) → IsTrue (t.stripes s) → IsSome (homes_shown t s)
+unfolding homes_if
+homes-some t s there = rw there refl
+
+-- in which the home of each stands at its number
+pub home-listed : (st : State) (s : StripeNo) → has_stripe st s ≡ true
+    → (listed : List (Option Seat)) → Some listed ≡ homes_if (has_stripe st s) Wide (homes_of st.homes s)
+    → (f : Fragment) (none : Option Seat) → get_or listed f.value none ≡ homes_of st.homes s f.value
+unfolding homes_if
+home-listed st s there listed is f none =
+    let home = λ (g : Fragment). homes_of st.homes s g.value in
+    let all = map home (fragments Wide) in
+    ap (λ (xs : List (Option Seat)). get_or xs f.value none)
+    (same_Some listed all (is ∙ ap (λ b. if b then Some all else None) there))
+    ∙ get_or-map home (fragments Wide) f.value f none f.in_range
+    ∙ ap home (fragment-at f)
 
 -- a fragment's seat, if it has one
 abbrev pub held_if : StripeNo → Fragment → Option Seat → List Held

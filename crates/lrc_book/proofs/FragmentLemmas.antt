@@ -31,14 +31,17 @@ use Rattle.lrc_book.specs.Leases.{without_lease, without_home}
 use Rattle.lrc_book.proofs.StoredLemmas.{is_of}
 use Rattle.lrc_book.specs.Stores.{IsOf}
 
--- each fragment is one of the code's
-pub all-fragments : (f : Fragment) → Contains (fragments Wide) f
-all-fragments f =
-    let d : Fragment = f in
+-- each fragment stands at its number
+pub fragment-at : (f : Fragment) → get_or (fragments Wide) f.value f ≡ f
+fragment-at f =
     let numbers : map (λ (g : Fragment). g.value) (fragments Wide) ≡ range_with_len 0 16 = refl in
-    let number : (get_or (fragments Wide) f.value d).value ≡ f.value =
-    sym (get_or-map (λ (g : Fragment). g.value) (fragments Wide) f.value d 0 f.in_range) ∙ (ap (λ xs. get_or xs f.value 0) numbers ∙ (get_or-range_with_len 0 16 f.value 0 f.in_range ∙ zero-add f.value)) in
-    (f.value, f.in_range, equal_fragments (get_or (fragments Wide) f.value d) f number)
+    equal_fragments (get_or (fragments Wide) f.value f) f
+    (sym (get_or-map (λ (g : Fragment). g.value) (fragments Wide) f.value f 0 f.in_range)
+    ∙ (ap (λ xs. get_or xs f.value 0) numbers ∙ (get_or-range_with_len 0 16 f.value 0 f.in_range ∙ zero-add f.value)))
+
+-- and so is one of the code's
+pub all-fragments : (f : Fragment) → Contains (fragments Wide) f
+all-fragments f = (f.value, f.in_range, fragment-at f)
 
 -- ---- the loop
 

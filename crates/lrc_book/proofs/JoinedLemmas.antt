@@ -1,7 +1,7 @@
 -- No node is both gone and draining, and what is true of a node that joins.
 use Rattle.std.proofs.Common.{◌≡◌, ◌≢◌, ◌&&◌, inl, inr, Bool, true, false, not, nat_lt, is_none, eqb, List, [], ◌∷◌, fold, Option, Some, None, Result, Ok, Err, ℕ, refl, sym, ap, ◌∙◌, subst}
 use Rattle.std.specs.List.{All}
-use Rattle.std.proofs.lemmas.Bool.{cases_Bool, eqb-true}
+use Rattle.std.proofs.lemmas.Bool.{cases_Bool, eqb-true, eq-eqb}
 use Rattle.lrc_code.specs.declared.codes.Code.TheVariants.{Wide}
 use Rattle.lrc_code.specs.declared.numbers.StripeNo.{StripeNo}
 use Rattle.lrc_code.specs.declared.numbers.NodeNo.{NodeNo}
@@ -13,7 +13,7 @@ use Rattle.lrc_topology.specs.declared.NodeInfo.{NodeInfo}
 use Rattle.lrc_topology.specs.declared.seat.Seat.{Seat}
 use Rattle.lrc_topology.specs.Nodes.{AreNodes, node_at}
 use Rattle.lrc_leases.specs.declared.lease.Lease.{Lease as LeaseRecord}
-use Rattle.lrc_book.specs.declared.mode.Mode.TheVariants.{Active}
+use Rattle.lrc_book.specs.declared.mode.Mode.TheVariants.{Active, Draining}
 use Rattle.lrc_book.specs.declared.command.Command.{Command}
 use Rattle.lrc_book.specs.declared.command.Command.TheVariants.{Place, Drop, Lease, Next, Done, Abandon, Revoke, Fail, Down, Up, Drain, Undrain, Retire, Join, Upgrade, Upgraded}
 use Rattle.lrc_book.specs.declared.reply.Reply.TheVariants.{Dropped, Ended, Changed}
@@ -25,7 +25,7 @@ use Rattle.lrc_book.specs.Leases.{at_epoch, is_held_by, moved_in, done_answer, d
 use Rattle.lrc_book.specs.Steps.{with_stripe, place_answer, place_outcome, without_stripe, drop_outcome, emptied, with_gone, with_draining, without_draining, without_gone, fail_outcome, drain_outcome, undrain_outcome, retire_outcome, join_outcome, step}
 use Rattle.lrc_book.specs.Histories.{World, IsLegal, first_world, next_world, state_after}
 use Rattle.lrc_book.specs.Goodness.{AreSeated}
-use Rattle.lrc_book.proofs.MemberLemmas.{member-list_any, All-members}
+use Rattle.lrc_book.proofs.MemberLemmas.{list_any-member, member-list_any, All-members}
 use Rattle.lrc_book.proofs.OutcomeLemmas.{either-way}
 use Rattle.lrc_book.proofs.StepLemmas.{placed-grown}
 use Rattle.lrc_book.proofs.ModeLemmas.{left, left-apart, added-apart}
@@ -146,6 +146,20 @@ worlds-apart nodes w (e ∷ es) apart = worlds-apart nodes (next_world nodes w e
 
 state_after-apart : (nodes : List NodeInfo) (history : List Entry) → NoneBoth (state_after nodes history)
 state_after-apart nodes history = worlds-apart nodes first_world history (λ m gone. refl)
+
+-- so each that is noted as draining is
+pub all-draining : (nodes : List NodeInfo) (history : List Entry)
+    → All (λ (n : NodeNo). mode_of (state_after nodes history) n ≡ Draining) (state_after nodes history).draining
+all-draining nodes history =
+    let st = state_after nodes history in
+    All-members (λ (n : NodeNo). mode_of st n ≡ Draining) st.draining (λ n here.
+    let noted : has_number st.draining n ≡ true = list_any-member (same_node n) st.draining n here (eq-eqb n.value n.value refl) in
+    let there : has_number st.gone n ≡ false = not-both st n (state_after-apart nodes history) noted (has_number st.gone n) refl in
+    rw (there, noted) refl)
+  where
+    not-both : (st : State) (n : NodeNo) → NoneBoth st → has_number st.draining n ≡ true → (b : Bool) → has_number st.gone n ≡ b → b ≡ false
+    not-both st n apart noted false is = refl
+    not-both st n apart noted true is = absurd (never-both (has_number st.draining n) noted (apart n is))
 
 -- ---- a node that joins
 

@@ -20,11 +20,11 @@ use Rattle.lrc_book.specs.Stores.{repair_of}
 
 -- ---- Lease
 
-lost-by : (b : Bool) (k : Kind) → (if b then None else Some k) ≡ None → b ≡ true
+pub lost-by : (b : Bool) (k : Kind) → (if b then None else Some k) ≡ None → b ≡ true
 lost-by true k e = refl
 lost-by false k e = absurd (let never : Some k ≡ None = e in cc)
 
-able-by : (b : Bool) (k told : Kind) → (if b then None else Some k) ≡ Some told → (b ≡ false) × (k ≡ told)
+pub able-by : (b : Bool) (k told : Kind) → (if b then None else Some k) ≡ Some told → (b ≡ false) × (k ≡ told)
 able-by true k told e = absurd (let never : None ≡ Some told = e in cc)
 able-by false k told e = (refl, same_Some k told e)
 

@@ -67,7 +67,7 @@ from-suffices false Global suffices = absurd (let both : false ≡ true = suffic
 from-suffices false (Local sources) suffices = refl
 from-suffices false Move suffices = refl
 
-none-from : (o : Option LeaseRecord) → is_none o ≡ true → o ≡ None
+pub none-from : (o : Option LeaseRecord) → is_none o ≡ true → o ≡ None
 none-from None e = refl
 none-from (Some l) e = absurd (cc)
 

@@ -64,7 +64,7 @@ added-homes s (f ∷ fs) (x ∷ xs) distinct e =
     ap₂ (λ (o : Option Seat) (os : List (Option Seat)). o ∷ os) own (rest ∙ added-homes s fs xs (AllPairs-tail (λ f g. f ≢ g) f fs distinct) more)
 
 -- none of them is another stripe's
-none-added : (s r : StripeNo) (fs : List Fragment) (seats : List Seat) (n : ℕ) → r ≢ s → home_of (held_at s fs seats) r n ≡ None
+pub none-added : (s r : StripeNo) (fs : List Fragment) (seats : List Seat) (n : ℕ) → r ≢ s → home_of (held_at s fs seats) r n ≡ None
 none-added s r [] [] n other = refl
 none-added s r [] (x ∷ xs) n other = refl
 none-added s r (f ∷ fs) [] n other = refl
@@ -74,7 +74,7 @@ after-none : (o p : Option Held) → o ≡ None → option_or o p ≡ p
 after-none None p none = refl
 after-none (Some h) p none = absurd (cc)
 
-before-none : (o p : Option Held) → p ≡ None → option_or o p ≡ o
+pub before-none : (o p : Option Held) → p ≡ None → option_or o p ≡ o
 before-none None p none = none
 before-none (Some h) p none = refl
 

@@ -1,36 +1,26 @@
 -- From what a fragment is rebuilt, told by the mask of the missing fragments.
-use Rattle.std.proofs.Common.{◌≡◌, ℕ, ◌≤◌, Bool, true, false, not, ◌&&◌, if◌then◌else◌, nat_lt, eqb, lt-ltb, List, Option, Some, None, option_map, IsSomeAnd, refl, sym, ap, ap₂, ◌∙◌, subst, inl, inr, arith}
+use Rattle.std.proofs.Common.{◌≡◌, ℕ, ◌≤◌, Bool, true, false, not, ◌&&◌, if◌then◌else◌, nat_lt, eqb, lt-ltb, List, Option, Some, None, IsTrue, IsSome, refl, sym, ap, ◌∙◌, inl, inr, arith}
 use Rattle.std.specs.Option.{option_map_or}
 use Rattle.std.proofs.Math.Path.{fun_ext}
 use Rattle.std.proofs.lemmas.Bool.{cases_Bool, ltb-true, ltb-false}
 use Rattle.std.proofs.lemmas.Nat.Bits.{bit_at_above}
 use Rattle.std.proofs.lemmas.Option.{same_Some}
-use Rattle.std.proofs.lemmas.List.Elements.{All-contains}
 use Rattle.lrc_code.specs.declared.codes.Code.TheVariants.{Wide}
 use Rattle.lrc_code.specs.declared.losses.LossMask.{LossMask}
 use Rattle.lrc_code.specs.declared.numbers.StripeNo.{StripeNo}
-use Rattle.lrc_code.specs.declared.numbers.NodeNo.{NodeNo}
 use Rattle.lrc_code.specs.declared.numbers.Fragment.{Fragment}
 use Rattle.lrc_code.specs.Codes.{others}
 use Rattle.lrc_code.specs.Losses.{FragmentSet, bits_set, bits_of, is_recoverable, is_local, local_sources}
 use Rattle.lrc_code.proofs.BitsLemmas.{bits_set-bits_of, bits_of-below}
 use Rattle.lrc_topology.specs.declared.NodeInfo.{NodeInfo}
 use Rattle.lrc_topology.specs.declared.seat.Seat.{Seat}
-use Rattle.lrc_topology.specs.declared.seat.Held.{Held}
-use Rattle.lrc_topology.specs.Nodes.{node_at}
-use Rattle.lrc_stripes.specs.Levels.{homes_of, missing_if}
+use Rattle.lrc_stripes.specs.Levels.{homes_of, needs_in, missing_if, needs_if}
+use Rattle.lrc_stripes.specs.Stored.{Stored, needs_shown}
 use Rattle.lrc_book.specs.declared.kind.Kind.{Kind}
 use Rattle.lrc_book.specs.declared.kind.Kind.TheVariants.{Local, Global, Move}
-use Rattle.lrc_stripes.specs.Tables.{stored_in}
-use Rattle.lrc_book.specs.declared.store.Store.{Store}
-use Rattle.lrc_book.specs.Goodness.{IsStanding}
-use Rattle.lrc_book.specs.States.{State, has_stripe, taken_seats, mode_of, is_draining, online_at, drains_at, missing}
+use Rattle.lrc_book.specs.States.{State, has_stripe, online_at, drains_at, missing}
 use Rattle.lrc_book.specs.Repairs.{kind, is_global, is_safe, is_at_home, needs}
-use Rattle.lrc_book.specs.Stores.{IsOf, repair_of}
-use Rattle.lrc_book.proofs.NodeLemmas.{member-node_at}
-use Rattle.lrc_book.proofs.StoredLemmas.{found-home}
-use Rattle.lrc_book.proofs.TakenLemmas.{home-seat}
-use Rattle.lrc_book.proofs.ClearLemmas.{home-kept}
+use Rattle.lrc_book.specs.Stores.{repair_of}
 
 -- what is answered by whether the fragment is at home
 unfoldable from-home : List NodeInfo → State → StripeNo → Fragment → Bool → Option Kind
@@ -47,6 +37,10 @@ pub repair-move : (nodes : List NodeInfo) (st : State) (s : StripeNo) (f : Fragm
     → repair_of nodes st s f ≡ Some Move
 unfolding kind from-home
 repair-move nodes st s f home = ap (from-home nodes st s f) home ∙ moved-by (is_safe nodes st s)
+
+not-twice : (b : Bool) → b ≡ not (not b)
+not-twice true = refl
+not-twice false = refl
 
 module _ (nodes : List NodeInfo) (st : State) (s : StripeNo) where
   -- the bits of the number are the missing fragments, also behind the last of these
@@ -66,6 +60,19 @@ module _ (nodes : List NodeInfo) (st : State) (s : StripeNo) where
     mask-set : bits_set mask.bits ≡ missing nodes st s
     mask-set =
         ap (λ (m : LossMask). bits_set m.bits) (same_Some mask (record { bits = bits_of Wide (missing nodes st s) }) mask-is) ∙ fun_ext bits-both
+
+    at_home-by : (o : Option Seat) → option_map_or (λ seat. online_at nodes st seat.node) o false
+        ≡ not (option_map_or (λ seat. not (online_at nodes st seat.node)) o true)
+    at_home-by None = refl
+    at_home-by (Some seat) = not-twice (online_at nodes st seat.node)
+
+    -- a fragment is at home where it is not missing
+    pub mask-home : (f : Fragment) → is_at_home nodes st s f ≡ not (bits_set mask.bits f.value)
+    mask-home f =
+        let home = homes_of st.homes s f.value in
+        at_home-by home
+        ∙ ap not (sym (ap (λ (m : FragmentSet). m f.value) mask-set
+        ∙ ap (λ b. b && option_map_or (λ seat. not (online_at nodes st seat.node)) home true) (lt-ltb f.value 16 f.in_range)))
 
     module _ (f : Fragment) (away : is_at_home nodes st s f ≡ false) where
       -- what is answered where the fragment is not at home
@@ -120,25 +127,18 @@ module _ (nodes : List NodeInfo) (st : State) (s : StripeNo) where
 
 -- ---- which fragments need a lease
 
-module _ (st : State) (k : Store) (kept : IsOf st k) (s : StripeNo) (f : Fragment) where
-  drains-by : (n : NodeNo) (o : Option NodeInfo) (P : NodeInfo → Type 0) → node_at k.topology n ≡ o → IsSomeAnd o P
-      → drains_at k.topology st n ≡ is_draining (mode_of st n)
-  drains-by n None P e some = absurd some
-  drains-by n (Some m) P e some =
-      ap (λ (o : Option NodeInfo). option_map_or (λ x. is_draining (mode_of st x.number)) o false) e
-      ∙ ap (λ (x : NodeNo). is_draining (mode_of st x)) (sym (member-node_at k.topology n m e).1)
+-- a stripe that is there has a mask of them
+pub needs-some : (t : Stored) (s : StripeNo) → IsTrue (t.stripes s) → IsSome (needs_shown t s)
+unfolding needs_if
+needs-some t s there = rw there refl
 
-  needs-by : (o : Option Seat) → homes_of st.homes s f.value ≡ o
-      → needs k.topology st s f ≡ option_map_or (λ seat. drains_at k.topology st seat.node) o true
-  needs-by o is =
-      ap₂ (λ (a : Bool) (p : Option Seat). a && option_map_or (λ seat. drains_at k.topology st seat.node) p true) (lt-ltb f.value 16 f.in_range) is
-
-  -- a fragment with a home needs one where the node is draining
-  pub needs-homed : (seat : Seat) → (stored_in k.stripes).homes s f.value ≡ Some seat → needs k.topology st s f ≡ is_draining (mode_of st seat.node)
-  needs-homed seat is =
-      let home = home-kept st k kept s f seat is in
-      let at = (found-home st s f.value home.0 home.1).0 in
-      let standing = All-contains (IsStanding k.topology st) (taken_seats st) home.0.seat kept.seated.standing (home-seat st home.0 at) in
-      needs-by (Some seat) (ap (option_map (λ (h : Held). h.seat)) home.1 ∙ ap (λ (a : Seat). Some a) home.2)
-      ∙ subst (λ (a : Seat). drains_at k.topology st a.node ≡ is_draining (mode_of st a.node)) home.2
-      (drains-by home.0.seat.node (node_at k.topology home.0.seat.node) _ refl standing)
+-- whose bits they are
+pub needs-set : (nodes : List NodeInfo) (st : State) (s : StripeNo) → has_stripe st s ≡ true
+    → (mask : LossMask) → Some mask ≡ needs_if (has_stripe st s) Wide (drains_at nodes st) (homes_of st.homes s)
+    → (f : Fragment) → bits_set mask.bits f.value ≡ needs nodes st s f
+unfolding needs_if
+needs-set nodes st s there mask is f =
+    let needed = needs_in Wide (drains_at nodes st) (homes_of st.homes s) in
+    let told : LossMask = record { bits = bits_of Wide needed } in
+    ap (λ (m : LossMask). bits_set m.bits f.value) (same_Some mask told (is ∙ ap (λ b. if b then Some told else None) there))
+    ∙ bits_set-bits_of Wide needed f.value f.in_range

@@ -7,7 +7,7 @@ use Rattle.lrc_book.specs.States.{State}
 use Rattle.lrc_book.specs.Histories.{World, first_world, outcome_in, next_world, world_after, state_after, IsLegalFrom, IsLegal}
 use Rattle.lrc_book.specs.Stores.{IsKept}
 use Rattle.lrc_book.specs.declared.store.Store.{Store}
-use Rattle.lrc_book.specs.Stores.{IsOf}
+use Rattle.lrc_book.specs.Stores.{IsOf, AreGrantsOf}
 use Rattle.lrc_book.specs.Changes.{changed_by}
 use Rattle.lrc_book.proofs.StepLemmas.{step-changed}
 
@@ -27,9 +27,10 @@ state_push nodes h e is =
     ap (λ (w : World). w.state) (world_push nodes h e) ∙ step-changed nodes (world_after nodes h).past (state_after nodes h) e.session e.command ∙ ap (changed_by (state_after nodes h) e.command) is
 
 -- a step that is made and recorded keeps what is kept
-pub kept_push : (k next : Store) (limit : ℕ) (h : List Entry) (e : Entry) → IsKept k limit h → length h < limit → (outcome_in k.topology (world_after k.topology h) e.session e.command).0 ≡ e.reply
-    → next.topology ≡ k.topology → IsOf (changed_by (state_after k.topology h) e.command e.reply) next → IsKept next limit (h ++ e ∷ [])
-kept_push k next limit h e kept room is same now = record {
+pub kept_push : (k next : Store) (counts counts_next : List ℕ) (limit : ℕ) (h : List Entry) (e : Entry) → IsKept k counts limit h → length h < limit → (outcome_in k.topology (world_after k.topology h) e.session e.command).0 ≡ e.reply
+    → next.topology ≡ k.topology → IsOf (changed_by (state_after k.topology h) e.command e.reply) next → AreGrantsOf (h ++ e ∷ []) counts_next → IsKept next counts_next limit (h ++ e ∷ [])
+kept_push k next counts counts_next limit h e kept room is same now counted = record {
+  counted = counted;
   store_is = subst (λ ns. IsOf (state_after ns (h ++ e ∷ [])) next) (sym same) (subst (λ (st : State). IsOf st next) (sym (state_push k.topology h e is)) now);
   legal = subst (λ ns. IsLegal ns (h ++ e ∷ [])) (sym same) (legal_push k.topology h e kept.legal is);
   few = rw (length-append h (e ∷ [])) (omega (arith, room));
@@ -37,10 +38,11 @@ kept_push k next limit h e kept room is same now = record {
 }
 
 -- and so does more room
-pub kept_room : (k next : Store) (limit : ℕ) (h same_h : List Entry) → IsKept k limit h → same_h ≡ h → next.topology ≡ k.topology → ((st : State) → IsOf st k → IsOf st next) → IsKept next limit same_h
-kept_room k next limit h same_h kept entries same rest =
-    subst (λ (xs : List Entry). IsKept next limit xs) (sym entries) (record {
+pub kept_room : (k next : Store) (counts : List ℕ) (limit : ℕ) (h same_h : List Entry) → IsKept k counts limit h → same_h ≡ h → next.topology ≡ k.topology → ((st : State) → IsOf st k → IsOf st next) → IsKept next counts limit same_h
+kept_room k next counts limit h same_h kept entries same rest =
+    subst (λ (xs : List Entry). IsKept next counts limit xs) (sym entries) (record {
       store_is = subst (λ ns. IsOf (state_after ns h) next) (sym same) (rest (state_after k.topology h) kept.store_is);
+      counted = kept.counted;
       legal = subst (λ ns. IsLegal ns h) (sym same) kept.legal;
       few = kept.few;
       limited = kept.limited;

@@ -5,7 +5,7 @@ use Rattle.lrc_code.specs.declared.fault.Fault.TheVariants.{OutOfMemory, History
 use Rattle.lrc_topology.specs.declared.NodeInfo.{NodeInfo}
 use Rattle.lrc_book.specs.declared.entry.Entry.{Entry}
 use Rattle.lrc_book.specs.States.{State}
-use Rattle.lrc_book.specs.Histories.{World, world_after, state_after}
+use Rattle.lrc_book.specs.Histories.{World, outcome_in, world_after, state_after}
 
 -- a book over these nodes, with at most so many entries; `ready`: it has room for one more command of any kind
 pub record BookView : Type 0 where
@@ -26,3 +26,7 @@ state_of b = state_after b.nodes b.history
 abbrev pub FaultFits : BookView → Fault → Type 0
 FaultFits b OutOfMemory = length b.history < b.limit
 FaultFits b HistoryFull = length b.history ≡ b.limit
+
+-- the entry is the next one of the book: its reply is what the step answers to its command after the history
+abbrev pub IsStep : BookView → Entry → Type 0
+IsStep b e = (outcome_in b.nodes (world_of b) e.session e.command).0 ≡ e.reply

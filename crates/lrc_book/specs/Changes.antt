@@ -18,8 +18,6 @@ use Rattle.lrc_leases.specs.Leased.{is_target_on}
 use Rattle.lrc_book.specs.States.{State, lease_of}
 use Rattle.lrc_code.specs.declared.numbers.SessionNo.{SessionNo}
 use Rattle.lrc_book.specs.declared.entry.Entry.{Entry}
-use Rattle.lrc_book.specs.Histories.{outcome_in}
-use Rattle.lrc_book.specs.Books.{BookView, world_of}
 use Rattle.lrc_book.specs.Leases.{with_lease, without_lease, moved_in}
 use Rattle.lrc_book.specs.Steps.{step, without_stripe, emptied, with_gone, with_down, without_down, with_draining, without_draining, without_gone, with_upgrading, without_upgrading}
 
@@ -66,7 +64,3 @@ pub record IsAnswer (nodes : List NodeInfo) (st : State) (c : Command) (r : Repl
   pub past : List Entry
   pub session : SessionNo
   pub told : (step nodes past st session c).0 ≡ r
-
--- the entry has the reply that its command gets after the book's history
-abbrev pub IsStep : BookView → Entry → Type 0
-IsStep b e = (outcome_in b.nodes (world_of b) e.session e.command).0 ≡ e.reply

@@ -1,11 +1,12 @@
--- Which commands can end a live lease, a home or a stripe, and what is left of a lease then.
+-- Which commands can end a live lease, a home or a stripe, or change the mode of a node, and what is left of a lease then.
 use Rattle.std.specs.Prelude.{◌≡◌, ◌≢◌, IsTrue, None}
 use Rattle.lrc_code.specs.declared.numbers.StripeNo.{StripeNo}
 use Rattle.lrc_code.specs.declared.numbers.Fragment.{Fragment}
+use Rattle.lrc_code.specs.declared.numbers.NodeNo.{NodeNo}
 use Rattle.lrc_topology.specs.declared.seat.Seat.{Seat}
 use Rattle.lrc_leases.specs.declared.lease.Lease.{Lease as LeaseRecord}
 use Rattle.lrc_book.specs.declared.command.Command.{Command}
-use Rattle.lrc_book.specs.declared.command.Command.TheVariants.{Done, Abandon, Revoke, Drop, Fail}
+use Rattle.lrc_book.specs.declared.command.Command.TheVariants.{Done, Abandon, Revoke, Drop, Fail, Down, Up, Drain, Undrain, Retire, Join}
 use Rattle.lrc_book.specs.States.{State, lease_of}
 use Rattle.lrc_book.specs.Steps.{hangs_on}
 
@@ -29,6 +30,17 @@ CanMove s f seat _ = ⊥
 abbrev pub IsDropOf : StripeNo → Command → Type 0
 IsDropOf s (Drop r) = s ≡ r
 IsDropOf s _ = ⊥
+
+-- the command is one on this node
+abbrev pub IsOnNode : NodeNo → Command → Type 0
+IsOnNode n (Fail m) = m ≡ n
+IsOnNode n (Down m) = m ≡ n
+IsOnNode n (Up m) = m ≡ n
+IsOnNode n (Drain m) = m ≡ n
+IsOnNode n (Undrain m) = m ≡ n
+IsOnNode n (Retire m) = m ≡ n
+IsOnNode n (Join m) = m ≡ n
+IsOnNode n _ = ⊥
 
 -- The second state is the first one, but that the fragment has no live lease: all others have those that they had.
 pub record IsWithoutLease (was : State) (s : StripeNo) (f : Fragment) (st : State) : Type 0 where

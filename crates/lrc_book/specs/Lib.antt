@@ -27,4 +27,8 @@ pub mod Endings
 pub mod Changes
 pub mod Ties
 pub mod Stores
+pub mod Planning
+pub mod Repairing
 pub mod Books
+pub mod Boards
+pub mod Touching

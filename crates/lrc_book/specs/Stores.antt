@@ -1,6 +1,6 @@
 -- Internal: no public clause reaches these definitions.
 -- What a book keeps of a state, and the room that it has.
-use Rattle.std.specs.Prelude.{◌≡◌, ◌≢◌, ◌+◌, ◌≤◌, ℕ, Bool, ◌&&◌, ◌||◌, true, if◌then◌else◌, nat_le, vec_len, vec_capacity, List, length, Option, Some, None, IsSome}
+use Rattle.std.specs.Prelude.{◌≡◌, ◌≢◌, ◌<◌, ◌≤◌, ℕ, Bool, ◌&&◌, ◌||◌, true, false, if◌then◌else◌, nat_le, List, length, get_or, Option, Some, None, IsSome}
 use Rattle.std.specs.List.{All, Contains}
 use Rattle.lrc_code.specs.declared.codes.Code.{Code}
 use Rattle.lrc_code.specs.declared.codes.Code.TheVariants.{Wide}
@@ -20,13 +20,15 @@ use Rattle.lrc_stripes.specs.Tables.{stored_in}
 use Rattle.lrc_leases.specs.declared.lease.Lease.{Lease}
 use Rattle.lrc_leases.specs.Leased.{leased_of}
 use Rattle.lrc_leases.specs.Tables.{leased_in}
+use Rattle.lrc_leases.specs.Granted.{granted_in}
 use Rattle.lrc_book.specs.declared.entry.Entry.{Entry}
 use Rattle.lrc_book.specs.declared.store.Store.{Store}
 use Rattle.lrc_book.specs.declared.modes.Modes.{Modes}
-use Rattle.lrc_book.specs.States.{State, has_stripe, lease_of, code_of, mode_of, is_draining, takes_seats, is_online, online_at, drains_at}
+use Rattle.lrc_book.specs.States.{State, has_stripe, lease_of, code_of, has_number, mode_of, is_draining, takes_seats, is_online, online_at, drains_at}
 use Rattle.lrc_book.specs.Placement.{chosen}
 use Rattle.lrc_book.specs.declared.kind.Kind.{Kind}
 use Rattle.lrc_book.specs.Repairs.{kind, is_beyond_repair}
+use Rattle.lrc_book.specs.Leases.{grants}
 use Rattle.lrc_book.specs.Histories.{state_after, IsLegal}
 use Rattle.lrc_book.specs.Goodness.{AreSeated}
 use Rattle.lrc_book.specs.Ties.{table_of, bars_fault, bars_upgrade}
@@ -44,11 +46,15 @@ stored_of nodes st spare =
       spare = spare;
     }
 
--- the lists of nodes and the upgrading domain are those of the state
+-- the node is one of a set, which is kept as a truth value for each number
+abbrev pub has_member : List Bool → NodeNo → Bool
+has_member set n = get_or set n.value false
+
+-- the sets of nodes and the upgrading domain are those of the state
 pub record AreModesOf (st : State) (m : Modes) : Type 0 where
-  pub gone_is : m.gone.items ≡ st.gone
-  pub draining_is : m.draining.items ≡ st.draining
-  pub down_is : m.down.items ≡ st.down
+  pub gone_are : (n : NodeNo) → has_member m.gone n ≡ has_number st.gone n
+  pub draining_are : (n : NodeNo) → has_member m.draining n ≡ has_number st.draining n
+  pub down_are : (n : NodeNo) → has_member m.down n ≡ has_number st.down n
   pub upgrading_is : m.upgrading ≡ st.upgrading
 
 -- what is kept is that of a state over these nodes, whose stripes are seated
@@ -98,16 +104,9 @@ pub record IsOfButIn (u : UpgradeNo) (was st : State) (s : Store) : Type 0 where
 abbrev pub IsTied : Store → Type 0
 IsTied s = (st : State) × IsOf st s
 
--- there is room for one more node that is gone, that is draining and that is down
-abbrev pub has_room_for_node : Modes → Bool
-has_room_for_node m =
-    nat_le (vec_len m.gone + 1) (vec_capacity m.gone)
-    && (nat_le (vec_len m.draining + 1) (vec_capacity m.draining) && nat_le (vec_len m.down + 1) (vec_capacity m.down))
-
 -- there is room for one more command of any kind
 abbrev pub has_room : Store → Bool
-has_room s =
-    nat_le 1 (stored_in s.stripes).spare && (nat_le 1 (leased_in s.leases).spare && has_room_for_node s.modes)
+has_room s = nat_le 1 (stored_in s.stripes).spare && nat_le 1 (leased_in s.leases).spare
 
 -- the stripe is there, the fragment has no home, and this seat is chosen for it
 pub record IsNextHome (nodes : List NodeInfo) (st : State) (s : StripeNo) (f : Fragment) (seat : Seat) : Type 0 where
@@ -135,9 +134,18 @@ abbrev pub with_seat : List NodeInfo → StripeNo → Fragment → Barred → Fr
 with_seat nodes s f b other None = b
 with_seat nodes s f b other (Some seat) = with_held nodes Wide s f b (record { stripe = s; fragment = other; seat = seat })
 
--- what a book keeps is the store of the state after its history, which is legal and not longer than the limit
-pub record IsKept (store : Store) (limit : ℕ) (history : List Entry) : Type 0 where
+-- these are the counts of the entries' grants
+abbrev pub AreGrantsOf : List Entry → List ℕ → Type 0
+AreGrantsOf past counts = (s : StripeNo) (f : Fragment) → granted_in counts s f ≡ grants past s f
+
+-- no fragment was granted as often as there may be entries
+abbrev pub AreFew : List ℕ → Type 0
+AreFew counts = (s : StripeNo) (f : Fragment) → granted_in counts s f < 1000000
+
+-- what a book keeps is the store of the state after its history, and the counts of its grants; it is legal and not longer than the limit
+pub record IsKept (store : Store) (counts : List ℕ) (limit : ℕ) (history : List Entry) : Type 0 where
   pub store_is : IsOf (state_after store.topology history) store
+  pub counted : AreGrantsOf history counts
   pub legal : IsLegal store.topology history
   pub few : length history ≤ limit
   pub limited : limit ≤ 1000000

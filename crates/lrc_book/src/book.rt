@@ -10,6 +10,7 @@ ghost use Rattle.lrc_book.specs.Books.{world_of, state_of, FaultFits};
 use crate::store::Store;
 use crate::{Command, Entry, Lease, Level, Mode, Reply, Seat};
 use lrc_code::{Fault, Fragment, LossMask, NodeNo, SessionNo, StripeNo};
+use lrc_leases::Grants;
 use lrc_topology::Topology;
 use std::alloc::Global;
 use std::marker::Model;
@@ -22,6 +23,7 @@ pub const HISTORY_LIMIT: usize = 1_000_000;
 #[derive(Drop)]
 pub struct Book {
     pub(crate) store: Store,
+    pub(crate) grants: Grants,
     pub(crate) history: Vec<Entry>,
     pub(crate) limit: usize,
 }
@@ -40,7 +42,7 @@ impl Model for Book {
       ready = nat_le (vec_len b.history + 1) (vec_capacity b.history) && has_room b.store;
     } };
 
-    ghost invariant = { λ b. IsKept b.store b.limit b.history.items };
+    ghost invariant = { λ b. IsKept b.store b.grants b.limit b.history.items };
 }
 
 impl Book {
@@ -55,6 +57,7 @@ impl Book {
     {
         Ok(Book {
             store: Store::new(alloc, topology)?,
+            grants: Grants::new(alloc)?,
             history: Vec::new(alloc),
             limit: HISTORY_LIMIT,
         })
@@ -71,15 +74,18 @@ impl Book {
         self.history.as_slice()
     }
 
+    /// The nodes that the book is made over.
+    pub fn topology(&self) -> &Topology
+        ensures { result.now ≡ self.now.nodes }
+    {
+        &self.store.topology
+    }
+
     /// The home of each fragment of a stripe, in rising order; `None` where there is no such stripe.
     pub fn homes(&self, stripe: StripeNo) -> Option<[Option<Seat>; 16]>
         ensures { result ≡ homes_shown (state_of self.now) stripe }
     {
-        if self.store.stripes.contains(stripe) {
-            Some(self.store.homes_of(stripe))
-        } else {
-            None
-        }
+        self.store.stripes.homes(stripe)
     }
 
     /// The number of seats on a node, at most 256; `None` where the store has no such node.
@@ -158,7 +164,7 @@ impl Book {
         ensures err { OnErr result (self.new.history ≡ self.old.history) }
     {
         let plan = self.decide(session, command)?;
-        self.prepare()?;
+        self.prepare(&plan)?;
         Ok(self.commit(plan))
     }
 }

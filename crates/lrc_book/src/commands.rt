@@ -1,6 +1,6 @@
 //! The commands: of each the reply, and beside it the change that follows.
 
-mod leases;
+pub(crate) mod leases;
 mod next;
 mod nodes;
 mod stripes;

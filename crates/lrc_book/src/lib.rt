@@ -3,6 +3,7 @@
 
 mod book;
 mod choice;
+mod class_bars;
 mod command;
 mod commands;
 mod entry;
@@ -10,8 +11,10 @@ mod kind;
 pub mod laws;
 mod mode;
 mod modes;
+mod node_set;
 mod plan;
 mod refusal;
+mod repair;
 mod reply;
 mod step;
 mod store;
@@ -26,5 +29,6 @@ pub use lrc_leases::Lease;
 pub use lrc_stripes::Level;
 pub use lrc_topology::{Held, Seat};
 pub use mode::Mode;
+pub use plan::Plan;
 pub use refusal::Refusal;
 pub use reply::Reply;

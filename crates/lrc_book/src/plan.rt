@@ -2,6 +2,6 @@ use crate::Entry;
 
 /// A call that was decided and not yet made: the entry to come.
 #[derive(Clone, Copy, Debug, PartialEq, Eq)]
-pub(crate) struct Plan {
-    pub(crate) entry: Entry,
+pub struct Plan {
+    pub entry: Entry,
 }

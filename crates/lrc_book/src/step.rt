@@ -6,29 +6,33 @@ ghost use Rattle.lrc_code.specs.declared.numbers.SessionNo.{SessionNo};
 ghost use Rattle.lrc_book.specs.declared.entry.Entry.{Entry};
 ghost use Rattle.lrc_book.specs.States.{State};
 ghost use Rattle.lrc_book.specs.Steps.{step};
-ghost use Rattle.lrc_book.specs.Changes.{IsAnswer, IsStep, changed_by};
-ghost use Rattle.lrc_book.specs.Books.{state_of};
-ghost use Rattle.lrc_book.specs.Stores.{IsOf, IsTied, has_room};
+ghost use Rattle.lrc_book.specs.Changes.{IsAnswer, changed_by};
+ghost use Rattle.lrc_book.specs.Books.{IsStep, state_of};
+ghost use Rattle.lrc_book.specs.Stores.{IsOf, IsTied, AreGrantsOf, AreFew, has_room};
 
+use crate::commands::leases::count_grant;
 use crate::plan::Plan;
 use crate::store::Store;
 use crate::{Book, Command, Entry, Reply};
 use lrc_code::{Fault, SessionNo};
+use lrc_leases::Grants;
 
 impl Book {
-    /// The entry to come.
+    /// The entry that a call would add. Nothing changes.
     ///
     /// # Errors
     ///
     /// Only `Fault::HistoryFull`, where the history has as many entries as its limit.
-    pub(crate) fn decide(&self, session: SessionNo, command: Command) -> Result<Plan, Fault>
-        ensures ok { IfOk result (λ p. (length self.now.history < self.now.limit) × (p.entry.session ≡ session) × (p.entry.command ≡ command) × IsStep self.now p.entry) }
+    pub fn decide(&self, session: SessionNo, command: Command) -> Result<Plan, Fault>
+        ensures asked { IfOk result (λ p. (p.entry.session ≡ session) × (p.entry.command ≡ command)) }
+        ensures step { IfOk result (λ p. IsStep self.now p.entry) }
+        ensures room { IfOk result (λ p. length self.now.history < self.now.limit) }
         ensures err { IfErr result (λ e. (e ≡ fault.HistoryFull) × (length self.now.history ≡ self.now.limit)) }
     {
         if self.history.len() == self.limit {
             return Err(Fault::HistoryFull);
         }
-        let reply = self.store.reply(self.history.as_slice(), session, command);
+        let reply = self.store.reply(&self.grants, session, command);
         Ok(Plan {
             entry: Entry {
                 session,
@@ -38,12 +42,12 @@ impl Book {
         })
     }
 
-    /// Makes room for one more command of any kind, and changes nothing else.
+    /// Makes room for a plan, as for one command of any kind, and changes nothing else.
     ///
     /// # Errors
     ///
     /// Only `Fault::OutOfMemory`, and not where there is room already.
-    pub(crate) fn prepare(&mut self) -> Result<(), Fault>
+    pub fn prepare(&mut self, _plan: &Plan) -> Result<(), Fault>
         ensures same { (self.new.nodes ≡ self.old.nodes) × (self.new.limit ≡ self.old.limit) × (self.new.history ≡ self.old.history) }
         ensures ok { OnOk result (self.new.ready ≡ true) }
         ensures kept { self.old.ready ≡ true → self.new.ready ≡ true }
@@ -55,9 +59,8 @@ impl Book {
         Ok(())
     }
 
-    /// Makes the step. It stands beside `make` since a ghost argument sees the arguments of its own function alone:
-    /// `make` names the state, and `commit` picks it.
-    pub(crate) fn commit(&mut self, plan: Plan) -> Reply
+    /// Makes the step of a plan that was decided on this history, in a book that has room for it. It can't fail.
+    pub fn commit(&mut self, plan: Plan) -> Reply
         requires ready { self.old.ready ≡ true }
         requires room { length self.old.history < self.old.limit }
         requires step { IsStep self.old plan.entry }
@@ -68,6 +71,8 @@ impl Book {
         self.make(plan)
     }
 
+    /// It stands beside `commit` since a ghost argument sees the arguments of its own function alone: `make` names the
+    /// state, and `commit` picks it.
     fn make(&mut self, plan: Plan) -> Reply
         ghost st: { State }
         requires state { state_of self.old ≡ st }
@@ -84,25 +89,27 @@ impl Book {
             reply,
         } = plan.entry;
         self.store.change(command, &reply);
+        count_grant(&mut self.grants, &reply);
         self.history.push_reserved(plan.entry);
         reply
     }
 }
 
 impl Store {
-    /// The reply of the plain placement object after these entries.
-    fn reply(&self, history: &[Entry], session: SessionNo, command: Command) -> Reply
+    /// The reply of the plain placement object after entries with so many grants.
+    fn reply(&self, counts: &Grants, session: SessionNo, command: Command) -> Reply
         requires tied { IsTied self.now }
-        requires few { length history.now < 1000000 }
-        ensures { (st : State) → IsOf st self.now → result ≡ (step self.now.topology history.now st session command).0 }
+        requires few { AreFew counts.now }
+        ensures { (st : State) (past : List Entry) → IsOf st self.now → AreGrantsOf past counts.now
+            → result ≡ (step self.now.topology past st session command).0 }
     {
         match command {
             Command::Place(stripe) => self.place_reply(stripe),
             Command::Drop(stripe) => self.drop_reply(stripe),
             Command::Lease(stripe, fragment) => {
-                self.lease_reply(history, session, stripe, fragment)
+                self.lease_reply(counts, session, stripe, fragment)
             }
-            Command::Next => self.next_reply(history, session),
+            Command::Next => self.next_reply(counts, session),
             Command::Done(stripe, fragment, epoch) => {
                 self.done_reply(session, stripe, fragment, epoch)
             }

@@ -1,7 +1,5 @@
-ghost use Rattle.std.specs.Prelude.{◌≡◌, true, IsTrue, IfOk, IfErr, OnOk, IsOk, map};
-ghost use Rattle.lrc_code.specs.declared.codes.Code.TheVariants.{Wide};
+ghost use Rattle.std.specs.Prelude.{◌≡◌, true, IsTrue, IfOk, IfErr, OnOk, IsOk};
 ghost use Rattle.lrc_code.specs.declared.fault.Fault.TheVariants as fault;
-ghost use Rattle.lrc_code.specs.Codes.{fragments};
 ghost use Rattle.lrc_stripes.specs.Tables.{stored_in};
 ghost use Rattle.lrc_book.specs.States.{State, opening, online_at};
 ghost use Rattle.lrc_book.specs.Placement.{with_home};
@@ -36,12 +34,14 @@ impl Store {
     {
         let table = SlotTable::new(alloc, &topology)?;
         let stripes = Stripes::new(alloc, &topology)?;
+        let leases = Leases::new(alloc)?;
+        let modes = Modes::new(alloc)?;
         Ok(Store {
             topology,
             table,
             stripes,
-            leases: Leases::new(alloc),
-            modes: Modes::new(alloc),
+            leases,
+            modes,
         })
     }
 
@@ -56,7 +56,6 @@ impl Store {
     {
         self.stripes.reserve(1)?;
         self.leases.reserve(1)?;
-        self.modes.reserve()?;
         Ok(())
     }
 
@@ -68,18 +67,6 @@ impl Store {
             Some(info) => self.modes.is_online(&info),
             None => false,
         }
-    }
-
-    /// The home of each fragment of a stripe, in rising order.
-    pub(crate) fn homes_of(&self, stripe: StripeNo) -> [Option<Seat>; 16]
-        requires { IsTrue ((stored_in self.now.stripes).stripes stripe) }
-        ensures { result ≡ map (λ f. (stored_in self.now.stripes).homes stripe f.value) (fragments Wide) }
-    {
-        let mut seats = [None; 16];
-        for (i, fragment) in Fragment::all().iter().enumerate() {
-            seats[i] = self.stripes.home(stripe, *fragment);
-        }
-        seats
     }
 
     /// Gives a fragment without a home the seat that is chosen for it.

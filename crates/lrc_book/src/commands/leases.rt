@@ -1,28 +1,34 @@
 //! Commands of repair leases.
 
-ghost use Rattle.std.specs.Prelude.{◌≡◌, ◌<◌, true, IsTrue, IsSome, length};
+ghost use Rattle.std.specs.Prelude.{◌≡◌, ◌++◌, ◌∷◌, [], true, List, IsTrue, IsSome};
+ghost use Rattle.lrc_book.specs.declared.entry.Entry.{Entry};
+ghost use Rattle.lrc_code.specs.declared.numbers.Fragment.{Fragment};
+ghost use Rattle.lrc_code.specs.Losses.{bits_set};
 ghost use Rattle.lrc_stripes.specs.Tables.{stored_in};
 ghost use Rattle.lrc_book.specs.States.{State, has_stripe, lease_of};
-ghost use Rattle.lrc_book.specs.Leases.{is_grant, grants, granted, lease_outcome, done_outcome, abandon_outcome, revoke_outcome, at_epoch, with_lease};
+ghost use Rattle.lrc_book.specs.Leases.{granted, lease_outcome, done_outcome, abandon_outcome, revoke_outcome, at_epoch, with_lease};
 ghost use Rattle.lrc_book.specs.Repairs as repairs;
 ghost use Rattle.lrc_book.specs.Placement.{chosen};
 ghost use Rattle.lrc_book.specs.Changes.{with_done};
-ghost use Rattle.lrc_book.specs.Stores.{IsOf, IsGrant, has_room, repair_of};
+ghost use Rattle.lrc_book.specs.Stores.{IsOf, IsGrant, AreGrantsOf, AreFew, has_room, repair_of};
 
+use crate::repair::Repair;
 use crate::store::Store;
-use crate::{Entry, Kind, Lease, Mode, Refusal, Reply};
-use lrc_code::{Fragment, SessionNo, StripeNo};
+use crate::{Kind, Lease, Refusal, Reply};
+use lrc_code::{Fragment, LossMask, SessionNo, StripeNo};
+use lrc_leases::Grants;
 
 impl Store {
     pub(crate) fn lease_reply(
         &self,
-        history: &[Entry],
+        counts: &Grants,
         session: SessionNo,
         stripe: StripeNo,
         fragment: Fragment,
     ) -> Reply
-        requires { length history.now < 1000000 }
-        ensures { (st : State) → IsOf st self.now → result ≡ (lease_outcome self.now.topology history.now st session stripe fragment).0 }
+        requires { AreFew counts.now }
+        ensures { (st : State) (past : List Entry) → IsOf st self.now → AreGrantsOf past counts.now
+            → result ≡ (lease_outcome self.now.topology past st session stripe fragment).0 }
     {
         if !self.stripes.contains(stripe) {
             return Reply::Refused(Refusal::UnknownStripe);
@@ -30,24 +36,22 @@ impl Store {
         if let Some(lease) = self.leases.lease(stripe, fragment) {
             return Reply::Refused(Refusal::AlreadyLeased(lease.epoch));
         }
-        if !self.needs_lease(stripe, fragment) {
+        if !self.needs(stripe).contains(fragment) {
             return Reply::Refused(Refusal::NotNeeded);
         }
         match self.repair_kind(stripe, fragment) {
-            Some(kind) => self.grant_reply(history, session, stripe, fragment, kind),
+            Some(kind) => self.grant_reply(counts, session, stripe, fragment, kind),
             None => Reply::Refused(Refusal::Unrecoverable),
         }
     }
 
-    /// Whether a fragment of a stripe that is there has no home, or has it on a draining node.
-    pub(super) fn needs_lease(&self, stripe: StripeNo, fragment: Fragment) -> bool
+    /// The fragments of a stripe that is there that need a lease.
+    pub(super) fn needs(&self, stripe: StripeNo) -> LossMask
         requires { IsTrue ((stored_in self.now.stripes).stripes stripe) }
-        ensures { (st : State) → IsOf st self.now → result ≡ repairs.needs self.now.topology st stripe fragment }
+        ensures { (st : State) (f : Fragment) → IsOf st self.now
+            → bits_set result.bits f.value ≡ repairs.needs self.now.topology st stripe f }
     {
-        match self.stripes.home(stripe, fragment) {
-            Some(seat) => self.modes.mode(seat.node) == Mode::Draining,
-            None => true,
-        }
+        self.stripes.needs(stripe).unwrap()
     }
 
     /// From what a fragment of a stripe that is there is rebuilt; `None` where it can't be.
@@ -55,10 +59,10 @@ impl Store {
         requires { IsTrue ((stored_in self.now.stripes).stripes stripe) }
         ensures { (st : State) → IsOf st self.now → result ≡ repair_of self.now.topology st stripe fragment }
     {
-        if self.is_at_home(stripe, fragment) {
+        let missing = self.stripes.missing(stripe)?;
+        if !missing.contains(fragment) {
             return Some(Kind::Move);
         }
-        let missing = self.stripes.missing(stripe)?;
         if let Some(sources) = missing.local_sources(fragment) {
             return Some(Kind::Local(sources));
         }
@@ -69,41 +73,29 @@ impl Store {
         }
     }
 
-    /// Whether a fragment of a stripe that is there has a home that is online.
-    fn is_at_home(&self, stripe: StripeNo, fragment: Fragment) -> bool
-        requires { IsTrue ((stored_in self.now.stripes).stripes stripe) }
-        ensures { (st : State) → IsOf st self.now → result ≡ repairs.is_at_home self.now.topology st stripe fragment }
-    {
-        match self.stripes.home(stripe, fragment) {
-            Some(seat) => self.is_online(seat.node),
-            None => false,
-        }
-    }
-
     /// The reply to a session that may rebuild the fragment, if the choice rule finds a seat for it.
     fn grant_reply(
         &self,
-        history: &[Entry],
+        counts: &Grants,
         session: SessionNo,
         stripe: StripeNo,
         fragment: Fragment,
         kind: Kind,
     ) -> Reply
-        requires few { length history.now < 1000000 }
+        requires few { AreFew counts.now }
         requires there { IsTrue ((stored_in self.now.stripes).stripes stripe) }
-        ensures { (st : State) → IsOf st self.now → kind ≡ repairs.kind self.now.topology st stripe fragment
-            → result ≡ (granted self.now.topology history.now st session stripe fragment (chosen self.now.topology st stripe fragment)).0 }
+        ensures { (st : State) (past : List Entry) → IsOf st self.now → AreGrantsOf past counts.now → kind ≡ repairs.kind self.now.topology st stripe fragment
+            → result ≡ (granted self.now.topology past st session stripe fragment (chosen self.now.topology st stripe fragment)).0 }
     {
         match self.repair_seat(stripe, fragment) {
             Some(target) => {
-                let lease = Lease {
+                let repair = Repair {
                     stripe,
                     fragment,
-                    holder: session,
+                    kind,
                     target,
-                    epoch: grants(history, stripe, fragment) + 1,
                 };
-                Reply::Granted(lease, kind)
+                repair.granted_to(session, counts)
             }
             None => Reply::Refused(Refusal::NoLawfulNode(fragment)),
         }
@@ -215,27 +207,12 @@ impl Store {
     }
 }
 
-/// How many leases of a fragment were granted in a history.
-fn grants(history: &[Entry], stripe: StripeNo, fragment: Fragment) -> u32
-    requires { length history.now < 1000000 }
-    ensures value { result ≡ grants history.now stripe fragment }
-    ensures few { result < 1000000 }
+/// Counts the grant, if the reply is one.
+pub(crate) fn count_grant(counts: &mut Grants, reply: &Reply)
+    requires { AreFew counts.old }
+    ensures { (past : List Entry) (e : Entry) → e.reply ≡ reply.now → AreGrantsOf past counts.old → AreGrantsOf (past ++ e ∷ []) counts.new }
 {
-    let mut count = 0;
-    for entry in history {
-        if is_grant(&entry.reply, stripe, fragment) {
-            count += 1;
-        }
-    }
-    count
-}
-
-/// Whether a reply grants a lease of the fragment.
-fn is_grant(reply: &Reply, stripe: StripeNo, fragment: Fragment) -> bool
-    ensures { result ≡ is_grant stripe fragment reply.now }
-{
-    match reply {
-        Reply::Granted(lease, _) => lease.stripe == stripe && lease.fragment == fragment,
-        _ => false,
+    if let Reply::Granted(lease, _) = reply {
+        counts.add(lease.stripe, lease.fragment);
     }
 }

@@ -1,62 +1,100 @@
 //! The command that asks for the most urgent repair.
 
-ghost use Rattle.std.specs.Prelude.{◌≡◌, ◌<◌, IsTrue, find, length};
+ghost use Rattle.std.specs.Prelude.{◌≡◌, List, IsTrue, IfSome, find, is_some, option_map};
 ghost use Rattle.lrc_code.specs.declared.codes.Code.TheVariants.{Wide};
 ghost use Rattle.lrc_code.specs.Codes.{fragments};
+ghost use Rattle.lrc_code.specs.Losses.{bits_set};
 ghost use Rattle.lrc_stripes.specs.Tables.{stored_in};
+ghost use Rattle.lrc_book.specs.declared.entry.Entry.{Entry};
 ghost use Rattle.lrc_book.specs.States.{State};
 ghost use Rattle.lrc_book.specs.Urgency.{is_grantable, next_of};
 ghost use Rattle.lrc_book.specs.Leases.{next_outcome};
-ghost use Rattle.lrc_book.specs.Stores.{IsOf};
+ghost use Rattle.lrc_book.specs.Stores.{IsOf, AreGrantsOf, AreFew};
+ghost use Rattle.lrc_book.specs.Repairing.{is_waiting, fragment_of, IsRepair};
 
+use crate::Reply;
+use crate::repair::Repair;
 use crate::store::Store;
-use crate::{Entry, Reply};
-use lrc_code::{Fragment, SessionNo, StripeNo};
+use lrc_code::{Fragment, LossMask, SessionNo, StripeNo};
+use lrc_leases::Grants;
 
 impl Store {
-    pub(crate) fn next_reply(&self, history: &[Entry], session: SessionNo) -> Reply
-        requires { length history.now < 1000000 }
-        ensures { (st : State) → IsOf st self.now → result ≡ (next_outcome self.now.topology history.now st session).0 }
+    pub(crate) fn next_reply(&self, counts: &Grants, session: SessionNo) -> Reply
+        requires { AreFew counts.now }
+        ensures { (st : State) (past : List Entry) → IsOf st self.now → AreGrantsOf past counts.now
+            → result ≡ (next_outcome self.now.topology past st session).0 }
     {
         match self.next_repair() {
-            Some((stripe, fragment)) => self.lease_reply(history, session, stripe, fragment),
+            Some(repair) => repair.granted_to(session, counts),
             None => Reply::Idle,
         }
     }
 
-    /// The fragment that comes first in the order of repair, of those whose lease would be granted.
-    fn next_repair(&self) -> Option<(StripeNo, Fragment)>
-        ensures { (st : State) → IsOf st self.now → result ≡ next_of self.now.topology st }
+    /// The repair of the fragment that comes first in the order of repair, of those whose lease would be granted.
+    fn next_repair(&self) -> Option<Repair>
+        ensures first { (st : State) → IsOf st self.now → option_map fragment_of result ≡ next_of self.now.topology st }
+        ensures repair { IfSome result (λ r. (st : State) → IsOf st self.now → IsRepair self.now.topology st r) }
     {
+        if !self.has_free_seat() {
+            return None;
+        }
         for stripe in self.stripes.work() {
-            if let Some(fragment) = self.grantable_fragment(stripe) {
-                return Some((stripe, fragment));
+            if let Some(repair) = self.first_repair(stripe) {
+                return Some(repair);
             }
         }
         None
     }
 
-    /// The first fragment of a stripe that is there whose lease would be granted.
-    fn grantable_fragment(&self, stripe: StripeNo) -> Option<Fragment>
+    /// The repair of the first fragment of a stripe that is there whose lease would be granted.
+    fn first_repair(&self, stripe: StripeNo) -> Option<Repair>
         requires { IsTrue ((stored_in self.now.stripes).stripes stripe) }
-        ensures { (st : State) → IsOf st self.now → result ≡ find (λ f. is_grantable self.now.topology st (stripe, f)) (fragments Wide) }
+        ensures first { (st : State) → IsOf st self.now → option_map fragment_of result
+            ≡ option_map (λ f. (stripe, f)) (find (λ f. is_grantable self.now.topology st (stripe, f)) (fragments Wide)) }
+        ensures repair { IfSome result (λ r. (st : State) → IsOf st self.now → IsRepair self.now.topology st r) }
     {
+        let waiting = self.waiting(stripe);
+        if waiting.bits() == 0 {
+            return None;
+        }
         for fragment in Fragment::all().iter() {
-            if self.is_grantable(stripe, *fragment) {
-                return Some(*fragment);
+            if let Some(repair) = self.repair(waiting, stripe, *fragment) {
+                return Some(repair);
             }
         }
         None
     }
 
-    /// Whether a lease of a fragment of a stripe that is there would be granted.
-    fn is_grantable(&self, stripe: StripeNo, fragment: Fragment) -> bool
-        requires { IsTrue ((stored_in self.now.stripes).stripes stripe) }
-        ensures { (st : State) → IsOf st self.now → result ≡ is_grantable self.now.topology st (stripe, fragment) }
+    /// The repair of a fragment of a stripe that is there and whose waiting fragments are these, if its lease would be
+    /// granted.
+    fn repair(&self, waiting: LossMask, stripe: StripeNo, fragment: Fragment) -> Option<Repair>
+        requires there { IsTrue ((stored_in self.now.stripes).stripes stripe) }
+        requires waiting { (st : State) → IsOf st self.now → bits_set waiting.bits fragment.value ≡ is_waiting self.now.topology st stripe fragment }
+        ensures grantable { (st : State) → IsOf st self.now → is_some result ≡ is_grantable self.now.topology st (stripe, fragment) }
+        ensures own { IfSome result (λ r. fragment_of r ≡ (stripe, fragment)) }
+        ensures repair { IfSome result (λ r. (st : State) → IsOf st self.now → IsRepair self.now.topology st r) }
     {
-        self.leases.lease(stripe, fragment).is_none()
-            && self.needs_lease(stripe, fragment)
-            && self.repair_kind(stripe, fragment).is_some()
-            && self.repair_seat(stripe, fragment).is_some()
+        if !waiting.contains(fragment) {
+            return None;
+        }
+        let kind = self.repair_kind(stripe, fragment)?;
+        let target = self.repair_seat(stripe, fragment)?;
+        Some(Repair {
+            stripe,
+            fragment,
+            kind,
+            target,
+        })
+    }
+
+    /// The fragments of a stripe that is there that need a lease and have none.
+    fn waiting(&self, stripe: StripeNo) -> LossMask
+        requires { IsTrue ((stored_in self.now.stripes).stripes stripe) }
+        ensures { (st : State) (f : Fragment) → IsOf st self.now
+            → bits_set result.bits f.value ≡ is_waiting self.now.topology st stripe f }
+    {
+        let needing = self.needs(stripe);
+        let leased = self.leases.leased(stripe);
+        LossMask::from_bits(needing.bits & !leased.bits)
     }
 }

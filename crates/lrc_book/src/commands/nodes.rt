@@ -1,6 +1,6 @@
 //! Commands on nodes.
 
-ghost use Rattle.std.specs.Prelude.{◌≡◌, true, nat_lt, IsSome};
+ghost use Rattle.std.specs.Prelude.{◌≡◌, nat_lt, IsSome};
 ghost use Rattle.lrc_topology.specs.Nodes.{node_at};
 ghost use Rattle.lrc_book.specs.declared.reply.Reply.TheVariants.{Changed};
 ghost use Rattle.lrc_book.specs.States.{State, load};
@@ -8,7 +8,7 @@ ghost use Rattle.lrc_book.specs.Steps.{node_outcome, fail_outcome, down_outcome,
 ghost use Rattle.lrc_book.specs.Outcomes.{refuse_if};
 ghost use Rattle.lrc_book.specs.declared.refusal.Refusal.TheVariants as refusal;
 ghost use Rattle.lrc_book.specs.Changes.{without_targets};
-ghost use Rattle.lrc_book.specs.Stores.{IsOf, IsTied, has_room, has_room_for_node};
+ghost use Rattle.lrc_book.specs.Stores.{IsOf, IsTied};
 
 use crate::store::Store;
 use crate::{Mode, Refusal, Reply};
@@ -38,7 +38,6 @@ impl Store {
     pub(crate) fn fail(&mut self, node: NodeNo)
         ghost st: { State }
         requires kept { IsOf st self.old }
-        requires room { has_room self.old ≡ true }
         requires told { (fail_outcome self.old.topology st node).0 ≡ Changed }
         ensures nodes { self.new.topology ≡ self.old.topology }
         ensures kept { IsOf (with_gone (emptied st node) node) self.new }
@@ -51,7 +50,6 @@ impl Store {
     pub(crate) fn leave(&mut self, node: NodeNo)
         ghost st: { State }
         requires kept { IsOf st self.old }
-        requires room { has_room_for_node self.old.modes ≡ true }
         requires known { IsSome (node_at self.old.topology node) }
         requires empty { load st node ≡ 0 }
         ensures nodes { self.new.topology ≡ self.old.topology }
@@ -114,7 +112,6 @@ impl Store {
     pub(crate) fn down(&mut self, node: NodeNo)
         ghost st: { State }
         requires kept { IsOf st self.old }
-        requires room { has_room self.old ≡ true }
         requires told { (down_outcome self.old.topology st node).0 ≡ Changed }
         ensures nodes { self.new.topology ≡ self.old.topology }
         ensures kept { IsOf (with_down st node) self.new }
@@ -151,7 +148,6 @@ impl Store {
     pub(crate) fn drain(&mut self, node: NodeNo)
         ghost st: { State }
         requires kept { IsOf st self.old }
-        requires room { has_room self.old ≡ true }
         requires told { (drain_outcome self.old.topology st node).0 ≡ Changed }
         ensures nodes { self.new.topology ≡ self.old.topology }
         ensures kept { IsOf (with_draining st node) self.new }

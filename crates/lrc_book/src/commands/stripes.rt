@@ -10,8 +10,9 @@ ghost use Rattle.lrc_book.specs.Steps.{with_stripe, place_outcome, drop_outcome,
 ghost use Rattle.lrc_book.specs.Changes.{with_placed};
 ghost use Rattle.lrc_book.specs.Stores.{IsOf, has_room};
 
+use crate::class_bars::ClassBars;
 use crate::store::Store;
-use crate::{Held, Refusal, Reply, Seat};
+use crate::{Refusal, Reply, Seat};
 use lrc_code::{Fragment, NodeNo, StripeNo};
 
 impl Store {
@@ -39,22 +40,13 @@ impl Store {
             node: NodeNo { value: 0 },
             slot: 0,
         };
-        let no_home = Held {
-            stripe,
-            fragment: Fragment { value: 0 },
-            seat: no_seat,
-        };
         let mut seats = [no_seat; 16];
-        let mut planned = [no_home; 16];
+        let mut bars = ClassBars::new();
         for (i, fragment) in Fragment::all().iter().enumerate() {
-            match self.seat_for(&planned[..i], stripe, *fragment) {
+            match self.seat_for(&bars, *fragment) {
                 Some(seat) => {
+                    self.bar_planned(&mut bars, *fragment, seat);
                     seats[i] = seat;
-                    planned[i] = Held {
-                        stripe,
-                        fragment: *fragment,
-                        seat,
-                    };
                 }
                 None => return Err(*fragment),
             }

@@ -1,14 +1,22 @@
-use Rattle.std.proofs.Common.{◌<◌, List, length, refl, sym, ap, ◌∙◌, arith}
+use Rattle.std.proofs.Common.{List, sym, ap, ◌∙◌, arith}
 use Rattle.lrc_book.specs.declared.entry.Entry.{Entry}
 use Rattle.lrc_book.specs.Histories.{world_after}
 use Rattle.lrc_book.specs.Steps.{step}
 use Rattle.lrc_book.proofs.GoodLemmas.{past-after}
+use Rattle.lrc_book.proofs.CountedLemmas.{few-grants}
 use Rattle.lrc_book.proofs.book.Book.decide.Goals as goal
 
-pub returns-clause-ok : goal.returns-clause-ok
-returns-clause-ok c =
+pub returns-clause-step : goal.returns-clause-step
+returns-clause-step c =
     let b = c.self.inside in
     let w = world_after b.store.topology b.history.items in
-    let room : length b.history.items < b.limit = omega (arith, c.self.invariant.few, c.len.ensures) in
-    let told = c.reply-reply.ensures w.state c.self.invariant.store_is in
-    rw (← c.self.view_is) (room, refl, refl, sym (told ∙ ap (λ (past : List Entry). (step b.store.topology past w.state c.args.session c.args.command).0) (c.as_slice.ensures.value ∙ sym (past-after b.store.topology b.history.items))))
+    let told = c.reply-reply.ensures w.state b.history.items c.self.invariant.store_is c.self.invariant.counted in
+    rw (← c.self.view_is)
+    (sym (told ∙ ap (λ (past : List Entry). (step b.store.topology past w.state c.args.session c.args.command).0) (sym (past-after b.store.topology b.history.items))))
+
+pub returns-clause-room : goal.returns-clause-room
+returns-clause-room c =
+    rw (← c.self.view_is) (omega (arith, c.self.invariant.few, c.len.ensures))
+
+pub reply-reply-requires-clause-few : goal.reply-reply-requires-clause-few
+reply-reply-requires-clause-few c = few-grants c.self.inside.store c.self.inside.grants c.self.inside.limit c.self.inside.history.items c.self.invariant (omega (arith, c.self.invariant.few, c.len.ensures, c.if-len-self.false))

@@ -1,4 +1,4 @@
-use Rattle.std.proofs.Common.{◌+◌, nat_le, vec_len, vec_capacity, ap, sym, subst, ◌∙◌}
+use Rattle.std.proofs.Common.{◌+◌, nat_le, vec_len, vec_capacity, ap, refl, sym, subst, ◌∙◌}
 use Rattle.std.proofs.lemmas.Bool.{and_parts}
 use Rattle.lrc_book.specs.States.{State}
 use Rattle.lrc_book.specs.Histories.{world_after}
@@ -6,6 +6,7 @@ use Rattle.lrc_book.specs.Books.{BookView, state_of}
 use Rattle.lrc_book.specs.Changes.{IsAnswer, changed_by}
 use Rattle.lrc_book.specs.Stores.{IsOf, has_room}
 use Rattle.lrc_book.proofs.WorldLemmas.{kept_push}
+use Rattle.lrc_book.proofs.CountedLemmas.{few-grants}
 use Rattle.lrc_book.proofs.book.Book.make.Goals as goal
 
 pub change-requires : goal.change-requires
@@ -30,5 +31,11 @@ invariant_of-self g c =
     let told = rw (← c.self.view_is) at c.requires.1.1.1 in
     let room = rw (← c.self.view_is) at c.requires.1.1.0 in
     rw c.push_reserved.ensures.items
-    (kept_push b.store c.change.new.self b.limit b.history.items e c.self.invariant room told c.change.ensures.nodes
-    (subst (λ (st : State). IsOf (changed_by st e.command e.reply) c.change.new.self) (sym current) c.change.ensures.kept))
+    (kept_push b.store c.change.new.self b.grants c.count_grant.new.counts b.limit b.history.items e c.self.invariant room told c.change.ensures.nodes
+    (subst (λ (st : State). IsOf (changed_by st e.command e.reply) c.change.new.self) (sym current) c.change.ensures.kept)
+    (c.count_grant.ensures b.history.items e refl c.self.invariant.counted))
+
+pub count_grant-requires : goal.count_grant-requires
+count_grant-requires g c =
+    let b = c.self.inside in
+    few-grants b.store b.grants b.limit b.history.items c.self.invariant (rw (← c.self.view_is) at c.requires.1.1.0)

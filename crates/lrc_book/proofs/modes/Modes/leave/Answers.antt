@@ -1,14 +1,10 @@
-use Rattle.std.proofs.Common.{not, nat_eq, List, [], ◌∷◌, ◌++◌, filter, ap, ◌∙◌, rules}
-use Rattle.std.proofs.lemmas.Fn.{filter_same}
-use Rattle.lrc_code.specs.declared.numbers.NodeNo.{NodeNo}
+use Rattle.lrc_book.proofs.NodeSetLemmas.{member-added, member-removed}
 use Rattle.lrc_book.proofs.modes.Modes.leave.Goals as goal
 
 pub returns : goal.returns
 returns c = λ st kept. record {
-  gone_is = c.push_reserved.ensures.items ∙ ap (λ (xs : List NodeNo). xs ++ c.args.node ∷ []) kept.gone_is;
-  draining_is = filter_same _ (λ (m : NodeNo). not (nat_eq c.args.node.value m.value)) _ (λ x b f' r. search rules) _ _ c.retain.ensures.filtered
-      ∙ ap (filter (λ (m : NodeNo). not (nat_eq c.args.node.value m.value))) kept.draining_is;
-  down_is = filter_same _ (λ (m : NodeNo). not (nat_eq c.args.node.value m.value)) _ (λ x b f' r. search rules) _ _ c.retain-2.ensures.filtered
-      ∙ ap (filter (λ (m : NodeNo). not (nat_eq c.args.node.value m.value))) kept.down_is;
+  gone_are = member-added _ _ st.gone c.args.node kept.gone_are c.insert.ensures;
+  draining_are = member-removed _ _ st.draining c.args.node kept.draining_are c.remove.ensures;
+  down_are = member-removed _ _ st.down c.args.node kept.down_are c.remove-2.ensures;
   upgrading_is = kept.upgrading_is;
 }

@@ -1,13 +1,10 @@
-use Rattle.std.proofs.Common.{not, nat_eq, filter, ap, ◌∙◌, rules}
-use Rattle.std.proofs.lemmas.Fn.{filter_same}
-use Rattle.lrc_code.specs.declared.numbers.NodeNo.{NodeNo}
+use Rattle.lrc_book.proofs.NodeSetLemmas.{member-removed}
 use Rattle.lrc_book.proofs.modes.Modes.up.Goals as goal
 
 pub returns : goal.returns
 returns c = λ st kept. record {
-  gone_is = kept.gone_is;
-  draining_is = kept.draining_is;
-  down_is = filter_same _ (λ (m : NodeNo). not (nat_eq c.args.node.value m.value)) _ (λ x b f' r. search rules) _ _ c.retain.ensures.filtered
-      ∙ ap (filter (λ (m : NodeNo). not (nat_eq c.args.node.value m.value))) kept.down_is;
+  gone_are = kept.gone_are;
+  draining_are = kept.draining_are;
+  down_are = member-removed _ _ st.down c.args.node kept.down_are c.remove.ensures;
   upgrading_is = kept.upgrading_is;
 }

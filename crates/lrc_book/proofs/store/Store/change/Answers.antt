@@ -7,7 +7,6 @@ use Rattle.lrc_book.specs.Changes.{changed_by}
 use Rattle.lrc_book.specs.Stores.{IsOf}
 use Rattle.lrc_book.proofs.LeaseToldLemmas.{lease-told, next-told, done-told}
 use Rattle.lrc_book.proofs.ToldLemmas.{retire-told}
-use Rattle.lrc_book.proofs.ModesLemmas.{room-node}
 use Rattle.lrc_book.proofs.store.Store.change.Goals as goal
 
 pub grant-requires : goal.grant-requires
@@ -32,7 +31,7 @@ leave-requires g c =
     let node = c.in-Retire-Changed.node in
     let e = sym (ap (λ (command : Command). (step nodes told.past g.st told.session command).0) c.in-Retire-Changed.is-0) ∙ told.told
     ∙ c.in-Retire-Changed.is-1 in
-    (c.requires.0, (room-node c.args.self.now c.requires.1.0, retire-told nodes g.st node e))
+    (c.requires.0, retire-told nodes g.st node e)
 
 pub move_in-requires : goal.move_in-requires
 move_in-requires g c =

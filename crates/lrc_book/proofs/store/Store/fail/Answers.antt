@@ -1,20 +1,15 @@
 use Rattle.lrc_book.proofs.SeatedLemmas.{emptied-load}
-use Rattle.lrc_book.proofs.ModesLemmas.{room-node}
 use Rattle.lrc_book.proofs.ToldLemmas.{fail-told}
 use Rattle.lrc_book.proofs.store.Store.fail.Goals as goal
 
 pub empty-requires : goal.empty-requires
-empty-requires g c = (c.requires.0, fail-told c.args.self.now.topology g.st c.args.node c.requires.1.1)
+empty-requires g c = (c.requires.0, fail-told c.args.self.now.topology g.st c.args.node c.requires.1)
 
 pub leave-requires : goal.leave-requires
 leave-requires g c = (
   c.empty.ensures.kept,
   (
-    rw c.empty.ensures.modes (room-node c.args.self.now c.requires.1.0),
-    (
-      rw c.empty.ensures.nodes
-          (fail-told c.args.self.now.topology g.st c.args.node c.requires.1.1),
-      emptied-load c.args.self.now.topology g.st c.args.node,
-    ),
+    rw c.empty.ensures.nodes (fail-told c.args.self.now.topology g.st c.args.node c.requires.1),
+    emptied-load c.args.self.now.topology g.st c.args.node,
   ),
 )

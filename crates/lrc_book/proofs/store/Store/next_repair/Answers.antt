@@ -3,13 +3,18 @@ use Rattle.std.specs.List.{All}
 use Rattle.std.specs.Option.{option_or}
 use Rattle.std.proofs.lemmas.Bool.{and_parts}
 use Rattle.lrc_code.specs.declared.numbers.StripeNo.{StripeNo}
-use Rattle.lrc_code.specs.declared.numbers.Fragment.{Fragment}
-use Rattle.lrc_stripes.specs.Stored.{Stored, AreWork}
+use Rattle.lrc_stripes.specs.Stored.{Stored, StripeFragment, AreWork}
 use Rattle.lrc_stripes.specs.Tables.{stored_in}
+use Rattle.lrc_book.specs.declared.repair.Repair.{Repair}
 use Rattle.lrc_book.specs.Urgency.{is_grantable}
+use Rattle.lrc_book.specs.Repairing.{fragment_of}
 use Rattle.lrc_book.proofs.MemberLemmas.{All-members}
 use Rattle.lrc_book.proofs.UrgencyLemmas.{fragments_in, find-turn, next-first}
+use Rattle.lrc_book.proofs.NoRoomLemmas.{no-next}
 use Rattle.lrc_book.proofs.store.Store.next_repair.Goals as goal
+
+pub returns-then-not-has_free_seat-clause-first : goal.returns-then-not-has_free_seat-clause-first
+returns-then-not-has_free_seat-clause-first c = λ st kept. no-next st c.args.self.now kept (sym c.has_free_seat.ensures ∙ c.if-not-has_free_seat.true)
 
 pub loop-stripe-init : goal.loop-stripe-init
 loop-stripe-init c =
@@ -20,13 +25,13 @@ loop-stripe-init c =
       λ st kept. next-first c.args.self.now.topology st kept_here.spare stripes (subst (λ (t : Stored). AreWork t stripes) kept.stripes_is are),
     )
 
-pub returns-in-Some-grantable_fragment : goal.returns-in-Some-grantable_fragment
-returns-in-Some-grantable_fragment c = λ st kept.
+pub returns-in-Some-first_repair-clause-first : goal.returns-in-Some-first_repair-clause-first
+returns-in-Some-first_repair-clause-first c = λ st kept.
     let test = is_grantable c.args.self.now.topology st in
     let rest = c.next.new.self in
     sym (
     c.loop-stripe.invariant.1 st kept ∙ ap (λ (left : List StripeNo). find test (fragments_in left)) c.in-Some.ensures.steps ∙ find-turn test c.in-Some.stripe rest
-    ∙ ap (λ (o : Option Fragment). option_or (option_map (λ f. (c.in-Some.stripe, f)) o) (find test (fragments_in rest))) (sym (c.grantable_fragment.ensures st kept) ∙ c.in-Some-grantable_fragment.is)
+    ∙ ap (λ (o : Option StripeFragment). option_or o (find test (fragments_in rest))) (sym (c.first_repair.ensures.first st kept) ∙ ap (λ (o : Option Repair). option_map fragment_of o) c.in-Some-first_repair.is)
     )
 
 pub loop-stripe-preserved : goal.loop-stripe-preserved
@@ -37,5 +42,5 @@ loop-stripe-preserved c =
       λ st kept.
           let test = is_grantable c.args.self.now.topology st in
           c.loop-stripe.invariant.1 st kept ∙ ap (λ (left : List StripeNo). find test (fragments_in left)) c.in-Some.ensures.steps ∙ find-turn test c.in-Some.stripe rest
-          ∙ ap (λ (o : Option Fragment). option_or (option_map (λ f. (c.in-Some.stripe, f)) o) (find test (fragments_in rest))) (sym (c.grantable_fragment.ensures st kept) ∙ c.in_default.is),
+          ∙ ap (λ (o : Option StripeFragment). option_or o (find test (fragments_in rest))) (sym (c.first_repair.ensures.first st kept) ∙ ap (λ (o : Option Repair). option_map fragment_of o) c.in_default.is),
     )

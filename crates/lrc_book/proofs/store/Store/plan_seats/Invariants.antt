@@ -6,21 +6,24 @@ use Rattle.lrc_topology.specs.declared.seat.Seat.{Seat}
 use Rattle.lrc_book.specs.States.{State, has_stripe}
 use Rattle.lrc_book.specs.Steps.{with_stripe}
 use Rattle.lrc_book.specs.Choices.{AreChosen, IsFirstWithout}
-use Rattle.lrc_book.specs.Changes.{held_at}
 use Rattle.lrc_book.specs.Ties.{with_homes}
 use Rattle.lrc_book.specs.Stores.{IsOf}
+use Rattle.lrc_book.specs.Planning.{AreBarsOf}
+use Rattle.lrc_book.proofs.PlanningLemmas.{planned_to}
 use Rattle.lrc_book.proofs.store.Store.plan_seats.Given as goal
 
 abbrev pub invariant-loop-i : goal.invariant-loop-i
 invariant-loop-i l = record {
-  chosen : (st : State) → IsOf st l.self → has_stripe st l.stripe ≡ false → (rest : List Seat)
-      → AreChosen l.self.topology (with_homes (with_stripe st Wide l.stripe) (take l.i l.planned)) l.stripe (drop l.i l.fragment-items) rest
-      → AreChosen l.self.topology (with_stripe st Wide l.stripe) l.stripe l.fragment-items (take l.i l.seats ++ rest);
-  first : (st : State) → IsOf st l.self → has_stripe st l.stripe ≡ false → (f : Fragment)
-      → IsFirstWithout l.self.topology (with_homes (with_stripe st Wide l.stripe) (take l.i l.planned)) l.stripe (drop l.i l.fragment-items) f
-      → IsFirstWithout l.self.topology (with_stripe st Wide l.stripe) l.stripe l.fragment-items f;
-  planned : take l.i l.planned ≡ held_at l.stripe (take l.i l.fragment-items) (take l.i l.seats);
+  chosen : (st : State) → IsOf st l.self → has_stripe st l.fn.stripe ≡ false → (rest : List Seat)
+      → AreChosen l.self.topology
+      (with_homes (with_stripe st Wide l.fn.stripe) (planned_to l.fn.stripe l.fragment-items l.seats l.i)) l.fn.stripe
+      (drop l.i l.fragment-items) rest
+      → AreChosen l.self.topology (with_stripe st Wide l.fn.stripe) l.fn.stripe l.fragment-items (take l.i l.seats ++ rest);
+  first : (st : State) → IsOf st l.self → has_stripe st l.fn.stripe ≡ false → (f : Fragment)
+      → IsFirstWithout l.self.topology
+      (with_homes (with_stripe st Wide l.fn.stripe) (planned_to l.fn.stripe l.fragment-items l.seats l.i)) l.fn.stripe (drop l.i l.fragment-items) f
+      → IsFirstWithout l.self.topology (with_stripe st Wide l.fn.stripe) l.fn.stripe l.fragment-items f;
+  bars : (st : State) → IsOf st l.self → AreBarsOf l.self.topology (planned_to l.fn.stripe l.fragment-items l.seats l.i) l.bars;
   all : l.fragment-items ≡ fragments Wide;
   seats : length l.seats ≡ 16;
-  sixteen : length l.planned ≡ 16;
 }

@@ -7,16 +7,6 @@ use Rattle.lrc_leases.specs.Leased.{Leased}
 use Rattle.lrc_leases.specs.Tables.{leased_in}
 use Rattle.lrc_book.proofs.store.Store.reserve.Goals as goal
 
-pub returns-in_err-reserve-3-clause-same : goal.returns-in_err-reserve-3-clause-same
-returns-in_err-reserve-3-clause-same c = λ st kept. record {
-  known = kept.known;
-  seated = kept.seated;
-  table_is = kept.table_is;
-  stripes_is = c.reserve.ensures.rest ∙ ap (λ (t : Stored). stored.with_spare t (stored_in c.reserve.new.self).spare) kept.stripes_is;
-  leases_is = c.reserve-2.ensures.rest ∙ ap (λ (t : Leased). leased.with_spare t (leased_in c.reserve-2.new.self).spare) kept.leases_is;
-  modes_are = c.reserve-3.ensures.same st kept.modes_are;
-}
-
 pub returns-clause-same : goal.returns-clause-same
 returns-clause-same c = λ st kept. record {
   known = kept.known;
@@ -24,5 +14,5 @@ returns-clause-same c = λ st kept. record {
   table_is = kept.table_is;
   stripes_is = c.reserve.ensures.rest ∙ ap (λ (t : Stored). stored.with_spare t (stored_in c.reserve.new.self).spare) kept.stripes_is;
   leases_is = c.reserve-2.ensures.rest ∙ ap (λ (t : Leased). leased.with_spare t (leased_in c.reserve-2.new.self).spare) kept.leases_is;
-  modes_are = c.reserve-3.ensures.same st kept.modes_are;
+  modes_are = kept.modes_are;
 }

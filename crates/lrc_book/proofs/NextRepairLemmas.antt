@@ -1,0 +1,97 @@
+-- The repair that the next lease is granted for.
+use Rattle.std.proofs.Common.{◌≡◌, ℕ, ◌+◌, ◌<◌, Bool, true, false, not, ◌&&◌, if◌then◌else◌, List, drop, get_or, length, find, Option, Some, None, is_none, is_some, refl, sym, ap, ap₂, ◌∙◌}
+use Rattle.std.proofs.lemmas.Bool.{and_parts}
+use Rattle.std.proofs.lemmas.List.{drop_more}
+use Rattle.std.proofs.lemmas.Nat.Bits.{bit_at-zero}
+use Rattle.lrc_code.specs.declared.numbers.StripeNo.{StripeNo}
+use Rattle.lrc_code.specs.declared.numbers.SessionNo.{SessionNo}
+use Rattle.lrc_code.specs.declared.numbers.Fragment.{Fragment}
+use Rattle.lrc_code.specs.Losses.{bits_set}
+use Rattle.lrc_topology.specs.declared.NodeInfo.{NodeInfo}
+use Rattle.lrc_topology.specs.declared.seat.Seat.{Seat}
+use Rattle.lrc_leases.specs.declared.lease.Lease.{Lease}
+use Rattle.lrc_leases.proofs.ListLemmas.{none-find}
+use Rattle.lrc_book.specs.declared.entry.Entry.{Entry}
+use Rattle.lrc_book.specs.declared.kind.Kind.{Kind}
+use Rattle.lrc_book.specs.declared.repair.Repair.{Repair}
+use Rattle.lrc_book.specs.declared.reply.Reply.TheVariants.{Granted}
+use Rattle.lrc_book.specs.States.{State, lease_of}
+use Rattle.lrc_book.specs.Placement.{chosen}
+use Rattle.lrc_book.specs.Repairs.{needs, kind, is_beyond_repair}
+use Rattle.lrc_book.specs.Leases.{new_lease, granted, lease_outcome}
+use Rattle.lrc_book.specs.Urgency.{is_grantable}
+use Rattle.lrc_book.specs.Stores.{repair_of}
+use Rattle.lrc_book.specs.Repairing.{is_waiting, IsRepair}
+use Rattle.lrc_book.proofs.MostUrgentLemmas.{none-from}
+use Rattle.lrc_book.proofs.LeaseReplyLemmas.{lost-by, able-by, lease-new}
+
+-- ---- the fragments that wait: those that need a lease, but for those that have one
+
+pub left-out : (lease : Option Lease) (needed : Bool) → (if is_some lease then false else needed) ≡ (needed && is_none lease)
+left-out None true = refl
+left-out None false = refl
+left-out (Some l) true = refl
+left-out (Some l) false = refl
+
+-- ---- whether a lease of a fragment would be granted, found in three steps
+
+module _ (nodes : List NodeInfo) (st : State) (s : StripeNo) (f : Fragment) where
+  regrouped : (a b c : Bool) → (a && (b && c)) ≡ ((b && a) && c)
+  regrouped true true c = refl
+  regrouped true false c = refl
+  regrouped false true c = refl
+  regrouped false false c = refl
+
+  grantable-is : (waiting beyond : Bool) (seat : Option Seat) → is_waiting nodes st s f ≡ waiting → is_beyond_repair nodes st s f ≡ beyond
+      → chosen nodes st s f ≡ seat → is_grantable nodes st (s, f) ≡ (waiting && (not beyond && is_some seat))
+  grantable-is waiting beyond seat waits lost found =
+      regrouped (is_none (lease_of st s f)) (needs nodes st s f) _
+      ∙ ap (λ b. b && (not (is_beyond_repair nodes st s f) && is_some (chosen nodes st s f))) waits
+      ∙ ap₂ (λ (b : Bool) (o : Option Seat). waiting && (not b && is_some o)) lost found
+
+  pub not-waiting : is_waiting nodes st s f ≡ false → false ≡ is_grantable nodes st (s, f)
+  not-waiting waits = sym (grantable-is false (is_beyond_repair nodes st s f) (chosen nodes st s f) waits refl refl)
+
+  pub beyond-repair : is_waiting nodes st s f ≡ true → repair_of nodes st s f ≡ None → false ≡ is_grantable nodes st (s, f)
+  beyond-repair waits lost =
+      sym (grantable-is true true (chosen nodes st s f) waits (lost-by (is_beyond_repair nodes st s f) (kind nodes st s f) lost) refl)
+
+  pub without-seat : (k : Kind) → is_waiting nodes st s f ≡ true → repair_of nodes st s f ≡ Some k → chosen nodes st s f ≡ None
+      → false ≡ is_grantable nodes st (s, f)
+  without-seat k waits able none =
+      let parts = able-by (is_beyond_repair nodes st s f) (kind nodes st s f) k able in
+      sym (grantable-is true false None waits parts.0 none)
+
+  pub with-seat : (k : Kind) (seat : Seat) → is_waiting nodes st s f ≡ true → repair_of nodes st s f ≡ Some k → chosen nodes st s f ≡ Some seat
+      → true ≡ is_grantable nodes st (s, f)
+  with-seat k seat waits able found =
+      let parts = able-by (is_beyond_repair nodes st s f) (kind nodes st s f) k able in
+      sym (grantable-is true false (Some seat) waits parts.0 found)
+
+-- none would be, where no fragment waits
+pub none-grantable : (nodes : List NodeInfo) (st : State) (s : StripeNo) (fs : List Fragment) (waiting : ℕ) → waiting ≡ 0
+    → ((f : Fragment) → bits_set waiting f.value ≡ is_waiting nodes st s f) → find (λ (f : Fragment). is_grantable nodes st (s, f)) fs ≡ None
+none-grantable nodes st s fs waiting none are =
+    none-find (λ (f : Fragment). is_grantable nodes st (s, f)) fs (λ f here.
+    let idle : bits_set waiting f.value ≡ false = rw (none, bit_at-zero f.value) refl in
+    sym (not-waiting nodes st s f (sym (are f) ∙ idle)))
+
+-- ---- the first of a list that passes a test
+
+module _ {X : Type 0} (test : X → Bool) (xs : List X) (i : ℕ) (d : X) (within : i < length xs) where
+  pub find-here : test (get_or xs i d) ≡ true → find test (drop i xs) ≡ Some (get_or xs i d)
+  find-here hit = rw (drop_more xs i d within, hit) refl
+
+  pub find-later : test (get_or xs i d) ≡ false → find test (drop i xs) ≡ find test (drop (i + 1) xs)
+  find-later miss = rw (drop_more xs i d within, miss) refl
+
+-- ---- the lease of such a repair is granted
+
+pub repair-granted : (nodes : List NodeInfo) (past : List Entry) (st : State) (session : SessionNo) (r : Repair) → IsRepair nodes st r
+    → (lease_outcome nodes past st session r.stripe r.fragment).0 ≡ Granted (new_lease past session r.stripe r.fragment r.target) r.kind
+repair-granted nodes past st session r is =
+    let waits = and_parts (needs nodes st r.stripe r.fragment) (is_none (lease_of st r.stripe r.fragment)) is.waiting in
+    let new = lease-new nodes past st session r.stripe r.fragment is.there (none-from (lease_of st r.stripe r.fragment) waits.1) r.kind waits.0 is.kind_is in
+    new.0
+    ∙ ap (λ (o : Option Seat). (granted nodes past st session r.stripe r.fragment o).0) is.target_is
+    ∙ ap (λ (k : Kind). Granted (new_lease past session r.stripe r.fragment r.target) k) (sym new.1)

@@ -1,0 +1,23 @@
+use Rattle.std.proofs.Common.{sym, ◌∙◌}
+use Rattle.lrc_book.proofs.NextRepairLemmas.{not-waiting, beyond-repair, without-seat, with-seat}
+use Rattle.lrc_book.proofs.store.Store.repair.Goals as goal
+
+pub returns-then-not-contains-clause-grantable : goal.returns-then-not-contains-clause-grantable
+returns-then-not-contains-clause-grantable c = λ st kept.
+    not-waiting c.args.self.now.topology st c.args.stripe c.args.fragment
+    (sym (c.contains.ensures ∙ c.requires.waiting st kept) ∙ c.if-not-contains.true)
+
+pub returns-in_err-kind-clause-grantable : goal.returns-in_err-kind-clause-grantable
+returns-in_err-kind-clause-grantable c = λ st kept.
+    rw c.from_residual.ensures (beyond-repair c.args.self.now.topology st c.args.stripe c.args.fragment
+    (sym (c.contains.ensures ∙ c.requires.waiting st kept) ∙ c.if-not-contains.false) (sym (c.in_err-kind.ensures st kept)))
+
+pub returns-in_err-target-clause-grantable : goal.returns-in_err-target-clause-grantable
+returns-in_err-target-clause-grantable c = λ st kept.
+    rw c.from_residual-in_err-target.ensures (without-seat c.args.self.now.topology st c.args.stripe c.args.fragment c.in_ok-kind.kind
+    (sym (c.contains.ensures ∙ c.requires.waiting st kept) ∙ c.if-not-contains.false) (sym (c.in_ok-kind.ensures st kept)) (sym (c.in_err-target.ensures st kept)))
+
+pub returns-clause-grantable : goal.returns-clause-grantable
+returns-clause-grantable c = λ st kept.
+    with-seat c.args.self.now.topology st c.args.stripe c.args.fragment c.in_ok-kind.kind c.in_ok-target.target
+    (sym (c.contains.ensures ∙ c.requires.waiting st kept) ∙ c.if-not-contains.false) (sym (c.in_ok-kind.ensures st kept)) (sym (c.in_ok-target.ensures st kept))

@@ -1,0 +1,46 @@
+-- Internal: no public clause reaches these definitions.
+-- The domains that are barred for the fragments of each class, while the seats of a stripe are planned.
+use Rattle.std.specs.Prelude.{Bool, true, false, ◌&&◌, List, Some}
+use Rattle.std.specs.List.{list_any}
+use Rattle.std.specs.Option.{option_map_or}
+use Rattle.lrc_code.specs.declared.codes.Class.{Class}
+use Rattle.lrc_code.specs.declared.codes.Class.TheVariants.{A, B, G}
+use Rattle.lrc_code.specs.declared.codes.Code.TheVariants.{Wide}
+use Rattle.lrc_code.specs.declared.numbers.FaultNo.{FaultNo}
+use Rattle.lrc_code.specs.declared.numbers.UpgradeNo.{UpgradeNo}
+use Rattle.lrc_code.specs.Numbers.{same_fault, same_upgrade}
+use Rattle.lrc_code.specs.Codes.{class_of, are_one_class}
+use Rattle.lrc_topology.specs.declared.NodeInfo.{NodeInfo}
+use Rattle.lrc_topology.specs.declared.seat.Held.{Held}
+use Rattle.lrc_topology.specs.Nodes.{node_at}
+use Rattle.lrc_slots.specs.Barred.{Barred, with_fault, with_upgrade}
+use Rattle.lrc_slots.specs.BarredNodes.{AreBarredNodes}
+use Rattle.lrc_book.specs.declared.class_bars.ClassBars.{ClassBars}
+
+-- the nodes that are barred for the fragments of a class, as truth values by rank
+abbrev pub barred_for : ClassBars → Class → List Bool
+barred_for b A = b.a
+barred_for b B = b.b
+barred_for b G = b.g
+
+-- what is barred, with the fault domain of one more node, and its upgrade domain where the classes are one
+abbrev pub with_node : Bool → Barred → NodeInfo → Barred
+with_node true b n = with_upgrade (with_fault b n.fault) n.upgrade
+with_node false b n = with_fault b n.fault
+
+-- the seat is on a node of the fault domain
+abbrev pub is_in_fault : List NodeInfo → FaultNo → Held → Bool
+is_in_fault nodes d h = option_map_or (λ m. same_fault d m.fault) (node_at nodes h.seat.node) false
+
+-- the seat is of a fragment of the class, on a node of the upgrade domain
+abbrev pub is_in_upgrade : List NodeInfo → Class → UpgradeNo → Held → Bool
+is_in_upgrade nodes c d h =
+    option_map_or (λ m. are_one_class (class_of Wide h.fragment.value) (Some c) && same_upgrade d m.upgrade) (node_at nodes h.seat.node) false
+
+-- the domains that these seats bar for the other fragments of the stripe that are of the class
+abbrev pub bars_for : List NodeInfo → Class → List Held → Barred
+bars_for nodes c seats = record { faults = λ d. list_any (is_in_fault nodes d) seats; upgrades = λ d. list_any (is_in_upgrade nodes c d) seats }
+
+-- the barred nodes are those in the domains that these seats bar
+abbrev pub AreBarsOf : List NodeInfo → List Held → ClassBars → Type 0
+AreBarsOf nodes seats b = (c : Class) → AreBarredNodes nodes (bars_for nodes c seats) (barred_for b c)

@@ -1,0 +1,108 @@
+//! Laws of placing: where a fragment may go, which seat is chosen for it, what a new stripe gets, and what is left of one.
+
+ghost use Rattle.std.specs.Prelude.{◌≡◌, ◌≢◌, ◌↔◌, IsTrue, IsFalse, List, map, All, Contains, Some, None};
+ghost use Rattle.lrc_code.specs.declared.codes.Code.TheVariants.{Wide};
+ghost use Rattle.lrc_code.specs.Codes.{fragments};
+ghost use Rattle.lrc_code.specs.declared.numbers.StripeNo.{StripeNo};
+ghost use Rattle.lrc_code.specs.declared.numbers.Fragment.{Fragment};
+ghost use Rattle.lrc_topology.specs.declared.NodeInfo.{NodeInfo};
+ghost use Rattle.lrc_topology.specs.declared.seat.Seat.{Seat};
+ghost use Rattle.lrc_topology.specs.declared.seat.Held.{Held};
+ghost use Rattle.lrc_topology.specs.Nodes.{AreNodes};
+ghost use Rattle.lrc_code.specs.declared.numbers.SessionNo.{SessionNo};
+ghost use Rattle.lrc_book.specs.declared.entry.Entry.{Entry};
+ghost use Rattle.lrc_book.specs.declared.command.Command.TheVariants.{Place, Drop};
+ghost use Rattle.lrc_book.specs.declared.reply.Reply.TheVariants.{Placed, Dropped, Refused};
+ghost use Rattle.lrc_book.specs.declared.refusal.Refusal.TheVariants as refusal;
+ghost use Rattle.lrc_leases.specs.declared.lease.Lease.{Lease as LeaseRecord};
+ghost use Rattle.lrc_book.specs.Steps.{with_stripe, step};
+ghost use Rattle.lrc_book.specs.States.{State, has_stripe, homes_shown};
+ghost use Rattle.lrc_book.specs.Placement.{chosen, is_beside};
+ghost use Rattle.lrc_book.specs.Choices.{IsFitting, IsChoice, AreChosen, IsFirstWithout};
+ghost use Rattle.lrc_book.specs.Goodness.{AreSeated};
+ghost use Rattle.lrc_book.specs.Ties.{table_of, bars_of, next_seat, with_homes};
+
+/// The chosen seat is the least free slot of the node that comes before every other node that the fragment may go to.
+pub fn chosen_seats_come_first()
+    ensures { (nodes : List NodeInfo) (st : State) (s : StripeNo) (f : Fragment) (seat : Seat)
+        → AreNodes nodes → (chosen nodes st s f ≡ Some seat) ↔ IsChoice nodes st s f seat }
+{}
+
+/// No seat is chosen exactly where the fragment may go to no node.
+pub fn none_is_chosen_where_no_node_fits()
+    ensures { (nodes : List NodeInfo) (st : State) (s : StripeNo) (f : Fragment)
+        → (chosen nodes st s f ≡ None) ↔ ((n : NodeInfo) → ¬ (IsFitting nodes st s f n)) }
+{}
+
+/// Place answers with seats exactly where the stripe is absent and these are the seats that are chosen for its
+/// sixteen fragments, one after the other, each beside those before it.
+pub fn placed_seats_are_chosen_in_turn()
+    ensures { (nodes : List NodeInfo) (past : List Entry) (st : State) (session : SessionNo) (s : StripeNo) (seats : List Seat)
+        → ((step nodes past st session (Place s)).0 ≡ Placed seats)
+        ↔ (IsFalse (has_stripe st s) × AreChosen nodes (with_stripe st Wide s) s (fragments Wide) seats) }
+{}
+
+/// Place finds no lawful node for a fragment exactly where the stripe is absent and this is the first of its
+/// fragments for which no seat is chosen beside those before it.
+pub fn the_first_fragment_without_a_seat_is_told()
+    ensures { (nodes : List NodeInfo) (past : List Entry) (st : State) (session : SessionNo) (s : StripeNo) (f : Fragment)
+        → ((step nodes past st session (Place s)).0 ≡ Refused (refusal.NoLawfulNode f))
+        ↔ (IsFalse (has_stripe st s) × IsFirstWithout nodes (with_stripe st Wide s) s (fragments Wide) f) }
+{}
+
+/// In a state whose stripes are seated the seats that Place tells are the homes of the stripe's sixteen fragments, in their
+/// order. In every state, and whatever Place answers, every other stripe has the homes that it had.
+pub fn placed_seats_are_the_homes()
+    ensures told { (nodes : List NodeInfo) (past : List Entry) (st : State) (session : SessionNo) (s : StripeNo) (seats : List Seat)
+        → AreSeated nodes st → (step nodes past st session (Place s)).0 ≡ Placed seats
+        → homes_shown (step nodes past st session (Place s)).1 s ≡ Some (map (λ seat. Some seat) seats) }
+    ensures others { (nodes : List NodeInfo) (past : List Entry) (st : State) (session : SessionNo) (s r : StripeNo)
+        → r ≢ s → homes_shown (step nodes past st session (Place s)).1 r ≡ homes_shown st r }
+{}
+
+/// Place is refused as one of a stripe that is there exactly where the stripe is there.
+pub fn a_stripe_is_placed_once()
+    ensures { (nodes : List NodeInfo) (past : List Entry) (st : State) (session : SessionNo) (s : StripeNo)
+        → ((step nodes past st session (Place s)).0 ≡ Refused refusal.StripeExists) ↔ IsTrue (has_stripe st s) }
+{}
+
+/// Drop takes a stripe out exactly where it is there, and is refused as of an unknown stripe exactly where it is not. Where
+/// it is done, the stripes, homes and leases that are left are those that are of another stripe, and nothing else is
+/// changed.
+pub fn dropped_stripes_leave_nothing()
+    ensures done { (nodes : List NodeInfo) (past : List Entry) (st : State) (session : SessionNo) (s : StripeNo)
+        → ((step nodes past st session (Drop s)).0 ≡ Dropped) ↔ IsTrue (has_stripe st s) }
+    ensures unknown { (nodes : List NodeInfo) (past : List Entry) (st : State) (session : SessionNo) (s : StripeNo)
+        → ((step nodes past st session (Drop s)).0 ≡ Refused refusal.UnknownStripe) ↔ IsFalse (has_stripe st s) }
+    ensures stripes { (nodes : List NodeInfo) (past : List Entry) (st : State) (session : SessionNo) (s r : StripeNo)
+        → (step nodes past st session (Drop s)).0 ≡ Dropped
+        → Contains (step nodes past st session (Drop s)).1.stripes r ↔ (Contains st.stripes r × (r ≢ s)) }
+    ensures homes { (nodes : List NodeInfo) (past : List Entry) (st : State) (session : SessionNo) (s : StripeNo) (h : Held)
+        → (step nodes past st session (Drop s)).0 ≡ Dropped
+        → Contains (step nodes past st session (Drop s)).1.homes h ↔ (Contains st.homes h × (h.stripe ≢ s)) }
+    ensures leases { (nodes : List NodeInfo) (past : List Entry) (st : State) (session : SessionNo) (s : StripeNo) (l : LeaseRecord)
+        → (step nodes past st session (Drop s)).0 ≡ Dropped
+        → Contains (step nodes past st session (Drop s)).1.leases l ↔ (Contains st.leases l × (l.stripe ≢ s)) }
+    ensures rest { (nodes : List NodeInfo) (past : List Entry) (st : State) (session : SessionNo) (s : StripeNo)
+        → (step nodes past st session (Drop s)).0 ≡ Dropped
+        → (step nodes past st session (Drop s)).1 ≡ record st {
+          stripes = (step nodes past st session (Drop s)).1.stripes;
+          homes = (step nodes past st session (Drop s)).1.homes;
+          leases = (step nodes past st session (Drop s)).1.leases;
+        } }
+{}
+
+/// Over the slot table of a state whose stripes are seated, with the domains of the stripe's other fragments barred,
+/// the least free slot of the next node is the seat that the rule chooses.
+pub fn tables_give_the_chosen_seat()
+    ensures { (nodes : List NodeInfo) (st : State) (s : StripeNo) (f : Fragment)
+        → AreNodes nodes → AreSeated nodes st → next_seat (table_of nodes st) (bars_of nodes st s f) ≡ chosen nodes st s f }
+{}
+
+/// Homes planned for other fragments of the stripe need not be in the table: with their domains barred it gives
+/// the seat that the rule chooses beside them.
+pub fn planned_homes_only_bar_domains()
+    ensures { (nodes : List NodeInfo) (st : State) (planned : List Held) (s : StripeNo) (f : Fragment)
+        → AreNodes nodes → AreSeated nodes st → All (λ h. IsTrue (is_beside s f h)) planned
+        → next_seat (table_of nodes st) (bars_of nodes (with_homes st planned) s f) ≡ chosen nodes (with_homes st planned) s f }
+{}

@@ -1,0 +1,36 @@
+ghost use Rattle.std.specs.Prelude.{◌≡◌, List};
+ghost use Rattle.lrc_book.specs.declared.entry.Entry.{Entry};
+ghost use Rattle.lrc_book.specs.declared.reply.Reply.TheVariants.{Granted};
+ghost use Rattle.lrc_book.specs.Leases.{new_lease};
+ghost use Rattle.lrc_book.specs.Stores.{AreFew, AreGrantsOf};
+
+use crate::{Kind, Lease, Reply, Seat};
+use lrc_code::{Fragment, SessionNo, StripeNo};
+use lrc_leases::Grants;
+
+/// What a lease is granted for: a fragment, from what it is rebuilt, and the seat that it is to have.
+#[derive(Clone, Copy)]
+pub(crate) struct Repair {
+    pub(crate) stripe: StripeNo,
+    pub(crate) fragment: Fragment,
+    pub(crate) kind: Kind,
+    pub(crate) target: Seat,
+}
+
+impl Repair {
+    /// The reply to a session that gets the lease.
+    pub(crate) fn granted_to(self, session: SessionNo, counts: &Grants) -> Reply
+        requires { AreFew counts.now }
+        ensures { (past : List Entry) → AreGrantsOf past counts.now
+            → result ≡ Granted (new_lease past session self.stripe self.fragment self.target) self.kind }
+    {
+        let lease = Lease {
+            stripe: self.stripe,
+            fragment: self.fragment,
+            holder: session,
+            target: self.target,
+            epoch: counts.count(self.stripe, self.fragment) + 1,
+        };
+        Reply::Granted(lease, self.kind)
+    }
+}
