@@ -1,0 +1,3 @@
+pub mod EmptyLemmas
+pub mod PrefixLemmas
+pub mod WrittenLemmas
