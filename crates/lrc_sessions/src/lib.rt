@@ -6,6 +6,7 @@ mod desk;
 mod error;
 mod finish;
 mod gate;
+pub mod laws;
 mod manager;
 mod naming;
 mod parts;

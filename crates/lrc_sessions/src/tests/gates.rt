@@ -84,16 +84,17 @@ fn two_scripts_run_on_two_threads(rt: HostRuntime) -> Result<(), Fail> {
     Ok(())
 }
 
+/// The first script places two stripes, the second asks twice for the next lease.
 fn meeting_scripts(alloc: Global) -> Result<Vec<Vec<Command>>, Fail> {
     let mut places = Vec::new(alloc);
     places.push(Command::Place(stripe(1)?))?;
     places.push(Command::Place(stripe(2)?))?;
-    let mut drops = Vec::new(alloc);
-    drops.push(Command::Drop(stripe(3)?))?;
-    drops.push(Command::Drop(stripe(4)?))?;
+    let mut leases = Vec::new(alloc);
+    leases.push(Command::Next)?;
+    leases.push(Command::Next)?;
     let mut scripts = Vec::new(alloc);
     scripts.push(places)?;
-    scripts.push(drops)?;
+    scripts.push(leases)?;
     Ok(scripts)
 }
 

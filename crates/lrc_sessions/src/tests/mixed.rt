@@ -3,7 +3,7 @@
 use super::{parts, run_all, topology};
 use crate::{Closing, OpenGate, Receipt, Track};
 use lrc_book::{Book, Command, Entry};
-use lrc_code::{Fragment, NodeNo, SessionNo, StripeNo};
+use lrc_code::{Fragment, NodeNo, SessionNo, StripeNo, UpgradeNo};
 use std::alloc::Global;
 use std::marker::Brand;
 use std::process::Abort;
@@ -54,29 +54,52 @@ fn mixed_scripts(alloc: Global, run: u64) -> Result<Vec<Vec<Command>>, Fail> {
     Ok(scripts)
 }
 
-/// The command that a number stands for.
+/// The command that a number stands for: half of them are of stripes and leases, and half of nodes and upgrade domains.
 fn command_of(number: u64) -> Command {
+    let rest = number / 32;
+    if number % 2 == 0 {
+        command_on_stripes(number / 2 % 16, rest)
+    } else {
+        command_on_nodes(number / 2 % 16, rest)
+    }
+}
+
+fn command_on_stripes(kind: u64, number: u64) -> Command {
     let stripe = StripeNo {
-        value: (number / 16 % 6) as u16,
+        value: (number % 6) as u16,
     };
     let fragment = Fragment {
-        value: (number / 128 % 16) as u8,
+        value: (number / 8 % 16) as u8,
     };
-    let node = NodeNo {
-        value: (number / 128 % 21) as u16,
-    };
-    let epoch = (number / 4_096 % 3 + 1) as u32;
-    match number % 16 {
+    let epoch = (number / 128 % 3 + 1) as u32;
+    match kind {
         0 | 1 | 2 => Command::Place(stripe),
         3 => Command::Drop(stripe),
         4 | 5 | 6 => Command::Lease(stripe, fragment),
-        7 | 8 => Command::Done(stripe, fragment, epoch),
-        9 => Command::Abandon(stripe, fragment, epoch),
-        10 => Command::Revoke(stripe, fragment),
-        11 => Command::Fail(node),
-        12 => Command::Down(node),
-        13 => Command::Up(node),
-        _ => Command::Join(node),
+        7 | 8 | 9 | 10 => Command::Next,
+        11 | 12 | 13 => Command::Done(stripe, fragment, epoch),
+        14 => Command::Abandon(stripe, fragment, epoch),
+        _ => Command::Revoke(stripe, fragment),
+    }
+}
+
+fn command_on_nodes(kind: u64, number: u64) -> Command {
+    let node = NodeNo {
+        value: (number % 21) as u16,
+    };
+    let upgrade = UpgradeNo {
+        value: (number % 11) as u8,
+    };
+    match kind {
+        0 | 1 => Command::Fail(node),
+        2 => Command::Down(node),
+        3 | 4 => Command::Up(node),
+        5 | 6 => Command::Drain(node),
+        7 => Command::Undrain(node),
+        8 | 9 => Command::Retire(node),
+        10 | 11 => Command::Join(node),
+        12 | 13 => Command::Upgrade(upgrade),
+        _ => Command::Upgraded(upgrade),
     }
 }
 
