@@ -10,8 +10,8 @@ use Rattle.std.specs.Str.Parse.{digits_value}
 use Rattle.std.proofs.lemmas.Str.Parse.{IsNumeralModel, numerals_by_value}
 use Rattle.std.proofs.lemmas.Fmt.{decimal-digits_value}
 use Rattle.std.proofs.lemmas.Int.Digits.{digits_value_more}
-use Rattle.std.proofs.lemmas.List.Sums.{AllPass-from_list_all}
-use Rattle.lrc_script.specs.declared.script.Cause.TheVariants.{WordCount, OutOfRange}
+use Rattle.std.proofs.lemmas.List.Folds.{list_all_more}
+use Rattle.lrc_script.specs.declared.script.Cause.TheVariants.{WordCount}
 use Rattle.std.proofs.lemmas.Bool.Decides.{nat_tests}
 use Rattle.std.specs.Borrow.{Bor}
 use Rattle.std.proofs.lemmas.List.Splits.{length-slice_split, join_with_byte-slice_split}
@@ -67,21 +67,25 @@ digit_value-digit c digit = grind (arith, nat_tests)
 pub own : IsNumeralModel (λ ds. list_all is_ascii_digit ds ≡ true) (digits_value 10)
 own = numerals_by_value _ (search rules)
 
-module _ (word : List ℕ) (numeral : is_number word ≡ true) where
-  -- the digits so far, and the next
-  pub digits_value-next : (i : ℕ) → i < length word → digits_value 10 (take (i + 1) word) ≡ digits_value 10 (take i word) * 10 + (get_or word i 0 - 48)
-  digits_value-next i within =
-      digits_value_more 10 word i within ∙ ap (λ d. digits_value 10 (take i word) * 10 + d) (digit_value-digit (get_or word i 0) (AllPass-from_list_all is_ascii_digit word (is_number-parts word numeral).1 i 0 within))
+-- the digits so far, and the next
+pub digits_value-next :
+    (word : List ℕ) (i : ℕ) → i < length word → is_ascii_digit (get_or word i 0) ≡ true
+    → digits_value 10 (take (i + 1) word) ≡ digits_value 10 (take i word) * 10 + (get_or word i 0 - 48)
+digits_value-next word i within digit =
+    digits_value_more 10 word i within ∙ ap (λ d. digits_value 10 (take i word) * 10 + d) (digit_value-digit (get_or word i 0) digit)
 
+pub digits-next :
+    (word : List ℕ) (i : ℕ) → i < length word → list_all is_ascii_digit (take i word) ≡ true → is_ascii_digit (get_or word i 0) ≡ true
+    → list_all is_ascii_digit (take (i + 1) word) ≡ true
+digits-next word i within digits digit = list_all_more is_ascii_digit word i 0 within ∙ rw (digits, digit) refl
+
+module _ (word : List ℕ) (numeral : is_number word ≡ true) where
   -- a number is the decimal text of its value
   pub decimal-number : digits_value 10 word < 2 ^ 64 → word ≡ decimal (digits_value 10 word)
   decimal-number small = let parts = is_number-parts word numeral in sym (decimal-digits_value own word parts.1 parts.0 parts.2 small)
 
   pub argument_cause-below : (bound : ℕ) → digits_value 10 word < bound → argument_cause word bound ≡ None
   argument_cause-below bound below = rw (numeral, lt-ltb (digits_value 10 word) bound below) refl
-
-  pub argument_cause-above : (bound : ℕ) → bound ≤ digits_value 10 word → argument_cause word bound ≡ Some OutOfRange
-  argument_cause-above bound above = rw (numeral, le-ltb (digits_value 10 word) bound above) refl
 
 -- ---- words
 

@@ -1,8 +1,7 @@
 ghost use Rattle.std.specs.Prelude.{◌≡◌, ◌≢◌, ℕ, ◌+◌, ◌^◌, ◌<◌, ◌≤◌, [], ◌∷◌, length, decimal, OnOk, IfOk, IfErr, MatchResult};
-ghost use Rattle.std.specs.Char.{is_ascii_digit};
-ghost use Rattle.std.specs.List.{list_all, join_with_byte};
+ghost use Rattle.std.specs.List.{join_with_byte};
 ghost use Rattle.std.specs.Result.{result_err};
-ghost use Rattle.lrc_script.specs.Scripts.{lines_of, words_of, is_passed_over, is_number, command_line, IsInRange, IsScript, argument_cause, numbers_cause, node_forms, form_in, form_cause, words_cause, cause_of, first_bad, IsFirstBad};
+ghost use Rattle.lrc_script.specs.Scripts.{lines_of, words_of, is_passed_over, command_line, IsInRange, IsScript, argument_cause, numbers_cause, node_forms, form_in, form_cause, words_cause, cause_of, first_bad, IsFirstBad};
 ghost use Rattle.lrc_script.specs.Cuts.{words_behind, IsReadAs};
 ghost use Rattle.lrc_script.specs.declared.script.Cause.TheVariants as causes;
 
@@ -311,31 +310,21 @@ fn argument(word: &[u8], bound: u64) -> Result<u64, Cause>
     ensures number { IfOk result (λ n. (n < bound) × (word.now ≡ decimal n)) }
     ensures cause { result_err result ≡ argument_cause word.now bound }
 {
-    if !is_number(word) {
+    if word.is_empty() || (word.len() > 1 && word[0] == b'0') {
         return Err(Cause::NotANumber);
     }
     let mut number = 0;
-    for digit in word {
-        number = number * 10 + u64::from(*digit - b'0');
-        if number >= bound {
-            return Err(Cause::OutOfRange);
+    for byte in word {
+        if !byte.is_ascii_digit() {
+            return Err(Cause::NotANumber);
+        }
+        // A number that has reached the bound stays beyond it.
+        if number < bound {
+            number = number * 10 + u64::from(*byte - b'0');
         }
     }
-    Ok(number)
-}
-
-fn is_number(word: &[u8]) -> bool
-    ensures { result ≡ is_number word.now }
-{
-    match word.len() {
-        0 => false,
-        1 => has_only_digits(word),
-        _ => has_only_digits(word) && word[0] != b'0',
+    if number >= bound {
+        return Err(Cause::OutOfRange);
     }
-}
-
-fn has_only_digits(word: &[u8]) -> bool
-    ensures { result ≡ list_all is_ascii_digit word.now }
-{
-    word.iter().all(|byte| byte.is_ascii_digit())
+    Ok(number)
 }

@@ -22,4 +22,3 @@ mod RowsOfHistories
 mod RowsOfSessions
 mod RowsOfTables
 pub mod MaskLemmas
-pub mod SeveralLemmas

@@ -9,12 +9,21 @@ use lrc_script::Cause;
 use lrc_topology::TopologyError;
 use std::alloc::AllocError;
 
+/// Adds a number in decimal digits.
+fn push_number(out: &mut String, number: u64) -> Result<(), AllocError>
+    ensures { OnOk result (string_bytes out.new ≡ string_bytes out.old ++ decimal number) }
+{
+    let mut digits = itoa::Buffer::new();
+    out.push_str(digits.format(number))
+}
+
 fn push_seat(out: &mut String, seat: &Seat) -> Result<(), AllocError>
     ensures { OnOk result (string_bytes out.new ≡ string_bytes out.old ++ (codes " " ++ seat_text seat.now)) }
 {
-    let node = seat.node.value;
-    let slot = seat.slot;
-    write!(out, " {node}:{slot}")
+    out.push_str(" ")?;
+    push_number(out, u64::from(seat.node.value))?;
+    out.push_str(":")?;
+    push_number(out, u64::from(seat.slot))
 }
 
 fn push_seats(out: &mut String, seats: &[Seat]) -> Result<(), AllocError>
@@ -29,20 +38,20 @@ fn push_seats(out: &mut String, seats: &[Seat]) -> Result<(), AllocError>
 fn push_lease(out: &mut String, lease: &Lease) -> Result<(), AllocError>
     ensures { OnOk result (string_bytes out.new ≡ string_bytes out.old ++ lease_text lease.now) }
 {
-    let stripe = lease.stripe.value;
-    let fragment = lease.fragment.value;
-    let node = lease.target.node.value;
-    let slot = lease.target.slot;
-    let epoch = lease.epoch;
-    write!(out, "{stripe} {fragment} {node}:{slot} epoch {epoch}")
+    push_number(out, u64::from(lease.stripe.value))?;
+    out.push_str(" ")?;
+    push_number(out, u64::from(lease.fragment.value))?;
+    push_seat(out, &lease.target)?;
+    out.push_str(" epoch ")?;
+    push_number(out, u64::from(lease.epoch))
 }
 
 fn push_sources(out: &mut String, sources: &[Fragment]) -> Result<(), AllocError>
     ensures { OnOk result (string_bytes out.new ≡ string_bytes out.old ++ spaced (map (λ f. decimal f.value) sources.now)) }
 {
     for source in sources {
-        let number = source.value;
-        write!(out, " {number}")?;
+        out.push_str(" ")?;
+        push_number(out, u64::from(source.value))?;
     }
     Ok(())
 }
@@ -60,42 +69,35 @@ fn push_kind(out: &mut String, kind: &Kind) -> Result<(), AllocError>
     }
 }
 
+/// Adds the code of a refusal, a space behind it, and the number that it tells.
+fn push_detail(out: &mut String, code: &str, number: u64) -> Result<(), AllocError>
+    ensures { OnOk result (string_bytes out.new ≡ string_bytes out.old ++ (code.now ++ decimal number)) }
+{
+    out.push_str(code)?;
+    push_number(out, number)
+}
+
 fn push_refusal(out: &mut String, refusal: &Refusal) -> Result<(), AllocError>
     ensures { OnOk result (string_bytes out.new ≡ string_bytes out.old ++ refusal_text refusal.now) }
 {
     match refusal {
         Refusal::UnknownStripe => out.push_str("101"),
         Refusal::StripeExists => out.push_str("102"),
-        Refusal::NoLawfulNode(fragment) => {
-            let number = fragment.value;
-            write!(out, "103 {number}")
-        }
+        Refusal::NoLawfulNode(fragment) => push_detail(out, "103 ", u64::from(fragment.value)),
         Refusal::UnknownNode => out.push_str("104"),
         Refusal::WrongMode => out.push_str("105"),
         Refusal::UnknownDomain => out.push_str("106"),
-        Refusal::UpgradeRunning(domain) => {
-            let number = domain.value;
-            write!(out, "107 {number}")
-        }
+        Refusal::UpgradeRunning(domain) => push_detail(out, "107 ", u64::from(domain.value)),
         Refusal::NotUpgrading => out.push_str("108"),
-        Refusal::WouldLose(stripe) => {
-            let number = stripe.value;
-            write!(out, "109 {number}")
-        }
-        Refusal::AlreadyLeased(epoch) => write!(out, "110 {epoch}"),
+        Refusal::WouldLose(stripe) => push_detail(out, "109 ", u64::from(stripe.value)),
+        Refusal::AlreadyLeased(epoch) => push_detail(out, "110 ", u64::from(*epoch)),
         Refusal::NotNeeded => out.push_str("111"),
         Refusal::Unrecoverable => out.push_str("112"),
         Refusal::Stale => out.push_str("113"),
-        Refusal::NotHolder(holder) => {
-            let number = holder.value;
-            write!(out, "114 {number}")
-        }
-        Refusal::TargetOffline(node) => {
-            let number = node.value;
-            write!(out, "115 {number}")
-        }
+        Refusal::NotHolder(holder) => push_detail(out, "114 ", u64::from(holder.value)),
+        Refusal::TargetOffline(node) => push_detail(out, "115 ", u64::from(node.value)),
         Refusal::NoLease => out.push_str("116"),
-        Refusal::NotEmpty(load) => write!(out, "117 {load}"),
+        Refusal::NotEmpty(load) => push_detail(out, "117 ", u64::from(*load)),
     }
 }
 
@@ -140,7 +142,8 @@ pub(crate) fn push_reply_line(
 ) -> Result<(), AllocError>
     ensures { OnOk result (string_bytes out.new ≡ string_bytes out.old ++ reply_line place reply.now) }
 {
-    write!(out, "{place} ")?;
+    push_number(out, place as u64)?;
+    out.push_str(" ")?;
     push_reply(out, reply)?;
     out.push_str("\n")
 }

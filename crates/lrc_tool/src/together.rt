@@ -1,7 +1,11 @@
 //! Several scripts at once, each by a session of its own.
 
-ghost use Rattle.std.specs.Prelude.{◌≡◌, ◌<◌, ◌≤◌, ◌⊎◌, length, IfOk, IfErr};
+ghost use Rattle.std.specs.Prelude.{◌≡◌, ◌<◌, ◌≤◌, ◌⊎◌, length, Some, None, option_map, IfOk, IfErr};
+ghost use Rattle.lrc_tool.specs.Faults.{run_fault, first_fault};
 ghost use Rattle.lrc_tool.specs.declared.streams.RunFault.TheVariants as fault;
+
+#[cfg(test)]
+mod tests;
 
 use crate::streams::RunFault;
 use crate::tables::with_tables;
@@ -76,7 +80,8 @@ fn run_each<N: Naming + Send + Sync, T: Threads + Wait + Sync>(
 
 /// The tracks, where no fault stopped one; else the fault that stopped the first of those.
 fn unstopped(tracks: Vec<Track>) -> Result<Vec<Track>, RunFault>
-    ensures ok { IfOk result (λ v. v.items ≡ tracks.items) }
+    ensures ok { IfOk result (λ v. (v.items ≡ tracks.items) × (first_fault tracks.items ≡ None)) }
+    ensures first { IfErr result (λ e. option_map run_fault (first_fault tracks.items) ≡ Some e) }
     ensures err { IfErr result (λ e. (e ≡ fault.OutOfMemory) ⊎ (e ≡ fault.HistoryFull)) }
 {
     for track in tracks.as_slice() {

@@ -42,6 +42,43 @@ fn a_drained_node_is_retired_when_it_is_empty(rt: HostRuntime) -> Result<(), Fai
 }
 
 #[test]
+fn a_draining_node_goes_down_and_comes_back(rt: HostRuntime) -> Result<(), Fail> {
+    let runs = [
+        // Its fragment is missing while it is down.
+        Run {
+            script: "place 1\ndrain 0\ndown 0\n",
+            placed: PLACING_ONE,
+            replies: "2 changed\n3 changed\n",
+            risk: "1,risk,2,0001\n",
+            modes: "Daaaaaaaaaaaaaaaaaaa",
+            loads: "11111111111111101000",
+        },
+        // It drains still when it comes back.
+        Run {
+            script: "place 1\ndrain 0\ndown 0\nup 0\n",
+            placed: PLACING_ONE,
+            replies: "2 changed\n3 changed\n4 changed\n",
+            risk: "",
+            modes: "daaaaaaaaaaaaaaaaaaa",
+            loads: "11111111111111101000",
+        },
+        // It is as it was once both are undone.
+        Run {
+            script: "place 1\ndrain 0\ndown 0\nup 0\nundrain 0\n",
+            placed: PLACING_ONE,
+            replies: "2 changed\n3 changed\n4 changed\n5 changed\n",
+            risk: "",
+            modes: "aaaaaaaaaaaaaaaaaaaa",
+            loads: "11111111111111101000",
+        },
+    ];
+    for run in runs {
+        expect_run(&rt, rt.alloc(), run)?;
+    }
+    Ok(())
+}
+
+#[test]
 fn moves_go_on_after_undrain_and_end_with_their_home(rt: HostRuntime) -> Result<(), Fail> {
     let runs = [
         // A lease outlives the draining, and its report moves the fragment.

@@ -97,6 +97,80 @@ fn nodes_are_offline_while_their_domain_is_upgraded(rt: HostRuntime) -> Result<(
 }
 
 #[test]
+fn a_node_that_is_down_stays_down_through_an_upgrade(rt: HostRuntime) -> Result<(), Fail> {
+    let runs = [
+        // What is down and what is being upgraded is missing together.
+        Run {
+            script: "place 1\ndown 1\nupgrade 0\n",
+            placed: PLACING_ONE,
+            replies: "2 changed\n3 changed\n",
+            risk: "1,risk,1,0403\n",
+            modes: "AAaaaaaaaaAaaaaaaaaa",
+            loads: "11111111111111101000",
+        },
+        // A node of another domain is down still when the upgrade has ended.
+        Run {
+            script: "place 1\ndown 1\nupgrade 0\nupgraded 0\n",
+            placed: PLACING_ONE,
+            replies: "2 changed\n3 changed\n4 changed\n",
+            risk: "1,risk,2,0002\n",
+            modes: "aAaaaaaaaaaaaaaaaaaa",
+            loads: "11111111111111101000",
+        },
+        // It comes back by its own command.
+        Run {
+            script: "place 1\ndown 1\nupgrade 0\nupgraded 0\nup 1\n",
+            placed: PLACING_ONE,
+            replies: "2 changed\n3 changed\n4 changed\n5 changed\n",
+            risk: "",
+            modes: "aaaaaaaaaaaaaaaaaaaa",
+            loads: "11111111111111101000",
+        },
+    ];
+    for run in runs {
+        expect_run(&rt, rt.alloc(), run)?;
+    }
+    Ok(())
+}
+
+#[test]
+fn a_node_goes_down_while_its_domain_is_upgraded(rt: HostRuntime) -> Result<(), Fail> {
+    let runs = [
+        // The end of the upgrade does not bring it back.
+        Run {
+            script: "place 1\nupgrade 0\ndown 0\nupgraded 0\n",
+            placed: PLACING_ONE,
+            replies: "2 changed\n3 changed\n4 changed\n",
+            risk: "1,risk,2,0001\n",
+            modes: "Aaaaaaaaaaaaaaaaaaaa",
+            loads: "11111111111111101000",
+        },
+        // After both it is back.
+        Run {
+            script: "place 1\nupgrade 0\ndown 0\nupgraded 0\nup 0\n",
+            placed: PLACING_ONE,
+            replies: "2 changed\n3 changed\n4 changed\n5 changed\n",
+            risk: "",
+            modes: "aaaaaaaaaaaaaaaaaaaa",
+            loads: "11111111111111101000",
+        },
+        // Where it comes up first, it is offline until the upgrade has ended.
+        Run {
+            script: "place 1\nupgrade 0\ndown 0\nup 0\n",
+            placed: PLACING_ONE,
+            replies: "2 changed\n3 changed\n4 changed\n",
+            risk: "1,risk,2,0401\n",
+            modes: "AaaaaaaaaaAaaaaaaaaa",
+            loads: "11111111111111101000",
+        },
+    ];
+    for run in runs {
+        expect_run(&rt, rt.alloc(), run)?;
+    }
+    Ok(())
+}
+
+#[test]
 fn the_least_stripe_that_would_be_lost_is_told(rt: HostRuntime) -> Result<(), Fail> {
     let runs = [
         // The least stripe that would be lost is told, of those that are not lost already.

@@ -1,41 +1,42 @@
-use Rattle.std.proofs.Common.{rules, arith, ◌≡◌, ◌+◌, ◌<◌, true, sym, ap, ◌∙◌, decimal}
-use Rattle.std.proofs.lemmas.List.{take_all}
-use Rattle.std.proofs.lemmas.Str.Parse.{digits_value-take-le}
+use Rattle.std.proofs.Common.{rules, arith, ◌≡◌, ◌≢◌, ◌<◌, true, length, get_or, sym, ap, ◌∙◌, decimal}
+use Rattle.std.specs.Char.{is_ascii_digit}
+use Rattle.std.specs.List.{list_all}
 use Rattle.std.specs.Str.Parse.{digits_value}
-use Rattle.lrc_script.specs.Scripts.{is_number}
-use Rattle.lrc_script.proofs.ScriptLemmas.{digits_value-next, decimal-number, is_number-parts, argument_cause-below, argument_cause-above}
+use Rattle.std.proofs.lemmas.List.{take_all}
+use Rattle.lrc_script.proofs.ScriptLemmas.{digits_value-next, digits-next, decimal-number, is_number-digits}
 use Rattle.lrc_script.proofs.script.argument.Goals as goal
-use Rattle.lrc_script.proofs.script.argument.Goals.{After-loop-digit}
+use Rattle.lrc_script.proofs.script.argument.Goals.{After-loop-byte, then-number-bound, else-number-bound, then-word-gt1, else-word-gt1}
 
-pub returns-then-number-bound-clause-cause : goal.returns-then-number-bound-clause-cause
-returns-then-number-bound-clause-cause c =
+pub loop-byte-preserved : goal.loop-byte-preserved
+loop-byte-preserved c =
     let word = c.args.word.now in
-    let i = c.loop-digit.digit-index in
-    let numeral : is_number word ≡ true = search rules in
-    let next = digits_value-next word numeral i c.loop-digit-test.true in
-    let prefix = digits_value-take-le 10 word (i + 1) (omega arith) in
-    sym (argument_cause-above word numeral c.args.bound (omega (arith, next, prefix)))
+    let i = c.loop-byte.byte-index in
+    let digit : is_ascii_digit (get_or word i 0) ≡ true = sym c.is_ascii_digit.ensures.value ∙ c.if-not-is_ascii_digit.false in
+    let next = digits_value-next word i c.loop-byte-test.true digit in
+    let digits = digits-next word i c.loop-byte-test.true c.loop-byte.invariant.digits digit in
+    elim c.if-number-bound.branch [
+      | then-number-bound w ↦
+          let before = c.loop-byte.invariant.so_far w.if-number-bound.true in
+          record { digits = digits; so_far = λ _. omega (arith, next, before, w.number-is); beyond = λ past. omega (arith, past, next, before, w.number-is) }
+      | else-number-bound w ↦
+          let before = c.loop-byte.invariant.beyond w.if-number-bound.false in
+          record { digits = digits; so_far = λ below. omega (arith, below, w.if-number-bound.false, w.number-is); beyond = λ _. omega (arith, next, before) }
+    ]
 
-pub loop-digit-preserved : goal.loop-digit-preserved
-loop-digit-preserved c =
-    let word = c.args.word.now in
-    let numeral : is_number word ≡ true = search rules in
-    let next = digits_value-next word numeral c.loop-digit.digit-index c.loop-digit-test.true in
-    record { so_far = omega (arith, next); within = omega arith; below = λ _. omega arith }
+some : (c : After-loop-byte) → 0 < length c.args.word.now
+some c = search rules
 
-whole : (c : After-loop-digit) → (c.loop-digit.number ≡ digits_value 10 c.args.word.now) × (c.loop-digit.number < c.args.bound) × (is_number c.args.word.now ≡ true)
-whole c =
-    let word = c.args.word.now in
-    let numeral : is_number word ≡ true = search rules in
-    let some = (is_number-parts word numeral).0 in
-    (c.loop-digit.invariant.so_far ∙ ap (digits_value 10) (take_all c.loop-digit.digit-index word c.loop-digit-test.false), c.loop-digit.invariant.below (omega arith), numeral)
+-- no zero stands in front of more
+plain : (c : After-loop-byte) → 1 < length c.args.word.now → get_or c.args.word.now 0 0 ≢ 48
+plain c long = elim c.if-word-gt1.branch [ then-word-gt1 w ↦ search rules | else-word-gt1 w ↦ search rules ]
 
 pub returns-clause-number : goal.returns-clause-number
 returns-clause-number c =
-    let all = whole c in
-    (all.1, decimal-number c.args.word.now all.2 (omega (arith, all.0, all.1)) ∙ ap decimal (sym all.0))
-
-pub returns-clause-cause : goal.returns-clause-cause
-returns-clause-cause c =
-    let all = whole c in
-    sym (argument_cause-below c.args.word.now all.2 c.args.bound (omega (arith, all.0, all.1)))
+    let word = c.args.word.now in
+    let after = (goal.at.returns-clause-number c).After-loop-byte in
+    let whole = take_all c.loop-byte.byte-index word c.loop-byte-test.false in
+    let digits = ap (list_all is_ascii_digit) (sym whole) ∙ c.loop-byte.invariant.digits in
+    let numeral = sym (is_number-digits word (some after) (plain after)) ∙ digits in
+    let below = c.if-number-bound-2.false in
+    let value = c.loop-byte.invariant.so_far below ∙ ap (digits_value 10) whole in
+    (below, decimal-number word numeral (omega (arith, value, below)) ∙ ap decimal (sym value))

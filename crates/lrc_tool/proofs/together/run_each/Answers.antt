@@ -1,6 +1,6 @@
 use Rattle.std.proofs.Common.{◌≡◌, length, sym, ap, ◌∙◌}
 use Rattle.lrc_sessions.specs.Views.{fresh}
-use Rattle.lrc_tool.proofs.SeveralLemmas.{length_fresh, all_left}
+use Rattle.lrc_sessions.proofs.OpenedLemmas.{length_fresh, all_left}
 use Rattle.lrc_tool.proofs.together.run_each.Goals as goal
 
 pub run_sessions-sessions-requires-after_bounds : goal.run_sessions-sessions-requires-after_bounds
