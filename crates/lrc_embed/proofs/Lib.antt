@@ -1,0 +1,5 @@
+pub mod OfLemmas
+pub mod ReplayLemmas
+pub mod Rows
+pub mod SameLemmas
+pub mod Values

@@ -1,0 +1,58 @@
+-- Replays, as entries are added.
+use Rattle.std.proofs.Common.{◌≡◌, ℕ, ◌+◌, ◌<◌, List, [], ◌∷◌, ◌++◌, length, take, get_or, refl, sym, ap, subst, ◌∙◌, append_assoc, append-nil, replicate}
+use Rattle.std.proofs.lemmas.List.{take_more}
+use Rattle.std.proofs.lemmas.Option.{slice_get-get_or}
+use Rattle.std.proofs.lemmas.List.Sums.{fold-append}
+use Rattle.lrc_topology.specs.declared.NodeInfo.{NodeInfo}
+use Rattle.lrc_book.specs.declared.entry.Entry.{Entry}
+use Rattle.lrc_book.specs.Histories.{World, first_world, outcome_in, next_world, world_after}
+use Rattle.lrc_book.specs.Books.{BookView, world_of}
+use Rattle.lrc_book.proofs.WorldLemmas.{legal_append}
+use Rattle.lrc_embed.specs.declared.entry.LrcEntry.{LrcEntry}
+use Rattle.lrc_embed.specs.Commands.{blank_command}
+use Rattle.lrc_embed.specs.Replies.{blank_reply}
+use Rattle.lrc_embed.specs.Replays.{IsEntry, AreEntries, IsReplay, IsRepeat, StopsAt}
+
+entries_push : (cs : List LrcEntry) (es : List Entry) (c : LrcEntry) (e : Entry) → AreEntries cs es → IsEntry c e
+    → AreEntries (cs ++ c ∷ []) (es ++ e ∷ [])
+entries_push [] [] c e are is = (is, tt)
+entries_push [] (x ∷ xs) c e are is = absurd are
+entries_push (y ∷ ys) [] c e are is = absurd are
+entries_push (y ∷ ys) (x ∷ xs) c e are is = (are.0, entries_push ys xs c e are.1 is)
+
+-- no entries are replayed by nothing
+pub replay_none : (b : BookView) → IsReplay [] b b
+replay_none b = ([], tt, tt, sym (append-nil b.history), refl, refl)
+
+-- one more
+pub replay_push : (cs : List LrcEntry) (c : LrcEntry) (b mid after : BookView) → IsReplay cs b mid → IsRepeat c mid after
+    → IsReplay (cs ++ c ∷ []) b after
+replay_push cs c b mid after r s =
+    let es = r.0 in let e = s.0 in let nodes = r.4 in
+    let there : world_of mid ≡ world_after b.nodes (b.history ++ es) =
+    ap (λ (ns : List NodeInfo). world_after ns mid.history) nodes ∙ ap (world_after b.nodes) r.3 in
+    let at = there ∙ fold-append (next_world b.nodes) first_world b.history es in
+    let told = subst (λ (ns : List NodeInfo). (outcome_in ns (world_of mid) e.session e.command).0 ≡ e.reply) nodes s.2 in (
+      es ++ e ∷ [],
+      entries_push cs es c e r.1 s.1,
+      legal_append b.nodes (world_of b) es (e ∷ []) r.2 (subst (λ (w : World). (outcome_in b.nodes w e.session e.command).0 ≡ e.reply) at told, tt),
+      s.3 ∙ ap (λ (h : List Entry). h ++ e ∷ []) r.3 ∙ append_assoc b.history es (e ∷ []),
+      s.4 ∙ r.4,
+      s.5 ∙ r.5,
+    )
+
+-- a struct of zeros
+abbrev pub no_entry : LrcEntry
+no_entry = record { session = 0; reserved = replicate 3 0; command = blank_command; reply = blank_reply }
+
+-- the entry at this position is replayed after those before it
+pub replay_more : (cs : List LrcEntry) (i : ℕ) (d : LrcEntry) (b mid same after : BookView) → i < length cs → IsReplay (take i cs) b mid → same ≡ mid
+    → IsRepeat (get_or cs i d) same after → IsReplay (take (i + 1) cs) b after
+replay_more cs i d b mid same after within r is s =
+    subst (λ (xs : List LrcEntry). IsReplay xs b after) (sym (take_more cs i d within))
+    (replay_push (take i cs) (get_or cs i d) b mid after r (subst (λ (m : BookView). IsRepeat (get_or cs i d) m after) is s))
+
+-- the replay stops at this position
+pub stops_at : (P : LrcEntry → BookView → Type 0) (cs : List LrcEntry) (i : ℕ) (d : LrcEntry) (b mid same : BookView) → i < length cs → IsReplay (take i cs) b mid → same ≡ mid
+    → P (get_or cs i d) same → StopsAt P cs i b
+stops_at P cs i d b mid same within r is holds = (get_or cs i d, mid, slice_get-get_or cs i d within, r, subst (P (get_or cs i d)) is holds)

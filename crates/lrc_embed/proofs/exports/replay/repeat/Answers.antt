@@ -1,0 +1,35 @@
+use Rattle.std.proofs.Common.{rules, sym, ap, ◌∙◌}
+use Rattle.std.proofs.lemmas.Bool.Decides.{not_from_Decides}
+use Rattle.lrc_embed.specs.Replies.{reply_told}
+use Rattle.lrc_embed.proofs.SameLemmas.{reply-Decides}
+use Rattle.lrc_embed.proofs.exports.replay.repeat.Goals as goal
+
+pub returns-in-Ok-clause-done : goal.returns-in-Ok-clause-done
+returns-in-Ok-clause-done c = λ _. (
+  record { session = c.in-Some.session; command = c.in-Some-read.command; reply = c.in-Ok.reply },
+  (
+    (c.in-Some.ensures.value, c.in-Some-read.ensures.value),
+    sym ((reply-Decides c.of.result c.args.entry.now.reply).0 (sym c.if-eq.ensures)) ∙ c.of.ensures,
+  ),
+  sym c.in-Ok.ensures.reply,
+  c.in-Ok.ensures.entry,
+  c.call.ensures.same.0,
+  c.call.ensures.same.1,
+)
+
+pub returns-in-Ok-2-clause-different : goal.returns-in-Ok-2-clause-different
+returns-in-Ok-2-clause-different c = λ _. (
+  c.in-Some.session,
+  c.in-Some-read.command,
+  (c.in-Some.ensures.value, c.in-Some-read.ensures.value),
+  λ e. not_from_Decides _ (reply-Decides c.of.result c.args.entry.now.reply) (sym c.if-eq.ensures)
+      (c.of.ensures ∙ ap reply_told c.in-Ok.ensures.reply ∙ sym e),
+)
+
+pub returns-in-Err-OutOfMemory-clause-memory : goal.returns-in-Err-OutOfMemory-clause-memory
+returns-in-Err-OutOfMemory-clause-memory c = λ _. (
+  c.in-Some.session,
+  c.in-Some-read.command,
+  (c.in-Some.ensures.value, c.in-Some-read.ensures.value),
+  search rules,
+)

@@ -1,0 +1,8 @@
+use Rattle.std.proofs.Common.{◌≡◌, take, map, length}
+use Rattle.lrc_embed.proofs.reply.numbers_of.Given as goal
+
+abbrev pub invariant-loop-i : goal.invariant-loop-i
+invariant-loop-i l = record {
+  told : take l.i l.numbers ≡ map (λ f. f.value) (take l.i l.fragments);
+  six : length l.numbers ≡ 6;
+}

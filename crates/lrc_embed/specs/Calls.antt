@@ -1,0 +1,68 @@
+-- What a call and a look answer of the book of a handle.
+use Rattle.std.specs.Prelude.{◌≡◌, ℕ, List, [], ◌∷◌, ◌++◌, drop, length, Option, Some, None, option_map, ◌⊎◌, ◌≤◌}
+use Rattle.lrc_code.specs.declared.numbers.StripeNo.{StripeNo}
+use Rattle.lrc_code.specs.declared.numbers.Fragment.{Fragment}
+use Rattle.lrc_code.specs.declared.numbers.NodeNo.{NodeNo}
+use Rattle.lrc_code.specs.declared.numbers.SessionNo.{SessionNo}
+use Rattle.lrc_topology.specs.declared.NodeInfo.{NodeInfo}
+use Rattle.lrc_topology.specs.declared.error.TopologyError.{TopologyError}
+use Rattle.lrc_topology.specs.Documents.{IsTopologyOf, IsRefusedBy}
+use Rattle.lrc_book.specs.declared.command.Command.{Command}
+use Rattle.lrc_book.specs.declared.entry.Entry.{Entry}
+use Rattle.lrc_book.specs.Histories.{outcome_in}
+use Rattle.lrc_book.specs.Books.{BookView, world_of}
+use Rattle.lrc_embed.specs.declared.command.LrcCommand.{LrcCommand}
+use Rattle.lrc_embed.specs.declared.reply.LrcReply.{LrcReply}
+use Rattle.lrc_embed.specs.declared.risk.LrcRisk.{LrcRisk}
+use Rattle.lrc_embed.specs.Commands.{IsCommand}
+use Rattle.lrc_embed.specs.Replies.{reply_told}
+use Rattle.lrc_embed.specs.Looks.{topology_told}
+
+-- there is a book, and this holds of it
+abbrev pub Of : Option BookView → (BookView → Type 0) → Type 0
+Of None P = ⊥
+Of (Some b) P = P b
+
+-- what a refused call leaves as it was; the room that was made for later is no part of it
+abbrev pub kept : Option BookView → Option (List NodeInfo × ℕ × List Entry)
+kept book = option_map (λ b. (b.nodes, b.limit, b.history)) book
+
+-- a book of the text's nodes, with no entry yet
+abbrev pub IsNew : List ℕ → BookView → Type 0
+IsNew text b = IsTopologyOf text b.nodes × (b.limit ≡ 1000000) × (b.history ≡ [])
+
+-- the text is refused as this status and this detail say
+abbrev pub IsRefused : List ℕ → ℕ → ℕ → Type 0
+IsRefused text status detail = (e : TopologyError) × IsRefusedBy text e × (topology_told e ≡ (status, detail))
+
+-- the reply is what the step answers after the book's history, and the history grew by this entry alone
+abbrev pub IsStepOf : BookView → SessionNo → Command → LrcReply → BookView → Type 0
+IsStepOf b session command reply after =
+    (reply ≡ reply_told (outcome_in b.nodes (world_of b) session command).0)
+    × (after.history ≡ b.history ++ record { session = session; command = command; reply = (outcome_in b.nodes (world_of b) session command).0 } ∷ [])
+    × (after.nodes ≡ b.nodes) × (after.limit ≡ b.limit)
+
+-- the same, of the command that C wrote
+abbrev pub IsCall : ℕ → LrcCommand → LrcReply → BookView → BookView → Type 0
+IsCall number c reply b after =
+    (session : SessionNo) × (command : Command) × (session.value ≡ number) × IsCommand c command × IsStepOf b session command reply after
+
+-- the stripe of a number that is in its range
+abbrev pub AtStripe : ℕ → (StripeNo → Type 0) → Type 0
+AtStripe number P = (s : StripeNo) × (s.value ≡ number) × P s
+
+-- the stripe and the fragment of these numbers, which are in their ranges
+abbrev pub AtFragment : ℕ → ℕ → (StripeNo → Fragment → Type 0) → Type 0
+AtFragment number fragment P = (s : StripeNo) × (f : Fragment) × (s.value ≡ number) × (f.value ≡ fragment) × P s f
+
+-- the rows are so many, and stand before what stood behind as many others
+abbrev pub IsAtFront : List LrcRisk → ℕ → List LrcRisk → List LrcRisk → Type 0
+IsAtFront rows count before after = (count ≡ length rows) × (after ≡ rows ++ drop count before)
+
+-- the node of a number
+abbrev pub node_no : ℕ → NodeNo
+node_no number = record { value = number }
+
+-- no session has this number
+abbrev pub IsOutside : ℕ → Type 0
+IsOutside number = (number ≡ 0) ⊎ (9 ≤ number)

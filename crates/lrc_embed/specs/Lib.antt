@@ -1,0 +1,11 @@
+pub use Rattle.lrc_topology.specs.Documents
+pub use Rattle.lrc_book.specs.States
+pub use Rattle.lrc_book.specs.Urgency
+pub use Rattle.lrc_book.specs.Histories
+pub use Rattle.lrc_book.specs.Books
+pub mod Handles
+pub mod Commands
+pub mod Replies
+pub mod Looks
+pub mod Calls
+pub mod Replays

@@ -1,0 +1,60 @@
+-- What the calls of kept entries give where they are made anew.
+use Rattle.std.specs.Prelude.{◌≡◌, ◌≢◌, ℕ, ◌⊎◌, false, List, [], ◌∷◌, ◌++◌, take, length, Some}
+use Rattle.std.specs.List.{slice_get}
+use Rattle.lrc_code.specs.declared.numbers.SessionNo.{SessionNo}
+use Rattle.lrc_book.specs.declared.command.Command.{Command}
+use Rattle.lrc_book.specs.declared.entry.Entry.{Entry}
+use Rattle.lrc_book.specs.Histories.{outcome_in, IsLegalFrom}
+use Rattle.lrc_book.specs.Books.{BookView, world_of}
+use Rattle.lrc_embed.specs.declared.entry.LrcEntry.{LrcEntry}
+use Rattle.lrc_embed.specs.Commands.{IsCommand, is_command}
+use Rattle.lrc_embed.specs.Replies.{reply_told}
+use Rattle.lrc_embed.specs.Calls.{IsOutside}
+
+-- the session and the command that the struct is read as
+abbrev pub IsAsked : LrcEntry → SessionNo → Command → Type 0
+IsAsked c session command = (session.value ≡ c.session) × IsCommand c.command command
+
+-- the struct is this entry
+abbrev pub IsEntry : LrcEntry → Entry → Type 0
+IsEntry c e = IsAsked c e.session e.command × (c.reply ≡ reply_told e.reply)
+
+-- the structs are these entries, one by one
+abbrev pub AreEntries : List LrcEntry → List Entry → Type 0
+AreEntries [] [] = Unit {0}
+AreEntries (c ∷ cs) (e ∷ es) = IsEntry c e × AreEntries cs es
+AreEntries _ _ = ⊥
+
+-- the history grew by the entries of these structs, each with the reply of the step
+abbrev pub IsReplay : List LrcEntry → BookView → BookView → Type 0
+IsReplay cs b after =
+    (es : List Entry) × AreEntries cs es × IsLegalFrom b.nodes (world_of b) es
+    × (after.history ≡ b.history ++ es) × (after.nodes ≡ b.nodes) × (after.limit ≡ b.limit)
+
+-- the entries before this position are replayed, and this holds of the one at it in the book that they leave
+abbrev pub StopsAt : (LrcEntry → BookView → Type 0) → List LrcEntry → ℕ → BookView → Type 0
+StopsAt P cs position b =
+    (c : LrcEntry) × (after : BookView) × (slice_get cs position ≡ Some c) × IsReplay (take position cs) b after × P c after
+
+-- no session or no command has these numbers
+abbrev pub IsUnreadable : LrcEntry → BookView → Type 0
+IsUnreadable c b = IsOutside c.session ⊎ (is_command c.command ≡ false)
+
+-- the history has no room for one more
+abbrev pub IsFull : LrcEntry → BookView → Type 0
+IsFull c b = length b.history ≡ b.limit
+
+-- a session and a command have these numbers, and the history has room for one more
+abbrev pub IsCallable : LrcEntry → BookView → Type 0
+IsCallable c b = (session : SessionNo) × (command : Command) × IsAsked c session command × (length b.history ≢ b.limit)
+
+-- the step has another reply than the entry
+abbrev pub IsDifferent : LrcEntry → BookView → Type 0
+IsDifferent c b =
+    (session : SessionNo) × (command : Command) × IsAsked c session command × (c.reply ≢ reply_told (outcome_in b.nodes (world_of b) session command).0)
+
+-- the history grew by the entry of the struct, with the reply of the step
+abbrev pub IsRepeat : LrcEntry → BookView → BookView → Type 0
+IsRepeat c b after =
+    (e : Entry) × IsEntry c e × ((outcome_in b.nodes (world_of b) e.session e.command).0 ≡ e.reply)
+    × (after.history ≡ b.history ++ e ∷ []) × (after.nodes ≡ b.nodes) × (after.limit ≡ b.limit)

@@ -1,0 +1,28 @@
+ghost use Rattle.std.specs.Prelude.{◌≡◌};
+ghost use Rattle.lrc_embed.specs.Replies.{entry_told};
+
+use crate::{LrcCommand, LrcReply};
+use lrc_book::Entry;
+
+/// A command of a session, and its reply.
+#[repr(C)]
+#[derive(Clone, Copy)]
+pub struct LrcEntry {
+    pub session: u8,
+    pub reserved: [u8; 3],
+    pub command: LrcCommand,
+    pub reply: LrcReply,
+}
+
+impl LrcEntry {
+    pub(crate) fn of(entry: &Entry) -> LrcEntry
+        ensures { result ≡ entry_told entry.now }
+    {
+        LrcEntry {
+            session: entry.session.value,
+            reserved: [0; 3],
+            command: LrcCommand::of(entry.command),
+            reply: LrcReply::of(&entry.reply),
+        }
+    }
+}

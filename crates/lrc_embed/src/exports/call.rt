@@ -1,0 +1,61 @@
+ghost use Rattle.std.specs.Prelude.{◌≡◌, ◌≢◌, ◌↔◌, ◌⊎◌, false, Some, None, length};
+ghost use Rattle.lrc_embed.specs.Calls.{Of, kept, IsCall, IsStepOf, IsOutside};
+ghost use Rattle.lrc_embed.specs.Commands.{is_command};
+
+use crate::status::{DONE, FULL, IS_CLOSED, OUT_OF_MEMORY, OUT_OF_RANGE};
+use crate::{LrcCommand, LrcHandle, LrcReply};
+use lrc_book::{Book, Command};
+use lrc_code::{Fault, SessionNo};
+use std::alloc::Global;
+
+/// Makes one step of the book, and tells its reply.
+#[unsafe(no_mangle)]
+pub extern "C" fn lrc_embed_call(
+    alloc: Global,
+    handle: &mut LrcHandle,
+    session: u8,
+    command: &LrcCommand,
+    reply: &mut LrcReply,
+) -> u32
+    ensures done { (result ≡ 0) → Of handle.old.owned.book (λ b. Of handle.new.owned.book (IsCall session command.now reply.new b)) }
+    ensures kept { (result ≢ 0) → kept handle.new.owned.book ≡ kept handle.old.owned.book }
+    ensures full { (result ≢ 1) → (result ≢ 3) → Of handle.old.owned.book (λ b. (result ≡ 5) ↔ (length b.history ≡ b.limit)) }
+    ensures closed { (result ≡ 1) → handle.old.owned.book ≡ None }
+    ensures range { (result ≡ 3) → IsOutside session ⊎ (is_command command.now ≡ false) }
+    // That is told of a closed handle too.
+    ensures range_first { IsOutside session ⊎ (is_command command.now ≡ false) → result ≡ 3 }
+    ensures statuses { (result ≡ 0) ⊎ (result ≡ 1) ⊎ (result ≡ 3) ⊎ (result ≡ 5) ⊎ (result ≡ 6) }
+    ensures unwritten { (result ≢ 0) → reply.new ≡ reply.old }
+{
+    let Some(session) = SessionNo::new(session) else {
+        return OUT_OF_RANGE;
+    };
+    let Some(command) = command.read() else {
+        return OUT_OF_RANGE;
+    };
+    let Some(mut book) = handle.take(alloc) else {
+        return IS_CLOSED;
+    };
+    let status = step(&mut book, session, command, reply);
+    handle.put(book);
+    status
+}
+
+/// Makes one step, and tells its reply.
+fn step(book: &mut Book, session: SessionNo, command: Command, reply: &mut LrcReply) -> u32
+    ensures done { (result ≡ 0) → IsStepOf book.old session command reply.new book.new }
+    ensures kept { (result ≢ 0) → kept (Some book.new) ≡ kept (Some book.old) }
+    ensures full { (result ≡ 5) ↔ (length book.old.history ≡ book.old.limit) }
+    ensures statuses { (result ≡ 0) ⊎ (result ≡ 5) ⊎ (result ≡ 6) }
+    ensures unwritten { (result ≢ 0) → reply.new ≡ reply.old }
+{
+    let answer = book.call(session, command);
+    match &answer {
+        Ok(told) => {
+            reply.tell(told);
+            DONE
+        }
+        Err(Fault::HistoryFull) => FULL,
+        Err(Fault::OutOfMemory) => OUT_OF_MEMORY,
+    }
+}

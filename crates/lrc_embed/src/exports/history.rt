@@ -1,0 +1,53 @@
+ghost use Rattle.std.specs.Prelude.{◌≡◌, ◌≢◌, ◌⊎◌, Some, None, option_map, length, slice_get};
+ghost use Rattle.lrc_embed.specs.Calls.{Of};
+ghost use Rattle.lrc_embed.specs.Replies.{entry_told};
+
+use crate::status::{DONE, IS_CLOSED, UNKNOWN};
+use crate::{LrcEntry, LrcHandle};
+use std::alloc::Global;
+
+/// The number of entries of the history.
+#[unsafe(no_mangle)]
+pub extern "C" fn lrc_embed_count(alloc: Global, handle: &mut LrcHandle, count: &mut usize) -> u32
+    ensures same { handle.new.owned.book ≡ handle.old.owned.book }
+    ensures told { (result ≡ 0) → Of handle.old.owned.book (λ b. length b.history ≡ count.new) }
+    ensures closed { (result ≡ 1) → handle.old.owned.book ≡ None }
+    ensures statuses { (result ≡ 0) ⊎ (result ≡ 1) }
+    ensures unwritten { (result ≢ 0) → count.new ≡ count.old }
+{
+    let Some(book) = handle.take(alloc) else {
+        return IS_CLOSED;
+    };
+    *count = book.history().len();
+    handle.put(book);
+    DONE
+}
+
+/// The entry of the history at an index from 0.
+#[unsafe(no_mangle)]
+pub extern "C" fn lrc_embed_entry(
+    alloc: Global,
+    handle: &mut LrcHandle,
+    index: usize,
+    entry: &mut LrcEntry,
+) -> u32
+    ensures same { handle.new.owned.book ≡ handle.old.owned.book }
+    ensures told { (result ≡ 0) → Of handle.old.owned.book (λ b. option_map entry_told (slice_get b.history index) ≡ Some entry.new) }
+    ensures unknown { (result ≡ 4) → Of handle.old.owned.book (λ b. slice_get b.history index ≡ None) }
+    ensures closed { (result ≡ 1) → handle.old.owned.book ≡ None }
+    ensures statuses { (result ≡ 0) ⊎ (result ≡ 1) ⊎ (result ≡ 4) }
+    ensures unwritten { (result ≢ 0) → entry.new ≡ entry.old }
+{
+    let Some(book) = handle.take(alloc) else {
+        return IS_CLOSED;
+    };
+    let shown = book.history().get(index).copied();
+    handle.put(book);
+    match shown {
+        Some(shown) => {
+            *entry = LrcEntry::of(&shown);
+            DONE
+        }
+        None => UNKNOWN,
+    }
+}

@@ -1,0 +1,253 @@
+ghost use Rattle.std.specs.Prelude.{◌≡◌, ◌≢◌, ◌≤◌, ◌<◌, ◌⊎◌, Some, None, option_map, length, map};
+ghost use Rattle.lrc_book.specs.Books.{state_of};
+ghost use Rattle.lrc_book.specs.States.{homes_shown, level_shown, missing_shown, lease_of, load_shown, mode_shown};
+ghost use Rattle.lrc_book.specs.Urgency.{risk};
+ghost use Rattle.lrc_embed.specs.Calls.{Of, AtStripe, AtFragment, IsAtFront, node_no};
+ghost use Rattle.lrc_embed.specs.Replies.{lease_told};
+ghost use Rattle.lrc_embed.specs.Looks.{homes_told, level_told, risk_told, mode_told};
+
+use crate::status::{DONE, IS_CLOSED, OUT_OF_MEMORY, OUT_OF_RANGE, SHORT, UNKNOWN};
+use crate::{LrcHandle, LrcHomes, LrcLease, LrcLevel, LrcMode, LrcRisk};
+use lrc_book::Level;
+use lrc_code::{Fragment, NodeNo, StripeNo};
+use std::alloc::Global;
+
+/// The home of each fragment of a stripe.
+#[unsafe(no_mangle)]
+pub extern "C" fn lrc_embed_homes(
+    alloc: Global,
+    handle: &mut LrcHandle,
+    stripe: u16,
+    homes: &mut LrcHomes,
+) -> u32
+    ensures same { handle.new.owned.book ≡ handle.old.owned.book }
+    ensures told { (result ≡ 0) → Of handle.old.owned.book (λ b. AtStripe stripe (λ s. option_map homes_told (homes_shown (state_of b) s) ≡ Some homes.new)) }
+    ensures unknown { (result ≡ 4) → Of handle.old.owned.book (λ b. AtStripe stripe (λ s. homes_shown (state_of b) s ≡ None)) }
+    ensures closed { (result ≡ 1) → handle.old.owned.book ≡ None }
+    ensures range { (result ≡ 3) → 4096 ≤ stripe }
+    ensures range_first { 4096 ≤ stripe → result ≡ 3 }
+    ensures statuses { (result ≡ 0) ⊎ (result ≡ 1) ⊎ (result ≡ 3) ⊎ (result ≡ 4) }
+    ensures unwritten { (result ≢ 0) → homes.new ≡ homes.old }
+{
+    let Some(stripe) = StripeNo::new(stripe) else {
+        return OUT_OF_RANGE;
+    };
+    let Some(book) = handle.take(alloc) else {
+        return IS_CLOSED;
+    };
+    let shown = book.homes(stripe);
+    handle.put(book);
+    match shown {
+        Some(shown) => {
+            *homes = LrcHomes::of(&shown);
+            DONE
+        }
+        None => UNKNOWN,
+    }
+}
+
+/// How far a stripe is from loss.
+#[unsafe(no_mangle)]
+pub extern "C" fn lrc_embed_level(
+    alloc: Global,
+    handle: &mut LrcHandle,
+    stripe: u16,
+    level: &mut LrcLevel,
+) -> u32
+    ensures same { handle.new.owned.book ≡ handle.old.owned.book }
+    ensures told { (result ≡ 0) → Of handle.old.owned.book (λ b. AtStripe stripe (λ s. option_map level_told (level_shown b.nodes (state_of b) s) ≡ Some level.new)) }
+    ensures unknown { (result ≡ 4) → Of handle.old.owned.book (λ b. AtStripe stripe (λ s. level_shown b.nodes (state_of b) s ≡ None)) }
+    ensures closed { (result ≡ 1) → handle.old.owned.book ≡ None }
+    ensures range { (result ≡ 3) → 4096 ≤ stripe }
+    ensures range_first { 4096 ≤ stripe → result ≡ 3 }
+    ensures statuses { (result ≡ 0) ⊎ (result ≡ 1) ⊎ (result ≡ 3) ⊎ (result ≡ 4) }
+    ensures unwritten { (result ≢ 0) → level.new ≡ level.old }
+{
+    let Some(stripe) = StripeNo::new(stripe) else {
+        return OUT_OF_RANGE;
+    };
+    let Some(book) = handle.take(alloc) else {
+        return IS_CLOSED;
+    };
+    let shown = book.level(stripe);
+    handle.put(book);
+    match shown {
+        Some(shown) => {
+            *level = LrcLevel::of(shown);
+            DONE
+        }
+        None => UNKNOWN,
+    }
+}
+
+/// The missing fragments of a stripe; fragment f is bit f.
+#[unsafe(no_mangle)]
+pub extern "C" fn lrc_embed_missing(
+    alloc: Global,
+    handle: &mut LrcHandle,
+    stripe: u16,
+    missing: &mut u16,
+) -> u32
+    ensures same { handle.new.owned.book ≡ handle.old.owned.book }
+    ensures told { (result ≡ 0) → Of handle.old.owned.book (λ b. AtStripe stripe (λ s. missing_shown b.nodes (state_of b) s ≡ Some (record { bits = missing.new }))) }
+    ensures unknown { (result ≡ 4) → Of handle.old.owned.book (λ b. AtStripe stripe (λ s. missing_shown b.nodes (state_of b) s ≡ None)) }
+    ensures closed { (result ≡ 1) → handle.old.owned.book ≡ None }
+    ensures range { (result ≡ 3) → 4096 ≤ stripe }
+    ensures range_first { 4096 ≤ stripe → result ≡ 3 }
+    ensures statuses { (result ≡ 0) ⊎ (result ≡ 1) ⊎ (result ≡ 3) ⊎ (result ≡ 4) }
+    ensures unwritten { (result ≢ 0) → missing.new ≡ missing.old }
+{
+    let Some(stripe) = StripeNo::new(stripe) else {
+        return OUT_OF_RANGE;
+    };
+    let Some(book) = handle.take(alloc) else {
+        return IS_CLOSED;
+    };
+    let shown = book.missing(stripe);
+    handle.put(book);
+    match shown {
+        Some(shown) => {
+            *missing = shown.bits;
+            DONE
+        }
+        None => UNKNOWN,
+    }
+}
+
+/// The live lease of a fragment of a stripe.
+#[unsafe(no_mangle)]
+pub extern "C" fn lrc_embed_lease(
+    alloc: Global,
+    handle: &mut LrcHandle,
+    stripe: u16,
+    fragment: u8,
+    lease: &mut LrcLease,
+) -> u32
+    ensures same { handle.new.owned.book ≡ handle.old.owned.book }
+    ensures told { (result ≡ 0) → Of handle.old.owned.book (λ b. AtFragment stripe fragment (λ s f. option_map lease_told (lease_of (state_of b) s f) ≡ Some lease.new)) }
+    ensures unknown { (result ≡ 4) → Of handle.old.owned.book (λ b. AtFragment stripe fragment (λ s f. lease_of (state_of b) s f ≡ None)) }
+    ensures closed { (result ≡ 1) → handle.old.owned.book ≡ None }
+    ensures range { (result ≡ 3) → (4096 ≤ stripe) ⊎ (16 ≤ fragment) }
+    ensures range_first { (4096 ≤ stripe) ⊎ (16 ≤ fragment) → result ≡ 3 }
+    ensures statuses { (result ≡ 0) ⊎ (result ≡ 1) ⊎ (result ≡ 3) ⊎ (result ≡ 4) }
+    ensures unwritten { (result ≢ 0) → lease.new ≡ lease.old }
+{
+    let Some(stripe) = StripeNo::new(stripe) else {
+        return OUT_OF_RANGE;
+    };
+    let Some(fragment) = Fragment::new(fragment) else {
+        return OUT_OF_RANGE;
+    };
+    let Some(book) = handle.take(alloc) else {
+        return IS_CLOSED;
+    };
+    let shown = book.lease(stripe, fragment);
+    handle.put(book);
+    match shown {
+        Some(shown) => {
+            *lease = LrcLease::of(&shown);
+            DONE
+        }
+        None => UNKNOWN,
+    }
+}
+
+/// The number of seats on a node.
+#[unsafe(no_mangle)]
+pub extern "C" fn lrc_embed_load(
+    alloc: Global,
+    handle: &mut LrcHandle,
+    node: u16,
+    load: &mut u32,
+) -> u32
+    ensures same { handle.new.owned.book ≡ handle.old.owned.book }
+    ensures told { (result ≡ 0) → Of handle.old.owned.book (λ b. load_shown b.nodes (state_of b) (node_no node) ≡ Some load.new) }
+    ensures unknown { (result ≡ 4) → Of handle.old.owned.book (λ b. load_shown b.nodes (state_of b) (node_no node) ≡ None) }
+    ensures closed { (result ≡ 1) → handle.old.owned.book ≡ None }
+    ensures statuses { (result ≡ 0) ⊎ (result ≡ 1) ⊎ (result ≡ 4) }
+    ensures unwritten { (result ≢ 0) → load.new ≡ load.old }
+{
+    let Some(book) = handle.take(alloc) else {
+        return IS_CLOSED;
+    };
+    let shown = book.load(NodeNo { value: node });
+    handle.put(book);
+    match shown {
+        Some(shown) => {
+            *load = shown;
+            DONE
+        }
+        None => UNKNOWN,
+    }
+}
+
+/// The mode of a node, and whether it is online.
+#[unsafe(no_mangle)]
+pub extern "C" fn lrc_embed_mode(
+    alloc: Global,
+    handle: &mut LrcHandle,
+    node: u16,
+    mode: &mut LrcMode,
+) -> u32
+    ensures same { handle.new.owned.book ≡ handle.old.owned.book }
+    ensures told { (result ≡ 0) → Of handle.old.owned.book (λ b. option_map mode_told (mode_shown b.nodes (state_of b) (node_no node)) ≡ Some mode.new) }
+    ensures unknown { (result ≡ 4) → Of handle.old.owned.book (λ b. mode_shown b.nodes (state_of b) (node_no node) ≡ None) }
+    ensures closed { (result ≡ 1) → handle.old.owned.book ≡ None }
+    ensures statuses { (result ≡ 0) ⊎ (result ≡ 1) ⊎ (result ≡ 4) }
+    ensures unwritten { (result ≢ 0) → mode.new ≡ mode.old }
+{
+    let Some(book) = handle.take(alloc) else {
+        return IS_CLOSED;
+    };
+    let shown = book.mode(NodeNo { value: node });
+    handle.put(book);
+    match shown {
+        Some(shown) => {
+            *mode = LrcMode::of(shown);
+            DONE
+        }
+        None => UNKNOWN,
+    }
+}
+
+/// The stripes that are not whole, with their levels, in the order of repair: by rank, and by number. They are put into
+/// the first of the rows, as many as the count tells.
+#[unsafe(no_mangle)]
+pub extern "C" fn lrc_embed_risk(
+    alloc: Global,
+    handle: &mut LrcHandle,
+    rows: &mut [LrcRisk],
+    count: &mut usize,
+) -> u32
+    ensures same { handle.new.owned.book ≡ handle.old.owned.book }
+    ensures told { (result ≡ 0) → Of handle.old.owned.book (λ b. IsAtFront (map risk_told (risk b.nodes (state_of b))) count.new rows.old rows.new) }
+    ensures short { (result ≡ 7) → Of handle.old.owned.book (λ b. length rows.old < length (risk b.nodes (state_of b))) }
+    ensures closed { (result ≡ 1) → handle.old.owned.book ≡ None }
+    ensures statuses { (result ≡ 0) ⊎ (result ≡ 1) ⊎ (result ≡ 6) ⊎ (result ≡ 7) }
+    ensures unwritten { (result ≢ 0) → (rows.new ≡ rows.old) × (count.new ≡ count.old) }
+{
+    let Some(book) = handle.take(alloc) else {
+        return IS_CLOSED;
+    };
+    let shown = book.risk(alloc);
+    handle.put(book);
+    match shown {
+        Ok(shown) if shown.len() <= rows.len() => {
+            put_rows(shown.as_slice(), rows);
+            *count = shown.len();
+            DONE
+        }
+        Ok(_) => SHORT,
+        Err(_) => OUT_OF_MEMORY,
+    }
+}
+
+/// Puts all into the first of the rows.
+fn put_rows(shown: &[(StripeNo, Level)], rows: &mut [LrcRisk])
+    requires room { length shown.now ≤ length rows.old }
+    ensures { IsAtFront (map risk_told shown.now) (length shown.now) rows.old rows.new }
+{
+    for (i, row) in shown.iter().enumerate() {
+        rows[i] = LrcRisk::of(*row);
+    }
+}

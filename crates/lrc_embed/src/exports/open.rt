@@ -1,0 +1,88 @@
+ghost use Rattle.std.specs.Prelude.{◌≡◌, ◌≢◌, ◌≤◌, ◌<◌, ◌↔◌, ◌⊎◌, None, true, is_some};
+ghost use Rattle.lrc_embed.specs.Calls.{Of, IsNew, IsRefused};
+ghost use Rattle.lrc_embed.specs.Looks.{topology_told};
+
+use crate::LrcHandle;
+use crate::status::{
+    BAD_FIELD, DONE, DOUBLE_NODE, IS_OPEN, NO_NODES, NODE_OUT_OF_RANGE, OUT_OF_MEMORY, SYNTAX,
+    TOO_MANY,
+};
+use lrc_book::Book;
+use lrc_topology::{Topology, TopologyError};
+use std::alloc::Global;
+
+/// The version of the structs and statuses.
+const VERSION: u32 = 1;
+
+/// The version of the structs and statuses, which the header has as a constant.
+#[unsafe(no_mangle)]
+pub extern "C" fn lrc_embed_version() -> u32
+    ensures { result ≡ 1 }
+{
+    VERSION
+}
+
+/// Opens a closed handle with a book of the nodes of the text. Statuses 16 to 21 are the refusals of the text, whose
+/// position or node number is put into `detail`.
+#[unsafe(no_mangle)]
+pub extern "C" fn lrc_embed_open(
+    alloc: Global,
+    handle: &mut LrcHandle,
+    text: &[u8],
+    detail: &mut usize,
+) -> u32
+    ensures opened { (result ≡ 0) → Of handle.new.owned.book (IsNew text.now) }
+    ensures kept { (result ≢ 0) → handle.new.owned.book ≡ handle.old.owned.book }
+    ensures refused { (16 ≤ result) → IsRefused text.now result detail.new }
+    ensures open { (result ≡ 2) ↔ (is_some handle.old.owned.book ≡ true) }
+    ensures statuses { (result ≡ 0) ⊎ (result ≡ 2) ⊎ (result ≡ 6) ⊎ ((16 ≤ result) × (result ≤ 21)) }
+    ensures unwritten { (result < 16) → detail.new ≡ detail.old }
+{
+    if handle.is_open() {
+        return IS_OPEN;
+    }
+    let topology = match Topology::read(alloc, text) {
+        Ok(topology) => topology,
+        Err(TopologyError::OutOfMemory) => return OUT_OF_MEMORY,
+        Err(error) => {
+            let (status, position) = refusal_of(error);
+            *detail = position;
+            return status;
+        }
+    };
+    match Book::new(alloc, topology) {
+        Ok(book) => match Box::new(alloc, book) {
+            Ok(book) => {
+                handle.put(book);
+                DONE
+            }
+            Err(_) => OUT_OF_MEMORY,
+        },
+        Err(_) => OUT_OF_MEMORY,
+    }
+}
+
+/// The status of a refused topology, and its position or number.
+fn refusal_of(error: TopologyError) -> (u32, usize)
+    ensures { result ≡ topology_told error }
+{
+    match error {
+        TopologyError::Syntax => (SYNTAX, 0),
+        TopologyError::NoNodes => (NO_NODES, 0),
+        TopologyError::BadField(position) => (BAD_FIELD, position),
+        TopologyError::OutOfRange(position) => (NODE_OUT_OF_RANGE, position),
+        TopologyError::DoubleNode(number) => (DOUBLE_NODE, number.value as usize),
+        TopologyError::TooMany => (TOO_MANY, 0),
+        TopologyError::OutOfMemory => (OUT_OF_MEMORY, 0),
+    }
+}
+
+/// Closes the handle and frees its book. A closed handle stays closed.
+#[unsafe(no_mangle)]
+pub extern "C" fn lrc_embed_close(alloc: Global, handle: &mut LrcHandle) -> u32
+    ensures closed { handle.new.owned.book ≡ None }
+    ensures status { result ≡ 0 }
+{
+    let _book = handle.take(alloc);
+    DONE
+}

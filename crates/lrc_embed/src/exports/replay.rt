@@ -1,0 +1,65 @@
+ghost use Rattle.std.specs.Prelude.{◌≡◌, ◌≢◌, ◌⊎◌, None};
+ghost use Rattle.lrc_embed.specs.Calls.{Of};
+ghost use Rattle.lrc_embed.specs.Replays.{IsReplay, IsRepeat, StopsAt, IsUnreadable, IsFull, IsCallable, IsDifferent};
+
+use crate::status::{DIFFERENT, DONE, FULL, IS_CLOSED, OUT_OF_MEMORY, OUT_OF_RANGE};
+use crate::{LrcEntry, LrcHandle, LrcReply};
+use lrc_book::Book;
+use lrc_code::{Fault, SessionNo};
+use std::alloc::Global;
+
+/// Makes the calls of entries that were kept anew, after the history that the book has, and compares each reply. Where
+/// one can't be made or is answered otherwise, the handle is closed, and `position` is that of the entry, from 0.
+#[unsafe(no_mangle)]
+pub extern "C" fn lrc_embed_replay(
+    alloc: Global,
+    handle: &mut LrcHandle,
+    entries: &[LrcEntry],
+    position: &mut usize,
+) -> u32
+    ensures done { (result ≡ 0) → Of handle.old.owned.book (λ b. Of handle.new.owned.book (IsReplay entries.now b)) }
+    ensures shut { (result ≢ 0) → handle.new.owned.book ≡ None }
+    ensures closed { (result ≡ 1) → handle.old.owned.book ≡ None }
+    ensures range { (result ≡ 3) → Of handle.old.owned.book (StopsAt IsUnreadable entries.now position.new) }
+    ensures full { (result ≡ 5) → Of handle.old.owned.book (StopsAt IsFull entries.now position.new) }
+    ensures memory { (result ≡ 6) → Of handle.old.owned.book (StopsAt IsCallable entries.now position.new) }
+    ensures different { (result ≡ 8) → Of handle.old.owned.book (StopsAt IsDifferent entries.now position.new) }
+    ensures statuses { (result ≡ 0) ⊎ (result ≡ 1) ⊎ (result ≡ 3) ⊎ (result ≡ 5) ⊎ (result ≡ 6) ⊎ (result ≡ 8) }
+    ensures unwritten { (result ≡ 0) ⊎ (result ≡ 1) → position.new ≡ position.old }
+{
+    let Some(mut book) = handle.take(alloc) else {
+        return IS_CLOSED;
+    };
+    for (i, entry) in entries.iter().enumerate() {
+        let status = repeat(&mut book, entry);
+        if status != DONE {
+            *position = i;
+            return status;
+        }
+    }
+    handle.put(book);
+    DONE
+}
+
+/// Makes the call of an entry anew, and compares its reply.
+fn repeat(book: &mut Book, entry: &LrcEntry) -> u32
+    ensures done { (result ≡ 0) → IsRepeat entry.now book.old book.new }
+    ensures range { (result ≡ 3) → IsUnreadable entry.now book.old }
+    ensures full { (result ≡ 5) → IsFull entry.now book.old }
+    ensures memory { (result ≡ 6) → IsCallable entry.now book.old }
+    ensures different { (result ≡ 8) → IsDifferent entry.now book.old }
+    ensures statuses { (result ≡ 0) ⊎ (result ≡ 3) ⊎ (result ≡ 5) ⊎ (result ≡ 6) ⊎ (result ≡ 8) }
+{
+    let Some(session) = SessionNo::new(entry.session) else {
+        return OUT_OF_RANGE;
+    };
+    let Some(command) = entry.command.read() else {
+        return OUT_OF_RANGE;
+    };
+    match book.call(session, command) {
+        Ok(reply) if LrcReply::of(&reply) == entry.reply => DONE,
+        Ok(_) => DIFFERENT,
+        Err(Fault::HistoryFull) => FULL,
+        Err(Fault::OutOfMemory) => OUT_OF_MEMORY,
+    }
+}

@@ -1,0 +1,54 @@
+ghost use Rattle.std.specs.Prelude.{◌≡◌};
+ghost use Rattle.lrc_embed.specs.Looks.{home_told, homes_told};
+
+use crate::LrcSeat;
+use lrc_book::Seat;
+
+/// The home of a fragment: `is_there` is 1 and the seat is the home, or all is 0 and there is none.
+#[repr(C)]
+#[derive(Clone, Copy)]
+pub struct LrcHome {
+    pub seat: LrcSeat,
+    pub is_there: u8,
+    pub reserved: [u8; 3],
+}
+
+/// The homes of fragments 0 to 15.
+#[repr(C)]
+#[derive(Clone, Copy)]
+pub struct LrcHomes {
+    pub homes: [LrcHome; 16],
+}
+
+const NONE: LrcHome = LrcHome {
+    seat: LrcSeat::NONE,
+    is_there: 0,
+    reserved: [0; 3],
+};
+
+impl LrcHome {
+    fn of(home: Option<Seat>) -> LrcHome
+        ensures { result ≡ home_told home }
+    {
+        match home {
+            Some(seat) => LrcHome {
+                seat: LrcSeat::of(seat),
+                is_there: 1,
+                reserved: [0; 3],
+            },
+            None => NONE,
+        }
+    }
+}
+
+impl LrcHomes {
+    pub(crate) fn of(homes: &[Option<Seat>; 16]) -> LrcHomes
+        ensures { result ≡ homes_told homes.now }
+    {
+        let mut told = [NONE; 16];
+        for (i, home) in homes.iter().enumerate() {
+            told[i] = LrcHome::of(*home);
+        }
+        LrcHomes { homes: told }
+    }
+}

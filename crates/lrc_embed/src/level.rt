@@ -1,0 +1,31 @@
+ghost use Rattle.std.specs.Prelude.{◌≡◌};
+ghost use Rattle.lrc_embed.specs.Looks.{level_told};
+
+use lrc_book::Level;
+
+/// How far a stripe is from loss. Kind 1 is whole; 2 at risk, with this margin; 3 unavailable; 4 lost.
+#[repr(C)]
+#[derive(Clone, Copy)]
+pub struct LrcLevel {
+    pub kind: u8,
+    pub margin: u8,
+    pub reserved: [u8; 2],
+}
+
+impl LrcLevel {
+    pub(crate) fn of(level: Level) -> LrcLevel
+        ensures { result ≡ level_told level }
+    {
+        let (kind, margin) = match level {
+            Level::Whole => (1, 0),
+            Level::AtRisk(margin) => (2, margin),
+            Level::Unavailable => (3, 0),
+            Level::Lost => (4, 0),
+        };
+        LrcLevel {
+            kind,
+            margin,
+            reserved: [0; 2],
+        }
+    }
+}

@@ -1,0 +1,31 @@
+ghost use Rattle.std.specs.Prelude.{◌≡◌};
+ghost use Rattle.lrc_embed.specs.Looks.{mode_told};
+
+use lrc_book::Mode;
+
+/// The mode of a node: 1 is active, 2 draining and 3 gone; and 1 where it is online, else 0.
+#[repr(C)]
+#[derive(Clone, Copy)]
+pub struct LrcMode {
+    pub mode: u8,
+    pub is_online: u8,
+    pub reserved: [u8; 2],
+}
+
+impl LrcMode {
+    pub(crate) fn of(shown: (Mode, bool)) -> LrcMode
+        ensures { result ≡ mode_told shown }
+    {
+        let (mode, is_online) = shown;
+        let mode = match mode {
+            Mode::Active => 1,
+            Mode::Draining => 2,
+            Mode::Gone => 3,
+        };
+        LrcMode {
+            mode,
+            is_online: if is_online { 1 } else { 0 },
+            reserved: [0; 2],
+        }
+    }
+}

@@ -1,0 +1,117 @@
+ghost use Rattle.std.specs.Prelude.{◌≡◌, map};
+ghost use Rattle.lrc_embed.specs.Replies.{repair_told, refusal_told, reply_told};
+
+use crate::{LrcLease, LrcSeat};
+use lrc_book::{Kind, Refusal, Reply};
+use lrc_code::Fragment;
+
+/// A reply. Kind 1 is placed, on the seats of fragments 0 to 15; 2 dropped; 3 granted, with the lease and the kind of
+/// its repair; 4 idle; 5 ended; 6 changed; 7 refused, with the number of the refusal and what that names as its
+/// detail. Repair 1 is local, from the six sources; 2 global; 3 a move. What the kind does not use is 0.
+#[repr(C)]
+#[derive(Clone, Copy, PartialEq, Eq)]
+pub struct LrcReply {
+    pub kind: u8,
+    pub refusal: u8,
+    pub repair: u8,
+    pub sources: [u8; 6],
+    pub reserved: [u8; 3],
+    pub detail: u32,
+    pub reserved_numbers: [u32; 3],
+    pub lease: LrcLease,
+    pub seats: [LrcSeat; 16],
+}
+
+const BLANK: LrcReply = LrcReply {
+    kind: 0,
+    refusal: 0,
+    repair: 0,
+    sources: [0; 6],
+    reserved: [0; 3],
+    detail: 0,
+    reserved_numbers: [0; 3],
+    lease: LrcLease::NONE,
+    seats: [LrcSeat::NONE; 16],
+};
+
+impl LrcReply {
+    pub(crate) fn of(reply: &Reply) -> LrcReply
+        ensures { result ≡ reply_told reply.now }
+    {
+        let mut told = BLANK;
+        told.tell(reply);
+        told
+    }
+
+    /// Becomes the reply. It is written where it stands: a copy of the whole struct takes as long as a small command.
+    pub(crate) fn tell(&mut self, reply: &Reply)
+        ensures { self.new ≡ reply_told reply.now }
+    {
+        *self = BLANK;
+        match reply {
+            Reply::Placed(seats) => {
+                self.kind = 1;
+                self.seats = LrcSeat::of_all(seats);
+            }
+            Reply::Dropped => self.kind = 2,
+            Reply::Granted(lease, kind) => {
+                self.kind = 3;
+                (self.repair, self.sources) = repair_of(kind);
+                self.lease = LrcLease::of(lease);
+            }
+            Reply::Idle => self.kind = 4,
+            Reply::Ended => self.kind = 5,
+            Reply::Changed => self.kind = 6,
+            Reply::Refused(refusal) => {
+                self.kind = 7;
+                (self.refusal, self.detail) = refusal_of(refusal);
+            }
+        }
+    }
+}
+
+/// The number of a kind of repair, and the fragments that it reads.
+fn repair_of(kind: &Kind) -> (u8, [u8; 6])
+    ensures { result ≡ repair_told kind.now }
+{
+    match kind {
+        Kind::Local(sources) => (1, numbers_of(sources)),
+        Kind::Global => (2, [0; 6]),
+        Kind::Move => (3, [0; 6]),
+    }
+}
+
+fn numbers_of(fragments: &[Fragment; 6]) -> [u8; 6]
+    ensures { result ≡ map (λ f. f.value) fragments.now }
+{
+    let mut numbers = [0; 6];
+    for (i, fragment) in fragments.iter().enumerate() {
+        numbers[i] = fragment.value;
+    }
+    numbers
+}
+
+/// The number of a refusal, and the number that it names, or 0.
+fn refusal_of(refusal: &Refusal) -> (u8, u32)
+    ensures { result ≡ refusal_told refusal.now }
+{
+    match *refusal {
+        Refusal::UnknownStripe => (101, 0),
+        Refusal::StripeExists => (102, 0),
+        Refusal::NoLawfulNode(fragment) => (103, fragment.value as u32),
+        Refusal::UnknownNode => (104, 0),
+        Refusal::WrongMode => (105, 0),
+        Refusal::UnknownDomain => (106, 0),
+        Refusal::UpgradeRunning(domain) => (107, domain.value as u32),
+        Refusal::NotUpgrading => (108, 0),
+        Refusal::WouldLose(stripe) => (109, stripe.value as u32),
+        Refusal::AlreadyLeased(epoch) => (110, epoch),
+        Refusal::NotNeeded => (111, 0),
+        Refusal::Unrecoverable => (112, 0),
+        Refusal::Stale => (113, 0),
+        Refusal::NotHolder(session) => (114, session.value as u32),
+        Refusal::TargetOffline(node) => (115, node.value as u32),
+        Refusal::NoLease => (116, 0),
+        Refusal::NotEmpty(seats) => (117, seats),
+    }
+}

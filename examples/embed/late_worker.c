@@ -1,0 +1,113 @@
+// A worker reports late: its lease was revoked and granted anew. Then the program starts again with the entries that it
+// kept. It prints what `lrcman run` prints of the script of ../late_worker.bundle, and how many entries came back.
+#include "lrc_embed.h"
+
+#include <stdio.h>
+#include <stdlib.h>
+#include <string.h>
+
+static void stop(const char *what, uint32_t status) {
+    fprintf(stderr, "late_worker: %s: status %u\n", what, (unsigned)status);
+    exit(1);
+}
+
+// Twenty nodes with four slots, each in a fault domain of its own, in ten upgrade domains.
+static size_t write_nodes(char *text, size_t room) {
+    size_t length = 0;
+    for (int i = 0; i < 20; i++)
+        length += (size_t)snprintf(text + length, room - length,
+                                   "[[node]]\nnumber = %d\nfault = %d\nupgrade = %d\nslots = 4\n", i, i, i % 10);
+    return length;
+}
+
+static void open_book(lrc_handle *handle) {
+    char text[2048];
+    size_t length = write_nodes(text, sizeof text), detail = 0;
+    uint32_t status = lrc_embed_open(handle, (const uint8_t *)text, length, &detail);
+    if (status != LRC_DONE) stop("open", status);
+}
+
+static void print_granted(const lrc_reply *reply) {
+    const lrc_lease *lease = &reply->lease;
+    printf("granted %u %u %u:%u epoch %u", lease->stripe, lease->fragment, lease->target.node, lease->target.slot,
+           (unsigned)lease->epoch);
+    if (reply->repair == LRC_GLOBAL) printf(" global");
+    if (reply->repair == LRC_MOVE) printf(" move");
+    if (reply->repair == LRC_LOCAL) {
+        printf(" local");
+        for (int i = 0; i < 6; i++) printf(" %u", reply->sources[i]);
+    }
+}
+
+static bool has_detail(uint8_t refusal) {
+    return refusal == LRC_NO_LAWFUL_NODE || refusal == LRC_UPGRADE_RUNNING || refusal == LRC_WOULD_LOSE ||
+           refusal == LRC_ALREADY_LEASED || refusal == LRC_NOT_HOLDER || refusal == LRC_TARGET_OFFLINE ||
+           refusal == LRC_NOT_EMPTY;
+}
+
+static void print_reply(const lrc_reply *reply) {
+    switch (reply->kind) {
+    case LRC_PLACED:
+        printf("placed");
+        for (int f = 0; f < LRC_FRAGMENTS; f++) printf(" %u:%u", reply->seats[f].node, reply->seats[f].slot);
+        break;
+    case LRC_DROPPED: printf("dropped"); break;
+    case LRC_GRANTED: print_granted(reply); break;
+    case LRC_IDLE: printf("idle"); break;
+    case LRC_ENDED: printf("ended"); break;
+    case LRC_CHANGED: printf("changed"); break;
+    case LRC_REFUSED:
+        printf("refused %u", reply->refusal);
+        if (has_detail(reply->refusal)) printf(" %u", (unsigned)reply->detail);
+        break;
+    }
+    printf("\n");
+}
+
+int main(void) {
+    if (lrc_embed_version() != LRC_EMBED_VERSION) stop("version", lrc_embed_version());
+    static const lrc_command script[] = {
+        {.kind = LRC_PLACE, .stripe = 1},
+        {.kind = LRC_FAIL, .node = 3},
+        {.kind = LRC_LEASE, .stripe = 1, .fragment = 3},
+        {.kind = LRC_REVOKE, .stripe = 1, .fragment = 3},
+        {.kind = LRC_LEASE, .stripe = 1, .fragment = 3},
+        // the first worker reports at last, and then the second
+        {.kind = LRC_REPORT, .stripe = 1, .fragment = 3, .epoch = 1},
+        {.kind = LRC_REPORT, .stripe = 1, .fragment = 3, .epoch = 2},
+        {.kind = LRC_REPORT, .stripe = 1, .fragment = 3, .epoch = 2},
+        {.kind = LRC_REVOKE, .stripe = 1, .fragment = 3},
+    };
+    enum { COUNT = sizeof script / sizeof *script };
+    static lrc_entry log[COUNT]; // a store writes each entry to its own log before it acts on the reply
+    lrc_handle handle = LRC_CLOSED;
+    open_book(&handle);
+    printf("script 1\n");
+    for (size_t i = 0; i < COUNT; i++) {
+        log[i].session = 1;
+        log[i].command = script[i];
+        uint32_t status = lrc_embed_call(&handle, log[i].session, &log[i].command, &log[i].reply);
+        if (status != LRC_DONE) stop("call", status);
+        printf("%zu ", i + 1);
+        print_reply(&log[i].reply);
+    }
+    lrc_embed_close(&handle);
+
+    // the program starts again
+    open_book(&handle);
+    size_t position = 0, count = 0;
+    uint32_t status = lrc_embed_replay(&handle, log, COUNT, &position);
+    if (status != LRC_DONE) stop("replay", status);
+    status = lrc_embed_count(&handle, &count);
+    if (status != LRC_DONE) stop("count", status);
+    lrc_embed_close(&handle);
+    printf("replayed %zu\n", count);
+
+    // a log that was changed is found out
+    log[4].reply.lease.epoch = 1;
+    open_book(&handle);
+    status = lrc_embed_replay(&handle, log, COUNT, &position);
+    if (status != LRC_DIFFERENT) stop("replay of a changed log", status);
+    printf("different at %zu\n", position);
+    return 0;
+}

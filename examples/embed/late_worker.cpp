@@ -1,0 +1,151 @@
+// The late worker of late_worker.c from C++, by a class that owns the handle.
+#include "lrc_embed.h"
+
+#include <cstdio>
+#include <stdexcept>
+#include <string>
+#include <utility>
+#include <vector>
+
+// What a call answers other than LRC_DONE.
+class Fault : public std::runtime_error {
+  public:
+    Fault(const std::string &what, std::uint32_t status, std::size_t position = 0)
+        : std::runtime_error(what + ": status " + std::to_string(status)), status(status), position(position) {}
+    const std::uint32_t status;
+    const std::size_t position;
+};
+
+// A book. It may be moved and not copied, and one thread at a time may use it.
+class Book {
+  public:
+    explicit Book(const std::string &nodes) {
+        std::size_t detail = 0;
+        auto text = reinterpret_cast<const std::uint8_t *>(nodes.data());
+        auto status = lrc_embed_open(&handle, text, nodes.size(), &detail);
+        if (status != LRC_DONE) throw Fault("open", status, detail);
+    }
+    Book(const std::string &nodes, const std::vector<lrc_entry> &log) : Book(nodes) {
+        std::size_t position = 0;
+        static const lrc_entry none{};
+        auto entries = log.empty() ? &none : log.data();
+        auto status = lrc_embed_replay(&handle, entries, log.size(), &position);
+        if (status != LRC_DONE) throw Fault("replay", status, position);
+    }
+    Book(Book &&other) noexcept : handle(std::exchange(other.handle, LRC_CLOSED)) {}
+    Book &operator=(Book &&other) noexcept {
+        std::swap(handle, other.handle);
+        return *this;
+    }
+    ~Book() { lrc_embed_close(&handle); }
+
+    lrc_reply call(std::uint8_t session, const lrc_command &command) {
+        lrc_reply reply{};
+        done("call", lrc_embed_call(&handle, session, &command, &reply));
+        return reply;
+    }
+    std::size_t count() {
+        std::size_t count = 0;
+        done("count", lrc_embed_count(&handle, &count));
+        return count;
+    }
+    lrc_entry entry(std::size_t index) {
+        lrc_entry entry{};
+        done("entry", lrc_embed_entry(&handle, index, &entry));
+        return entry;
+    }
+    std::vector<lrc_risk> risk() {
+        std::vector<lrc_risk> rows(LRC_STRIPES);
+        std::size_t count = 0;
+        done("risk", lrc_embed_risk(&handle, rows.data(), rows.size(), &count));
+        rows.resize(count);
+        return rows;
+    }
+
+  private:
+    static void done(const char *what, std::uint32_t status) {
+        if (status != LRC_DONE) throw Fault(what, status);
+    }
+    lrc_handle handle = LRC_CLOSED;
+};
+
+static lrc_command of_stripe(std::uint8_t kind, std::uint16_t stripe) {
+    lrc_command command{};
+    command.kind = kind;
+    command.stripe = stripe;
+    return command;
+}
+
+static lrc_command of_node(std::uint8_t kind, std::uint16_t node) {
+    lrc_command command{};
+    command.kind = kind;
+    command.node = node;
+    return command;
+}
+
+static lrc_command of_fragment(std::uint8_t kind, std::uint16_t stripe, std::uint8_t fragment, std::uint32_t epoch = 0) {
+    lrc_command command = of_stripe(kind, stripe);
+    command.fragment = fragment;
+    command.epoch = epoch;
+    return command;
+}
+
+static std::string text_of(const lrc_seat &seat) { return std::to_string(seat.node) + ":" + std::to_string(seat.slot); }
+
+// The text of a reply of the script below.
+static std::string text_of(const lrc_reply &reply) {
+    std::string text;
+    switch (reply.kind) {
+    case LRC_PLACED:
+        text = "placed";
+        for (const auto &seat : reply.seats) text += " " + text_of(seat);
+        return text;
+    case LRC_GRANTED:
+        text = "granted " + std::to_string(reply.lease.stripe) + " " + std::to_string(reply.lease.fragment) + " " +
+               text_of(reply.lease.target) + " epoch " + std::to_string(reply.lease.epoch) + " local";
+        for (auto source : reply.sources) text += " " + std::to_string(source);
+        return text;
+    case LRC_ENDED: return "ended";
+    case LRC_CHANGED: return "changed";
+    case LRC_REFUSED: return "refused " + std::to_string(reply.refusal);
+    default: return "?";
+    }
+}
+
+static std::string twenty_nodes() {
+    std::string text;
+    for (int i = 0; i < 20; i++)
+        text += "[[node]]\nnumber = " + std::to_string(i) + "\nfault = " + std::to_string(i) +
+                "\nupgrade = " + std::to_string(i % 10) + "\nslots = 4\n";
+    return text;
+}
+
+int main() {
+    const std::vector<lrc_command> script = {
+        of_stripe(LRC_PLACE, 1),           of_node(LRC_FAIL, 3),
+        of_fragment(LRC_LEASE, 1, 3),      of_fragment(LRC_REVOKE, 1, 3),
+        of_fragment(LRC_LEASE, 1, 3),      of_fragment(LRC_REPORT, 1, 3, 1),
+        of_fragment(LRC_REPORT, 1, 3, 2),  of_fragment(LRC_REPORT, 1, 3, 2),
+        of_fragment(LRC_REVOKE, 1, 3),
+    };
+    Book book(twenty_nodes());
+    std::printf("script 1\n");
+    for (const auto &command : script) {
+        auto reply = book.call(1, command);
+        std::printf("%zu %s\n", book.count(), text_of(reply).c_str());
+    }
+    std::vector<lrc_entry> log;
+    for (std::size_t i = 0; i < book.count(); i++) log.push_back(book.entry(i));
+
+    Book again(twenty_nodes(), log);
+    std::printf("replayed %zu\n", again.count());
+    Book moved = std::move(again);
+    log[4].reply.lease.epoch = 1;
+    try {
+        moved = Book(twenty_nodes(), log);
+        return 1;
+    } catch (const Fault &fault) {
+        std::printf("%s at %zu\n", fault.status == LRC_DIFFERENT ? "different" : fault.what(), fault.position);
+    }
+    return moved.risk().empty() ? 0 : 1;
+}

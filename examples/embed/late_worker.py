@@ -1,0 +1,39 @@
+#!/usr/bin/env python3
+"""The late worker of late_worker.c from Python.
+
+Usage: late_worker.py LIBRARY, where LIBRARY is the liblrc_embed.so that `build` makes."""
+import ctypes
+import sys
+
+sys.dont_write_bytecode = True
+from lrc_embed import Book, Command, CommandKind, Fault
+
+
+def main(library):
+    library = ctypes.CDLL(library)
+    nodes = "".join(f"[[node]]\nnumber = {i}\nfault = {i}\nupgrade = {i % 10}\nslots = 4\n" for i in range(20))
+    of_fragment = {"stripe": 1, "fragment": 3}
+    script = [
+        Command(CommandKind.PLACE, stripe=1), Command(CommandKind.FAIL, node=3),
+        Command(CommandKind.LEASE, **of_fragment), Command(CommandKind.REVOKE, **of_fragment),
+        Command(CommandKind.LEASE, **of_fragment),
+        Command(CommandKind.REPORT, epoch=1, **of_fragment), Command(CommandKind.REPORT, epoch=2, **of_fragment),
+        Command(CommandKind.REPORT, epoch=2, **of_fragment), Command(CommandKind.REVOKE, **of_fragment),
+    ]
+    with Book(library, nodes) as book:
+        print("script 1")
+        for command in script:
+            reply = book.call(1, command)
+            print(book.count(), reply)
+        log = [book.entry(index) for index in range(book.count())]
+    with Book(library, nodes, log) as book:
+        print("replayed", book.count())
+        assert book.risk() == []
+    log[4].reply.lease.epoch = 1
+    try:
+        Book(library, nodes, log)
+    except Fault as fault:
+        print(fault.status.name.lower(), "at", fault.position)
+
+
+main(*sys.argv[1:])

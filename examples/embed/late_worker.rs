@@ -1,0 +1,239 @@
+// The late worker of late_worker.c from Rust, by a type that owns the handle.
+use std::ffi::c_void;
+use std::fmt::{self, Display, Formatter};
+
+const VERSION: u32 = 1;
+const DONE: u32 = 0;
+const DIFFERENT: u32 = 8;
+const STRIPES: usize = 4096;
+
+#[repr(C)]
+struct Handle {
+    is_open: bool,
+    at: *mut c_void,
+}
+
+/// The kinds of the commands of the script below.
+#[derive(Clone, Copy)]
+enum Kind {
+    Place = 1,
+    Lease = 3,
+    Report = 5,
+    Revoke = 7,
+    Fail = 8,
+}
+
+#[repr(C)]
+#[derive(Clone, Copy, Default)]
+struct Command {
+    kind: u8,
+    fragment: u8,
+    domain: u8,
+    reserved: [u8; 5],
+    epoch: u32,
+    stripe: u16,
+    node: u16,
+}
+
+#[repr(C)]
+#[derive(Clone, Copy, Default)]
+struct Seat {
+    node: u16,
+    slot: u16,
+}
+
+#[repr(C)]
+#[derive(Clone, Copy, Default)]
+struct Lease {
+    stripe: u16,
+    fragment: u8,
+    holder: u8,
+    target: Seat,
+    epoch: u32,
+    reserved: u32,
+}
+
+#[repr(C)]
+#[derive(Clone, Copy, Default)]
+struct Reply {
+    kind: u8,
+    refusal: u8,
+    repair: u8,
+    sources: [u8; 6],
+    reserved: [u8; 3],
+    detail: u32,
+    reserved_numbers: [u32; 3],
+    lease: Lease,
+    seats: [Seat; 16],
+}
+
+#[repr(C)]
+#[derive(Clone, Copy, Default)]
+struct Entry {
+    session: u8,
+    reserved: [u8; 3],
+    command: Command,
+    reply: Reply,
+}
+
+#[repr(C)]
+#[derive(Clone, Copy, Default)]
+struct Level {
+    kind: u8,
+    margin: u8,
+    reserved: [u8; 2],
+}
+
+#[repr(C)]
+#[derive(Clone, Copy, Default)]
+struct Risk {
+    stripe: u16,
+    reserved: [u8; 2],
+    level: Level,
+}
+
+unsafe extern "C" {
+    safe fn lrc_embed_version() -> u32;
+    fn lrc_embed_open(handle: &mut Handle, text: *const u8, length: usize, detail: &mut usize) -> u32;
+    fn lrc_embed_call(handle: &mut Handle, session: u8, command: &Command, reply: &mut Reply) -> u32;
+    fn lrc_embed_replay(handle: &mut Handle, entries: *const Entry, count: usize, position: &mut usize) -> u32;
+    fn lrc_embed_risk(handle: &mut Handle, rows: *mut Risk, length: usize, count: &mut usize) -> u32;
+    fn lrc_embed_count(handle: &mut Handle, count: &mut usize) -> u32;
+    fn lrc_embed_entry(handle: &mut Handle, index: usize, entry: &mut Entry) -> u32;
+    fn lrc_embed_close(handle: &mut Handle) -> u32;
+}
+
+/// What a call answers other than that it was done, and where its input is at fault.
+#[derive(Debug)]
+struct Fault {
+    status: u32,
+    position: usize,
+}
+
+fn done(status: u32, position: usize) -> Result<(), Fault> {
+    if status == DONE { Ok(()) } else { Err(Fault { status, position }) }
+}
+
+/// A book. The handle is written by the library alone.
+struct Book(Handle);
+
+// SAFETY: `Send` is proved of the handle in the library, and each call has the book by `&mut`.
+unsafe impl Send for Book {}
+
+impl Book {
+    fn open(nodes: &str) -> Result<Book, Fault> {
+        let mut book = Book(Handle { is_open: false, at: std::ptr::null_mut() });
+        let mut detail = 0;
+        // SAFETY: the handle is closed, and pointer and length are those of one slice.
+        let status = unsafe { lrc_embed_open(&mut book.0, nodes.as_ptr(), nodes.len(), &mut detail) };
+        done(status, detail).map(|()| book)
+    }
+
+    fn replay(nodes: &str, log: &[Entry]) -> Result<Book, Fault> {
+        let mut book = Book::open(nodes)?;
+        let mut position = 0;
+        // SAFETY: as above.
+        let status = unsafe { lrc_embed_replay(&mut book.0, log.as_ptr(), log.len(), &mut position) };
+        done(status, position).map(|()| book)
+    }
+
+    fn call(&mut self, session: u8, command: &Command) -> Result<Reply, Fault> {
+        let mut reply = Reply::default();
+        // SAFETY: the library made the handle, and any numbers will do.
+        done(unsafe { lrc_embed_call(&mut self.0, session, command, &mut reply) }, 0).map(|()| reply)
+    }
+
+    fn count(&mut self) -> Result<usize, Fault> {
+        let mut count = 0;
+        // SAFETY: as above.
+        done(unsafe { lrc_embed_count(&mut self.0, &mut count) }, 0).map(|()| count)
+    }
+
+    fn entry(&mut self, index: usize) -> Result<Entry, Fault> {
+        let mut entry = Entry::default();
+        // SAFETY: as above.
+        done(unsafe { lrc_embed_entry(&mut self.0, index, &mut entry) }, 0).map(|()| entry)
+    }
+
+    fn risk(&mut self) -> Result<Vec<Risk>, Fault> {
+        let mut rows = vec![Risk::default(); STRIPES];
+        let mut count = 0;
+        // SAFETY: pointer and length are those of one slice.
+        done(unsafe { lrc_embed_risk(&mut self.0, rows.as_mut_ptr(), rows.len(), &mut count) }, 0)?;
+        rows.truncate(count);
+        Ok(rows)
+    }
+}
+
+impl Drop for Book {
+    fn drop(&mut self) {
+        // SAFETY: the library made the handle.
+        unsafe { lrc_embed_close(&mut self.0) };
+    }
+}
+
+impl Display for Seat {
+    fn fmt(&self, f: &mut Formatter) -> fmt::Result {
+        write!(f, "{}:{}", self.node, self.slot)
+    }
+}
+
+/// The text of a reply of the script below.
+impl Display for Reply {
+    fn fmt(&self, f: &mut Formatter) -> fmt::Result {
+        let Lease { stripe, fragment, target, epoch, .. } = self.lease;
+        match self.kind {
+            1 => self.seats.iter().try_fold(write!(f, "placed")?, |(), seat| write!(f, " {seat}")),
+            3 => {
+                write!(f, "granted {stripe} {fragment} {target} epoch {epoch} local")?;
+                self.sources.iter().try_for_each(|source| write!(f, " {source}"))
+            }
+            5 => write!(f, "ended"),
+            6 => write!(f, "changed"),
+            7 => write!(f, "refused {}", self.refusal),
+            _ => write!(f, "?"),
+        }
+    }
+}
+
+fn of_fragment(kind: Kind, epoch: u32) -> Command {
+    Command { kind: kind as u8, stripe: 1, fragment: 3, epoch, ..Command::default() }
+}
+
+fn main() -> Result<(), Fault> {
+    assert_eq!(lrc_embed_version(), VERSION);
+    let nodes: String = (0..20)
+        .map(|i| format!("[[node]]\nnumber = {i}\nfault = {i}\nupgrade = {}\nslots = 4\n", i % 10))
+        .collect();
+    let script = [
+        Command { kind: Kind::Place as u8, stripe: 1, ..Command::default() },
+        Command { kind: Kind::Fail as u8, node: 3, ..Command::default() },
+        of_fragment(Kind::Lease, 0),
+        of_fragment(Kind::Revoke, 0),
+        of_fragment(Kind::Lease, 0),
+        of_fragment(Kind::Report, 1),
+        of_fragment(Kind::Report, 2),
+        of_fragment(Kind::Report, 2),
+        of_fragment(Kind::Revoke, 0),
+    ];
+    let mut book = Book::open(&nodes)?;
+    println!("script 1");
+    for command in &script {
+        let reply = book.call(1, command)?;
+        println!("{} {reply}", book.count()?);
+    }
+    let mut log = (0..book.count()?).map(|i| book.entry(i)).collect::<Result<Vec<Entry>, Fault>>()?;
+
+    // a book may go to another thread
+    let mut again = Book::replay(&nodes, &log)?;
+    let ended = std::thread::spawn(move || again.count().and_then(|count| Ok((count, again.risk()?.len()))));
+    let (count, at_risk) = ended.join().unwrap()?;
+    assert_eq!(at_risk, 0);
+    println!("replayed {count}");
+    log[4].reply.lease.epoch = 1;
+    match Book::replay(&nodes, &log) {
+        Err(Fault { status: DIFFERENT, position }) => println!("different at {position}"),
+        other => other.map(drop)?,
+    }
+    Ok(())
+}

@@ -1,0 +1,264 @@
+// The calls of liblrc_embed: a proved book of erasure-coded stripes, for a program that keeps its own lock and its own log.
+//
+// A handle owns one book. lrc_embed_open makes the book of a list of nodes, lrc_embed_call makes one command of one
+// session and tells its reply, the looks tell what stands, and lrc_embed_close frees all. docs/RULES.md says what each
+// command answers, and docs/EMBEDDING.md how a store uses this.
+//
+// Every function but lrc_embed_version answers a status. It writes its answer exactly where the status is LRC_DONE.
+// lrc_embed_open and lrc_embed_replay also write where they stopped, as is said at them; nothing else is written.
+//
+// What the caller owes, for nothing checks C:
+// - A handle begins as LRC_CLOSED. From then on only these functions write it. An open one is not copied, since two copies
+//   would own one book; it may be moved, as a whole.
+// - One call at a time on one handle, looks too. A lock, or a thread's start or join, orders calls of several threads. Two
+//   handles have nothing in common.
+// - No pointer is null, also where a length is 0. Each is aligned, and points to initialized memory of the whole struct,
+//   that of answers too. What a call writes overlaps nothing else that it is given. What it reads does not change while
+//   it runs.
+// - malloc, realloc and free are of one allocator, and align a block to every power of two up to 16 that divides its size.
+// - No call from a signal handler, or from the forked child of a process with threads.
+//   How much stack a call takes is not measured.
+// Any numbers at all may be passed: those out of range, short buffers and closed handles have a status of their own.
+#ifndef LRC_EMBED_H
+#define LRC_EMBED_H
+
+#include <stdbool.h>
+#include <stddef.h>
+#include <stdint.h>
+
+#ifdef __cplusplus
+extern "C" {
+#endif
+
+// The version of all that is below. lrc_embed_version() answers that of the library: compare them once. New commands are
+// new kinds, and new numbers of replies go into what is reserved, so that no struct changes its size.
+#define LRC_EMBED_VERSION 1
+
+// The numbers of stripes, 0 to 4095; as many rows as lrc_embed_risk can ever need.
+#define LRC_STRIPES 4096
+// The numbers of fragments of a stripe, 0 to 15: 0 to 5 and 12 are group A, 6 to 11 and 13 group B, 14 and 15 are global.
+#define LRC_FRAGMENTS 16
+// The numbers of sessions are 1 to 8. A session is whoever holds a lease.
+#define LRC_SESSIONS 8
+// The most entries of a history.
+#define LRC_HISTORY_LIMIT 1000000
+
+enum lrc_status {
+    LRC_DONE = 0,
+    LRC_IS_CLOSED = 1,     // the handle is closed
+    LRC_IS_OPEN = 2,       // the handle to be opened is open
+    LRC_OUT_OF_RANGE = 3,  // a session, a kind of command, a stripe or a fragment is out of its range
+    LRC_UNKNOWN = 4,       // there is no such stripe, lease, node or entry
+    LRC_FULL = 5,          // the history has LRC_HISTORY_LIMIT entries
+    LRC_OUT_OF_MEMORY = 6, // memory was refused, and the history is as it was: the same call may be made again (but a
+                           // replay has closed the handle)
+    LRC_SHORT = 7,         // the buffer has no room for all rows
+    LRC_DIFFERENT = 8,     // lrc_embed_replay: a call is answered otherwise than its entry says
+
+    // lrc_embed_open: why the text is no list of nodes
+    LRC_SYNTAX = 16,            // no TOML 1.1 in UTF-8
+    LRC_NO_NODES = 17,          // `node` is absent, no array, or empty
+    LRC_BAD_FIELD = 18,         // an entry of `node` lacks a whole number at one of its four keys; detail: its position
+    LRC_NODE_OUT_OF_RANGE = 19, // an entry has a number out of its range; detail: its position, from 0
+    LRC_DOUBLE_NODE = 20,       // two entries have one number; detail: this number
+    LRC_TOO_MANY = 21,          // more than 512 nodes
+};
+
+// A handle. All zeros is a closed one. Look at nothing inside.
+typedef struct {
+    bool is_open;
+    void *at;
+} lrc_handle;
+
+#ifdef __cplusplus
+#define LRC_CLOSED (lrc_handle{})
+#else
+#define LRC_CLOSED ((lrc_handle){0})
+#endif
+
+// Behind each kind: which fields of lrc_command it uses. The others may be anything.
+enum lrc_command_kind {
+    LRC_PLACE = 1,     // stripe: give each fragment of a new stripe a home
+    LRC_DROP = 2,      // stripe: take a stripe out, with its homes and leases
+    LRC_LEASE = 3,     // stripe, fragment: ask for the lease of a fragment
+    LRC_NEXT = 4,      // nothing: ask for the lease of the most urgent fragment
+    LRC_REPORT = 5,    // stripe, fragment, epoch: the fragment stands on the target of this session's lease (`done`)
+    LRC_ABANDON = 6,   // stripe, fragment, epoch: give this session's lease back
+    LRC_REVOKE = 7,    // stripe, fragment: end the lease, whoever holds it
+    LRC_FAIL = 8,      // node: it is lost, with all that is on it
+    LRC_DOWN = 9,      // node: it can't be reached for now
+    LRC_UP = 10,       // node: it can be reached again
+    LRC_DRAIN = 11,    // node: it takes no further seats
+    LRC_UNDRAIN = 12,  // node: it takes seats again
+    LRC_RETIRE = 13,   // node: take a draining node out that holds nothing
+    LRC_JOIN = 14,     // node: take a node that is gone in again, empty
+    LRC_UPGRADE = 15,  // domain: take all nodes of an upgrade domain offline
+    LRC_UPGRADED = 16, // domain: its nodes can be reached again, but those that are down
+};
+
+typedef struct {
+    uint8_t kind;     // an lrc_command_kind
+    uint8_t fragment; // 0 to 15
+    uint8_t domain;   // 0 to 255
+    uint8_t reserved[5];
+    uint32_t epoch;
+    uint16_t stripe; // 0 to 4095
+    uint16_t node;   // 0 to 65535
+} lrc_command;
+
+// A slot of a node, counted from 0.
+typedef struct {
+    uint16_t node, slot;
+} lrc_seat;
+
+// A session's leave to bring a fragment onto a seat.
+typedef struct {
+    uint16_t stripe;
+    uint8_t fragment;
+    uint8_t holder;  // the session that has it
+    lrc_seat target; // the seat that the fragment is to have
+    uint32_t epoch;  // how often this fragment of this stripe number was leased, this time included
+    uint32_t reserved;
+} lrc_lease;
+
+enum lrc_reply_kind {
+    LRC_PLACED = 1,  // seats: the homes of fragments 0 to 15
+    LRC_DROPPED = 2,
+    LRC_GRANTED = 3, // lease, repair, sources
+    LRC_IDLE = 4,    // no fragment can be leased
+    LRC_ENDED = 5,   // the lease has ended
+    LRC_CHANGED = 6, // the node or the upgrade domain was changed
+    LRC_REFUSED = 7, // refusal, detail: nothing was changed but the history
+};
+
+// From what a leased fragment is made.
+enum lrc_repair {
+    LRC_LOCAL = 1,  // sources: the six other fragments of its group, rising
+    LRC_GLOBAL = 2, // the whole stripe
+    LRC_MOVE = 3,   // its own home, which is online
+};
+
+// Behind a refusal: what `detail` is, else 0.
+enum lrc_refusal {
+    LRC_UNKNOWN_STRIPE = 101,
+    LRC_STRIPE_EXISTS = 102,
+    LRC_NO_LAWFUL_NODE = 103, // the fragment that finds no seat
+    LRC_UNKNOWN_NODE = 104,
+    LRC_WRONG_MODE = 105,
+    LRC_UNKNOWN_DOMAIN = 106,
+    LRC_UPGRADE_RUNNING = 107, // the domain that is upgrading
+    LRC_NOT_UPGRADING = 108,
+    LRC_WOULD_LOSE = 109,     // the least stripe that would be unrecoverable
+    LRC_ALREADY_LEASED = 110, // the epoch of the live lease
+    LRC_NOT_NEEDED = 111,
+    LRC_UNRECOVERABLE = 112,
+    LRC_STALE = 113,
+    LRC_NOT_HOLDER = 114,     // the session that holds the lease
+    LRC_TARGET_OFFLINE = 115, // the target's node
+    LRC_NO_LEASE = 116,
+    LRC_NOT_EMPTY = 117, // the number of seats on the node
+};
+
+// What the kind does not use is 0.
+typedef struct {
+    uint8_t kind;    // an lrc_reply_kind
+    uint8_t refusal; // an lrc_refusal
+    uint8_t repair;  // an lrc_repair
+    uint8_t sources[6];
+    uint8_t reserved[3];
+    uint32_t detail;
+    uint32_t reserved_numbers[3];
+    lrc_lease lease;
+    lrc_seat seats[LRC_FRAGMENTS];
+} lrc_reply;
+
+// A command of a session, and its reply: what a store's log keeps of each call.
+typedef struct {
+    uint8_t session; // 1 to 8
+    uint8_t reserved[3];
+    lrc_command command;
+    lrc_reply reply;
+} lrc_entry;
+
+// The home of a fragment; all is 0 where it has none.
+typedef struct {
+    lrc_seat seat;
+    uint8_t is_there; // 0 or 1
+    uint8_t reserved[3];
+} lrc_home;
+
+typedef struct {
+    lrc_home homes[LRC_FRAGMENTS];
+} lrc_homes;
+
+enum lrc_level_kind {
+    LRC_WHOLE = 1,       // no fragment is missing
+    LRC_AT_RISK = 2,     // margin: how many further losses the stripe withstands, 0 to 2, whichever they are
+    LRC_UNAVAILABLE = 3, // not recoverable while nodes are offline
+    LRC_LOST = 4,        // not recoverable
+};
+
+typedef struct {
+    uint8_t kind; // an lrc_level_kind
+    uint8_t margin;
+    uint8_t reserved[2];
+} lrc_level;
+
+typedef struct {
+    uint16_t stripe;
+    uint8_t reserved[2];
+    lrc_level level;
+} lrc_risk;
+
+enum lrc_mode_kind { LRC_ACTIVE = 1, LRC_DRAINING = 2, LRC_GONE = 3 };
+
+typedef struct {
+    uint8_t mode;      // an lrc_mode_kind
+    uint8_t is_online; // 0 or 1
+    uint8_t reserved[2];
+} lrc_mode;
+
+// The version of the library.
+uint32_t lrc_embed_version(void);
+
+// Opens a closed handle with a book of the nodes of the text, with an empty history. DONE, IS_OPEN, OUT_OF_MEMORY, or one
+// of 16 to 21, and then `detail` is written too. The text is not needed after the call.
+uint32_t lrc_embed_open(lrc_handle *handle, const uint8_t *text, size_t length, size_t *detail);
+
+// Makes one command. DONE, also where the reply is that it was refused; IS_CLOSED, OUT_OF_RANGE, FULL or OUT_OF_MEMORY,
+// and then the history is as it was. After DONE the history has one entry more: this session, command and reply.
+uint32_t lrc_embed_call(lrc_handle *handle, uint8_t session, const lrc_command *command, lrc_reply *reply);
+
+// Makes the commands of `count` entries that were kept, after the history that the book has, and compares each reply. After
+// DONE the history has these entries more. With any other status the handle is closed and the book is freed, and, but for
+// IS_CLOSED, `position` is that of the entry where it ended, from 0: DIFFERENT, its reply is not what the book answers;
+// OUT_OF_RANGE, it is no entry; FULL or OUT_OF_MEMORY. A long log may be replayed in pieces.
+uint32_t lrc_embed_replay(lrc_handle *handle, const lrc_entry *entries, size_t count, size_t *position);
+
+// The looks. They change nothing.
+// DONE, IS_CLOSED, OUT_OF_RANGE, or UNKNOWN where there is no such stripe.
+uint32_t lrc_embed_homes(lrc_handle *handle, uint16_t stripe, lrc_homes *homes);
+uint32_t lrc_embed_level(lrc_handle *handle, uint16_t stripe, lrc_level *level);
+// The fragments without a home, or with one on a node that is not online. Fragment f is bit f.
+uint32_t lrc_embed_missing(lrc_handle *handle, uint16_t stripe, uint16_t *missing);
+// The same, or UNKNOWN where the fragment has no live lease.
+uint32_t lrc_embed_lease(lrc_handle *handle, uint16_t stripe, uint8_t fragment, lrc_lease *lease);
+// DONE, IS_CLOSED, or UNKNOWN where there is no such node. The load counts homes and targets of leases.
+uint32_t lrc_embed_load(lrc_handle *handle, uint16_t node, uint32_t *load);
+uint32_t lrc_embed_mode(lrc_handle *handle, uint16_t node, lrc_mode *mode);
+// The stripes that are not whole, in the order of repair. DONE, with `*count` rows; IS_CLOSED, OUT_OF_MEMORY, or SHORT
+// where they are more than `length`, which LRC_STRIPES rows never are.
+uint32_t lrc_embed_risk(lrc_handle *handle, lrc_risk *rows, size_t length, size_t *count);
+// The number of entries of the history: DONE or IS_CLOSED.
+uint32_t lrc_embed_count(lrc_handle *handle, size_t *count);
+// The entry at an index, from 0: DONE, IS_CLOSED or UNKNOWN.
+uint32_t lrc_embed_entry(lrc_handle *handle, size_t index, lrc_entry *entry);
+
+// Closes the handle and frees its book. A closed handle stays closed. Always DONE.
+uint32_t lrc_embed_close(lrc_handle *handle);
+
+#ifdef __cplusplus
+}
+#endif
+
+#endif

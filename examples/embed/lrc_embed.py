@@ -1,0 +1,188 @@
+"""The book of liblrc_embed.so for Python: the structs and constants of lrc_embed.h, and a class that owns the handle."""
+import ctypes
+from ctypes import c_bool, c_size_t, c_uint8, c_uint16, c_uint32, c_void_p
+from enum import IntEnum
+
+VERSION, STRIPES, FRAGMENTS, SESSIONS, HISTORY_LIMIT = 1, 4096, 16, 8, 1_000_000
+
+
+class Status(IntEnum):
+    DONE, IS_CLOSED, IS_OPEN, OUT_OF_RANGE, UNKNOWN, FULL, OUT_OF_MEMORY, SHORT, DIFFERENT = range(9)
+    SYNTAX, NO_NODES, BAD_FIELD, NODE_OUT_OF_RANGE, DOUBLE_NODE, TOO_MANY = range(16, 22)
+
+
+class CommandKind(IntEnum):
+    PLACE, DROP, LEASE, NEXT, REPORT, ABANDON, REVOKE, FAIL = range(1, 9)
+    DOWN, UP, DRAIN, UNDRAIN, RETIRE, JOIN, UPGRADE, UPGRADED = range(9, 17)
+
+
+class ReplyKind(IntEnum):
+    PLACED, DROPPED, GRANTED, IDLE, ENDED, CHANGED, REFUSED = range(1, 8)
+
+
+class Repair(IntEnum):
+    LOCAL, GLOBAL, MOVE = range(1, 4)
+
+
+class Refusal(IntEnum):
+    UNKNOWN_STRIPE, STRIPE_EXISTS, NO_LAWFUL_NODE, UNKNOWN_NODE, WRONG_MODE, UNKNOWN_DOMAIN = range(101, 107)
+    UPGRADE_RUNNING, NOT_UPGRADING, WOULD_LOSE, ALREADY_LEASED, NOT_NEEDED, UNRECOVERABLE = range(107, 113)
+    STALE, NOT_HOLDER, TARGET_OFFLINE, NO_LEASE, NOT_EMPTY = range(113, 118)
+
+
+class LevelKind(IntEnum):
+    WHOLE, AT_RISK, UNAVAILABLE, LOST = range(1, 5)
+
+
+class ModeKind(IntEnum):
+    ACTIVE, DRAINING, GONE = range(1, 4)
+
+
+# The refusals that have a detail.
+DETAILED = {Refusal.NO_LAWFUL_NODE, Refusal.UPGRADE_RUNNING, Refusal.WOULD_LOSE, Refusal.ALREADY_LEASED,
+            Refusal.NOT_HOLDER, Refusal.TARGET_OFFLINE, Refusal.NOT_EMPTY}
+
+
+class Handle(ctypes.Structure):
+    _fields_ = [("is_open", c_bool), ("at", c_void_p)]
+
+
+class Command(ctypes.Structure):
+    _fields_ = [("kind", c_uint8), ("fragment", c_uint8), ("domain", c_uint8), ("reserved", c_uint8 * 5),
+                ("epoch", c_uint32), ("stripe", c_uint16), ("node", c_uint16)]
+
+
+class Seat(ctypes.Structure):
+    _fields_ = [("node", c_uint16), ("slot", c_uint16)]
+
+    def __str__(self):
+        return f"{self.node}:{self.slot}"
+
+
+class Lease(ctypes.Structure):
+    _fields_ = [("stripe", c_uint16), ("fragment", c_uint8), ("holder", c_uint8), ("target", Seat),
+                ("epoch", c_uint32), ("reserved", c_uint32)]
+
+    def __str__(self):
+        return f"{self.stripe} {self.fragment} {self.target} epoch {self.epoch}"
+
+
+class Reply(ctypes.Structure):
+    _fields_ = [("kind", c_uint8), ("refusal", c_uint8), ("repair", c_uint8), ("sources", c_uint8 * 6),
+                ("reserved", c_uint8 * 3), ("detail", c_uint32), ("reserved_numbers", c_uint32 * 3),
+                ("lease", Lease), ("seats", Seat * FRAGMENTS)]
+
+    def __str__(self):
+        """What `lrcman run` prints of the reply."""
+        kind = ReplyKind(self.kind)
+        words = [kind.name.lower()]
+        if kind is ReplyKind.PLACED:
+            words += self.seats
+        elif kind is ReplyKind.GRANTED:
+            words += [self.lease, Repair(self.repair).name.lower()]
+            words += self.sources if self.repair == Repair.LOCAL else []
+        elif kind is ReplyKind.REFUSED:
+            words += [self.refusal] + ([self.detail] if self.refusal in DETAILED else [])
+        return " ".join(map(str, words))
+
+
+class Entry(ctypes.Structure):
+    _fields_ = [("session", c_uint8), ("reserved", c_uint8 * 3), ("command", Command), ("reply", Reply)]
+
+
+class Home(ctypes.Structure):
+    _fields_ = [("seat", Seat), ("is_there", c_uint8), ("reserved", c_uint8 * 3)]
+
+
+class Homes(ctypes.Structure):
+    _fields_ = [("homes", Home * FRAGMENTS)]
+
+
+class Level(ctypes.Structure):
+    _fields_ = [("kind", c_uint8), ("margin", c_uint8), ("reserved", c_uint8 * 2)]
+
+
+class Risk(ctypes.Structure):
+    _fields_ = [("stripe", c_uint16), ("reserved", c_uint8 * 2), ("level", Level)]
+
+
+class Mode(ctypes.Structure):
+    _fields_ = [("mode", c_uint8), ("is_online", c_uint8), ("reserved", c_uint8 * 2)]
+
+
+class Fault(Exception):
+    """What a call answers other than that it was done, and where its input is at fault."""
+
+    def __init__(self, name, status, position):
+        super().__init__(f"{name}: {Status(status).name}")
+        self.status, self.position = Status(status), position
+
+
+class Book:
+    """A book over the nodes of a text, after the calls of a log. One thread at a time may use it, in a `with`."""
+
+    def __init__(self, library, nodes, log=()):
+        self.library, self.handle = library, Handle()
+        if library.lrc_embed_version() != VERSION:
+            raise RuntimeError("another version of liblrc_embed")
+        text, detail, position = nodes.encode(), c_size_t(), c_size_t()
+        self.done("open", text, c_size_t(len(text)), ctypes.byref(detail), where=detail)
+        entries = (Entry * max(1, len(log)))(*log)
+        self.done("replay", entries, c_size_t(len(log)), ctypes.byref(position), where=position)
+
+    def done(self, name, *given, where=None):
+        """Makes a call, which has to be done."""
+        status = getattr(self.library, f"lrc_embed_{name}")(ctypes.byref(self.handle), *given)
+        if status != Status.DONE:
+            raise Fault(name, status, None if where is None else where.value)
+
+    def told(self, name, answer, *given):
+        """Makes a call, and returns what it wrote; None where there is no such thing."""
+        try:
+            self.done(name, *given, ctypes.byref(answer))
+        except Fault as fault:
+            if fault.status != Status.UNKNOWN:
+                raise
+            return None
+        return answer
+
+    def call(self, session, command):
+        return self.told("call", Reply(), c_uint8(session), ctypes.byref(command))
+
+    def homes(self, stripe):
+        return self.told("homes", Homes(), c_uint16(stripe))
+
+    def level(self, stripe):
+        return self.told("level", Level(), c_uint16(stripe))
+
+    def missing(self, stripe):
+        return self.told("missing", c_uint16(), c_uint16(stripe))
+
+    def lease(self, stripe, fragment):
+        return self.told("lease", Lease(), c_uint16(stripe), c_uint8(fragment))
+
+    def load(self, node):
+        return self.told("load", c_uint32(), c_uint16(node))
+
+    def mode(self, node):
+        return self.told("mode", Mode(), c_uint16(node))
+
+    def risk(self):
+        rows, count = (Risk * STRIPES)(), c_size_t()
+        self.done("risk", rows, c_size_t(STRIPES), ctypes.byref(count))
+        return rows[:count.value]
+
+    def count(self):
+        return self.told("count", c_size_t()).value
+
+    def entry(self, index):
+        return self.told("entry", Entry(), c_size_t(index))
+
+    def close(self):
+        self.done("close")
+
+    def __enter__(self):
+        return self
+
+    def __exit__(self, *_):
+        self.close()

@@ -1,0 +1,357 @@
+// Each function of lrc_embed.h with each of its statuses, from C. tests/embed builds and runs it, also where memory is
+// refused: a call that memory was refused to has changed nothing, and is made again.
+// Usage: embed [full], with `full` also until the history is full.
+#include "lrc_embed.h"
+
+#include <stdio.h>
+#include <stdlib.h>
+#include <string.h>
+
+// The linker puts these between the library and the C library (--wrap), to count the blocks that are held.
+extern void *__real_malloc(size_t);
+extern void *__real_realloc(void *, size_t);
+extern void __real_free(void *);
+void *__wrap_malloc(size_t);
+void *__wrap_realloc(void *, size_t);
+void __wrap_free(void *);
+
+static long held;
+
+void *__wrap_malloc(size_t size) {
+    void *block = __real_malloc(size);
+    held += block != 0;
+    return block;
+}
+
+void *__wrap_realloc(void *old, size_t size) {
+    void *block = __real_realloc(old, size);
+    held += block != 0 && old == 0;
+    return block;
+}
+
+void __wrap_free(void *block) {
+    held -= block != 0;
+    __real_free(block);
+}
+
+static lrc_handle handle = LRC_CLOSED;
+
+static void want(bool holds, int line) {
+    if (holds) return;
+    fprintf(stderr, "embed.c:%d: not as wanted\n", line);
+    exit(1);
+}
+#define WANT(condition) want(condition, __LINE__)
+
+// Memory was refused twice in a row, so it is refused for good. What stands can be looked at and closed.
+static void give_up(void) {
+    size_t count = 0;
+    uint32_t status = lrc_embed_count(&handle, &count);
+    WANT(status == LRC_DONE || status == LRC_IS_CLOSED);
+    WANT(lrc_embed_close(&handle) == LRC_DONE && held == 0);
+    _Exit(3);
+}
+
+static size_t count_of(void) {
+    size_t count = 0;
+    uint32_t status = lrc_embed_count(&handle, &count);
+    WANT(status == LRC_DONE || status == LRC_IS_CLOSED);
+    return count;
+}
+
+// The status of a call that is made again where memory was refused.
+#define STATUS(status, call)                                                                                           \
+    do {                                                                                                               \
+        size_t before = count_of();                                                                                    \
+        status = (call);                                                                                               \
+        if (status == LRC_OUT_OF_MEMORY) {                                                                             \
+            WANT(count_of() == before);                                                                                \
+            status = (call);                                                                                           \
+            if (status == LRC_OUT_OF_MEMORY) give_up();                                                                \
+        }                                                                                                              \
+    } while (0)
+
+static uint32_t open_text(const char *text, size_t *detail) {
+    uint32_t status;
+    STATUS(status, lrc_embed_open(&handle, (const uint8_t *)text, strlen(text), detail));
+    return status;
+}
+
+static void open_twenty(void) {
+    static char text[2048];
+    size_t length = 0, detail = 99;
+    for (int i = 0; i < 20; i++)
+        length += (size_t)snprintf(text + length, sizeof text - length,
+                                   "[[node]]\nnumber = %d\nfault = %d\nupgrade = %d\nslots = 4\n", i, i, i % 10);
+    WANT(open_text(text, &detail) == LRC_DONE && detail == 99);
+}
+
+static lrc_reply make(uint8_t session, lrc_command command) {
+    lrc_reply reply;
+    uint32_t status;
+    memset(&reply, 0xa5, sizeof reply);
+    STATUS(status, lrc_embed_call(&handle, session, &command, &reply));
+    WANT(status == LRC_DONE);
+    return reply;
+}
+
+#define MAKE(session, ...) make(session, (lrc_command){__VA_ARGS__})
+static bool is_refused(lrc_reply reply, uint8_t refusal, uint32_t detail) {
+    return reply.kind == LRC_REFUSED && reply.refusal == refusal && reply.detail == detail;
+}
+
+static void texts(void) {
+    size_t detail = 99;
+    WANT(open_text("node = [", &detail) == LRC_SYNTAX && detail == 0);
+    WANT(open_text("", &detail) == LRC_NO_NODES && detail == 0);
+    WANT(open_text("node = [{ number = 7, fault = 0, upgrade = 0, slots = 1 }, {}]", &detail) == LRC_BAD_FIELD);
+    WANT(detail == 1);
+    WANT(open_text("node = [{ number = 7, fault = 256, upgrade = 0, slots = 1 }]", &detail) == LRC_NODE_OUT_OF_RANGE);
+    WANT(detail == 0);
+#define SEVEN "{ number = 7, fault = 0, upgrade = 0, slots = 1 },"
+    WANT(open_text("node = [" SEVEN SEVEN "]", &detail) == LRC_DOUBLE_NODE && detail == 7);
+    static char many[513 * 64];
+    size_t length = (size_t)snprintf(many, sizeof many, "node = [");
+    for (int i = 0; i < 513; i++)
+        length += (size_t)snprintf(many + length, sizeof many - length,
+                                   "{ number = %d, fault = 0, upgrade = 0, slots = 1 },", i);
+    snprintf(many + length, sizeof many - length, "]");
+    WANT(open_text(many, &detail) == LRC_TOO_MANY && detail == 0);
+}
+
+// Each look and call of a closed handle, which writes nothing.
+static void closed(void) {
+    static const union {
+        uint8_t bytes[sizeof(lrc_entry)];
+        lrc_entry entry;
+    } pattern = {{0xa5, 0xa5, 0xa5, 0xa5, 0xa5, 0xa5, 0xa5, 0xa5}};
+    union {
+        lrc_reply reply;
+        lrc_homes homes;
+        lrc_level level;
+        uint16_t missing;
+        lrc_lease lease;
+        uint32_t load;
+        lrc_mode mode;
+        lrc_risk rows[2];
+        size_t number;
+        lrc_entry entry;
+    } told = {.entry = pattern.entry};
+    lrc_command command = {.kind = LRC_NEXT};
+    size_t number = 99;
+    WANT(lrc_embed_call(&handle, 1, &command, &told.reply) == LRC_IS_CLOSED);
+    WANT(lrc_embed_call(&handle, 9, &command, &told.reply) == LRC_OUT_OF_RANGE);
+    WANT(lrc_embed_replay(&handle, &told.entry, 1, &number) == LRC_IS_CLOSED);
+    WANT(lrc_embed_homes(&handle, 1, &told.homes) == LRC_IS_CLOSED);
+    WANT(lrc_embed_level(&handle, 1, &told.level) == LRC_IS_CLOSED);
+    WANT(lrc_embed_missing(&handle, 1, &told.missing) == LRC_IS_CLOSED);
+    WANT(lrc_embed_lease(&handle, 1, 1, &told.lease) == LRC_IS_CLOSED);
+    WANT(lrc_embed_load(&handle, 1, &told.load) == LRC_IS_CLOSED);
+    WANT(lrc_embed_mode(&handle, 1, &told.mode) == LRC_IS_CLOSED);
+    WANT(lrc_embed_risk(&handle, told.rows, 2, &number) == LRC_IS_CLOSED);
+    WANT(lrc_embed_count(&handle, &told.number) == LRC_IS_CLOSED);
+    WANT(lrc_embed_entry(&handle, 0, &told.entry) == LRC_IS_CLOSED);
+    WANT(number == 99 && memcmp(&told, pattern.bytes, sizeof pattern.bytes) == 0);
+    WANT(lrc_embed_close(&handle) == LRC_DONE);
+}
+
+static void ranges(void) {
+    const lrc_command outside[] = {
+        {.kind = 0},
+        {.kind = LRC_UPGRADED + 1},
+        {.kind = 255},
+        {.kind = LRC_PLACE, .stripe = LRC_STRIPES},
+        {.kind = LRC_DROP, .stripe = 65535},
+        {.kind = LRC_LEASE, .stripe = 1, .fragment = LRC_FRAGMENTS},
+        {.kind = LRC_REPORT, .stripe = LRC_STRIPES, .fragment = 1},
+        {.kind = LRC_ABANDON, .stripe = 1, .fragment = 255},
+        {.kind = LRC_REVOKE, .stripe = LRC_STRIPES, .fragment = LRC_FRAGMENTS},
+    };
+    lrc_reply reply = {.kind = 99};
+    for (size_t i = 0; i < sizeof outside / sizeof *outside; i++)
+        WANT(lrc_embed_call(&handle, 1, &outside[i], &reply) == LRC_OUT_OF_RANGE);
+    const lrc_command next = {.kind = LRC_NEXT, .stripe = 65535, .fragment = 255, .node = 65535};
+    WANT(lrc_embed_call(&handle, 0, &next, &reply) == LRC_OUT_OF_RANGE);
+    WANT(lrc_embed_call(&handle, LRC_SESSIONS + 1, &next, &reply) == LRC_OUT_OF_RANGE);
+    WANT(reply.kind == 99 && count_of() == 0);
+    WANT(make(LRC_SESSIONS, next).kind == LRC_IDLE);
+    WANT(is_refused(MAKE(1, .kind = LRC_LEASE, .stripe = LRC_STRIPES - 1, .fragment = LRC_FRAGMENTS - 1),
+                    LRC_UNKNOWN_STRIPE, 0));
+    lrc_level level = {.kind = 99};
+    lrc_lease lease = {.epoch = 99};
+    WANT(lrc_embed_level(&handle, LRC_STRIPES, &level) == LRC_OUT_OF_RANGE && level.kind == 99);
+    WANT(lrc_embed_level(&handle, LRC_STRIPES - 1, &level) == LRC_UNKNOWN && level.kind == 99);
+    WANT(lrc_embed_lease(&handle, 1, LRC_FRAGMENTS, &lease) == LRC_OUT_OF_RANGE && lease.epoch == 99);
+    WANT(lrc_embed_lease(&handle, LRC_STRIPES, 1, &lease) == LRC_OUT_OF_RANGE && lease.epoch == 99);
+    WANT(lrc_embed_lease(&handle, 1, LRC_FRAGMENTS - 1, &lease) == LRC_UNKNOWN && lease.epoch == 99);
+}
+
+static void leases(void) {
+    lrc_lease lease = {0};
+    WANT(is_refused(MAKE(1, .kind = LRC_LEASE, .stripe = 1, .fragment = 3), LRC_NOT_NEEDED, 0));
+    WANT(MAKE(1, .kind = LRC_FAIL, .node = 3).kind == LRC_CHANGED);
+    lrc_reply reply = MAKE(2, .kind = LRC_NEXT);
+    WANT(reply.kind == LRC_GRANTED && reply.repair == LRC_LOCAL && reply.sources[5] == 12);
+    WANT(reply.lease.stripe == 1 && reply.lease.fragment == 3 && reply.lease.holder == 2 && reply.lease.epoch == 1);
+    WANT(lrc_embed_lease(&handle, 1, 3, &lease) == LRC_DONE && memcmp(&lease, &reply.lease, sizeof lease) == 0);
+    WANT(lrc_embed_lease(&handle, 1, 4, &lease) == LRC_UNKNOWN);
+    WANT(is_refused(MAKE(1, .kind = LRC_LEASE, .stripe = 1, .fragment = 3), LRC_ALREADY_LEASED, 1));
+    WANT(is_refused(MAKE(1, .kind = LRC_ABANDON, .stripe = 1, .fragment = 3, .epoch = 1), LRC_NOT_HOLDER, 2));
+    WANT(MAKE(2, .kind = LRC_ABANDON, .stripe = 1, .fragment = 3, .epoch = 1).kind == LRC_ENDED);
+    WANT(is_refused(MAKE(2, .kind = LRC_REPORT, .stripe = 1, .fragment = 3, .epoch = 1), LRC_STALE, 0));
+    reply = MAKE(4, .kind = LRC_LEASE, .stripe = 1, .fragment = 3);
+    WANT(reply.kind == LRC_GRANTED && reply.lease.epoch == 2);
+    uint16_t target = reply.lease.target.node;
+    WANT(MAKE(1, .kind = LRC_DOWN, .node = target).kind == LRC_CHANGED);
+    WANT(is_refused(MAKE(4, .kind = LRC_REPORT, .stripe = 1, .fragment = 3, .epoch = 2), LRC_TARGET_OFFLINE, target));
+    WANT(MAKE(1, .kind = LRC_UP, .node = target).kind == LRC_CHANGED);
+    WANT(MAKE(4, .kind = LRC_REPORT, .stripe = 1, .fragment = 3, .epoch = 2).kind == LRC_ENDED);
+    WANT(is_refused(MAKE(1, .kind = LRC_REVOKE, .stripe = 1, .fragment = 3), LRC_NO_LEASE, 0));
+    WANT(MAKE(1, .kind = LRC_JOIN, .node = 3).kind == LRC_CHANGED);
+}
+
+static void nodes(void) {
+    lrc_mode mode = {0};
+    uint32_t load = 99;
+    WANT(MAKE(1, .kind = LRC_DRAIN, .node = 0).kind == LRC_CHANGED);
+    WANT(lrc_embed_mode(&handle, 0, &mode) == LRC_DONE && mode.mode == LRC_DRAINING && mode.is_online == 1);
+    WANT(lrc_embed_load(&handle, 0, &load) == LRC_DONE && load == 1);
+    WANT(is_refused(MAKE(1, .kind = LRC_RETIRE, .node = 0), LRC_NOT_EMPTY, 1));
+    lrc_reply reply = MAKE(1, .kind = LRC_LEASE, .stripe = 1, .fragment = 0);
+    WANT(reply.kind == LRC_GRANTED && reply.repair == LRC_MOVE);
+    WANT(MAKE(1, .kind = LRC_REVOKE, .stripe = 1, .fragment = 0).kind == LRC_ENDED);
+    WANT(MAKE(1, .kind = LRC_UNDRAIN, .node = 0).kind == LRC_CHANGED);
+    WANT(is_refused(MAKE(1, .kind = LRC_UNDRAIN, .node = 0), LRC_WRONG_MODE, 0));
+    WANT(is_refused(MAKE(1, .kind = LRC_FAIL, .node = 20), LRC_UNKNOWN_NODE, 0));
+    WANT(lrc_embed_mode(&handle, 20, &mode) == LRC_UNKNOWN && mode.mode == LRC_DRAINING);
+    WANT(lrc_embed_load(&handle, 20, &load) == LRC_UNKNOWN && load == 1);
+    WANT(MAKE(1, .kind = LRC_DRAIN, .node = 3).kind == LRC_CHANGED);
+    WANT(MAKE(1, .kind = LRC_RETIRE, .node = 3).kind == LRC_CHANGED);
+    WANT(lrc_embed_mode(&handle, 3, &mode) == LRC_DONE && mode.mode == LRC_GONE && mode.is_online == 0);
+}
+
+static void upgrades(void) {
+    WANT(MAKE(1, .kind = LRC_PLACE, .stripe = 2).kind == LRC_PLACED);
+    WANT(MAKE(1, .kind = LRC_UPGRADE, .domain = 1).kind == LRC_CHANGED);
+    WANT(is_refused(MAKE(1, .kind = LRC_UPGRADE, .domain = 2), LRC_UPGRADE_RUNNING, 1));
+    WANT(is_refused(MAKE(1, .kind = LRC_UPGRADED, .domain = 2), LRC_NOT_UPGRADING, 0));
+    WANT(is_refused(MAKE(1, .kind = LRC_UPGRADE, .domain = 10), LRC_UNKNOWN_DOMAIN, 0));
+}
+
+// Two stripes at risk while domain 1 upgrades.
+static void looks(void) {
+    lrc_risk rows[3] = {{.stripe = 77}, {.stripe = 77}, {.stripe = 77}};
+    lrc_homes homes = {0};
+    lrc_level level = {0};
+    uint16_t missing = 0;
+    size_t count = 99;
+    uint32_t status;
+    STATUS(status, lrc_embed_risk(&handle, rows, 1, &count));
+    WANT(status == LRC_SHORT && count == 99 && rows[0].stripe == 77);
+    STATUS(status, lrc_embed_risk(&handle, rows, 0, &count));
+    WANT(status == LRC_SHORT && count == 99 && rows[0].stripe == 77);
+    STATUS(status, lrc_embed_risk(&handle, rows, 3, &count));
+    WANT(status == LRC_DONE && count == 2 && rows[2].stripe == 77);
+    for (size_t i = 0; i < count; i++) {
+        WANT(lrc_embed_level(&handle, rows[i].stripe, &level) == LRC_DONE && level.kind == LRC_AT_RISK);
+        WANT(memcmp(&level, &rows[i].level, sizeof level) == 0);
+        WANT(lrc_embed_missing(&handle, rows[i].stripe, &missing) == LRC_DONE);
+        WANT(lrc_embed_homes(&handle, rows[i].stripe, &homes) == LRC_DONE);
+        for (unsigned f = 0; f < LRC_FRAGMENTS; f++) {
+            unsigned node = homes.homes[f].seat.node;
+            WANT(homes.homes[f].is_there == 1);
+            WANT((missing >> f & 1) == (node == 1 || node == 11));
+        }
+    }
+    STATUS(status, lrc_embed_risk(&handle, rows, 2, &count));
+    WANT(status == LRC_DONE && count == 2);
+    WANT(lrc_embed_homes(&handle, 7, &homes) == LRC_UNKNOWN);
+    WANT(lrc_embed_missing(&handle, 7, &missing) == LRC_UNKNOWN);
+    WANT(MAKE(1, .kind = LRC_UPGRADED, .domain = 1).kind == LRC_CHANGED);
+    STATUS(status, lrc_embed_risk(&handle, rows, 0, &count));
+    WANT(status == LRC_DONE && count == 0);
+}
+
+// The replay is made again, on a new book, where memory was refused to it.
+static uint32_t replay(const lrc_entry *entries, size_t count, size_t *position) {
+    for (int turn = 0; turn < 2; turn++) {
+        size_t at = 99;
+        WANT(lrc_embed_close(&handle) == LRC_DONE);
+        open_twenty();
+        uint32_t status = lrc_embed_replay(&handle, entries, count / 2, &at);
+        if (status == LRC_DONE) {
+            WANT(at == 99 && count_of() == count / 2);
+            status = lrc_embed_replay(&handle, entries + count / 2, count - count / 2, &at);
+            if (status != LRC_DONE) at += count / 2;
+        }
+        if (status != LRC_DONE) WANT(lrc_embed_count(&handle, &at) == LRC_IS_CLOSED && at < count);
+        *position = at;
+        if (status != LRC_OUT_OF_MEMORY) return status;
+    }
+    give_up();
+    return LRC_OUT_OF_MEMORY;
+}
+
+static void replays(void) {
+    static lrc_entry entries[100];
+    size_t count = count_of(), position;
+    WANT(count <= 100 && lrc_embed_entry(&handle, count, &entries[0]) == LRC_UNKNOWN && entries[0].session == 0);
+    for (size_t i = 0; i < count; i++) WANT(lrc_embed_entry(&handle, i, &entries[i]) == LRC_DONE);
+    WANT(replay(entries, count, &position) == LRC_DONE && position == 99 && count_of() == count);
+    for (size_t i = 0; i < count; i++) {
+        lrc_entry entry;
+        WANT(lrc_embed_entry(&handle, i, &entry) == LRC_DONE && memcmp(&entry, &entries[i], sizeof entry) == 0);
+    }
+    size_t at = count / 2 + 3;
+    lrc_entry kept = entries[at];
+    entries[at].reply.detail ^= 1;
+    WANT(replay(entries, count, &position) == LRC_DIFFERENT && position == at);
+    entries[at] = kept;
+    entries[at].reply.seats[15].slot ^= 1;
+    WANT(replay(entries, count, &position) == LRC_DIFFERENT && position == at);
+    entries[at] = kept;
+    entries[at].command.kind = 0;
+    WANT(replay(entries, count, &position) == LRC_OUT_OF_RANGE && position == at);
+    entries[at] = kept;
+    entries[2].session = 9;
+    WANT(replay(entries, count, &position) == LRC_OUT_OF_RANGE && position == 2);
+}
+
+static void fill(void) {
+    lrc_command command = {.kind = LRC_UP, .node = 1};
+    lrc_reply reply = {0};
+    lrc_entry entry = {.session = 1, .command = command};
+    size_t position = 99;
+    WANT(lrc_embed_close(&handle) == LRC_DONE);
+    open_twenty();
+    for (size_t i = 0; i < LRC_HISTORY_LIMIT; i++)
+        WANT(lrc_embed_call(&handle, 1, &command, &reply) == LRC_DONE);
+    WANT(is_refused(reply, LRC_WRONG_MODE, 0) && count_of() == LRC_HISTORY_LIMIT);
+    reply.kind = 99;
+    WANT(lrc_embed_call(&handle, 1, &command, &reply) == LRC_FULL && reply.kind == 99);
+    WANT(count_of() == LRC_HISTORY_LIMIT);
+    WANT(lrc_embed_replay(&handle, &entry, 1, &position) == LRC_FULL && position == 0);
+    WANT(lrc_embed_count(&handle, &position) == LRC_IS_CLOSED);
+}
+
+int main(int argc, char **argv) {
+    WANT(lrc_embed_version() == LRC_EMBED_VERSION);
+    texts();
+    closed();
+    open_twenty();
+    WANT(lrc_embed_open(&handle, (const uint8_t *)"", 0, &(size_t){0}) == LRC_IS_OPEN);
+    ranges();
+    WANT(MAKE(1, .kind = LRC_PLACE, .stripe = 1).seats[12].node == 16);
+    WANT(is_refused(MAKE(1, .kind = LRC_PLACE, .stripe = 1), LRC_STRIPE_EXISTS, 0));
+    leases();
+    nodes();
+    upgrades();
+    looks();
+    WANT(MAKE(1, .kind = LRC_DROP, .stripe = 2).kind == LRC_DROPPED);
+    replays();
+    if (argc > 1 && strcmp(argv[1], "full") == 0) fill();
+    WANT(lrc_embed_close(&handle) == LRC_DONE);
+    closed();
+    WANT(held == 0);
+    return 0;
+}
