@@ -1,0 +1,232 @@
+"""Bundles of one script each, made by a fixed rule from a seed: a kind of load for each way to use a store.
+
+Every bundle fills its store first: `place` of each stripe. Then its kind goes on until the bundle has as many bytes, or
+as many commands behind those, as it may have. Each command comes with how its reply begins, by `store.Store`."""
+import random
+
+import store
+
+MOST_BYTES = 4194304
+FAULTS, UPGRADES, SLOTS = 32, 16, 256
+
+
+class Full(Exception):
+    """The bundle takes no more commands."""
+
+
+class Script:
+    """The commands so far, how each is answered, and the store behind them."""
+
+    def __init__(self, nodes, stripes, seed, most_bytes):
+        self.nodes = [store.Node(number % FAULTS, (number // FAULTS + number) % UPGRADES, SLOTS) for number in range(nodes)]
+        self.store = store.Store(self.nodes)
+        self.stripes = stripes
+        self.random = random.Random(seed)
+        self.lines, self.replies = [], []
+        self.bytes_left = most_bytes - len(self.topology()) - len("%%\n")
+        self.commands_left = None  # as many as the bytes allow
+
+    def topology(self):
+        tables = (
+            f"[[node]]\nnumber = {number}\nfault = {node.fault}\nupgrade = {node.upgrade}\nslots = {node.slots}\n"
+            for number, node in enumerate(self.nodes)
+        )
+        return "".join(tables)
+
+    def bundle(self):
+        return self.topology() + "%%\n" + "".join(line + "\n" for line in self.lines)
+
+    def say(self, line, reply):
+        """Adds a command that is answered so."""
+        self.bytes_left -= len(line) + 1
+        if self.bytes_left < 0 or self.commands_left == 0:
+            raise Full
+        if self.commands_left is not None:
+            self.commands_left -= 1
+        self.lines.append(line)
+        self.replies.append(reply)
+
+    def call(self, line):
+        """Adds a command, and answers how its reply begins."""
+        reply = self.store.call(line)
+        self.say(line, reply)
+        return reply
+
+    def lease_next(self):
+        """Asks for the next lease, and answers its stripe and fragment with its epoch, or None."""
+        words = self.call("next").split(" ")
+        if words[0] != "granted":
+            return None
+        key = int(words[1]), int(words[2])
+        return *key, self.store.grants[key]
+
+    def node(self):
+        return self.random.randrange(len(self.nodes))
+
+    def stripe(self):
+        return self.random.randrange(self.stripes)
+
+
+# The kinds. Each goes on until the script is full.
+
+
+def place(script):
+    """The stripes are placed, and nothing else."""
+
+
+def churn(script):
+    """A stripe is dropped and placed again, in turn."""
+    while True:
+        stripe = script.stripe()
+        script.say(f"drop {stripe}", "dropped")
+        script.say(f"place {stripe}", "placed")
+
+
+def repairs(script):
+    """A node fails; what it held is leased and reported, one after the other; it joins again."""
+    while True:
+        node = script.node()
+        script.call(f"fail {node}")
+        while lease := script.lease_next():
+            script.call("done %d %d %d" % lease)
+        script.call(f"join {node}")
+
+
+def leases(script):
+    """Nodes fail; all that they held is leased before some is reported, given up or taken back, in any order."""
+    while True:
+        nodes = script.random.sample(range(len(script.nodes)), 3)
+        for node in nodes:
+            script.call(f"fail {node}")
+        while live := list(iter(script.lease_next, None)):
+            script.random.shuffle(live)
+            for stripe, fragment, epoch in live:
+                word = script.random.choices(["done", "abandon", "revoke"], [8, 1, 1])[0]
+                script.call(f"{word} {stripe} {fragment}" + (f" {epoch}" if word != "revoke" else ""))
+        for node in nodes:
+            script.call(f"join {node}")
+
+
+def drains(script):
+    """A node is drained: what it holds is moved, one after the other; then it is retired, and joins again."""
+    while True:
+        node = script.node()
+        script.call(f"drain {node}")
+        while lease := script.lease_next():
+            script.call("done %d %d %d" % lease)
+        script.call(f"retire {node}")
+        script.call(f"join {node}")
+
+
+def flaps(script):
+    """Nodes go down and come up, a few at a time."""
+    down = []
+    while True:
+        if len(down) > len(script.nodes) // 64 or down and script.random.random() < 0.5:
+            node = down.pop(script.random.randrange(len(down)))
+            script.say(f"up {node}", "changed")
+        else:
+            node = script.node()
+            while node in down:
+                node = script.node()
+            down.append(node)
+            script.say(f"down {node}", "changed")
+
+
+def upgrades(script):
+    """The upgrade domains are upgraded one after the other, round and round, while one node is down."""
+    script.call(f"down {script.node()}")
+    while True:
+        for domain in script.store.domains:
+            # A stripe misses one fragment at most, and at most one of each class more: it stays recoverable.
+            script.say(f"upgrade {domain}", "changed")
+            script.say(f"upgraded {domain}", "changed")
+
+
+def refused(script):
+    """Every command is refused."""
+    pick = script.random
+    while True:
+        stripe, fragment = script.stripe(), pick.randrange(16)
+        script.call(
+            pick.choice(
+                [
+                    f"place {stripe}",
+                    f"lease {stripe} {fragment}",
+                    f"revoke {stripe} {fragment}",
+                    f"done {stripe} {fragment} {pick.randrange(9)}",
+                    f"abandon {stripe} {fragment} {pick.randrange(9)}",
+                    f"fail {60000 + stripe}",
+                    f"up {script.node()}",
+                    f"join {script.node()}",
+                    f"undrain {script.node()}",
+                    f"retire {script.node()}",
+                    f"upgrade {UPGRADES + pick.randrange(9)}",
+                    f"upgraded {pick.randrange(UPGRADES)}",
+                ]
+            )
+        )
+
+
+def idle(script):
+    """The next lease is asked for, and there is none: nothing is to be repaired."""
+    while True:
+        script.say("next", "idle")
+
+
+def stuck(script):
+    """The next lease is asked for, and there is none: all is to be moved, and no node takes anything."""
+    for node in range(len(script.nodes)):
+        script.call(f"drain {node}")
+    while True:
+        script.say("next", "idle")
+
+
+def mixed(script):
+    """All commands, most of them such as do something."""
+    pick, state = script.random, script.store
+    for node in pick.sample(range(len(script.nodes)), 2):
+        script.call(f"fail {node}")
+    while True:
+        lease = pick.choice(list(state.leases)) if state.leases and pick.random() < 0.6 else None
+        if lease:
+            word = pick.choices(["done", "abandon", "revoke"], [12, 1, 1])[0]
+            script.call(" ".join(map(str, [word, *lease, *([state.leases[lease][0]] if word != "revoke" else [])])))
+        elif pick.random() < 0.5:
+            script.call("next")
+        else:
+            script.call(any_change(script))
+
+
+def any_change(script):
+    """A command on a stripe, a node or a domain; nodes that are away come back before many of them are."""
+    pick, state = script.random, script.store
+    stripe, node = script.stripe(), script.node()
+    if pick.random() < 0.6:
+        number = f"{stripe} {pick.randrange(16)}" if pick.random() < 0.1 else None
+        return f"lease {number}" if number else f"drop {stripe}" if stripe in state.stripes else f"place {stripe}"
+    if state.upgrading is not None:
+        return f"upgraded {state.upgrading}"
+    if len(state.gone) + len(state.down) + len(state.draining) > 4:
+        sets = {"join": state.gone, "up": state.down, "undrain": state.draining, "retire": state.draining}
+        word = pick.choice([word for word in sets if sets[word]])
+        return f"{word} {pick.choice(sorted(sets[word]))}"
+    if pick.random() < 0.02:
+        return f"upgrade {pick.choice(state.domains)}"
+    return f"{pick.choices(['fail', 'down', 'drain'], [1, 4, 1])[0]} {node}"
+
+
+KINDS = {kind.__name__: kind for kind in (place, churn, repairs, leases, drains, flaps, upgrades, refused, idle, stuck, mixed)}
+
+
+def make(kind, nodes, stripes, seed, most_bytes, commands=None):
+    """The script of a kind; with at most so many commands behind those that fill the store, where that is given."""
+    script = Script(nodes, stripes, f"{seed} {kind} {nodes} {stripes}", most_bytes)
+    try:
+        for stripe in range(stripes):
+            script.call(f"place {stripe}")
+        script.commands_left = commands
+        KINDS[kind](script)
+    except Full:
+        pass
+    return script
