@@ -1,7 +1,6 @@
 //! A book over twenty nodes: what it answers, and what it shows after.
 
 mod leases;
-mod plans;
 mod repair;
 
 use crate::{Book, Command, Entry, HISTORY_LIMIT, Level, Mode, Refusal, Reply, Seat};
