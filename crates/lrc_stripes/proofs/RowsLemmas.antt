@@ -12,7 +12,7 @@ use Rattle.lrc_stripes.specs.declared.losses.Losses.{Losses}
 use Rattle.lrc_stripes.specs.declared.row.Row.{Row}
 use Rattle.lrc_stripes.specs.Sets.{at_rank, IsNext}
 use Rattle.lrc_stripes.specs.Tables.{rows_in}
-use Rattle.lrc_stripes.specs.Masks.{work_rank, risk_rank, is_at, IsPutOn}
+use Rattle.lrc_stripes.specs.Masks.{work_rank, is_at, IsPutOn}
 use Rattle.lrc_stripes.specs.Kept.{AreQueued, AreRenewed, IsRenewed, IsWithLosses, IsMissingOn, IsToMoveOn, queued}
 
 -- ---- no rows
@@ -31,12 +31,11 @@ rows_in-none list n is = ap rows_in is ∙ fun_ext (λ s. none_at n s.value)
 queued-none : (rank : Losses → Option ℕ) (rows : StripeNo → Option Row) → rows ≡ (λ s. None) → (λ (k : ℕ) (s : StripeNo). false) ≡ queued rank rows
 queued-none rank rows none = fun_ext (λ k. fun_ext (λ s. ap (λ (r : StripeNo → Option Row). queued rank r k s) (sym none)))
 
-pub are_queued-none : (list : List (Option Row)) (n : ℕ) (work risk : List (List Bool)) → n ≡ 4096 → list ≡ replicate n None
-    → at_rank work ≡ (λ k s. false) → at_rank risk ≡ (λ k s. false) → AreQueued list work risk
-are_queued-none list n work risk all is no_work no_risk = record {
+pub are_queued-none : (list : List (Option Row)) (n : ℕ) (work : List (List Bool)) → n ≡ 4096 → list ≡ replicate n None
+    → at_rank work ≡ (λ k s. false) → AreQueued list work
+are_queued-none list n work all is no_work = record {
   long = ap length is ∙ (length-replicate n no_row ∙ all);
   works = no_work ∙ queued-none work_rank (rows_in list) (rows_in-none list n is);
-  risks = no_risk ∙ queued-none risk_rank (rows_in list) (rows_in-none list n is);
 }
 
 -- ---- one row
@@ -69,15 +68,13 @@ module _ (list : List (Option Row)) (stripe : StripeNo) (row : Option Row) (with
         ∙ (ap (λ (q : ℕ → StripeNo → Bool). q k s) was
         ∙ ap (λ (o : Option Row). is_at k (option_and_then (λ r. rank r.losses) o)) (sym (rows_at-set s ∙ ap (λ b. cond b row (rows_in list s)) other)))
 
-  pub are_queued-set : (work risk new_work new_risk : List (List Bool)) (work_after risk_after : Option ℕ) → AreQueued list work risk
-      → work_after ≡ option_and_then (λ r. work_rank r.losses) row → risk_after ≡ option_and_then (λ r. risk_rank r.losses) row
-      → at_rank new_work ≡ (λ k s. cond (same_stripe stripe s) (is_at k work_after) (at_rank work k s))
-      → at_rank new_risk ≡ (λ k s. cond (same_stripe stripe s) (is_at k risk_after) (at_rank risk k s))
-      → AreQueued (set list stripe.value row) new_work new_risk
-  are_queued-set work risk new_work new_risk work_after risk_after are work_is risk_is work_moved risk_moved = record {
+  pub are_queued-set : (work new_work : List (List Bool)) (after : Option ℕ) → AreQueued list work
+      → after ≡ option_and_then (λ r. work_rank r.losses) row
+      → at_rank new_work ≡ (λ k s. cond (same_stripe stripe s) (is_at k after) (at_rank work k s))
+      → AreQueued (set list stripe.value row) new_work
+  are_queued-set work new_work after are is moved = record {
     long = length-set list stripe.value row ∙ are.long;
-    works = queued-set work_rank (at_rank work) (at_rank new_work) work_after are.works work_is work_moved;
-    risks = queued-set risk_rank (at_rank risk) (at_rank new_risk) risk_after are.risks risk_is risk_moved;
+    works = queued-set work_rank (at_rank work) (at_rank new_work) after are.works is moved;
   }
 
 -- one row becomes another

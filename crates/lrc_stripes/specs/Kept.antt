@@ -14,7 +14,7 @@ use Rattle.lrc_stripes.specs.declared.losses.Losses.{Losses}
 use Rattle.lrc_stripes.specs.declared.row.Row.{Row}
 use Rattle.lrc_stripes.specs.Stored.{StripeFragment, StripeLevel}
 use Rattle.lrc_stripes.specs.Rows.{sits_on, sits_at, is_on_seat}
-use Rattle.lrc_stripes.specs.Masks.{IsPutOn, AreLosses, work_rank, risk_rank, is_at, level_of}
+use Rattle.lrc_stripes.specs.Masks.{IsPutOn, AreLosses, work_rank, is_at, level_of}
 use Rattle.lrc_stripes.specs.Sets.{at_rank, members_from}
 use Rattle.lrc_stripes.specs.Sites.{Sited}
 use Rattle.lrc_stripes.specs.Tables.{rows_in}
@@ -100,11 +100,10 @@ queue_from queue rank from =
 abbrev pub queued : (Losses → Option ℕ) → (StripeNo → Option Row) → ℕ → StripeNo → Bool
 queued rank rows k s = is_at k (option_and_then (λ r. rank r.losses) (rows s))
 
--- There is a place for each stripe, and each queue has the stripes at their ranks.
-pub record AreQueued (list : List (Option Row)) (work risk : List (List Bool)) : Type 0 where
+-- There is a place for each stripe, and the queue has the stripes with work at their ranks.
+pub record AreQueued (list : List (Option Row)) (work : List (List Bool)) : Type 0 where
   pub long : length list ≡ 4096
   pub works : at_rank work ≡ queued work_rank (rows_in list)
-  pub risks : at_rank risk ≡ queued risk_rank (rows_in list)
 
 -- ---- levels
 

@@ -5,7 +5,7 @@ ghost use Rattle.lrc_stripes.specs.Masks.{risk_rank};
 ghost use Rattle.lrc_stripes.specs.Kept.{levels_of, queue_from, queued};
 
 use crate::Level;
-use crate::ranked::Ranked;
+use crate::risky::Risky;
 use crate::rows::Rows;
 use lrc_code::StripeNo;
 use std::marker::Model;
@@ -14,7 +14,7 @@ use std::marker::Model;
 #[derive(Drop)]
 pub struct AtRisk<'a> {
     rows: &'a Rows,
-    stripes: Ranked<'a>,
+    stripes: Risky<'a>,
 }
 
 impl<'a> Model for AtRisk<'a> {

@@ -9,7 +9,7 @@ mod losses;
 mod masks;
 mod queue;
 mod ranked;
-mod ranks;
+mod risky;
 mod row;
 mod rows;
 mod site;

@@ -3,7 +3,6 @@ ghost use Rattle.lrc_stripes.specs.Rows.{is_missing, is_to_move};
 ghost use Rattle.lrc_stripes.specs.Sites.{sited};
 ghost use Rattle.lrc_stripes.specs.Masks.{AreAll, AreWith, level_of, rank_of, work_rank, risk_rank};
 
-use crate::ranks::Ranks;
 use crate::sites::Sites;
 use crate::{Level, Seat, masks};
 use lrc_code::{Fragment, LossMask};
@@ -65,45 +64,27 @@ impl Losses {
         Level::of(self.homeless, self.missing)
     }
 
-    /// The rank of the stripe where it has work, and where a fragment is missing.
-    pub(crate) fn ranks(self) -> Ranks
-        ensures work { result.work ≡ work_rank self }
-        ensures risk { result.risk ≡ risk_rank self }
-        ensures work_few { IfSome result.work (λ k. k ≤ 4) }
-        ensures risk_few { IfSome result.risk (λ k. k ≤ 4) }
-    {
-        let rank = self.rank();
-        Ranks {
-            work: self.work_rank(rank),
-            risk: self.risk_rank(rank),
-        }
-    }
-
     /// The rank where the stripe has work.
-    fn work_rank(self, rank: u8) -> Option<u8>
-        requires value { rank ≡ rank_of self }
-        requires few { rank ≤ 4 }
+    pub(crate) fn work_rank(self) -> Option<u8>
         ensures value { result ≡ work_rank self }
         ensures few { IfSome result (λ k. k ≤ 4) }
     {
         if self.needs.bits() == 0 {
             None
         } else {
-            Some(rank)
+            Some(self.rank())
         }
     }
 
     /// The rank where a fragment of the stripe is missing.
-    fn risk_rank(self, rank: u8) -> Option<u8>
-        requires value { rank ≡ rank_of self }
-        requires few { rank ≤ 4 }
+    pub(crate) fn risk_rank(self) -> Option<u8>
         ensures value { result ≡ risk_rank self }
         ensures few { IfSome result (λ k. k ≤ 4) }
     {
         if self.missing.bits() == 0 {
             None
         } else {
-            Some(rank)
+            Some(self.rank())
         }
     }
 

@@ -3,6 +3,7 @@ ghost use Rattle.std.specs.Option.{option_copied};
 ghost use Rattle.lrc_code.specs.Numbers.{same_stripe};
 ghost use Rattle.lrc_code.specs.declared.fault.Fault.TheVariants.{OutOfMemory};
 ghost use Rattle.lrc_stripes.specs.Masks.{work_rank, risk_rank};
+ghost use Rattle.lrc_stripes.specs.Sets.{FindsNext};
 ghost use Rattle.lrc_stripes.specs.Sites.{sited};
 ghost use Rattle.lrc_stripes.specs.Tables.{rows_in};
 ghost use Rattle.lrc_stripes.specs.Kept.{queue_from, queued, level_in, holds, AreRenewed, IsRenewed, IsWithLosses, IsSeated, IsMissingOn, IsToMoveOn};
@@ -10,7 +11,7 @@ ghost use Rattle.lrc_stripes.specs.Kept.{queue_from, queued, level_in, holds, Ar
 use crate::losses::Losses;
 use crate::queue::Queue;
 use crate::ranked::Ranked;
-use crate::ranks::Ranks;
+use crate::risky::Risky;
 use crate::row::Row;
 use crate::sites::Sites;
 use crate::{Level, Seat};
@@ -18,13 +19,15 @@ use lrc_code::{Fault, Fragment, NodeNo, StripeNo};
 use std::alloc::{AllocError, Global};
 use std::marker::Model;
 
-/// The rows of the stripes that are there, and the stripes that have work and those with a missing fragment by rank.
+/// How many stripe numbers there are.
+const STRIPES: usize = 4096;
+
+/// The rows of the stripes that are there, and the stripes that have work by rank.
 #[derive(Drop)]
 pub(crate) struct Rows {
     /// By the stripe's number.
     list: Vec<Option<Row>>,
     work: Queue,
-    risk: Queue,
 }
 
 impl Model for Rows {
@@ -36,7 +39,7 @@ impl Model for Rows {
 
     ghost view = { λ t. t.list.items };
 
-    ghost invariant = { λ t. AreQueued t.list.items t.work t.risk };
+    ghost invariant = { λ t. AreQueued t.list.items t.work };
 }
 
 impl Rows {
@@ -46,9 +49,8 @@ impl Rows {
         ensures err { IfErr result (λ e. e ≡ OutOfMemory) }
     {
         Ok(Rows {
-            list: none(alloc, 4096)?,
+            list: none(alloc, STRIPES)?,
             work: Queue::new(alloc)?,
-            risk: Queue::new(alloc)?,
         })
     }
 
@@ -63,10 +65,9 @@ impl Rows {
     pub(crate) fn put(&mut self, stripe: StripeNo, row: Option<Row>)
         ensures { rows_in self.new ≡ λ s. if same_stripe stripe s then row else rows_in self.old s }
     {
-        let before = ranks(self.get(stripe));
-        let after = ranks(row.as_ref());
-        self.work.relist(stripe, before.work, after.work);
-        self.risk.relist(stripe, before.risk, after.risk);
+        let before = work_rank(self.get(stripe));
+        let after = work_rank(row.as_ref());
+        self.work.relist(stripe, before, after);
         self.list[stripe.value as usize] = row;
     }
 
@@ -74,12 +75,11 @@ impl Rows {
     fn set_losses(&mut self, stripe: StripeNo, losses: Losses)
         ensures { AreRenewed (same_stripe stripe) (IsWithLosses losses) (rows_in self.old) (rows_in self.new) }
     {
-        let before = ranks(self.get(stripe));
+        let before = work_rank(self.get(stripe));
         let place = &mut self.list[stripe.value as usize];
         put_losses(place, losses);
-        let after = ranks(place.as_ref());
-        self.work.relist(stripe, before.work, after.work);
-        self.risk.relist(stripe, before.risk, after.risk);
+        let after = work_rank(place.as_ref());
+        self.work.relist(stripe, before, after);
     }
 
     /// Gives a fragment of a stripe, if the stripe is there, this home, and the stripe these losses.
@@ -92,12 +92,11 @@ impl Rows {
     )
         ensures { AreRenewed (same_stripe stripe) (IsSeated fragment.value seat losses) (rows_in self.old) (rows_in self.new) }
     {
-        let before = ranks(self.get(stripe));
+        let before = work_rank(self.get(stripe));
         let place = &mut self.list[stripe.value as usize];
         put_home(place, fragment, seat, losses);
-        let after = ranks(place.as_ref());
-        self.work.relist(stripe, before.work, after.work);
-        self.risk.relist(stripe, before.risk, after.risk);
+        let after = work_rank(place.as_ref());
+        self.work.relist(stripe, before, after);
     }
 
     /// Whether one of a stripe's fragments has its home on the seat.
@@ -156,10 +155,36 @@ impl Rows {
     }
 
     /// The stripes with a missing fragment, in the order of repair.
-    pub(crate) fn at_risk(&self) -> Ranked<'_>
+    pub(crate) fn at_risk(&self) -> Risky<'_>
         ensures { result ≡ queue_from (queued risk_rank (rows_in self.now)) 0 0 }
     {
-        Ranked::new(&self.risk)
+        Risky::new(self)
+    }
+
+    /// The first stripe from this number on that has a missing fragment and is of this rank.
+    pub(crate) fn first_at_risk(&self, rank: usize, from: usize) -> Option<StripeNo>
+        requires { rank ≤ 4 }
+        ensures { FindsNext (queued risk_rank (rows_in self.now) rank) from result }
+    {
+        for number in from..STRIPES {
+            let stripe = StripeNo {
+                value: number as u16,
+            };
+            if self.is_at_risk(stripe, rank as u8) {
+                return Some(stripe);
+            }
+        }
+        None
+    }
+
+    /// Whether a stripe has a missing fragment and is of this rank.
+    fn is_at_risk(&self, stripe: StripeNo, rank: u8) -> bool
+        ensures { result ≡ queued risk_rank (rows_in self.now) rank stripe }
+    {
+        match self.get(stripe) {
+            Some(row) => row.losses.risk_rank() == Some(rank),
+            None => false,
+        }
     }
 }
 
@@ -189,18 +214,10 @@ fn put_home(row: &mut Option<Row>, fragment: Fragment, seat: Seat, losses: Losse
     }
 }
 
-/// The ranks of a stripe that has this row or none.
-fn ranks(row: Option<&Row>) -> Ranks
-    ensures work { result.work ≡ option_and_then (λ r. work_rank r.losses) (option_copied row.entry) }
-    ensures risk { result.risk ≡ option_and_then (λ r. risk_rank r.losses) (option_copied row.entry) }
-    ensures work_few { IfSome result.work (λ k. k ≤ 4) }
-    ensures risk_few { IfSome result.risk (λ k. k ≤ 4) }
+/// The rank of a stripe that has this row or none, where it has work.
+fn work_rank(row: Option<&Row>) -> Option<u8>
+    ensures value { result ≡ option_and_then (λ r. work_rank r.losses) (option_copied row.entry) }
+    ensures few { IfSome result (λ k. k ≤ 4) }
 {
-    match row {
-        Some(row) => row.losses.ranks(),
-        None => Ranks {
-            work: None,
-            risk: None,
-        },
-    }
+    row?.losses.work_rank()
 }

@@ -1,28 +1,22 @@
 use Rattle.std.proofs.Common.{◌<◌, ℕ, Bool, Option, option_and_then, length, arith, sym, ap, ◌∙◌}
 use Rattle.lrc_code.specs.declared.numbers.StripeNo.{StripeNo}
 use Rattle.lrc_stripes.specs.declared.row.Row.{Row}
-use Rattle.lrc_stripes.specs.Masks.{is_at, work_rank, risk_rank}
+use Rattle.lrc_stripes.specs.Masks.{is_at, work_rank}
 use Rattle.lrc_stripes.proofs.RowsLemmas.{rows_in-set, are_queued-set}
 use Rattle.lrc_stripes.proofs.rows.Rows.put.Goals as goal
 
 pub relist-requires-clause-shown : goal.relist-requires-clause-shown
 relist-requires-clause-shown c = λ k.
     ap (λ (q : ℕ → StripeNo → Bool). q k c.args.stripe) c.self.invariant.works
-    ∙ (ap (λ (o : Option Row). is_at k (option_and_then (λ r. work_rank r.losses) o)) (sym (rw (← c.self.view_is) at c.get.ensures)) ∙ ap (is_at k) (sym c.ranks-before.ensures.work))
-
-pub relist-requires-2-clause-shown : goal.relist-requires-2-clause-shown
-relist-requires-2-clause-shown c = λ k.
-    ap (λ (q : ℕ → StripeNo → Bool). q k c.args.stripe) c.self.invariant.risks
-    ∙ (ap (λ (o : Option Row). is_at k (option_and_then (λ r. risk_rank r.losses) o)) (sym (rw (← c.self.view_is) at c.get.ensures)) ∙ ap (is_at k) (sym c.ranks-before.ensures.risk))
+    ∙ (ap (λ (o : Option Row). is_at k (option_and_then (λ r. work_rank r.losses) o)) (sym (rw (← c.self.view_is) at c.get.ensures)) ∙ ap (is_at k) (sym c.work_rank-before.ensures.value))
 
 pub invariant_of-self : goal.invariant_of-self
 invariant_of-self c =
     let list = c.self.inside.list.items in
     let s = c.args.stripe in
     let within : s.value < length list = let low = s.in_range in let long = c.self.invariant.long in omega (arith, low, long) in
-    are_queued-set list s c.args.row within c.self.inside.work c.self.inside.risk c.relist.new.self c.relist-2.new.self c.ranks-after.result.work c.ranks-after.result.risk
-    c.self.invariant (c.ranks-after.ensures.work ∙ ap (option_and_then (λ r. work_rank r.losses)) c.as_ref.ensures.value)
-    (c.ranks-after.ensures.risk ∙ ap (option_and_then (λ r. risk_rank r.losses)) c.as_ref.ensures.value) c.relist.ensures c.relist-2.ensures
+    are_queued-set list s c.args.row within c.self.inside.work c.relist.new.self c.work_rank-after.result
+    c.self.invariant (c.work_rank-after.ensures.value ∙ ap (option_and_then (λ r. work_rank r.losses)) c.as_ref.ensures.value) c.relist.ensures
 
 pub returns : goal.returns
 returns c =
