@@ -1,5 +1,5 @@
 -- What each session asked for and was answered in a history.
-use Rattle.std.specs.Prelude.{ℕ, ◌+◌, Bool, nat_eq, List, [], ◌∷◌, map, filter}
+use Rattle.std.specs.Prelude.{◌≡◌, ℕ, ◌+◌, ◌-◌, ◌≤◌, Bool, true, nat_eq, List, [], ◌∷◌, map, filter, slice_get, Some}
 use Rattle.std.specs.List.{range_with_len}
 use Rattle.lrc_book.specs.declared.command.Command.{Command}
 use Rattle.lrc_book.specs.declared.entry.Entry.{Entry}
@@ -33,3 +33,11 @@ sessions count = range_with_len 1 count
 -- the commands of each of so many sessions
 abbrev pub commands_of_each : ℕ → List Entry → List (List Command)
 commands_of_each count history = map (λ session. commands_of session history) (sessions count)
+
+-- These stand in a history, whose first entry has this place, each at its place, and the session made them; the places rise, from
+-- `least` on.
+abbrev pub AreRising : ℕ → ℕ → List Entry → ℕ → List NumberedEntry → Type 0
+AreRising session first history least [] = Unit {0}
+AreRising session first history least (n ∷ ns) =
+    (least ≤ n.place) × (slice_get history (n.place - first) ≡ Some n.entry) × (is_of session n.entry ≡ true)
+    × AreRising session first history (n.place + 1) ns

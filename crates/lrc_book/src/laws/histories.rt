@@ -1,6 +1,6 @@
 //! Laws of histories: what a legal one leaves, and what outlasts a command.
 
-ghost use Rattle.std.specs.Prelude.{◌≡◌, ◌≢◌, ℕ, ◌≤◌, if◌then◌else◌, IsTrue, List, Contains, Some};
+ghost use Rattle.std.specs.Prelude.{◌≡◌, ◌≢◌, ℕ, ◌≤◌, if◌then◌else◌, IsTrue, List, Contains, Some, length};
 ghost use Rattle.lrc_code.specs.declared.numbers.StripeNo.{StripeNo};
 ghost use Rattle.lrc_code.specs.declared.numbers.Fragment.{Fragment};
 ghost use Rattle.lrc_topology.specs.declared.NodeInfo.{NodeInfo};
@@ -24,6 +24,7 @@ ghost use Rattle.lrc_book.specs.Steps.{step};
 ghost use Rattle.lrc_book.specs.States.{State, has_stripe, lease_of};
 ghost use Rattle.lrc_book.specs.Histories.{IsLegal, outcome_in, world_after, state_after};
 ghost use Rattle.lrc_book.specs.Goodness.{IsGood};
+ghost use Rattle.lrc_book.specs.Sessions.{NumberedEntry, entries_of, AreRising};
 
 /// After each legal history every placement is lawful, every seat is held once and is a slot of a node that is not gone,
 /// each fragment has one home and one lease at most, and the epoch of each live lease is the last that was granted.
@@ -86,4 +87,11 @@ pub fn homes_end_by_these_alone()
 pub fn stripes_end_by_drop_alone()
     ensures { (nodes : List NodeInfo) (past : List Entry) (st : State) (session : SessionNo) (command : Command) (s : StripeNo)
         → IsTrue (has_stripe st s) → ¬ (IsDropOf s command) → IsTrue (has_stripe (step nodes past st session command).1 s) }
+{}
+
+/// Entries of a session that stand in a history at rising places, as many as the history has of the session, are all that it
+/// has of it, in order.
+pub fn as_many_at_rising_places_are_all()
+    ensures { (session : ℕ) (history : List Entry) (found : List NumberedEntry) → AreRising session 1 history 1 found
+        → length found ≡ length (entries_of session history) → found ≡ entries_of session history }
 {}
