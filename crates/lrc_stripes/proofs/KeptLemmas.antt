@@ -1,9 +1,11 @@
 -- What each change of a row keeps.
-use Rattle.std.proofs.Common.{◌≡◌, ℕ, zero, suc, ◌<◌, inl, inr, Bool, true, false, not, ◌&&◌, ◌||◌, if◌then◌else◌, nat_lt, List, [], ◌∷◌, length, get_or, set, replicate, Option, Some, None, is_some, is_none, arith, refl, sym, ap, ◌∙◌, subst}
+use Rattle.std.proofs.Common.{◌≡◌, ◌≢◌, ℕ, zero, suc, ◌<◌, inl, inr, Bool, true, false, not, ◌&&◌, ◌||◌, if◌then◌else◌, nat_lt, List, [], ◌∷◌, length, get_or, set, replicate, Option, Some, None, is_some, is_none, arith, refl, sym, ap, ◌∙◌, subst}
 use Rattle.std.specs.List.{list_any}
 use Rattle.std.proofs.lemmas.Bool.{cases_Bool, cases_eq, eq-eqb, ne_eqb, eqb-true, lt-ltb}
 use Rattle.std.proofs.lemmas.List.{get_or-set_same, get_or-set_other}
+use Rattle.std.proofs.lemmas.Nat.Bits.{bit_at-zero}
 use Rattle.std.proofs.lemmas.Option.{same_Some}
+use Rattle.lrc_code.specs.Losses.{bits_set}
 use Rattle.lrc_code.specs.declared.losses.LossMask.{LossMask}
 use Rattle.lrc_code.specs.declared.numbers.StripeNo.{StripeNo}
 use Rattle.lrc_code.specs.declared.numbers.NodeNo.{NodeNo}
@@ -15,9 +17,10 @@ use Rattle.lrc_stripes.specs.declared.losses.Losses.{Losses}
 use Rattle.lrc_stripes.specs.declared.row.Row.{Row}
 use Rattle.lrc_stripes.specs.Rows.{sits_on, is_missing, is_to_move}
 use Rattle.lrc_stripes.specs.Sites.{Sited, first_sites}
-use Rattle.lrc_stripes.specs.Masks.{AreAll, AreWith, AreLosses, IsFull, IsPut, IsMaskOf}
+use Rattle.lrc_stripes.specs.Masks.{AreAll, AreWith, AreLosses, AreKept, renewed, IsFull, IsPut, IsMaskOf}
 use Rattle.lrc_stripes.specs.Kept.{IsKept, is_row_on}
 use Rattle.lrc_stripes.proofs.SitedLemmas.{same-turned}
+use Rattle.lrc_stripes.proofs.FreshLemmas.{loosened, renewed-exact}
 
 -- ---- masks of homes
 
@@ -78,7 +81,7 @@ module _ (sites : Sited) (rows : StripeNo → Option Row) (kept : IsKept sites r
   alike s same = equal_stripes stripe s (eqb-true _ _ same)
 
   pub kept-put : (o : Option Row) (on : NodeNo → StripeNo → Bool) (after : StripeNo → Option Row) → after ≡ (λ s. if same_stripe stripe s then o else rows s)
-      → ((r : Row) → o ≡ Some r → AreLosses sites.online sites.draining r.homes r.losses)
+      → ((r : Row) → o ≡ Some r → AreKept sites.online sites.draining r.homes r.losses)
       → ((n : NodeNo) (s : StripeNo) → on n s ≡ (if same_stripe stripe s then is_row_on n o else sites.on n s))
       → IsKept (record sites { on = on }) after
   kept-put o on after is losses listed = subst (λ (a : StripeNo → Option Row). IsKept (record sites { on = on }) a) (sym is) (record {
@@ -103,7 +106,8 @@ module _ (sites : Sited) (rows : StripeNo → Option Row) (kept : IsKept sites r
   pub kept-add : (r : Row) (after : StripeNo → Option Row) → is_some (rows stripe) ≡ false → r.homes ≡ replicate 16 None → AreAll r.losses
       → after ≡ (λ s. if same_stripe stripe s then Some r else rows s) → IsKept sites after
   kept-add r after absent none all is = kept-put (Some r) sites.on after is
-      (λ q e. subst (λ (x : Row). AreLosses sites.online sites.draining x.homes x.losses) (same_Some r q e) (losses-bare sites.online sites.draining r.homes r.losses none all))
+      (λ q e. subst (λ (x : Row). AreKept sites.online sites.draining x.homes x.losses) (same_Some r q e)
+      (loosened sites.online sites.draining r.homes r.losses (losses-bare sites.online sites.draining r.homes r.losses none all)))
       (λ n s. elim (cases_Bool (same_stripe stripe s)) [
         | inl same ↦ rw same (own-on n s same ∙ no-row n (rows stripe) absent ∙ sym (ap (list_any (sits_on n)) none ∙ any-bare n 16))
         | inr other ↦ rw other refl
@@ -117,7 +121,7 @@ module _ (sites : Sited) (rows : StripeNo → Option Row) (kept : IsKept sites r
     here-on : (n : NodeNo) (s : StripeNo) → same_stripe stripe s ≡ true → sites.on n s ≡ list_any (sits_on n) r.homes
     here-on n s same = own-on n s same ∙ ap (is_row_on n) found
 
-    here-losses : AreLosses sites.online sites.draining r.homes r.losses
+    here-losses : AreKept sites.online sites.draining r.homes r.losses
     here-losses = kept.losses stripe r found
 
     -- no row
@@ -147,18 +151,30 @@ module _ (sites : Sited) (rows : StripeNo → Option Row) (kept : IsKept sites r
       many : f < length r.homes
       many = let all = r.sixteen in omega (arith, low, all)
 
-      rehomed : (home : Option Seat) → q.homes ≡ set r.homes f home → AreWith sites f home r.losses q.losses → (x : Row) → Some q ≡ Some x → AreLosses sites.online sites.draining x.homes x.losses
-      rehomed home homes with x e =
-          subst (λ (y : Row). AreLosses sites.online sites.draining y.homes y.losses) (same_Some q x e)
+      rehomed : (home : Option Seat) (before : Losses) → AreLosses sites.online sites.draining r.homes before → q.homes ≡ set r.homes f home → AreWith sites f home before q.losses
+          → (x : Row) → Some q ≡ Some x → AreKept sites.online sites.draining x.homes x.losses
+      rehomed home before are homes with x e =
+          subst (λ (y : Row). AreKept sites.online sites.draining y.homes y.losses) (same_Some q x e)
+          (loosened sites.online sites.draining q.homes q.losses
           (subst (λ (hs : List (Option Seat)). AreLosses sites.online sites.draining hs q.losses) (sym homes)
-          (losses-with sites r.homes f home r.losses q.losses low r.sixteen here-losses with))
+          (losses-with sites r.homes f home before q.losses low r.sixteen are with)))
+
+      -- where a fragment has no home, the masks are exact
+      exact : get_or r.homes f None ≡ None → AreLosses sites.online sites.draining r.homes r.losses
+      exact bare = record { homeless = here-losses.homeless; missing = here-losses.missing some; needs = here-losses.needs } where
+        some : r.losses.needs.bits ≢ 0
+        some empty =
+            let in_need : bits_set r.losses.needs.bits f ≡ true = here-losses.needs f ∙ rw (lt-ltb f 16 low, bare) refl in
+            let none : bits_set r.losses.needs.bits f ≡ false = rw (empty, bit_at-zero f) refl in
+            let clash : true ≡ false = sym in_need ∙ none in
+            cc
 
       -- a home where there was none
       pub kept-set_home : (seat : Seat) (after : StripeNo → Option Row) → get_or r.homes f None ≡ None → q.homes ≡ set r.homes f (Some seat) → AreWith sites f (Some seat) r.losses q.losses
           → after ≡ (λ s. if same_stripe stripe s then Some q else rows s)
           → IsKept (record sites { on = λ n s. (same_node seat.node n && same_stripe stripe s) || sites.on n s }) after
       kept-set_home seat after bare homes with is = kept-put (Some q) (λ n s. (same_node seat.node n && same_stripe stripe s) || sites.on n s) after is
-          (rehomed (Some seat) homes with)
+          (rehomed (Some seat) r.losses (exact bare) homes with)
           (λ n s. elim (cases_Bool (same_stripe stripe s)) [
             | inl same ↦
                 let both = any-set (sits_on n) r.homes f (Some seat) many in
@@ -177,11 +193,11 @@ module _ (sites : Sited) (rows : StripeNo → Option Row) (kept : IsKept sites r
           second false b = refl
 
       -- no home any more
-      pub kept-clear_home : (after : StripeNo → Option Row) → q.homes ≡ set r.homes f None → AreWith sites f None r.losses q.losses → after ≡ (λ s. if same_stripe stripe s then Some q else rows s)
+      pub kept-clear_home : (after : StripeNo → Option Row) → q.homes ≡ set r.homes f None → AreWith sites f None (renewed sites.online r.homes r.losses) q.losses → after ≡ (λ s. if same_stripe stripe s then Some q else rows s)
           → IsKept (record sites { on = λ n s. not (same_stripe stripe s && (sits_on n (get_or r.homes f None) && not (list_any (sits_on n) q.homes))) && sites.on n s }) after
       kept-clear_home after homes with is =
           kept-put (Some q) (λ n s. not (same_stripe stripe s && (sits_on n (get_or r.homes f None) && not (list_any (sits_on n) q.homes))) && sites.on n s) after is
-          (rehomed None homes with)
+          (rehomed None (renewed sites.online r.homes r.losses) (renewed-exact sites.online sites.draining r.homes r.losses here-losses) homes with)
           (λ n s. elim (cases_Bool (same_stripe stripe s)) [
             | inl same ↦
                 let both : list_any (sits_on n) r.homes ≡ (sits_on n (get_or r.homes f None) || list_any (sits_on n) q.homes) =

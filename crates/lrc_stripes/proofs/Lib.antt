@@ -10,6 +10,8 @@ pub mod RepairLemmas
 pub mod RepairLaws
 pub mod UpgradeLemmas
 pub mod StripeSetLemmas
+pub mod FreshLemmas
+pub mod NowLemmas
 pub mod KeptLemmas
 pub mod StoredLemmas
 pub mod RowsLemmas

@@ -19,8 +19,9 @@ use Rattle.lrc_stripes.specs.Stored.{Stored, with_offline, with_draining}
 use Rattle.lrc_stripes.specs.Sites.{SiteTable, Sited, sited}
 use Rattle.lrc_stripes.specs.Rows.{sits_on, is_missing, is_to_move}
 use Rattle.lrc_stripes.specs.Tables.{stored_in, rows_in, row_homes}
-use Rattle.lrc_stripes.specs.Masks.{IsMaskOf, IsPutOn, AreLosses}
+use Rattle.lrc_stripes.specs.Masks.{IsMaskOf, IsPutOn, AreKept}
 use Rattle.lrc_stripes.specs.Kept.{IsKept, is_row_on, AreRenewed, IsRenewed, IsMissingOn, IsToMoveOn}
+use Rattle.lrc_stripes.proofs.FreshLemmas.{mask-is}
 
 -- ---- one mask
 
@@ -74,7 +75,7 @@ module _ (on : StripeNo → Bool) (R : Row → Row → Type 0) (before after : S
 
 -- ---- what a store is made of
 
-stored_of : List NodeInfo → (NodeNo → Bool) → (NodeNo → Bool) → (StripeNo → Option Row) → ℕ → Stored
+pub stored_of : List NodeInfo → (NodeNo → Bool) → (NodeNo → Bool) → (StripeNo → Option Row) → ℕ → Stored
 stored_of nodes online draining rows spare = record {
   nodes = nodes;
   stripes = λ s. is_some (rows s);
@@ -85,12 +86,12 @@ stored_of nodes online draining rows spare = record {
   spare = spare;
 }
 
-stored_of-sited : (sites : SiteTable) (rows : List (Option Row)) (spare : ℕ)
+pub stored_of-sited : (sites : SiteTable) (rows : List (Option Row)) (spare : ℕ)
     → stored_in (record { sites = sites.list; rows = rows; spare = spare }) ≡ stored_of (sited sites).nodes (sited sites).online (sited sites).draining (rows_in rows) spare
 unfolding stored_in sited stored_of
 stored_of-sited sites rows spare = refl
 
-stored_of-rows : (nodes : List NodeInfo) (online draining : NodeNo → Bool) (rows rows' : StripeNo → Option Row) (spare : ℕ)
+pub stored_of-rows : (nodes : List NodeInfo) (online draining : NodeNo → Bool) (rows rows' : StripeNo → Option Row) (spare : ℕ)
     → ((x : StripeNo) → is_some (rows' x) ≡ is_some (rows x)) → ((x : StripeNo) → row_homes (rows' x) ≡ row_homes (rows x))
     → stored_of nodes online draining rows' spare ≡ stored_of nodes online draining rows spare
 unfolding stored_of
@@ -132,18 +133,18 @@ module _ (old new : SiteTable) (list list' : List (Option Row)) (spare : ℕ) (k
     pub kept-offline : IsKept (sited new) rows'
     kept-offline = subst (λ (s : Sited). IsKept s rows') (sym is) (record {
       losses = each-of ((sited old).on n) (IsMissingOn n b) rows rows' offline-renewed
-          (λ q. AreLosses (sited old).online (sited old).draining q.homes q.losses) (λ q. AreLosses online' (sited old).draining q.homes q.losses) kept.losses
+          (λ q. AreKept (sited old).online (sited old).draining q.homes q.losses) (λ q. AreKept online' (sited old).draining q.homes q.losses) kept.losses
           (λ q r gives had. record {
             homeless = subst (λ (hs : List (Option Seat)). (f : ℕ) → bits_set r.losses.homeless.bits f ≡ (nat_lt f 16 && is_none (get_or hs f None))) (sym gives.homes)
                 (λ f. ap (λ (m : LossMask). bits_set m.bits f) gives.homeless ∙ had.homeless f);
-            missing = subst (λ (hs : List (Option Seat)). IsMaskOf (is_missing online') hs r.losses.missing) (sym gives.homes)
-                (mask-put n b (is_missing (sited old).online) (is_missing online') missing-on missing-off q.homes q.losses.missing r.losses.missing had.missing gives.missing);
+            missing = λ some. subst (λ (hs : List (Option Seat)). IsMaskOf (is_missing online') hs r.losses.missing) (sym gives.homes)
+                (mask-put n b (is_missing (sited old).online) (is_missing online') missing-on missing-off q.homes q.losses.missing r.losses.missing (had.missing (λ empty. some (ap (λ (m : LossMask). m.bits) gives.needs ∙ empty))) gives.missing);
             needs = subst (λ (hs : List (Option Seat)). (f : ℕ) → bits_set r.losses.needs.bits f ≡ (nat_lt f 16 && is_to_move (sited old).draining (get_or hs f None))) (sym gives.homes)
                 (λ f. ap (λ (m : LossMask). bits_set m.bits f) gives.needs ∙ had.needs f);
           })
           (λ x q miss there had. record {
             homeless = had.homeless;
-            missing = mask-stays n b (is_missing (sited old).online) (is_missing online') missing-on missing-off q.homes q.losses.missing q.sixteen (off-node x q miss there) had.missing;
+            missing = λ some. mask-stays n b (is_missing (sited old).online) (is_missing online') missing-on missing-off q.homes q.losses.missing q.sixteen (off-node x q miss there) (had.missing some);
             needs = had.needs;
           });
       listed = λ m x. kept.listed m x ∙ sym (same-of ((sited old).on n) (IsMissingOn n b) rows rows' offline-renewed (is_row_on m) (λ q r gives. ap (λ (hs : List (Option Seat)). list_any (sits_on m) hs) gives.homes) x);
@@ -159,9 +160,25 @@ module _ (old new : SiteTable) (list list' : List (Option Row)) (spare : ℕ) (k
         (same-of ((sited old).on n) (IsMissingOn n b) rows rows' offline-renewed row_homes (λ q r gives. ap (λ (hs : List (Option Seat)). λ (f : ℕ). get_or hs f None) gives.homes))
         ∙ ap (λ (s : Stored). with_offline s n b) (sym (stored_of-sited old list spare))))
 
-  module _ (is : sited new ≡ record (sited old) { draining = λ m. cond (same_node n m) b ((sited old).draining m) }) (renewed : AreRenewed ((sited new).on n) (IsToMoveOn n b) rows rows') where
-    draining-renewed : AreRenewed ((sited old).on n) (IsToMoveOn n b) rows rows'
-    draining-renewed = subst (λ (s : Sited). AreRenewed (s.on n) (IsToMoveOn n b) rows rows') is renewed
+  -- no row has work
+  module _ (is : sited new ≡ record (sited old) { online = λ m. cond (same_node n m) (not b) ((sited old).online m) })
+      (idle : (x : StripeNo) (q : Row) → rows x ≡ Some q → q.losses.needs.bits ≡ 0) where
+    pub kept-idle : IsKept (sited new) rows
+    kept-idle = subst (λ (s : Sited). IsKept s rows) (sym is) (record {
+      losses = λ x q there. let had = kept.losses x q there in record { homeless = had.homeless; missing = λ some. absurd (some (idle x q there)); needs = had.needs };
+      listed = kept.listed;
+    })
+
+    pub stored-idle : stored_in (record { sites = new.list; rows = list; spare = spare }) ≡ with_offline (stored_in (record { sites = old.list; rows = list; spare = spare })) n b
+    unfolding stored_of
+    stored-idle =
+        stored_of-sited new list spare
+        ∙ (ap (λ (s : Sited). stored_of s.nodes s.online s.draining rows spare) is
+        ∙ ap (λ (s : Stored). with_offline s n b) (sym (stored_of-sited old list spare)))
+
+  module _ (is : sited new ≡ record (sited old) { draining = λ m. cond (same_node n m) b ((sited old).draining m) }) (renewed : AreRenewed ((sited new).on n) (IsToMoveOn (sited new).online n b) rows rows') where
+    draining-renewed : AreRenewed ((sited old).on n) (IsToMoveOn (sited old).online n b) rows rows'
+    draining-renewed = subst (λ (s : Sited). AreRenewed (s.on n) (IsToMoveOn s.online n b) rows rows') is renewed
 
     abbrev draining' : NodeNo → Bool
     draining' m = cond (same_node n m) b ((sited old).draining m)
@@ -176,13 +193,13 @@ module _ (old new : SiteTable) (list list' : List (Option Row)) (spare : ℕ) (k
 
     pub kept-draining : IsKept (sited new) rows'
     kept-draining = subst (λ (s : Sited). IsKept s rows') (sym is) (record {
-      losses = each-of ((sited old).on n) (IsToMoveOn n b) rows rows' draining-renewed
-          (λ q. AreLosses (sited old).online (sited old).draining q.homes q.losses) (λ q. AreLosses (sited old).online draining' q.homes q.losses) kept.losses
+      losses = each-of ((sited old).on n) (IsToMoveOn (sited old).online n b) rows rows' draining-renewed
+          (λ q. AreKept (sited old).online (sited old).draining q.homes q.losses) (λ q. AreKept (sited old).online draining' q.homes q.losses) kept.losses
           (λ q r gives had. record {
             homeless = subst (λ (hs : List (Option Seat)). (f : ℕ) → bits_set r.losses.homeless.bits f ≡ (nat_lt f 16 && is_none (get_or hs f None))) (sym gives.homes)
                 (λ f. ap (λ (m : LossMask). bits_set m.bits f) gives.homeless ∙ had.homeless f);
-            missing = subst (λ (hs : List (Option Seat)). (f : ℕ) → bits_set r.losses.missing.bits f ≡ (nat_lt f 16 && is_missing (sited old).online (get_or hs f None))) (sym gives.homes)
-                (λ f. ap (λ (m : LossMask). bits_set m.bits f) gives.missing ∙ had.missing f);
+            missing = λ some. subst (λ (hs : List (Option Seat)). (f : ℕ) → bits_set r.losses.missing.bits f ≡ (nat_lt f 16 && is_missing (sited old).online (get_or hs f None))) (sym gives.homes)
+                (λ f. ap (λ (m : LossMask). bits_set m.bits f) gives.missing ∙ mask-is (sited old).online q.homes f);
             needs = subst (λ (hs : List (Option Seat)). IsMaskOf (is_to_move draining') hs r.losses.needs) (sym gives.homes)
                 (mask-put n b (is_to_move (sited old).draining) (is_to_move draining') to_move-on to_move-off q.homes q.losses.needs r.losses.needs had.needs gives.needs);
           })
@@ -191,7 +208,7 @@ module _ (old new : SiteTable) (list list' : List (Option Row)) (spare : ℕ) (k
             missing = had.missing;
             needs = mask-stays n b (is_to_move (sited old).draining) (is_to_move draining') to_move-on to_move-off q.homes q.losses.needs q.sixteen (off-node x q miss there) had.needs;
           });
-      listed = λ m x. kept.listed m x ∙ sym (same-of ((sited old).on n) (IsToMoveOn n b) rows rows' draining-renewed (is_row_on m) (λ q r gives. ap (λ (hs : List (Option Seat)). list_any (sits_on m) hs) gives.homes) x);
+      listed = λ m x. kept.listed m x ∙ sym (same-of ((sited old).on n) (IsToMoveOn (sited old).online n b) rows rows' draining-renewed (is_row_on m) (λ q r gives. ap (λ (hs : List (Option Seat)). list_any (sits_on m) hs) gives.homes) x);
     })
 
     pub stored-draining : stored_in (record { sites = new.list; rows = list'; spare = spare }) ≡ with_draining (stored_in (record { sites = old.list; rows = list; spare = spare })) n b
@@ -200,6 +217,6 @@ module _ (old new : SiteTable) (list list' : List (Option Row)) (spare : ℕ) (k
         stored_of-sited new list' spare
         ∙ (ap (λ (s : Sited). stored_of s.nodes s.online s.draining rows' spare) is
         ∙ (stored_of-rows (sited old).nodes (sited old).online draining' rows rows' spare
-        (same-of ((sited old).on n) (IsToMoveOn n b) rows rows' draining-renewed is_some (λ q r gives. refl))
-        (same-of ((sited old).on n) (IsToMoveOn n b) rows rows' draining-renewed row_homes (λ q r gives. ap (λ (hs : List (Option Seat)). λ (f : ℕ). get_or hs f None) gives.homes))
+        (same-of ((sited old).on n) (IsToMoveOn (sited old).online n b) rows rows' draining-renewed is_some (λ q r gives. refl))
+        (same-of ((sited old).on n) (IsToMoveOn (sited old).online n b) rows rows' draining-renewed row_homes (λ q r gives. ap (λ (hs : List (Option Seat)). λ (f : ℕ). get_or hs f None) gives.homes))
         ∙ ap (λ (s : Stored). with_draining s n b) (sym (stored_of-sited old list spare))))

@@ -59,21 +59,17 @@ module _ (test : Option Seat → Bool) (homes : List (Option Seat)) (mask : Loss
 
 -- ---- what a table stands for
 
--- the masks that are kept, by the nodes of the table
-pub kept-losses : (sites : SiteTable) (rows : List (Option Row)) → IsKept (sited sites) (rows_in rows)
-    → (s : StripeNo) (r : Row) → rows_in rows s ≡ Some r → AreLosses (online_in sites.list) (draining_in sites.list) r.homes r.losses
-unfolding sited
-kept-losses sites rows kept = kept.losses
-
--- the missing fragments that are kept
-pub kept-missing : (sites : SiteTable) (rows : List (Option Row)) → IsKept (sited sites) (rows_in rows)
+-- the missing fragments, where the masks are exact
+pub kept-missing : (sites : SiteTable) (rows : List (Option Row))
+    → ((s : StripeNo) (r : Row) → rows_in rows s ≡ Some r → AreLosses (online_in sites.list) (draining_in sites.list) r.homes r.losses)
     → (s : StripeNo) (r : Row) → rows_in rows s ≡ Some r → bits_set r.losses.missing.bits ≡ missing_in Wide (online_in sites.list) (row_homes (Some r))
-kept-missing sites rows kept s r found = fun_ext (λ f. (kept-losses sites rows kept s r found).missing f)
+kept-missing sites rows losses s r found = fun_ext (λ f. (losses s r found).missing f)
 
 -- the fragments that are kept as in need of a lease
 pub kept-needs : (sites : SiteTable) (rows : List (Option Row)) → IsKept (sited sites) (rows_in rows)
     → (s : StripeNo) (r : Row) → rows_in rows s ≡ Some r → bits_set r.losses.needs.bits ≡ needs_in Wide (draining_in sites.list) (row_homes (Some r))
-kept-needs sites rows kept s r found = fun_ext (λ f. (kept-losses sites rows kept s r found).needs f)
+unfolding sited
+kept-needs sites rows kept s r found = fun_ext (λ f. (kept.losses s r found).needs f)
 
 module _ (t : Table) (losses : (s : StripeNo) (r : Row) → rows_in t.rows s ≡ Some r → AreLosses (online_in t.sites) (draining_in t.sites) r.homes r.losses) where
   abbrev row : StripeNo → Option Row

@@ -8,11 +8,14 @@ use Rattle.lrc_code.specs.declared.numbers.NodeNo.{NodeNo}
 use Rattle.lrc_code.specs.declared.numbers.StripeNo.{StripeNo}
 use Rattle.lrc_code.specs.Numbers.{same_stripe}
 use Rattle.lrc_code.proofs.NumbersLemmas.{equal_stripes}
+use Rattle.lrc_code.specs.declared.codes.Code.TheVariants.{Wide}
+use Rattle.lrc_code.specs.Losses.{bits_set}
+use Rattle.lrc_stripes.proofs.RankLemmas.{rank_by-few}
 use Rattle.lrc_stripes.specs.declared.losses.Losses.{Losses}
 use Rattle.lrc_stripes.specs.declared.row.Row.{Row}
 use Rattle.lrc_stripes.specs.Sets.{at_rank, IsNext}
 use Rattle.lrc_stripes.specs.Tables.{rows_in}
-use Rattle.lrc_stripes.specs.Masks.{work_rank, is_at, IsPutOn}
+use Rattle.lrc_stripes.specs.Masks.{work_rank, rank_of, is_at, IsPutOn, renewed}
 use Rattle.lrc_stripes.specs.Kept.{AreQueued, AreRenewed, IsRenewed, IsWithLosses, IsMissingOn, IsToMoveOn, queued}
 
 -- ---- no rows
@@ -77,6 +80,19 @@ module _ (list : List (Option Row)) (stripe : StripeNo) (row : Option Row) (with
     works = queued-set work_rank (at_rank work) (at_rank new_work) after are.works is moved;
   }
 
+-- no row has work where no stripe has a rank
+pub idle-rows : (list : List (Option Row)) (work : List (List Bool)) → AreQueued list work → ((k : ℕ) (s : StripeNo) → k < 5 → at_rank work k s ≡ false)
+    → (s : StripeNo) (r : Row) → rows_in list s ≡ Some r → r.losses.needs.bits ≡ 0
+idle-rows list work are none s r there = elim (cases_eq r.losses.needs.bits 0) [
+  | inl empty ↦ empty
+  | inr some ↦
+      let few : rank_of r.losses ≤ 4 = rank_by-few Wide (bits_set r.losses.missing.bits) in
+      let hit : queued work_rank (rows_in list) (rank_of r.losses) s ≡ true =
+      ap (λ (o : Option Row). is_at (rank_of r.losses) (option_and_then (λ q. work_rank q.losses) o)) there ∙ rw (ne_eqb r.losses.needs.bits 0 some) (eq-eqb (rank_of r.losses) (rank_of r.losses) refl) in
+      let miss : queued work_rank (rows_in list) (rank_of r.losses) s ≡ false = ap (λ (q : ℕ → StripeNo → Bool). q (rank_of r.losses) s) (sym are.works) ∙ none (rank_of r.losses) s (omega (arith, few)) in
+      absurd (let clash : true ≡ false = sym hit ∙ miss in cc)
+]
+
 -- one row becomes another
 pub renewed-set : (R : Row → Row → Type 0) (now next : StripeNo → Option Row) (s : StripeNo) (o : Option Row) → next ≡ (λ t. cond (same_stripe s t) o (now t))
     → IsRenewed R (now s) o → AreRenewed (same_stripe s) R now next
@@ -111,9 +127,9 @@ missing_on-put n are_in losses r q homeless missing needs is = record {
   needs = ap (λ (l : Losses). l.needs) is.losses ∙ needs;
 }
 
-pub to_move_on-put : (n : NodeNo) (are_in : Bool) (losses : Losses) (r q : Row) → losses.homeless ≡ r.losses.homeless → losses.missing ≡ r.losses.missing
-    → IsPutOn n are_in r.homes r.losses.needs losses.needs → IsWithLosses losses r q → IsToMoveOn n are_in r q
-to_move_on-put n are_in losses r q homeless missing needs is = record {
+pub to_move_on-put : (online : NodeNo → Bool) (n : NodeNo) (are_in : Bool) (losses : Losses) (r q : Row) → losses.homeless ≡ r.losses.homeless → losses.missing ≡ (renewed online r.homes r.losses).missing
+    → IsPutOn n are_in r.homes r.losses.needs losses.needs → IsWithLosses losses r q → IsToMoveOn online n are_in r q
+to_move_on-put online n are_in losses r q homeless missing needs is = record {
   homes = is.homes;
   homeless = ap (λ (l : Losses). l.homeless) is.losses ∙ homeless;
   missing = ap (λ (l : Losses). l.missing) is.losses ∙ missing;

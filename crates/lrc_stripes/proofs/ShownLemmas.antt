@@ -11,12 +11,13 @@ use Rattle.lrc_code.specs.Losses.{FragmentSet, bits_of, bits_set}
 use Rattle.lrc_code.proofs.BitsLemmas.{bits_of-bits_set}
 use Rattle.lrc_topology.specs.declared.seat.Seat.{Seat}
 use Rattle.lrc_stripes.specs.declared.row.Row.{Row}
-use Rattle.lrc_stripes.specs.Levels.{homes_if, missing_if, needs_if}
-use Rattle.lrc_stripes.specs.Stored.{Stored, homes_shown, missing_shown, needs_shown}
+use Rattle.lrc_stripes.specs.Levels.{homes_if, missing_if, needs_if, level_if}
+use Rattle.lrc_stripes.specs.Stored.{Stored, homes_shown, missing_shown, needs_shown, level_shown}
 use Rattle.lrc_stripes.specs.Sites.{SiteTable, sited}
 use Rattle.lrc_stripes.specs.Tables.{stored_in, rows_in}
+use Rattle.lrc_stripes.specs.Masks.{renewed}
 use Rattle.lrc_stripes.specs.Kept.{IsKept}
-use Rattle.lrc_stripes.proofs.RepairLemmas.{kept-missing, kept-needs}
+use Rattle.lrc_stripes.proofs.RepairLemmas.{kept-needs}
 
 -- a mask is the one of its fragments
 shown-mask : (mask : LossMask) (m : FragmentSet) → mask.bits < 65536 → bits_set mask.bits ≡ m → Some (record { bits = bits_of Wide m }) ≡ Some mask
@@ -42,9 +43,13 @@ module _ (sites : SiteTable) (rows : List (Option Row)) (spare : ℕ) (kept : Is
   unfolding stored_in homes_if
   homes_shown-absent none = rw none refl
 
-  pub missing_shown-there : (r : Row) → r.losses.missing.bits < 65536 → rows_in rows s ≡ Some r → missing_shown store s ≡ Some r.losses.missing
-  unfolding stored_in missing_if
-  missing_shown-there r few found = rw found (shown-mask r.losses.missing _ few (kept-missing sites rows kept s r found))
+  pub missing_shown-there : (r : Row) → rows_in rows s ≡ Some r → missing_shown store s ≡ Some (renewed (sited sites).online r.homes r.losses).missing
+  unfolding stored_in missing_if sited
+  missing_shown-there r found = rw found refl
+
+  pub level_shown-none : rows_in rows s ≡ None → level_shown store s ≡ None
+  unfolding stored_in level_if
+  level_shown-none none = rw none refl
 
   pub missing_shown-absent : rows_in rows s ≡ None → missing_shown store s ≡ None
   unfolding stored_in missing_if

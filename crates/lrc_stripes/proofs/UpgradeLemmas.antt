@@ -17,9 +17,10 @@ use Rattle.lrc_topology.specs.declared.seat.Seat.{Seat}
 use Rattle.lrc_topology.specs.Nodes.{node_at}
 use Rattle.lrc_stripes.specs.declared.row.Row.{Row}
 use Rattle.lrc_stripes.specs.Levels.{missing_in}
-use Rattle.lrc_stripes.specs.Sites.{SiteTable, Sited, sited, online_in}
+use Rattle.lrc_stripes.specs.Sites.{SiteTable, Sited, sited, online_in, draining_in}
 use Rattle.lrc_stripes.specs.Rows.{sits_on}
 use Rattle.lrc_stripes.specs.Tables.{Table, stored_in, rows_in, row_homes}
+use Rattle.lrc_stripes.specs.Masks.{AreLosses}
 use Rattle.lrc_stripes.specs.Kept.{IsKept, is_row_on}
 use Rattle.lrc_stripes.specs.Upgrades.{is_in_domain, is_lost_to, IsFirstLostTo}
 use Rattle.lrc_stripes.specs.Looming.{is_home_in, missing_without, is_row_lost, lost_in, IsFirstIn}
@@ -141,14 +142,15 @@ none-left test near from far before none t = elim (cases_lt t.value from) [
 
 -- ---- of a store
 
-module _ (sites : SiteTable) (rows : List (Option Row)) (spare : ℕ) (kept : IsKept (sited sites) (rows_in rows)) (u : UpgradeNo) where
+module _ (sites : SiteTable) (rows : List (Option Row)) (spare : ℕ)
+    (losses : (s : StripeNo) (r : Row) → rows_in rows s ≡ Some r → AreLosses (online_in sites.list) (draining_in sites.list) r.homes r.losses) (u : UpgradeNo) where
   abbrev store : Table
   store = record { sites = sites.list; rows = rows; spare = spare }
 
   with-domain : (r : Row) (s : StripeNo) → rows_in rows s ≡ Some r → (f : ℕ)
       → missing_in Wide (λ n. online_in sites.list n && not (is_in_domain (sited sites).nodes u n)) (row_homes (Some r)) f ≡ missing_without (sited sites).nodes u r f
   with-domain r s found f =
-      by (nat_lt f 16) (get_or r.homes f None) ∙ ap (λ b. b || (nat_lt f 16 && is_home_in (sited sites).nodes u (get_or r.homes f None))) (sym (ap (λ (m : FragmentSet). m f) (kept-missing sites rows kept s r found))) where
+      by (nat_lt f 16) (get_or r.homes f None) ∙ ap (λ b. b || (nat_lt f 16 && is_home_in (sited sites).nodes u (get_or r.homes f None))) (sym (ap (λ (m : FragmentSet). m f) (kept-missing sites rows losses s r found))) where
         some : (a b c : Bool) → (a && not (b && not c)) ≡ ((a && not b) || (a && c))
         some true true c = not-not c where
           not-not : (c : Bool) → not (not c) ≡ c
@@ -172,7 +174,7 @@ module _ (sites : SiteTable) (rows : List (Option Row)) (spare : ℕ) (kept : Is
     by None none = rw none refl
     by (Some r) found =
         rw found (ap (λ (m : FragmentSet). is_recoverable Wide m && not (is_recoverable Wide (missing_in Wide (λ n. online_in sites.list n && not (is_in_domain (sited sites).nodes u n)) (row_homes (Some r)))))
-        (sym (kept-missing sites rows kept s r found))
+        (sym (kept-missing sites rows losses s r found))
         ∙ ap (λ (m : FragmentSet). is_recoverable Wide (bits_set r.losses.missing.bits) && not (is_recoverable Wide m)) (fun_ext (with-domain r s found)))
 
   pub lost-first : (s : StripeNo) → IsFirstIn (lost_in (sited sites) (rows_in rows) u) s → IsFirstLostTo (stored_in store) u s

@@ -1,6 +1,6 @@
 -- Internal: no public clause reaches these definitions.
 -- What is kept of the stripes beside their homes: the masks of each row, and the stripes on each node.
-use Rattle.std.specs.Prelude.{◌≡◌, ℕ, ◌+◌, ◌-◌, Bool, true, false, List, [], ◌∷◌, ◌++◌, length, set, map, filter, drop, Option, Some, None, option_and_then}
+use Rattle.std.specs.Prelude.{◌≡◌, ℕ, ◌+◌, ◌-◌, Bool, true, false, List, [], ◌∷◌, ◌++◌, length, set, map, filter, drop, Option, Some, None, option_and_then, option_map}
 use Rattle.std.specs.Option.{option_map_or}
 use Rattle.std.specs.List.{list_any, flat_map, range_with_len}
 use Rattle.lrc_code.specs.declared.codes.Code.TheVariants.{Wide}
@@ -14,7 +14,7 @@ use Rattle.lrc_stripes.specs.declared.losses.Losses.{Losses}
 use Rattle.lrc_stripes.specs.declared.row.Row.{Row}
 use Rattle.lrc_stripes.specs.Stored.{StripeFragment, StripeLevel}
 use Rattle.lrc_stripes.specs.Rows.{sits_on, sits_at, is_on_seat}
-use Rattle.lrc_stripes.specs.Masks.{IsPutOn, AreLosses, work_rank, is_at, level_of}
+use Rattle.lrc_stripes.specs.Masks.{IsPutOn, AreKept, renewed, work_rank, is_at, level_of}
 use Rattle.lrc_stripes.specs.Sets.{at_rank, members_from}
 use Rattle.lrc_stripes.specs.Sites.{Sited}
 use Rattle.lrc_stripes.specs.Tables.{rows_in}
@@ -23,10 +23,18 @@ use Rattle.lrc_stripes.specs.Tables.{rows_in}
 abbrev pub is_row_on : NodeNo → Option Row → Bool
 is_row_on n o = option_map_or (λ r. list_any (sits_on n) r.homes) o false
 
--- The masks of each row are those of its homes, and the stripes of a node are those with a home there.
+-- The masks of each row are those of its homes, that of the missing ones where it has work, and the stripes of a node are those with a home there.
 pub record IsKept (sites : Sited) (rows : StripeNo → Option Row) : Type 0 where
-  pub losses : (s : StripeNo) (r : Row) → rows s ≡ Some r → AreLosses sites.online sites.draining r.homes r.losses
+  pub losses : (s : StripeNo) (r : Row) → rows s ≡ Some r → AreKept sites.online sites.draining r.homes r.losses
   pub listed : (n : NodeNo) (s : StripeNo) → sites.on n s ≡ is_row_on n (rows s)
+
+-- the row, where the mask of the missing fragments is as its homes are
+abbrev pub fresh : (NodeNo → Bool) → Row → Row
+fresh online r = record r { losses = renewed online r.homes r.losses }
+
+-- the rows, where these masks are so
+abbrev pub freshened : (NodeNo → Bool) → List (Option Row) → List (Option Row)
+freshened online rows = map (option_map (fresh online)) rows
 
 -- one of the row's fragments has its home on the seat
 abbrev pub holds : Seat → Option Row → Bool
@@ -60,10 +68,10 @@ pub record IsMissingOn (n : NodeNo) (are_missing : Bool) (before after : Row) : 
   pub needs : after.losses.needs ≡ before.losses.needs
 
 -- the row where the fragments with a home on the node need a lease or not, as told
-pub record IsToMoveOn (n : NodeNo) (are_to_move : Bool) (before after : Row) : Type 0 where
+pub record IsToMoveOn (online : NodeNo → Bool) (n : NodeNo) (are_to_move : Bool) (before after : Row) : Type 0 where
   pub homes : after.homes ≡ before.homes
   pub homeless : after.losses.homeless ≡ before.losses.homeless
-  pub missing : after.losses.missing ≡ before.losses.missing
+  pub missing : after.losses.missing ≡ (renewed online before.homes before.losses).missing
   pub needs : IsPutOn n are_to_move before.homes before.losses.needs after.losses.needs
 
 -- ---- the homes on a node

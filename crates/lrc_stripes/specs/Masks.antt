@@ -1,11 +1,11 @@
 -- Internal: no public clause reaches these definitions.
 -- The masks that a row keeps, and the ranks that follow from them.
-use Rattle.std.specs.Prelude.{◌≡◌, ℕ, ◌&&◌, Bool, false, if◌then◌else◌, nat_lt, nat_eq, List, get_or, Option, Some, None, is_none}
+use Rattle.std.specs.Prelude.{◌≡◌, ◌≢◌, ℕ, ◌&&◌, Bool, false, if◌then◌else◌, nat_lt, nat_eq, List, get_or, Option, Some, None, is_none}
 use Rattle.std.specs.Option.{option_map_or}
 use Rattle.lrc_code.specs.declared.codes.Code.TheVariants.{Wide}
 use Rattle.lrc_code.specs.declared.losses.LossMask.{LossMask}
 use Rattle.lrc_code.specs.declared.numbers.NodeNo.{NodeNo}
-use Rattle.lrc_code.specs.Losses.{bits_set}
+use Rattle.lrc_code.specs.Losses.{FragmentSet, bits_set, bits_of}
 use Rattle.lrc_topology.specs.declared.seat.Seat.{Seat}
 use Rattle.lrc_stripes.specs.declared.level.Level.{Level}
 use Rattle.lrc_stripes.specs.declared.losses.Losses.{Losses}
@@ -49,6 +49,20 @@ pub record AreLosses (online draining : NodeNo → Bool) (homes : List (Option S
   pub homeless : IsMaskOf is_none homes l.homeless
   pub missing : IsMaskOf (is_missing online) homes l.missing
   pub needs : IsMaskOf (is_to_move draining) homes l.needs
+
+-- the masks that are kept beside the homes: that of the missing ones where a fragment needs a lease, and the others
+pub record AreKept (online draining : NodeNo → Bool) (homes : List (Option Seat)) (l : Losses) : Type 0 where
+  pub homeless : IsMaskOf is_none homes l.homeless
+  pub missing : l.needs.bits ≢ 0 → IsMaskOf (is_missing online) homes l.missing
+  pub needs : IsMaskOf (is_to_move draining) homes l.needs
+
+-- the fragments of these homes that are missing
+abbrev pub missing_of : (NodeNo → Bool) → List (Option Seat) → FragmentSet
+missing_of online homes f = nat_lt f 16 && is_missing online (get_or homes f None)
+
+-- the masks, where that of the missing ones is as the homes are
+abbrev pub renewed : (NodeNo → Bool) → List (Option Seat) → Losses → Losses
+renewed online homes l = record l { missing = record { bits = bits_of Wide (missing_of online homes) } }
 
 -- ---- ranks
 

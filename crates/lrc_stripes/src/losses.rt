@@ -1,5 +1,5 @@
 ghost use Rattle.std.specs.Prelude.{◌≡◌, ◌<◌, ◌≤◌, IfSome};
-ghost use Rattle.lrc_stripes.specs.Rows.{is_missing, is_to_move};
+ghost use Rattle.lrc_stripes.specs.Rows.{is_to_move};
 ghost use Rattle.lrc_stripes.specs.Sites.{sited};
 ghost use Rattle.lrc_stripes.specs.Masks.{AreAll, AreWith, level_of, rank_of, work_rank, risk_rank};
 
@@ -35,7 +35,7 @@ impl Losses {
         let one = LossMask::from_bits(0).with(fragment);
         Losses {
             homeless: masks::put(self.homeless, one, home.is_none()),
-            missing: masks::put(self.missing, one, is_missing(sites, home)),
+            missing: masks::put(self.missing, one, masks::is_missing(sites, home)),
             needs: masks::put(self.needs, one, is_to_move(sites, home)),
         }
     }
@@ -94,16 +94,6 @@ impl Losses {
         ensures few { result ≤ 4 }
     {
         self.missing.margin().unwrap_or(4)
-    }
-}
-
-/// Whether a fragment with this home, if it has one, is missing.
-fn is_missing(sites: &Sites, home: Option<Seat>) -> bool
-    ensures { result ≡ is_missing (sited sites.now).online home }
-{
-    match home {
-        Some(seat) => !sites.is_online(seat.node),
-        None => true,
     }
 }
 

@@ -1,10 +1,14 @@
 //! Masks of fragments, by the nodes that the fragments' homes are on.
 
 ghost use Rattle.std.specs.Prelude.{◌≡◌, ℕ, if◌then◌else◌, ◌&&◌, nat_lt, get_or, length, None};
-ghost use Rattle.lrc_code.specs.Losses.{bits_set};
-ghost use Rattle.lrc_stripes.specs.Rows.{sits_on};
+ghost use Rattle.lrc_code.specs.declared.codes.Code.TheVariants.{Wide};
+ghost use Rattle.lrc_code.specs.Losses.{bits_set, bits_of};
+ghost use Rattle.lrc_stripes.specs.Rows.{sits_on, is_missing};
+ghost use Rattle.lrc_stripes.specs.Sites.{sited};
+ghost use Rattle.lrc_stripes.specs.Masks.{missing_of};
 
 use crate::Seat;
+use crate::sites::Sites;
 use lrc_code::{Fragment, LossMask, NodeNo};
 
 /// The fragments whose homes are on the node.
@@ -19,6 +23,30 @@ pub(crate) fn fragments_on(homes: &[Option<Seat>; 16], node: NodeNo) -> LossMask
         }
     }
     mask
+}
+
+/// The fragments that have no home, or one on a node that is not online.
+pub(crate) fn missing_of(homes: &[Option<Seat>; 16], sites: &Sites) -> LossMask
+    requires { length homes.now ≡ 16 }
+    ensures { result.bits ≡ bits_of Wide (missing_of (sited sites.now).online homes.now) }
+{
+    let mut mask = LossMask::from_bits(0);
+    for fragment in Fragment::all() {
+        if is_missing(sites, homes[fragment.value as usize]) {
+            mask = mask.with(fragment);
+        }
+    }
+    LossMask::from_bits(mask.bits())
+}
+
+/// Whether a fragment with this home, if it has one, is missing.
+pub(crate) fn is_missing(sites: &Sites, home: Option<Seat>) -> bool
+    ensures { result ≡ is_missing (sited sites.now).online home }
+{
+    match home {
+        Some(seat) => !sites.is_online(seat.node),
+        None => true,
+    }
 }
 
 /// The mask with all of these fragments or without them, as told.

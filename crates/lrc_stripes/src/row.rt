@@ -4,7 +4,7 @@ ghost use Rattle.lrc_code.specs.declared.codes.Code.TheVariants.{Wide};
 ghost use Rattle.lrc_code.specs.Codes.{fragments};
 ghost use Rattle.lrc_stripes.specs.Rows.{sits_on, sits_at, is_on_seat};
 ghost use Rattle.lrc_stripes.specs.Sites.{sited};
-ghost use Rattle.lrc_stripes.specs.Masks.{AreAll, AreWith, IsPutOn};
+ghost use Rattle.lrc_stripes.specs.Masks.{AreAll, AreWith, IsPutOn, renewed};
 
 use crate::losses::Losses;
 use crate::sites::Sites;
@@ -34,12 +34,21 @@ impl Row {
     /// The same, where a fragment has this home or none.
     pub(crate) fn with_home(self, sites: &Sites, fragment: Fragment, home: Option<Seat>) -> Row
         ensures homes { result.homes ≡ set self.homes fragment.value home }
-        ensures losses { AreWith (sited sites.now) fragment.value home self.losses result.losses }
+        ensures losses { AreWith (sited sites.now) fragment.value home (renewed (sited sites.now).online self.homes self.losses) result.losses }
     {
         let mut row = self;
         row.homes[fragment.value as usize] = home;
-        row.losses = self.losses.with_home(sites, fragment, home);
+        row.losses = self.losses_now(sites).with_home(sites, fragment, home);
         row
+    }
+
+    /// Its losses, where the mask of the missing fragments is as its homes are.
+    pub(crate) fn losses_now(&self, sites: &Sites) -> Losses
+        ensures { result ≡ renewed (sited sites.now).online self.now.homes self.now.losses }
+    {
+        let mut losses = self.losses;
+        losses.missing = masks::missing_of(&self.homes, sites);
+        losses
     }
 
     /// Its losses, where the fragments with a home on the node are missing or not, as told.
@@ -57,13 +66,13 @@ impl Row {
         losses
     }
 
-    /// Its losses, where the fragments with a home on the node need a lease or not, as told.
-    pub(crate) fn with_needs(&self, node: NodeNo, are_to_move: bool) -> Losses
+    /// Its losses as its homes are, where the fragments with a home on the node need a lease or not, as told.
+    pub(crate) fn with_needs(&self, sites: &Sites, node: NodeNo, are_to_move: bool) -> Losses
         ensures homeless { result.homeless ≡ self.now.losses.homeless }
-        ensures missing { result.missing ≡ self.now.losses.missing }
+        ensures missing { result.missing ≡ (renewed (sited sites.now).online self.now.homes self.now.losses).missing }
         ensures needs { IsPutOn node are_to_move self.now.homes self.now.losses.needs result.needs }
     {
-        let mut losses = self.losses;
+        let mut losses = self.losses_now(sites);
         losses.needs = masks::put(
             losses.needs,
             masks::fragments_on(&self.homes, node),

@@ -1,15 +1,17 @@
-ghost use Rattle.std.specs.Prelude.{◌≡◌, ℕ, ◌≤◌, if◌then◌else◌, length, get_or, option_and_then, replicate, None, IfOk, IfErr, IfSome};
+ghost use Rattle.std.specs.Prelude.{◌≡◌, ℕ, ◌≤◌, if◌then◌else◌, length, get_or, option_and_then, replicate, Some, None, false, IfOk, IfErr, IfSome};
 ghost use Rattle.std.specs.Option.{option_copied};
 ghost use Rattle.lrc_code.specs.Numbers.{same_stripe};
+ghost use Rattle.lrc_code.specs.declared.numbers.StripeNo.{StripeNo as AnyStripe};
+ghost use Rattle.lrc_stripes.specs.declared.row.Row.{Row as AnyRow};
 ghost use Rattle.lrc_code.specs.declared.fault.Fault.TheVariants.{OutOfMemory};
 ghost use Rattle.lrc_stripes.specs.Masks.{work_rank, risk_rank};
 ghost use Rattle.lrc_stripes.specs.Sets.{FindsNext};
 ghost use Rattle.lrc_stripes.specs.Sites.{sited};
 ghost use Rattle.lrc_stripes.specs.Tables.{rows_in};
-ghost use Rattle.lrc_stripes.specs.Kept.{queue_from, queued, level_in, holds, AreRenewed, IsRenewed, IsWithLosses, IsSeated, IsMissingOn, IsToMoveOn};
+ghost use Rattle.lrc_stripes.specs.Kept.{queue_from, queued, freshened, level_in, holds, AreRenewed, IsRenewed, IsWithLosses, IsSeated, IsMissingOn, IsToMoveOn};
 
 use crate::losses::Losses;
-use crate::queue::Queue;
+use crate::queue::{Queue, RANKS};
 use crate::ranked::Ranked;
 use crate::risky::Risky;
 use crate::row::Row;
@@ -125,12 +127,12 @@ impl Rows {
 
     /// Sets whether the fragments with a home on the node need a lease.
     pub(crate) fn renew_needs(&mut self, sites: &Sites, node: NodeNo, are_to_move: bool)
-        ensures { AreRenewed ((sited sites.now).on node) (IsToMoveOn node are_to_move) (rows_in self.old) (rows_in self.new) }
+        ensures { AreRenewed ((sited sites.now).on node) (IsToMoveOn (sited sites.now).online node are_to_move) (rows_in self.old) (rows_in self.new) }
     {
         let mut from = 0;
         while let Some(stripe) = sites.first_on(node, from) {
             if let Some(row) = self.get(stripe) {
-                let losses = row.with_needs(node, are_to_move);
+                let losses = row.with_needs(sites, node, are_to_move);
                 self.set_losses(stripe, losses);
             }
             from = stripe.value as usize + 1;
@@ -138,13 +140,25 @@ impl Rows {
     }
 
     /// The level of a stripe; that of a whole one where it is not there.
-    pub(crate) fn level(&self, stripe: StripeNo) -> Level
-        ensures { result ≡ level_in (rows_in self.now stripe) }
+    pub(crate) fn level(&self, sites: &Sites, stripe: StripeNo) -> Level
+        ensures { result ≡ level_in (rows_in (freshened (sited sites.now).online self.now) stripe) }
     {
         match self.get(stripe) {
-            Some(row) => row.losses.level(),
+            Some(row) => row.losses_now(sites).level(),
             None => Level::Whole,
         }
+    }
+
+    /// Whether a stripe has work.
+    pub(crate) fn has_work(&self) -> bool
+        ensures { result ≡ false → (s : AnyStripe) (r : AnyRow) → rows_in self.now s ≡ Some r → r.losses.needs.bits ≡ 0 }
+    {
+        for rank in 0..RANKS {
+            if self.work.first_from(rank, 0).is_some() {
+                return true;
+            }
+        }
+        false
     }
 
     /// The stripes that have work, in the order of repair.
@@ -155,22 +169,22 @@ impl Rows {
     }
 
     /// The stripes with a missing fragment, in the order of repair.
-    pub(crate) fn at_risk(&self) -> Risky<'_>
-        ensures { result ≡ queue_from (queued risk_rank (rows_in self.now)) 0 0 }
+    pub(crate) fn at_risk<'a>(&'a self, sites: &'a Sites) -> Risky<'a>
+        ensures { result ≡ queue_from (queued risk_rank (rows_in (freshened (sited sites.now).online self.now))) 0 0 }
     {
-        Risky::new(self)
+        Risky::new(sites, self)
     }
 
     /// The first stripe from this number on that has a missing fragment and is of this rank.
-    pub(crate) fn first_at_risk(&self, rank: usize, from: usize) -> Option<StripeNo>
+    pub(crate) fn first_at_risk(&self, sites: &Sites, rank: usize, from: usize) -> Option<StripeNo>
         requires { rank ≤ 4 }
-        ensures { FindsNext (queued risk_rank (rows_in self.now) rank) from result }
+        ensures { FindsNext (queued risk_rank (rows_in (freshened (sited sites.now).online self.now)) rank) from result }
     {
         for number in from..STRIPES {
             let stripe = StripeNo {
                 value: number as u16,
             };
-            if self.is_at_risk(stripe, rank as u8) {
+            if self.is_at_risk(sites, stripe, rank as u8) {
                 return Some(stripe);
             }
         }
@@ -178,11 +192,11 @@ impl Rows {
     }
 
     /// Whether a stripe has a missing fragment and is of this rank.
-    fn is_at_risk(&self, stripe: StripeNo, rank: u8) -> bool
-        ensures { result ≡ queued risk_rank (rows_in self.now) rank stripe }
+    fn is_at_risk(&self, sites: &Sites, stripe: StripeNo, rank: u8) -> bool
+        ensures { result ≡ queued risk_rank (rows_in (freshened (sited sites.now).online self.now)) rank stripe }
     {
         match self.get(stripe) {
-            Some(row) => row.losses.risk_rank() == Some(rank),
+            Some(row) => row.losses_now(sites).risk_rank() == Some(rank),
             None => false,
         }
     }

@@ -157,7 +157,7 @@ impl Stripes {
         ensures { result ≡ missing_shown (stored_in self.now) stripe }
     {
         let row = self.rows.get(stripe)?;
-        Some(row.losses.missing())
+        Some(row.losses_now(&self.sites).missing())
     }
 
     /// The fragments of a stripe that need a lease: those that have no home, or one on a draining node; `None` where
@@ -174,7 +174,7 @@ impl Stripes {
         ensures { result ≡ level_shown (stored_in self.now) stripe }
     {
         let row = self.rows.get(stripe)?;
-        Some(row.losses.level())
+        Some(row.losses_now(&self.sites).level())
     }
 
     /// The stripe of the least number that is recoverable now, and would not be with the nodes of this upgrade domain
@@ -193,7 +193,9 @@ impl Stripes {
     {
         if self.sites.is_online(node) == is_offline {
             self.sites.set_offline(node, is_offline);
-            self.rows.renew_missing(&self.sites, node, is_offline);
+            if self.rows.has_work() {
+                self.rows.renew_missing(&self.sites, node, is_offline);
+            }
         }
     }
 
@@ -226,7 +228,7 @@ impl Stripes {
     pub fn at_risk(&self) -> AtRisk<'_>
         ensures { AreAtRisk (stored_in self.now) result }
     {
-        AtRisk::new(&self.rows)
+        AtRisk::new(&self.sites, &self.rows)
     }
 
     /// Whether the store has a node of this number.

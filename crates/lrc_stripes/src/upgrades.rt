@@ -4,7 +4,7 @@ ghost use Rattle.std.specs.Prelude.{◌≡◌, ℕ, ◌&&◌, ◌||◌, nat_lt, 
 ghost use Rattle.lrc_code.specs.Losses.{bits_set};
 ghost use Rattle.lrc_stripes.specs.Sites.{sited};
 ghost use Rattle.lrc_stripes.specs.Tables.{rows_in};
-ghost use Rattle.lrc_stripes.specs.Kept.{IsKept};
+ghost use Rattle.lrc_stripes.specs.Kept.{IsKept, fresh, freshened};
 ghost use Rattle.lrc_stripes.specs.Looming.{is_home_in, is_row_lost, lost_in, IsFirstIn};
 
 use crate::Seat;
@@ -15,9 +15,9 @@ use lrc_code::{Fragment, LossMask, StripeNo, UpgradeNo};
 
 /// The first of the stripes that is recoverable, and would not be with the nodes of the domain offline.
 pub(crate) fn first_lost(sites: &Sites, rows: &Rows, domain: UpgradeNo) -> Option<StripeNo>
-    requires { IsKept (sited sites.now) (rows_in rows.now) }
-    ensures found { IfSome result (IsFirstIn (lost_in (sited sites.now) (rows_in rows.now) domain)) }
-    ensures none { IfNone result ((s : StripeNo) → IsFalse (lost_in (sited sites.now) (rows_in rows.now) domain s)) }
+    requires { IsKept (sited sites.now) (rows_in (freshened (sited sites.now).online rows.now)) }
+    ensures found { IfSome result (IsFirstIn (lost_in (sited sites.now) (rows_in (freshened (sited sites.now).online rows.now)) domain)) }
+    ensures none { IfNone result ((s : StripeNo) → IsFalse (lost_in (sited sites.now) (rows_in (freshened (sited sites.now).online rows.now)) domain s)) }
 {
     let near = sites.stripes_in(domain);
     let mut from = 0;
@@ -34,17 +34,17 @@ pub(crate) fn first_lost(sites: &Sites, rows: &Rows, domain: UpgradeNo) -> Optio
 
 /// Whether the stripe is recoverable, and would not be with the nodes of the domain offline.
 fn is_lost_to(sites: &Sites, domain: UpgradeNo, row: &Row) -> bool
-    ensures { result ≡ is_row_lost (sited sites.now) domain row.now }
+    ensures { result ≡ is_row_lost (sited sites.now) domain (fresh (sited sites.now).online row.now) }
 {
-    let missing = row.losses.missing;
-    missing.recoverable() && !missing_without(sites, domain, row).recoverable()
+    let missing = row.losses_now(sites).missing;
+    missing.recoverable() && !missing_without(sites, domain, row, missing).recoverable()
 }
 
-/// The fragments that are missing, and those with a home on a node of the domain.
-fn missing_without(sites: &Sites, domain: UpgradeNo, row: &Row) -> LossMask
-    ensures { (f : ℕ) → bits_set result.bits f ≡ (bits_set row.now.losses.missing.bits f || (nat_lt f 16 && is_home_in (sited sites.now).nodes domain (get_or row.now.homes f None))) }
+/// These missing fragments, and those with a home on a node of the domain.
+fn missing_without(sites: &Sites, domain: UpgradeNo, row: &Row, missing: LossMask) -> LossMask
+    ensures { (f : ℕ) → bits_set result.bits f ≡ (bits_set missing.bits f || (nat_lt f 16 && is_home_in (sited sites.now).nodes domain (get_or row.now.homes f None))) }
 {
-    let mut mask = row.losses.missing;
+    let mut mask = missing;
     for fragment in Fragment::all() {
         if is_home_in(sites, domain, row.homes[fragment.value as usize]) {
             mask = mask.with(fragment);

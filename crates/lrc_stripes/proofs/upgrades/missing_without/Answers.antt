@@ -12,7 +12,7 @@ loop-fragment-preserved c =
     let i = c.loop-fragment.fragment-index in
     let row = c.args.row.now in
     let m : ℕ → Bool = λ f. is_home_in (sited c.args.sites.now).nodes c.args.domain (get_or row.homes f None) in
-    let base : ℕ → Bool = bits_set row.losses.missing.bits in
+    let base : ℕ → Bool = bits_set c.args.missing.bits in
     let number = item-number c.all-fragment-items.result i c.fragment-item.result c.all-fragment-items.ensures c.loop-fragment-test.true in
     let here : m i ≡ c.is_home_in.result = ap m (sym number) ∙ sym c.is_home_in.ensures in
     elim c.if-is_home_in.branch [

@@ -8,12 +8,12 @@ use Rattle.lrc_stripes.proofs.rows.Rows.renew_needs.Goals as goal
 use Rattle.lrc_stripes.proofs.rows.Rows.renew_needs.Goals.{in-Some-get, in_default-get}
 
 pub loop-stripe-init : goal.loop-stripe-init
-loop-stripe-init c = renewed-first ((sited c.args.sites.now).on c.args.node) (IsToMoveOn c.args.node c.args.are_to_move) (rows_in c.args.self.now)
+loop-stripe-init c = renewed-first ((sited c.args.sites.now).on c.args.node) (IsToMoveOn (sited c.args.sites.now).online c.args.node c.args.are_to_move) (rows_in c.args.self.now)
 
 pub loop-stripe-preserved : goal.loop-stripe-preserved
 loop-stripe-preserved c =
     let set = (sited c.args.sites.now).on c.args.node in
-    let Renews = IsToMoveOn c.args.node c.args.are_to_move in
+    let Renews = IsToMoveOn (sited c.args.sites.now).online c.args.node c.args.are_to_move in
     let before = rows_in c.args.self.now in
     let now = rows_in c.loop-stripe.self in
     let s = c.in-Some.stripe in
@@ -25,12 +25,12 @@ loop-stripe-preserved c =
           let changed = w.set_losses.ensures in
           rw w.self-is (renewed-one set Renews before (IsWithLosses losses) now (rows_in w.set_losses.new.self) c.loop-stripe.from s row c.in-Some.ensures c.loop-stripe.invariant
           (sym c.get.ensures ∙ ap option_copied w.in-Some-get.is) (record { listed = changed.listed; others = changed.others })
-          (λ q is. to_move_on-put c.args.node c.args.are_to_move losses row q e.homeless e.missing e.needs is))
+          (λ q is. to_move_on-put (sited c.args.sites.now).online c.args.node c.args.are_to_move losses row q e.homeless e.missing e.needs is))
       | in_default-get w ↦
           rw w.self-is (renewed-absent set Renews before now c.loop-stripe.from s c.in-Some.ensures c.loop-stripe.invariant (sym c.get.ensures ∙ ap option_copied w.in_default-get.is))
     ]
 
 pub returns : goal.returns
 returns c =
-    renewed-all ((sited c.args.sites.now).on c.args.node) (IsToMoveOn c.args.node c.args.are_to_move) (rows_in c.args.self.now) (rows_in c.loop-stripe.self) c.loop-stripe.from
+    renewed-all ((sited c.args.sites.now).on c.args.node) (IsToMoveOn (sited c.args.sites.now).online c.args.node c.args.are_to_move) (rows_in c.args.self.now) (rows_in c.loop-stripe.self) c.loop-stripe.from
     c.in_default.ensures c.loop-stripe.invariant

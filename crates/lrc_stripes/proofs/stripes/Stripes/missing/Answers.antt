@@ -11,4 +11,5 @@ returns-in_err-row c =
 pub returns : goal.returns
 returns c =
     let s = c.self.inside in
-    rw (c.missing.ensures.value, ← c.self.view_is) (sym (missing_shown-there s.sites s.rows s.spare c.self.invariant c.args.stripe c.in_ok-row.row.now (let few = c.missing.ensures.few in rw c.missing.ensures.value at few) (sym c.get.ensures ∙ ap option_copied c.in_ok-row.was)))
+    rw (c.missing.ensures.value, c.losses_now.ensures, ← c.self.view_is)
+    (sym (missing_shown-there s.sites s.rows s.spare c.self.invariant c.args.stripe c.in_ok-row.row.now (sym c.get.ensures ∙ ap option_copied c.in_ok-row.was)))

@@ -1,6 +1,6 @@
 use Rattle.lrc_stripes.specs.Sites.{sited}
 use Rattle.lrc_stripes.specs.Tables.{stored_in}
-use Rattle.lrc_stripes.proofs.RenewLemmas.{kept-offline, stored-offline}
+use Rattle.lrc_stripes.proofs.RenewLemmas.{kept-offline, stored-offline, stored-idle}
 use Rattle.lrc_stripes.proofs.StoredLemmas.{offline-stays}
 use Rattle.lrc_stripes.proofs.stripes.Stripes.set_offline.Goals as goal
 
@@ -14,12 +14,18 @@ invariant_of-self c =
     let e = c.renew_missing.ensures in
     kept-offline s.sites c.set_offline.new.self s.rows c.renew_missing.new.self s.spare c.self.invariant c.args.node c.args.is_offline c.set_offline.ensures (record { listed = e.listed; others = e.others })
 
-pub returns-then-is_online-is_offline : goal.returns-then-is_online-is_offline
-returns-then-is_online-is_offline c =
+pub returns-then-has_work : goal.returns-then-has_work
+returns-then-has_work c =
     let s = c.self.inside in
     let e = c.renew_missing.ensures in
     rw (← c.self.view_is)
     (stored-offline s.sites c.set_offline.new.self s.rows c.renew_missing.new.self s.spare c.self.invariant c.args.node c.args.is_offline c.set_offline.ensures (record { listed = e.listed; others = e.others }))
+
+pub returns-else-has_work : goal.returns-else-has_work
+returns-else-has_work c =
+    let s = c.self.inside in
+    rw (← c.self.view_is)
+    (stored-idle s.sites c.set_offline.new.self s.rows s.rows s.spare c.self.invariant c.args.node c.args.is_offline c.set_offline.ensures (λ x q there. c.has_work.ensures c.if-has_work.false x q there))
 
 pub returns-else-is_online-is_offline : goal.returns-else-is_online-is_offline
 unfolding stored_in sited

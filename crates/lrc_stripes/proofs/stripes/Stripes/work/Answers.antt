@@ -1,8 +1,8 @@
-use Rattle.lrc_stripes.proofs.RepairLemmas.{kept-losses, are_work}
+use Rattle.lrc_stripes.proofs.NowLemmas.{are_work-now}
 use Rattle.lrc_stripes.proofs.stripes.Stripes.work.Goals as goal
 
 pub returns : goal.returns
 returns c =
     let s = c.self.inside in
     rw (c.new.ensures, c.work.ensures, ← c.self.view_is)
-    (are_work (record { sites = s.sites.list; rows = s.rows; spare = s.spare }) (kept-losses s.sites s.rows c.self.invariant))
+    (are_work-now s.sites s.rows s.spare c.self.invariant)

@@ -1,0 +1,90 @@
+-- Rows whose masks of missing fragments are as their homes are.
+use Rattle.std.proofs.Common.{◌≡◌, ◌≢◌, ℕ, zero, suc, ◌<◌, inl, inr, Bool, true, false, ◌&&◌, nat_lt, nat_eq, List, [], ◌∷◌, map, get_or, Option, Some, None, option_map, option_and_then, refl, sym, ap, ◌∙◌, subst}
+use Rattle.std.proofs.Math.Path.{fun_ext}
+use Rattle.std.specs.Int.{bit_at}
+use Rattle.std.proofs.lemmas.Bool.{cases_Bool, cases_lt, le-ltb, eqb-false}
+use Rattle.std.proofs.lemmas.Nat.Bits.{bit_at_above}
+use Rattle.std.proofs.lemmas.Option.{same_Some}
+use Rattle.lrc_code.specs.declared.codes.Code.TheVariants.{Wide}
+use Rattle.lrc_code.specs.declared.numbers.StripeNo.{StripeNo}
+use Rattle.lrc_code.specs.declared.numbers.NodeNo.{NodeNo}
+use Rattle.lrc_code.specs.Losses.{bits_set, bits_of}
+use Rattle.lrc_code.proofs.BitsLemmas.{bits_set-bits_of, bits_of-below}
+use Rattle.lrc_topology.specs.declared.seat.Seat.{Seat}
+use Rattle.lrc_stripes.specs.declared.row.Row.{Row}
+use Rattle.lrc_stripes.specs.declared.losses.Losses.{Losses}
+use Rattle.lrc_stripes.specs.Levels.{rank_by}
+use Rattle.lrc_stripes.specs.Sites.{Sited}
+use Rattle.lrc_stripes.specs.Tables.{rows_in}
+use Rattle.lrc_stripes.specs.Rows.{is_missing}
+use Rattle.lrc_stripes.specs.Masks.{IsMaskOf, AreLosses, AreKept, missing_of, renewed, rank_of, work_rank, is_at}
+use Rattle.lrc_stripes.specs.Kept.{IsKept, is_row_on, fresh, freshened, queued}
+
+-- the mask of the missing fragments has them
+pub mask-is : (online : NodeNo → Bool) (homes : List (Option Seat)) (f : ℕ) → bits_set (bits_of Wide (missing_of online homes)) f ≡ (nat_lt f 16 && is_missing online (get_or homes f None))
+mask-is online homes f = elim (cases_lt f 16) [
+  | inl within ↦ bits_set-bits_of Wide (missing_of online homes) f within
+  | inr past ↦
+      let none : bit_at (bits_of Wide (missing_of online homes)) f ≡ 0 = bit_at_above (bits_of Wide (missing_of online homes)) 16 f (bits_of-below Wide (missing_of online homes)) past in
+      rw (le-ltb f 16 past, none) refl
+]
+
+-- what is kept of a row is exact where the missing ones are
+pub loosened : (online draining : NodeNo → Bool) (homes : List (Option Seat)) (l : Losses) → AreLosses online draining homes l → AreKept online draining homes l
+loosened online draining homes l are = record { homeless = are.homeless; missing = λ some. are.missing; needs = are.needs }
+
+pub renewed-exact : (online draining : NodeNo → Bool) (homes : List (Option Seat)) (l : Losses) → AreKept online draining homes l → AreLosses online draining homes (renewed online homes l)
+renewed-exact online draining homes l are = record { homeless = are.homeless; missing = mask-is online homes; needs = are.needs }
+
+-- ---- the rows
+
+get_or-mapped : (f : Option Row → Option Row) → f None ≡ None → (xs : List (Option Row)) (i : ℕ) → get_or (map f xs) i None ≡ f (get_or xs i None)
+get_or-mapped f none [] i = sym none
+get_or-mapped f none (x ∷ xs) zero = refl
+get_or-mapped f none (x ∷ xs) (suc i) = get_or-mapped f none xs i
+
+pub freshened-at : (online : NodeNo → Bool) (list : List (Option Row)) (s : StripeNo) → rows_in (freshened online list) s ≡ option_map (fresh online) (rows_in list s)
+freshened-at online list s = get_or-mapped (option_map (fresh online)) refl list s.value
+
+pub freshened-there : (online : NodeNo → Bool) (list : List (Option Row)) (s : StripeNo) (r : Row) → rows_in list s ≡ Some r → rows_in (freshened online list) s ≡ Some (fresh online r)
+freshened-there online list s r found = freshened-at online list s ∙ ap (option_map (fresh online)) found
+
+pub freshened-absent : (online : NodeNo → Bool) (list : List (Option Row)) (s : StripeNo) → rows_in list s ≡ None → rows_in (freshened online list) s ≡ None
+freshened-absent online list s none = freshened-at online list s ∙ ap (option_map (fresh online)) none
+
+abbrev at : ℕ → Option Row → Bool
+at k o = is_at k (option_and_then (λ r. work_rank r.losses) o)
+
+module _ (sites : Sited) (list : List (Option Row)) (kept : IsKept sites (rows_in list)) where
+  pub fresh-losses : (s : StripeNo) (r : Row) → rows_in (freshened sites.online list) s ≡ Some r → AreLosses sites.online sites.draining r.homes r.losses
+  fresh-losses s r found = by (rows_in list s) refl where
+    by : (o : Option Row) → rows_in list s ≡ o → AreLosses sites.online sites.draining r.homes r.losses
+    by None none = absurd (let clash : None ≡ Some r = sym (freshened-absent sites.online list s none) ∙ found in cc)
+    by (Some q) there =
+        subst (λ (x : Row). AreLosses sites.online sites.draining x.homes x.losses) (same_Some (fresh sites.online q) r (sym (freshened-there sites.online list s q there) ∙ found))
+        (renewed-exact sites.online sites.draining q.homes q.losses (kept.losses s q there))
+
+  pub kept-fresh : IsKept sites (rows_in (freshened sites.online list))
+  kept-fresh = record {
+    losses = λ s r found. loosened sites.online sites.draining r.homes r.losses (fresh-losses s r found);
+    listed = λ n s. kept.listed n s ∙ sym (ap (is_row_on n) (freshened-at sites.online list s) ∙ on-fresh n (rows_in list s));
+  } where
+    on-fresh : (n : NodeNo) (o : Option Row) → is_row_on n (option_map (fresh sites.online) o) ≡ is_row_on n o
+    on-fresh n None = refl
+    on-fresh n (Some q) = refl
+
+  -- the ranks of the stripes that have work are exact
+  pub fresh-work : queued work_rank (rows_in list) ≡ queued work_rank (rows_in (freshened sites.online list))
+  fresh-work = fun_ext (λ k. fun_ext (λ s. by k s (rows_in list s) refl)) where
+    same : (k : ℕ) (s : StripeNo) (q : Row) → rows_in list s ≡ Some q → at k (Some q) ≡ at k (Some (fresh sites.online q))
+    same k s q there = elim (cases_Bool (nat_eq q.losses.needs.bits 0)) [
+      | inl none ↦ rw none refl
+      | inr some ↦
+          let exact = (kept.losses s q there).missing (eqb-false _ _ some) in
+          let rank : rank_of q.losses ≡ rank_of (renewed sites.online q.homes q.losses) = ap (rank_by Wide) (fun_ext (λ f. exact f ∙ sym (mask-is sites.online q.homes f))) in
+          rw some (ap (λ (n : ℕ). nat_eq n k) rank)
+    ]
+
+    by : (k : ℕ) (s : StripeNo) (o : Option Row) → rows_in list s ≡ o → at k (rows_in list s) ≡ at k (rows_in (freshened sites.online list) s)
+    by k s None none = ap (at k) none ∙ sym (ap (at k) (freshened-absent sites.online list s none))
+    by k s (Some q) there = ap (at k) there ∙ (same k s q there ∙ sym (ap (at k) (freshened-there sites.online list s q there)))
