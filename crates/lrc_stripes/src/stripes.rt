@@ -157,6 +157,9 @@ impl Stripes {
         ensures { result ≡ missing_shown (stored_in self.now) stripe }
     {
         let row = self.rows.get(stripe)?;
+        if row.losses.needs().bits() != 0 {
+            return Some(row.losses.missing());
+        }
         Some(row.losses_now(&self.sites).missing())
     }
 
