@@ -1,5 +1,5 @@
 -- Rows whose masks of missing fragments are as their homes are.
-use Rattle.std.proofs.Common.{◌≡◌, ◌≢◌, ℕ, zero, suc, ◌<◌, inl, inr, Bool, true, false, ◌&&◌, nat_lt, nat_eq, List, [], ◌∷◌, map, get_or, Option, Some, None, option_map, option_and_then, refl, sym, ap, ◌∙◌, subst}
+use Rattle.std.proofs.Common.{◌≡◌, ℕ, zero, suc, inl, inr, Bool, ◌&&◌, nat_lt, nat_eq, List, [], ◌∷◌, map, get_or, Option, Some, None, option_map, option_and_then, refl, sym, ap, ◌∙◌, subst}
 use Rattle.std.proofs.Math.Path.{fun_ext}
 use Rattle.std.specs.Int.{bit_at}
 use Rattle.std.proofs.lemmas.Bool.{cases_Bool, cases_lt, le-ltb, eqb-false}
@@ -17,7 +17,7 @@ use Rattle.lrc_stripes.specs.Levels.{rank_by}
 use Rattle.lrc_stripes.specs.Sites.{Sited}
 use Rattle.lrc_stripes.specs.Tables.{rows_in}
 use Rattle.lrc_stripes.specs.Rows.{is_missing}
-use Rattle.lrc_stripes.specs.Masks.{IsMaskOf, AreLosses, AreKept, missing_of, renewed, rank_of, work_rank, is_at}
+use Rattle.lrc_stripes.specs.Masks.{AreLosses, AreKept, missing_of, renewed, rank_of, work_rank, is_at}
 use Rattle.lrc_stripes.specs.Kept.{IsKept, is_row_on, fresh, freshened, queued}
 
 -- the mask of the missing fragments has them

@@ -1,4 +1,4 @@
-use Rattle.std.proofs.Common.{◌≡◌, ℕ, Bool, ◌&&◌, ◌||◌, nat_lt, get_or, None, ap, ◌∙◌}
+use Rattle.std.proofs.Common.{◌&&◌, ◌||◌, nat_lt, get_or, None, ap, ◌∙◌}
 use Rattle.lrc_code.specs.declared.codes.Code.TheVariants.{Wide}
 use Rattle.lrc_code.specs.Losses.{bits_set, is_recoverable}
 use Rattle.lrc_stripes.specs.declared.losses.Losses.{Losses}
