@@ -1,13 +1,15 @@
 // Each function of lrc_embed.h with each of its statuses, from C. tests/embed builds and runs it, also where memory is
 // refused: a call that memory was refused to has changed nothing, and is made again.
-// Usage: embed [full], with `full` also until the history is full.
+// Usage: embed [full], with `full` also until the history is full. It prints how many requests for memory there were. With
+// REFUSE=N in the environment the Nth of them is refused, from 1, and with REFUSE_FROM=N the Nth and all later ones.
 #include "lrc_embed.h"
 
 #include <stdio.h>
 #include <stdlib.h>
 #include <string.h>
 
-// The linker puts these between the library and the C library (--wrap), to count the blocks that are held.
+// The linker puts these between the library and the C library (--wrap), to count the blocks that are held and to refuse
+// requests.
 extern void *__real_malloc(size_t);
 extern void *__real_realloc(void *, size_t);
 extern void __real_free(void *);
@@ -16,15 +18,21 @@ void *__wrap_realloc(void *, size_t);
 void __wrap_free(void *);
 
 static long held;
+static unsigned long requests, refuse, refuse_from;
+
+static bool refuses_this(void) {
+    requests++;
+    return requests == refuse || (refuse_from != 0 && requests >= refuse_from);
+}
 
 void *__wrap_malloc(size_t size) {
-    void *block = __real_malloc(size);
+    void *block = refuses_this() ? 0 : __real_malloc(size);
     held += block != 0;
     return block;
 }
 
 void *__wrap_realloc(void *old, size_t size) {
-    void *block = __real_realloc(old, size);
+    void *block = refuses_this() ? 0 : __real_realloc(old, size);
     held += block != 0 && old == 0;
     return block;
 }
@@ -334,7 +342,13 @@ static void fill(void) {
     WANT(lrc_embed_count(&handle, &position) == LRC_IS_CLOSED);
 }
 
+static unsigned long asked(const char *name) {
+    const char *text = getenv(name);
+    return text ? strtoul(text, 0, 10) : 0;
+}
+
 int main(int argc, char **argv) {
+    refuse = asked("REFUSE"), refuse_from = asked("REFUSE_FROM");
     WANT(lrc_embed_version() == LRC_EMBED_VERSION);
     texts();
     closed();
@@ -353,5 +367,6 @@ int main(int argc, char **argv) {
     WANT(lrc_embed_close(&handle) == LRC_DONE);
     closed();
     WANT(held == 0);
+    printf("%lu\n", requests);
     return 0;
 }

@@ -1,0 +1,247 @@
+// Measures calls of lrc_embed.h from C, in nanoseconds. bench/embed builds and runs it, and says what is measured.
+// Usage: embed NODES STRIPES ROUNDS; prints lines of a name and numbers.
+#define _DEFAULT_SOURCE
+#include "lrc_embed.h"
+
+#include <malloc.h>
+#include <stdio.h>
+#include <stdlib.h>
+#include <string.h>
+#include <time.h>
+
+enum { MOST_ROUNDS = 1001, MOST_ENTRIES = 400000, CYCLES = 20, BATCH = 256, MANY = 1000, LOOKS = 100000 };
+
+// The kinds of calls, each made in runs of its own.
+enum kind { FILL, REFUSED, IDLE, PLACE, DROP, NEXT, REPORT, OTHER, KINDS };
+static const char *const names[KINDS] = {[REFUSED] = "refused", [IDLE] = "idle", [PLACE] = "place",
+                                         [DROP] = "drop",       [NEXT] = "next", [REPORT] = "report"};
+
+static lrc_handle handle = LRC_CLOSED;
+static unsigned nodes, stripes, rounds;
+static lrc_entry entries[MOST_ENTRIES];
+static uint8_t kinds[MOST_ENTRIES];
+static size_t entries_count;
+static double called[KINDS][MOST_ROUNDS], own[KINDS][MOST_ROUNDS], more[KINDS][MOST_ROUNDS], replayed[KINDS][MOST_ROUNDS];
+
+// Book::call and LrcCommand::read, as they stand in the library, where bench/embed could make them visible. The result
+// begins with 0 where a reply follows; the command that was read follows a word that is 1.
+extern void bench_book_call(void *result, void *book, uint32_t session, const void *command) __attribute__((weak));
+extern void bench_command_read(void *command, const lrc_command *from) __attribute__((weak));
+// The command of each entry, as C has it and as the book has it.
+static struct {
+    lrc_command given;
+    uint32_t read[8];
+} commands[MOST_ENTRIES];
+
+static void want(bool holds, int line) {
+    if (holds) return;
+    fprintf(stderr, "bench/embed.c:%d: not as wanted\n", line);
+    exit(1);
+}
+#define WANT(condition) want(condition, __LINE__)
+
+// The time that this program had a processor, so that others on the machine count for less.
+static double now(void) {
+    struct timespec time;
+    clock_gettime(CLOCK_PROCESS_CPUTIME_ID, &time);
+    return (double)time.tv_sec * 1e9 + (double)time.tv_nsec;
+}
+
+static int by_number(const void *left, const void *right) {
+    double a = *(const double *)left, b = *(const double *)right;
+    return (a > b) - (a < b);
+}
+
+static double median(double *numbers) {
+    qsort(numbers, rounds, sizeof *numbers, by_number);
+    return numbers[rounds / 2];
+}
+
+// A book of the nodes that bench/run has: 256 slots each, in 32 fault domains and 16 upgrade domains.
+static void open_new(void) {
+    static char text[512 * 80];
+    static size_t length;
+    for (unsigned i = length ? nodes : 0; i < nodes; i++)
+        length += (size_t)snprintf(text + length, sizeof text - length,
+                                   "[[node]]\nnumber = %u\nfault = %u\nupgrade = %u\nslots = 256\n", i, i % 32,
+                                   (i / 32 + i) % 16);
+    size_t detail;
+    WANT(lrc_embed_close(&handle) == LRC_DONE);
+    WANT(lrc_embed_open(&handle, (const uint8_t *)text, length, &detail) == LRC_DONE);
+}
+
+// The calls that are measured. Each is made once here, so that those that follow it can go by its reply.
+
+static lrc_reply make(enum kind kind, lrc_command command) {
+    lrc_reply reply = {0};
+    WANT(entries_count < MOST_ENTRIES && lrc_embed_call(&handle, 1, &command, &reply) == LRC_DONE);
+    WANT(lrc_embed_entry(&handle, entries_count, &entries[entries_count]) == LRC_DONE);
+    kinds[entries_count++] = kind;
+    return reply;
+}
+
+#define MAKE(of, told, ...) WANT(make(of, (lrc_command){__VA_ARGS__}).kind == (told))
+
+// A node is lost. All that it held is leased, and then reported; it joins again.
+static void make_repairs(uint16_t node) {
+    static lrc_lease leases[256];
+    size_t count = 0;
+    lrc_reply reply;
+    MAKE(OTHER, LRC_CHANGED, .kind = LRC_FAIL, .node = node);
+    while (reply = make(count < 256 ? NEXT : OTHER, (lrc_command){.kind = LRC_NEXT}), reply.kind == LRC_GRANTED)
+        leases[count++] = reply.lease;
+    kinds[entries_count - 1] = OTHER;
+    for (size_t i = 0; i < count; i++)
+        MAKE(REPORT, LRC_ENDED, .kind = LRC_REPORT, .stripe = leases[i].stripe, .fragment = leases[i].fragment,
+                  .epoch = leases[i].epoch);
+    MAKE(OTHER, LRC_CHANGED, .kind = LRC_JOIN, .node = node);
+}
+
+static void make_all(void) {
+    open_new();
+    for (unsigned s = 0; s < stripes; s++) MAKE(FILL, LRC_PLACED, .kind = LRC_PLACE, .stripe = (uint16_t)s);
+    for (unsigned cycle = 0; cycle < CYCLES; cycle++) {
+        uint16_t at[BATCH];
+        for (unsigned i = 0; i < BATCH; i++) at[i] = (uint16_t)((cycle * BATCH + i) % stripes);
+        for (unsigned i = 0; i < BATCH; i++) MAKE(DROP, LRC_DROPPED, .kind = LRC_DROP, .stripe = at[i]);
+        for (unsigned i = 0; i < BATCH; i++) MAKE(PLACE, LRC_PLACED, .kind = LRC_PLACE, .stripe = at[i]);
+        make_repairs((uint16_t)(cycle * 11 % nodes));
+        for (unsigned i = 0; i < MANY; i++)
+            MAKE(REFUSED, LRC_REFUSED, .kind = LRC_UP, .node = (uint16_t)(i % nodes));
+        for (unsigned i = 0; i < MANY; i++) MAKE(IDLE, LRC_IDLE, .kind = LRC_NEXT);
+    }
+}
+
+// One after the other, over the runs of calls of one kind.
+
+static void call_run(size_t from, size_t to) {
+    lrc_reply reply = {0};
+    uint32_t wrong = 0;
+    for (size_t i = from; i < to; i++) wrong |= lrc_embed_call(&handle, 1, &commands[i].given, &reply);
+    WANT(wrong == LRC_DONE);
+}
+
+static void replay_run(size_t from, size_t to) {
+    size_t position;
+    WANT(lrc_embed_replay(&handle, entries + from, to - from, &position) == LRC_DONE);
+}
+
+static void own_run(size_t from, size_t to) {
+    uint64_t result[32] = {0};
+    uint8_t wrong = 0;
+    for (size_t i = from; i < to; i++) {
+        bench_book_call(result, handle.at, 1, &commands[i].read[1]);
+        wrong |= *(uint8_t *)result;
+    }
+    WANT(wrong == 0);
+}
+
+static void read_all(bool has_own) {
+    for (size_t i = 0; i < entries_count; i++) {
+        commands[i].given = entries[i].command;
+        if (has_own) bench_command_read(commands[i].read, &entries[i].command);
+        WANT(!has_own || commands[i].read[0] == 1);
+    }
+}
+
+// The history is that of the calls that were made once.
+static void compare_all(void) {
+    size_t count = 0;
+    lrc_entry entry = {0};
+    WANT(lrc_embed_count(&handle, &count) == LRC_DONE && count == entries_count);
+    for (size_t i = 0; i < count; i++)
+        WANT(lrc_embed_entry(&handle, i, &entry) == LRC_DONE && memcmp(&entry, &entries[i], sizeof entry) == 0);
+}
+
+// What a call of each kind takes in this round, on a new book.
+static void time_runs(void (*run)(size_t, size_t), double (*times)[MOST_ROUNDS], unsigned round) {
+    size_t counts[KINDS] = {0}, to;
+    open_new();
+    for (size_t from = 0; from < entries_count; from = to) {
+        for (to = from; to < entries_count && kinds[to] == kinds[from]; to++) {}
+        double begun = now();
+        run(from, to);
+        times[kinds[from]][round] += now() - begun;
+        counts[kinds[from]] += to - from;
+    }
+    for (int kind = 0; kind < KINDS; kind++) times[kind][round] /= (double)counts[kind];
+    compare_all();
+}
+
+// Looks, and calls that do next to nothing.
+
+enum look { VERSION, COUNT, CLOSED, FULL, LOAD, MODE, LEVEL, MISSING, HOMES, ALL_LOOKS };
+static const char *const look_names[ALL_LOOKS] = {"version", "count", "closed",  "full", "load",
+                                                  "mode",    "level", "missing", "homes"};
+static double looked[ALL_LOOKS][MOST_ROUNDS];
+
+// What a call takes that answers this status.
+#define TIME(look, status, call)                                                                                       \
+    do {                                                                                                               \
+        uint32_t wrong = 0;                                                                                            \
+        double begun = now();                                                                                          \
+        for (unsigned i = 0; i < LOOKS; i++) wrong |= (call) ^ (status);                                               \
+        looked[look][round] = (now() - begun) / LOOKS;                                                                 \
+        WANT(wrong == 0);                                                                                              \
+    } while (0)
+
+static void time_looks(unsigned round) {
+    static uint16_t some_nodes[1024], some_stripes[1024];
+    size_t count;
+    uint32_t load;
+    lrc_mode mode = {0};
+    lrc_level level = {0};
+    uint16_t missing;
+    lrc_homes homes = {0};
+    for (unsigned i = 0; i < 1024; i++) some_nodes[i] = (uint16_t)(i * 389 % nodes), some_stripes[i] = (uint16_t)(i * 389 % stripes);
+    TIME(VERSION, LRC_EMBED_VERSION, lrc_embed_version());
+    TIME(COUNT, LRC_DONE, lrc_embed_count(&handle, &count));
+    TIME(LOAD, LRC_DONE, lrc_embed_load(&handle, some_nodes[i % 1024], &load));
+    TIME(MODE, LRC_DONE, lrc_embed_mode(&handle, some_nodes[i % 1024], &mode));
+    TIME(LEVEL, LRC_DONE, lrc_embed_level(&handle, some_stripes[i % 1024], &level));
+    TIME(MISSING, LRC_DONE, lrc_embed_missing(&handle, some_stripes[i % 1024], &missing));
+    TIME(HOMES, LRC_DONE, lrc_embed_homes(&handle, some_stripes[i % 1024], &homes));
+}
+
+// A book whose history is full answers so before it looks at the command, and one that is closed is no book.
+static void time_full(void) {
+    const lrc_command command = {.kind = LRC_UP};
+    lrc_reply reply = {0};
+    open_new();
+    for (unsigned i = 0; i < LRC_HISTORY_LIMIT; i++) WANT(lrc_embed_call(&handle, 1, &command, &reply) == LRC_DONE);
+    for (unsigned round = 0; round < rounds; round++) TIME(FULL, LRC_FULL, lrc_embed_call(&handle, 1, &command, &reply));
+    WANT(lrc_embed_close(&handle) == LRC_DONE);
+    for (unsigned round = 0; round < rounds; round++)
+        TIME(CLOSED, LRC_IS_CLOSED, lrc_embed_call(&handle, 1, &command, &reply));
+}
+
+static unsigned number(const char *word, unsigned least, unsigned most) {
+    unsigned long number = strtoul(word, 0, 10);
+    WANT(least <= number && number <= most);
+    return (unsigned)number;
+}
+
+int main(int argc, char **argv) {
+    WANT(argc == 4);
+    nodes = number(argv[1], 32, 512), stripes = number(argv[2], BATCH, LRC_STRIPES), rounds = number(argv[3], 1, MOST_ROUNDS);
+    // (so that the books of later rounds get memory that was touched)
+    WANT(mallopt(M_MMAP_THRESHOLD, 1 << 30) && mallopt(M_TRIM_THRESHOLD, 1 << 30));
+    make_all();
+    bool has_own = bench_book_call && bench_command_read;
+    read_all(has_own);
+    for (unsigned round = 0; round < rounds; round++) {
+        if (has_own) time_runs(own_run, own, round);
+        time_runs(call_run, called, round);
+        for (int kind = 0; kind < KINDS; kind++) more[kind][round] = called[kind][round] - own[kind][round];
+        time_runs(replay_run, replayed, round);
+        time_looks(round);
+    }
+    time_full();
+    for (int look = 0; look < ALL_LOOKS; look++) printf("%s %.1f\n", look_names[look], median(looked[look]));
+    for (int kind = REFUSED; kind < OTHER; kind++) {
+        printf("%s %.1f %.1f", names[kind], median(called[kind]), median(replayed[kind]));
+        if (has_own) printf(" %.1f %.1f", median(own[kind]), median(more[kind]));
+        printf("\n");
+    }
+    return 0;
+}
