@@ -1,5 +1,5 @@
 -- What a board shows of an empty store.
-use Rattle.std.proofs.Common.{◌≡◌, ℕ, List, [], replicate, None, sym}
+use Rattle.std.proofs.Common.{◌≡◌, ℕ, List, [], replicate, None}
 use Rattle.std.specs.List.{range_with_len}
 use Rattle.std.proofs.lemmas.Simd.{splat_is_map}
 use Rattle.std.proofs.lemmas.List.FromFn.{length-range_with_len}

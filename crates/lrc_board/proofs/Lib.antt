@@ -1,3 +1,5 @@
+pub mod BoardLemmas
 pub mod EmptyLemmas
 pub mod PrefixLemmas
+pub mod RefreshLemmas
 pub mod WrittenLemmas

@@ -4,5 +4,8 @@ pub use Rattle.lrc_stripes.specs.Levels
 pub use Rattle.lrc_book.specs.States
 pub use Rattle.lrc_book.specs.Histories
 pub use Rattle.lrc_book.specs.Boards
+pub use Rattle.lrc_book.specs.Touching
+pub use Rattle.lrc_book.specs.Books
 pub mod Lines
+pub mod Refreshed
 pub mod Views

@@ -1,10 +1,13 @@
-ghost use Rattle.std.specs.Prelude.{◌≡◌, [], fold, replicate, None, IfOk};
-ghost use Rattle.lrc_book.specs.Boards.{levels_after, loads_after, level_in, load_in, put_level, put_load, put_row};
-ghost use Rattle.lrc_board.specs.Views.{BoardView, turned};
+ghost use Rattle.std.specs.Prelude.{◌≡◌, [], length, map, replicate, None, IfOk};
+ghost use Rattle.lrc_book.specs.Books.{state_of};
+ghost use Rattle.lrc_book.specs.Boards.{levels_of, levels_after, loads_of, loads_after, level_in, load_in};
+ghost use Rattle.lrc_board.specs.Views.{BoardView};
+ghost use Rattle.lrc_board.specs.Refreshed.{refreshed, row_shown, IsWhole, renewed};
 
 use crate::line::Front;
-use crate::page::Page;
+use crate::touched::Touched;
 use left_right::Absorb;
+use lrc_book::Book;
 use lrc_code::{NodeNo, StripeNo};
 use lrc_stripes::Level;
 use lrc_topology::Topology;
@@ -88,15 +91,22 @@ impl Board {
         self.front.again()
     }
 
-    /// Takes in two pages, after which so many entries led here.
-    pub(crate) fn turn(&mut self, last: &Page, now: &Page, count: u64, front: &Front)
-        requires { front.now.book ≡ self.old.book }
-        ensures { self.new ≡ turned self.old last.now now.now count front.now.log }
+    /// Takes in a book: the levels that one of two steps may have changed, and all loads. So many entries led there.
+    pub(crate) fn refresh(
+        &mut self,
+        book: &Book,
+        last: Touched,
+        now: Touched,
+        count: u64,
+        front: &Front,
+    )
+        requires log { front.now.book ≡ self.old.book }
+        requires whole { IsWhole book.now.nodes self.old }
+        ensures { self.new ≡ renewed self.old book.now last now count front.now.log }
     {
-        put_levels(&mut self.levels, &last.levels);
-        put_levels(&mut self.levels, &now.levels);
-        put_loads(&mut self.loads, &last.loads);
-        put_loads(&mut self.loads, &now.loads);
+        refresh_levels(&mut self.levels, book, last);
+        refresh_levels(&mut self.levels, book, now);
+        refresh_loads(&mut self.loads, book);
         self.count = count;
         self.front = front.again();
     }
@@ -121,46 +131,45 @@ fn no_loads(alloc: Global, topology: &Topology) -> Result<Vec<(NodeNo, u32)>, Al
         .collect(alloc)
 }
 
-/// Puts each change of a level.
-fn put_levels(levels: &mut Vec<Option<Level>>, changes: &[(StripeNo, Option<Level>)])
-    ensures { levels.new.items ≡ fold put_level levels.old.items changes.now }
+/// Takes the levels that may have changed from a book.
+fn refresh_levels(levels: &mut [Option<Level>], book: &Book, touched: Touched)
+    requires { length levels.old ≡ 4096 }
+    ensures value { levels.new ≡ refreshed book.now.nodes (state_of book.now) touched levels.old }
+    ensures whole { length levels.new ≡ 4096 }
 {
-    for change in changes {
-        let (stripe, level) = *change;
-        let place = usize::from(stripe.get());
-        if place < levels.len() {
-            levels[place] = level;
-        }
+    match touched {
+        Touched::Nothing => {}
+        Touched::Stripe(stripe) => levels[usize::from(stripe.get())] = book.level(stripe),
+        Touched::All => refresh_all_levels(levels, book),
     }
 }
 
-/// Puts each change of a load.
-fn put_loads(loads: &mut [(NodeNo, u32)], changes: &[(NodeNo, u32)])
-    ensures { loads.new ≡ fold put_load loads.old changes.now }
+/// Takes all levels from a book.
+fn refresh_all_levels(levels: &mut [Option<Level>], book: &Book)
+    requires { length levels.old ≡ 4096 }
+    ensures { levels.new ≡ levels_of book.now.nodes (state_of book.now) }
 {
-    for change in changes {
-        put_one_load(loads, change);
+    for number in 0..4096 {
+        let stripe = StripeNo::new(number).unwrap();
+        levels[usize::from(number)] = book.level(stripe);
     }
 }
 
-/// Puts one change of a load.
-fn put_one_load(loads: &mut [(NodeNo, u32)], change: &(NodeNo, u32))
-    ensures { loads.new ≡ put_load loads.old change.now }
+/// Takes all loads from a book.
+fn refresh_loads(loads: &mut [(NodeNo, u32)], book: &Book)
+    requires { map (λ row. row.0) loads.old ≡ map (λ m. m.number) book.now.nodes }
+    ensures { loads.new ≡ loads_of book.now.nodes (state_of book.now) }
 {
     for row in loads.iter_mut() {
-        *row = row_after(change, row);
+        *row = row_of(book, row);
     }
 }
 
-/// The load of a node, where it is this one that changes.
-fn row_after(change: &(NodeNo, u32), row: &(NodeNo, u32)) -> (NodeNo, u32)
-    ensures { result ≡ put_row change.now row.now }
+/// The node of a row with its load in a book.
+fn row_of(book: &Book, row: &(NodeNo, u32)) -> (NodeNo, u32)
+    ensures { result ≡ row_shown book.now.nodes (state_of book.now) row.now }
 {
-    if change.0 == row.0 {
-        (row.0, change.1)
-    } else {
-        *row
-    }
+    (row.0, book.load(row.0).unwrap_or(0))
 }
 
 /// The screen changes the copies itself, so the list of operations of `left_right` stays empty. An operation would change nothing.

@@ -4,21 +4,27 @@
 
 mod board;
 mod error;
+mod keeper;
 mod line;
 mod log;
 mod naming;
-mod page;
+mod open;
+mod open_error;
 mod question;
+mod receipt;
 mod rule;
 mod screen;
 mod steps;
+mod touched;
 mod viewer;
 
 pub use board::{Board, NoOperation};
 pub use error::LookError;
+pub use keeper::Keeper;
 pub use line::{Front, Law, Line};
 pub use log::{Log, NewLog, begins};
 pub use naming::ViewNaming;
-pub use page::Page;
+pub use open_error::OpenError;
+pub use receipt::Receipt;
 pub use rule::Published;
 pub use viewer::{Seen, Viewer};

@@ -1,0 +1,43 @@
+-- A board that takes in a book after one more step.
+use Rattle.std.proofs.Common.{◌≡◌, ℕ, List, length, map, ap, ◌∙◌}
+use Rattle.logbook.specs.Pages.{Book}
+use Rattle.lrc_topology.specs.declared.NodeInfo.{NodeInfo}
+use Rattle.lrc_book.specs.States.{load}
+use Rattle.lrc_book.specs.Histories.{IsLegal, state_after}
+use Rattle.lrc_book.specs.Boards.{Loads, loads_of}
+use Rattle.lrc_book.specs.Books.{BookView, state_of}
+use Rattle.lrc_board.specs.declared.line.Line.{Line}
+use Rattle.lrc_board.specs.declared.touched.Touched.{Touched}
+use Rattle.lrc_board.specs.Lines.{written}
+use Rattle.lrc_board.specs.Views.{BoardView, IsBoard, published}
+use Rattle.lrc_board.specs.Refreshed.{LevelsStay, AreBoards, IsWhole, refreshed, renewed}
+use Rattle.lrc_board.proofs.RefreshLemmas.{levels-long, loads-whole, twice-refreshed}
+
+pub board-whole : (book : Book) (start : ℕ) (nodes : List NodeInfo) (x : BoardView) → IsBoard book start nodes x → IsWhole nodes x
+board-whole book start nodes x is =
+    let st = state_after nodes (published start x) in (
+      ap length is.shows.0 ∙ levels-long nodes st,
+      ap (λ (rows : Loads). map (λ row. row.0) rows) is.shows.1 ∙ loads-whole nodes (load st),
+    )
+
+pub board-renewed : (book : Book) (start : ℕ) (nodes : List NodeInfo) (last now : Touched) (shown spare : BoardView)
+    (b : BookView) (count : ℕ) (lines : List Line)
+    → AreBoards book start nodes last shown spare → b.nodes ≡ nodes → b.history ≡ written start lines
+    → count ≡ length (written start lines) → IsLegal nodes (written start lines)
+    → LevelsStay nodes now (state_after nodes (published start shown)) (state_after nodes (written start lines))
+    → IsBoard book start nodes (renewed spare b last now count lines)
+board-renewed book start nodes last now shown spare b count lines are same told counted legal stay =
+    let first = state_after nodes (published start spare) in
+    let second = state_after nodes (published start shown) in
+    let third = state_after nodes (written start lines) in
+    let is : state_of b ≡ third = λ i. state_after (same i) (told i) in
+    record {
+      named = are.spare_is.named;
+      count_is = counted;
+      shows = (
+        (λ i. refreshed (same i) (is i) now (refreshed (same i) (is i) last (are.spare_is.shows.0 i)))
+            ∙ twice-refreshed nodes first second third last now are.between stay,
+        λ i. loads_of (same i) (is i),
+      );
+      legal = legal;
+    }

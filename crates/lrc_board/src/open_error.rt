@@ -1,0 +1,25 @@
+use std::alloc::AllocError;
+use thiserror::Error;
+
+/// Why a book was not opened for lookers or sessions, by its number.
+#[derive(Clone, Copy, Debug, PartialEq, Eq, Error)]
+pub enum OpenError {
+    #[error("out of memory")]
+    OutOfMemory = 1,
+    /// The library refused a reader.
+    #[error("there is no reader")]
+    NoReader = 2,
+    #[error("a manager has 1 to 8 sessions")]
+    BadCount = 3,
+}
+
+impl From<AllocError> for OpenError {
+    ghost use Rattle.std.specs.Prelude.{◌≡◌};
+    ghost use Rattle.lrc_board.specs.declared.open_error.OpenError.TheVariants.{OutOfMemory};
+
+    ghost from_gives = { λ _ e. e ≡ OutOfMemory };
+
+    fn from(_error: AllocError) -> OpenError {
+        OpenError::OutOfMemory
+    }
+}
