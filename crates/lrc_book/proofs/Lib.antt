@@ -71,3 +71,4 @@ pub mod BoardLemmas
 pub mod NextRepairLemmas
 pub mod TouchingLemmas
 pub mod LoadLemmas
+pub mod NumberedLemmas
