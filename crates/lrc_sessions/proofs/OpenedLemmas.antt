@@ -26,7 +26,7 @@ same_times k (s ∷ ss) (t ∷ ts) len same =
     ∙ ap (λ n. only (t.number == k) 1 + n) more ∙ sym (sum_by-cons (λ (x : SessionView). only (x.number == k) 1) t ts)
 
 abbrev last : ℕ → SessionView
-last b = record { number = b + 1; made = 0 }
+last b = record { number = b + 1; made = 0; front = [] }
 
 none_below : (k : ℕ) → 1 ≤ k → 0 ≡ only (nat_le k 0) 1
 none_below k low = grind (arith, nat_tests)
@@ -59,7 +59,7 @@ all_ran count may_stop scripts before after tracks all len ran k low high =
     ∙ all k low high
 
 pub length_fresh : (count : ℕ) → length (fresh count) ≡ count
-length_fresh count = length-map-range_with_len (λ (k : ℕ). record { number = k; made = 0 }) 1 count
+length_fresh count = length-map-range_with_len (λ (k : ℕ). record { number = k; made = 0; front = [] }) 1 count
 
 -- whether they ran them or had no room to
 pub all_left : {Z : Type 0} (count : ℕ) (may_stop : Type 0) (scripts : List (Vec Command Z)) (before after : Vec SessionView Global)

@@ -3,7 +3,7 @@ use Rattle.std.proofs.Common.{◌≡◌, ℕ, ◌+◌, ◌<◌, inl, inr, List, 
 use Rattle.std.proofs.lemmas.List.{map-append, get_or-map, get_or_push, get_or_append_left, length-map}
 use Rattle.std.proofs.Math.Seq.{take-append_seam}
 use Rattle.std.proofs.lemmas.Bool.{cases_lt}
-use Rattle.lrc_sessions.specs.declared.receipt.Receipt.{Receipt}
+use Rattle.lrc_board.specs.declared.receipt.Receipt.{Receipt}
 use Rattle.lrc_sessions.specs.declared.track.Stop.{Stop}
 use Rattle.lrc_sessions.specs.declared.track.Track.{Track}
 use Rattle.lrc_book.specs.declared.command.Command.{Command}

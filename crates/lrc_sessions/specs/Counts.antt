@@ -1,7 +1,8 @@
 -- Which sessions end a manager, and how many calls each has made.
 use Rattle.std.specs.Prelude.{◌≡◌, ℕ, ◌≤◌, ◌==◌, cond, nat_le, List, map, count_by, sum_by}
 use Rattle.lrc_code.specs.declared.numbers.SessionNo.{SessionNo}
-use Rattle.lrc_book.specs.Sessions.{sessions}
+use Rattle.lrc_book.specs.declared.entry.Entry.{Entry}
+use Rattle.lrc_book.specs.Sessions.{sessions, is_of}
 use Rattle.lrc_sessions.specs.Views.{SessionView}
 
 -- how many of the sessions have the number
@@ -19,6 +20,14 @@ made_of k ss = sum_by (λ (s : SessionView). cond (s.number == k) s.made 0) ss
 -- each number from 1 to count, and how many calls were made under it
 abbrev pub counts_of : ℕ → List SessionView → List (ℕ × ℕ)
 counts_of count ss = map (λ k. (k, made_of k ss)) (sessions count)
+
+-- how many entries of the history are of the session with this number
+abbrev pub made_in : ℕ → List Entry → ℕ
+made_in k history = count_by (is_of k) history
+
+-- each number from 1 to count, and how many entries of the history are of its session
+abbrev pub counts_in : ℕ → List Entry → List (ℕ × ℕ)
+counts_in count history = map (λ k. (k, made_in k history)) (sessions count)
 
 -- how many calls these are together
 abbrev pub total_made : List (ℕ × ℕ) → ℕ

@@ -11,6 +11,7 @@ pub mod Views
 pub mod Counts
 pub mod Errors
 pub mod Locked
+pub mod Calls
 pub mod Closing
 pub mod Runs
 pub mod Rooms

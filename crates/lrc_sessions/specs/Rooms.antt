@@ -2,7 +2,7 @@
 -- The room of a run.
 use Rattle.std.specs.Prelude.{◌≡◌, ℕ, ◌<◌, ◌≤◌, List, [], length, slice_index_or, Vec, vec_capacity}
 use Rattle.lrc_book.specs.declared.command.Command.{Command}
-use Rattle.lrc_sessions.specs.declared.receipt.Receipt.{Receipt}
+use Rattle.lrc_board.specs.declared.receipt.Receipt.{Receipt}
 
 -- an empty list of receipts with room for one of each call of the script
 abbrev pub IsRoomFor : {Y Z : Type 0} → Vec Command Z → Vec Receipt Y → Type 0

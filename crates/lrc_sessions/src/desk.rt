@@ -1,20 +1,23 @@
 ghost use Rattle.std.specs.Prelude.{◌≡◌, ℕ, ◌+◌, ◌<◌, ◌≤◌, [], length, IfOk, OnOk, OnErr, IfErr};
+ghost use mathlib.Core.List.{IsPrefix};
 ghost use Rattle.lrc_book.specs.Books.{BookView, FaultFits};
 ghost use Rattle.lrc_book.specs.declared.book.TheConstants.{HISTORY_LIMIT};
 ghost use Rattle.lrc_sessions.specs.Locked.{IsLocked, IsMade};
+ghost use Rattle.lrc_sessions.specs.Calls.{IsCalled, IsLeft};
 
 use crate::naming::Naming;
-use crate::receipt::Receipt;
 use crate::session::Session;
-use lrc_book::{Book, Command};
+use lrc_board::{Keeper, Receipt};
+use lrc_book::Command;
 use lrc_code::Fault;
 use std::marker::Model;
+use std::sync::Wait;
 use std::sync::ledger::{Book as Tally, Share};
 
-/// What the lock guards: the book, the tally of the calls that were made, and the share that no session has.
-#[derive(Drop)]
+/// What the lock guards: the keeper of the book, the tally of the calls that were made, and the share that no session has. It is
+/// not `Drop`, since the keeper is not: `into_parts` ends it.
 pub(crate) struct Desk<N: Naming> {
-    book: Book,
+    keeper: Keeper<N>,
     tally: Tally<N>,
     rest: Share<N>,
 }
@@ -26,37 +29,45 @@ impl<N: Naming> Model for Desk<N> {
 
     ghost Value = { BookView };
 
-    ghost view = { λ d. d.book };
+    ghost view = { λ d. d.keeper };
 
-    ghost invariant = { λ d. IsLocked N.topology d.tally.total d.book × (d.rest.parts + N.count ≡ 8) × (d.rest.amount ≡ 0) };
+    ghost invariant = { λ d. IsLocked N.topology d.tally.total d.keeper × (d.rest.parts + N.count ≡ 8) × (d.rest.amount ≡ 0) };
 }
 
 impl<N: Naming> Desk<N> {
     /// A desk at which no call was made.
-    pub(crate) fn new(book: Book, tally: Tally<N>, rest: Share<N>) -> Desk<N>
-        requires book { (book.nodes ≡ N.topology) × (book.limit ≡ HISTORY_LIMIT) × (book.history ≡ []) }
+    pub(crate) fn new(keeper: Keeper<N>, tally: Tally<N>, rest: Share<N>) -> Desk<N>
+        requires book { (keeper.nodes ≡ N.topology) × (keeper.limit ≡ HISTORY_LIMIT) × (keeper.history ≡ []) }
         requires tally { tally.total ≡ 0 }
         requires rest { (rest.parts + N.count ≡ 8) × (rest.amount ≡ 0) }
-        ensures { result ≡ book }
+        ensures { result ≡ keeper }
     {
-        let _entries = book.history();
-        Desk { book, tally, rest }
+        let _entries = keeper.book().history();
+        Desk {
+            keeper,
+            tally,
+            rest,
+        }
     }
 
-    /// One call of a session: one step of the placement object, and one more for the session's count.
-    pub(crate) fn call(
+    /// One call of a session: one step of the placement object, which is published, and one more for the session's count. The
+    /// session has then seen the history; at a full history too.
+    pub(crate) fn call<R: Wait>(
         &mut self,
+        rt: &R,
         session: &mut Session<N>,
         command: Command,
     ) -> Result<Receipt, Fault>
         ensures made { IfOk result (λ r. IsMade N.topology self.old.history session.old.number command r.reply self.new.history) }
         ensures place { IfOk result (λ r. (r.place ≡ length self.new.history) × (session.new.made ≤ r.place) × (r.place ≤ HISTORY_LIMIT)) }
-        ensures ok { OnOk result (session.new ≡ record session.old { made = session.old.made + 1 }) }
+        ensures seen { OnOk result (session.new.front ≡ self.new.history) }
+        ensures called { IfOk result (λ r. IsCalled N.topology session.old command r session.new) }
         ensures fault { IfErr result (FaultFits self.old) }
-        ensures err { OnErr result ((self.new.history ≡ self.old.history) × (session.new ≡ session.old)) }
+        ensures err { OnErr result (self.new.history ≡ self.old.history) }
+        ensures left { IfErr result (λ f. IsLeft N.topology session.old f session.new) }
     {
         let Desk {
-            book,
+            keeper,
             tally,
             rest: _,
         } = self;
@@ -64,22 +75,46 @@ impl<N: Naming> Desk<N> {
             number,
             made,
             share,
+            viewer,
         } = session;
-        let reply = book.call(*number, command)?;
+        keeper.covers(viewer);
+        let receipt = match keeper.apply(rt, *number, command) {
+            Ok(receipt) => receipt,
+            Err(Fault::HistoryFull) => {
+                keeper.show(viewer);
+                return Err(Fault::HistoryFull);
+            }
+            Err(Fault::OutOfMemory) => return Err(Fault::OutOfMemory),
+        };
+        let _entries = keeper.book().history();
+        keeper.show(viewer);
         tally.add(share, 1);
         tally.audit(share);
         *made += 1;
-        let place = book.history().len() as u64;
-        Ok(Receipt { place, reply })
+        Ok(receipt)
     }
 
-    /// Ends the desk: the book, the tally, and the share that no session has.
-    pub(crate) fn into_parts(self) -> (Book, Tally<N>, Share<N>)
+    /// The session has then seen the history.
+    pub(crate) fn show(&mut self, session: &mut Session<N>)
+        ensures same { self.new ≡ self.old }
+        ensures session { (session.new.number ≡ session.old.number) × (session.new.made ≡ session.old.made) }
+        ensures later { IsPrefix session.old.front session.new.front }
+        ensures all { session.new.front ≡ self.old.history }
+    {
+        self.keeper.show(&mut session.viewer);
+    }
+
+    /// Ends the desk: the keeper, the tally, and the share that no session has.
+    pub(crate) fn into_parts(self) -> (Keeper<N>, Tally<N>, Share<N>)
         ensures book { result.0 ≡ self }
         ensures locked { IsLocked N.topology result.1.total result.0 }
         ensures rest { (result.2.parts + N.count ≡ 8) × (result.2.amount ≡ 0) }
     {
-        let Desk { book, tally, rest } = self;
-        (book, tally, rest)
+        let Desk {
+            keeper,
+            tally,
+            rest,
+        } = self;
+        (keeper, tally, rest)
     }
 }

@@ -1,13 +1,16 @@
-ghost use Rattle.std.specs.Prelude.{◌≡◌, ℕ, ◌+◌, ◌<◌, ◌≤◌, ◌==◌, ◌↔◌, cond, [], vec_capacity, length, IsTrue, MatchResult, slice_index_or};
+ghost use Rattle.std.specs.Prelude.{◌≡◌, ℕ, ◌+◌, ◌<◌, ◌≤◌, ◌==◌, ◌↔◌, cond, [], All, vec_capacity, length, IsTrue, MatchResult, slice_index_or};
 ghost use Rattle.lrc_sessions.specs.Views.{SessionView};
-ghost use Rattle.lrc_sessions.specs.Counts.{times, AreAll, counts_of, made_of, total_made};
+ghost use Rattle.lrc_sessions.specs.Counts.{times, AreAll, counts_of, made_of, made_in, total_made};
 ghost use Rattle.lrc_sessions.specs.Closing.{Closes};
+ghost use mathlib.Core.List.{IsPrefix};
 
 use crate::closing::{Closing, Counts};
 use crate::manager::Manager;
 use crate::naming::Naming;
 use crate::session::Session;
+use lrc_board::Keeper;
 use lrc_code::SessionNo;
+use std::sync::Wait;
 use std::sync::ledger::Share;
 
 /// Why a manager was not ended, by its number.
@@ -17,13 +20,17 @@ pub enum FinishError<N: Naming> {
 }
 
 impl<N: Naming> Manager<N> {
-    /// Ends the manager, once all its sessions come back, in any order. It takes no memory.
+    /// Ends the manager, once all its sessions come back, in any order. It takes no memory, and waits until no look is left.
     ///
     /// # Errors
     ///
     /// `FinishError::SessionsOut` where the sessions that come in are not those of the numbers from 1 to the manager's count, each
     /// once; it hands back the manager and the sessions unchanged.
-    pub fn finish(self, sessions: Vec<Session<N>>) -> Result<Closing, FinishError<N>>
+    pub fn finish<R: Wait>(
+        self,
+        rt: &R,
+        sessions: Vec<Session<N>>,
+    ) -> Result<Closing, FinishError<N>>
         ensures { MatchResult result (Closes N.topology self.count sessions.items)
             (λ e. (¬ AreAll self.count sessions.items) × (e ≡ FinishError.SessionsOut self sessions)) }
     {
@@ -31,9 +38,11 @@ impl<N: Naming> Manager<N> {
             return Err(FinishError::SessionsOut(self, sessions));
         }
         let Manager { desk, count, made } = self;
-        let (book, mut tally, mut all) = desk.into_inner().into_parts();
+        let (mut keeper, mut tally, mut all) = desk.into_inner().into_parts();
+        check_all_in(&mut keeper, sessions.as_slice());
         let made = join_all(&mut all, sessions, count, made);
         tally.audit(&mut all);
+        let book = keeper.into_book(rt);
         Ok(Closing { book, made })
     }
 }
@@ -61,6 +70,17 @@ fn are_all<N: Naming>(sessions: &[Session<N>], count: u8) -> bool
         }
     }
     true
+}
+
+/// What each session has seen begins the keeper's history, which has an entry for each of its calls.
+fn check_all_in<N: Naming>(keeper: &mut Keeper<N>, sessions: &[Session<N>])
+    ensures same { keeper.new ≡ keeper.old }
+    ensures begin { All (λ s. IsPrefix s.front keeper.old.history) sessions.now }
+    ensures made { All (λ s. s.made ≤ made_in s.number keeper.old.history) sessions.now }
+{
+    for session in sessions {
+        session.check_in(keeper);
+    }
 }
 
 /// Where the first session with the number stands.

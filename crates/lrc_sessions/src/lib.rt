@@ -1,16 +1,14 @@
-//! Sessions on threads: a book behind one lock, and for each session the count of its calls.
+//! Sessions on threads: a published book behind one lock, and for each session the count of its calls and what it has seen.
 #![tactic(auto)]
 
 mod closing;
 mod desk;
-mod error;
 mod finish;
 mod gate;
 pub mod laws;
 mod manager;
 mod naming;
 mod parts;
-mod receipt;
 mod room;
 mod run;
 mod session;
@@ -20,13 +18,13 @@ mod track;
 mod worker;
 
 pub use closing::{Closing, Counts};
-pub use error::OpenError;
 pub use finish::FinishError;
 pub use gate::{Gate, GateError, OpenGate};
 pub use manager::Manager;
 pub use naming::Naming;
 pub use parts::Parts;
-pub use receipt::Receipt;
 pub use run::run_sessions;
 pub use session::Session;
 pub use track::{Receipts, Stop, Track};
+
+pub use lrc_board::{LookError, OpenError, Receipt, Seen, ViewNaming};

@@ -1,14 +1,16 @@
-ghost use Rattle.std.specs.Prelude.{◌≡◌, ◌+◌, ◌≤◌, [], IfOk, IfErr, OnOk, OnErr, IfSome};
+ghost use Rattle.std.specs.Prelude.{◌≡◌, ◌≢◌, ◌+◌, ◌≤◌, [], length, replicate, vec_capacity, IfOk, IfErr, OnOk};
+ghost use mathlib.Core.List.{IsPrefix};
 ghost use Rattle.lrc_book.specs.declared.book.TheConstants.{HISTORY_LIMIT};
+ghost use Rattle.lrc_book.specs.Histories.{IsLegal};
+ghost use Rattle.lrc_board.specs.declared.open_error.OpenError.TheVariants as error;
 ghost use Rattle.lrc_sessions.specs.Views.{ManagerView, SessionView, fresh};
-ghost use Rattle.lrc_sessions.specs.declared.error.OpenError.TheVariants as error;
+ghost use Rattle.lrc_sessions.specs.Calls.{IsCalled, IsLeft};
 
 use crate::desk::Desk;
-use crate::error::OpenError;
 use crate::naming::Naming;
 use crate::parts::Parts;
-use crate::receipt::Receipt;
 use crate::session::Session;
+use lrc_board::{Keeper, OpenError, Receipt, Viewer};
 use lrc_book::Command;
 use lrc_code::{Fault, SessionNo};
 use std::alloc::Global;
@@ -16,7 +18,7 @@ use std::marker::Model;
 use std::sync::ledger::Share;
 use std::sync::{Mutex, MutexGuard, Wait};
 
-/// A book behind one lock, for 1 to 8 sessions. Only `finish` ends it.
+/// A published book behind one lock, for 1 to 8 sessions. Only `finish` ends it.
 pub struct Manager<N: Naming> {
     pub(crate) desk: Mutex<Desk<N>>,
     pub(crate) count: u8,
@@ -40,26 +42,34 @@ impl<N: Naming> Manager<N> {
     ///
     /// # Errors
     ///
-    /// Only `OpenError::OutOfMemory`.
-    pub fn open(alloc: Global, parts: Parts) -> Result<(Manager<N>, Vec<Session<N>>), OpenError>
+    /// `OpenError::OutOfMemory`, or `OpenError::NoReader` where the library refuses a session its reader.
+    pub fn open<R: Wait>(
+        alloc: Global,
+        rt: &R,
+        parts: Parts,
+    ) -> Result<(Manager<N>, Vec<Session<N>>), OpenError>
         // N names these parts.
         requires topology { parts.topology ≡ N.topology }
         requires count { parts.count ≡ N.count }
         requires name { parts.name ≡ N.name }
         requires shares { parts.shares ≡ N.parts }
+        requires log { (parts.log ≡ N.log) × (parts.start ≡ N.start) }
         ensures ok { IfOk result (λ r. (r.0.count ≡ parts.count) × (r.1.items ≡ fresh parts.count)) }
-        ensures err { IfErr result (λ e. e ≡ error.OutOfMemory) }
+        ensures err { IfErr result (λ e. e ≢ error.BadCount) }
     {
-        let Parts { book, tally, count } = parts;
-        let Ok(made) = Vec::with_capacity(alloc, count as usize) else {
-            return Err(OpenError::OutOfMemory);
-        };
+        let Parts {
+            book,
+            log,
+            tally,
+            count,
+        } = parts;
+        let made = Vec::with_capacity(alloc, count as usize)?;
+        let sessions = Vec::with_capacity(alloc, count as usize)?;
+        let (keeper, viewers) = Keeper::open(alloc, rt, book, log, count)?;
         let (tally, mut rest) = tally.open::<N>();
-        let Some(sessions) = split(alloc, &mut rest, count) else {
-            return Err(OpenError::OutOfMemory);
-        };
+        let sessions = split(&mut rest, viewers, count, sessions);
         let manager = Manager {
-            desk: Mutex::new(Desk::new(book, tally, rest)),
+            desk: Mutex::new(Desk::new(keeper, tally, rest)),
             count,
             made,
         };
@@ -73,7 +83,9 @@ impl<N: Naming> Manager<N> {
         self.count
     }
 
-    /// Makes one call of a session, while no other session makes one. It waits for the lock. A `Fault` changes nothing.
+    /// Makes one call of a session, while no other session makes one, and publishes it. It waits for the lock, and until no look
+    /// is left that began before the last call. A `Fault` changes nothing, but that a session that meets a full history has then
+    /// seen all of it.
     ///
     /// # Errors
     ///
@@ -84,30 +96,52 @@ impl<N: Naming> Manager<N> {
         session: &mut Session<N>,
         command: Command,
     ) -> Result<Receipt, Fault>
-        ensures ok { OnOk result (session.new ≡ record session.old { made = session.old.made + 1 }) }
+        ensures ok { IfOk result (λ r. IsCalled N.topology session.old command r session.new) }
         ensures place { IfOk result (λ r. (session.new.made ≤ r.place) × (r.place ≤ HISTORY_LIMIT)) }
-        ensures err { OnErr result (session.new ≡ session.old) }
+        ensures err { IfErr result (λ f. IsLeft N.topology session.old f session.new) }
     {
         let mut desk = self.desk.lock(rt);
-        let called = desk.call(session, command);
+        let called = desk.call(rt, session, command);
         MutexGuard::unlock(desk);
         called
     }
+
+    /// Both sessions have then seen the whole history. It waits for the lock.
+    pub fn meet<R: Wait>(&self, rt: &R, one: &mut Session<N>, other: &mut Session<N>)
+        ensures one { (one.new.number ≡ one.old.number) × (one.new.made ≡ one.old.made) }
+        ensures other { (other.new.number ≡ other.old.number) × (other.new.made ≡ other.old.made) }
+        ensures later { IsPrefix one.old.front one.new.front × IsPrefix other.old.front other.new.front }
+        ensures both { one.new.front ≡ other.new.front }
+        ensures legal { IsLegal N.topology one.new.front }
+    {
+        let mut desk = self.desk.lock(rt);
+        desk.show(one);
+        desk.show(other);
+        MutexGuard::unlock(desk);
+        one.front();
+    }
 }
 
-/// A session for each number from 1 to the count, each with one part of the share.
-fn split<N: Naming>(alloc: Global, rest: &mut Share<N>, count: u8) -> Option<Vec<Session<N>>>
+/// A session for each number from 1 to the count, each with one part of the share and a viewer of its own.
+fn split<N: Naming>(
+    rest: &mut Share<N>,
+    mut viewers: Vec<Viewer<N>>,
+    count: u8,
+    mut sessions: Vec<Session<N>>,
+) -> Vec<Session<N>>
     requires parts { count ≤ rest.old.parts }
     requires few { count ≤ 8 }
     requires amount { rest.old.amount ≡ 0 }
-    ensures sessions { IfSome result (λ v. v.items ≡ fresh count) }
-    ensures rest { IfSome result (λ v. (rest.new.parts + count ≡ rest.old.parts) × (rest.new.amount ≡ 0)) }
+    requires viewers { viewers.items ≡ replicate count [] }
+    requires room { (count ≤ vec_capacity sessions) × (sessions.items ≡ []) }
+    ensures sessions { result.items ≡ fresh count }
+    ensures rest { (rest.new.parts + count ≡ rest.old.parts) × (rest.new.amount ≡ 0) }
 {
-    let mut sessions = Vec::with_capacity(alloc, count as usize).ok()?;
     for before in 0..count {
         let share = rest.split_off(1, 0);
         let number = SessionNo::new(before + 1).unwrap();
-        sessions.push_reserved(Session::new(number, share));
+        let viewer = viewers.pop().unwrap();
+        sessions.push_reserved(Session::new(number, share, viewer));
     }
-    Some(sessions)
+    sessions
 }

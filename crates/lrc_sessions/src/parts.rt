@@ -2,17 +2,19 @@ ghost use Rattle.std.specs.Prelude.{◌≡◌, ◌≤◌, IfOk, IfErr};
 ghost use Rattle.lrc_sessions.specs.Views.{PartsView};
 ghost use Rattle.lrc_sessions.specs.Errors.{OpenFits};
 
-use crate::error::OpenError;
+use lrc_board::{NewLog, OpenError};
 use lrc_book::Book;
 use lrc_topology::Topology;
 use std::alloc::Global;
 use std::marker::Model;
 use std::sync::ledger::Blank;
 
-/// What a manager is made of before it has a naming: a new book, a new ledger of eight parts, and how many sessions there will be.
+/// What a manager is made of before it has a naming: a new book, a log without lines, a new ledger of eight parts, and how many
+/// sessions there will be.
 #[derive(Drop)]
 pub struct Parts {
     pub(crate) book: Book,
+    pub(crate) log: NewLog,
     pub(crate) tally: Blank,
     pub(crate) count: u8,
 }
@@ -24,7 +26,14 @@ impl Model for Parts {
 
     ghost Value = { PartsView };
 
-    ghost view = { λ p. record { topology = p.book.nodes; count = p.count; name = p.tally.name; shares = p.tally.parts } };
+    ghost view = { λ p. record {
+      topology = p.book.nodes;
+      count = p.count;
+      name = p.tally.name;
+      shares = p.tally.parts;
+      log = p.log.front.book;
+      start = p.log.pen.nib.key;
+    } };
 
     ghost invariant = { λ p. (p.book.history ≡ []) × (p.book.limit ≡ HISTORY_LIMIT) × (p.tally.parts ≡ 8)
         × (1 ≤ p.count) × (p.count ≤ 8) };
@@ -48,6 +57,7 @@ impl Parts {
         };
         Ok(Parts {
             book,
+            log: NewLog::new(),
             tally: Blank::new(8),
             count,
         })

@@ -3,7 +3,7 @@ ghost use Rattle.lrc_code.specs.declared.fault.Fault.TheVariants as fault;
 ghost use Rattle.lrc_sessions.specs.Rooms.{AreRoomFor};
 
 use crate::naming::Naming;
-use crate::receipt::Receipt;
+use lrc_board::Receipt;
 use crate::session::Session;
 use crate::track::{Receipts, Track};
 use crate::worker::Worker;

@@ -1,42 +1,55 @@
-ghost use Rattle.std.specs.Prelude.{◌≡◌, ◌≤◌};
+ghost use Rattle.std.specs.Prelude.{◌≡◌, ◌≤◌, [], length, IfOk, IfErr, OnErr};
+ghost use mathlib.Core.List.{IsPrefix};
+ghost use Rattle.lrc_book.specs.Histories.{IsLegal, state_after};
+ghost use Rattle.lrc_book.specs.States.{level_shown, load_shown};
+ghost use Rattle.lrc_board.specs.declared.error.LookError.TheVariants as error;
 ghost use Rattle.lrc_sessions.specs.Views.{SessionView};
+ghost use Rattle.lrc_sessions.specs.Counts.{made_in};
 
 use crate::naming::Naming;
-use lrc_code::SessionNo;
+use lrc_board::{Keeper, LookError, Seen, Viewer};
+use lrc_code::{NodeNo, SessionNo, StripeNo};
+use lrc_stripes::Level;
 use std::marker::Model;
 use std::sync::ledger::Share;
 
-/// A session of a manager: its number, and the count of its calls that were made. It can't be copied, and is used by one
-/// thread at a time.
+/// A session of a manager: its number, the count of its calls that were made, and what it has seen of the history. It can't be
+/// copied, and is used by one thread at a time.
 #[derive(Drop)]
 pub struct Session<N: Naming> {
     pub(crate) number: SessionNo,
     pub(crate) made: u64,
     pub(crate) share: Share<N>,
+    pub(crate) viewer: Viewer<N>,
 }
 
 impl<N: Naming> Model for Session<N> {
     ghost use Rattle.std.specs.Prelude.{◌≡◌, ◌≤◌};
     ghost use Rattle.lrc_book.specs.declared.book.TheConstants.{HISTORY_LIMIT};
+    ghost use Rattle.lrc_book.specs.Histories.{IsLegal};
     ghost use Rattle.lrc_sessions.specs.Views.{SessionView};
+    ghost use Rattle.lrc_sessions.specs.Counts.{made_in};
 
     ghost Value = { SessionView };
 
-    ghost view = { λ s. record { number = s.number.value; made = s.made } };
+    ghost view = { λ s. record { number = s.number.value; made = s.made; front = s.viewer } };
 
-    ghost invariant = { λ s. (s.share.parts ≡ 1) × (s.share.amount ≡ s.made) × (s.made ≤ HISTORY_LIMIT) };
+    ghost invariant = { λ s. (s.share.parts ≡ 1) × (s.share.amount ≡ s.made) × (s.made ≤ HISTORY_LIMIT)
+        × (s.made ≤ made_in s.number.value s.viewer) × IsLegal N.topology s.viewer };
 }
 
 impl<N: Naming> Session<N> {
-    /// A session that has made no call.
-    pub(crate) fn new(number: SessionNo, share: Share<N>) -> Session<N>
-        requires { (share.parts ≡ 1) × (share.amount ≡ 0) }
-        ensures { result ≡ record { number = number.value; made = 0 } }
+    /// A session that has made no call and seen no entry.
+    pub(crate) fn new(number: SessionNo, share: Share<N>, viewer: Viewer<N>) -> Session<N>
+        requires share { (share.parts ≡ 1) × (share.amount ≡ 0) }
+        requires viewer { viewer ≡ [] }
+        ensures { result ≡ record { number = number.value; made = 0; front = [] } }
     {
         Session {
             number,
             made: 0,
             share,
+            viewer,
         }
     }
 
@@ -45,6 +58,59 @@ impl<N: Naming> Session<N> {
         ensures { result.value ≡ self.now.number }
     {
         self.number
+    }
+
+    /// How many entries the session has seen, its own calls among them. It takes no lock.
+    pub fn front(&self) -> u64
+        ensures front { result ≡ length self.now.front }
+        ensures legal { IsLegal N.topology self.now.front }
+        ensures made { self.now.made ≤ made_in self.now.number self.now.front }
+    {
+        self.viewer.count()
+    }
+
+    /// The level of a stripe, as it was published; `None` where there was no such stripe. It takes no lock and waits for nobody.
+    ///
+    /// # Errors
+    ///
+    /// Only `LookError::NoView`, where the library gives no board that has as many entries as the session has seen.
+    pub fn level_of(&mut self, stripe: StripeNo) -> Result<Seen<Option<Level>>, LookError>
+        ensures session { (self.new.number ≡ self.old.number) × (self.new.made ≡ self.old.made) }
+        ensures later { IsPrefix self.old.front self.new.front }
+        ensures legal { IsLegal N.topology self.new.front }
+        ensures front { IfOk result (λ s. s.front ≡ length self.new.front) }
+        ensures value { IfOk result (λ s. s.value ≡ level_shown N.topology (state_after N.topology self.new.front) stripe) }
+        ensures err { IfErr result (λ e. e ≡ error.NoView) }
+        ensures same { OnErr result (self.new ≡ self.old) }
+    {
+        self.viewer.level_of(stripe)
+    }
+
+    /// The number of seats on a node, as it was published; `None` where the store has no such node. It takes no lock and waits
+    /// for nobody.
+    ///
+    /// # Errors
+    ///
+    /// Only `LookError::NoView`, where the library gives no board that has as many entries as the session has seen.
+    pub fn load_of(&mut self, node: NodeNo) -> Result<Seen<Option<u32>>, LookError>
+        ensures session { (self.new.number ≡ self.old.number) × (self.new.made ≡ self.old.made) }
+        ensures later { IsPrefix self.old.front self.new.front }
+        ensures legal { IsLegal N.topology self.new.front }
+        ensures front { IfOk result (λ s. s.front ≡ length self.new.front) }
+        ensures value { IfOk result (λ s. s.value ≡ load_shown N.topology (state_after N.topology self.new.front) node) }
+        ensures err { IfErr result (λ e. e ≡ error.NoView) }
+        ensures same { OnErr result (self.new ≡ self.old) }
+    {
+        self.viewer.load_of(node)
+    }
+
+    /// What the session has seen begins the keeper's history, which has an entry for each of its calls.
+    pub(crate) fn check_in(&self, keeper: &mut Keeper<N>)
+        ensures same { keeper.new ≡ keeper.old }
+        ensures begins { IsPrefix self.now.front keeper.old.history }
+        ensures made { self.now.made ≤ made_in self.now.number keeper.old.history }
+    {
+        keeper.covers(&self.viewer);
     }
 
     /// Ends the session: its number, its count, and its share, which is one part and that amount.
@@ -57,6 +123,7 @@ impl<N: Naming> Session<N> {
             number,
             made,
             share,
+            viewer: _,
         } = self;
         (number, made, share)
     }

@@ -4,6 +4,7 @@ ghost use Rattle.std.specs.Prelude.{◌≡◌, length, IfOk};
 ghost use Rattle.lrc_sessions.specs.Views.{fresh};
 
 mod gates;
+mod looks;
 mod mixed;
 
 use crate::{
@@ -51,22 +52,31 @@ fn stripe(number: u16) -> Result<StripeNo, Fail> {
 }
 
 /// A manager over these parts, and its sessions.
-fn open<N: Naming>(rt: &impl Abort, alloc: Global, parts: Parts) -> (Manager<N>, Vec<Session<N>>)
+fn open<N: Naming, R: Wait + Abort>(
+    rt: &R,
+    alloc: Global,
+    parts: Parts,
+) -> (Manager<N>, Vec<Session<N>>)
     requires topology { parts.topology ≡ N.topology }
     requires count { parts.count ≡ N.count }
     requires name { parts.name ≡ N.name }
     requires shares { parts.shares ≡ N.parts }
+    requires log { (parts.log ≡ N.log) × (parts.start ≡ N.start) }
     ensures { result.1.items ≡ fresh parts.count }
 {
-    let Ok(opened) = Manager::open(alloc, parts) else {
+    let Ok(opened) = Manager::open(alloc, rt, parts) else {
         panic!(rt; "a manager and its sessions")
     };
     opened
 }
 
 /// Ends a manager whose sessions are all there.
-fn finish<N: Naming>(rt: &impl Abort, manager: Manager<N>, sessions: Vec<Session<N>>) -> Closing {
-    match manager.finish(sessions) {
+fn finish<N: Naming, R: Wait + Abort>(
+    rt: &R,
+    manager: Manager<N>,
+    sessions: Vec<Session<N>>,
+) -> Closing {
+    match manager.finish(rt, sessions) {
         Ok(closing) => closing,
         Err(FinishError::SessionsOut(_manager, _sessions)) => panic!(rt; "all sessions"),
     }
@@ -99,9 +109,10 @@ fn run_all<N: Naming + Send + Sync, R: Threads + Wait + Abort + Sync, G: Gate + 
     requires count { parts.count ≡ N.count }
     requires name { parts.name ≡ N.name }
     requires shares { parts.shares ≡ N.parts }
+    requires log { (parts.log ≡ N.log) × (parts.start ≡ N.start) }
     requires scripts { length scripts.now ≡ parts.count }
 {
-    let (manager, sessions) = open::<N>(rt, alloc, parts);
+    let (manager, sessions) = open::<N, _>(rt, alloc, parts);
     let (sessions, tracks) = run_sessions(rt, alloc, &manager, sessions, scripts, gate);
     let Ok(tracks) = tracks else {
         panic!(rt; "room for a run")
@@ -160,8 +171,9 @@ fn place_two<N: Naming, R: Wait + Abort>(
     requires count { parts.count ≡ N.count }
     requires name { parts.name ≡ N.name }
     requires shares { parts.shares ≡ N.parts }
+    requires log { (parts.log ≡ N.log) × (parts.start ≡ N.start) }
 {
-    let (manager, mut sessions) = open::<N>(rt, alloc, parts);
+    let (manager, mut sessions) = open::<N, _>(rt, alloc, parts);
     let mut second = take(rt, &mut sessions);
     let mut first = take(rt, &mut sessions);
     assert_eq!(rt; (first.number().get(), second.number().get()), (1, 2));
@@ -179,12 +191,12 @@ fn place_two<N: Naming, R: Wait + Abort>(
 }
 
 /// The manager and the sessions, which do not end it.
-fn expect_out<N: Naming>(
-    rt: &impl Abort,
+fn expect_out<N: Naming, R: Wait + Abort>(
+    rt: &R,
     manager: Manager<N>,
     sessions: Vec<Session<N>>,
 ) -> (Manager<N>, Vec<Session<N>>) {
-    match manager.finish(sessions) {
+    match manager.finish(rt, sessions) {
         Ok(_) => panic!(rt; "a session is out"),
         Err(FinishError::SessionsOut(manager, sessions)) => (manager, sessions),
     }
@@ -199,13 +211,14 @@ fn no_session_ends_no_manager(rt: HostRuntime) -> Result<(), Fail> {
 }
 
 /// Without its only session the manager goes on.
-fn keep_one<N: Naming, R: Abort>(rt: &R, alloc: Global, parts: Parts) -> Closing
+fn keep_one<N: Naming, R: Wait + Abort>(rt: &R, alloc: Global, parts: Parts) -> Closing
     requires topology { parts.topology ≡ N.topology }
     requires count { parts.count ≡ N.count }
     requires name { parts.name ≡ N.name }
     requires shares { parts.shares ≡ N.parts }
+    requires log { (parts.log ≡ N.log) × (parts.start ≡ N.start) }
 {
-    let (manager, mut sessions) = open::<N>(rt, alloc, parts);
+    let (manager, mut sessions) = open::<N, _>(rt, alloc, parts);
     let only = take(rt, &mut sessions);
     let (manager, mut sessions) = expect_out(rt, manager, sessions);
     assert!(rt; sessions.is_empty());
@@ -237,8 +250,9 @@ fn place_at_once<N: Naming + Send + Sync, R: Threads + Wait + Abort + Sync>(
     requires count { parts.count ≡ N.count }
     requires name { parts.name ≡ N.name }
     requires shares { parts.shares ≡ N.parts }
+    requires log { (parts.log ≡ N.log) × (parts.start ≡ N.start) }
 {
-    let (manager, mut sessions) = open::<N>(rt, alloc, parts);
+    let (manager, mut sessions) = open::<N, _>(rt, alloc, parts);
     let mut second = take(rt, &mut sessions);
     let mut first = take(rt, &mut sessions);
     let shared = &manager;

@@ -1,6 +1,6 @@
 ghost use Rattle.std.specs.Prelude.{◌≡◌};
 
-use crate::receipt::Receipt;
+use lrc_board::Receipt;
 use lrc_code::Fault;
 use std::marker::Model;
 
@@ -21,7 +21,7 @@ pub struct Receipts {
 
 impl Model for Receipts {
     ghost use Rattle.std.specs.Prelude.{List};
-    ghost use Rattle.lrc_sessions.specs.declared.receipt.Receipt.{Receipt};
+    ghost use Rattle.lrc_board.specs.declared.receipt.Receipt.{Receipt};
 
     ghost Value = { List Receipt };
 

@@ -4,7 +4,7 @@ ghost use Rattle.lrc_sessions.specs.Runs.{IsRun};
 use crate::gate::Gate;
 use crate::manager::Manager;
 use crate::naming::Naming;
-use crate::receipt::Receipt;
+use lrc_board::Receipt;
 use crate::session::Session;
 use crate::track::Stop;
 use lrc_book::Command;

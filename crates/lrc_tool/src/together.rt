@@ -60,16 +60,17 @@ fn run_each<N: Naming + Send + Sync, T: Threads + Wait + Sync>(
     requires count { parts.count ≡ N.count }
     requires name { parts.name ≡ N.name }
     requires shares { parts.shares ≡ N.parts }
+    requires log { (parts.log ≡ N.log) × (parts.start ≡ N.start) }
     requires scripts { (length scripts.now ≡ parts.count) × (parts.count ≤ 8) }
     ensures nodes { IfOk result (λ p. p.book.nodes ≡ parts.topology) }
     ensures tracks { IfOk result (λ p. length p.tracks.items ≤ 8) }
     ensures err { IfErr result (λ e. (e ≡ fault.OutOfMemory) ⊎ (e ≡ fault.HistoryFull)) }
 {
-    let Ok((manager, sessions)) = Manager::<N>::open(alloc, parts) else {
+    let Ok((manager, sessions)) = Manager::<N>::open(alloc, rt, parts) else {
         return Err(RunFault::OutOfMemory);
     };
     let (sessions, ran) = run_sessions(rt, alloc, &manager, sessions, scripts, &OpenGate);
-    match manager.finish(sessions) {
+    match manager.finish(rt, sessions) {
         Ok(closing) => Ok(Played {
             book: closing.book,
             tracks: unstopped(ran?)?,

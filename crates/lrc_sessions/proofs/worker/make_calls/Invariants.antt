@@ -1,4 +1,6 @@
 use Rattle.std.proofs.Common.{◌≡◌, ◌+◌, ◌≤◌, length, vec_capacity}
+use mathlib.Core.List.{IsPrefix}
+use Rattle.lrc_sessions.specs.Runs.{AreStanding}
 use Rattle.lrc_sessions.proofs.worker.make_calls.Given as goal
 
 abbrev pub invariant-loop-command : goal.invariant-loop-command
@@ -8,4 +10,6 @@ invariant-loop-command g l = record {
   made_is : l.session.made ≡ l.initial.session.made + length l.receipts.items;
   len_is : length l.receipts.items ≡ l.command-index;
   room : length l.script ≤ vec_capacity l.receipts;
+  later : IsPrefix l.initial.session.front l.session.front;
+  stand : AreStanding l.initial.session.number (length l.initial.session.front) l.script l.receipts.items l.session.front;
 }
