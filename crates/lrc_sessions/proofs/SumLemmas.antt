@@ -1,5 +1,5 @@
 -- No count is above what the history has of its session, and together they are the whole history: so each count is just that.
-use Rattle.std.proofs.Common.{◌≡◌, ℕ, zero, suc, ◌+◌, ◌<◌, ◌≤◌, ◌==◌, Bool, true, false, cond, nat_eq, List, [], ◌∷◌, ◌++◌, length, map, All, refl, sym, ap, ◌∙◌, subst, arith}
+use Rattle.std.proofs.Common.{◌≡◌, ℕ, zero, suc, ◌+◌, ◌<◌, ◌≤◌, ◌==◌, Bool, true, false, nat_eq, List, [], ◌∷◌, ◌++◌, length, map, All, refl, sym, ap, ◌∙◌, subst, arith}
 use Rattle.std.proofs.lemmas.List.Sums.{sum_by-cons}
 use Rattle.std.proofs.lemmas.List.FromFn.{map-range_with_len_more}
 use Rattle.std.proofs.lemmas.List.Elements.{All-head, All-tail}
@@ -108,7 +108,7 @@ made_below k (s ∷ ss) h all one =
     let sum = sum_by-cons (λ (x : SessionView). only (x.number == k) x.made) s ss in
     let count = sum_by-cons (λ (x : SessionView). only (x.number == k) 1) s ss in
     let step = made_step k (made_in k h) s ss (made_below k ss h (All-tail P s ss all))
-        (λ is. subst (λ (j : ℕ). s.made ≤ made_in j h) is (All-head P s ss all)) (s.number == k) refl (sym count ∙ one) in
+    (λ is. subst (λ (j : ℕ). s.made ≤ made_in j h) is (All-head P s ss all)) (s.number == k) refl (sym count ∙ one) in
     omega arith
 
 -- each session made as many calls as the history has of it
@@ -116,5 +116,5 @@ pub squeezed : (count : ℕ) (ss : List SessionView) (h : List Entry) → AreAll
     → length h ≡ total_made (counts_of count ss) → counts_of count ss ≡ counts_in count h
 squeezed count ss h all few made total =
     squeeze (λ k. made_of k ss) (λ k. made_in k h) count
-        (λ k low high. made_below k ss h made (all_at count ss all few k low high))
-        (let s = sum_in count h in let t = total_listed (λ k. made_of k ss) count in omega arith)
+    (λ k low high. made_below k ss h made (all_at count ss all few k low high))
+    (let s = sum_in count h in let t = total_listed (λ k. made_of k ss) count in omega arith)

@@ -20,11 +20,10 @@ mod worker;
 pub use closing::{Closing, Counts};
 pub use finish::FinishError;
 pub use gate::{Gate, GateError, OpenGate};
+pub use lrc_board::{LookError, OpenError, Receipt, Seen, ViewNaming};
 pub use manager::Manager;
 pub use naming::Naming;
 pub use parts::Parts;
 pub use run::run_sessions;
 pub use session::Session;
 pub use track::{Receipts, Stop, Track};
-
-pub use lrc_board::{LookError, OpenError, Receipt, Seen, ViewNaming};

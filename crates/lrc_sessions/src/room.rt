@@ -3,10 +3,10 @@ ghost use Rattle.lrc_code.specs.declared.fault.Fault.TheVariants as fault;
 ghost use Rattle.lrc_sessions.specs.Rooms.{AreRoomFor};
 
 use crate::naming::Naming;
-use lrc_board::Receipt;
 use crate::session::Session;
 use crate::track::{Receipts, Track};
 use crate::worker::Worker;
+use lrc_board::Receipt;
 use lrc_book::Command;
 use lrc_code::Fault;
 use std::alloc::Global;

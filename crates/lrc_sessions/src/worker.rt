@@ -4,9 +4,9 @@ ghost use Rattle.lrc_sessions.specs.Runs.{IsRun};
 use crate::gate::Gate;
 use crate::manager::Manager;
 use crate::naming::Naming;
-use lrc_board::Receipt;
 use crate::session::Session;
 use crate::track::Stop;
+use lrc_board::Receipt;
 use lrc_book::Command;
 use std::sync::Wait;
 

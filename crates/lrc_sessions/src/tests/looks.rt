@@ -113,11 +113,25 @@ fn look_around<N: Naming, R: Wait + Abort>(
     let mut second = take(rt, &mut sessions);
     let mut first = take(rt, &mut sessions);
     assert_eq!(rt; (first.front(), second.front()), (0, 0));
-    assert!(rt; manager.call(rt, &mut first, Command::Place(stripes[0])).is_ok());
+    assert!(rt;
+        manager
+            .call(rt, &mut first, Command::Place(stripes[0]))
+            .is_ok()
+    );
     assert_eq!(rt; (first.front(), second.front()), (1, 0));
-    assert_eq!(rt; level_of(rt, &mut first, stripes[0]), (1, Some(Level::Whole)));
-    assert_eq!(rt; level_of(rt, &mut second, stripes[0]), (1, Some(Level::Whole)));
-    assert!(rt; manager.call(rt, &mut second, Command::Place(stripes[1])).is_ok());
+    assert_eq!(rt;
+        level_of(rt, &mut first, stripes[0]),
+        (1, Some(Level::Whole))
+    );
+    assert_eq!(rt;
+        level_of(rt, &mut second, stripes[0]),
+        (1, Some(Level::Whole))
+    );
+    assert!(rt;
+        manager
+            .call(rt, &mut second, Command::Place(stripes[1]))
+            .is_ok()
+    );
     manager.meet(rt, &mut first, &mut second);
     assert_eq!(rt; (first.front(), second.front()), (2, 2));
     expect_both_placed(rt, &mut first, stripes[1]);

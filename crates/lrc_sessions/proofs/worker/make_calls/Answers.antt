@@ -10,7 +10,7 @@ pub returns-in-Err : goal.returns-in-Err
 returns-in-Err g c =
     let v = c.loop-command.invariant in
     left_run g.N.ViewNaming.topology g.G.Gate.may_stop c.args.script.now c.args.session.now c.loop-command.session c.call.new.session
-        c.loop-command.receipts.items c.in-Err.fault c.in-Err.ensures.err v.number_is v.made_is (omega arith) v.later v.stand
+    c.loop-command.receipts.items c.in-Err.fault c.in-Err.ensures.err v.number_is v.made_is (omega arith) v.later v.stand
 
 pub loop-command-preserved : goal.loop-command-preserved
 loop-command-preserved g c =

@@ -1,4 +1,4 @@
-use Rattle.std.proofs.Common.{rules, ◌≡◌, ◌+◌, [], ◌∷◌, ◌++◌, List, length, sym, ap, ◌∙◌, subst}
+use Rattle.std.proofs.Common.{rules, ◌+◌, [], ◌∷◌, ◌++◌, List, length, sym, ap, ◌∙◌, subst}
 use mathlib.Core.List.{IsPrefix}
 use Rattle.lrc_book.specs.Books.{BookView}
 use Rattle.lrc_book.specs.declared.entry.Entry.{Entry}
@@ -19,4 +19,4 @@ returns-clause-called g c =
     let grown = c.show-2.ensures.all ∙ (c.in-Ok.ensures.entry ∙ ap (λ (k : BookView). k.history ++ e ∷ []) c.covers.ensures.same) in
     let place = c.in-Ok.ensures.place ∙ sym (ap length c.show-2.ensures.all) in
     called g.N.ViewNaming.topology c.args.session.now _ c.session.inside.number c.args.command r history is begins grown is
-        (ap (λ (v : SessionView). v.made + 1) c.session.view_is) c.show-2.ensures.legal place
+    (ap (λ (v : SessionView). v.made + 1) c.session.view_is) c.show-2.ensures.legal place
