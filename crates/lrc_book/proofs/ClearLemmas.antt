@@ -163,16 +163,29 @@ module _ (nodes : List NodeInfo) (st : State) (s : StripeNo) (f : Fragment) (h :
           let fewer = count-falls (λ (g : Held). nat_eq g.seat.node.value n.value) kept st.homes h there-home.0 (eq-eqb h.seat.node.value n.value (sym (eqb-true n.value h.seat.node.value on))) (ap not there-home.1) in
           omega (arith, before, after, all, left, fewer)
 
+-- ---- a fragment's home among homes
+
+module _ (s : StripeNo) (f : Fragment) where
+  -- the home that a fragment's seat is of
+  pub home-at : (homes : List Held) (o : Option Held) → home_of homes s f.value ≡ o → (seat : Seat) → option_map (λ h. h.seat) o ≡ Some seat
+      → (h : Held) × (home_of homes s f.value ≡ Some h) × (h.seat ≡ seat)
+  home-at homes None e seat at = absurd (cc)
+  home-at homes (Some h) e seat at = (h, e, same_Some h.seat seat at)
+
+  -- where a fragment has no home, none is taken out
+  pub none-at : (hs : List Held) → option_map (λ h. h.seat) (home_of hs s f.value) ≡ None → filter (λ h. not (is_of s f.value h)) hs ≡ hs
+  none-at [] e = refl
+  none-at (h ∷ hs) e = elim (cases_Bool (is_of s f.value h)) [
+    | inl hit ↦ absurd (let never : Some h.seat ≡ None = rw hit at e in cc)
+    | inr miss ↦ rw miss (ap (λ xs. h ∷ xs) (none-at hs (rw miss at e)))
+  ]
+
 -- ---- what is kept then
 
 module _ (st : State) (k : Store) (kept : IsOf st k) (s : StripeNo) (f : Fragment) where
-  home-at : (o : Option Held) → home_of st.homes s f.value ≡ o → (seat : Seat) → option_map (λ h. h.seat) o ≡ Some seat → (h : Held) × (home_of st.homes s f.value ≡ Some h) × (h.seat ≡ seat)
-  home-at None e seat at = absurd (cc)
-  home-at (Some h) e seat at = (h, e, same_Some h.seat seat at)
-
   -- the home that the stripes show is one of the state
   pub home-kept : (seat : Seat) → (stored_in k.stripes).homes s f.value ≡ Some seat → (h : Held) × (home_of st.homes s f.value ≡ Some h) × (h.seat ≡ seat)
-  home-kept seat is = home-at (home_of st.homes s f.value) refl seat (sym (ap (λ (t : Stored). t.homes s f.value) kept.stripes_is) ∙ is)
+  home-kept seat is = home-at s f st.homes (home_of st.homes s f.value) refl seat (sym (ap (λ (t : Stored). t.homes s f.value) kept.stripes_is) ∙ is)
 
   -- its seat is taken
   pub clear-taken : (seat : Seat) → (stored_in k.stripes).homes s f.value ≡ Some seat → (slots_of k.table).taken seat.node seat.slot ≡ true
@@ -196,14 +209,7 @@ module _ (st : State) (k : Store) (kept : IsOf st k) (s : StripeNo) (f : Fragmen
         modes_are = same-modes st (without_home st s f) k.modes refl kept.modes_are;
       }
 
-  none-at : (hs : List Held) → option_map (λ h. h.seat) (home_of hs s f.value) ≡ None → filter (λ h. not (is_of s f.value h)) hs ≡ hs
-  none-at [] e = refl
-  none-at (h ∷ hs) e = elim (cases_Bool (is_of s f.value h)) [
-    | inl hit ↦ absurd (let never : Some h.seat ≡ None = rw hit at e in cc)
-    | inr miss ↦ rw miss (ap (λ xs. h ∷ xs) (none-at hs (rw miss at e)))
-  ]
-
   -- a fragment without a home has none to clear
   pub clear-none : (stored_in k.stripes).homes s f.value ≡ None → IsOf (without_home st s f) k
   clear-none is =
-      subst (λ (hs : List Held). IsOf (record st { homes = hs }) k) (sym (none-at st.homes (sym (ap (λ (t : Stored). t.homes s f.value) kept.stripes_is) ∙ is))) kept
+      subst (λ (hs : List Held). IsOf (record st { homes = hs }) k) (sym (none-at s f st.homes (sym (ap (λ (t : Stored). t.homes s f.value) kept.stripes_is) ∙ is))) kept

@@ -1,8 +1,8 @@
--- A stripe whose homes are cleared and whose leases end, fragment by fragment.
-use Rattle.std.proofs.Common.{fold, if◌then◌else◌, ◌||◌, ◌≡◌, ℕ, ◌+◌, ◌<◌, Bool, true, false, not, ◌&&◌, nat_eq, eqb, List, [], ◌∷◌, map, filter, length, take, get_or, zero-add, refl, sym, ap, ap₂, ◌∙◌, subst, inl, inr}
+-- A stripe whose leases end and whose homes are cleared, fragment by fragment.
+use Rattle.std.proofs.Common.{Option, Some, None, ◌≢◌, fold, if◌then◌else◌, ◌||◌, ◌≡◌, ℕ, ◌+◌, ◌<◌, ◌≤◌, Bool, true, false, not, ◌&&◌, nat_eq, eqb, List, [], ◌∷◌, map, filter, length, take, get_or, zero-add, refl, sym, ap, ap₂, ◌∙◌, subst, inl, inr, arith}
 use Rattle.std.proofs.Math.Path.{fun_ext}
 use Rattle.std.specs.List.{Contains, list_any, range_with_len}
-use Rattle.std.proofs.lemmas.Bool.{cases_Bool, eqb-true, eq-eqb}
+use Rattle.std.proofs.lemmas.Bool.{cases_Bool, eqb-true, eq-eqb, ne_eqb}
 use Rattle.std.proofs.lemmas.List.{take_more, get_or-map}
 use Rattle.std.proofs.lemmas.List.FromFn.{get_or-range_with_len}
 use Rattle.lrc_code.specs.declared.codes.Code.TheVariants.{Wide}
@@ -12,22 +12,32 @@ use Rattle.lrc_code.specs.Codes.{fragments}
 use Rattle.lrc_code.proofs.NumbersLemmas.{equal_fragments}
 use Rattle.lrc_topology.specs.declared.seat.Held.{Held}
 use Rattle.lrc_book.specs.Steps.{is_other}
-use Rattle.lrc_book.specs.Stores.{stored_of}
 use Rattle.lrc_book.specs.Goodness.{AreSeated}
 use Rattle.lrc_stripes.specs.Stored.{Stored}
 use Rattle.lrc_book.proofs.ModesLemmas.{same-modes}
 use Rattle.lrc_book.proofs.MemberLemmas.{list_any-All, All-members, list_any-member}
 use Rattle.lrc_book.proofs.SeatedLemmas.{without-seated}
-use Rattle.lrc_book.proofs.StoredLemmas.{test-sym, stored-without}
+use Rattle.lrc_book.proofs.LeaseGoodLemmas.{homes-seated}
+use Rattle.lrc_book.proofs.StoredLemmas.{test-sym, stored-without, stored-clear}
 use Rattle.std.proofs.lemmas.List.Sums.{fold-append}
 use Rattle.lrc_stripes.specs.Tables as tables
 use Rattle.lrc_stripes.specs.Tables.{stored_in}
 use Rattle.lrc_stripes.specs.Stored as stored
 use Rattle.lrc_book.specs.declared.store.Store.{Store}
 use Rattle.lrc_leases.specs.declared.lease.Lease.{Lease}
-use Rattle.lrc_book.specs.States.{State, has_stripe, held_by}
+use Rattle.lrc_book.specs.States.{State, has_stripe, held_by, taken_seats}
 use Rattle.lrc_book.specs.Steps.{without_stripe}
 use Rattle.lrc_book.specs.Leases.{without_lease, without_home}
+use Rattle.lrc_book.specs.Dropping.{unleased, homeless}
+use Rattle.lrc_book.specs.Ties.{table_of}
+use Rattle.lrc_topology.specs.declared.NodeInfo.{NodeInfo}
+use Rattle.lrc_topology.specs.declared.seat.Seat.{Seat}
+use Rattle.lrc_topology.specs.Seats.{is_taken}
+use Rattle.lrc_slots.specs.Slots.{Slots, with_free}
+use Rattle.lrc_slots.specs.Tables as slots
+use Rattle.lrc_slots.specs.Tables.{slots_of}
+use Rattle.lrc_stripes.specs.Levels.{home_of, homes_of}
+use Rattle.lrc_book.proofs.ClearLemmas.{home-at, none-at, seat-there, clear-table}
 use Rattle.lrc_book.proofs.StoredLemmas.{is_of}
 use Rattle.lrc_book.specs.Stores.{IsOf}
 
@@ -43,20 +53,32 @@ fragment-at f =
 pub all-fragments : (f : Fragment) → Contains (fragments Wide) f
 all-fragments f = (f.value, f.in_range, fragment-at f)
 
--- ---- the loop
-
 -- a fragment's lease ended, and its home cleared
 abbrev pub bared : State → StripeNo → Fragment → State
 bared st s f = without_home (without_lease st s f) s f
 
--- the leases of these fragments of a stripe ended and their homes cleared, one after the other
-abbrev pub cleared : State → StripeNo → List Fragment → State
-cleared st s fs = fold (λ now f. bared now s f) st fs
+-- the number of the fragment that stands at a place
+pub number-at : (i : ℕ) (d : Fragment) → i < 16 → (get_or (fragments Wide) i d).value ≡ i
+number-at i d within =
+    let numbers : map (λ (g : Fragment). g.value) (fragments Wide) ≡ range_with_len 0 16 = refl in
+    sym (get_or-map (λ (g : Fragment). g.value) (fragments Wide) i d 0 within)
+    ∙ (ap (λ xs. get_or xs i 0) numbers ∙ (get_or-range_with_len 0 16 i 0 within ∙ zero-add i))
 
--- one fragment more of a list that is gone through
-pub cleared-more : (st : State) (s : StripeNo) (fs : List Fragment) (i : ℕ) (d : Fragment) → i < length fs → bared (cleared st s (take i fs)) s (get_or fs i d) ≡ cleared st s (take (i + 1) fs)
-cleared-more st s fs i d within =
-    sym (ap (fold (λ now f. bared now s f) st) (take_more fs i d within) ∙ fold-append (λ now f. bared now s f) st (take i fs) (get_or fs i d ∷ []))
+-- ---- one fragment more of a list that is gone through
+
+pub unleased-more : (st : State) (s : StripeNo) (fs : List Fragment) (i : ℕ) (d : Fragment) → i < length fs
+    → without_lease (unleased st s (take i fs)) s (get_or fs i d) ≡ unleased st s (take (i + 1) fs)
+unleased-more st s fs i d within =
+    sym (ap (fold (λ now f. without_lease now s f) st) (take_more fs i d within)
+    ∙ fold-append (λ now f. without_lease now s f) st (take i fs) (get_or fs i d ∷ []))
+
+pub homeless-more : (st : State) (s : StripeNo) (fs : List Fragment) (i : ℕ) (d : Fragment) → i < length fs
+    → without_home (homeless st s (take i fs)) s (get_or fs i d) ≡ homeless st s (take (i + 1) fs)
+homeless-more st s fs i d within =
+    sym (ap (fold (λ now f. without_home now s f) st) (take_more fs i d within)
+    ∙ fold-append (λ now f. without_home now s f) st (take i fs) (get_or fs i d ∷ []))
+
+-- ---- all fragments
 
 -- the home is of the stripe, and of one of these fragments
 abbrev is_among : StripeNo → List Fragment → Held → Bool
@@ -81,17 +103,25 @@ not-or : (a b : Bool) → (not a && not b) ≡ not (a || b)
 not-or true b = refl
 not-or false b = refl
 
-cleared-homes : (st : State) (s : StripeNo) (fs : List Fragment)
-    → cleared st s fs ≡ record st { homes = filter (λ h. not (is_among s fs h)) st.homes; leases = filter (λ l. not (is_among s fs (held_by l))) st.leases }
-cleared-homes st s [] = ap₂ (λ hs ls. record st { homes = hs; leases = ls }) (sym (filter-true st.homes)) (sym (filter-true st.leases))
-cleared-homes st s (f ∷ fs) =
-    cleared-homes (bared st s f) s fs
-    ∙ ap₂ (λ hs ls. record st { homes = hs; leases = ls })
-    (filter-both (λ (h : Held). not (is_of s f.value h)) (λ h. not (is_among s fs h)) st.homes
-    ∙ filter-alike (λ (h : Held). not (is_of s f.value h) && not (is_among s fs h)) (λ h. not (is_among s (f ∷ fs) h)) (λ h. not-or (is_of s f.value h) (is_among s fs h)) st.homes)
+unleased-leases : (st : State) (s : StripeNo) (fs : List Fragment)
+    → unleased st s fs ≡ record st { leases = filter (λ l. not (is_among s fs (held_by l))) st.leases }
+unleased-leases st s [] = ap (λ ls. record st { leases = ls }) (sym (filter-true st.leases))
+unleased-leases st s (f ∷ fs) =
+    unleased-leases (without_lease st s f) s fs
+    ∙ ap (λ ls. record st { leases = ls })
     (filter-both (λ (l : Lease). not (is_of s f.value (held_by l))) (λ l. not (is_among s fs (held_by l))) st.leases
     ∙ filter-alike (λ (l : Lease). not (is_of s f.value (held_by l)) && not (is_among s fs (held_by l))) (λ l. not (is_among s (f ∷ fs) (held_by l)))
     (λ l. not-or (is_of s f.value (held_by l)) (is_among s fs (held_by l))) st.leases)
+
+homeless-homes : (st : State) (s : StripeNo) (fs : List Fragment)
+    → homeless st s fs ≡ record st { homes = filter (λ h. not (is_among s fs h)) st.homes }
+homeless-homes st s [] = ap (λ hs. record st { homes = hs }) (sym (filter-true st.homes))
+homeless-homes st s (f ∷ fs) =
+    homeless-homes (without_home st s f) s fs
+    ∙ ap (λ hs. record st { homes = hs })
+    (filter-both (λ (h : Held). not (is_of s f.value h)) (λ h. not (is_among s fs h)) st.homes
+    ∙ filter-alike (λ (h : Held). not (is_of s f.value h) && not (is_among s fs h)) (λ h. not (is_among s (f ∷ fs) h))
+    (λ h. not-or (is_of s f.value h) (is_among s fs h)) st.homes)
 
 -- all fragments of the stripe are all its homes
 among-all : (s : StripeNo) (h : Held) → not (is_among s (fragments Wide) h) ≡ is_other s h.stripe
@@ -104,42 +134,109 @@ among-all s h = elim (cases_Bool (eqb h.stripe.value s.value)) [
       ap not none ∙ sym (ap not (test-sym s.value h.stripe.value ∙ other))
 ]
 
-pub cleared-all : (st : State) (s : StripeNo) → cleared st s (fragments Wide) ≡ record st { homes = filter (λ h. is_other s h.stripe) st.homes; leases = filter (λ l. is_other s l.stripe) st.leases }
-cleared-all st s =
-    cleared-homes st s (fragments Wide)
-    ∙ ap₂ (λ hs ls. record st { homes = hs; leases = ls }) (filter-alike (λ (h : Held). not (is_among s (fragments Wide) h)) (λ h. is_other s h.stripe) (among-all s) st.homes)
+unleased-all : (st : State) (s : StripeNo) → unleased st s (fragments Wide) ≡ record st { leases = filter (λ l. is_other s l.stripe) st.leases }
+unleased-all st s =
+    unleased-leases st s (fragments Wide)
+    ∙ ap (λ ls. record st { leases = ls })
     (filter-alike (λ (l : Lease). not (is_among s (fragments Wide) (held_by l))) (λ l. is_other s l.stripe) (λ l. among-all s (held_by l)) st.leases)
 
--- the stripes that there are stay
-cleared-stripes : (st : State) (s : StripeNo) (fs : List Fragment) → (cleared st s fs).stripes ≡ st.stripes
-cleared-stripes st s fs = ap (λ (x : State). x.stripes) (cleared-homes st s fs)
+homeless-all : (st : State) (s : StripeNo) → homeless st s (fragments Wide) ≡ record st { homes = filter (λ h. is_other s h.stripe) st.homes }
+homeless-all st s =
+    homeless-homes st s (fragments Wide)
+    ∙ ap (λ hs. record st { homes = hs })
+    (filter-alike (λ (h : Held). not (is_among s (fragments Wide) h)) (λ h. is_other s h.stripe) (among-all s) st.homes)
 
--- and so the stripe is there
-pub cleared-has : (st : State) (s : StripeNo) (fs : List Fragment) → has_stripe st s ≡ true → has_stripe (cleared st s fs) s ≡ true
-cleared-has st s fs there = ap (λ (stripes : List StripeNo). list_any (λ (t : StripeNo). nat_eq s.value t.value) stripes) (cleared-stripes st s fs) ∙ there
+-- the stripe is there, also without its leases
+pub unleased-has : (st : State) (s : StripeNo) → has_stripe st s ≡ true → has_stripe (unleased st s (fragments Wide)) s ≡ true
+unleased-has st s there = ap (λ (x : State). has_stripe x s) (unleased-all st s) ∙ there
 
-pub cleared-there : (st : State) (s : StripeNo) (fs : List Fragment) (k : Store) → IsOf (cleared st s fs) k → has_stripe st s ≡ true → (stored_in k.stripes).stripes s ≡ true
-cleared-there st s fs k kept there = ap (λ (x : Stored). x.stripes s) kept.stripes_is ∙ cleared-has st s fs there
+-- ---- a home whose seat is given back
 
--- The stripe taken out, with its homes cleared before, what is kept is that of the state without it.
-pub dropped-kept : (st : State) (s : StripeNo) (before k : Store) (stripes : tables.Table) → IsOf st before → IsOf (cleared st s (fragments Wide)) k → k.topology ≡ before.topology
-    → stored_in stripes ≡ stored.with_spare (stored.without_stripe (stored_in k.stripes) s) (stored_in stripes).spare → IsOf (without_stripe st s) (record k { stripes = stripes })
-dropped-kept st s before k stripes first last same removed =
-    let now = record st { homes = filter (λ h. is_other s h.stripe) st.homes; leases = filter (λ l. is_other s l.stripe) st.leases } in
-    let kept : IsOf now k = subst (λ (x : State). IsOf x k) (cleared-all st s) last in record {
+module _ (nodes : List NodeInfo) (st : State) (s : StripeNo) (f : Fragment) where
+  -- it stands on a seat that is taken
+  pub home-taken : AreSeated nodes st → (seat : Seat) → homes_of st.homes s f.value ≡ Some seat → (table_of nodes st).taken seat.node seat.slot ≡ true
+  home-taken good seat is =
+      let home = home-at s f st.homes (home_of st.homes s f.value) refl seat is in
+      subst (λ (a : Seat). is_taken (taken_seats st) a.node a.slot ≡ true) home.2 (seat-there nodes st s f home.0 good home.1)
+
+  -- without the seat, the table is that without the home
+  pub home-freed : AreSeated nodes st → (seat : Seat) → homes_of st.homes s f.value ≡ Some seat
+      → with_free (table_of nodes st) seat.node seat.slot ≡ table_of nodes (without_home st s f)
+  home-freed good seat is =
+      let home = home-at s f st.homes (home_of st.homes s f.value) refl seat is in
+      subst (λ (a : Seat). with_free (table_of nodes st) a.node a.slot ≡ table_of nodes (without_home st s f)) home.2
+      (clear-table nodes st s f home.0 good home.1)
+
+  -- where there is no home, nothing changes
+  pub none-freed : homes_of st.homes s f.value ≡ None → st ≡ without_home st s f
+  none-freed is = ap (λ (hs : List Held). record st { homes = hs }) (sym (none-at s f st.homes is))
+
+  -- the homes of other fragments stay
+  pub others-stay : (g : Fragment) → f.value ≢ g.value → homes_of (without_home st s f).homes s g.value ≡ homes_of st.homes s g.value
+  others-stay g apart =
+      sym (ap (λ (x : Stored). x.homes s g.value) (stored-clear nodes st 0 s f))
+      ∙ rw (eq-eqb s.value s.value refl, ne_eqb f.value g.value apart) refl
+
+-- The homes of the first fragments are cleared in the state of the table, and those of the others stand as they were.
+pub record IsFreed (nodes : List NodeInfo) (st : State) (s : StripeNo) (i : ℕ) (table : Slots) : Type 0 where
+  pub seated : AreSeated nodes (homeless st s (take i (fragments Wide)))
+  pub table_is : table ≡ table_of nodes (homeless st s (take i (fragments Wide)))
+  pub left : (f : Fragment) → i ≤ f.value → homes_of (homeless st s (take i (fragments Wide))).homes s f.value ≡ homes_of st.homes s f.value
+
+module _ (nodes : List NodeInfo) (st : State) (s : StripeNo) (i : ℕ) (d : Fragment) (within : i < 16) (table : Slots) (was : IsFreed nodes st s i table) where
+  abbrev now : State
+  now = homeless st s (take i (fragments Wide))
+
+  abbrev here : Fragment
+  here = get_or (fragments Wide) i d
+
+  home-left : homes_of now.homes s here.value ≡ homes_of st.homes s here.value
+  home-left = let at = number-at i d within in was.left here (omega (arith, at))
+
+  more : without_home now s here ≡ homeless st s (take (i + 1) (fragments Wide))
+  more = homeless-more st s (fragments Wide) i d within
+
+  next-freed : (next : Slots) → next ≡ table_of nodes (without_home now s here) → IsFreed nodes st s (i + 1) next
+  next-freed next is = record {
+    seated = subst (λ (x : State). AreSeated nodes x) more (homes-seated nodes now (λ h. not (is_of s here.value h)) was.seated);
+    table_is = is ∙ ap (table_of nodes) more;
+    left = λ g above.
+        let at = number-at i d within in
+        ap (λ (x : State). homes_of x.homes s g.value) (sym more)
+        ∙ others-stay nodes now s here g (λ e. absurd (omega (arith, at, above, e)))
+        ∙ was.left g (omega (arith, above));
+  }
+
+  -- the seat of the next one's home is taken
+  pub freed-taken : (seat : Seat) → homes_of st.homes s here.value ≡ Some seat → table.taken seat.node seat.slot ≡ true
+  freed-taken seat is = ap (λ (t : Slots). t.taken seat.node seat.slot) was.table_is ∙ home-taken nodes now s here was.seated seat (home-left ∙ is)
+
+  -- it is given back
+  pub freed-seat : (seat : Seat) → homes_of st.homes s here.value ≡ Some seat → IsFreed nodes st s (i + 1) (with_free table seat.node seat.slot)
+  freed-seat seat is =
+      next-freed (with_free table seat.node seat.slot)
+      (ap (λ (t : Slots). with_free t seat.node seat.slot) was.table_is ∙ home-freed nodes now s here was.seated seat (home-left ∙ is))
+
+  -- or there is none
+  pub freed-none : homes_of st.homes s here.value ≡ None → IsFreed nodes st s (i + 1) table
+  freed-none is = next-freed table (was.table_is ∙ ap (table_of nodes) (none-freed nodes now s here (home-left ∙ is)))
+
+-- ---- the stripe taken out
+
+-- With the leases ended, the seats given back and the stripe taken out, what is kept is that of the state without it.
+pub dropped-kept : (st : State) (s : StripeNo) (before k : Store) (table : slots.Table) (stripes : tables.Table)
+    → IsOf st before → IsOf (unleased st s (fragments Wide)) k → k.topology ≡ before.topology
+    → slots_of table ≡ table_of k.topology (homeless (unleased st s (fragments Wide)) s (fragments Wide))
+    → stored_in stripes ≡ stored.with_spare (stored.without_stripe (stored_in k.stripes) s) (stored_in stripes).spare
+    → IsOf (without_stripe st s) (record k { table = table; stripes = stripes })
+dropped-kept st s before k table stripes first last same freed removed =
+    let left = record st { leases = filter (λ l. is_other s l.stripe) st.leases } in
+    let kept : IsOf left k = subst (λ (x : State). IsOf x k) (unleased-all st s) last in record {
       known = kept.known;
       seated = without-seated k.topology kept.known st s (subst (λ ns. AreSeated ns st) (sym same) first.seated);
-      table_is = kept.table_is;
+      table_is = freed ∙ ap (table_of k.topology) (ap (λ (x : State). homeless x s (fragments Wide)) (unleased-all st s) ∙ homeless-all left s);
       stripes_is = removed ∙ ap (λ (x : Stored). stored.with_spare (stored.without_stripe x s) (stored_in stripes).spare) kept.stripes_is
-          ∙ ap (λ (x : Stored). stored.with_spare x (stored_in stripes).spare) (stored-without k.topology now (stored_in k.stripes).spare s ∙ twice);
+          ∙ ap (λ (x : Stored). stored.with_spare x (stored_in stripes).spare) (stored-without k.topology left (stored_in k.stripes).spare s);
       leases_is = kept.leases_is;
-      modes_are = same-modes now (without_stripe st s) k.modes refl kept.modes_are;
+      modes_are = same-modes left (without_stripe st s) k.modes refl kept.modes_are;
     }
-  where
-    twice : stored_of k.topology (without_stripe (record st { homes = filter (λ h. is_other s h.stripe) st.homes }) s) (stored_in k.stripes).spare ≡ stored_of k.topology (without_stripe st s) (stored_in k.stripes).spare
-    twice = ap (λ (hs : List Held). stored_of k.topology (record (without_stripe st s) { homes = hs }) (stored_in k.stripes).spare)
-        (filter-both (λ (h : Held). is_other s h.stripe) (λ h. is_other s h.stripe) st.homes ∙ filter-alike (λ (h : Held). is_other s h.stripe && is_other s h.stripe) (λ h. is_other s h.stripe) (λ h. and-same (is_other s h.stripe)) st.homes)
-      where
-        and-same : (b : Bool) → (b && b) ≡ b
-        and-same true = refl
-        and-same false = refl

@@ -32,3 +32,4 @@ pub mod Repairing
 pub mod Books
 pub mod Boards
 pub mod Touching
+pub mod Dropping

@@ -3,11 +3,14 @@
 ghost use Rattle.std.specs.Prelude.{◌≡◌, true, false, IfOk, IfErr};
 ghost use Rattle.lrc_code.specs.declared.codes.Code.TheVariants.{Wide};
 ghost use Rattle.lrc_code.specs.Codes.{fragments};
+ghost use Rattle.lrc_slots.specs.Tables.{slots_of};
 ghost use Rattle.lrc_book.specs.declared.reply.Reply.TheVariants.{Placed, Dropped};
 ghost use Rattle.lrc_book.specs.States.{State, has_stripe};
 ghost use Rattle.lrc_book.specs.Choices.{AreChosen, IsFirstWithout};
 ghost use Rattle.lrc_book.specs.Steps.{with_stripe, place_outcome, drop_outcome, without_stripe};
 ghost use Rattle.lrc_book.specs.Changes.{with_placed};
+ghost use Rattle.lrc_book.specs.Ties.{table_of};
+ghost use Rattle.lrc_book.specs.Dropping.{unleased, homeless};
 ghost use Rattle.lrc_book.specs.Stores.{IsOf, has_room};
 
 use crate::class_bars::ClassBars;
@@ -88,10 +91,35 @@ impl Store {
         ensures nodes { self.new.topology ≡ self.old.topology }
         ensures kept { IsOf (without_stripe st stripe) self.new }
     {
+        self.end_leases(stripe);
+        self.free_homes(stripe);
+        self.stripes.remove(stripe);
+    }
+
+    /// Ends the leases of a stripe's fragments, and gives their targets back.
+    fn end_leases(&mut self, stripe: StripeNo)
+        ghost st: { State }
+        requires { IsOf st self.old }
+        ensures nodes { self.new.topology ≡ self.old.topology }
+        ensures kept { IsOf (unleased st stripe (fragments Wide)) self.new }
+    {
         for fragment in Fragment::all().iter() {
             self.end_lease(stripe, *fragment);
-            self.clear_home(stripe, *fragment);
         }
-        self.stripes.remove(stripe);
+    }
+
+    /// Gives the seats of a stripe's homes back, and leaves the stripe to be taken out with them.
+    fn free_homes(&mut self, stripe: StripeNo)
+        ghost st: { State }
+        requires kept { IsOf st self.old }
+        requires there { has_stripe st stripe ≡ true }
+        ensures rest { self.new ≡ record self.old { table = self.new.table } }
+        ensures table { slots_of self.new.table ≡ table_of self.old.topology (homeless st stripe (fragments Wide)) }
+    {
+        for fragment in Fragment::all().iter() {
+            if let Some(seat) = self.stripes.home(stripe, *fragment) {
+                self.table.free(seat.node, seat.slot);
+            }
+        }
     }
 }

@@ -1,13 +1,10 @@
-use Rattle.std.proofs.Common.{◌≡◌, take}
 use Rattle.lrc_code.specs.declared.codes.Code.TheVariants.{Wide}
 use Rattle.lrc_code.specs.Codes.{fragments}
-use Rattle.lrc_book.specs.Stores.{IsOf}
-use Rattle.lrc_book.proofs.FragmentLemmas.{cleared}
+use Rattle.lrc_book.specs.Dropping.{unleased}
 use Rattle.lrc_book.proofs.store.Store.drop_stripe.Given as goal
 
-abbrev pub invariant-loop-fragment : goal.invariant-loop-fragment
-invariant-loop-fragment g l = record {
-  kept : IsOf (cleared g.st l.stripe (take l.fragment-index l.fragment-items)) l.self;
-  nodes : l.self.topology ≡ l.initial.self.topology;
-  all : l.fragment-items ≡ fragments Wide;
-}
+abbrev pub ghost-end_leases : goal.ghost-end_leases
+ghost-end_leases g a = g.st
+
+abbrev pub ghost-free_homes : goal.ghost-free_homes
+ghost-free_homes g a = unleased g.st a.stripe (fragments Wide)
