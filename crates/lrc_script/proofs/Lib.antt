@@ -1,5 +1,4 @@
 pub mod CutLemmas
-pub mod PieceLemmas
 pub mod ScriptLemmas
 pub mod LineLemmas
 pub mod SizeLemmas

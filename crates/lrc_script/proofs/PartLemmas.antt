@@ -1,14 +1,18 @@
 -- A text, cut at its first parting line.
-use Rattle.std.proofs.Common.{◌≡◌, ◌≢◌, ℕ, ◌+◌, ◌-◌, ◌≤◌, true, false, Option, Some, None, nat_eq, option_map, unwrap_or, codes, List, [], ◌∷◌, ◌++◌, length, take, All, refl, sym, ap, ◌∙◌, arith, append_assoc, append-nil, length-append, inl, inr}
+use Rattle.std.proofs.Common.{◌≡◌, ◌≢◌, ℕ, ◌+◌, ◌-◌, ◌<◌, ◌≤◌, zero, suc, true, false, Option, Some, None, nat_eq, option_map, unwrap_or, codes, List, [], ◌∷◌, ◌++◌, length, get_or, take, drop, All, refl, sym, ap, ◌∙◌, arith, append_assoc, append-nil, length-append, inl, inr}
+use borrow.Author.Tests.{eqb-true}
 use Rattle.std.specs.Borrow.{Bor}
-use Rattle.std.specs.List.{slice_split}
-use Rattle.std.proofs.lemmas.List.{take_at, length_push}
+use Rattle.std.specs.List.{slice_split, flat_map}
+use Rattle.std.proofs.lemmas.List.{take_at, drop_at, length_push}
 use Rattle.std.proofs.lemmas.List.Elements.{All-push}
 use Rattle.std.proofs.lemmas.List.Splits.{slice_split_none, slice_split_at}
 use Rattle.lrc_script.specs.Cuts.{IsCut, StandBehind, IsCutAtParting, IsPart}
 use Rattle.lrc_script.specs.Scripts.{lines_of}
 use Rattle.lrc_script.specs.Bundles.{is_parting, parts_of, ended_lines}
-use Rattle.lrc_script.proofs.ScriptLemmas.{same_text-true}
+use Rattle.lrc_script.proofs.ScriptLemmas.{not_so, same_text-true}
+use Rattle.lrc_script.proofs.SplitLemmas.{joined_by, joined_parts}
+use Rattle.memchr.specs.Find.{OccursAt, Nowhere}
+use Rattle.memchr.proofs.lemmas.MatchLemmas.{OccursAt-from_part}
 use Rattle.lrc_script.proofs.CutLemmas.{has_none, pieces_behind, slice_split-cut}
 
 -- these lines of the text were passed, and this rest is left; none of them parts
@@ -92,3 +96,41 @@ module _ (text rest line : List ℕ) (lines : ℕ) (so_far : IsPassed text rest 
           counted = so_far.counted;
           within = omega (arith, ap length before, long, length-cut rest line left behind cut is, ap length (same_text-true line (codes "%%") parts));
         }
+
+-- ---- a text in which no two percent signs stand side by side
+
+-- a line stands in the text of those that it is one of
+stands_behind : (lines : List (List ℕ)) (k : ℕ) (d : List ℕ) → k < length lines → (front : List ℕ) × (back : List ℕ) × (flat_map (λ line. 10 ∷ line) lines ≡ front ++ (get_or lines k d ++ back))
+stands_behind [] k d within = absurd (omega (arith, within))
+stands_behind (line ∷ lines) zero d within = (10 ∷ [], flat_map (λ line. 10 ∷ line) lines, refl)
+stands_behind (line ∷ lines) (suc k) d within =
+    let there = stands_behind lines k d (omega (arith, within)) in
+    ((10 ∷ line) ++ there.0, there.1, ap (λ t. (10 ∷ line) ++ t) there.2 ∙ sym (append_assoc (10 ∷ line) there.0 (get_or lines k d ++ there.1)))
+
+stands_in : (lines : List (List ℕ)) (k : ℕ) (d : List ℕ) → k < length lines → (front : List ℕ) × (back : List ℕ) × (joined_by 10 lines ≡ front ++ (get_or lines k d ++ back))
+stands_in [] k d within = absurd (omega (arith, within))
+stands_in (line ∷ lines) zero d within = ([], flat_map (λ line. 10 ∷ line) lines, refl)
+stands_in (line ∷ lines) (suc k) d within =
+    let there = stands_behind lines k d (omega (arith, within)) in
+    (line ++ there.0, there.1, ap (λ t. line ++ t) there.2 ∙ sym (append_assoc line there.0 (get_or lines k d ++ there.1)))
+
+occurs_there : (text front back : List ℕ) → text ≡ front ++ (codes "%%" ++ back) → OccursAt text (codes "%%") (length front)
+occurs_there text front back is =
+    let long = ap length is ∙ length-append front (codes "%%" ++ back) in
+    OccursAt-from_part text (codes "%%") (length front) (omega (arith, long)) (ap (λ t. take 2 (drop (length front) t)) is ∙ ap (take 2) (drop_at front (codes "%%" ++ back) (length front) refl))
+
+module _ (text : List ℕ) (nowhere : Nowhere (OccursAt text (codes "%%")) 0 (length text + 1)) where
+  not_so_there : (line front back : List ℕ) → text ≡ front ++ (line ++ back) → is_parting line ≡ true → ⊥
+  not_so_there line front back is parts =
+      let there = is ∙ ap (λ l. front ++ (l ++ back)) (same_text-true line (codes "%%") parts) in
+      nowhere (length front) (omega arith) (omega (arith, ap length is, length-append front (line ++ back))) (occurs_there text front back there)
+
+  none_there : All (λ line. is_parting line ≡ false) (lines_of text)
+  none_there k d within =
+      let there = stands_in (lines_of text) k d within in
+      let is = sym (joined_parts (λ b. nat_eq b 10) 10 (λ b same. eqb-true b 10 same) text) ∙ there.2 in
+      not_so (is_parting (get_or (lines_of text) k d)) (not_so_there (get_or (lines_of text) k d) there.0 there.1 is)
+
+  -- no line of it parts
+  pub IsPart-whole : IsPart text text 0 None
+  IsPart-whole = (refl, omega arith, slice_split_none is_parting (lines_of text) none_there)

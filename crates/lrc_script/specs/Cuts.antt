@@ -1,9 +1,9 @@
 -- Internal: no public clause reaches these definitions.
 -- Texts, cut at the first of a byte or at their first parting line, and lines, read.
-use Rattle.std.specs.Prelude.{◌≡◌, ◌≢◌, ℕ, ◌+◌, ◌≤◌, ◌⊎◌, true, false, List, [], ◌∷◌, ◌++◌, length, All, Option, Some, None}
+use Rattle.std.specs.Prelude.{◌≡◌, ◌≢◌, ℕ, ◌+◌, ◌≤◌, ◌⊎◌, true, false, List, [], ◌∷◌, ◌++◌, length, All, Option, Some, None, option_map, option_to_list}
 use Rattle.std.specs.Borrow.{Bor}
 use Rattle.lrc_book.specs.declared.command.Command.{Command}
-use Rattle.lrc_script.specs.Scripts.{lines_of, words_of, is_passed_over, command_line, IsInRange}
+use Rattle.lrc_script.specs.Scripts.{lines_of, words_of, is_passed_over, command_line, IsInRange, cause_of, BadLine}
 use Rattle.lrc_script.specs.Bundles.{parts_of, ended_lines}
 
 -- ---- at a byte
@@ -45,3 +45,13 @@ IsPart text before lines None = (before ≡ text) × (lines ≤ length text) × 
 abbrev pub IsReadAs : List ℕ → Option Command → Type 0
 IsReadAs line (Some command) = (is_passed_over line ≡ false) × IsInRange command × (line ≡ command_line command)
 IsReadAs line None = is_passed_over line ≡ true
+
+-- the commands behind those before: that of the line too, or none more where it is passed over
+pub record IsAdded (line : List ℕ) (before after : List Command) : Type 0 where
+  pub read : Option Command
+  pub is_read : IsReadAs line read
+  pub commands : after ≡ before ++ option_to_list read
+
+-- the line that has this number, if it is bad
+abbrev pub bad_line : ℕ → List ℕ → Option BadLine
+bad_line number line = option_map (λ cause. record { line = number; cause = cause }) (cause_of line)

@@ -3,7 +3,8 @@ ghost use Rattle.lrc_script.specs.Bundles.{scripts_of, topology_of, AreTextsOf};
 ghost use Rattle.lrc_script.specs.Cuts.{IsPart};
 ghost use Rattle.lrc_script.specs.declared.bundle.BundleError.TheVariants as errors;
 
-use crate::cut::cut;
+use crate::cut::cut_line;
+use memchr::memmem;
 use std::alloc::{AllocError, AllocFailed, Global};
 use thiserror::Error;
 
@@ -99,7 +100,7 @@ pub fn split_bundle<'a>(
 struct Part<'a> {
     /// What stands before that line, or the whole text.
     text: &'a [u8],
-    /// How many lines end there.
+    /// How many lines end before a parting line.
     lines: u64,
     /// What stands behind that line, if it is there.
     behind: Option<&'a [u8]>,
@@ -108,10 +109,18 @@ struct Part<'a> {
 fn cut_part(text: &[u8]) -> Part<'_>
     ensures { IsPart text.now result.text.now result.lines result.behind }
 {
+    // Most texts have no such line, which one search of all their bytes shows.
+    if memmem::find(text, b"%%").is_none() {
+        return Part {
+            text,
+            lines: 0,
+            behind: None,
+        };
+    }
     let mut rest = text;
     let mut lines = 0;
     loop {
-        let (line, behind) = cut(rest, b'\n');
+        let (line, behind) = cut_line(rest);
         if line == b"%%".as_slice() {
             let text = &text[..text.len() - rest.len()];
             let behind = Some(behind.unwrap_or(&[]));

@@ -1,11 +1,25 @@
 ghost use Rattle.lrc_script.specs.Cuts.{IsCut};
 
-/// What stands before the first of these bytes, and what stands behind it, if it is there.
-pub(crate) fn cut(text: &[u8], separator: u8) -> (&[u8], Option<&[u8]>)
-    ensures { IsCut separator text.now result.0.now result.1 }
+use memchr::memchr;
+
+/// The first line of a text, without its end, and what stands behind it, if the line ends.
+pub(crate) fn cut_line(text: &[u8]) -> (&[u8], Option<&[u8]>)
+    ensures { IsCut 10 text.now result.0.now result.1 }
 {
-    match text.iter().position(|byte| *byte == separator) {
-        Some(at) => (&text[..at], Some(&text[at + 1..])),
+    match memchr(b'\n', text) {
+        Some(end) => (&text[..end], Some(&text[end + 1..])),
         None => (text, None),
+    }
+}
+
+/// The first word of a line, and what stands behind the space after it, if there is one. A word is short, so a search
+/// of many bytes at once would take longer.
+#[inline]
+pub(crate) fn cut_word(line: &[u8]) -> (&[u8], Option<&[u8]>)
+    ensures { IsCut 32 line.now result.0.now result.1 }
+{
+    match line.iter().position(|byte| *byte == b' ') {
+        Some(at) => (&line[..at], Some(&line[at + 1..])),
+        None => (line, None),
     }
 }

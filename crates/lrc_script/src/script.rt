@@ -1,11 +1,11 @@
-ghost use Rattle.std.specs.Prelude.{◌≡◌, ◌≢◌, ℕ, ◌+◌, ◌^◌, ◌<◌, ◌≤◌, [], ◌∷◌, length, decimal, OnOk, IfOk, IfErr, MatchResult};
+ghost use Rattle.std.specs.Prelude.{◌≡◌, ◌≢◌, ℕ, ◌+◌, ◌^◌, ◌<◌, ◌≤◌, [], ◌∷◌, length, decimal, None, OnOk, IfOk, IfErr, MatchResult};
 ghost use Rattle.std.specs.List.{join_with_byte};
 ghost use Rattle.std.specs.Result.{result_err};
 ghost use Rattle.lrc_script.specs.Scripts.{lines_of, words_of, is_passed_over, command_line, IsInRange, IsScript, argument_cause, numbers_cause, node_forms, form_in, form_cause, words_cause, cause_of, first_bad, IsFirstBad};
-ghost use Rattle.lrc_script.specs.Cuts.{words_behind, IsReadAs};
+ghost use Rattle.lrc_script.specs.Cuts.{words_behind, IsReadAs, IsAdded, bad_line};
 ghost use Rattle.lrc_script.specs.declared.script.Cause.TheVariants as causes;
 
-use crate::cut::cut;
+use crate::cut::{cut_line, cut_word};
 use lrc_book::Command;
 use lrc_code::{Fragment, NodeNo, StripeNo, UpgradeNo};
 use std::alloc::{AllocError, AllocFailed, Global};
@@ -78,19 +78,33 @@ pub fn parse_script(
     ensures bad { IfErr result (IsFirstBad (first_bad first_line (lines_of text.now))) }
 {
     let mut commands = Vec::new(alloc);
-    for (index, line) in text.split(|byte| *byte == b'\n').enumerate() {
-        let parsed = match parse_line(line) {
-            Ok(parsed) => parsed,
-            Err(cause) => {
-                let line = first_line + index as u64;
-                return Err(ScriptError::Bad { line, cause });
-            }
+    let mut rest = text;
+    let mut number = first_line;
+    loop {
+        let (line, behind) = cut_line(rest);
+        push_line(&mut commands, line, number)?;
+        let Some(next) = behind else {
+            return Ok(commands);
         };
-        if let Some(command) = parsed {
-            commands.push(command)?;
-        }
+        rest = next;
+        number += 1;
     }
-    Ok(commands)
+}
+
+/// Adds the command of the line with this text and number, if it is the line of one.
+fn push_line(commands: &mut Vec<Command>, text: &[u8], line: u64) -> Result<(), ScriptError>
+    ensures good { OnOk result (cause_of text.now ≡ None) }
+    ensures added { OnOk result (IsAdded text.now commands.old.items commands.new.items) }
+    ensures bad { IfErr result (IsFirstBad (bad_line line text.now)) }
+{
+    let parsed = match parse_line(text) {
+        Ok(parsed) => parsed,
+        Err(cause) => return Err(ScriptError::Bad { line, cause }),
+    };
+    if let Some(command) = parsed {
+        commands.push(command)?;
+    }
+    Ok(())
 }
 
 /// The command of a line, or `None` for an empty line and a comment.
@@ -119,7 +133,7 @@ fn parse_command(line: &[u8]) -> Result<Command, Cause>
     ensures command { IfOk result (λ command. IsInRange command × (line.now ≡ command_line command)) }
     ensures cause { result_err result ≡ words_cause (words_of line.now) }
 {
-    let (word, rest) = cut(line, b' ');
+    let (word, rest) = cut_word(line);
     if word == b"place".as_slice() {
         Ok(Command::Place(only_stripe(rest)?))
     } else if word == b"drop".as_slice() {
@@ -189,7 +203,7 @@ fn only_word(rest: Option<&[u8]>) -> Result<&[u8], Cause>
     ensures err { IfErr result (λ e. (e ≡ causes.WordCount) × (length (words_behind rest.entry) ≢ 1)) }
 {
     let rest = rest.ok_or(Cause::WordCount)?;
-    match cut(rest, b' ') {
+    match cut_word(rest) {
         (word, None) => Ok(word),
         (_, Some(_)) => Err(Cause::WordCount),
     }
@@ -201,7 +215,7 @@ fn two_words(rest: Option<&[u8]>) -> Result<(&[u8], &[u8]), Cause>
     ensures err { IfErr result (λ e. (e ≡ causes.WordCount) × (length (words_behind rest.entry) ≢ 2)) }
 {
     let rest = rest.ok_or(Cause::WordCount)?;
-    let (first, behind) = cut(rest, b' ');
+    let (first, behind) = cut_word(rest);
     let second = only_word(behind)?;
     Ok((first, second))
 }
@@ -212,7 +226,7 @@ fn three_words(rest: Option<&[u8]>) -> Result<(&[u8], &[u8], &[u8]), Cause>
     ensures err { IfErr result (λ e. (e ≡ causes.WordCount) × (length (words_behind rest.entry) ≢ 3)) }
 {
     let rest = rest.ok_or(Cause::WordCount)?;
-    let (first, behind) = cut(rest, b' ');
+    let (first, behind) = cut_word(rest);
     let (second, third) = two_words(behind)?;
     Ok((first, second, third))
 }
