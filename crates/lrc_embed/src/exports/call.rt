@@ -1,6 +1,8 @@
-ghost use Rattle.std.specs.Prelude.{◌≡◌, ◌≢◌, ◌↔◌, ◌⊎◌, false, Some, None, length};
+ghost use Rattle.std.specs.Prelude.{◌≡◌, ◌≢◌, ◌↔◌, ◌⊎◌, ◌++◌, ◌∷◌, [], false, List, Some, None, length};
+ghost use Rattle.lrc_book.specs.declared.entry.Entry.{Entry};
 ghost use Rattle.lrc_embed.specs.Calls.{Of, kept, IsCall, IsStepOf, IsOutside};
 ghost use Rattle.lrc_embed.specs.Commands.{is_command};
+ghost use Rattle.lrc_embed.specs.Replies.{reply_told};
 
 use crate::status::{DONE, FULL, IS_CLOSED, OUT_OF_MEMORY, OUT_OF_RANGE};
 use crate::{LrcCommand, LrcHandle, LrcReply};
@@ -49,13 +51,21 @@ fn step(book: &mut Book, session: SessionNo, command: Command, reply: &mut LrcRe
     ensures statuses { (result ≡ 0) ⊎ (result ≡ 5) ⊎ (result ≡ 6) }
     ensures unwritten { (result ≢ 0) → reply.new ≡ reply.old }
 {
-    let answer = book.call(session, command);
-    match &answer {
-        Ok(told) => {
-            reply.tell(told);
+    match book.call(session, command) {
+        Ok(_) => {
+            tell_last(book, reply);
             DONE
         }
         Err(Fault::HistoryFull) => FULL,
         Err(Fault::OutOfMemory) => OUT_OF_MEMORY,
+    }
+}
+
+/// Tells the reply of the last entry. It is read where it stands: a copy takes as long as the rest of a small call.
+fn tell_last(book: &Book, reply: &mut LrcReply)
+    ensures { (past : List Entry) (e : Entry) → book.now.history ≡ past ++ e ∷ [] → reply.new ≡ reply_told e.reply }
+{
+    if let Some(entry) = book.history().last() {
+        reply.tell(&entry.reply);
     }
 }

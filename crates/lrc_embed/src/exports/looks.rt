@@ -1,4 +1,4 @@
-ghost use Rattle.std.specs.Prelude.{◌≡◌, ◌≢◌, ◌≤◌, ◌<◌, ◌⊎◌, Some, None, option_map, length, map};
+ghost use Rattle.std.specs.Prelude.{◌≡◌, ◌≢◌, ◌≤◌, ◌<◌, ◌⊎◌, true, is_some, Some, None, option_map, length, map};
 ghost use Rattle.lrc_book.specs.Books.{state_of};
 ghost use Rattle.lrc_book.specs.States.{homes_shown, level_shown, missing_shown, lease_of, load_shown, mode_shown};
 ghost use Rattle.lrc_book.specs.Urgency.{risk};
@@ -223,6 +223,8 @@ pub extern "C" fn lrc_embed_risk(
     ensures told { (result ≡ 0) → Of handle.old.owned.book (λ b. IsAtFront (map risk_told (risk b.nodes (state_of b))) count.new rows.old rows.new) }
     ensures short { (result ≡ 7) → Of handle.old.owned.book (λ b. length rows.old < length (risk b.nodes (state_of b))) }
     ensures closed { (result ≡ 1) → handle.old.owned.book ≡ None }
+    // Memory is refused to an open handle alone: a closed one is told first.
+    ensures memory { (result ≡ 6) → is_some handle.old.owned.book ≡ true }
     ensures statuses { (result ≡ 0) ⊎ (result ≡ 1) ⊎ (result ≡ 6) ⊎ (result ≡ 7) }
     ensures unwritten { (result ≢ 0) → (rows.new ≡ rows.old) × (count.new ≡ count.old) }
 {
