@@ -9,11 +9,14 @@ use Rattle.lrc_script.specs.Scripts.{BadLine}
 use Rattle.lrc_script.specs.Bundles.{Script, scripts_of, topology_of}
 use Rattle.lrc_tool.specs.declared.status.Status.{Status}
 use Rattle.lrc_tool.specs.declared.status.Status.TheVariants as ended
+use Rattle.lrc_tool.specs.Limits.{script_limit}
 use Rattle.lrc_tool.specs.Texts.{topology_line, bad_line_text}
-use Rattle.lrc_tool.specs.Outputs.{early_refusal, Reads, first_bad_of, Answer, IsAnsweredOver, IsAnsweredAfter, IsAnsweredUnless, IsAnswered, AreCommandsOf, IsPlayed, ArePlayed, ArePrinted, IsOutput}
+use Rattle.lrc_tool.specs.Outputs.{early_refusal, Reads, first_bad_of, Answer, IsAnsweredOver, IsAnsweredAfter, IsAnsweredUnless, IsAnswered, AreCommandsOf, IsPlayed, ArePrinted, IsOutput}
 use Rattle.lrc_tool.specs.Checks.{counted_line, AreCounted, IsCheck}
 use Rattle.lrc_tool.proofs.CommandLemmas.{as_many_lists, same_lists, some_lists}
-use Rattle.lrc_tool.proofs.HistoryLemmas.{same_play, some_play}
+use Rattle.lrc_tool.proofs.HistoryLemmas.{same_play}
+use Rattle.lrc_tool.proofs.TurnLemmas.{some_play}
+use Rattle.lrc_tool.proofs.JudgedLemmas.{few_scripts}
 
 -- ---- outcomes
 
@@ -53,56 +56,54 @@ module _ (answer : Answer) (most : ℕ) (one : IsOneAnswer most answer) where
   one_answer : (bundle t u : List ℕ) (s r : Status) → length (scripts_of bundle) ≤ most → IsAnswered answer bundle t s → IsAnswered answer bundle u r → (t ≡ u) × (s ≡ r)
   one_answer bundle t u s r few h k = unless_one (early_refusal bundle) bundle t u s r few h k
 
-same_printed : (nodes : List NodeInfo) (scripts : List Script) (t u : List ℕ) → length scripts ≤ 1 → ArePlayed nodes scripts t → ArePlayed nodes scripts u → t ≡ u
+same_printed : (nodes : List NodeInfo) (scripts : List Script) (t u : List ℕ) → length scripts ≤ 1 → ArePrinted nodes scripts t → ArePrinted nodes scripts u → t ≡ u
 same_printed nodes scripts t u few (lists, are, p) (others, too, q) =
     let same = same_lists scripts lists others are too in
     same_play nodes others t u (subst (λ n. n ≤ 1) (sym (as_many_lists scripts others too)) few) (subst (λ (ls : List (List Command)). IsPlayed nodes ls t) same p) q
 
-one_play : IsOneAnswer 1 ArePrinted
-one_play nodes scripts t u few p q = same_printed nodes scripts t u few (p few) (q few)
-
 pub one_output : (bundle text other : List ℕ) (status another : Status) → length (scripts_of bundle) ≤ 1 → IsOutput bundle text status → IsOutput bundle other another → (text ≡ other) × (status ≡ another)
-one_output = one_answer ArePrinted 1 one_play
+one_output = one_answer ArePrinted 1 same_printed
 
 pub one_check : (bundle text other : List ℕ) (status another : Status) → IsCheck bundle text status → IsCheck bundle other another → (text ≡ other) × (status ≡ another)
 one_check bundle text other status another = one_answer AreCounted (length (scripts_of bundle)) (λ nodes scripts t u few h k. h ∙ sym k) bundle text other status another (omega arith)
 
 -- ---- some answer
 
--- nodes and scripts without a bad line have an answer
+-- nodes and scripts that are not too many and have no bad line have an answer
 abbrev IsSomeAnswer : Answer → Type 0
-IsSomeAnswer answer = (nodes : List NodeInfo) (scripts : List Script) → first_bad_of scripts ≡ None → (text : List ℕ) × answer nodes scripts text
+IsSomeAnswer answer = (nodes : List NodeInfo) (scripts : List Script) → length scripts ≤ script_limit → first_bad_of scripts ≡ None → (text : List ℕ) × answer nodes scripts text
 
 module _ (answer : Answer) (some : IsSomeAnswer answer) where
-  over_some : (nodes : List NodeInfo) (scripts : List Script) (found : Option BadLine) → first_bad_of scripts ≡ found
+  over_some : (nodes : List NodeInfo) (scripts : List Script) (found : Option BadLine) → length scripts ≤ script_limit → first_bad_of scripts ≡ found
       → (text : List ℕ) × (status : Status) × IsAnsweredOver answer nodes scripts found text status
-  over_some nodes scripts (Some bad) is = (bad_line_text bad, ended.BadLine, (refl, refl))
-  over_some nodes scripts None is = let one = some nodes scripts is in (one.0, ended.Done, (one.1, refl))
+  over_some nodes scripts (Some bad) few is = (bad_line_text bad, ended.BadLine, (refl, refl))
+  over_some nodes scripts None few is = let one = some nodes scripts few is in (one.0, ended.Done, (one.1, refl))
 
-  after_some : (o : Result (List NodeInfo) TopologyError) (scripts : List Script) → (text : List ℕ) × (status : Status) × IsAnsweredAfter answer o scripts text status
-  after_some (Err e) scripts = (topology_line e, ended.Refused, (refl, refl))
-  after_some (Ok nodes) scripts = over_some nodes scripts (first_bad_of scripts) refl
+  after_some : (o : Result (List NodeInfo) TopologyError) (scripts : List Script) → length scripts ≤ script_limit
+      → (text : List ℕ) × (status : Status) × IsAnsweredAfter answer o scripts text status
+  after_some (Err e) scripts few = (topology_line e, ended.Refused, (refl, refl))
+  after_some (Ok nodes) scripts few = over_some nodes scripts (first_bad_of scripts) few refl
 
-  unless_some : (early : Option (List ℕ)) (bundle : List ℕ) → (text : List ℕ) × (status : Status) × IsAnsweredUnless answer early bundle text status
-  unless_some (Some line) bundle = (line, ended.Refused, (refl, refl))
-  unless_some None bundle =
+  unless_some : (early : Option (List ℕ)) (bundle : List ℕ) → early_refusal bundle ≡ early → (text : List ℕ) × (status : Status) × IsAnsweredUnless answer early bundle text status
+  unless_some (Some line) bundle is = (line, ended.Refused, (refl, refl))
+  unless_some None bundle is =
       let read = some_outcome (topology_of bundle) in
-      let one = after_some read.0 (scripts_of bundle) in
+      let one = after_some read.0 (scripts_of bundle) (few_scripts bundle is) in
       (one.0, one.1, (read.0, read.1, one.2))
 
   some_answer : (bundle : List ℕ) → (text : List ℕ) × (status : Status) × IsAnswered answer bundle text status
-  some_answer bundle = unless_some (early_refusal bundle) bundle
+  some_answer bundle = unless_some (early_refusal bundle) bundle refl
 
-some_printed : (nodes : List NodeInfo) (scripts : List Script) (lists : List (List Command)) → AreCommandsOf scripts lists → (text : List ℕ) × ArePrinted nodes scripts text
-some_printed nodes scripts [] are = let one = some_play nodes [] (omega arith) in (one.0, λ _. ([], are, one.1))
-some_printed nodes scripts (c ∷ []) are = let one = some_play nodes (c ∷ []) (omega arith) in (one.0, λ _. (c ∷ [], are, one.1))
-some_printed nodes scripts (c ∷ d ∷ more) are = let many = as_many_lists scripts (c ∷ d ∷ more) are in ([], λ few. absurd (omega (arith, few, many)))
+some_printed : (nodes : List NodeInfo) (scripts : List Script) (lists : List (List Command)) → length scripts ≤ script_limit → AreCommandsOf scripts lists → (text : List ℕ) × ArePrinted nodes scripts text
+some_printed nodes scripts lists few are =
+    let one = some_play nodes lists (omega (arith, few, as_many_lists scripts lists are)) in
+    (one.0, (lists, are, one.1))
 
 pub some_output : (bundle : List ℕ) → (text : List ℕ) × (status : Status) × IsOutput bundle text status
-some_output = some_answer ArePrinted (λ nodes scripts good. let made = some_lists scripts good in some_printed nodes scripts made.0 made.1)
+some_output = some_answer ArePrinted (λ nodes scripts few good. let made = some_lists scripts good in some_printed nodes scripts made.0 few made.1)
 
 pub some_check : (bundle : List ℕ) → (text : List ℕ) × (status : Status) × IsCheck bundle text status
-some_check = some_answer AreCounted (λ nodes scripts good. (counted_line (length nodes) scripts, refl))
+some_check = some_answer AreCounted (λ nodes scripts few good. (counted_line (length nodes) scripts, refl))
 
 -- ---- refusals
 

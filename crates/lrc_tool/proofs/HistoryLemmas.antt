@@ -1,23 +1,19 @@
--- The history of a bundle with at most one script: there is one, and no other.
-use Rattle.std.proofs.Common.{◌≡◌, ℕ, ◌≤◌, lit≤, All, List, [], ◌∷◌, ◌++◌, length, get_or, map, flat_map, refl, sym, ap, subst, ◌∙◌, arith, append-nil}
+-- At most one script has one history.
+use Rattle.std.proofs.Common.{◌≡◌, ℕ, ◌≤◌, All, List, [], ◌∷◌, length, get_or, map, flat_map, refl, sym, ap, subst, ◌∙◌, arith, append-nil}
 use Rattle.std.specs.Coded.{le_prop}
-use Rattle.std.proofs.lemmas.List.Elements.{All-head, All-tail, All-nil, All-cons}
+use Rattle.std.proofs.lemmas.List.Elements.{All-head, All-tail}
 use Rattle.lrc_code.specs.declared.numbers.SessionNo.{SessionNo}
 use Rattle.lrc_topology.specs.declared.NodeInfo.{NodeInfo}
 use Rattle.lrc_book.specs.declared.command.Command.{Command}
 use Rattle.lrc_book.specs.declared.entry.Entry.{Entry}
 use Rattle.lrc_book.specs.declared.reply.Reply.{Reply}
-use Rattle.lrc_book.specs.Histories.{World, first_world, outcome_in, next_world, state_after, IsLegalFrom}
+use Rattle.lrc_book.specs.Histories.{World, first_world, outcome_in, next_world, IsLegalFrom}
 use Rattle.lrc_book.specs.Sessions.{commands_of, commands_of_each}
-use Rattle.lrc_tool.specs.Tables.{tables_text}
-use Rattle.lrc_tool.specs.Texts.{script_text, output_text}
+use Rattle.lrc_tool.specs.Texts.{output_text}
 use Rattle.lrc_tool.specs.Outputs.{IsPlayed}
-use Rattle.lrc_tool.specs.Plays.{AreMade}
-use Rattle.lrc_tool.proofs.SessionLemmas.{IsFirst, commands_alone, none_made, IsPlayedBy, one_made, played_with_tables}
+use Rattle.lrc_tool.proofs.SessionLemmas.{IsFirst, commands_alone}
 
--- ---- no other
-
-abbrev session : (n : ℕ) → (1 ≤ n) × (n ≤ 8) → SessionNo
+abbrev pub session : (n : ℕ) → (1 ≤ n) × (n ≤ 8) → SessionNo
 session n h = record { value = n; in_range = h }
 
 session_bound : (n : ℕ) → IsProp ((1 ≤ n) × (n ≤ 8))
@@ -26,7 +22,7 @@ session_bound n = hlevel le_prop
 same_session : (s t : SessionNo) → s.value ≡ t.value → s ≡ t
 same_session s t e = subst (λ n. (h : (1 ≤ n) × (n ≤ 8)) → s ≡ session n h) e (λ h. ap (session s.value) (session_bound s.value s.in_range h)) t.in_range
 
-abbrev entry : SessionNo → Command → Reply → Entry
+abbrev pub entry : SessionNo → Command → Reply → Entry
 entry s c r = record { session = s; command = c; reply = r }
 
 -- two legal histories of one session with the same commands are one
@@ -65,41 +61,3 @@ same_play nodes scripts t u few p q =
     let made = all_made scripts few p.history p.alone p.made ∙ sym (all_made scripts few q.history q.alone q.made) in
     let same = same_history nodes first_world p.history q.history p.legal q.legal made (all_first scripts few p.history p.alone) (all_first scripts few q.history q.alone) in
     p.printed ∙ ap (output_text nodes (length scripts)) same ∙ sym q.printed
-
--- ---- there is one
-
-module _ (nodes : List NodeInfo) where
-  -- the entry of a command that session 1 makes in a world
-  abbrev next_entry : World → Command → Entry
-  next_entry w c = let first = session 1 (lit≤ tt, lit≤ tt) in entry first c (outcome_in nodes w first c).0
-
-  abbrev history_of : World → List Command → List Entry
-  history_of w [] = []
-  history_of w (c ∷ cs) = next_entry w c ∷ history_of (next_world nodes w (next_entry w c)) cs
-
-  is_legal : (w : World) (cs : List Command) → IsLegalFrom nodes w (history_of w cs)
-  is_legal w [] = tt
-  is_legal w (c ∷ cs) = (refl, is_legal (next_world nodes w (next_entry w c)) cs)
-
-  has_all : (w : World) (cs : List Command) → map (λ e. e.command) (history_of w cs) ≡ cs
-  has_all w [] = refl
-  has_all w (c ∷ cs) = ap (λ ds. c ∷ ds) (has_all (next_world nodes w (next_entry w c)) cs)
-
-  is_alone : (w : World) (cs : List Command) → All IsFirst (history_of w cs)
-  is_alone w [] = All-nil IsFirst
-  is_alone w (c ∷ cs) = let w' = next_world nodes w (next_entry w c) in All-cons IsFirst (next_entry w c) (history_of w' cs) refl (is_alone w' cs)
-
-  -- the calls, with the tables of the state behind them
-  some_made : (scripts : List (List Command)) → length scripts ≤ 1 → (history : List Entry) × (text : List ℕ) × AreMade nodes scripts history text
-  some_made [] few = ([], [], none_made nodes)
-  some_made (commands ∷ []) few =
-      let h = history_of first_world commands in
-      let by : IsPlayedBy nodes commands h (script_text h 1) = record { legal = is_legal first_world commands; made = has_all first_world commands; alone = is_alone first_world commands; printed = refl } in
-      (h, script_text h 1, one_made nodes commands h (script_text h 1) by)
-  some_made (commands ∷ others ∷ more) few = absurd (omega (arith, few))
-
-  pub some_play : (scripts : List (List Command)) → length scripts ≤ 1 → (text : List ℕ) × IsPlayed nodes scripts text
-  some_play scripts few =
-      let (h, text, made) = some_made scripts few in
-      let whole = text ++ tables_text nodes (state_after nodes h) in
-      (whole, played_with_tables nodes nodes scripts h text whole made refl refl)

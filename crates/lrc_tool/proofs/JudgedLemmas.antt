@@ -166,13 +166,21 @@ good_to_any answer bundle text status nodes scripts good h end =
 lists_many : {Z : Type 0} (scripts : List Script) (lists : List (Vec Command Z)) → AreCommandsOf scripts (lists_of lists) → length lists ≡ length scripts
 lists_many {Z} scripts lists are = sym (length-map lists (λ (v : Vec Command Z). v.items)) ∙ as_many_lists scripts (lists_of lists) are
 
-pub few_lists : {Z : Type 0} (scripts : List Script) (lists : List (Vec Command Z)) → AreCommandsOf scripts (lists_of lists) → length scripts ≤ 1 → length lists ≤ 1
-few_lists scripts lists are few = subst (λ n. n ≤ 1) (sym (lists_many scripts lists are)) few
-
 -- an accepted bundle is not too long
 not_long : (long many : Bool) (first second : List ℕ) → (if long then Some first else (if many then Some second else None)) ≡ None → long ≡ false
 not_long true many first second e = absurd (cc)
 not_long false many first second e = refl
+
+-- nor has it too many scripts
+not_many : (long many : Bool) (first second : List ℕ) → (if long then Some first else (if many then Some second else None)) ≡ None → many ≡ false
+not_many true many first second e = absurd (cc)
+not_many false true first second e = absurd (cc)
+not_many false false first second e = refl
+
+pub few_scripts : (bundle : List ℕ) → early_refusal bundle ≡ None → length (scripts_of bundle) ≤ script_limit
+few_scripts bundle early =
+    let none = not_many (nat_lt bundle_limit (length bundle)) (nat_lt script_limit (length (scripts_of bundle))) _ _ early in
+    ltb-false script_limit (length (scripts_of bundle)) none
 
 pub several_accepted : {Z : Type 0} (bundle : List ℕ) (nodes : List NodeInfo) (lists : List (Vec Command Z)) → IsAccepted bundle nodes lists → 1 < length lists → HasSeveral bundle
 several_accepted bundle nodes lists good several = record {

@@ -2,7 +2,9 @@ pub mod StreamLemmas
 pub mod CommandLemmas
 pub mod SessionLemmas
 pub mod HistoryLemmas
+pub mod TurnLemmas
 pub mod PlayLemmas
+pub mod TrackLemmas
 pub mod JudgedLemmas
 pub mod AnswerLemmas
 pub mod CheckLemmas

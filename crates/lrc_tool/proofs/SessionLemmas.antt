@@ -1,7 +1,7 @@
 -- Histories of session 1 alone.
 use Rattle.std.proofs.Common.{◌≡◌, ℕ, suc, ◌+◌, ◌≤◌, All, List, [], ◌∷◌, ◌++◌, length, map, filter, flat_map, refl, sym, ap, ◌∙◌, arith, add-zero, append_assoc, append-nil}
 use borrow.Author.Tests.{eq-eqb}
-use Rattle.std.proofs.lemmas.List.Elements.{All-head, All-tail, All-nil, filter-append}
+use Rattle.std.proofs.lemmas.List.Elements.{All-head, All-tail, filter-append}
 use Rattle.std.proofs.lemmas.List.Concat.{flat_map-append}
 use Rattle.lrc_topology.specs.declared.NodeInfo.{NodeInfo}
 use Rattle.lrc_book.specs.declared.command.Command.{Command}
@@ -62,10 +62,6 @@ script_text-push h e first =
     ∙ sym (append_assoc (script_line 1) (flat_map line (entries_of 1 h)) (line (numbered (1 + length h) e)))
 
 -- ---- scripts
-
--- no script
-pub none_made : (nodes : List NodeInfo) → AreMade nodes [] [] []
-none_made nodes = record { legal = tt; made = refl; alone = All-nil (λ e. e.session.value ≤ 0); printed = refl }
 
 -- the calls of the only script, and what is printed of them
 pub record IsPlayedBy (nodes : List NodeInfo) (commands : List Command) (history : List Entry) (text : List ℕ) : Type 0 where

@@ -90,13 +90,9 @@ pub record IsPlayed (nodes : List NodeInfo) (scripts : List (List Command)) (tex
 abbrev pub AreCommandsOf : List Script → List (List Command) → Type 0
 AreCommandsOf scripts lists = AllZip (λ script commands. IsScript script.lines commands) scripts lists
 
--- what is printed of the scripts of a bundle
-abbrev pub ArePlayed : Answer
-ArePlayed nodes scripts text = (lists : List (List Command)) × AreCommandsOf scripts lists × IsPlayed nodes lists text
-
--- what is written for nodes and scripts that pass all checks; of two scripts or more nothing is said but that they do
+-- what is written for nodes and scripts that pass all checks: what is printed of the commands of the scripts
 abbrev pub ArePrinted : Answer
-ArePrinted nodes scripts text = length scripts ≤ 1 → ArePlayed nodes scripts text
+ArePrinted nodes scripts text = (lists : List (List Command)) × AreCommandsOf scripts lists × IsPlayed nodes lists text
 
 -- a run of this bundle writes this text and ends with this status
 abbrev pub IsOutput : List ℕ → List ℕ → Status → Type 0

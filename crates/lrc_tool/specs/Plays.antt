@@ -1,12 +1,14 @@
 -- Internal: no public clause reaches these definitions.
 -- The calls of scripts, and what is printed of their replies.
-use Rattle.std.specs.Prelude.{◌≡◌, ℕ, ◌≤◌, List, length, All}
+use Rattle.std.specs.Prelude.{◌≡◌, ℕ, ◌+◌, ◌≤◌, List, [], ◌∷◌, ◌++◌, length, flat_map, All}
 use Rattle.lrc_topology.specs.declared.NodeInfo.{NodeInfo}
 use Rattle.lrc_book.specs.declared.command.Command.{Command}
 use Rattle.lrc_book.specs.declared.entry.Entry.{Entry}
 use Rattle.lrc_book.specs.Histories.{IsLegal}
 use Rattle.lrc_book.specs.Sessions.{commands_of_each}
-use Rattle.lrc_tool.specs.Texts.{replies_text}
+use Rattle.lrc_board.specs.declared.receipt.Receipt.{Receipt}
+use Rattle.lrc_sessions.specs.declared.track.Track.{Track}
+use Rattle.lrc_tool.specs.Texts.{reply_line, script_line, replies_text}
 
 -- the sessions made the commands of their scripts, in order, and no others, in this legal history, of whose replies this is printed
 pub record AreMade (nodes : List NodeInfo) (scripts : List (List Command)) (history : List Entry) (text : List ℕ) : Type 0 where
@@ -14,3 +16,16 @@ pub record AreMade (nodes : List NodeInfo) (scripts : List (List Command)) (hist
   pub made : commands_of_each (length scripts) history ≡ scripts
   pub alone : All (λ e. e.session.value ≤ length scripts) history
   pub printed : text ≡ replies_text (length scripts) history
+
+-- what is printed of the receipts of a script's calls
+abbrev pub receipts_text : List Receipt → List ℕ
+receipts_text receipts = flat_map (λ r. reply_line r.place r.reply) receipts
+
+-- what is printed of a session's track
+abbrev pub track_text : ℕ → Track → List ℕ
+track_text session track = script_line session ++ receipts_text track.receipts
+
+-- what is printed of the tracks of the sessions from this number on
+abbrev pub tracks_text : ℕ → List Track → List ℕ
+tracks_text session [] = []
+tracks_text session (track ∷ tracks) = track_text session track ++ tracks_text (session + 1) tracks

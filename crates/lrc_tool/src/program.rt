@@ -94,7 +94,7 @@ fn play_all<T: Threads + Wait + Sync>(
 ) -> Result<Vec<u8>, RunFault>
     requires same { topology ≡ nodes.now }
     requires few { AreFew scripts.now }
-    ensures played { IfOk result (λ text. length scripts.now ≤ 1 → IsPlayed nodes.now (lists_of scripts.now) text.items) }
+    ensures played { IfOk result (λ text. IsPlayed nodes.now (lists_of scripts.now) text.items) }
     ensures err { IfErr result (λ e. (e ≡ fault.OutOfMemory) ⊎ ((e ≡ fault.HistoryFull) × (1 < length scripts.now))) }
 {
     if scripts.len() > 1 {

@@ -1,7 +1,10 @@
 //! Several scripts at once, each by a session of its own.
 
-ghost use Rattle.std.specs.Prelude.{◌≡◌, ◌<◌, ◌≤◌, ◌⊎◌, length, Some, None, option_map, IfOk, IfErr};
+ghost use Rattle.std.specs.Prelude.{◌≡◌, ◌<◌, ◌≤◌, ◌⊎◌, ◌++◌, length, Some, None, option_map, IfOk, OnOk, IfErr, string_bytes};
 ghost use Rattle.lrc_tool.specs.Faults.{run_fault, first_fault};
+ghost use Rattle.lrc_tool.specs.Judged.{lists_of};
+ghost use Rattle.lrc_tool.specs.Plays.{AreMade, receipts_text, tracks_text};
+ghost use Rattle.lrc_tool.specs.Outputs.{IsPlayed};
 ghost use Rattle.lrc_tool.specs.declared.streams.RunFault.TheVariants as fault;
 
 #[cfg(test)]
@@ -39,6 +42,7 @@ pub(crate) fn play_together<T: Threads + Wait + Sync>(
 ) -> Result<Vec<u8>, RunFault>
     requires same { topology ≡ nodes.now }
     requires several { (1 < length scripts.now) × (length scripts.now ≤ 8) }
+    ensures played { IfOk result (λ text. IsPlayed nodes.now (lists_of scripts.now) text.items) }
     ensures err { IfErr result (λ e. (e ≡ fault.OutOfMemory) ⊎ (e ≡ fault.HistoryFull)) }
 {
     let Ok(parts) = Parts::new(alloc, topology, scripts.len() as u8) else {
@@ -64,6 +68,7 @@ fn run_each<N: Naming + Send + Sync, T: Threads + Wait + Sync>(
     requires scripts { (length scripts.now ≡ parts.count) × (parts.count ≤ 8) }
     ensures nodes { IfOk result (λ p. p.book.nodes ≡ parts.topology) }
     ensures tracks { IfOk result (λ p. length p.tracks.items ≤ 8) }
+    ensures made { IfOk result (λ p. AreMade parts.topology (lists_of scripts.now) p.book.history (tracks_text 1 p.tracks.items)) }
     ensures err { IfErr result (λ e. (e ≡ fault.OutOfMemory) ⊎ (e ≡ fault.HistoryFull)) }
 {
     let Ok((manager, sessions)) = Manager::<N>::open(alloc, rt, parts) else {
@@ -96,6 +101,7 @@ fn unstopped(tracks: Vec<Track>) -> Result<Vec<Track>, RunFault>
 /// What is printed of the tracks of the sessions from 1 on, in order.
 fn print_tracks(alloc: Global, tracks: &[Track]) -> Result<String, RunFault>
     requires { length tracks.now ≤ 8 }
+    ensures text { IfOk result (λ text. string_bytes text ≡ tracks_text 1 tracks.now) }
     ensures err { IfErr result (λ e. e ≡ fault.OutOfMemory) }
 {
     let mut text = String::new(alloc);
@@ -107,7 +113,9 @@ fn print_tracks(alloc: Global, tracks: &[Track]) -> Result<String, RunFault>
     Ok(text)
 }
 
-fn push_receipts(out: &mut String, receipts: &[Receipt]) -> Result<(), AllocError> {
+fn push_receipts(out: &mut String, receipts: &[Receipt]) -> Result<(), AllocError>
+    ensures { OnOk result (string_bytes out.new ≡ string_bytes out.old ++ receipts_text receipts.now) }
+{
     for receipt in receipts {
         push_reply_line(out, receipt.place as usize, &receipt.reply)?;
     }

@@ -2,12 +2,11 @@ use Rattle.std.proofs.Common.{refl, List, ℕ, subst}
 use Rattle.std.proofs.lemmas.Result.{err_from_is_err_and}
 use Rattle.lrc_topology.specs.Documents.{IsTopologyOf}
 use Rattle.lrc_topology.proofs.AnswerLemmas.{one_topology}
-use Rattle.lrc_script.specs.Bundles.{scripts_of}
 use Rattle.lrc_tool.specs.declared.judging.Judged.TheVariants.{Good}
 use Rattle.lrc_tool.specs.declared.status.Status.TheVariants.{Done}
 use Rattle.lrc_tool.specs.Judged.{lists_of, IsJudged}
 use Rattle.lrc_tool.specs.Outputs.{ArePrinted}
-use Rattle.lrc_tool.proofs.JudgedLemmas.{good_to_any, few_lists, several_or}
+use Rattle.lrc_tool.proofs.JudgedLemmas.{good_to_any, several_or}
 use Rattle.lrc_tool.proofs.program.output_of.Goals as goal
 
 pub play_all-requires-clause-same : goal.play_all-requires-clause-same
@@ -25,7 +24,7 @@ returns-in_ok-text-in-Good-clause-output g c =
     let good = judged.1 in
     let played = rw c.as_slice.ensures.value at c.in_ok-text-in-Good.ensures.played in
     good_to_any ArePrinted bundle c.in_ok-text-in-Good.text.items Done topology scripts good
-    (λ few. (lists_of scripts, good.commands, played (few_lists (scripts_of bundle) scripts good.commands few))) refl
+    (lists_of scripts, good.commands, played) refl
 
 pub returns-in_err-text-in-Good-clause-err : goal.returns-in_err-text-in-Good-clause-err
 returns-in_err-text-in-Good-clause-err g c =
