@@ -1,4 +1,4 @@
-ghost use Rattle.std.specs.Prelude.{◌≡◌, ◌≤◌, [], ◌∷◌, length, string_bytes, IfOk, OnOk, IfErr};
+ghost use Rattle.std.specs.Prelude.{◌≡◌, ◌≤◌, [], ◌∷◌, length, IfOk, OnOk, IfErr};
 ghost use Rattle.lrc_tool.specs.Judged.{lists_of, AreFew};
 ghost use Rattle.lrc_tool.specs.Plays.{AreMade};
 ghost use Rattle.lrc_tool.specs.Outputs.{IsPlayed};
@@ -27,7 +27,7 @@ pub(crate) fn play(
 {
     let mut book = Book::new(alloc, topology)?;
     let replies = play_scripts(alloc, &mut book, scripts)?;
-    with_tables(alloc, replies.into_bytes(), nodes, &book)
+    with_tables(alloc, replies, nodes, &book)
 }
 
 /// Makes the commands of the only script, if there is one, and answers what is printed of the replies.
@@ -35,31 +35,31 @@ fn play_scripts(
     alloc: Global,
     book: &mut Book,
     scripts: &[Vec<Command>],
-) -> Result<String, RunFault>
+) -> Result<Vec<u8>, RunFault>
     requires fresh { (book.old.history ≡ []) × (book.old.limit ≡ HISTORY_LIMIT) }
     requires few { AreFew scripts.now }
     requires alone { length scripts.now ≤ 1 }
-    ensures made { IfOk result (λ text. AreMade book.old.nodes (lists_of scripts.now) book.new.history (string_bytes text)) }
+    ensures made { IfOk result (λ text. AreMade book.old.nodes (lists_of scripts.now) book.new.history text.items) }
     ensures nodes { OnOk result (book.new.nodes ≡ book.old.nodes) }
     ensures err { IfErr result (λ e. e ≡ fault.OutOfMemory) }
 {
     match scripts {
-        [] => Ok(String::new(alloc)),
+        [] => Ok(Vec::new(alloc)),
         [script, ..] => play_alone(alloc, book, script.as_slice()),
     }
 }
 
 /// Makes the commands of the only script, all by session 1.
-fn play_alone(alloc: Global, book: &mut Book, commands: &[Command]) -> Result<String, RunFault>
+fn play_alone(alloc: Global, book: &mut Book, commands: &[Command]) -> Result<Vec<u8>, RunFault>
     requires fresh { (book.old.history ≡ []) × (book.old.limit ≡ HISTORY_LIMIT) }
     // The history has room for them.
     requires few { length commands.now ≤ HISTORY_LIMIT }
-    ensures made { IfOk result (λ text. AreMade book.old.nodes (commands.now ∷ []) book.new.history (string_bytes text)) }
+    ensures made { IfOk result (λ text. AreMade book.old.nodes (commands.now ∷ []) book.new.history text.items) }
     ensures nodes { OnOk result (book.new.nodes ≡ book.old.nodes) }
     ensures err { IfErr result (λ e. e ≡ fault.OutOfMemory) }
 {
     let session = SessionNo::new(1).unwrap();
-    let mut text = String::new(alloc);
+    let mut text = Vec::new(alloc);
     push_script_line(&mut text, session)?;
     for (index, command) in commands.iter().enumerate() {
         let reply = book.call(session, *command)?;

@@ -1,6 +1,6 @@
 //! The lines of replies, and those of refusals of input.
 
-ghost use Rattle.std.specs.Prelude.{◌≡◌, ◌++◌, OnOk, string_bytes, codes, decimal, map};
+ghost use Rattle.std.specs.Prelude.{◌≡◌, ◌+◌, ◌*◌, ◌<◌, ◌≤◌, ◌∷◌, ◌++◌, length, drop, OnOk, string_bytes, codes, decimal, map};
 ghost use Rattle.lrc_tool.specs.Texts.{seat_text, spaced, lease_text, kind_text, refusal_text, reply_text, reply_line, script_line, topology_line, cause_number, bad_line_text};
 
 use lrc_book::{Kind, Lease, Refusal, Reply, Seat};
@@ -9,143 +9,184 @@ use lrc_script::Cause;
 use lrc_topology::TopologyError;
 use std::alloc::AllocError;
 
+/// Room for a seat: a space, two numbers of at most five digits, and a colon.
+const SEAT_ROOM: usize = 12;
+
+/// Room for the sixteen seats of a stripe.
+const SEATS_ROOM: usize = 192;
+
 /// Adds a number in decimal digits.
-fn push_number(out: &mut String, number: u64) -> Result<(), AllocError>
-    ensures { OnOk result (string_bytes out.new ≡ string_bytes out.old ++ decimal number) }
+fn push_number(out: &mut Vec<u8>, number: u64) -> Result<(), AllocError>
+    ensures { OnOk result (out.new.items ≡ out.old.items ++ decimal number) }
 {
     let mut digits = itoa::Buffer::new();
-    out.push_str(digits.format(number))
+    out.extend_from_slice(digits.format(number).as_bytes())
 }
 
-fn push_seat(out: &mut String, seat: &Seat) -> Result<(), AllocError>
-    ensures { OnOk result (string_bytes out.new ≡ string_bytes out.old ++ (codes " " ++ seat_text seat.now)) }
+/// Writes a mark and a number behind it so that they end at `end`, and answers where they start.
+fn write_marked(mark: u8, number: u16, text: &mut [u8], end: usize) -> usize
+    requires { (6 ≤ end) × (end ≤ length text.old) }
+    ensures start { (end ≤ result + 6) × (result < end) }
+    ensures written { drop result text.new ≡ mark ∷ (decimal number ++ drop end text.old) }
 {
-    out.push_str(" ")?;
-    push_number(out, u64::from(seat.node.value))?;
-    out.push_str(":")?;
-    push_number(out, u64::from(seat.slot))
+    let digits = itoa::write_digits(u64::from(number), text, end);
+    text[digits - 1] = mark;
+    digits - 1
 }
 
-fn push_seats(out: &mut String, seats: &[Seat]) -> Result<(), AllocError>
-    ensures { OnOk result (string_bytes out.new ≡ string_bytes out.old ++ spaced (map seat_text seats.now)) }
+/// Writes a space and a seat behind it so that they end at `end`, and answers where they start.
+fn write_seat(seat: &Seat, text: &mut [u8], end: usize) -> usize
+    requires { (SEAT_ROOM ≤ end) × (end ≤ length text.old) }
+    ensures start { (end ≤ result + SEAT_ROOM) × (result < end) }
+    ensures written { drop result text.new ≡ (codes " " ++ seat_text seat.now) ++ drop end text.old }
 {
-    for seat in seats {
-        push_seat(out, seat)?;
+    let slot = write_marked(b':', seat.slot, text, end);
+    write_marked(b' ', seat.node.value, text, slot)
+}
+
+/// Writes seats at the end of a text, from the last to the first, and answers where they start.
+fn write_seats(seats: &[Seat], text: &mut [u8]) -> usize
+    requires { SEAT_ROOM * length seats.now ≤ length text.old }
+    ensures start { result ≤ length text.new }
+    ensures written { drop result text.new ≡ spaced (map seat_text seats.now) }
+{
+    let mut left = seats.len();
+    let mut at = text.len();
+    while left > 0 {
+        left -= 1;
+        at = write_seat(&seats[left], text, at);
     }
-    Ok(())
+    at
 }
 
-fn push_lease(out: &mut String, lease: &Lease) -> Result<(), AllocError>
-    ensures { OnOk result (string_bytes out.new ≡ string_bytes out.old ++ lease_text lease.now) }
+fn push_seat(out: &mut Vec<u8>, seat: &Seat) -> Result<(), AllocError>
+    ensures { OnOk result (out.new.items ≡ out.old.items ++ (codes " " ++ seat_text seat.now)) }
+{
+    let mut text = [0u8; SEAT_ROOM];
+    let start = write_seat(seat, &mut text, SEAT_ROOM);
+    out.extend_from_slice(&text[start..])
+}
+
+fn push_seats(out: &mut Vec<u8>, seats: &[Seat; 16]) -> Result<(), AllocError>
+    ensures { OnOk result (out.new.items ≡ out.old.items ++ spaced (map seat_text seats.now)) }
+{
+    let mut text = [0u8; SEATS_ROOM];
+    let start = write_seats(seats.as_slice(), &mut text);
+    out.extend_from_slice(&text[start..])
+}
+
+fn push_lease(out: &mut Vec<u8>, lease: &Lease) -> Result<(), AllocError>
+    ensures { OnOk result (out.new.items ≡ out.old.items ++ lease_text lease.now) }
 {
     push_number(out, u64::from(lease.stripe.value))?;
-    out.push_str(" ")?;
+    out.extend_from_slice(b" ")?;
     push_number(out, u64::from(lease.fragment.value))?;
     push_seat(out, &lease.target)?;
-    out.push_str(" epoch ")?;
+    out.extend_from_slice(b" epoch ")?;
     push_number(out, u64::from(lease.epoch))
 }
 
-fn push_sources(out: &mut String, sources: &[Fragment]) -> Result<(), AllocError>
-    ensures { OnOk result (string_bytes out.new ≡ string_bytes out.old ++ spaced (map (λ f. decimal f.value) sources.now)) }
+fn push_sources(out: &mut Vec<u8>, sources: &[Fragment]) -> Result<(), AllocError>
+    ensures { OnOk result (out.new.items ≡ out.old.items ++ spaced (map (λ f. decimal f.value) sources.now)) }
 {
     for source in sources {
-        out.push_str(" ")?;
+        out.extend_from_slice(b" ")?;
         push_number(out, u64::from(source.value))?;
     }
     Ok(())
 }
 
-fn push_kind(out: &mut String, kind: &Kind) -> Result<(), AllocError>
-    ensures { OnOk result (string_bytes out.new ≡ string_bytes out.old ++ kind_text kind.now) }
+fn push_kind(out: &mut Vec<u8>, kind: &Kind) -> Result<(), AllocError>
+    ensures { OnOk result (out.new.items ≡ out.old.items ++ kind_text kind.now) }
 {
     match kind {
         Kind::Local(sources) => {
-            out.push_str("local")?;
+            out.extend_from_slice(b"local")?;
             push_sources(out, sources.as_slice())
         }
-        Kind::Global => out.push_str("global"),
-        Kind::Move => out.push_str("move"),
+        Kind::Global => out.extend_from_slice(b"global"),
+        Kind::Move => out.extend_from_slice(b"move"),
     }
 }
 
 /// Adds the code of a refusal, a space behind it, and the number that it tells.
-fn push_detail(out: &mut String, code: &str, number: u64) -> Result<(), AllocError>
-    ensures { OnOk result (string_bytes out.new ≡ string_bytes out.old ++ (code.now ++ decimal number)) }
+fn push_detail(out: &mut Vec<u8>, code: &[u8], number: u64) -> Result<(), AllocError>
+    ensures { OnOk result (out.new.items ≡ out.old.items ++ (code.now ++ decimal number)) }
 {
-    out.push_str(code)?;
+    out.extend_from_slice(code)?;
     push_number(out, number)
 }
 
-fn push_refusal(out: &mut String, refusal: &Refusal) -> Result<(), AllocError>
-    ensures { OnOk result (string_bytes out.new ≡ string_bytes out.old ++ refusal_text refusal.now) }
+fn push_refusal(out: &mut Vec<u8>, refusal: &Refusal) -> Result<(), AllocError>
+    ensures { OnOk result (out.new.items ≡ out.old.items ++ refusal_text refusal.now) }
 {
     match refusal {
-        Refusal::UnknownStripe => out.push_str("101"),
-        Refusal::StripeExists => out.push_str("102"),
-        Refusal::NoLawfulNode(fragment) => push_detail(out, "103 ", u64::from(fragment.value)),
-        Refusal::UnknownNode => out.push_str("104"),
-        Refusal::WrongMode => out.push_str("105"),
-        Refusal::UnknownDomain => out.push_str("106"),
-        Refusal::UpgradeRunning(domain) => push_detail(out, "107 ", u64::from(domain.value)),
-        Refusal::NotUpgrading => out.push_str("108"),
-        Refusal::WouldLose(stripe) => push_detail(out, "109 ", u64::from(stripe.value)),
-        Refusal::AlreadyLeased(epoch) => push_detail(out, "110 ", u64::from(*epoch)),
-        Refusal::NotNeeded => out.push_str("111"),
-        Refusal::Unrecoverable => out.push_str("112"),
-        Refusal::Stale => out.push_str("113"),
-        Refusal::NotHolder(holder) => push_detail(out, "114 ", u64::from(holder.value)),
-        Refusal::TargetOffline(node) => push_detail(out, "115 ", u64::from(node.value)),
-        Refusal::NoLease => out.push_str("116"),
-        Refusal::NotEmpty(load) => push_detail(out, "117 ", u64::from(*load)),
+        Refusal::UnknownStripe => out.extend_from_slice(b"101"),
+        Refusal::StripeExists => out.extend_from_slice(b"102"),
+        Refusal::NoLawfulNode(fragment) => push_detail(out, b"103 ", u64::from(fragment.value)),
+        Refusal::UnknownNode => out.extend_from_slice(b"104"),
+        Refusal::WrongMode => out.extend_from_slice(b"105"),
+        Refusal::UnknownDomain => out.extend_from_slice(b"106"),
+        Refusal::UpgradeRunning(domain) => push_detail(out, b"107 ", u64::from(domain.value)),
+        Refusal::NotUpgrading => out.extend_from_slice(b"108"),
+        Refusal::WouldLose(stripe) => push_detail(out, b"109 ", u64::from(stripe.value)),
+        Refusal::AlreadyLeased(epoch) => push_detail(out, b"110 ", u64::from(*epoch)),
+        Refusal::NotNeeded => out.extend_from_slice(b"111"),
+        Refusal::Unrecoverable => out.extend_from_slice(b"112"),
+        Refusal::Stale => out.extend_from_slice(b"113"),
+        Refusal::NotHolder(holder) => push_detail(out, b"114 ", u64::from(holder.value)),
+        Refusal::TargetOffline(node) => push_detail(out, b"115 ", u64::from(node.value)),
+        Refusal::NoLease => out.extend_from_slice(b"116"),
+        Refusal::NotEmpty(load) => push_detail(out, b"117 ", u64::from(*load)),
     }
 }
 
-fn push_reply(out: &mut String, reply: &Reply) -> Result<(), AllocError>
-    ensures { OnOk result (string_bytes out.new ≡ string_bytes out.old ++ reply_text reply.now) }
+fn push_reply(out: &mut Vec<u8>, reply: &Reply) -> Result<(), AllocError>
+    ensures { OnOk result (out.new.items ≡ out.old.items ++ reply_text reply.now) }
 {
     match reply {
         Reply::Placed(seats) => {
-            out.push_str("placed")?;
-            push_seats(out, seats.as_slice())
+            out.extend_from_slice(b"placed")?;
+            push_seats(out, seats)
         }
-        Reply::Dropped => out.push_str("dropped"),
+        Reply::Dropped => out.extend_from_slice(b"dropped"),
         Reply::Granted(lease, kind) => {
-            out.push_str("granted ")?;
+            out.extend_from_slice(b"granted ")?;
             push_lease(out, lease)?;
-            out.push_str(" ")?;
+            out.extend_from_slice(b" ")?;
             push_kind(out, kind)
         }
-        Reply::Idle => out.push_str("idle"),
-        Reply::Ended => out.push_str("ended"),
-        Reply::Changed => out.push_str("changed"),
+        Reply::Idle => out.extend_from_slice(b"idle"),
+        Reply::Ended => out.extend_from_slice(b"ended"),
+        Reply::Changed => out.extend_from_slice(b"changed"),
         Reply::Refused(refusal) => {
-            out.push_str("refused ")?;
+            out.extend_from_slice(b"refused ")?;
             push_refusal(out, refusal)
         }
     }
 }
 
 /// Adds the line before the replies of a session's script.
-pub(crate) fn push_script_line(out: &mut String, session: SessionNo) -> Result<(), AllocError>
-    ensures { OnOk result (string_bytes out.new ≡ string_bytes out.old ++ script_line session.value) }
+pub(crate) fn push_script_line(out: &mut Vec<u8>, session: SessionNo) -> Result<(), AllocError>
+    ensures { OnOk result (out.new.items ≡ out.old.items ++ script_line session.value) }
 {
-    let number = session.value;
-    write!(out, "script {number}\n")
+    out.extend_from_slice(b"script ")?;
+    push_number(out, u64::from(session.value))?;
+    out.extend_from_slice(b"\n")
 }
 
 /// Adds the line of a reply, whose call has this place in the history.
 pub(crate) fn push_reply_line(
-    out: &mut String,
+    out: &mut Vec<u8>,
     place: usize,
     reply: &Reply,
 ) -> Result<(), AllocError>
-    ensures { OnOk result (string_bytes out.new ≡ string_bytes out.old ++ reply_line place reply.now) }
+    ensures { OnOk result (out.new.items ≡ out.old.items ++ reply_line place reply.now) }
 {
     push_number(out, place as u64)?;
-    out.push_str(" ")?;
+    out.extend_from_slice(b" ")?;
     push_reply(out, reply)?;
-    out.push_str("\n")
+    out.extend_from_slice(b"\n")
 }
 
 /// Adds the line for a refused topology; none for want of memory, which is no refusal.

@@ -1,6 +1,6 @@
 //! Several scripts at once, each by a session of its own.
 
-ghost use Rattle.std.specs.Prelude.{◌≡◌, ◌<◌, ◌≤◌, ◌⊎◌, ◌++◌, length, Some, None, option_map, IfOk, OnOk, IfErr, string_bytes};
+ghost use Rattle.std.specs.Prelude.{◌≡◌, ◌<◌, ◌≤◌, ◌⊎◌, ◌++◌, length, Some, None, option_map, IfOk, OnOk, IfErr};
 ghost use Rattle.lrc_tool.specs.Faults.{run_fault, first_fault};
 ghost use Rattle.lrc_tool.specs.Judged.{lists_of};
 ghost use Rattle.lrc_tool.specs.Plays.{AreMade, receipts_text, tracks_text};
@@ -50,7 +50,7 @@ pub(crate) fn play_together<T: Threads + Wait + Sync>(
     };
     let played = run_each::<Brand, _>(rt, alloc, parts, scripts)?;
     let text = print_tracks(alloc, played.tracks.as_slice())?;
-    with_tables(alloc, text.into_bytes(), nodes, &played.book)
+    with_tables(alloc, text, nodes, &played.book)
 }
 
 /// Runs each script by a session of its own, and ends their manager.
@@ -99,12 +99,12 @@ fn unstopped(tracks: Vec<Track>) -> Result<Vec<Track>, RunFault>
 }
 
 /// What is printed of the tracks of the sessions from 1 on, in order.
-fn print_tracks(alloc: Global, tracks: &[Track]) -> Result<String, RunFault>
+fn print_tracks(alloc: Global, tracks: &[Track]) -> Result<Vec<u8>, RunFault>
     requires { length tracks.now ≤ 8 }
-    ensures text { IfOk result (λ text. string_bytes text ≡ tracks_text 1 tracks.now) }
+    ensures text { IfOk result (λ text. text.items ≡ tracks_text 1 tracks.now) }
     ensures err { IfErr result (λ e. e ≡ fault.OutOfMemory) }
 {
-    let mut text = String::new(alloc);
+    let mut text = Vec::new(alloc);
     for (index, track) in tracks.iter().enumerate() {
         let session = SessionNo::new(index as u8 + 1).unwrap();
         push_script_line(&mut text, session)?;
@@ -113,8 +113,8 @@ fn print_tracks(alloc: Global, tracks: &[Track]) -> Result<String, RunFault>
     Ok(text)
 }
 
-fn push_receipts(out: &mut String, receipts: &[Receipt]) -> Result<(), AllocError>
-    ensures { OnOk result (string_bytes out.new ≡ string_bytes out.old ++ receipts_text receipts.now) }
+fn push_receipts(out: &mut Vec<u8>, receipts: &[Receipt]) -> Result<(), AllocError>
+    ensures { OnOk result (out.new.items ≡ out.old.items ++ receipts_text receipts.now) }
 {
     for receipt in receipts {
         push_reply_line(out, receipt.place as usize, &receipt.reply)?;

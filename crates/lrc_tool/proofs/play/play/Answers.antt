@@ -1,10 +1,8 @@
-use Rattle.std.proofs.Common.{◌++◌, List, string_bytes, ap, subst, ◌∙◌}
+use Rattle.std.proofs.Common.{List, subst, ◌∙◌}
 use Rattle.std.proofs.lemmas.Result.{IfOk-weaker}
 use Rattle.lrc_topology.specs.declared.NodeInfo.{NodeInfo}
-use Rattle.lrc_book.specs.Books.{state_of}
 use Rattle.lrc_tool.specs.Judged.{lists_of}
 use Rattle.lrc_tool.specs.Plays.{AreMade}
-use Rattle.lrc_tool.specs.Tables.{tables_text}
 use Rattle.lrc_tool.proofs.SessionLemmas.{played_with_tables}
 use Rattle.lrc_tool.proofs.play.play.Goals as goal
 
@@ -12,10 +10,9 @@ pub returns-clause-played : goal.returns-clause-played
 returns-clause-played c =
     let book = c.play_scripts.new.book in
     let lists = lists_of c.args.scripts.now in
-    let text = string_bytes c.in_ok-replies.replies in
+    let text = c.in_ok-replies.replies.items in
     let same = c.in_ok-book.ensures.value.0 ∙ c.requires.same in
     let made = subst (λ (ns : List NodeInfo). AreMade ns lists book.history text) same c.in_ok-replies.ensures.made in
     IfOk-weaker c.with_tables.result _ _
-    (λ v is. played_with_tables c.args.nodes.now book.nodes lists book.history text v.items made (c.in_ok-replies.ensures.nodes ∙ same)
-    (is ∙ ap (λ t. t.items ++ tables_text book.nodes (state_of book)) c.into_bytes.ensures.value))
+    (λ v is. played_with_tables c.args.nodes.now book.nodes lists book.history text v.items made (c.in_ok-replies.ensures.nodes ∙ same) is)
     c.with_tables.ensures.text

@@ -1,4 +1,4 @@
-use Rattle.std.proofs.Common.{◌≡◌, string_bytes, take}
+use Rattle.std.proofs.Common.{◌≡◌, take}
 use Rattle.lrc_tool.proofs.SessionLemmas.{IsPlayedBy}
 use Rattle.lrc_tool.proofs.play.play_alone.Given as goal
 
@@ -6,5 +6,5 @@ abbrev pub invariant-loop-index : goal.invariant-loop-index
 invariant-loop-index l = record {
   nodes : l.book.nodes ≡ l.fn.book.nodes;
   limit : l.book.limit ≡ 1000000;
-  played : IsPlayedBy l.fn.book.nodes (take l.index l.commands) l.book.history (string_bytes l.text);
+  played : IsPlayedBy l.fn.book.nodes (take l.index l.commands) l.book.history l.text.items;
 }

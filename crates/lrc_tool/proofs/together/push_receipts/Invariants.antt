@@ -1,6 +1,6 @@
-use Rattle.std.proofs.Common.{◌≡◌, ◌++◌, take, string_bytes}
+use Rattle.std.proofs.Common.{◌≡◌, ◌++◌, take}
 use Rattle.lrc_tool.specs.Plays.{receipts_text}
 use Rattle.lrc_tool.proofs.together.push_receipts.Given as goal
 
 abbrev pub invariant-loop-receipt : goal.invariant-loop-receipt
-invariant-loop-receipt l = string_bytes l.out ≡ string_bytes l.initial.out ++ receipts_text (take l.receipt-index l.receipts)
+invariant-loop-receipt l = l.out.items ≡ l.initial.out.items ++ receipts_text (take l.receipt-index l.receipts)
