@@ -15,6 +15,8 @@ mod receipt;
 mod rule;
 mod screen;
 mod steps;
+#[cfg(test)]
+mod tests;
 mod touched;
 mod viewer;
 

@@ -1,0 +1,110 @@
+//! A keeper over twenty nodes: what viewers see of two calls.
+
+ghost use Rattle.std.specs.Prelude.{◌≡◌, [], IfOk};
+ghost use Rattle.lrc_book.specs.declared.book.TheConstants.{HISTORY_LIMIT};
+
+use crate::{Keeper, NewLog, ViewNaming, Viewer};
+use lrc_book::{Book, Command};
+use lrc_code::{NodeNo, SessionNo, StripeNo};
+use lrc_stripes::Level;
+use lrc_topology::Topology;
+use std::alloc::Global;
+use std::io::Write;
+use std::marker::Brand;
+use std::process::Abort;
+use std::sync::Wait;
+use std::test::Fail;
+
+/// Twenty nodes with four slots, each in a fault domain of its own, in ten upgrade domains.
+fn topology(alloc: Global) -> Result<Topology, Fail> {
+    let mut text = String::new(alloc);
+    for i in 0..20 {
+        let upgrade = i % 10;
+        write!(
+            text,
+            "[[node]]\nnumber = {i}\nfault = {i}\nupgrade = {upgrade}\nslots = 4\n"
+        )?;
+    }
+    Ok(Topology::read(alloc, text.as_bytes())?)
+}
+
+fn book(alloc: Global) -> Result<Book, Fail>
+    ensures { IfOk result (λ b. (b.history ≡ []) × (b.limit ≡ HISTORY_LIMIT)) }
+{
+    let topology = topology(alloc)?;
+    Ok(Book::new(alloc, topology)?)
+}
+
+#[test]
+fn a_viewer_sees_what_it_was_shown(rt: HostRuntime) -> Result<(), Fail> {
+    let book = book(rt.alloc())?;
+    let stripe = StripeNo::new(1).ok_or("a stripe")?;
+    let book = watch::<Brand, _>(&rt, rt.alloc(), book, NewLog::new(), stripe);
+    assert_eq!(&rt; book.history().len(), 2);
+    Ok(())
+}
+
+/// Of two viewers one is shown two calls, and the other nothing.
+fn watch<N: ViewNaming, R: Wait + Abort>(
+    rt: &R,
+    alloc: Global,
+    book: Book,
+    log: NewLog,
+    stripe: StripeNo,
+) -> Book
+    requires book { (book.history ≡ []) × (book.nodes ≡ N.topology) × (book.limit ≡ HISTORY_LIMIT) }
+    requires log { (log.front.book ≡ N.log) × (log.pen.nib.key ≡ N.start) }
+{
+    let Ok((mut keeper, mut viewers)) = Keeper::<N>::open(alloc, rt, book, log, 2) else {
+        panic!(rt; "a keeper and its viewers")
+    };
+    let mut viewer = take(rt, &mut viewers);
+    let other = take(rt, &mut viewers);
+    apply(rt, &mut keeper, Command::Place(stripe), 1);
+    apply(rt, &mut keeper, Command::Fail(NodeNo { value: 3 }), 2);
+    keeper.show(&mut viewer);
+    assert_eq!(rt; (viewer.count(), other.count()), (2, 0));
+    assert_eq!(rt; level(rt, &mut viewer, stripe), Some(Level::AtRisk(2)));
+    assert_eq!(rt; load(rt, &mut viewer, NodeNo { value: 3 }), Some(0));
+    assert_eq!(rt; load(rt, &mut viewer, NodeNo { value: 4 }), Some(1));
+    assert_eq!(rt; load(rt, &mut viewer, NodeNo { value: 99 }), None);
+    keeper.into_book(rt)
+}
+
+fn take<N: ViewNaming>(rt: &impl Abort, viewers: &mut Vec<Viewer<N>>) -> Viewer<N> {
+    let Some(viewer) = viewers.pop() else {
+        panic!(rt; "one more viewer")
+    };
+    viewer
+}
+
+/// One call of session 1, which has this place in the history.
+fn apply<N: ViewNaming, R: Wait + Abort>(
+    rt: &R,
+    keeper: &mut Keeper<N>,
+    command: Command,
+    place: u64,
+) {
+    match keeper.apply(rt, SessionNo { value: 1 }, command) {
+        Ok(receipt) => assert_eq!(rt; receipt.place, place),
+        Err(_) => panic!(rt; "room for a call"),
+    }
+}
+
+fn level<N: ViewNaming>(
+    rt: &impl Abort,
+    viewer: &mut Viewer<N>,
+    stripe: StripeNo,
+) -> Option<Level> {
+    match viewer.level_of(stripe) {
+        Ok(seen) => seen.value,
+        Err(_) => panic!(rt; "a view"),
+    }
+}
+
+fn load<N: ViewNaming>(rt: &impl Abort, viewer: &mut Viewer<N>, node: NodeNo) -> Option<u32> {
+    match viewer.load_of(node) {
+        Ok(seen) => seen.value,
+        Err(_) => panic!(rt; "a view"),
+    }
+}
