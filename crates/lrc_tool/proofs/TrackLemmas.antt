@@ -273,10 +273,10 @@ tracks_made {Z} nodes scripts after tracks c ran unstopped closes =
     let long : length (lists_of scripts) ≡ n = length-map scripts (λ (v : Vec Command Z). v.items) in
     let at = told_at scripts after tracks h ran unstopped closes.6 (sym closes.3 ∙ closes.5) in
     let made = commands_all h 1 (lists_of scripts) (λ i low.
-        let within : i < n = omega (arith, low, long) in
-        let s = some_of scripts i within in
-        let t = some_of tracks i (omega (arith, within, ran.1)) in
-        (at i s t within).made ∙ sym (get_or-map (λ (v : Vec Command Z). v.items) scripts i s [] within)) in
+    let within : i < n = omega (arith, low, long) in
+    let s = some_of scripts i within in
+    let t = some_of tracks i (omega (arith, within, ran.1)) in
+    (at i s t within).made ∙ sym (get_or-map (λ (v : Vec Command Z). v.items) scripts i s [] within)) in
     let printed = texts_all h 1 tracks (λ i t low. let within : i < n = omega (arith, low, ran.1) in (at i (some_of scripts i within) t within).printed) in
     record {
       legal = closes.2;

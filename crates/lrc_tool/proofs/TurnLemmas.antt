@@ -92,7 +92,7 @@ asked_all n (commands ∷ scripts) low high =
     λ i. asked_own s commands i ++ asked_before n (n + 1) scripts (next_low n low) (next_high n (length scripts) high) (omega arith) i in
     let first : asked n (calls_of s commands ++ rest) ≡ commands = asked-append n (calls_of s commands) rest ∙ own ∙ append-nil commands in
     let others = map_range-same (λ k. asked k (calls_of s commands ++ rest)) (λ k. asked k rest) (n + 1) (length scripts)
-        (λ k above. asked-append k (calls_of s commands) rest ∙ ap (λ cs. cs ++ asked k rest) (asked_other k s commands (is_below n k (omega (arith, above))))) in
+    (λ k above. asked-append k (calls_of s commands) rest ∙ ap (λ cs. cs ++ asked k rest) (asked_other k s commands (is_below n k (omega (arith, above))))) in
     let more = others ∙ asked_all (n + 1) scripts (next_low n low) (next_high n (length scripts) high) in
     λ i. first i ∷ more i
 
@@ -148,13 +148,15 @@ module _ (nodes : List NodeInfo) where
       let high : 1 + length scripts ≤ 9 = omega (arith, few) in
       let cs = calls_from 1 scripts low high in
       let h = history_of first_world cs in
-      let each = map_range-same (λ k. commands_of k h) (λ k. asked k cs) 1 (length scripts) (λ k above. has_asked k 1 first_world cs) in
-      (h, record {
-        legal = is_legal first_world cs;
-        made = each ∙ asked_all 1 scripts low high;
-        alone = is_within (length scripts) first_world cs (all_within (length scripts) 1 scripts low high (omega arith));
-        printed = refl;
-      })
+      let each = map_range-same (λ k. commands_of k h) (λ k. asked k cs) 1 (length scripts) (λ k above. has_asked k 1 first_world cs) in (
+        h,
+        record {
+          legal = is_legal first_world cs;
+          made = each ∙ asked_all 1 scripts low high;
+          alone = is_within (length scripts) first_world cs (all_within (length scripts) 1 scripts low high (omega arith));
+          printed = refl;
+        },
+      )
 
   pub some_play : (scripts : List (List Command)) → length scripts ≤ 8 → (text : List ℕ) × IsPlayed nodes scripts text
   some_play scripts few =

@@ -1,0 +1,25 @@
+use Rattle.std.proofs.Common.{◌≡◌, ℕ, List, inl, ap, subst, sym, ◌∙◌}
+use Rattle.std.proofs.lemmas.Result.{IfOk-weaker, IfErr-weaker}
+use Rattle.lrc_topology.specs.declared.NodeInfo.{NodeInfo}
+use Rattle.lrc_tool.specs.Judged.{lists_of}
+use Rattle.lrc_tool.specs.Plays.{AreMade, tracks_text}
+use Rattle.lrc_tool.proofs.SessionLemmas.{played_with_tables}
+use Rattle.lrc_tool.proofs.together.play_together.Goals as goal
+
+pub returns-clause-played : goal.returns-clause-played
+returns-clause-played g c =
+    let book = c.in_ok-played.played.book in
+    let tracks = c.in_ok-played.played.tracks.items in
+    let nodes = c.args.nodes.now in
+    let lists = lists_of c.args.scripts.now in
+    let text = c.in_ok-text.text.items in
+    let same = c.in-Ok.ensures.ok.0 ∙ c.requires.same in
+    let printed : text ≡ tracks_text 1 tracks = c.in_ok-text.ensures.text ∙ ap (tracks_text 1) c.as_slice.ensures.value in
+    let on_nodes = subst (λ (ns : List NodeInfo). AreMade ns lists book.history (tracks_text 1 tracks)) same c.in_ok-played.ensures.made in
+    let made = subst (λ (t : List ℕ). AreMade nodes lists book.history t) (sym printed) on_nodes in
+    IfOk-weaker c.with_tables.result _ _
+    (λ v is. played_with_tables nodes book.nodes lists book.history text v.items made (c.in_ok-played.ensures.nodes ∙ same) is)
+    c.with_tables.ensures.text
+
+pub returns-clause-err : goal.returns-clause-err
+returns-clause-err g c = IfErr-weaker c.with_tables.result _ _ (λ e is. inl is) c.with_tables.ensures.err
