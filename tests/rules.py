@@ -17,6 +17,7 @@ class Refused(Exception):
     """A command is refused, with its number and what it tells."""
 
 
+@cache
 def class_of(fragment):
     return next(name for name, members in CLASSES.items() if fragment in members)
 
@@ -65,6 +66,14 @@ class Store:
         for key, lease in self.leases.items():
             yield key, lease.target
 
+    def nodes_of(self, stripe):
+        """The nodes on which a stripe holds a seat, each with the fragment."""
+        for fragment in FRAGMENTS:
+            if (stripe, fragment) in self.homes:
+                yield fragment, self.homes[stripe, fragment][0]
+            if (stripe, fragment) in self.leases:
+                yield fragment, self.leases[stripe, fragment].target[0]
+
     def slots_in_use(self):
         """The slots that are held, of each node."""
         slots = {node: set() for node in self.nodes}
@@ -99,8 +108,8 @@ class Store:
     def is_lawful(self, key, node):
         """Whether a fragment may go to the node, beside the seats of the other fragments of its stripe."""
         stripe, fragment = key
-        for (other_stripe, other), (beside, _) in self.held():
-            if other_stripe != stripe or other == fragment:
+        for other, beside in self.nodes_of(stripe):
+            if other == fragment:
                 continue
             if self.nodes[beside].fault == self.nodes[node].fault:
                 return False

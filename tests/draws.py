@@ -1,0 +1,102 @@
+"""Numbers and calls that are drawn by a fixed rule, so that a run can be made again."""
+from collections import namedtuple
+
+# What is drawn from: stripe numbers 0 to `stripes`, of which the last is never placed; nodes and upgrade domains, with one
+# of each that the store does not have.
+Range = namedtuple("Range", "stripes nodes domains")
+
+# How often a command is drawn, of a hundred.
+WEIGHTS = {
+    "place": 9, "drop": 5, "lease": 9, "next": 18, "done": 18, "abandon": 3, "revoke": 3, "fail": 2, "join": 6,
+    "down": 3, "up": 5, "drain": 4, "undrain": 2, "retire": 4, "upgrade": 4, "upgraded": 5,
+}
+
+
+def numbers(seed):
+    """A fixed row of numbers, each below 2^32."""
+    while True:
+        seed = (seed * 6364136223846793005 + 1442695040888963407) % 2**64
+        yield seed >> 32
+
+
+def one_of(row, values):
+    values = list(values)
+    return values[next(row) % len(values)]
+
+
+def is_seldom(row):
+    return next(row) % 8 == 0
+
+
+def drawn_word(row):
+    at = next(row) % sum(WEIGHTS.values())
+    for word, weight in WEIGHTS.items():
+        if at < weight:
+            return word
+        at -= weight
+    raise AssertionError("the weights end before their sum")
+
+
+def drawn_node(row, fitting, all_nodes):
+    """Most often a node that the command can act on, else any."""
+    return one_of(row, fitting) if fitting and not is_seldom(row) else one_of(row, all_nodes)
+
+
+def fitting_nodes(store, word):
+    """The nodes whose mode lets the command act."""
+    fits = {
+        "up": lambda node: node in store.down,
+        "join": lambda node: store.mode[node] == "gone",
+        "undrain": lambda node: store.mode[node] == "draining",
+        "retire": lambda node: store.mode[node] == "draining" and store.load(node) == 0,
+    }.get(word)
+    return [node for node in store.nodes if fits(node)] if fits else []
+
+
+def drawn_stripe(store, row, word, within):
+    """Most often one that can be placed, or one to be given up."""
+    if word == "place":
+        fitting = [stripe for stripe in range(within.stripes) if stripe not in store.stripes]
+    else:
+        fitting = [stripe for stripe in sorted(store.stripes) if store.level(stripe) == "lost"]
+    return one_of(row, fitting) if fitting and not is_seldom(row) else next(row) % (within.stripes + (word == "drop"))
+
+
+def drawn_fragment(store, row):
+    """Most often one that needs a lease, where there is one."""
+    needy = [(stripe, fragment) for stripe in sorted(store.stripes) for fragment in range(16)
+             if store.needs_lease((stripe, fragment))]
+    return one_of(row, needy) if needy and not is_seldom(row) else None
+
+
+def drawn_report(store, row, session):
+    """A session, a stripe, a fragment and an epoch: most often of a live lease, now and then with one thing wrong."""
+    if not store.leases:
+        return session, 0, next(row) % 16, 1
+    stripe, fragment = key = one_of(row, sorted(store.leases))
+    lease = store.leases[key]
+    wrong = next(row) % 16
+    epoch = lease.epoch + (wrong == 0) - (wrong == 1)
+    return session if wrong == 2 else lease.holder, stripe, (fragment + (wrong == 3)) % 16, epoch
+
+
+def drawn_call(store, row, within):
+    """A session and the line of its command."""
+    word, session = drawn_word(row), 1 + next(row) % 8
+    stripe, fragment = next(row) % (within.stripes + 1), next(row) % 16
+    if word == "next":
+        return session, word
+    if word in ("place", "drop"):
+        return session, f"{word} {drawn_stripe(store, row, word, within)}"
+    if word in ("lease", "revoke"):
+        held = sorted(store.leases) if word == "revoke" and not is_seldom(row) else []
+        key = one_of(row, held) if held else drawn_fragment(store, row) or (stripe, fragment)
+        return session, "%s %d %d" % (word, *key)
+    if word in ("done", "abandon"):
+        session, *rest = drawn_report(store, row, session)
+        return session, "%s %d %d %d" % (word, *rest)
+    if word == "upgraded" and store.upgrading is not None and not is_seldom(row):
+        return session, f"{word} {store.upgrading}"
+    if word in ("upgrade", "upgraded"):
+        return session, f"{word} {one_of(row, within.domains)}"
+    return session, f"{word} {drawn_node(row, fitting_nodes(store, word), within.nodes)}"
