@@ -2,10 +2,12 @@ pub use Rattle.lrc_code.specs.Numbers
 pub use Rattle.lrc_topology.specs.Nodes
 pub use Rattle.lrc_stripes.specs.Levels
 pub use Rattle.lrc_book.specs.States
+pub use Rattle.lrc_book.specs.Urgency
 pub use Rattle.lrc_book.specs.Histories
 pub use Rattle.lrc_book.specs.Boards
 pub use Rattle.lrc_book.specs.Touching
 pub use Rattle.lrc_book.specs.Books
 pub mod Lines
 pub mod Refreshed
+pub mod Risks
 pub mod Views

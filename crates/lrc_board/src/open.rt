@@ -1,4 +1,5 @@
 ghost use Rattle.std.specs.Prelude.{◌≡◌, ◌≢◌, ◌≤◌, [], replicate, IfOk, IfErr};
+ghost use Rattle.lrc_topology.specs.Nodes.{AreNodes};
 ghost use Rattle.lrc_book.specs.declared.book.TheConstants.{HISTORY_LIMIT};
 ghost use Rattle.lrc_board.specs.declared.open_error.OpenError.TheVariants as error;
 ghost use Rattle.lrc_board.specs.Views.{empty_board};
@@ -26,7 +27,8 @@ fn viewers<N: ViewNaming>(
     front: &Front,
     readers: u8,
 ) -> Result<Vec<Viewer<N>>, OpenError>
-    requires { (front.now.book ≡ N.log) × (front.now.log ≡ []) }
+    requires front { (front.now.book ≡ N.log) × (front.now.log ≡ []) }
+    requires nodes { AreNodes N.topology }
     ensures ok { IfOk result (λ v. v.items ≡ replicate readers []) }
     ensures err { IfErr result (λ e. e ≢ error.BadCount) }
 {
@@ -105,6 +107,7 @@ impl<N: ViewNaming> Keeper<N> {
         ensures viewers { IfOk result (λ r. r.1.items ≡ replicate readers []) }
         ensures err { IfErr result (λ e. e ≢ error.BadCount) }
     {
+        book.history();
         let writer = writer_of::<N, R>(alloc, rt, book.topology(), &log.front, readers)?;
         match viewers(alloc, writer.factory(), &log.front, readers) {
             Ok(viewers) => Ok((keeper_of(book, log, writer), viewers)),

@@ -68,6 +68,7 @@ fn watch<N: ViewNaming, R: Wait + Abort>(
     assert_eq!(rt; load(rt, &mut viewer, NodeNo { value: 3 }), Some(0));
     assert_eq!(rt; load(rt, &mut viewer, NodeNo { value: 4 }), Some(1));
     assert_eq!(rt; load(rt, &mut viewer, NodeNo { value: 99 }), None);
+    expect_at_risk(rt, alloc, &mut viewer, (stripe, Level::AtRisk(2)));
     keeper.into_book(rt)
 }
 
@@ -106,5 +107,21 @@ fn load<N: ViewNaming>(rt: &impl Abort, viewer: &mut Viewer<N>, node: NodeNo) ->
     match viewer.load_of(node) {
         Ok(seen) => seen.value,
         Err(_) => panic!(rt; "a view"),
+    }
+}
+
+/// Of all stripes this one alone is at risk.
+fn expect_at_risk<N: ViewNaming>(
+    rt: &impl Abort,
+    alloc: Global,
+    viewer: &mut Viewer<N>,
+    row: (StripeNo, Level),
+) {
+    match viewer.risk(alloc) {
+        Ok(seen) => {
+            assert_eq!(rt; seen.value.len(), 1);
+            assert_eq!(rt; seen.value.first(), Some(&row));
+        }
+        Err(_) => panic!(rt; "room and a view"),
     }
 }

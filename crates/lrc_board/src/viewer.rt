@@ -1,7 +1,9 @@
 ghost use Rattle.std.specs.Prelude.{◌≡◌, [], length, IfOk, IfErr, OnErr};
 ghost use mathlib.Core.List.{IsPrefix};
 ghost use Rattle.lrc_book.specs.Histories.{IsLegal, state_after};
+ghost use Rattle.lrc_topology.specs.Nodes.{AreNodes};
 ghost use Rattle.lrc_book.specs.States.{level_shown, load_shown};
+ghost use Rattle.lrc_book.specs.Urgency.{risk};
 ghost use Rattle.lrc_board.specs.Lines.{written};
 ghost use Rattle.lrc_board.specs.declared.error.LookError.TheVariants as error;
 
@@ -9,10 +11,11 @@ use crate::error::LookError;
 use crate::line::Front;
 use crate::log::begins;
 use crate::naming::ViewNaming;
-use crate::question::{LevelOf, LoadOf, Question};
+use crate::question::{LevelOf, LoadOf, Question, RiskOf};
 use crate::rule::{BoardReader, Sees};
 use lrc_code::{NodeNo, StripeNo};
 use lrc_stripes::Level;
+use std::alloc::Global;
 use std::marker::Model;
 
 /// What a look found, and how many entries had been made then.
@@ -33,6 +36,7 @@ pub struct Viewer<N: ViewNaming> {
 
 impl<N: ViewNaming> Model for Viewer<N> {
     ghost use Rattle.std.specs.Prelude.{◌≡◌, List, length, IsSome};
+    ghost use Rattle.lrc_topology.specs.Nodes.{AreNodes};
     ghost use Rattle.lrc_book.specs.declared.entry.Entry.{Entry};
     ghost use Rattle.lrc_book.specs.Histories.{IsLegal};
     ghost use Rattle.lrc_board.specs.Lines.{written};
@@ -42,13 +46,14 @@ impl<N: ViewNaming> Model for Viewer<N> {
     ghost view = { λ v. written N.start v.front.log };
 
     ghost invariant = { λ v. IsSome v.reader × (v.front.book ≡ N.log) × (v.count ≡ length (written N.start v.front.log))
-        × IsLegal N.topology (written N.start v.front.log) };
+        × AreNodes N.topology × IsLegal N.topology (written N.start v.front.log) };
 }
 
 impl<N: ViewNaming> Viewer<N> {
     /// A viewer that has seen nothing.
     pub(crate) fn new(reader: BoardReader<N>, front: Front) -> Viewer<N>
-        requires { (front.book ≡ N.log) × (front.log ≡ []) }
+        requires front { (front.book ≡ N.log) × (front.log ≡ []) }
+        requires nodes { AreNodes N.topology }
         ensures { result ≡ [] }
     {
         Viewer {
@@ -141,5 +146,22 @@ impl<N: ViewNaming> Viewer<N> {
         ensures same { OnErr result (self.new ≡ self.old) }
     {
         self.look(LoadOf { node })
+    }
+    /// The stripes that are not whole, with their levels, in the order of repair, as they were published. It takes room for
+    /// 4,096 rows before it looks.
+    ///
+    /// # Errors
+    ///
+    /// `LookError::OutOfMemory` where the room is refused, and else only `LookError::NoView`.
+    pub fn risk(&mut self, alloc: Global) -> Result<Seen<Vec<(StripeNo, Level)>>, LookError>
+        ensures later { IsPrefix self.old self.new }
+        ensures legal { IsLegal N.topology self.new }
+        ensures front { IfOk result (λ s. s.front ≡ length self.new) }
+        ensures value { IfOk result (λ s. s.value.items ≡ risk N.topology (state_after N.topology self.new)) }
+        ensures same { OnErr result (self.new ≡ self.old) }
+    {
+        self.count();
+        let question = RiskOf::new(alloc)?;
+        self.look(question)
     }
 }
