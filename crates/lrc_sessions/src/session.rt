@@ -2,6 +2,7 @@ ghost use Rattle.std.specs.Prelude.{◌≡◌, ◌≤◌, [], length, IfOk, IfEr
 ghost use mathlib.Core.List.{IsPrefix};
 ghost use Rattle.lrc_book.specs.Histories.{IsLegal, state_after};
 ghost use Rattle.lrc_book.specs.States.{level_shown, load_shown};
+ghost use Rattle.lrc_book.specs.Urgency.{risk};
 ghost use Rattle.lrc_board.specs.declared.error.LookError.TheVariants as error;
 ghost use Rattle.lrc_sessions.specs.Views.{SessionView};
 ghost use Rattle.lrc_sessions.specs.Counts.{made_in};
@@ -10,6 +11,7 @@ use crate::naming::Naming;
 use lrc_board::{Keeper, LookError, Seen, Viewer};
 use lrc_code::{NodeNo, SessionNo, StripeNo};
 use lrc_stripes::Level;
+use std::alloc::Global;
 use std::marker::Model;
 use std::sync::ledger::Share;
 
@@ -102,6 +104,24 @@ impl<N: Naming> Session<N> {
         ensures same { OnErr result (self.new ≡ self.old) }
     {
         self.viewer.load_of(node)
+    }
+
+    /// The stripes that are not whole, with their levels, in the order of repair, as they were published. It takes room for
+    /// 4,096 rows before it looks, takes no lock and waits for nobody.
+    ///
+    /// # Errors
+    ///
+    /// `LookError::OutOfMemory` where the room is refused, and else only `LookError::NoView`, where the library gives no board
+    /// that has as many entries as the session has seen.
+    pub fn risk(&mut self, alloc: Global) -> Result<Seen<Vec<(StripeNo, Level)>>, LookError>
+        ensures session { (self.new.number ≡ self.old.number) × (self.new.made ≡ self.old.made) }
+        ensures later { IsPrefix self.old.front self.new.front }
+        ensures legal { IsLegal N.topology self.new.front }
+        ensures front { IfOk result (λ s. s.front ≡ length self.new.front) }
+        ensures value { IfOk result (λ s. s.value.items ≡ risk N.topology (state_after N.topology self.new.front)) }
+        ensures same { OnErr result (self.new ≡ self.old) }
+    {
+        self.viewer.risk(alloc)
     }
 
     /// What the session has seen begins the keeper's history, which has an entry for each of its calls.

@@ -134,18 +134,24 @@ fn look_around<N: Naming, R: Wait + Abort>(
     );
     manager.meet(rt, &mut first, &mut second);
     assert_eq!(rt; (first.front(), second.front()), (2, 2));
-    expect_both_placed(rt, &mut first, stripes[1]);
+    expect_both_placed(rt, alloc, &mut first, stripes[1]);
     assert!(rt; sessions.push(first).is_ok());
     assert!(rt; sessions.push(second).is_ok());
     finish(rt, manager, sessions)
 }
 
-/// A session sees the second stripe, and how many seats are on a node of it alone, and on one of both.
-fn expect_both_placed<N: Naming>(rt: &impl Abort, session: &mut Session<N>, second: StripeNo) {
+/// A session sees the second stripe, how many seats are on a node of it alone and on one of both, and no stripe at risk.
+fn expect_both_placed<N: Naming>(
+    rt: &impl Abort,
+    alloc: Global,
+    session: &mut Session<N>,
+    second: StripeNo,
+) {
     assert_eq!(rt; level_of(rt, session, second), (2, Some(Level::Whole)));
     assert_eq!(rt; load_of(rt, session, NodeNo { value: 15 }), (2, Some(1)));
     assert_eq!(rt; load_of(rt, session, NodeNo { value: 0 }), (2, Some(2)));
     assert_eq!(rt; load_of(rt, session, NodeNo { value: 99 }), (2, None));
+    assert_eq!(rt; at_risk(rt, alloc, session), (2, 0));
 }
 
 /// How much a look at a stripe's level has seen, and the level.
@@ -169,5 +175,13 @@ fn load_of<N: Naming>(
     match session.load_of(node) {
         Ok(seen) => (seen.front, seen.value),
         Err(_) => panic!(rt; "a view"),
+    }
+}
+
+/// How much a look at the stripes at risk has seen, and how many there are.
+fn at_risk<N: Naming>(rt: &impl Abort, alloc: Global, session: &mut Session<N>) -> (u64, usize) {
+    match session.risk(alloc) {
+        Ok(seen) => (seen.front, seen.value.len()),
+        Err(_) => panic!(rt; "room and a view"),
     }
 }
