@@ -10,6 +10,7 @@ pub mod RepairLemmas
 pub mod RepairLaws
 pub mod UpgradeLemmas
 pub mod StripeSetLemmas
+pub mod MarkedLemmas
 pub mod FreshLemmas
 pub mod NowLemmas
 pub mod KeptLemmas

@@ -6,6 +6,7 @@ mod homes_on;
 pub mod laws;
 mod level;
 mod losses;
+mod marked_set;
 mod masks;
 mod queue;
 mod ranked;

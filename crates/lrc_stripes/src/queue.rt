@@ -4,7 +4,7 @@ ghost use Rattle.lrc_code.specs.declared.numbers.StripeNo.{StripeNo as AnyStripe
 ghost use Rattle.lrc_stripes.specs.Masks.{is_at};
 ghost use Rattle.lrc_stripes.specs.Sets.{FindsNext, at_rank};
 
-use crate::stripe_set::StripeSet;
+use crate::marked_set::MarkedSet;
 use lrc_code::StripeNo;
 use std::alloc::{AllocError, Global};
 use std::marker::Model;
@@ -16,7 +16,7 @@ pub(crate) const RANKS: usize = 5;
 #[derive(Drop)]
 pub(crate) struct Queue {
     /// The stripes of each rank.
-    ranks: Vec<StripeSet>,
+    ranks: Vec<MarkedSet>,
 }
 
 impl Model for Queue {
@@ -36,7 +36,7 @@ impl Queue {
     {
         let mut ranks = Vec::with_capacity(alloc, RANKS)?;
         for _ in 0..RANKS {
-            ranks.push(StripeSet::new())?;
+            ranks.push(MarkedSet::new())?;
         }
         Ok(Queue { ranks })
     }

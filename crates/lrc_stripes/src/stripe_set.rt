@@ -1,5 +1,6 @@
-ghost use Rattle.std.specs.Prelude.{◌≡◌, ◌&&◌, ◌||◌, not, false};
+ghost use Rattle.std.specs.Prelude.{◌≡◌, ◌≤◌, ◌/◌, ◌&&◌, ◌||◌, not, false};
 ghost use Rattle.lrc_code.specs.Numbers.{same_stripe};
+ghost use Rattle.lrc_code.specs.declared.numbers.StripeNo.{StripeNo as AnyStripe};
 ghost use Rattle.lrc_stripes.specs.Sets.{FindsNext, has};
 
 use lrc_bits::BitSet;
@@ -51,6 +52,17 @@ impl StripeSet {
         ensures { has self.new ≡ λ s. has self.old s || has other.now s }
     {
         self.bits.insert_all(&other.bits);
+    }
+
+    /// Whether the set has a member within this stretch of 64 numbers.
+    pub(crate) fn has_within(&self, stretch: usize) -> bool
+        requires { stretch ≤ 63 }
+        ensures { result ≡ false → (s : AnyStripe) → s.value / 64 ≡ stretch → has self.now s ≡ false }
+    {
+        match self.first_from(stretch * 64) {
+            Some(first) => first.value as usize / 64 == stretch,
+            None => false,
+        }
     }
 
     /// The first stripe of the set from this number on.
