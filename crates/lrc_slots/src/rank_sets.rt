@@ -59,7 +59,7 @@ impl RankSets {
     {
         let set = &mut self.sets[load];
         set.remove(rank);
-        if set.is_empty() {
+        if set.first_from(0).is_none() {
             self.used.remove(load);
         }
     }
