@@ -147,6 +147,7 @@ impl<N: ViewNaming> Viewer<N> {
     {
         self.look(LoadOf { node })
     }
+
     /// The stripes that are not whole, with their levels, in the order of repair, as they were published. It takes room for
     /// 4,096 rows before it looks.
     ///
