@@ -64,3 +64,22 @@ fn what_another_set_holds_is_passed_over(rt: HostRuntime) -> Result<(), Fail> {
     assert_eq!(rt; set.first_outside(&other), None);
     Ok(())
 }
+
+#[test]
+fn what_two_sets_have_in_common_is_put_in(rt: HostRuntime) -> Result<(), Fail> {
+    let mut set = BitSet::<2>::new();
+    let mut one = BitSet::<2>::new();
+    let mut other = BitSet::<2>::new();
+    set.insert(7);
+    for place in [3usize, 64, 100].iter() {
+        one.insert(*place);
+    }
+    for place in [4usize, 64, 127].iter() {
+        other.insert(*place);
+    }
+    set.insert_common(&one, &other);
+    assert_eq!(rt; set.first_from(0), Some(7));
+    assert_eq!(rt; set.first_from(8), Some(64));
+    assert_eq!(rt; set.first_from(65), None);
+    Ok(())
+}

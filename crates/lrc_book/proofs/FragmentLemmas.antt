@@ -1,5 +1,5 @@
 -- A stripe whose leases end and whose homes are cleared, fragment by fragment.
-use Rattle.std.proofs.Common.{Option, Some, None, ◌≢◌, fold, if◌then◌else◌, ◌||◌, ◌≡◌, ℕ, ◌+◌, ◌<◌, ◌≤◌, Bool, true, false, not, ◌&&◌, nat_eq, eqb, List, [], ◌∷◌, map, filter, length, take, get_or, zero-add, refl, sym, ap, ap₂, ◌∙◌, subst, inl, inr, arith}
+use Rattle.std.proofs.Common.{Some, None, ◌≢◌, fold, if◌then◌else◌, ◌||◌, ◌≡◌, ℕ, ◌+◌, ◌<◌, ◌≤◌, Bool, true, false, not, ◌&&◌, eqb, List, [], ◌∷◌, map, filter, length, take, get_or, zero-add, refl, sym, ap, ◌∙◌, subst, inl, inr, arith}
 use Rattle.std.proofs.Math.Path.{fun_ext}
 use Rattle.std.specs.List.{Contains, list_any, range_with_len}
 use Rattle.std.proofs.lemmas.Bool.{cases_Bool, eqb-true, eq-eqb, ne_eqb}

@@ -31,6 +31,7 @@ pub mod ModeLemmas
 pub mod NodeSetLemmas
 pub mod DomainLemmas
 pub mod UpgradeLemmas
+pub mod ShortUpgradeLemmas
 pub mod ClearLemmas
 pub mod EmptyLemmas
 pub mod ToldLemmas

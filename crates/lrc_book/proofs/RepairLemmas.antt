@@ -1,5 +1,5 @@
 -- From what a fragment is rebuilt, told by the mask of the missing fragments.
-use Rattle.std.proofs.Common.{◌≡◌, ℕ, ◌≤◌, Bool, true, false, not, ◌&&◌, if◌then◌else◌, nat_lt, eqb, lt-ltb, List, Option, Some, None, IsTrue, IsSome, refl, sym, ap, ◌∙◌, inl, inr, arith}
+use Rattle.std.proofs.Common.{◌≡◌, ℕ, ◌≤◌, Bool, true, false, not, ◌&&◌, if◌then◌else◌, nat_lt, eqb, lt-ltb, List, Option, Some, None, refl, sym, ap, ◌∙◌, inl, inr, arith}
 use Rattle.std.specs.Option.{option_map_or}
 use Rattle.std.proofs.Math.Path.{fun_ext}
 use Rattle.std.proofs.lemmas.Bool.{cases_Bool, ltb-true, ltb-false}
@@ -15,7 +15,6 @@ use Rattle.lrc_code.proofs.BitsLemmas.{bits_set-bits_of, bits_of-below}
 use Rattle.lrc_topology.specs.declared.NodeInfo.{NodeInfo}
 use Rattle.lrc_topology.specs.declared.seat.Seat.{Seat}
 use Rattle.lrc_stripes.specs.Levels.{homes_of, needs_in, missing_if, needs_if}
-use Rattle.lrc_stripes.specs.Stored.{Stored, needs_shown}
 use Rattle.lrc_book.specs.declared.kind.Kind.{Kind}
 use Rattle.lrc_book.specs.declared.kind.Kind.TheVariants.{Local, Global, Move}
 use Rattle.lrc_book.specs.States.{State, has_stripe, online_at, drains_at, missing}
@@ -127,12 +126,7 @@ module _ (nodes : List NodeInfo) (st : State) (s : StripeNo) where
 
 -- ---- which fragments need a lease
 
--- a stripe that is there has a mask of them
-pub needs-some : (t : Stored) (s : StripeNo) → IsTrue (t.stripes s) → IsSome (needs_shown t s)
-unfolding needs_if
-needs-some t s there = rw there refl
-
--- whose bits they are
+-- the mask of a stripe that is there has them as its bits
 pub needs-set : (nodes : List NodeInfo) (st : State) (s : StripeNo) → has_stripe st s ≡ true
     → (mask : LossMask) → Some mask ≡ needs_if (has_stripe st s) Wide (drains_at nodes st) (homes_of st.homes s)
     → (f : Fragment) → bits_set mask.bits f.value ≡ needs nodes st s f

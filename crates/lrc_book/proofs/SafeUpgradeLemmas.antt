@@ -51,7 +51,7 @@ use Rattle.lrc_book.proofs.LeaseStepLemmas.{stripe-there}
 -- ---- counting
 
 -- a set that has no two of a list has one of it at most
-at_most_one : {X : Type 0} (test : X → Bool) (xs : List X) → AllPairs (λ a b. test a ≡ true → test b ≡ true → ⊥) xs → count_by test xs ≤ 1
+pub at_most_one : {X : Type 0} (test : X → Bool) (xs : List X) → AllPairs (λ a b. test a ≡ true → test b ≡ true → ⊥) xs → count_by test xs ≤ 1
 at_most_one test [] pairs = omega arith
 at_most_one {X} test (x ∷ xs) pairs = elim (cases_Bool (test x)) [
   | inl hit ↦
@@ -77,7 +77,7 @@ count-numbers m (f ∷ fs) =
     ∙ ap (λ (n : ℕ). cond (m f.value) 1 0 + n) (count-numbers m fs) ∙ sym (sum_by-cons (λ (g : Fragment). cond (m g.value) 1 0) f fs)
 
 -- pairs of different members, by their members
-pairs-by : {X : Type 0} (R : X → X → Type 0) (xs : List X) → AllPairs (λ a b. a ≢ b) xs → ((a b : X) → Contains xs a → Contains xs b → a ≢ b → R a b)
+pub pairs-by : {X : Type 0} (R : X → X → Type 0) (xs : List X) → AllPairs (λ a b. a ≢ b) xs → ((a b : X) → Contains xs a → Contains xs b → a ≢ b → R a b)
     → AllPairs R xs
 pairs-by R xs apart each i j d below within =
     let low : i < length xs = omega (arith, below, within) in
@@ -85,7 +85,7 @@ pairs-by R xs apart each i j d below within =
     (j, within, get_or_default xs j (get_or xs j d) d within) (apart i j d below within)
 
 -- no two fragments of one class are in the set
-abbrev HasNoTwo : FragmentSet → Type 0
+abbrev pub HasNoTwo : FragmentSet → Type 0
 HasNoTwo m = (f g : Fragment) → f ≢ g → IsTrue (share_class Wide f g) → m f.value ≡ true → m g.value ≡ true → ⊥
 
 abbrev of_class : Class → Fragment → Bool
@@ -98,7 +98,7 @@ both-share c f g here there =
     (are_one_class-iff (class_of Wide f.value) (class_of Wide g.value)).1 (one.0, one.1, two.1 ∙ sym two.2 ∙ one.2)
 
 -- so it has one of each class at most
-class-one : (m : FragmentSet) → HasNoTwo m → (c : Class) → losses_in Wide c m ≤ 1
+pub class-one : (m : FragmentSet) → HasNoTwo m → (c : Class) → losses_in Wide c m ≤ 1
 class-one m none c =
     let fs = filter (of_class c) (fragments Wide) in
     let few = at_most_one (λ (f : Fragment). m f.value) fs (pairs-by (λ (f g : Fragment). m f.value ≡ true → m g.value ≡ true → ⊥) fs
@@ -143,22 +143,53 @@ module _ (m : FragmentSet) (none : HasNoTwo m) where
   one-left : (t : ℕ) × (1 ≤ t) × IsMargin Wide m t
   one-left = margin-by (nat_lt 0 (losses_in Wide A m + losses_in Wide B m)) refl
 
--- ---- a whole stripe
+-- ---- where the fragments of a stripe are
 
-module _ (nodes : List NodeInfo) (st : State) (u : UpgradeNo) (s : StripeNo) (seated : AreSeated nodes st) (whole : level nodes st s ≡ Whole) where
+module _ (nodes : List NodeInfo) (st : State) (s : StripeNo) (seated : AreSeated nodes st) where
+  -- the fragment's home is on this node
+  pub record IsOn (f : ℕ) : Type 0 where
+    pub home : Held
+    pub found : home_of st.homes s f ≡ Some home
+    pub node : NodeInfo
+    pub at : node_at nodes home.seat.node ≡ Some node
+
+  own_stripe : (f : ℕ) (t : IsOn f) → t.home.stripe ≡ s
+  own_stripe f t = equal_stripes t.home.stripe s (eqb-true _ _ (and_parts _ _ (found-home st s f t.home t.found).1).0)
+
+  own_fragment : (f : Fragment) (t : IsOn f.value) → t.home.fragment ≡ f
+  own_fragment f t = equal_fragments t.home.fragment f (eqb-true _ _ (and_parts _ _ (found-home st s f.value t.home t.found).1).1)
+
+  among : (f : ℕ) (t : IsOn f) → Contains (seats_of st) t.home
+  among f t = Contains-append_left st.homes (map held_by st.leases) t.home (found-home st s f t.home t.found).0
+
+  both-known : (P : NodeInfo → NodeInfo → Type 0) (o p : Option NodeInfo) (n m : NodeInfo) → o ≡ Some n → p ≡ Some m → IfSome o (λ x. IfSome p (P x))
+      → P n m
+  both-known P (Some x) (Some y) n m at there both = subst (λ (z : NodeInfo). P z m) (same_Some x n at) (subst (P x) (same_Some y m there) both)
+  both-known P (Some x) None n m at there both = absurd (cc)
+  both-known P None p n m at there both = absurd (cc)
+
+  -- those of different fragments are apart
+  pub nodes-apart : (f g : Fragment) → f ≢ g → (t : IsOn f.value) (v : IsOn g.value) → AreApart Wide f t.node g v.node
+  nodes-apart f g other t v =
+      let apart_homes : t.home.fragment ≢ v.home.fragment = λ same. other (sym (own_fragment f t) ∙ same ∙ own_fragment g v) in
+      let keep = pairs-members (KeepApart nodes st) (KeepApart-turn nodes st) (seats_of st) t.home v.home seated.lawful (among f.value t)
+      (among g.value v) (λ same. apart_homes (ap (λ (h : Held). h.fragment) same)) in
+      let apart = both-known (λ n m. AreApart Wide t.home.fragment n v.home.fragment m) (node_at nodes t.home.seat.node)
+      (node_at nodes v.home.seat.node) t.node v.node t.at v.at
+      (keep (own_stripe f.value t ∙ sym (own_stripe g.value v)) apart_homes) in
+      subst (λ (x : Fragment). AreApart Wide f t.node x v.node) (own_fragment g v)
+      (subst (λ (x : Fragment). AreApart Wide x t.node v.home.fragment v.node) (own_fragment f t) apart)
+
+-- ---- the fragments that an upgrade takes offline
+
+module _ (nodes : List NodeInfo) (st : State) (u : UpgradeNo) (s : StripeNo) (seated : AreSeated nodes st) where
   abbrev then : State
   then = with_upgrading st u
 
   -- the fragment's home is in the domain
   record IsTaken (f : ℕ) : Type 0 where
-    pub home : Held
-    pub found : home_of st.homes s f ≡ Some home
-    pub node : NodeInfo
-    pub at : node_at nodes home.seat.node ≡ Some node
-    pub within : u ≡ node.upgrade
-
-  none-missing : NoneMissing (code_of st s) (missing nodes st s)
-  none-missing = ((law_whole (code_of st s) (homeless st s) (missing nodes st s)).0 whole).1
+    pub on : IsOn nodes st s seated f
+    pub within : u ≡ on.node.upgrade
 
   domain-of : (gone down other same : Bool) → (not gone && (not down && not other)) ≡ true → (not gone && (not down && not same)) ≡ false
       → same ≡ true
@@ -173,7 +204,10 @@ module _ (nodes : List NodeInfo) (st : State) (u : UpgradeNo) (s : StripeNo) (se
   by-node f h found (Some n) at online offline =
       let same = domain-of (is_gone (mode_of st n.number)) (is_down st n.number) (is_upgrading st n) (same_upgrade u n.upgrade) (not-false _ online)
       (not-true _ offline) in
-      record { home = h; found = found; node = n; at = at; within = ap (λ (v : ℕ). record { value = v }) (eqb-true u.value n.upgrade.value same) }
+      record {
+        on = record { home = h; found = found; node = n; at = at };
+        within = ap (λ (v : ℕ). record { value = v }) (eqb-true u.value n.upgrade.value same);
+      }
 
   by-home : (f : ℕ) (o : Option Held) → home_of st.homes s f ≡ o
       → option_map_or (λ (seat : Seat). not (online_at nodes st seat.node)) (option_map (λ (h : Held). h.seat) o) true ≡ false
@@ -185,44 +219,38 @@ module _ (nodes : List NodeInfo) (st : State) (u : UpgradeNo) (s : StripeNo) (se
   and_false true b is e = e
   and_false false b is e = absurd (cc)
 
-  taken : (f : ℕ) → f < 16 → missing nodes then s f ≡ true → IsTaken f
-  taken f within hit =
-      by-home f (home_of st.homes s f) refl (and_false _ _ (lt-ltb f 16 within) (none-missing f within)) (and_parts (nat_lt f 16) _ hit).1
+  taken : (f : ℕ) → f < 16 → missing nodes st s f ≡ false → missing nodes then s f ≡ true → IsTaken f
+  taken f within before hit =
+      by-home f (home_of st.homes s f) refl (and_false _ _ (lt-ltb f 16 within) before) (and_parts (nat_lt f 16) _ hit).1
 
-  own_stripe : (f : ℕ) (t : IsTaken f) → t.home.stripe ≡ s
-  own_stripe f t = equal_stripes t.home.stripe s (eqb-true _ _ (and_parts _ _ (found-home st s f t.home t.found).1).0)
-
-  own_fragment : (f : Fragment) (t : IsTaken f.value) → t.home.fragment ≡ f
-  own_fragment f t = equal_fragments t.home.fragment f (eqb-true _ _ (and_parts _ _ (found-home st s f.value t.home t.found).1).1)
-
-  among : (f : ℕ) (t : IsTaken f) → Contains (seats_of st) t.home
-  among f t = Contains-append_left st.homes (map held_by st.leases) t.home (found-home st s f t.home t.found).0
-
-  both-known : (P : NodeInfo → NodeInfo → Type 0) (o p : Option NodeInfo) (n m : NodeInfo) → o ≡ Some n → p ≡ Some m → IfSome o (λ x. IfSome p (P x))
-      → P n m
-  both-known P (Some x) (Some y) n m at there both = subst (λ (z : NodeInfo). P z m) (same_Some x n at) (subst (P x) (same_Some y m there) both)
-  both-known P (Some x) None n m at there both = absurd (cc)
-  both-known P None p n m at there both = absurd (cc)
+  -- the fragments that were not missing, and are then
+  abbrev pub added : FragmentSet
+  added f = not (missing nodes st s f) && missing nodes then s f
 
   -- of one class the domain takes one fragment at most
-  no_two : HasNoTwo (missing nodes then s)
+  pub no_two : HasNoTwo added
   no_two f g other class here there =
-      let t = taken f.value f.in_range here in
-      let v = taken g.value g.in_range there in
-      let apart_homes : t.home.fragment ≢ v.home.fragment = λ same. other (sym (own_fragment f t) ∙ same ∙ own_fragment g v) in
-      let keep = pairs-members (KeepApart nodes st) (KeepApart-turn nodes st) (seats_of st) t.home v.home seated.lawful (among f.value t)
-      (among g.value v) (λ same. apart_homes (ap (λ (h : Held). h.fragment) same)) in
-      let apart = both-known (λ n m. AreApart (code_of st t.home.stripe) t.home.fragment n v.home.fragment m) (node_at nodes t.home.seat.node)
-      (node_at nodes v.home.seat.node) t.node v.node t.at v.at
-      (keep (own_stripe f.value t ∙ sym (own_stripe g.value v)) apart_homes) in
-      apart.upgrades (ap (λ (x : Fragment). share_class Wide x v.home.fragment) (own_fragment f t) ∙ ap (share_class Wide f) (own_fragment g v)
-      ∙ class) (sym t.within ∙ v.within)
+      let first = and_parts (not (missing nodes st s f.value)) (missing nodes then s f.value) here in
+      let second = and_parts (not (missing nodes st s g.value)) (missing nodes then s g.value) there in
+      let t = taken f.value f.in_range (not-true _ first.0) first.1 in
+      let v = taken g.value g.in_range (not-true _ second.0) second.1 in
+      (nodes-apart nodes st s seated f g other t.on v.on).upgrades class (sym t.within ∙ v.within)
 
-  pub whole-recoverable : IsRecoverable (code_of st s) (missing nodes then s)
-  whole-recoverable = recoverable-still (missing nodes then s) no_two
+  -- ---- a whole stripe
 
-  pub whole-margin : (t : ℕ) × (1 ≤ t) × IsMargin (code_of st s) (missing nodes then s) t
-  whole-margin = one-left (missing nodes then s) no_two
+  module _ (whole : level nodes st s ≡ Whole) where
+    none-missing : NoneMissing (code_of st s) (missing nodes st s)
+    none-missing = ((law_whole (code_of st s) (homeless st s) (missing nodes st s)).0 whole).1
+
+    none_two : HasNoTwo (missing nodes then s)
+    none_two f g other class here there =
+        no_two f g other class (and_from _ _ (ap not (none-missing f.value f.in_range)) here) (and_from _ _ (ap not (none-missing g.value g.in_range)) there)
+
+    pub whole-recoverable : IsRecoverable (code_of st s) (missing nodes then s)
+    whole-recoverable = recoverable-still (missing nodes then s) none_two
+
+    pub whole-margin : (t : ℕ) × (1 ≤ t) × IsMargin (code_of st s) (missing nodes then s) t
+    whole-margin = one-left (missing nodes then s) none_two
 
 -- ---- which stripe would be lost
 

@@ -123,7 +123,7 @@ module _ (nodes : List NodeInfo) (st : State) (u : UpgradeNo) where
         ∙ ap (λ (o : Option UpgradeNo). (not (is_gone (mode_of st m.number)) &&
         (not (is_down st m.number) && not (option_map_or (λ v. same_upgrade v m.upgrade) o false))) && not (same_upgrade m.upgrade u)) (sym none)
 
-  lost-as : st.upgrading ≡ None → (spare : ℕ) (s : StripeNo)
+  pub lost-as : st.upgrading ≡ None → (spare : ℕ) (s : StripeNo)
       → upgrades.is_lost_to (stored_of nodes st spare) u s ≡ (has_stripe st s && is_lost_to nodes st u s)
   unfolding upgrades.is_lost_to
   lost-as none spare s =

@@ -18,8 +18,6 @@ mod repair;
 mod reply;
 mod step;
 mod store;
-#[cfg(test)]
-mod tests;
 
 pub use book::{Book, HISTORY_LIMIT};
 pub use command::Command;

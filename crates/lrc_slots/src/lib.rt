@@ -8,8 +8,6 @@ mod rank_sets;
 mod setup;
 mod table;
 mod taken;
-#[cfg(test)]
-mod tests;
 
 pub use barred_nodes::BarredNodes;
 pub use table::SlotTable;

@@ -20,4 +20,5 @@ pub mod WalkLemmas
 pub mod PlaceLemmas
 pub mod HomelessLemmas
 pub mod RenewLemmas
+pub mod ShortLemmas
 pub mod ShownLemmas

@@ -1,19 +1,35 @@
 -- What a store shows, by rows whose masks are as their homes are.
-use Rattle.std.proofs.Common.{◌≡◌, ℕ, Bool, List, Option, Some, None, is_some, option_map, IfSome, IfNone, IsFalse, refl, sym, ap, ◌∙◌, subst}
+use Rattle.std.proofs.Common.{◌≡◌, ℕ, Bool, true, false, not, ◌&&◌, ◌||◌, nat_lt, List, get_or, Option, Some, None, is_some, option_map, IfSome, IfNone, IsFalse, refl, sym, ap, ap₂, ◌∙◌, subst}
+use Rattle.std.proofs.Math.Path.{fun_ext}
+use Rattle.std.specs.List.{list_any, count_by}
+use Rattle.lrc_code.specs.declared.codes.Code.TheVariants.{Wide}
+use Rattle.lrc_code.specs.declared.numbers.NodeNo.{NodeNo}
+use Rattle.lrc_code.specs.declared.numbers.Fragment.{Fragment}
+use Rattle.lrc_code.specs.Codes.{fragments}
+use Rattle.lrc_code.specs.Losses.{bits_set}
+use Rattle.lrc_topology.specs.declared.NodeInfo.{NodeInfo}
+use Rattle.lrc_stripes.specs.Levels.{has_some}
+use Rattle.lrc_stripes.specs.Rows.{sits_on, is_to_move}
 use Rattle.lrc_code.specs.declared.numbers.StripeNo.{StripeNo}
 use Rattle.lrc_code.specs.declared.numbers.UpgradeNo.{UpgradeNo}
 use Rattle.lrc_stripes.specs.declared.row.Row.{Row}
-use Rattle.lrc_stripes.specs.Stored.{Stored, level_shown, AreWork, AreAtRisk}
-use Rattle.lrc_stripes.specs.Upgrades.{is_lost_to, IsFirstLostTo}
-use Rattle.lrc_stripes.specs.Looming.{lost_in, IsFirstIn}
+use Rattle.lrc_stripes.specs.Stored.{Stored, has_work, level_shown, AreWork, AreAtRisk}
+use Rattle.lrc_stripes.specs.Upgrades.{is_stripe_on, offline_count, is_short, is_lost_to, is_short_lost_to, IsFirstLostTo, IsFirstShortLostTo}
+use Rattle.lrc_stripes.specs.Looming.{lost_in, is_needy, offline_in, is_scattered, short_lost_in, IsFirstIn}
 use Rattle.lrc_stripes.specs.Sites.{SiteTable, sited, online_in, draining_in}
 use Rattle.lrc_stripes.specs.Tables.{Table, stored_in, rows_in, row_homes}
 use Rattle.lrc_stripes.specs.Masks.{AreLosses, renewed, level_of, work_rank, risk_rank}
-use Rattle.lrc_stripes.specs.Kept.{IsKept, fresh, freshened, queue_from, queued, levels_of}
-use Rattle.lrc_stripes.proofs.FreshLemmas.{freshened-at, freshened-there, fresh-losses, fresh-work}
+use Rattle.lrc_stripes.specs.Kept.{IsKept, is_row_on, fresh, freshened, queue_from, queued, levels_of}
+use Rattle.lrc_stripes.proofs.FreshLemmas.{freshened-at, freshened-there, freshened-absent, fresh-losses, fresh-work}
 use Rattle.lrc_stripes.proofs.RenewLemmas.{stored_of-sited, stored_of-rows}
-use Rattle.lrc_stripes.proofs.RepairLemmas.{are_work, are_at_risk, level_shown-there}
+use Rattle.lrc_stripes.proofs.RepairLemmas.{empty-none, has_work-there, has_work-absent, are_work, are_at_risk, level_shown-there}
+use Rattle.lrc_stripes.proofs.ShownLemmas.{listed-homes}
+use Rattle.lrc_stripes.proofs.SitedLemmas.{any-map}
 use Rattle.lrc_stripes.proofs.UpgradeLemmas.{lost-is, lost-first, some-more, none-more_of}
+
+not-not : (b : Bool) → not (not b) ≡ b
+not-not true = refl
+not-not false = refl
 
 module _ (sites : SiteTable) (rows : List (Option Row)) (spare : ℕ) (kept : IsKept (sited sites) (rows_in rows)) where
   abbrev now : List (Option Row)
@@ -61,6 +77,46 @@ module _ (sites : SiteTable) (rows : List (Option Row)) (spare : ℕ) (kept : Is
 
   pub lost-found : (u : UpgradeNo) (o : Option StripeNo) → IfSome o (IsFirstIn (lost_in (sited sites) (rows_in now) u)) → IfSome o (IsFirstLostTo (stored_in store) u)
   lost-found u o found = some-more _ _ o (λ s is. subst (λ (t : Stored). IsFirstLostTo t u s) stored-now (lost-first sites now spare losses-now u s is)) found
+
+  -- the nodes that have a home of a stripe
+  stripe-on : (n : NodeNo) (s : StripeNo) → is_stripe_on (stored_in store) n s ≡ (sited sites).on n s
+  unfolding stored_in
+  stripe-on n s = by (rows_in rows s) refl where
+    by : (o : Option Row) → rows_in rows s ≡ o → is_stripe_on (stored_in store) n s ≡ (sited sites).on n s
+    by None none = rw none (sym (kept.listed n s ∙ ap (is_row_on n) none))
+    by (Some r) found =
+        rw found (any-map (sits_on n) (λ (f : Fragment). get_or r.homes f.value None) (fragments Wide) ∙ ap (list_any (sits_on n)) (listed-homes r.homes r.sixteen)
+        ∙ sym (kept.listed n s ∙ ap (is_row_on n) found))
+
+  offline-count : (s : StripeNo) → offline_count (stored_in store) s ≡ offline_in (sited sites) s (sited sites).nodes
+  unfolding stored_in sited
+  offline-count s = ap (λ (on : NodeInfo → Bool). count_by (λ n. not ((sited sites).online n.number) && on n) (sited sites).nodes) (fun_ext (λ n. stripe-on n.number s))
+
+  needy-work : (s : StripeNo) → has_work (stored_in store) s ≡ is_needy (rows_in rows s)
+  needy-work s = ap (λ (t : Stored). has_work t s) (sym stored-now) ∙ by (rows_in rows s) refl where
+    by : (o : Option Row) → rows_in rows s ≡ o → has_work (stored_in store_now) s ≡ is_needy (rows_in rows s)
+    by None none = has_work-absent store_now losses-now s (freshened-absent (sited sites).online rows s none) ∙ sym (ap is_needy none)
+    by (Some r) found =
+        let there = freshened-there (sited sites).online rows s r found in
+        let q = fresh (sited sites).online r in
+        has_work-there store_now losses-now s q there
+        ∙ (sym (ap not (empty-none (is_to_move (draining_in sites.list)) q.homes q.losses.needs (losses-now s q there).needs) ∙ not-not (has_some Wide (bits_set q.losses.needs.bits)))
+        ∙ sym (ap is_needy found))
+
+  short-is : (s : StripeNo) → is_short (stored_in store) s ≡ (is_scattered (sited sites) s || is_needy (rows_in rows s))
+  unfolding is_short
+  short-is s = ap₂ (λ (n : ℕ) (b : Bool). nat_lt 1 n || b) (offline-count s) (needy-work s)
+
+  short_lost-is : (u : UpgradeNo) (s : StripeNo) → is_short_lost_to (stored_in store) u s ≡ short_lost_in (sited sites) rows u s
+  short_lost-is u s = ap₂ (λ (a b : Bool). a && b) (short-is s) (ap (λ (t : Stored). is_lost_to t u s) (sym stored-now) ∙ lost-is sites now spare losses-now u s)
+
+  pub short-found : (u : UpgradeNo) (o : Option StripeNo) → IfSome o (IsFirstIn (short_lost_in (sited sites) rows u)) → IfSome o (IsFirstShortLostTo (stored_in store) u)
+  short-found u o found =
+      some-more _ _ o (λ s is. record { lost = short_lost-is u s ∙ is.has; first = λ r lower. short_lost-is u r ∙ is.first r lower }) found
+
+  pub short-none : (u : UpgradeNo) (o : Option StripeNo) → IfNone o ((s : StripeNo) → IsFalse (short_lost_in (sited sites) rows u s))
+      → IfNone o ((s : StripeNo) → IsFalse (is_short_lost_to (stored_in store) u s))
+  short-none u o none = none-more_of _ _ o (λ all s. short_lost-is u s ∙ all s) none
 
   pub lost-none : (u : UpgradeNo) (o : Option StripeNo) → IfNone o ((s : StripeNo) → IsFalse (lost_in (sited sites) (rows_in now) u s))
       → IfNone o ((s : StripeNo) → IsFalse (is_lost_to (stored_in store) u s))

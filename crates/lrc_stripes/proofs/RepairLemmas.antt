@@ -96,11 +96,11 @@ module _ (t : Table) (losses : (s : StripeNo) (r : Row) → rows_in t.rows s ≡
 
   -- ---- work
 
-  has_work-there : (s : StripeNo) (r : Row) → row s ≡ Some r → has_work (stored_in t) s ≡ has_some Wide (bits_set r.losses.needs.bits)
+  pub has_work-there : (s : StripeNo) (r : Row) → row s ≡ Some r → has_work (stored_in t) s ≡ has_some Wide (bits_set r.losses.needs.bits)
   unfolding stored_in
   has_work-there s r found = rw found (sym (ap (has_some Wide) (needs-is s r found)))
 
-  has_work-absent : (s : StripeNo) → row s ≡ None → has_work (stored_in t) s ≡ false
+  pub has_work-absent : (s : StripeNo) → row s ≡ None → has_work (stored_in t) s ≡ false
   unfolding stored_in
   has_work-absent s none = rw none refl
 

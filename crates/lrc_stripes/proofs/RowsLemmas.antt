@@ -16,7 +16,7 @@ use Rattle.lrc_stripes.specs.declared.row.Row.{Row}
 use Rattle.lrc_stripes.specs.Sets.{at_rank, IsNext}
 use Rattle.lrc_stripes.specs.Tables.{rows_in}
 use Rattle.lrc_stripes.specs.Masks.{work_rank, rank_of, is_at, IsPutOn, renewed}
-use Rattle.lrc_stripes.specs.Kept.{AreQueued, AreRenewed, IsRenewed, IsWithLosses, IsMissingOn, IsToMoveOn, queued}
+use Rattle.lrc_stripes.specs.Kept.{AreQueued, needs_of, AreRenewed, IsRenewed, IsWithLosses, IsMissingOn, IsToMoveOn, queued}
 
 -- ---- no rows
 
@@ -34,10 +34,17 @@ rows_in-none list n is = ap rows_in is ∙ fun_ext (λ s. none_at n s.value)
 queued-none : (rank : Losses → Option ℕ) (rows : StripeNo → Option Row) → rows ≡ (λ s. None) → (λ (k : ℕ) (s : StripeNo). false) ≡ queued rank rows
 queued-none rank rows none = fun_ext (λ k. fun_ext (λ s. ap (λ (r : StripeNo → Option Row). queued rank r k s) (sym none)))
 
-pub are_queued-none : (list : List (Option Row)) (n : ℕ) (work : List (List Bool)) → n ≡ 4096 → list ≡ replicate n None
-    → at_rank work ≡ (λ k s. false) → AreQueued list work
-are_queued-none list n work all is no_work = record {
+zero_at : (n i : ℕ) → ◌≡◌ {A = ℕ} (get_or (replicate n 0) i 0) 0
+zero_at zero i = refl
+zero_at (suc n) zero = refl
+zero_at (suc n) (suc i) = zero_at n i
+
+pub are_queued-none : (list : List (Option Row)) (needs : List ℕ) (n : ℕ) (work : List (List Bool)) → n ≡ 4096 → list ≡ replicate n None
+    → needs ≡ replicate n 0 → at_rank work ≡ (λ k s. false) → AreQueued list needs work
+are_queued-none list needs n work all is zeros no_work = record {
   long = ap length is ∙ (length-replicate n no_row ∙ all);
+  noted = ap length zeros ∙ (length-replicate n 0 ∙ all);
+  needed = λ s. rw zeros (zero_at n s.value) ∙ sym (ap needs_of (ap (λ (f : StripeNo → Option Row). f s) (rows_in-none list n is)));
   works = no_work ∙ queued-none work_rank (rows_in list) (rows_in-none list n is);
 }
 
@@ -71,19 +78,32 @@ module _ (list : List (Option Row)) (stripe : StripeNo) (row : Option Row) (with
         ∙ (ap (λ (q : ℕ → StripeNo → Bool). q k s) was
         ∙ ap (λ (o : Option Row). is_at k (option_and_then (λ r. rank r.losses) o)) (sym (rows_at-set s ∙ ap (λ b. cond b row (rows_in list s)) other)))
 
-  pub are_queued-set : (work new_work : List (List Bool)) (after : Option ℕ) → AreQueued list work
-      → after ≡ option_and_then (λ r. work_rank r.losses) row
+  needed-set : (needs : List ℕ) (bits : ℕ) → stripe.value < length needs → ((s : StripeNo) → get_or needs s.value 0 ≡ needs_of (rows_in list s)) → bits ≡ needs_of row
+      → (s : StripeNo) → get_or (set needs stripe.value bits) s.value 0 ≡ needs_of (rows_in (set list stripe.value row) s)
+  needed-set needs bits inside before is s = elim (cases_eq s.value stripe.value) [
+    | inl same ↦
+        ap (λ n. get_or (set needs stripe.value bits) n 0) same ∙ (get_or-set_same needs stripe.value bits 0 inside
+        ∙ (is ∙ sym (ap needs_of (rows_at-set s ∙ ap (λ b. cond b row (rows_in list s)) (eq-eqb stripe.value s.value (sym same))))))
+    | inr other ↦
+        get_or-set_other needs stripe.value s.value bits 0 other
+        ∙ (before s ∙ sym (ap needs_of (rows_at-set s ∙ ap (λ b. cond b row (rows_in list s)) (ne_eqb stripe.value s.value (λ e. other (sym e))))))
+  ]
+
+  pub are_queued-set : (needs : List ℕ) (bits : ℕ) (work new_work : List (List Bool)) (after : Option ℕ) → AreQueued list needs work
+      → bits ≡ needs_of row → after ≡ option_and_then (λ r. work_rank r.losses) row
       → at_rank new_work ≡ (λ k s. cond (same_stripe stripe s) (is_at k after) (at_rank work k s))
-      → AreQueued (set list stripe.value row) new_work
-  are_queued-set work new_work after are is moved = record {
+      → AreQueued (set list stripe.value row) (set needs stripe.value bits) new_work
+  are_queued-set needs bits work new_work after are noted is moved = record {
     long = length-set list stripe.value row ∙ are.long;
+    noted = length-set needs stripe.value bits ∙ are.noted;
+    needed = needed-set needs bits (let low = stripe.in_range in let all = are.noted in omega (arith, low, all)) are.needed noted;
     works = queued-set work_rank (at_rank work) (at_rank new_work) after are.works is moved;
   }
 
 -- no row has work where no stripe has a rank
-pub idle-rows : (list : List (Option Row)) (work : List (List Bool)) → AreQueued list work → ((k : ℕ) (s : StripeNo) → k < 5 → at_rank work k s ≡ false)
+pub idle-rows : (list : List (Option Row)) (needs : List ℕ) (work : List (List Bool)) → AreQueued list needs work → ((k : ℕ) (s : StripeNo) → k < 5 → at_rank work k s ≡ false)
     → (s : StripeNo) (r : Row) → rows_in list s ≡ Some r → r.losses.needs.bits ≡ 0
-idle-rows list work are none s r there = elim (cases_eq r.losses.needs.bits 0) [
+idle-rows list needs work are none s r there = elim (cases_eq r.losses.needs.bits 0) [
   | inl empty ↦ empty
   | inr some ↦
       let few : rank_of r.losses ≤ 4 = rank_by-few Wide (bits_set r.losses.missing.bits) in

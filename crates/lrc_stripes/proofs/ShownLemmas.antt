@@ -1,5 +1,5 @@
 -- What is shown of one stripe of a store.
-use Rattle.std.proofs.Common.{◌≡◌, ◌≢◌, ℕ, ◌<◌, List, map, get_or, length, Option, Some, None, zero-add, refl, sym, ap, ◌∙◌}
+use Rattle.std.proofs.Common.{◌≡◌, ◌≢◌, ℕ, ◌<◌, List, map, get_or, length, Option, Some, None, true, false, subst, zero-add, refl, sym, ap, ◌∙◌}
 use Rattle.std.proofs.Math.Path.{fun_ext}
 use Rattle.std.proofs.lemmas.List.{ext_get_or}
 use Rattle.std.proofs.lemmas.List.FromFn.{get_or-map-range_with_len}
@@ -17,7 +17,7 @@ use Rattle.lrc_stripes.specs.Stored.{Stored, homes_shown, missing_shown, needs_s
 use Rattle.lrc_stripes.specs.Sites.{SiteTable, sited}
 use Rattle.lrc_stripes.specs.Tables.{stored_in, rows_in}
 use Rattle.lrc_stripes.specs.Masks.{renewed}
-use Rattle.lrc_stripes.specs.Kept.{IsKept}
+use Rattle.lrc_stripes.specs.Kept.{IsKept, needs_of}
 use Rattle.lrc_stripes.proofs.RepairLemmas.{kept-needs}
 
 -- a mask is the one of its fragments
@@ -27,7 +27,7 @@ shown-mask mask m few same =
     ∙ ap (λ (b : ℕ). Some (record { bits = b })) (bits_of-bits_set Wide mask.bits few)
 
 -- a row has the homes of the fragments in rising order
-listed-homes : (homes : List (Option Seat)) → length homes ≡ 16 → map (λ (f : Fragment). get_or homes f.value None) (fragments Wide) ≡ homes
+pub listed-homes : (homes : List (Option Seat)) → length homes ≡ 16 → map (λ (f : Fragment). get_or homes f.value None) (fragments Wide) ≡ homes
 listed-homes homes long =
     ext_get_or None (map (λ (f : Fragment). get_or homes f.value None) (fragments Wide)) homes (sym long)
     (λ i within. get_or-map-range_with_len (λ k. get_or homes k None) 0 16 i i None within (zero-add i))
@@ -64,6 +64,16 @@ module _ (sites : SiteTable) (rows : List (Option Row)) (spare : ℕ) (kept : Is
   pub needs_shown-there : (r : Row) → r.losses.needs.bits < 65536 → rows_in rows s ≡ Some r → needs_shown store s ≡ Some r.losses.needs
   unfolding stored_in needs_if
   needs_shown-there r few found = rw found (shown-mask r.losses.needs _ few (kept-needs sites rows kept s r found))
+
+  -- of a stripe that is there, by the mask that is kept beside the rows
+  pub needs_shown-noted : (mask : LossMask) → mask.bits < 65536 → mask.bits ≡ needs_of (rows_in rows s) → store.stripes s ≡ true → Some mask ≡ needs_shown store s
+  unfolding stored_in
+  needs_shown-noted mask few is there = by (rows_in rows s) refl where
+    by : (o : Option Row) → rows_in rows s ≡ o → Some mask ≡ needs_shown store s
+    by None none = absurd (let clash : false ≡ true = rw none at there in cc)
+    by (Some r) found =
+        let same : mask.bits ≡ r.losses.needs.bits = is ∙ ap needs_of found in
+        ap (λ (b : ℕ). Some (record { bits = b })) same ∙ sym (needs_shown-there r (subst (λ (b : ℕ). b < 65536) same few) found)
 
   pub needs_shown-absent : rows_in rows s ≡ None → needs_shown store s ≡ None
   unfolding stored_in needs_if

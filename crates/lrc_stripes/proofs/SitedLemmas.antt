@@ -176,6 +176,9 @@ module _ (sites : List Site) (sets : List (List Bool)) (t : SiteTable) (view : �
   pub joined-none : IsPlaceOf t n None → (others : StripeNo → Bool) → others ≡ (λ s. others s || (sited t).on n s)
   joined-none none others = fun_ext (λ s. rw (missed-on none s) (sym (or-false (others s))))
 
+  pub counted-none : IsPlaceOf t n None → (others once : StripeNo → Bool) → others ≡ (λ s. others s || (once s && (sited t).on n s))
+  counted-none none others once = fun_ext (λ s. rw (missed-on none s, and-false (once s)) (sym (or-false (others s))))
+
   -- of a number that is no node there is nothing to take
   pub removed-none : (stripe : StripeNo) → IsPlaceOf t n None → sited t ≡ record (sited t) { on = λ m s. not (same_node n m && same_stripe stripe s) && (sited t).on m s }
   removed-none stripe none =
@@ -257,7 +260,7 @@ module _ (z : Sited) (u : UpgradeNo) (xs : List Site) (i : ℕ) (d : Site) (foun
       sym (list_any_more (λ (x : Site). same_upgrade x.node.upgrade u && z.on x.node.number s) xs i d within
       ∙ ap (λ (b : Bool). in_domain z u (take i xs) s || (b && z.on (get_or xs i d).node.number s)) miss ∙ or-false (in_domain z u (take i xs) s)))
 
-any-map : {X Y : Type 0} (p : Y → Bool) (f : X → Y) (xs : List X) → list_any (λ x. p (f x)) xs ≡ list_any p (map f xs)
+pub any-map : {X Y : Type 0} (p : Y → Bool) (f : X → Y) (xs : List X) → list_any (λ x. p (f x)) xs ≡ list_any p (map f xs)
 any-map p f [] = refl
 any-map p f (x ∷ xs) = ap (λ b. p (f x) || b) (any-map p f xs)
 

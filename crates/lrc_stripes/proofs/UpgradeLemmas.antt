@@ -1,5 +1,5 @@
 -- The stripes that become unrecoverable while an upgrade domain is offline.
-use Rattle.std.proofs.Common.{◌≡◌, ℕ, ◌+◌, ◌<◌, ◌≤◌, inl, inr, Bool, true, false, not, ◌&&◌, ◌||◌, nat_lt, eqb, ltb, List, [], ◌∷◌, get_or, Option, Some, None, IfSome, IfNone, arith, refl, sym, ap, ◌∙◌}
+use Rattle.std.proofs.Common.{◌≡◌, ℕ, ◌+◌, ◌<◌, ◌≤◌, inl, inr, Bool, true, false, not, ◌&&◌, ◌||◌, nat_lt, eqb, ltb, List, [], ◌∷◌, get_or, Option, Some, None, IfSome, IfNone, IsFalse, subst, arith, refl, sym, ap, ◌∙◌}
 use Rattle.std.proofs.Math.Path.{fun_ext}
 use Rattle.std.specs.List.{list_any}
 use Rattle.std.specs.Option.{option_map_or}
@@ -21,9 +21,9 @@ use Rattle.lrc_stripes.specs.Sites.{SiteTable, Sited, sited, online_in, draining
 use Rattle.lrc_stripes.specs.Rows.{sits_on}
 use Rattle.lrc_stripes.specs.Tables.{Table, stored_in, rows_in, row_homes}
 use Rattle.lrc_stripes.specs.Masks.{AreLosses}
-use Rattle.lrc_stripes.specs.Kept.{IsKept, is_row_on}
+use Rattle.lrc_stripes.specs.Kept.{IsKept, is_row_on, freshened}
 use Rattle.lrc_stripes.specs.Upgrades.{is_in_domain, is_lost_to, IsFirstLostTo}
-use Rattle.lrc_stripes.specs.Looming.{is_home_in, missing_without, is_row_lost, lost_in, IsFirstIn}
+use Rattle.lrc_stripes.specs.Looming.{is_home_in, missing_without, is_row_lost, lost_in, is_needy, is_scattered, short_lost_in, IsFirstIn}
 use Rattle.lrc_stripes.proofs.MaskLemmas.{below-next_true, below-next_false}
 use Rattle.lrc_stripes.proofs.RepairLemmas.{kept-missing}
 
@@ -112,6 +112,36 @@ module _ (sites : Sited) (rows : StripeNo → Option Row) (kept : IsKept sites r
         ap (λ (o : Option Row). option_map_or (is_row_lost sites u) o false) e
         ∙ (ap (λ (m : FragmentSet). is_recoverable Wide (bits_set r.losses.missing.bits) && not (is_recoverable Wide m)) (same r e)
         ∙ and-not (is_recoverable Wide (bits_set r.losses.missing.bits)))
+
+-- a test within a set fails outside it, and where it fails by itself
+pub far-within : (near lost : StripeNo → Bool) (t : StripeNo) → near t ≡ false → (near t && lost t) ≡ false
+far-within near lost t miss = rw miss refl
+
+pub miss-within : (near lost : StripeNo → Bool) (t : StripeNo) → lost t ≡ false → (near t && lost t) ≡ false
+miss-within near lost t miss = by (near t) miss where
+  by : (b : Bool) → lost t ≡ false → (b && lost t) ≡ false
+  by true e = e
+  by false e = refl
+
+-- a set outside which a test fails takes nothing from it
+pub near-all : (near lost : StripeNo → Bool) → ((t : StripeNo) → near t ≡ false → lost t ≡ false) → (λ t. near t && lost t) ≡ lost
+near-all near lost far = fun_ext (λ t. by t (near t) refl) where
+  by : (t : StripeNo) (b : Bool) → near t ≡ b → (near t && lost t) ≡ lost t
+  by t true hit = rw hit refl
+  by t false miss = far-within near lost t miss ∙ sym (far t miss)
+
+-- the set of the scattered stripes with those that have work
+pub within-short : (sites : Sited) (rows : List (Option Row)) (u : UpgradeNo) (first set : StripeNo → Bool) → first ≡ is_scattered sites
+    → set ≡ (λ s. first s || is_needy (rows_in rows s)) → (λ t. set t && lost_in sites (rows_in (freshened sites.online rows)) u t) ≡ short_lost_in sites rows u
+within-short sites rows u first set scattered joined = fun_ext (λ t.
+    ap (λ (f : StripeNo → Bool). f t && lost_in sites (rows_in (freshened sites.online rows)) u t) joined
+    ∙ ap (λ (f : StripeNo → Bool). (f t || is_needy (rows_in rows t)) && lost_in sites (rows_in (freshened sites.online rows)) u t) scattered)
+
+pub found-as : (p q : StripeNo → Bool) (o : Option StripeNo) → p ≡ q → IfSome o (IsFirstIn p) → IfSome o (IsFirstIn q)
+found-as p q o same found = subst (λ (f : StripeNo → Bool). IfSome o (IsFirstIn f)) same found
+
+pub none-as : (p q : StripeNo → Bool) (o : Option StripeNo) → p ≡ q → IfNone o ((s : StripeNo) → IsFalse (p s)) → IfNone o ((s : StripeNo) → IsFalse (q s))
+none-as p q o same none = subst (λ (f : StripeNo → Bool). IfNone o ((s : StripeNo) → IsFalse (f s))) same none
 
 -- none below the next stripe passes, where none below a number does, the next is the first near one, and it fails
 pub none-more : (test near : StripeNo → Bool) (from : ℕ) (s : StripeNo) → ((t : StripeNo) → near t ≡ false → test t ≡ false)

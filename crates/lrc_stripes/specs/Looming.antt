@@ -1,6 +1,6 @@
 -- Internal: no public clause reaches these definitions.
 -- Which rows become unrecoverable while an upgrade domain is offline, by the masks that are kept.
-use Rattle.std.specs.Prelude.{◌<◌, Bool, false, not, ◌&&◌, ◌||◌, nat_lt, IsTrue, IsFalse, List, get_or, Option, None}
+use Rattle.std.specs.Prelude.{ℕ, ◌<◌, Bool, false, not, ◌&&◌, ◌||◌, nat_lt, nat_eq, count_by, IsTrue, IsFalse, List, get_or, Option, None}
 use Rattle.std.specs.Option.{option_map_or}
 use Rattle.lrc_code.specs.declared.codes.Code.TheVariants.{Wide}
 use Rattle.lrc_code.specs.declared.numbers.StripeNo.{StripeNo}
@@ -11,6 +11,8 @@ use Rattle.lrc_topology.specs.declared.seat.Seat.{Seat}
 use Rattle.lrc_stripes.specs.declared.row.Row.{Row}
 use Rattle.lrc_stripes.specs.Upgrades.{is_in_domain}
 use Rattle.lrc_stripes.specs.Sites.{Sited}
+use Rattle.lrc_stripes.specs.Tables.{rows_in}
+use Rattle.lrc_stripes.specs.Kept.{freshened}
 
 -- the home is on a node of the domain
 abbrev pub is_home_in : List NodeInfo → UpgradeNo → Option Seat → Bool
@@ -27,6 +29,23 @@ is_row_lost sites u r = is_recoverable Wide (bits_set r.losses.missing.bits) && 
 -- the stripe has such a row
 abbrev pub lost_in : Sited → (StripeNo → Option Row) → UpgradeNo → StripeNo → Bool
 lost_in sites rows u s = option_map_or (is_row_lost sites u) (rows s) false
+
+-- one of the row's fragments needs a lease
+abbrev pub is_needy : Option Row → Bool
+is_needy o = option_map_or (λ r. not (nat_eq r.losses.needs.bits 0)) o false
+
+-- how many of these nodes are not online and have a home of the stripe
+abbrev pub offline_in : Sited → StripeNo → List NodeInfo → ℕ
+offline_in sites s nodes = count_by (λ n. not (sites.online n.number) && sites.on n.number s) nodes
+
+-- several nodes are not online and have a home of the stripe
+abbrev pub is_scattered : Sited → StripeNo → Bool
+is_scattered sites s = nat_lt 1 (offline_in sites s sites.nodes)
+
+-- the stripe is short, by its row and the nodes, and lost to the domain
+abbrev pub short_lost_in : Sited → List (Option Row) → UpgradeNo → StripeNo → Bool
+short_lost_in sites rows u s =
+    (is_scattered sites s || is_needy (rows_in rows s)) && lost_in sites (rows_in (freshened sites.online rows)) u s
 
 -- the stripe passes the test, and none of a lower number does
 pub record IsFirstIn (test : StripeNo → Bool) (s : StripeNo) : Type 0 where

@@ -1,15 +1,17 @@
 -- Which stripes become unrecoverable while an upgrade domain is offline.
-use Rattle.std.specs.Prelude.{◌<◌, Bool, false, not, ◌&&◌, IsTrue, IsFalse, List}
+use Rattle.std.specs.Prelude.{ℕ, ◌<◌, Bool, false, not, ◌&&◌, ◌||◌, nat_lt, IsTrue, IsFalse, List, count_by}
+use Rattle.std.specs.List.{list_any}
 use Rattle.std.specs.Option.{option_map_or}
 use Rattle.lrc_code.specs.declared.numbers.StripeNo.{StripeNo}
 use Rattle.lrc_code.specs.declared.numbers.NodeNo.{NodeNo}
 use Rattle.lrc_code.specs.declared.numbers.UpgradeNo.{UpgradeNo}
 use Rattle.lrc_code.specs.Numbers.{same_upgrade}
+use Rattle.lrc_code.specs.Codes.{fragments}
 use Rattle.lrc_code.specs.Losses.{is_recoverable}
 use Rattle.lrc_topology.specs.declared.NodeInfo.{NodeInfo}
 use Rattle.lrc_topology.specs.Nodes.{node_at}
 use Rattle.lrc_stripes.specs.Levels.{missing_in}
-use Rattle.lrc_stripes.specs.Stored.{Stored}
+use Rattle.lrc_stripes.specs.Stored.{Stored, is_home_on, has_work}
 
 -- the node of this number is in the upgrade domain
 abbrev pub is_in_domain : List NodeInfo → UpgradeNo → NodeNo → Bool
@@ -27,7 +29,28 @@ is_safe t s = is_recoverable (t.code s) (missing_in (t.code s) t.online (t.homes
 unfoldable pub is_lost_to : Stored → UpgradeNo → StripeNo → Bool
 is_lost_to t u s = t.stripes s && (is_safe t s && not (is_safe (with_upgrade t u) s))
 
--- this is such a stripe, and none of a lower number is one
+-- one of the stripe's fragments has its home on the node
+abbrev pub is_stripe_on : Stored → NodeNo → StripeNo → Bool
+is_stripe_on t n s = list_any (λ f. is_home_on t n (s, f)) (fragments (t.code s))
+
+-- how many nodes that are not online have a home of the stripe
+abbrev pub offline_count : Stored → StripeNo → ℕ
+offline_count t s = count_by (λ n. not (t.online n.number) && is_stripe_on t n.number s) t.nodes
+
+-- its homes are on several nodes that are not online, or one of its fragments needs a lease
+unfoldable pub is_short : Stored → StripeNo → Bool
+is_short t s = nat_lt 1 (offline_count t s) || has_work t s
+
+-- it is short, and lost to the domain
+abbrev pub is_short_lost_to : Stored → UpgradeNo → StripeNo → Bool
+is_short_lost_to t u s = is_short t s && is_lost_to t u s
+
+-- this is a stripe that is lost to the domain, and none of a lower number is one
 pub record IsFirstLostTo (t : Stored) (u : UpgradeNo) (s : StripeNo) : Type 0 where
   pub lost : IsTrue (is_lost_to t u s)
   pub first : (r : StripeNo) → r.value < s.value → IsFalse (is_lost_to t u r)
+
+-- this is one that is short too, and none of a lower number is one
+pub record IsFirstShortLostTo (t : Stored) (u : UpgradeNo) (s : StripeNo) : Type 0 where
+  pub lost : IsTrue (is_short_lost_to t u s)
+  pub first : (r : StripeNo) → r.value < s.value → IsFalse (is_short_lost_to t u r)

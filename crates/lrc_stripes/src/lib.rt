@@ -26,6 +26,3 @@ pub use level::Level;
 pub use lrc_topology::{Held, Seat};
 pub use stripes::Stripes;
 pub use work::Work;
-
-#[cfg(test)]
-mod tests;

@@ -1,10 +1,12 @@
-ghost use Rattle.std.specs.Prelude.{◌≡◌, ℕ, ◌≤◌, false, if◌then◌else◌, IfOk, IfSome};
+ghost use Rattle.std.specs.Prelude.{◌≡◌, ◌||◌, ℕ, ◌≤◌, false, if◌then◌else◌, IfOk, IfSome};
+ghost use Rattle.std.specs.List.{list_any};
 ghost use Rattle.lrc_code.specs.Numbers.{same_stripe};
 ghost use Rattle.lrc_code.specs.declared.numbers.StripeNo.{StripeNo as AnyStripe};
 ghost use Rattle.lrc_stripes.specs.Masks.{is_at};
-ghost use Rattle.lrc_stripes.specs.Sets.{FindsNext, at_rank};
+ghost use Rattle.lrc_stripes.specs.Sets.{FindsNext, at_rank, has};
 
 use crate::marked_set::MarkedSet;
+use crate::stripe_set::StripeSet;
 use lrc_code::StripeNo;
 use std::alloc::{AllocError, Global};
 use std::marker::Model;
@@ -76,6 +78,15 @@ impl Queue {
         if let Some(rank) = rank {
             let set = &mut self.ranks[rank as usize];
             set.insert(stripe);
+        }
+    }
+
+    /// Puts the stripes of all ranks into a set.
+    pub(crate) fn join(&self, set: &mut StripeSet)
+        ensures { has set.new ≡ λ s. has set.old s || list_any (λ ranked. has ranked s) self.now }
+    {
+        for ranked in self.ranks.iter() {
+            ranked.join(set);
         }
     }
 

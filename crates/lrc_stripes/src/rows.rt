@@ -1,14 +1,15 @@
-ghost use Rattle.std.specs.Prelude.{◌≡◌, ℕ, ◌≤◌, if◌then◌else◌, length, get_or, option_and_then, replicate, Some, None, false, IfOk, IfErr, IfSome};
+ghost use Rattle.std.specs.Prelude.{◌≡◌, ◌||◌, ℕ, ◌<◌, ◌≤◌, if◌then◌else◌, length, get_or, option_and_then, replicate, Some, None, false, IfOk, IfErr, IfSome};
 ghost use Rattle.std.specs.Option.{option_copied};
 ghost use Rattle.lrc_code.specs.Numbers.{same_stripe};
 ghost use Rattle.lrc_code.specs.declared.numbers.StripeNo.{StripeNo as AnyStripe};
 ghost use Rattle.lrc_stripes.specs.declared.row.Row.{Row as AnyRow};
 ghost use Rattle.lrc_code.specs.declared.fault.Fault.TheVariants.{OutOfMemory};
 ghost use Rattle.lrc_stripes.specs.Masks.{work_rank, risk_rank};
-ghost use Rattle.lrc_stripes.specs.Sets.{FindsNext};
+ghost use Rattle.lrc_stripes.specs.Sets.{FindsNext, has};
+ghost use Rattle.lrc_stripes.specs.Looming.{is_needy};
 ghost use Rattle.lrc_stripes.specs.Sites.{sited};
 ghost use Rattle.lrc_stripes.specs.Tables.{rows_in};
-ghost use Rattle.lrc_stripes.specs.Kept.{queue_from, queued, freshened, level_in, holds, AreRenewed, IsRenewed, IsWithLosses, IsSeated, IsMissingOn, IsToMoveOn};
+ghost use Rattle.lrc_stripes.specs.Kept.{queue_from, queued, needs_of, freshened, level_in, holds, AreRenewed, IsRenewed, IsWithLosses, IsSeated, IsMissingOn, IsToMoveOn};
 
 use crate::losses::Losses;
 use crate::queue::{Queue, RANKS};
@@ -16,8 +17,9 @@ use crate::ranked::Ranked;
 use crate::risky::Risky;
 use crate::row::Row;
 use crate::sites::Sites;
+use crate::stripe_set::StripeSet;
 use crate::{Level, Seat};
-use lrc_code::{Fault, Fragment, NodeNo, StripeNo};
+use lrc_code::{Fault, Fragment, LossMask, NodeNo, StripeNo};
 use std::alloc::{AllocError, Global};
 use std::marker::Model;
 
@@ -29,6 +31,9 @@ const STRIPES: usize = 4096;
 pub(crate) struct Rows {
     /// By the stripe's number.
     list: Vec<Option<Row>>,
+    /// By the stripe's number, the fragments that need a lease; none where the stripe is not there. They stand here too
+    /// so that a walk of the queue need not look at the rows.
+    needs: Vec<u16>,
     work: Queue,
 }
 
@@ -41,7 +46,7 @@ impl Model for Rows {
 
     ghost view = { λ t. t.list.items };
 
-    ghost invariant = { λ t. AreQueued t.list.items t.work };
+    ghost invariant = { λ t. AreQueued t.list.items t.needs.items t.work };
 }
 
 impl Rows {
@@ -52,6 +57,7 @@ impl Rows {
     {
         Ok(Rows {
             list: none(alloc, STRIPES)?,
+            needs: zeros(alloc, STRIPES)?,
             work: Queue::new(alloc)?,
         })
     }
@@ -63,6 +69,14 @@ impl Rows {
         self.list[stripe.value as usize].as_ref()
     }
 
+    /// The fragments of a stripe that need a lease; none where it is not there.
+    pub(crate) fn needs(&self, stripe: StripeNo) -> LossMask
+        ensures value { result.bits ≡ needs_of (rows_in self.now stripe) }
+        ensures few { result.bits < 65536 }
+    {
+        LossMask::from_bits(self.needs[stripe.value as usize])
+    }
+
     /// Gives a stripe this row or none.
     pub(crate) fn put(&mut self, stripe: StripeNo, row: Option<Row>)
         ensures { rows_in self.new ≡ λ s. if same_stripe stripe s then row else rows_in self.old s }
@@ -70,6 +84,7 @@ impl Rows {
         let before = work_rank(self.get(stripe));
         let after = work_rank(row.as_ref());
         self.work.relist(stripe, before, after);
+        self.needs[stripe.value as usize] = needs_of(row.as_ref());
         self.list[stripe.value as usize] = row;
     }
 
@@ -80,6 +95,7 @@ impl Rows {
         let before = work_rank(self.get(stripe));
         let place = &mut self.list[stripe.value as usize];
         put_losses(place, losses);
+        self.needs[stripe.value as usize] = needs_of(place.as_ref());
         let after = work_rank(place.as_ref());
         self.work.relist(stripe, before, after);
     }
@@ -97,6 +113,7 @@ impl Rows {
         let before = work_rank(self.get(stripe));
         let place = &mut self.list[stripe.value as usize];
         put_home(place, fragment, seat, losses);
+        self.needs[stripe.value as usize] = needs_of(place.as_ref());
         let after = work_rank(place.as_ref());
         self.work.relist(stripe, before, after);
     }
@@ -161,6 +178,13 @@ impl Rows {
         false
     }
 
+    /// Puts the stripes that have work into a set.
+    pub(crate) fn join_work(&self, set: &mut StripeSet)
+        ensures { has set.new ≡ λ s. has set.old s || is_needy (rows_in self.now s) }
+    {
+        self.work.join(set);
+    }
+
     /// The stripes that have work, in the order of repair.
     pub(crate) fn work(&self) -> Ranked<'_>
         ensures { result ≡ queue_from (queued work_rank (rows_in self.now)) 0 0 }
@@ -209,6 +233,13 @@ fn none(alloc: Global, count: usize) -> Result<Vec<Option<Row>>, AllocError>
     vec![in alloc; None; count]
 }
 
+/// So many zeros.
+fn zeros(alloc: Global, count: usize) -> Result<Vec<u16>, AllocError>
+    ensures { IfOk result (λ v. v.items ≡ replicate count 0) }
+{
+    vec![in alloc; 0; count]
+}
+
 /// Gives a row, if there is one, these losses.
 fn put_losses(row: &mut Option<Row>, losses: Losses)
     ensures { IsRenewed (IsWithLosses losses) row.old row.new }
@@ -225,6 +256,16 @@ fn put_home(row: &mut Option<Row>, fragment: Fragment, seat: Seat, losses: Losse
     if let Some(row) = row {
         row.homes[fragment.value as usize] = Some(seat);
         row.losses = losses;
+    }
+}
+
+/// The fragments of a row, if there is one, that need a lease, as bits.
+fn needs_of(row: Option<&Row>) -> u16
+    ensures { result ≡ needs_of (option_copied row.entry) }
+{
+    match row {
+        Some(row) => row.losses.needs.bits,
+        None => 0,
     }
 }
 

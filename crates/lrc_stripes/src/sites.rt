@@ -7,6 +7,7 @@ ghost use Rattle.lrc_stripes.specs.Stored.{has_node};
 ghost use Rattle.lrc_stripes.specs.Sets.{FindsNext, has};
 ghost use Rattle.lrc_stripes.specs.Rows.{sits_on};
 ghost use Rattle.lrc_stripes.specs.Sites.{sited, first_sites, IsPlaceOf};
+ghost use Rattle.lrc_stripes.specs.Looming.{is_scattered};
 
 use crate::Seat;
 use crate::row::Row;
@@ -170,6 +171,32 @@ impl Sites {
             }
         }
         found
+    }
+
+    /// The stripes with homes on several nodes that are not online.
+    pub(crate) fn stripes_scattered(&self) -> StripeSet
+        ensures { has result ≡ is_scattered (sited self.now) }
+    {
+        let mut once = StripeSet::new();
+        let mut twice = StripeSet::new();
+        for site in self.list.iter() {
+            if !self.is_online(site.node.number) {
+                self.count(site.node.number, &mut once, &mut twice);
+            }
+        }
+        twice
+    }
+
+    /// Puts the stripes with a home on the node into the first set, and those that are there already into the other.
+    fn count(&self, number: NodeNo, once: &mut StripeSet, twice: &mut StripeSet)
+        ensures once { has once.new ≡ λ s. has once.old s || (sited self.now).on number s }
+        ensures twice { has twice.new ≡ λ s. has twice.old s || (has once.old s && (sited self.now).on number s) }
+    {
+        if let Some(place) = self.place(number) {
+            let set = &self.stripes[place];
+            twice.insert_common(once, set);
+            once.insert_all(set);
+        }
     }
 
     /// Puts the stripes with a home on the node into a set.

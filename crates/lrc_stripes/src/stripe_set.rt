@@ -54,6 +54,13 @@ impl StripeSet {
         self.bits.insert_all(&other.bits);
     }
 
+    /// Puts the stripes that two other sets have in common into this one.
+    pub(crate) fn insert_common(&mut self, one: &StripeSet, other: &StripeSet)
+        ensures { has self.new ≡ λ s. has self.old s || (has one.now s && has other.now s) }
+    {
+        self.bits.insert_common(&one.bits, &other.bits);
+    }
+
     /// Whether the set has a member within this stretch of 64 numbers.
     pub(crate) fn has_within(&self, stretch: usize) -> bool
         requires { stretch ≤ 63 }

@@ -3,7 +3,7 @@ ghost use Rattle.lrc_code.specs.declared.codes.Code.TheVariants.{Wide};
 ghost use Rattle.lrc_code.specs.declared.fault.Fault.TheVariants.{OutOfMemory};
 ghost use Rattle.lrc_stripes.specs.Stored.{empty, with_stripe, without_stripe, with_home, with_offline, with_draining, with_spare, homes_shown, missing_shown, needs_shown, level_shown, has_node, has_slot, HasNoHome, AreHomesOn, AreWork, AreAtRisk};
 ghost use Rattle.lrc_stripes.specs.Tables.{stored_in};
-ghost use Rattle.lrc_stripes.specs.Upgrades.{is_lost_to, IsFirstLostTo};
+ghost use Rattle.lrc_stripes.specs.Upgrades.{is_lost_to, is_short_lost_to, IsFirstLostTo, IsFirstShortLostTo};
 
 use crate::row::Row;
 use crate::rows::Rows;
@@ -172,6 +172,14 @@ impl Stripes {
         Some(row.losses.needs())
     }
 
+    /// The fragments of a stripe that is there that need a lease.
+    pub fn needs_there(&self, stripe: StripeNo) -> LossMask
+        requires { IsTrue ((stored_in self.now).stripes stripe) }
+        ensures { Some result ≡ needs_shown (stored_in self.now) stripe }
+    {
+        self.rows.needs(stripe)
+    }
+
     /// The level of a stripe; `None` where it is not there.
     pub fn level(&self, stripe: StripeNo) -> Option<Level>
         ensures { result ≡ level_shown (stored_in self.now) stripe }
@@ -187,6 +195,17 @@ impl Stripes {
         ensures none { IfNone result ((s : StripeNo) → IsFalse (is_lost_to (stored_in self.now) domain s)) }
     {
         upgrades::first_lost(&self.sites, &self.rows, domain)
+    }
+
+    /// The stripe of the least number that is short, is recoverable now, and would not be with the nodes of this upgrade
+    /// domain offline; `None` where there is no such stripe. A stripe is short where one of its fragments needs a lease,
+    /// or its homes are on several nodes that are not online: where homes of a stripe are on nodes of different fault
+    /// domains, and those of one class in different upgrade domains, no other can be lost to an upgrade.
+    pub fn would_lose_short(&self, domain: UpgradeNo) -> Option<StripeNo>
+        ensures found { IfSome result (IsFirstShortLostTo (stored_in self.now) domain) }
+        ensures none { IfNone result ((s : StripeNo) → IsFalse (is_short_lost_to (stored_in self.now) domain s)) }
+    {
+        upgrades::first_short(&self.sites, &self.rows, domain)
     }
 
     /// Sets whether a node is offline.

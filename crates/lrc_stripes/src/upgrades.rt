@@ -2,15 +2,17 @@
 
 ghost use Rattle.std.specs.Prelude.{◌≡◌, ℕ, ◌&&◌, ◌||◌, nat_lt, get_or, length, None, IfSome, IfNone, IsFalse};
 ghost use Rattle.lrc_code.specs.Losses.{bits_set};
+ghost use Rattle.lrc_stripes.specs.Sets.{has};
 ghost use Rattle.lrc_stripes.specs.Sites.{sited};
 ghost use Rattle.lrc_stripes.specs.Tables.{rows_in};
 ghost use Rattle.lrc_stripes.specs.Kept.{IsKept, fresh, freshened};
-ghost use Rattle.lrc_stripes.specs.Looming.{is_home_in, is_row_lost, lost_in, IsFirstIn};
+ghost use Rattle.lrc_stripes.specs.Looming.{is_home_in, is_row_lost, lost_in, short_lost_in, IsFirstIn};
 
 use crate::Seat;
 use crate::row::Row;
 use crate::rows::Rows;
 use crate::sites::Sites;
+use crate::stripe_set::StripeSet;
 use lrc_code::{Fragment, LossMask, StripeNo, UpgradeNo};
 
 /// The first of the stripes that is recoverable, and would not be with the nodes of the domain offline.
@@ -19,9 +21,26 @@ pub(crate) fn first_lost(sites: &Sites, rows: &Rows, domain: UpgradeNo) -> Optio
     ensures found { IfSome result (IsFirstIn (lost_in (sited sites.now) (rows_in (freshened (sited sites.now).online rows.now)) domain)) }
     ensures none { IfNone result ((s : StripeNo) → IsFalse (lost_in (sited sites.now) (rows_in (freshened (sited sites.now).online rows.now)) domain s)) }
 {
-    let near = sites.stripes_in(domain);
+    first_of(sites, rows, domain, &sites.stripes_in(domain))
+}
+
+/// The first of the stripes that are short, recoverable, and would not be with the nodes of the domain offline.
+pub(crate) fn first_short(sites: &Sites, rows: &Rows, domain: UpgradeNo) -> Option<StripeNo>
+    ensures found { IfSome result (IsFirstIn (short_lost_in (sited sites.now) rows.now domain)) }
+    ensures none { IfNone result ((s : StripeNo) → IsFalse (short_lost_in (sited sites.now) rows.now domain s)) }
+{
+    let mut short = sites.stripes_scattered();
+    rows.join_work(&mut short);
+    first_of(sites, rows, domain, &short)
+}
+
+/// The first of the stripes of a set that is recoverable, and would not be with the nodes of the domain offline.
+fn first_of(sites: &Sites, rows: &Rows, domain: UpgradeNo, among: &StripeSet) -> Option<StripeNo>
+    ensures found { IfSome result (IsFirstIn (λ s. has among.now s && lost_in (sited sites.now) (rows_in (freshened (sited sites.now).online rows.now)) domain s)) }
+    ensures none { IfNone result ((s : StripeNo) → IsFalse (has among.now s && lost_in (sited sites.now) (rows_in (freshened (sited sites.now).online rows.now)) domain s)) }
+{
     let mut from = 0;
-    while let Some(stripe) = near.first_from(from) {
+    while let Some(stripe) = among.first_from(from) {
         if let Some(row) = rows.get(stripe) {
             if is_lost_to(sites, domain, row) {
                 return Some(stripe);

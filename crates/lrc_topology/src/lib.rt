@@ -6,8 +6,6 @@ pub mod laws;
 mod node_index;
 mod read;
 mod seat;
-#[cfg(test)]
-mod tests;
 mod topology;
 
 pub use error::TopologyError;

@@ -51,7 +51,7 @@ impl Store {
         ensures { (st : State) (f : Fragment) → IsOf st self.now
             → bits_set result.bits f.value ≡ repairs.needs self.now.topology st stripe f }
     {
-        self.stripes.needs(stripe).unwrap()
+        self.stripes.needs_there(stripe)
     }
 
     /// From what a fragment of a stripe that is there is rebuilt; `None` where it can't be.

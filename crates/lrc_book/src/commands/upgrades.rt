@@ -20,7 +20,7 @@ impl Store {
         if let Some(upgrading) = self.modes.upgrading {
             return Reply::Refused(Refusal::UpgradeRunning(upgrading));
         }
-        match self.stripes.would_lose(domain) {
+        match self.stripes.would_lose_short(domain) {
             Some(stripe) => Reply::Refused(Refusal::WouldLose(stripe)),
             None => Reply::Changed,
         }

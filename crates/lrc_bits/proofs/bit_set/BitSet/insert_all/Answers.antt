@@ -1,5 +1,6 @@
 use Rattle.std.proofs.Common.{arith, refl, ap, length}
-use Rattle.lrc_bits.proofs.FlagLemmas.{length-flags, flags-union}
+use Rattle.lrc_bits.proofs.FlagLemmas.{length-flags}
+use Rattle.lrc_bits.proofs.UnionLemmas.{flags-union}
 use Rattle.lrc_bits.proofs.bit_set.BitSet.insert_all.Goals as goal
 
 pub returns-clause-same : goal.returns-clause-same

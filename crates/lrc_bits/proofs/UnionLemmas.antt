@@ -1,0 +1,106 @@
+-- Unions of words, what two words have in common, and sets of nothing.
+use Rattle.std.proofs.Common.{bit_and, bit_or, ◌≡◌, ℕ, zero, suc, ◌+◌, ◌*◌, ◌/◌, ◌%◌, ◌^◌, ◌<◌, ◌≤◌, Bool, false, ◌||◌, ◌&&◌, eqb, List, length, get_or, arith, refl, sym, ap, ◌∙◌, inl, inr}
+use Rattle.std.proofs.lemmas.Bool.{cases_eq, cases_lt, eq-eqb, ne_eqb}
+use Rattle.std.proofs.lemmas.List.{get_or_past}
+use Rattle.std.proofs.lemmas.Nat.Bits.{bit_at-zero, bit_at_and, bit_at_or, bit_at-lt, same_from_bits_below}
+use Rattle.std.proofs.lemmas.Nat.{or_lt}
+use Rattle.std.specs.Int.{bit_at}
+use Rattle.lrc_bits.specs.Flags.{flags}
+use Rattle.lrc_bits.proofs.FlagLemmas.{at_word, read}
+
+-- a flag of two words joined is a flag of one
+or_flag : (a b t : ℕ) → eqb (bit_at (bit_or a b) t) 1 ≡ (eqb (bit_at a t) 1 || eqb (bit_at b t) 1)
+or_flag a b t =
+    let both = bit_at_or a b t in
+    let p = bit_at-lt a t in
+    let q = bit_at-lt b t in
+    elim (cases_eq (bit_at a t) 1) [
+      | inl one ↦ let all : bit_at (bit_or a b) t ≡ 1 = omega (arith, both, one, q) in rw (eq-eqb _ 1 all, eq-eqb _ 1 one) refl
+      | inr none ↦
+          let zero : bit_at a t ≡ 0 = omega (arith, none, p) in
+          let other : bit_at (bit_or a b) t ≡ bit_at b t = omega (arith, both, zero, q) in
+          rw (other, zero) refl
+    ]
+
+-- words that are joined one by one hold what either held
+pub flags-union : (new old others : List ℕ) (xs ys zs : List Bool) → flags new ≡ xs → flags old ≡ ys → flags others ≡ zs
+    → length new ≡ length old → length others ≡ length old
+    → ((j : ℕ) → j < length old → get_or new j 0 ≡ bit_or (get_or old j 0) (get_or others j 0)) → (k : ℕ) → get_or xs k false
+    ≡ (get_or ys k false || get_or zs k false)
+flags-union new old others xs ys zs a b c same also each k =
+    rw (read new xs k a, read old ys k b, read others zs k c) (elim (cases_lt (k / 64) (length old)) [
+      | inl within ↦ rw (each (k / 64) within) (or_flag (get_or old (k / 64) 0) (get_or others (k / 64) 0) (k % 64))
+      | inr past ↦
+          let p : length new ≤ k / 64 = omega (arith, past, same) in
+          let q : length others ≤ k / 64 = omega (arith, past, also) in
+          rw (get_or_past new (k / 64) 0 p, get_or_past old (k / 64) 0 past, get_or_past others (k / 64) 0 q, bit_at-zero (k % 64)) refl
+    ])
+
+-- a flag that two words have in common is a flag of both
+and_flag : (a b t : ℕ) → eqb (bit_at (bit_and a b) t) 1 ≡ (eqb (bit_at a t) 1 && eqb (bit_at b t) 1)
+and_flag a b t =
+    let both = bit_at_and a b t in
+    let p = bit_at-lt a t in
+    let q = bit_at-lt b t in
+    elim (cases_eq (bit_at a t) 1) [
+      | inl one ↦ let other : bit_at (bit_and a b) t ≡ bit_at b t = omega (arith, both, one, q) in rw (other, eq-eqb _ 1 one) refl
+      | inr none ↦
+          let zero : bit_at (bit_and a b) t ≡ 0 = omega (arith, both, none, p) in
+          rw (zero, ne_eqb (bit_at a t) 1 none) refl
+    ]
+
+-- words to which those of two others in common are joined one by one hold what they held, and what both others hold
+pub flags-common : (new old ones others : List ℕ) (xs ys us vs : List Bool) → flags new ≡ xs → flags old ≡ ys → flags ones ≡ us → flags others ≡ vs
+    → length new ≡ length old → length ones ≡ length old
+    → ((j : ℕ) → j < length old → get_or new j 0 ≡ bit_or (get_or old j 0) (bit_and (get_or ones j 0) (get_or others j 0))) → (k : ℕ)
+    → get_or xs k false ≡ (get_or ys k false || (get_or us k false && get_or vs k false))
+flags-common new old ones others xs ys us vs a b c d same also each k =
+    rw (read new xs k a, read old ys k b, read ones us k c, read others vs k d) (elim (cases_lt (k / 64) (length old)) [
+      | inl within ↦
+          rw (each (k / 64) within) (or_flag (get_or old (k / 64) 0) (bit_and (get_or ones (k / 64) 0) (get_or others (k / 64) 0)) (k % 64)
+          ∙ ap (λ x. eqb (bit_at (get_or old (k / 64) 0) (k % 64)) 1 || x) (and_flag (get_or ones (k / 64) 0) (get_or others (k / 64) 0) (k % 64)))
+      | inr past ↦
+          let p : length new ≤ k / 64 = omega (arith, past, same) in
+          let q : length ones ≤ k / 64 = omega (arith, past, also) in
+          rw (get_or_past new (k / 64) 0 p, get_or_past old (k / 64) 0 past, get_or_past ones (k / 64) 0 q, bit_at-zero (k % 64)) refl
+    ])
+
+-- words joined are 0 where both are
+pub or-zero : (a b : ℕ) → a < 2 ^ 64 → b < 2 ^ 64 → bit_or a b ≡ 0 → (a ≡ 0) × (b ≡ 0)
+or-zero a b small also none = (
+  same_from_bits_below 64 a 0 small (omega arith) (λ i within. let e = part i in e.0 ∙ sym (bit_at-zero i)),
+  same_from_bits_below 64 b 0 also (omega arith) (λ i within. let e = part i in e.1 ∙ sym (bit_at-zero i)),
+) where
+  part : (i : ℕ) → (bit_at a i ≡ 0) × (bit_at b i ≡ 0)
+  part i = let both = bit_at_or a b i in let zero : bit_at (bit_or a b) i ≡ 0 = ap (λ w. bit_at w i) none ∙ bit_at-zero i in
+      (omega (arith, both, zero), omega (arith, both, zero))
+
+-- and where both are 0, they are 0 joined
+pub or-both_zero : (a b : ℕ) → a ≡ 0 → b ≡ 0 → bit_or a b ≡ 0
+or-both_zero a b p q = rw (p, q) refl
+
+-- where all words are 0, no flag is set
+pub flags-empty : (words : List ℕ) (xs : List Bool) → flags words ≡ xs → ((j : ℕ) → j < length words → get_or words j 0 ≡ 0)
+    → (k : ℕ) → get_or xs k false ≡ false
+flags-empty words xs view none k = read words xs k view ∙ (elim (cases_lt (k / 64) (length words)) [
+  | inl within ↦ rw (none (k / 64) within, bit_at-zero (k % 64)) refl
+  | inr past ↦ rw (get_or_past words (k / 64) 0 past, bit_at-zero (k % 64)) refl
+])
+
+-- a bit that is not 1 is 0
+bit_off : (n : ℕ) → n < 2 → eqb n 1 ≡ false → n ≡ 0
+bit_off zero small off = refl
+bit_off (suc zero) small off = absurd (cc)
+bit_off (suc (suc n)) small off = absurd (omega (arith, small))
+
+-- where no flag is set, each word is 0
+pub empty-flags : (words : List ℕ) (xs : List Bool) → flags words ≡ xs → ((k : ℕ) → get_or xs k false ≡ false) → (j : ℕ)
+    → get_or words j 0 < 2 ^ 64 → get_or words j 0 ≡ 0
+empty-flags words xs view none j small =
+    same_from_bits_below 64 (get_or words j 0) 0 small (omega arith)
+    (λ i within. bit_off _ (bit_at-lt (get_or words j 0) i)
+    (sym (at_word words j i within) ∙ (sym (read words xs (j * 64 + i) view) ∙ none (j * 64 + i))) ∙ sym (bit_at-zero i))
+
+-- words joined stay a word
+pub or-small : (a b : ℕ) → a < 2 ^ 64 → b < 2 ^ 64 → bit_or a b < 2 ^ 64
+or-small a b small also = or_lt 64 a b small also

@@ -1,0 +1,35 @@
+//! The same barred domains, told in three ways.
+
+use lrc_code::{FaultNo, UpgradeNo};
+use lrc_slots::{BarredNodes, SlotTable, Taken};
+
+#[derive(Drop)]
+pub(crate) struct Bars {
+    pub(crate) taken: Taken,
+    pub(crate) nodes: BarredNodes,
+    pub(crate) faults: [bool; 256],
+    pub(crate) upgrades: [bool; 256],
+}
+
+impl Bars {
+    pub(crate) fn new() -> Bars {
+        Bars {
+            taken: Taken::new(),
+            nodes: BarredNodes::new(),
+            faults: [false; 256],
+            upgrades: [false; 256],
+        }
+    }
+
+    pub(crate) fn bar_fault(&mut self, table: &SlotTable, domain: FaultNo) {
+        self.taken.bar_fault(domain);
+        table.bar_fault_in(&mut self.nodes, domain);
+        self.faults[usize::from(domain.value)] = true;
+    }
+
+    pub(crate) fn bar_upgrade(&mut self, table: &SlotTable, domain: UpgradeNo) {
+        self.taken.bar_upgrade(domain);
+        table.bar_upgrade_in(&mut self.nodes, domain);
+        self.upgrades[usize::from(domain.value)] = true;
+    }
+}
