@@ -71,12 +71,12 @@ fn what_two_sets_have_in_common_is_put_in(rt: HostRuntime) -> Result<(), Fail> {
     let mut one = BitSet::<2>::new();
     let mut other = BitSet::<2>::new();
     set.insert(7);
-    for place in [3usize, 64, 100].iter() {
-        one.insert(*place);
-    }
-    for place in [4usize, 64, 127].iter() {
-        other.insert(*place);
-    }
+    one.insert(3);
+    one.insert(64);
+    one.insert(100);
+    other.insert(4);
+    other.insert(64);
+    other.insert(127);
     set.insert_common(&one, &other);
     assert_eq!(rt; set.first_from(0), Some(7));
     assert_eq!(rt; set.first_from(8), Some(64));
