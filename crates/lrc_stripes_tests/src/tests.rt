@@ -22,6 +22,22 @@ fn nodes(alloc: Global, count: u16) -> Result<Topology, Fail> {
     Ok(Topology::read(alloc, text.as_bytes())?)
 }
 
+/// No stripe yet over twenty nodes, and room for so many.
+fn no_stripe(alloc: Global, room: u32) -> Result<Stripes, Fail> {
+    let topology = nodes(alloc, 20)?;
+    let mut stripes = Stripes::new(alloc, &topology)?;
+    stripes.reserve(room)?;
+    Ok(stripes)
+}
+
+fn stripe_numbered(number: u16) -> Result<StripeNo, Fail> {
+    Ok(StripeNo::new(number).ok_or("a stripe")?)
+}
+
+fn fragment_numbered(number: u8) -> Result<Fragment, Fail> {
+    Ok(Fragment::new(number).ok_or("a fragment")?)
+}
+
 fn node(number: u16) -> NodeNo {
     NodeNo { value: number }
 }
@@ -82,9 +98,7 @@ fn set_draining(rt: &impl Abort, stripes: &mut Stripes, number: u16, is_draining
 
 /// One stripe, with fragment f in slot 1 of node f.
 fn one_stripe(rt: &impl Abort, alloc: Global, stripe: StripeNo) -> Result<Stripes, Fail> {
-    let topology = nodes(alloc, 20)?;
-    let mut stripes = Stripes::new(alloc, &topology)?;
-    stripes.reserve(1)?;
+    let mut stripes = no_stripe(alloc, 1)?;
     add_in_slot(rt, &mut stripes, stripe, 1);
     Ok(stripes)
 }
@@ -105,34 +119,30 @@ fn add_in_slot(rt: &impl Abort, stripes: &mut Stripes, stripe: StripeNo, slot: u
 
 #[test]
 fn offline_nodes_make_unavailable_and_lost_homes_lost(rt: HostRuntime) -> Result<(), Fail> {
-    let stripe = StripeNo::new(1).ok_or("stripe 1")?;
+    let stripe = stripe_numbered(1)?;
     let mut stripes = one_stripe(&rt, rt.alloc(), stripe)?;
-    assert_eq!(rt; stripes.missing(stripe), Some(LossMask::from_bits(0)));
-    assert_eq!(rt; stripes.level(stripe), Some(Level::Whole));
+    assert_missing(&rt, &stripes, stripe, 0, Level::Whole);
 
     for number in 0..4 {
         set_offline(&rt, &mut stripes, number, true);
     }
-    assert_eq!(rt; stripes.missing(stripe), Some(LossMask::from_bits(0x000f)));
-    assert_eq!(rt; stripes.level(stripe), Some(Level::Unavailable));
+    assert_missing(&rt, &stripes, stripe, 0x000f, Level::Unavailable);
 
     for number in [0, 1, 2] {
         set_offline(&rt, &mut stripes, number, false);
     }
-    assert_eq!(rt; stripes.missing(stripe), Some(LossMask::from_bits(0x0008)));
-    assert_eq!(rt; stripes.level(stripe), Some(Level::AtRisk(2)));
+    assert_missing(&rt, &stripes, stripe, 0x0008, Level::AtRisk(2));
 
     set_offline(&rt, &mut stripes, 3, false);
     clear_homes(&rt, &mut stripes, stripe, &[0, 1, 2, 4])?;
-    assert_eq!(rt; stripes.missing(stripe), Some(LossMask::from_bits(0x0017)));
-    assert_eq!(rt; stripes.level(stripe), Some(Level::Lost));
+    assert_missing(&rt, &stripes, stripe, 0x0017, Level::Lost);
     Ok(())
 }
 
 #[test]
 fn an_upgrade_loses_what_offline_nodes_hold_together(rt: HostRuntime) -> Result<(), Fail> {
-    let first = StripeNo::new(3).ok_or("stripe 3")?;
-    let second = StripeNo::new(7).ok_or("stripe 7")?;
+    let first = stripe_numbered(3)?;
+    let second = stripe_numbered(7)?;
     let mut stripes = one_stripe(&rt, rt.alloc(), second)?;
     stripes.reserve(1)?;
     add_in_slot(&rt, &mut stripes, first, 0);
@@ -147,7 +157,7 @@ fn lose_to_upgrades(
     first: StripeNo,
     second: StripeNo,
 ) -> Result<(), Fail> {
-    let fifth = Fragment::new(5).ok_or("fragment 5")?;
+    let fifth = fragment_numbered(5)?;
     for domain in 0..10 {
         assert_eq!(rt; stripes.would_lose(UpgradeNo { value: domain }), None);
     }
@@ -180,14 +190,12 @@ fn lose_to_upgrades(
 /// three of one group and bears none.
 #[test]
 fn work_and_risk_go_by_rank_and_then_by_number(rt: HostRuntime) -> Result<(), Fail> {
-    let topology = nodes(rt.alloc(), 20)?;
-    let mut stripes = Stripes::new(rt.alloc(), &topology)?;
-    stripes.reserve(4)?;
+    let mut stripes = no_stripe(rt.alloc(), 4)?;
     let named = [
-        StripeNo::new(2).ok_or("stripe 2")?,
-        StripeNo::new(5).ok_or("stripe 5")?,
-        StripeNo::new(7).ok_or("stripe 7")?,
-        StripeNo::new(9).ok_or("stripe 9")?,
+        stripe_numbered(2)?,
+        stripe_numbered(5)?,
+        stripe_numbered(7)?,
+        stripe_numbered(9)?,
     ];
     add_in_slot(&rt, &mut stripes, named[3], 3);
     add_in_slot(&rt, &mut stripes, named[1], 1);
@@ -200,6 +208,17 @@ fn work_and_risk_go_by_rank_and_then_by_number(rt: HostRuntime) -> Result<(), Fa
     Ok(())
 }
 
+/// A stripe misses these fragments, and is at this level.
+fn assert_missing(rt: &impl Abort, stripes: &Stripes, stripe: StripeNo, bits: u16, level: Level) {
+    assert_eq!(rt; stripes.missing(stripe), Some(LossMask::from_bits(bits)));
+    assert_eq!(rt; stripes.level(stripe), Some(level));
+}
+
+/// These fragments of a stripe need a lease.
+fn assert_needs(rt: &impl Abort, stripes: &Stripes, stripe: StripeNo, bits: u16) {
+    assert_eq!(rt; stripes.needs(stripe), Some(LossMask::from_bits(bits)));
+}
+
 fn clear_homes(
     rt: &impl Abort,
     stripes: &mut Stripes,
@@ -207,7 +226,7 @@ fn clear_homes(
     fragments: &[u8],
 ) -> Result<(), Fail> {
     for number in fragments {
-        let fragment = Fragment::new(*number).ok_or("a fragment")?;
+        let fragment = fragment_numbered(*number)?;
         clear_home(rt, stripes, stripe, fragment);
     }
     Ok(())
@@ -268,36 +287,33 @@ fn assert_at_risk(rt: &impl Abort, stripes: &Stripes, expected: &[(StripeNo, Lev
 /// Fragment f is on node f. Offline nodes have no part in it, and a fragment without a home needs one wherever it was.
 #[test]
 fn homeless_and_draining_fragments_need_a_lease(rt: HostRuntime) -> Result<(), Fail> {
-    let stripe = StripeNo::new(6).ok_or("stripe 6")?;
-    let other = StripeNo::new(7).ok_or("stripe 7")?;
+    let stripe = stripe_numbered(6)?;
+    let other = stripe_numbered(7)?;
     let mut stripes = one_stripe(&rt, rt.alloc(), stripe)?;
     set_offline(&rt, &mut stripes, 5, true);
-    assert_eq!(rt; stripes.needs(stripe), Some(LossMask::from_bits(0x0000)));
+    assert_needs(&rt, &stripes, stripe, 0x0000);
 
     set_draining(&rt, &mut stripes, 3, true);
     set_draining(&rt, &mut stripes, 14, true);
-    assert_eq!(rt; stripes.needs(stripe), Some(LossMask::from_bits(0x4008)));
+    assert_needs(&rt, &stripes, stripe, 0x4008);
 
     clear_homes(&rt, &mut stripes, stripe, &[0, 3])?;
-    assert_eq!(rt; stripes.needs(stripe), Some(LossMask::from_bits(0x4009)));
+    assert_needs(&rt, &stripes, stripe, 0x4009);
 
     set_draining(&rt, &mut stripes, 3, false);
     set_draining(&rt, &mut stripes, 14, false);
-    assert_eq!(rt; stripes.needs(stripe), Some(LossMask::from_bits(0x0009)));
+    assert_needs(&rt, &stripes, stripe, 0x0009);
     assert_eq!(rt; stripes.needs(other), None);
     Ok(())
 }
 
 #[test]
 fn homes_on_a_node_rise(rt: HostRuntime) -> Result<(), Fail> {
-    let first = StripeNo::new(3).ok_or("stripe 3")?;
-    let second = StripeNo::new(7).ok_or("stripe 7")?;
-    let fourth = Fragment::new(4).ok_or("fragment 4")?;
-    let ninth = Fragment::new(9).ok_or("fragment 9")?;
-    let topology = nodes(rt.alloc(), 20)?;
-    let mut stripes = Stripes::new(rt.alloc(), &topology)?;
-    stripes.reserve(2)?;
-    assert!(rt; stripes.spare() >= 2);
+    let first = stripe_numbered(3)?;
+    let second = stripe_numbered(7)?;
+    let fourth = fragment_numbered(4)?;
+    let ninth = fragment_numbered(9)?;
+    let mut stripes = no_stripe(rt.alloc(), 2)?;
     add(&rt, &mut stripes, second);
     add(&rt, &mut stripes, first);
     set_home(&rt, &mut stripes, second, ninth, seat(5, 0));
@@ -317,13 +333,11 @@ fn homes_on_a_node_rise(rt: HostRuntime) -> Result<(), Fail> {
 
 #[test]
 fn homes_of_a_stripe_stand_by_their_fragments(rt: HostRuntime) -> Result<(), Fail> {
-    let stripe = StripeNo::new(8).ok_or("stripe 8")?;
-    let other = StripeNo::new(9).ok_or("stripe 9")?;
-    let third = Fragment::new(3).ok_or("fragment 3")?;
-    let last = Fragment::new(15).ok_or("fragment 15")?;
-    let topology = nodes(rt.alloc(), 20)?;
-    let mut stripes = Stripes::new(rt.alloc(), &topology)?;
-    stripes.reserve(1)?;
+    let stripe = stripe_numbered(8)?;
+    let other = stripe_numbered(9)?;
+    let third = fragment_numbered(3)?;
+    let last = fragment_numbered(15)?;
+    let mut stripes = no_stripe(rt.alloc(), 1)?;
     add(&rt, &mut stripes, stripe);
     set_home(&rt, &mut stripes, stripe, last, seat(5, 2));
     set_home(&rt, &mut stripes, stripe, third, seat(7, 0));
@@ -337,8 +351,8 @@ fn homes_of_a_stripe_stand_by_their_fragments(rt: HostRuntime) -> Result<(), Fai
 
 #[test]
 fn homes_go_with_their_stripe(rt: HostRuntime) -> Result<(), Fail> {
-    let stripe = StripeNo::new(1).ok_or("stripe 1")?;
-    let last = Fragment::new(15).ok_or("fragment 15")?;
+    let stripe = stripe_numbered(1)?;
+    let last = fragment_numbered(15)?;
     let mut stripes = one_stripe(&rt, rt.alloc(), stripe)?;
     assert_eq!(rt; home(&rt, &stripes, stripe, last), Some(seat(15, 1)));
     assert!(rt; !stripes.is_without_home(seat(15, 1)));
@@ -354,8 +368,7 @@ fn homes_go_with_their_stripe(rt: HostRuntime) -> Result<(), Fail> {
 
 #[test]
 fn nodes_and_slots_end(rt: HostRuntime) -> Result<(), Fail> {
-    let topology = nodes(rt.alloc(), 20)?;
-    let stripes = Stripes::new(rt.alloc(), &topology)?;
+    let stripes = no_stripe(rt.alloc(), 0)?;
     assert!(rt; stripes.has_node(node(19)));
     assert!(rt; !stripes.has_node(node(20)));
     assert!(rt; stripes.has_slot(seat(19, 3)));
@@ -375,7 +388,7 @@ fn the_largest_store_takes_every_stripe(rt: HostRuntime) -> Result<(), Fail> {
 
 fn add_every_stripe(rt: &impl Abort, stripes: &mut Stripes) -> Result<(), Fail> {
     for number in 0..4096 {
-        let stripe = StripeNo::new(number).ok_or("a stripe")?;
+        let stripe = stripe_numbered(number)?;
         stripes.reserve(1)?;
         add(rt, stripes, stripe);
     }
