@@ -15,8 +15,6 @@ mod receipt;
 mod rule;
 mod screen;
 mod steps;
-#[cfg(test)]
-mod tests;
 mod touched;
 mod viewer;
 

@@ -3,36 +3,27 @@
 ghost use Rattle.std.specs.Prelude.{◌≡◌, [], IfOk};
 ghost use Rattle.lrc_book.specs.declared.book.TheConstants.{HISTORY_LIMIT};
 
-use crate::{Keeper, NewLog, ViewNaming, Viewer};
+use lrc_board::{Keeper, NewLog, ViewNaming, Viewer};
 use lrc_book::{Book, Command};
 use lrc_code::{NodeNo, SessionNo, StripeNo};
+use lrc_samples::twenty_nodes;
 use lrc_stripes::Level;
 use lrc_topology::Topology;
 use std::alloc::Global;
-use std::io::Write;
 use std::marker::Brand;
 use std::process::Abort;
 use std::sync::Wait;
 use std::test::Fail;
 
-/// Twenty nodes with four slots, each in a fault domain of its own, in ten upgrade domains.
-fn topology(alloc: Global) -> Result<Topology, Fail> {
-    let mut text = String::new(alloc);
-    for i in 0..20 {
-        let upgrade = i % 10;
-        write!(
-            text,
-            "[[node]]\nnumber = {i}\nfault = {i}\nupgrade = {upgrade}\nslots = 4\n"
-        )?;
-    }
-    Ok(Topology::read(alloc, text.as_bytes())?)
+/// Twenty nodes, of which nothing else is known here.
+fn nodes(alloc: Global) -> Result<Topology, Fail> {
+    Ok(twenty_nodes(alloc)?)
 }
 
 fn book(alloc: Global) -> Result<Book, Fail>
     ensures { IfOk result (λ b. (b.history ≡ []) × (b.limit ≡ HISTORY_LIMIT)) }
 {
-    let topology = topology(alloc)?;
-    Ok(Book::new(alloc, topology)?)
+    Ok(Book::new(alloc, nodes(alloc)?)?)
 }
 
 #[test]
@@ -62,14 +53,34 @@ fn watch<N: ViewNaming, R: Wait + Abort>(
     let other = take(rt, &mut viewers);
     apply(rt, &mut keeper, Command::Place(stripe), 1);
     apply(rt, &mut keeper, Command::Fail(NodeNo { value: 3 }), 2);
-    keeper.show(&mut viewer);
-    assert_eq!(rt; (viewer.count(), other.count()), (2, 0));
-    assert_eq!(rt; level(rt, &mut viewer, stripe), Some(Level::AtRisk(2)));
-    assert_eq!(rt; load(rt, &mut viewer, NodeNo { value: 3 }), Some(0));
-    assert_eq!(rt; load(rt, &mut viewer, NodeNo { value: 4 }), Some(1));
-    assert_eq!(rt; load(rt, &mut viewer, NodeNo { value: 99 }), None);
-    expect_at_risk(rt, alloc, &mut viewer, (stripe, Level::AtRisk(2)));
+    show(&mut keeper, &mut viewer);
+    expect_count(rt, &viewer, 2);
+    expect_count(rt, &other, 0);
+    expect_seen(rt, alloc, &mut viewer, stripe);
     keeper.into_book(rt)
+}
+
+fn show<N: ViewNaming>(keeper: &mut Keeper<N>, viewer: &mut Viewer<N>) {
+    keeper.show(viewer);
+}
+
+/// How many entries a viewer has seen.
+fn expect_count<N: ViewNaming>(rt: &impl Abort, viewer: &Viewer<N>, count: u64) {
+    assert_eq!(rt; viewer.count(), count);
+}
+
+/// The stripe has lost one fragment with node 3, and no other node has lost its own.
+fn expect_seen<N: ViewNaming>(
+    rt: &impl Abort,
+    alloc: Global,
+    viewer: &mut Viewer<N>,
+    stripe: StripeNo,
+) {
+    assert_eq!(rt; level(rt, viewer, stripe), Some(Level::AtRisk(2)));
+    assert_eq!(rt; load(rt, viewer, NodeNo { value: 3 }), Some(0));
+    assert_eq!(rt; load(rt, viewer, NodeNo { value: 4 }), Some(1));
+    assert_eq!(rt; load(rt, viewer, NodeNo { value: 99 }), None);
+    expect_at_risk(rt, alloc, viewer, (stripe, Level::AtRisk(2)));
 }
 
 fn take<N: ViewNaming>(rt: &impl Abort, viewers: &mut Vec<Viewer<N>>) -> Viewer<N> {
