@@ -13,8 +13,6 @@ mod status;
 mod streams;
 mod table;
 mod tables;
-#[cfg(test)]
-mod tests;
 mod texts;
 mod together;
 

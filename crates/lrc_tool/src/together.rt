@@ -7,9 +7,6 @@ ghost use Rattle.lrc_tool.specs.Plays.{AreMade, receipts_text, tracks_text};
 ghost use Rattle.lrc_tool.specs.Outputs.{IsPlayed};
 ghost use Rattle.lrc_tool.specs.declared.streams.RunFault.TheVariants as fault;
 
-#[cfg(test)]
-mod tests;
-
 use crate::streams::RunFault;
 use crate::tables::with_tables;
 use crate::texts::{push_reply_line, push_script_line};

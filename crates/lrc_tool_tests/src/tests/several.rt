@@ -1,7 +1,7 @@
 //! Several scripts at once.
 
 use super::{NO_SCRIPT, over_twenty};
-use crate::{Plain, Status, run};
+use lrc_tool::{Plain, Status, run};
 use std::test::Fail;
 
 #[test]

@@ -2,7 +2,7 @@
 
 use super::fakes::{Dribble, Endless, Failure, Faltering, Filling};
 use super::{ONE_PLACED, bundle, over_twenty};
-use crate::{Plain, RunFault, Sink, Source, Status, check, run};
+use lrc_tool::{Plain, RunFault, Sink, Source, Status, check, run};
 use std::alloc::Global;
 use std::io;
 use std::process::Abort;

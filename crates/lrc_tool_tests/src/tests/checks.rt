@@ -1,7 +1,7 @@
 //! What is told of bundles that are only checked.
 
 use super::over_twenty;
-use crate::{Plain, Status, check};
+use lrc_tool::{Plain, Status, check};
 use std::alloc::Global;
 use std::process::Abort;
 use std::test::Fail;

@@ -1,7 +1,7 @@
 //! What commands on leases answer.
 
 use super::{PLACING_ONE, Run, TEN_DOMAINS, bundle, expect_output, expect_run, over_twenty};
-use crate::Status;
+use lrc_tool::Status;
 use std::alloc::Global;
 use std::process::Abort;
 use std::sync::Wait;

@@ -1,7 +1,7 @@
 //! Where stripes are placed.
 
 use super::{SIX_DOMAINS, SIXTEEN_NODES, TEN_DOMAINS, bundle, expect_output, over_twenty};
-use crate::Status;
+use lrc_tool::Status;
 use std::test::Fail;
 
 #[test]

@@ -1,7 +1,7 @@
 //! What commands on nodes answer.
 
 use super::{expect_output, over_twenty};
-use crate::Status;
+use lrc_tool::Status;
 use std::test::Fail;
 
 #[test]

@@ -1,7 +1,7 @@
 //! How nodes are drained and retired.
 
 use super::{PLACING_ONE, Run, TEN_DOMAINS, bundle, expect_output, expect_run};
-use crate::Status;
+use lrc_tool::Status;
 use std::test::Fail;
 
 #[test]

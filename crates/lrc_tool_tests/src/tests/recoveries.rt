@@ -1,7 +1,7 @@
 //! What is told of masks of losses.
 
 use super::fakes::{Dribble, Failure};
-use crate::{Plain, RunFault, Sink, Status, recover};
+use lrc_tool::{Plain, RunFault, Sink, Status, recover};
 use std::alloc::Global;
 use std::io;
 use std::process::Abort;

@@ -1,7 +1,7 @@
 //! What is read of a bundle, and what is refused of it.
 
 use super::{expect_output, over_twenty};
-use crate::{Plain, Status, run};
+use lrc_tool::{Plain, Status, run};
 use std::test::Fail;
 
 #[test]

@@ -14,7 +14,7 @@ mod streams;
 mod tables;
 mod upgrades;
 
-use crate::{Plain, Status, run};
+use lrc_tool::{Plain, Status, run};
 use std::alloc::Global;
 use std::process::Abort;
 use std::sync::Wait;
