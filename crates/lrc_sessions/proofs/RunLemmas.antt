@@ -1,5 +1,5 @@
 -- Lists that are moved one by one from one to another, and what they are then.
-use Rattle.std.proofs.Common.{◌≡◌, ℕ, ◌+◌, ◌<◌, inl, inr, List, [], ◌∷◌, ◌++◌, length, map, take, drop, get_or, Option, Vec, sym, ap, ◌∙◌, subst, arith, append_assoc}
+use Rattle.std.proofs.Common.{ℕ, ◌+◌, ◌<◌, inl, inr, List, [], ◌∷◌, ◌++◌, length, map, take, drop, get_or, Option, Vec, Result, Ok, Err, IfOk, is_err, false, ◌≡◌, sym, ap, ◌∙◌, subst, arith, append_assoc}
 use Rattle.std.proofs.lemmas.List.{map-append, get_or-map, get_or_push, get_or_append_left, length-map}
 use Rattle.std.proofs.Math.Seq.{take-append_seam}
 use Rattle.std.proofs.lemmas.Bool.{cases_lt}
@@ -40,12 +40,12 @@ some_of [] i low = absurd (omega arith)
 some_of (x ∷ xs) i low = x
 
 -- where each worker ran its script, so did the sessions and tracks that are taken from them
-pub AreRun-taken : {W Z : Type 0} (session : W → SessionView) (receipts : W → List Receipt) (stopped : W → Option Stop) (may_stop : Type 0)
+pub AreRun-taken : {W Z : Type 0} (session : W → SessionView) (receipts : W → List Receipt) (stopped : W → Option Stop) (may_stop : Type 0) (passes : ℕ → ℕ → Type 0)
     (scripts : List (Vec Command Z)) (old new : List W) → length old ≡ length scripts → length new ≡ length scripts
     → ((i : ℕ) (w : W) (s : Vec Command Z) → i < length scripts
-    → IsRun may_stop (get_or scripts i s).items (session (get_or old i w)) (session (get_or new i w)) (receipts (get_or new i w)) (stopped (get_or new i w)))
-    → AreRun may_stop scripts (map session old) (map session new) (map (λ w. record { receipts = receipts w; stopped = stopped w }) new)
-AreRun-taken {W} session receipts stopped may_stop scripts old new len len' ran = (
+    → IsRun may_stop passes (get_or scripts i s).items (session (get_or old i w)) (session (get_or new i w)) (receipts (get_or new i w)) (stopped (get_or new i w)))
+    → AreRun may_stop passes scripts (map session old) (map session new) (map (λ w. record { receipts = receipts w; stopped = stopped w }) new)
+AreRun-taken {W} session receipts stopped may_stop passes scripts old new len len' ran = (
   length-map new session ∙ len',
   length-map new (λ w. record { receipts = receipts w; stopped = stopped w }) ∙ len',
   λ i s b a t low.
@@ -68,3 +68,8 @@ room_at receipts scripts rooms ws is all i w s low =
 -- a list that is written over another one of its length
 pub written_back : {X : Type 0} (xs ys : List X) (n : ℕ) → length xs ≡ n → take n (xs ++ drop (length xs) ys) ≡ xs
 written_back xs ys n len = subst (λ k. take k (xs ++ drop (length xs) ys) ≡ xs) len (take-append_seam xs (drop (length xs) ys))
+
+-- a gate that gave no error let the call through
+pub let_through : {X E : Type 0} (P : Type 0) (r : Result X E) → is_err r ≡ false → IfOk r (λ _. P) → P
+let_through P (Ok x) none through = through
+let_through P (Err e) none through = absurd cc

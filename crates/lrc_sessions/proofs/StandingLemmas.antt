@@ -12,7 +12,7 @@ use Rattle.lrc_board.specs.declared.receipt.Receipt.{Receipt}
 use Rattle.lrc_sessions.specs.declared.track.Stop.TheVariants.{Fault as Stopped}
 use Rattle.lrc_sessions.specs.Views.{SessionView}
 use Rattle.lrc_sessions.specs.Calls.{IsCalled, IsLeft}
-use Rattle.lrc_sessions.specs.Runs.{StandsAt, AreStanding, IsRun}
+use Rattle.lrc_sessions.specs.Runs.{StandsAt, AreStanding, HavePassed, IsRun}
 
 -- what stands in a beginning stands in the whole, at the same place
 prefix_get : {A : Type 0} (xs ys : List A) (k : ℕ) (x : A) → IsPrefix xs ys → slice_get xs k ≡ Some x → slice_get ys k ≡ Some x
@@ -93,14 +93,24 @@ standing_push nodes number former script command rs before after r s start m is 
           k x below less;
     }
 
+-- one call more that passed the gate
+pub passed_push : (passes : ℕ → ℕ → Type 0) (number : ℕ) (rs : List Receipt) (r : Receipt) → HavePassed passes number (length rs)
+    → passes number (length rs + 1) → HavePassed passes number (length (rs ++ r ∷ []))
+passed_push passes number rs r old new i low = elim (cases_lt i (length rs)) [
+  | inl before ↦ old i before
+  | inr after ↦
+      let same : length rs ≡ i = (let l = length-append rs (r ∷ []) in omega arith) in
+      subst (λ k. passes number (k + 1)) same new
+]
+
 -- a script that a fault stops
-pub left_run : (nodes : List NodeInfo) (may_stop : Type 0) (script : List Command) (first before after : SessionView) (rs : List Receipt) (f : Fault)
+pub left_run : (nodes : List NodeInfo) (may_stop : Type 0) (passes : ℕ → ℕ → Type 0) (script : List Command) (first before after : SessionView) (rs : List Receipt) (f : Fault)
     → IsLeft nodes before f after → before.number ≡ first.number → before.made ≡ first.made + length rs → length rs < length script
     → IsPrefix first.front before.front → AreStanding first.number (length first.front) script rs before.front
-    → IsRun may_stop script first after rs (Some (Stopped f))
-left_run nodes may_stop script first before after rs OutOfMemory left number made part on s =
-    subst (λ (w : SessionView). IsRun may_stop script first w rs (Some (Stopped OutOfMemory))) (sym left) (number, made, omega arith, part, on, s, tt)
-left_run nodes may_stop script first before after rs HistoryFull left number made part on s = (
+    → HavePassed passes first.number (length rs) → IsRun may_stop passes script first after rs (Some (Stopped f))
+left_run nodes may_stop passes script first before after rs OutOfMemory left number made part on s through =
+    subst (λ (w : SessionView). IsRun may_stop passes script first w rs (Some (Stopped OutOfMemory))) (sym left.0) (number, made, omega arith, part, on, s, tt, through)
+left_run nodes may_stop passes script first before after rs HistoryFull left number made part on s through = (
   left.0 ∙ number,
   left.1 ∙ made,
   omega arith,
@@ -108,4 +118,5 @@ left_run nodes may_stop script first before after rs HistoryFull left number mad
   prefix_step first.front before.front after.front on left.3,
   standing_on first.number (length first.front) script rs before.front after.front left.3 s,
   left.4,
+  through,
 )

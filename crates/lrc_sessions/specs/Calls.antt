@@ -29,9 +29,10 @@ pub record IsCalled (nodes : List NodeInfo) (before : SessionView) (command : Co
   pub place : r.place ≡ length after.front
   pub later : length before.front < r.place
 
--- What a fault leaves of a session: want of memory leaves it as it was; a full history it has seen whole.
+-- What a fault leaves of a session: want of memory, which comes only before it has seen a full history, leaves it as it was; a
+-- full history it has seen whole.
 abbrev pub IsLeft : List NodeInfo → SessionView → Fault → SessionView → Type 0
-IsLeft nodes before OutOfMemory after = after ≡ before
+IsLeft nodes before OutOfMemory after = (after ≡ before) × (length before.front < HISTORY_LIMIT)
 IsLeft nodes before HistoryFull after =
     (after.number ≡ before.number) × (after.made ≡ before.made) × IsLegal nodes after.front × IsPrefix before.front after.front
     × (HISTORY_LIMIT ≤ length after.front)

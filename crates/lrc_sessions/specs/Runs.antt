@@ -45,18 +45,27 @@ StopIsSeen front None = Unit {0}
 StopIsSeen front (Some (Fault f)) = IsFullIn front f
 StopIsSeen front (Some Gate) = Unit {0}
 
+-- what is known of a session's call of this count that a gate let through and was told of
+abbrev pub Passes : (ℕ → ℕ → Type 0) → (ℕ → ℕ → Type 0) → ℕ → ℕ → Type 0
+Passes lets tells session n = lets session n × tells session n
+
+-- so many calls of a session, counted from 1, passed a gate
+abbrev pub HavePassed : (ℕ → ℕ → Type 0) → ℕ → ℕ → Type 0
+HavePassed passes session calls = (i : ℕ) → i < calls → passes session (i + 1)
+
 -- A session ran a script: it has its number still, and made as many calls more as there are receipts, at most those of the
--- script. Its front begins with the former one, and the receipts stand in it.
-abbrev pub IsRun : Type 0 → List Command → SessionView → SessionView → List Receipt → Option Stop → Type 0
-IsRun may_stop script before after receipts stopped =
+-- script, each of which passed the gate. Its front begins with the former one, and the receipts stand in it.
+abbrev pub IsRun : Type 0 → (ℕ → ℕ → Type 0) → List Command → SessionView → SessionView → List Receipt → Option Stop → Type 0
+IsRun may_stop passes script before after receipts stopped =
     (after.number ≡ before.number) × (after.made ≡ before.made + length receipts) × (length receipts ≤ length script)
     × StopFits may_stop script (length receipts) stopped × IsPrefix before.front after.front
     × AreStanding before.number (length before.front) script receipts after.front × StopIsSeen after.front stopped
+    × HavePassed passes before.number (length receipts)
 
 -- each session ran the script at its place, and its track stands there
-abbrev pub AreRun : {Z : Type 0} → Type 0 → List (Vec Command Z) → List SessionView → List SessionView → List Track → Type 0
-AreRun {Z} may_stop scripts before after tracks =
+abbrev pub AreRun : {Z : Type 0} → Type 0 → (ℕ → ℕ → Type 0) → List (Vec Command Z) → List SessionView → List SessionView → List Track → Type 0
+AreRun {Z} may_stop passes scripts before after tracks =
     (length after ≡ length scripts) × (length tracks ≡ length scripts)
     × ((i : ℕ) (s : Vec Command Z) (b a : SessionView) (t : Track) → i < length scripts
-    → IsRun may_stop (slice_index_or scripts i s).items (slice_index_or before i b) (slice_index_or after i a)
+    → IsRun may_stop passes (slice_index_or scripts i s).items (slice_index_or before i b) (slice_index_or after i a)
     (slice_index_or tracks i t).receipts (slice_index_or tracks i t).stopped)

@@ -1,4 +1,4 @@
-ghost use Rattle.std.specs.Prelude.{IfErr};
+ghost use Rattle.std.specs.Prelude.{ℕ, IfOk, IfErr};
 
 use lrc_code::SessionNo;
 
@@ -11,12 +11,20 @@ pub trait Gate {
     // Whether it may stop a script.
     ghost may_stop: { Type 0 };
 
+    // What is known of a session's call of this count that it let through.
+    ghost lets: { ℕ → ℕ → Type 0 };
+
+    // What is known of a session's call of this count that it was told of.
+    ghost tells: { ℕ → ℕ → Type 0 };
+
     /// Asked ahead of a session's call `n`; an error stops its script, and the call is not made.
     fn before(&self, session: SessionNo, n: u64) -> Result<(), GateError>
-        ensures { IfErr result (λ _. may_stop) };
+        ensures through { IfOk result (λ _. lets session.value n) }
+        ensures stopped { IfErr result (λ _. may_stop) };
 
     /// Told of a session's call `n` that was made.
-    fn after(&self, session: SessionNo, n: u64);
+    fn after(&self, session: SessionNo, n: u64)
+        ensures { tells session.value n };
 }
 
 /// The gate that lets each call through and holds none.
@@ -24,7 +32,13 @@ pub trait Gate {
 pub struct OpenGate;
 
 impl Gate for OpenGate {
+    ghost use Rattle.std.specs.Prelude.{⊤};
+
     ghost may_stop = { ⊥ };
+
+    ghost lets = { λ _ _. ⊤ };
+
+    ghost tells = { λ _ _. ⊤ };
 
     fn before(&self, _session: SessionNo, _n: u64) -> Result<(), GateError> {
         Ok(())

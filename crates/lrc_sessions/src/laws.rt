@@ -6,7 +6,7 @@ ghost use Rattle.lrc_book.specs.declared.command.Command.{Command};
 ghost use Rattle.lrc_sessions.specs.declared.track.Track.{Track};
 ghost use Rattle.lrc_sessions.specs.Views.{SessionView, fresh};
 ghost use Rattle.lrc_sessions.specs.Counts.{AreAll};
-ghost use Rattle.lrc_sessions.specs.Runs.{AreRun};
+ghost use Rattle.lrc_sessions.specs.Runs.{Passes, AreRun};
 
 use crate::gate::Gate;
 
@@ -14,5 +14,5 @@ use crate::gate::Gate;
 pub fn opened_sessions_are_all<G: Gate>()
     ensures opened { (count : ℕ) → AreAll count (fresh count) }
     ensures ran { (count : ℕ) (scripts : List (Vec Command Global)) (before after : List SessionView) (tracks : List Track)
-        → AreAll count before → length before ≡ length scripts → AreRun G.may_stop scripts before after tracks → AreAll count after }
+        → AreAll count before → length before ≡ length scripts → AreRun G.may_stop (Passes G.lets G.tells) scripts before after tracks → AreAll count after }
 {}

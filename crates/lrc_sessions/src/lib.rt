@@ -12,8 +12,6 @@ mod parts;
 mod room;
 mod run;
 mod session;
-#[cfg(test)]
-mod tests;
 mod track;
 mod worker;
 

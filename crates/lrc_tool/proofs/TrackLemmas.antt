@@ -200,6 +200,10 @@ same_count n i ss h same low =
 
 -- ---- scripts that were not stopped
 
+-- the open gate says nothing of the calls that pass it
+abbrev pub open_passes : ℕ → ℕ → Type 0
+open_passes session n = Unit {0} × Unit {0}
+
 whole : (script : List Command) (calls : ℕ) (stopped : Option Stop) → stop_fault stopped ≡ None → StopFits ⊥ script calls stopped → calls ≡ length script
 whole script calls None none fits = fits
 whole script calls (Some (stop.Fault f)) none fits = absurd (cc)
@@ -217,16 +221,16 @@ none_at (x ∷ ts) (suc i) t none low = none_at ts i t (both_none (stop_fault x.
 -- ---- all scripts
 
 module _ {Z : Type 0} (scripts : List (Vec Command Z)) (after : List SessionView) (tracks : List Track) (history : List Entry)
-    (ran : AreRun ⊥ scripts (fresh (length scripts)) after tracks) (unstopped : first_fault tracks ≡ None) (seen : All (λ s. IsPrefix s.front history) after)
+    (ran : AreRun ⊥ open_passes scripts (fresh (length scripts)) after tracks) (unstopped : first_fault tracks ≡ None) (seen : All (λ s. IsPrefix s.front history) after)
     (counts : counts_of (length scripts) after ≡ counts_in (length scripts) history) where
   abbrev first_view : ℕ → SessionView
   first_view k = record { number = k; made = 0; front = [] }
 
   run_at : (i : ℕ) (s : Vec Command Z) (a : SessionView) (t : Track) → i < length scripts
-      → IsRun ⊥ (get_or scripts i s).items (first_view (1 + i)) (get_or after i a) (get_or tracks i t).receipts (get_or tracks i t).stopped
+      → IsRun ⊥ open_passes (get_or scripts i s).items (first_view (1 + i)) (get_or after i a) (get_or tracks i t).receipts (get_or tracks i t).stopped
   run_at i s a t low =
       let before = get_or-map-range_with_len first_view 1 (length scripts) i (1 + i) a low refl in
-      subst (λ (b : SessionView). IsRun ⊥ (get_or scripts i s).items b (get_or after i a) (get_or tracks i t).receipts (get_or tracks i t).stopped) before (ran.2 i s a a t low)
+      subst (λ (b : SessionView). IsRun ⊥ open_passes (get_or scripts i s).items b (get_or after i a) (get_or tracks i t).receipts (get_or tracks i t).stopped) before (ran.2 i s a a t low)
 
   are_from : AreFrom 1 after
   are_from i a low =
@@ -265,7 +269,7 @@ texts_all h first (t ∷ ts) each =
 
 -- the sessions of scripts that were not stopped made all their commands, and what is printed of the tracks is printed of the history
 pub tracks_made : {Z : Type 0} (nodes : List NodeInfo) (scripts : List (Vec Command Z)) (after : List SessionView) (tracks : List Track) (c : Closing)
-    → AreRun ⊥ scripts (fresh (length scripts)) after tracks → first_fault tracks ≡ None → Closes nodes (length scripts) after c
+    → AreRun ⊥ open_passes scripts (fresh (length scripts)) after tracks → first_fault tracks ≡ None → Closes nodes (length scripts) after c
     → AreMade nodes (lists_of scripts) c.book.history (tracks_text 1 tracks)
 tracks_made {Z} nodes scripts after tracks c ran unstopped closes =
     let h = c.book.history in

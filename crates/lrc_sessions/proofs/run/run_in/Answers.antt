@@ -2,7 +2,7 @@ use Rattle.std.proofs.Common.{rules, ◌≡◌, length, map, sym, subst, ap, ◌
 use Rattle.std.proofs.lemmas.List.{length-map}
 use Rattle.lrc_sessions.specs.declared.worker.Worker.{Worker}
 use Rattle.lrc_sessions.specs.declared.track.Track.{Track}
-use Rattle.lrc_sessions.specs.Runs.{AreRun}
+use Rattle.lrc_sessions.specs.Runs.{Passes, AreRun}
 use Rattle.lrc_sessions.proofs.RunLemmas.{some_of, room_at, AreRun-taken}
 use Rattle.lrc_sessions.proofs.run.run_in.Goals as goal
 
@@ -23,14 +23,15 @@ returns g c =
     let session = λ (w : Worker g.row.N.Denot). w.session in
     let scripts = c.args.scripts.now in
     let may_stop = g.G.Gate.may_stop in
+    let passes = Passes g.G.Gate.lets g.G.Gate.tells in
     let old = c.seat-workers.result.0.items in
     let new = c.run_workers.new.workers.items in
     let track : Worker g.row.N.Denot → Track = λ w. record { receipts = w.receipts.items; stopped = w.stopped } in
     let long : length old ≡ length scripts = sym (length-map old session) ∙ (ap length c.seat-workers.ensures.sessions ∙ c.requires.sessions.0) in
-    let run = AreRun-taken session (λ (w : Worker g.row.N.Denot). w.receipts.items) (λ (w : Worker g.row.N.Denot). w.stopped) may_stop scripts old new long (search rules) c.run_workers.ensures.run in
+    let run = AreRun-taken session (λ (w : Worker g.row.N.Denot). w.receipts.items) (λ (w : Worker g.row.N.Denot). w.stopped) may_stop passes scripts old new long (search rules) c.run_workers.ensures.run in
     let before : map session old ≡ c.args.sessions.now.items = c.seat-workers.ensures.sessions in
     let after : map session new ≡ c.unseat.new.sessions.items = search rules in
     let tracks : map track new ≡ c.unseat.new.tracks.items = search rules in
-    subst (λ ts. AreRun may_stop scripts c.args.sessions.now.items c.unseat.new.sessions.items ts) tracks
-    (subst (λ ss. AreRun may_stop scripts c.args.sessions.now.items ss (map track new)) after
-    (subst (λ ss. AreRun may_stop scripts ss (map session new) (map track new)) before run))
+    subst (λ ts. AreRun may_stop passes scripts c.args.sessions.now.items c.unseat.new.sessions.items ts) tracks
+    (subst (λ ss. AreRun may_stop passes scripts c.args.sessions.now.items ss (map track new)) after
+    (subst (λ ss. AreRun may_stop passes scripts ss (map session new) (map track new)) before run))

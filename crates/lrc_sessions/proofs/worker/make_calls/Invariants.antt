@@ -1,6 +1,6 @@
 use Rattle.std.proofs.Common.{◌≡◌, ◌+◌, ◌≤◌, length, vec_capacity}
 use mathlib.Core.List.{IsPrefix}
-use Rattle.lrc_sessions.specs.Runs.{AreStanding}
+use Rattle.lrc_sessions.specs.Runs.{AreStanding, Passes, HavePassed}
 use Rattle.lrc_sessions.proofs.worker.make_calls.Given as goal
 
 abbrev pub invariant-loop-command : goal.invariant-loop-command
@@ -12,4 +12,5 @@ invariant-loop-command g l = record {
   room : length l.script ≤ vec_capacity l.receipts;
   later : IsPrefix l.initial.session.front l.session.front;
   stand : AreStanding l.initial.session.number (length l.initial.session.front) l.script l.receipts.items l.session.front;
+  passed : HavePassed (Passes g.G.Gate.lets g.G.Gate.tells) l.initial.session.number (length l.receipts.items);
 }

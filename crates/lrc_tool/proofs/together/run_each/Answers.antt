@@ -8,7 +8,7 @@ use Rattle.lrc_sessions.proofs.OpenedLemmas.{length_fresh, all_left}
 use Rattle.lrc_tool.specs.Faults.{first_fault}
 use Rattle.lrc_tool.specs.Judged.{lists_of}
 use Rattle.lrc_tool.specs.Plays.{AreMade, tracks_text}
-use Rattle.lrc_tool.proofs.TrackLemmas.{tracks_made}
+use Rattle.lrc_tool.proofs.TrackLemmas.{open_passes, tracks_made}
 use Rattle.lrc_tool.proofs.together.run_each.Goals as goal
 
 pub run_sessions-sessions-requires-after_bounds : goal.run_sessions-sessions-requires-after_bounds
@@ -19,7 +19,7 @@ unreachable-requires g c =
     let opened = c.in-Ok.ensures.ok.1 in
     let long : length c.in-Ok.sessions.items ≡ length c.args.scripts.now = ap length opened ∙ (length_fresh c.args.parts.count ∙ sym c.requires.scripts.0) in
     let ran = c.run_sessions-sessions in
-    c.in-Err-SessionsOut.ensures.0 (all_left c.in-Ok.manager.count _ c.args.scripts.now c.in-Ok.sessions ran.result.0 ran.result.1 (opened ∙ ap fresh (sym c.in-Ok.ensures.ok.0)) long ran.ensures.ok ran.ensures.err)
+    c.in-Err-SessionsOut.ensures.0 (all_left c.in-Ok.manager.count _ open_passes c.args.scripts.now c.in-Ok.sessions ran.result.0 ran.result.1 (opened ∙ ap fresh (sym c.in-Ok.ensures.ok.0)) long ran.ensures.ok ran.ensures.err)
 
 pub returns-clause-made : goal.returns-clause-made
 returns-clause-made g c =
@@ -27,8 +27,8 @@ returns-clause-made g c =
     let after = c.run_sessions-sessions.result.0.items in
     let opened : c.in-Ok.sessions.items ≡ fresh (length scripts) = c.in-Ok.ensures.ok.1 ∙ ap fresh (sym c.requires.scripts.0) in
     let count : c.in-Ok.manager.count ≡ length scripts = c.in-Ok.ensures.ok.0 ∙ sym c.requires.scripts.0 in
-    let made = subst (λ r. IfOk r (λ v. AreRun ⊥ scripts c.in-Ok.sessions.items after v.items)) c.in_ok-ran-in-Ok-finish.was c.run_sessions-sessions.ensures.ok in
-    let ran = subst (λ (ss : List SessionView). AreRun ⊥ scripts ss after c.in_ok-ran-in-Ok-finish.field-0.items) opened made in
+    let made = subst (λ r. IfOk r (λ v. AreRun ⊥ open_passes scripts c.in-Ok.sessions.items after v.items)) c.in_ok-ran-in-Ok-finish.was c.run_sessions-sessions.ensures.ok in
+    let ran = subst (λ (ss : List SessionView). AreRun ⊥ open_passes scripts ss after c.in_ok-ran-in-Ok-finish.field-0.items) opened made in
     let closes = subst (λ n. Closes g.N.ViewNaming.topology n after c.in-Ok-finish.closing) count c.in-Ok-finish.ensures in
     let told = tracks_made g.N.ViewNaming.topology scripts after c.in_ok-ran-in-Ok-finish.field-0.items c.in-Ok-finish.closing ran c.in_ok-unstopped-in-Ok-finish.ensures.ok.1 closes in
     let shown = subst (λ (ts : List Track). AreMade g.N.ViewNaming.topology (lists_of scripts) c.in-Ok-finish.closing.book.history (tracks_text 1 ts))

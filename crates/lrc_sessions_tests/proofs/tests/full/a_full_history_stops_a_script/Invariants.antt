@@ -1,4 +1,4 @@
-use Rattle.lrc_sessions.proofs.tests.gates.two_scripts_run_on_two_threads.Given as goal
+use Rattle.lrc_sessions_tests.proofs.tests.full.a_full_history_stops_a_script.Given as goal
 
 abbrev pub ghosts-run_all-N-Naming : goal.ghosts-run_all-N-Naming
 ghosts-run_all-N-Naming g a = record { count = a.parts.count }

@@ -1,4 +1,4 @@
-use Rattle.lrc_sessions.proofs.tests.no_session_ends_no_manager.Given as goal
+use Rattle.lrc_sessions_tests.proofs.tests.no_session_ends_no_manager.Given as goal
 
 abbrev pub ghosts-keep_one-N-Naming : goal.ghosts-keep_one-N-Naming
 ghosts-keep_one-N-Naming g a = record { count = a.parts.count }

@@ -1,4 +1,4 @@
-use Rattle.lrc_sessions.proofs.tests.looks.a_session_sees_the_calls_of_another.Given as goal
+use Rattle.lrc_sessions_tests.proofs.tests.looks.a_session_sees_the_calls_of_another.Given as goal
 
 abbrev pub ghosts-watch-N-Naming : goal.ghosts-watch-N-Naming
 ghosts-watch-N-Naming g a = record { count = a.parts.count }

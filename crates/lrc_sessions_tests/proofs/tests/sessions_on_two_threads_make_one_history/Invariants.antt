@@ -1,4 +1,4 @@
-use Rattle.lrc_sessions.proofs.tests.sessions_on_two_threads_make_one_history.Given as goal
+use Rattle.lrc_sessions_tests.proofs.tests.sessions_on_two_threads_make_one_history.Given as goal
 
 abbrev pub ghosts-place_at_once-N-Naming : goal.ghosts-place_at_once-N-Naming
 ghosts-place_at_once-N-Naming g a = record { count = a.parts.count }

@@ -1,9 +1,9 @@
 //! Eight sessions at once, whose history is replayed by one thread.
 
-use super::{parts, run_all, topology};
-use crate::{Closing, OpenGate, Receipt, Track};
+use super::{nodes, parts, run_all};
 use lrc_book::{Book, Command, Entry};
 use lrc_code::{Fragment, NodeNo, SessionNo, StripeNo, UpgradeNo};
+use lrc_sessions::{Closing, OpenGate, Receipt, Track};
 use std::alloc::Global;
 use std::marker::Brand;
 use std::process::Abort;
@@ -31,7 +31,7 @@ fn run_mixed<R: Threads + Wait + Abort + Sync>(
     assert_eq!(rt; scripts.len(), 8);
     let parts = parts(alloc, 8)?;
     let (closing, tracks) = run_all::<Brand, _, _>(rt, alloc, parts, scripts.as_slice(), &OpenGate);
-    let mut fresh = Book::new(alloc, topology(alloc)?)?;
+    let mut fresh = Book::new(alloc, nodes(alloc)?)?;
     expect_replayed(rt, &closing.book, &mut fresh);
     expect_tracks(rt, &closing, scripts.as_slice(), tracks.as_slice());
     Ok(())

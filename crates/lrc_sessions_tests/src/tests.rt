@@ -3,19 +3,20 @@
 ghost use Rattle.std.specs.Prelude.{◌≡◌, length, IfOk};
 ghost use Rattle.lrc_sessions.specs.Views.{fresh};
 
+mod full;
 mod gates;
 mod looks;
 mod mixed;
 
-use crate::{
+use lrc_book::{Book, Command, Reply, Seat};
+use lrc_code::{NodeNo, SessionNo, StripeNo};
+use lrc_samples::twenty_nodes;
+use lrc_sessions::{
     Closing, FinishError, Gate, Manager, Naming, OpenError, Parts, Receipt, Session, Track,
     run_sessions,
 };
-use lrc_book::{Book, Command, Reply, Seat};
-use lrc_code::{NodeNo, SessionNo, StripeNo};
 use lrc_topology::Topology;
 use std::alloc::Global;
-use std::io::Write;
 use std::marker::Brand;
 use std::process::Abort;
 use std::sync::Wait;
@@ -27,28 +28,23 @@ const FIRST: [u16; 16] = [0, 1, 2, 3, 4, 5, 6, 7, 8, 9, 10, 11, 16, 12, 13, 14];
 
 const SECOND: [u16; 16] = [15, 17, 18, 19, 0, 1, 2, 3, 4, 5, 6, 7, 12, 8, 9, 10];
 
-/// Twenty nodes with four slots, each in a fault domain of its own, in ten upgrade domains.
-fn topology(alloc: Global) -> Result<Topology, Fail> {
-    let mut text = String::new(alloc);
-    for i in 0..20 {
-        let upgrade = i % 10;
-        write!(
-            text,
-            "[[node]]\nnumber = {i}\nfault = {i}\nupgrade = {upgrade}\nslots = 4\n"
-        )?;
-    }
-    Ok(Topology::read(alloc, text.as_bytes())?)
+/// Twenty nodes, of which nothing else is known here.
+fn nodes(alloc: Global) -> Result<Topology, Fail> {
+    Ok(twenty_nodes(alloc)?)
 }
 
 fn parts(alloc: Global, count: u8) -> Result<Parts, Fail>
     ensures { IfOk result (λ p. p.count ≡ count) }
 {
-    let topology = topology(alloc)?;
-    Ok(Parts::new(alloc, topology, count)?)
+    Ok(Parts::new(alloc, nodes(alloc)?, count)?)
 }
 
 fn stripe(number: u16) -> Result<StripeNo, Fail> {
     Ok(StripeNo::new(number).ok_or("a stripe")?)
+}
+
+fn two_stripes() -> Result<[StripeNo; 2], Fail> {
+    Ok([stripe(1)?, stripe(2)?])
 }
 
 /// A manager over these parts, and its sessions.
@@ -85,7 +81,7 @@ fn finish<N: Naming, R: Wait + Abort>(
 #[test]
 fn a_manager_has_one_to_eight_sessions(rt: HostRuntime) -> Result<(), Fail> {
     for (count, wanted) in [(0, false), (1, true), (8, true), (9, false), (255, false)] {
-        let topology = topology(rt.alloc())?;
+        let topology = nodes(rt.alloc())?;
         match Parts::new(rt.alloc(), topology, count) {
             Ok(_) => assert!(rt; wanted, "at {count}"),
             Err(error) => {
@@ -128,6 +124,47 @@ fn take<N: Naming>(rt: &impl Abort, sessions: &mut Vec<Session<N>>) -> Session<N
     session
 }
 
+/// Makes a call, for which there is room.
+fn call<N: Naming, R: Wait + Abort>(
+    rt: &R,
+    manager: &Manager<N>,
+    session: &mut Session<N>,
+    command: Command,
+) -> Receipt {
+    match manager.call(rt, session, command) {
+        Ok(receipt) => receipt,
+        Err(_) => panic!(rt; "room for a call"),
+    }
+}
+
+/// How many entries two sessions have seen.
+fn expect_fronts<N: Naming>(
+    rt: &impl Abort,
+    one: &Session<N>,
+    other: &Session<N>,
+    counts: (u64, u64),
+) {
+    assert_eq!(rt; one.front(), counts.0);
+    assert_eq!(rt; other.front(), counts.1);
+}
+
+/// Two sessions meet, and have then seen so many entries.
+fn meet<N: Naming, R: Wait + Abort>(
+    rt: &R,
+    manager: &Manager<N>,
+    one: &mut Session<N>,
+    other: &mut Session<N>,
+    count: u64,
+) {
+    manager.meet(rt, one, other);
+    expect_fronts(rt, one, other, (count, count));
+}
+
+/// Gives a session back to those that end their manager.
+fn put<N: Naming>(rt: &impl Abort, sessions: &mut Vec<Session<N>>, session: Session<N>) {
+    assert!(rt; sessions.push(session).is_ok());
+}
+
 fn seats(nodes: [u16; 16], slots: [u16; 16]) -> Reply {
     let mut seats = [Seat {
         node: NodeNo { value: 0 },
@@ -144,20 +181,22 @@ fn seats(nodes: [u16; 16], slots: [u16; 16]) -> Reply {
 
 #[test]
 fn two_sessions_place_a_stripe_each(rt: HostRuntime) -> Result<(), Fail> {
+    let stripes = two_stripes()?;
     let parts = parts(rt.alloc(), 2)?;
-    let closing = place_two::<Brand, _>(&rt, rt.alloc(), parts, [stripe(1)?, stripe(2)?]);
-    expect_closing(
-        &rt,
-        &closing,
-        2,
-        &[(SessionNo { value: 1 }, 1), (SessionNo { value: 2 }, 1)],
-    );
+    let closing = place_two::<Brand, _>(&rt, rt.alloc(), parts, stripes);
+    expect_one_each(&rt, &closing);
     Ok(())
 }
 
 fn expect_closing(rt: &impl Abort, closing: &Closing, entries: usize, made: &[(SessionNo, u64)]) {
     assert_eq!(rt; closing.book.history().len(), entries);
     assert_eq!(rt; closing.made.as_slice(), made);
+}
+
+/// Each of two sessions has made one call.
+fn expect_one_each(rt: &impl Abort, closing: &Closing) {
+    let made = [(SessionNo { value: 1 }, 1), (SessionNo { value: 2 }, 1)];
+    expect_closing(rt, closing, 2, &made);
 }
 
 /// Each of two sessions places a stripe, one after the other; the first alone does not end the manager.
@@ -178,15 +217,15 @@ fn place_two<N: Naming, R: Wait + Abort>(
     let mut first = take(rt, &mut sessions);
     assert_eq!(rt; (first.number().get(), second.number().get()), (1, 2));
     let reply = seats(FIRST, [0; 16]);
-    let placed = manager.call(rt, &mut first, Command::Place(stripes[0]));
-    assert_eq!(rt; placed, Ok(Receipt { place: 1, reply }));
+    let placed = call(rt, &manager, &mut first, Command::Place(stripes[0]));
+    assert_eq!(rt; placed, Receipt { place: 1, reply });
     let reply = seats(SECOND, [0, 0, 0, 0, 1, 1, 1, 1, 1, 1, 1, 1, 1, 1, 1, 1]);
-    let placed = manager.call(rt, &mut second, Command::Place(stripes[1]));
-    assert_eq!(rt; placed, Ok(Receipt { place: 2, reply }));
-    assert!(rt; sessions.push(first).is_ok());
+    let placed = call(rt, &manager, &mut second, Command::Place(stripes[1]));
+    assert_eq!(rt; placed, Receipt { place: 2, reply });
+    put(rt, &mut sessions, first);
     let (manager, mut sessions) = expect_out(rt, manager, sessions);
     assert_eq!(rt; sessions.len(), 1);
-    assert!(rt; sessions.push(second).is_ok());
+    put(rt, &mut sessions, second);
     finish(rt, manager, sessions)
 }
 
@@ -222,20 +261,16 @@ fn keep_one<N: Naming, R: Wait + Abort>(rt: &R, alloc: Global, parts: Parts) -> 
     let only = take(rt, &mut sessions);
     let (manager, mut sessions) = expect_out(rt, manager, sessions);
     assert!(rt; sessions.is_empty());
-    assert!(rt; sessions.push(only).is_ok());
+    put(rt, &mut sessions, only);
     finish(rt, manager, sessions)
 }
 
 #[test]
 fn sessions_on_two_threads_make_one_history(rt: HostRuntime) -> Result<(), Fail> {
+    let stripes = two_stripes()?;
     let parts = parts(rt.alloc(), 2)?;
-    let closing = place_at_once::<Brand, _>(&rt, rt.alloc(), parts, [stripe(1)?, stripe(2)?]);
-    expect_closing(
-        &rt,
-        &closing,
-        2,
-        &[(SessionNo { value: 1 }, 1), (SessionNo { value: 2 }, 1)],
-    );
+    let closing = place_at_once::<Brand, _>(&rt, rt.alloc(), parts, stripes);
+    expect_one_each(&rt, &closing);
     Ok(())
 }
 
@@ -255,25 +290,26 @@ fn place_at_once<N: Naming + Send + Sync, R: Threads + Wait + Abort + Sync>(
     let (manager, mut sessions) = open::<N, _>(rt, alloc, parts);
     let mut second = take(rt, &mut sessions);
     let mut first = take(rt, &mut sessions);
-    let shared = &manager;
+    place_both(rt, &manager, &mut first, &mut second, stripes);
+    put(rt, &mut sessions, second);
+    put(rt, &mut sessions, first);
+    finish(rt, manager, sessions)
+}
+
+fn place_both<N: Naming + Send + Sync, R: Threads + Wait + Abort + Sync>(
+    rt: &R,
+    manager: &Manager<N>,
+    first: &mut Session<N>,
+    second: &mut Session<N>,
+    stripes: [StripeNo; 2],
+) {
     join(
         rt,
         || {
-            assert!(rt;
-                shared
-                    .call(rt, &mut first, Command::Place(stripes[0]))
-                    .is_ok()
-            );
+            call(rt, manager, first, Command::Place(stripes[0]));
         },
         || {
-            assert!(rt;
-                shared
-                    .call(rt, &mut second, Command::Place(stripes[1]))
-                    .is_ok()
-            );
+            call(rt, manager, second, Command::Place(stripes[1]));
         },
     );
-    assert!(rt; sessions.push(second).is_ok());
-    assert!(rt; sessions.push(first).is_ok());
-    finish(rt, manager, sessions)
 }

@@ -1,4 +1,4 @@
-use Rattle.lrc_sessions.proofs.tests.two_sessions_place_a_stripe_each.Given as goal
+use Rattle.lrc_sessions_tests.proofs.tests.two_sessions_place_a_stripe_each.Given as goal
 
 abbrev pub ghosts-place_two-N-Naming : goal.ghosts-place_two-N-Naming
 ghosts-place_two-N-Naming g a = record { count = a.parts.count }

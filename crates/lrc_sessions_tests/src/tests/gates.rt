@@ -1,11 +1,11 @@
-//! Two scripts that only two threads can end.
+//! Two scripts that only two threads can end, and a script that a gate stops.
 
 ghost use Rattle.std.specs.Prelude.{⊤};
 
 use super::{parts, run_all, stripe};
-use crate::{Closing, Gate, GateError, Track};
 use lrc_book::Command;
 use lrc_code::SessionNo;
+use lrc_sessions::{Closing, Gate, GateError, Stop, Track};
 use std::alloc::Global;
 use std::marker::Brand;
 use std::process::Abort;
@@ -41,6 +41,10 @@ impl Gate for Meeting {
     ghost use Rattle.std.specs.Prelude.{⊤};
 
     ghost may_stop = { ⊤ };
+
+    ghost lets = { λ _ _. ⊤ };
+
+    ghost tells = { λ _ _. ⊤ };
 
     fn before(&self, session: SessionNo, n: u64) -> Result<(), GateError> {
         self.asked.fetch_add(1, Ordering::SeqCst);
@@ -106,5 +110,101 @@ fn expect_meeting(rt: &impl Abort, gate: &Meeting, closing: &Closing, tracks: &[
     assert!(rt; !gate.gave_up.load(Ordering::SeqCst));
     assert_eq!(rt; gate.asked.load(Ordering::SeqCst), 4);
     assert_eq!(rt; gate.told.load(Ordering::SeqCst), 4);
+    assert_eq!(rt; closing.book.history().len(), 4);
+}
+
+/// A gate that stops the second call of session 1. What it is asked and told of it adds up, each call at a digit of its own.
+#[derive(Drop)]
+struct Closed {
+    asked: AtomicU64,
+    told: AtomicU64,
+}
+
+impl Closed {
+    fn new() -> Closed {
+        Closed {
+            asked: AtomicU64::new(0),
+            told: AtomicU64::new(0),
+        }
+    }
+}
+
+impl Gate for Closed {
+    ghost use Rattle.std.specs.Prelude.{⊤};
+
+    ghost may_stop = { ⊤ };
+
+    ghost lets = { λ _ _. ⊤ };
+
+    ghost tells = { λ _ _. ⊤ };
+
+    fn before(&self, session: SessionNo, n: u64) -> Result<(), GateError> {
+        self.asked.fetch_add(digit(session, n), Ordering::SeqCst);
+        if session.get() == 1 && n == 2 {
+            return Err(GateError);
+        }
+        Ok(())
+    }
+
+    fn after(&self, session: SessionNo, n: u64) {
+        self.told.fetch_add(digit(session, n), Ordering::SeqCst);
+    }
+}
+
+/// One at the digit of a call: the three of session 1, then the three of session 2, and then any other.
+fn digit(session: SessionNo, n: u64) -> u64 {
+    match (session.get(), n) {
+        (1, 1) => 1,
+        (1, 2) => 10,
+        (1, 3) => 100,
+        (2, 1) => 1_000,
+        (2, 2) => 10_000,
+        (2, 3) => 100_000,
+        _ => 1_000_000,
+    }
+}
+
+#[test]
+fn a_gate_stops_a_script_before_its_call(rt: HostRuntime) -> Result<(), Fail> {
+    let scripts = lease_scripts(rt.alloc())?;
+    assert_eq!(rt; scripts.len(), 2);
+    let parts = parts(rt.alloc(), 2)?;
+    let gate = Closed::new();
+    let (closing, tracks) = run_all::<Brand, _, _>(
+        &rt,
+        rt.alloc(),
+        parts,
+        scripts.as_slice(),
+        &gate,
+    );
+    expect_stopped(&rt, &gate, &closing, tracks.as_slice());
+    Ok(())
+}
+
+/// Each of two scripts asks three times for the next lease.
+fn lease_scripts(alloc: Global) -> Result<Vec<Vec<Command>>, Fail> {
+    let mut scripts = Vec::new(alloc);
+    scripts.push(three_leases(alloc)?)?;
+    scripts.push(three_leases(alloc)?)?;
+    Ok(scripts)
+}
+
+fn three_leases(alloc: Global) -> Result<Vec<Command>, Fail> {
+    let mut script = Vec::new(alloc);
+    script.push(Command::Next)?;
+    script.push(Command::Next)?;
+    script.push(Command::Next)?;
+    Ok(script)
+}
+
+/// The first script was stopped behind its first call, the second by nothing.
+fn expect_stopped(rt: &impl Abort, gate: &Closed, closing: &Closing, tracks: &[Track]) {
+    assert_eq!(rt; tracks.len(), 2);
+    assert_eq!(rt; tracks[0].stopped, Some(Stop::Gate));
+    assert_eq!(rt; tracks[0].receipts.as_slice().len(), 1);
+    assert_eq!(rt; tracks[1].stopped, None);
+    assert_eq!(rt; tracks[1].receipts.as_slice().len(), 3);
+    assert_eq!(rt; gate.asked.load(Ordering::SeqCst), 111_011);
+    assert_eq!(rt; gate.told.load(Ordering::SeqCst), 111_001);
     assert_eq!(rt; closing.book.history().len(), 4);
 }

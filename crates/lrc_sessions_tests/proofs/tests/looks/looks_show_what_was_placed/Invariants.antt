@@ -1,4 +1,4 @@
-use Rattle.lrc_sessions.proofs.tests.looks.looks_show_what_was_placed.Given as goal
+use Rattle.lrc_sessions_tests.proofs.tests.looks.looks_show_what_was_placed.Given as goal
 
 abbrev pub ghosts-look_around-N-Naming : goal.ghosts-look_around-N-Naming
 ghosts-look_around-N-Naming g a = record { count = a.parts.count }
