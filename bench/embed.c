@@ -23,14 +23,21 @@ static uint8_t kinds[MOST_ENTRIES];
 static size_t entries_count;
 static double called[KINDS][MOST_ROUNDS], own[KINDS][MOST_ROUNDS], more[KINDS][MOST_ROUNDS], replayed[KINDS][MOST_ROUNDS];
 
-// Book::call and LrcCommand::read, as they stand in the library, where bench/embed could make them visible. The result
-// begins with 0 where a reply follows; the command that was read follows a word that is 1.
+// Book::call as it stands in the library, where bench/embed could make it visible. The result begins with 0 where a
+// reply follows.
 extern void bench_book_call(void *result, void *book, uint32_t session, const void *command) __attribute__((weak));
-extern void bench_command_read(void *command, const lrc_command *from) __attribute__((weak));
+// A command as the book has it: this library keeps the fields of all kinds so. Where another did not, the history that
+// is compared would be another.
+struct book_command {
+    uint8_t kind, domain;
+    uint16_t number;
+    uint8_t fragment;
+    uint32_t epoch;
+};
 // The command of each entry, as C has it and as the book has it.
 static struct {
     lrc_command given;
-    uint32_t read[8];
+    struct book_command read;
 } commands[MOST_ENTRIES];
 
 static void want(bool holds, int line) {
@@ -130,17 +137,21 @@ static void own_run(size_t from, size_t to) {
     uint64_t result[32] = {0};
     uint8_t wrong = 0;
     for (size_t i = from; i < to; i++) {
-        bench_book_call(result, handle.at, 1, &commands[i].read[1]);
+        bench_book_call(result, handle.at, 1, &commands[i].read);
         wrong |= *(uint8_t *)result;
     }
     WANT(wrong == 0);
 }
 
-static void read_all(bool has_own) {
+static void read_all(void) {
     for (size_t i = 0; i < entries_count; i++) {
-        commands[i].given = entries[i].command;
-        if (has_own) bench_command_read(commands[i].read, &entries[i].command);
-        WANT(!has_own || commands[i].read[0] == 1);
+        const lrc_command *given = &entries[i].command;
+        commands[i].given = *given;
+        commands[i].read = (struct book_command){.kind = (uint8_t)(given->kind - 1),
+                                                 .domain = given->domain,
+                                                 .number = given->kind < LRC_FAIL ? given->stripe : given->node,
+                                                 .fragment = given->fragment,
+                                                 .epoch = given->epoch};
     }
 }
 
@@ -227,8 +238,8 @@ int main(int argc, char **argv) {
     // (so that the books of later rounds get memory that was touched)
     WANT(mallopt(M_MMAP_THRESHOLD, 1 << 30) && mallopt(M_TRIM_THRESHOLD, 1 << 30));
     make_all();
-    bool has_own = bench_book_call && bench_command_read;
-    read_all(has_own);
+    bool has_own = bench_book_call;
+    read_all();
     for (unsigned round = 0; round < rounds; round++) {
         if (has_own) time_runs(own_run, own, round);
         time_runs(call_run, called, round);

@@ -31,6 +31,7 @@ const BLANK: LrcCommand = LrcCommand {
 
 impl LrcCommand {
     /// The command; `None` where the kind, or a number that it uses, is out of range.
+    #[inline(always)] // a call from C then goes through one struct in memory less
     pub(crate) fn read(&self) -> Option<Command>
         ensures value { IfSome result (IsCommand self.now) }
         ensures valid { is_some result ≡ is_command self.now }

@@ -1,4 +1,4 @@
-ghost use Rattle.std.specs.Prelude.{◌≡◌, map};
+ghost use Rattle.std.specs.Prelude.{◌≡◌, map, replicate};
 ghost use Rattle.lrc_embed.specs.Replies.{repair_told, refusal_told, reply_told};
 
 use crate::{LrcLease, LrcSeat};
@@ -56,8 +56,8 @@ impl LrcReply {
             Reply::Dropped => self.kind = 2,
             Reply::Granted(lease, kind) => {
                 self.kind = 3;
-                (self.repair, self.sources) = repair_of(kind);
                 self.lease = LrcLease::of(lease);
+                self.tell_repair(kind);
             }
             Reply::Idle => self.kind = 4,
             Reply::Ended => self.kind = 5,
@@ -68,16 +68,20 @@ impl LrcReply {
             }
         }
     }
-}
 
-/// The number of a kind of repair, and the fragments that it reads.
-fn repair_of(kind: &Kind) -> (u8, [u8; 6])
-    ensures { result ≡ repair_told kind.now }
-{
-    match kind {
-        Kind::Local(sources) => (1, numbers_of(sources)),
-        Kind::Global => (2, [0; 6]),
-        Kind::Move => (3, [0; 6]),
+    /// Tells the number of a kind of repair, and the fragments that it reads, where none are told yet.
+    fn tell_repair(&mut self, kind: &Kind)
+        requires { self.old.sources ≡ replicate 6 0 }
+        ensures { self.new ≡ record self.old { repair = (repair_told kind.now).0; sources = (repair_told kind.now).1 } }
+    {
+        match kind {
+            Kind::Local(sources) => {
+                self.repair = 1;
+                self.sources = numbers_of(sources);
+            }
+            Kind::Global => self.repair = 2,
+            Kind::Move => self.repair = 3,
+        }
     }
 }
 
