@@ -1,5 +1,5 @@
 -- The counters of grants, as entries are added.
-use Rattle.std.proofs.Common.{◌≡◌, ℕ, ◌+◌, ◌<◌, ◌≤◌, ◌&&◌, cond, Bool, inl, inr, true, false, List, [], ◌∷◌, ◌++◌, length, arith, sym, ap, ◌∙◌}
+use Rattle.std.proofs.Common.{◌≡◌, ℕ, ◌+◌, ◌<◌, ◌≤◌, ◌&&◌, cond, Bool, inl, inr, true, false, List, [], ◌∷◌, ◌++◌, length, Option, arith, sym, ap, ◌∙◌}
 use Rattle.std.proofs.lemmas.Bool.{cases_Bool}
 use Rattle.std.proofs.lemmas.List.Sums.{count_by-le-length}
 use Rattle.lrc_code.specs.declared.numbers.StripeNo.{StripeNo}
@@ -12,15 +12,17 @@ use Rattle.lrc_book.specs.declared.kind.Kind.{Kind}
 use Rattle.lrc_book.specs.declared.reply.Reply.TheVariants.{Granted}
 use Rattle.lrc_book.specs.declared.store.Store.{Store}
 use Rattle.lrc_book.specs.Leases.{is_grant, grants}
-use Rattle.lrc_book.specs.Stores.{AreGrantsOf, AreFew, IsKept}
+use Rattle.lrc_book.specs.Stores.{AreGrantsOf, AreFew}
+use Rattle.lrc_book.specs.Repairing.{IsKept}
 use Rattle.lrc_book.proofs.LeaseCountLemmas.{grants-push}
 
 -- a fragment was granted at most as often as there are entries
 pub grants-low : (past : List Entry) (s : StripeNo) (f : Fragment) → grants past s f ≤ length past
 grants-low past s f = count_by-le-length (λ (e : Entry). is_grant s f e.reply) past
 
-pub few-grants : (store : Store) (counts : List ℕ) (limit : ℕ) (history : List Entry) → IsKept store counts limit history → length history < limit → AreFew counts
-few-grants store counts limit history kept room = λ s f.
+pub few-grants : (store : Store) (counts : List ℕ) (front : Option StripeNo) (limit : ℕ) (history : List Entry) → IsKept store counts front limit history
+    → length history < limit → AreFew counts
+few-grants store counts front limit history kept room = λ s f.
     let low = grants-low history s f in
     let same = kept.counted s f in
     omega (arith, low, same, room, kept.limited)

@@ -70,6 +70,7 @@ pub mod CountedLemmas
 pub mod NoRoomLemmas
 pub mod BoardLemmas
 pub mod NextRepairLemmas
+pub mod FrontLemmas
 pub mod TouchingLemmas
 pub mod LoadLemmas
 pub mod NumberedLemmas

@@ -90,7 +90,7 @@ module _ (nodes : List NodeInfo) (st : State) where
   abbrev candidates : List StripeFragment
   candidates = filter (is_grantable nodes st) (all_fragments st)
 
-  grantable-words : (p : StripeFragment) → Contains candidates p → IsGrantable nodes st p
+  pub grantable-words : (p : StripeFragment) → Contains candidates p → IsGrantable nodes st p
   grantable-words p here =
       let m = filter-member (is_grantable nodes st) (all_fragments st) p here in
       let free = and_parts (is_none (lease_of st p.0 p.1)) _ m.1 in

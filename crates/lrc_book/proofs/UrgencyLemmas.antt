@@ -19,13 +19,14 @@ use Rattle.lrc_code.proofs.OrderLemmas.{find-first, not_before-itself}
 use Rattle.lrc_topology.specs.declared.NodeInfo.{NodeInfo}
 use Rattle.lrc_stripes.specs.declared.level.Level.{Level}
 use Rattle.lrc_stripes.specs.Levels.{homes_of, needs_in, has_some, comes_first, is_whole, level_if}
-use Rattle.lrc_stripes.specs.Stored.{Stored, StripeFragment, StripeLevel, level_shown, AreWork, AreAtRisk}
+use Rattle.lrc_stripes.specs.Stored.{Stored, StripeFragment, StripeLevel, has_work as stripe_has_work, level_shown, AreWork, AreAtRisk}
 use Rattle.lrc_stripes.proofs.LevelLemmas.{has_some-true, has_some-from}
 use Rattle.lrc_stripes.proofs.ListLemmas.{AllPairs-map, AllPairs-append, Contains-unmap}
 use Rattle.lrc_book.specs.States.{State, has_stripe, code_of, lease_of, drains_at, rank, level}
 use Rattle.lrc_book.specs.Repairs.{needs}
 use Rattle.lrc_book.specs.Urgency.{by_rank, has_work, work, risk, is_grantable, all_fragments, is_repaired_before, next_of}
 use Rattle.lrc_book.specs.Stores.{stored_of}
+use Rattle.lrc_book.specs.Repairing.{HaveGrantable}
 use Rattle.lrc_book.proofs.MemberLemmas.{All-members, Contains-here, Contains-later, Contains-cases, not-Contains-nil, AllPairs-head, AllPairs-tail, filter-member, member-filter, list_any-member, member-list_any, map-member}
 use Rattle.lrc_book.proofs.FragmentLemmas.{all-fragments}
 use Rattle.lrc_book.proofs.KindLemmas.{fragments-rising}
@@ -201,6 +202,12 @@ module _ (nodes : List NodeInfo) (st : State) (spare : ℕ) where
       let (f, there, hit) = member-list_any (needs nodes st s) (fragments Wide) e in
       has_some-from Wide (needed s) (f.value, f.in_range, hit)
 
+  -- what is kept has work where the state has
+  pub has-work : (s : StripeNo) → Contains st.stripes s → has_work nodes st s ≡ true → stripe_has_work kept s ≡ true
+  has-work s there has =
+      let listed = list_any-member (same_stripe s) st.stripes s there (eq-eqb s.value s.value refl) in
+      and_from (has_stripe st s) (has_some Wide (needed s)) listed (needed-some s has)
+
   module _ (stripes : List StripeNo) (are : AreWork kept stripes) where
     work-into : (s : StripeNo) → Contains stripes s → Contains st.stripes s × (has_work nodes st s ≡ true)
     work-into s here =
@@ -208,9 +215,7 @@ module _ (nodes : List NodeInfo) (st : State) (spare : ℕ) where
         (stripe-there st s parts.0, some-needed s parts.1)
 
     work-from : (s : StripeNo) → Contains st.stripes s → has_work nodes st s ≡ true → Contains stripes s
-    work-from s there has =
-        let listed = list_any-member (same_stripe s) st.stripes s there (eq-eqb s.value s.value refl) in
-        (are.each s).1 (and_from (has_stripe st s) (has_some Wide (needed s)) listed (needed-some s has))
+    work-from s there has = (are.each s).1 (has-work s there has)
 
     -- each is there
     pub work-there : (s : StripeNo) → Contains stripes s → has_stripe st s ≡ true
@@ -226,28 +231,28 @@ module _ (nodes : List NodeInfo) (st : State) (spare : ℕ) where
         (λ s here. let at = filter-member (has_work nodes st) st.stripes s here in work-from s at.0 at.1)
         (λ s here. let at = work-into s here in member-filter (has_work nodes st) st.stripes s at.0 at.1)
 
-    granted-works : (p : StripeFragment) → is_grantable nodes st p ≡ true → has_work nodes st p.0 ≡ true
-    granted-works p e =
-        let parts = and_parts _ _ (and_parts (is_none (lease_of st p.0 p.1)) _ e).1 in
-        list_any-member (needs nodes st p.0) (fragments Wide) p.1 (all-fragments p.1) parts.0
+  pub granted-works : (p : StripeFragment) → is_grantable nodes st p ≡ true → has_work nodes st p.0 ≡ true
+  granted-works p e =
+      let parts = and_parts _ _ (and_parts (is_none (lease_of st p.0 p.1)) _ e).1 in
+      list_any-member (needs nodes st p.0) (fragments Wide) p.1 (all-fragments p.1) parts.0
 
-    -- the next repair is the first in turn whose lease would be granted
-    pub next-first : next_of nodes st ≡ find (is_grantable nodes st) (fragments_in stripes)
-    unfolding next_of
-    next-first =
-        let test = is_grantable nodes st in
-        let ranks = rank nodes st in
-        first-least (is_repaired_before ranks) (fragment-order ranks) (fragment-ties ranks)
-        (filter test (all_fragments st)) (filter test (fragments_in stripes))
-        (AllPairs-filter (λ p q. is_repaired_before ranks p q ≡ true) test (fragments_in stripes) (fragments-strict ranks stripes are.rising))
-        (λ p here.
-        let at = filter-member test (fragments_in st.stripes) p here in
-        let listed = work-from p.0 (fragments-into st.stripes p at.0) (granted-works p at.1) in
-        member-filter test (fragments_in stripes) p (fragments-from stripes p listed) at.1)
-        (λ p here.
-        let at = filter-member test (fragments_in stripes) p here in
-        member-filter test (fragments_in st.stripes) p (fragments-from st.stripes p (work-into p.0 (fragments-into stripes p at.0)).0) at.1)
-        ∙ sym (find-first test (fragments_in stripes))
+  -- where these are all stripes that have a grantable fragment, the next repair is the first in turn whose lease would be granted
+  pub next-first : (stripes : List StripeNo) → HaveGrantable nodes st stripes → next_of nodes st ≡ find (is_grantable nodes st) (fragments_in stripes)
+  unfolding next_of
+  next-first stripes have =
+      let test = is_grantable nodes st in
+      let ranks = rank nodes st in
+      first-least (is_repaired_before ranks) (fragment-order ranks) (fragment-ties ranks)
+      (filter test (all_fragments st)) (filter test (fragments_in stripes))
+      (AllPairs-filter (λ p q. is_repaired_before ranks p q ≡ true) test (fragments_in stripes) (fragments-strict ranks stripes have.rising))
+      (λ p here.
+      let at = filter-member test (fragments_in st.stripes) p here in
+      let listed = have.each p (fragments-into st.stripes p at.0) at.1 in
+      member-filter test (fragments_in stripes) p (fragments-from stripes p listed) at.1)
+      (λ p here.
+      let at = filter-member test (fragments_in stripes) p here in
+      member-filter test (fragments_in st.stripes) p (fragments-from st.stripes p (have.there p.0 (fragments-into stripes p at.0))) at.1)
+      ∙ sym (find-first test (fragments_in stripes))
 
   -- ---- stripes at risk
 

@@ -1,11 +1,12 @@
 -- Worlds and legal histories, as entries are added.
-use Rattle.std.proofs.Common.{◌≡◌, ℕ, ◌<◌, List, [], ◌∷◌, ◌++◌, length, fold, sym, ap, subst, ◌∙◌, length-append, arith}
+use Rattle.std.proofs.Common.{◌≡◌, ℕ, ◌<◌, List, [], ◌∷◌, ◌++◌, length, fold, Option, sym, ap, subst, ◌∙◌, length-append, arith}
 use Rattle.std.proofs.lemmas.List.Sums.{fold-append}
+use Rattle.lrc_code.specs.declared.numbers.StripeNo.{StripeNo}
 use Rattle.lrc_topology.specs.declared.NodeInfo.{NodeInfo}
 use Rattle.lrc_book.specs.declared.entry.Entry.{Entry}
 use Rattle.lrc_book.specs.States.{State}
 use Rattle.lrc_book.specs.Histories.{World, first_world, outcome_in, next_world, world_after, state_after, IsLegalFrom, IsLegal}
-use Rattle.lrc_book.specs.Stores.{IsKept}
+use Rattle.lrc_book.specs.Repairing.{IsFront, IsKept}
 use Rattle.lrc_book.specs.declared.store.Store.{Store}
 use Rattle.lrc_book.specs.Stores.{IsOf, AreGrantsOf}
 use Rattle.lrc_book.specs.Changes.{changed_by}
@@ -27,10 +28,15 @@ state_push nodes h e is =
     ap (λ (w : World). w.state) (world_push nodes h e) ∙ step-changed nodes (world_after nodes h).past (state_after nodes h) e.session e.command ∙ ap (changed_by (state_after nodes h) e.command) is
 
 -- a step that is made and recorded keeps what is kept
-pub kept_push : (k next : Store) (counts counts_next : List ℕ) (limit : ℕ) (h : List Entry) (e : Entry) → IsKept k counts limit h → length h < limit → (outcome_in k.topology (world_after k.topology h) e.session e.command).0 ≡ e.reply
-    → next.topology ≡ k.topology → IsOf (changed_by (state_after k.topology h) e.command e.reply) next → AreGrantsOf (h ++ e ∷ []) counts_next → IsKept next counts_next limit (h ++ e ∷ [])
-kept_push k next counts counts_next limit h e kept room is same now counted = record {
+pub kept_push : (k next : Store) (counts counts_next : List ℕ) (front front_next : Option StripeNo) (limit : ℕ) (h : List Entry) (e : Entry)
+    → IsKept k counts front limit h → length h < limit → (outcome_in k.topology (world_after k.topology h) e.session e.command).0 ≡ e.reply
+    → next.topology ≡ k.topology → IsOf (changed_by (state_after k.topology h) e.command e.reply) next → AreGrantsOf (h ++ e ∷ []) counts_next
+    → IsFront k.topology (changed_by (state_after k.topology h) e.command e.reply) front_next → IsKept next counts_next front_next limit (h ++ e ∷ [])
+kept_push k next counts counts_next front front_next limit h e kept room is same now counted ahead = record {
   counted = counted;
+  ahead =
+      subst (λ ns. IsFront ns (state_after ns (h ++ e ∷ [])) front_next) (sym same)
+      (subst (λ (st : State). IsFront k.topology st front_next) (sym (state_push k.topology h e is)) ahead);
   store_is = subst (λ ns. IsOf (state_after ns (h ++ e ∷ [])) next) (sym same) (subst (λ (st : State). IsOf st next) (sym (state_push k.topology h e is)) now);
   legal = subst (λ ns. IsLegal ns (h ++ e ∷ [])) (sym same) (legal_push k.topology h e kept.legal is);
   few = rw (length-append h (e ∷ [])) (omega (arith, room));
@@ -38,9 +44,11 @@ kept_push k next counts counts_next limit h e kept room is same now counted = re
 }
 
 -- and so does more room
-pub kept_room : (k next : Store) (counts : List ℕ) (limit : ℕ) (h same_h : List Entry) → IsKept k counts limit h → same_h ≡ h → next.topology ≡ k.topology → ((st : State) → IsOf st k → IsOf st next) → IsKept next counts limit same_h
-kept_room k next counts limit h same_h kept entries same rest =
-    subst (λ (xs : List Entry). IsKept next counts limit xs) (sym entries) (record {
+pub kept_room : (k next : Store) (counts : List ℕ) (front : Option StripeNo) (limit : ℕ) (h same_h : List Entry) → IsKept k counts front limit h
+    → same_h ≡ h → next.topology ≡ k.topology → ((st : State) → IsOf st k → IsOf st next) → IsKept next counts front limit same_h
+kept_room k next counts front limit h same_h kept entries same rest =
+    subst (λ (xs : List Entry). IsKept next counts front limit xs) (sym entries) (record {
+      ahead = subst (λ ns. IsFront ns (state_after ns h) front) (sym same) kept.ahead;
       store_is = subst (λ ns. IsOf (state_after ns h) next) (sym same) (rest (state_after k.topology h) kept.store_is);
       counted = kept.counted;
       legal = subst (λ ns. IsLegal ns h) (sym same) kept.legal;

@@ -1,19 +1,51 @@
 -- Internal: no public clause reaches these definitions.
 -- The repair that a lease would be granted for.
-use Rattle.std.specs.Prelude.{◌≡◌, Bool, true, ◌&&◌, List, Some, is_none}
+use Rattle.std.specs.Prelude.{◌≡◌, ℕ, ◌≤◌, length, Bool, true, ◌&&◌, List, Option, Some, is_none, IfSome, IsTrue, IsFalse}
+use Rattle.std.specs.List.{Contains, AllPairs}
 use Rattle.lrc_code.specs.declared.numbers.StripeNo.{StripeNo}
 use Rattle.lrc_code.specs.declared.numbers.Fragment.{Fragment}
 use Rattle.lrc_topology.specs.declared.NodeInfo.{NodeInfo}
+use Rattle.lrc_stripes.specs.Levels.{comes_first}
 use Rattle.lrc_stripes.specs.Stored.{StripeFragment}
 use Rattle.lrc_book.specs.declared.repair.Repair.{Repair}
-use Rattle.lrc_book.specs.States.{State, has_stripe, lease_of}
+use Rattle.lrc_book.specs.declared.store.Store.{Store}
+use Rattle.lrc_book.specs.States.{State, has_stripe, lease_of, rank}
 use Rattle.lrc_book.specs.Placement.{chosen}
 use Rattle.lrc_book.specs.Repairs.{needs}
-use Rattle.lrc_book.specs.Stores.{repair_of}
+use Rattle.lrc_book.specs.Urgency.{is_grantable}
+use Rattle.lrc_book.specs.Granting.{IsGrantable}
+use Rattle.lrc_book.specs.Stores.{IsOf, AreGrantsOf, repair_of}
+use Rattle.lrc_book.specs.declared.entry.Entry.{Entry}
+use Rattle.lrc_book.specs.Histories.{state_after, IsLegal}
 
 -- the fragment needs a lease, and has none
 abbrev pub is_waiting : List NodeInfo → State → StripeNo → Fragment → Bool
 is_waiting nodes st s f = needs nodes st s f && is_none (lease_of st s f)
+
+-- ---- the front, before which nothing is grantable
+
+-- The stripe has work, and no grantable fragment is of a stripe that comes before it in the order of repair.
+pub record IsPast (nodes : List NodeInfo) (st : State) (front : StripeNo) : Type 0 where
+  pub there : IsTrue (has_stripe st front)
+  pub fragment : Fragment
+  pub needed : IsTrue (needs nodes st front fragment)
+  pub first : (p : StripeFragment) → IsGrantable nodes st p → IsFalse (comes_first (rank nodes st) p.0 front)
+
+-- a front of the state; where there is none, nothing is known
+abbrev pub IsFront : List NodeInfo → State → Option StripeNo → Type 0
+IsFront nodes st front = IfSome front (IsPast nodes st)
+
+-- the store is that of a state with this front
+abbrev pub HasFront : Store → Option StripeNo → Type 0
+HasFront s front = (st : State) × IsOf st s × IsFront s.topology st front
+
+-- the stripes are there, stand in the order of repair, and are all that have a grantable fragment
+pub record HaveGrantable (nodes : List NodeInfo) (st : State) (stripes : List StripeNo) : Type 0 where
+  pub there : (s : StripeNo) → Contains stripes s → Contains st.stripes s
+  pub rising : AllPairs (λ r s. IsTrue (comes_first (rank nodes st) r s)) stripes
+  pub each : (p : StripeFragment) → Contains st.stripes p.0 → is_grantable nodes st p ≡ true → Contains stripes p.0
+
+-- ---- a repair
 
 -- what is repaired
 abbrev pub fragment_of : Repair → StripeFragment
@@ -25,3 +57,14 @@ pub record IsRepair (nodes : List NodeInfo) (st : State) (r : Repair) : Type 0 w
   pub waiting : is_waiting nodes st r.stripe r.fragment ≡ true
   pub kind_is : repair_of nodes st r.stripe r.fragment ≡ Some r.kind
   pub target_is : chosen nodes st r.stripe r.fragment ≡ Some r.target
+
+-- ---- a book
+
+-- What a book keeps is the store of the state after its history, the counts of its grants, and a front; it is legal and not longer than the limit.
+pub record IsKept (store : Store) (counts : List ℕ) (front : Option StripeNo) (limit : ℕ) (history : List Entry) : Type 0 where
+  pub store_is : IsOf (state_after store.topology history) store
+  pub counted : AreGrantsOf history counts
+  pub ahead : IsFront store.topology (state_after store.topology history) front
+  pub legal : IsLegal store.topology history
+  pub few : length history ≤ limit
+  pub limited : limit ≤ 1000000

@@ -1,6 +1,6 @@
 -- Internal: no public clause reaches these definitions.
 -- What a book keeps of a state, and the room that it has.
-use Rattle.std.specs.Prelude.{◌≡◌, ◌≢◌, ◌<◌, ◌≤◌, ℕ, Bool, ◌&&◌, ◌||◌, true, false, if◌then◌else◌, nat_le, List, length, get_or, Option, Some, None, IsSome}
+use Rattle.std.specs.Prelude.{◌≡◌, ◌≢◌, ◌<◌, ℕ, Bool, ◌&&◌, ◌||◌, true, false, if◌then◌else◌, nat_le, List, get_or, Option, Some, None, IsSome}
 use Rattle.std.specs.List.{All, Contains}
 use Rattle.lrc_code.specs.declared.codes.Code.{Code}
 use Rattle.lrc_code.specs.declared.codes.Code.TheVariants.{Wide}
@@ -29,7 +29,6 @@ use Rattle.lrc_book.specs.Placement.{chosen}
 use Rattle.lrc_book.specs.declared.kind.Kind.{Kind}
 use Rattle.lrc_book.specs.Repairs.{kind, is_beyond_repair}
 use Rattle.lrc_book.specs.Leases.{grants}
-use Rattle.lrc_book.specs.Histories.{state_after, IsLegal}
 use Rattle.lrc_book.specs.Goodness.{AreSeated}
 use Rattle.lrc_book.specs.Ties.{table_of, bars_fault, bars_upgrade}
 
@@ -141,11 +140,3 @@ AreGrantsOf past counts = (s : StripeNo) (f : Fragment) → granted_in counts s 
 -- no fragment was granted as often as there may be entries
 abbrev pub AreFew : List ℕ → Type 0
 AreFew counts = (s : StripeNo) (f : Fragment) → granted_in counts s f < 1000000
-
--- what a book keeps is the store of the state after its history, and the counts of its grants; it is legal and not longer than the limit
-pub record IsKept (store : Store) (counts : List ℕ) (limit : ℕ) (history : List Entry) : Type 0 where
-  pub store_is : IsOf (state_after store.topology history) store
-  pub counted : AreGrantsOf history counts
-  pub legal : IsLegal store.topology history
-  pub few : length history ≤ limit
-  pub limited : limit ≤ 1000000

@@ -24,6 +24,8 @@ pub const HISTORY_LIMIT: usize = 1_000_000;
 pub struct Book {
     pub(crate) store: Store,
     pub(crate) grants: Grants,
+    /// A stripe with work before which nothing is grantable, if one is known: a search for the next repair begins there.
+    pub(crate) front: Option<StripeNo>,
     pub(crate) history: Vec<Entry>,
     pub(crate) limit: usize,
 }
@@ -31,7 +33,8 @@ pub struct Book {
 impl Model for Book {
     ghost use Rattle.std.specs.Prelude.{◌+◌, ◌&&◌, nat_le, vec_len, vec_capacity};
     ghost use Rattle.lrc_book.specs.Books.{BookView};
-    ghost use Rattle.lrc_book.specs.Stores.{IsKept, has_room};
+    ghost use Rattle.lrc_book.specs.Stores.{has_room};
+    ghost use Rattle.lrc_book.specs.Repairing.{IsKept};
 
     ghost Value = { BookView };
 
@@ -42,7 +45,7 @@ impl Model for Book {
       ready = nat_le (vec_len b.history + 1) (vec_capacity b.history) && has_room b.store;
     } };
 
-    ghost invariant = { λ b. IsKept b.store b.grants b.limit b.history.items };
+    ghost invariant = { λ b. IsKept b.store b.grants b.front b.limit b.history.items };
 }
 
 impl Book {
@@ -58,6 +61,7 @@ impl Book {
         Ok(Book {
             store: Store::new(alloc, topology)?,
             grants: Grants::new(alloc)?,
+            front: None,
             history: Vec::new(alloc),
             limit: HISTORY_LIMIT,
         })

@@ -9,12 +9,14 @@ ghost use Rattle.lrc_book.specs.Steps.{step};
 ghost use Rattle.lrc_book.specs.Changes.{IsAnswer, changed_by};
 ghost use Rattle.lrc_book.specs.Books.{IsStep, state_of};
 ghost use Rattle.lrc_book.specs.Stores.{IsOf, IsTied, AreGrantsOf, AreFew, has_room};
+ghost use Rattle.lrc_book.specs.Repairing.{IsFront, HasFront};
 
 use crate::commands::leases::count_grant;
+use crate::commands::next::front_after;
 use crate::plan::Plan;
 use crate::store::Store;
 use crate::{Book, Command, Entry, Reply};
-use lrc_code::{Fault, SessionNo};
+use lrc_code::{Fault, SessionNo, StripeNo};
 use lrc_leases::Grants;
 
 impl Book {
@@ -32,7 +34,7 @@ impl Book {
         if self.history.len() == self.limit {
             return Err(Fault::HistoryFull);
         }
-        let reply = self.store.reply(&self.grants, session, command);
+        let reply = self.store.reply(&self.grants, self.front, session, command);
         Ok(Plan {
             entry: Entry {
                 session,
@@ -90,6 +92,7 @@ impl Book {
         } = plan.entry;
         self.store.change(command, &reply);
         count_grant(&mut self.grants, &reply);
+        self.front = front_after(self.front, command, &reply);
         self.history.push_reserved(plan.entry);
         reply
     }
@@ -98,10 +101,17 @@ impl Book {
 impl Store {
     /// The reply of the plain placement object after entries with so many grants.
     #[inline(never)] // a step then saves fewer registers: 85 instructions a command
-    fn reply(&self, counts: &Grants, session: SessionNo, command: Command) -> Reply
+    fn reply(
+        &self,
+        counts: &Grants,
+        front: Option<StripeNo>,
+        session: SessionNo,
+        command: Command,
+    ) -> Reply
         requires tied { IsTied self.now }
         requires few { AreFew counts.now }
-        ensures { (st : State) (past : List Entry) → IsOf st self.now → AreGrantsOf past counts.now
+        requires front { HasFront self.now front }
+        ensures { (st : State) (past : List Entry) → IsOf st self.now → AreGrantsOf past counts.now → IsFront self.now.topology st front
             → result ≡ (step self.now.topology past st session command).0 }
     {
         match command {
@@ -110,7 +120,7 @@ impl Store {
             Command::Lease(stripe, fragment) => {
                 self.lease_reply(counts, session, stripe, fragment)
             }
-            Command::Next => self.next_reply(counts, session),
+            Command::Next => self.next_reply(counts, front, session),
             Command::Done(stripe, fragment, epoch) => {
                 self.done_reply(session, stripe, fragment, epoch)
             }

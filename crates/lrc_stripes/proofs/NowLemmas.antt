@@ -1,7 +1,8 @@
 -- What a store shows, by rows whose masks are as their homes are.
-use Rattle.std.proofs.Common.{◌≡◌, ℕ, Bool, true, false, not, ◌&&◌, ◌||◌, nat_lt, List, get_or, Option, Some, None, is_some, option_map, IfSome, IfNone, IsFalse, refl, sym, ap, ap₂, ◌∙◌, subst}
+use Rattle.std.proofs.Common.{◌≡◌, ℕ, Bool, true, false, not, ◌&&◌, ◌||◌, nat_lt, nat_eq, List, get_or, Option, Some, None, is_some, option_map, IfSome, IfNone, IsFalse, refl, sym, ap, ap₂, ◌∙◌, subst}
 use Rattle.std.proofs.Math.Path.{fun_ext}
 use Rattle.std.specs.List.{list_any, count_by}
+use Rattle.std.proofs.lemmas.Bool.{and_from, eq-eqb}
 use Rattle.lrc_code.specs.declared.codes.Code.TheVariants.{Wide}
 use Rattle.lrc_code.specs.declared.numbers.NodeNo.{NodeNo}
 use Rattle.lrc_code.specs.declared.numbers.Fragment.{Fragment}
@@ -13,7 +14,7 @@ use Rattle.lrc_stripes.specs.Rows.{sits_on, is_to_move}
 use Rattle.lrc_code.specs.declared.numbers.StripeNo.{StripeNo}
 use Rattle.lrc_code.specs.declared.numbers.UpgradeNo.{UpgradeNo}
 use Rattle.lrc_stripes.specs.declared.row.Row.{Row}
-use Rattle.lrc_stripes.specs.Stored.{Stored, has_work, level_shown, AreWork, AreAtRisk}
+use Rattle.lrc_stripes.specs.Stored.{Stored, rank_in, has_work, level_shown, AreWork, AreWorkFrom, AreAtRisk}
 use Rattle.lrc_stripes.specs.Upgrades.{is_stripe_on, offline_count, is_short, is_lost_to, is_short_lost_to, IsFirstLostTo, IsFirstShortLostTo}
 use Rattle.lrc_stripes.specs.Looming.{lost_in, is_needy, offline_in, is_scattered, short_lost_in, IsFirstIn}
 use Rattle.lrc_stripes.specs.Sites.{SiteTable, sited, online_in, draining_in}
@@ -22,7 +23,7 @@ use Rattle.lrc_stripes.specs.Masks.{AreLosses, renewed, level_of, work_rank, ris
 use Rattle.lrc_stripes.specs.Kept.{IsKept, is_row_on, fresh, freshened, queue_from, queued, levels_of}
 use Rattle.lrc_stripes.proofs.FreshLemmas.{freshened-at, freshened-there, freshened-absent, fresh-losses, fresh-work}
 use Rattle.lrc_stripes.proofs.RenewLemmas.{stored_of-sited, stored_of-rows}
-use Rattle.lrc_stripes.proofs.RepairLemmas.{empty-none, has_work-there, has_work-absent, are_work, are_at_risk, level_shown-there}
+use Rattle.lrc_stripes.proofs.RepairLemmas.{empty-none, has_work-there, has_work-absent, work-shown, are_work, are_work-from, are_at_risk, level_shown-there}
 use Rattle.lrc_stripes.proofs.ShownLemmas.{listed-homes}
 use Rattle.lrc_stripes.proofs.SitedLemmas.{any-map}
 use Rattle.lrc_stripes.proofs.UpgradeLemmas.{lost-is, lost-first, some-more, none-more_of}
@@ -66,10 +67,35 @@ module _ (sites : SiteTable) (rows : List (Option Row)) (spare : ℕ) (kept : Is
       ap (λ (t : Stored). level_shown t s) (sym stored-now)
       ∙ level_shown-there store_now losses-now s (fresh (sited sites).online r) (freshened-there (sited sites).online rows s r found)
 
+  work-queued : queued work_rank (rows_in rows) ≡ queued work_rank (rows_in now)
+  work-queued = fresh-work (sited sites) rows kept
+
   pub are_work-now : AreWork (stored_in store) (queue_from (queued work_rank (rows_in rows)) 0 0)
   are_work-now =
-      subst (λ (q : ℕ → StripeNo → Bool). AreWork (stored_in store) (queue_from q 0 0)) (sym (fresh-work (sited sites) rows kept))
+      subst (λ (q : ℕ → StripeNo → Bool). AreWork (stored_in store) (queue_from q 0 0)) (sym work-queued)
       (subst (λ (t : Stored). AreWork t (queue_from (queued work_rank (rows_in now)) 0 0)) stored-now (are_work store_now losses-now))
+
+  -- a stripe with work stands at its rank
+  queued-now : (first : StripeNo) → has_work (stored_in store) first ≡ true → queued work_rank (rows_in rows) (rank_in (stored_in store) first) first ≡ true
+  queued-now first has =
+      ap (λ (q : ℕ → StripeNo → Bool). q (rank_in (stored_in store) first) first) work-queued
+      ∙ (work-shown store_now losses-now (rank_in (stored_in store) first) first
+      ∙ (ap (λ (t : Stored). has_work t first && nat_eq (rank_in t first) (rank_in (stored_in store) first)) stored-now
+      ∙ and_from _ _ has (eq-eqb (rank_in (stored_in store) first) (rank_in (stored_in store) first) refl)))
+
+  are_work_from-now : (first : StripeNo)
+      → AreWorkFrom (stored_in store) first (queue_from (queued work_rank (rows_in rows)) (rank_in (stored_in store) first) first.value)
+  are_work_from-now first =
+      subst (λ (q : ℕ → StripeNo → Bool). AreWorkFrom (stored_in store) first (queue_from q (rank_in (stored_in store) first) first.value)) (sym work-queued)
+      (subst (λ (t : Stored). AreWorkFrom t first (queue_from (queued work_rank (rows_in now)) (rank_in t first) first.value)) stored-now
+      (are_work-from store_now losses-now first))
+
+  -- what stands in the queue from its rank and its number on
+  pub work_from-now : (first : StripeNo) (stripes : List StripeNo) → has_work (stored_in store) first ≡ true
+      → ((k : ℕ) → queued work_rank (rows_in rows) k first ≡ true → stripes ≡ queue_from (queued work_rank (rows_in rows)) k first.value)
+      → AreWorkFrom (stored_in store) first stripes
+  work_from-now first stripes has are =
+      subst (AreWorkFrom (stored_in store) first) (sym (are (rank_in (stored_in store) first) (queued-now first has))) (are_work_from-now first)
 
   pub are_at_risk-now : AreAtRisk (stored_in store) (levels_of (rows_in now) (queue_from (queued risk_rank (rows_in now)) 0 0))
   are_at_risk-now =

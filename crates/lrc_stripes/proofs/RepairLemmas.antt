@@ -16,7 +16,7 @@ use Rattle.lrc_stripes.specs.declared.level.Level.{Level}
 use Rattle.lrc_stripes.specs.declared.level.Level.TheVariants.{Whole, AtRisk, Unavailable, Lost}
 use Rattle.lrc_stripes.specs.declared.row.Row.{Row}
 use Rattle.lrc_stripes.specs.Levels.{homeless_in, missing_in, needs_in, has_some, level_by, level_if, rank_by, is_whole, comes_first, NoneMissing}
-use Rattle.lrc_stripes.specs.Stored.{StripeLevel, rank_in, has_work, level_shown, AreWork, AreAtRisk}
+use Rattle.lrc_stripes.specs.Stored.{StripeLevel, rank_in, has_work, level_shown, AreWork, AreWorkFrom, AreAtRisk}
 use Rattle.lrc_stripes.specs.Sites.{SiteTable, sited, online_in, draining_in}
 use Rattle.lrc_stripes.specs.Tables.{Table, stored_in, rows_in, row_homes}
 use Rattle.lrc_stripes.specs.Rows.{is_missing, is_to_move}
@@ -25,7 +25,7 @@ use Rattle.lrc_stripes.specs.Kept.{IsKept, queue_from, queued, level_in, levels_
 use Rattle.lrc_stripes.proofs.ListLemmas.{AllPairs-map, Contains-map, Contains-unmap}
 use Rattle.lrc_stripes.proofs.LevelLemmas.{has_some-false, has_some-none, has_some-zero, none_recoverable, homeless-missing, law_whole}
 use Rattle.lrc_stripes.proofs.RankLemmas.{rank_by-few}
-use Rattle.lrc_stripes.proofs.QueueLemmas.{queue-first, queue-each}
+use Rattle.lrc_stripes.proofs.QueueLemmas.{queue-first, queue-each, queue-each-from}
 
 -- ---- masks
 
@@ -104,7 +104,7 @@ module _ (t : Table) (losses : (s : StripeNo) (r : Row) → rows_in t.rows s ≡
   unfolding stored_in
   has_work-absent s none = rw none refl
 
-  work-shown : (k : ℕ) (s : StripeNo) → queued work_rank row k s ≡ (has_work (stored_in t) s && nat_eq (rank_in (stored_in t) s) k)
+  pub work-shown : (k : ℕ) (s : StripeNo) → queued work_rank row k s ≡ (has_work (stored_in t) s && nat_eq (rank_in (stored_in t) s) k)
   work-shown k s = by (row s) refl where
     by : (o : Option Row) → row s ≡ o → queued work_rank row k s ≡ (has_work (stored_in t) s && nat_eq (rank_in (stored_in t) s) k)
     by None none = rw (has_work-absent s none, none) refl
@@ -112,8 +112,14 @@ module _ (t : Table) (losses : (s : StripeNo) (r : Row) → rows_in t.rows s ≡
 
   pub are_work : AreWork (stored_in t) (queue_from (queued work_rank row) 0 0)
   are_work = record {
-    rising = queue-first (queued work_rank row) (rank_in (stored_in t)) (has_work (stored_in t)) rank-few work-shown;
+    rising = queue-first (queued work_rank row) (rank_in (stored_in t)) (has_work (stored_in t)) rank-few work-shown 0 0;
     each = queue-each (queued work_rank row) (rank_in (stored_in t)) (has_work (stored_in t)) rank-few work-shown;
+  }
+
+  pub are_work-from : (first : StripeNo) → AreWorkFrom (stored_in t) first (queue_from (queued work_rank row) (rank_in (stored_in t) first) first.value)
+  are_work-from first = record {
+    rising = queue-first (queued work_rank row) (rank_in (stored_in t)) (has_work (stored_in t)) rank-few work-shown (rank_in (stored_in t) first) first.value;
+    each = queue-each-from (queued work_rank row) (rank_in (stored_in t)) (has_work (stored_in t)) rank-few work-shown first;
   }
 
   -- ---- stripes at risk
@@ -213,6 +219,6 @@ module _ (t : Table) (losses : (s : StripeNo) (r : Row) → rows_in t.rows s ≡
   pub are_at_risk : AreAtRisk (stored_in t) (levels_of row risks)
   are_at_risk = record {
     rising = AllPairs-map (λ (p q : StripeLevel). IsFirst p.0 q.0) with_level risks
-        (queue-first (queued risk_rank row) (rank_in (stored_in t)) is_risky rank-few risk-shown);
+        (queue-first (queued risk_rank row) (rank_in (stored_in t)) is_risky rank-few risk-shown 0 0);
     each = λ s l. (risk-listed s l, λ both. risk-lists s l both.0 both.1);
   }

@@ -1,22 +1,24 @@
 -- Which stripes are short: those that have work, and those with homes on several nodes that are not online.
-use Rattle.std.proofs.Common.{◌≡◌, ℕ, ◌+◌, ◌<◌, suc, cond, inl, inr, Bool, true, false, not, ◌&&◌, ◌||◌, nat_lt, nat_eq, List, [], ◌∷◌, length, map, take, get_or, Option, Some, None, option_and_then, arith, refl, sym, ap, ◌∙◌, subst}
+use Rattle.std.proofs.Common.{◌≡◌, ◌≢◌, ℕ, ◌+◌, ◌<◌, suc, cond, inl, inr, Bool, true, false, not, ◌&&◌, ◌||◌, nat_lt, nat_eq, List, [], ◌∷◌, length, map, take, get_or, Option, Some, None, option_and_then, arith, refl, sym, ap, ◌∙◌, subst}
 use Rattle.std.proofs.Math.Path.{fun_ext}
-use Rattle.std.specs.List.{list_any, count_by}
+use Rattle.std.specs.List.{list_any, count_by, AllPairs}
 use Rattle.std.proofs.lemmas.Bool.{cases_Bool, cases_lt, eq-eqb, lt-ltb, le-ltb}
 use Rattle.std.proofs.lemmas.List.{get_or_past}
 use Rattle.std.proofs.lemmas.List.Folds.{list_any_more, list_any_at}
 use Rattle.std.proofs.lemmas.List.Sums.{count_by_more_yes, count_by_more_no, sum_by-cons}
+use Rattle.lrc_code.specs.declared.numbers.NodeNo.{NodeNo}
 use Rattle.lrc_code.specs.declared.numbers.StripeNo.{StripeNo}
 use Rattle.lrc_topology.specs.declared.NodeInfo.{NodeInfo}
 use Rattle.lrc_stripes.specs.declared.row.Row.{Row}
 use Rattle.lrc_stripes.specs.declared.site.Site.{Site}
 use Rattle.lrc_stripes.specs.Sets.{has}
-use Rattle.lrc_stripes.specs.Sites.{Sited, SiteTable, sited}
+use Rattle.lrc_stripes.specs.Sites.{Sited, SiteTable, AreSites, sited}
 use Rattle.lrc_stripes.specs.Tables.{rows_in}
 use Rattle.lrc_stripes.specs.Masks.{work_rank, is_at}
 use Rattle.lrc_stripes.specs.Kept.{AreQueued}
 use Rattle.lrc_stripes.specs.Masks.{rank_of}
 use Rattle.lrc_stripes.specs.Looming.{is_needy, is_scattered}
+use Rattle.lrc_stripes.proofs.SiteLemmas.{online-own}
 use Rattle.lrc_stripes.proofs.SitedLemmas.{or-false}
 
 -- ---- sets joined in turn
@@ -169,3 +171,11 @@ scattered-nodes sites sets t view =
     subst (λ (y : SiteTable). (λ (s : StripeNo). nat_lt 1 (counted (sited y) s sites)) ≡ is_scattered (sited y)) view
     (let now : Sited = sited (record { list = sites; stripes = sets }) in
     fun_ext (λ s. ap (nat_lt 1) (count-map (λ (n : NodeInfo). not (now.online n.number) && now.on n.number s) (λ (x : Site). x.node) sites)))
+
+-- a node of the list is online where it says so itself
+pub online-there : (sites : List Site) (sets : List (List Bool)) (numbers : List NodeNo) (t : SiteTable) (view : ◌≡◌ {A = SiteTable} (record { list = sites; stripes = sets }) t)
+    → AreSites sites sets numbers → (i : ℕ) (d : Site) → i < length sites → (sited t).online (get_or sites i d).node.number ≡ not (get_or sites i d).is_offline
+unfolding sited
+online-there sites sets numbers t view are i d within =
+    subst (λ (y : SiteTable). (sited y).online (get_or sites i d).node.number ≡ not (get_or sites i d).is_offline) view
+    (online-own sites i d within (subst (λ (ns : List NodeNo). AllPairs (λ (m n : NodeNo). m.value ≢ n.value) ns) are.found are.apart))

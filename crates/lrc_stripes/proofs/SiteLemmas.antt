@@ -1,11 +1,11 @@
 -- The nodes as they are kept: where one stands, and what setting one changes.
-use Rattle.std.proofs.Common.{◌≡◌, ℕ, zero, suc, ◌<◌, ◌≤◌, inl, inr, Bool, true, false, if◌then◌else◌, nat_eq, nat_lt, List, [], ◌∷◌, ◌++◌, length, map, get_or, set, IsSome, Some, None, option_map, arith, refl, sym, ap, ◌∙◌, subst}
+use Rattle.std.proofs.Common.{◌≡◌, ◌≢◌, ℕ, zero, suc, ◌<◌, ◌≤◌, inl, inr, Bool, true, false, not, if◌then◌else◌, nat_eq, nat_lt, List, [], ◌∷◌, ◌++◌, length, map, get_or, set, IsSome, Option, Some, None, option_map, arith, refl, sym, ap, ◌∙◌, subst}
 use Rattle.std.proofs.Math.Path.{fun_ext}
 use Rattle.std.proofs.Math.ListN.{length-set}
-use Rattle.std.specs.List.{position_or_len, All}
+use Rattle.std.specs.List.{position_or_len, All, AllPairs}
 use Rattle.std.specs.Option.{option_map_or}
 use Rattle.std.proofs.lemmas.Bool.{cases_Bool, cases_eq, cases_lt, eq-eqb, ne_eqb, eqb-true, eqb-false, lt-ltb, le-ltb}
-use Rattle.std.proofs.lemmas.List.{get_or-set_same, get_or-set_other, length-map, append_assoc}
+use Rattle.std.proofs.lemmas.List.{get_or-set_same, get_or-set_other, get_or-map, length-map, append_assoc}
 use Rattle.lrc_code.specs.declared.numbers.NodeNo.{NodeNo}
 use Rattle.lrc_code.specs.declared.numbers.StripeNo.{StripeNo}
 use Rattle.lrc_code.specs.Numbers.{same_node}
@@ -228,8 +228,31 @@ pub sites-set : (sites : List Site) (sets : List (List Bool)) (ns : List NodeNo)
     → AreSites (set sites p y) sets ns
 sites-set sites sets ns p x y are here own = record {
   long = are.long ∙ sym (length-set sites p y);
+  apart = are.apart;
   found = are.found ∙ sym (map-set (λ (z : Site). z.node.number) sites p y x (ap (λ (k : NodeInfo). k.number) own ∙ ap (λ (z : Site). z.node.number) here));
 }
+
+-- ---- a node by its own number
+
+-- the node at a place is the one of its number
+site_at-own : (sites : List Site) (i : ℕ) (d : Site) → i < length sites → AllPairs (λ (m n : NodeNo). m.value ≢ n.value) (numbers sites)
+    → site_at sites (get_or sites i d).node.number ≡ Some (get_or sites i d)
+site_at-own [] i d within apart = absurd (omega (arith, within))
+site_at-own (x ∷ sites) zero d within apart = rw (eq-eqb x.node.number.value x.node.number.value refl) refl
+site_at-own (x ∷ sites) (suc i) d within apart =
+    let here : Site = get_or sites i d in
+    let inside : i < length sites = omega (arith, within) in
+    let count : length (numbers sites) ≡ length sites = length-map sites (λ (y : Site). y.node.number) in
+    let own = get_or-map (λ (y : Site). y.node.number) sites i d x.node.number inside in
+    let differ : here.node.number.value ≢ x.node.number.value =
+    λ e. apart 0 (suc i) x.node.number (omega arith) (omega (arith, inside, count)) (sym e ∙ ap (λ (n : NodeNo). n.value) (sym own)) in
+    rw (ne_eqb here.node.number.value x.node.number.value differ)
+    (site_at-own sites i d inside (λ k j m below inside. apart (suc k) (suc j) m (omega (arith, below)) (omega (arith, inside))))
+
+-- whether it is online is what it says itself
+pub online-own : (sites : List Site) (i : ℕ) (d : Site) → i < length sites → AllPairs (λ (m n : NodeNo). m.value ≢ n.value) (numbers sites)
+    → online_in sites (get_or sites i d).node.number ≡ not (get_or sites i d).is_offline
+online-own sites i d within apart = ap (λ (o : Option Site). option_map_or (λ x. not x.is_offline) o false) (site_at-own sites i d within apart)
 
 -- ---- at first
 

@@ -109,6 +109,11 @@ pub record AreWork (t : Stored) (stripes : List StripeNo) : Type 0 where
   pub rising : AllPairs (λ r s. IsTrue (comes_first (rank_in t) r s)) stripes
   pub each : (s : StripeNo) → Contains stripes s ↔ IsTrue (has_work t s)
 
+-- these are the stripes with a fragment that needs a lease from this one on, in the order of repair
+pub record AreWorkFrom (t : Stored) (first : StripeNo) (stripes : List StripeNo) : Type 0 where
+  pub rising : AllPairs (λ r s. IsTrue (comes_first (rank_in t) r s)) stripes
+  pub each : (s : StripeNo) → Contains stripes s ↔ IsTrue (has_work t s && not (comes_first (rank_in t) s first))
+
 -- a stripe, and its level
 abbrev pub StripeLevel : Type 0
 StripeLevel = StripeNo × Level

@@ -1,4 +1,4 @@
-ghost use Rattle.std.specs.Prelude.{◌≡◌, ◌||◌, ℕ, ◌<◌, ◌≤◌, if◌then◌else◌, length, get_or, option_and_then, replicate, Some, None, false, IfOk, IfErr, IfSome};
+ghost use Rattle.std.specs.Prelude.{◌≡◌, ◌||◌, ℕ, ◌<◌, ◌≤◌, if◌then◌else◌, length, get_or, option_and_then, replicate, Some, None, false, IsTrue, IfOk, IfErr, IfSome};
 ghost use Rattle.std.specs.Option.{option_copied};
 ghost use Rattle.lrc_code.specs.Numbers.{same_stripe};
 ghost use Rattle.lrc_code.specs.declared.numbers.StripeNo.{StripeNo as AnyStripe};
@@ -190,6 +190,16 @@ impl Rows {
         ensures { result ≡ queue_from (queued work_rank (rows_in self.now)) 0 0 }
     {
         Ranked::new(&self.work)
+    }
+
+    /// Those from this one on, which has work.
+    pub(crate) fn work_from(&self, first: StripeNo) -> Ranked<'_>
+        ensures { (k : ℕ) → IsTrue (queued work_rank (rows_in self.now) k first) → result ≡ queue_from (queued work_rank (rows_in self.now)) k first.value }
+    {
+        match work_rank(self.get(first)) {
+            Some(rank) => Ranked::starting_at(&self.work, rank as usize, first.value as usize),
+            None => Ranked::new(&self.work),
+        }
     }
 
     /// The stripes with a missing fragment, in the order of repair.

@@ -180,7 +180,7 @@ impl Sites {
         let mut once = StripeSet::new();
         let mut twice = StripeSet::new();
         for site in self.list.iter() {
-            if !self.is_online(site.node.number) {
+            if site.is_offline {
                 self.count(site.node.number, &mut once, &mut twice);
             }
         }

@@ -1,7 +1,7 @@
 ghost use Rattle.std.specs.Prelude.{◌≡◌, ◌≤◌, ◌↔◌, IsTrue, IsFalse, IfOk, IfErr, IfSome, IfNone, OnErr, OnOk, IsOk, None, Some};
 ghost use Rattle.lrc_code.specs.declared.codes.Code.TheVariants.{Wide};
 ghost use Rattle.lrc_code.specs.declared.fault.Fault.TheVariants.{OutOfMemory};
-ghost use Rattle.lrc_stripes.specs.Stored.{empty, with_stripe, without_stripe, with_home, with_offline, with_draining, with_spare, homes_shown, missing_shown, needs_shown, level_shown, has_node, has_slot, HasNoHome, AreHomesOn, AreWork, AreAtRisk};
+ghost use Rattle.lrc_stripes.specs.Stored.{empty, with_stripe, without_stripe, with_home, with_offline, with_draining, with_spare, homes_shown, missing_shown, needs_shown, level_shown, has_node, has_slot, HasNoHome, AreHomesOn, has_work, AreWork, AreWorkFrom, AreAtRisk};
 ghost use Rattle.lrc_stripes.specs.Tables.{stored_in};
 ghost use Rattle.lrc_stripes.specs.Upgrades.{is_lost_to, is_short_lost_to, IsFirstLostTo, IsFirstShortLostTo};
 
@@ -244,6 +244,14 @@ impl Stripes {
         ensures { AreWork (stored_in self.now) result }
     {
         Work::new(self.rows.work())
+    }
+
+    /// The stripes with a fragment that needs a lease from this one on, which is one of them, in the order of repair.
+    pub fn work_from(&self, first: StripeNo) -> Work<'_>
+        requires { IsTrue (has_work (stored_in self.now) first) }
+        ensures { AreWorkFrom (stored_in self.now) first result }
+    {
+        Work::new(self.rows.work_from(first))
     }
 
     /// The stripes that are not whole and their levels, in the order of repair: by rank, and then by number.

@@ -1,49 +1,74 @@
 //! The command that asks for the most urgent repair.
 
 ghost use Rattle.std.specs.Prelude.{◌≡◌, List, IsTrue, IfSome, find, is_some, option_map};
+ghost use Rattle.std.specs.List.{All};
 ghost use Rattle.lrc_code.specs.declared.codes.Code.TheVariants.{Wide};
 ghost use Rattle.lrc_code.specs.Codes.{fragments};
 ghost use Rattle.lrc_code.specs.Losses.{bits_set};
+ghost use Rattle.lrc_code.specs.declared.numbers.SessionNo.{SessionNo as AnySession};
+ghost use Rattle.lrc_topology.specs.declared.NodeInfo.{NodeInfo};
 ghost use Rattle.lrc_stripes.specs.Tables.{stored_in};
 ghost use Rattle.lrc_book.specs.declared.entry.Entry.{Entry};
 ghost use Rattle.lrc_book.specs.States.{State};
 ghost use Rattle.lrc_book.specs.Urgency.{is_grantable, next_of};
 ghost use Rattle.lrc_book.specs.Leases.{next_outcome};
+ghost use Rattle.lrc_book.specs.Steps.{step};
+ghost use Rattle.lrc_book.specs.Changes.{changed_by};
 ghost use Rattle.lrc_book.specs.Stores.{IsOf, AreGrantsOf, AreFew};
-ghost use Rattle.lrc_book.specs.Repairing.{is_waiting, fragment_of, IsRepair};
+ghost use Rattle.lrc_book.specs.Repairing.{is_waiting, fragment_of, IsRepair, IsFront, HasFront, HaveGrantable};
 
-use crate::Reply;
 use crate::repair::Repair;
 use crate::store::Store;
+use crate::{Command, Reply};
 use lrc_code::{Fragment, LossMask, SessionNo, StripeNo};
 use lrc_leases::Grants;
+use lrc_stripes::Work;
 
 impl Store {
-    pub(crate) fn next_reply(&self, counts: &Grants, session: SessionNo) -> Reply
-        requires { AreFew counts.now }
-        ensures { (st : State) (past : List Entry) → IsOf st self.now → AreGrantsOf past counts.now
+    pub(crate) fn next_reply(
+        &self,
+        counts: &Grants,
+        front: Option<StripeNo>,
+        session: SessionNo,
+    ) -> Reply
+        requires few { AreFew counts.now }
+        requires front { HasFront self.now front }
+        ensures { (st : State) (past : List Entry) → IsOf st self.now → AreGrantsOf past counts.now → IsFront self.now.topology st front
             → result ≡ (next_outcome self.now.topology past st session).0 }
     {
-        match self.next_repair() {
+        match self.next_repair(front) {
             Some(repair) => repair.granted_to(session, counts),
             None => Reply::Idle,
         }
     }
 
     /// The repair of the fragment that comes first in the order of repair, of those whose lease would be granted.
-    fn next_repair(&self) -> Option<Repair>
-        ensures first { (st : State) → IsOf st self.now → option_map fragment_of result ≡ next_of self.now.topology st }
+    fn next_repair(&self, front: Option<StripeNo>) -> Option<Repair>
+        requires { HasFront self.now front }
+        ensures first { (st : State) → IsOf st self.now → IsFront self.now.topology st front → option_map fragment_of result ≡ next_of self.now.topology st }
         ensures repair { IfSome result (λ r. (st : State) → IsOf st self.now → IsRepair self.now.topology st r) }
     {
         if !self.has_free_seat() {
             return None;
         }
-        for stripe in self.stripes.work() {
+        for stripe in self.work_from(front) {
             if let Some(repair) = self.first_repair(stripe) {
                 return Some(repair);
             }
         }
         None
+    }
+
+    /// The stripes with work that don't come before the front, in the order of repair; all of them where there is none.
+    fn work_from(&self, front: Option<StripeNo>) -> Work<'_>
+        requires { HasFront self.now front }
+        ensures there { All (λ s. IsTrue ((stored_in self.now.stripes).stripes s)) result }
+        ensures all { (st : State) → IsOf st self.now → IsFront self.now.topology st front → HaveGrantable self.now.topology st result }
+    {
+        match front {
+            Some(first) => self.stripes.work_from(first),
+            None => self.stripes.work(),
+        }
     }
 
     /// The repair of the first fragment of a stripe that is there whose lease would be granted.
@@ -96,5 +121,24 @@ impl Store {
         let needing = self.needs(stripe);
         let leased = self.leases.leased(stripe);
         LossMask::from_bits(needing.bits & !leased.bits)
+    }
+}
+
+/// The front after a call. What the most urgent repair is granted for is the front, and it stays until something else than
+/// a grant changes the state.
+pub(crate) fn front_after(
+    front: Option<StripeNo>,
+    command: Command,
+    reply: &Reply,
+) -> Option<StripeNo>
+    ensures { (nodes : List NodeInfo) (past : List Entry) (st : State) (session : AnySession) → IsFront nodes st front
+        → (step nodes past st session command).0 ≡ reply.now → IsFront nodes (changed_by st command reply.now) result }
+{
+    match (command, reply) {
+        (Command::Next, Reply::Granted(lease, _)) => Some(lease.stripe),
+        (Command::Next, Reply::Idle) => front,
+        (Command::Lease(_, _), Reply::Granted(_, _)) => front,
+        (_, Reply::Refused(_)) => front,
+        _ => None,
     }
 }

@@ -1,7 +1,7 @@
 use Rattle.std.proofs.Common.{◌+◌, nat_le, vec_len, vec_capacity, ap, refl, sym, subst, ◌∙◌}
 use Rattle.std.proofs.lemmas.Bool.{and_parts}
 use Rattle.lrc_book.specs.States.{State}
-use Rattle.lrc_book.specs.Histories.{world_after}
+use Rattle.lrc_book.specs.Histories.{world_after, state_after}
 use Rattle.lrc_book.specs.Books.{BookView, state_of}
 use Rattle.lrc_book.specs.Changes.{IsAnswer, changed_by}
 use Rattle.lrc_book.specs.Stores.{IsOf, has_room}
@@ -31,11 +31,12 @@ invariant_of-self g c =
     let told = rw (← c.self.view_is) at c.requires.1.1.1 in
     let room = rw (← c.self.view_is) at c.requires.1.1.0 in
     rw c.push_reserved.ensures.items
-    (kept_push b.store c.change.new.self b.grants c.count_grant.new.counts b.limit b.history.items e c.self.invariant room told c.change.ensures.nodes
+    (kept_push b.store c.change.new.self b.grants c.count_grant.new.counts b.front c.front_after-self-inside.result b.limit b.history.items e c.self.invariant room told c.change.ensures.nodes
     (subst (λ (st : State). IsOf (changed_by st e.command e.reply) c.change.new.self) (sym current) c.change.ensures.kept)
-    (c.count_grant.ensures b.history.items e refl c.self.invariant.counted))
+    (c.count_grant.ensures b.history.items e refl c.self.invariant.counted)
+    (c.front_after-self-inside.ensures b.store.topology (world_after b.store.topology b.history.items).past (state_after b.store.topology b.history.items) e.session c.self.invariant.ahead told))
 
 pub count_grant-requires : goal.count_grant-requires
 count_grant-requires g c =
     let b = c.self.inside in
-    few-grants b.store b.grants b.limit b.history.items c.self.invariant (rw (← c.self.view_is) at c.requires.1.1.0)
+    few-grants b.store b.grants b.front b.limit b.history.items c.self.invariant (rw (← c.self.view_is) at c.requires.1.1.0)

@@ -1,36 +1,36 @@
 use Rattle.std.proofs.Common.{IsTrue, suc, List, Option, find, option_map, sym, ap, ◌∙◌, subst, arith}
 use Rattle.std.specs.List.{All}
 use Rattle.std.specs.Option.{option_or}
-use Rattle.std.proofs.lemmas.Bool.{and_parts}
 use Rattle.lrc_code.specs.declared.numbers.StripeNo.{StripeNo}
-use Rattle.lrc_stripes.specs.Stored.{Stored, StripeFragment, AreWork}
+use Rattle.lrc_stripes.specs.Stored.{StripeFragment}
 use Rattle.lrc_stripes.specs.Tables.{stored_in}
 use Rattle.lrc_book.specs.declared.repair.Repair.{Repair}
 use Rattle.lrc_book.specs.Urgency.{is_grantable}
-use Rattle.lrc_book.specs.Repairing.{fragment_of}
-use Rattle.lrc_book.proofs.MemberLemmas.{All-members}
+use Rattle.lrc_book.specs.Repairing.{fragment_of, HaveGrantable}
 use Rattle.lrc_book.proofs.UrgencyLemmas.{fragments_in, find-turn, next-first}
 use Rattle.lrc_book.proofs.NoRoomLemmas.{no-next}
 use Rattle.lrc_book.proofs.store.Store.next_repair.Goals as goal
 
 pub returns-then-not-has_free_seat-clause-first : goal.returns-then-not-has_free_seat-clause-first
-returns-then-not-has_free_seat-clause-first c = λ st kept. no-next st c.args.self.now kept (sym c.has_free_seat.ensures ∙ c.if-not-has_free_seat.true)
+returns-then-not-has_free_seat-clause-first c = λ st kept ahead. no-next st c.args.self.now kept (sym c.has_free_seat.ensures ∙ c.if-not-has_free_seat.true)
 
 pub loop-stripe-init : goal.loop-stripe-init
 loop-stripe-init c =
     let stripes = c.into_iter-stripe-iterator.result in
-    let kept_here = stored_in c.args.self.now.stripes in
-    let are = subst (AreWork kept_here) (sym c.into_iter-stripe-iterator.ensures.into_iter_gives) c.work-stripe-items.ensures in (
-      All-members (λ s. IsTrue (kept_here.stripes s)) stripes (λ s here. (and_parts (kept_here.stripes s) _ ((are.each s).0 here)).0),
-      λ st kept. next-first c.args.self.now.topology st kept_here.spare stripes (subst (λ (t : Stored). AreWork t stripes) kept.stripes_is are),
+    let same = sym c.into_iter-stripe-iterator.ensures.into_iter_gives in (
+      subst (All (λ s. IsTrue ((stored_in c.args.self.now.stripes).stripes s))) same c.work_from-stripe-items.ensures.there,
+      λ st kept ahead.
+          let spare = (stored_in c.args.self.now.stripes).spare in
+          next-first c.args.self.now.topology st spare stripes
+          (subst (HaveGrantable c.args.self.now.topology st) same (c.work_from-stripe-items.ensures.all st kept ahead)),
     )
 
 pub returns-in-Some-first_repair-clause-first : goal.returns-in-Some-first_repair-clause-first
-returns-in-Some-first_repair-clause-first c = λ st kept.
+returns-in-Some-first_repair-clause-first c = λ st kept ahead.
     let test = is_grantable c.args.self.now.topology st in
     let rest = c.next.new.self in
     sym (
-    c.loop-stripe.invariant.1 st kept ∙ ap (λ (left : List StripeNo). find test (fragments_in left)) c.in-Some.ensures.steps ∙ find-turn test c.in-Some.stripe rest
+    c.loop-stripe.invariant.1 st kept ahead ∙ ap (λ (left : List StripeNo). find test (fragments_in left)) c.in-Some.ensures.steps ∙ find-turn test c.in-Some.stripe rest
     ∙ ap (λ (o : Option StripeFragment). option_or o (find test (fragments_in rest))) (sym (c.first_repair.ensures.first st kept) ∙ ap (λ (o : Option Repair). option_map fragment_of o) c.in-Some-first_repair.is)
     )
 
@@ -39,8 +39,8 @@ loop-stripe-preserved c =
     let rest = c.next.new.self in
     let there = subst (All (λ s. IsTrue ((stored_in c.args.self.now.stripes).stripes s))) c.in-Some.ensures.steps c.loop-stripe.invariant.0 in (
       λ k d within. there (suc k) d (omega (arith, within)),
-      λ st kept.
+      λ st kept ahead.
           let test = is_grantable c.args.self.now.topology st in
-          c.loop-stripe.invariant.1 st kept ∙ ap (λ (left : List StripeNo). find test (fragments_in left)) c.in-Some.ensures.steps ∙ find-turn test c.in-Some.stripe rest
+          c.loop-stripe.invariant.1 st kept ahead ∙ ap (λ (left : List StripeNo). find test (fragments_in left)) c.in-Some.ensures.steps ∙ find-turn test c.in-Some.stripe rest
           ∙ ap (λ (o : Option StripeFragment). option_or o (find test (fragments_in rest))) (sym (c.first_repair.ensures.first st kept) ∙ ap (λ (o : Option Repair). option_map fragment_of o) c.in_default.is),
     )

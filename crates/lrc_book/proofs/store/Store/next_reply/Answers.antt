@@ -8,15 +8,15 @@ use Rattle.lrc_book.proofs.store.Store.next_reply.Goals as goal
 
 pub returns-in-Some : goal.returns-in-Some
 unfolding next_outcome
-returns-in-Some c = λ st past kept counted.
+returns-in-Some c = λ st past kept counted ahead.
     let nodes = c.args.self.now.topology in
-    let found = sym (ap (λ (o : Option Repair). option_map fragment_of o) c.in-Some.is) ∙ c.next_repair.ensures.first st kept in
+    let found = sym (ap (λ (o : Option Repair). option_map fragment_of o) c.in-Some.is) ∙ c.next_repair.ensures.first st kept ahead in
     c.granted_to.ensures past counted
     ∙ sym (repair-granted nodes past st c.args.session c.in-Some.repair (c.in-Some.ensures.repair st kept))
     ∙ ap (λ (o : Option StripeFragment). (next_answer nodes past st c.args.session o).0) found
 
 pub returns-in-None : goal.returns-in-None
 unfolding next_outcome
-returns-in-None c = λ st past kept counted.
-    let none = sym (ap (λ (o : Option Repair). option_map fragment_of o) c.in-None.is) ∙ c.next_repair.ensures.first st kept in
+returns-in-None c = λ st past kept counted ahead.
+    let none = sym (ap (λ (o : Option Repair). option_map fragment_of o) c.in-None.is) ∙ c.next_repair.ensures.first st kept ahead in
     ap (λ (o : Option StripeFragment). (next_answer c.args.self.now.topology past st c.args.session o).0) none

@@ -1,13 +1,13 @@
-use Rattle.std.proofs.Common.{◌∙◌, ap, sym, nat_lt, List}
+use Rattle.std.proofs.Common.{◌≡◌, ◌<◌, ◌∙◌, ap, sym, subst, not, nat_lt, List, length, get_or}
 use Rattle.std.proofs.Math.Path.{fun_ext}
 use Rattle.std.proofs.lemmas.List.{take_all}
 use Rattle.lrc_code.specs.declared.numbers.StripeNo.{StripeNo}
 use Rattle.lrc_stripes.specs.declared.site.Site.{Site}
 use Rattle.lrc_stripes.specs.Sites.{sited}
 use Rattle.lrc_stripes.proofs.SiteLemmas.{no_site}
-use Rattle.lrc_stripes.proofs.ShortLemmas.{counted, once-next, twice-next, once-same, twice-same, scattered-nodes}
+use Rattle.lrc_stripes.proofs.ShortLemmas.{counted, once-next, twice-next, once-same, twice-same, scattered-nodes, online-there}
 use Rattle.lrc_stripes.proofs.sites.Sites.stripes_scattered.Goals as goal
-use Rattle.lrc_stripes.proofs.sites.Sites.stripes_scattered.Goals.{then-not-is_online, else-not-is_online}
+use Rattle.lrc_stripes.proofs.sites.Sites.stripes_scattered.Goals.{then-site, else-site}
 
 pub loop-site-init : goal.loop-site-init
 loop-site-init c = record { one = c.new-once.ensures; two = c.new-twice.ensures }
@@ -18,15 +18,20 @@ loop-site-preserved c =
     let xs = c.deref-site-items.result.now in
     let i = c.loop-site.site-index in
     let before = c.loop-site.invariant in
-    elim c.if-not-is_online.branch [
-      | then-not-is_online w ↦
-          let off = sym c.is_online.ensures ∙ w.if-not-is_online.true in
+    let inside = c.self.inside in
+    let all : xs ≡ inside.list.items = c.deref-site-items.ensures.value in
+    let within : i < length inside.list.items = rw (← all) c.loop-site-test.true in
+    let said = subst (λ (ys : List Site). z.online (get_or ys i no_site).node.number ≡ not (get_or ys i no_site).is_offline) (sym all)
+    (online-there inside.list.items inside.stripes.items inside.places c.args.self.now c.self.view_is c.self.invariant i no_site within) in
+    elim c.if-site.branch [
+      | then-site w ↦
+          let off = said ∙ ap not w.if-site.true in
           rw (w.once-is, w.twice-is) (record {
             one = once-next z xs i no_site c.loop-site-test.true c.loop-site.once c.loop-site.twice before.one before.two _ off w.count.ensures.once;
             two = twice-next z xs i no_site c.loop-site-test.true c.loop-site.once c.loop-site.twice before.one before.two _ off w.count.ensures.twice;
           })
-      | else-not-is_online w ↦
-          let on = sym c.is_online.ensures ∙ w.if-not-is_online.false in
+      | else-site w ↦
+          let on = said ∙ ap not w.if-site.false in
           rw (w.once-is, w.twice-is) (record {
             one = once-same z xs i no_site c.loop-site-test.true c.loop-site.once c.loop-site.twice before.one before.two on;
             two = twice-same z xs i no_site c.loop-site-test.true c.loop-site.once c.loop-site.twice before.one before.two on;
