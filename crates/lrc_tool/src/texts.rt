@@ -15,6 +15,15 @@ const SEAT_ROOM: usize = 12;
 /// Room for the sixteen seats of a stripe.
 const SEATS_ROOM: usize = 192;
 
+/// Room for a stripe, a fragment and a seat, a space before each.
+const TARGET_ROOM: usize = 24;
+
+/// Room for a fragment: a space and a number of at most five digits.
+const FRAGMENT_ROOM: usize = 6;
+
+/// Room for the six sources of a repair from a local group.
+const SOURCES_ROOM: usize = 36;
+
 /// Adds a number in decimal digits.
 fn push_number(out: &mut Vec<u8>, number: u64) -> Result<(), AllocError>
     ensures { OnOk result (out.new.items ≡ out.old.items ++ decimal number) }
@@ -59,14 +68,6 @@ fn write_seats(seats: &[Seat], text: &mut [u8]) -> usize
     at
 }
 
-fn push_seat(out: &mut Vec<u8>, seat: &Seat) -> Result<(), AllocError>
-    ensures { OnOk result (out.new.items ≡ out.old.items ++ (codes " " ++ seat_text seat.now)) }
-{
-    let mut text = [0u8; SEAT_ROOM];
-    let start = write_seat(seat, &mut text, SEAT_ROOM);
-    out.extend_from_slice(&text[start..])
-}
-
 fn push_seats(out: &mut Vec<u8>, seats: &[Seat; 16]) -> Result<(), AllocError>
     ensures { OnOk result (out.new.items ≡ out.old.items ++ spaced (map seat_text seats.now)) }
 {
@@ -75,37 +76,60 @@ fn push_seats(out: &mut Vec<u8>, seats: &[Seat; 16]) -> Result<(), AllocError>
     out.extend_from_slice(&text[start..])
 }
 
-fn push_lease(out: &mut Vec<u8>, lease: &Lease) -> Result<(), AllocError>
-    ensures { OnOk result (out.new.items ≡ out.old.items ++ lease_text lease.now) }
+/// Adds a space, the stripe and the fragment of a lease, and its target.
+fn push_target(out: &mut Vec<u8>, lease: &Lease) -> Result<(), AllocError>
+    ensures { OnOk result (out.new.items ≡ out.old.items ++ (codes " " ++ (decimal lease.now.stripe.value ++ (codes " " ++ (decimal lease.now.fragment.value ++ (codes " " ++ seat_text lease.now.target)))))) }
 {
-    push_number(out, u64::from(lease.stripe.value))?;
-    out.extend_from_slice(b" ")?;
-    push_number(out, u64::from(lease.fragment.value))?;
-    push_seat(out, &lease.target)?;
+    let mut text = [0u8; TARGET_ROOM];
+    let seat = write_seat(&lease.target, &mut text, TARGET_ROOM);
+    let fragment = write_marked(b' ', u16::from(lease.fragment.value), &mut text, seat);
+    let stripe = write_marked(b' ', lease.stripe.value, &mut text, fragment);
+    out.extend_from_slice(&text[stripe..])
+}
+
+/// Adds a space and a lease.
+fn push_lease(out: &mut Vec<u8>, lease: &Lease) -> Result<(), AllocError>
+    ensures { OnOk result (out.new.items ≡ out.old.items ++ (codes " " ++ lease_text lease.now)) }
+{
+    push_target(out, lease)?;
     out.extend_from_slice(b" epoch ")?;
     push_number(out, u64::from(lease.epoch))
 }
 
-fn push_sources(out: &mut Vec<u8>, sources: &[Fragment]) -> Result<(), AllocError>
-    ensures { OnOk result (out.new.items ≡ out.old.items ++ spaced (map (λ f. decimal f.value) sources.now)) }
+/// Writes fragments at the end of a text, from the last to the first, and answers where they start.
+fn write_sources(sources: &[Fragment], text: &mut [u8]) -> usize
+    requires { FRAGMENT_ROOM * length sources.now ≤ length text.old }
+    ensures start { result ≤ length text.new }
+    ensures written { drop result text.new ≡ spaced (map (λ f. decimal f.value) sources.now) }
 {
-    for source in sources {
-        out.extend_from_slice(b" ")?;
-        push_number(out, u64::from(source.value))?;
+    let mut left = sources.len();
+    let mut at = text.len();
+    while left > 0 {
+        left -= 1;
+        at = write_marked(b' ', u16::from(sources[left].value), text, at);
     }
-    Ok(())
+    at
 }
 
+fn push_sources(out: &mut Vec<u8>, sources: &[Fragment; 6]) -> Result<(), AllocError>
+    ensures { OnOk result (out.new.items ≡ out.old.items ++ spaced (map (λ f. decimal f.value) sources.now)) }
+{
+    let mut text = [0u8; SOURCES_ROOM];
+    let start = write_sources(sources.as_slice(), &mut text);
+    out.extend_from_slice(&text[start..])
+}
+
+/// Adds a space and from what is rebuilt.
 fn push_kind(out: &mut Vec<u8>, kind: &Kind) -> Result<(), AllocError>
-    ensures { OnOk result (out.new.items ≡ out.old.items ++ kind_text kind.now) }
+    ensures { OnOk result (out.new.items ≡ out.old.items ++ (codes " " ++ kind_text kind.now)) }
 {
     match kind {
         Kind::Local(sources) => {
-            out.extend_from_slice(b"local")?;
-            push_sources(out, sources.as_slice())
+            out.extend_from_slice(b" local")?;
+            push_sources(out, sources)
         }
-        Kind::Global => out.extend_from_slice(b"global"),
-        Kind::Move => out.extend_from_slice(b"move"),
+        Kind::Global => out.extend_from_slice(b" global"),
+        Kind::Move => out.extend_from_slice(b" move"),
     }
 }
 
@@ -141,27 +165,30 @@ fn push_refusal(out: &mut Vec<u8>, refusal: &Refusal) -> Result<(), AllocError>
     }
 }
 
+/// Adds a reply and the end of its line.
 fn push_reply(out: &mut Vec<u8>, reply: &Reply) -> Result<(), AllocError>
-    ensures { OnOk result (out.new.items ≡ out.old.items ++ reply_text reply.now) }
+    ensures { OnOk result (out.new.items ≡ out.old.items ++ (reply_text reply.now ++ codes "\n")) }
 {
     match reply {
         Reply::Placed(seats) => {
             out.extend_from_slice(b"placed")?;
-            push_seats(out, seats)
+            push_seats(out, seats)?;
+            out.extend_from_slice(b"\n")
         }
-        Reply::Dropped => out.extend_from_slice(b"dropped"),
+        Reply::Dropped => out.extend_from_slice(b"dropped\n"),
         Reply::Granted(lease, kind) => {
-            out.extend_from_slice(b"granted ")?;
+            out.extend_from_slice(b"granted")?;
             push_lease(out, lease)?;
-            out.extend_from_slice(b" ")?;
-            push_kind(out, kind)
+            push_kind(out, kind)?;
+            out.extend_from_slice(b"\n")
         }
-        Reply::Idle => out.extend_from_slice(b"idle"),
-        Reply::Ended => out.extend_from_slice(b"ended"),
-        Reply::Changed => out.extend_from_slice(b"changed"),
+        Reply::Idle => out.extend_from_slice(b"idle\n"),
+        Reply::Ended => out.extend_from_slice(b"ended\n"),
+        Reply::Changed => out.extend_from_slice(b"changed\n"),
         Reply::Refused(refusal) => {
             out.extend_from_slice(b"refused ")?;
-            push_refusal(out, refusal)
+            push_refusal(out, refusal)?;
+            out.extend_from_slice(b"\n")
         }
     }
 }
@@ -185,8 +212,7 @@ pub(crate) fn push_reply_line(
 {
     push_number(out, place as u64)?;
     out.extend_from_slice(b" ")?;
-    push_reply(out, reply)?;
-    out.extend_from_slice(b"\n")
+    push_reply(out, reply)
 }
 
 /// Adds the line for a refused topology; none for want of memory, which is no refusal.

@@ -1,0 +1,14 @@
+use Rattle.std.proofs.Common.{◌≡◌, ◌*◌, ◌≤◌, length, drop, decimal, map}
+use Rattle.lrc_tool.specs.Texts.{spaced}
+use Rattle.lrc_tool.proofs.texts.write_sources.Given as goal
+
+abbrev pub invariant-loop-left : goal.invariant-loop-left
+invariant-loop-left l = record {
+  left : l.left ≤ length l.sources;
+  room : 6 * l.left ≤ l.at;
+  within : l.at ≤ length l.text;
+  written : drop l.at l.text ≡ spaced (map (λ f. decimal f.value) (drop l.left l.sources));
+}
+
+abbrev pub decreases-loop-left : goal.decreases-loop-left
+decreases-loop-left l = l.left
