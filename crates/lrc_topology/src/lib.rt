@@ -1,6 +1,7 @@
 //! The nodes of the store, read from a TOML text and kept in the order of the file.
 #![tactic(auto)]
 
+mod domains;
 mod error;
 pub mod laws;
 mod node_index;

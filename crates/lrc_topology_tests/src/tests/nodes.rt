@@ -75,6 +75,10 @@ fn nodes_and_domains_are_found(rt: HostRuntime) -> Result<(), Fail> {
     }
     assert_eq!(rt; topology.node(NodeNo { value: 20 }), None);
     assert_eq!(rt; topology.nodes().count(), 20);
+    assert_eq!(rt;
+        topology.nodes_in(UpgradeNo { value: 3 }),
+        [info(3, 3, 3, 4), info(13, 13, 3, 4)].as_slice()
+    );
     Ok(())
 }
 
