@@ -9,7 +9,7 @@ use Rattle.lrc_bits.specs.Flags.{flags}
 use Rattle.lrc_bits.proofs.FlagLemmas.{at_word, read}
 
 -- a flag of two words joined is a flag of one
-or_flag : (a b t : ℕ) → eqb (bit_at (bit_or a b) t) 1 ≡ (eqb (bit_at a t) 1 || eqb (bit_at b t) 1)
+pub or_flag : (a b t : ℕ) → eqb (bit_at (bit_or a b) t) 1 ≡ (eqb (bit_at a t) 1 || eqb (bit_at b t) 1)
 or_flag a b t =
     let both = bit_at_or a b t in
     let p = bit_at-lt a t in

@@ -1,0 +1,74 @@
+-- The first place that one list has and neither of two others: the words of the two are joined.
+use Rattle.std.proofs.Common.{bit_and, bit_or, ◌≡◌, ◌≢◌, ℕ, ◌+◌, ◌-◌, ◌*◌, ◌/◌, ◌%◌, ◌^◌, ◌<◌, ◌≤◌, Bool, true, false, ◌||◌, eqb, List, length, get_or, map, arith, refl, sym, ap, ap₂, ◌∙◌, inl, inr, w64}
+use Rattle.std.proofs.lemmas.Bool.{cases_lt}
+use Rattle.std.proofs.lemmas.List.{get_or_past}
+use Rattle.std.proofs.lemmas.List.FromFn.{length-map-range_with_len, get_or-map-range_with_len}
+use Rattle.std.specs.Int.{bit_at, trailing_zeros}
+use Rattle.std.specs.List.{range_with_len}
+use Rattle.lrc_bits.specs.Flags.{flag, flags, IsFirstOutsideBoth}
+use Rattle.lrc_bits.proofs.FlagLemmas.{get_or-flags, read, inside-more, found-outside, found-none_outside}
+use Rattle.lrc_bits.proofs.UnionLemmas.{or_flag}
+
+-- the words of two sets, joined one by one
+joined : List ℕ → List ℕ → List ℕ
+joined ones others = map (λ j. bit_or (get_or ones j 0) (get_or others j 0)) (range_with_len 0 (length ones))
+
+module _ (ones others : List ℕ) (same : length others ≡ length ones) where
+  -- each is that of the two
+  joined-word : (j : ℕ) → get_or (joined ones others) j 0 ≡ bit_or (get_or ones j 0) (get_or others j 0)
+  unfolding joined
+  joined-word j = elim (cases_lt j (length ones)) [
+    | inl within ↦ get_or-map-range_with_len (λ i. bit_or (get_or ones i 0) (get_or others i 0)) 0 (length ones) j j 0 within (omega arith)
+    | inr past ↦
+        let long : length (joined ones others) ≡ length ones =
+        length-map-range_with_len (λ i. bit_or (get_or ones i 0) (get_or others i 0)) 0 (length ones) in
+        let p : length (joined ones others) ≤ j = omega (arith, long, past) in
+        let q : length others ≤ j = omega (arith, same, past) in
+        rw (get_or_past (joined ones others) j 0 p, get_or_past ones j 0 past, get_or_past others j 0 q) refl
+  ]
+
+  -- a flag is one of either
+  joined-flag : (k : ℕ) → flag (joined ones others) k ≡ (flag ones k || flag others k)
+  joined-flag k = ap (λ w. eqb (bit_at w (k % 64)) 1) (joined-word (k / 64))
+      ∙ or_flag (get_or ones (k / 64) 0) (get_or others (k / 64) 0) (k % 64)
+
+  module _ (ys zs : List Bool) (view : flags ones ≡ ys) (view_other : flags others ≡ zs) where
+    -- what is read of the two is read of the joined words
+    read_both : (k : ℕ) → (get_or ys k false || get_or zs k false) ≡ get_or (flags (joined ones others)) k false
+    read_both k = ap₂ (λ a b. a || b) (read ones ys k view) (read others zs k view_other)
+        ∙ sym (get_or-flags (joined ones others) k ∙ joined-flag k)
+
+    module _ (words : List ℕ) (xs : List Bool) (view_words : flags words ≡ xs) where
+      -- where no word has a bit outside, no place is outside
+      pub found-none_both : ((j : ℕ) → j < 64 * length words → flag words j ≡ true → (flag ones j || flag others j) ≡ true) → (j : ℕ)
+          → get_or xs j false ≡ true → (get_or ys j false || get_or zs j false) ≡ true
+      found-none_both all j hit = read_both j ∙ found-none_outside words (joined ones others) xs (flags (joined ones others)) view_words refl
+          (λ k below has. joined-flag k ∙ all k below has) j hit
+
+      -- the first bit outside is the first place outside
+      pub found-both : (i : ℕ) → bit_or (get_or ones i 0) (get_or others i 0) < 2 ^ 64
+          → ((j : ℕ) → j < 64 * i → flag words j ≡ true → (flag ones j || flag others j) ≡ true) → i < length words
+          → bit_and (get_or words i 0) (2 ^ 64 - 1 - bit_or (get_or ones i 0) (get_or others i 0)) ≢ 0
+          → bit_and (get_or words i 0) (2 ^ 64 - 1 - bit_or (get_or ones i 0) (get_or others i 0)) < 2 ^ 64
+          → IsFirstOutsideBoth xs ys zs (i * 64 + trailing_zeros w64 (bit_and (get_or words i 0)
+          (2 ^ 64 - 1 - bit_or (get_or ones i 0) (get_or others i 0))))
+      found-both i fits before within some small =
+          let word = joined-word i in
+          let h = rw word at (found-outside words (joined ones others) i (rw word fits) (λ j below has. joined-flag j ∙ before j below has)
+          xs (flags (joined ones others)) view_words refl within (rw word some) (rw word small)) in
+          record {
+            within = h.within;
+            has = h.has;
+            lacks = read_both _ ∙ h.lacks;
+            first = λ j below hit. read_both j ∙ h.first j below hit;
+          }
+
+  -- one more word has nothing outside
+  pub inside-both : (words : List ℕ) (i : ℕ) → bit_or (get_or ones i 0) (get_or others i 0) < 2 ^ 64
+      → ((j : ℕ) → j < 64 * i → flag words j ≡ true → (flag ones j || flag others j) ≡ true)
+      → bit_and (get_or words i 0) (2 ^ 64 - 1 - bit_or (get_or ones i 0) (get_or others i 0)) ≡ 0
+      → (j : ℕ) → j < 64 * (i + 1) → flag words j ≡ true → (flag ones j || flag others j) ≡ true
+  inside-both words i fits before empty j below hit =
+      let word = joined-word i in
+      sym (joined-flag j) ∙ inside-more words (joined ones others) i (rw word fits) (λ k less has. joined-flag k ∙ before k less has)
+      (rw word empty) j below hit
