@@ -5,10 +5,10 @@ use Rattle.lrc_code.specs.declared.numbers.FaultNo.{FaultNo}
 use Rattle.lrc_code.specs.declared.numbers.UpgradeNo.{UpgradeNo}
 use Rattle.lrc_code.specs.Numbers.{same_fault, same_upgrade}
 use Rattle.lrc_topology.specs.declared.NodeInfo.{NodeInfo}
-use Rattle.lrc_slots.specs.Barred.{Barred, with_fault, with_upgrade}
+use Rattle.lrc_slots.specs.Barred.{Barred, joined, with_fault, with_upgrade}
 use Rattle.lrc_slots.specs.BarredNodes.{AreBarredNodes, rank_of}
 use Rattle.lrc_slots.specs.Tables.{Row, Table}
-use Rattle.lrc_slots.specs.Indexes.{AreRanks, Shows, listed, is_in_fault, is_in_upgrade}
+use Rattle.lrc_slots.specs.Indexes.{AreRanks, Shows, listed, is_in_fault, is_in_upgrade, is_of_either}
 use Rattle.lrc_slots.proofs.SetupLemmas.{a_row, node-at}
 
 -- the node is in a barred domain
@@ -28,6 +28,13 @@ last_last : (a b c : Bool) → ((a || b) || c) ≡ (a || (b || c))
 last_last true b c = refl
 last_last false b c = refl
 
+-- of four tests the middle two may change places
+in_pairs : (a b c d : Bool) → ((a || b) || (c || d)) ≡ ((a || c) || (b || d))
+in_pairs true b c d = refl
+in_pairs false true true d = refl
+in_pairs false true false d = refl
+in_pairs false false c d = refl
+
 module _ {rows : Table} {ranks at : List ℕ} (h : AreRanks rows ranks at) where
   -- the rank of a row is that of its node
   rank-node : (i : ℕ) (d : Row) → i < length rows → get_or ranks i 0 ≡ rank_of (map (λ r. r.node) rows) (get_or rows i d).node
@@ -45,6 +52,15 @@ module _ {rows : Table} {ranks at : List ℕ} (h : AreRanks rows ranks at) where
       let inside : i < length nodes = rw length-map within in
       ap (λ r. get_or by_rank r false) (rank-node i d within)
       ∙ subst (λ n. get_or by_rank (rank_of nodes n) false ≡ is_barred b n) (node-at rows i d within) (all i d.node inside)
+
+  -- the same of two, where a row is barred by either
+  pub both-row : (b c : Barred) (by_rank other : List Bool) → AreBarredNodes (map (λ r. r.node) rows) b by_rank
+      → AreBarredNodes (map (λ r. r.node) rows) c other → (i : ℕ) (d : Row) → i < length rows
+      → is_of_either by_rank other (get_or ranks i 0) ≡ is_barred (joined b c) (get_or rows i d).node
+  both-row b c by_rank other all more i d within =
+      let n = (get_or rows i d).node in
+      rw (barred-row b by_rank all i d within, barred-row c other more i d within)
+      (in_pairs (b.faults n.fault) (b.upgrades n.upgrade) (c.faults n.fault) (c.upgrades n.upgrade))
 
   -- and what is said by rows by nodes
   pub barred-nodes : (b : Barred) (by_rank : List Bool)

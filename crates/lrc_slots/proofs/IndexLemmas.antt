@@ -1,5 +1,5 @@
 -- The least rank of the least load is that of the row that is chosen.
-use Rattle.std.proofs.Common.{◌≡◌, ◌≢◌, ℕ, zero, suc, ◌<◌, ◌≤◌, ◌⊎◌, ◌↔◌, cond, set, Bool, true, false, not, ◌&&◌, ◌||◌, eqb, ltb, List, [], ◌∷◌, length, get_or, map, filter, Option, Some, None, is_some, arith, refl, sym, ap, ◌∙◌, inl, inr}
+use Rattle.std.proofs.Common.{◌≡◌, ◌≢◌, ℕ, zero, suc, ◌<◌, ◌≤◌, ◌⊎◌, ◌↔◌, cond, set, Bool, true, false, not, ◌&&◌, ◌||◌, eqb, ltb, List, [], ◌∷◌, length, get_or, map, filter, Some, None, is_some, arith, refl, sym, ap, ◌∙◌, inl, inr}
 use Rattle.std.proofs.lemmas.Bool.{cases_Bool, cases_eq, cases_lt, and_parts, and_from, not-true, not_from_false, eq-eqb, ne_eqb, eqb-true}
 use Rattle.std.proofs.lemmas.Bool.Decides.{nat_tests}
 use Rattle.std.proofs.lemmas.Option.{same_Some}
@@ -15,6 +15,7 @@ use Rattle.lrc_code.specs.Order.{least, HasNoTies}
 use Rattle.lrc_code.proofs.OrderLemmas.{all_kept, least-only}
 use Rattle.lrc_topology.specs.Nodes.{AreNodes}
 use Rattle.lrc_slots.specs.Slots.{least_free, taken_count}
+use Rattle.lrc_slots.specs.declared.entry.Entry.{Entry}
 use Rattle.lrc_slots.specs.Barred.{Barred}
 use Rattle.lrc_slots.specs.Tables.{Row, Table, Bars, barred, row_at}
 use Rattle.lrc_slots.specs.Rows.{alone, is_open, precedes}
@@ -72,13 +73,13 @@ module _ (rows : Table) (known : AreNodes (map (λ r. r.node) rows)) where
       same_Some a b (sym at_a ∙ (ap (row_at rows) (equal_nodes a.node.number b.node.number number) ∙ at_b))
 
   module _ {ranks at : List ℕ} (h : AreRanks rows ranks at) {loads : List (List Bool)} (s : Shows rows ranks at is_listed loads)
-      (b : Barred) (mask : List Bool)
-      (m : (i : ℕ) (d : Row) → i < length rows → get_or mask (get_or ranks i 0) false
+      (b : Barred) (mask : ℕ → Bool)
+      (m : (i : ℕ) (d : Row) → i < length rows → mask (get_or ranks i 0)
       ≡ (b.faults (get_or rows i d).node.fault || b.upgrades (get_or rows i d).node.upgrade)) where
     -- a row that may take a seat stands under its load, outside the mask
     open-listed : (i : ℕ) (d : Row) → i < length rows → is_open b (get_or rows i d) ≡ true
-        → (listed loads (taken_count (alone (get_or rows i d)) (get_or rows i d).node) (get_or ranks i 0) ≡ true) × (get_or mask
-        (get_or ranks i 0) false ≡ false)
+        → (listed loads (taken_count (alone (get_or rows i d)) (get_or rows i d).node) (get_or ranks i 0) ≡ true) × (mask
+        (get_or ranks i 0) ≡ false)
     open-listed i d within hit =
         let r = get_or rows i d in
         let parts = and_parts (r.eligible && is_some (least_free (alone r) r.node)) (not (b.faults r.node.fault || b.upgrades r.node.upgrade)) hit in
@@ -86,7 +87,7 @@ module _ (rows : Table) (known : AreNodes (map (λ r. r.node) rows)) where
 
     -- a row that stands under a load outside the mask may take a seat, and has that load
     listed-open : (i load : ℕ) (d : Row) → i < length rows → listed loads load (get_or ranks i 0) ≡ true
-        → get_or mask (get_or ranks i 0) false ≡ false
+        → mask (get_or ranks i 0) ≡ false
         → (is_open b (get_or rows i d) ≡ true) × (taken_count (alone (get_or rows i d)) (get_or rows i d).node ≡ load)
     listed-open i load d within hit free =
         let r = get_or rows i d in
@@ -135,7 +136,7 @@ module _ (rows : Table) (known : AreNodes (map (λ r. r.node) rows)) where
         (All-from_recursion _ (filter (is_open b) rows) (all-left (is_open b) (λ y. precedes y x ≡ false) rows (recursion_from_All _ rows after)))
 
     -- where every rank is in the mask, no row may take a seat
-    pub none-open : ((load rank : ℕ) → listed loads load rank ≡ true → get_or mask rank false ≡ true)
+    pub none-open : ((load rank : ℕ) → listed loads load rank ≡ true → mask rank ≡ true)
         → least precedes (filter (is_open b) rows) ≡ None
     none-open all = ap (least precedes)
         (filter-none (is_open b) rows (recursion_from_All (λ y. is_open b y ≡ false) rows
@@ -287,13 +288,13 @@ module _ {rows : Table} {numbers : List NodeNo} {ranks at : List ℕ} {loads fau
   rank-low = rw rank-is (h.ranked.low i within)
 
   -- the rank stands under the load of the row
-  pub rank-shown : (before : Option ℕ) → ((k : ℕ) → is_entry_of before k ≡ is_listed x k) → (k : ℕ)
+  pub rank-shown : (before : Entry) → ((k : ℕ) → is_entry_of before k ≡ is_listed x k) → (k : ℕ)
       → listed loads k rank ≡ is_entry_of before k
   rank-shown before entry k = ap (λ r. listed loads k r) rank-is
       ∙ (h.by_load.shown i k x within ∙ (ap (λ (y : Row). is_listed y k) (sym here) ∙ sym (entry k)))
 
   -- the row is replaced by one of the same node, and its rank is put where the new row stands
-  pub row-replaced : (y : Row) (new : List (List Bool)) (after : Option ℕ) → y.node ≡ x.node
+  pub row-replaced : (y : Row) (new : List (List Bool)) (after : Entry) → y.node ≡ x.node
       → ((k r : ℕ) → listed new k r ≡ cond (eqb rank r) (is_entry_of after k) (listed loads k r)) → ((k : ℕ) → is_entry_of after k ≡ is_listed y k)
       → AreIndexed (set rows i y) numbers ranks at new faults upgrades
   row-replaced y new after stays moved entry =

@@ -12,3 +12,4 @@ pub mod SetLemmas
 pub mod IndexLemmas
 pub mod SetupLemmas
 pub mod BarredNodesLemmas
+pub mod WalkLemmas

@@ -1,11 +1,14 @@
 -- Internal: no public clause reaches these definitions.
 -- How the rows of a table are found: by number, by rank, and for each load and each domain the ranks of its nodes.
-use Rattle.std.specs.Prelude.{◌≡◌, ℕ, ◌<◌, ◌≤◌, ◌⊎◌, Bool, true, false, ◌&&◌, nat_eq, List, [], length, get_or, map, is_some, Option, Some, None}
+use Rattle.std.specs.Prelude.{◌≡◌, ℕ, ◌<◌, ◌≤◌, ◌⊎◌, Bool, true, false, ◌&&◌, ◌||◌, nat_eq, List, [], length, get_or, map, is_some, Option, Some, None}
 use Rattle.std.specs.List.{All}
 use Rattle.lrc_code.specs.declared.numbers.NodeNo.{NodeNo}
 use Rattle.lrc_topology.specs.declared.NodeInfo.{NodeInfo}
 use Rattle.lrc_topology.specs.Nodes.{AreNodes}
 use Rattle.lrc_slots.specs.Slots.{least_free, taken_count}
+use Rattle.lrc_slots.specs.Barred.{Barred}
+use Rattle.lrc_slots.specs.declared.entry.Entry.{Entry}
+use Rattle.lrc_slots.specs.declared.spot.Spot.{Spot}
 use Rattle.lrc_slots.specs.Tables.{Row, Table}
 use Rattle.lrc_slots.specs.Rows.{alone}
 use Rattle.lrc_slots.specs.BarredNodes.{rank_of}
@@ -21,27 +24,62 @@ pub record AreSets (sets : List (List Bool)) (used : List Bool) : Type 0 where
   pub marks : length used ≡ 256
   pub covered : (load rank : ℕ) → listed sets load rank ≡ true → get_or used load false ≡ true
 
--- the rank is the least of the least load that is not barred
-pub record IsLeastOutside (sets : List (List Bool)) (mask : List Bool) (load rank : ℕ) : Type 0 where
-  pub here : listed sets load rank ≡ true
-  pub free : get_or mask rank false ≡ false
-  pub first : (other r : ℕ) → listed sets other r ≡ true → get_or mask r false ≡ false → (load < other) ⊎ ((load ≡ other) × (rank ≤ r))
+-- a rank under a load stands at a spot or behind it
+abbrev pub IsFrom : ℕ → ℕ → ℕ → ℕ → Type 0
+IsFrom load rank other r = (load < other) ⊎ ((load ≡ other) × (rank ≤ r))
+
+-- the spot is the first from another on
+pub record IsFirstFrom (sets : List (List Bool)) (from spot : Spot) : Type 0 where
+  pub here : listed sets spot.load spot.rank ≡ true
+  pub first : (load rank : ℕ) → listed sets load rank ≡ true → IsFrom from.load from.rank load rank → IsFrom spot.load spot.rank load rank
 
 -- what a search for it finds
-abbrev pub FindsLeast : List (List Bool) → List Bool → Option ℕ → Type 0
-FindsLeast sets mask None = (load rank : ℕ) → listed sets load rank ≡ true → get_or mask rank false ≡ true
-FindsLeast sets mask (Some rank) = (load : ℕ) × IsLeastOutside sets mask load rank
+abbrev pub FindsFirst : List (List Bool) → Spot → Option Spot → Type 0
+FindsFirst sets from None = (load rank : ℕ) → listed sets load rank ≡ true → ¬ IsFrom from.load from.rank load rank
+FindsFirst sets from (Some spot) = IsFirstFrom sets from spot
+
+-- the rank is the least of the least load that is not barred
+pub record IsLeastOutside (sets : List (List Bool)) (bars : ℕ → Bool) (load rank : ℕ) : Type 0 where
+  pub here : listed sets load rank ≡ true
+  pub free : bars rank ≡ false
+  pub first : (other r : ℕ) → listed sets other r ≡ true → bars r ≡ false → IsFrom load rank other r
+
+-- what a search for it finds
+abbrev pub FindsLeast : List (List Bool) → (ℕ → Bool) → Option ℕ → Type 0
+FindsLeast sets bars None = (load rank : ℕ) → listed sets load rank ≡ true → bars rank ≡ true
+FindsLeast sets bars (Some rank) = (load : ℕ) × IsLeastOutside sets bars load rank
+
+-- the rank is of the set
+abbrev pub is_of_set : List Bool → ℕ → Bool
+is_of_set set rank = get_or set rank false
+
+-- the rank is of one of the sets
+abbrev pub is_of_either : List Bool → List Bool → ℕ → Bool
+is_of_either set other rank = get_or set rank false || get_or other rank false
 
 -- this rank under this load
 abbrev pub is_entry : ℕ → ℕ → ℕ → ℕ → Bool
 is_entry load rank l r = nat_eq load l && nat_eq rank r
 
--- the load under which a row stands, if any
-abbrev pub is_entry_of : Option ℕ → ℕ → Bool
-is_entry_of None k = false
-is_entry_of (Some load) k = nat_eq load k
+-- the load under which a row stands, if it does
+abbrev pub is_entry_of : Entry → ℕ → Bool
+is_entry_of e k = e.is_open && nat_eq e.load k
 
 -- ---- the indexes of a table
+
+-- a row that is none of a table
+abbrev pub no_row : Row
+no_row = record {
+  node = record { number = record { value = 0 }; fault = record { value = 0 }; upgrade = record { value = 0 }; slots = 0 };
+  eligible = false;
+  taken = [];
+}
+
+-- the row of the rank is in a barred domain
+abbrev pub is_barred_at : Table → List ℕ → Barred → ℕ → Bool
+is_barred_at rows at b rank =
+    let n = (get_or rows (get_or at rank 0) no_row).node in
+    b.faults n.fault || b.upgrades n.upgrade
 
 -- the row stands under the load: it is eligible, has a free slot, and so many are taken
 abbrev pub is_listed : Row → ℕ → Bool

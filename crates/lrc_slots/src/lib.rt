@@ -2,13 +2,17 @@
 #![tactic(auto)]
 
 mod barred_nodes;
+mod entry;
 pub mod laws;
 mod node_slots;
+mod open_node;
 mod rank_sets;
 mod setup;
+mod spot;
 mod table;
 mod taken;
 
 pub use barred_nodes::BarredNodes;
+pub use open_node::OpenNode;
 pub use table::SlotTable;
 pub use taken::Taken;

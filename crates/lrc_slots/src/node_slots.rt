@@ -1,9 +1,11 @@
-ghost use Rattle.std.specs.Prelude.{◌≡◌, ℕ, ◌≤◌, ◌<◌, length, true, false, IsTrue, IfSome, slice_set};
+ghost use Rattle.std.specs.Prelude.{◌≡◌, ℕ, ◌≤◌, ◌<◌, length, true, false, IsTrue, IsSome, IfSome, Some, slice_set};
 ghost use Rattle.lrc_slots.specs.Indexes.{is_entry_of, is_listed};
 ghost use Rattle.lrc_slots.specs.Slots.{least_free, taken_count};
 ghost use Rattle.lrc_slots.specs.Tables.{is_marked};
 ghost use Rattle.lrc_slots.specs.Rows.{fresh_row, alone};
 
+use crate::OpenNode;
+use crate::entry::Entry;
 use lrc_bits::BitSet;
 use lrc_code::NodeNo;
 use lrc_topology::NodeInfo;
@@ -84,6 +86,18 @@ impl NodeSlots {
         }
     }
 
+    /// The node and its least free slot, where it has one.
+    pub(crate) fn open(&self) -> OpenNode
+        requires { IsSome (least_free (alone self.now) self.now.node) }
+        ensures node { result.node ≡ self.now.node }
+        ensures slot { least_free (alone self.now) self.now.node ≡ Some result.slot }
+    {
+        OpenNode {
+            node: self.node,
+            slot: self.first_free().unwrap(),
+        }
+    }
+
     /// The number of taken slots.
     pub(crate) fn load(&self) -> u32
         ensures value { result ≡ taken_count (alone self.now) self.now.node }
@@ -92,15 +106,15 @@ impl NodeSlots {
         self.load as u32
     }
 
-    /// The load, if the node is eligible and has a free slot.
-    pub(crate) fn entry(&self) -> Option<u16>
+    /// The load, and whether the node is eligible and has a free slot.
+    #[inline(always)]
+    pub(crate) fn entry(&self) -> Entry
         ensures value { (k : ℕ) → is_entry_of result k ≡ is_listed self.now k }
-        ensures few { IfSome result (λ load. load < 256) }
+        ensures few { IsTrue result.is_open → result.load < 256 }
     {
-        if self.eligible && self.load < self.node.slots {
-            Some(self.load)
-        } else {
-            None
+        Entry {
+            load: self.load,
+            is_open: self.eligible && self.load < self.node.slots,
         }
     }
 

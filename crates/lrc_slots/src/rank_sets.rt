@@ -1,6 +1,8 @@
-ghost use Rattle.std.specs.Prelude.{◌≡◌, ℕ, ◌<◌, ◌||◌, ◌&&◌, ◌⊎◌, if◌then◌else◌, nat_eq, not, true, false, length, get_or, IfOk, IfSome};
-ghost use Rattle.lrc_slots.specs.Indexes.{listed, is_entry, is_entry_of, FindsLeast};
+ghost use Rattle.std.specs.Prelude.{◌≡◌, ℕ, ◌<◌, ◌||◌, ◌&&◌, ◌⊎◌, if◌then◌else◌, nat_eq, not, true, false, length, get_or, IfOk, IfSome, IsTrue};
+ghost use Rattle.lrc_slots.specs.Indexes.{listed, is_entry, is_entry_of, FindsFirst, FindsLeast, is_of_set, is_of_either};
 
+use crate::entry::Entry;
+use crate::spot::Spot;
 use lrc_bits::BitSet;
 use std::alloc::{AllocError, Global};
 use std::marker::Model;
@@ -41,6 +43,7 @@ impl RankSets {
     }
 
     /// Puts a node under a load.
+    #[inline(always)]
     pub(crate) fn insert(&mut self, load: usize, rank: usize)
         requires load { load < 256 }
         requires rank { rank < 512 }
@@ -52,6 +55,7 @@ impl RankSets {
     }
 
     /// Takes a node from under a load.
+    #[inline(always)]
     pub(crate) fn remove(&mut self, load: usize, rank: usize)
         requires load { load < 256 }
         requires rank { rank < 512 }
@@ -59,14 +63,14 @@ impl RankSets {
     {
         let set = &mut self.sets[load];
         set.remove(rank);
-        if set.first_from(0).is_none() {
+        if set.first_from(rank).is_none() && set.first_from(0).is_none() {
             self.used.remove(load);
         }
     }
 
     /// The least rank of the least load that is not in the mask.
     pub(crate) fn first_outside(&self, mask: &BitSet<8>) -> Option<usize>
-        ensures { FindsLeast self.now mask.now result }
+        ensures { FindsLeast self.now (is_of_set mask.now) result }
     {
         let mut from = 0;
         while let Some(load) = self.used.first_from(from) {
@@ -75,6 +79,37 @@ impl RankSets {
                 return Some(rank);
             }
             from = load + 1;
+        }
+        None
+    }
+
+    /// The least rank of the least load that is in neither mask.
+    pub(crate) fn first_outside_both(&self, mask: &BitSet<8>, other: &BitSet<8>) -> Option<usize>
+        ensures { FindsLeast self.now (is_of_either mask.now other.now) result }
+    {
+        let mut from = 0;
+        while let Some(load) = self.used.first_from(from) {
+            let set = &self.sets[load];
+            if let Some(rank) = set.first_outside_both(mask, other) {
+                return Some(rank);
+            }
+            from = load + 1;
+        }
+        None
+    }
+
+    /// The first rank from this spot on.
+    pub(crate) fn first_from(&self, from: Spot) -> Option<Spot>
+        ensures { FindsFirst self.now from result }
+    {
+        let mut next = from.load;
+        while let Some(load) = self.used.first_from(next) {
+            let start = if load == from.load { from.rank } else { 0 };
+            let set = &self.sets[load];
+            if let Some(rank) = set.first_from(start) {
+                return Some(Spot { load, rank });
+            }
+            next = load + 1;
         }
         None
     }
@@ -88,11 +123,12 @@ impl RankSets {
         &self.sets[number]
     }
 
-    /// Takes a rank from under the one number, if any, and puts it under the other, if any.
-    pub(crate) fn relist(&mut self, rank: usize, before: Option<u16>, after: Option<u16>)
+    /// Takes a rank from under the one load, if it stands there, and puts it under the other, if it is to.
+    #[inline(always)]
+    pub(crate) fn relist(&mut self, rank: usize, before: Entry, after: Entry)
         requires rank { rank < 512 }
-        requires before { IfSome before (λ l. l < 256) }
-        requires after { IfSome after (λ l. l < 256) }
+        requires before { IsTrue before.is_open → before.load < 256 }
+        requires after { IsTrue after.is_open → after.load < 256 }
         requires shown { (k : ℕ) → listed self.old k rank ≡ is_entry_of before k }
         ensures { (k r : ℕ) → listed self.new k r ≡ (if nat_eq rank r then is_entry_of after k else listed self.old k r) }
     {
@@ -100,29 +136,29 @@ impl RankSets {
         self.enlist(rank, after);
     }
 
-    /// Takes a rank from under its number, if it has one.
-    fn unlist(&mut self, rank: usize, entry: Option<u16>)
+    /// Takes a rank from under its load, if it stands there.
+    #[inline(always)]
+    fn unlist(&mut self, rank: usize, entry: Entry)
         requires rank { rank < 512 }
-        requires few { IfSome entry (λ l. l < 256) }
+        requires few { IsTrue entry.is_open → entry.load < 256 }
         requires shown { (k : ℕ) → listed self.old k rank ≡ is_entry_of entry k }
         ensures { (k r : ℕ) → listed self.new k r ≡ (if nat_eq rank r then false else listed self.old k r) }
     {
-        match entry {
-            Some(number) => self.remove(number as usize, rank),
-            None => {}
+        if entry.is_open {
+            self.remove(entry.load as usize, rank);
         }
     }
 
-    /// Puts a rank that has no number under one, if it gets one.
-    fn enlist(&mut self, rank: usize, entry: Option<u16>)
+    /// Puts a rank that stands nowhere under a load, if it is to.
+    #[inline(always)]
+    fn enlist(&mut self, rank: usize, entry: Entry)
         requires rank { rank < 512 }
-        requires few { IfSome entry (λ l. l < 256) }
+        requires few { IsTrue entry.is_open → entry.load < 256 }
         requires none { (k : ℕ) → listed self.old k rank ≡ false }
         ensures { (k r : ℕ) → listed self.new k r ≡ (if nat_eq rank r then is_entry_of entry k else listed self.old k r) }
     {
-        match entry {
-            Some(number) => self.insert(number as usize, rank),
-            None => {}
+        if entry.is_open {
+            self.insert(entry.load as usize, rank);
         }
     }
 

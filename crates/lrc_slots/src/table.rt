@@ -1,17 +1,18 @@
-ghost use Rattle.std.specs.Prelude.{◌≡◌, ◌≤◌, ◌<◌, length, IsSome, IsSomeAnd, IsTrue, IfSome, IfOk, IfErr, map, filter, option_copied, All, Contains};
+ghost use Rattle.std.specs.Prelude.{◌≡◌, ◌≤◌, ◌<◌, length, IsSome, IsSomeAnd, IsTrue, IfSome, IfOk, IfErr, map, filter, option_copied, option_map, is_some, Some, All, Contains};
 ghost use Rattle.lrc_code.specs.declared.fault.Fault.TheVariants.{OutOfMemory};
 ghost use Rattle.lrc_code.specs.Order.{least};
 ghost use Rattle.lrc_topology.specs.Nodes.{AreNodes, node_at};
-ghost use Rattle.lrc_slots.specs.Slots.{all_free, least_free_at, load_at, with_taken, with_free, with_eligible};
-ghost use Rattle.lrc_slots.specs.Next.{next_number};
+ghost use Rattle.lrc_slots.specs.Slots.{all_free, least_free, least_free_at, load_at, with_taken, with_free, with_eligible};
+ghost use Rattle.lrc_slots.specs.Next.{next_node, next_number};
 ghost use Rattle.lrc_slots.specs.Tables.{slots_of, barred};
-ghost use Rattle.lrc_slots.specs.Barred.{Barred, with_fault, with_upgrade};
+ghost use Rattle.lrc_slots.specs.Barred.{Barred, no_bars, joined, with_fault, with_upgrade};
 ghost use Rattle.lrc_slots.specs.BarredNodes.{AreBarredNodes};
-ghost use Rattle.lrc_slots.specs.Rows.{fresh_row, place_of, is_open, precedes};
+ghost use Rattle.lrc_slots.specs.Rows.{fresh_row, place_of, alone, is_open, precedes};
 
 use crate::node_slots::NodeSlots;
 use crate::rank_sets::RankSets;
-use crate::{BarredNodes, Taken, setup};
+use crate::spot::Spot;
+use crate::{BarredNodes, OpenNode, Taken, setup};
 use lrc_code::{Fault, FaultNo, NodeNo, UpgradeNo};
 use lrc_topology::{NodeIndex, NodeInfo, Topology};
 use std::alloc::{AllocError, Global};
@@ -192,8 +193,8 @@ impl SlotTable {
         ensures node { result ≡ next_number (slots_of self.now) (barred bars.now) }
         ensures known { IfSome result (λ n. IsSome (node_at (slots_of self.now).nodes n)) }
     {
-        let barred_nodes = bars.nodes(&self.by_fault, &self.by_upgrade);
-        self.choose_outside(&barred_nodes)
+        let row = self.first_beside(bars)?;
+        Some(row.number())
     }
 
     /// Bars the nodes of a fault domain too.
@@ -221,11 +222,82 @@ impl SlotTable {
         Some(row.number())
     }
 
-    /// The row that is chosen before all others that may take a seat.
+    /// The node that `choose` answers, and its least free slot.
+    pub fn open_beside(&self, bars: &Taken) -> Option<OpenNode>
+        ensures node { option_map (λ o. o.node) result ≡ next_node (slots_of self.now) (barred bars.now) }
+        ensures slot { IfSome result (λ o. least_free_at (slots_of self.now) o.node.number ≡ Some o.slot) }
+    {
+        let row = self.first_beside(bars)?;
+        Some(row.open())
+    }
+
+    /// The same where the domains of two sets of barred nodes are barred.
+    pub fn open_outside(&self, barred_nodes: &BarredNodes, more: &BarredNodes) -> Option<OpenNode>
+        ensures node { (b c : Barred) → AreBarredNodes (slots_of self.now).nodes b barred_nodes.now → AreBarredNodes (slots_of self.now).nodes c more.now
+            → option_map (λ o. o.node) result ≡ next_node (slots_of self.now) (joined b c) }
+        ensures slot { IfSome result (λ o. least_free_at (slots_of self.now) o.node.number ≡ Some o.slot) }
+    {
+        let row = self.first_outside_both(barred_nodes, more)?;
+        Some(row.open())
+    }
+
+    /// Whether some node takes a seat, where no domain is barred.
+    pub fn has_open_node(&self) -> bool
+        ensures { result ≡ is_some (next_number (slots_of self.now) no_bars) }
+    {
+        self.by_load.first_from(Spot { load: 0, rank: 0 }).is_some()
+    }
+
+    /// The row that is chosen before all others that may take a seat. Where few domains are barred, one of the first
+    /// rows is not; behind those the nodes of barred domains are joined.
+    fn first_beside(&self, bars: &Taken) -> Option<&NodeSlots>
+        ensures row { option_copied result ≡ least precedes (filter (is_open (barred bars.now)) self.now) }
+        ensures known { IfSome result (λ r. Contains self.now r.now) }
+        ensures room { IfSome result (λ r. IsSome (least_free (alone r.now) r.now.node)) }
+        ensures nodes { AreNodes (map (λ r. r.node) self.now) }
+    {
+        let mut from = Spot { load: 0, rank: 0 };
+        for _ in 0..32u32 {
+            let spot = self.by_load.first_from(from)?;
+            let place = self.order[spot.rank] as usize;
+            let row = &self.rows[place];
+            if !bars.bars(row.node()) {
+                return Some(row);
+            }
+            from = Spot {
+                load: spot.load,
+                rank: spot.rank + 1,
+            };
+        }
+        let barred_nodes = bars.nodes(&self.by_fault, &self.by_upgrade);
+        self.first_open(&barred_nodes)
+    }
+
+    /// The same where the nodes of both are barred.
+    fn first_outside_both(
+        &self,
+        barred_nodes: &BarredNodes,
+        more: &BarredNodes,
+    ) -> Option<&NodeSlots>
+        ensures row { (b c : Barred) → AreBarredNodes (map (λ r. r.node) self.now) b barred_nodes.now → AreBarredNodes (map (λ r. r.node) self.now) c more.now
+            → option_copied result ≡ least precedes (filter (is_open (joined b c)) self.now) }
+        ensures known { IfSome result (λ r. Contains self.now r.now) }
+        ensures room { IfSome result (λ r. IsSome (least_free (alone r.now) r.now.node)) }
+        ensures nodes { AreNodes (map (λ r. r.node) self.now) }
+    {
+        let rank = self
+            .by_load
+            .first_outside_both(barred_nodes.ranks(), more.ranks())?;
+        let place = self.order[rank] as usize;
+        Some(&self.rows[place])
+    }
+
+    /// The same outside these nodes.
     fn first_open(&self, barred_nodes: &BarredNodes) -> Option<&NodeSlots>
         ensures row { (b : Barred) → AreBarredNodes (map (λ r. r.node) self.now) b barred_nodes.now
             → option_copied result ≡ least precedes (filter (is_open b) self.now) }
         ensures known { IfSome result (λ r. Contains self.now r.now) }
+        ensures room { IfSome result (λ r. IsSome (least_free (alone r.now) r.now.node)) }
         ensures nodes { AreNodes (map (λ r. r.node) self.now) }
     {
         let rank = self.by_load.first_outside(barred_nodes.ranks())?;

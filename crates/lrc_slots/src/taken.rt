@@ -1,4 +1,4 @@
-ghost use Rattle.std.specs.Prelude.{◌≡◌, ℕ, ◌↔◌, ◌⊎◌, true, false, get_or};
+ghost use Rattle.std.specs.Prelude.{◌≡◌, ℕ, ◌↔◌, ◌⊎◌, ◌||◌, true, false, get_or};
 ghost use Rattle.lrc_slots.specs.Indexes.{IsJoined};
 ghost use Rattle.lrc_slots.specs.Barred.{no_bars, with_fault, with_upgrade};
 ghost use Rattle.lrc_slots.specs.Tables.{barred};
@@ -7,6 +7,7 @@ use crate::BarredNodes;
 use crate::rank_sets::RankSets;
 use lrc_bits::BitSet;
 use lrc_code::{FaultNo, UpgradeNo};
+use lrc_topology::NodeInfo;
 use std::marker::Model;
 
 /// The domains that a stripe has taken: no node of them is chosen.
@@ -51,6 +52,14 @@ impl Taken {
         ensures { barred self.new ≡ with_upgrade (barred self.old) domain }
     {
         self.upgrades.insert(domain.value as usize);
+    }
+
+    /// Whether a node is in a barred domain.
+    pub(crate) fn bars(&self, node: NodeInfo) -> bool
+        ensures { result ≡ ((barred self.now).faults node.fault || (barred self.now).upgrades node.upgrade) }
+    {
+        self.faults.contains(node.fault.value as usize)
+            || self.upgrades.contains(node.upgrade.value as usize)
     }
 
     /// The nodes of barred domains.

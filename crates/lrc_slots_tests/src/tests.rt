@@ -93,22 +93,28 @@ fn the_least_free_slot_is_taken_again(rt: HostRuntime) -> Result<(), Fail> {
     Ok(())
 }
 
-/// 512 nodes with 256 slots each.
+/// 512 nodes with 256 slots each, of which the last alone is in fault domain 1.
 fn largest(alloc: Global) -> Result<Topology, Fail> {
     let mut text = String::new(alloc);
     for node in 0..512 {
+        let fault = node / 511;
         write!(
             text,
-            "[[node]]\nnumber = {node}\nfault = 0\nupgrade = 0\nslots = 256\n"
+            "[[node]]\nnumber = {node}\nfault = {fault}\nupgrade = 0\nslots = 256\n"
         )?;
     }
     Ok(Topology::read(alloc, text.as_bytes())?)
 }
 
 #[test]
-fn the_largest_store_has_a_table(rt: HostRuntime) -> Result<(), Fail> {
+fn the_last_node_of_the_largest_store_is_chosen_where_all_others_are_barred(
+    rt: HostRuntime,
+) -> Result<(), Fail> {
     let topology = largest(rt.alloc())?;
     let table = SlotTable::new(rt.alloc(), &topology)?;
-    assert_eq!(rt; table.choose(&Taken::new()), Some(NodeNo { value: 0 }));
+    let mut bars = Taken::new();
+    assert_eq!(rt; table.choose(&bars), Some(NodeNo { value: 0 }));
+    bars.bar_fault(FaultNo { value: 0 });
+    assert_eq!(rt; table.choose(&bars), Some(NodeNo { value: 511 }));
     Ok(())
 }

@@ -1,4 +1,4 @@
-//! The same barred domains, told in three ways.
+//! The same barred domains, told in four ways.
 
 use lrc_code::{FaultNo, UpgradeNo};
 use lrc_slots::{BarredNodes, SlotTable, Taken};
@@ -7,6 +7,8 @@ use lrc_slots::{BarredNodes, SlotTable, Taken};
 pub(crate) struct Bars {
     pub(crate) taken: Taken,
     pub(crate) nodes: BarredNodes,
+    pub(crate) fault_nodes: BarredNodes,
+    pub(crate) upgrade_nodes: BarredNodes,
     pub(crate) faults: [bool; 256],
     pub(crate) upgrades: [bool; 256],
 }
@@ -16,6 +18,8 @@ impl Bars {
         Bars {
             taken: Taken::new(),
             nodes: BarredNodes::new(),
+            fault_nodes: BarredNodes::new(),
+            upgrade_nodes: BarredNodes::new(),
             faults: [false; 256],
             upgrades: [false; 256],
         }
@@ -24,12 +28,14 @@ impl Bars {
     pub(crate) fn bar_fault(&mut self, table: &SlotTable, domain: FaultNo) {
         self.taken.bar_fault(domain);
         table.bar_fault_in(&mut self.nodes, domain);
+        table.bar_fault_in(&mut self.fault_nodes, domain);
         self.faults[usize::from(domain.value)] = true;
     }
 
     pub(crate) fn bar_upgrade(&mut self, table: &SlotTable, domain: UpgradeNo) {
         self.taken.bar_upgrade(domain);
         table.bar_upgrade_in(&mut self.nodes, domain);
+        table.bar_upgrade_in(&mut self.upgrade_nodes, domain);
         self.upgrades[usize::from(domain.value)] = true;
     }
 }

@@ -67,10 +67,15 @@ fn bars_of(table: &SlotTable, state: u32) -> Bars {
     bars
 }
 
-/// Whether both choose alike.
+/// Whether both choose the same node and slot, and know alike whether any node takes a seat.
 fn choose_alike(table: &SlotTable, plain: &PlainTable, bars: &Bars) -> bool {
     let chosen = plain.choose(&bars.faults, &bars.upgrades);
-    table.choose(&bars.taken) == chosen && table.choose_outside(&bars.nodes) == chosen
+    let open = plain.open(chosen);
+    table.choose(&bars.taken) == chosen
+        && table.choose_outside(&bars.nodes) == chosen
+        && table.open_beside(&bars.taken) == open
+        && table.open_outside(&bars.fault_nodes, &bars.upgrade_nodes) == open
+        && table.has_open_node() == plain.has_open_node()
 }
 
 /// Whether both tell the same load and least free slot of a node.

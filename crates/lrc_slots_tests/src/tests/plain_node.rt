@@ -20,6 +20,10 @@ impl PlainNode {
         }
     }
 
+    pub(crate) fn info(&self) -> NodeInfo {
+        self.info
+    }
+
     pub(crate) fn number(&self) -> NodeNo {
         self.info.number
     }
@@ -51,10 +55,14 @@ impl PlainNode {
         self.eligible = eligible;
     }
 
+    pub(crate) fn is_open(&self) -> bool {
+        self.eligible && self.first_free().is_some()
+    }
+
     pub(crate) fn may_take(&self, faults: &[bool; 256], upgrades: &[bool; 256]) -> bool {
         let is_barred = faults[usize::from(self.info.fault.value)]
             || upgrades[usize::from(self.info.upgrade.value)];
-        self.eligible && self.first_free().is_some() && !is_barred
+        self.is_open() && !is_barred
     }
 
     pub(crate) fn is_chosen_before(&self, other: &PlainNode) -> bool {

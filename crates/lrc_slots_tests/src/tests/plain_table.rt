@@ -2,6 +2,7 @@
 
 use crate::tests::plain_node::PlainNode;
 use lrc_code::NodeNo;
+use lrc_slots::OpenNode;
 use lrc_topology::Topology;
 use std::alloc::{AllocError, Global};
 
@@ -25,6 +26,21 @@ impl PlainTable {
 
     pub(crate) fn node_mut(&mut self, number: NodeNo) -> Option<&mut PlainNode> {
         self.nodes.iter_mut().find(|node| node.number() == number)
+    }
+
+    /// A node and its least free slot.
+    pub(crate) fn open(&self, number: Option<NodeNo>) -> Option<OpenNode> {
+        let node = self.node(number?)?;
+        let slot = node.first_free()?;
+        Some(OpenNode {
+            node: node.info(),
+            slot,
+        })
+    }
+
+    /// Whether some node takes a seat.
+    pub(crate) fn has_open_node(&self) -> bool {
+        self.nodes.iter().any(|node| node.is_open())
     }
 
     /// The node that is chosen where these domains are barred.

@@ -1,18 +1,12 @@
-use Rattle.std.proofs.Common.{refl}
+use Rattle.std.proofs.Common.{true, inl, inr}
+use Rattle.std.proofs.lemmas.Bool.{cases_lt, lt-ltb, le-ltb}
 use Rattle.lrc_slots.proofs.RowLemmas.{listed-room, listed-full}
 use Rattle.lrc_slots.proofs.node_slots.NodeSlots.entry.Goals as goal
-use Rattle.lrc_slots.proofs.node_slots.NodeSlots.entry.Goals.{else-self-via-then-self+else-self-2, else-self-via-else-self}
 
-pub returns-then-self-2-clause-value : goal.returns-then-self-2-clause-value
-returns-then-self-2-clause-value c =
+pub returns-then-self-clause-value : goal.returns-then-self-clause-value
+returns-then-self-clause-value c =
     let s = c.self.inside in
-    λ k. rw (← c.self.view_is, c.if-self.true) (listed-room s.node s.load s.marks c.self.invariant c.if-self-2.true k)
-
-pub returns-else-self-clause-value : goal.returns-else-self-clause-value
-returns-else-self-clause-value c =
-    let s = c.self.inside in
-    λ k. elim c.else-self.branch [
-      | else-self-via-then-self+else-self-2 w ↦ rw (← c.self.view_is)
-          (listed-full s.node s.load s.marks c.self.invariant s.eligible w.if-self-2.false k)
-      | else-self-via-else-self w ↦ rw (← c.self.view_is, w.if-self.false) refl
-    ]
+    λ k. rw (← c.self.view_is, c.if-self.true) (elim (cases_lt s.load s.node.slots) [
+      | inl room ↦ rw (lt-ltb _ _ room) (listed-room s.node s.load s.marks c.self.invariant room k)
+      | inr full ↦ rw (le-ltb _ _ full) (listed-full s.node s.load s.marks c.self.invariant true full k)
+    ])
