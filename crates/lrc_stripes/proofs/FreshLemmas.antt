@@ -1,24 +1,26 @@
 -- Rows whose masks of missing fragments are as their homes are.
-use Rattle.std.proofs.Common.{◌≡◌, ℕ, zero, suc, inl, inr, Bool, ◌&&◌, nat_lt, nat_eq, List, [], ◌∷◌, map, get_or, Option, Some, None, option_map, option_and_then, refl, sym, ap, ◌∙◌, subst}
+use Rattle.std.proofs.Common.{◌≡◌, ◌≢◌, ℕ, zero, suc, ◌<◌, inl, inr, Bool, true, false, not, length, arith, lit<, ◌&&◌, ◌||◌, nat_lt, nat_eq, List, [], ◌∷◌, map, get_or, Option, Some, None, option_map, option_and_then, refl, sym, ap, ◌∙◌, subst}
 use Rattle.std.proofs.Math.Path.{fun_ext}
 use Rattle.std.specs.Int.{bit_at}
-use Rattle.std.proofs.lemmas.Bool.{cases_Bool, cases_lt, le-ltb, eqb-false}
-use Rattle.std.proofs.lemmas.Nat.Bits.{bit_at_above}
+use Rattle.std.proofs.lemmas.Bool.{cases_Bool, cases_lt, le-ltb, eq-eqb, eqb-true, eqb-false, ltb-true}
+use Rattle.std.proofs.lemmas.List.Folds.{list_any_at}
+use Rattle.std.proofs.lemmas.Nat.Bits.{bit_at_above, bit_at-zero}
 use Rattle.std.proofs.lemmas.Option.{same_Some}
 use Rattle.lrc_code.specs.declared.codes.Code.TheVariants.{Wide}
 use Rattle.lrc_code.specs.declared.numbers.StripeNo.{StripeNo}
 use Rattle.lrc_code.specs.declared.numbers.NodeNo.{NodeNo}
 use Rattle.lrc_code.specs.Losses.{bits_set, bits_of}
-use Rattle.lrc_code.proofs.BitsLemmas.{bits_set-bits_of, bits_of-below}
+use Rattle.lrc_code.proofs.BitsLemmas.{bits_set-bits_of, bits_of-bits_set, bits_of-below}
 use Rattle.lrc_topology.specs.declared.seat.Seat.{Seat}
 use Rattle.lrc_stripes.specs.declared.row.Row.{Row}
 use Rattle.lrc_stripes.specs.declared.losses.Losses.{Losses}
 use Rattle.lrc_stripes.specs.Levels.{rank_by}
 use Rattle.lrc_stripes.specs.Sites.{Sited}
 use Rattle.lrc_stripes.specs.Tables.{rows_in}
-use Rattle.lrc_stripes.specs.Rows.{is_missing}
-use Rattle.lrc_stripes.specs.Masks.{AreLosses, AreKept, missing_of, renewed, rank_of, work_rank, is_at}
-use Rattle.lrc_stripes.specs.Kept.{IsKept, is_row_on, fresh, freshened, queued}
+use Rattle.lrc_stripes.specs.Looming.{is_needy}
+use Rattle.lrc_stripes.specs.Rows.{sits_on, is_missing}
+use Rattle.lrc_stripes.specs.Masks.{AreLosses, AreKept, missing_of, renewed, rank_of, work_rank, risk_rank, is_at}
+use Rattle.lrc_stripes.specs.Kept.{IsKept, Covers, is_row_on, fresh, freshened, queued}
 
 -- the mask of the missing fragments has them
 pub mask-is : (online : NodeNo → Bool) (homes : List (Option Seat)) (f : ℕ) → bits_set (bits_of Wide (missing_of online homes)) f ≡ (nat_lt f 16 && is_missing online (get_or homes f None))
@@ -35,6 +37,12 @@ loosened online draining homes l are = record { homeless = are.homeless; missing
 
 pub renewed-exact : (online draining : NodeNo → Bool) (homes : List (Option Seat)) (l : Losses) → AreKept online draining homes l → AreLosses online draining homes (renewed online homes l)
 renewed-exact online draining homes l are = record { homeless = are.homeless; missing = mask-is online homes; needs = are.needs }
+
+-- where a fragment needs a lease, the mask that is kept is as the homes are
+pub renewed-kept : (online draining : NodeNo → Bool) (homes : List (Option Seat)) (l : Losses) → AreKept online draining homes l → l.needs.bits ≢ 0 → l.missing.bits < 65536 → l ≡ renewed online homes l
+renewed-kept online draining homes l are some few =
+    ap (λ (b : ℕ). record l { missing = record { bits = b } })
+    (sym (bits_of-bits_set Wide l.missing.bits few) ∙ ap (bits_of Wide) (fun_ext (λ f. are.missing some f)))
 
 -- ---- the rows
 
@@ -88,3 +96,58 @@ module _ (sites : Sited) (list : List (Option Row)) (kept : IsKept sites (rows_i
     by : (k : ℕ) (s : StripeNo) (o : Option Row) → rows_in list s ≡ o → at k (rows_in list s) ≡ at k (rows_in (freshened sites.online list) s)
     by k s None none = ap (at k) none ∙ sym (ap (at k) (freshened-absent sites.online list s none))
     by k s (Some q) there = ap (at k) there ∙ (same k s q there ∙ sym (ap (at k) (freshened-there sites.online list s q there)))
+
+  -- a stripe that needs no lease is not at risk where all nodes of its homes are online
+  module _ (s : StripeNo) (idle : is_needy (rows_in list s) ≡ false) (stands : (n : NodeNo) → sites.online n ≡ false → sites.on n s ≡ true → ⊥) where
+    module _ (q : Row) (there : rows_in list s ≡ Some q) where
+      bare : q.losses.needs.bits ≡ 0
+      bare = eqb-true _ _ (turned (nat_eq q.losses.needs.bits 0) (sym (ap is_needy there) ∙ idle)) where
+        turned : (b : Bool) → not b ≡ false → b ≡ true
+        turned true e = refl
+        turned false e = sym e
+
+      home-stands : (f : ℕ) → nat_lt f 16 ≡ true → (home : Option Seat) → get_or q.homes f None ≡ home → is_missing sites.online home ≡ false
+      home-stands f low None e =
+          let none : bits_set q.losses.needs.bits f ≡ false = rw (bare, bit_at-zero f) refl in
+          let need : bits_set q.losses.needs.bits f ≡ true = (kept.losses s q there).needs f ∙ rw (low, e) refl in
+          absurd (let clash : true ≡ false = sym need ∙ none in cc)
+      home-stands f low (Some seat) e = elim (cases_Bool (sites.online seat.node)) [
+        | inl on ↦ rw on refl
+        | inr off ↦
+            let within : f < length q.homes = let few = ltb-true f 16 low in let long = q.sixteen in omega (arith, few, long) in
+            let sits : sits_on seat.node (get_or q.homes f None) ≡ true = ap (sits_on seat.node) e ∙ eq-eqb seat.node.value seat.node.value refl in
+            absurd (stands seat.node off (kept.listed seat.node s ∙ (ap (is_row_on seat.node) there ∙ list_any_at (sits_on seat.node) q.homes f None within sits)))
+      ]
+
+      none-missing : bits_of Wide (missing_of sites.online q.homes) ≡ 0
+      none-missing = ap (bits_of Wide) (fun_ext (λ f. each f (nat_lt f 16) refl ∙ sym (zero-bit f))) ∙ bits_of-bits_set Wide 0 (lit< tt) where
+        zero-bit : (f : ℕ) → bits_set 0 f ≡ false
+        zero-bit f = rw (bit_at-zero f) refl
+
+        each : (f : ℕ) (b : Bool) → nat_lt f 16 ≡ b → missing_of sites.online q.homes f ≡ false
+        each f true low = rw low (home-stands f low (get_or q.homes f None) refl)
+        each f false high = rw high refl
+
+    pub whole-is : (k : ℕ) → queued risk_rank (rows_in (freshened sites.online list)) k s ≡ false
+    whole-is k = by (rows_in list s) refl where
+      ranked : Option Row → Bool
+      ranked o = is_at k (option_and_then (λ r. risk_rank r.losses) o)
+
+      by : (o : Option Row) → rows_in list s ≡ o → queued risk_rank (rows_in (freshened sites.online list)) k s ≡ false
+      by None none = ap ranked (freshened-absent sites.online list s none)
+      by (Some q) there = ap ranked (freshened-there sites.online list s q there) ∙ rw (none-missing q there) refl
+
+  -- all stripes at risk are among those that are on such a node, or have work
+  pub at_risk-among : (found now : StripeNo → Bool) → ((n : NodeNo) (s : StripeNo) → sites.online n ≡ false → sites.on n s ≡ true → found s ≡ true)
+      → now ≡ (λ s. found s || is_needy (rows_in list s)) → Covers now (queued risk_rank (rows_in (freshened sites.online list)))
+  at_risk-among found now off joined k s miss =
+      let both : (found s || is_needy (rows_in list s)) ≡ false = ap (λ (f : StripeNo → Bool). f s) (sym joined) ∙ miss in
+      whole-is s (second (found s) (is_needy (rows_in list s)) both)
+      (λ n down on. let clash : true ≡ false = sym (off n s down on) ∙ first (found s) (is_needy (rows_in list s)) both in cc) k where
+        first : (a b : Bool) → (a || b) ≡ false → a ≡ false
+        first true b e = e
+        first false b e = refl
+
+        second : (a b : Bool) → (a || b) ≡ false → b ≡ false
+        second true b e = absurd (cc)
+        second false b e = e

@@ -19,7 +19,7 @@ use Rattle.lrc_stripes.specs.Rows.{sits_on, is_missing, is_to_move}
 use Rattle.lrc_stripes.specs.Sites.{Sited, first_sites}
 use Rattle.lrc_stripes.specs.Masks.{AreAll, AreWith, AreLosses, AreKept, renewed, IsFull, IsPut, IsMaskOf}
 use Rattle.lrc_stripes.specs.Kept.{IsKept, is_row_on}
-use Rattle.lrc_stripes.proofs.SitedLemmas.{same-turned}
+use Rattle.lrc_stripes.proofs.SitedLemmas.{same-turned, or-false}
 use Rattle.lrc_stripes.proofs.FreshLemmas.{loosened, renewed-exact}
 
 -- ---- masks of homes
@@ -102,6 +102,10 @@ module _ (sites : Sited) (rows : StripeNo → Option Row) (kept : IsKept sites r
   any-bare n zero = refl
   any-bare n (suc k) = any-bare n k
 
+  no-row : (n : NodeNo) (o : Option Row) → is_some o ≡ false → is_row_on n o ≡ false
+  no-row n None e = refl
+  no-row n (Some q) e = absurd (let f : true ≡ false = e in cc)
+
   -- a row without homes
   pub kept-add : (r : Row) (after : StripeNo → Option Row) → is_some (rows stripe) ≡ false → r.homes ≡ replicate 16 None → AreAll r.losses
       → after ≡ (λ s. if same_stripe stripe s then Some r else rows s) → IsKept sites after
@@ -112,10 +116,17 @@ module _ (sites : Sited) (rows : StripeNo → Option Row) (kept : IsKept sites r
         | inl same ↦ rw same (own-on n s same ∙ no-row n (rows stripe) absent ∙ sym (ap (list_any (sits_on n)) none ∙ any-bare n 16))
         | inr other ↦ rw other refl
       ])
-    where
-      no-row : (n : NodeNo) (o : Option Row) → is_some o ≡ false → is_row_on n o ≡ false
-      no-row n None e = refl
-      no-row n (Some q) e = absurd (let f : true ≡ false = e in cc)
+
+  -- a row with homes, on whose nodes the stripe stands now
+  pub kept-enter : (homes : List (Option Seat)) (r : Row) (after : StripeNo → Option Row) → is_some (rows stripe) ≡ false → r.homes ≡ homes → AreLosses sites.online sites.draining homes r.losses
+      → after ≡ (λ s. if same_stripe stripe s then Some r else rows s) → IsKept (record sites { on = λ n s. (same_stripe stripe s && list_any (sits_on n) homes) || sites.on n s }) after
+  kept-enter homes r after absent own are is = kept-put (Some r) (λ n s. (same_stripe stripe s && list_any (sits_on n) homes) || sites.on n s) after is
+      (λ q e. subst (λ (x : Row). AreKept sites.online sites.draining x.homes x.losses) (same_Some r q e)
+      (loosened sites.online sites.draining r.homes r.losses (subst (λ (hs : List (Option Seat)). AreLosses sites.online sites.draining hs r.losses) (sym own) are)))
+      (λ n s. elim (cases_Bool (same_stripe stripe s)) [
+        | inl same ↦ rw (same, own-on n s same ∙ no-row n (rows stripe) absent) (or-false (list_any (sits_on n) homes) ∙ ap (list_any (sits_on n)) (sym own))
+        | inr other ↦ rw other refl
+      ])
 
   module _ (r : Row) (found : rows stripe ≡ Some r) where
     here-on : (n : NodeNo) (s : StripeNo) → same_stripe stripe s ≡ true → sites.on n s ≡ list_any (sits_on n) r.homes

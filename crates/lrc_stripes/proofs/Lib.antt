@@ -22,3 +22,4 @@ pub mod HomelessLemmas
 pub mod RenewLemmas
 pub mod ShortLemmas
 pub mod ShownLemmas
+pub mod SeatedLemmas

@@ -1,5 +1,5 @@
 -- What a store shows, by rows whose masks are as their homes are.
-use Rattle.std.proofs.Common.{◌≡◌, ℕ, Bool, true, false, not, ◌&&◌, ◌||◌, nat_lt, nat_eq, List, get_or, Option, Some, None, is_some, option_map, IfSome, IfNone, IsFalse, refl, sym, ap, ap₂, ◌∙◌, subst}
+use Rattle.std.proofs.Common.{◌≡◌, ℕ, Bool, true, false, not, ◌&&◌, ◌||◌, nat_lt, nat_eq, List, get_or, Option, Some, None, is_some, option_map, IfSome, IfNone, IsTrue, IsFalse, ◌↔◌, refl, sym, ap, ap₂, ◌∙◌, subst}
 use Rattle.std.proofs.Math.Path.{fun_ext}
 use Rattle.std.specs.List.{list_any, count_by}
 use Rattle.std.proofs.lemmas.Bool.{and_from, eq-eqb}
@@ -128,6 +128,15 @@ module _ (sites : SiteTable) (rows : List (Option Row)) (spare : ℕ) (kept : Is
         has_work-there store_now losses-now s q there
         ∙ (sym (ap not (empty-none (is_to_move (draining_in sites.list)) q.homes q.losses.needs (losses-now s q there).needs) ∙ not-not (has_some Wide (bits_set q.losses.needs.bits)))
         ∙ sym (ap is_needy found))
+
+  -- whether there is work, by the rows
+  pub work-some : (b : Bool) → (b ≡ false → (s : StripeNo) → is_needy (rows_in rows s) ≡ false) → (b ≡ true → (s : StripeNo) × (is_needy (rows_in rows s) ≡ true))
+      → IsTrue b ↔ ((s : StripeNo) × IsTrue (has_work (stored_in store) s))
+  work-some true none some = (λ yes. let (s, needy) = some refl in (s, needy-work s ∙ needy), λ found. refl)
+  work-some false none some = (
+    λ no. absurd (let clash : false ≡ true = no in cc),
+    λ found. let (s, has) = found in absurd (let clash : false ≡ true = sym (none refl s) ∙ sym (needy-work s) ∙ has in cc),
+  )
 
   short-is : (s : StripeNo) → is_short (stored_in store) s ≡ (is_scattered (sited sites) s || is_needy (rows_in rows s))
   unfolding is_short

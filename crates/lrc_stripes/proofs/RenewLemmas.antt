@@ -1,8 +1,8 @@
 -- What is kept where a node's stripes have their rows renewed.
-use Rattle.std.proofs.Common.{◌≡◌, ℕ, ◌<◌, inl, inr, Bool, true, false, not, ◌&&◌, cond, nat_lt, List, length, get_or, Option, Some, None, is_some, is_none, arith, refl, sym, ap, ap₂, ◌∙◌, subst}
+use Rattle.std.proofs.Common.{◌≡◌, ◌≢◌, ℕ, ◌<◌, inl, inr, Bool, true, false, not, ◌&&◌, cond, nat_lt, nat_eq, List, length, get_or, Option, Some, None, is_some, is_none, arith, refl, sym, ap, ap₂, ◌∙◌, subst}
 use Rattle.std.proofs.Math.Path.{fun_ext}
 use Rattle.std.specs.List.{list_any}
-use Rattle.std.proofs.lemmas.Bool.{cases_Bool, ltb-true}
+use Rattle.std.proofs.lemmas.Bool.{cases_Bool, eqb-true, ltb-true}
 use Rattle.std.proofs.lemmas.List.Folds.{list_any_at}
 use Rattle.std.proofs.lemmas.Option.{same_Some}
 use Rattle.lrc_code.specs.declared.codes.Code.TheVariants.{Wide}
@@ -20,6 +20,7 @@ use Rattle.lrc_stripes.specs.Sites.{SiteTable, Sited, sited}
 use Rattle.lrc_stripes.specs.Rows.{sits_on, is_missing, is_to_move}
 use Rattle.lrc_stripes.specs.Tables.{stored_in, rows_in, row_homes}
 use Rattle.lrc_stripes.specs.Masks.{IsMaskOf, IsPutOn, AreKept}
+use Rattle.lrc_stripes.specs.Looming.{is_needy}
 use Rattle.lrc_stripes.specs.Kept.{IsKept, is_row_on, AreRenewed, IsRenewed, IsMissingOn, IsToMoveOn}
 use Rattle.lrc_stripes.proofs.FreshLemmas.{mask-is}
 
@@ -99,6 +100,30 @@ stored_of-rows nodes online draining rows rows' spare there homes =
     ap₂ (λ (stripes : StripeNo → Bool) (home : StripeNo → Homes). let s : Stored = record { nodes = nodes; stripes = stripes; code = λ s. Wide; homes = home; online = online; draining = draining; spare = spare } in s)
     (fun_ext there) (fun_ext homes)
 
+-- ---- nodes are set offline, and no row has work
+
+-- a row that has no work needs no lease
+idle-bits : (o : Option Row) (q : Row) → is_needy o ≡ false → o ≡ Some q → q.losses.needs.bits ≡ 0
+idle-bits o q idle there = eqb-true _ _ (by (nat_eq q.losses.needs.bits 0) (sym (ap is_needy there) ∙ idle)) where
+  by : (b : Bool) → not b ≡ false → b ≡ true
+  by true e = refl
+  by false e = sym e
+
+module _ (old new : SiteTable) (rows : List (Option Row)) (spare : ℕ) (kept : IsKept (sited old) (rows_in rows)) (online : NodeNo → Bool)
+    (is : sited new ≡ record (sited old) { online = online }) where
+  pub kept-idle : ((x : StripeNo) → is_needy (rows_in rows x) ≡ false) → IsKept (sited new) (rows_in rows)
+  kept-idle idle = subst (λ (s : Sited). IsKept s (rows_in rows)) (sym is) (record {
+    losses = λ x q there. let had = kept.losses x q there in record { homeless = had.homeless; missing = λ some. absurd (some (idle-bits (rows_in rows x) q (idle x) there)); needs = had.needs };
+    listed = kept.listed;
+  })
+
+  pub stored-idle : stored_in (record { sites = new.list; rows = rows; spare = spare }) ≡ record (stored_in (record { sites = old.list; rows = rows; spare = spare })) { online = online }
+  unfolding stored_of
+  stored-idle =
+      stored_of-sited new rows spare
+      ∙ (ap (λ (s : Sited). stored_of s.nodes s.online s.draining (rows_in rows) spare) is
+      ∙ ap (λ (s : Stored). record s { online = online }) (sym (stored_of-sited old rows spare)))
+
 -- ---- a node is set offline, or draining
 
 module _ (old new : SiteTable) (list list' : List (Option Row)) (spare : ℕ) (kept : IsKept (sited old) (rows_in list)) (n : NodeNo) (b : Bool) where
@@ -137,8 +162,10 @@ module _ (old new : SiteTable) (list list' : List (Option Row)) (spare : ℕ) (k
           (λ q r gives had. record {
             homeless = subst (λ (hs : List (Option Seat)). (f : ℕ) → bits_set r.losses.homeless.bits f ≡ (nat_lt f 16 && is_none (get_or hs f None))) (sym gives.homes)
                 (λ f. ap (λ (m : LossMask). bits_set m.bits f) gives.homeless ∙ had.homeless f);
-            missing = λ some. subst (λ (hs : List (Option Seat)). IsMaskOf (is_missing online') hs r.losses.missing) (sym gives.homes)
-                (mask-put n b (is_missing (sited old).online) (is_missing online') missing-on missing-off q.homes q.losses.missing r.losses.missing (had.missing (λ empty. some (ap (λ (m : LossMask). m.bits) gives.needs ∙ empty))) gives.missing);
+            missing = λ some.
+                let work : q.losses.needs.bits ≢ 0 = λ empty. some (ap (λ (m : LossMask). m.bits) gives.needs ∙ empty) in
+                subst (λ (hs : List (Option Seat)). IsMaskOf (is_missing online') hs r.losses.missing) (sym gives.homes)
+                (mask-put n b (is_missing (sited old).online) (is_missing online') missing-on missing-off q.homes q.losses.missing r.losses.missing (had.missing work) (gives.missing work));
             needs = subst (λ (hs : List (Option Seat)). (f : ℕ) → bits_set r.losses.needs.bits f ≡ (nat_lt f 16 && is_to_move (sited old).draining (get_or hs f None))) (sym gives.homes)
                 (λ f. ap (λ (m : LossMask). bits_set m.bits f) gives.needs ∙ had.needs f);
           })
@@ -159,22 +186,6 @@ module _ (old new : SiteTable) (list list' : List (Option Row)) (spare : ℕ) (k
         (same-of ((sited old).on n) (IsMissingOn n b) rows rows' offline-renewed is_some (λ q r gives. refl))
         (same-of ((sited old).on n) (IsMissingOn n b) rows rows' offline-renewed row_homes (λ q r gives. ap (λ (hs : List (Option Seat)). λ (f : ℕ). get_or hs f None) gives.homes))
         ∙ ap (λ (s : Stored). with_offline s n b) (sym (stored_of-sited old list spare))))
-
-  -- no row has work
-  module _ (is : sited new ≡ record (sited old) { online = λ m. cond (same_node n m) (not b) ((sited old).online m) })
-      (idle : (x : StripeNo) (q : Row) → rows x ≡ Some q → q.losses.needs.bits ≡ 0) where
-    pub kept-idle : IsKept (sited new) rows
-    kept-idle = subst (λ (s : Sited). IsKept s rows) (sym is) (record {
-      losses = λ x q there. let had = kept.losses x q there in record { homeless = had.homeless; missing = λ some. absurd (some (idle x q there)); needs = had.needs };
-      listed = kept.listed;
-    })
-
-    pub stored-idle : stored_in (record { sites = new.list; rows = list; spare = spare }) ≡ with_offline (stored_in (record { sites = old.list; rows = list; spare = spare })) n b
-    unfolding stored_of
-    stored-idle =
-        stored_of-sited new list spare
-        ∙ (ap (λ (s : Sited). stored_of s.nodes s.online s.draining rows spare) is
-        ∙ ap (λ (s : Stored). with_offline s n b) (sym (stored_of-sited old list spare)))
 
   module _ (is : sited new ≡ record (sited old) { draining = λ m. cond (same_node n m) b ((sited old).draining m) }) (renewed : AreRenewed ((sited new).on n) (IsToMoveOn (sited new).online n b) rows rows') where
     draining-renewed : AreRenewed ((sited old).on n) (IsToMoveOn (sited old).online n b) rows rows'

@@ -137,15 +137,30 @@ renewed-as_put R now next s r there one =
       changed.2,
     )
 
+-- a change of one row that is another change too
+pub renewed-like : (Q R : Row → Row → Type 0) (now next : StripeNo → Option Row) (s : StripeNo) (r : Row) → now s ≡ Some r → AreRenewed (same_stripe s) Q now next
+    → ((q : Row) → Q r q → R r q) → AreRenewed (same_stripe s) R now next
+renewed-like Q R now next s r there one gives = record {
+  listed = λ t same.
+      let was : now t ≡ Some r = ap now (sym (equal_stripes s t (eqb-true s.value t.value same))) ∙ there in
+      let changed : IsRenewed Q (Some r) (next t) = subst (λ (o : Option Row). IsRenewed Q o (next t)) was (one.listed t same) in
+      subst (λ (o : Option Row). IsRenewed R o (next t)) (sym was) (changed.0, changed.1, gives changed.0 changed.2);
+  others = one.others;
+}
+
 -- the masks put, as the rows have them
 pub missing_on-put : (n : NodeNo) (are_in : Bool) (losses : Losses) (r q : Row) → losses.homeless ≡ r.losses.homeless → IsPutOn n are_in r.homes r.losses.missing losses.missing
     → losses.needs ≡ r.losses.needs → IsWithLosses losses r q → IsMissingOn n are_in r q
 missing_on-put n are_in losses r q homeless missing needs is = record {
   homes = is.homes;
   homeless = ap (λ (l : Losses). l.homeless) is.losses ∙ homeless;
-  missing = subst (λ (l : Losses). IsPutOn n are_in r.homes r.losses.missing l.missing) (sym is.losses) missing;
+  missing = λ some. subst (λ (l : Losses). IsPutOn n are_in r.homes r.losses.missing l.missing) (sym is.losses) missing;
   needs = ap (λ (l : Losses). l.needs) is.losses ∙ needs;
 }
+
+-- a row without work stays
+pub missing_on-idle : (n : NodeNo) (are_in : Bool) (r : Row) → r.losses.needs.bits ≡ 0 → IsMissingOn n are_in r r
+missing_on-idle n are_in r idle = record { homes = refl; homeless = refl; missing = λ some. absurd (some idle); needs = refl }
 
 pub to_move_on-put : (online : NodeNo → Bool) (n : NodeNo) (are_in : Bool) (losses : Losses) (r q : Row) → losses.homeless ≡ r.losses.homeless → losses.missing ≡ (renewed online r.homes r.losses).missing
     → IsPutOn n are_in r.homes r.losses.needs losses.needs → IsWithLosses losses r q → IsToMoveOn online n are_in r q
@@ -214,6 +229,23 @@ module _ (set_of : StripeNo → Bool) (R : Row → Row → Type 0) (before : Str
   renewed-absent now from s is so_far none =
       let was : before s ≡ None = let later = is.later in sym (so_far.left s later) ∙ none in
       renewed-next now now from s is so_far (λ t other. refl) (subst (λ (o : Option Row). IsRenewed R o (now s)) (sym was) none)
+
+  -- it becomes another, if it is there
+  pub renewed-more : (now next : StripeNo → Option Row) (from : ℕ) (s : StripeNo) → IsNext set_of from s → AreRenewedTo now from → AreRenewed (same_stripe s) R now next
+      → AreRenewedTo next (s.value + 1)
+  renewed-more now next from s is so_far one =
+      let was : before s ≡ now s = let later = is.later in sym (so_far.left s later) in
+      renewed-next now next from s is so_far one.others (subst (λ (o : Option Row). IsRenewed R o (next s)) (sym was) (one.listed s (eq-eqb s.value s.value refl)))
+
+  -- it stays as it is, if it is there
+  pub renewed-same : (now : StripeNo → Option Row) (from : ℕ) (s : StripeNo) → IsNext set_of from s → AreRenewedTo now from → ((r : Row) → now s ≡ Some r → R r r)
+      → AreRenewedTo now (s.value + 1)
+  renewed-same now from s is so_far same =
+      let was : before s ≡ now s = let later = is.later in sym (so_far.left s later) in
+      renewed-next now now from s is so_far (λ t other. refl) (subst (λ (o : Option Row). IsRenewed R o (now s)) (sym was) (by (now s) refl)) where
+        by : (o : Option Row) → now s ≡ o → IsRenewed R o o
+        by None none = refl
+        by (Some r) there = (r, refl, same r there)
 
   pub renewed-all : (now : StripeNo → Option Row) (from : ℕ) → ((t : StripeNo) → from ≤ t.value → set_of t ≡ false) → AreRenewedTo now from → AreRenewed set_of R before now
   renewed-all now from none so_far = record {

@@ -1,23 +1,26 @@
 -- Which stripes are short: those that have work, and those with homes on several nodes that are not online.
-use Rattle.std.proofs.Common.{◌≡◌, ◌≢◌, ℕ, ◌+◌, ◌<◌, suc, cond, inl, inr, Bool, true, false, not, ◌&&◌, ◌||◌, nat_lt, nat_eq, List, [], ◌∷◌, length, map, take, get_or, Option, Some, None, option_and_then, arith, refl, sym, ap, ◌∙◌, subst}
+use Rattle.std.proofs.Common.{◌≡◌, ◌≢◌, ℕ, ◌+◌, ◌<◌, suc, cond, inl, inr, Bool, true, false, not, ◌&&◌, ◌||◌, nat_lt, nat_eq, ◌≤◌, List, [], ◌∷◌, length, map, take, get_or, Option, Some, None, option_and_then, arith, refl, sym, ap, ◌∙◌, subst}
 use Rattle.std.proofs.Math.Path.{fun_ext}
 use Rattle.std.specs.List.{list_any, count_by, AllPairs}
-use Rattle.std.proofs.lemmas.Bool.{cases_Bool, cases_lt, eq-eqb, lt-ltb, le-ltb}
+use Rattle.std.proofs.lemmas.Bool.{and_parts, cases_Bool, cases_lt, eq-eqb, eqb-true, lt-ltb, le-ltb}
 use Rattle.std.proofs.lemmas.List.{get_or_past}
 use Rattle.std.proofs.lemmas.List.Folds.{list_any_more, list_any_at}
 use Rattle.std.proofs.lemmas.List.Sums.{count_by_more_yes, count_by_more_no, sum_by-cons}
+use Rattle.lrc_code.specs.declared.codes.Code.TheVariants.{Wide}
+use Rattle.lrc_code.specs.Losses.{bits_set}
 use Rattle.lrc_code.specs.declared.numbers.NodeNo.{NodeNo}
 use Rattle.lrc_code.specs.declared.numbers.StripeNo.{StripeNo}
 use Rattle.lrc_topology.specs.declared.NodeInfo.{NodeInfo}
 use Rattle.lrc_stripes.specs.declared.row.Row.{Row}
 use Rattle.lrc_stripes.specs.declared.site.Site.{Site}
-use Rattle.lrc_stripes.specs.Sets.{has}
+use Rattle.lrc_stripes.specs.Sets.{has, at_rank}
 use Rattle.lrc_stripes.specs.Sites.{Sited, SiteTable, AreSites, sited}
 use Rattle.lrc_stripes.specs.Tables.{rows_in}
 use Rattle.lrc_stripes.specs.Masks.{work_rank, is_at}
 use Rattle.lrc_stripes.specs.Kept.{AreQueued}
 use Rattle.lrc_stripes.specs.Masks.{rank_of}
 use Rattle.lrc_stripes.specs.Looming.{is_needy, is_scattered}
+use Rattle.lrc_stripes.proofs.RankLemmas.{rank_by-few}
 use Rattle.lrc_stripes.proofs.SiteLemmas.{online-own}
 use Rattle.lrc_stripes.proofs.SitedLemmas.{or-false}
 
@@ -76,6 +79,28 @@ module _ (list : List (Option Row)) (needs : List ℕ) (work : List (List Bool))
     | inl within ↦ list_any_at (λ m. has m s) work k [] within hit
     | inr past ↦ absurd (let clash : false ≡ true = sym (ap (λ (m : List Bool). has m s) (get_or_past work k [] past)) ∙ hit in cc)
   ]
+
+  -- a stripe of a rank has work
+  pub needy-at : (k : ℕ) → at_rank work k s ≡ true → is_needy (rows_in list s) ≡ true
+  needy-at k hit = ranked-needy k (rows_in list s) (sym (at k) ∙ hit)
+
+  -- and one of none has not
+  pub idle-at : ((k : ℕ) → k < 5 → at_rank work k s ≡ false) → is_needy (rows_in list s) ≡ false
+  idle-at none = elim (cases_Bool (is_needy (rows_in list s))) [
+    | inl needy ↦
+        let found = needy-ranked (rows_in list s) needy in
+        absurd (let clash : true ≡ false = sym (at found.0 ∙ found.1) ∙ none found.0 (few found.0 (rows_in list s) found.1) in cc)
+    | inr idle ↦ idle
+  ] where
+    few : (k : ℕ) (o : Option Row) → ranked k o ≡ true → k < 5
+    few k None hit = absurd (cc)
+    few k (Some r) hit = elim (cases_Bool (nat_eq r.losses.needs.bits 0)) [
+      | inl none ↦ absurd (let clash : false ≡ true = rw none at hit in cc)
+      | inr some ↦
+          let same : rank_of r.losses ≡ k = eqb-true _ _ (rw some at hit) in
+          let most : rank_of r.losses ≤ 4 = rank_by-few Wide (bits_set r.losses.missing.bits) in
+          omega (arith, same, most)
+    ]
 
   pub work-needy : list_any (λ m. has m s) work ≡ is_needy (rows_in list s)
   work-needy = elim (cases_Bool (is_needy (rows_in list s))) [
@@ -174,8 +199,37 @@ scattered-nodes sites sets t view =
 
 -- a node of the list is online where it says so itself
 pub online-there : (sites : List Site) (sets : List (List Bool)) (numbers : List NodeNo) (t : SiteTable) (view : ◌≡◌ {A = SiteTable} (record { list = sites; stripes = sets }) t)
-    → AreSites sites sets numbers → (i : ℕ) (d : Site) → i < length sites → (sited t).online (get_or sites i d).node.number ≡ not (get_or sites i d).is_offline
+    (offline : ℕ) → AreSites sites sets numbers offline → (i : ℕ) (d : Site) → i < length sites → (sited t).online (get_or sites i d).node.number ≡ not (get_or sites i d).is_offline
 unfolding sited
-online-there sites sets numbers t view are i d within =
+online-there sites sets numbers t view offline are i d within =
     subst (λ (y : SiteTable). (sited y).online (get_or sites i d).node.number ≡ not (get_or sites i d).is_offline) view
     (online-own sites i d within (subst (λ (ns : List NodeNo). AllPairs (λ (m n : NodeNo). m.value ≢ n.value) ns) are.found are.apart))
+
+-- what passes one test passes another: as many or more pass that one
+count-within : (p q : Site → Bool) (xs : List Site) → ((i : ℕ) (d : Site) → i < length xs → p (get_or xs i d) ≡ true → q (get_or xs i d) ≡ true)
+    → count_by p xs ≤ count_by q xs
+count-within p q [] all = omega arith
+count-within p q (x ∷ xs) all =
+    let rest : count_by p xs ≤ count_by q xs = count-within p q xs (λ i d within. all (suc i) d (omega (arith, within))) in
+    let one : cond (p x) 1 0 ≤ cond (q x) 1 0 = elim (cases_Bool (p x)) [
+      | inl hit ↦ rw (hit, all 0 x (omega arith) hit) (omega arith)
+      | inr miss ↦ rw miss (omega arith)
+    ] in
+    rw (sum_by-cons (λ (y : Site). cond (p y) 1 0) x xs, sum_by-cons (λ (y : Site). cond (q y) 1 0) x xs) (omega (arith, rest, one))
+
+-- where fewer than two nodes are offline, no stripe has homes on several of them
+pub few-scattered : (sites : List Site) (sets : List (List Bool)) (numbers : List NodeNo) (t : SiteTable) (view : ◌≡◌ {A = SiteTable} (record { list = sites; stripes = sets }) t)
+    (offline : ℕ) → AreSites sites sets numbers offline → offline < 2 → (λ (s : StripeNo). false) ≡ is_scattered (sited t)
+few-scattered sites sets numbers t view offline are few =
+    fun_ext (λ s.
+    let within = count-within (is_off (sited t) s) (λ x. x.is_offline) sites (λ i d inside hit.
+    let at = get_or sites i d in
+    let off = (and_parts (not ((sited t).online at.node.number)) _ hit).0 in
+    let said = online-there sites sets numbers t view offline are i d inside in
+    (let both : not (not at.is_offline) ≡ true = ap not (sym said) ∙ off in elim (cases_Bool at.is_offline) [
+      | inl yes_off ↦ yes_off
+      | inr not_off ↦ absurd (let wrong : false ≡ true = sym (ap (λ b. not (not b)) not_off) ∙ both in cc)
+    ])) in
+    let was : offline ≡ count_by (λ x. x.is_offline) sites = are.counted in
+    sym (le-ltb 1 (counted (sited t) s sites) (omega (arith, within, was, few))))
+    ∙ scattered-nodes sites sets t view

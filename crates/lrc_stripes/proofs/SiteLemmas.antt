@@ -1,10 +1,11 @@
 -- The nodes as they are kept: where one stands, and what setting one changes.
-use Rattle.std.proofs.Common.{◌≡◌, ◌≢◌, ℕ, zero, suc, ◌<◌, ◌≤◌, inl, inr, Bool, true, false, not, if◌then◌else◌, nat_eq, nat_lt, List, [], ◌∷◌, ◌++◌, length, map, get_or, set, IsSome, Option, Some, None, option_map, arith, refl, sym, ap, ◌∙◌, subst}
+use Rattle.std.proofs.Common.{◌≡◌, ◌≢◌, ℕ, zero, suc, ◌<◌, ◌≤◌, inl, inr, Bool, true, false, not, if◌then◌else◌, nat_eq, nat_lt, List, [], ◌∷◌, ◌++◌, length, map, get_or, set, IsSome, Option, Some, None, option_map, arith, refl, sym, ap, ◌∙◌, subst, ◌+◌, cond, sum_by}
 use Rattle.std.proofs.Math.Path.{fun_ext}
 use Rattle.std.proofs.Math.ListN.{length-set}
-use Rattle.std.specs.List.{position_or_len, All, AllPairs}
+use Rattle.std.specs.List.{position_or_len, count_by, All, AllPairs}
 use Rattle.std.specs.Option.{option_map_or}
 use Rattle.std.proofs.lemmas.Bool.{cases_Bool, cases_eq, cases_lt, eq-eqb, ne_eqb, eqb-true, eqb-false, lt-ltb, le-ltb}
+use Rattle.std.proofs.lemmas.List.Sums.{sum_by-set, sum_by-cons}
 use Rattle.std.proofs.lemmas.List.{get_or-set_same, get_or-set_other, get_or-map, length-map, append_assoc}
 use Rattle.lrc_code.specs.declared.numbers.NodeNo.{NodeNo}
 use Rattle.lrc_code.specs.declared.numbers.StripeNo.{StripeNo}
@@ -185,7 +186,7 @@ place-found sites sets n long =
 -- ---- the stripes of the nodes
 
 -- the node at its place has the number
-place_number : (sites : List Site) (n : NodeNo) (d : Site) → site_place sites n < length sites → n.value ≡ (get_or sites (site_place sites n) d).node.number.value
+pub place_number : (sites : List Site) (n : NodeNo) (d : Site) → site_place sites n < length sites → n.value ≡ (get_or sites (site_place sites n) d).node.number.value
 place_number [] n d within = absurd (omega (arith, within))
 place_number (x ∷ sites) n d within = elim (cases_Bool (nat_eq n.value x.node.number.value)) [
   | inl here ↦ rw here (eqb-true _ _ here)
@@ -224,13 +225,38 @@ map-set f [] p y d same = refl
 map-set f (x ∷ xs) zero y d same = ap (λ z. z ∷ map f xs) same
 map-set f (x ∷ xs) (suc p) y d same = ap (λ zs. f x ∷ zs) (map-set f xs p y d same)
 
-pub sites-set : (sites : List Site) (sets : List (List Bool)) (ns : List NodeNo) (p : ℕ) (x y : Site) → AreSites sites sets ns → x ≡ get_or sites p x → y.node ≡ x.node
-    → AreSites (set sites p y) sets ns
-sites-set sites sets ns p x y are here own = record {
-  long = are.long ∙ sym (length-set sites p y);
-  apart = are.apart;
-  found = are.found ∙ sym (map-set (λ (z : Site). z.node.number) sites p y x (ap (λ (k : NodeInfo). k.number) own ∙ ap (λ (z : Site). z.node.number) here));
-}
+-- one where it is so, and none where not
+abbrev one_if : Site → ℕ
+one_if x = cond x.is_offline 1 0
+
+pub sites-set : (sites : List Site) (sets : List (List Bool)) (ns : List NodeNo) (offline later p : ℕ) (x y : Site) → AreSites sites sets ns offline
+    → x ≡ get_or sites p x → p < length sites → y.node ≡ x.node → later + cond x.is_offline 1 0 ≡ offline + cond y.is_offline 1 0
+    → AreSites (set sites p y) sets ns later
+sites-set sites sets ns offline later p x y are here within own count =
+    let moved : sum_by one_if (set sites p y) + one_if x ≡ sum_by one_if sites + one_if y =
+    ap (λ (z : Site). sum_by one_if (set sites p y) + one_if z) here ∙ sum_by-set one_if sites p y x within in
+    let was : offline ≡ sum_by one_if sites = are.counted in
+    record {
+      long = are.long ∙ sym (length-set sites p y);
+      apart = are.apart;
+      found = are.found ∙ sym (map-set (λ (z : Site). z.node.number) sites p y x (ap (λ (k : NodeInfo). k.number) own ∙ ap (λ (z : Site). z.node.number) here));
+      counted = (let same : later ≡ sum_by one_if (set sites p y) = omega (arith, moved, was, count) in same);
+    }
+
+-- a node that is offline is one of those counted
+pub counted-there : (sites : List Site) (sets : List (List Bool)) (ns : List NodeNo) (offline p : ℕ) (x : Site) → AreSites sites sets ns offline
+    → x ≡ get_or sites p x → p < length sites → cond x.is_offline 1 0 ≤ offline
+counted-there sites sets ns offline p x are here within =
+    let gone : Site = record x { is_offline = false } in
+    let moved : sum_by one_if (set sites p gone) + one_if x ≡ sum_by one_if sites + 0 =
+    ap (λ (z : Site). sum_by one_if (set sites p gone) + one_if z) here ∙ sum_by-set one_if sites p gone x within in
+    let was : offline ≡ sum_by one_if sites = are.counted in
+    omega (arith, moved, was)
+
+-- at first no node is offline
+pub none-offline : (nodes : List NodeInfo) → count_by (λ x. x.is_offline) (map site_of nodes) ≡ 0
+none-offline [] = refl
+none-offline (n ∷ nodes) = sum_by-cons one_if (site_of n) (map site_of nodes) ∙ ap (λ (k : ℕ). 0 + k) (none-offline nodes)
 
 -- ---- a node by its own number
 

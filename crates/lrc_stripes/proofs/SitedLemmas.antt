@@ -2,9 +2,10 @@
 use Rattle.std.proofs.Common.{◌≡◌, ℕ, ◌<◌, ◌≤◌, inl, inr, Bool, true, false, not, ◌&&◌, ◌||◌, if◌then◌else◌, nat_eq, List, [], ◌∷◌, ◌+◌, length, map, take, get_or, set, is_some, Option, Some, None, IsTrue, arith, refl, sym, ap, ap₂, ◌∙◌, subst}
 use Rattle.std.proofs.Math.Path.{fun_ext}
 use Rattle.std.specs.List.{All, list_any}
-use Rattle.std.proofs.lemmas.Bool.{cases_Bool, cases_eq, eq-eqb, ne_eqb, eqb-true}
+use Rattle.std.specs.Option.{option_map_or}
+use Rattle.std.proofs.lemmas.Bool.{cases_Bool, cases_lt, cases_eq, eq-eqb, ne_eqb, eqb-true}
 use Rattle.std.proofs.lemmas.List.{get_or_past, get_or_default}
-use Rattle.std.proofs.lemmas.List.Folds.{list_any_more}
+use Rattle.std.proofs.lemmas.List.Folds.{list_any_more, list_any_at}
 use Rattle.lrc_code.specs.declared.numbers.NodeNo.{NodeNo}
 use Rattle.lrc_code.specs.declared.numbers.StripeNo.{StripeNo}
 use Rattle.lrc_code.specs.declared.numbers.UpgradeNo.{UpgradeNo}
@@ -17,7 +18,7 @@ use Rattle.lrc_stripes.specs.declared.site.Site.{Site}
 use Rattle.lrc_stripes.specs.Stored.{has_node}
 use Rattle.lrc_stripes.specs.Sets.{has}
 use Rattle.lrc_stripes.specs.Sites.{Sited, SiteTable, sited, site_of, first_sites, site_at, site_place, online_in, draining_in, IsPlaceOf}
-use Rattle.lrc_stripes.proofs.SiteLemmas.{site_at-place, site_at-past, node_at-sites, nodes-set, said-set, said-kept, place-set, on-changed, nodes-at_first, online-at_first, draining-at_first, sets-none}
+use Rattle.lrc_stripes.proofs.SiteLemmas.{no_site, place_number, site_at-place, site_at-past, node_at-sites, nodes-set, said-set, said-kept, place-set, on-changed, nodes-at_first, online-at_first, draining-at_first, sets-none}
 
 and-false : (b : Bool) → (b && false) ≡ false
 and-false true = refl
@@ -201,6 +202,20 @@ sited-at_first sites sets nodes made none =
     ∙ ap (λ (ns : List NodeInfo). let now : Sited = record { nodes = ns; online = online_in (map site_of nodes); draining = draining_in (map site_of nodes); on = λ n s. false } in now) (nodes-at_first nodes)
     ∙ ap₂ (λ (o b : NodeNo → Bool). record (first_sites nodes) { online = o; draining = b }) (online-at_first nodes) (draining-at_first nodes)
 
+-- ---- nodes set in turn
+
+pub flags-more : (flags : NodeNo → Bool) (nodes : List NodeInfo) (i : ℕ) (d : NodeInfo) (x : Bool) → i < length nodes
+    → ◌≡◌ {A = NodeNo → Bool} (λ m. if same_node (get_or nodes i d).number m then x else (if list_any (λ n. same_node n.number m) (take i nodes) then x else flags m))
+    (λ m. if list_any (λ n. same_node n.number m) (take (i + 1) nodes) then x else flags m)
+flags-more flags nodes i d x within = fun_ext (λ m.
+    rw (list_any_more (λ (n : NodeInfo). same_node n.number m) nodes i d within)
+    (by (same_node (get_or nodes i d).number m) (list_any (λ (n : NodeInfo). same_node n.number m) (take i nodes)) (flags m))) where
+      by : (hit before y : Bool) → (if hit then x else (if before then x else y)) ≡ (if before || hit then x else y)
+      by true true y = refl
+      by true false y = refl
+      by false true y = refl
+      by false false y = refl
+
 -- ---- a stripe taken off several homes
 
 pub same-turned : (a b : ℕ) → nat_eq a b ≡ nat_eq b a
@@ -237,37 +252,67 @@ module _ (first : Sited) (stripe : StripeNo) where
   pub off-same : (before after : NodeNo → Bool) → ((n : NodeNo) → after n ≡ before n) → off before ≡ off after
   off-same before after same = ap (λ (test : NodeNo → Bool). off test) (fun_ext (λ n. sym (same n)))
 
--- ---- the stripes of an upgrade domain
+-- ---- the stripes of some of the nodes
 
--- the stripes with a home on one of these nodes that are in the domain
-abbrev pub in_domain : Sited → UpgradeNo → List Site → StripeNo → Bool
-in_domain z u xs s = list_any (λ (x : Site). same_upgrade x.node.upgrade u && z.on x.node.number s) xs
+-- the stripes with a home on one of these nodes that pass the test
+abbrev pub on_some : Sited → (Site → Bool) → List Site → StripeNo → Bool
+on_some z test xs s = list_any (λ (x : Site). test x && z.on x.node.number s) xs
 
-module _ (z : Sited) (u : UpgradeNo) (xs : List Site) (i : ℕ) (d : Site) (found new : List Bool) (within : i < length xs) (before : has found ≡ in_domain z u (take i xs)) where
+module _ (z : Sited) (test : Site → Bool) (xs : List Site) (i : ℕ) (d : Site) (found : List Bool) (within : i < length xs) (before : has found ≡ on_some z test (take i xs)) where
   abbrev here : Site
   here = get_or xs i d
 
-  one-more : (s : StripeNo) → in_domain z u (take (i + 1) xs) s ≡ (in_domain z u (take i xs) s || (same_upgrade here.node.upgrade u && z.on here.node.number s))
-  one-more s = list_any_more (λ (x : Site). same_upgrade x.node.upgrade u && z.on x.node.number s) xs i d within
+  one-more : (s : StripeNo) → on_some z test (take (i + 1) xs) s ≡ (on_some z test (take i xs) s || (test here && z.on here.node.number s))
+  one-more s = list_any_more (λ (x : Site). test x && z.on x.node.number s) xs i d within
 
-  pub domain-more : same_upgrade here.node.upgrade u ≡ true → has new ≡ (λ s. has found s || z.on here.node.number s) → has new ≡ in_domain z u (take (i + 1) xs)
-  domain-more hit joined = joined ∙ fun_ext (λ s.
-      ap (λ (f : StripeNo → Bool). f s || z.on here.node.number s) before ∙ ap (λ (b : Bool). in_domain z u (take i xs) s || (b && z.on here.node.number s)) (sym hit) ∙ sym (one-more s))
+  pub some-more : (new : List Bool) → test here ≡ true → has new ≡ (λ s. has found s || z.on here.node.number s) → has new ≡ on_some z test (take (i + 1) xs)
+  some-more new hit joined = joined ∙ fun_ext (λ s.
+      ap (λ (f : StripeNo → Bool). f s || z.on here.node.number s) before ∙ ap (λ (b : Bool). on_some z test (take i xs) s || (b && z.on here.node.number s)) (sym hit) ∙ sym (one-more s))
 
-module _ (z : Sited) (u : UpgradeNo) (xs : List Site) (i : ℕ) (d : Site) (found : List Bool) (within : i < length xs) (before : has found ≡ in_domain z u (take i xs)) where
-  pub domain-same : same_upgrade (get_or xs i d).node.upgrade u ≡ false → has found ≡ in_domain z u (take (i + 1) xs)
-  domain-same miss = before ∙ fun_ext (λ s.
-      sym (list_any_more (λ (x : Site). same_upgrade x.node.upgrade u && z.on x.node.number s) xs i d within
-      ∙ ap (λ (b : Bool). in_domain z u (take i xs) s || (b && z.on (get_or xs i d).node.number s)) miss ∙ or-false (in_domain z u (take i xs) s)))
+  pub some-same : test here ≡ false → has found ≡ on_some z test (take (i + 1) xs)
+  some-same miss = before ∙ fun_ext (λ s.
+      sym (one-more s ∙ ap (λ (b : Bool). on_some z test (take i xs) s || (b && z.on here.node.number s)) miss ∙ or-false (on_some z test (take i xs) s)))
+
+-- ---- those of an upgrade domain
+
+-- the node is in the domain
+abbrev pub in_domain : UpgradeNo → Site → Bool
+in_domain u x = same_upgrade x.node.upgrade u
 
 pub any-map : {X Y : Type 0} (p : Y → Bool) (f : X → Y) (xs : List X) → list_any (λ x. p (f x)) xs ≡ list_any p (map f xs)
 any-map p f [] = refl
 any-map p f (x ∷ xs) = ap (λ b. p (f x) || b) (any-map p f xs)
 
 pub domain-nodes : (sites : List Site) (sets : List (List Bool)) (t : SiteTable) (view : ◌≡◌ {A = SiteTable} (record { list = sites; stripes = sets }) t) (u : UpgradeNo)
-    → in_domain (sited t) u sites ≡ (λ s. list_any (λ n. same_upgrade n.upgrade u && (sited t).on n.number s) (sited t).nodes)
+    → on_some (sited t) (in_domain u) sites ≡ (λ s. list_any (λ n. same_upgrade n.upgrade u && (sited t).on n.number s) (sited t).nodes)
 unfolding sited
 domain-nodes sites sets t view u =
-    subst (λ (y : SiteTable). in_domain (sited y) u sites ≡ (λ s. list_any (λ n. same_upgrade n.upgrade u && (sited y).on n.number s) (sited y).nodes)) view
+    subst (λ (y : SiteTable). on_some (sited y) (in_domain u) sites ≡ (λ s. list_any (λ n. same_upgrade n.upgrade u && (sited y).on n.number s) (sited y).nodes)) view
     (let now : Sited = sited (record { list = sites; stripes = sets }) in
     fun_ext (λ s. any-map (λ (n : NodeInfo). same_upgrade n.upgrade u && now.on n.number s) (λ (x : Site). x.node) sites))
+
+-- ---- those of the nodes that are not online
+
+module _ (sites : List Site) (sets : List (List Bool)) (long : length sets ≡ length sites) where
+  offline-listed : (n : NodeNo) (s : StripeNo) → online_in sites n ≡ false → has (get_or sets (site_place sites n) []) s ≡ true
+      → list_any (λ (x : Site). x.is_offline && has (get_or sets (site_place sites x.node.number) []) s) sites ≡ true
+  offline-listed n s off on = elim (cases_lt (site_place sites n) (length sites)) [
+    | inr past ↦ absurd (let none = get_or_past sets (site_place sites n) [] (omega (arith, past, long)) in let clash : true ≡ false = sym on ∙ ap (λ (bits : List Bool). has bits s) none in cc)
+    | inl within ↦
+        let x = get_or sites (site_place sites n) no_site in
+        let own : n ≡ x.node.number = equal_nodes n x.node.number (place_number sites n no_site within) in
+        let down : x.is_offline ≡ true =
+        not-false x.is_offline (sym (ap (λ (o : Option Site). option_map_or (λ y. not y.is_offline) o false) (site_at-place sites n no_site within)) ∙ off) in
+        list_any_at (λ (y : Site). y.is_offline && has (get_or sets (site_place sites y.node.number) []) s) sites (site_place sites n) no_site within
+        (rw (down, ← own) on)
+  ] where
+    not-false : (b : Bool) → not b ≡ false → b ≡ true
+    not-false true e = refl
+    not-false false e = sym e
+
+-- a stripe with a home on such a node
+pub offline-all : (sites : List Site) (sets : List (List Bool)) (t : SiteTable) (view : ◌≡◌ {A = SiteTable} (record { list = sites; stripes = sets }) t) → length sets ≡ length sites
+    → (n : NodeNo) (s : StripeNo) → (sited t).online n ≡ false → (sited t).on n s ≡ true → on_some (sited t) (λ x. x.is_offline) sites s ≡ true
+unfolding sited
+offline-all sites sets t view long n s =
+    subst (λ (y : SiteTable). (sited y).online n ≡ false → (sited y).on n s ≡ true → on_some (sited y) (λ x. x.is_offline) sites s ≡ true) view (offline-listed sites sets long n s)

@@ -1,7 +1,8 @@
 -- What a change of a row changes in what the rows stand for.
-use Rattle.std.proofs.Common.{◌≡◌, ℕ, ◌-◌, inl, inr, Bool, true, false, not, ◌&&◌, ◌||◌, if◌then◌else◌, nat_eq, nat_lt, List, get_or, set, replicate, Option, Some, None, is_some, refl, sym, ap, ap₂, ◌∙◌}
+use Rattle.std.proofs.Common.{◌≡◌, ℕ, zero, suc, ◌+◌, ◌-◌, ◌<◌, inl, inr, Bool, true, false, not, ◌&&◌, ◌||◌, if◌then◌else◌, nat_eq, nat_lt, List, [], ◌∷◌, length, map, take, get_or, set, replicate, Option, Some, None, is_some, refl, sym, ap, ap₂, ◌∙◌}
 use mathlib.Core.Bool.{beq}
 use Rattle.std.proofs.Math.Path.{fun_ext}
+use Rattle.std.specs.List.{slice_get}
 use Rattle.std.specs.Option.{option_map_or}
 use Rattle.std.proofs.lemmas.Bool.{cases_eq, eq-eqb, ne_eqb}
 use Rattle.std.proofs.lemmas.List.{get_or-set_same, get_or-set_other}
@@ -15,9 +16,10 @@ use Rattle.lrc_code.proofs.NumbersLemmas.{equal_stripes, equal_nodes}
 use Rattle.lrc_topology.specs.declared.NodeInfo.{NodeInfo}
 use Rattle.lrc_topology.specs.declared.seat.Seat.{Seat}
 use Rattle.lrc_stripes.specs.declared.row.Row.{Row}
-use Rattle.lrc_stripes.specs.Stored.{Stored, empty, with_stripe, without_stripe, with_home, with_offline, with_draining, with_spare}
+use Rattle.lrc_stripes.specs.Stored.{Stored, empty, with_stripe, with_homes, without_stripe, with_home, with_offline, with_offline_all, with_draining, with_spare}
 use Rattle.lrc_stripes.specs.Sites.{Sited, first_sites}
 use Rattle.lrc_stripes.specs.Tables.{row_homes}
+use Rattle.lrc_stripes.proofs.SitedLemmas.{flags-more}
 use Rattle.lrc_stripes.proofs.KeptLemmas.{replicated}
 
 -- what nodes and rows stand for
@@ -71,6 +73,24 @@ module _ (z : Sited) (rows after : StripeNo → Option Row) (s : StripeNo) where
       ∙ ap (λ (b : StripeNo → Bool). record (before spare) { stripes = b; homes = λ u. row_homes (if same_stripe s u then Some r else rows u); spare = spare - 1 }) (fun_ext (λ u. stripes-added (same_stripe s u) (Some r) (rows u) refl))
       ∙ ap (λ (h : StripeNo → ℕ → Option Seat). record (with_stripe (before spare) Wide s) { code = λ u. Wide; homes = h }) (fun_ext (λ u. fun_ext (λ f. homes-chosen (same_stripe s u) (Some r) (rows u) f (no_homes f))))
       ∙ ap (λ (c : StripeNo → Code). record (with_stripe (before spare) Wide s) { code = c }) (wide_stays s)
+
+  -- a stripe with homes on seats added
+  pub stored-seated : (r : Row) (seats : List Seat) (spare : ℕ) → r.homes ≡ map Some seats → after ≡ (λ u. if same_stripe s u then Some r else rows u)
+      → stored_by z after (spare - 1) ≡ with_homes (before spare) s seats
+  stored-seated r seats spare own is =
+      ap (λ (a : StripeNo → Option Row). stored_by z a (spare - 1)) is
+      ∙ ap (λ (b : StripeNo → Bool). record (before spare) { stripes = b; homes = λ u. row_homes (if same_stripe s u then Some r else rows u); spare = spare - 1 }) (fun_ext (λ u. stripes-added (same_stripe s u) (Some r) (rows u) refl))
+      ∙ ap (λ (h : StripeNo → ℕ → Option Seat). record (with_stripe (before spare) Wide s) { code = λ u. Wide; homes = h }) (fun_ext (λ u. fun_ext (λ f. by (same_stripe s u) (rows u) f)))
+      ∙ ap (λ (c : StripeNo → Code). record (with_homes (before spare) s seats) { code = c }) (wide_stays s)
+    where
+      mapped : (xs : List Seat) (f : ℕ) → get_or (map Some xs) f None ≡ slice_get xs f
+      mapped [] f = refl
+      mapped (x ∷ xs) zero = refl
+      mapped (x ∷ xs) (suc f) = mapped xs f
+
+      by : (b : Bool) (p : Option Row) (f : ℕ) → row_homes (if b then Some r else p) f ≡ (if b then slice_get seats f else row_homes p f)
+      by true p f = ap (λ (hs : List (Option Seat)). get_or hs f None) own ∙ mapped seats f
+      by false p f = refl
 
   -- a stripe taken out with its homes
   pub stored-remove : (spare : ℕ) → after ≡ (λ u. if same_stripe s u then None else rows u) → stored_by z after spare ≡ with_spare (without_stripe (before spare) s) spare
@@ -131,6 +151,12 @@ offline-stays t n b apart = ap (λ (o : NodeNo → Bool). record t { online = o 
 
 pub draining-stays : (t : Stored) (n : NodeNo) (b : Bool) → not (beq (t.draining n) b) ≡ false → t ≡ with_draining t n b
 draining-stays t n b alike = ap (λ (d : NodeNo → Bool). record t { draining = d }) (flag-stays t.draining n b (alike-same (t.draining n) b alike))
+
+-- ---- nodes set in turn
+
+pub offline-more : (t : Stored) (nodes : List NodeInfo) (i : ℕ) (d : NodeInfo) (b : Bool) → i < length nodes
+    → with_offline (with_offline_all t (take i nodes) b) (get_or nodes i d).number b ≡ with_offline_all t (take (i + 1) nodes) b
+offline-more t nodes i d b within = ap (λ (o : NodeNo → Bool). record t { online = o }) (flags-more t.online nodes i d (not b) within)
 
 -- ---- seats
 

@@ -1,7 +1,7 @@
 -- The walk over the homes on a node: what each step leaves.
 use Rattle.std.proofs.Common.{◌≡◌, ℕ, zero, suc, ◌+◌, ◌-◌, ◌<◌, ◌≤◌, inl, inr, Bool, false, List, [], ◌∷◌, ◌++◌, length, get_or, map, filter, find, drop, Option, Some, None, arith, refl, sym, ap, ◌∙◌, add-one, drop-cons}
 use Rattle.std.specs.List.{flat_map}
-use Rattle.std.proofs.lemmas.Bool.{cases_Bool}
+use Rattle.std.proofs.lemmas.Bool.{cases_Bool, cases_lt, cases_eq}
 use Rattle.std.proofs.lemmas.List.{drop_all}
 use Rattle.std.proofs.lemmas.Option.{same_Some}
 use Rattle.lrc_code.specs.declared.codes.Code.TheVariants.{Wide}
@@ -9,6 +9,7 @@ use Rattle.lrc_code.specs.declared.numbers.StripeNo.{StripeNo}
 use Rattle.lrc_code.specs.declared.numbers.NodeNo.{NodeNo}
 use Rattle.lrc_code.specs.declared.numbers.Fragment.{Fragment}
 use Rattle.lrc_code.specs.Codes.{fragments}
+use Rattle.lrc_code.proofs.NumbersLemmas.{equal_stripes}
 use Rattle.lrc_stripes.specs.declared.row.Row.{Row}
 use Rattle.lrc_stripes.specs.Stored.{StripeFragment}
 use Rattle.lrc_stripes.specs.Sets.{IsNext}
@@ -88,3 +89,25 @@ module _ (n : NodeNo) (rows : StripeNo → Option Row) (set : StripeNo → Bool)
       → places_of n rows now next ≡ p ∷ places_of n rows now (p.1.value + 1)
       → whole ≡ p ∷ (places_of n rows now (p.1.value + 1) ++ places_from n rows set from)
   walk-found now next from p whole left found = sym left ∙ ap (λ xs. xs ++ places_from n rows set from) found
+
+-- ---- a queue whose stripes are all of a set, by the members of the set
+
+module _ (queue among : StripeNo → Bool) (covers : (s : StripeNo) → among s ≡ false → queue s ≡ false) (from next : ℕ)
+    (none : (t : StripeNo) → from ≤ t.value → t.value < next → queue t ≡ false) where
+  pub passed-below : (s : StripeNo) → IsNext among next s → (t : StripeNo) → from ≤ t.value → t.value < s.value → queue t ≡ false
+  passed-below s is t later lower = elim (cases_lt t.value next) [
+    | inl old ↦ none t later old
+    | inr new ↦ covers t (is.first t new lower)
+  ]
+
+  pub passed-more : (s : StripeNo) → IsNext among next s → queue s ≡ false → (t : StripeNo) → from ≤ t.value → t.value < s.value + 1 → queue t ≡ false
+  passed-more s is miss t later lower = elim (cases_eq s.value t.value) [
+    | inl same ↦ ap queue (sym (equal_stripes s t same)) ∙ miss
+    | inr other ↦ passed-below s is t later (omega (arith, lower, other))
+  ]
+
+  pub passed-all : ((t : StripeNo) → next ≤ t.value → among t ≡ false) → (t : StripeNo) → from ≤ t.value → queue t ≡ false
+  passed-all ends t later = elim (cases_lt t.value next) [
+    | inl old ↦ none t later old
+    | inr new ↦ covers t (ends t new)
+  ]

@@ -1,6 +1,6 @@
 -- Internal: no public clause reaches these definitions.
 -- What is kept of the stripes beside their homes: the masks of each row, and the stripes on each node.
-use Rattle.std.specs.Prelude.{◌≡◌, ℕ, ◌+◌, ◌-◌, Bool, true, false, List, [], ◌∷◌, ◌++◌, length, get_or, set, map, filter, drop, Option, Some, None, option_and_then, option_map}
+use Rattle.std.specs.Prelude.{◌≡◌, ◌≢◌, ℕ, ◌+◌, ◌-◌, Bool, true, false, List, [], ◌∷◌, ◌++◌, length, get_or, set, map, filter, drop, Option, Some, None, option_and_then, option_map}
 use Rattle.std.specs.Option.{option_map_or}
 use Rattle.std.specs.List.{list_any, flat_map, range_with_len}
 use Rattle.lrc_code.specs.declared.codes.Code.TheVariants.{Wide}
@@ -60,11 +60,11 @@ pub record IsSeated (f : ℕ) (seat : Seat) (given : Losses) (before after : Row
   pub homes : after.homes ≡ set before.homes f (Some seat)
   pub losses : after.losses ≡ given
 
--- the row where the fragments with a home on the node are missing or not, as told
+-- the row where the fragments with a home on the node are missing or not, as told, if it has work
 pub record IsMissingOn (n : NodeNo) (are_missing : Bool) (before after : Row) : Type 0 where
   pub homes : after.homes ≡ before.homes
   pub homeless : after.losses.homeless ≡ before.losses.homeless
-  pub missing : IsPutOn n are_missing before.homes before.losses.missing after.losses.missing
+  pub missing : before.losses.needs.bits ≢ 0 → IsPutOn n are_missing before.homes before.losses.missing after.losses.missing
   pub needs : after.losses.needs ≡ before.losses.needs
 
 -- the row where the fragments with a home on the node need a lease or not, as told
@@ -101,6 +101,10 @@ FindsPlace n rows stripe from (Some p) = places_of n rows stripe from ≡ p ∷ 
 abbrev pub queue_from : (ℕ → StripeNo → Bool) → ℕ → ℕ → List StripeNo
 queue_from queue rank from =
     members_from (queue rank) from ++ flat_map (λ k. members_from (queue k) 0) (range_with_len (rank + 1) (4 - rank))
+
+-- each stripe of the queue is of the set
+abbrev pub Covers : (StripeNo → Bool) → (ℕ → StripeNo → Bool) → Type 0
+Covers set queue = (k : ℕ) (s : StripeNo) → set s ≡ false → queue k s ≡ false
 
 -- ---- the rows
 

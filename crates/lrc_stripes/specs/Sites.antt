@@ -1,5 +1,5 @@
 -- The nodes as they are kept, and the stripes with a home on each.
-use Rattle.std.specs.Prelude.{◌≡◌, ◌≢◌, ℕ, suc, ◌<◌, ◌≤◌, Bool, not, false, if◌then◌else◌, List, [], ◌∷◌, map, find, get_or, length, Option, Some, None}
+use Rattle.std.specs.Prelude.{◌≡◌, ◌≢◌, ℕ, suc, ◌<◌, ◌≤◌, Bool, not, false, if◌then◌else◌, List, [], ◌∷◌, map, find, count_by, get_or, length, Option, Some, None}
 use Rattle.std.specs.List.{AllPairs}
 use Rattle.std.specs.Option.{option_map_or}
 use Rattle.lrc_code.specs.declared.numbers.StripeNo.{StripeNo}
@@ -56,11 +56,12 @@ sited t = record {
   on = λ n. has (get_or t.stripes (site_place t.list n) []);
 }
 
--- there is a set for each node, and the nodes are found by their numbers, of which no two are one
-pub record AreSites (sites : List Site) (sets : List (List Bool)) (numbers : List NodeNo) : Type 0 where
+-- there is a set for each node, the nodes are found by their numbers, of which no two are one, and so many of them are offline
+pub record AreSites (sites : List Site) (sets : List (List Bool)) (numbers : List NodeNo) (offline : ℕ) : Type 0 where
   pub long : length sets ≡ length sites
   pub found : numbers ≡ map (λ x. x.node.number) sites
   pub apart : AllPairs (λ m n. m.value ≢ n.value) numbers
+  pub counted : offline ≡ count_by (λ x. x.is_offline) sites
 
 -- what a look-up finds: the place of the node, or none where no node has the number
 abbrev pub IsPlaceOf : SiteTable → NodeNo → Option ℕ → Type 0

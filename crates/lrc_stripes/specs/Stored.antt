@@ -1,6 +1,6 @@
 -- What a store of stripes is: which stripes there are, the homes of their fragments, and the nodes that are online or draining.
 use Rattle.std.specs.Prelude.{◌≡◌, ◌≢◌, ℕ, ◌-◌, Bool, false, not, ◌&&◌, ◌||◌, if◌then◌else◌, nat_lt, nat_eq, List, Option, Some, None, is_some, IsTrue, IsFalse, ◌↔◌}
-use Rattle.std.specs.List.{Contains, AllPairs}
+use Rattle.std.specs.List.{Contains, AllPairs, list_any, slice_get}
 use Rattle.std.specs.Option.{option_map_or}
 use Rattle.lrc_code.specs.declared.codes.Code.{Code}
 use Rattle.lrc_code.specs.declared.codes.Code.TheVariants.{Wide}
@@ -52,6 +52,10 @@ with_stripe t code s = record t {
   spare = t.spare - 1;
 }
 
+-- one more stripe of the code Wide, whose fragments have their homes on these seats
+abbrev pub with_homes : Stored → StripeNo → List Seat → Stored
+with_homes t s seats = record (with_stripe t Wide s) { homes = λ r f. if same_stripe s r then slice_get seats f else t.homes r f }
+
 -- the stripe and its homes taken out
 abbrev pub without_stripe : Stored → StripeNo → Stored
 without_stripe t s = record t {
@@ -67,6 +71,10 @@ with_home t s f home = record t { homes = λ r g. if same_stripe s r && nat_eq f
 -- the node is offline or not, as set
 abbrev pub with_offline : Stored → NodeNo → Bool → Stored
 with_offline t n b = record t { online = λ m. if same_node n m then not b else t.online m }
+
+-- these nodes are offline or not, as set
+abbrev pub with_offline_all : Stored → List NodeInfo → Bool → Stored
+with_offline_all t nodes b = record t { online = λ m. if list_any (λ n. same_node n.number m) nodes then not b else t.online m }
 
 -- the node is draining or not, as set
 abbrev pub with_draining : Stored → NodeNo → Bool → Stored

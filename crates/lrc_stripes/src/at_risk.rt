@@ -3,7 +3,7 @@ ghost use Rattle.std.specs.Iterator.{YieldsFirst, item_count};
 ghost use Rattle.lrc_stripes.specs.Tables.{rows_in};
 ghost use Rattle.lrc_stripes.specs.Sites.{sited};
 ghost use Rattle.lrc_stripes.specs.Masks.{risk_rank};
-ghost use Rattle.lrc_stripes.specs.Kept.{levels_of, queue_from, queued, freshened};
+ghost use Rattle.lrc_stripes.specs.Kept.{IsKept, levels_of, queue_from, queued, freshened};
 
 use crate::Level;
 use crate::risky::Risky;
@@ -35,6 +35,7 @@ impl<'a> Model for AtRisk<'a> {
 impl<'a> AtRisk<'a> {
     /// The stripes of these rows that are not whole.
     pub(crate) fn new(sites: &'a Sites, rows: &'a Rows) -> AtRisk<'a>
+        requires { IsKept (sited sites.now) (rows_in rows.now) }
         ensures { result ≡ levels_of (rows_in (freshened (sited sites.now).online rows.now)) (queue_from (queued risk_rank (rows_in (freshened (sited sites.now).online rows.now))) 0 0) }
     {
         AtRisk {

@@ -1,6 +1,6 @@
 //! Masks of fragments, by the nodes that the fragments' homes are on.
 
-ghost use Rattle.std.specs.Prelude.{◌≡◌, ℕ, if◌then◌else◌, ◌&&◌, nat_lt, get_or, length, None};
+ghost use Rattle.std.specs.Prelude.{◌≡◌, ℕ, if◌then◌else◌, ◌&&◌, ◌||◌, nat_eq, nat_lt, get_or, length, None};
 ghost use Rattle.lrc_code.specs.declared.codes.Code.TheVariants.{Wide};
 ghost use Rattle.lrc_code.specs.Losses.{bits_set, bits_of};
 ghost use Rattle.lrc_stripes.specs.Rows.{sits_on, is_missing};
@@ -58,6 +58,13 @@ pub(crate) fn put(mask: LossMask, fragments: LossMask, are_in: bool) -> LossMask
     } else {
         LossMask::from_bits(mask.bits & !fragments.bits)
     }
+}
+
+/// The mask with one more fragment, where told.
+pub(crate) fn with_where(mask: LossMask, fragment: Fragment, is_in: bool) -> LossMask
+    ensures { (f : ℕ) → bits_set result.bits f ≡ ((nat_eq f fragment.value && is_in) || bits_set mask.bits f) }
+{
+    if is_in { mask.with(fragment) } else { mask }
 }
 
 /// Whether a home is on the node.

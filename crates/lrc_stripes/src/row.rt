@@ -1,10 +1,10 @@
-ghost use Rattle.std.specs.Prelude.{◌≡◌, ◌≤◌, length, set, replicate, find, drop, None};
+ghost use Rattle.std.specs.Prelude.{◌≡◌, ◌≤◌, length, set, map, replicate, find, drop, None, Some};
 ghost use Rattle.std.specs.List.{list_any};
 ghost use Rattle.lrc_code.specs.declared.codes.Code.TheVariants.{Wide};
 ghost use Rattle.lrc_code.specs.Codes.{fragments};
 ghost use Rattle.lrc_stripes.specs.Rows.{sits_on, sits_at, is_on_seat};
 ghost use Rattle.lrc_stripes.specs.Sites.{sited};
-ghost use Rattle.lrc_stripes.specs.Masks.{AreAll, AreWith, IsPutOn, renewed};
+ghost use Rattle.lrc_stripes.specs.Masks.{AreAll, AreKept, AreWith, IsPutOn, renewed};
 
 use crate::losses::Losses;
 use crate::sites::Sites;
@@ -31,14 +31,27 @@ impl Row {
         }
     }
 
+    /// The fragments have homes on these seats, and these losses.
+    pub(crate) fn seated(seats: &[Seat; 16], losses: Losses) -> Row
+        ensures homes { result.homes ≡ map Some seats.now }
+        ensures losses { result.losses ≡ losses }
+    {
+        let mut homes = [None; 16];
+        for place in 0..16usize {
+            homes[place] = Some(seats[place]);
+        }
+        Row { homes, losses }
+    }
+
     /// The same, where a fragment has this home or none.
     pub(crate) fn with_home(self, sites: &Sites, fragment: Fragment, home: Option<Seat>) -> Row
+        requires { AreKept (sited sites.now).online (sited sites.now).draining self.homes self.losses }
         ensures homes { result.homes ≡ set self.homes fragment.value home }
         ensures losses { AreWith (sited sites.now) fragment.value home (renewed (sited sites.now).online self.homes self.losses) result.losses }
     {
         let mut row = self;
         row.homes[fragment.value as usize] = home;
-        row.losses = self.losses_now(sites).with_home(sites, fragment, home);
+        row.losses = self.losses_kept(sites).with_home(sites, fragment, home);
         row
     }
 
@@ -48,6 +61,19 @@ impl Row {
     {
         let mut losses = self.losses;
         losses.missing = masks::missing_of(&self.homes, sites);
+        losses
+    }
+
+    /// The same of a row whose masks are those that are kept: where it has work, they are so already.
+    fn losses_kept(&self, sites: &Sites) -> Losses
+        requires { AreKept (sited sites.now).online (sited sites.now).draining self.now.homes self.now.losses }
+        ensures { result ≡ renewed (sited sites.now).online self.now.homes self.now.losses }
+    {
+        if self.losses.needs.bits == 0 {
+            return self.losses_now(sites);
+        }
+        let mut losses = self.losses;
+        losses.missing = self.losses.missing();
         losses
     }
 

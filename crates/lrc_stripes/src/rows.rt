@@ -1,4 +1,4 @@
-ghost use Rattle.std.specs.Prelude.{◌≡◌, ◌||◌, ℕ, ◌<◌, ◌≤◌, if◌then◌else◌, length, get_or, option_and_then, replicate, Some, None, false, IsTrue, IfOk, IfErr, IfSome};
+ghost use Rattle.std.specs.Prelude.{◌≡◌, ◌||◌, ℕ, ◌<◌, ◌≤◌, if◌then◌else◌, length, get_or, option_and_then, replicate, Some, None, true, false, IsTrue, IfOk, IfErr, IfSome};
 ghost use Rattle.std.specs.Option.{option_copied};
 ghost use Rattle.lrc_code.specs.Numbers.{same_stripe};
 ghost use Rattle.lrc_code.specs.declared.numbers.StripeNo.{StripeNo as AnyStripe};
@@ -9,7 +9,7 @@ ghost use Rattle.lrc_stripes.specs.Sets.{FindsNext, has};
 ghost use Rattle.lrc_stripes.specs.Looming.{is_needy};
 ghost use Rattle.lrc_stripes.specs.Sites.{sited};
 ghost use Rattle.lrc_stripes.specs.Tables.{rows_in};
-ghost use Rattle.lrc_stripes.specs.Kept.{queue_from, queued, needs_of, freshened, level_in, holds, AreRenewed, IsRenewed, IsWithLosses, IsSeated, IsMissingOn, IsToMoveOn};
+ghost use Rattle.lrc_stripes.specs.Kept.{Covers, IsKept, queue_from, queued, needs_of, freshened, level_in, holds, AreRenewed, IsRenewed, IsWithLosses, IsSeated, IsMissingOn, IsToMoveOn};
 
 use crate::losses::Losses;
 use crate::queue::{Queue, RANKS};
@@ -128,17 +128,26 @@ impl Rows {
         }
     }
 
-    /// Sets whether the fragments with a home on the node are missing.
+    /// Sets whether the fragments with a home on the node are missing, in the stripes that have work.
     pub(crate) fn renew_missing(&mut self, sites: &Sites, node: NodeNo, are_missing: bool)
         ensures { AreRenewed ((sited sites.now).on node) (IsMissingOn node are_missing) (rows_in self.old) (rows_in self.new) }
     {
         let mut from = 0;
         while let Some(stripe) = sites.first_on(node, from) {
-            if let Some(row) = self.get(stripe) {
-                let losses = row.with_missing(node, are_missing);
-                self.set_losses(stripe, losses);
+            if self.needs(stripe).bits != 0 {
+                self.renew_missing_of(stripe, node, are_missing);
             }
             from = stripe.value as usize + 1;
+        }
+    }
+
+    /// Sets whether a stripe's fragments with a home on the node are missing, if the stripe is there.
+    fn renew_missing_of(&mut self, stripe: StripeNo, node: NodeNo, are_missing: bool)
+        ensures { AreRenewed (same_stripe stripe) (IsMissingOn node are_missing) (rows_in self.old) (rows_in self.new) }
+    {
+        if let Some(row) = self.get(stripe) {
+            let losses = row.with_missing(node, are_missing);
+            self.set_losses(stripe, losses);
         }
     }
 
@@ -168,10 +177,11 @@ impl Rows {
 
     /// Whether a stripe has work.
     pub(crate) fn has_work(&self) -> bool
-        ensures { result ≡ false → (s : AnyStripe) (r : AnyRow) → rows_in self.now s ≡ Some r → r.losses.needs.bits ≡ 0 }
+        ensures none { result ≡ false → (s : AnyStripe) → is_needy (rows_in self.now s) ≡ false }
+        ensures some { result ≡ true → (s : AnyStripe) × (is_needy (rows_in self.now s) ≡ true) }
     {
         for rank in 0..RANKS {
-            if self.work.first_from(rank, 0).is_some() {
+            if let Some(_stripe) = self.work.first_from(rank, 0) {
                 return true;
             }
         }
@@ -204,23 +214,30 @@ impl Rows {
 
     /// The stripes with a missing fragment, in the order of repair.
     pub(crate) fn at_risk<'a>(&'a self, sites: &'a Sites) -> Risky<'a>
+        requires { IsKept (sited sites.now) (rows_in self.now) }
         ensures { result ≡ queue_from (queued risk_rank (rows_in (freshened (sited sites.now).online self.now))) 0 0 }
     {
         Risky::new(sites, self)
     }
 
-    /// The first stripe from this number on that has a missing fragment and is of this rank.
-    pub(crate) fn first_at_risk(&self, sites: &Sites, rank: usize, from: usize) -> Option<StripeNo>
-        requires { rank ≤ 4 }
+    /// The first stripe from this number on that has a missing fragment and is of this rank. All such are in the set.
+    pub(crate) fn first_at_risk(
+        &self,
+        sites: &Sites,
+        among: &StripeSet,
+        rank: usize,
+        from: usize,
+    ) -> Option<StripeNo>
+        requires few { rank ≤ 4 }
+        requires all { Covers (has among.now) (queued risk_rank (rows_in (freshened (sited sites.now).online self.now))) }
         ensures { FindsNext (queued risk_rank (rows_in (freshened (sited sites.now).online self.now)) rank) from result }
     {
-        for number in from..STRIPES {
-            let stripe = StripeNo {
-                value: number as u16,
-            };
+        let mut next = from;
+        while let Some(stripe) = among.first_from(next) {
             if self.is_at_risk(sites, stripe, rank as u8) {
                 return Some(stripe);
             }
+            next = stripe.value as usize + 1;
         }
         None
     }

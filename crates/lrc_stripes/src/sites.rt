@@ -1,6 +1,8 @@
-ghost use Rattle.std.specs.Prelude.{◌≡◌, ◌&&◌, ◌||◌, not, if◌then◌else◌, IfOk, IfErr, IsTrue};
-ghost use Rattle.std.specs.List.{list_any};
+ghost use Rattle.std.specs.Prelude.{◌≡◌, ◌&&◌, ◌||◌, not, true, false, if◌then◌else◌, map, Some, IfOk, IfErr, IsTrue, ◌+◌, ◌^◌, ◌<◌, ◌≤◌, cond};
+ghost use Rattle.std.specs.List.{All, list_any};
 ghost use Rattle.lrc_code.specs.Numbers.{same_stripe, same_node, same_upgrade};
+ghost use Rattle.lrc_code.specs.declared.numbers.NodeNo.{NodeNo as AnyNode};
+ghost use Rattle.lrc_code.specs.declared.numbers.StripeNo.{StripeNo as AnyStripe};
 ghost use Rattle.lrc_code.specs.declared.fault.Fault.TheVariants.{OutOfMemory};
 ghost use Rattle.lrc_topology.specs.Nodes.{node_at};
 ghost use Rattle.lrc_stripes.specs.Stored.{has_node};
@@ -8,12 +10,14 @@ ghost use Rattle.lrc_stripes.specs.Sets.{FindsNext, has};
 ghost use Rattle.lrc_stripes.specs.Rows.{sits_on};
 ghost use Rattle.lrc_stripes.specs.Sites.{sited, first_sites, IsPlaceOf};
 ghost use Rattle.lrc_stripes.specs.Looming.{is_scattered};
+ghost use Rattle.lrc_stripes.specs.Masks.{AreLosses};
 
-use crate::Seat;
+use crate::losses::Losses;
 use crate::row::Row;
 use crate::site::Site;
 use crate::stripe_set::StripeSet;
-use lrc_code::{Fault, NodeNo, StripeNo, UpgradeNo};
+use crate::{Seat, masks};
+use lrc_code::{Fault, Fragment, LossMask, NodeNo, StripeNo, UpgradeNo};
 use lrc_topology::{NodeIndex, NodeInfo, Topology};
 use std::alloc::Global;
 use std::marker::Model;
@@ -26,6 +30,8 @@ pub(crate) struct Sites {
     /// In the same order.
     stripes: Vec<StripeSet>,
     places: NodeIndex,
+    /// How many of the nodes are offline.
+    offline: usize,
 }
 
 impl Model for Sites {
@@ -35,7 +41,7 @@ impl Model for Sites {
 
     ghost view = { λ t. record { list = t.list.items; stripes = t.stripes.items } };
 
-    ghost invariant = { λ t. AreSites t.list.items t.stripes.items t.places };
+    ghost invariant = { λ t. AreSites t.list.items t.stripes.items t.places t.offline };
 }
 
 impl Sites {
@@ -58,6 +64,7 @@ impl Sites {
             list,
             stripes,
             places: NodeIndex::new(alloc, topology)?,
+            offline: 0,
         })
     }
 
@@ -95,7 +102,19 @@ impl Sites {
         ensures { sited self.new ≡ record (sited self.old) { online = λ n. if same_node number n then not is_offline else (sited self.old).online n } }
     {
         if let Some(place) = self.place(number) {
+            let was_offline = self.list[place].is_offline;
+            self.offline = recounted(self.offline, was_offline, is_offline);
             self.list[place].is_offline = is_offline;
+        }
+    }
+
+    /// Sets whether these nodes are offline.
+    pub(crate) fn set_offline_all(&mut self, nodes: &[NodeInfo], is_offline: bool)
+        requires { All (λ n. IsTrue (has_node (sited self.old).nodes n.number)) nodes.now }
+        ensures { sited self.new ≡ record (sited self.old) { online = λ m. if list_any (λ n. same_node n.number m) nodes.now then not is_offline else (sited self.old).online m } }
+    {
+        for node in nodes.iter() {
+            self.set_offline(node.number, is_offline);
         }
     }
 
@@ -117,6 +136,45 @@ impl Sites {
         if let Some(place) = self.place(number) {
             let set = &mut self.stripes[place];
             set.insert(stripe);
+        }
+    }
+
+    /// Puts a stripe among those with a home on the nodes of these seats. What is missing of it there, and what needs a
+    /// lease.
+    pub(crate) fn enter(&mut self, stripe: StripeNo, seats: &[Seat; 16]) -> Losses
+        requires { All (λ seat. IsTrue (has_node (sited self.old).nodes seat.node)) seats.now }
+        ensures on { sited self.new ≡ record (sited self.old) { on = λ n s. (same_stripe stripe s && list_any (sits_on n) (map Some seats.now)) || (sited self.old).on n s } }
+        ensures losses { AreLosses (sited self.old).online (sited self.old).draining (map Some seats.now) result }
+    {
+        let mut missing = LossMask::from_bits(0);
+        let mut needs = LossMask::from_bits(0);
+        for fragment in Fragment::all() {
+            let seat = seats[fragment.value as usize];
+            let site = self.enter_one(seat.node, stripe);
+            missing = masks::with_where(missing, fragment, site.is_offline);
+            needs = masks::with_where(needs, fragment, site.is_draining);
+        }
+        Losses {
+            homeless: LossMask::from_bits(0),
+            missing,
+            needs,
+        }
+    }
+
+    /// Puts a stripe among those with a home on the node, and gives the node.
+    fn enter_one(&mut self, number: NodeNo, stripe: StripeNo) -> Site
+        requires { IsTrue (has_node (sited self.old).nodes number) }
+        ensures on { sited self.new ≡ record (sited self.old) { on = λ n s. (same_node number n && same_stripe stripe s) || (sited self.old).on n s } }
+        ensures online { not result.is_offline ≡ (sited self.old).online number }
+        ensures draining { result.is_draining ≡ (sited self.old).draining number }
+    {
+        match self.place(number) {
+            Some(place) => {
+                let set = &mut self.stripes[place];
+                set.insert(stripe);
+                self.list[place]
+            }
+            None => unreachable!(),
         }
     }
 
@@ -173,10 +231,33 @@ impl Sites {
         found
     }
 
+    /// The stripes with a home on a node that is not online.
+    pub(crate) fn stripes_offline(&self) -> StripeSet
+        ensures { (n : AnyNode) (s : AnyStripe) → (sited self.now).online n ≡ false → (sited self.now).on n s ≡ true → has result s ≡ true }
+    {
+        let mut found = StripeSet::new();
+        for site in self.list.iter() {
+            if site.is_offline {
+                self.join(site.node.number, &mut found);
+            }
+        }
+        found
+    }
+
+    /// Whether fewer than two nodes are offline: then no stripe has homes on several of them.
+    pub(crate) fn are_few_offline(&self) -> bool
+        ensures { result ≡ true → (s : AnyStripe) → is_scattered (sited self.now) s ≡ false }
+    {
+        self.offline < 2
+    }
+
     /// The stripes with homes on several nodes that are not online.
     pub(crate) fn stripes_scattered(&self) -> StripeSet
         ensures { has result ≡ is_scattered (sited self.now) }
     {
+        if self.are_few_offline() {
+            return StripeSet::new();
+        }
         let mut once = StripeSet::new();
         let mut twice = StripeSet::new();
         for site in self.list.iter() {
@@ -213,5 +294,20 @@ impl Sites {
         ensures { IsPlaceOf self.now number result }
     {
         self.places.place(number)
+    }
+}
+
+/// How many of some things have a mark, where one of them had it or not, and now has it or not.
+fn recounted(count: usize, had: bool, has: bool) -> usize
+    requires among { cond had 1 0 ≤ count }
+    requires room { count < 2 ^ 63 }
+    ensures { result + cond had 1 0 ≡ count + cond has 1 0 }
+{
+    if had == has {
+        count
+    } else if has {
+        count + 1
+    } else {
+        count - 1
     }
 }

@@ -1,7 +1,9 @@
 ghost use Rattle.std.specs.Prelude.{◌≡◌, ◌≤◌, ◌↔◌, IsTrue, IsFalse, IfOk, IfErr, IfSome, IfNone, OnErr, OnOk, IsOk, None, Some};
+ghost use Rattle.std.specs.List.{All};
+ghost use Rattle.lrc_code.specs.declared.numbers.StripeNo.{StripeNo as AnyStripe};
 ghost use Rattle.lrc_code.specs.declared.codes.Code.TheVariants.{Wide};
 ghost use Rattle.lrc_code.specs.declared.fault.Fault.TheVariants.{OutOfMemory};
-ghost use Rattle.lrc_stripes.specs.Stored.{empty, with_stripe, without_stripe, with_home, with_offline, with_draining, with_spare, homes_shown, missing_shown, needs_shown, level_shown, has_node, has_slot, HasNoHome, AreHomesOn, has_work, AreWork, AreWorkFrom, AreAtRisk};
+ghost use Rattle.lrc_stripes.specs.Stored.{empty, with_stripe, with_homes, without_stripe, with_home, with_offline, with_offline_all, with_draining, with_spare, homes_shown, missing_shown, needs_shown, level_shown, has_node, has_slot, HasNoHome, AreHomesOn, has_work, AreWork, AreWorkFrom, AreAtRisk};
 ghost use Rattle.lrc_stripes.specs.Tables.{stored_in};
 ghost use Rattle.lrc_stripes.specs.Upgrades.{is_lost_to, is_short_lost_to, IsFirstLostTo, IsFirstShortLostTo};
 
@@ -10,7 +12,7 @@ use crate::rows::Rows;
 use crate::sites::Sites;
 use crate::{AtRisk, HomesOn, Level, Seat, Work, upgrades};
 use lrc_code::{Fault, Fragment, LossMask, NodeNo, StripeNo, UpgradeNo};
-use lrc_topology::Topology;
+use lrc_topology::{NodeInfo, Topology};
 use std::alloc::Global;
 use std::marker::Model;
 
@@ -91,6 +93,18 @@ impl Stripes {
         ensures { stored_in self.new ≡ with_stripe (stored_in self.old) Wide stripe }
     {
         self.rows.put(stripe, Some(Row::new()));
+        self.spare -= 1;
+    }
+
+    /// Adds a stripe of the code `Wide` whose fragments have these homes, in room that there is for it.
+    pub fn add_with_homes(&mut self, stripe: StripeNo, seats: &[Seat; 16])
+        requires absent { IsFalse ((stored_in self.old).stripes stripe) }
+        requires room { 1 ≤ (stored_in self.old).spare }
+        requires slots { All (λ seat. IsTrue (has_slot (stored_in self.old).nodes seat)) seats.now }
+        ensures { stored_in self.new ≡ with_homes (stored_in self.old) stripe seats.now }
+    {
+        let losses = self.sites.enter(stripe, seats);
+        self.rows.put(stripe, Some(Row::seated(seats, losses)));
         self.spare -= 1;
     }
 
@@ -221,6 +235,20 @@ impl Stripes {
         }
     }
 
+    /// Sets whether these nodes are offline.
+    pub fn set_offline_all(&mut self, nodes: &[NodeInfo], is_offline: bool)
+        requires { All (λ n. IsTrue (has_node (stored_in self.old).nodes n.number)) nodes.now }
+        ensures { stored_in self.new ≡ with_offline_all (stored_in self.old) nodes.now is_offline }
+    {
+        if self.rows.has_work() {
+            for node in nodes.iter() {
+                self.set_offline(node.number, is_offline);
+            }
+        } else {
+            self.sites.set_offline_all(nodes, is_offline);
+        }
+    }
+
     /// Sets whether a node is draining.
     pub fn set_draining(&mut self, node: NodeNo, is_draining: bool)
         requires { IsTrue (has_node (stored_in self.old).nodes node) }
@@ -237,6 +265,13 @@ impl Stripes {
         ensures { AreHomesOn (stored_in self.now) node result }
     {
         HomesOn::new(&self.sites, &self.rows, node)
+    }
+
+    /// Whether there is a stripe with a fragment that needs a lease.
+    pub fn has_work(&self) -> bool
+        ensures { IsTrue result ↔ ((s : AnyStripe) × IsTrue (has_work (stored_in self.now) s)) }
+    {
+        self.rows.has_work()
     }
 
     /// The stripes with a fragment that needs a lease, in the order of repair: by rank, and then by number.

@@ -1,12 +1,13 @@
 //! Which stripe the upgrade of a domain would make unrecoverable.
 
-ghost use Rattle.std.specs.Prelude.{◌≡◌, ℕ, ◌&&◌, ◌||◌, nat_lt, get_or, length, None, IfSome, IfNone, IsFalse};
+ghost use Rattle.std.specs.Prelude.{◌≡◌, ℕ, ◌&&◌, ◌||◌, nat_lt, get_or, length, None, IfSome, IfNone, IsFalse, false};
 ghost use Rattle.lrc_code.specs.Losses.{bits_set};
 ghost use Rattle.lrc_stripes.specs.Sets.{has};
 ghost use Rattle.lrc_stripes.specs.Sites.{sited};
 ghost use Rattle.lrc_stripes.specs.Tables.{rows_in};
 ghost use Rattle.lrc_stripes.specs.Kept.{IsKept, fresh, freshened};
-ghost use Rattle.lrc_stripes.specs.Looming.{is_home_in, is_row_lost, lost_in, short_lost_in, IsFirstIn};
+ghost use Rattle.lrc_code.specs.declared.numbers.StripeNo.{StripeNo as AnyStripe};
+ghost use Rattle.lrc_stripes.specs.Looming.{is_home_in, is_needy, is_row_lost, is_scattered, lost_in, short_lost_in, IsFirstIn};
 
 use crate::Seat;
 use crate::row::Row;
@@ -29,9 +30,22 @@ pub(crate) fn first_short(sites: &Sites, rows: &Rows, domain: UpgradeNo) -> Opti
     ensures found { IfSome result (IsFirstIn (short_lost_in (sited sites.now) rows.now domain)) }
     ensures none { IfNone result ((s : StripeNo) → IsFalse (short_lost_in (sited sites.now) rows.now domain s)) }
 {
+    if !has_short(sites, rows) {
+        return None;
+    }
     let mut short = sites.stripes_scattered();
     rows.join_work(&mut short);
     first_of(sites, rows, domain, &short)
+}
+
+/// Whether a stripe may be short; where not, none is.
+fn has_short(sites: &Sites, rows: &Rows) -> bool
+    ensures { result ≡ false → (s : AnyStripe) → (is_scattered (sited sites.now) s || is_needy (rows_in rows.now s)) ≡ false }
+{
+    if !sites.are_few_offline() {
+        return true;
+    }
+    rows.has_work()
 }
 
 /// The first of the stripes of a set that is recoverable, and would not be with the nodes of the domain offline.

@@ -1,9 +1,15 @@
 //! A run of calls of a store beside those of one that is searched from end to end.
 
+ghost use Rattle.std.specs.Prelude.{IsTrue};
+ghost use Rattle.std.specs.List.{All};
+ghost use Rattle.lrc_stripes.specs.Stored.{has_node, has_slot};
+ghost use Rattle.lrc_stripes.specs.Tables.{stored_in};
+
 use crate::tests::plain_store::{PlainRow, PlainStore};
 use crate::tests::{node, nodes, seat};
-use lrc_code::{Fragment, UpgradeNo};
+use lrc_code::{FaultNo, Fragment, UpgradeNo};
 use lrc_stripes::{Seat, Stripes};
+use lrc_topology::NodeInfo;
 use std::test::Fail;
 
 /// What comes after a number in a fixed order in which those below 65,537 all come up.
@@ -47,16 +53,18 @@ fn tell_alike(stripes: &Stripes, plain: &PlainStore) -> bool {
 /// Whether both list the same stripes with work, in one order.
 fn work_alike(stripes: &Stripes, plain: &PlainStore) -> bool {
     let mut work = stripes.work();
+    let mut some = false;
     for rank in 0..5u8 {
         for row in plain.rows {
             if row.is_there && plain.rank(&row) == rank && plain.needs_lease(&row) {
+                some = true;
                 if work.next() != Some(row.stripe) {
                     return false;
                 }
             }
         }
     }
-    work.next().is_none()
+    work.next().is_none() && stripes.has_work() == some
 }
 
 /// Whether both list the same stripes at risk with the same levels, in one order.
@@ -146,11 +154,77 @@ fn turn(stripes: &mut Stripes, plain: &mut PlainStore, place: usize) {
     if stripes.contains(stripe) {
         stripes.remove(stripe);
         plain.rows[place].is_there = false;
+        plain.rows[place].homes = [None; 16];
     } else if stripes.spare() >= 1 {
         stripes.add(stripe);
         plain.rows[place].is_there = true;
+        plain.rows[place].homes = [None; 16];
     }
-    plain.rows[place].homes = [None; 16];
+}
+
+/// Adds a stripe that is not there with its fragments on nodes from this one on.
+fn add_seated(stripes: &mut Stripes, plain: &mut PlainStore, place: usize, number: u16) {
+    if place >= 5 {
+        return;
+    }
+    let stripe = plain.rows[place].stripe;
+    let mut seats = [seat(0, place as u16 % 4); 16];
+    for fragment in 0..16usize {
+        seats[fragment].node.value = (number % 20 + fragment as u16) % 20;
+    }
+    if stripes.contains(stripe) || stripes.spare() == 0 || !are_slots(stripes, &seats) {
+        return;
+    }
+    stripes.add_with_homes(stripe, &seats);
+    plain.rows[place].is_there = true;
+    for fragment in 0..16usize {
+        plain.rows[place].homes[fragment] = Some(seats[fragment]);
+    }
+}
+
+/// Whether all of these are slots of nodes.
+fn are_slots(stripes: &Stripes, seats: &[Seat]) -> bool
+    ensures { IsTrue result → All (λ seat. IsTrue (has_slot (stored_in stripes.now).nodes seat)) seats.now }
+{
+    for seat in seats.iter() {
+        if !stripes.has_slot(*seat) {
+            return false;
+        }
+    }
+    true
+}
+
+/// Sets whether two nodes are offline.
+fn set_both_offline(stripes: &mut Stripes, plain: &mut PlainStore, number: u16, is_offline: bool) {
+    let other = (number % 20 + 7) % 20;
+    let both = [info(number), info(other)];
+    if number < 20 && are_nodes(stripes, &both) {
+        stripes.set_offline_all(&both, is_offline);
+        plain.offline[number as usize] = is_offline;
+        plain.offline[other as usize] = is_offline;
+    }
+}
+
+/// A node of this number.
+fn info(number: u16) -> NodeInfo {
+    NodeInfo {
+        number: node(number),
+        fault: FaultNo { value: 0 },
+        upgrade: UpgradeNo { value: 0 },
+        slots: 4,
+    }
+}
+
+/// Whether all of these are nodes of the store.
+fn are_nodes(stripes: &Stripes, nodes: &[NodeInfo]) -> bool
+    ensures { IsTrue result → All (λ n. IsTrue (has_node (stored_in stripes.now).nodes n.number)) nodes.now }
+{
+    for node in nodes.iter() {
+        if !stripes.has_node(node.number) {
+            return false;
+        }
+    }
+    true
 }
 
 /// Sets whether a node is offline.
@@ -190,9 +264,12 @@ fn call(stripes: &mut Stripes, plain: &mut PlainStore, state: u32, fragment: Fra
     } else if kind < 27 {
         if is_rare || !plain_is_there(plain, place) {
             turn(stripes, plain, place);
+            add_seated(stripes, plain, (place + 1) % 5, number);
         }
-    } else if kind < 30 {
+    } else if kind < 29 {
         set_offline(stripes, plain, number, is_rare);
+    } else if kind < 30 {
+        set_both_offline(stripes, plain, number, is_rare);
     } else {
         set_draining(stripes, plain, number, is_rare);
     }

@@ -1,11 +1,10 @@
-use Rattle.std.proofs.Common.{sym, ap, ◌∙◌}
-use Rattle.std.specs.Option.{option_copied}
+use Rattle.std.proofs.Common.{ap, sym, ◌∙◌}
 use Rattle.lrc_stripes.specs.Sites.{sited}
 use Rattle.lrc_stripes.specs.Tables.{rows_in}
-use Rattle.lrc_stripes.specs.Kept.{IsWithLosses, IsMissingOn}
-use Rattle.lrc_stripes.proofs.RowsLemmas.{renewed-first, renewed-one, missing_on-put, renewed-absent, renewed-all}
+use Rattle.lrc_stripes.specs.Kept.{IsMissingOn, needs_of}
+use Rattle.lrc_stripes.proofs.RowsLemmas.{renewed-first, renewed-more, renewed-same, missing_on-idle, renewed-all}
 use Rattle.lrc_stripes.proofs.rows.Rows.renew_missing.Goals as goal
-use Rattle.lrc_stripes.proofs.rows.Rows.renew_missing.Goals.{in-Some-get, in_default-get}
+use Rattle.lrc_stripes.proofs.rows.Rows.renew_missing.Goals.{then-needs-ne0, else-needs-ne0}
 
 pub loop-stripe-init : goal.loop-stripe-init
 loop-stripe-init c = renewed-first ((sited c.args.sites.now).on c.args.node) (IsMissingOn c.args.node c.args.are_missing) (rows_in c.args.self.now)
@@ -17,17 +16,13 @@ loop-stripe-preserved c =
     let before = rows_in c.args.self.now in
     let now = rows_in c.loop-stripe.self in
     let s = c.in-Some.stripe in
-    elim c.match-get.branch [
-      | in-Some-get w ↦
-          let row = w.in-Some-get.row.now in
-          let losses = w.with_missing-losses.result in
-          let e = w.with_missing-losses.ensures in
-          let changed = w.set_losses.ensures in
-          rw w.self-is (renewed-one set Renews before (IsWithLosses losses) now (rows_in w.set_losses.new.self) c.loop-stripe.from s row c.in-Some.ensures c.loop-stripe.invariant
-          (sym c.get.ensures ∙ ap option_copied w.in-Some-get.is) (record { listed = changed.listed; others = changed.others })
-          (λ q is. missing_on-put c.args.node c.args.are_missing losses row q e.homeless e.missing e.needs is))
-      | in_default-get w ↦
-          rw w.self-is (renewed-absent set Renews before now c.loop-stripe.from s c.in-Some.ensures c.loop-stripe.invariant (sym c.get.ensures ∙ ap option_copied w.in_default-get.is))
+    elim c.if-needs-ne0.branch [
+      | then-needs-ne0 w ↦
+          let e = w.renew_missing_of.ensures in
+          rw w.self-is (renewed-more set Renews before now (rows_in w.renew_missing_of.new.self) c.loop-stripe.from s c.in-Some.ensures c.loop-stripe.invariant (record { listed = e.listed; others = e.others }))
+      | else-needs-ne0 w ↦
+          rw w.self-is (renewed-same set Renews before now c.loop-stripe.from s c.in-Some.ensures c.loop-stripe.invariant
+          (λ r there. missing_on-idle c.args.node c.args.are_missing r (sym (c.needs.ensures.value ∙ ap needs_of there) ∙ w.if-needs-ne0.false)))
     ]
 
 pub returns : goal.returns

@@ -10,7 +10,9 @@ index_mut-requires c =
 
 pub invariant_of-self : goal.invariant_of-self
 invariant_of-self c =
-    sites-set c.self.inside.list.items c.self.inside.stripes.items c.self.inside.places c.in-Some.place c.index_mut.result.now _ c.self.invariant c.index_mut.ensures.value refl
+    let at = found c.self.inside.list.items c.self.inside.stripes.items c.args.self.now c.self.view_is c.args.number c.in-Some.place c.in-Some.ensures in
+    sites-set c.self.inside.list.items c.self.inside.stripes.items c.self.inside.places c.self.inside.offline c.self.inside.offline c.in-Some.place c.index_mut.result.now _ c.self.invariant
+    c.index_mut.ensures.value at.1 refl refl
 
 pub returns-in-Some : goal.returns-in-Some
 returns-in-Some c =

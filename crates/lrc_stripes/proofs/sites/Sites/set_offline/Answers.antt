@@ -1,4 +1,6 @@
-use Rattle.std.proofs.Common.{arith, refl}
+use Rattle.std.proofs.Common.{◌≡◌, ◌+◌, ◌∙◌, cond, sym, subst, arith, refl}
+use Rattle.std.proofs.lemmas.List.{get_or_default}
+use Rattle.lrc_stripes.specs.declared.site.Site.{Site}
 use Rattle.lrc_stripes.proofs.SiteLemmas.{sites-set}
 use Rattle.lrc_stripes.proofs.SitedLemmas.{found, offline-set, missed-known}
 use Rattle.lrc_stripes.proofs.sites.Sites.set_offline.Goals as goal
@@ -10,7 +12,12 @@ index_mut-requires c =
 
 pub invariant_of-self : goal.invariant_of-self
 invariant_of-self c =
-    sites-set c.self.inside.list.items c.self.inside.stripes.items c.self.inside.places c.in-Some.place c.index_mut.result.now _ c.self.invariant c.index_mut.ensures.value refl
+    let at = found c.self.inside.list.items c.self.inside.stripes.items c.args.self.now c.self.view_is c.args.number c.in-Some.place c.in-Some.ensures in
+    sites-set c.self.inside.list.items c.self.inside.stripes.items c.self.inside.places c.self.inside.offline c.recounted-self-inside.result c.in-Some.place c.index_mut.result.now _ c.self.invariant
+    c.index_mut.ensures.value at.1 refl
+    (subst (λ (x : Site). c.recounted-self-inside.result + cond x.is_offline 1 0 ≡ c.self.inside.offline + cond c.args.is_offline 1 0)
+    (c.index.ensures ∙ get_or_default c.self.inside.list.items c.in-Some.place c.index.result.now c.index_mut.result.now at.1 ∙ sym c.index_mut.ensures.value)
+    c.recounted-self-inside.ensures)
 
 pub returns-in-Some : goal.returns-in-Some
 returns-in-Some c =

@@ -9,6 +9,9 @@ use Rattle.lrc_stripes.proofs.ShortLemmas.{counted, once-next, twice-next, once-
 use Rattle.lrc_stripes.proofs.sites.Sites.stripes_scattered.Goals as goal
 use Rattle.lrc_stripes.proofs.sites.Sites.stripes_scattered.Goals.{then-site, else-site}
 
+pub returns-then-are_few_offline : goal.returns-then-are_few_offline
+returns-then-are_few_offline c = c.new.ensures ∙ fun_ext (λ (s : StripeNo). sym (c.are_few_offline.ensures c.if-are_few_offline.true s))
+
 pub loop-site-init : goal.loop-site-init
 loop-site-init c = record { one = c.new-once.ensures; two = c.new-twice.ensures }
 
@@ -22,7 +25,7 @@ loop-site-preserved c =
     let all : xs ≡ inside.list.items = c.deref-site-items.ensures.value in
     let within : i < length inside.list.items = rw (← all) c.loop-site-test.true in
     let said = subst (λ (ys : List Site). z.online (get_or ys i no_site).node.number ≡ not (get_or ys i no_site).is_offline) (sym all)
-    (online-there inside.list.items inside.stripes.items inside.places c.args.self.now c.self.view_is c.self.invariant i no_site within) in
+    (online-there inside.list.items inside.stripes.items inside.places c.args.self.now c.self.view_is inside.offline c.self.invariant i no_site within) in
     elim c.if-site.branch [
       | then-site w ↦
           let off = said ∙ ap not w.if-site.true in

@@ -6,6 +6,9 @@ use Rattle.lrc_stripes.proofs.KeptLemmas.{kept-clear_home}
 use Rattle.lrc_stripes.proofs.StoredLemmas.{stored_by, stored-home}
 use Rattle.lrc_stripes.proofs.stripes.Stripes.clear_home.Goals as goal
 
+pub with_home-left-requires : goal.with_home-left-requires
+with_home-left-requires c = c.self.invariant.losses c.args.stripe c.in-Some.row.now (sym c.in-Some.ensures)
+
 pub invariant_of-self : goal.invariant_of-self
 invariant_of-self c =
     let f = c.args.fragment in

@@ -22,10 +22,11 @@ returns-then-has_work c =
     (stored-offline s.sites c.set_offline.new.self s.rows c.renew_missing.new.self s.spare c.self.invariant c.args.node c.args.is_offline c.set_offline.ensures (record { listed = e.listed; others = e.others }))
 
 pub returns-else-has_work : goal.returns-else-has_work
+unfolding stored_in sited
 returns-else-has_work c =
     let s = c.self.inside in
     rw (← c.self.view_is)
-    (stored-idle s.sites c.set_offline.new.self s.rows s.rows s.spare c.self.invariant c.args.node c.args.is_offline c.set_offline.ensures (λ x q there. c.has_work.ensures c.if-has_work.false x q there))
+    (stored-idle s.sites c.set_offline.new.self s.rows s.spare c.self.invariant _ c.set_offline.ensures)
 
 pub returns-else-is_online-is_offline : goal.returns-else-is_online-is_offline
 unfolding stored_in sited

@@ -1,0 +1,101 @@
+-- A stripe that is added with homes: the nodes that it stands on, its masks, and what it is in the store.
+use Rattle.std.proofs.Common.{◌≡◌, ℕ, ◌+◌, ◌<◌, Bool, true, false, not, ◌&&◌, ◌||◌, eqb, ltb, nat_lt, List, length, map, get_or, Option, Some, None, is_none, arith, refl, sym, ap, ◌∙◌}
+use Rattle.std.proofs.Math.Path.{fun_ext}
+use Rattle.std.proofs.lemmas.Bool.{ltb-true}
+use Rattle.std.proofs.lemmas.List.{get_or-map, length-map}
+use Rattle.std.proofs.lemmas.Nat.Bits.{bit_at-zero}
+use Rattle.std.proofs.lemmas.List.FromFn.{fill_by_all}
+use Rattle.lrc_code.specs.Losses.{bits_set}
+use Rattle.lrc_code.specs.Numbers.{same_node, same_stripe}
+use Rattle.lrc_code.specs.declared.numbers.NodeNo.{NodeNo}
+use Rattle.lrc_code.specs.declared.numbers.StripeNo.{StripeNo}
+use Rattle.lrc_topology.specs.declared.seat.Seat.{Seat}
+use Rattle.lrc_code.specs.declared.losses.LossMask.{LossMask}
+use Rattle.lrc_stripes.specs.Rows.{is_missing, is_to_move}
+use Rattle.lrc_stripes.specs.Masks.{IsMaskOf}
+use Rattle.lrc_stripes.specs.Sites.{Sited}
+use Rattle.lrc_stripes.proofs.MaskLemmas.{mask-next_true, mask-next_false}
+use Rattle.lrc_stripes.proofs.SitedLemmas.{same-turned}
+
+and-true : (b : Bool) → b ≡ (b && true)
+and-true true = refl
+and-true false = refl
+
+and-false : (b : Bool) → (b && false) ≡ false
+and-false true = refl
+and-false false = refl
+
+-- ---- homes on seats
+
+-- what is at the same place of both lists
+pub homes-filled : (homes : List (Option Seat)) (seats : List Seat) (d : Seat) → length homes ≡ 16 → length seats ≡ 16 → ((k : ℕ) → k < 16 → get_or homes k None ≡ Some (get_or seats k d))
+    → homes ≡ map Some seats
+homes-filled homes seats d long all filled =
+    fill_by_all (λ k. Some (get_or seats k d)) homes 16 None long filled
+    ∙ sym (fill_by_all (λ k. Some (get_or seats k d)) (map Some seats) 16 None (length-map seats Some ∙ all) (λ k below. get_or-map Some seats k d None (omega (arith, below, all))))
+
+module _ (seats : List Seat) (all : length seats ≡ 16) where
+  -- the home of a fragment
+  pub home-at : (d : Seat) (i : ℕ) → i < 16 → get_or (map Some seats) i None ≡ Some (get_or seats i d)
+  home-at d i below = get_or-map Some seats i d None (omega (arith, below, all))
+
+  not-not : (b : Bool) → not (not b) ≡ b
+  not-not true = refl
+  not-not false = refl
+
+  -- what the node of the seat says of the fragment
+  pub missing-at : (online : NodeNo → Bool) (d : Seat) (i k : ℕ) (off : Bool) → i < 16 → k ≡ i → not off ≡ online (get_or seats k d).node → is_missing online (get_or (map Some seats) i None) ≡ off
+  missing-at online d i k off below same is =
+      ap (is_missing online) (home-at d i below) ∙ ap not (ap (λ n. online (get_or seats n d).node) (sym same) ∙ sym is) ∙ not-not off
+
+  pub to_move-at : (draining : NodeNo → Bool) (d : Seat) (i k : ℕ) (drains : Bool) → i < 16 → k ≡ i → drains ≡ draining (get_or seats k d).node
+      → is_to_move draining (get_or (map Some seats) i None) ≡ drains
+  to_move-at draining d i k drains below same is = ap (is_to_move draining) (home-at d i below) ∙ ap (λ n. draining (get_or seats n d).node) (sym same) ∙ sym is
+
+  -- none is without a home
+  pub homeless-none : (d : Seat) (mask : LossMask) → mask.bits ≡ 0 → IsMaskOf is_none (map Some seats) mask
+  homeless-none d mask empty f = none ∙ sym (by (nat_lt f 16) refl) where
+    none : bits_set mask.bits f ≡ false
+    none = rw (empty, bit_at-zero f) refl
+
+    by : (b : Bool) → nat_lt f 16 ≡ b → (nat_lt f 16 && is_none (get_or (map Some seats) f None)) ≡ false
+    by true low = rw (low, home-at d f (ltb-true f 16 low)) refl
+    by false high = rw high refl
+
+-- ---- the masks, fragment by fragment
+
+-- with the next fragment, where it is in the set
+pub mask-next : (m : ℕ → Bool) (i bits next k : ℕ) (b : Bool) → k ≡ i → m i ≡ b → ((f : ℕ) → bits_set bits f ≡ (ltb f i && m f))
+    → ((f : ℕ) → bits_set next f ≡ ((eqb f k && b) || bits_set bits f)) → (f : ℕ) → bits_set next f ≡ (ltb f (i + 1) && m f)
+mask-next m i bits next k true same hit before after f = mask-next_true m i bits next k same hit before (λ g. after g ∙ ap (λ b. b || bits_set bits g) (sym (and-true (eqb g k)))) f
+mask-next m i bits next k false same miss before after f = after f ∙ ap (λ b. b || bits_set bits f) (and-false (eqb f k)) ∙ mask-next_false m i bits miss before f
+
+-- ---- the nodes that the stripe stands on
+
+-- on the homes so far, and one more
+entered-more_at : (own here before on : Bool) → ((here && own) || ((own && before) || on)) ≡ ((own && (before || here)) || on)
+entered-more_at true true true on = refl
+entered-more_at true true false on = refl
+entered-more_at true false true on = refl
+entered-more_at true false false on = refl
+entered-more_at false true before on = refl
+entered-more_at false false before on = refl
+
+module _ (first : Sited) (stripe : StripeNo) where
+  -- the nodes where the stripe is on those that the test names
+  abbrev pub entered : (NodeNo → Bool) → Sited
+  entered test = record first { on = λ n s. (same_stripe stripe s && test n) || first.on n s }
+
+  pub entered-none : first ≡ entered (λ n. false)
+  entered-none = ap (λ (o : NodeNo → StripeNo → Bool). record first { on = o }) (fun_ext (λ n. fun_ext (λ s. ap (λ b. b || first.on n s) (sym (and-false (same_stripe stripe s))))))
+
+  -- with one more home
+  pub entered-more : (now : Sited) (before after : NodeNo → Bool) (seat : Seat) → now ≡ entered before → ((n : NodeNo) → after n ≡ (before n || same_node n seat.node))
+      → record now { on = λ n s. (same_node seat.node n && same_stripe stripe s) || now.on n s } ≡ entered after
+  entered-more now before after seat is more =
+      ap (λ (z : Sited). record z { on = λ n s. (same_node seat.node n && same_stripe stripe s) || z.on n s }) is
+      ∙ ap (λ (o : NodeNo → StripeNo → Bool). record first { on = o }) (fun_ext (λ n. fun_ext (λ s.
+      rw (more n, same-turned seat.node.value n.value) (entered-more_at (same_stripe stripe s) (same_node n seat.node) (before n) (first.on n s)))))
+
+  pub entered-same : (before after : NodeNo → Bool) → ((n : NodeNo) → after n ≡ before n) → entered before ≡ entered after
+  entered-same before after same = ap (λ (test : NodeNo → Bool). entered test) (fun_ext (λ n. sym (same n)))
