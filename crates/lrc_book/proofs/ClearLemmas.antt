@@ -19,9 +19,10 @@ use Rattle.lrc_stripes.specs.Levels.{home_of}
 use Rattle.lrc_stripes.specs.Stored.{Stored, StripeFragment, AreHomesOn, is_home_on}
 use Rattle.lrc_stripes.specs.Stored as stored
 use Rattle.lrc_book.specs.States.{State, has_stripe, held_by, seats_of, taken_seats}
-use Rattle.lrc_book.specs.Steps.{stands_on}
+use Rattle.lrc_book.specs.Steps.{stands_on, without_upgrading}
 use Rattle.lrc_book.specs.Goodness.{AreSeated}
 use Rattle.lrc_book.specs.Ties.{table_of}
+use Rattle.lrc_book.proofs.ClosedLemmas.{settled-seated}
 use Rattle.lrc_book.proofs.ModesLemmas.{same-modes}
 use Rattle.lrc_book.proofs.MemberLemmas.{filter-member, member-filter, map-member, Contains-cases, not-Contains-nil, list_any-member, AllPairs-head, AllPairs-tail}
 use Rattle.lrc_book.proofs.NodeLemmas.{member-taken}
@@ -32,7 +33,7 @@ use Rattle.lrc_book.proofs.PairLemmas.{pairs-left, pairs-across, pairs-members}
 use Rattle.lrc_book.proofs.SeatingLemmas.{held-single}
 use Rattle.lrc_book.specs.Leases.{without_home}
 use Rattle.lrc_book.proofs.StoredLemmas.{is_of}
-use Rattle.lrc_book.specs.Stores.{IsOf}
+use Rattle.lrc_book.specs.Stores.{IsOf, kept_table}
 use Rattle.lrc_book.specs.declared.store.Store.{Store}
 use Rattle.lrc_slots.specs.Tables as slots
 use Rattle.lrc_slots.specs.Tables.{slots_of}
@@ -202,7 +203,8 @@ module _ (st : State) (k : Store) (kept : IsOf st k) (s : StripeNo) (f : Fragmen
         known = kept.known;
         seated = homes-seated nodes st (λ g. not (is_of s f.value g)) kept.seated;
         table_is = freed ∙ ap (λ (t : Slots). with_free t seat.node seat.slot) kept.table_is
-            ∙ subst (λ (a : Seat). with_free (table_of nodes st) a.node a.slot ≡ table_of nodes (without_home st s f)) home.2 (clear-table nodes st s f home.0 kept.seated home.1);
+            ∙ subst (λ (a : Seat). with_free (kept_table nodes st) a.node a.slot ≡ kept_table nodes (without_home st s f)) home.2
+            (clear-table nodes (without_upgrading st) s f home.0 (settled-seated nodes st kept.seated) home.1);
         stripes_is = own-spare nodes (without_home st s f) (stored_in stripes) (stored_in k.stripes).spare
             (cleared ∙ ap (λ (t : Stored). stored.with_home t s f None) kept.stripes_is ∙ stored-clear nodes st (stored_in k.stripes).spare s f);
         leases_is = kept.leases_is;

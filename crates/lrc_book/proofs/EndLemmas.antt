@@ -1,5 +1,5 @@
 -- A lease that is granted, and one that ends.
-use Rattle.std.proofs.Common.{◌≡◌, ◌≢◌, ℕ, ◌&&◌, IsSomeAnd, lt-ltb, ◌-◌, ◌<◌, Bool, true, false, not, nat_eq, nat_lt, List, [], ◌∷◌, map, filter, find, Option, Some, None, option_map, IsSome, IsTrue, refl, sym, ap, ◌∙◌, subst, inl, inr}
+use Rattle.std.proofs.Common.{◌≡◌, ◌≢◌, ℕ, ◌&&◌, is_some, IsSomeAnd, lt-ltb, ◌-◌, ◌<◌, Bool, true, false, not, nat_eq, nat_lt, List, [], ◌∷◌, map, filter, find, Option, Some, None, option_map, IsSome, IsTrue, refl, sym, ap, ◌∙◌, subst, inl, inr}
 use Rattle.std.specs.List.{All, Contains}
 use Rattle.std.specs.Option.{option_map_or}
 use Rattle.std.proofs.lemmas.Bool.{cases_Bool, eqb-true}
@@ -21,7 +21,9 @@ use Rattle.lrc_stripes.specs.Levels.{home_of}
 use Rattle.lrc_stripes.specs.Tables as tables
 use Rattle.lrc_stripes.specs.Tables.{stored_in}
 use Rattle.lrc_leases.specs.declared.lease.Lease.{Lease}
-use Rattle.lrc_leases.specs.Leased.{Leased, is_of, is_target_on, leased_of, with_spare}
+use Rattle.lrc_leases.specs.Leased.{Leased, is_of, is_target_on, leased_of, leased_at, with_spare}
+use Rattle.std.proofs.lemmas.Nat.Bits.{bit_at-zero}
+use Rattle.lrc_code.specs.Losses.{bits_set}
 use Rattle.lrc_leases.specs.Leased as leased
 use Rattle.lrc_leases.specs.Tables as lease_tables
 use Rattle.lrc_leases.specs.Tables.{leased_in}
@@ -31,7 +33,10 @@ use Rattle.lrc_book.specs.States.{State, has_stripe, is_home_of, held_by, taken_
 use Rattle.lrc_book.specs.Leases.{with_lease, without_lease, without_home, moved_in}
 use Rattle.lrc_book.specs.Goodness.{AreSeated, IsStanding}
 use Rattle.lrc_book.specs.Ties.{table_of}
-use Rattle.lrc_book.specs.Stores.{IsOf, IsGrant}
+use Rattle.lrc_book.specs.Dropping.{unleased}
+use Rattle.lrc_book.specs.Steps.{without_upgrading}
+use Rattle.lrc_book.specs.Stores.{IsOf, IsGrant, kept_table}
+use Rattle.lrc_book.proofs.ClosedLemmas.{settled-seated}
 use Rattle.lrc_book.proofs.ModesLemmas.{same-modes}
 use Rattle.lrc_book.proofs.MemberLemmas.{map-member, filter-member, member-filter, member-list_any}
 use Rattle.lrc_book.proofs.NodeLemmas.{member-taken}
@@ -180,7 +185,8 @@ module _ (st : State) (k : Store) (kept : IsOf st k) (s : StripeNo) (f : Fragmen
   end-kept l live table leases freed out = record {
     known = kept.known;
     seated = ended-seated k.topology st s f kept.seated;
-    table_is = freed ∙ ap (λ (t : Slots). with_free t l.target.node l.target.slot) kept.table_is ∙ end-table k.topology st s f l live kept.seated;
+    table_is = freed ∙ ap (λ (t : Slots). with_free t l.target.node l.target.slot) kept.table_is
+        ∙ end-table k.topology (without_upgrading st) s f l live (settled-seated k.topology st kept.seated);
     stripes_is = kept.stripes_is;
     leases_is = leases-out leases out;
     modes_are = same-modes st (without_lease st s f) k.modes refl kept.modes_are;
@@ -192,7 +198,7 @@ module _ (st : State) (k : Store) (kept : IsOf st k) (s : StripeNo) (f : Fragmen
   end-none none leases out = record {
     known = kept.known;
     seated = ended-seated k.topology st s f kept.seated;
-    table_is = kept.table_is ∙ ap (λ (ls : List Lease). table_of k.topology (record st { leases = ls })) (sym (none-out st.leases s f.value none));
+    table_is = kept.table_is ∙ ap (λ (ls : List Lease). kept_table k.topology (record st { leases = ls })) (sym (none-out st.leases s f.value none));
     stripes_is = kept.stripes_is;
     leases_is = leases-out leases out;
     modes_are = same-modes st (without_lease st s f) k.modes refl kept.modes_are;
@@ -223,7 +229,7 @@ module _ (st : State) (k k2 : Store) (kept : IsOf st k) (same : k2.topology ≡ 
   move-kept stripes leases set out = record {
     known = cleared.known;
     seated = moved-seated k2.topology st s f l live good;
-    table_is = cleared.table_is ∙ move-table k2.topology st s f l live good;
+    table_is = cleared.table_is ∙ move-table k2.topology (without_upgrading st) s f l live (settled-seated k2.topology st good);
     stripes_is = own-spare k2.topology (moved_in st s f l.target) (stored_in stripes) (stored_in k2.stripes).spare
         (set ∙ ap (λ (t : Stored). stored.with_home t s f (Some l.target)) cleared.stripes_is ∙ stored-home k2.topology (without_home st s f) (stored_in k2.stripes).spare s f l.target no-home);
     leases_is = leases-out (without_home st s f) k2 cleared s f leases out;
@@ -242,8 +248,8 @@ module _ (st : State) (k : Store) (kept : IsOf st k) (l : Lease) (told : IsGrant
   abbrev pub next : State
   next = with_lease st l
 
-  pub grant-table : with_taken (table_of k.topology st) l.target.node (Some l.target.slot) ≡ table_of k.topology (with_lease st l)
-  grant-table = table-more k.topology st l.target (taken_seats next) (target-seat next l (Contains-push st.leases l))
+  pub grant-table : with_taken (kept_table k.topology st) l.target.node (Some l.target.slot) ≡ kept_table k.topology (with_lease st l)
+  grant-table = table-more k.topology (without_upgrading st) l.target (taken_seats next) (target-seat next l (Contains-push st.leases l))
       (λ b here. elim (taken-cases st b here) [
         | inl (h, at, e) ↦ subst (Contains (taken_seats next)) e (home-seat next h at)
         | inr (m, at, e) ↦ subst (Contains (taken_seats next)) e (target-seat next m (Contains-append_left st.leases (l ∷ []) m at))
@@ -269,3 +275,22 @@ module _ (st : State) (k : Store) (kept : IsOf st k) (l : Lease) (told : IsGrant
         (added ∙ ap (λ (t : Leased). leased.with_lease t l) kept.leases_is ∙ sym (leased_of-append st.leases l (leased_in k.leases).spare told.new));
     modes_are = same-modes st (with_lease st l) k.modes refl kept.modes_are;
   }
+
+-- ---- a stripe without leases
+
+no-some : {X : Type 0} (o : Option X) → is_some o ≡ false → o ≡ None
+no-some None e = refl
+no-some (Some x) e = absurd (let never : true ≡ false = e in cc)
+
+-- where the mask of its leased fragments is empty, none of them has a lease
+pub none-leased : (st : State) (k : Store) → IsOf st k → (s : StripeNo) (leased : ℕ) → leased ≡ 0
+    → ((f : ℕ) → bits_set leased f ≡ leased_at (leased_in k.leases) s f) → (f : Fragment) → lease_of st s f ≡ None
+none-leased st k kept s leased none are f =
+    sym (lease-kept st k kept s f)
+    ∙ no-some ((leased_in k.leases).leases s f.value) (sym (are f.value) ∙ rw (none, bit_at-zero f.value) refl)
+
+-- so none is to be ended
+pub unleased-none : (st : State) (s : StripeNo) → ((f : Fragment) → lease_of st s f ≡ None) → (fs : List Fragment) → unleased st s fs ≡ st
+unleased-none st s none [] = refl
+unleased-none st s none (f ∷ fs) =
+    ap (λ (ls : List Lease). unleased (record st { leases = ls }) s fs) (none-out st.leases s f.value (none f)) ∙ unleased-none st s none fs

@@ -11,9 +11,10 @@ use Rattle.lrc_code.specs.declared.numbers.Fragment.{Fragment}
 use Rattle.lrc_code.specs.Codes.{fragments}
 use Rattle.lrc_code.proofs.NumbersLemmas.{equal_fragments}
 use Rattle.lrc_topology.specs.declared.seat.Held.{Held}
-use Rattle.lrc_book.specs.Steps.{is_other}
+use Rattle.lrc_book.specs.Steps.{is_other, without_upgrading}
 use Rattle.lrc_book.specs.Goodness.{AreSeated}
 use Rattle.lrc_stripes.specs.Stored.{Stored}
+use Rattle.lrc_book.proofs.ClosedLemmas.{settled-seated}
 use Rattle.lrc_book.proofs.ModesLemmas.{same-modes}
 use Rattle.lrc_book.proofs.MemberLemmas.{list_any-All, All-members, list_any-member}
 use Rattle.lrc_book.proofs.SeatedLemmas.{without-seated}
@@ -29,7 +30,6 @@ use Rattle.lrc_book.specs.States.{State, has_stripe, held_by, taken_seats}
 use Rattle.lrc_book.specs.Steps.{without_stripe}
 use Rattle.lrc_book.specs.Leases.{without_lease, without_home}
 use Rattle.lrc_book.specs.Dropping.{unleased, homeless}
-use Rattle.lrc_book.specs.Ties.{table_of}
 use Rattle.lrc_topology.specs.declared.NodeInfo.{NodeInfo}
 use Rattle.lrc_topology.specs.declared.seat.Seat.{Seat}
 use Rattle.lrc_topology.specs.Seats.{is_taken}
@@ -39,7 +39,7 @@ use Rattle.lrc_slots.specs.Tables.{slots_of}
 use Rattle.lrc_stripes.specs.Levels.{home_of, homes_of}
 use Rattle.lrc_book.proofs.ClearLemmas.{home-at, none-at, seat-there, clear-table}
 use Rattle.lrc_book.proofs.StoredLemmas.{is_of}
-use Rattle.lrc_book.specs.Stores.{IsOf}
+use Rattle.lrc_book.specs.Stores.{IsOf, kept_table}
 
 -- each fragment stands at its number
 pub fragment-at : (f : Fragment) → get_or (fragments Wide) f.value f ≡ f
@@ -154,18 +154,18 @@ unleased-has st s there = ap (λ (x : State). has_stripe x s) (unleased-all st s
 
 module _ (nodes : List NodeInfo) (st : State) (s : StripeNo) (f : Fragment) where
   -- it stands on a seat that is taken
-  pub home-taken : AreSeated nodes st → (seat : Seat) → homes_of st.homes s f.value ≡ Some seat → (table_of nodes st).taken seat.node seat.slot ≡ true
+  pub home-taken : AreSeated nodes st → (seat : Seat) → homes_of st.homes s f.value ≡ Some seat → (kept_table nodes st).taken seat.node seat.slot ≡ true
   home-taken good seat is =
       let home = home-at s f st.homes (home_of st.homes s f.value) refl seat is in
       subst (λ (a : Seat). is_taken (taken_seats st) a.node a.slot ≡ true) home.2 (seat-there nodes st s f home.0 good home.1)
 
   -- without the seat, the table is that without the home
   pub home-freed : AreSeated nodes st → (seat : Seat) → homes_of st.homes s f.value ≡ Some seat
-      → with_free (table_of nodes st) seat.node seat.slot ≡ table_of nodes (without_home st s f)
+      → with_free (kept_table nodes st) seat.node seat.slot ≡ kept_table nodes (without_home st s f)
   home-freed good seat is =
       let home = home-at s f st.homes (home_of st.homes s f.value) refl seat is in
-      subst (λ (a : Seat). with_free (table_of nodes st) a.node a.slot ≡ table_of nodes (without_home st s f)) home.2
-      (clear-table nodes st s f home.0 good home.1)
+      subst (λ (a : Seat). with_free (kept_table nodes st) a.node a.slot ≡ kept_table nodes (without_home st s f)) home.2
+      (clear-table nodes (without_upgrading st) s f home.0 (settled-seated nodes st good) home.1)
 
   -- where there is no home, nothing changes
   pub none-freed : homes_of st.homes s f.value ≡ None → st ≡ without_home st s f
@@ -180,7 +180,7 @@ module _ (nodes : List NodeInfo) (st : State) (s : StripeNo) (f : Fragment) wher
 -- The homes of the first fragments are cleared in the state of the table, and those of the others stand as they were.
 pub record IsFreed (nodes : List NodeInfo) (st : State) (s : StripeNo) (i : ℕ) (table : Slots) : Type 0 where
   pub seated : AreSeated nodes (homeless st s (take i (fragments Wide)))
-  pub table_is : table ≡ table_of nodes (homeless st s (take i (fragments Wide)))
+  pub table_is : table ≡ kept_table nodes (homeless st s (take i (fragments Wide)))
   pub left : (f : Fragment) → i ≤ f.value → homes_of (homeless st s (take i (fragments Wide))).homes s f.value ≡ homes_of st.homes s f.value
 
 module _ (nodes : List NodeInfo) (st : State) (s : StripeNo) (i : ℕ) (d : Fragment) (within : i < 16) (table : Slots) (was : IsFreed nodes st s i table) where
@@ -196,10 +196,10 @@ module _ (nodes : List NodeInfo) (st : State) (s : StripeNo) (i : ℕ) (d : Frag
   more : without_home now s here ≡ homeless st s (take (i + 1) (fragments Wide))
   more = homeless-more st s (fragments Wide) i d within
 
-  next-freed : (next : Slots) → next ≡ table_of nodes (without_home now s here) → IsFreed nodes st s (i + 1) next
+  next-freed : (next : Slots) → next ≡ kept_table nodes (without_home now s here) → IsFreed nodes st s (i + 1) next
   next-freed next is = record {
     seated = subst (λ (x : State). AreSeated nodes x) more (homes-seated nodes now (λ h. not (is_of s here.value h)) was.seated);
-    table_is = is ∙ ap (table_of nodes) more;
+    table_is = is ∙ ap (kept_table nodes) more;
     left = λ g above.
         let at = number-at i d within in
         ap (λ (x : State). homes_of x.homes s g.value) (sym more)
@@ -219,14 +219,14 @@ module _ (nodes : List NodeInfo) (st : State) (s : StripeNo) (i : ℕ) (d : Frag
 
   -- or there is none
   pub freed-none : homes_of st.homes s here.value ≡ None → IsFreed nodes st s (i + 1) table
-  freed-none is = next-freed table (was.table_is ∙ ap (table_of nodes) (none-freed nodes now s here (home-left ∙ is)))
+  freed-none is = next-freed table (was.table_is ∙ ap (kept_table nodes) (none-freed nodes now s here (home-left ∙ is)))
 
 -- ---- the stripe taken out
 
 -- With the leases ended, the seats given back and the stripe taken out, what is kept is that of the state without it.
 pub dropped-kept : (st : State) (s : StripeNo) (before k : Store) (table : slots.Table) (stripes : tables.Table)
     → IsOf st before → IsOf (unleased st s (fragments Wide)) k → k.topology ≡ before.topology
-    → slots_of table ≡ table_of k.topology (homeless (unleased st s (fragments Wide)) s (fragments Wide))
+    → slots_of table ≡ kept_table k.topology (homeless (unleased st s (fragments Wide)) s (fragments Wide))
     → stored_in stripes ≡ stored.with_spare (stored.without_stripe (stored_in k.stripes) s) (stored_in stripes).spare
     → IsOf (without_stripe st s) (record k { table = table; stripes = stripes })
 dropped-kept st s before k table stripes first last same freed removed =
@@ -234,7 +234,7 @@ dropped-kept st s before k table stripes first last same freed removed =
     let kept : IsOf left k = subst (λ (x : State). IsOf x k) (unleased-all st s) last in record {
       known = kept.known;
       seated = without-seated k.topology kept.known st s (subst (λ ns. AreSeated ns st) (sym same) first.seated);
-      table_is = freed ∙ ap (table_of k.topology) (ap (λ (x : State). homeless x s (fragments Wide)) (unleased-all st s) ∙ homeless-all left s);
+      table_is = freed ∙ ap (kept_table k.topology) (ap (λ (x : State). homeless x s (fragments Wide)) (unleased-all st s) ∙ homeless-all left s);
       stripes_is = removed ∙ ap (λ (x : Stored). stored.with_spare (stored.without_stripe x s) (stored_in stripes).spare) kept.stripes_is
           ∙ ap (λ (x : Stored). stored.with_spare x (stored_in stripes).spare) (stored-without k.topology left (stored_in k.stripes).spare s);
       leases_is = kept.leases_is;

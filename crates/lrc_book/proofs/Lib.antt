@@ -23,6 +23,7 @@ pub mod TableLemmas
 pub mod BarLemmas
 pub mod ClassBarLemmas
 pub mod PlanLemmas
+pub mod OpenLemmas
 pub mod PlanningLemmas
 pub mod FragmentLemmas
 pub mod StoredLemmas
@@ -74,3 +75,4 @@ pub mod FrontLemmas
 pub mod TouchingLemmas
 pub mod LoadLemmas
 pub mod NumberedLemmas
+pub mod ClosedLemmas

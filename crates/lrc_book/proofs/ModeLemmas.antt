@@ -23,10 +23,11 @@ use Rattle.lrc_leases.specs.Tables.{leased_in}
 use Rattle.lrc_book.specs.declared.store.Store.{Store}
 use Rattle.lrc_book.specs.declared.modes.Modes.{Modes}
 use Rattle.lrc_book.specs.Goodness.{AreSeated}
-use Rattle.lrc_book.specs.Stores.{IsOf, IsOfBut, StaysAsItWas, AreModesOf}
-use Rattle.lrc_book.specs.States.{State, held_by, has_number, without_number, mode_of, is_active, is_draining, is_online, takes_seats, online_at, drains_at}
-use Rattle.lrc_book.specs.Steps.{with_gone, with_down, without_down, with_draining as with_draining_node, without_draining, without_gone}
-use Rattle.lrc_book.specs.Ties.{table_of}
+use Rattle.lrc_book.specs.Stores.{IsOf, IsOfBut, StaysAsItWas, AreModesOf, kept_table}
+use Rattle.lrc_book.specs.States.{State, held_by, has_number, without_number, mode_of, is_active, is_draining, is_gone, is_down, is_online, takes_seats, online_at, drains_at}
+use Rattle.lrc_book.specs.Steps.{with_gone, with_down, without_down, with_draining as with_draining_node, without_draining, without_gone, without_upgrading}
+use Rattle.lrc_book.specs.declared.mode.Mode.{Mode}
+use Rattle.lrc_book.specs.declared.mode.Mode.TheVariants.{Active, Draining, Gone}
 use Rattle.lrc_book.specs.Stores.{stored_of}
 use Rattle.lrc_book.proofs.NodeLemmas.{member-node_at}
 use Rattle.lrc_book.proofs.StoredLemmas.{same_modes, same_lists, test-sym, own-spare}
@@ -66,18 +67,24 @@ pub not_not : (b : Bool) → not (not b) ≡ b
 not_not true = refl
 not_not false = refl
 
+-- an active node is not gone
+active-takes : (m : Mode) (down : Bool) → (is_active m && not down) ≡ (is_active m && (not (is_gone m) && (not down && not false)))
+active-takes Active true = refl
+active-takes Active false = refl
+active-takes Draining down = refl
+active-takes Gone down = refl
+
 module _ (node : NodeNo) (was st : State) (k : Store) (behind : IsOfBut node was st k) where
   row : (n : NodeInfo) × (node_at k.topology node ≡ Some n)
   row = some-node (node_at k.topology node) behind.there
 
-  -- the node takes seats where it is online and active
-  takes-here : (online_at k.topology st node && is_active (mode_of st node)) ≡ option_map_or (takes_seats st) (node_at k.topology node) true
+  -- the node takes seats, but for upgrades, where it is active and not down
+  takes-here : (is_active (mode_of st node) && not (is_down st node)) ≡ option_map_or (takes_seats (without_upgrading st)) (node_at k.topology node) true
   takes-here =
       let number = (member-node_at k.topology node row.0 row.1).1 in
-      subst (λ (o : Option NodeInfo). (option_map_or (is_online st) o false && is_active (mode_of st node)) ≡ option_map_or (takes_seats st) o true)
-      (sym row.1)
-      (ap (λ (m : NodeNo). is_online st row.0 && is_active (mode_of st m)) number
-      ∙ and-swap (is_online st row.0) (is_active (mode_of st row.0.number)))
+      subst (λ (o : Option NodeInfo). (is_active (mode_of st node) && not (is_down st node)) ≡ option_map_or (takes_seats (without_upgrading st)) o true) (sym row.1)
+      (ap (λ (m : NodeNo). is_active (mode_of st m) && not (is_down st m)) number
+      ∙ active-takes (mode_of st row.0.number) (is_down st row.0.number))
 
   drains-here : is_draining (mode_of st node) ≡ drains_at k.topology st node
   drains-here =
@@ -104,12 +111,12 @@ module _ (node : NodeNo) (was st : State) (k : Store) (behind : IsOfBut node was
     by false is = other (node_at k.topology m) is refl
 
   -- the table follows
-  table-follows : with_eligible (table_of k.topology was) node (online_at k.topology st node && is_active (mode_of st node)) ≡ table_of k.topology st
+  table-follows : with_eligible (kept_table k.topology was) node (is_active (mode_of st node) && not (is_down st node)) ≡ kept_table k.topology st
   table-follows =
-      ap (λ (eligible : NodeNo → Bool). record (table_of k.topology was) { eligible = eligible })
-      (fun_ext (at-number (online_at k.topology st node && is_active (mode_of st node)) true (takes_seats was) (takes_seats st) takes-here
+      ap (λ (eligible : NodeNo → Bool). record (kept_table k.topology was) { eligible = eligible })
+      (fun_ext (at-number (is_active (mode_of st node) && not (is_down st node)) true (takes_seats (without_upgrading was)) (takes_seats (without_upgrading st)) takes-here
       (λ x stays. stays.takes)))
-      ∙ ap₂ (λ (hs : List Held) (ls : List Lease). record (table_of k.topology st) { taken = is_taken (map (λ h. h.seat) (hs ++ map held_by ls)) })
+      ∙ ap₂ (λ (hs : List Held) (ls : List Lease). record (kept_table k.topology st) { taken = is_taken (map (λ h. h.seat) (hs ++ map held_by ls)) })
       behind.homes_stay behind.leases_stay
 
   -- and so do the stripes
@@ -124,15 +131,15 @@ module _ (node : NodeNo) (was st : State) (k : Store) (behind : IsOfBut node was
       ∙ same_lists k.topology was st spare behind.stripes_stay behind.homes_stay
 
   -- with all told, what is kept is that of the state
-  pub follows : (online active draining : Bool) → online ≡ online_at k.topology st node → active ≡ is_active (mode_of st node)
-      → draining ≡ is_draining (mode_of st node)
-      → (table : slots.Table) (stripes drained : tables.Table) → slots_of table ≡ with_eligible (slots_of k.table) node (online && active)
+  pub follows : (online takes draining : Bool) → online ≡ online_at k.topology st node
+      → takes ≡ (is_active (mode_of st node) && not (is_down st node)) → draining ≡ is_draining (mode_of st node)
+      → (table : slots.Table) (stripes drained : tables.Table) → slots_of table ≡ with_eligible (slots_of k.table) node takes
       → stored_in stripes ≡ with_offline (stored_in k.stripes) node (not online)
       → stored_in drained ≡ with_draining (stored_in stripes) node draining → IsOf st (record k { table = table; stripes = drained })
-  follows online active draining o a d table stripes drained set set_too set_last = record {
+  follows online takes draining o a d table stripes drained set set_too set_last = record {
     known = behind.known;
     seated = behind.seated;
-    table_is = set ∙ ap₂ (λ (t : Slots) (b : Bool). with_eligible t node b) behind.table_is (ap₂ (λ (x y : Bool). x && y) o a) ∙ table-follows;
+    table_is = set ∙ ap₂ (λ (t : Slots) (b : Bool). with_eligible t node b) behind.table_is a ∙ table-follows;
     stripes_is = own-spare k.topology st (stored_in drained) (stored_in k.stripes).spare
         (set_last ∙ ap₂ (λ (t : Stored) (b : Bool). with_draining t node b)
         (set_too ∙ ap₂ (λ (t : Stored) (b : Bool). with_offline t node (not b)) behind.stripes_is o) d ∙ stored-follows (stored_in k.stripes).spare);

@@ -12,7 +12,6 @@ use Rattle.lrc_slots.specs.Slots.{Slots, least_free, least_free_at}
 use Rattle.lrc_slots.specs.Barred.{Barred, no_bars}
 use Rattle.lrc_slots.specs.Next.{may_take, is_chosen_before, next_node, next_number}
 use Rattle.lrc_stripes.specs.Stored.{StripeFragment}
-use Rattle.lrc_slots.specs.Tables.{slots_of}
 use Rattle.lrc_book.specs.declared.store.Store.{Store}
 use Rattle.lrc_book.specs.States.{State, lease_of, rank}
 use Rattle.lrc_book.specs.Placement.{chosen}
@@ -45,13 +44,13 @@ module _ (t : Slots) (b : Barred) where
 
 -- ---- so none is chosen
 
-module _ (st : State) (k : Store) (kept : IsOf st k) (full : is_some (next_number (slots_of k.table) no_bars) ≡ false) where
+module _ (st : State) (k : Store) (kept : IsOf st k) (full : is_some (next_number (table_of k.topology st) no_bars) ≡ false) where
   none-chosen : (s : StripeNo) (f : Fragment) → chosen k.topology st s f ≡ None
   none-chosen s f =
       let t = table_of k.topology st in
       sym (table-chosen k.topology st s f kept.known kept.seated)
       ∙ ap (option_and_then (λ (n : NodeNo). option_map (λ slot. record { node = n; slot = slot }) (least_free_at t n)))
-      (none-barred t (bars_of k.topology st s f) (subst (λ (x : Slots). is_some (next_number x no_bars) ≡ false) kept.table_is full))
+      (none-barred t (bars_of k.topology st s f) full)
 
   -- no fragment's lease would be granted
   ungrantable : (p : StripeFragment) → is_grantable k.topology st p ≡ true → ⊥

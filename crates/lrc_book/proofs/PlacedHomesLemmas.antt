@@ -1,8 +1,9 @@
 -- The homes of a stripe that was placed, and of all others.
-use Rattle.std.proofs.Common.{◌≡◌, ◌≢◌, ℕ, Bool, true, false, ◌&&◌, ◌||◌, nat_eq, if◌then◌else◌, List, [], ◌∷◌, ◌++◌, map, length, get_or, Option, Some, None, option_map, Result, Ok, Err, refl, sym, ap, ap₂, ◌∙◌, subst, arith}
-use Rattle.std.specs.List.{All, AllPairs}
+use Rattle.std.proofs.Common.{◌≡◌, ◌≢◌, ℕ, zero, suc, ◌+◌, ◌-◌, zero-add, eqb, inl, inr, Bool, true, false, ◌&&◌, ◌||◌, nat_eq, if◌then◌else◌, List, [], ◌∷◌, ◌++◌, map, length, get_or, Option, Some, None, option_map, Result, Ok, Err, refl, sym, ap, ap₂, ◌∙◌, subst, arith}
+use Rattle.std.specs.List.{All, AllPairs, slice_get}
 use Rattle.std.specs.Option.{option_or}
-use Rattle.std.proofs.lemmas.Bool.{eq-eqb, ne_eqb}
+use Rattle.std.specs.Bool.{⊤}
+use Rattle.std.proofs.lemmas.Bool.{cases_Bool, eq-eqb, ne_eqb, eqb-true}
 use Rattle.std.proofs.lemmas.List.Elements.{All-head, All-tail, All-weaker, Contains-push}
 use Rattle.std.proofs.lemmas.List.Folds.{find-append, list_any-append}
 use Rattle.lrc_code.specs.declared.codes.Code.TheVariants.{Wide}
@@ -16,6 +17,8 @@ use Rattle.lrc_topology.specs.declared.NodeInfo.{NodeInfo}
 use Rattle.lrc_topology.specs.declared.seat.Seat.{Seat}
 use Rattle.lrc_topology.specs.declared.seat.Held.{Held}
 use Rattle.lrc_stripes.specs.Levels.{home_of, homes_of}
+use Rattle.lrc_stripes.specs.Stored as stored
+use Rattle.lrc_stripes.specs.Stored.{Stored}
 use Rattle.lrc_book.specs.declared.command.Command.TheVariants.{Place}
 use Rattle.lrc_book.specs.declared.reply.Reply.TheVariants.{Placed}
 use Rattle.lrc_book.specs.declared.refusal.Refusal.TheVariants as refusal
@@ -29,7 +32,8 @@ use Rattle.lrc_book.proofs.MemberLemmas.{list_any-member, AllPairs-head, AllPair
 use Rattle.lrc_book.proofs.SeatingLemmas.{fragments-distinct}
 use Rattle.lrc_book.proofs.OutcomeLemmas.{either-way}
 use Rattle.lrc_book.proofs.StepLemmas.{placed-grown, step-changed}
-use Rattle.lrc_book.proofs.StoredLemmas.{no_home}
+use Rattle.lrc_book.specs.Stores.{stored_of}
+use Rattle.lrc_book.proofs.StoredLemmas.{no_home, stored-stripe, same_homes}
 use Rattle.lrc_book.proofs.ToldLemmas.{place-told}
 use Rattle.lrc_book.proofs.LawLemmas.{chosen-length}
 
@@ -142,3 +146,48 @@ module _ (nodes : List NodeInfo) (st : State) (s : StripeNo) where
       let parts = place-told nodes st s seats told in
       ap (λ (next : State). homes_shown next s) (step-changed nodes past st session (Place s) ∙ ap (changed_by st (Place s)) told)
       ∙ placed-homes seats seated parts.absent (chosen-length nodes (with_stripe st Wide s) s (fragments Wide) seats parts.chosen_are)
+
+-- ---- what is stored of a stripe that was placed
+
+-- the fragments have the numbers from this one on
+abbrev AreNumbered : ℕ → List Fragment → Type 0
+AreNumbered n [] = ⊤
+AreNumbered n (f ∷ fs) = (f.value ≡ n) × AreNumbered (n + 1) fs
+
+-- so the home of a number stands at its place
+numbered-homes : (s : StripeNo) (n : ℕ) (fs : List Fragment) (seats : List Seat) (i k : ℕ) → AreNumbered n fs → length seats ≡ length fs → k ≡ n + i
+    → homes_of (held_at s fs seats) s k ≡ slice_get seats i
+numbered-homes s n [] [] i k numbered e at = refl
+numbered-homes s n [] (x ∷ xs) i k numbered e at = absurd (omega (arith, e))
+numbered-homes s n (f ∷ fs) [] i k numbered e at = absurd (omega (arith, e))
+numbered-homes s n (f ∷ fs) (x ∷ xs) zero k numbered e at =
+    let own : f.value ≡ k = let first = numbered.0 in omega (arith, first, at) in
+    rw (eq-eqb s.value s.value refl, eq-eqb f.value k own) refl
+numbered-homes s n (f ∷ fs) (x ∷ xs) (suc i) k numbered e at =
+    let more : length xs ≡ length fs = omega (arith, e) in
+    let later : k ≡ n + 1 + i = omega (arith, at) in
+    rw (eq-eqb s.value s.value refl, ne_eqb f.value k (λ same. let first = numbered.0 in absurd (omega (arith, first, at, same))))
+    (numbered-homes s (n + 1) fs xs i k numbered.1 more later)
+
+fragments-numbered : AreNumbered 0 (fragments Wide)
+fragments-numbered = (refl, (refl, (refl, (refl, (refl, (refl, (refl, (refl, (refl, (refl, (refl, (refl, (refl, (refl, (refl, (refl, tt))))))))))))))))
+
+-- a stripe that is added with its homes is stored as one that was placed
+pub stored-placed : (nodes : List NodeInfo) (st : State) (spare : ℕ) (s : StripeNo) (seats : List Seat) → AreSeated nodes st → has_stripe st s ≡ false
+    → length seats ≡ 16 → stored.with_homes (stored_of nodes st spare) s seats ≡ stored_of nodes (with_placed st s seats) (spare - 1)
+stored-placed nodes st spare s seats seated absent sixteen =
+    let added = held_at s (fragments Wide) seats in
+    ap (λ (t : Stored). record t { homes = λ r n. if same_stripe s r then slice_get seats n else homes_of st.homes r n }) (stored-stripe nodes st spare s seated absent)
+    ∙ same_homes (stored_of nodes (with_placed st s seats) (spare - 1)) _ (λ r. homes_of (with_placed st s seats).homes r)
+    (λ r n. elim (cases_Bool (eqb s.value r.value)) [
+      | inl same ↦
+          let own : s ≡ r = equal_stripes s r (eqb-true s.value r.value same) in
+          rw same (sym (ap home_in (homes-append st.homes added r n)
+          ∙ ap home_in (after-none (home_of st.homes r n) (home_of added r n)
+          (subst (λ (q : StripeNo). home_of st.homes q n ≡ None) own (no_home nodes st s n seated absent)))
+          ∙ subst (λ (q : StripeNo). homes_of added q n ≡ slice_get seats n) own
+          (numbered-homes s 0 (fragments Wide) seats n n fragments-numbered sixteen (sym (zero-add n)))))
+      | inr other ↦ rw other (sym (ap home_in (homes-append st.homes added r n
+          ∙ before-none (home_of st.homes r n) (home_of added r n)
+          (none-added s r (fragments Wide) seats n (λ same. let both : true ≡ false = sym (eq-eqb s.value r.value (ap (λ (q : StripeNo). q.value) (sym same))) ∙ other in absurd (cc))))))
+    ])

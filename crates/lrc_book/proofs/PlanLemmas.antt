@@ -47,7 +47,7 @@ module _ {X : Type 0} (before after : X → X → Bool) (P : X → Type 0) (agre
   least-agree [] all = refl
   least-agree (x ∷ xs) all = least_from-agree x xs (All-head P x xs all) (All-tail P x xs all)
 
-filter-agree : {X : Type 0} (p q : X → Bool) (xs : List X) → All (λ x. p x ≡ q x) xs → filter p xs ≡ filter q xs
+pub filter-agree : {X : Type 0} (p q : X → Bool) (xs : List X) → All (λ x. p x ≡ q x) xs → filter p xs ≡ filter q xs
 filter-agree p q [] all = refl
 filter-agree p q (x ∷ xs) all = elim (cases_Bool (q x)) [
   | inl hit ↦ rw (All-head (λ x. p x ≡ q x) x xs all, hit) (ap (λ ys. x ∷ ys) (filter-agree p q xs (All-tail (λ x. p x ≡ q x) x xs all)))

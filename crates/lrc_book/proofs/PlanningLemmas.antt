@@ -90,12 +90,11 @@ chosen-stripes nodes st stripes s f = refl
 -- the seat that is found for the next fragment is the one that is chosen for it in the state with the stripe, beside those that are planned
 pub planned-chosen : (k : Store) (s : StripeNo) (seats : List Seat) (fs : List Fragment) (i : ℕ) (d : Fragment) (bars : ClassBars)
     (o : Option Seat) → fs ≡ fragments Wide → i < length fs
-    → AreBarsOf k.topology (planned_to s fs seats i) bars
     → ((st : State) (stripe : StripeNo) (planned : List Held) → IsOf st k → has_stripe st stripe ≡ false
     → All (λ h. is_beside stripe (get_or fs i d) h ≡ true) planned
-    → AreBarsOf k.topology planned bars → o ≡ chosen k.topology (with_homes st planned) stripe (get_or fs i d))
-    → (st : State) → IsOf st k → has_stripe st s ≡ false
+    → AreBarsOf k.topology st.upgrading planned bars → o ≡ chosen k.topology (with_homes st planned) stripe (get_or fs i d))
+    → (st : State) → AreBarsOf k.topology st.upgrading (planned_to s fs seats i) bars → IsOf st k → has_stripe st s ≡ false
     → o ≡ chosen k.topology (with_homes (with_stripe st Wide s) (planned_to s fs seats i)) s (get_or fs i d)
-planned-chosen k s seats fs i d bars o all within barred found st kept absent =
+planned-chosen k s seats fs i d bars o all within found st barred kept absent =
     found st s (planned_to s fs seats i) kept absent (planned-beside s seats fs i d all within) barred
     ∙ sym (chosen-stripes k.topology (with_homes st (planned_to s fs seats i)) (st.stripes ++ s ∷ []) s (get_or fs i d))

@@ -84,7 +84,7 @@ same_code : (b : Bool) → (if b then Wide else Wide) ≡ Wide
 same_code true = refl
 same_code false = refl
 
-same_homes : (t : Stored) (homes homes' : StripeNo → ℕ → Option Seat) → ((s : StripeNo) (f : ℕ) → homes s f ≡ homes' s f) → ◌≡◌ {A = Stored} (record t { homes = homes }) (record t { homes = homes' })
+pub same_homes : (t : Stored) (homes homes' : StripeNo → ℕ → Option Seat) → ((s : StripeNo) (f : ℕ) → homes s f ≡ homes' s f) → ◌≡◌ {A = Stored} (record t { homes = homes }) (record t { homes = homes' })
 same_homes t homes homes' b = ap (λ (h : StripeNo → ℕ → Option Seat). record t { homes = h }) (fun_ext (λ s. fun_ext (b s)))
 
 pub same_modes : (t : Stored) (online online' draining draining' : NodeNo → Bool) → ((n : NodeNo) → online n ≡ online' n)

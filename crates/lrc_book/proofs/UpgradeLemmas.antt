@@ -113,7 +113,7 @@ module _ (nodes : List NodeInfo) (st : State) (u : UpgradeNo) where
     by false true same = refl
     by false false same = refl
 
-  online-with : st.upgrading ≡ None → (n : NodeNo) → online_at nodes (with_upgrading st u) n ≡ (online_at nodes st n && not (is_in_domain nodes u n))
+  pub online-with : st.upgrading ≡ None → (n : NodeNo) → online_at nodes (with_upgrading st u) n ≡ (online_at nodes st n && not (is_in_domain nodes u n))
   online-with none n = by (node_at nodes n) where
     by : (o : Option NodeInfo) → option_map_or (is_online (with_upgrading st u)) o false
         ≡ (option_map_or (is_online st) o false && not (option_map_or (λ m. same_upgrade m.upgrade u) o false))

@@ -254,6 +254,15 @@ module _ (nodes : List NodeInfo) (st : State) (spare : ℕ) where
       member-filter test (fragments_in st.stripes) p (fragments-from st.stripes p (have.there p.0 (fragments-into stripes p at.0))) at.1)
       ∙ sym (find-first test (fragments_in stripes))
 
+  -- where no stripe has work, no lease would be granted
+  pub idle-next : ((s : StripeNo) → stripe_has_work kept s ≡ true → ⊥) → None ≡ next_of nodes st
+  idle-next idle =
+      sym (next-first [] (record {
+        there = λ s here. absurd (not-Contains-nil s here);
+        rising = λ i j d below within. absurd (omega (arith, below, within));
+        each = λ p there granted. absurd (idle p.0 (has-work p.0 there (granted-works p granted)));
+      }))
+
   -- ---- stripes at risk
 
   module _ (rows : List StripeLevel) (are : AreAtRisk kept rows) where

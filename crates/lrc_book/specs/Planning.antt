@@ -1,6 +1,6 @@
 -- Internal: no public clause reaches these definitions.
 -- The domains that are barred for the fragments of each class, while the seats of a stripe are planned.
-use Rattle.std.specs.Prelude.{Bool, true, false, ◌&&◌, List, Some}
+use Rattle.std.specs.Prelude.{Bool, true, false, ◌&&◌, List, Option, Some}
 use Rattle.std.specs.List.{list_any}
 use Rattle.std.specs.Option.{option_map_or}
 use Rattle.lrc_code.specs.declared.codes.Class.{Class}
@@ -11,17 +11,20 @@ use Rattle.lrc_code.specs.declared.numbers.UpgradeNo.{UpgradeNo}
 use Rattle.lrc_code.specs.Numbers.{same_fault, same_upgrade}
 use Rattle.lrc_code.specs.Codes.{class_of, are_one_class}
 use Rattle.lrc_topology.specs.declared.NodeInfo.{NodeInfo}
+use Rattle.lrc_topology.specs.declared.seat.Seat.{Seat}
 use Rattle.lrc_topology.specs.declared.seat.Held.{Held}
 use Rattle.lrc_topology.specs.Nodes.{node_at}
 use Rattle.lrc_slots.specs.Barred.{Barred, with_fault, with_upgrade}
 use Rattle.lrc_slots.specs.BarredNodes.{AreBarredNodes}
+use Rattle.lrc_slots.specs.declared.open_node.OpenNode.{OpenNode}
 use Rattle.lrc_book.specs.declared.class_bars.ClassBars.{ClassBars}
+use Rattle.lrc_book.specs.Stores.{closed}
 
--- the nodes that are barred for the fragments of a class, as truth values by rank
-abbrev pub barred_for : ClassBars → Class → List Bool
-barred_for b A = b.a
-barred_for b B = b.b
-barred_for b G = b.g
+-- the nodes whose upgrade domains are barred for the fragments of a class, as truth values by rank
+abbrev pub upgrades_for : ClassBars → Class → List Bool
+upgrades_for b A = b.a
+upgrades_for b B = b.b
+upgrades_for b G = b.g
 
 -- what is barred, with the fault domain of one more node, and its upgrade domain where the classes are one
 abbrev pub with_node : Bool → Barred → NodeInfo → Barred
@@ -41,6 +44,20 @@ is_in_upgrade nodes c d h =
 abbrev pub bars_for : List NodeInfo → Class → List Held → Barred
 bars_for nodes c seats = record { faults = λ d. list_any (is_in_fault nodes d) seats; upgrades = λ d. list_any (is_in_upgrade nodes c d) seats }
 
--- the barred nodes are those in the domains that these seats bar
-abbrev pub AreBarsOf : List NodeInfo → List Held → ClassBars → Type 0
-AreBarsOf nodes seats b = (c : Class) → AreBarredNodes nodes (bars_for nodes c seats) (barred_for b c)
+-- the fault domains among them
+abbrev pub fault_bars : List NodeInfo → List Held → Barred
+fault_bars nodes seats = record { faults = λ d. list_any (is_in_fault nodes d) seats; upgrades = λ d. false }
+
+-- the upgrade domains among them
+abbrev pub upgrade_bars : List NodeInfo → Class → List Held → Barred
+upgrade_bars nodes c seats = record { faults = λ d. false; upgrades = λ d. list_any (is_in_upgrade nodes c d) seats }
+
+-- The barred nodes are those in the domains that these seats bar: in fault domains for all fragments, in upgrade domains for
+-- each class. Those of the upgrading domain, if there is one, are barred for all fragments too.
+pub record AreBarsOf (nodes : List NodeInfo) (upgrading : Option UpgradeNo) (seats : List Held) (b : ClassBars) : Type 0 where
+  pub faults : AreBarredNodes nodes (closed upgrading (fault_bars nodes seats)) b.faults
+  pub upgrades : (c : Class) → AreBarredNodes nodes (upgrade_bars nodes c seats) (upgrades_for b c)
+
+-- the seat that a node and its least free slot are
+abbrev pub open_seat : OpenNode → Seat
+open_seat o = record { node = o.node.number; slot = o.slot }

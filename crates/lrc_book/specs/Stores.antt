@@ -1,18 +1,20 @@
 -- Internal: no public clause reaches these definitions.
 -- What a book keeps of a state, and the room that it has.
-use Rattle.std.specs.Prelude.{◌≡◌, ◌≢◌, ◌<◌, ℕ, Bool, ◌&&◌, ◌||◌, true, false, if◌then◌else◌, nat_le, List, get_or, Option, Some, None, IsSome}
-use Rattle.std.specs.List.{All, Contains}
+use Rattle.std.specs.Prelude.{◌≡◌, ◌≢◌, ◌<◌, ℕ, Bool, not, ◌&&◌, ◌||◌, true, false, if◌then◌else◌, nat_le, List, get_or, Option, Some, None, IsSome}
+use Rattle.std.specs.List.{list_any}
 use Rattle.lrc_code.specs.declared.codes.Code.{Code}
 use Rattle.lrc_code.specs.declared.codes.Code.TheVariants.{Wide}
 use Rattle.lrc_code.specs.declared.numbers.StripeNo.{StripeNo}
 use Rattle.lrc_code.specs.declared.numbers.NodeNo.{NodeNo}
 use Rattle.lrc_code.specs.declared.numbers.UpgradeNo.{UpgradeNo}
 use Rattle.lrc_code.specs.declared.numbers.Fragment.{Fragment}
+use Rattle.lrc_code.specs.Numbers.{same_node}
 use Rattle.lrc_topology.specs.declared.NodeInfo.{NodeInfo}
 use Rattle.lrc_topology.specs.declared.seat.Seat.{Seat}
 use Rattle.lrc_topology.specs.declared.seat.Held.{Held}
 use Rattle.lrc_topology.specs.Nodes.{AreNodes, node_at}
-use Rattle.lrc_slots.specs.Barred.{Barred}
+use Rattle.lrc_slots.specs.Barred.{Barred, with_upgrade}
+use Rattle.lrc_slots.specs.Slots.{Slots}
 use Rattle.lrc_slots.specs.Tables.{slots_of}
 use Rattle.lrc_stripes.specs.Levels.{homes_of}
 use Rattle.lrc_stripes.specs.Stored.{Stored}
@@ -30,6 +32,7 @@ use Rattle.lrc_book.specs.declared.kind.Kind.{Kind}
 use Rattle.lrc_book.specs.Repairs.{kind, is_beyond_repair}
 use Rattle.lrc_book.specs.Leases.{grants}
 use Rattle.lrc_book.specs.Goodness.{AreSeated}
+use Rattle.lrc_book.specs.Steps.{without_upgrading}
 use Rattle.lrc_book.specs.Ties.{table_of, bars_fault, bars_upgrade}
 
 -- the stripes, codes, homes and the online and the draining nodes of the state, with room for so many more stripes
@@ -56,18 +59,27 @@ pub record AreModesOf (st : State) (m : Modes) : Type 0 where
   pub down_are : (n : NodeNo) → has_member m.down n ≡ has_number st.down n
   pub upgrading_is : m.upgrading ≡ st.upgrading
 
+-- the slot table that is kept of a state: the nodes of the upgrading domain stay eligible, and its bars keep them out of each choice
+abbrev pub kept_table : List NodeInfo → State → Slots
+kept_table nodes st = table_of nodes (without_upgrading st)
+
+-- what is barred, with the upgrading domain, if there is one
+abbrev pub closed : Option UpgradeNo → Barred → Barred
+closed None b = b
+closed (Some u) b = with_upgrade b u
+
 -- what is kept is that of a state over these nodes, whose stripes are seated
 pub record IsOf (st : State) (s : Store) : Type 0 where
   pub known : AreNodes s.topology
   pub seated : AreSeated s.topology st
-  pub table_is : slots_of s.table ≡ table_of s.topology st
+  pub table_is : slots_of s.table ≡ kept_table s.topology st
   pub stripes_is : stored_in s.stripes ≡ stored_of s.topology st (stored_in s.stripes).spare
   pub leases_is : leased_in s.leases ≡ leased_of st.leases (leased_in s.leases).spare
   pub modes_are : AreModesOf st s.modes
 
--- the node takes seats, is online and is draining as it was
+-- the node takes seats but for upgrades, is online and is draining as it was
 pub record StaysAsItWas (was st : State) (n : NodeInfo) : Type 0 where
-  pub takes : takes_seats was n ≡ takes_seats st n
+  pub takes : takes_seats (without_upgrading was) n ≡ takes_seats (without_upgrading st) n
   pub online : is_online was n ≡ is_online st n
   pub drains : is_draining (mode_of was n.number) ≡ is_draining (mode_of st n.number)
 
@@ -80,24 +92,14 @@ pub record IsOfBut (node : NodeNo) (was st : State) (s : Store) : Type 0 where
   pub homes_stay : was.homes ≡ st.homes
   pub leases_stay : was.leases ≡ st.leases
   pub others_stay : (n : NodeInfo) → n.number ≢ node → StaysAsItWas was st n
-  pub table_is : slots_of s.table ≡ table_of s.topology was
+  pub table_is : slots_of s.table ≡ kept_table s.topology was
   pub stripes_is : stored_in s.stripes ≡ stored_of s.topology was (stored_in s.stripes).spare
   pub leases_is : leased_in s.leases ≡ leased_of was.leases (leased_in s.leases).spare
   pub modes_are : AreModesOf st s.modes
 
--- The same, where it is the nodes of one upgrade domain that changed, and all else of the state but the upgrading domain stays.
-pub record IsOfButIn (u : UpgradeNo) (was st : State) (s : Store) : Type 0 where
-  pub known : AreNodes s.topology
-  pub seated : AreSeated s.topology st
-  pub stripes_stay : was.stripes ≡ st.stripes
-  pub homes_stay : was.homes ≡ st.homes
-  pub leases_stay : was.leases ≡ st.leases
-  pub modes_stay : (n : NodeInfo) → mode_of was n.number ≡ mode_of st n.number
-  pub others_stay : (n : NodeInfo) → n.upgrade ≢ u → StaysAsItWas was st n
-  pub table_is : slots_of s.table ≡ table_of s.topology was
-  pub stripes_is : stored_in s.stripes ≡ stored_of s.topology was (stored_in s.stripes).spare
-  pub leases_is : leased_in s.leases ≡ leased_of was.leases (leased_in s.leases).spare
-  pub modes_are : AreModesOf st s.modes
+-- the same stripes, but those of these nodes that are not online in the state are offline
+abbrev pub with_rest : Stored → State → List NodeInfo → Stored
+with_rest t st nodes = record t { online = λ m. t.online m && not (list_any (λ n. same_node n.number m && not (is_online st n)) nodes) }
 
 -- this is the store of some state
 abbrev pub IsTied : Store → Type 0
@@ -106,12 +108,6 @@ IsTied s = (st : State) × IsOf st s
 -- there is room for one more command of any kind
 abbrev pub has_room : Store → Bool
 has_room s = nat_le 1 (stored_in s.stripes).spare && nat_le 1 (leased_in s.leases).spare
-
--- the stripe is there, the fragment has no home, and this seat is chosen for it
-pub record IsNextHome (nodes : List NodeInfo) (st : State) (s : StripeNo) (f : Fragment) (seat : Seat) : Type 0 where
-  pub there : Contains st.stripes s
-  pub homeless : All (λ h. h.stripe ≡ s → h.fragment ≢ f) st.homes
-  pub chosen_is : chosen nodes st s f ≡ Some seat
 
 -- the stripe is there, the fragment has no lease, and the new one's target is chosen for it
 pub record IsGrant (nodes : List NodeInfo) (st : State) (lease : Lease) : Type 0 where

@@ -1,56 +1,74 @@
 //! The choice of a seat, read off the slot table and the seats of the stripe's other fragments.
 
-ghost use Rattle.std.specs.Prelude.{◌≡◌, ◌++◌, ◌∷◌, [], true, false, IsTrue, List, option_map, option_and_then, is_some};
+ghost use Rattle.std.specs.Prelude.{◌≡◌, ◌++◌, ◌∷◌, [], true, false, IsTrue, IfSome, List, Some, None, map, option_map, option_and_then, is_some};
 ghost use Rattle.std.specs.List.{All};
 ghost use Rattle.lrc_code.specs.declared.numbers.StripeNo.{StripeNo};
+ghost use Rattle.lrc_code.specs.Codes.{class_of};
 ghost use Rattle.lrc_code.specs.Losses.{bits_set};
+ghost use Rattle.lrc_code.specs.declared.codes.Code.TheVariants.{Wide};
 ghost use Rattle.lrc_topology.specs.declared.seat.Held.{Held};
 ghost use Rattle.lrc_topology.specs.Nodes.{node_at};
-ghost use Rattle.lrc_slots.specs.Barred.{Barred, no_bars};
-ghost use Rattle.lrc_slots.specs.BarredNodes.{AreBarredNodes};
+ghost use Rattle.lrc_slots.specs.Barred.{no_bars};
 ghost use Rattle.lrc_slots.specs.Next.{next_number};
-ghost use Rattle.lrc_slots.specs.Tables.{slots_of};
+ghost use Rattle.lrc_slots.specs.Tables.{slots_of, barred};
 ghost use Rattle.lrc_stripes.specs.Tables.{stored_in};
 ghost use Rattle.lrc_leases.specs.Leased.{leased_at};
 ghost use Rattle.lrc_leases.specs.Tables.{leased_in};
-ghost use Rattle.lrc_book.specs.States.{State, has_stripe};
+ghost use Rattle.lrc_book.specs.States.{State, has_stripe, held_by};
 ghost use Rattle.lrc_book.specs.Placement.{chosen, is_beside};
-ghost use Rattle.lrc_book.specs.Ties.{bars_of, next_seat, with_homes};
-ghost use Rattle.lrc_book.specs.Stores.{IsOf, with_seat};
-ghost use Rattle.lrc_book.specs.Planning.{AreBarsOf};
+ghost use Rattle.lrc_book.specs.Ties.{table_of, bars_of, bars_in, next_seat, with_homes};
+ghost use Rattle.lrc_book.specs.Stores.{IsOf, closed, with_seat};
+ghost use Rattle.lrc_book.specs.Planning.{AreBarsOf, open_seat};
 
 use crate::Seat;
-use crate::class_bars::{ClassBars, bar_node};
+use crate::class_bars::ClassBars;
 use crate::store::Store;
-use lrc_code::{Fragment, LossMask, StripeNo};
-use lrc_slots::BarredNodes;
+use lrc_code::{Class, Fragment, LossMask, StripeNo};
+use lrc_slots::{OpenNode, Taken};
 use lrc_topology::NodeInfo;
 
 impl Store {
-    /// The seat that the rule chooses for a fragment of a new stripe, beside the planned seats of its other fragments.
-    pub(crate) fn seat_for(&self, bars: &ClassBars, fragment: Fragment) -> Option<Seat>
-        ensures { (st : State) (stripe : StripeNo) (planned : List Held) → IsOf st self.now → has_stripe st stripe ≡ false
-            → All (λ h. is_beside stripe fragment h ≡ true) planned → AreBarsOf self.now.topology planned bars.now
-            → result ≡ chosen self.now.topology (with_homes st planned) stripe fragment }
+    /// Bars the upgrading domain, if there is one, for all fragments of a new stripe.
+    pub(crate) fn bar_upgrading_for_all(&self, bars: &mut ClassBars)
+        ensures { (st : State) → IsOf st self.now → AreBarsOf self.now.topology None [] bars.old → AreBarsOf self.now.topology st.upgrading [] bars.new }
     {
-        self.next_seat(bars.of(fragment.class()))
-    }
-
-    /// Bars the domains of a seat that is planned for a fragment.
-    pub(crate) fn bar_planned(&self, bars: &mut ClassBars, fragment: Fragment, seat: Seat)
-        ensures { (st : State) (stripe : StripeNo) (planned : List Held) → IsOf st self.now → AreBarsOf self.now.topology planned bars.old
-            → AreBarsOf self.now.topology (planned ++ record { stripe = stripe; fragment = fragment; seat = seat } ∷ []) bars.new }
-    {
-        if let Some(node) = self.node_of(Some(seat)) {
-            bars.bar(&self.table, &node, fragment.class());
+        if let Some(domain) = self.modes.upgrading {
+            self.table.bar_upgrade_in(&mut bars.faults, domain);
         }
     }
 
-    /// Whether some node takes a seat, where no domain is barred.
-    pub(crate) fn has_free_seat(&self) -> bool
-        ensures { result ≡ is_some (next_number (slots_of self.now.table) no_bars) }
+    /// The node and the slot that the rule chooses for a fragment of a new stripe, beside the planned seats of its other
+    /// fragments.
+    pub(crate) fn open_for(&self, bars: &ClassBars, fragment: Fragment) -> Option<OpenNode>
+        ensures chosen { (st : State) (stripe : StripeNo) (planned : List Held) → IsOf st self.now → has_stripe st stripe ≡ false
+            → All (λ h. is_beside stripe fragment h ≡ true) planned → AreBarsOf self.now.topology st.upgrading planned bars.now
+            → option_map open_seat result ≡ chosen self.now.topology (with_homes st planned) stripe fragment }
+        ensures known { (st : State) (planned : List Held) → IsOf st self.now → AreBarsOf self.now.topology st.upgrading planned bars.now
+            → IfSome result (λ o. node_at self.now.topology o.node.number ≡ Some o.node) }
     {
-        self.table.choose_outside(&BarredNodes::new()).is_some()
+        self.table
+            .open_outside(&bars.faults, bars.of(fragment.class()))
+    }
+
+    /// Bars the domains of the node that is planned for a fragment.
+    pub(crate) fn bar_planned(&self, bars: &mut ClassBars, fragment: Fragment, next: &OpenNode)
+        ensures { (st : State) (stripe : StripeNo) (planned : List Held) → IsOf st self.now
+            → node_at self.now.topology next.now.node.number ≡ Some next.now.node → AreBarsOf self.now.topology st.upgrading planned bars.old
+            → AreBarsOf self.now.topology st.upgrading (planned ++ record { stripe = stripe; fragment = fragment; seat = open_seat next.now } ∷ []) bars.new }
+    {
+        bars.bar(&self.table, &next.node, fragment.class());
+    }
+
+    /// Whether some node takes a seat, where no domain is barred but the upgrading one.
+    pub(crate) fn has_free_seat(&self) -> bool
+        ensures { (st : State) → IsOf st self.now → result ≡ is_some (next_number (table_of self.now.topology st) no_bars) }
+    {
+        if self.modes.upgrading.is_none() {
+            return self.table.has_open_node();
+        }
+        let mut bars = Taken::new();
+        self.bar_upgrading(&mut bars);
+        self.table.open_beside(&bars).is_some()
     }
 
     /// The seat that the rule chooses for a fragment of a stripe that is there.
@@ -58,25 +76,70 @@ impl Store {
         requires { IsTrue ((stored_in self.now.stripes).stripes stripe) }
         ensures { (st : State) → IsOf st self.now → result ≡ chosen self.now.topology st stripe fragment }
     {
-        let bars = self.bars_beside(stripe, fragment);
-        self.next_seat(&bars)
+        let mut bars = self.bars_beside(stripe, fragment);
+        self.bar_upgrading(&mut bars);
+        self.next_beside(&bars)
     }
 
-    /// The nodes in domains that the homes and the leases' targets of a stripe's other fragments bar for a fragment.
-    fn bars_beside(&self, stripe: StripeNo, fragment: Fragment) -> BarredNodes
+    /// Bars the upgrading domain too, if there is one.
+    fn bar_upgrading(&self, bars: &mut Taken)
+        ensures { (st : State) → IsOf st self.now → barred bars.new ≡ closed st.upgrading (barred bars.old) }
+    {
+        if let Some(domain) = self.modes.upgrading {
+            bars.bar_upgrade(domain);
+        }
+    }
+
+    /// The least free slot of the next node of the table outside these domains.
+    fn next_beside(&self, bars: &Taken) -> Option<Seat>
+        ensures { result ≡ next_seat (slots_of self.now.table) (barred bars.now) }
+    {
+        let next = self.table.open_beside(bars)?;
+        Some(Seat {
+            node: next.node.number,
+            slot: next.slot,
+        })
+    }
+
+    /// The domains that the homes and the leases' targets of a stripe's other fragments bar for a fragment.
+    fn bars_beside(&self, stripe: StripeNo, fragment: Fragment) -> Taken
         requires { IsTrue ((stored_in self.now.stripes).stripes stripe) }
-        ensures { (st : State) → IsOf st self.now → AreBarredNodes self.now.topology (bars_of self.now.topology st stripe fragment) result }
+        ensures { (st : State) → IsOf st self.now → barred result ≡ bars_of self.now.topology st stripe fragment }
+    {
+        let mut bars = Taken::new();
+        self.bar_homes(&mut bars, stripe, fragment);
+        self.bar_targets(&mut bars, stripe, fragment);
+        bars
+    }
+
+    /// Bars the domains of the homes of a stripe's other fragments for a fragment.
+    fn bar_homes(&self, bars: &mut Taken, stripe: StripeNo, fragment: Fragment)
+        requires { IsTrue ((stored_in self.now.stripes).stripes stripe) }
+        ensures { (st : State) (seats : List Held) → IsOf st self.now → barred bars.old ≡ bars_in self.now.topology Wide stripe fragment seats
+            → barred bars.new ≡ bars_in self.now.topology Wide stripe fragment (seats ++ st.homes) }
     {
         let homes = self.stripes.homes(stripe).unwrap();
-        let leased = self.leases.leased(stripe);
-        let mut bars = BarredNodes::new();
+        let class = fragment.class();
         for other in Fragment::all().iter() {
             let home = homes[other.value as usize];
-            self.bar_seat(&mut bars, fragment, *other, home);
-            let target = self.target(leased, stripe, *other);
-            self.bar_seat(&mut bars, fragment, *other, target);
+            self.bar_seat(bars, fragment, class, *other, home);
         }
-        bars
+    }
+
+    /// Bars the domains of the targets of the leases of a stripe's other fragments for a fragment.
+    fn bar_targets(&self, bars: &mut Taken, stripe: StripeNo, fragment: Fragment)
+        ensures { (st : State) (seats : List Held) → IsOf st self.now → barred bars.old ≡ bars_in self.now.topology Wide stripe fragment seats
+            → barred bars.new ≡ bars_in self.now.topology Wide stripe fragment (seats ++ map held_by st.leases) }
+    {
+        let leased = self.leases.leased(stripe);
+        if leased.bits() == 0 {
+            return;
+        }
+        let class = fragment.class();
+        for other in Fragment::all().iter() {
+            let target = self.target(leased, stripe, *other);
+            self.bar_seat(bars, fragment, class, *other, target);
+        }
     }
 
     /// The target of a fragment's lease, if it has one; these are the leased fragments of its stripe.
@@ -91,23 +154,28 @@ impl Store {
         Some(lease.target)
     }
 
-    /// Bars the domains of a seat of the stripe for a fragment, if it is one of another: its fault domain, and its
-    /// upgrade domain where the two fragments are of one class.
+    /// Bars the domains of a seat of the stripe for a fragment of this class, if it is one of another: its fault domain, and
+    /// its upgrade domain where the other fragment is of the class.
     fn bar_seat(
         &self,
-        bars: &mut BarredNodes,
+        bars: &mut Taken,
         fragment: Fragment,
+        class: Class,
         other: Fragment,
         seat: Option<Seat>,
     )
-        ensures { (st : State) (stripe : StripeNo) (b : Barred) → IsOf st self.now → AreBarredNodes self.now.topology b bars.old
-            → AreBarredNodes self.now.topology (with_seat self.now.topology stripe fragment b other seat) bars.new }
+        requires { Some class ≡ class_of Wide fragment.value }
+        ensures { (st : State) (stripe : StripeNo) → IsOf st self.now
+            → barred bars.new ≡ with_seat self.now.topology stripe fragment (barred bars.old) other seat }
     {
         if other == fragment {
             return;
         }
         if let Some(node) = self.node_of(seat) {
-            bar_node(&self.table, bars, &node, fragment.shares_class(other));
+            bars.bar_fault(node.fault);
+            if other.class() == class {
+                bars.bar_upgrade(node.upgrade);
+            }
         }
     }
 
@@ -116,14 +184,5 @@ impl Store {
         ensures { (st : State) → IsOf st self.now → result ≡ option_and_then (λ s. node_at self.now.topology s.node) seat }
     {
         self.table.node(seat?.node)
-    }
-
-    /// The least free slot of the next node of the table outside barred domains.
-    fn next_seat(&self, bars: &BarredNodes) -> Option<Seat>
-        ensures { (b : Barred) → AreBarredNodes (slots_of self.now.table).nodes b bars.now → result ≡ next_seat (slots_of self.now.table) b }
-    {
-        let node = self.table.choose_outside(bars)?;
-        let slot = self.table.first_free(node)?;
-        Some(Seat { node, slot })
     }
 }

@@ -1,19 +1,22 @@
-ghost use Rattle.std.specs.Prelude.{◌≡◌, List, []};
-ghost use Rattle.lrc_code.specs.declared.codes.Class.{Class};
-ghost use Rattle.lrc_code.specs.Codes.{same_class};
+ghost use Rattle.std.specs.Prelude.{◌≡◌, ◌++◌, ◌∷◌, List, [], Option, Some, None};
+ghost use Rattle.lrc_code.specs.declared.codes.Code.TheVariants.{Wide};
+ghost use Rattle.lrc_code.specs.Codes.{class_of};
+ghost use Rattle.lrc_code.specs.declared.numbers.UpgradeNo.{UpgradeNo};
 ghost use Rattle.lrc_topology.specs.declared.NodeInfo.{NodeInfo};
-ghost use Rattle.lrc_slots.specs.Barred.{Barred};
-ghost use Rattle.lrc_slots.specs.BarredNodes.{AreBarredNodes};
+ghost use Rattle.lrc_topology.specs.declared.seat.Held.{Held};
+ghost use Rattle.lrc_topology.specs.Nodes.{node_at};
 ghost use Rattle.lrc_slots.specs.Tables.{slots_of};
-ghost use Rattle.lrc_book.specs.Planning.{AreBarsOf, barred_for, with_node};
+ghost use Rattle.lrc_book.specs.Planning.{AreBarsOf, upgrades_for};
 
 use lrc_code::Class;
 use lrc_slots::{BarredNodes, SlotTable};
 use lrc_topology::NodeInfo;
 
-/// The nodes that the planned seats of a stripe bar for the fragments of each class.
+/// The nodes that the planned seats of a stripe bar: by their fault domains for all fragments, and by their upgrade
+/// domains for the fragments of each class.
 #[derive(Drop)]
 pub(crate) struct ClassBars {
+    pub(crate) faults: BarredNodes,
     pub(crate) a: BarredNodes,
     pub(crate) b: BarredNodes,
     pub(crate) g: BarredNodes,
@@ -22,18 +25,19 @@ pub(crate) struct ClassBars {
 impl ClassBars {
     /// Bars no node.
     pub(crate) fn new() -> ClassBars
-        ensures { (nodes : List NodeInfo) → AreBarsOf nodes [] result }
+        ensures { (nodes : List NodeInfo) → AreBarsOf nodes None [] result }
     {
         ClassBars {
+            faults: BarredNodes::new(),
             a: BarredNodes::new(),
             b: BarredNodes::new(),
             g: BarredNodes::new(),
         }
     }
 
-    /// What is barred for the fragments of a class.
+    /// The nodes that are barred for the fragments of a class by their upgrade domains.
     pub(crate) fn of(&self, class: Class) -> &BarredNodes
-        ensures { result.now ≡ barred_for self.now class }
+        ensures { result.now ≡ upgrades_for self.now class }
     {
         match class {
             Class::A => &self.a,
@@ -42,29 +46,18 @@ impl ClassBars {
         }
     }
 
-    /// Bars the fault domain of a node for all fragments, and its upgrade domain for those of a class.
+    /// Bars the fault domain of the node that a seat of a fragment is on for all fragments, and its upgrade domain for
+    /// those of the fragment's class.
     pub(crate) fn bar(&mut self, table: &SlotTable, node: &NodeInfo, class: Class)
-        ensures { (c : Class) (b : Barred) → AreBarredNodes (slots_of table.now).nodes b (barred_for self.old c)
-            → AreBarredNodes (slots_of table.now).nodes (with_node (same_class class c) b node.now) (barred_for self.new c) }
+        ensures { (upgrading : Option UpgradeNo) (seats : List Held) (h : Held) → node_at (slots_of table.now).nodes h.seat.node ≡ Some node.now
+            → class_of Wide h.fragment.value ≡ Some class
+            → AreBarsOf (slots_of table.now).nodes upgrading seats self.old → AreBarsOf (slots_of table.now).nodes upgrading (seats ++ h ∷ []) self.new }
     {
-        bar_node(table, &mut self.a, node, class == Class::A);
-        bar_node(table, &mut self.b, node, class == Class::B);
-        bar_node(table, &mut self.g, node, class == Class::G);
-    }
-}
-
-/// Bars the fault domain of a node, and its upgrade domain where the fragments are of one class.
-pub(crate) fn bar_node(
-    table: &SlotTable,
-    bars: &mut BarredNodes,
-    node: &NodeInfo,
-    are_one_class: bool,
-)
-    ensures { (b : Barred) → AreBarredNodes (slots_of table.now).nodes b bars.old
-        → AreBarredNodes (slots_of table.now).nodes (with_node are_one_class b node.now) bars.new }
-{
-    table.bar_fault_in(bars, node.fault);
-    if are_one_class {
-        table.bar_upgrade_in(bars, node.upgrade);
+        table.bar_fault_in(&mut self.faults, node.fault);
+        match class {
+            Class::A => table.bar_upgrade_in(&mut self.a, node.upgrade),
+            Class::B => table.bar_upgrade_in(&mut self.b, node.upgrade),
+            Class::G => table.bar_upgrade_in(&mut self.g, node.upgrade),
+        }
     }
 }

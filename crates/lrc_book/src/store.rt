@@ -2,13 +2,12 @@ ghost use Rattle.std.specs.Prelude.{◌≡◌, true, IsTrue, IfOk, IfErr, OnOk, 
 ghost use Rattle.lrc_code.specs.declared.fault.Fault.TheVariants as fault;
 ghost use Rattle.lrc_stripes.specs.Tables.{stored_in};
 ghost use Rattle.lrc_book.specs.States.{State, opening, online_at};
-ghost use Rattle.lrc_book.specs.Placement.{with_home};
 ghost use Rattle.lrc_book.specs.Leases.{without_lease, without_home};
-ghost use Rattle.lrc_book.specs.Stores.{IsOf, IsOfBut, IsOfButIn, IsTied, IsNextHome, AreModesOf, has_room};
+ghost use Rattle.lrc_book.specs.Stores.{IsOf, IsOfBut, IsTied, AreModesOf, has_room};
 
+use crate::Mode;
 use crate::modes::Modes;
-use crate::{Mode, Seat};
-use lrc_code::{Fault, Fragment, NodeNo, StripeNo, UpgradeNo};
+use lrc_code::{Fault, Fragment, NodeNo, StripeNo};
 use lrc_leases::Leases;
 use lrc_slots::SlotTable;
 use lrc_stripes::Stripes;
@@ -69,16 +68,6 @@ impl Store {
         }
     }
 
-    /// Gives a fragment without a home the seat that is chosen for it.
-    pub(crate) fn give_home(&mut self, stripe: StripeNo, fragment: Fragment, seat: Seat)
-        requires { (st : State) × IsOf st self.old × IsNextHome self.old.topology st stripe fragment seat }
-        ensures nodes { self.new.topology ≡ self.old.topology }
-        ensures kept { (st : State) → IsOf st self.old → IsNextHome self.old.topology st stripe fragment seat → IsOf (with_home st stripe fragment seat) self.new }
-    {
-        let _slot = self.table.take(seat.node);
-        self.stripes.set_home(stripe, fragment, seat);
-    }
-
     /// Takes a fragment's home away, if it has one, and gives the seat back.
     pub(crate) fn clear_home(&mut self, stripe: StripeNo, fragment: Fragment)
         requires tied { IsTied self.old }
@@ -114,26 +103,10 @@ impl Store {
     {
         let is_online = self.is_online(node);
         let mode = self.modes.mode(node);
+        let is_down = self.modes.is_down(node);
         self.table
-            .set_eligible(node, is_online && mode == Mode::Active);
+            .set_eligible(node, mode == Mode::Active && !is_down);
         self.stripes.set_offline(node, !is_online);
         self.stripes.set_draining(node, mode == Mode::Draining);
-    }
-
-    /// The same for each node of an upgrade domain.
-    pub(crate) fn follow_domain(&mut self, domain: UpgradeNo)
-        ghost st: { State }
-        requires { (was : State) × IsOfButIn domain was st self.old }
-        ensures nodes { self.new.topology ≡ self.old.topology }
-        ensures kept { IsOf st self.new }
-    {
-        for node in self.topology.nodes() {
-            if node.upgrade == domain {
-                let is_online = self.modes.is_online(node);
-                let is_active = self.modes.mode(node.number) == Mode::Active;
-                self.table.set_eligible(node.number, is_online && is_active);
-                self.stripes.set_offline(node.number, !is_online);
-            }
-        }
     }
 }

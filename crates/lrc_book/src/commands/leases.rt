@@ -5,7 +5,7 @@ ghost use Rattle.lrc_book.specs.declared.entry.Entry.{Entry};
 ghost use Rattle.lrc_code.specs.declared.numbers.Fragment.{Fragment};
 ghost use Rattle.lrc_code.specs.Losses.{bits_set};
 ghost use Rattle.lrc_stripes.specs.Tables.{stored_in};
-ghost use Rattle.lrc_book.specs.States.{State, has_stripe, lease_of};
+ghost use Rattle.lrc_book.specs.States.{State, has_stripe, lease_of, online_at};
 ghost use Rattle.lrc_book.specs.Leases.{granted, lease_outcome, done_outcome, abandon_outcome, revoke_outcome, at_epoch, with_lease};
 ghost use Rattle.lrc_book.specs.Repairs as repairs;
 ghost use Rattle.lrc_book.specs.Placement.{chosen};
@@ -15,7 +15,7 @@ ghost use Rattle.lrc_book.specs.Stores.{IsOf, IsGrant, AreGrantsOf, AreFew, has_
 use crate::repair::Repair;
 use crate::store::Store;
 use crate::{Kind, Lease, Refusal, Reply};
-use lrc_code::{Fragment, LossMask, SessionNo, StripeNo};
+use lrc_code::{Fragment, LossMask, NodeNo, SessionNo, StripeNo};
 use lrc_leases::Grants;
 
 impl Store {
@@ -133,11 +133,21 @@ impl Store {
                 if lease.holder != session {
                     return Reply::Refused(Refusal::NotHolder(lease.holder));
                 }
-                if !self.is_online(lease.target.node) {
+                if !self.is_reachable(lease.target.node) {
                     return Reply::Refused(Refusal::TargetOffline(lease.target.node));
                 }
                 Reply::Ended
             }
+        }
+    }
+
+    /// Whether a node is one of the store's and online.
+    fn is_reachable(&self, node: NodeNo) -> bool
+        ensures { (st : State) → IsOf st self.now → result ≡ online_at self.now.topology st node }
+    {
+        match self.table.node(node) {
+            Some(info) => self.modes.is_online(&info),
+            None => false,
         }
     }
 

@@ -17,9 +17,9 @@ use lrc_code::NodeNo;
 impl Store {
     /// The reply to a command on a node, which is refused where the node's mode is wrong for it.
     fn node_reply(&self, node: NodeNo, is_wrong: bool) -> Reply
-        ensures { (st changed : State) → result ≡ (node_outcome self.now.topology st node is_wrong changed).0 }
+        ensures { (st changed : State) → IsOf st self.now → result ≡ (node_outcome self.now.topology st node is_wrong changed).0 }
     {
-        if self.topology.node(node).is_none() {
+        if self.table.node(node).is_none() {
             return Reply::Refused(Refusal::UnknownNode);
         }
         if is_wrong {

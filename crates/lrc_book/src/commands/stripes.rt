@@ -9,9 +9,8 @@ ghost use Rattle.lrc_book.specs.States.{State, has_stripe};
 ghost use Rattle.lrc_book.specs.Choices.{AreChosen, IsFirstWithout};
 ghost use Rattle.lrc_book.specs.Steps.{with_stripe, place_outcome, drop_outcome, without_stripe};
 ghost use Rattle.lrc_book.specs.Changes.{with_placed};
-ghost use Rattle.lrc_book.specs.Ties.{table_of};
 ghost use Rattle.lrc_book.specs.Dropping.{unleased, homeless};
-ghost use Rattle.lrc_book.specs.Stores.{IsOf, has_room};
+ghost use Rattle.lrc_book.specs.Stores.{IsOf, kept_table, has_room};
 
 use crate::class_bars::ClassBars;
 use crate::store::Store;
@@ -45,11 +44,15 @@ impl Store {
         };
         let mut seats = [no_seat; 16];
         let mut bars = ClassBars::new();
+        self.bar_upgrading_for_all(&mut bars);
         for (i, fragment) in Fragment::all().iter().enumerate() {
-            match self.seat_for(&bars, *fragment) {
-                Some(seat) => {
-                    self.bar_planned(&mut bars, *fragment, seat);
-                    seats[i] = seat;
+            match self.open_for(&bars, *fragment) {
+                Some(next) => {
+                    self.bar_planned(&mut bars, *fragment, &next);
+                    seats[i] = Seat {
+                        node: next.node.number,
+                        slot: next.slot,
+                    };
                 }
                 None => return Err(*fragment),
             }
@@ -57,7 +60,7 @@ impl Store {
         Ok(seats)
     }
 
-    /// Adds a stripe, and gives each fragment the seat that was chosen for it.
+    /// Takes the seats that were chosen for the fragments of a new stripe, and adds the stripe with them as homes.
     pub(crate) fn place(&mut self, stripe: StripeNo, seats: &[Seat; 16])
         ghost st: { State }
         requires kept { IsOf st self.old }
@@ -66,10 +69,10 @@ impl Store {
         ensures nodes { self.new.topology ≡ self.old.topology }
         ensures kept { IsOf (with_placed st stripe seats.now) self.new }
     {
-        self.stripes.add(stripe);
-        for (i, fragment) in Fragment::all().iter().enumerate() {
-            self.give_home(stripe, *fragment, seats[i]);
+        for seat in seats.iter() {
+            let _slot = self.table.take(seat.node);
         }
+        self.stripes.add_with_homes(stripe, seats);
     }
 
     #[tactic(auto, unfolding(crate::specs::Steps::drop_outcome))]
@@ -103,6 +106,9 @@ impl Store {
         ensures nodes { self.new.topology ≡ self.old.topology }
         ensures kept { IsOf (unleased st stripe (fragments Wide)) self.new }
     {
+        if self.leases.leased(stripe).bits() == 0 {
+            return;
+        }
         for fragment in Fragment::all().iter() {
             self.end_lease(stripe, *fragment);
         }
@@ -114,10 +120,11 @@ impl Store {
         requires kept { IsOf st self.old }
         requires there { has_stripe st stripe ≡ true }
         ensures rest { self.new ≡ record self.old { table = self.new.table } }
-        ensures table { slots_of self.new.table ≡ table_of self.old.topology (homeless st stripe (fragments Wide)) }
+        ensures table { slots_of self.new.table ≡ kept_table self.old.topology (homeless st stripe (fragments Wide)) }
     {
-        for fragment in Fragment::all().iter() {
-            if let Some(seat) = self.stripes.home(stripe, *fragment) {
+        let homes = self.stripes.homes(stripe).unwrap();
+        for home in homes.iter() {
+            if let Some(seat) = *home {
                 self.table.free(seat.node, seat.slot);
             }
         }

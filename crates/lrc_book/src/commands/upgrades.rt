@@ -1,14 +1,20 @@
 //! Commands on upgrade domains.
 
-ghost use Rattle.std.specs.Prelude.{◌≡◌};
+ghost use Rattle.std.specs.Prelude.{◌≡◌, IsTrue};
+ghost use Rattle.std.specs.List.{All};
+ghost use Rattle.lrc_stripes.specs.Stored.{has_node};
+ghost use Rattle.lrc_stripes.specs.Tables.{stored_in};
 ghost use Rattle.lrc_book.specs.declared.reply.Reply.TheVariants.{Changed};
 ghost use Rattle.lrc_book.specs.States.{State};
 ghost use Rattle.lrc_book.specs.Steps.{upgrade_outcome, upgraded_outcome, with_upgrading, without_upgrading};
-ghost use Rattle.lrc_book.specs.Stores.{IsOf};
+ghost use Rattle.lrc_book.specs.Stores.{IsOf, AreModesOf, with_rest};
 
+use crate::modes::Modes;
 use crate::store::Store;
 use crate::{Refusal, Reply};
 use lrc_code::UpgradeNo;
+use lrc_stripes::Stripes;
+use lrc_topology::NodeInfo;
 
 impl Store {
     pub(crate) fn upgrade_reply(&self, domain: UpgradeNo) -> Reply
@@ -35,7 +41,8 @@ impl Store {
         ensures kept { IsOf (with_upgrading st domain) self.new }
     {
         self.modes.upgrade(domain);
-        self.follow_domain(domain);
+        let nodes = self.topology.nodes_in(domain);
+        self.stripes.set_offline_all(nodes, true);
     }
 
     pub(crate) fn upgraded_reply(&self, domain: UpgradeNo) -> Reply
@@ -50,7 +57,7 @@ impl Store {
         Reply::Changed
     }
 
-    /// Brings the nodes of the upgrade domain back.
+    /// Brings the nodes of the upgrade domain back, but for those that are down or out of the store.
     pub(crate) fn upgraded(&mut self, domain: UpgradeNo)
         ghost st: { State }
         requires kept { IsOf st self.old }
@@ -59,6 +66,22 @@ impl Store {
         ensures kept { IsOf (without_upgrading st) self.new }
     {
         self.modes.upgraded();
-        self.follow_domain(domain);
+        let nodes = self.topology.nodes_in(domain);
+        self.stripes.set_offline_all(nodes, false);
+        keep_offline(&mut self.stripes, &self.modes, nodes);
+    }
+}
+
+/// Sets those of these nodes offline that are down or out of the store.
+fn keep_offline(stripes: &mut Stripes, modes: &Modes, nodes: &[NodeInfo])
+    ghost st: { State }
+    requires modes { AreModesOf st modes.now }
+    requires nodes { All (λ n. IsTrue (has_node (stored_in stripes.old).nodes n.number)) nodes.now }
+    ensures { stored_in stripes.new ≡ with_rest (stored_in stripes.old) st nodes.now }
+{
+    for node in nodes {
+        if !modes.is_online(node) {
+            stripes.set_offline(node.number, true);
+        }
     }
 }

@@ -2,5 +2,6 @@ use Rattle.lrc_book.proofs.ClassBarLemmas.{none-barred}
 use Rattle.lrc_book.proofs.class_bars.ClassBars.new.Goals as goal
 
 pub returns : goal.returns
-returns c = λ nodes. none-barred nodes (record { a = c.new.result; b = c.new-2.result; g = c.new-3.result }) (c.new.ensures nodes)
-    (c.new-2.ensures nodes) (c.new-3.ensures nodes)
+returns c = λ nodes.
+    none-barred nodes (record { faults = c.new.result; a = c.new-2.result; b = c.new-3.result; g = c.new-4.result }) (c.new.ensures nodes)
+    (c.new-2.ensures nodes) (c.new-3.ensures nodes) (c.new-4.ensures nodes)

@@ -16,4 +16,4 @@ returns c = λ st kept.
       | else-eq w ↦ w.is_wrong-is ∙ w.is_down-is_wrong.ensures st kept.modes_are
           ∙ sym (ap (λ (b : Bool). b || is_down st c.args.node) (sym gone ∙ w.if-eq.false))
     ] in
-    c.node_reply.ensures st changed ∙ ap (λ (wrong : Bool). (node_outcome c.args.self.now.topology st c.args.node wrong changed).0) wrong
+    c.node_reply.ensures st changed kept ∙ ap (λ (wrong : Bool). (node_outcome c.args.self.now.topology st c.args.node wrong changed).0) wrong

@@ -8,5 +8,5 @@ pub returns : goal.returns
 unfolding drain_outcome
 returns c = λ st kept.
     let changed = with_draining st c.args.node in
-    c.node_reply.ensures st changed ∙ ap (λ (wrong : Bool). (node_outcome c.args.self.now.topology st c.args.node wrong changed).0)
+    c.node_reply.ensures st changed kept ∙ ap (λ (wrong : Bool). (node_outcome c.args.self.now.topology st c.args.node wrong changed).0)
     (c.ne.ensures ∙ ap not (same-active c.mode.result ∙ ap is_active (c.mode.ensures st kept.modes_are)))

@@ -1,4 +1,4 @@
-use Rattle.std.proofs.Common.{◌≡◌, List, take, length, refl, ap, ◌∙◌, subst, arith}
+use Rattle.std.proofs.Common.{◌≡◌, List, take, length, refl, sym, ap, ◌∙◌, subst, arith}
 use Rattle.std.proofs.lemmas.List.{take_all}
 use Rattle.lrc_code.specs.declared.codes.Code.TheVariants.{Wide}
 use Rattle.lrc_code.specs.declared.numbers.Fragment.{Fragment}
@@ -7,7 +7,13 @@ use Rattle.lrc_book.specs.States.{State}
 use Rattle.lrc_book.specs.Stores.{IsOf}
 use Rattle.lrc_book.specs.Dropping.{unleased}
 use Rattle.lrc_book.proofs.FragmentLemmas.{unleased-more}
+use Rattle.lrc_book.proofs.EndLemmas.{none-leased, unleased-none}
 use Rattle.lrc_book.proofs.store.Store.end_leases.Goals as goal
+
+pub returns-then-bits-eq0-clause-kept : goal.returns-then-bits-eq0-clause-kept
+returns-then-bits-eq0-clause-kept g c =
+    let none = none-leased g.st c.args.self.now c.requires c.args.stripe c.leased.result.bits (sym c.bits.ensures ∙ c.if-bits-eq0.true) c.leased.ensures in
+    subst (λ (st : State). IsOf st c.args.self.now) (sym (unleased-none g.st c.args.stripe none (fragments Wide))) c.requires
 
 pub loop-fragment-init : goal.loop-fragment-init
 loop-fragment-init g c = record { kept = c.requires; nodes = refl; all = c.all.ensures }

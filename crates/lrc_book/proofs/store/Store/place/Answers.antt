@@ -1,13 +1,20 @@
-use Rattle.std.proofs.Common.{◌<◌, List, length, get_or, refl, sym, ap, subst, ◌∙◌, arith}
+use Rattle.std.proofs.Common.{◌≡◌, ◌<◌, ◌≤◌, nat_le, true, lit<, List, length, take, refl, sym, ap, subst, ◌∙◌, arith}
+use Rattle.std.specs.List.{All}
+use Rattle.std.proofs.lemmas.Bool.{and_parts, leb-true}
+use Rattle.std.proofs.lemmas.List.{take_all}
 use Rattle.lrc_code.specs.declared.codes.Code.TheVariants.{Wide}
 use Rattle.lrc_code.specs.declared.numbers.Fragment.{Fragment}
 use Rattle.lrc_code.specs.Codes.{fragments}
 use Rattle.lrc_topology.specs.declared.seat.Seat.{Seat}
-use Rattle.lrc_stripes.specs.Stored.{Stored}
-use Rattle.lrc_book.specs.States.{State}
-use Rattle.lrc_book.specs.Placement.{with_home}
-use Rattle.lrc_book.specs.Stores.{IsOf, IsNextHome}
-use Rattle.lrc_book.proofs.PlacingLemmas.{now, placed-start, placed-next, placed-more, placed-end}
+use Rattle.lrc_topology.specs.declared.NodeInfo.{NodeInfo}
+use Rattle.lrc_slots.specs.Tables.{slots_of}
+use Rattle.lrc_stripes.specs.Stored as stored
+use Rattle.lrc_stripes.specs.Stored.{Stored, has_slot}
+use Rattle.lrc_stripes.specs.Tables.{stored_in}
+use Rattle.lrc_book.specs.declared.store.Store.{Store}
+use Rattle.lrc_book.specs.Changes.{with_placed}
+use Rattle.lrc_book.specs.Stores.{IsOf}
+use Rattle.lrc_book.proofs.PlacingLemmas.{taken-start, taken-known, taken-more, placed-kept}
 use Rattle.lrc_book.proofs.ToldLemmas.{place-told}
 use Rattle.lrc_book.proofs.store.Store.place.Goals as goal
 
@@ -15,41 +22,54 @@ use Rattle.lrc_book.proofs.store.Store.place.Goals as goal
 abbrev zero_seat : Seat
 zero_seat = record { node = record { value = 0 }; slot = 0 }
 
-pub add-requires-clause-absent : goal.add-requires-clause-absent
-add-requires-clause-absent g c =
-    ap (λ (x : Stored). x.stripes c.args.stripe) c.requires.0.stripes_is ∙ (place-told c.args.self.now.topology g.st c.args.stripe c.args.seats.now c.requires.1.1).absent
+-- and of fragments
+abbrev first : Fragment
+first = record { value = 0; in_range = lit< tt }
 
-pub loop-i-init : goal.loop-i-init
-loop-i-init g c = record {
-  placed = placed-start g.st c.args.stripe c.args.seats.now c.args.self.now c.add.new.self c.requires.0 (place-told c.args.self.now.topology g.st c.args.stripe c.args.seats.now c.requires.1.1) c.add.ensures;
-  nodes = refl;
-  all = c.all.ensures;
+pub loop-seat-init : goal.loop-seat-init
+loop-seat-init g c = record {
+  rest = refl;
+  taken = taken-start c.args.self.now.topology c.requires.0.known g.st c.args.stripe c.args.seats.now c.requires.0.seated
+      (place-told c.args.self.now.topology g.st c.args.stripe c.args.seats.now c.requires.1.1) (slots_of c.args.self.now.table) c.requires.0.table_is;
 }
 
-pub give_home-requires : goal.give_home-requires
-give_home-requires g c =
-    let k = c.loop-i.self in
-    let p = c.loop-i.invariant.placed in
-    let low : c.loop-i.i < length (fragments Wide) = omega arith in
-    let there : c.loop-i.i < length c.args.seats.now = omega arith in
-    subst (λ (fs : List Fragment). (st : State) × IsOf st k × IsNextHome k.topology st c.args.stripe (get_or fs c.loop-i.i c.fragment-item.result) (get_or c.args.seats.now c.loop-i.i zero_seat)) (sym c.loop-i.invariant.all)
-    (now g.st c.args.stripe c.args.seats.now c.loop-i.i c.fragment-item.result zero_seat k low there p, p.kept, placed-next g.st c.args.stripe c.args.seats.now c.loop-i.i c.fragment-item.result zero_seat k low there p)
+pub take-slot-requires : goal.take-slot-requires
+take-slot-requires g c =
+    let low : c.loop-seat.seat-index < length (fragments Wide) = omega arith in
+    let there : c.loop-seat.seat-index < length c.args.seats.now = omega arith in
+    taken-known c.args.self.now.topology c.requires.0.known g.st c.args.stripe c.args.seats.now c.loop-seat.seat-index first zero_seat low there
+    (slots_of c.loop-seat.self.table) c.loop-seat.invariant.taken
 
-pub loop-i-preserved : goal.loop-i-preserved
-loop-i-preserved g c =
-    let k = c.loop-i.self in
-    let p = c.loop-i.invariant.placed in
-    let low : c.loop-i.i < length (fragments Wide) = omega arith in
-    let there : c.loop-i.i < length c.args.seats.now = omega arith in
-    let seat = get_or c.args.seats.now c.loop-i.i zero_seat in
-    let before = now g.st c.args.stripe c.args.seats.now c.loop-i.i c.fragment-item.result zero_seat k low there p in
+pub loop-seat-preserved : goal.loop-seat-preserved
+loop-seat-preserved g c =
+    let low : c.loop-seat.seat-index < length (fragments Wide) = omega arith in
+    let there : c.loop-seat.seat-index < length c.args.seats.now = omega arith in
     record {
-      placed = placed-more g.st c.args.stripe c.args.seats.now c.loop-i.i c.fragment-item.result zero_seat k low there p c.give_home.new.self c.give_home.ensures.nodes
-          (subst (λ (fs : List Fragment). IsNextHome k.topology before c.args.stripe (get_or fs c.loop-i.i c.fragment-item.result) seat → IsOf (with_home before c.args.stripe (get_or fs c.loop-i.i c.fragment-item.result) seat) c.give_home.new.self)
-          c.loop-i.invariant.all (c.give_home.ensures.kept before p.kept) (placed-next g.st c.args.stripe c.args.seats.now c.loop-i.i c.fragment-item.result zero_seat k low there p));
-      nodes = c.give_home.ensures.nodes ∙ c.loop-i.invariant.nodes;
-      all = c.loop-i.invariant.all;
+      rest = ap (λ (k : Store). record k { table = c.take-slot.new.self }) c.loop-seat.invariant.rest;
+      taken = taken-more c.args.self.now.topology c.requires.0.known g.st c.args.stripe c.args.seats.now c.loop-seat.seat-index first zero_seat low there
+          (slots_of c.loop-seat.self.table) c.loop-seat.invariant.taken c.take-slot.result (slots_of c.take-slot.new.self) c.take-slot.ensures.slot
+          c.take-slot.ensures.taken;
+    }
+
+pub add_with_homes-requires : goal.add_with_homes-requires
+add_with_homes-requires g c =
+    let same = ap (λ (k : Store). stored_in k.stripes) c.loop-seat.invariant.rest ∙ c.requires.0.stripes_is in
+    let all : take c.loop-seat.seat-index c.args.seats.now ≡ c.args.seats.now = take_all c.loop-seat.seat-index c.args.seats.now (omega arith) in
+    record {
+      absent = ap (λ (x : Stored). x.stripes c.args.stripe) same
+          ∙ (place-told c.args.self.now.topology g.st c.args.stripe c.args.seats.now c.requires.1.1).absent;
+      room = subst (λ (k : Store). 1 ≤ (stored_in k.stripes).spare) (sym c.loop-seat.invariant.rest) (leb-true 1 (stored_in c.args.self.now.stripes).spare (and_parts (nat_le 1 (stored_in c.args.self.now.stripes).spare) _ c.requires.1.0).0);
+      slots = subst (λ (ns : List NodeInfo). All (λ seat. has_slot ns seat ≡ true) c.args.seats.now) (sym (ap (λ (x : Stored). x.nodes) same))
+          (subst (λ (xs : List Seat). All (λ seat. has_slot c.args.self.now.topology seat ≡ true) xs) all c.loop-seat.invariant.taken.slots);
     }
 
 pub returns-clause-kept : goal.returns-clause-kept
-returns-clause-kept g c = subst (λ (st : State). IsOf st c.loop-i.self) (placed-end g.st c.args.stripe c.args.seats.now c.loop-i.i (omega arith) c.told-seats) c.loop-i.invariant.placed.kept
+returns-clause-kept g c =
+    let s = c.args.stripe in
+    let seats = c.args.seats.now in
+    let k = c.loop-seat.self in
+    let told = place-told c.args.self.now.topology g.st s seats c.requires.1.1 in
+    subst (λ (x : Store). IsOf (with_placed g.st s seats) (record x { stripes = c.add_with_homes.new.self })) (sym c.loop-seat.invariant.rest)
+    (placed-kept g.st s seats c.loop-seat.seat-index c.args.self.now k.table c.add_with_homes.new.self (omega arith) c.told-seats c.requires.0 told.absent
+    c.loop-seat.invariant.taken
+    (c.add_with_homes.ensures ∙ ap (λ (x : Store). stored.with_homes (stored_in x.stripes) s seats) c.loop-seat.invariant.rest))

@@ -23,7 +23,7 @@ invariant-loop-i l = record {
       → IsFirstWithout l.self.topology
       (with_homes (with_stripe st Wide l.fn.stripe) (planned_to l.fn.stripe l.fragment-items l.seats l.i)) l.fn.stripe (drop l.i l.fragment-items) f
       → IsFirstWithout l.self.topology (with_stripe st Wide l.fn.stripe) l.fn.stripe l.fragment-items f;
-  bars : (st : State) → IsOf st l.self → AreBarsOf l.self.topology (planned_to l.fn.stripe l.fragment-items l.seats l.i) l.bars;
+  bars : (st : State) → IsOf st l.self → AreBarsOf l.self.topology st.upgrading (planned_to l.fn.stripe l.fragment-items l.seats l.i) l.bars;
   all : l.fragment-items ≡ fragments Wide;
   seats : length l.seats ≡ 16;
 }

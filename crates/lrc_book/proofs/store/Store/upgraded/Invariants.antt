@@ -1,5 +1,5 @@
 use Rattle.lrc_book.specs.Steps.{without_upgrading}
 use Rattle.lrc_book.proofs.store.Store.upgraded.Given as goal
 
-abbrev pub ghost-follow_domain : goal.ghost-follow_domain
-ghost-follow_domain g a = without_upgrading g.st
+abbrev pub ghost-keep_offline : goal.ghost-keep_offline
+ghost-keep_offline g a = without_upgrading g.st
