@@ -1,9 +1,12 @@
 -- The pieces of a text that is cut.
-use Rattle.std.proofs.Common.{◌≡◌, ◌≢◌, ℕ, true, false, nat_eq, Option, Some, None, List, [], ◌∷◌, get_or, ap, ◌∙◌, arith}
+use Rattle.std.proofs.Common.{inl, inr, ◌≡◌, ◌≢◌, ℕ, ◌+◌, ◌-◌, ◌≤◌, Bool, true, false, nat_eq, Option, Some, None, List, [], ◌∷◌, length, get_or, take, drop, sym, ap, ◌∙◌, arith, length-take}
 use Rattle.std.specs.Borrow.{Bor}
 use Rattle.std.specs.List.{All, slice_split}
+use Rattle.std.proofs.lemmas.Bool.{cases_lt}
 use Rattle.std.proofs.lemmas.Bool.Decides.{nat_tests}
+use Rattle.std.proofs.lemmas.List.{get_or-take, get_or-drop}
 use Rattle.std.proofs.lemmas.List.Splits.{slice_split_none, slice_split_at}
+use Rattle.memchr.specs.Find.{Passes, Nowhere}
 use Rattle.lrc_script.specs.Cuts.{IsCut}
 
 differs : (b separator : ℕ) → b ≢ separator → nat_eq b separator ≡ false
@@ -24,3 +27,21 @@ pub slice_split-cut : (separator : ℕ) (text first : List ℕ) (rest : Option (
 slice_split-cut separator text first None cut = ap (slice_split (λ b. nat_eq b separator)) cut.1 ∙ slice_split_none (λ b. nat_eq b separator) first (has_none separator first cut.0)
 slice_split-cut separator text first (Some rest) cut =
     ap (slice_split (λ b. nat_eq b separator)) cut.1 ∙ slice_split_at (λ b. nat_eq b separator) first separator rest.now (has_none separator first cut.0) (same separator)
+
+-- ---- a text that is searched in two parts
+
+module _ (test : ℕ → Bool) (text : List ℕ) (short : ℕ) where
+  pub passes_behind : (k : ℕ) → Passes test (drop short text) k → Passes test text (short + k)
+  passes_behind k passes = ap test (sym (get_or-drop short text k 0)) ∙ passes
+
+  -- nowhere in the first part, and nowhere in the second before this place
+  pub nowhere_behind : (n : ℕ) → short ≤ length text → Nowhere (Passes test (take short text)) 0 (length (take short text))
+      → Nowhere (Passes test (drop short text)) 0 n → Nowhere (Passes test text) 0 (short + n)
+  nowhere_behind n within near far k low high passes =
+      elim (cases_lt k short) [
+        | inl before ↦ near k (omega arith) (omega (arith, length-take short text, before, within)) (ap test (get_or-take short text k 0 before) ∙ passes)
+        | inr past ↦
+            let whole : short + (k - short) ≡ k = omega (arith, past) in
+            let there = ap test (get_or-drop short text (k - short) 0 ∙ ap (λ i. get_or text i 0) whole) in
+            far (k - short) (omega arith) (omega (arith, past, high)) (there ∙ passes)
+      ]

@@ -5,7 +5,7 @@ ghost use Rattle.lrc_script.specs.Scripts.{lines_of, words_of, is_passed_over, c
 ghost use Rattle.lrc_script.specs.Cuts.{words_behind, IsReadAs, IsAdded, bad_line};
 ghost use Rattle.lrc_script.specs.declared.script.Cause.TheVariants as causes;
 
-use crate::cut::{cut_line, cut_word};
+use crate::cut::{cut_line, cut_word, is_word};
 use lrc_book::Command;
 use lrc_code::{Fragment, NodeNo, StripeNo, UpgradeNo};
 use std::alloc::{AllocError, AllocFailed, Global};
@@ -134,23 +134,23 @@ fn parse_command(line: &[u8]) -> Result<Command, Cause>
     ensures cause { result_err result ≡ words_cause (words_of line.now) }
 {
     let (word, rest) = cut_word(line);
-    if word == b"place".as_slice() {
+    if is_word(word, b"place") {
         Ok(Command::Place(only_stripe(rest)?))
-    } else if word == b"drop".as_slice() {
+    } else if is_word(word, b"drop") {
         Ok(Command::Drop(only_stripe(rest)?))
-    } else if word == b"lease".as_slice() {
+    } else if is_word(word, b"lease") {
         let (stripe, fragment) = parse_pair(rest)?;
         Ok(Command::Lease(stripe, fragment))
-    } else if word == b"next".as_slice() {
+    } else if is_word(word, b"next") {
         no_word(rest)?;
         Ok(Command::Next)
-    } else if word == b"done".as_slice() {
+    } else if is_word(word, b"done") {
         let (stripe, fragment, epoch) = parse_report(rest)?;
         Ok(Command::Done(stripe, fragment, epoch))
-    } else if word == b"abandon".as_slice() {
+    } else if is_word(word, b"abandon") {
         let (stripe, fragment, epoch) = parse_report(rest)?;
         Ok(Command::Abandon(stripe, fragment, epoch))
-    } else if word == b"revoke".as_slice() {
+    } else if is_word(word, b"revoke") {
         let (stripe, fragment) = parse_pair(rest)?;
         Ok(Command::Revoke(stripe, fragment))
     } else {
@@ -163,23 +163,23 @@ fn parse_node_command(word: &[u8], rest: Option<&[u8]>) -> Result<Command, Cause
     ensures command { IfOk result (λ command. IsInRange command × (join_with_byte 32 (word.now ∷ words_behind rest.entry) ≡ command_line command)) }
     ensures cause { result_err result ≡ form_cause (words_behind rest.entry) (form_in node_forms word.now) }
 {
-    if word == b"fail".as_slice() {
+    if is_word(word, b"fail") {
         Ok(Command::Fail(only_node(rest)?))
-    } else if word == b"down".as_slice() {
+    } else if is_word(word, b"down") {
         Ok(Command::Down(only_node(rest)?))
-    } else if word == b"up".as_slice() {
+    } else if is_word(word, b"up") {
         Ok(Command::Up(only_node(rest)?))
-    } else if word == b"drain".as_slice() {
+    } else if is_word(word, b"drain") {
         Ok(Command::Drain(only_node(rest)?))
-    } else if word == b"undrain".as_slice() {
+    } else if is_word(word, b"undrain") {
         Ok(Command::Undrain(only_node(rest)?))
-    } else if word == b"retire".as_slice() {
+    } else if is_word(word, b"retire") {
         Ok(Command::Retire(only_node(rest)?))
-    } else if word == b"join".as_slice() {
+    } else if is_word(word, b"join") {
         Ok(Command::Join(only_node(rest)?))
-    } else if word == b"upgrade".as_slice() {
+    } else if is_word(word, b"upgrade") {
         Ok(Command::Upgrade(only_domain(rest)?))
-    } else if word == b"upgraded".as_slice() {
+    } else if is_word(word, b"upgraded") {
         Ok(Command::Upgraded(only_domain(rest)?))
     } else {
         Err(Cause::UnknownWord)

@@ -30,12 +30,12 @@ pub returns-in_ok-stripe-4-clause-command : goal.returns-in_ok-stripe-4-clause-c
 returns-in_ok-stripe-4-clause-command c =
     (tt, line-words c.args.line.now c.cut_word.result.0.now (codes "revoke") _ c.cut_word.result.1 c.cut_word.ensures c.in_ok-stripe-4.ensures.numbers (search rules))
 
-pub returns-else-eq-7-clause-command : goal.returns-else-eq-7-clause-command
-returns-else-eq-7-clause-command c =
+pub returns-else-is_word-7-clause-command : goal.returns-else-is_word-7-clause-command
+returns-else-is_word-7-clause-command c =
     rw (line-words c.args.line.now c.cut_word.result.0.now c.cut_word.result.0.now _ c.cut_word.result.1 c.cut_word.ensures refl refl) c.parse_node_command.ensures.command
 
-pub returns-else-eq-7-clause-cause : goal.returns-else-eq-7-clause-cause
-returns-else-eq-7-clause-cause c =
+pub returns-else-is_word-7-clause-cause : goal.returns-else-is_word-7-clause-cause
+returns-else-is_word-7-clause-cause c =
     c.parse_node_command.ensures.cause
     ∙ sym (words_cause-node c.args.line.now c.cut_word.result.0.now c.cut_word.result.1 c.cut_word.ensures
     (search rules) (search rules) (search rules) (search rules) (search rules) (search rules) (search rules))

@@ -4,7 +4,7 @@ use Rattle.lrc_script.specs.Cuts.{words_behind}
 use Rattle.lrc_script.proofs.ScriptLemmas.{node_form-none}
 use Rattle.lrc_script.proofs.script.parse_node_command.Goals as goal
 
-pub returns-else-eq-9-clause-cause : goal.returns-else-eq-9-clause-cause
-returns-else-eq-9-clause-cause c =
+pub returns-else-is_word-9-clause-cause : goal.returns-else-is_word-9-clause-cause
+returns-else-is_word-9-clause-cause c =
     sym (ap (form_cause (words_behind c.args.rest)) (node_form-none c.args.word.now
     (search rules) (search rules) (search rules) (search rules) (search rules) (search rules) (search rules) (search rules) (search rules)))
