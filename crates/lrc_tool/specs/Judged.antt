@@ -60,7 +60,7 @@ pub record HasSeveral (bundle : List ℕ) : Type 0 where
   pub short : length bundle ≤ bundle_limit
   pub several : 1 < length (scripts_of bundle)
 
--- a check of this bundle fails, or it has this text of these nodes, and these commands
+-- a check of this bundle fails, or it has these nodes, and these commands
 abbrev pub IsJudged : List ℕ → Judged → Type 0
 IsJudged bundle (Refused output) = IsRefusal bundle output.text.items output.status
-IsJudged bundle (Good text topology scripts) = (text.now ≡ topology_of bundle) × IsAccepted bundle topology scripts.items
+IsJudged bundle (Good topology scripts) = IsAccepted bundle topology scripts.items

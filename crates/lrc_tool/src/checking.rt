@@ -59,11 +59,7 @@ fn check_of(alloc: Global, bundle: &[u8]) -> Result<Output, RunFault>
 {
     match judge(alloc, bundle)? {
         Judged::Refused(output) => Ok(output),
-        Judged::Good {
-            topology,
-            scripts,
-            ..
-        } => { counted(alloc, topology.nodes().len(), scripts.as_slice()) }
+        Judged::Good { topology, scripts } => { counted(alloc, topology.len(), scripts.as_slice()) }
     }
 }
 

@@ -15,13 +15,11 @@ use std::alloc::Global;
 
 /// What the checks of a bundle tell.
 #[derive(Drop)]
-pub(crate) enum Judged<'a> {
+pub(crate) enum Judged {
     /// One of them fails.
     Refused(Output),
     /// All pass.
     Good {
-        /// The text of the topology.
-        text: &'a [u8],
         topology: Topology,
         /// The commands of each script.
         scripts: Vec<Vec<Command>>,
@@ -29,7 +27,7 @@ pub(crate) enum Judged<'a> {
 }
 
 /// Checks a bundle.
-pub(crate) fn judge<'a>(alloc: Global, bundle: &'a [u8]) -> Result<Judged<'a>, RunFault>
+pub(crate) fn judge(alloc: Global, bundle: &[u8]) -> Result<Judged, RunFault>
     ensures judged { IfOk result (IsJudged bundle.now) }
     ensures err { IfErr result (λ e. e ≡ fault.OutOfMemory) }
 {
@@ -49,11 +47,7 @@ pub(crate) fn judge<'a>(alloc: Global, bundle: &'a [u8]) -> Result<Judged<'a>, R
         Err(error) => return Ok(Judged::Refused(refused_topology(alloc, error)?)),
     };
     match parse_scripts(alloc, parts.scripts.as_slice()) {
-        Ok(scripts) => Ok(Judged::Good {
-            text: parts.topology,
-            topology,
-            scripts,
-        }),
+        Ok(scripts) => Ok(Judged::Good { topology, scripts }),
         Err(ScriptError::Bad { line, cause }) => {
             Ok(Judged::Refused(bad_line(alloc, line, cause)?))
         }

@@ -12,22 +12,20 @@ use lrc_code::SessionNo;
 use lrc_topology::Topology;
 use std::alloc::Global;
 
-/// Makes the commands of the only script, if there is one, on a new book, and answers what is printed of them, with the tables of these nodes.
+/// Makes the commands of the only script, if there is one, on a new book, and answers what is printed of them, with the tables.
 pub(crate) fn play(
     alloc: Global,
-    nodes: &Topology,
     topology: Topology,
     scripts: &[Vec<Command>],
 ) -> Result<Vec<u8>, RunFault>
-    requires same { topology ≡ nodes.now }
     requires few { AreFew scripts.now }
     requires alone { length scripts.now ≤ 1 }
-    ensures played { IfOk result (λ text. IsPlayed nodes.now (lists_of scripts.now) text.items) }
+    ensures played { IfOk result (λ text. IsPlayed topology (lists_of scripts.now) text.items) }
     ensures err { IfErr result (λ e. e ≡ fault.OutOfMemory) }
 {
     let mut book = Book::new(alloc, topology)?;
     let replies = play_scripts(alloc, &mut book, scripts)?;
-    with_tables(alloc, replies, nodes, &book)
+    with_tables(alloc, replies, &book)
 }
 
 /// Makes the commands of the only script, if there is one, and answers what is printed of the replies.

@@ -2,7 +2,6 @@
 
 ghost use Rattle.std.specs.Prelude.{◌≡◌, ◌≢◌, ◌||◌, ◌⊎◌, ◌+◌, ◌<◌, ◌≤◌, true, length, OnOk, IfOk, IfErr, IfSome, IsErrOf};
 ghost use Rattle.std.specs.Io.KnownBytes.{Keeps};
-ghost use Rattle.lrc_topology.specs.Documents.{IsTopologyOf};
 ghost use Rattle.lrc_tool.specs.Streams.{is_read_fault, is_write_fault, ConsumesAtMost};
 ghost use Rattle.lrc_script.specs.Bundles.{scripts_of};
 ghost use Rattle.lrc_tool.specs.Judged.{lists_of, AreFew, HasSeveral};
@@ -71,45 +70,27 @@ fn output_of<T: Threads + Wait + Sync>(
 {
     match judge(alloc, bundle)? {
         Judged::Refused(output) => Ok(output),
-        Judged::Good {
-            text,
-            topology,
-            scripts,
-        } => {
-            let again = read_again(alloc, text)?;
-            let text = play_all(rt, alloc, &topology, again, scripts.as_slice())?;
+        Judged::Good { topology, scripts } => {
+            let text = play_all(rt, alloc, topology, scripts.as_slice())?;
             let status = Status::Done;
             Ok(Output { text, status })
         }
     }
 }
 
-/// Makes the commands of the scripts on a new book, and answers what is printed of them, with the tables of these nodes.
+/// Makes the commands of the scripts on a new book over these nodes, and answers what is printed of them, with the tables.
 fn play_all<T: Threads + Wait + Sync>(
     rt: &T,
     alloc: Global,
-    nodes: &Topology,
     topology: Topology,
     scripts: &[Vec<Command>],
 ) -> Result<Vec<u8>, RunFault>
-    requires same { topology ≡ nodes.now }
     requires few { AreFew scripts.now }
-    ensures played { IfOk result (λ text. IsPlayed nodes.now (lists_of scripts.now) text.items) }
+    ensures played { IfOk result (λ text. IsPlayed topology (lists_of scripts.now) text.items) }
     ensures err { IfErr result (λ e. (e ≡ fault.OutOfMemory) ⊎ ((e ≡ fault.HistoryFull) × (1 < length scripts.now))) }
 {
     if scripts.len() > 1 {
-        return play_together(rt, alloc, nodes, topology, scripts);
+        return play_together(rt, alloc, topology, scripts);
     }
-    play(alloc, nodes, topology, scripts)
-}
-
-/// The nodes of a text that was accepted, once more.
-fn read_again(alloc: Global, text: &[u8]) -> Result<Topology, RunFault>
-    ensures read { IfOk result (IsTopologyOf text.now) }
-    ensures err { IfErr result (λ e. e ≡ fault.OutOfMemory) }
-{
-    match Topology::read(alloc, text) {
-        Ok(topology) => Ok(topology),
-        Err(_) => Err(RunFault::OutOfMemory),
-    }
+    play(alloc, topology, scripts)
 }

@@ -12,22 +12,16 @@ use crate::streams::RunFault;
 use crate::table::{Table, push_row, table_behind, text_of_table};
 use lrc_book::{Book, Level, Mode};
 use lrc_code::{LossMask, StripeNo};
-use lrc_topology::{NodeInfo, Topology};
+use lrc_topology::NodeInfo;
 use std::alloc::{AllocError, Global};
 
 /// The text, and the tables behind it.
-pub(crate) fn with_tables(
-    alloc: Global,
-    text: Vec<u8>,
-    nodes: &Topology,
-    book: &Book,
-) -> Result<Vec<u8>, RunFault>
-    requires { nodes.now ≡ book.now.nodes }
+pub(crate) fn with_tables(alloc: Global, text: Vec<u8>, book: &Book) -> Result<Vec<u8>, RunFault>
     ensures text { IfOk result (λ v. v.items ≡ text.items ++ tables_text book.now.nodes (state_of book.now)) }
     ensures err { IfErr result (λ e. e ≡ fault.OutOfMemory) }
 {
     let text = with_risk_table(alloc, text, book)?;
-    with_load_table(alloc, text, nodes, book)
+    with_load_table(alloc, text, book)
 }
 
 fn with_risk_table(alloc: Global, mut text: Vec<u8>, book: &Book) -> Result<Vec<u8>, RunFault>
@@ -45,20 +39,14 @@ fn with_risk_table(alloc: Global, mut text: Vec<u8>, book: &Book) -> Result<Vec<
     text_of_table(table)
 }
 
-fn with_load_table(
-    alloc: Global,
-    mut text: Vec<u8>,
-    nodes: &Topology,
-    book: &Book,
-) -> Result<Vec<u8>, RunFault>
-    requires { nodes.now ≡ book.now.nodes }
+fn with_load_table(alloc: Global, mut text: Vec<u8>, book: &Book) -> Result<Vec<u8>, RunFault>
     ensures text { IfOk result (λ v. v.items ≡ text.items ++ load_table book.now.nodes (state_of book.now)) }
     ensures err { IfErr result (λ e. e ≡ fault.OutOfMemory) }
 {
     text.extend_from_slice(b"load\n")?;
     let mut table = table_behind(text);
     push_load_header(&mut table)?;
-    for node in nodes.nodes() {
+    for node in book.topology().nodes() {
         let (mode, online) = book.mode(node.number).unwrap();
         let load = book.load(node.number).unwrap();
         push_load_row(alloc, &mut table, node, mode, online, load)?;

@@ -1,7 +1,8 @@
 //! The lines of replies, and those of refusals of input.
 
 ghost use Rattle.std.specs.Prelude.{◌≡◌, ◌+◌, ◌*◌, ◌<◌, ◌≤◌, ◌∷◌, ◌++◌, length, drop, OnOk, string_bytes, codes, decimal, map};
-ghost use Rattle.lrc_tool.specs.Texts.{seat_text, spaced, lease_text, kind_text, refusal_text, reply_text, reply_line, script_line, topology_line, cause_number, bad_line_text};
+ghost use Rattle.lrc_book.specs.declared.reply.Reply.TheVariants.{Placed, Granted, Refused};
+ghost use Rattle.lrc_tool.specs.Texts.{seat_text, spaced, lease_text, kind_text, reply_line, script_line, topology_line, cause_number, bad_line_text};
 
 use lrc_book::{Kind, Lease, Refusal, Reply, Seat};
 use lrc_code::{Fragment, SessionNo};
@@ -9,20 +10,41 @@ use lrc_script::Cause;
 use lrc_topology::TopologyError;
 use std::alloc::AllocError;
 
+/// Room for the place of a reply: a number of at most twenty digits.
+const PLACE_ROOM: usize = 20;
+
+/// Room for the longest words: a space and `refused`, a code behind it, and a space.
+const WORDS_ROOM: usize = 13;
+
+/// Room for a place, and words behind it.
+const SHORT_ROOM: usize = 33;
+
+/// Room for a number of 32 bits.
+const NUMBER_ROOM: usize = 10;
+
+/// Room for a place, words, a number and the end of a line.
+const DETAIL_ROOM: usize = 44;
+
 /// Room for a seat: a space, two numbers of at most five digits, and a colon.
 const SEAT_ROOM: usize = 12;
 
-/// Room for the sixteen seats of a stripe.
-const SEATS_ROOM: usize = 192;
-
-/// Room for a stripe, a fragment and a seat, a space before each.
-const TARGET_ROOM: usize = 24;
+/// Room for a place, a word, the sixteen seats of a stripe, and the end of a line.
+const PLACED_ROOM: usize = 220;
 
 /// Room for a fragment: a space and a number of at most five digits.
 const FRAGMENT_ROOM: usize = 6;
 
-/// Room for the six sources of a repair from a local group.
-const SOURCES_ROOM: usize = 36;
+/// Room for a word and the six sources of a repair from a local group.
+const KIND_ROOM: usize = 42;
+
+/// Room for a stripe, a fragment and a seat, a space before each.
+const TARGET_ROOM: usize = 24;
+
+/// Room for a target, a word and an epoch.
+const LEASE_ROOM: usize = 41;
+
+/// Room for a place, a word, a lease, from what is rebuilt, and the end of a line.
+const GRANTED_ROOM: usize = 112;
 
 /// Adds a number in decimal digits.
 fn push_number(out: &mut Vec<u8>, number: u64) -> Result<(), AllocError>
@@ -30,6 +52,30 @@ fn push_number(out: &mut Vec<u8>, number: u64) -> Result<(), AllocError>
 {
     let mut digits = itoa::Buffer::new();
     out.extend_from_slice(digits.format(number).as_bytes())
+}
+
+// ---- pieces, written from the last to the first
+
+/// Writes words so that they end at `end`, and answers where they start.
+#[inline]
+fn write_words(words: &[u8], text: &mut [u8], end: usize) -> usize
+    requires { (length words.now ≤ end) × (end ≤ length text.old) }
+    ensures start { result + length words.now ≡ end }
+    ensures written { drop result text.new ≡ words.now ++ drop end text.old }
+{
+    let start = end - words.len();
+    text[start..end].copy_from_slice(words);
+    start
+}
+
+/// Writes a number so that it ends at `end`, and answers where it starts.
+#[inline]
+fn write_number(number: u32, text: &mut [u8], end: usize) -> usize
+    requires { (NUMBER_ROOM ≤ end) × (end ≤ length text.old) }
+    ensures start { (end ≤ result + NUMBER_ROOM) × (result ≤ end) }
+    ensures written { drop result text.new ≡ decimal number ++ drop end text.old }
+{
+    itoa::write_digits(u64::from(number), text, end)
 }
 
 /// Writes a mark and a number behind it so that they end at `end`, and answers where they start.
@@ -53,14 +99,14 @@ fn write_seat(seat: &Seat, text: &mut [u8], end: usize) -> usize
     write_marked(b' ', seat.node.value, text, slot)
 }
 
-/// Writes seats at the end of a text, from the last to the first, and answers where they start.
-fn write_seats(seats: &[Seat], text: &mut [u8]) -> usize
-    requires { SEAT_ROOM * length seats.now ≤ length text.old }
-    ensures start { result ≤ length text.new }
-    ensures written { drop result text.new ≡ spaced (map seat_text seats.now) }
+/// Writes seats so that they end at `end`, and answers where they start.
+fn write_seats(seats: &[Seat], text: &mut [u8], end: usize) -> usize
+    requires { (SEAT_ROOM * length seats.now ≤ end) × (end ≤ length text.old) }
+    ensures start { (end ≤ result + SEAT_ROOM * length seats.now) × (result ≤ end) }
+    ensures written { drop result text.new ≡ spaced (map seat_text seats.now) ++ drop end text.old }
 {
     let mut left = seats.len();
-    let mut at = text.len();
+    let mut at = end;
     while left > 0 {
         left -= 1;
         at = write_seat(&seats[left], text, at);
@@ -68,42 +114,36 @@ fn write_seats(seats: &[Seat], text: &mut [u8]) -> usize
     at
 }
 
-fn push_seats(out: &mut Vec<u8>, seats: &[Seat; 16]) -> Result<(), AllocError>
-    ensures { OnOk result (out.new.items ≡ out.old.items ++ spaced (map seat_text seats.now)) }
+/// Writes a space, the stripe and the fragment of a lease, and its target, so that they end at `end`, and answers where they start.
+fn write_target(lease: &Lease, text: &mut [u8], end: usize) -> usize
+    requires { (TARGET_ROOM ≤ end) × (end ≤ length text.old) }
+    ensures start { (end ≤ result + TARGET_ROOM) × (result ≤ end) }
+    ensures written { drop result text.new ≡ (codes " " ++ (decimal lease.now.stripe.value ++ (codes " " ++ (decimal lease.now.fragment.value ++ (codes " " ++ seat_text lease.now.target))))) ++ drop end text.old }
 {
-    let mut text = [0u8; SEATS_ROOM];
-    let start = write_seats(seats.as_slice(), &mut text);
-    out.extend_from_slice(&text[start..])
+    let seat = write_seat(&lease.target, text, end);
+    let fragment = write_marked(b' ', u16::from(lease.fragment.value), text, seat);
+    write_marked(b' ', lease.stripe.value, text, fragment)
 }
 
-/// Adds a space, the stripe and the fragment of a lease, and its target.
-fn push_target(out: &mut Vec<u8>, lease: &Lease) -> Result<(), AllocError>
-    ensures { OnOk result (out.new.items ≡ out.old.items ++ (codes " " ++ (decimal lease.now.stripe.value ++ (codes " " ++ (decimal lease.now.fragment.value ++ (codes " " ++ seat_text lease.now.target)))))) }
+/// Writes a space and a lease so that they end at `end`, and answers where they start.
+fn write_lease(lease: &Lease, text: &mut [u8], end: usize) -> usize
+    requires { (LEASE_ROOM ≤ end) × (end ≤ length text.old) }
+    ensures start { (end ≤ result + LEASE_ROOM) × (result ≤ end) }
+    ensures written { drop result text.new ≡ (codes " " ++ lease_text lease.now) ++ drop end text.old }
 {
-    let mut text = [0u8; TARGET_ROOM];
-    let seat = write_seat(&lease.target, &mut text, TARGET_ROOM);
-    let fragment = write_marked(b' ', u16::from(lease.fragment.value), &mut text, seat);
-    let stripe = write_marked(b' ', lease.stripe.value, &mut text, fragment);
-    out.extend_from_slice(&text[stripe..])
+    let epoch = write_number(lease.epoch, text, end);
+    let target = write_words(b" epoch ", text, epoch);
+    write_target(lease, text, target)
 }
 
-/// Adds a space and a lease.
-fn push_lease(out: &mut Vec<u8>, lease: &Lease) -> Result<(), AllocError>
-    ensures { OnOk result (out.new.items ≡ out.old.items ++ (codes " " ++ lease_text lease.now)) }
-{
-    push_target(out, lease)?;
-    out.extend_from_slice(b" epoch ")?;
-    push_number(out, u64::from(lease.epoch))
-}
-
-/// Writes fragments at the end of a text, from the last to the first, and answers where they start.
-fn write_sources(sources: &[Fragment], text: &mut [u8]) -> usize
-    requires { FRAGMENT_ROOM * length sources.now ≤ length text.old }
-    ensures start { result ≤ length text.new }
-    ensures written { drop result text.new ≡ spaced (map (λ f. decimal f.value) sources.now) }
+/// Writes fragments, a space before each, so that they end at `end`, and answers where they start.
+fn write_sources(sources: &[Fragment], text: &mut [u8], end: usize) -> usize
+    requires { (FRAGMENT_ROOM * length sources.now ≤ end) × (end ≤ length text.old) }
+    ensures start { (end ≤ result + FRAGMENT_ROOM * length sources.now) × (result ≤ end) }
+    ensures written { drop result text.new ≡ spaced (map (λ f. decimal f.value) sources.now) ++ drop end text.old }
 {
     let mut left = sources.len();
-    let mut at = text.len();
+    let mut at = end;
     while left > 0 {
         left -= 1;
         at = write_marked(b' ', u16::from(sources[left].value), text, at);
@@ -111,95 +151,127 @@ fn write_sources(sources: &[Fragment], text: &mut [u8]) -> usize
     at
 }
 
-fn push_sources(out: &mut Vec<u8>, sources: &[Fragment; 6]) -> Result<(), AllocError>
-    ensures { OnOk result (out.new.items ≡ out.old.items ++ spaced (map (λ f. decimal f.value) sources.now)) }
+/// Writes a word and the sources of a repair from a local group so that they end at `end`, and answers where they start.
+fn write_local(sources: &[Fragment; 6], text: &mut [u8], end: usize) -> usize
+    requires { (KIND_ROOM ≤ end) × (end ≤ length text.old) }
+    ensures start { (end ≤ result + KIND_ROOM) × (result ≤ end) }
+    ensures written { drop result text.new ≡ (codes " local" ++ spaced (map (λ f. decimal f.value) sources.now)) ++ drop end text.old }
 {
-    let mut text = [0u8; SOURCES_ROOM];
-    let start = write_sources(sources.as_slice(), &mut text);
+    let start = write_sources(sources.as_slice(), text, end);
+    write_words(b" local", text, start)
+}
+
+/// Writes a space and from what is rebuilt so that they end at `end`, and answers where they start.
+fn write_kind(kind: &Kind, text: &mut [u8], end: usize) -> usize
+    requires { (KIND_ROOM ≤ end) × (end ≤ length text.old) }
+    ensures start { (end ≤ result + KIND_ROOM) × (result ≤ end) }
+    ensures written { drop result text.new ≡ (codes " " ++ kind_text kind.now) ++ drop end text.old }
+{
+    match kind {
+        Kind::Local(sources) => write_local(sources, text, end),
+        Kind::Global => write_words(b" global", text, end),
+        Kind::Move => write_words(b" move", text, end),
+    }
+}
+
+// ---- lines
+
+/// Adds a place, and behind it what stands in the text from `end` on.
+fn push_behind(
+    out: &mut Vec<u8>,
+    place: usize,
+    text: &mut [u8],
+    end: usize,
+) -> Result<(), AllocError>
+    requires { (PLACE_ROOM ≤ end) × (end ≤ length text.old) }
+    ensures { OnOk result (out.new.items ≡ out.old.items ++ (decimal place ++ drop end text.old)) }
+{
+    let start = itoa::write_digits(place as u64, text, end);
     out.extend_from_slice(&text[start..])
 }
 
-/// Adds a space and from what is rebuilt.
-fn push_kind(out: &mut Vec<u8>, kind: &Kind) -> Result<(), AllocError>
-    ensures { OnOk result (out.new.items ≡ out.old.items ++ (codes " " ++ kind_text kind.now)) }
+/// Adds a place, and words behind it.
+#[inline]
+fn push_words(out: &mut Vec<u8>, place: usize, words: &[u8]) -> Result<(), AllocError>
+    requires { length words.now ≤ WORDS_ROOM }
+    ensures { OnOk result (out.new.items ≡ out.old.items ++ (decimal place ++ words.now)) }
 {
-    match kind {
-        Kind::Local(sources) => {
-            out.extend_from_slice(b" local")?;
-            push_sources(out, sources)
-        }
-        Kind::Global => out.extend_from_slice(b" global"),
-        Kind::Move => out.extend_from_slice(b" move"),
-    }
+    let mut text = [0u8; SHORT_ROOM];
+    let start = write_words(words, &mut text, SHORT_ROOM);
+    push_behind(out, place, &mut text, start)
 }
 
-/// Adds the code of a refusal, a space behind it, and the number that it tells.
-fn push_detail(out: &mut Vec<u8>, code: &[u8], number: u64) -> Result<(), AllocError>
-    ensures { OnOk result (out.new.items ≡ out.old.items ++ (code.now ++ decimal number)) }
+/// Adds a place, words and a number behind it, and the end of the line.
+fn push_detail(out: &mut Vec<u8>, place: usize, words: &[u8], number: u32) -> Result<(), AllocError>
+    requires { length words.now ≤ WORDS_ROOM }
+    ensures { OnOk result (out.new.items ≡ out.old.items ++ (decimal place ++ (words.now ++ (decimal number ++ codes "\n")))) }
 {
-    out.extend_from_slice(code)?;
-    push_number(out, number)
+    let mut text = [0u8; DETAIL_ROOM];
+    let end = write_words(b"\n", &mut text, DETAIL_ROOM);
+    let detail = write_number(number, &mut text, end);
+    let start = write_words(words, &mut text, detail);
+    push_behind(out, place, &mut text, start)
 }
 
-fn push_refusal(out: &mut Vec<u8>, refusal: &Refusal) -> Result<(), AllocError>
-    ensures { OnOk result (out.new.items ≡ out.old.items ++ refusal_text refusal.now) }
+/// Adds the line of a refusal.
+fn push_refusal(out: &mut Vec<u8>, place: usize, refusal: &Refusal) -> Result<(), AllocError>
+    ensures { OnOk result (out.new.items ≡ out.old.items ++ reply_line place (Refused refusal.now)) }
 {
     match refusal {
-        Refusal::UnknownStripe => out.extend_from_slice(b"101"),
-        Refusal::StripeExists => out.extend_from_slice(b"102"),
-        Refusal::NoLawfulNode(fragment) => push_detail(out, b"103 ", u64::from(fragment.value)),
-        Refusal::UnknownNode => out.extend_from_slice(b"104"),
-        Refusal::WrongMode => out.extend_from_slice(b"105"),
-        Refusal::UnknownDomain => out.extend_from_slice(b"106"),
-        Refusal::UpgradeRunning(domain) => push_detail(out, b"107 ", u64::from(domain.value)),
-        Refusal::NotUpgrading => out.extend_from_slice(b"108"),
-        Refusal::WouldLose(stripe) => push_detail(out, b"109 ", u64::from(stripe.value)),
-        Refusal::AlreadyLeased(epoch) => push_detail(out, b"110 ", u64::from(*epoch)),
-        Refusal::NotNeeded => out.extend_from_slice(b"111"),
-        Refusal::Unrecoverable => out.extend_from_slice(b"112"),
-        Refusal::Stale => out.extend_from_slice(b"113"),
-        Refusal::NotHolder(holder) => push_detail(out, b"114 ", u64::from(holder.value)),
-        Refusal::TargetOffline(node) => push_detail(out, b"115 ", u64::from(node.value)),
-        Refusal::NoLease => out.extend_from_slice(b"116"),
-        Refusal::NotEmpty(load) => push_detail(out, b"117 ", u64::from(*load)),
+        Refusal::UnknownStripe => push_words(out, place, b" refused 101\n"),
+        Refusal::StripeExists => push_words(out, place, b" refused 102\n"),
+        Refusal::NoLawfulNode(fragment) => {
+            push_detail(out, place, b" refused 103 ", u32::from(fragment.value))
+        }
+        Refusal::UnknownNode => push_words(out, place, b" refused 104\n"),
+        Refusal::WrongMode => push_words(out, place, b" refused 105\n"),
+        Refusal::UnknownDomain => push_words(out, place, b" refused 106\n"),
+        Refusal::UpgradeRunning(domain) => {
+            push_detail(out, place, b" refused 107 ", u32::from(domain.value))
+        }
+        Refusal::NotUpgrading => push_words(out, place, b" refused 108\n"),
+        Refusal::WouldLose(stripe) => {
+            push_detail(out, place, b" refused 109 ", u32::from(stripe.value))
+        }
+        Refusal::AlreadyLeased(epoch) => push_detail(out, place, b" refused 110 ", *epoch),
+        Refusal::NotNeeded => push_words(out, place, b" refused 111\n"),
+        Refusal::Unrecoverable => push_words(out, place, b" refused 112\n"),
+        Refusal::Stale => push_words(out, place, b" refused 113\n"),
+        Refusal::NotHolder(holder) => {
+            push_detail(out, place, b" refused 114 ", u32::from(holder.value))
+        }
+        Refusal::TargetOffline(node) => {
+            push_detail(out, place, b" refused 115 ", u32::from(node.value))
+        }
+        Refusal::NoLease => push_words(out, place, b" refused 116\n"),
+        Refusal::NotEmpty(load) => push_detail(out, place, b" refused 117 ", *load),
     }
 }
 
-/// Adds a reply and the end of its line.
-fn push_reply(out: &mut Vec<u8>, reply: &Reply) -> Result<(), AllocError>
-    ensures { OnOk result (out.new.items ≡ out.old.items ++ (reply_text reply.now ++ codes "\n")) }
+fn push_placed(out: &mut Vec<u8>, place: usize, seats: &[Seat; 16]) -> Result<(), AllocError>
+    ensures { OnOk result (out.new.items ≡ out.old.items ++ reply_line place (Placed seats.now)) }
 {
-    match reply {
-        Reply::Placed(seats) => {
-            out.extend_from_slice(b"placed")?;
-            push_seats(out, seats)?;
-            out.extend_from_slice(b"\n")
-        }
-        Reply::Dropped => out.extend_from_slice(b"dropped\n"),
-        Reply::Granted(lease, kind) => {
-            out.extend_from_slice(b"granted")?;
-            push_lease(out, lease)?;
-            push_kind(out, kind)?;
-            out.extend_from_slice(b"\n")
-        }
-        Reply::Idle => out.extend_from_slice(b"idle\n"),
-        Reply::Ended => out.extend_from_slice(b"ended\n"),
-        Reply::Changed => out.extend_from_slice(b"changed\n"),
-        Reply::Refused(refusal) => {
-            out.extend_from_slice(b"refused ")?;
-            push_refusal(out, refusal)?;
-            out.extend_from_slice(b"\n")
-        }
-    }
+    let mut text = [0u8; PLACED_ROOM];
+    let end = write_words(b"\n", &mut text, PLACED_ROOM);
+    let first = write_seats(seats.as_slice(), &mut text, end);
+    let start = write_words(b" placed", &mut text, first);
+    push_behind(out, place, &mut text, start)
 }
 
-/// Adds the line before the replies of a session's script.
-pub(crate) fn push_script_line(out: &mut Vec<u8>, session: SessionNo) -> Result<(), AllocError>
-    ensures { OnOk result (out.new.items ≡ out.old.items ++ script_line session.value) }
+fn push_granted(
+    out: &mut Vec<u8>,
+    place: usize,
+    lease: &Lease,
+    kind: &Kind,
+) -> Result<(), AllocError>
+    ensures { OnOk result (out.new.items ≡ out.old.items ++ reply_line place (Granted lease.now kind.now)) }
 {
-    out.extend_from_slice(b"script ")?;
-    push_number(out, u64::from(session.value))?;
-    out.extend_from_slice(b"\n")
+    let mut text = [0u8; GRANTED_ROOM];
+    let end = write_words(b"\n", &mut text, GRANTED_ROOM);
+    let source = write_kind(kind, &mut text, end);
+    let target = write_lease(lease, &mut text, source);
+    let start = write_words(b" granted", &mut text, target);
+    push_behind(out, place, &mut text, start)
 }
 
 /// Adds the line of a reply, whose call has this place in the history.
@@ -210,9 +282,24 @@ pub(crate) fn push_reply_line(
 ) -> Result<(), AllocError>
     ensures { OnOk result (out.new.items ≡ out.old.items ++ reply_line place reply.now) }
 {
-    push_number(out, place as u64)?;
-    out.extend_from_slice(b" ")?;
-    push_reply(out, reply)
+    match reply {
+        Reply::Placed(seats) => push_placed(out, place, seats),
+        Reply::Dropped => push_words(out, place, b" dropped\n"),
+        Reply::Granted(lease, kind) => push_granted(out, place, lease, kind),
+        Reply::Idle => push_words(out, place, b" idle\n"),
+        Reply::Ended => push_words(out, place, b" ended\n"),
+        Reply::Changed => push_words(out, place, b" changed\n"),
+        Reply::Refused(refusal) => push_refusal(out, place, refusal),
+    }
+}
+
+/// Adds the line before the replies of a session's script.
+pub(crate) fn push_script_line(out: &mut Vec<u8>, session: SessionNo) -> Result<(), AllocError>
+    ensures { OnOk result (out.new.items ≡ out.old.items ++ script_line session.value) }
+{
+    out.extend_from_slice(b"script ")?;
+    push_number(out, u64::from(session.value))?;
+    out.extend_from_slice(b"\n")
 }
 
 /// Adds the line for a refused topology; none for want of memory, which is no refusal.

@@ -29,17 +29,15 @@ struct Played {
 }
 
 /// Makes the commands of two to eight scripts on a new book, each by a session of its own, and answers what is printed of them,
-/// with the tables of these nodes.
+/// with the tables.
 pub(crate) fn play_together<T: Threads + Wait + Sync>(
     rt: &T,
     alloc: Global,
-    nodes: &Topology,
     topology: Topology,
     scripts: &[Vec<Command>],
 ) -> Result<Vec<u8>, RunFault>
-    requires same { topology ≡ nodes.now }
     requires several { (1 < length scripts.now) × (length scripts.now ≤ 8) }
-    ensures played { IfOk result (λ text. IsPlayed nodes.now (lists_of scripts.now) text.items) }
+    ensures played { IfOk result (λ text. IsPlayed topology (lists_of scripts.now) text.items) }
     ensures err { IfErr result (λ e. (e ≡ fault.OutOfMemory) ⊎ (e ≡ fault.HistoryFull)) }
 {
     let Ok(parts) = Parts::new(alloc, topology, scripts.len() as u8) else {
@@ -47,7 +45,7 @@ pub(crate) fn play_together<T: Threads + Wait + Sync>(
     };
     let played = run_each::<Brand, _>(rt, alloc, parts, scripts)?;
     let text = print_tracks(alloc, played.tracks.as_slice())?;
-    with_tables(alloc, text, nodes, &played.book)
+    with_tables(alloc, text, &played.book)
 }
 
 /// Runs each script by a session of its own, and ends their manager.

@@ -12,8 +12,7 @@ returns-in-Good-clause-line c =
     let bundle = c.args.bundle.now in
     let topology = c.in-Good.topology in
     let scripts = c.in-Good.scripts.items in
-    let judged : IsJudged bundle (Good c.in-Good.text topology c.in-Good.scripts) = rw c.in-Good.is at c.in_ok-output.ensures.judged in
-    let good = judged.1 in
+    let good : IsJudged bundle (Good topology c.in-Good.scripts) = rw c.in-Good.is at c.in_ok-output.ensures.judged in
     let all : c.len.result ≡ length topology = search rules in
     IfOk-both c.counted.result _ _ _
     (λ o line end. good_to_any AreCounted bundle (o.text.items) o.status topology scripts good

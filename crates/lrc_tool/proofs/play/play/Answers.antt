@@ -11,8 +11,8 @@ returns-clause-played c =
     let book = c.play_scripts.new.book in
     let lists = lists_of c.args.scripts.now in
     let text = c.in_ok-replies.replies.items in
-    let same = c.in_ok-book.ensures.value.0 ∙ c.requires.same in
+    let same = c.in_ok-book.ensures.value.0 in
     let made = subst (λ (ns : List NodeInfo). AreMade ns lists book.history text) same c.in_ok-replies.ensures.made in
     IfOk-weaker c.with_tables.result _ _
-    (λ v is. played_with_tables c.args.nodes.now book.nodes lists book.history text v.items made (c.in_ok-replies.ensures.nodes ∙ same) is)
+    (λ v is. played_with_tables c.args.topology book.nodes lists book.history text v.items made (c.in_ok-replies.ensures.nodes ∙ same) is)
     c.with_tables.ensures.text

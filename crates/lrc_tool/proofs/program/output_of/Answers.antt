@@ -1,7 +1,5 @@
-use Rattle.std.proofs.Common.{refl, List, ℕ, subst}
+use Rattle.std.proofs.Common.{refl}
 use Rattle.std.proofs.lemmas.Result.{err_from_is_err_and}
-use Rattle.lrc_topology.specs.Documents.{IsTopologyOf}
-use Rattle.lrc_topology.proofs.AnswerLemmas.{one_topology}
 use Rattle.lrc_tool.specs.declared.judging.Judged.TheVariants.{Good}
 use Rattle.lrc_tool.specs.declared.status.Status.TheVariants.{Done}
 use Rattle.lrc_tool.specs.Judged.{lists_of, IsJudged}
@@ -9,19 +7,12 @@ use Rattle.lrc_tool.specs.Outputs.{ArePrinted}
 use Rattle.lrc_tool.proofs.JudgedLemmas.{good_to_any, several_or}
 use Rattle.lrc_tool.proofs.program.output_of.Goals as goal
 
-pub play_all-requires-clause-same : goal.play_all-requires-clause-same
-play_all-requires-clause-same g c κs within =
-    let judged : IsJudged c.args.bundle.now (Good c.in-Good.text c.in-Good.topology c.in-Good.scripts) = rw c.in-Good.is at c.in_ok-output.ensures.judged in
-    let again = subst (λ (text : List ℕ). IsTopologyOf text c.in_ok-again-in-Good.again) judged.0 c.in_ok-again-in-Good.ensures.read in
-    one_topology _ _ _ again judged.1.read
-
 pub returns-in_ok-text-in-Good-clause-output : goal.returns-in_ok-text-in-Good-clause-output
 returns-in_ok-text-in-Good-clause-output g c =
     let bundle = c.args.bundle.now in
     let topology = c.in-Good.topology in
     let scripts = c.in-Good.scripts.items in
-    let judged : IsJudged bundle (Good c.in-Good.text topology c.in-Good.scripts) = rw c.in-Good.is at c.in_ok-output.ensures.judged in
-    let good = judged.1 in
+    let good : IsJudged bundle (Good topology c.in-Good.scripts) = rw c.in-Good.is at c.in_ok-output.ensures.judged in
     let played = rw c.as_slice.ensures.value at c.in_ok-text-in-Good.ensures.played in
     good_to_any ArePrinted bundle c.in_ok-text-in-Good.text.items Done topology scripts good
     (lists_of scripts, good.commands, played) refl
@@ -29,7 +20,7 @@ returns-in_ok-text-in-Good-clause-output g c =
 pub returns-in_err-text-in-Good-clause-err : goal.returns-in_err-text-in-Good-clause-err
 returns-in_err-text-in-Good-clause-err g c =
     let bundle = c.args.bundle.now in
-    let judged : IsJudged bundle (Good c.in-Good.text c.in-Good.topology c.in-Good.scripts) = rw c.in-Good.is at c.in_ok-output.ensures.judged in
+    let good : IsJudged bundle (Good c.in-Good.topology c.in-Good.scripts) = rw c.in-Good.is at c.in_ok-output.ensures.judged in
     let p = err_from_is_err_and c.from_residual-in_err-text-in-Good.result c.from_residual-in_err-text-in-Good.ensures.1 in
     let err = rw c.as_slice.ensures.value at c.in_err-text-in-Good.ensures.err in
-    rw (p.1, p.2) (several_or _ _ bundle c.in-Good.topology c.in-Good.scripts.items judged.1 err)
+    rw (p.1, p.2) (several_or _ _ bundle c.in-Good.topology c.in-Good.scripts.items good err)

@@ -10,6 +10,6 @@ use Rattle.lrc_tool.proofs.tables.with_load_table.Given as goal
 abbrev pub invariant-loop-node : goal.invariant-loop-node
 invariant-loop-node l = record {
   between : IsBetweenRows l.table;
-  told : text_in l.table ++ flat_map (load_row (state_of l.book)) l.node-iterator ≡ text_in l.initial.table ++ flat_map (load_row (state_of l.book)) l.nodes;
+  told : text_in l.table ++ flat_map (load_row (state_of l.book)) l.node-iterator ≡ text_in l.initial.table ++ flat_map (load_row (state_of l.book)) l.book.nodes;
   known : AllByRecursion (λ n. node_at l.book.nodes n.number ≡ Some n) l.node-iterator;
 }

@@ -1,4 +1,4 @@
-use Rattle.std.proofs.Common.{◌≡◌, ◌*◌, ◌≤◌, length, drop, map}
+use Rattle.std.proofs.Common.{◌≡◌, ◌+◌, ◌*◌, ◌≤◌, ◌++◌, length, drop, map}
 use Rattle.lrc_tool.specs.Texts.{seat_text, spaced}
 use Rattle.lrc_tool.proofs.texts.write_seats.Given as goal
 
@@ -6,8 +6,9 @@ abbrev pub invariant-loop-left : goal.invariant-loop-left
 invariant-loop-left l = record {
   left : l.left ≤ length l.seats;
   room : 12 * l.left ≤ l.at;
-  within : l.at ≤ length l.text;
-  written : drop l.at l.text ≡ spaced (map seat_text (drop l.left l.seats));
+  used : l.end + 12 * l.left ≤ l.at + 12 * length l.seats;
+  within : l.at ≤ l.end;
+  written : drop l.at l.text ≡ spaced (map seat_text (drop l.left l.seats)) ++ drop l.end l.fn.text;
 }
 
 abbrev pub decreases-loop-left : goal.decreases-loop-left

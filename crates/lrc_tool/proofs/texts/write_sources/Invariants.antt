@@ -1,4 +1,4 @@
-use Rattle.std.proofs.Common.{◌≡◌, ◌*◌, ◌≤◌, length, drop, decimal, map}
+use Rattle.std.proofs.Common.{◌≡◌, ◌+◌, ◌*◌, ◌≤◌, ◌++◌, length, drop, decimal, map}
 use Rattle.lrc_tool.specs.Texts.{spaced}
 use Rattle.lrc_tool.proofs.texts.write_sources.Given as goal
 
@@ -6,8 +6,9 @@ abbrev pub invariant-loop-left : goal.invariant-loop-left
 invariant-loop-left l = record {
   left : l.left ≤ length l.sources;
   room : 6 * l.left ≤ l.at;
-  within : l.at ≤ length l.text;
-  written : drop l.at l.text ≡ spaced (map (λ f. decimal f.value) (drop l.left l.sources));
+  used : l.end + 6 * l.left ≤ l.at + 6 * length l.sources;
+  within : l.at ≤ l.end;
+  written : drop l.at l.text ≡ spaced (map (λ f. decimal f.value) (drop l.left l.sources)) ++ drop l.end l.fn.text;
 }
 
 abbrev pub decreases-loop-left : goal.decreases-loop-left

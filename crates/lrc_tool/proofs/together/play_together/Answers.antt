@@ -10,10 +10,10 @@ pub returns-clause-played : goal.returns-clause-played
 returns-clause-played g c =
     let book = c.in_ok-played.played.book in
     let tracks = c.in_ok-played.played.tracks.items in
-    let nodes = c.args.nodes.now in
+    let nodes = c.args.topology in
     let lists = lists_of c.args.scripts.now in
     let text = c.in_ok-text.text.items in
-    let same = c.in-Ok.ensures.ok.0 ∙ c.requires.same in
+    let same = c.in-Ok.ensures.ok.0 in
     let printed : text ≡ tracks_text 1 tracks = c.in_ok-text.ensures.text ∙ ap (tracks_text 1) c.as_slice.ensures.value in
     let on_nodes = subst (λ (ns : List NodeInfo). AreMade ns lists book.history (tracks_text 1 tracks)) same c.in_ok-played.ensures.made in
     let made = subst (λ (t : List ℕ). AreMade nodes lists book.history t) (sym printed) on_nodes in
