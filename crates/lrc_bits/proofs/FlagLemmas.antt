@@ -1,7 +1,7 @@
 -- The flags of words, read and written.
-use Rattle.std.proofs.Common.{below_more, bit_and, bit_or, subst, min, ◌-◌, ◌≡◌, ◌≢◌, ℕ, zero, suc, ◌+◌, ◌*◌, ◌/◌, ◌%◌, ◌^◌, ◌<◌, ◌≤◌, Bool, true, false, eqb, List, length, get_or, set, replicate, arith, refl, sym, ap, ◌∙◌, inl, inr, w64}
+use Rattle.std.proofs.Common.{below_more, bit_and, bit_or, subst, min, ◌-◌, ◌≡◌, ◌≢◌, ℕ, zero, suc, ◌+◌, ◌*◌, ◌/◌, ◌%◌, ◌^◌, ◌<◌, ◌≤◌, Bool, true, false, not, eqb, List, length, get_or, set, replicate, arith, refl, sym, ap, ◌∙◌, inl, inr, w64}
 use Rattle.std.proofs.Math.ListN.{length-set}
-use Rattle.std.proofs.lemmas.Bool.{cases_eq, cases_lt, eq-eqb, eqb-true}
+use Rattle.std.proofs.lemmas.Bool.{cases_eq, cases_lt, eq-eqb, eqb-true, ne_eqb}
 use Rattle.std.proofs.lemmas.List.{length-replicate, ext_get_or, get_or_past, get_or-set_same, get_or-set_other}
 use Rattle.std.proofs.lemmas.List.FromFn.{length-map-range_with_len, get_or-map-range_with_len}
 use Rattle.std.proofs.lemmas.Nat.Bits.{shr_and_one, bit_at-zero, bit_at_set_same, bit_at_set_other, bit_at_clear_same, bit_at_clear_other, bit_at_ones, bit_at-trailing_ones, bit_at-trailing_zeros, bit_at_and, bit_at_not, bit_at-lt, bit_at_above}
@@ -329,6 +329,33 @@ module _ (words : List ℕ) (from : ℕ) where
           let beyond : length xs ≤ j = omega (arith, past, long) in
           get_or_past xs j false beyond
     ]
+
+-- ---- the numbers of one word
+
+-- a test for 0
+pub is_zero : (w : ℕ) → not (eqb w 0) ≡ false → w ≡ 0
+is_zero w miss = elim (cases_eq w 0) [
+  | inl none ↦ none
+  | inr some ↦ absurd (let clash : true ≡ false = rw (ne_eqb w 0 some) at miss in cc)
+]
+
+pub is_not_zero : (w : ℕ) → not (eqb w 0) ≡ true → w ≢ 0
+is_not_zero w hit = λ none. absurd (let clash : false ≡ true = rw (eq-eqb w 0 none) at hit in cc)
+
+module _ (words : List ℕ) (xs : List Bool) (view : flags words ≡ xs) (i : ℕ) where
+  -- a word that is not 0 has a number
+  pub near-some : get_or words i 0 ≢ 0 → get_or words i 0 < 2 ^ 64 → (k : ℕ) × (k / 64 ≡ i) × (get_or xs k false ≡ true)
+  near-some some small =
+      let w : ℕ = get_or words i 0 in
+      let t : ℕ = trailing_zeros w64 w in
+      let h = bit_at-trailing_zeros w64 w (omega (arith, some)) small in
+      let low : t < 64 = h.0 in
+      (i * 64 + t, omega (arith, low), read words xs (i * 64 + t) view ∙ is_flag words i t low h.1)
+
+  -- the word 0 has none
+  pub near-none : get_or words i 0 ≡ 0 → (k : ℕ) → k / 64 ≡ i → get_or xs k false ≡ false
+  near-none empty k here = read words xs k view
+      ∙ ap (λ n. eqb n 1) (ap (λ j. bit_at (get_or words j 0) (k % 64)) here ∙ (ap (λ w. bit_at w (k % 64)) empty ∙ bit_at-zero (k % 64)))
 
 -- a word that is shifted right stays a word
 pub shifted-small : (w s : ℕ) → w < 2 ^ 64 → w / 2 ^ s < 2 ^ 64

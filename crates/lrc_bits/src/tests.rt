@@ -13,6 +13,7 @@ fn agree(set: &BitSet<2>, plain: &[bool; 128]) -> bool
 {
     let mut same = set.first_absent() == plain.iter().position(|mark| !*mark);
     same = same && set.first_from(0) == plain.iter().position(|mark| *mark);
+    same = same && set.first() == set.first_from(0);
     same = same && set.is_empty() == !plain.iter().any(|mark| *mark);
     for place in 0..128usize {
         same = same && set.contains(place) == plain[place];
@@ -48,6 +49,17 @@ fn a_search_goes_on_in_the_next_word(rt: HostRuntime) -> Result<(), Fail> {
     assert_eq!(rt; set.first_from(64), Some(130));
     assert_eq!(rt; set.first_from(131), None);
     assert_eq!(rt; set.first_from(192), None);
+    Ok(())
+}
+
+#[test]
+fn a_number_is_near_where_it_stands_in_the_same_word(rt: HostRuntime) -> Result<(), Fail> {
+    let mut set = BitSet::<3>::new();
+    set.insert(63);
+    set.insert(130);
+    assert!(rt; set.has_near(0));
+    assert!(rt; !set.has_near(64));
+    assert!(rt; set.has_near(191));
     Ok(())
 }
 
