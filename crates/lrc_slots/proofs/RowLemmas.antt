@@ -1,6 +1,7 @@
 -- One row kept as marks and a count.
-use Rattle.std.proofs.Common.{◌≡◌, ◌≢◌, ℕ, zero, suc, ◌+◌, ◌-◌, ◌<◌, ◌≤◌, Bool, true, false, ◌&&◌, eqb, is_some, cond, zero-add, length-take-le, ◌∷◌, List, length, get_or, set, take, replicate, Option, Some, None, arith, refl, sym, ap, ◌∙◌}
+use Rattle.std.proofs.Common.{◌≡◌, ◌≢◌, ℕ, zero, suc, ◌+◌, ◌-◌, ◌<◌, ◌≤◌, Bool, true, false, ◌&&◌, eqb, is_some, cond, zero-add, length-take-le, ◌∷◌, List, length, get_or, set, take, replicate, Option, Some, None, arith, refl, sym, ap, ◌∙◌, inl, inr}
 use Rattle.std.proofs.Math.ListN.{length-set}
+use Rattle.std.proofs.lemmas.Bool.{cases_lt}
 use Rattle.std.proofs.Math.Seq.{take-set-lt}
 use Rattle.std.proofs.lemmas.List.Sums.{count_by-le-length, sum_by-cons}
 use Rattle.std.proofs.lemmas.List.FromFn.{length-range_with_len}
@@ -47,6 +48,13 @@ least_free-none node eligible load marks h all =
     first_slot-all (is_marked (row_of node eligible marks)) 0 node.slots
     (λ j low less. let within : j < node.slots = omega (arith, less) in marked-within node.slots j marks within ∙ all j
     (omega (arith, within, h.few, h.all)))
+
+-- a least free slot is one of the node, and free
+pub free-found : (node : NodeInfo) (load : ℕ) (marks : List Bool) → AreMarks node load marks → (eligible : Bool) (k : ℕ)
+    → least_free (alone (row_of node eligible marks)) node ≡ Some k → (k < node.slots) × (get_or (take node.slots marks) k false ≡ false)
+free-found node load marks h eligible k e =
+    let found = first_slot-found (is_marked (row_of node eligible marks)) 0 node.slots k e in
+    (omega (arith, found.1), found.2)
 
 -- ---- a write
 
@@ -142,7 +150,7 @@ module _ (node : NodeInfo) (load : ℕ) (marks : List Bool) (h : AreMarks node l
       omega (arith, most)
 
   -- a row with room has a free slot
-  room-some : (eligible : Bool) → load < node.slots → is_some (least_free (alone (row_of node eligible marks)) node) ≡ true
+  pub room-some : (eligible : Bool) → load < node.slots → is_some (least_free (alone (row_of node eligible marks)) node) ≡ true
   room-some eligible room = go (least_free (alone (row_of node eligible marks)) node) refl where
     go : (o : Option ℕ) → least_free (alone (row_of node eligible marks)) node ≡ o → is_some o ≡ true
     go (Some k) e = refl
@@ -160,6 +168,21 @@ module _ (node : NodeInfo) (load : ℕ) (marks : List Bool) (h : AreMarks node l
         let found = first_slot-found (is_marked (row_of node eligible marks)) 0 node.slots k e in
         let less = room-below k (omega (arith, found.1)) found.2 in
         omega (arith, less, full))
+
+  -- a row with a free slot has room
+  pub room-known : (eligible : Bool) → is_some (least_free (alone (row_of node eligible marks)) node) ≡ true → load < node.slots
+  room-known eligible some = elim (cases_lt load node.slots) [
+    | inl room ↦ room
+    | inr full ↦ absurd (let clash : false ≡ true = sym (full-none eligible full) ∙ some in cc)
+  ]
+
+  -- and stands under its load where it is eligible
+  pub listed-known : (eligible : Bool) → is_some (least_free (alone (row_of node eligible marks)) node) ≡ true
+      → (k : ℕ) → (eligible && eqb load k) ≡ is_listed (row_of node eligible marks) k
+  listed-known eligible some k = rw (some, ← h.counted) (also eligible (eqb load k)) where
+    also : (a b : Bool) → (a && b) ≡ (a && true && b)
+    also true b = refl
+    also false b = refl
 
   -- an eligible row with room stands under its load
   pub listed-room : load < node.slots → (k : ℕ) → eqb load k ≡ is_listed (row_of node true marks) k

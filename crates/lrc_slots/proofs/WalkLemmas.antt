@@ -1,5 +1,5 @@
 -- The row of a rank that stands under a load, and the first such row in no barred domain.
-use Rattle.std.proofs.Common.{◌≡◌, ℕ, ◌<◌, Bool, true, false, ◌&&◌, ◌||◌, eqb, List, length, get_or, map, Option, Some, None, is_some, arith, refl, sym, ap, ◌∙◌, subst, inl, inr}
+use Rattle.std.proofs.Common.{◌≡◌, ℕ, ◌+◌, ◌<◌, ◌≤◌, Bool, true, false, ◌&&◌, ◌||◌, eqb, List, length, get_or, map, Option, Some, None, is_some, arith, refl, sym, ap, ◌∙◌, subst, inl, inr}
 use Rattle.std.proofs.lemmas.Bool.{cases_Bool, cases_eq, and_parts}
 use Rattle.std.proofs.lemmas.List.{get_or_default}
 use Rattle.std.specs.List.{Contains}
@@ -77,6 +77,23 @@ module _ {rows : Table} {ranks at : List ℕ} {loads : List (List Bool)} (h : Ar
       | inl bars ↦ bars
       | inr miss ↦ absurd (none load rank hit (passed load rank hit miss))
     ]
+
+-- where a load has no rank from a spot on, the first one stands under a load above
+pub first-past : (sets : List (List Bool)) (from : Spot) → ((rank : ℕ) → from.rank ≤ rank → listed sets from.load rank ≡ false)
+    → (o : Option Spot) → FindsFirst sets (record { load = from.load + 1; rank = 0 }) o → FindsFirst sets from o
+first-past sets from none = go where
+  above : (load rank : ℕ) → listed sets load rank ≡ true → IsFrom from.load from.rank load rank → IsFrom (from.load + 1) 0 load rank
+  above load rank hit (inl more) = elim (cases_eq (from.load + 1) load) [
+    | inl same ↦ inr (same, omega arith)
+    | inr other ↦ inl (omega (arith, more, other))
+  ]
+  above load rank hit (inr here) = absurd (
+      let miss : listed sets load rank ≡ false = subst (λ l. listed sets l rank ≡ false) here.0 (none rank here.1) in
+      let clash : true ≡ false = sym hit ∙ miss in cc)
+
+  go : (o : Option Spot) → FindsFirst sets (record { load = from.load + 1; rank = 0 }) o → FindsFirst sets from o
+  go None past = λ load rank hit behind. past load rank hit (above load rank hit behind)
+  go (Some spot) past = record { here = past.here; first = λ load rank hit behind. past.first load rank hit (above load rank hit behind) }
 
 -- every spot stands behind the first
 from_first : (load rank : ℕ) → IsFrom 0 0 load rank

@@ -118,11 +118,25 @@ impl NodeSlots {
         }
     }
 
-    /// Takes a free slot.
+    /// The same where the node has a free slot.
+    #[inline(always)]
+    pub(crate) fn entry_with_room(&self) -> Entry
+        requires { IsSome (least_free (alone self.now) self.now.node) }
+        ensures value { (k : ℕ) → is_entry_of result k ≡ is_listed self.now k }
+        ensures few { IsTrue result.is_open → result.load < 256 }
+    {
+        let load = self.load;
+        Entry {
+            load,
+            is_open: self.eligible,
+        }
+    }
+
+    /// Takes the least free slot.
     pub(crate) fn take(&mut self, slot: u16)
-        requires within { slot < length self.old.taken }
-        requires free { is_marked self.old slot ≡ false }
-        ensures { self.new ≡ record self.old { taken = slice_set self.old.taken slot true } }
+        requires { least_free (alone self.old) self.old.node ≡ Some slot }
+        ensures within { slot < length self.old.taken }
+        ensures taken { self.new ≡ record self.old { taken = slice_set self.old.taken slot true } }
     {
         self.marks.insert(slot as usize);
         self.load += 1;
@@ -132,7 +146,8 @@ impl NodeSlots {
     pub(crate) fn free(&mut self, slot: u16)
         requires within { slot < length self.old.taken }
         requires taken { is_marked self.old slot ≡ true }
-        ensures { self.new ≡ record self.old { taken = slice_set self.old.taken slot false } }
+        ensures freed { self.new ≡ record self.old { taken = slice_set self.old.taken slot false } }
+        ensures room { IsSome (least_free (alone self.new) self.new.node) }
     {
         self.marks.remove(slot as usize);
         self.load -= 1;

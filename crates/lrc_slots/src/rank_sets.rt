@@ -1,4 +1,4 @@
-ghost use Rattle.std.specs.Prelude.{◌≡◌, ℕ, ◌<◌, ◌||◌, ◌&&◌, ◌⊎◌, if◌then◌else◌, nat_eq, not, true, false, length, get_or, IfOk, IfSome, IsTrue};
+ghost use Rattle.std.specs.Prelude.{◌≡◌, ℕ, ◌+◌, ◌<◌, ◌||◌, ◌&&◌, ◌⊎◌, if◌then◌else◌, nat_eq, not, true, false, length, get_or, IfOk, IfSome, IsTrue};
 ghost use Rattle.lrc_slots.specs.Indexes.{listed, is_entry, is_entry_of, FindsFirst, FindsLeast, is_of_set, is_of_either};
 
 use crate::entry::Entry;
@@ -50,8 +50,11 @@ impl RankSets {
         ensures { (l r : ℕ) → listed self.new l r ≡ (listed self.old l r || is_entry load rank l r) }
     {
         let set = &mut self.sets[load];
+        let is_used = set.has_near(rank);
         set.insert(rank);
-        self.used.insert(load);
+        if !is_used {
+            self.used.insert(load);
+        }
     }
 
     /// Takes a node from under a load.
@@ -63,7 +66,7 @@ impl RankSets {
     {
         let set = &mut self.sets[load];
         set.remove(rank);
-        if set.first_from(rank).is_none() && set.first_from(0).is_none() {
+        if !set.has_near(rank) && set.first().is_none() {
             self.used.remove(load);
         }
     }
@@ -87,7 +90,12 @@ impl RankSets {
     pub(crate) fn first_outside_both(&self, mask: &BitSet<8>, other: &BitSet<8>) -> Option<usize>
         ensures { FindsLeast self.now (is_of_either mask.now other.now) result }
     {
-        let mut from = 0;
+        let least = self.used.first()?;
+        let set = &self.sets[least];
+        if let Some(rank) = set.first_outside_both(mask, other) {
+            return Some(rank);
+        }
+        let mut from = least + 1;
         while let Some(load) = self.used.first_from(from) {
             let set = &self.sets[load];
             if let Some(rank) = set.first_outside_both(mask, other) {
@@ -100,13 +108,31 @@ impl RankSets {
 
     /// The first rank from this spot on.
     pub(crate) fn first_from(&self, from: Spot) -> Option<Spot>
-        ensures { FindsFirst self.now from result }
+        requires { from.load < 256 }
+        ensures first { FindsFirst self.now from result }
+        ensures within { IfSome result (λ s. s.load < 256) }
     {
-        let mut next = from.load;
+        let set = &self.sets[from.load];
+        if let Some(rank) = set.first_from(from.rank) {
+            return Some(Spot {
+                load: from.load,
+                rank,
+            });
+        }
+        self.first_above(from.load)
+    }
+
+    /// The first rank under a load above this one.
+    #[inline(always)]
+    fn first_above(&self, least: usize) -> Option<Spot>
+        requires { least < 256 }
+        ensures first { FindsFirst self.now (record { load = least + 1; rank = 0 }) result }
+        ensures within { IfSome result (λ s. s.load < 256) }
+    {
+        let mut next = least + 1;
         while let Some(load) = self.used.first_from(next) {
-            let start = if load == from.load { from.rank } else { 0 };
             let set = &self.sets[load];
-            if let Some(rank) = set.first_from(start) {
+            if let Some(rank) = set.first() {
                 return Some(Spot { load, rank });
             }
             next = load + 1;

@@ -5,7 +5,7 @@ ghost use Rattle.lrc_topology.specs.Nodes.{AreNodes, node_at};
 ghost use Rattle.lrc_slots.specs.Slots.{all_free, least_free, least_free_at, load_at, with_taken, with_free, with_eligible};
 ghost use Rattle.lrc_slots.specs.Next.{next_node, next_number};
 ghost use Rattle.lrc_slots.specs.Tables.{slots_of, barred};
-ghost use Rattle.lrc_slots.specs.Barred.{Barred, no_bars, joined, with_fault, with_upgrade};
+ghost use Rattle.lrc_slots.specs.Barred.{Barred, no_bars, joined, with_fault, with_upgrade, with_fault_of, with_upgrade_of};
 ghost use Rattle.lrc_slots.specs.BarredNodes.{AreBarredNodes};
 ghost use Rattle.lrc_slots.specs.Rows.{fresh_row, place_of, alone, is_open, precedes};
 
@@ -17,6 +17,9 @@ use lrc_code::{Fault, FaultNo, NodeNo, UpgradeNo};
 use lrc_topology::{NodeIndex, NodeInfo, Topology};
 use std::alloc::{AllocError, Global};
 use std::marker::Model;
+
+/// How many rows are looked at one by one, before the nodes of barred domains are joined.
+const WALKED: u32 = 32;
 
 /// The taken slots of the nodes of a topology, and which of the nodes are eligible.
 ///
@@ -123,15 +126,24 @@ impl SlotTable {
         ensures slot { result ≡ least_free_at (slots_of self.old) node }
         ensures taken { slots_of self.new ≡ with_taken (slots_of self.old) node result }
     {
+        let slot = self.first_free(node)?;
+        self.take_slot(node, slot);
+        Some(slot)
+    }
+
+    /// Takes the least free slot of a node; `first_free` tells which one it is.
+    pub fn take_slot(&mut self, node: NodeNo, slot: u16)
+        requires known { IsSome (node_at (slots_of self.old).nodes node) }
+        requires least { least_free_at (slots_of self.old) node ≡ Some slot }
+        ensures { slots_of self.new ≡ with_taken (slots_of self.old) node (Some slot) }
+    {
         let place = self.place(node);
         let row = &mut self.rows[place];
-        let slot = row.first_free()?;
-        let lighter = row.entry();
+        let lighter = row.entry_with_room();
         row.take(slot);
         let heavier = row.entry();
         let rank = self.ranks[place] as usize;
         self.by_load.relist(rank, lighter, heavier);
-        Some(slot)
     }
 
     /// Gives a slot back that is taken; `is_taken` is the test.
@@ -143,7 +155,7 @@ impl SlotTable {
         let row = &mut self.rows[place];
         let heavier = row.entry();
         row.free(slot);
-        let lighter = row.entry();
+        let lighter = row.entry_with_room();
         let rank = self.ranks[place] as usize;
         self.by_load.relist(rank, heavier, lighter);
     }
@@ -195,6 +207,26 @@ impl SlotTable {
     {
         let row = self.first_beside(bars)?;
         Some(row.number())
+    }
+
+    /// Bars the fault domain of a node, if it is one of the table's.
+    pub fn bar_fault_of(&self, bars: &mut Taken, node: NodeNo)
+        ensures { barred bars.new ≡ with_fault_of (slots_of self.now).nodes (barred bars.old) node }
+    {
+        if let Some(place) = self.position(node) {
+            let row = &self.rows[place];
+            bars.bar_fault(row.node().fault);
+        }
+    }
+
+    /// Bars the upgrade domain of a node, if it is one of the table's.
+    pub fn bar_upgrade_of(&self, bars: &mut Taken, node: NodeNo)
+        ensures { barred bars.new ≡ with_upgrade_of (slots_of self.now).nodes (barred bars.old) node }
+    {
+        if let Some(place) = self.position(node) {
+            let row = &self.rows[place];
+            bars.bar_upgrade(row.node().upgrade);
+        }
     }
 
     /// Bars the nodes of a fault domain too.
@@ -257,7 +289,7 @@ impl SlotTable {
         ensures nodes { AreNodes (map (λ r. r.node) self.now) }
     {
         let mut from = Spot { load: 0, rank: 0 };
-        for _ in 0..32u32 {
+        for _ in 0..WALKED {
             let spot = self.by_load.first_from(from)?;
             let place = self.order[spot.rank] as usize;
             let row = &self.rows[place];

@@ -76,6 +76,19 @@ fn barred_and_ineligible_nodes_are_passed_over(rt: HostRuntime) -> Result<(), Fa
 }
 
 #[test]
+fn the_domains_of_a_node_are_barred_by_its_number(rt: HostRuntime) -> Result<(), Fail> {
+    let table = SlotTable::new(rt.alloc(), &three(rt.alloc())?)?;
+    let mut bars = Taken::new();
+    table.bar_fault_of(&mut bars, NodeNo { value: 4 });
+    assert_eq!(rt; table.choose(&bars), Some(NodeNo { value: 3 }));
+    table.bar_fault_of(&mut bars, NodeNo { value: 3 });
+    assert_eq!(rt; table.choose(&bars), Some(NodeNo { value: 5 }));
+    table.bar_upgrade_of(&mut bars, NodeNo { value: 5 });
+    assert_eq!(rt; table.choose(&bars), Some(NodeNo { value: 7 }));
+    Ok(())
+}
+
+#[test]
 fn the_least_free_slot_is_taken_again(rt: HostRuntime) -> Result<(), Fail> {
     let topology = three(rt.alloc())?;
     let mut table = SlotTable::new(rt.alloc(), &topology)?;

@@ -98,7 +98,8 @@ fn take(table: &mut SlotTable, plain: &mut PlainTable, bars: &Bars)
     ensures { (slots_of table.new).nodes ≡ (slots_of table.old).nodes }
 {
     if let Some(node) = table.choose(&bars.taken) {
-        if let Some(slot) = table.take(node) {
+        if let Some(slot) = table.first_free(node) {
+            table.take_slot(node, slot);
             if let Some(other) = plain.node_mut(node) {
                 other.set_taken(slot, true);
             }

@@ -11,7 +11,7 @@ returns-in_err-spot-clause-row c =
     let s = c.self.inside in
     let h = c.self.invariant in
     let b = barred c.args.bars.now in
-    let all = walked-none h.ranked h.by_load b c.loop.from c.loop.invariant c.in_err-spot.ensures in
+    let all = walked-none h.ranked h.by_load b c.loop.from c.loop.invariant.passed c.in_err-spot.ensures.first in
     rw (c.from_residual.ensures, ← c.self.view_is)
     (sym (none-open s.rows.items h.nodes h.ranked h.by_load b (is_barred_at s.rows.items s.order.items b) (barred-at h.ranked h.by_load b) all))
 
@@ -21,10 +21,10 @@ returns-then-not-bars-clause-row c =
     let h = c.self.invariant in
     let b = barred c.args.bars.now in
     let spot = c.in_ok-spot.spot in
-    let found = c.in_ok-spot.ensures in
+    let found = c.in_ok-spot.ensures.first in
     let free = read-barred h.ranked h.by_load spot.load spot.rank found.here c.index.result.now c.index.ensures
     c.index-row.result.now c.index-row.ensures b ∙ (sym (rw c.node.ensures at c.bars.ensures) ∙ c.if-not-bars.true) in
-    let least = walked h.ranked h.by_load b c.loop.from c.loop.invariant spot found free in
+    let least = walked h.ranked h.by_load b c.loop.from c.loop.invariant.passed spot found free in
     let row = chosen-row s.rows.items h.nodes h.ranked h.by_load b (is_barred_at s.rows.items s.order.items b) (barred-at h.ranked h.by_load b)
     spot.load spot.rank c.index-row.result.now least in
     let here = row-read h.ranked h.by_load spot.load spot.rank found.here c.index.result.now c.index.ensures
@@ -35,7 +35,7 @@ pub returns-then-not-bars-clause-room : goal.returns-then-not-bars-clause-room
 returns-then-not-bars-clause-room c =
     let h = c.self.invariant in
     let spot = c.in_ok-spot.spot in
-    read-room h.ranked h.by_load spot.load spot.rank c.in_ok-spot.ensures.here c.index.result.now c.index.ensures
+    read-room h.ranked h.by_load spot.load spot.rank c.in_ok-spot.ensures.first.here c.index.result.now c.index.ensures
     c.index-row.result.now c.index-row.ensures
 
 pub returns-clause-row : goal.returns-clause-row

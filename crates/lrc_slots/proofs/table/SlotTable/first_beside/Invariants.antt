@@ -1,8 +1,11 @@
-use Rattle.std.proofs.Common.{◌≡◌, ℕ, true, false}
+use Rattle.std.proofs.Common.{◌≡◌, ℕ, ◌<◌, true, false}
 use Rattle.lrc_slots.specs.Indexes.{listed, is_barred_at, IsFrom}
 use Rattle.lrc_slots.specs.Tables.{barred}
 use Rattle.lrc_slots.proofs.table.SlotTable.first_beside.Given as goal
 
 abbrev pub invariant-loop : goal.invariant-loop
-invariant-loop l = (load rank : ℕ) → listed l.self-inside.by_load load rank ≡ true
-    → is_barred_at l.self-inside.rows.items l.self-inside.order.items (barred l.bars) rank ≡ false → IsFrom l.from.load l.from.rank load rank
+invariant-loop l = record {
+  within : l.from.load < 256;
+  passed : (load rank : ℕ) → listed l.self-inside.by_load load rank ≡ true
+      → is_barred_at l.self-inside.rows.items l.self-inside.order.items (barred l.bars) rank ≡ false → IsFrom l.from.load l.from.rank load rank;
+}

@@ -42,7 +42,7 @@ invariant_of-self c =
     let within : c.place-place.result < length rows = rw (← c.self.view_is) at c.place-place.ensures.within in
     row-replaced c.self.invariant c.place-place.result c.index_mut-row.result.now within c.index_mut-row.ensures.value
     c.index.result.now c.index.ensures
-    c.free.new.self c.relist.new.self c.entry-lighter.result (ap (λ (r : Row). r.node) c.free.ensures) c.relist.ensures c.entry-lighter.ensures.value
+    c.free.new.self c.relist.new.self c.entry_with_room-lighter.result (ap (λ (r : Row). r.node) c.free.ensures.freed) c.relist.ensures c.entry_with_room-lighter.ensures.value
 
 pub returns : goal.returns
 returns c =
@@ -50,5 +50,5 @@ returns c =
     let place = rw (← c.self.view_is) at c.place-place.ensures.value in
     let found = row_at-place rows c.args.node c.place-place.result c.index_mut-row.result.now place c.index_mut-row.ensures.value in
     let within = taken-within rows c.args.node c.args.slot c.index_mut-row.result.now found (rw (← c.self.view_is) at c.requires) in
-    rw (c.free.ensures, ← c.self.view_is)
+    rw (c.free.ensures.freed, ← c.self.view_is)
     (slots_of-free rows c.args.node c.index_mut-row.result.now c.place-place.result found place c.args.slot within)
