@@ -2,6 +2,7 @@
 use Rattle.std.proofs.Common.{◌≡◌, ◌≢◌, ℕ, zero, suc, ◌<◌, inl, inr, Bool, true, false, not, length, arith, lit<, ◌&&◌, ◌||◌, nat_lt, nat_eq, List, [], ◌∷◌, map, get_or, Option, Some, None, option_map, option_and_then, refl, sym, ap, ◌∙◌, subst}
 use Rattle.std.proofs.Math.Path.{fun_ext}
 use Rattle.std.specs.Int.{bit_at}
+use Rattle.std.specs.List.{list_any}
 use Rattle.std.proofs.lemmas.Bool.{cases_Bool, cases_lt, le-ltb, eq-eqb, eqb-true, eqb-false, ltb-true}
 use Rattle.std.proofs.lemmas.List.Folds.{list_any_at}
 use Rattle.std.proofs.lemmas.Nat.Bits.{bit_at_above, bit_at-zero}
@@ -43,6 +44,31 @@ pub renewed-kept : (online draining : NodeNo → Bool) (homes : List (Option Sea
 renewed-kept online draining homes l are some few =
     ap (λ (b : ℕ). record l { missing = record { bits = b } })
     (sym (bits_of-bits_set Wide l.missing.bits few) ∙ ap (bits_of Wide) (fun_ext (λ f. are.missing some f)))
+
+-- a row that needs no lease, and whose homes are all on nodes that are online, misses none
+module _ (online draining : NodeNo → Bool) (q : Row) (are : AreKept online draining q.homes q.losses) (bare : q.losses.needs.bits ≡ 0)
+    (stands : (n : NodeNo) → online n ≡ false → list_any (sits_on n) q.homes ≡ true → ⊥) where
+  home-stands : (f : ℕ) → nat_lt f 16 ≡ true → (home : Option Seat) → get_or q.homes f None ≡ home → is_missing online home ≡ false
+  home-stands f low None e =
+      let none : bits_set q.losses.needs.bits f ≡ false = rw (bare, bit_at-zero f) refl in
+      let need : bits_set q.losses.needs.bits f ≡ true = are.needs f ∙ rw (low, e) refl in
+      absurd (let clash : true ≡ false = sym need ∙ none in cc)
+  home-stands f low (Some seat) e = elim (cases_Bool (online seat.node)) [
+    | inl on ↦ rw on refl
+    | inr off ↦
+        let within : f < length q.homes = let few = ltb-true f 16 low in let long = q.sixteen in omega (arith, few, long) in
+        let sits : sits_on seat.node (get_or q.homes f None) ≡ true = ap (sits_on seat.node) e ∙ eq-eqb seat.node.value seat.node.value refl in
+        absurd (stands seat.node off (list_any_at (sits_on seat.node) q.homes f None within sits))
+  ]
+
+  pub none-missing : bits_of Wide (missing_of online q.homes) ≡ 0
+  none-missing = ap (bits_of Wide) (fun_ext (λ f. each f (nat_lt f 16) refl ∙ sym (zero-bit f))) ∙ bits_of-bits_set Wide 0 (lit< tt) where
+    zero-bit : (f : ℕ) → bits_set 0 f ≡ false
+    zero-bit f = rw (bit_at-zero f) refl
+
+    each : (f : ℕ) (b : Bool) → nat_lt f 16 ≡ b → missing_of online q.homes f ≡ false
+    each f true low = rw low (home-stands f low (get_or q.homes f None) refl)
+    each f false high = rw high refl
 
 -- ---- the rows
 
@@ -99,34 +125,16 @@ module _ (sites : Sited) (list : List (Option Row)) (kept : IsKept sites (rows_i
 
   -- a stripe that needs no lease is not at risk where all nodes of its homes are online
   module _ (s : StripeNo) (idle : is_needy (rows_in list s) ≡ false) (stands : (n : NodeNo) → sites.online n ≡ false → sites.on n s ≡ true → ⊥) where
-    module _ (q : Row) (there : rows_in list s ≡ Some q) where
-      bare : q.losses.needs.bits ≡ 0
-      bare = eqb-true _ _ (turned (nat_eq q.losses.needs.bits 0) (sym (ap is_needy there) ∙ idle)) where
-        turned : (b : Bool) → not b ≡ false → b ≡ true
-        turned true e = refl
-        turned false e = sym e
+    -- such a stripe misses nothing
+    bare : (q : Row) → rows_in list s ≡ Some q → q.losses.needs.bits ≡ 0
+    bare q there = eqb-true _ _ (turned (nat_eq q.losses.needs.bits 0) (sym (ap is_needy there) ∙ idle)) where
+      turned : (b : Bool) → not b ≡ false → b ≡ true
+      turned true e = refl
+      turned false e = sym e
 
-      home-stands : (f : ℕ) → nat_lt f 16 ≡ true → (home : Option Seat) → get_or q.homes f None ≡ home → is_missing sites.online home ≡ false
-      home-stands f low None e =
-          let none : bits_set q.losses.needs.bits f ≡ false = rw (bare, bit_at-zero f) refl in
-          let need : bits_set q.losses.needs.bits f ≡ true = (kept.losses s q there).needs f ∙ rw (low, e) refl in
-          absurd (let clash : true ≡ false = sym need ∙ none in cc)
-      home-stands f low (Some seat) e = elim (cases_Bool (sites.online seat.node)) [
-        | inl on ↦ rw on refl
-        | inr off ↦
-            let within : f < length q.homes = let few = ltb-true f 16 low in let long = q.sixteen in omega (arith, few, long) in
-            let sits : sits_on seat.node (get_or q.homes f None) ≡ true = ap (sits_on seat.node) e ∙ eq-eqb seat.node.value seat.node.value refl in
-            absurd (stands seat.node off (kept.listed seat.node s ∙ (ap (is_row_on seat.node) there ∙ list_any_at (sits_on seat.node) q.homes f None within sits)))
-      ]
-
-      none-missing : bits_of Wide (missing_of sites.online q.homes) ≡ 0
-      none-missing = ap (bits_of Wide) (fun_ext (λ f. each f (nat_lt f 16) refl ∙ sym (zero-bit f))) ∙ bits_of-bits_set Wide 0 (lit< tt) where
-        zero-bit : (f : ℕ) → bits_set 0 f ≡ false
-        zero-bit f = rw (bit_at-zero f) refl
-
-        each : (f : ℕ) (b : Bool) → nat_lt f 16 ≡ b → missing_of sites.online q.homes f ≡ false
-        each f true low = rw low (home-stands f low (get_or q.homes f None) refl)
-        each f false high = rw high refl
+    misses-none : (q : Row) → rows_in list s ≡ Some q → bits_of Wide (missing_of sites.online q.homes) ≡ 0
+    misses-none q there = none-missing sites.online sites.draining q (kept.losses s q there) (bare q there)
+        (λ n off any. stands n off (kept.listed n s ∙ (ap (is_row_on n) there ∙ any)))
 
     pub whole-is : (k : ℕ) → queued risk_rank (rows_in (freshened sites.online list)) k s ≡ false
     whole-is k = by (rows_in list s) refl where
@@ -135,7 +143,7 @@ module _ (sites : Sited) (list : List (Option Row)) (kept : IsKept sites (rows_i
 
       by : (o : Option Row) → rows_in list s ≡ o → queued risk_rank (rows_in (freshened sites.online list)) k s ≡ false
       by None none = ap ranked (freshened-absent sites.online list s none)
-      by (Some q) there = ap ranked (freshened-there sites.online list s q there) ∙ rw (none-missing q there) refl
+      by (Some q) there = ap ranked (freshened-there sites.online list s q there) ∙ rw (misses-none q there) refl
 
   -- all stripes at risk are among those that are on such a node, or have work
   pub at_risk-among : (found now : StripeNo → Bool) → ((n : NodeNo) (s : StripeNo) → sites.online n ≡ false → sites.on n s ≡ true → found s ≡ true)

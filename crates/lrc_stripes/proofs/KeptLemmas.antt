@@ -1,15 +1,14 @@
 -- What each change of a row keeps.
-use Rattle.std.proofs.Common.{◌≡◌, ◌≢◌, ℕ, zero, suc, ◌<◌, inl, inr, Bool, true, false, not, ◌&&◌, ◌||◌, if◌then◌else◌, nat_lt, List, [], ◌∷◌, length, get_or, set, replicate, Option, Some, None, is_some, is_none, arith, refl, sym, ap, ◌∙◌, subst}
+use Rattle.std.proofs.Common.{◌≡◌, ℕ, zero, suc, ◌<◌, inl, inr, Bool, true, false, not, ◌&&◌, ◌||◌, if◌then◌else◌, nat_lt, List, [], ◌∷◌, length, get_or, set, replicate, Option, Some, None, is_some, is_none, arith, refl, sym, ap, ◌∙◌, subst}
 use Rattle.std.specs.List.{list_any}
 use Rattle.std.proofs.lemmas.Bool.{cases_Bool, cases_eq, eq-eqb, ne_eqb, eqb-true, lt-ltb}
 use Rattle.std.proofs.lemmas.List.{get_or-set_same, get_or-set_other}
-use Rattle.std.proofs.lemmas.Nat.Bits.{bit_at-zero}
+use Rattle.std.proofs.lemmas.List.Folds.{list_any_at}
 use Rattle.std.proofs.lemmas.Option.{same_Some}
-use Rattle.lrc_code.specs.Losses.{bits_set}
 use Rattle.lrc_code.specs.declared.losses.LossMask.{LossMask}
 use Rattle.lrc_code.specs.declared.numbers.StripeNo.{StripeNo}
 use Rattle.lrc_code.specs.declared.numbers.NodeNo.{NodeNo}
-use Rattle.lrc_code.specs.Numbers.{same_stripe, same_node}
+use Rattle.lrc_code.specs.Numbers.{same_stripe}
 use Rattle.lrc_code.proofs.NumbersLemmas.{equal_stripes}
 use Rattle.lrc_topology.specs.declared.NodeInfo.{NodeInfo}
 use Rattle.lrc_topology.specs.declared.seat.Seat.{Seat}
@@ -19,7 +18,7 @@ use Rattle.lrc_stripes.specs.Rows.{sits_on, is_missing, is_to_move}
 use Rattle.lrc_stripes.specs.Sites.{Sited, first_sites}
 use Rattle.lrc_stripes.specs.Masks.{AreAll, AreWith, AreLosses, AreKept, renewed, IsFull, IsPut, IsMaskOf}
 use Rattle.lrc_stripes.specs.Kept.{IsKept, is_row_on}
-use Rattle.lrc_stripes.proofs.SitedLemmas.{same-turned, or-false}
+use Rattle.lrc_stripes.proofs.SitedLemmas.{or-false}
 use Rattle.lrc_stripes.proofs.FreshLemmas.{loosened, renewed-exact}
 
 -- ---- masks of homes
@@ -170,58 +169,41 @@ module _ (sites : Sited) (rows : StripeNo → Option Row) (kept : IsKept sites r
           (subst (λ (hs : List (Option Seat)). AreLosses sites.online sites.draining hs q.losses) (sym homes)
           (losses-with sites r.homes f home before q.losses low r.sixteen are with)))
 
-      -- where a fragment has no home, the masks are exact
-      exact : get_or r.homes f None ≡ None → AreLosses sites.online sites.draining r.homes r.losses
-      exact bare = record { homeless = here-losses.homeless; missing = here-losses.missing some; needs = here-losses.needs } where
-        some : r.losses.needs.bits ≢ 0
-        some empty =
-            let in_need : bits_set r.losses.needs.bits f ≡ true = here-losses.needs f ∙ rw (lt-ltb f 16 low, bare) refl in
-            let none : bits_set r.losses.needs.bits f ≡ false = rw (empty, bit_at-zero f) refl in
-            let clash : true ≡ false = sym in_need ∙ none in
-            cc
-
-      -- a home where there was none
-      pub kept-set_home : (seat : Seat) (after : StripeNo → Option Row) → get_or r.homes f None ≡ None → q.homes ≡ set r.homes f (Some seat) → AreWith sites f (Some seat) r.losses q.losses
+      -- another home, or none
+      pub kept-rehome : (home : Option Seat) (after : StripeNo → Option Row) → q.homes ≡ set r.homes f home → AreWith sites f home (renewed sites.online r.homes r.losses) q.losses
           → after ≡ (λ s. if same_stripe stripe s then Some q else rows s)
-          → IsKept (record sites { on = λ n s. (same_node seat.node n && same_stripe stripe s) || sites.on n s }) after
-      kept-set_home seat after bare homes with is = kept-put (Some q) (λ n s. (same_node seat.node n && same_stripe stripe s) || sites.on n s) after is
-          (rehomed (Some seat) r.losses (exact bare) homes with)
+          → IsKept (record sites {
+            on = λ n s. (same_stripe stripe s && sits_on n home)
+                || (not (same_stripe stripe s && (sits_on n (get_or r.homes f None) && not (is_row_on n (after stripe)))) && sites.on n s);
+          }) after
+      kept-rehome home after homes with is = kept-put (Some q)
+          (λ n s. (same_stripe stripe s && sits_on n home) || (not (same_stripe stripe s && (sits_on n (get_or r.homes f None) && not (is_row_on n (after stripe)))) && sites.on n s)) after is
+          (rehomed home (renewed sites.online r.homes r.losses) (renewed-exact sites.online sites.draining r.homes r.losses here-losses) homes with)
           (λ n s. elim (cases_Bool (same_stripe stripe s)) [
             | inl same ↦
-                let both = any-set (sits_on n) r.homes f (Some seat) many in
-                let none : (sits_on n (get_or r.homes f None) || list_any (sits_on n) (set r.homes f (Some seat))) ≡ list_any (sits_on n) (set r.homes f (Some seat)) =
-                ap (λ (h : Option Seat). sits_on n h || list_any (sits_on n) (set r.homes f (Some seat))) bare in
-                rw (same, here-on n s same) (first (same_node seat.node n) (list_any (sits_on n) r.homes) (same_node n seat.node) (same-turned seat.node.value n.value) ∙ both ∙ none ∙ ap (list_any (sits_on n)) (sym homes))
-            | inr other ↦ rw other (second (same_node seat.node n) (sites.on n s))
-          ])
-        where
-          first : (a b c : Bool) → a ≡ c → ((a && true) || b) ≡ (c || b)
-          first true b c e = ap (λ (x : Bool). x || b) e
-          first false b c e = ap (λ (x : Bool). x || b) e
-
-          second : (a b : Bool) → ((a && false) || b) ≡ b
-          second true b = refl
-          second false b = refl
-
-      -- no home any more
-      pub kept-clear_home : (after : StripeNo → Option Row) → q.homes ≡ set r.homes f None → AreWith sites f None (renewed sites.online r.homes r.losses) q.losses → after ≡ (λ s. if same_stripe stripe s then Some q else rows s)
-          → IsKept (record sites { on = λ n s. not (same_stripe stripe s && (sits_on n (get_or r.homes f None) && not (list_any (sits_on n) q.homes))) && sites.on n s }) after
-      kept-clear_home after homes with is =
-          kept-put (Some q) (λ n s. not (same_stripe stripe s && (sits_on n (get_or r.homes f None) && not (list_any (sits_on n) q.homes))) && sites.on n s) after is
-          (rehomed None (renewed sites.online r.homes r.losses) (renewed-exact sites.online sites.draining r.homes r.losses here-losses) homes with)
-          (λ n s. elim (cases_Bool (same_stripe stripe s)) [
-            | inl same ↦
-                let both : list_any (sits_on n) r.homes ≡ (sits_on n (get_or r.homes f None) || list_any (sits_on n) q.homes) =
-                any-set (sits_on n) r.homes f None many ∙ ap (λ (hs : List (Option Seat)). sits_on n (get_or r.homes f None) || list_any (sits_on n) hs) (sym homes) in
-                rw (same, here-on n s same, both) (left (sits_on n (get_or r.homes f None)) (list_any (sits_on n) q.homes))
+                rw (same, here-on n s same)
+                (turn (sits_on n home) (sits_on n (get_or r.homes f None)) (is_row_on n (after stripe)) (list_any (sits_on n) r.homes) (both n) (λ hit. on-after n ∙ there n hit) ∙ on-after n)
             | inr other ↦ rw other refl
           ])
         where
-          left : (a b : Bool) → (not (a && not b) && (a || b)) ≡ b
-          left true true = refl
-          left true false = refl
-          left false true = refl
-          left false false = refl
+          on-after : (n : NodeNo) → is_row_on n (after stripe) ≡ list_any (sits_on n) q.homes
+          on-after n = ap (is_row_on n) (ap (λ (rows : StripeNo → Option Row). rows stripe) is ∙ ap (λ (b : Bool). if b then Some q else rows stripe) (eq-eqb stripe.value stripe.value refl))
+
+          both : (n : NodeNo) → (sits_on n home || list_any (sits_on n) r.homes) ≡ (sits_on n (get_or r.homes f None) || is_row_on n (after stripe))
+          both n =
+              any-set (sits_on n) r.homes f home many
+              ∙ ap (λ (b : Bool). sits_on n (get_or r.homes f None) || b) (ap (list_any (sits_on n)) (sym homes) ∙ sym (on-after n))
+
+          there : (n : NodeNo) → sits_on n home ≡ true → list_any (sits_on n) q.homes ≡ true
+          there n hit =
+              list_any_at (sits_on n) q.homes f None (let all = q.sixteen in omega (arith, low, all))
+              (ap (sits_on n) (ap (λ (hs : List (Option Seat)). get_or hs f None) homes ∙ get_or-set_same r.homes f home None many) ∙ hit)
+
+          turn : (h a b o : Bool) → (h || o) ≡ (a || b) → (h ≡ true → b ≡ true) → (h || (not (a && not b) && o)) ≡ b
+          turn true a b o e hit = sym (hit refl)
+          turn false true true o e hit = e
+          turn false true false o e hit = refl
+          turn false false b o e hit = e
 
 -- ---- at first
 

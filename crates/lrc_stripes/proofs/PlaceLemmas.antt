@@ -1,5 +1,5 @@
 -- The places that are listed for a node are all its homes, in rising order.
-use Rattle.std.proofs.Common.{◌≡◌, ℕ, suc, ◌<◌, inl, inr, Bool, true, false, ltb, List, [], ◌∷◌, filter, Option, Some, None, IsTrue, arith, refl, sym, ap, ◌∙◌, subst}
+use Rattle.std.proofs.Common.{◌≡◌, ℕ, suc, ◌<◌, ◌≤◌, inl, inr, Bool, true, false, ltb, List, [], ◌∷◌, filter, get_or, Option, Some, None, IsTrue, arith, refl, sym, ap, ◌∙◌, subst}
 use Rattle.std.specs.List.{All, AllPairs, Contains, flat_map}
 use Rattle.std.specs.Option.{option_map_or}
 use Rattle.std.proofs.lemmas.Bool.{eq-eqb, lt-ltb, or_left, or_right, and_from}
@@ -14,7 +14,7 @@ use Rattle.lrc_code.specs.Codes.{fragments}
 use Rattle.lrc_code.specs.Numbers.{same_node}
 use Rattle.lrc_code.proofs.NumbersLemmas.{equal_fragments}
 use Rattle.lrc_stripes.specs.declared.row.Row.{Row}
-use Rattle.lrc_stripes.specs.Stored.{StripeFragment, comes_before, AreHomesOn}
+use Rattle.lrc_stripes.specs.Stored.{StripeFragment, comes_before, AreHomesOn, AreHomesOnFrom}
 use Rattle.lrc_stripes.specs.Sets.{members_from}
 use Rattle.lrc_stripes.specs.Sites.{SiteTable, sited}
 use Rattle.lrc_stripes.specs.Tables.{stored_in, rows_in, row_homes}
@@ -22,7 +22,7 @@ use Rattle.lrc_stripes.specs.Rows.{sits_on, sits_at}
 use Rattle.lrc_stripes.specs.Kept.{IsKept, is_row_on, row_places, places_from}
 use Rattle.lrc_stripes.proofs.ListLemmas.{AllPairs-map, AllPairs-append, Contains-cons_cases, Contains-filter, Contains-map}
 use Rattle.lrc_stripes.proofs.MaskLemmas.{fragment-number}
-use Rattle.lrc_stripes.proofs.MemberLemmas.{IsLower, members-all, members-rising}
+use Rattle.lrc_stripes.proofs.MemberLemmas.{IsLower, members-among, members-all, members-rising}
 
 -- ---- fragments
 
@@ -75,17 +75,17 @@ module _ (n : NodeNo) (rows : StripeNo → Option Row) where
       AllPairs-map Rises (λ f. let p : StripeFragment = (s, f) in p) (filter (sits_at n r.homes) (fragments Wide))
       (AllPairs-filter among (sits_at n r.homes) (fragments Wide) each)
 
+  -- what holds of the stripes holds of those of the places
+  places-of : (P : StripeNo → Type 0) (xs : List StripeNo) → All P xs → All (λ (p : StripeFragment). P p.0) (places xs)
+  places-of P [] all = All-nil (λ (p : StripeFragment). P p.0)
+  places-of P (x ∷ xs) all =
+      All-append (λ (p : StripeFragment). P p.0) (row_places n 0 x (rows x)) (places xs)
+      (All-weaker (IsOwn x) (λ (p : StripeFragment). P p.0) (λ p is. subst P (sym is.0) (all 0 x (omega arith))) (row_places n 0 x (rows x)) (own x))
+      (places-of P xs (λ i d within. all (suc i) d (omega (arith, within))))
+
   -- a place of a stripe with a higher number
   abbrev IsHigher : StripeNo → StripeFragment → Type 0
   IsHigher s p = s.value < p.0.value
-
-  places-higher : (s : StripeNo) (xs : List StripeNo) → All (IsLower s) xs → All (IsHigher s) (places xs)
-  places-higher s [] all = All-nil (IsHigher s)
-  places-higher s (x ∷ xs) all =
-      let first : s.value < x.value = all 0 x (omega arith) in
-      All-append (IsHigher s) (row_places n 0 x (rows x)) (places xs)
-      (All-weaker (IsOwn x) (IsHigher s) (λ p is. subst (λ (y : StripeNo). s.value < y.value) (sym is.0) first) (row_places n 0 x (rows x)) (own x))
-      (places-higher s xs (λ i d within. all (suc i) d (omega (arith, within))))
 
   places-rise : (xs : List StripeNo) → AllPairs IsLower xs → AllPairs Rises (places xs)
   places-rise [] all = λ i j d below within. absurd (omega (arith, within))
@@ -95,7 +95,7 @@ module _ (n : NodeNo) (rows : StripeNo → Option Row) where
       (All-weaker (IsOwn x) (λ p. All (Rises p) (places xs))
       (λ p is. All-weaker (IsHigher x) (Rises p)
       (λ q higher. or_left _ _ (lt-ltb _ _ (subst (λ (y : StripeNo). y.value < q.0.value) (sym is.0) higher)))
-      (places xs) (places-higher x xs (λ j d within. all 0 (suc j) d (omega arith) (omega (arith, within)))))
+      (places xs) (places-of (IsLower x) xs (λ j d within. all 0 (suc j) d (omega arith) (omega (arith, within)))))
       (row_places n 0 x (rows x)) (own x))
 
   places-on : (xs : List StripeNo) → All (λ p. on_node p ≡ true) (places xs)
@@ -131,16 +131,39 @@ module _ (n : NodeNo) (rows : StripeNo → Option Row) where
 
 -- ---- of a store
 
-pub are_homes : (sites : SiteTable) (rows : List (Option Row)) (spare : ℕ) → IsKept (sited sites) (rows_in rows) → (n : NodeNo)
-    → AreHomesOn (stored_in (record { sites = sites.list; rows = rows; spare = spare })) n (places_from n (rows_in rows) ((sited sites).on n) 0)
-unfolding stored_in
-are_homes sites rows spare kept n =
-    let set = (sited sites).on n in
-    record {
-      rising = places-rise n (rows_in rows) (members_from set 0) (members-rising set 0);
-      each = λ p. (
-        λ among. All-contains (λ q. on_node n (rows_in rows) q ≡ true) (places n (rows_in rows) (members_from set 0)) p (places-on n (rows_in rows) (members_from set 0)) among,
-        λ on. places-list n (rows_in rows) (members_from set 0) p.0 p.1 on
-            (members-all set 0 p.0 (kept.listed n p.0 ∙ on-row n (rows_in rows) p.0 p.1 (rows_in rows p.0) refl on) (omega arith)),
-      );
-    }
+-- the homes on a node of the stripes from a number on
+module _ (sites : SiteTable) (rows : List (Option Row)) (spare : ℕ) (kept : IsKept (sited sites) (rows_in rows)) (n : NodeNo) where
+  abbrev listed : ℕ → List StripeFragment
+  listed from = places_from n (rows_in rows) ((sited sites).on n) from
+
+  abbrev set_on : StripeNo → Bool
+  set_on = (sited sites).on n
+
+  listed-rise : (from : ℕ) → AllPairs Rises (listed from)
+  listed-rise from = places-rise n (rows_in rows) (members_from set_on from) (members-rising set_on from)
+
+  listed-on : (from : ℕ) (p : StripeFragment) → Contains (listed from) p → on_node n (rows_in rows) p ≡ true
+  listed-on from p among =
+      All-contains (λ q. on_node n (rows_in rows) q ≡ true) (listed from) p (places-on n (rows_in rows) (members_from set_on from)) among
+
+  listed-later : (from : ℕ) (p : StripeFragment) → Contains (listed from) p → from ≤ p.0.value
+  listed-later from p among =
+      let stripes = members_from set_on from in
+      All-contains (λ (q : StripeFragment). from ≤ q.0.value) (listed from) p
+      (places-of n (rows_in rows) (λ s. from ≤ s.value) stripes (λ i d within. (members-among set_on from (get_or stripes i d) (Contains-get_or stripes i d within)).1)) among
+
+  listed-all : (from : ℕ) (p : StripeFragment) → on_node n (rows_in rows) p ≡ true → from ≤ p.0.value → Contains (listed from) p
+  listed-all from p on later =
+      places-list n (rows_in rows) (members_from set_on from) p.0 p.1 on
+      (members-all set_on from p.0 (kept.listed n p.0 ∙ on-row n (rows_in rows) p.0 p.1 (rows_in rows p.0) refl on) later)
+
+  pub are_homes : AreHomesOn (stored_in (record { sites = sites.list; rows = rows; spare = spare })) n (listed 0)
+  unfolding stored_in
+  are_homes = record { rising = listed-rise 0; each = λ p. (listed-on 0 p, λ on. listed-all 0 p on (omega arith)) }
+
+  pub are_homes_from : (first : StripeNo) → AreHomesOnFrom (stored_in (record { sites = sites.list; rows = rows; spare = spare })) n first (listed first.value)
+  unfolding stored_in
+  are_homes_from first = record {
+    rising = listed-rise first.value;
+    each = λ p. (λ among. (listed-on first.value p among, listed-later first.value p among), λ is. listed-all first.value p is.0 is.1);
+  }

@@ -187,10 +187,7 @@ module _ (old new : SiteTable) (list list' : List (Option Row)) (spare : ℕ) (k
         (same-of ((sited old).on n) (IsMissingOn n b) rows rows' offline-renewed row_homes (λ q r gives. ap (λ (hs : List (Option Seat)). λ (f : ℕ). get_or hs f None) gives.homes))
         ∙ ap (λ (s : Stored). with_offline s n b) (sym (stored_of-sited old list spare))))
 
-  module _ (is : sited new ≡ record (sited old) { draining = λ m. cond (same_node n m) b ((sited old).draining m) }) (renewed : AreRenewed ((sited new).on n) (IsToMoveOn (sited new).online n b) rows rows') where
-    draining-renewed : AreRenewed ((sited old).on n) (IsToMoveOn (sited old).online n b) rows rows'
-    draining-renewed = subst (λ (s : Sited). AreRenewed (s.on n) (IsToMoveOn s.online n b) rows rows') is renewed
-
+  module _ (is : sited new ≡ record (sited old) { draining = λ m. cond (same_node n m) b ((sited old).draining m) }) (draining-renewed : AreRenewed ((sited old).on n) (IsToMoveOn (sited old).online n b) rows rows') where
     abbrev draining' : NodeNo → Bool
     draining' m = cond (same_node n m) b ((sited old).draining m)
 

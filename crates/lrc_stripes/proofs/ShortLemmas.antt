@@ -22,7 +22,7 @@ use Rattle.lrc_stripes.specs.Masks.{rank_of}
 use Rattle.lrc_stripes.specs.Looming.{is_needy, is_scattered}
 use Rattle.lrc_stripes.proofs.RankLemmas.{rank_by-few}
 use Rattle.lrc_stripes.proofs.SiteLemmas.{online-own}
-use Rattle.lrc_stripes.proofs.SitedLemmas.{or-false}
+use Rattle.lrc_stripes.proofs.SitedLemmas.{or-false, offline-all}
 
 -- ---- sets joined in turn
 
@@ -233,3 +233,24 @@ few-scattered sites sets numbers t view offline are few =
     let was : offline ≡ count_by (λ x. x.is_offline) sites = are.counted in
     sym (le-ltb 1 (counted (sited t) s sites) (omega (arith, within, was, few))))
     ∙ scattered-nodes sites sets t view
+
+-- where none of them passes the test, none passes it and another
+none-both : (p q : Site → Bool) (xs : List Site) → count_by p xs ≡ 0 → list_any (λ x. p x && q x) xs ≡ false
+none-both p q [] none = refl
+none-both p q (x ∷ xs) none =
+    let parts : cond (p x) 1 0 + count_by p xs ≡ 0 = sym (sum_by-cons (λ (y : Site). cond (p y) 1 0) x xs) ∙ none in
+    elim (cases_Bool (p x)) [
+      | inl hit ↦ absurd (let one : 1 + count_by p xs ≡ 0 = rw hit at parts in omega (arith, one))
+      | inr miss ↦ rw miss (none-both p q xs (omega (arith, parts)))
+    ]
+
+-- where no node is offline, each that has a stripe is online
+pub none-offline : (sites : List Site) (sets : List (List Bool)) (numbers : List NodeNo) (t : SiteTable) (view : ◌≡◌ {A = SiteTable} (record { list = sites; stripes = sets }) t)
+    (offline : ℕ) → AreSites sites sets numbers offline → offline ≡ 0 → (n : NodeNo) (s : StripeNo) → (sited t).on n s ≡ true → (sited t).online n ≡ true
+none-offline sites sets numbers t view offline are zero n s on = elim (cases_Bool ((sited t).online n)) [
+  | inl up ↦ up
+  | inr off ↦
+      let hit = offline-all sites sets t view are.long n s off on in
+      let none = none-both (λ x. x.is_offline) (λ x. (sited t).on x.node.number s) sites (sym are.counted ∙ zero) in
+      absurd (let clash : true ≡ false = sym hit ∙ none in cc)
+]

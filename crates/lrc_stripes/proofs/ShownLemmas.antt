@@ -1,6 +1,5 @@
 -- What is shown of one stripe of a store.
-use Rattle.std.proofs.Common.{◌≡◌, ◌≢◌, ℕ, ◌<◌, List, map, get_or, length, Option, Some, None, true, false, subst, zero-add, refl, sym, ap, ◌∙◌}
-use Rattle.std.proofs.Math.Path.{fun_ext}
+use Rattle.std.proofs.Common.{◌≡◌, ℕ, ◌<◌, List, map, get_or, length, Option, Some, None, true, false, subst, zero-add, refl, sym, ap, ◌∙◌}
 use Rattle.std.proofs.lemmas.List.{ext_get_or}
 use Rattle.std.proofs.lemmas.List.FromFn.{get_or-map-range_with_len}
 use Rattle.lrc_code.specs.declared.codes.Code.TheVariants.{Wide}
@@ -47,11 +46,6 @@ module _ (sites : SiteTable) (rows : List (Option Row)) (spare : ℕ) (kept : Is
   pub missing_shown-there : (r : Row) → rows_in rows s ≡ Some r → missing_shown store s ≡ Some (renewed (sited sites).online r.homes r.losses).missing
   unfolding stored_in missing_if sited
   missing_shown-there r found = rw found refl
-
-  -- where a fragment needs a lease, by the mask that is kept
-  pub missing_shown-kept : (r : Row) → r.losses.missing.bits < 65536 → r.losses.needs.bits ≢ 0 → rows_in rows s ≡ Some r → missing_shown store s ≡ Some r.losses.missing
-  unfolding stored_in missing_if sited
-  missing_shown-kept r few some found = rw found (shown-mask r.losses.missing _ few (fun_ext (λ f. (kept.losses s r found).missing some f)))
 
   pub level_shown-none : rows_in rows s ≡ None → level_shown store s ≡ None
   unfolding stored_in level_if

@@ -1,5 +1,5 @@
 -- What a change of a row changes in what the rows stand for.
-use Rattle.std.proofs.Common.{◌≡◌, ℕ, zero, suc, ◌+◌, ◌-◌, ◌<◌, inl, inr, Bool, true, false, not, ◌&&◌, ◌||◌, if◌then◌else◌, nat_eq, nat_lt, List, [], ◌∷◌, length, map, take, get_or, set, replicate, Option, Some, None, is_some, refl, sym, ap, ap₂, ◌∙◌}
+use Rattle.std.proofs.Common.{◌≡◌, ℕ, zero, suc, ◌+◌, ◌-◌, ◌<◌, inl, inr, Bool, true, false, not, ◌&&◌, ◌||◌, if◌then◌else◌, nat_eq, nat_lt, List, [], ◌∷◌, length, map, take, get_or, set, replicate, Option, Some, None, IfSome, is_some, refl, sym, ap, ap₂, ◌∙◌}
 use mathlib.Core.Bool.{beq}
 use Rattle.std.proofs.Math.Path.{fun_ext}
 use Rattle.std.specs.List.{slice_get}
@@ -15,8 +15,9 @@ use Rattle.lrc_code.specs.Numbers.{same_stripe, same_node}
 use Rattle.lrc_code.proofs.NumbersLemmas.{equal_stripes, equal_nodes}
 use Rattle.lrc_topology.specs.declared.NodeInfo.{NodeInfo}
 use Rattle.lrc_topology.specs.declared.seat.Seat.{Seat}
+use Rattle.lrc_topology.specs.Nodes.{node_at}
 use Rattle.lrc_stripes.specs.declared.row.Row.{Row}
-use Rattle.lrc_stripes.specs.Stored.{Stored, empty, with_stripe, with_homes, without_stripe, with_home, with_offline, with_offline_all, with_draining, with_spare}
+use Rattle.lrc_stripes.specs.Stored.{Stored, has_node, has_slot, empty, with_stripe, with_homes, without_stripe, with_home, with_offline, with_offline_all, with_draining, with_spare}
 use Rattle.lrc_stripes.specs.Sites.{Sited, first_sites}
 use Rattle.lrc_stripes.specs.Tables.{row_homes}
 use Rattle.lrc_stripes.proofs.SitedLemmas.{flags-more}
@@ -164,3 +165,7 @@ offline-more t nodes i d b within = ap (λ (o : NodeNo → Bool). record t { onl
 pub slot-known : (o : Option NodeInfo) (slot : ℕ) → option_map_or (λ n. nat_lt slot n.slots) o false ≡ true → is_some o ≡ true
 slot-known None slot e = absurd (let f : false ≡ true = e in cc)
 slot-known (Some n) slot e = refl
+
+pub seat-known : (nodes : List NodeInfo) (home : Option Seat) → IfSome home (λ seat. has_slot nodes seat ≡ true) → IfSome home (λ seat. has_node nodes seat.node ≡ true)
+seat-known nodes None slot = slot
+seat-known nodes (Some seat) slot = slot-known (node_at nodes seat.node) seat.slot slot

@@ -55,9 +55,9 @@ pub record IsWithLosses (given : Losses) (before after : Row) : Type 0 where
   pub homes : after.homes ≡ before.homes
   pub losses : after.losses ≡ given
 
--- the row where a fragment has this home, with these losses
-pub record IsSeated (f : ℕ) (seat : Seat) (given : Losses) (before after : Row) : Type 0 where
-  pub homes : after.homes ≡ set before.homes f (Some seat)
+-- the row where a fragment has this home or none, with these losses
+pub record IsRehomed (f : ℕ) (home : Option Seat) (given : Losses) (before after : Row) : Type 0 where
+  pub homes : after.homes ≡ set before.homes f home
   pub losses : after.losses ≡ given
 
 -- the row where the fragments with a home on the node are missing or not, as told, if it has work

@@ -1,5 +1,5 @@
 -- What a store of stripes is: which stripes there are, the homes of their fragments, and the nodes that are online or draining.
-use Rattle.std.specs.Prelude.{◌≡◌, ◌≢◌, ℕ, ◌-◌, Bool, false, not, ◌&&◌, ◌||◌, if◌then◌else◌, nat_lt, nat_eq, List, Option, Some, None, is_some, IsTrue, IsFalse, ◌↔◌}
+use Rattle.std.specs.Prelude.{◌≡◌, ◌≢◌, ℕ, ◌-◌, ◌≤◌, Bool, false, not, ◌&&◌, ◌||◌, if◌then◌else◌, nat_lt, nat_eq, List, Option, Some, None, is_some, IsTrue, IsFalse, ◌↔◌}
 use Rattle.std.specs.List.{Contains, AllPairs, list_any, slice_get}
 use Rattle.std.specs.Option.{option_map_or}
 use Rattle.lrc_code.specs.declared.codes.Code.{Code}
@@ -157,3 +157,8 @@ comes_before p q = nat_lt p.0.value q.0.value || (same_stripe p.0 q.0 && nat_lt 
 pub record AreHomesOn (t : Stored) (n : NodeNo) (places : List StripeFragment) : Type 0 where
   pub rising : AllPairs (λ p q. IsTrue (comes_before p q)) places
   pub each : (p : StripeFragment) → Contains places p ↔ IsTrue (is_home_on t n p)
+
+-- these are the fragments with a home on the node of the stripes from this one on, in rising order
+pub record AreHomesOnFrom (t : Stored) (n : NodeNo) (first : StripeNo) (places : List StripeFragment) : Type 0 where
+  pub rising : AllPairs (λ p q. IsTrue (comes_before p q)) places
+  pub each : (p : StripeFragment) → Contains places p ↔ (IsTrue (is_home_on t n p) × (first.value ≤ p.0.value))

@@ -9,7 +9,8 @@ use crate::sites::Sites;
 use lrc_code::{Fragment, NodeNo, StripeNo};
 use std::marker::Model;
 
-/// The fragments with a home on one node, in rising order of stripe and fragment.
+/// The fragments with a home on one node, of all stripes or of those from a number on, in rising order of stripe and
+/// fragment.
 #[derive(Drop)]
 pub struct HomesOn<'a> {
     sites: &'a Sites,
@@ -38,9 +39,9 @@ impl<'a> Model for HomesOn<'a> {
 }
 
 impl<'a> HomesOn<'a> {
-    /// The fragments of the rows whose homes are on the node.
-    pub(crate) fn new(sites: &'a Sites, rows: &'a Rows, node: NodeNo) -> HomesOn<'a>
-        ensures { result ≡ places_from node (rows_in rows.now) ((sited sites.now).on node) 0 }
+    /// The fragments whose homes are on the node, of the rows of the stripes from this number on.
+    pub(crate) fn new(sites: &'a Sites, rows: &'a Rows, node: NodeNo, from: usize) -> HomesOn<'a>
+        ensures { result ≡ places_from node (rows_in rows.now) ((sited sites.now).on node) from }
     {
         HomesOn {
             sites,
@@ -48,7 +49,7 @@ impl<'a> HomesOn<'a> {
             node,
             stripe: None,
             next: 0,
-            from: 0,
+            from,
         }
     }
 }

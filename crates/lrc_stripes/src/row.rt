@@ -1,15 +1,17 @@
-ghost use Rattle.std.specs.Prelude.{◌≡◌, ◌≤◌, length, set, map, replicate, find, drop, None, Some};
+ghost use Rattle.std.specs.Prelude.{◌≡◌, ◌≤◌, length, map, replicate, find, drop, true, None, Some};
 ghost use Rattle.std.specs.List.{list_any};
 ghost use Rattle.lrc_code.specs.declared.codes.Code.TheVariants.{Wide};
 ghost use Rattle.lrc_code.specs.Codes.{fragments};
 ghost use Rattle.lrc_stripes.specs.Rows.{sits_on, sits_at, is_on_seat};
 ghost use Rattle.lrc_stripes.specs.Sites.{sited};
-ghost use Rattle.lrc_stripes.specs.Masks.{AreAll, AreKept, AreWith, IsPutOn, renewed};
+ghost use Rattle.lrc_stripes.specs.Masks.{AreAll, AreKept, IsPutOn, renewed};
+ghost use Rattle.lrc_code.specs.declared.numbers.NodeNo.{NodeNo as AnyNode};
+ghost use Rattle.lrc_code.specs.declared.numbers.StripeNo.{StripeNo as AnyStripe};
 
 use crate::losses::Losses;
 use crate::sites::Sites;
 use crate::{Seat, masks};
-use lrc_code::{Fragment, NodeNo};
+use lrc_code::{Fragment, LossMask, NodeNo};
 
 /// The homes of a stripe's fragments, and what follows from them.
 #[derive(Clone, Copy)]
@@ -43,18 +45,6 @@ impl Row {
         Row { homes, losses }
     }
 
-    /// The same, where a fragment has this home or none.
-    pub(crate) fn with_home(self, sites: &Sites, fragment: Fragment, home: Option<Seat>) -> Row
-        requires { AreKept (sited sites.now).online (sited sites.now).draining self.homes self.losses }
-        ensures homes { result.homes ≡ set self.homes fragment.value home }
-        ensures losses { AreWith (sited sites.now) fragment.value home (renewed (sited sites.now).online self.homes self.losses) result.losses }
-    {
-        let mut row = self;
-        row.homes[fragment.value as usize] = home;
-        row.losses = self.losses_kept(sites).with_home(sites, fragment, home);
-        row
-    }
-
     /// Its losses, where the mask of the missing fragments is as its homes are.
     pub(crate) fn losses_now(&self, sites: &Sites) -> Losses
         ensures { result ≡ renewed (sited sites.now).online self.now.homes self.now.losses }
@@ -64,17 +54,34 @@ impl Row {
         losses
     }
 
-    /// The same of a row whose masks are those that are kept: where it has work, they are so already.
-    fn losses_kept(&self, sites: &Sites) -> Losses
-        requires { AreKept (sited sites.now).online (sited sites.now).draining self.now.homes self.now.losses }
+    /// The same of a row whose masks are those that are kept: where it has work, they are so already. Nodes with a home
+    /// of it have a stripe.
+    pub(crate) fn losses_kept(&self, sites: &Sites) -> Losses
+        requires kept { AreKept (sited sites.now).online (sited sites.now).draining self.now.homes self.now.losses }
+        requires stands { (n : AnyNode) → list_any (sits_on n) self.now.homes ≡ true → (s : AnyStripe) × ((sited sites.now).on n s ≡ true) }
         ensures { result ≡ renewed (sited sites.now).online self.now.homes self.now.losses }
     {
         if self.losses.needs.bits == 0 {
-            return self.losses_now(sites);
+            return self.losses_idle(sites);
         }
         let mut losses = self.losses;
         losses.missing = self.losses.missing();
         losses
+    }
+
+    /// The same of a row without work: none is missing where all nodes are online.
+    fn losses_idle(&self, sites: &Sites) -> Losses
+        requires kept { AreKept (sited sites.now).online (sited sites.now).draining self.now.homes self.now.losses }
+        requires stands { (n : AnyNode) → list_any (sits_on n) self.now.homes ≡ true → (s : AnyStripe) × ((sited sites.now).on n s ≡ true) }
+        requires idle { self.now.losses.needs.bits ≡ 0 }
+        ensures { result ≡ renewed (sited sites.now).online self.now.homes self.now.losses }
+    {
+        if sites.are_all_online() {
+            let mut losses = self.losses;
+            losses.missing = LossMask::from_bits(0);
+            return losses;
+        }
+        self.losses_now(sites)
     }
 
     /// Its losses, where the fragments with a home on the node are missing or not, as told.
@@ -94,11 +101,13 @@ impl Row {
 
     /// Its losses as its homes are, where the fragments with a home on the node need a lease or not, as told.
     pub(crate) fn with_needs(&self, sites: &Sites, node: NodeNo, are_to_move: bool) -> Losses
+        requires kept { AreKept (sited sites.now).online (sited sites.now).draining self.now.homes self.now.losses }
+        requires stands { (n : AnyNode) → list_any (sits_on n) self.now.homes ≡ true → (s : AnyStripe) × ((sited sites.now).on n s ≡ true) }
         ensures homeless { result.homeless ≡ self.now.losses.homeless }
         ensures missing { result.missing ≡ (renewed (sited sites.now).online self.now.homes self.now.losses).missing }
         ensures needs { IsPutOn node are_to_move self.now.homes self.now.losses.needs result.needs }
     {
-        let mut losses = self.losses_now(sites);
+        let mut losses = self.losses_kept(sites);
         losses.needs = masks::put(
             losses.needs,
             masks::fragments_on(&self.homes, node),
@@ -111,7 +120,13 @@ impl Row {
     pub(crate) fn is_on(&self, node: NodeNo) -> bool
         ensures { result ≡ list_any (sits_on node) self.now.homes }
     {
-        self.homes.iter().any(|home| masks::is_on(*home, node))
+        let mut found = false;
+        for home in self.homes {
+            if masks::is_on(home, node) {
+                found = true;
+            }
+        }
+        found
     }
 
     /// Whether one of the homes is on the seat.

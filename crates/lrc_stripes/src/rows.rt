@@ -9,7 +9,7 @@ ghost use Rattle.lrc_stripes.specs.Sets.{FindsNext, has};
 ghost use Rattle.lrc_stripes.specs.Looming.{is_needy};
 ghost use Rattle.lrc_stripes.specs.Sites.{sited};
 ghost use Rattle.lrc_stripes.specs.Tables.{rows_in};
-ghost use Rattle.lrc_stripes.specs.Kept.{Covers, IsKept, queue_from, queued, needs_of, freshened, level_in, holds, AreRenewed, IsRenewed, IsWithLosses, IsSeated, IsMissingOn, IsToMoveOn};
+ghost use Rattle.lrc_stripes.specs.Kept.{Covers, IsKept, queue_from, queued, needs_of, freshened, level_in, is_row_on, holds, AreRenewed, IsRenewed, IsWithLosses, IsRehomed, IsMissingOn, IsToMoveOn};
 
 use crate::losses::Losses;
 use crate::queue::{Queue, RANKS};
@@ -100,22 +100,32 @@ impl Rows {
         self.work.relist(stripe, before, after);
     }
 
-    /// Gives a fragment of a stripe, if the stripe is there, this home, and the stripe these losses.
+    /// Gives a fragment of a stripe, if the stripe is there, this home or none, and the stripe these losses.
     pub(crate) fn set_home(
         &mut self,
         stripe: StripeNo,
         fragment: Fragment,
-        seat: Seat,
+        home: Option<Seat>,
         losses: Losses,
     )
-        ensures { AreRenewed (same_stripe stripe) (IsSeated fragment.value seat losses) (rows_in self.old) (rows_in self.new) }
+        ensures { AreRenewed (same_stripe stripe) (IsRehomed fragment.value home losses) (rows_in self.old) (rows_in self.new) }
     {
         let before = work_rank(self.get(stripe));
         let place = &mut self.list[stripe.value as usize];
-        put_home(place, fragment, seat, losses);
+        put_home(place, fragment, home, losses);
         self.needs[stripe.value as usize] = needs_of(place.as_ref());
         let after = work_rank(place.as_ref());
         self.work.relist(stripe, before, after);
+    }
+
+    /// Whether one of a stripe's fragments has its home on the node.
+    pub(crate) fn is_on(&self, stripe: StripeNo, node: NodeNo) -> bool
+        ensures { result ≡ is_row_on node (rows_in self.now stripe) }
+    {
+        match self.get(stripe) {
+            Some(row) => row.is_on(node),
+            None => false,
+        }
     }
 
     /// Whether one of a stripe's fragments has its home on the seat.
@@ -153,6 +163,7 @@ impl Rows {
 
     /// Sets whether the fragments with a home on the node need a lease.
     pub(crate) fn renew_needs(&mut self, sites: &Sites, node: NodeNo, are_to_move: bool)
+        requires { IsKept (sited sites.now) (rows_in self.old) }
         ensures { AreRenewed ((sited sites.now).on node) (IsToMoveOn (sited sites.now).online node are_to_move) (rows_in self.old) (rows_in self.new) }
     {
         let mut from = 0;
@@ -276,12 +287,12 @@ fn put_losses(row: &mut Option<Row>, losses: Losses)
     }
 }
 
-/// Gives a fragment of a row, if there is one, this home, and the row these losses.
-fn put_home(row: &mut Option<Row>, fragment: Fragment, seat: Seat, losses: Losses)
-    ensures { IsRenewed (IsSeated fragment.value seat losses) row.old row.new }
+/// Gives a fragment of a row, if there is one, this home or none, and the row these losses.
+fn put_home(row: &mut Option<Row>, fragment: Fragment, home: Option<Seat>, losses: Losses)
+    ensures { IsRenewed (IsRehomed fragment.value home losses) row.old row.new }
 {
     if let Some(row) = row {
-        row.homes[fragment.value as usize] = Some(seat);
+        row.homes[fragment.value as usize] = home;
         row.losses = losses;
     }
 }

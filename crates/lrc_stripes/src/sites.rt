@@ -1,4 +1,4 @@
-ghost use Rattle.std.specs.Prelude.{◌≡◌, ◌&&◌, ◌||◌, not, true, false, if◌then◌else◌, map, Some, IfOk, IfErr, IsTrue, ◌+◌, ◌^◌, ◌<◌, ◌≤◌, cond};
+ghost use Rattle.std.specs.Prelude.{◌≡◌, ◌&&◌, ◌||◌, not, true, false, if◌then◌else◌, map, Some, IfOk, IfErr, IfSome, IsTrue, ◌+◌, ◌^◌, ◌<◌, ◌≤◌, cond};
 ghost use Rattle.std.specs.List.{All, list_any};
 ghost use Rattle.lrc_code.specs.Numbers.{same_stripe, same_node, same_upgrade};
 ghost use Rattle.lrc_code.specs.declared.numbers.NodeNo.{NodeNo as AnyNode};
@@ -9,11 +9,14 @@ ghost use Rattle.lrc_stripes.specs.Stored.{has_node};
 ghost use Rattle.lrc_stripes.specs.Sets.{FindsNext, has};
 ghost use Rattle.lrc_stripes.specs.Rows.{sits_on};
 ghost use Rattle.lrc_stripes.specs.Sites.{sited, first_sites, IsPlaceOf};
+ghost use Rattle.lrc_stripes.specs.Tables.{rows_in};
+ghost use Rattle.lrc_stripes.specs.Kept.{is_row_on};
 ghost use Rattle.lrc_stripes.specs.Looming.{is_scattered};
 ghost use Rattle.lrc_stripes.specs.Masks.{AreLosses};
 
 use crate::losses::Losses;
 use crate::row::Row;
+use crate::rows::Rows;
 use crate::site::Site;
 use crate::stripe_set::StripeSet;
 use crate::{Seat, masks};
@@ -129,7 +132,7 @@ impl Sites {
     }
 
     /// Puts a stripe among those with a home on the node.
-    pub(crate) fn insert(&mut self, number: NodeNo, stripe: StripeNo)
+    fn insert(&mut self, number: NodeNo, stripe: StripeNo)
         requires { IsTrue (has_node (sited self.old).nodes number) }
         ensures { sited self.new ≡ record (sited self.old) { on = λ n s. (same_node number n && same_stripe stripe s) || (sited self.old).on n s } }
     {
@@ -179,7 +182,7 @@ impl Sites {
     }
 
     /// Takes a stripe from those with a home on the node.
-    pub(crate) fn remove(&mut self, number: NodeNo, stripe: StripeNo)
+    fn remove(&mut self, number: NodeNo, stripe: StripeNo)
         ensures { sited self.new ≡ record (sited self.old) { on = λ n s. not (same_node number n && same_stripe stripe s) && (sited self.old).on n s } }
     {
         if let Some(place) = self.place(number) {
@@ -199,14 +202,24 @@ impl Sites {
         }
     }
 
-    /// Takes a stripe off the node of a former home, where it has no other home.
-    pub(crate) fn unseat(&mut self, stripe: StripeNo, home: Option<Seat>, left: &Row)
-        ensures { sited self.new ≡ record (sited self.old) { on = λ n s. not (same_stripe stripe s && (sits_on n home && not (list_any (sits_on n) left.now.homes))) && (sited self.old).on n s } }
+    /// Takes a stripe off the node of a former home, where its row has no home.
+    pub(crate) fn unseat(&mut self, stripe: StripeNo, former: Option<Seat>, rows: &Rows)
+        ensures { sited self.new ≡ record (sited self.old) { on = λ n s. not (same_stripe stripe s && (sits_on n former && not (is_row_on n (rows_in rows.now stripe)))) && (sited self.old).on n s } }
     {
-        if let Some(seat) = home {
-            if !left.is_on(seat.node) {
+        if let Some(seat) = former {
+            if !rows.is_on(stripe, seat.node) {
                 self.remove(seat.node, stripe);
             }
+        }
+    }
+
+    /// Puts a stripe among those with a home on the node of this one, if it is one.
+    pub(crate) fn seat(&mut self, stripe: StripeNo, home: Option<Seat>)
+        requires { IfSome home (λ seat. IsTrue (has_node (sited self.old).nodes seat.node)) }
+        ensures { sited self.new ≡ record (sited self.old) { on = λ n s. (same_stripe stripe s && sits_on n home) || (sited self.old).on n s } }
+    {
+        if let Some(seat) = home {
+            self.insert(seat.node, stripe);
         }
     }
 
@@ -242,6 +255,13 @@ impl Sites {
             }
         }
         found
+    }
+
+    /// Whether no node is offline: then each node that has a stripe is online.
+    pub(crate) fn are_all_online(&self) -> bool
+        ensures { result ≡ true → (n : AnyNode) (s : AnyStripe) → (sited self.now).on n s ≡ true → (sited self.now).online n ≡ true }
+    {
+        self.offline == 0
     }
 
     /// Whether fewer than two nodes are offline: then no stripe has homes on several of them.

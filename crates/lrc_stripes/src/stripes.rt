@@ -3,7 +3,7 @@ ghost use Rattle.std.specs.List.{All};
 ghost use Rattle.lrc_code.specs.declared.numbers.StripeNo.{StripeNo as AnyStripe};
 ghost use Rattle.lrc_code.specs.declared.codes.Code.TheVariants.{Wide};
 ghost use Rattle.lrc_code.specs.declared.fault.Fault.TheVariants.{OutOfMemory};
-ghost use Rattle.lrc_stripes.specs.Stored.{empty, with_stripe, with_homes, without_stripe, with_home, with_offline, with_offline_all, with_draining, with_spare, homes_shown, missing_shown, needs_shown, level_shown, has_node, has_slot, HasNoHome, AreHomesOn, has_work, AreWork, AreWorkFrom, AreAtRisk};
+ghost use Rattle.lrc_stripes.specs.Stored.{empty, with_stripe, with_homes, without_stripe, with_home, with_offline, with_offline_all, with_draining, with_spare, homes_shown, missing_shown, needs_shown, level_shown, has_node, has_slot, HasNoHome, AreHomesOn, AreHomesOnFrom, has_work, AreWork, AreWorkFrom, AreAtRisk};
 ghost use Rattle.lrc_stripes.specs.Tables.{stored_in};
 ghost use Rattle.lrc_stripes.specs.Upgrades.{is_lost_to, is_short_lost_to, IsFirstLostTo, IsFirstShortLostTo};
 
@@ -145,11 +145,17 @@ impl Stripes {
         requires unused { HasNoHome (stored_in self.old) seat }
         ensures { stored_in self.new ≡ with_home (stored_in self.old) stripe fragment (Some seat) }
     {
-        if let Some(row) = self.rows.get(stripe) {
-            let losses = row.losses.with_home(&self.sites, fragment, Some(seat));
-            self.sites.insert(seat.node, stripe);
-            self.rows.set_home(stripe, fragment, seat, losses);
-        }
+        self.rehome(stripe, fragment, Some(seat));
+    }
+
+    /// Gives a fragment a home on a seat that is no other's home, in place of the one that it has, if it has one.
+    pub fn put_home(&mut self, stripe: StripeNo, fragment: Fragment, seat: Seat)
+        requires stripe { IsTrue ((stored_in self.old).stripes stripe) }
+        requires slot { IsTrue (has_slot (stored_in self.old).nodes seat) }
+        requires unused { HasNoHome (stored_in self.old) seat }
+        ensures { stored_in self.new ≡ with_home (stored_in self.old) stripe fragment (Some seat) }
+    {
+        self.rehome(stripe, fragment, Some(seat));
     }
 
     /// Takes a fragment's home away, if it has one.
@@ -157,11 +163,23 @@ impl Stripes {
         requires { IsTrue ((stored_in self.old).stripes stripe) }
         ensures { stored_in self.new ≡ with_home (stored_in self.old) stripe fragment None }
     {
+        self.rehome(stripe, fragment, None);
+    }
+
+    /// Gives a fragment this home or none, in place of the one that it has, if it has one.
+    fn rehome(&mut self, stripe: StripeNo, fragment: Fragment, home: Option<Seat>)
+        requires there { IsTrue ((stored_in self.old).stripes stripe) }
+        requires slot { IfSome home (λ seat. IsTrue (has_slot (stored_in self.old).nodes seat)) }
+        ensures { stored_in self.new ≡ with_home (stored_in self.old) stripe fragment home }
+    {
         if let Some(row) = self.rows.get(stripe) {
-            let left = row.with_home(&self.sites, fragment, None);
-            self.sites
-                .unseat(stripe, row.homes[fragment.value as usize], &left);
-            self.rows.put(stripe, Some(left));
+            let losses = row
+                .losses_kept(&self.sites)
+                .with_home(&self.sites, fragment, home);
+            let former = row.homes[fragment.value as usize];
+            self.rows.set_home(stripe, fragment, home, losses);
+            self.sites.unseat(stripe, former, &self.rows);
+            self.sites.seat(stripe, home);
         }
     }
 
@@ -171,10 +189,7 @@ impl Stripes {
         ensures { result ≡ missing_shown (stored_in self.now) stripe }
     {
         let row = self.rows.get(stripe)?;
-        if row.losses.needs().bits() != 0 {
-            return Some(row.losses.missing());
-        }
-        Some(row.losses_now(&self.sites).missing())
+        Some(row.losses_kept(&self.sites).missing())
     }
 
     /// The fragments of a stripe that need a lease: those that have no home, or one on a draining node; `None` where
@@ -199,7 +214,7 @@ impl Stripes {
         ensures { result ≡ level_shown (stored_in self.now) stripe }
     {
         let row = self.rows.get(stripe)?;
-        Some(row.losses_now(&self.sites).level())
+        Some(row.losses_kept(&self.sites).level())
     }
 
     /// The stripe of the least number that is recoverable now, and would not be with the nodes of this upgrade domain
@@ -255,8 +270,8 @@ impl Stripes {
         ensures { stored_in self.new ≡ with_draining (stored_in self.old) node is_draining }
     {
         if self.sites.is_draining(node) != is_draining {
-            self.sites.set_draining(node, is_draining);
             self.rows.renew_needs(&self.sites, node, is_draining);
+            self.sites.set_draining(node, is_draining);
         }
     }
 
@@ -264,7 +279,14 @@ impl Stripes {
     pub fn homes_on(&self, node: NodeNo) -> HomesOn<'_>
         ensures { AreHomesOn (stored_in self.now) node result }
     {
-        HomesOn::new(&self.sites, &self.rows, node)
+        HomesOn::new(&self.sites, &self.rows, node, 0)
+    }
+
+    /// The fragments with a home on a node, of the stripes from this number on, in rising order of stripe and fragment.
+    pub fn homes_on_from(&self, node: NodeNo, first: StripeNo) -> HomesOn<'_>
+        ensures { AreHomesOnFrom (stored_in self.now) node first result }
+    {
+        HomesOn::new(&self.sites, &self.rows, node, first.value as usize)
     }
 
     /// Whether there is a stripe with a fragment that needs a lease.

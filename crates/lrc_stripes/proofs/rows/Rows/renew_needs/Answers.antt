@@ -2,13 +2,25 @@ use Rattle.std.proofs.Common.{sym, ap, ◌∙◌}
 use Rattle.std.specs.Option.{option_copied}
 use Rattle.lrc_stripes.specs.Sites.{sited}
 use Rattle.lrc_stripes.specs.Tables.{rows_in}
-use Rattle.lrc_stripes.specs.Kept.{IsWithLosses, IsToMoveOn}
+use Rattle.lrc_stripes.specs.Kept.{is_row_on, IsWithLosses, IsToMoveOn}
 use Rattle.lrc_stripes.proofs.RowsLemmas.{renewed-first, renewed-one, to_move_on-put, renewed-absent, renewed-all}
 use Rattle.lrc_stripes.proofs.rows.Rows.renew_needs.Goals as goal
 use Rattle.lrc_stripes.proofs.rows.Rows.renew_needs.Goals.{in-Some-get, in_default-get}
 
 pub loop-stripe-init : goal.loop-stripe-init
 loop-stripe-init c = renewed-first ((sited c.args.sites.now).on c.args.node) (IsToMoveOn (sited c.args.sites.now).online c.args.node c.args.are_to_move) (rows_in c.args.self.now)
+
+pub with_needs-losses-requires-clause-kept : goal.with_needs-losses-requires-clause-kept
+with_needs-losses-requires-clause-kept c =
+    let later = c.in-Some.ensures.later in
+    let was = sym (c.loop-stripe.invariant.left c.in-Some.stripe later) ∙ (sym c.get.ensures ∙ ap option_copied c.in-Some-get.is) in
+    c.requires.losses c.in-Some.stripe c.in-Some-get.row.now was
+
+pub with_needs-losses-requires-clause-stands : goal.with_needs-losses-requires-clause-stands
+with_needs-losses-requires-clause-stands c =
+    let later = c.in-Some.ensures.later in
+    let was = sym (c.loop-stripe.invariant.left c.in-Some.stripe later) ∙ (sym c.get.ensures ∙ ap option_copied c.in-Some-get.is) in
+    λ n any. (c.in-Some.stripe, c.requires.listed n c.in-Some.stripe ∙ (ap (is_row_on n) was ∙ any))
 
 pub loop-stripe-preserved : goal.loop-stripe-preserved
 loop-stripe-preserved c =

@@ -3,7 +3,7 @@ use Rattle.std.proofs.lemmas.List.{get_or_default}
 use Rattle.lrc_code.specs.declared.numbers.StripeNo.{StripeNo}
 use Rattle.lrc_stripes.specs.declared.row.Row.{Row}
 use Rattle.lrc_stripes.specs.Tables.{rows_in}
-use Rattle.lrc_stripes.specs.Kept.{needs_of, IsRenewed, IsSeated}
+use Rattle.lrc_stripes.specs.Kept.{needs_of, IsRenewed, IsRehomed}
 use Rattle.lrc_stripes.specs.Masks.{is_at, work_rank}
 use Rattle.lrc_stripes.proofs.RowsLemmas.{rows_in-set, are_queued-set, renewed-set}
 use Rattle.lrc_stripes.proofs.rows.Rows.set_home.Goals as goal
@@ -29,6 +29,6 @@ returns c =
     let within : s.value < length list = let low = s.in_range in let long = c.self.invariant.long in omega (arith, low, long) in
     let old : c.index_mut-place.result.now ≡ rows_in list s =
     c.index_mut-place.ensures.value ∙ get_or_default list s.value c.index_mut-place.result.now None within in
-    let renewed = subst (λ (o : Option Row). IsRenewed (IsSeated c.args.fragment.value c.args.seat c.args.losses) o new) old c.put_home.ensures in
+    let renewed = subst (λ (o : Option Row). IsRenewed (IsRehomed c.args.fragment.value c.args.home c.args.losses) o new) old c.put_home.ensures in
     rw (← c.self.view_is)
-    (renewed-set (IsSeated c.args.fragment.value c.args.seat c.args.losses) (rows_in list) (rows_in (set list s.value new)) s new (rows_in-set list s new within) renewed)
+    (renewed-set (IsRehomed c.args.fragment.value c.args.home c.args.losses) (rows_in list) (rows_in (set list s.value new)) s new (rows_in-set list s new within) renewed)

@@ -1,5 +1,6 @@
 use Rattle.std.proofs.Common.{sym, ◌∙◌, ap}
 use Rattle.std.specs.Option.{option_copied}
+use Rattle.lrc_stripes.specs.Kept.{is_row_on}
 use Rattle.lrc_stripes.proofs.NowLemmas.{level_shown-now}
 use Rattle.lrc_stripes.proofs.ShownLemmas.{level_shown-none}
 use Rattle.lrc_stripes.proofs.stripes.Stripes.level.Goals as goal
@@ -10,8 +11,15 @@ returns-in_err-row c =
     rw (c.from_residual.ensures, ← c.self.view_is)
     (sym (level_shown-none s.sites s.rows s.spare c.self.invariant c.args.stripe (sym c.get.ensures ∙ ap option_copied c.in_err-row.was)))
 
+pub losses_kept-requires-clause-kept : goal.losses_kept-requires-clause-kept
+losses_kept-requires-clause-kept c = c.self.invariant.losses c.args.stripe c.in_ok-row.row.now (sym c.get.ensures ∙ ap option_copied c.in_ok-row.was)
+
+pub losses_kept-requires-clause-stands : goal.losses_kept-requires-clause-stands
+losses_kept-requires-clause-stands c =
+    λ n any. (c.args.stripe, c.self.invariant.listed n c.args.stripe ∙ (ap (is_row_on n) (sym c.get.ensures ∙ ap option_copied c.in_ok-row.was) ∙ any))
+
 pub returns : goal.returns
 returns c =
     let s = c.self.inside in
-    rw (c.level.ensures, c.losses_now.ensures, ← c.self.view_is)
+    rw (c.level.ensures, c.losses_kept.ensures, ← c.self.view_is)
     (sym (level_shown-now s.sites s.rows s.spare c.self.invariant c.args.stripe c.in_ok-row.row.now (sym c.get.ensures ∙ ap option_copied c.in_ok-row.was)))

@@ -4,6 +4,9 @@ use Rattle.lrc_stripes.proofs.RenewLemmas.{kept-draining, stored-draining}
 use Rattle.lrc_stripes.proofs.StoredLemmas.{draining-stays}
 use Rattle.lrc_stripes.proofs.stripes.Stripes.set_draining.Goals as goal
 
+pub renew_needs-requires : goal.renew_needs-requires
+renew_needs-requires c = record { losses = c.self.invariant.losses; listed = c.self.invariant.listed }
+
 pub set_draining-requires : goal.set_draining-requires
 unfolding stored_in sited
 set_draining-requires c = rw (← c.self.view_is) at c.requires
