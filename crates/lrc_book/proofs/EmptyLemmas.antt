@@ -94,7 +94,7 @@ not-false true e = refl
 not-false false e = sym e
 
 -- the numbers of a home of the fragment
-home_is-parts : (s : StripeNo) (f : ℕ) (h : Held) → home_is s f h ≡ true → (h.stripe.value ≡ s.value) × (h.fragment.value ≡ f)
+pub home_is-parts : (s : StripeNo) (f : ℕ) (h : Held) → home_is s f h ≡ true → (h.stripe.value ≡ s.value) × (h.fragment.value ≡ f)
 home_is-parts s f h hit =
     let parts = and_parts (eqb h.stripe.value s.value) (eqb h.fragment.value f) hit in
     (eqb-true h.stripe.value s.value parts.0, eqb-true h.fragment.value f parts.1)

@@ -12,7 +12,7 @@ use Rattle.lrc_code.specs.Numbers.{same_stripe}
 use Rattle.lrc_topology.specs.declared.NodeInfo.{NodeInfo}
 use Rattle.lrc_topology.specs.declared.seat.Held.{Held}
 use Rattle.lrc_topology.specs.Nodes.{node_at}
-use Rattle.lrc_slots.specs.Slots.{Slots, with_taken, with_free, least_free_at}
+use Rattle.lrc_slots.specs.Slots.{Slots, with_taken, with_free}
 use Rattle.lrc_slots.specs.Tables as slot_tables
 use Rattle.lrc_slots.specs.Tables.{slots_of}
 use Rattle.lrc_stripes.specs.Stored.{Stored, has_slot, HasNoHome}
@@ -46,7 +46,7 @@ use Rattle.lrc_book.proofs.SeatingLemmas.{held-single}
 use Rattle.lrc_book.proofs.LeaseGoodLemmas.{granted-seated, ended-seated, moved-seated}
 use Rattle.lrc_book.proofs.TakenLemmas.{taken-cases, home-seat, target-seat, taken-same, table-more, table-less}
 use Rattle.lrc_book.proofs.StoredLemmas.{find-gone, stored-home, stored-free, own-spare}
-use Rattle.lrc_book.proofs.PlacingLemmas.{chosen-here, chosen-taken}
+use Rattle.lrc_book.proofs.PlacingLemmas.{chosen-here}
 
 -- what is kept of leases with some room is so with its own
 pub own-room : (ls : List Lease) (t : Leased) (spare : ℕ) → t ≡ leased_of ls spare → t ≡ leased_of ls t.spare
@@ -262,14 +262,13 @@ module _ (st : State) (k : Store) (kept : IsOf st k) (l : Lease) (told : IsGrant
         ]
       ])
 
-  pub grant-kept : (slot : Option ℕ) → slot ≡ least_free_at (slots_of k.table) l.target.node → (table : slot_tables.Table) (leases : lease_tables.Table)
-      → slots_of table ≡ with_taken (slots_of k.table) l.target.node slot → leased_in leases ≡ leased.with_lease (leased_in k.leases) l
+  pub grant-kept : (table : slot_tables.Table) (leases : lease_tables.Table)
+      → slots_of table ≡ with_taken (slots_of k.table) l.target.node (Some l.target.slot) → leased_in leases ≡ leased.with_lease (leased_in k.leases) l
       → IsOf (with_lease st l) (record k { table = table; leases = leases })
-  grant-kept slot least table leases taken added = record {
+  grant-kept table leases taken added = record {
     known = kept.known;
     seated = granted-seated k.topology kept.known st l kept.seated (chosen-here st k kept l.stripe l.fragment l.target told.chosen_is) (stripe-member st l.stripe told.there) told.new;
-    table_is = taken ∙ ap (with_taken (slots_of k.table) l.target.node) (least ∙ chosen-taken st k kept l.stripe l.fragment l.target told.chosen_is)
-        ∙ ap (λ (t : Slots). with_taken t l.target.node (Some l.target.slot)) kept.table_is ∙ grant-table;
+    table_is = taken ∙ ap (λ (t : Slots). with_taken t l.target.node (Some l.target.slot)) kept.table_is ∙ grant-table;
     stripes_is = kept.stripes_is;
     leases_is = own-room (with_lease st l).leases (leased_in leases) ((leased_in k.leases).spare - 1)
         (added ∙ ap (λ (t : Leased). leased.with_lease t l) kept.leases_is ∙ sym (leased_of-append st.leases l (leased_in k.leases).spare told.new));

@@ -19,7 +19,7 @@ use Rattle.lrc_book.specs.Leases.{is_grant, grants}
 use Rattle.lrc_book.specs.Histories.{World, first_world, outcome_in, next_world, world_after, state_after, IsLegalFrom, IsLegal}
 use Rattle.lrc_book.specs.Goodness.{IsGood}
 use Rattle.lrc_book.proofs.MemberLemmas.{All-members}
-use Rattle.lrc_book.proofs.SeatedLemmas.{opening-seated, step-seated}
+use Rattle.lrc_book.proofs.StepSeatedLemmas.{opening-seated, step-seated}
 use Rattle.lrc_book.proofs.LeaseCountLemmas.{Follows, grants-push, step-follows}
 
 abbrev AreCurrent : List Entry → List Lease → Type 0

@@ -12,6 +12,7 @@ pub mod OutcomeLemmas
 pub mod LeaseGoodLemmas
 pub mod LeaseStepLemmas
 pub mod SeatedLemmas
+pub mod StepSeatedLemmas
 pub mod LeaseCountLemmas
 pub mod GoodLemmas
 pub mod LeaseLawLemmas
@@ -76,3 +77,5 @@ pub mod TouchingLemmas
 pub mod LoadLemmas
 pub mod NumberedLemmas
 pub mod ClosedLemmas
+pub mod AnswerLemmas
+pub mod AheadLemmas

@@ -14,7 +14,7 @@ use Rattle.lrc_leases.specs.Tables.{leased_in}
 use Rattle.lrc_book.specs.declared.store.Store.{Store}
 use Rattle.lrc_book.specs.States.{opening, mode_of, is_draining, takes_seats, is_online, online_at, drains_at}
 use Rattle.lrc_book.specs.Stores.{IsOf, AreModesOf}
-use Rattle.lrc_book.proofs.SeatedLemmas.{opening-seated}
+use Rattle.lrc_book.proofs.StepSeatedLemmas.{opening-seated}
 use Rattle.lrc_book.proofs.StoredLemmas.{same_modes, own-spare}
 use Rattle.lrc_book.proofs.EndLemmas.{own-room}
 

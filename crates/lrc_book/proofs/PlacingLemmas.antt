@@ -126,6 +126,10 @@ module _ (nodes : List NodeInfo) (known : AreNodes nodes) (st : State) (s : Stri
     pub taken-known : IsSome (node_at table.nodes seat.node)
     taken-known = rw (p.table_is, found) refl
 
+    -- and its slot is the least free one there
+    pub taken-least : least_free_at table seat.node ≡ Some seat.slot
+    taken-least = ap (λ (t : Slots). least_free_at t seat.node) p.table_is ∙ chosen-first_free nodes now s f seat known rest.0
+
     next-is : with_home now s f seat ≡ placed_to st s seats (i + 1)
     next-is = ap (λ (hs : List Held). record st { stripes = st.stripes ++ s ∷ []; homes = hs })
         (append_assoc st.homes (held_at s (take i (fragments Wide)) (take i seats)) _ ∙ ap (λ (hs : List Held). st.homes ++ hs) (sym (held_at-more s (fragments Wide) seats i d e within there)))
@@ -136,12 +140,9 @@ module _ (nodes : List NodeInfo) (known : AreNodes nodes) (st : State) (s : Stri
         ∙ lt-ltb seat.slot choice.node.slots choice.free.within
 
     -- with its slot taken, it is one more
-    pub taken-more : (slot : Option ℕ) (next : Slots) → slot ≡ least_free_at table seat.node → next ≡ slots.with_taken table seat.node slot
-        → IsTakenTo nodes st s seats (i + 1) next
-    taken-more slot next least taken = record {
-      table_is = taken ∙ ap (slots.with_taken table seat.node) least
-          ∙ ap (λ (t : Slots). slots.with_taken t seat.node (least_free_at t seat.node)) p.table_is
-          ∙ ap (slots.with_taken (kept_table nodes now) seat.node) (chosen-first_free nodes now s f seat known rest.0)
+    pub taken-more : (next : Slots) → next ≡ slots.with_taken table seat.node (Some seat.slot) → IsTakenTo nodes st s seats (i + 1) next
+    taken-more next taken = record {
+      table_is = taken ∙ ap (λ (t : Slots). slots.with_taken t seat.node (Some seat.slot)) p.table_is
           ∙ home-taken nodes now s f seat ∙ ap (kept_table nodes) next-is;
       chosen_are = subst (λ (x : State). AreChosen nodes x s (drop (i + 1) (fragments Wide)) (drop (i + 1) seats)) next-is rest.1;
       placing = subst (λ (x : State). IsPlacing nodes s x (drop (i + 1) (fragments Wide))) next-is

@@ -1,4 +1,4 @@
--- Each command leaves the stripes seated.
+-- Each outcome leaves the stripes seated.
 use Rattle.std.proofs.Common.{inl, inr, ◌||◌, ℕ, ◌+◌, cond, zero-add, if◌then◌else◌, nat_lt, is_none, ◌≡◌, ◌≢◌, ◌<◌, Bool, true, false, not, eqb, List, [], ◌∷◌, ◌++◌, map, filter, Option, Some, None, Result, Ok, Err, IsSomeAnd, arith, refl, sym, ap, ◌∙◌, subst}
 use Rattle.std.specs.List.{All, Contains}
 use Rattle.std.proofs.lemmas.Bool.{cases_Bool, ne_eqb, eq-eqb, eqb-false, ltb-false, not-true, or_parts}
@@ -19,18 +19,16 @@ use Rattle.lrc_topology.specs.declared.seat.Seat.{Seat}
 use Rattle.lrc_topology.specs.declared.seat.Held.{Held}
 use Rattle.lrc_topology.specs.Nodes.{AreNodes, node_at, has_domain}
 use Rattle.lrc_topology.specs.Seats.{load_of}
-use Rattle.lrc_book.specs.declared.command.Command.{Command}
-use Rattle.lrc_book.specs.declared.command.Command.TheVariants.{Place, Drop, Lease, Next, Done, Abandon, Revoke, Fail, Down, Up, Drain, Undrain, Retire, Join, Upgrade, Upgraded}
 use Rattle.lrc_book.specs.declared.reply.Reply.TheVariants.{Dropped, Changed}
 use Rattle.lrc_book.specs.declared.refusal.Refusal.TheVariants as refusal
 use Rattle.lrc_book.specs.declared.entry.Entry.{Entry}
 use Rattle.lrc_book.specs.declared.mode.Mode.TheVariants.{Active, Draining, Gone}
 use Rattle.lrc_leases.specs.declared.lease.Lease.{Lease as LeaseRecord}
 use Rattle.lrc_leases.specs.Leased.{is_target_on}
-use Rattle.lrc_book.specs.States.{State, held_by, opening, has_stripe, has_number, without_number, mode_of, is_draining, is_gone, is_down, code_of, seats_of, taken_seats, load}
+use Rattle.lrc_book.specs.States.{State, held_by, has_stripe, has_number, without_number, mode_of, is_draining, is_gone, is_down, code_of, seats_of, taken_seats, load}
 use Rattle.lrc_book.specs.Placement.{placed}
 use Rattle.lrc_book.specs.Outcomes.{refuse_if}
-use Rattle.lrc_book.specs.Steps.{with_stripe, place_answer, place_outcome, is_other, without_stripe, drop_outcome, node_outcome, stands_on, hangs_on, emptied, with_gone, with_down, without_down, with_draining, without_draining, without_gone, fail_outcome, down_outcome, up_outcome, join_outcome, drain_outcome, undrain_outcome, retire_outcome, without_upgrading, upgrade_answer, upgrade_outcome, is_the_domain, upgraded_outcome, would_lose, step}
+use Rattle.lrc_book.specs.Steps.{with_stripe, place_answer, place_outcome, is_other, without_stripe, drop_outcome, node_outcome, stands_on, hangs_on, emptied, with_gone, with_down, without_down, with_draining, without_draining, without_gone, fail_outcome, down_outcome, up_outcome, join_outcome, drain_outcome, undrain_outcome, retire_outcome, without_upgrading, upgrade_answer, upgrade_outcome, is_the_domain, upgraded_outcome, would_lose}
 use Rattle.lrc_stripes.specs.Stored.{StripeFragment}
 use Rattle.lrc_book.specs.Urgency.{next_of}
 use Rattle.lrc_book.specs.Leases.{next_answer, next_outcome}
@@ -40,7 +38,7 @@ use Rattle.lrc_book.proofs.SeatingLists.{pairs-push}
 use Rattle.lrc_book.proofs.SeatingLemmas.{HasNone, homes-all, leases-all, IsPlacing, placing, fragments-distinct}
 use Rattle.lrc_book.proofs.LeaseGoodLemmas.{kept-seated}
 use Rattle.lrc_book.proofs.OutcomeLemmas.{either-way}
-use Rattle.lrc_book.proofs.LeaseStepLemmas.{lease-seated, done-seated, abandon-seated, revoke-seated}
+use Rattle.lrc_book.proofs.LeaseStepLemmas.{lease-seated}
 
 -- ---- commands
 
@@ -377,37 +375,3 @@ module _ (nodes : List NodeInfo) (known : AreNodes nodes) (past : List Entry) (s
   pub next-seated : AreSeated nodes st → AreSeated nodes (next_outcome nodes past st session).1
   unfolding next_outcome
   next-seated seated = next-answered (next_of nodes st) seated
-
--- ---- histories
-
-pub opening-seated : (nodes : List NodeInfo) → AreSeated nodes opening
-opening-seated nodes = record {
-  stripes = λ i j d below within. absurd (omega arith);
-  single = λ i j d below within. absurd (omega arith);
-  standing = All-nil (IsStanding nodes opening);
-  lawful = λ i j d below within. absurd (omega arith);
-  one_home = λ i j d below within. absurd (omega arith);
-  one_lease = λ i j d below within. absurd (omega arith);
-  there = All-nil (λ h. Contains opening.stripes h.stripe);
-  reachable = All-nil (λ n. mode_of opening n ≢ Gone);
-}
-
--- Each command leaves the stripes seated.
-pub step-seated : (nodes : List NodeInfo) → AreNodes nodes → (past : List Entry) (st : State) (session : SessionNo) (command : Command)
-    → AreSeated nodes st → AreSeated nodes (step nodes past st session command).1
-step-seated nodes known past st session (Place s) seated = place-seated nodes known st s Wide seated
-step-seated nodes known past st session (Drop s) seated = drop-seated nodes known st s seated
-step-seated nodes known past st session (Lease s f) seated = lease-seated nodes known past st session s f seated
-step-seated nodes known past st session (Done s f e) seated = done-seated nodes st session s f e seated
-step-seated nodes known past st session (Abandon s f e) seated = abandon-seated nodes st session s f e seated
-step-seated nodes known past st session (Revoke s f) seated = revoke-seated nodes st s f seated
-step-seated nodes known past st session (Fail n) seated = fail-seated nodes st n seated
-step-seated nodes known past st session (Down n) seated = down-seated nodes st n seated
-step-seated nodes known past st session (Up n) seated = up-seated nodes st n seated
-step-seated nodes known past st session (Join n) seated = join-seated nodes st n seated
-step-seated nodes known past st session Next seated = next-seated nodes known past st session seated
-step-seated nodes known past st session (Drain n) seated = drain-seated nodes st n seated
-step-seated nodes known past st session (Undrain n) seated = undrain-seated nodes st n seated
-step-seated nodes known past st session (Retire n) seated = retire-seated nodes st n seated
-step-seated nodes known past st session (Upgrade u) seated = upgrade-seated nodes st u seated
-step-seated nodes known past st session (Upgraded u) seated = upgraded-seated nodes st u seated

@@ -33,3 +33,4 @@ pub mod Books
 pub mod Boards
 pub mod Touching
 pub mod Dropping
+pub mod Answers

@@ -1,4 +1,4 @@
-ghost use Rattle.std.specs.Prelude.{◌≡◌, ◌↔◌, ◌<◌, ◌≤◌, ◌++◌, ◌∷◌, [], true, IfOk, IfErr, OnErr, IsOk, IsErrOf, length};
+ghost use Rattle.std.specs.Prelude.{◌≡◌, ◌↔◌, ◌<◌, ◌≤◌, ◌++◌, ◌∷◌, [], true, IfOk, OnOk, IfErr, OnErr, IsOk, IsErrOf, length};
 ghost use Rattle.lrc_code.specs.declared.fault.Fault.TheVariants as fault;
 ghost use Rattle.lrc_topology.specs.Nodes.{AreNodes};
 ghost use Rattle.lrc_book.specs.States.{homes_shown, load_shown, level_shown, missing_shown, lease_of, mode_shown};
@@ -8,7 +8,7 @@ ghost use Rattle.lrc_book.specs.Goodness.{IsGood};
 ghost use Rattle.lrc_book.specs.Books.{world_of, state_of, FaultFits};
 
 use crate::store::Store;
-use crate::{Command, Entry, Lease, Level, Mode, Reply, Seat};
+use crate::{Command, Lease, Level, Mode, Record, Reply, Seat};
 use lrc_code::{Fault, Fragment, LossMask, NodeNo, SessionNo, StripeNo};
 use lrc_leases::Grants;
 use lrc_topology::Topology;
@@ -26,12 +26,14 @@ pub struct Book {
     pub(crate) grants: Grants,
     /// A stripe with work before which nothing is grantable, if one is known: a search for the next repair begins there.
     pub(crate) front: Option<StripeNo>,
-    pub(crate) history: Vec<Entry>,
+    pub(crate) history: Vec<Record>,
+    /// Room for the seats of the next stripe that is placed.
+    pub(crate) seats: Option<Box<[Seat; 16]>>,
     pub(crate) limit: usize,
 }
 
 impl Model for Book {
-    ghost use Rattle.std.specs.Prelude.{◌+◌, ◌&&◌, nat_le, vec_len, vec_capacity};
+    ghost use Rattle.std.specs.Prelude.{◌+◌, ◌&&◌, nat_le, is_some, vec_len, vec_capacity};
     ghost use Rattle.lrc_book.specs.Books.{BookView};
     ghost use Rattle.lrc_book.specs.Stores.{has_room};
     ghost use Rattle.lrc_book.specs.Repairing.{IsKept};
@@ -42,7 +44,7 @@ impl Model for Book {
       nodes = b.store.topology;
       limit = b.limit;
       history = b.history.items;
-      ready = nat_le (vec_len b.history + 1) (vec_capacity b.history) && has_room b.store;
+      ready = nat_le (vec_len b.history + 1) (vec_capacity b.history) && (has_room b.store && is_some b.seats);
     } };
 
     ghost invariant = { λ b. IsKept b.store b.grants b.front b.limit b.history.items };
@@ -63,12 +65,13 @@ impl Book {
             grants: Grants::new(alloc)?,
             front: None,
             history: Vec::new(alloc),
+            seats: None,
             limit: HISTORY_LIMIT,
         })
     }
 
     /// The entries so far.
-    pub fn history(&self) -> &[Entry]
+    pub fn history(&self) -> &[Record]
         ensures value { result.now ≡ self.now.history }
         ensures legal { IsLegal self.now.nodes self.now.history }
         ensures few { length self.now.history ≤ self.now.limit }
@@ -167,8 +170,29 @@ impl Book {
         ensures enough { self.old.ready ≡ true → length self.old.history < self.old.limit → IsOk result }
         ensures err { OnErr result (self.new.history ≡ self.old.history) }
     {
-        let plan = self.decide(session, command)?;
-        self.prepare(&plan)?;
-        Ok(self.commit(plan))
+        self.add(session, command)?;
+        let last = &self.history[self.history.len() - 1];
+        Ok(last.reply())
+    }
+
+    /// The same, where the reply is read from the entry that it adds.
+    ///
+    /// # Errors
+    ///
+    /// As `call`.
+    pub fn add(&mut self, session: SessionNo, command: Command) -> Result<(), Fault>
+        ensures entry { OnOk result (self.new.history ≡ self.old.history ++ record { session = session; command = command; reply = (outcome_in self.old.nodes (world_of self.old) session command).0 } ∷ []) }
+        ensures same { (self.new.nodes ≡ self.old.nodes) × (self.new.limit ≡ self.old.limit) }
+        ensures full { IsErrOf result fault.HistoryFull ↔ (length self.old.history ≡ self.old.limit) }
+        ensures fault { IfErr result (FaultFits self.old) }
+        ensures enough { self.old.ready ≡ true → length self.old.history < self.old.limit → IsOk result }
+        ensures err { OnErr result (self.new.history ≡ self.old.history) }
+    {
+        if self.history.len() == self.limit {
+            return Err(Fault::HistoryFull);
+        }
+        self.make_room()?;
+        self.make_call(session, command);
+        Ok(())
     }
 }

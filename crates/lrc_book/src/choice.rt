@@ -1,6 +1,6 @@
 //! The choice of a seat, read off the slot table and the seats of the stripe's other fragments.
 
-ghost use Rattle.std.specs.Prelude.{◌≡◌, ◌++◌, ◌∷◌, [], true, false, IsTrue, IfSome, List, Some, None, map, option_map, option_and_then, is_some};
+ghost use Rattle.std.specs.Prelude.{◌≡◌, ◌++◌, ◌∷◌, [], true, false, IsTrue, IfSome, List, Some, None, map, option_map, is_some};
 ghost use Rattle.std.specs.List.{All};
 ghost use Rattle.lrc_code.specs.declared.numbers.StripeNo.{StripeNo};
 ghost use Rattle.lrc_code.specs.Codes.{class_of};
@@ -25,7 +25,6 @@ use crate::class_bars::ClassBars;
 use crate::store::Store;
 use lrc_code::{Class, Fragment, LossMask, StripeNo};
 use lrc_slots::{OpenNode, Taken};
-use lrc_topology::NodeInfo;
 
 impl Store {
     /// Bars the upgrading domain, if there is one, for all fragments of a new stripe.
@@ -171,18 +170,11 @@ impl Store {
         if other == fragment {
             return;
         }
-        if let Some(node) = self.node_of(seat) {
-            bars.bar_fault(node.fault);
+        if let Some(seat) = seat {
+            self.table.bar_fault_of(bars, seat.node);
             if other.class() == class {
-                bars.bar_upgrade(node.upgrade);
+                self.table.bar_upgrade_of(bars, seat.node);
             }
         }
-    }
-
-    /// The node that a seat is on, if there is one.
-    fn node_of(&self, seat: Option<Seat>) -> Option<NodeInfo>
-        ensures { (st : State) → IsOf st self.now → result ≡ option_and_then (λ s. node_at self.now.topology s.node) seat }
-    {
-        self.table.node(seat?.node)
     }
 }

@@ -1,6 +1,7 @@
 //! The book of placements: commands, their replies, and the history of both.
 #![tactic(auto)]
 
+mod answer;
 mod book;
 mod choice;
 mod class_bars;
@@ -13,6 +14,7 @@ mod mode;
 mod modes;
 mod node_set;
 mod plan;
+mod record;
 mod refusal;
 mod repair;
 mod reply;
@@ -28,5 +30,6 @@ pub use lrc_stripes::Level;
 pub use lrc_topology::{Held, Seat};
 pub use mode::Mode;
 pub use plan::Plan;
+pub use record::Record;
 pub use refusal::Refusal;
 pub use reply::Reply;

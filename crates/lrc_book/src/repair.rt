@@ -1,10 +1,12 @@
 ghost use Rattle.std.specs.Prelude.{◌≡◌, List};
 ghost use Rattle.lrc_book.specs.declared.entry.Entry.{Entry};
 ghost use Rattle.lrc_book.specs.declared.reply.Reply.TheVariants.{Granted};
+ghost use Rattle.lrc_book.specs.Answers.{told};
 ghost use Rattle.lrc_book.specs.Leases.{new_lease};
 ghost use Rattle.lrc_book.specs.Stores.{AreFew, AreGrantsOf};
 
-use crate::{Kind, Lease, Reply, Seat};
+use crate::answer::Answer;
+use crate::{Kind, Lease, Seat};
 use lrc_code::{Fragment, SessionNo, StripeNo};
 use lrc_leases::Grants;
 
@@ -19,10 +21,10 @@ pub(crate) struct Repair {
 
 impl Repair {
     /// The reply to a session that gets the lease.
-    pub(crate) fn granted_to(self, session: SessionNo, counts: &Grants) -> Reply
+    pub(crate) fn granted_to(self, session: SessionNo, counts: &Grants) -> Answer
         requires { AreFew counts.now }
         ensures { (past : List Entry) → AreGrantsOf past counts.now
-            → result ≡ Granted (new_lease past session self.stripe self.fragment self.target) self.kind }
+            → told result ≡ Granted (new_lease past session self.stripe self.fragment self.target) self.kind }
     {
         let lease = Lease {
             stripe: self.stripe,
@@ -31,6 +33,6 @@ impl Repair {
             target: self.target,
             epoch: counts.count(self.stripe, self.fragment) + 1,
         };
-        Reply::Granted(lease, self.kind)
+        Answer::Granted(lease, self.kind)
     }
 }

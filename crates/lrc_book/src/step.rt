@@ -1,23 +1,28 @@
 //! A step of the placement object: decided over what stands, prepared by making room, and committed, which can't fail.
 
-ghost use Rattle.std.specs.Prelude.{◌≡◌, ◌<◌, ◌++◌, ◌∷◌, [], true, IfOk, IfErr, OnOk, IsOk, List, length};
+ghost use Rattle.std.specs.Prelude.{◌≡◌, ◌<◌, ◌+◌, ◌≤◌, ◌++◌, ◌∷◌, [], ℕ, true, false, IfOk, IfErr, OnOk, IsOk, IsSome, List, length, nat_le, is_some, vec_len, vec_capacity};
 ghost use Rattle.lrc_code.specs.declared.fault.Fault.TheVariants as fault;
+ghost use Rattle.lrc_code.specs.declared.codes.Code.TheVariants.{Wide};
 ghost use Rattle.lrc_code.specs.declared.numbers.SessionNo.{SessionNo};
 ghost use Rattle.lrc_book.specs.declared.entry.Entry.{Entry};
 ghost use Rattle.lrc_book.specs.States.{State};
-ghost use Rattle.lrc_book.specs.Steps.{step};
+ghost use Rattle.lrc_book.specs.Steps.{step, place_outcome};
+ghost use Rattle.lrc_book.specs.Histories.{world_after, state_after, outcome_in};
+ghost use Rattle.lrc_book.specs.Answers.{told, is_place};
 ghost use Rattle.lrc_book.specs.Changes.{IsAnswer, changed_by};
-ghost use Rattle.lrc_book.specs.Books.{IsStep, state_of};
+ghost use Rattle.lrc_book.specs.Books.{IsStep, world_of};
 ghost use Rattle.lrc_book.specs.Stores.{IsOf, IsTied, AreGrantsOf, AreFew, has_room};
-ghost use Rattle.lrc_book.specs.Repairing.{IsFront, HasFront};
+ghost use Rattle.lrc_book.specs.Repairing.{IsFront, HasFront, IsKept};
 
+use crate::answer::Answer;
 use crate::commands::leases::count_grant;
 use crate::commands::next::front_after;
 use crate::plan::Plan;
 use crate::store::Store;
-use crate::{Book, Command, Entry, Reply};
-use lrc_code::{Fault, SessionNo, StripeNo};
+use crate::{Book, Command, Entry, Record, Reply, Seat};
+use lrc_code::{Fault, NodeNo, SessionNo, StripeNo};
 use lrc_leases::Grants;
+use std::alloc::{AllocError, Global};
 
 impl Book {
     /// The entry that a call would add. Nothing changes.
@@ -56,9 +61,42 @@ impl Book {
         ensures enough { self.old.ready ≡ true → IsOk result }
         ensures err { IfErr result (λ e. e ≡ fault.OutOfMemory) }
     {
+        self.make_room()
+    }
+
+    /// Makes room for one command of any kind, and changes nothing else.
+    pub(crate) fn make_room(&mut self) -> Result<(), Fault>
+        ensures same { (self.new.nodes ≡ self.old.nodes) × (self.new.limit ≡ self.old.limit) × (self.new.history ≡ self.old.history) }
+        ensures ok { OnOk result (self.new.ready ≡ true) }
+        ensures kept { self.old.ready ≡ true → self.new.ready ≡ true }
+        ensures enough { self.old.ready ≡ true → IsOk result }
+        ensures err { IfErr result (λ e. e ≡ fault.OutOfMemory) }
+    {
         self.history.reserve(1)?;
         self.store.reserve()?;
+        if self.seats.is_none() {
+            self.seats = Some(room_for_seats(*self.history.allocator())?);
+        }
         Ok(())
+    }
+
+    /// Makes the step of a session's command, in a book that has room for it.
+    pub(crate) fn make_call(&mut self, session: SessionNo, command: Command)
+        requires ready { self.old.ready ≡ true }
+        requires room { length self.old.history < self.old.limit }
+        ensures same { (self.new.nodes ≡ self.old.nodes) × (self.new.limit ≡ self.old.limit) }
+        ensures history { self.new.history ≡ self.old.history ++ record { session = session; command = command; reply = (outcome_in self.old.nodes (world_of self.old) session command).0 } ∷ [] }
+    {
+        let answer = self.store.answer(&self.grants, self.front, session, command, &mut self.seats);
+        make(
+            &mut self.store,
+            &mut self.grants,
+            &mut self.front,
+            &mut self.history,
+            session,
+            command,
+            answer,
+        );
     }
 
     /// Makes the step of a plan that was decided on this history, in a book that has room for it. It can't fail.
@@ -70,37 +108,64 @@ impl Book {
         ensures same { (self.new.nodes ≡ self.old.nodes) × (self.new.limit ≡ self.old.limit) }
         ensures history { self.new.history ≡ self.old.history ++ plan.entry ∷ [] }
     {
-        self.make(plan)
-    }
-
-    /// It stands beside `commit` since a ghost argument sees the arguments of its own function alone: `make` names the
-    /// state, and `commit` picks it.
-    fn make(&mut self, plan: Plan) -> Reply
-        ghost st: { State }
-        requires state { state_of self.old ≡ st }
-        requires ready { self.old.ready ≡ true }
-        requires room { length self.old.history < self.old.limit }
-        requires step { IsStep self.old plan.entry }
-        ensures reply { result ≡ plan.entry.reply }
-        ensures same { (self.new.nodes ≡ self.old.nodes) × (self.new.limit ≡ self.old.limit) }
-        ensures history { self.new.history ≡ self.old.history ++ plan.entry ∷ [] }
-    {
         let Entry {
-            session: _,
+            session,
             command,
             reply,
         } = plan.entry;
-        self.store.change(command, &reply);
-        count_grant(&mut self.grants, &reply);
-        self.front = front_after(self.front, command, &reply);
-        self.history.push_reserved(plan.entry);
+        let answer = Answer::of(&reply, &mut self.seats);
+        make(
+            &mut self.store,
+            &mut self.grants,
+            &mut self.front,
+            &mut self.history,
+            session,
+            command,
+            answer,
+        );
         reply
     }
 }
 
+/// Makes the step of a command that was answered so, in a book that has room for it.
+fn make(
+    store: &mut Store,
+    grants: &mut Grants,
+    front: &mut Option<StripeNo>,
+    history: &mut Vec<Record>,
+    session: SessionNo,
+    command: Command,
+    answer: Answer,
+)
+    ghost st: { State }
+    requires state { state_after store.old.topology history.old.items ≡ st }
+    requires kept { IsOf st store.old }
+    requires few { AreFew grants.old }
+    requires place { vec_len history.old + 1 ≤ vec_capacity history.old }
+    requires room { has_room store.old ≡ true }
+    requires step { (outcome_in store.old.topology (world_after store.old.topology history.old.items) session command).0 ≡ told answer }
+    ensures nodes { store.new.topology ≡ store.old.topology }
+    ensures kept { (limit : ℕ) → IsKept store.old grants.old front.old limit history.old.items → length history.old.items < limit
+        → IsKept store.new grants.new front.new limit history.new.items }
+    ensures history { history.new.items ≡ history.old.items ++ record { session = session; command = command; reply = told answer } ∷ [] }
+{
+    store.change(command, &answer);
+    count_grant(grants, &answer);
+    *front = front_after(*front, command, &answer);
+    history.push_reserved(Record::new(session, command, answer));
+}
+
+/// Room for the seats of a stripe.
+fn room_for_seats(alloc: Global) -> Result<Box<[Seat; 16]>, AllocError> {
+    let no_seat = Seat {
+        node: NodeNo { value: 0 },
+        slot: 0,
+    };
+    Ok(Box::new(alloc, [no_seat; 16])?)
+}
+
 impl Store {
     /// The reply of the plain placement object after entries with so many grants.
-    #[inline(never)] // a step then saves fewer registers: 85 instructions a command
     fn reply(
         &self,
         counts: &Grants,
@@ -116,6 +181,59 @@ impl Store {
     {
         match command {
             Command::Place(stripe) => self.place_reply(stripe),
+            _ => self.other_reply(counts, front, session, command).reply(),
+        }
+    }
+
+    /// The same, as the history keeps it, in room that there is for the seats of a new stripe.
+    pub(crate) fn answer(
+        &self,
+        counts: &Grants,
+        front: Option<StripeNo>,
+        session: SessionNo,
+        command: Command,
+        room: &mut Option<Box<[Seat; 16]>>,
+    ) -> Answer
+        requires tied { IsTied self.now }
+        requires few { AreFew counts.now }
+        requires front { HasFront self.now front }
+        requires room { IsSome room.old }
+        ensures { (st : State) (past : List Entry) → IsOf st self.now → AreGrantsOf past counts.now → IsFront self.now.topology st front
+            → told result ≡ (step self.now.topology past st session command).0 }
+    {
+        match command {
+            Command::Place(stripe) => self.place_answer(stripe, room),
+            _ => self.other_reply(counts, front, session, command),
+        }
+    }
+
+    /// The same of a command that places a stripe.
+    #[inline(never)] // as `other_reply`
+    fn place_answer(&self, stripe: StripeNo, room: &mut Option<Box<[Seat; 16]>>) -> Answer
+        requires room { IsSome room.old }
+        ensures { (st : State) → IsOf st self.now → told result ≡ (place_outcome self.now.topology st Wide stripe).0 }
+    {
+        Answer::of(&self.place_reply(stripe), room)
+    }
+
+    /// The same of a command that places no stripe.
+    #[inline(never)] // a step then saves fewer registers: 85 instructions a command
+    fn other_reply(
+        &self,
+        counts: &Grants,
+        front: Option<StripeNo>,
+        session: SessionNo,
+        command: Command,
+    ) -> Answer
+        requires tied { IsTied self.now }
+        requires few { AreFew counts.now }
+        requires front { HasFront self.now front }
+        requires other { is_place command ≡ false }
+        ensures { (st : State) (past : List Entry) → IsOf st self.now → AreGrantsOf past counts.now → IsFront self.now.topology st front
+            → told result ≡ (step self.now.topology past st session command).0 }
+    {
+        match command {
+            Command::Place(_) => unreachable!(),
             Command::Drop(stripe) => self.drop_reply(stripe),
             Command::Lease(stripe, fragment) => {
                 self.lease_reply(counts, session, stripe, fragment)
@@ -141,33 +259,48 @@ impl Store {
     }
 
     /// Makes the change of a command that was answered so. Room was made before, so nothing here fails.
-    fn change(&mut self, command: Command, reply: &Reply)
+    fn change(&mut self, command: Command, answer: &Answer)
         ghost st: { State }
         requires kept { IsOf st self.old }
         requires room { has_room self.old ≡ true }
-        requires told { IsAnswer self.old.topology st command reply.now }
+        requires told { IsAnswer self.old.topology st command (told answer.now) }
         ensures nodes { self.new.topology ≡ self.old.topology }
-        ensures kept { IsOf (changed_by st command reply.now) self.new }
+        ensures kept { IsOf (changed_by st command (told answer.now)) self.new }
     {
-        match (command, reply) {
-            (Command::Place(stripe), Reply::Placed(seats)) => self.place(stripe, seats),
-            (Command::Drop(stripe), Reply::Dropped) => self.drop_stripe(stripe),
-            (Command::Lease(_, _), Reply::Granted(lease, _)) => self.grant(*lease),
-            (Command::Next, Reply::Granted(lease, _)) => self.grant(*lease),
-            (Command::Done(stripe, fragment, _), Reply::Ended) => self.move_in(stripe, fragment),
-            (Command::Abandon(stripe, fragment, _), Reply::Ended) => {
+        if answer.changes() {
+            self.make_change(command, answer);
+        }
+    }
+
+    /// The same, whatever the answer is.
+    #[inline(never)] // as `other_reply`
+    fn make_change(&mut self, command: Command, answer: &Answer)
+        ghost st: { State }
+        requires kept { IsOf st self.old }
+        requires room { has_room self.old ≡ true }
+        requires told { IsAnswer self.old.topology st command (told answer.now) }
+        ensures nodes { self.new.topology ≡ self.old.topology }
+        ensures kept { IsOf (changed_by st command (told answer.now)) self.new }
+    {
+        match (command, answer) {
+            (Command::Place(stripe), Answer::Placed(seats)) => self.place(stripe, &**seats),
+            (Command::Drop(stripe), Answer::Dropped) => self.drop_stripe(stripe),
+            (Command::Lease(_, _), Answer::Granted(lease, _)) => self.grant(*lease),
+            (Command::Next, Answer::Granted(lease, _)) => self.grant(*lease),
+            (Command::Done(stripe, fragment, _), Answer::Ended) => self.move_in(stripe, fragment),
+            (Command::Abandon(stripe, fragment, _), Answer::Ended) => {
                 self.end_lease(stripe, fragment)
             }
-            (Command::Revoke(stripe, fragment), Reply::Ended) => self.end_lease(stripe, fragment),
-            (Command::Fail(node), Reply::Changed) => self.fail(node),
-            (Command::Down(node), Reply::Changed) => self.down(node),
-            (Command::Up(node), Reply::Changed) => self.up(node),
-            (Command::Drain(node), Reply::Changed) => self.drain(node),
-            (Command::Undrain(node), Reply::Changed) => self.undrain(node),
-            (Command::Retire(node), Reply::Changed) => self.leave(node),
-            (Command::Join(node), Reply::Changed) => self.join(node),
-            (Command::Upgrade(domain), Reply::Changed) => self.upgrade(domain),
-            (Command::Upgraded(domain), Reply::Changed) => self.upgraded(domain),
+            (Command::Revoke(stripe, fragment), Answer::Ended) => self.end_lease(stripe, fragment),
+            (Command::Fail(node), Answer::Changed) => self.fail(node),
+            (Command::Down(node), Answer::Changed) => self.down(node),
+            (Command::Up(node), Answer::Changed) => self.up(node),
+            (Command::Drain(node), Answer::Changed) => self.drain(node),
+            (Command::Undrain(node), Answer::Changed) => self.undrain(node),
+            (Command::Retire(node), Answer::Changed) => self.leave(node),
+            (Command::Join(node), Answer::Changed) => self.join(node),
+            (Command::Upgrade(domain), Answer::Changed) => self.upgrade(domain),
+            (Command::Upgraded(domain), Answer::Changed) => self.upgraded(domain),
             _ => {}
         }
     }

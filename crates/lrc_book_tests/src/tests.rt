@@ -97,7 +97,7 @@ fn place_and_drop(rt: &impl Abort, book: &mut Book) -> Result<(), Fail> {
         command: Command::Place(one),
         reply: placed,
     };
-    assert_eq!(rt; book.history().get(1), Some(&entry));
+    assert_eq!(rt; book.history()[1].entry(), entry);
     assert_eq!(rt; HISTORY_LIMIT, 1_000_000);
     Ok(())
 }

@@ -7,14 +7,16 @@ ghost use Rattle.lrc_code.specs.Losses.{bits_set};
 ghost use Rattle.lrc_stripes.specs.Tables.{stored_in};
 ghost use Rattle.lrc_book.specs.States.{State, has_stripe, lease_of, online_at};
 ghost use Rattle.lrc_book.specs.Leases.{granted, lease_outcome, done_outcome, abandon_outcome, revoke_outcome, at_epoch, with_lease};
+ghost use Rattle.lrc_book.specs.Answers.{told};
 ghost use Rattle.lrc_book.specs.Repairs as repairs;
 ghost use Rattle.lrc_book.specs.Placement.{chosen};
 ghost use Rattle.lrc_book.specs.Changes.{with_done};
 ghost use Rattle.lrc_book.specs.Stores.{IsOf, IsGrant, AreGrantsOf, AreFew, has_room, repair_of};
 
+use crate::answer::Answer;
 use crate::repair::Repair;
 use crate::store::Store;
-use crate::{Kind, Lease, Refusal, Reply};
+use crate::{Kind, Lease, Refusal};
 use lrc_code::{Fragment, LossMask, NodeNo, SessionNo, StripeNo};
 use lrc_leases::Grants;
 
@@ -25,23 +27,23 @@ impl Store {
         session: SessionNo,
         stripe: StripeNo,
         fragment: Fragment,
-    ) -> Reply
+    ) -> Answer
         requires { AreFew counts.now }
         ensures { (st : State) (past : List Entry) → IsOf st self.now → AreGrantsOf past counts.now
-            → result ≡ (lease_outcome self.now.topology past st session stripe fragment).0 }
+            → told result ≡ (lease_outcome self.now.topology past st session stripe fragment).0 }
     {
         if !self.stripes.contains(stripe) {
-            return Reply::Refused(Refusal::UnknownStripe);
+            return Answer::Refused(Refusal::UnknownStripe);
         }
         if let Some(lease) = self.leases.lease(stripe, fragment) {
-            return Reply::Refused(Refusal::AlreadyLeased(lease.epoch));
+            return Answer::Refused(Refusal::AlreadyLeased(lease.epoch));
         }
         if !self.needs(stripe).contains(fragment) {
-            return Reply::Refused(Refusal::NotNeeded);
+            return Answer::Refused(Refusal::NotNeeded);
         }
         match self.repair_kind(stripe, fragment) {
             Some(kind) => self.grant_reply(counts, session, stripe, fragment, kind),
-            None => Reply::Refused(Refusal::Unrecoverable),
+            None => Answer::Refused(Refusal::Unrecoverable),
         }
     }
 
@@ -81,11 +83,11 @@ impl Store {
         stripe: StripeNo,
         fragment: Fragment,
         kind: Kind,
-    ) -> Reply
+    ) -> Answer
         requires few { AreFew counts.now }
         requires there { IsTrue ((stored_in self.now.stripes).stripes stripe) }
         ensures { (st : State) (past : List Entry) → IsOf st self.now → AreGrantsOf past counts.now → kind ≡ repairs.kind self.now.topology st stripe fragment
-            → result ≡ (granted self.now.topology past st session stripe fragment (chosen self.now.topology st stripe fragment)).0 }
+            → told result ≡ (granted self.now.topology past st session stripe fragment (chosen self.now.topology st stripe fragment)).0 }
     {
         match self.repair_seat(stripe, fragment) {
             Some(target) => {
@@ -97,7 +99,7 @@ impl Store {
                 };
                 repair.granted_to(session, counts)
             }
-            None => Reply::Refused(Refusal::NoLawfulNode(fragment)),
+            None => Answer::Refused(Refusal::NoLawfulNode(fragment)),
         }
     }
 
@@ -110,7 +112,7 @@ impl Store {
         ensures nodes { self.new.topology ≡ self.old.topology }
         ensures kept { IsOf (with_lease st lease) self.new }
     {
-        let _slot = self.table.take(lease.target.node);
+        self.table.take_slot(lease.target.node, lease.target.slot);
         self.leases.add(lease);
     }
 
@@ -121,22 +123,22 @@ impl Store {
         stripe: StripeNo,
         fragment: Fragment,
         epoch: u32,
-    ) -> Reply
-        ensures { (st : State) → IsOf st self.now → result ≡ (done_outcome self.now.topology st session stripe fragment epoch).0 }
+    ) -> Answer
+        ensures { (st : State) → IsOf st self.now → told result ≡ (done_outcome self.now.topology st session stripe fragment epoch).0 }
     {
         if !self.stripes.contains(stripe) {
-            return Reply::Refused(Refusal::UnknownStripe);
+            return Answer::Refused(Refusal::UnknownStripe);
         }
         match self.lease_at(stripe, fragment, epoch) {
-            None => Reply::Refused(Refusal::Stale),
+            None => Answer::Refused(Refusal::Stale),
             Some(lease) => {
                 if lease.holder != session {
-                    return Reply::Refused(Refusal::NotHolder(lease.holder));
+                    return Answer::Refused(Refusal::NotHolder(lease.holder));
                 }
                 if !self.is_reachable(lease.target.node) {
-                    return Reply::Refused(Refusal::TargetOffline(lease.target.node));
+                    return Answer::Refused(Refusal::TargetOffline(lease.target.node));
                 }
-                Reply::Ended
+                Answer::Ended
             }
         }
     }
@@ -186,43 +188,43 @@ impl Store {
         stripe: StripeNo,
         fragment: Fragment,
         epoch: u32,
-    ) -> Reply
-        ensures { (st : State) → IsOf st self.now → result ≡ (abandon_outcome st session stripe fragment epoch).0 }
+    ) -> Answer
+        ensures { (st : State) → IsOf st self.now → told result ≡ (abandon_outcome st session stripe fragment epoch).0 }
     {
         if !self.stripes.contains(stripe) {
-            return Reply::Refused(Refusal::UnknownStripe);
+            return Answer::Refused(Refusal::UnknownStripe);
         }
         match self.lease_at(stripe, fragment, epoch) {
-            None => Reply::Refused(Refusal::Stale),
+            None => Answer::Refused(Refusal::Stale),
             Some(lease) => {
                 if lease.holder != session {
-                    return Reply::Refused(Refusal::NotHolder(lease.holder));
+                    return Answer::Refused(Refusal::NotHolder(lease.holder));
                 }
-                Reply::Ended
+                Answer::Ended
             }
         }
     }
 
     #[tactic(auto, unfolding(crate::specs::Leases::revoke_outcome))]
-    pub(crate) fn revoke_reply(&self, stripe: StripeNo, fragment: Fragment) -> Reply
-        ensures { (st : State) → IsOf st self.now → result ≡ (revoke_outcome st stripe fragment).0 }
+    pub(crate) fn revoke_reply(&self, stripe: StripeNo, fragment: Fragment) -> Answer
+        ensures { (st : State) → IsOf st self.now → told result ≡ (revoke_outcome st stripe fragment).0 }
     {
         if !self.stripes.contains(stripe) {
-            return Reply::Refused(Refusal::UnknownStripe);
+            return Answer::Refused(Refusal::UnknownStripe);
         }
         if self.leases.lease(stripe, fragment).is_none() {
-            return Reply::Refused(Refusal::NoLease);
+            return Answer::Refused(Refusal::NoLease);
         }
-        Reply::Ended
+        Answer::Ended
     }
 }
 
-/// Counts the grant, if the reply is one.
-pub(crate) fn count_grant(counts: &mut Grants, reply: &Reply)
+/// Counts the grant, if the answer is one.
+pub(crate) fn count_grant(counts: &mut Grants, answer: &Answer)
     requires { AreFew counts.old }
-    ensures { (past : List Entry) (e : Entry) → e.reply ≡ reply.now → AreGrantsOf past counts.old → AreGrantsOf (past ++ e ∷ []) counts.new }
+    ensures { (past : List Entry) (e : Entry) → e.reply ≡ told answer.now → AreGrantsOf past counts.old → AreGrantsOf (past ++ e ∷ []) counts.new }
 {
-    if let Reply::Granted(lease, _) = reply {
+    if let Answer::Granted(lease, _) = answer {
         counts.add(lease.stripe, lease.fragment);
     }
 }

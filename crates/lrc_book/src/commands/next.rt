@@ -12,14 +12,16 @@ ghost use Rattle.lrc_book.specs.declared.entry.Entry.{Entry};
 ghost use Rattle.lrc_book.specs.States.{State};
 ghost use Rattle.lrc_book.specs.Urgency.{is_grantable, next_of};
 ghost use Rattle.lrc_book.specs.Leases.{next_outcome};
+ghost use Rattle.lrc_book.specs.Answers.{told};
 ghost use Rattle.lrc_book.specs.Steps.{step};
 ghost use Rattle.lrc_book.specs.Changes.{changed_by};
 ghost use Rattle.lrc_book.specs.Stores.{IsOf, AreGrantsOf, AreFew};
 ghost use Rattle.lrc_book.specs.Repairing.{is_waiting, fragment_of, IsRepair, IsFront, HasFront, HaveGrantable};
 
+use crate::Command;
+use crate::answer::Answer;
 use crate::repair::Repair;
 use crate::store::Store;
-use crate::{Command, Reply};
 use lrc_code::{Fragment, LossMask, SessionNo, StripeNo};
 use lrc_leases::Grants;
 use lrc_stripes::Work;
@@ -30,15 +32,15 @@ impl Store {
         counts: &Grants,
         front: Option<StripeNo>,
         session: SessionNo,
-    ) -> Reply
+    ) -> Answer
         requires few { AreFew counts.now }
         requires front { HasFront self.now front }
         ensures { (st : State) (past : List Entry) → IsOf st self.now → AreGrantsOf past counts.now → IsFront self.now.topology st front
-            → result ≡ (next_outcome self.now.topology past st session).0 }
+            → told result ≡ (next_outcome self.now.topology past st session).0 }
     {
         match self.next_repair(front) {
             Some(repair) => repair.granted_to(session, counts),
-            None => Reply::Idle,
+            None => Answer::Idle,
         }
     }
 
@@ -132,16 +134,16 @@ impl Store {
 pub(crate) fn front_after(
     front: Option<StripeNo>,
     command: Command,
-    reply: &Reply,
+    answer: &Answer,
 ) -> Option<StripeNo>
     ensures { (nodes : List NodeInfo) (past : List Entry) (st : State) (session : AnySession) → IsFront nodes st front
-        → (step nodes past st session command).0 ≡ reply.now → IsFront nodes (changed_by st command reply.now) result }
+        → (step nodes past st session command).0 ≡ told answer.now → IsFront nodes (changed_by st command (told answer.now)) result }
 {
-    match (command, reply) {
-        (Command::Next, Reply::Granted(lease, _)) => Some(lease.stripe),
-        (Command::Next, Reply::Idle) => front,
-        (Command::Lease(_, _), Reply::Granted(_, _)) => front,
-        (_, Reply::Refused(_)) => front,
+    match (command, answer) {
+        (Command::Next, Answer::Granted(lease, _)) => Some(lease.stripe),
+        (Command::Next, Answer::Idle) => front,
+        (Command::Lease(_, _), Answer::Granted(_, _)) => front,
+        (_, Answer::Refused(_)) => front,
         _ => None,
     }
 }

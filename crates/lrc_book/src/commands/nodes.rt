@@ -5,31 +5,33 @@ ghost use Rattle.lrc_topology.specs.Nodes.{node_at};
 ghost use Rattle.lrc_book.specs.declared.reply.Reply.TheVariants.{Changed};
 ghost use Rattle.lrc_book.specs.States.{State, load};
 ghost use Rattle.lrc_book.specs.Steps.{node_outcome, fail_outcome, down_outcome, up_outcome, drain_outcome, undrain_outcome, retire_outcome, join_outcome, emptied, with_gone, with_down, without_down, with_draining, without_draining, without_gone};
+ghost use Rattle.lrc_book.specs.Answers.{told};
 ghost use Rattle.lrc_book.specs.Outcomes.{refuse_if};
 ghost use Rattle.lrc_book.specs.declared.refusal.Refusal.TheVariants as refusal;
 ghost use Rattle.lrc_book.specs.Changes.{without_targets};
 ghost use Rattle.lrc_book.specs.Stores.{IsOf, IsTied};
 
+use crate::answer::Answer;
 use crate::store::Store;
-use crate::{Mode, Refusal, Reply};
-use lrc_code::NodeNo;
+use crate::{Mode, Refusal};
+use lrc_code::{NodeNo, StripeNo};
 
 impl Store {
     /// The reply to a command on a node, which is refused where the node's mode is wrong for it.
-    fn node_reply(&self, node: NodeNo, is_wrong: bool) -> Reply
-        ensures { (st changed : State) → IsOf st self.now → result ≡ (node_outcome self.now.topology st node is_wrong changed).0 }
+    fn node_reply(&self, node: NodeNo, is_wrong: bool) -> Answer
+        ensures { (st changed : State) → IsOf st self.now → told result ≡ (node_outcome self.now.topology st node is_wrong changed).0 }
     {
         if self.table.node(node).is_none() {
-            return Reply::Refused(Refusal::UnknownNode);
+            return Answer::Refused(Refusal::UnknownNode);
         }
         if is_wrong {
-            return Reply::Refused(Refusal::WrongMode);
+            return Answer::Refused(Refusal::WrongMode);
         }
-        Reply::Changed
+        Answer::Changed
     }
 
-    pub(crate) fn fail_reply(&self, node: NodeNo) -> Reply
-        ensures { (st : State) → IsOf st self.now → result ≡ (fail_outcome self.now.topology st node).0 }
+    pub(crate) fn fail_reply(&self, node: NodeNo) -> Answer
+        ensures { (st : State) → IsOf st self.now → told result ≡ (fail_outcome self.now.topology st node).0 }
     {
         self.node_reply(node, self.modes.mode(node) == Mode::Gone)
     }
@@ -95,14 +97,16 @@ impl Store {
         ensures modes { self.new.modes ≡ self.old.modes }
         ensures kept { IsOf (emptied st node) self.new }
     {
-        while let Some((stripe, fragment)) = self.stripes.homes_on(node).next() {
+        let mut from = StripeNo { value: 0 };
+        while let Some((stripe, fragment)) = self.stripes.homes_on_from(node, from).next() {
             self.end_lease(stripe, fragment);
             self.clear_home(stripe, fragment);
+            from = stripe;
         }
     }
 
-    pub(crate) fn down_reply(&self, node: NodeNo) -> Reply
-        ensures { (st : State) → IsOf st self.now → result ≡ (down_outcome self.now.topology st node).0 }
+    pub(crate) fn down_reply(&self, node: NodeNo) -> Answer
+        ensures { (st : State) → IsOf st self.now → told result ≡ (down_outcome self.now.topology st node).0 }
     {
         let is_wrong = self.modes.mode(node) == Mode::Gone || self.modes.is_down(node);
         self.node_reply(node, is_wrong)
@@ -120,8 +124,8 @@ impl Store {
         self.follow(node);
     }
 
-    pub(crate) fn up_reply(&self, node: NodeNo) -> Reply
-        ensures { (st : State) → IsOf st self.now → result ≡ (up_outcome self.now.topology st node).0 }
+    pub(crate) fn up_reply(&self, node: NodeNo) -> Answer
+        ensures { (st : State) → IsOf st self.now → told result ≡ (up_outcome self.now.topology st node).0 }
     {
         self.node_reply(node, !self.modes.is_down(node))
     }
@@ -138,8 +142,8 @@ impl Store {
         self.follow(node);
     }
 
-    pub(crate) fn drain_reply(&self, node: NodeNo) -> Reply
-        ensures { (st : State) → IsOf st self.now → result ≡ (drain_outcome self.now.topology st node).0 }
+    pub(crate) fn drain_reply(&self, node: NodeNo) -> Answer
+        ensures { (st : State) → IsOf st self.now → told result ≡ (drain_outcome self.now.topology st node).0 }
     {
         self.node_reply(node, self.modes.mode(node) != Mode::Active)
     }
@@ -156,8 +160,8 @@ impl Store {
         self.follow(node);
     }
 
-    pub(crate) fn undrain_reply(&self, node: NodeNo) -> Reply
-        ensures { (st : State) → IsOf st self.now → result ≡ (undrain_outcome self.now.topology st node).0 }
+    pub(crate) fn undrain_reply(&self, node: NodeNo) -> Answer
+        ensures { (st : State) → IsOf st self.now → told result ≡ (undrain_outcome self.now.topology st node).0 }
     {
         self.node_reply(node, self.modes.mode(node) != Mode::Draining)
     }
@@ -174,32 +178,32 @@ impl Store {
         self.follow(node);
     }
 
-    pub(crate) fn retire_reply(&self, node: NodeNo) -> Reply
+    pub(crate) fn retire_reply(&self, node: NodeNo) -> Answer
         requires { IsTied self.now }
-        ensures { (st : State) → IsOf st self.now → result ≡ (retire_outcome self.now.topology st node).0 }
+        ensures { (st : State) → IsOf st self.now → told result ≡ (retire_outcome self.now.topology st node).0 }
     {
         match self.node_reply(node, self.modes.mode(node) != Mode::Draining) {
-            Reply::Changed => self.reply_if_empty(node),
+            Answer::Changed => self.reply_if_empty(node),
             refused => refused,
         }
     }
 
     /// The reply to the command that takes a node out which is draining: refused where seats are on it.
-    fn reply_if_empty(&self, node: NodeNo) -> Reply
+    fn reply_if_empty(&self, node: NodeNo) -> Answer
         requires tied { IsTied self.now }
         requires known { IsSome (node_at self.now.topology node) }
         ensures { (st : State) → IsOf st self.now
-            → result ≡ (refuse_if (nat_lt 0 (load st node)) (refusal.NotEmpty (load st node)) st (Changed, st)).0 }
+            → told result ≡ (refuse_if (nat_lt 0 (load st node)) (refusal.NotEmpty (load st node)) st (Changed, st)).0 }
     {
         let load = self.table.load(node);
         if load > 0 {
-            return Reply::Refused(Refusal::NotEmpty(load));
+            return Answer::Refused(Refusal::NotEmpty(load));
         }
-        Reply::Changed
+        Answer::Changed
     }
 
-    pub(crate) fn join_reply(&self, node: NodeNo) -> Reply
-        ensures { (st : State) → IsOf st self.now → result ≡ (join_outcome self.now.topology st node).0 }
+    pub(crate) fn join_reply(&self, node: NodeNo) -> Answer
+        ensures { (st : State) → IsOf st self.now → told result ≡ (join_outcome self.now.topology st node).0 }
     {
         self.node_reply(node, self.modes.mode(node) != Mode::Gone)
     }

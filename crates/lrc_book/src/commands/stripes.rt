@@ -5,6 +5,7 @@ ghost use Rattle.lrc_code.specs.declared.codes.Code.TheVariants.{Wide};
 ghost use Rattle.lrc_code.specs.Codes.{fragments};
 ghost use Rattle.lrc_slots.specs.Tables.{slots_of};
 ghost use Rattle.lrc_book.specs.declared.reply.Reply.TheVariants.{Placed, Dropped};
+ghost use Rattle.lrc_book.specs.Answers.{told};
 ghost use Rattle.lrc_book.specs.States.{State, has_stripe};
 ghost use Rattle.lrc_book.specs.Choices.{AreChosen, IsFirstWithout};
 ghost use Rattle.lrc_book.specs.Steps.{with_stripe, place_outcome, drop_outcome, without_stripe};
@@ -12,6 +13,7 @@ ghost use Rattle.lrc_book.specs.Changes.{with_placed};
 ghost use Rattle.lrc_book.specs.Dropping.{unleased, homeless};
 ghost use Rattle.lrc_book.specs.Stores.{IsOf, kept_table, has_room};
 
+use crate::answer::Answer;
 use crate::class_bars::ClassBars;
 use crate::store::Store;
 use crate::{Refusal, Reply, Seat};
@@ -70,19 +72,19 @@ impl Store {
         ensures kept { IsOf (with_placed st stripe seats.now) self.new }
     {
         for seat in seats.iter() {
-            let _slot = self.table.take(seat.node);
+            self.table.take_slot(seat.node, seat.slot);
         }
         self.stripes.add_with_homes(stripe, seats);
     }
 
     #[tactic(auto, unfolding(crate::specs::Steps::drop_outcome))]
-    pub(crate) fn drop_reply(&self, stripe: StripeNo) -> Reply
-        ensures { (st : State) → IsOf st self.now → result ≡ (drop_outcome st stripe).0 }
+    pub(crate) fn drop_reply(&self, stripe: StripeNo) -> Answer
+        ensures { (st : State) → IsOf st self.now → told result ≡ (drop_outcome st stripe).0 }
     {
         if self.stripes.contains(stripe) {
-            Reply::Dropped
+            Answer::Dropped
         } else {
-            Reply::Refused(Refusal::UnknownStripe)
+            Answer::Refused(Refusal::UnknownStripe)
         }
     }
 

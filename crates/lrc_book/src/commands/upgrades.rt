@@ -5,30 +5,32 @@ ghost use Rattle.std.specs.List.{All};
 ghost use Rattle.lrc_stripes.specs.Stored.{has_node};
 ghost use Rattle.lrc_stripes.specs.Tables.{stored_in};
 ghost use Rattle.lrc_book.specs.declared.reply.Reply.TheVariants.{Changed};
+ghost use Rattle.lrc_book.specs.Answers.{told};
 ghost use Rattle.lrc_book.specs.States.{State};
 ghost use Rattle.lrc_book.specs.Steps.{upgrade_outcome, upgraded_outcome, with_upgrading, without_upgrading};
 ghost use Rattle.lrc_book.specs.Stores.{IsOf, AreModesOf, with_rest};
 
+use crate::Refusal;
+use crate::answer::Answer;
 use crate::modes::Modes;
 use crate::store::Store;
-use crate::{Refusal, Reply};
 use lrc_code::UpgradeNo;
 use lrc_stripes::Stripes;
 use lrc_topology::NodeInfo;
 
 impl Store {
-    pub(crate) fn upgrade_reply(&self, domain: UpgradeNo) -> Reply
-        ensures { (st : State) → IsOf st self.now → result ≡ (upgrade_outcome self.now.topology st domain).0 }
+    pub(crate) fn upgrade_reply(&self, domain: UpgradeNo) -> Answer
+        ensures { (st : State) → IsOf st self.now → told result ≡ (upgrade_outcome self.now.topology st domain).0 }
     {
         if !self.topology.has_upgrade_domain(domain) {
-            return Reply::Refused(Refusal::UnknownDomain);
+            return Answer::Refused(Refusal::UnknownDomain);
         }
         if let Some(upgrading) = self.modes.upgrading {
-            return Reply::Refused(Refusal::UpgradeRunning(upgrading));
+            return Answer::Refused(Refusal::UpgradeRunning(upgrading));
         }
         match self.stripes.would_lose_short(domain) {
-            Some(stripe) => Reply::Refused(Refusal::WouldLose(stripe)),
-            None => Reply::Changed,
+            Some(stripe) => Answer::Refused(Refusal::WouldLose(stripe)),
+            None => Answer::Changed,
         }
     }
 
@@ -45,16 +47,16 @@ impl Store {
         self.stripes.set_offline_all(nodes, true);
     }
 
-    pub(crate) fn upgraded_reply(&self, domain: UpgradeNo) -> Reply
-        ensures { (st : State) → IsOf st self.now → result ≡ (upgraded_outcome self.now.topology st domain).0 }
+    pub(crate) fn upgraded_reply(&self, domain: UpgradeNo) -> Answer
+        ensures { (st : State) → IsOf st self.now → told result ≡ (upgraded_outcome self.now.topology st domain).0 }
     {
         if !self.topology.has_upgrade_domain(domain) {
-            return Reply::Refused(Refusal::UnknownDomain);
+            return Answer::Refused(Refusal::UnknownDomain);
         }
         if self.modes.upgrading != Some(domain) {
-            return Reply::Refused(Refusal::NotUpgrading);
+            return Answer::Refused(Refusal::NotUpgrading);
         }
-        Reply::Changed
+        Answer::Changed
     }
 
     /// Brings the nodes of the upgrade domain back, but for those that are down or out of the store.

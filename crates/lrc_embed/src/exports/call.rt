@@ -51,7 +51,7 @@ fn step(book: &mut Book, session: SessionNo, command: Command, reply: &mut LrcRe
     ensures statuses { (result ≡ 0) ⊎ (result ≡ 5) ⊎ (result ≡ 6) }
     ensures unwritten { (result ≢ 0) → reply.new ≡ reply.old }
 {
-    match book.call(session, command) {
+    match book.add(session, command) {
         Ok(_) => {
             tell_last(book, reply);
             DONE
@@ -61,11 +61,11 @@ fn step(book: &mut Book, session: SessionNo, command: Command, reply: &mut LrcRe
     }
 }
 
-/// Tells the reply of the last entry. It is read where it stands: a copy takes as long as the rest of a small call.
+/// Tells the reply of the last entry.
 fn tell_last(book: &Book, reply: &mut LrcReply)
     ensures { (past : List Entry) (e : Entry) → book.now.history ≡ past ++ e ∷ [] → reply.new ≡ reply_told e.reply }
 {
-    if let Some(entry) = book.history().last() {
-        reply.tell(&entry.reply);
+    if let Some(record) = book.history().last() {
+        reply.tell(&record.reply());
     }
 }

@@ -4,6 +4,7 @@ ghost use Rattle.lrc_embed.specs.Replies.{entry_told};
 
 use crate::status::{DONE, IS_CLOSED, UNKNOWN};
 use crate::{LrcEntry, LrcHandle};
+use lrc_book::{Book, Entry};
 use std::alloc::Global;
 
 /// The number of entries of the history.
@@ -41,7 +42,7 @@ pub extern "C" fn lrc_embed_entry(
     let Some(book) = handle.take(alloc) else {
         return IS_CLOSED;
     };
-    let shown = book.history().get(index).copied();
+    let shown = entry_at(&book, index);
     handle.put(book);
     match shown {
         Some(shown) => {
@@ -50,4 +51,12 @@ pub extern "C" fn lrc_embed_entry(
         }
         None => UNKNOWN,
     }
+}
+
+/// The entry of a book's history at an index, if there is one.
+fn entry_at(book: &Book, index: usize) -> Option<Entry>
+    ensures { result ≡ slice_get book.now.history index }
+{
+    let record = book.history().get(index)?;
+    Some(record.entry())
 }

@@ -1,7 +1,7 @@
 //! Eight sessions at once, whose history is replayed by one thread.
 
 use super::{nodes, parts, run_all};
-use lrc_book::{Book, Command, Entry};
+use lrc_book::{Book, Command, Record};
 use lrc_code::{Fragment, NodeNo, SessionNo, StripeNo, UpgradeNo};
 use lrc_sessions::{Closing, OpenGate, Receipt, Track};
 use std::alloc::Global;
@@ -105,7 +105,8 @@ fn command_on_nodes(kind: u64, number: u64) -> Command {
 
 /// One thread that makes the calls of the book in their order gets its replies, and leaves its stripes and nodes.
 fn expect_replayed(rt: &impl Abort, book: &Book, fresh: &mut Book) {
-    for entry in book.history() {
+    for record in book.history() {
+        let entry = record.entry();
         assert_eq!(rt; fresh.call(entry.session, entry.command), Ok(entry.reply));
     }
     for number in 0..6 {
@@ -142,13 +143,14 @@ fn expect_tracks(rt: &impl Abort, closing: &Closing, scripts: &[Vec<Command>], t
 /// The entries of a session are the calls of its script in order, and its receipts are their places and replies.
 fn expect_in_order(
     rt: &impl Abort,
-    history: &[Entry],
+    history: &[Record],
     session: SessionNo,
     script: &[Command],
     receipts: &[Receipt],
 ) {
     let mut made = 0;
-    for (i, entry) in history.iter().enumerate() {
+    for (i, record) in history.iter().enumerate() {
+        let entry = record.entry();
         if entry.session == session {
             assert!(rt; made < script.len() && made < receipts.len());
             assert_eq!(rt; entry.command, script[made]);

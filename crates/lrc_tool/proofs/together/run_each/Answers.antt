@@ -1,4 +1,6 @@
-use Rattle.std.proofs.Common.{◌≡◌, List, length, IfOk, sym, ap, subst, ◌∙◌}
+use Rattle.std.proofs.Common.{◌≡◌, List, length, IfOk, IfErr, inl, refl, sym, ap, subst, ◌∙◌}
+use Rattle.std.proofs.lemmas.Result.{err_from_is_err_and}
+use Rattle.lrc_code.specs.declared.fault.Fault.TheVariants as book
 use Rattle.lrc_topology.specs.declared.NodeInfo.{NodeInfo}
 use Rattle.lrc_sessions.specs.declared.track.Track.{Track}
 use Rattle.lrc_sessions.specs.Views.{SessionView, fresh}
@@ -20,6 +22,20 @@ unreachable-requires g c =
     let long : length c.in-Ok.sessions.items ≡ length c.args.scripts.now = ap length opened ∙ (length_fresh c.args.parts.count ∙ sym c.requires.scripts.0) in
     let ran = c.run_sessions-sessions in
     c.in-Err-SessionsOut.ensures.0 (all_left c.in-Ok.manager.count _ open_passes c.args.scripts.now c.in-Ok.sessions ran.result.0 ran.result.1 (opened ∙ ap fresh (sym c.in-Ok.ensures.ok.0)) long ran.ensures.ok ran.ensures.err)
+
+-- no script was run
+pub returns-in_err-ran-in-Ok-finish-clause-err : goal.returns-in_err-ran-in-Ok-finish-clause-err
+returns-in_err-ran-in-Ok-finish-clause-err g c =
+    let p = err_from_is_err_and c.from_residual.result c.from_residual.ensures.1 in
+    let ran = c.run_sessions-sessions in
+    let none = subst (λ r. IfErr r (λ e. (e ≡ book.OutOfMemory) × (ran.result.0 ≡ c.in-Ok.sessions))) c.in_err-ran-in-Ok-finish.was ran.ensures.err in
+    rw (p.1, p.2, none.0) (inl refl)
+
+-- a script was stopped
+pub returns-in_err-unstopped-in-Ok-finish-clause-err : goal.returns-in_err-unstopped-in-Ok-finish-clause-err
+returns-in_err-unstopped-in-Ok-finish-clause-err g c =
+    let p = err_from_is_err_and c.from_residual-in_err-unstopped-in-Ok-finish.result c.from_residual-in_err-unstopped-in-Ok-finish.ensures.1 in
+    rw (p.1, p.2) c.in_err-unstopped-in-Ok-finish.ensures.err
 
 pub returns-clause-made : goal.returns-clause-made
 returns-clause-made g c =

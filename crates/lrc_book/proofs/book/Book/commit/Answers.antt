@@ -1,5 +1,4 @@
-use Rattle.std.proofs.Common.{refl}
 use Rattle.lrc_book.proofs.book.Book.commit.Goals as goal
 
-pub make-requires : goal.make-requires
-make-requires c = (refl, (c.requires.ready, (c.requires.room, c.requires.step)))
+pub invariant_of-self : goal.invariant_of-self
+invariant_of-self c = c.make.ensures.kept c.self.inside.limit c.self.invariant (rw (← c.self.view_is) at c.requires.room)

@@ -1,5 +1,5 @@
-use Rattle.lrc_book.specs.Books.{state_of}
+use Rattle.lrc_book.specs.Histories.{state_after}
 use Rattle.lrc_book.proofs.book.Book.commit.Given as goal
 
 abbrev pub ghost-make : goal.ghost-make
-ghost-make a = state_of a.self.now
+ghost-make a = state_after a.store.now.topology a.history.now.items

@@ -14,7 +14,7 @@ use Rattle.lrc_stripes.specs.Tables.{stored_in}
 use Rattle.lrc_book.specs.declared.store.Store.{Store}
 use Rattle.lrc_book.specs.Changes.{with_placed}
 use Rattle.lrc_book.specs.Stores.{IsOf}
-use Rattle.lrc_book.proofs.PlacingLemmas.{taken-start, taken-known, taken-more, placed-kept}
+use Rattle.lrc_book.proofs.PlacingLemmas.{taken-start, taken-known, taken-least, taken-more, placed-kept}
 use Rattle.lrc_book.proofs.ToldLemmas.{place-told}
 use Rattle.lrc_book.proofs.store.Store.place.Goals as goal
 
@@ -33,22 +33,25 @@ loop-seat-init g c = record {
       (place-told c.args.self.now.topology g.st c.args.stripe c.args.seats.now c.requires.1.1) (slots_of c.args.self.now.table) c.requires.0.table_is;
 }
 
-pub take-slot-requires : goal.take-slot-requires
-take-slot-requires g c =
+pub take_slot-requires : goal.take_slot-requires
+take_slot-requires g c =
     let low : c.loop-seat.seat-index < length (fragments Wide) = omega arith in
     let there : c.loop-seat.seat-index < length c.args.seats.now = omega arith in
-    taken-known c.args.self.now.topology c.requires.0.known g.st c.args.stripe c.args.seats.now c.loop-seat.seat-index first zero_seat low there
-    (slots_of c.loop-seat.self.table) c.loop-seat.invariant.taken
+    record {
+      known = taken-known c.args.self.now.topology c.requires.0.known g.st c.args.stripe c.args.seats.now c.loop-seat.seat-index first zero_seat low there
+          (slots_of c.loop-seat.self.table) c.loop-seat.invariant.taken;
+      least = taken-least c.args.self.now.topology c.requires.0.known g.st c.args.stripe c.args.seats.now c.loop-seat.seat-index first zero_seat low there
+          (slots_of c.loop-seat.self.table) c.loop-seat.invariant.taken;
+    }
 
 pub loop-seat-preserved : goal.loop-seat-preserved
 loop-seat-preserved g c =
     let low : c.loop-seat.seat-index < length (fragments Wide) = omega arith in
     let there : c.loop-seat.seat-index < length c.args.seats.now = omega arith in
     record {
-      rest = ap (λ (k : Store). record k { table = c.take-slot.new.self }) c.loop-seat.invariant.rest;
+      rest = ap (λ (k : Store). record k { table = c.take_slot.new.self }) c.loop-seat.invariant.rest;
       taken = taken-more c.args.self.now.topology c.requires.0.known g.st c.args.stripe c.args.seats.now c.loop-seat.seat-index first zero_seat low there
-          (slots_of c.loop-seat.self.table) c.loop-seat.invariant.taken c.take-slot.result (slots_of c.take-slot.new.self) c.take-slot.ensures.slot
-          c.take-slot.ensures.taken;
+          (slots_of c.loop-seat.self.table) c.loop-seat.invariant.taken (slots_of c.take_slot.new.self) c.take_slot.ensures;
     }
 
 pub add_with_homes-requires : goal.add_with_homes-requires

@@ -1,19 +1,20 @@
 use Rattle.std.proofs.Common.{sym, ap, ap₂, subst, ◌∙◌}
 use Rattle.lrc_book.specs.declared.command.Command.{Command}
-use Rattle.lrc_book.specs.declared.reply.Reply.{Reply}
+use Rattle.lrc_book.specs.declared.answer.Answer.{Answer}
+use Rattle.lrc_book.specs.Answers as answers
 use Rattle.lrc_book.specs.States.{State}
 use Rattle.lrc_book.specs.Steps.{step}
 use Rattle.lrc_book.specs.Changes.{changed_by}
 use Rattle.lrc_book.specs.Stores.{IsOf}
 use Rattle.lrc_book.proofs.LeaseToldLemmas.{lease-told, next-told, done-told}
 use Rattle.lrc_book.proofs.ToldLemmas.{retire-told}
-use Rattle.lrc_book.proofs.store.Store.change.Goals as goal
+use Rattle.lrc_book.proofs.store.Store.make_change.Goals as goal
 
 pub grant-requires : goal.grant-requires
 grant-requires g c =
     let nodes = c.args.self.now.topology in
     let told = c.requires.1.1 in
-    let e = sym (ap (λ (command : Command). (step nodes told.past g.st told.session command).0) c.in-Lease-Granted.is-0) ∙ told.told ∙ c.in-Lease-Granted.is-1 in
+    let e = sym (ap (λ (command : Command). (step nodes told.past g.st told.session command).0) c.in-Lease-Granted.is-0) ∙ told.told ∙ ap answers.told c.in-Lease-Granted.is-1 in
     (c.requires.0, (c.requires.1.0, lease-told nodes told.past g.st told.session c.in-Lease-Granted.field-0-0 c.in-Lease-Granted.field-1-0 c.in-Lease-Granted.lease c.in-Lease-Granted.field-1-1 e))
 
 pub grant-requires-in-Next-Granted : goal.grant-requires-in-Next-Granted
@@ -21,7 +22,7 @@ grant-requires-in-Next-Granted g c =
     let nodes = c.args.self.now.topology in
     let told = c.requires.1.1 in
     let e = sym (ap (λ (command : Command). (step nodes told.past g.st told.session command).0) c.in-Next-Granted.is-0) ∙ told.told
-    ∙ c.in-Next-Granted.is-1 in
+    ∙ ap answers.told c.in-Next-Granted.is-1 in
     (c.requires.0, (c.requires.1.0, next-told nodes told.past g.st told.session c.in-Next-Granted.lease c.in-Next-Granted.field-1-1 e))
 
 pub leave-requires : goal.leave-requires
@@ -30,22 +31,22 @@ leave-requires g c =
     let told = c.requires.1.1 in
     let node = c.in-Retire-Changed.node in
     let e = sym (ap (λ (command : Command). (step nodes told.past g.st told.session command).0) c.in-Retire-Changed.is-0) ∙ told.told
-    ∙ c.in-Retire-Changed.is-1 in
+    ∙ ap answers.told c.in-Retire-Changed.is-1 in
     (c.requires.0, retire-told nodes g.st node e)
 
 pub move_in-requires : goal.move_in-requires
 move_in-requires g c =
     let nodes = c.args.self.now.topology in
     let told = c.requires.1.1 in
-    let e = sym (ap (λ (command : Command). (step nodes told.past g.st told.session command).0) c.in-Done-Ended.is-0) ∙ told.told ∙ c.in-Done-Ended.is-1 in
+    let e = sym (ap (λ (command : Command). (step nodes told.past g.st told.session command).0) c.in-Done-Ended.is-0) ∙ told.told ∙ ap answers.told c.in-Done-Ended.is-1 in
     (c.requires.0, done-told nodes g.st told.session c.in-Done-Ended.stripe c.in-Done-Ended.fragment c.in-Done-Ended.field-2-0 e)
 
 pub returns-in-Abandon-Ended-clause-kept : goal.returns-in-Abandon-Ended-clause-kept
 returns-in-Abandon-Ended-clause-kept g c =
-    subst (λ (st : State). IsOf st c.end_lease.new.self) (sym (ap₂ (λ (command : Command) (reply : Reply). changed_by g.st command reply) c.in-Abandon-Ended.is-0 c.in-Abandon-Ended.is-1))
+    subst (λ (st : State). IsOf st c.end_lease.new.self) (sym (ap₂ (λ (command : Command) (a : Answer). changed_by g.st command (answers.told a)) c.in-Abandon-Ended.is-0 c.in-Abandon-Ended.is-1))
     (c.end_lease.ensures.kept g.st c.requires.0)
 
 pub returns-in-Revoke-Ended-clause-kept : goal.returns-in-Revoke-Ended-clause-kept
 returns-in-Revoke-Ended-clause-kept g c =
-    subst (λ (st : State). IsOf st c.end_lease-in-Revoke-Ended.new.self) (sym (ap₂ (λ (command : Command) (reply : Reply). changed_by g.st command reply) c.in-Revoke-Ended.is-0 c.in-Revoke-Ended.is-1))
+    subst (λ (st : State). IsOf st c.end_lease-in-Revoke-Ended.new.self) (sym (ap₂ (λ (command : Command) (a : Answer). changed_by g.st command (answers.told a)) c.in-Revoke-Ended.is-0 c.in-Revoke-Ended.is-1))
     (c.end_lease-in-Revoke-Ended.ensures.kept g.st c.requires.0)

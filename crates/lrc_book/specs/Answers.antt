@@ -1,0 +1,23 @@
+-- What the answers that a history keeps tell.
+use Rattle.std.specs.Prelude.{Bool, true, false}
+use Rattle.lrc_book.specs.declared.command.Command.{Command}
+use Rattle.lrc_book.specs.declared.command.Command.TheVariants.{Place}
+use Rattle.lrc_book.specs.declared.answer.Answer.{Answer}
+use Rattle.lrc_book.specs.declared.answer.Answer.TheVariants as answer
+use Rattle.lrc_book.specs.declared.reply.Reply.{Reply}
+use Rattle.lrc_book.specs.declared.reply.Reply.TheVariants as reply
+
+-- the reply that an answer tells
+abbrev pub told : Answer → Reply
+told (answer.Placed seats) = reply.Placed seats.value
+told answer.Dropped = reply.Dropped
+told (answer.Granted lease kind) = reply.Granted lease kind
+told answer.Idle = reply.Idle
+told answer.Ended = reply.Ended
+told answer.Changed = reply.Changed
+told (answer.Refused refusal) = reply.Refused refusal
+
+-- the command places a stripe
+abbrev pub is_place : Command → Bool
+is_place (Place s) = true
+is_place _ = false

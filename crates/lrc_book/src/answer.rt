@@ -1,0 +1,66 @@
+ghost use Rattle.std.specs.Prelude.{◌≡◌, false, IsSome};
+ghost use Rattle.lrc_book.specs.declared.command.Command.{Command};
+ghost use Rattle.lrc_book.specs.States.{State};
+ghost use Rattle.lrc_book.specs.Answers.{told};
+ghost use Rattle.lrc_book.specs.Changes.{changed_by};
+
+use crate::{Kind, Lease, Refusal, Reply, Seat};
+
+/// A reply as the history keeps it: the seats of a new stripe stand apart, so that an entry is small.
+#[derive(Drop)]
+pub(crate) enum Answer {
+    Placed(Box<[Seat; 16]>),
+    Dropped,
+    Granted(Lease, Kind),
+    Idle,
+    Ended,
+    Changed,
+    Refused(Refusal),
+}
+
+impl Answer {
+    /// The answer that tells this reply. Its seats, if it has some, stand in the room that there is for them.
+    pub(crate) fn of(reply: &Reply, room: &mut Option<Box<[Seat; 16]>>) -> Answer
+        requires { IsSome room.old }
+        ensures { told result ≡ reply.now }
+    {
+        match reply {
+            Reply::Placed(seats) => {
+                let mut kept = room.take().unwrap();
+                *kept = *seats;
+                Answer::Placed(kept)
+            }
+            Reply::Dropped => Answer::Dropped,
+            Reply::Granted(lease, kind) => Answer::Granted(*lease, *kind),
+            Reply::Idle => Answer::Idle,
+            Reply::Ended => Answer::Ended,
+            Reply::Changed => Answer::Changed,
+            Reply::Refused(refusal) => Answer::Refused(*refusal),
+        }
+    }
+
+    /// Whether the store may change by it.
+    pub(crate) fn changes(&self) -> bool
+        ensures { result ≡ false → (st : State) (command : Command) → changed_by st command (told self.now) ≡ st }
+    {
+        match self {
+            Answer::Idle | Answer::Refused(_) => false,
+            _ => true,
+        }
+    }
+
+    /// The reply that it tells.
+    pub(crate) fn reply(&self) -> Reply
+        ensures { result ≡ told self.now }
+    {
+        match self {
+            Answer::Placed(seats) => Reply::Placed(**seats),
+            Answer::Dropped => Reply::Dropped,
+            Answer::Granted(lease, kind) => Reply::Granted(*lease, *kind),
+            Answer::Idle => Reply::Idle,
+            Answer::Ended => Reply::Ended,
+            Answer::Changed => Reply::Changed,
+            Answer::Refused(refusal) => Reply::Refused(*refusal),
+        }
+    }
+}

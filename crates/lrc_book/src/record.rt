@@ -1,0 +1,70 @@
+ghost use Rattle.std.specs.Prelude.{◌≡◌};
+ghost use Rattle.lrc_book.specs.Answers.{told};
+
+use crate::answer::Answer;
+use crate::{Command, Entry, Reply};
+use lrc_code::SessionNo;
+use std::marker::Model;
+
+/// An entry as the history keeps it, where the seats of a reply take room only in those that have some.
+#[derive(Drop)]
+pub struct Record {
+    session: SessionNo,
+    command: Command,
+    answer: Answer,
+}
+
+impl Model for Record {
+    ghost use Rattle.lrc_book.specs.declared.entry.Entry.{Entry};
+
+    ghost Value = { Entry };
+
+    ghost use Rattle.lrc_book.specs.Answers.{told};
+
+    ghost view = { λ r. record { session = r.session; command = r.command; reply = told r.answer } };
+}
+
+impl Record {
+    /// The entry of a command that was answered so.
+    pub(crate) fn new(session: SessionNo, command: Command, answer: Answer) -> Record
+        ensures { result ≡ record { session = session; command = command; reply = told answer } }
+    {
+        Record {
+            session,
+            command,
+            answer,
+        }
+    }
+
+    /// Who gave the command.
+    pub fn session(&self) -> SessionNo
+        ensures { result ≡ self.now.session }
+    {
+        self.session
+    }
+
+    /// What was asked.
+    pub fn command(&self) -> Command
+        ensures { result ≡ self.now.command }
+    {
+        self.command
+    }
+
+    /// What the book answered.
+    pub fn reply(&self) -> Reply
+        ensures { result ≡ self.now.reply }
+    {
+        self.answer.reply()
+    }
+
+    /// The entry as a plain value.
+    pub fn entry(&self) -> Entry
+        ensures { result ≡ self.now }
+    {
+        Entry {
+            session: self.session,
+            command: self.command,
+            reply: self.answer.reply(),
+        }
+    }
+}
