@@ -3,6 +3,7 @@ pub mod ScriptLemmas
 pub mod LineLemmas
 pub mod SizeLemmas
 pub mod CauseLemmas
+pub mod FrontLemmas
 pub mod FirstLemmas
 pub mod SplitLemmas
 pub mod TextLemmas

@@ -3,7 +3,8 @@
 use Rattle.std.specs.Prelude.{◌≡◌, ◌≢◌, ℕ, ◌+◌, ◌≤◌, ◌⊎◌, true, false, List, [], ◌∷◌, ◌++◌, length, All, Option, Some, None, option_map, option_to_list}
 use Rattle.std.specs.Borrow.{Bor}
 use Rattle.lrc_book.specs.declared.command.Command.{Command}
-use Rattle.lrc_script.specs.Scripts.{lines_of, words_of, is_passed_over, command_line, IsInRange, cause_of, BadLine}
+use Rattle.lrc_script.specs.declared.script.ScriptError.{ScriptError}
+use Rattle.lrc_script.specs.Scripts.{lines_of, words_of, is_passed_over, command_line, IsInRange, cause_of, BadLine, IsFirstBad}
 use Rattle.lrc_script.specs.Bundles.{parts_of, ended_lines}
 
 -- ---- at a byte
@@ -55,3 +56,17 @@ pub record IsAdded (line : List ℕ) (before after : List Command) : Type 0 wher
 -- the line that has this number, if it is bad
 abbrev pub bad_line : ℕ → List ℕ → Option BadLine
 bad_line number line = option_map (λ cause. record { line = number; cause = cause }) (cause_of line)
+
+-- the first line of the text is good: the commands are with that of the line, if it has one, and this stands behind it
+pub record IsLineRead (text : List ℕ) (before after : List Command) (behind : Option (Bor (List ℕ))) : Type 0 where
+  pub line : List ℕ
+  pub cut : IsCut 10 text line behind
+  pub good : cause_of line ≡ None
+  pub added : IsAdded line before after
+
+-- the first line of the text, which has this number, is bad, and the error tells of it, or of no line
+pub record IsLineBad (text : List ℕ) (number : ℕ) (error : ScriptError) : Type 0 where
+  pub line : List ℕ
+  pub behind : Option (Bor (List ℕ))
+  pub cut : IsCut 10 text line behind
+  pub bad : IsFirstBad (bad_line number line) error

@@ -3,6 +3,7 @@
 
 mod bundle;
 mod cut;
+mod front;
 pub mod laws;
 mod script;
 #[cfg(test)]

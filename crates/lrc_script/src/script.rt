@@ -2,10 +2,11 @@ ghost use Rattle.std.specs.Prelude.{◌≡◌, ◌≢◌, ℕ, ◌+◌, ◌^◌,
 ghost use Rattle.std.specs.List.{join_with_byte};
 ghost use Rattle.std.specs.Result.{result_err};
 ghost use Rattle.lrc_script.specs.Scripts.{lines_of, words_of, is_passed_over, command_line, IsInRange, IsScript, argument_cause, numbers_cause, node_forms, form_in, form_cause, words_cause, cause_of, first_bad, IsFirstBad};
-ghost use Rattle.lrc_script.specs.Cuts.{words_behind, IsReadAs, IsAdded, bad_line};
+ghost use Rattle.lrc_script.specs.Cuts.{words_behind, IsReadAs, IsAdded, IsLineRead, IsLineBad, bad_line};
 ghost use Rattle.lrc_script.specs.declared.script.Cause.TheVariants as causes;
 
 use crate::cut::{cut_line, cut_word, is_word};
+use crate::front::command_in_front;
 use lrc_book::Command;
 use lrc_code::{Fragment, NodeNo, StripeNo, UpgradeNo};
 use std::alloc::{AllocError, AllocFailed, Global};
@@ -81,14 +82,35 @@ pub fn parse_script(
     let mut rest = text;
     let mut number = first_line;
     loop {
-        let (line, behind) = cut_line(rest);
-        push_line(&mut commands, line, number)?;
+        let behind = match command_in_front(rest) {
+            Some((command, behind)) => {
+                commands.push(command)?;
+                Some(behind)
+            }
+            None => push_first_line(&mut commands, rest, number)?,
+        };
         let Some(next) = behind else {
             return Ok(commands);
         };
         rest = next;
         number += 1;
     }
+}
+
+/// Adds the command of the first line of a text, which has this number, if it is the line of one, and answers what stands behind
+/// the line, if it ends.
+#[inline(never)]
+fn push_first_line<'a>(
+    commands: &mut Vec<Command>,
+    text: &'a [u8],
+    number: u64,
+) -> Result<Option<&'a [u8]>, ScriptError>
+    ensures read { IfOk result (IsLineRead text.now commands.old.items commands.new.items) }
+    ensures bad { IfErr result (IsLineBad text.now number) }
+{
+    let (line, behind) = cut_line(text);
+    push_line(commands, line, number)?;
+    Ok(behind)
 }
 
 /// Adds the command of the line with this text and number, if it is the line of one.
