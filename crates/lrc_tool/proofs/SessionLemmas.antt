@@ -1,7 +1,8 @@
 -- Histories of session 1 alone.
-use Rattle.std.proofs.Common.{◌≡◌, ℕ, suc, ◌+◌, ◌≤◌, All, List, [], ◌∷◌, ◌++◌, length, map, filter, flat_map, refl, sym, ap, ◌∙◌, arith, add-zero, append_assoc, append-nil}
+use Rattle.std.proofs.Common.{◌≡◌, ℕ, suc, ◌+◌, ◌≤◌, All, List, [], ◌∷◌, ◌++◌, length, take, drop, map, filter, flat_map, refl, sym, ap, ap₂, ◌∙◌, arith, add-zero, append_assoc, append-nil}
+use Rattle.std.proofs.lemmas.List.{length-append, length-take-le, take-append-drop}
 use borrow.Author.Tests.{eq-eqb}
-use Rattle.std.proofs.lemmas.List.Elements.{All-head, All-tail, filter-append}
+use Rattle.std.proofs.lemmas.List.Elements.{All-head, All-tail, All-drop, filter-append}
 use Rattle.std.proofs.lemmas.List.Concat.{flat_map-append}
 use Rattle.lrc_topology.specs.declared.NodeInfo.{NodeInfo}
 use Rattle.lrc_book.specs.declared.command.Command.{Command}
@@ -11,7 +12,7 @@ use Rattle.lrc_book.specs.Sessions.{NumberedEntry, numbered_from, is_of, entries
 use Rattle.lrc_tool.specs.Texts.{reply_line, script_line, script_text}
 use Rattle.lrc_tool.specs.Tables.{tables_text}
 use Rattle.lrc_tool.specs.Outputs.{IsPlayed}
-use Rattle.lrc_tool.specs.Plays.{AreMade}
+use Rattle.lrc_tool.specs.Plays.{AreMade, lines_from}
 
 -- the entry is of session 1
 abbrev pub IsFirst : Entry → Type 0
@@ -61,21 +62,40 @@ script_text-push h e first =
     ∙ ap (λ t. script_line 1 ++ t) (flat_map-append line (entries_of 1 h) (numbered (1 + length h) e ∷ []) ∙ ap (λ t. flat_map line (entries_of 1 h) ++ t) (append-nil (line (numbered (1 + length h) e))))
     ∙ sym (append_assoc (script_line 1) (flat_map line (entries_of 1 h)) (line (numbered (1 + length h) e)))
 
+-- the lines of more entries
+script_text-more : (h es : List Entry) → All IsFirst es → script_text (h ++ es) 1 ≡ script_text h 1 ++ lines_from (length h + 1) es
+script_text-more h [] alone = ap (λ x. script_text x 1) (append-nil h) ∙ sym (append-nil (script_text h 1))
+script_text-more h (e ∷ es) alone =
+    let next : 1 + length h ≡ length h + 1 = omega arith in
+    let behind : length (h ++ e ∷ []) + 1 ≡ length h + 1 + 1 = ap (λ n. n + 1) (length-append h (e ∷ [])) in
+    sym (ap (λ x. script_text x 1) (append_assoc h (e ∷ []) es))
+    ∙ script_text-more (h ++ e ∷ []) es (All-tail IsFirst e es alone)
+    ∙ ap₂ (λ t n. t ++ lines_from n es) (script_text-push h e (All-head IsFirst e es alone) ∙ ap (λ n. script_text h 1 ++ reply_line n e.reply) next) behind
+    ∙ append_assoc (script_text h 1) (reply_line (length h + 1) e.reply) (lines_from (length h + 1 + 1) es)
+
+-- what is printed of a history, behind what is printed of its first entries
+pub told_more : (h : List Entry) (n : ℕ) (text new : List ℕ) → All IsFirst h → n ≤ length h → text ≡ script_text (take n h) 1 → new ≡ text ++ lines_from (n + 1) (drop n h) → new ≡ script_text h 1
+told_more h n text new alone within so_far next =
+    next
+    ∙ ap (λ t. t ++ lines_from (n + 1) (drop n h)) so_far
+    ∙ ap (λ m. script_text (take n h) 1 ++ lines_from (m + 1) (drop n h)) (sym (length-take-le n h within))
+    ∙ sym (script_text-more (take n h) (drop n h) (All-drop IsFirst n h alone))
+    ∙ ap (λ x. script_text x 1) (take-append-drop n h)
+
 -- ---- scripts
 
--- the calls of the only script, and what is printed of them
-pub record IsPlayedBy (nodes : List NodeInfo) (commands : List Command) (history : List Entry) (text : List ℕ) : Type 0 where
+-- the calls of the only script
+pub record IsPlayedBy (nodes : List NodeInfo) (commands : List Command) (history : List Entry) : Type 0 where
   pub legal : IsLegal nodes history
   pub made : map (λ e. e.command) history ≡ commands
   pub alone : All IsFirst history
-  pub printed : text ≡ script_text history 1
 
-pub one_made : (nodes : List NodeInfo) (commands : List Command) (history : List Entry) (text : List ℕ) → IsPlayedBy nodes commands history text → AreMade nodes (commands ∷ []) history text
-one_made nodes commands history text by = record {
+pub one_made : (nodes : List NodeInfo) (commands : List Command) (history : List Entry) (text : List ℕ) → IsPlayedBy nodes commands history → text ≡ script_text history 1 → AreMade nodes (commands ∷ []) history text
+one_made nodes commands history text by printed = record {
   legal = by.legal;
   made = ap (λ cs. cs ∷ []) (commands_alone history by.alone ∙ by.made);
   alone = λ k d within. omega (arith, by.alone k d within);
-  printed = by.printed ∙ sym (append-nil (script_text history 1));
+  printed = printed ∙ sym (append-nil (script_text history 1));
 }
 
 -- with the tables behind it, it is what is printed

@@ -17,6 +17,11 @@ pub record AreMade (nodes : List NodeInfo) (scripts : List (List Command)) (hist
   pub alone : All (λ e. e.session.value ≤ length scripts) history
   pub printed : text ≡ replies_text (length scripts) history
 
+-- what is printed of entries, of which the first has this place in the history
+abbrev pub lines_from : ℕ → List Entry → List ℕ
+lines_from place [] = []
+lines_from place (e ∷ es) = reply_line place e.reply ++ lines_from (place + 1) es
+
 -- what is printed of the receipts of a script's calls
 abbrev pub receipts_text : List Receipt → List ℕ
 receipts_text receipts = flat_map (λ r. reply_line r.place r.reply) receipts

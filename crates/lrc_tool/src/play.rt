@@ -6,11 +6,17 @@ ghost use Rattle.lrc_tool.specs.declared.streams.RunFault.TheVariants as fault;
 
 use crate::streams::RunFault;
 use crate::tables::with_tables;
-use crate::texts::{push_reply_line, push_script_line};
+use crate::texts::{push_lines, push_script_line};
 use lrc_book::{Book, Command, HISTORY_LIMIT};
 use lrc_code::SessionNo;
 use lrc_topology::Topology;
 use std::alloc::Global;
+
+/// How many replies are told at once.
+const TOLD: usize = 32;
+
+/// Room for their lines: 32 times `LINE_ROOM`.
+const TOLD_ROOM: usize = 7040;
 
 /// Makes the commands of the only script, if there is one, on a new book, and answers what is printed of them, with the tables.
 pub(crate) fn play(
@@ -59,9 +65,15 @@ fn play_alone(alloc: Global, book: &mut Book, commands: &[Command]) -> Result<Ve
     let session = SessionNo::new(1).unwrap();
     let mut text = Vec::new(alloc);
     push_script_line(&mut text, session)?;
-    for (index, command) in commands.iter().enumerate() {
-        let reply = book.call(session, *command)?;
-        push_reply_line(&mut text, index + 1, &reply)?;
+    let mut room = [0u8; TOLD_ROOM];
+    let mut told = 0;
+    for command in commands.iter() {
+        book.add(session, *command)?;
+        if book.history().len() == told + TOLD {
+            push_lines(&mut text, &book.history()[told..], told + 1, &mut room)?;
+            told += TOLD;
+        }
     }
+    push_lines(&mut text, &book.history()[told..], told + 1, &mut room)?;
     Ok(text)
 }

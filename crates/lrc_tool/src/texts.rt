@@ -1,35 +1,27 @@
 //! The lines of replies, and those of refusals of input.
 
-ghost use Rattle.std.specs.Prelude.{◌≡◌, ◌+◌, ◌*◌, ◌<◌, ◌≤◌, ◌∷◌, ◌++◌, length, drop, OnOk, string_bytes, codes, decimal, map};
+ghost use Rattle.std.specs.Prelude.{◌≡◌, ◌+◌, ◌*◌, ◌^◌, ◌<◌, ◌≤◌, ◌∷◌, ◌++◌, length, drop, OnOk, string_bytes, codes, decimal, map};
 ghost use Rattle.lrc_book.specs.declared.reply.Reply.TheVariants.{Placed, Granted, Refused};
-ghost use Rattle.lrc_tool.specs.Texts.{seat_text, spaced, lease_text, kind_text, reply_line, script_line, topology_line, cause_number, bad_line_text};
+ghost use Rattle.lrc_tool.specs.Plays.{lines_from};
+ghost use Rattle.lrc_tool.specs.Texts.{seat_text, spaced, lease_text, kind_text, reply_text, reply_line, script_line, topology_line, cause_number, bad_line_text};
 
-use lrc_book::{Kind, Lease, Refusal, Reply, Seat};
+use lrc_book::{Kind, Lease, Record, Refusal, Reply, Seat};
 use lrc_code::{Fragment, SessionNo};
 use lrc_script::Cause;
 use lrc_topology::TopologyError;
 use std::alloc::AllocError;
 
-/// Room for the place of a reply: a number of at most twenty digits.
-const PLACE_ROOM: usize = 20;
-
 /// Room for the longest words: a space and `refused`, a code behind it, and a space.
 const WORDS_ROOM: usize = 13;
-
-/// Room for a place, and words behind it.
-const SHORT_ROOM: usize = 33;
 
 /// Room for a number of 32 bits.
 const NUMBER_ROOM: usize = 10;
 
-/// Room for a place, words, a number and the end of a line.
-const DETAIL_ROOM: usize = 44;
+/// Room for words, a number and the end of a line.
+const DETAIL_ROOM: usize = 24;
 
 /// Room for a seat: a space, two numbers of at most five digits, and a colon.
 const SEAT_ROOM: usize = 12;
-
-/// Room for a place, a word, the sixteen seats of a stripe, and the end of a line.
-const PLACED_ROOM: usize = 220;
 
 /// Room for a fragment: a space and a number of at most five digits.
 const FRAGMENT_ROOM: usize = 6;
@@ -43,8 +35,14 @@ const TARGET_ROOM: usize = 24;
 /// Room for a target, a word and an epoch.
 const LEASE_ROOM: usize = 41;
 
-/// Room for a place, a word, a lease, from what is rebuilt, and the end of a line.
-const GRANTED_ROOM: usize = 112;
+/// Room for a word, a lease, from what is rebuilt, and the end of a line.
+const GRANTED_ROOM: usize = 92;
+
+/// Room for the longest reply: a word, the sixteen seats of a stripe, and the end of a line.
+const REPLY_ROOM: usize = 200;
+
+/// Room for a line: a place, which is a number of at most twenty digits, and a reply.
+pub(crate) const LINE_ROOM: usize = 220;
 
 /// Adds a number in decimal digits.
 fn push_number(out: &mut Vec<u8>, number: u64) -> Result<(), AllocError>
@@ -174,104 +172,107 @@ fn write_kind(kind: &Kind, text: &mut [u8], end: usize) -> usize
     }
 }
 
-// ---- lines
+// ---- replies
 
-/// Adds a place, and behind it what stands in the text from `end` on.
-fn push_behind(
-    out: &mut Vec<u8>,
-    place: usize,
-    text: &mut [u8],
-    end: usize,
-) -> Result<(), AllocError>
-    requires { (PLACE_ROOM ≤ end) × (end ≤ length text.old) }
-    ensures { OnOk result (out.new.items ≡ out.old.items ++ (decimal place ++ drop end text.old)) }
+/// Writes words, a number and the end of a line so that they end at `end`, and answers where they start.
+fn write_detail(words: &[u8], number: u32, text: &mut [u8], end: usize) -> usize
+    requires words { length words.now ≤ WORDS_ROOM }
+    requires room { (DETAIL_ROOM ≤ end) × (end ≤ length text.old) }
+    ensures start { (end ≤ result + DETAIL_ROOM) × (result ≤ end) }
+    ensures written { drop result text.new ≡ (words.now ++ (decimal number ++ codes "\n")) ++ drop end text.old }
 {
-    let start = itoa::write_digits(place as u64, text, end);
-    out.extend_from_slice(&text[start..])
+    let digits = write_words(b"\n", text, end);
+    let start = write_number(number, text, digits);
+    write_words(words, text, start)
 }
 
-/// Adds a place, and words behind it.
-#[inline]
-fn push_words(out: &mut Vec<u8>, place: usize, words: &[u8]) -> Result<(), AllocError>
-    requires { length words.now ≤ WORDS_ROOM }
-    ensures { OnOk result (out.new.items ≡ out.old.items ++ (decimal place ++ words.now)) }
-{
-    let mut text = [0u8; SHORT_ROOM];
-    let start = write_words(words, &mut text, SHORT_ROOM);
-    push_behind(out, place, &mut text, start)
-}
-
-/// Adds a place, words and a number behind it, and the end of the line.
-fn push_detail(out: &mut Vec<u8>, place: usize, words: &[u8], number: u32) -> Result<(), AllocError>
-    requires { length words.now ≤ WORDS_ROOM }
-    ensures { OnOk result (out.new.items ≡ out.old.items ++ (decimal place ++ (words.now ++ (decimal number ++ codes "\n")))) }
-{
-    let mut text = [0u8; DETAIL_ROOM];
-    let end = write_words(b"\n", &mut text, DETAIL_ROOM);
-    let detail = write_number(number, &mut text, end);
-    let start = write_words(words, &mut text, detail);
-    push_behind(out, place, &mut text, start)
-}
-
-/// Adds the line of a refusal.
-fn push_refusal(out: &mut Vec<u8>, place: usize, refusal: &Refusal) -> Result<(), AllocError>
-    ensures { OnOk result (out.new.items ≡ out.old.items ++ reply_line place (Refused refusal.now)) }
+/// Writes a refusal, a space before it and the end of the line behind it, so that it ends at `end`, and answers where it starts.
+fn write_refusal(refusal: &Refusal, text: &mut [u8], end: usize) -> usize
+    requires { (DETAIL_ROOM ≤ end) × (end ≤ length text.old) }
+    ensures start { (end ≤ result + DETAIL_ROOM) × (result ≤ end) }
+    ensures written { drop result text.new ≡ (codes " " ++ (reply_text (Refused refusal.now) ++ codes "\n")) ++ drop end text.old }
 {
     match refusal {
-        Refusal::UnknownStripe => push_words(out, place, b" refused 101\n"),
-        Refusal::StripeExists => push_words(out, place, b" refused 102\n"),
+        Refusal::UnknownStripe => write_words(b" refused 101\n", text, end),
+        Refusal::StripeExists => write_words(b" refused 102\n", text, end),
         Refusal::NoLawfulNode(fragment) => {
-            push_detail(out, place, b" refused 103 ", u32::from(fragment.value))
+            write_detail(b" refused 103 ", u32::from(fragment.value), text, end)
         }
-        Refusal::UnknownNode => push_words(out, place, b" refused 104\n"),
-        Refusal::WrongMode => push_words(out, place, b" refused 105\n"),
-        Refusal::UnknownDomain => push_words(out, place, b" refused 106\n"),
+        Refusal::UnknownNode => write_words(b" refused 104\n", text, end),
+        Refusal::WrongMode => write_words(b" refused 105\n", text, end),
+        Refusal::UnknownDomain => write_words(b" refused 106\n", text, end),
         Refusal::UpgradeRunning(domain) => {
-            push_detail(out, place, b" refused 107 ", u32::from(domain.value))
+            write_detail(b" refused 107 ", u32::from(domain.value), text, end)
         }
-        Refusal::NotUpgrading => push_words(out, place, b" refused 108\n"),
+        Refusal::NotUpgrading => write_words(b" refused 108\n", text, end),
         Refusal::WouldLose(stripe) => {
-            push_detail(out, place, b" refused 109 ", u32::from(stripe.value))
+            write_detail(b" refused 109 ", u32::from(stripe.value), text, end)
         }
-        Refusal::AlreadyLeased(epoch) => push_detail(out, place, b" refused 110 ", *epoch),
-        Refusal::NotNeeded => push_words(out, place, b" refused 111\n"),
-        Refusal::Unrecoverable => push_words(out, place, b" refused 112\n"),
-        Refusal::Stale => push_words(out, place, b" refused 113\n"),
+        Refusal::AlreadyLeased(epoch) => write_detail(b" refused 110 ", *epoch, text, end),
+        Refusal::NotNeeded => write_words(b" refused 111\n", text, end),
+        Refusal::Unrecoverable => write_words(b" refused 112\n", text, end),
+        Refusal::Stale => write_words(b" refused 113\n", text, end),
         Refusal::NotHolder(holder) => {
-            push_detail(out, place, b" refused 114 ", u32::from(holder.value))
+            write_detail(b" refused 114 ", u32::from(holder.value), text, end)
         }
         Refusal::TargetOffline(node) => {
-            push_detail(out, place, b" refused 115 ", u32::from(node.value))
+            write_detail(b" refused 115 ", u32::from(node.value), text, end)
         }
-        Refusal::NoLease => push_words(out, place, b" refused 116\n"),
-        Refusal::NotEmpty(load) => push_detail(out, place, b" refused 117 ", *load),
+        Refusal::NoLease => write_words(b" refused 116\n", text, end),
+        Refusal::NotEmpty(load) => write_detail(b" refused 117 ", *load, text, end),
     }
 }
 
-fn push_placed(out: &mut Vec<u8>, place: usize, seats: &[Seat; 16]) -> Result<(), AllocError>
-    ensures { OnOk result (out.new.items ≡ out.old.items ++ reply_line place (Placed seats.now)) }
+fn write_placed(seats: &[Seat; 16], text: &mut [u8], end: usize) -> usize
+    requires { (REPLY_ROOM ≤ end) × (end ≤ length text.old) }
+    ensures start { (end ≤ result + REPLY_ROOM) × (result ≤ end) }
+    ensures written { drop result text.new ≡ (codes " " ++ (reply_text (Placed seats.now) ++ codes "\n")) ++ drop end text.old }
 {
-    let mut text = [0u8; PLACED_ROOM];
-    let end = write_words(b"\n", &mut text, PLACED_ROOM);
-    let first = write_seats(seats.as_slice(), &mut text, end);
-    let start = write_words(b" placed", &mut text, first);
-    push_behind(out, place, &mut text, start)
+    let last = write_words(b"\n", text, end);
+    let first = write_seats(seats.as_slice(), text, last);
+    write_words(b" placed", text, first)
 }
 
-fn push_granted(
-    out: &mut Vec<u8>,
-    place: usize,
-    lease: &Lease,
-    kind: &Kind,
-) -> Result<(), AllocError>
-    ensures { OnOk result (out.new.items ≡ out.old.items ++ reply_line place (Granted lease.now kind.now)) }
+fn write_granted(lease: &Lease, kind: &Kind, text: &mut [u8], end: usize) -> usize
+    requires { (GRANTED_ROOM ≤ end) × (end ≤ length text.old) }
+    ensures start { (end ≤ result + GRANTED_ROOM) × (result ≤ end) }
+    ensures written { drop result text.new ≡ (codes " " ++ (reply_text (Granted lease.now kind.now) ++ codes "\n")) ++ drop end text.old }
 {
-    let mut text = [0u8; GRANTED_ROOM];
-    let end = write_words(b"\n", &mut text, GRANTED_ROOM);
-    let source = write_kind(kind, &mut text, end);
-    let target = write_lease(lease, &mut text, source);
-    let start = write_words(b" granted", &mut text, target);
-    push_behind(out, place, &mut text, start)
+    let last = write_words(b"\n", text, end);
+    let source = write_kind(kind, text, last);
+    let target = write_lease(lease, text, source);
+    write_words(b" granted", text, target)
+}
+
+/// Writes a reply, a space before it and the end of the line behind it, so that it ends at `end`, and answers where it starts.
+#[inline(always)] // as `write_line`
+fn write_reply(reply: &Reply, text: &mut [u8], end: usize) -> usize
+    requires { (REPLY_ROOM ≤ end) × (end ≤ length text.old) }
+    ensures start { (end ≤ result + REPLY_ROOM) × (result ≤ end) }
+    ensures written { drop result text.new ≡ (codes " " ++ (reply_text reply.now ++ codes "\n")) ++ drop end text.old }
+{
+    match reply {
+        Reply::Placed(seats) => write_placed(seats, text, end),
+        Reply::Dropped => write_words(b" dropped\n", text, end),
+        Reply::Granted(lease, kind) => write_granted(lease, kind, text, end),
+        Reply::Idle => write_words(b" idle\n", text, end),
+        Reply::Ended => write_words(b" ended\n", text, end),
+        Reply::Changed => write_words(b" changed\n", text, end),
+        Reply::Refused(refusal) => write_refusal(refusal, text, end),
+    }
+}
+
+// ---- lines
+
+/// Writes the line of a reply, whose call has this place in the history, so that it ends at `end`, and answers where it starts.
+#[inline(always)] // a reply is then not built to be told
+fn write_line(place: usize, reply: &Reply, text: &mut [u8], end: usize) -> usize
+    requires { (LINE_ROOM ≤ end) × (end ≤ length text.old) }
+    ensures start { (end ≤ result + LINE_ROOM) × (result ≤ end) }
+    ensures written { drop result text.new ≡ reply_line place reply.now ++ drop end text.old }
+{
+    let start = write_reply(reply, text, end);
+    itoa::write_digits(place as u64, text, start)
 }
 
 /// Adds the line of a reply, whose call has this place in the history.
@@ -282,15 +283,53 @@ pub(crate) fn push_reply_line(
 ) -> Result<(), AllocError>
     ensures { OnOk result (out.new.items ≡ out.old.items ++ reply_line place reply.now) }
 {
-    match reply {
-        Reply::Placed(seats) => push_placed(out, place, seats),
-        Reply::Dropped => push_words(out, place, b" dropped\n"),
-        Reply::Granted(lease, kind) => push_granted(out, place, lease, kind),
-        Reply::Idle => push_words(out, place, b" idle\n"),
-        Reply::Ended => push_words(out, place, b" ended\n"),
-        Reply::Changed => push_words(out, place, b" changed\n"),
-        Reply::Refused(refusal) => push_refusal(out, place, refusal),
+    let mut text = [0u8; LINE_ROOM];
+    let start = write_line(place, reply, &mut text, LINE_ROOM);
+    out.extend_from_slice(&text[start..])
+}
+
+/// Writes the line of an entry's reply, where the entry has this place in the history, so that it ends at `end`, and answers where
+/// it starts.
+fn write_record(place: usize, entry: &Record, text: &mut [u8], end: usize) -> usize
+    requires { (LINE_ROOM ≤ end) × (end ≤ length text.old) }
+    ensures start { (end ≤ result + LINE_ROOM) × (result ≤ end) }
+    ensures written { drop result text.new ≡ reply_line place entry.now.reply ++ drop end text.old }
+{
+    write_line(place, &entry.reply(), text, end)
+}
+
+/// Writes the lines of entries, of which the first has this place in the history, so that they end at `end`, and answers where
+/// they start.
+fn write_lines(records: &[Record], first: usize, text: &mut [u8], end: usize) -> usize
+    requires places { first + length records.now < 2 ^ 64 }
+    requires room { (LINE_ROOM * length records.now ≤ end) × (end ≤ length text.old) }
+    ensures start { result ≤ end }
+    ensures written { drop result text.new ≡ lines_from first records.now ++ drop end text.old }
+{
+    let mut left = records.len();
+    let mut at = end;
+    while left > 0 {
+        left -= 1;
+        at = write_record(first + left, &records[left], text, at);
     }
+    at
+}
+
+/// Adds the lines of entries, of which the first has this place in the history. They are written in the room that is given.
+pub(crate) fn push_lines(
+    out: &mut Vec<u8>,
+    records: &[Record],
+    first: usize,
+    room: &mut [u8],
+) -> Result<(), AllocError>
+    requires places { first + length records.now < 2 ^ 64 }
+    requires room { LINE_ROOM * length records.now ≤ length room.old }
+    ensures same { length room.new ≡ length room.old }
+    ensures lines { OnOk result (out.new.items ≡ out.old.items ++ lines_from first records.now) }
+{
+    let end = room.len();
+    let start = write_lines(records, first, room, end);
+    out.extend_from_slice(&room[start..])
 }
 
 /// Adds the line before the replies of a session's script.
