@@ -171,9 +171,10 @@ impl Store {
             return;
         }
         if let Some(seat) = seat {
-            self.table.bar_fault_of(bars, seat.node);
             if other.class() == class {
-                self.table.bar_upgrade_of(bars, seat.node);
+                self.table.bar_domains_of(bars, seat.node);
+            } else {
+                self.table.bar_fault_of(bars, seat.node);
             }
         }
     }

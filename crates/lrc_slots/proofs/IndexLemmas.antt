@@ -12,14 +12,13 @@ use Rattle.std.specs.List.{All, AllByRecursion, Contains}
 use Rattle.lrc_code.specs.declared.numbers.NodeNo.{NodeNo}
 use Rattle.lrc_topology.specs.declared.NodeInfo.{NodeInfo}
 use Rattle.lrc_code.specs.Order.{least, HasNoTies}
-use Rattle.lrc_code.proofs.OrderLemmas.{all_kept, least-only}
+use Rattle.lrc_code.proofs.OrderLemmas.{all_kept, least-none, least-only}
 use Rattle.lrc_topology.specs.Nodes.{AreNodes}
 use Rattle.lrc_slots.specs.Slots.{least_free, taken_count}
-use Rattle.lrc_slots.specs.declared.entry.Entry.{Entry}
 use Rattle.lrc_slots.specs.Barred.{Barred}
 use Rattle.lrc_slots.specs.Tables.{Row, Table, Bars, barred, row_at}
 use Rattle.lrc_slots.specs.Rows.{alone, is_open, precedes}
-use Rattle.lrc_slots.specs.Indexes.{listed, is_entry_of, is_listed, is_in_fault, is_in_upgrade, ranks_of, AreRanks, AreIndexed, Shows, IsJoined, IsLeastOutside}
+use Rattle.lrc_slots.specs.Indexes.{listed, is_listed, is_in_fault, is_in_upgrade, ranks_of, AreRanks, AreIndexed, Shows, IsJoined, IsLeastOutside}
 use Rattle.lrc_slots.proofs.MarkLemmas.{or-true}
 use Rattle.lrc_slots.proofs.LeastLemmas.{filter-none}
 use Rattle.lrc_code.proofs.NumbersLemmas.{equal_nodes}
@@ -144,6 +143,20 @@ module _ (rows : Table) (known : AreNodes (map (λ r. r.node) rows)) where
           | inl hit ↦ absurd (let there = open-listed i d within hit in let clash : true ≡ false = sym (all _ _ there.0) ∙ there.1 in cc)
           | inr miss ↦ miss
         ])))
+
+    -- where a rank outside the mask stands under a load, some row may take a seat
+    pub some-open : (load rank : ℕ) (d : Row) → listed loads load rank ≡ true → mask rank ≡ false
+        → ¬ (least precedes (filter (is_open b) rows) ≡ None)
+    some-open load rank d hit free none =
+        let i : ℕ = get_or at rank 0 in
+        let own = s.known load rank hit in
+        let same : get_or ranks i 0 ≡ rank = own.1 in
+        let seat = listed-open i load d own.0 (rw same hit) (rw same free) in
+        let left = contains-filter (is_open b) rows i d own.0 seat.0 in
+        let empty = (least-none precedes (filter (is_open b) rows)).0 none in
+        let short : length (filter (is_open b) rows) ≡ 0 = ap length empty in
+        let within = left.1 in
+        omega (arith, short, within)
 
 -- ---- the mask of barred domains
 
@@ -273,30 +286,3 @@ module _ {rows : Table} {numbers : List NodeNo} {ranks at : List ℕ} {loads fau
       by_fault = domains-kept is_in_fault faults (λ r s k e. ap (λ (n : NodeInfo). eqb n.fault.value k) e) h.by_fault;
       by_upgrade = domains-kept is_in_upgrade upgrades (λ r s k e. ap (λ (n : NodeInfo). eqb n.upgrade.value k) e) h.by_upgrade;
     }
-
--- ---- what the code reads and writes of one row
-
-module _ {rows : Table} {numbers : List NodeNo} {ranks at : List ℕ} {loads faults upgrades : List (List Bool)}
-    (h : AreIndexed rows numbers ranks at loads faults upgrades)
-    (i : ℕ) (x : Row) (within : i < length rows) (here : x ≡ get_or rows i x) (rank : ℕ) (read : rank ≡ get_or ranks i rank) where
-  -- the rank that is read is that of the row
-  rank-is : rank ≡ get_or ranks i 0
-  rank-is = read ∙ get_or_default ranks i rank 0 (rw h.ranked.ranked within)
-
-  -- the rank is within the sets
-  pub rank-low : rank < 512
-  rank-low = rw rank-is (h.ranked.low i within)
-
-  -- the rank stands under the load of the row
-  pub rank-shown : (before : Entry) → ((k : ℕ) → is_entry_of before k ≡ is_listed x k) → (k : ℕ)
-      → listed loads k rank ≡ is_entry_of before k
-  rank-shown before entry k = ap (λ r. listed loads k r) rank-is
-      ∙ (h.by_load.shown i k x within ∙ (ap (λ (y : Row). is_listed y k) (sym here) ∙ sym (entry k)))
-
-  -- the row is replaced by one of the same node, and its rank is put where the new row stands
-  pub row-replaced : (y : Row) (new : List (List Bool)) (after : Entry) → y.node ≡ x.node
-      → ((k r : ℕ) → listed new k r ≡ cond (eqb rank r) (is_entry_of after k) (listed loads k r)) → ((k : ℕ) → is_entry_of after k ≡ is_listed y k)
-      → AreIndexed (set rows i y) numbers ranks at new faults upgrades
-  row-replaced y new after stays moved entry =
-      indexed-set h i y x within (stays ∙ ap (λ (z : Row). z.node) here) new
-      (λ k r. rw (← rank-is, ← entry k) (moved k r))

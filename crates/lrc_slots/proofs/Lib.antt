@@ -13,3 +13,4 @@ pub mod IndexLemmas
 pub mod SetupLemmas
 pub mod BarredNodesLemmas
 pub mod WalkLemmas
+pub mod WriteLemmas

@@ -1,8 +1,9 @@
 -- Sets of ranks by load.
-use Rattle.std.proofs.Common.{◌≡◌, ◌≢◌, ℕ, zero, suc, add-one, ◌+◌, ◌<◌, Bool, true, false, not, ◌&&◌, ◌||◌, eqb, cond, List, [], ◌∷◌, ◌++◌, length, get_or, set, replicate, arith, refl, sym, ap, ◌∙◌, inl, inr}
+use Rattle.std.proofs.Common.{◌≡◌, ◌≢◌, ℕ, zero, suc, add-one, ◌+◌, ◌<◌, Bool, true, false, not, ◌&&◌, ◌||◌, eqb, cond, List, [], ◌∷◌, ◌++◌, length, get_or, set, replicate, Option, Some, None, is_some, arith, refl, sym, ap, ◌∙◌, inl, inr}
 use Rattle.std.proofs.lemmas.Bool.{cases_Bool, cases_eq, eq-eqb, ne_eqb}
-use Rattle.std.proofs.lemmas.List.{length-replicate}
+use Rattle.std.proofs.lemmas.List.{length-replicate, get_or-set_same, get_or-set_other}
 use Rattle.std.specs.List.{All}
+use Rattle.lrc_bits.specs.Flags.{FindsFrom}
 use Rattle.lrc_slots.specs.Indexes.{listed, AreSets, is_entry}
 use Rattle.lrc_slots.proofs.MarkLemmas.{get_or-replicate_same, or-false, and-true}
 
@@ -35,7 +36,27 @@ sets-none = record {
   ranks = all_same (λ xs. length xs ≡ 512) 256 (replicate 512 false) (length-replicate 512 false);
   marks = length-replicate 256 false;
   covered = λ l r hit. absurd (let clash : true ≡ false = sym hit ∙ none-listed 256 l r in cc);
+  filled = λ l hit. absurd (let clash : true ≡ false = sym hit ∙ get_or-replicate_same 256 l false in cc);
 }
+
+-- ---- the numbers that are marked
+
+-- a set with a rank is put in the place of another, and its number is marked
+pub filled-set : (sets : List (List Bool)) (used : List Bool) (number rank : ℕ) (set_there : List Bool) → number < length sets
+    → get_or set_there rank false ≡ true → ((l : ℕ) → get_or used l false ≡ true → (r : ℕ) × (listed sets l r ≡ true))
+    → (l : ℕ) → get_or (set used number true) l false ≡ true → (r : ℕ) × (listed (set sets number set_there) l r ≡ true)
+filled-set sets used number rank set_there within has filled l hit = elim (cases_eq l number) [
+  | inl same ↦ (rank, rw (same, get_or-set_same sets number set_there [] within) has)
+  | inr other ↦
+      let old = filled l (sym (get_or-set_other used number l true false other) ∙ hit) in
+      (old.0, rw (get_or-set_other sets number l set_there [] other) old.1)
+]
+
+-- a rank stands under the first number that is marked
+pub some-listed : (sets : List (List Bool)) (used : List Bool) → ((l : ℕ) → get_or used l false ≡ true → (r : ℕ) × (listed sets l r ≡ true))
+    → (o : Option ℕ) → FindsFrom used 0 o → is_some o ≡ true → (l r : ℕ) × (listed sets l r ≡ true)
+some-listed sets used filled None first some = absurd (cc)
+some-listed sets used filled (Some l) first some = let here = filled l first.has in (l, here.0, here.1)
 
 -- one more copy at the end
 pub sets-more : (n : ℕ) (set : List Bool) → replicate n set ++ set ∷ [] ≡ replicate (n + 1) set

@@ -179,10 +179,10 @@ taken-within rows n k r found hit = elim (cases_lt k (length r.taken)) [
       ∙ (ap (λ (taken : ℕ → Bool). taken k) (sym (taken-alone rows n r found)) ∙ hit) in cc)
 ]
 
--- no slot of a node that has no place is taken
-pub taken-absent : (rows : Table) (n : NodeNo) (k : ℕ) → place_of rows n ≡ None → (slots_of rows).taken n k ≡ false
+-- no slot of a node that has no row is taken
+pub taken-absent : (rows : Table) (n : NodeNo) (k : ℕ) → row_at rows n ≡ None → (slots_of rows).taken n k ≡ false
 unfolding slots_of
-taken-absent rows n k none = ap (λ (o : Option Row). option_map_or (λ x. is_marked x k) o false) (row_at-absent rows n none)
+taken-absent rows n k none = ap (λ (o : Option Row). option_map_or (λ x. is_marked x k) o false) none
 
 pub eligible-alone : (rows : Table) (n : NodeNo) (r : Row) → row_at rows n ≡ Some r → (slots_of rows).eligible n ≡ r.eligible
 unfolding slots_of
@@ -192,10 +192,10 @@ pub node-alone : (rows : Table) (n : NodeNo) (r : Row) → row_at rows n ≡ Som
 unfolding slots_of
 node-alone rows n r found = node_at-rows rows n ∙ ap (option_map (λ x. x.node)) found
 
--- at a number that has no place there is no node
-pub node-absent : (rows : Table) (n : NodeNo) → place_of rows n ≡ None → node_at (slots_of rows).nodes n ≡ None
+-- at a number that has no row there is no node
+pub node-absent : (rows : Table) (n : NodeNo) → row_at rows n ≡ None → node_at (slots_of rows).nodes n ≡ None
 unfolding slots_of
-node-absent rows n none = node_at-rows rows n ∙ ap (option_map (λ x. x.node)) (row_at-absent rows n none)
+node-absent rows n none = node_at-rows rows n ∙ ap (option_map (λ x. x.node)) none
 
 pub least_free-alone : (rows : Table) (n : NodeNo) (r : Row) → row_at rows n ≡ Some r
     → least_free_at (slots_of rows) n ≡ least_free (alone r) r.node

@@ -1,18 +1,19 @@
 -- The row of a rank that stands under a load, and the first such row in no barred domain.
-use Rattle.std.proofs.Common.{◌≡◌, ℕ, ◌+◌, ◌<◌, ◌≤◌, Bool, true, false, ◌&&◌, ◌||◌, eqb, List, length, get_or, map, Option, Some, None, is_some, arith, refl, sym, ap, ◌∙◌, subst, inl, inr}
+use Rattle.std.proofs.Common.{◌≡◌, ℕ, ◌+◌, ◌<◌, ◌≤◌, Bool, true, false, ◌&&◌, ◌||◌, eqb, List, length, get_or, map, filter, Option, Some, None, is_some, arith, refl, sym, ap, ◌∙◌, subst, inl, inr}
 use Rattle.std.proofs.lemmas.Bool.{cases_Bool, cases_eq, and_parts}
 use Rattle.std.proofs.lemmas.List.{get_or_default}
 use Rattle.std.specs.List.{Contains}
+use Rattle.lrc_code.specs.Order.{least}
 use Rattle.lrc_topology.specs.Nodes.{AreNodes}
 use Rattle.lrc_slots.specs.declared.spot.Spot.{Spot}
 use Rattle.lrc_slots.specs.Barred.{Barred, no_bars}
 use Rattle.lrc_slots.specs.Slots.{least_free, taken_count}
 use Rattle.lrc_slots.specs.Next.{next_number}
 use Rattle.lrc_slots.specs.Tables.{Row, Table, slots_of}
-use Rattle.lrc_slots.specs.Rows.{alone}
+use Rattle.lrc_slots.specs.Rows.{alone, is_open, precedes}
 use Rattle.lrc_slots.specs.Indexes.{listed, is_listed, is_barred_at, no_row, AreRanks, Shows, IsFrom, IsFirstFrom, FindsFirst, IsLeastOutside}
 use Rattle.lrc_slots.proofs.ChoiceLemmas.{next_number-rows}
-use Rattle.lrc_slots.proofs.IndexLemmas.{chosen-row, none-open}
+use Rattle.lrc_slots.proofs.IndexLemmas.{none-open, some-open}
 
 module _ {rows : Table} {ranks at : List ℕ} {loads : List (List Bool)} (h : AreRanks rows ranks at) (s : Shows rows ranks at is_listed loads) where
   module _ (load rank : ℕ) (hit : listed loads load rank ≡ true) where
@@ -95,23 +96,18 @@ first-past sets from none = go where
   go None past = λ load rank hit behind. past load rank hit (above load rank hit behind)
   go (Some spot) past = record { here = past.here; first = λ load rank hit behind. past.first load rank hit (above load rank hit behind) }
 
--- every spot stands behind the first
-from_first : (load rank : ℕ) → IsFrom 0 0 load rank
-from_first load rank = elim (cases_eq 0 load) [
-  | inl same ↦ inr (same, omega arith)
-  | inr other ↦ inl (omega (arith, other))
-]
-
 -- some node takes a seat where a rank stands under some load
 pub open-known : (rows : Table) {ranks at : List ℕ} {loads : List (List Bool)} → AreNodes (map (λ r. r.node) rows)
     → AreRanks rows ranks at → Shows rows ranks at is_listed loads
-    → (o : Option Spot) → FindsFirst loads (record { load = 0; rank = 0 }) o
-    → is_some o ≡ is_some (next_number (slots_of rows) no_bars)
-open-known rows known h s None none =
+    → (any : Bool) → (any ≡ true → (l r : ℕ) × (listed loads l r ≡ true)) → (any ≡ false → (l r : ℕ) → listed loads l r ≡ false)
+    → any ≡ is_some (next_number (slots_of rows) no_bars)
+open-known rows known h s false some none =
     let no = none-open rows known h s no_bars (λ r. false) (λ i d within. refl)
-    (λ load rank hit. absurd (none load rank hit (from_first load rank))) in
+    (λ load rank hit. absurd (let clash : true ≡ false = sym hit ∙ none refl load rank in cc)) in
     rw (next_number-rows rows no_bars None known (sym no)) refl
-open-known rows {ranks} {at} known h s (Some spot) found =
-    let first = chosen-row rows known h s no_bars (λ r. false) (λ i d within. refl) spot.load spot.rank no_row
-    (record { here = found.here; free = refl; first = λ other r hit miss. found.first other r hit (from_first other r) }) in
-    rw (next_number-rows rows no_bars (Some (get_or rows (get_or at spot.rank 0) no_row)) known (sym first)) refl
+open-known rows known h s true some none = go (least precedes (filter (is_open no_bars) rows)) refl where
+  go : (o : Option Row) → o ≡ least precedes (filter (is_open no_bars) rows) → true ≡ is_some (next_number (slots_of rows) no_bars)
+  go (Some r) first = rw (next_number-rows rows no_bars (Some r) known first) refl
+  go None first = absurd (
+      let here = some refl in
+      some-open rows known h s no_bars (λ r. false) (λ i d within. refl) here.0 here.1 no_row here.2 refl (sym first))

@@ -17,12 +17,13 @@ use Rattle.lrc_slots.specs.BarredNodes.{rank_of}
 abbrev pub listed : List (List Bool) → ℕ → ℕ → Bool
 listed sets load rank = get_or (get_or sets load []) rank false
 
--- sets of ranks for all loads, and marks of loads of which no load with a rank is left out
+-- sets of ranks for all loads, and marks of the loads with a rank
 pub record AreSets (sets : List (List Bool)) (used : List Bool) : Type 0 where
   pub loads : length sets ≡ 256
   pub ranks : All (λ set. length set ≡ 512) sets
   pub marks : length used ≡ 256
   pub covered : (load rank : ℕ) → listed sets load rank ≡ true → get_or used load false ≡ true
+  pub filled : (load : ℕ) → get_or used load false ≡ true → (rank : ℕ) × (listed sets load rank ≡ true)
 
 -- a rank under a load stands at a spot or behind it
 abbrev pub IsFrom : ℕ → ℕ → ℕ → ℕ → Type 0

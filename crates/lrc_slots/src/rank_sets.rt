@@ -1,4 +1,4 @@
-ghost use Rattle.std.specs.Prelude.{◌≡◌, ℕ, ◌+◌, ◌<◌, ◌||◌, ◌&&◌, ◌⊎◌, if◌then◌else◌, nat_eq, not, true, false, length, get_or, IfOk, IfSome, IsTrue};
+ghost use Rattle.std.specs.Prelude.{◌≡◌, ℕ, ◌+◌, ◌<◌, ◌||◌, ◌&&◌, ◌⊎◌, if◌then◌else◌, nat_eq, not, true, false, length, get_or, IfOk, IfSome, IsTrue, IsFalse};
 ghost use Rattle.lrc_slots.specs.Indexes.{listed, is_entry, is_entry_of, FindsFirst, FindsLeast, is_of_set, is_of_either};
 
 use crate::entry::Entry;
@@ -69,6 +69,14 @@ impl RankSets {
         if !set.has_near(rank) && set.first().is_none() {
             self.used.remove(load);
         }
+    }
+
+    /// Whether there is a node under some load.
+    pub(crate) fn has_any(&self) -> bool
+        ensures some { IsTrue result → (l r : ℕ) × (listed self.now l r ≡ true) }
+        ensures none { IsFalse result → (l r : ℕ) → listed self.now l r ≡ false }
+    {
+        self.used.first().is_some()
     }
 
     /// The least rank of the least load that is not in the mask.

@@ -4,7 +4,7 @@ ghost use Rattle.lrc_code.specs.Order.{least};
 ghost use Rattle.lrc_topology.specs.Nodes.{AreNodes, node_at};
 ghost use Rattle.lrc_slots.specs.Slots.{all_free, least_free, least_free_at, load_at, with_taken, with_free, with_eligible};
 ghost use Rattle.lrc_slots.specs.Next.{next_node, next_number};
-ghost use Rattle.lrc_slots.specs.Tables.{slots_of, barred};
+ghost use Rattle.lrc_slots.specs.Tables.{row_at, slots_of, barred};
 ghost use Rattle.lrc_slots.specs.Barred.{Barred, no_bars, joined, with_fault, with_upgrade, with_fault_of, with_upgrade_of};
 ghost use Rattle.lrc_slots.specs.BarredNodes.{AreBarredNodes};
 ghost use Rattle.lrc_slots.specs.Rows.{fresh_row, place_of, alone, is_open, precedes};
@@ -106,8 +106,7 @@ impl SlotTable {
     pub fn node(&self, number: NodeNo) -> Option<NodeInfo>
         ensures { result ≡ node_at (slots_of self.now).nodes number }
     {
-        let place = self.position(number)?;
-        let row = &self.rows[place];
+        let row = self.row_of(number)?;
         Some(row.node())
     }
 
@@ -190,11 +189,8 @@ impl SlotTable {
         ensures value { result ≡ (slots_of self.now).taken node slot }
         ensures within { IsTrue result → IsSomeAnd (node_at (slots_of self.now).nodes node) (λ n. slot < n.slots) }
     {
-        match self.position(node) {
-            Some(place) => {
-                let row = &self.rows[place];
-                row.is_taken(slot)
-            }
+        match self.row_of(node) {
+            Some(row) => row.is_taken(slot),
             None => false,
         }
     }
@@ -213,19 +209,19 @@ impl SlotTable {
     pub fn bar_fault_of(&self, bars: &mut Taken, node: NodeNo)
         ensures { barred bars.new ≡ with_fault_of (slots_of self.now).nodes (barred bars.old) node }
     {
-        if let Some(place) = self.position(node) {
-            let row = &self.rows[place];
+        if let Some(row) = self.row_of(node) {
             bars.bar_fault(row.node().fault);
         }
     }
 
-    /// Bars the upgrade domain of a node, if it is one of the table's.
-    pub fn bar_upgrade_of(&self, bars: &mut Taken, node: NodeNo)
-        ensures { barred bars.new ≡ with_upgrade_of (slots_of self.now).nodes (barred bars.old) node }
+    /// Bars the fault domain and the upgrade domain of a node, if it is one of the table's.
+    pub fn bar_domains_of(&self, bars: &mut Taken, node: NodeNo)
+        ensures { barred bars.new ≡ with_upgrade_of (slots_of self.now).nodes (with_fault_of (slots_of self.now).nodes (barred bars.old) node) node }
     {
-        if let Some(place) = self.position(node) {
-            let row = &self.rows[place];
-            bars.bar_upgrade(row.node().upgrade);
+        if let Some(row) = self.row_of(node) {
+            let domains = row.node();
+            bars.bar_fault(domains.fault);
+            bars.bar_upgrade(domains.upgrade);
         }
     }
 
@@ -277,7 +273,7 @@ impl SlotTable {
     pub fn has_open_node(&self) -> bool
         ensures { result ≡ is_some (next_number (slots_of self.now) no_bars) }
     {
-        self.by_load.first_from(Spot { load: 0, rank: 0 }).is_some()
+        self.by_load.has_any()
     }
 
     /// The row that is chosen before all others that may take a seat. Where few domains are barred, one of the first
@@ -334,6 +330,14 @@ impl SlotTable {
     {
         let rank = self.by_load.first_outside(barred_nodes.ranks())?;
         let place = self.order[rank] as usize;
+        Some(&self.rows[place])
+    }
+
+    /// The row of a node; `None` for a node that is not of the topology.
+    fn row_of(&self, node: NodeNo) -> Option<&NodeSlots>
+        ensures { option_copied result ≡ row_at self.now node }
+    {
+        let place = self.position(node)?;
         Some(&self.rows[place])
     }
 

@@ -83,8 +83,10 @@ fn the_domains_of_a_node_are_barred_by_its_number(rt: HostRuntime) -> Result<(),
     assert_eq!(rt; table.choose(&bars), Some(NodeNo { value: 3 }));
     table.bar_fault_of(&mut bars, NodeNo { value: 3 });
     assert_eq!(rt; table.choose(&bars), Some(NodeNo { value: 5 }));
-    table.bar_upgrade_of(&mut bars, NodeNo { value: 5 });
+    table.bar_domains_of(&mut bars, NodeNo { value: 3 });
     assert_eq!(rt; table.choose(&bars), Some(NodeNo { value: 7 }));
+    table.bar_domains_of(&mut bars, NodeNo { value: 5 });
+    assert_eq!(rt; table.choose(&bars), None);
     Ok(())
 }
 

@@ -8,8 +8,8 @@ use Rattle.lrc_code.proofs.SourcesLemmas.{same_class-eq}
 use Rattle.lrc_topology.specs.declared.NodeInfo.{NodeInfo}
 use Rattle.lrc_topology.specs.declared.seat.Seat.{Seat}
 use Rattle.lrc_slots.specs.Slots.{Slots}
-use Rattle.lrc_slots.specs.Barred.{Barred, with_fault_of, with_upgrade_of}
-use Rattle.lrc_slots.specs.Tables.{barred, slots_of}
+use Rattle.lrc_slots.specs.Barred.{with_fault_of, with_upgrade_of}
+use Rattle.lrc_slots.specs.Tables.{barred}
 use Rattle.lrc_book.specs.Stores.{with_seat}
 use Rattle.lrc_book.proofs.BarLemmas.{seat-own, seat-domains}
 use Rattle.lrc_book.proofs.store.Store.bar_seat.Goals as goal
@@ -30,8 +30,7 @@ returns-then-eq-2 c = λ st stripe kept.
     let seat = c.in-Some.seat in
     let before = barred c.args.bars.now in
     let same = ap (λ (t : Slots). t.nodes) kept.table_is in
-    c.bar_upgrade_of.ensures
-    ∙ ap (λ (b : Barred). with_upgrade_of (slots_of c.args.self.now.table).nodes b seat.node) c.bar_fault_of.ensures
+    c.bar_domains_of.ensures
     ∙ ap (λ (ns : List NodeInfo). with_upgrade_of ns (with_fault_of ns before seat.node) seat.node) same
     ∙ seat-domains nodes stripe c.args.fragment c.args.other before seat (sym c.eq.ensures ∙ c.if-eq.false) true
     (sym c.if-eq-2.true ∙ one-class c.args.fragment c.args.other c.args.class c.class.result c.eq-in-Some.result c.requires c.class.ensures

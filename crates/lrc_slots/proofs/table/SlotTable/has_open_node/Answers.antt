@@ -1,4 +1,3 @@
-use Rattle.std.proofs.Common.{◌∙◌}
 use Rattle.lrc_slots.proofs.WalkLemmas.{open-known}
 use Rattle.lrc_slots.proofs.table.SlotTable.has_open_node.Goals as goal
 
@@ -6,4 +5,4 @@ pub returns : goal.returns
 returns c =
     let s = c.self.inside in
     let h = c.self.invariant in
-    rw (← c.self.view_is) (c.is_some.ensures ∙ open-known s.rows.items h.nodes h.ranked h.by_load c.first_from.result c.first_from.ensures.first)
+    rw (← c.self.view_is) (open-known s.rows.items h.nodes h.ranked h.by_load c.has_any.result c.has_any.ensures.some c.has_any.ensures.none)
