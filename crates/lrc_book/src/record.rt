@@ -9,9 +9,9 @@ use std::marker::Model;
 /// An entry as the history keeps it, where the seats of a reply take room only in those that have some.
 #[derive(Drop)]
 pub struct Record {
-    session: SessionNo,
-    command: Command,
-    answer: Answer,
+    pub(crate) session: SessionNo,
+    pub(crate) command: Command,
+    pub(crate) answer: Answer,
 }
 
 impl Model for Record {

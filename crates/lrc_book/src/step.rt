@@ -39,7 +39,9 @@ impl Book {
         if self.history.len() == self.limit {
             return Err(Fault::HistoryFull);
         }
-        let reply = self.store.reply(&self.grants, self.front, session, command);
+        let reply = self
+            .store
+            .reply(&self.grants, self.front, session, &command);
         Ok(Plan {
             entry: Entry {
                 session,
@@ -87,15 +89,19 @@ impl Book {
         ensures same { (self.new.nodes ≡ self.old.nodes) × (self.new.limit ≡ self.old.limit) }
         ensures history { self.new.history ≡ self.old.history ++ record { session = session; command = command; reply = (outcome_in self.old.nodes (world_of self.old) session command).0 } ∷ [] }
     {
-        let answer = self.store.answer(&self.grants, self.front, session, command, &mut self.seats);
+        let answer = self.store.answer(
+            &self.grants,
+            self.front,
+            session,
+            &command,
+            &mut self.seats,
+        );
         make(
             &mut self.store,
             &mut self.grants,
             &mut self.front,
             &mut self.history,
-            session,
-            command,
-            answer,
+            Record::new(session, command, answer),
         );
     }
 
@@ -119,23 +125,19 @@ impl Book {
             &mut self.grants,
             &mut self.front,
             &mut self.history,
-            session,
-            command,
-            answer,
+            Record::new(session, command, answer),
         );
         reply
     }
 }
 
-/// Makes the step of a command that was answered so, in a book that has room for it.
+/// Makes the step that is to be the next of the history, in a book that has room for it.
 fn make(
     store: &mut Store,
     grants: &mut Grants,
     front: &mut Option<StripeNo>,
     history: &mut Vec<Record>,
-    session: SessionNo,
-    command: Command,
-    answer: Answer,
+    made: Record,
 )
     ghost st: { State }
     requires state { state_after store.old.topology history.old.items ≡ st }
@@ -143,16 +145,16 @@ fn make(
     requires few { AreFew grants.old }
     requires place { vec_len history.old + 1 ≤ vec_capacity history.old }
     requires room { has_room store.old ≡ true }
-    requires step { (outcome_in store.old.topology (world_after store.old.topology history.old.items) session command).0 ≡ told answer }
+    requires step { (outcome_in store.old.topology (world_after store.old.topology history.old.items) made.session made.command).0 ≡ made.reply }
     ensures nodes { store.new.topology ≡ store.old.topology }
     ensures kept { (limit : ℕ) → IsKept store.old grants.old front.old limit history.old.items → length history.old.items < limit
         → IsKept store.new grants.new front.new limit history.new.items }
-    ensures history { history.new.items ≡ history.old.items ++ record { session = session; command = command; reply = told answer } ∷ [] }
+    ensures history { history.new.items ≡ history.old.items ++ made ∷ [] }
 {
-    store.change(command, &answer);
-    count_grant(grants, &answer);
-    *front = front_after(*front, command, &answer);
-    history.push_reserved(Record::new(session, command, answer));
+    store.change(&made.command, &made.answer);
+    count_grant(grants, &made.answer);
+    *front = front_after(*front, &made.command, &made.answer);
+    history.push_reserved(made);
 }
 
 /// Room for the seats of a stripe.
@@ -171,15 +173,15 @@ impl Store {
         counts: &Grants,
         front: Option<StripeNo>,
         session: SessionNo,
-        command: Command,
+        command: &Command,
     ) -> Reply
         requires tied { IsTied self.now }
         requires few { AreFew counts.now }
         requires front { HasFront self.now front }
         ensures { (st : State) (past : List Entry) → IsOf st self.now → AreGrantsOf past counts.now → IsFront self.now.topology st front
-            → result ≡ (step self.now.topology past st session command).0 }
+            → result ≡ (step self.now.topology past st session command.now).0 }
     {
-        match command {
+        match *command {
             Command::Place(stripe) => self.place_reply(stripe),
             _ => self.other_reply(counts, front, session, command).reply(),
         }
@@ -191,7 +193,7 @@ impl Store {
         counts: &Grants,
         front: Option<StripeNo>,
         session: SessionNo,
-        command: Command,
+        command: &Command,
         room: &mut Option<Box<[Seat; 16]>>,
     ) -> Answer
         requires tied { IsTied self.now }
@@ -199,9 +201,9 @@ impl Store {
         requires front { HasFront self.now front }
         requires room { IsSome room.old }
         ensures { (st : State) (past : List Entry) → IsOf st self.now → AreGrantsOf past counts.now → IsFront self.now.topology st front
-            → told result ≡ (step self.now.topology past st session command).0 }
+            → told result ≡ (step self.now.topology past st session command.now).0 }
     {
-        match command {
+        match *command {
             Command::Place(stripe) => self.place_answer(stripe, room),
             _ => self.other_reply(counts, front, session, command),
         }
@@ -223,16 +225,16 @@ impl Store {
         counts: &Grants,
         front: Option<StripeNo>,
         session: SessionNo,
-        command: Command,
+        command: &Command,
     ) -> Answer
         requires tied { IsTied self.now }
         requires few { AreFew counts.now }
         requires front { HasFront self.now front }
-        requires other { is_place command ≡ false }
+        requires other { is_place command.now ≡ false }
         ensures { (st : State) (past : List Entry) → IsOf st self.now → AreGrantsOf past counts.now → IsFront self.now.topology st front
-            → told result ≡ (step self.now.topology past st session command).0 }
+            → told result ≡ (step self.now.topology past st session command.now).0 }
     {
-        match command {
+        match *command {
             Command::Place(_) => unreachable!(),
             Command::Drop(stripe) => self.drop_reply(stripe),
             Command::Lease(stripe, fragment) => {
@@ -259,13 +261,13 @@ impl Store {
     }
 
     /// Makes the change of a command that was answered so. Room was made before, so nothing here fails.
-    fn change(&mut self, command: Command, answer: &Answer)
+    fn change(&mut self, command: &Command, answer: &Answer)
         ghost st: { State }
         requires kept { IsOf st self.old }
         requires room { has_room self.old ≡ true }
-        requires told { IsAnswer self.old.topology st command (told answer.now) }
+        requires told { IsAnswer self.old.topology st command.now (told answer.now) }
         ensures nodes { self.new.topology ≡ self.old.topology }
-        ensures kept { IsOf (changed_by st command (told answer.now)) self.new }
+        ensures kept { IsOf (changed_by st command.now (told answer.now)) self.new }
     {
         if answer.changes() {
             self.make_change(command, answer);
@@ -274,15 +276,15 @@ impl Store {
 
     /// The same, whatever the answer is.
     #[inline(never)] // as `other_reply`
-    fn make_change(&mut self, command: Command, answer: &Answer)
+    fn make_change(&mut self, command: &Command, answer: &Answer)
         ghost st: { State }
         requires kept { IsOf st self.old }
         requires room { has_room self.old ≡ true }
-        requires told { IsAnswer self.old.topology st command (told answer.now) }
+        requires told { IsAnswer self.old.topology st command.now (told answer.now) }
         ensures nodes { self.new.topology ≡ self.old.topology }
-        ensures kept { IsOf (changed_by st command (told answer.now)) self.new }
+        ensures kept { IsOf (changed_by st command.now (told answer.now)) self.new }
     {
-        match (command, answer) {
+        match (*command, answer) {
             (Command::Place(stripe), Answer::Placed(seats)) => self.place(stripe, &**seats),
             (Command::Drop(stripe), Answer::Dropped) => self.drop_stripe(stripe),
             (Command::Lease(_, _), Answer::Granted(lease, _)) => self.grant(*lease),

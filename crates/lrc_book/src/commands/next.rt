@@ -133,13 +133,13 @@ impl Store {
 /// a grant changes the state.
 pub(crate) fn front_after(
     front: Option<StripeNo>,
-    command: Command,
+    command: &Command,
     answer: &Answer,
 ) -> Option<StripeNo>
     ensures { (nodes : List NodeInfo) (past : List Entry) (st : State) (session : AnySession) → IsFront nodes st front
-        → (step nodes past st session command).0 ≡ told answer.now → IsFront nodes (changed_by st command (told answer.now)) result }
+        → (step nodes past st session command.now).0 ≡ told answer.now → IsFront nodes (changed_by st command.now (told answer.now)) result }
 {
-    match (command, answer) {
+    match (*command, answer) {
         (Command::Next, Answer::Granted(lease, _)) => Some(lease.stripe),
         (Command::Next, Answer::Idle) => front,
         (Command::Lease(_, _), Answer::Granted(_, _)) => front,

@@ -1,6 +1,6 @@
 use Rattle.std.proofs.Common.{◌≡◌, refl, sym, subst}
 use Rattle.lrc_book.specs.States.{State}
-use Rattle.lrc_book.specs.Steps.{step}
+use Rattle.lrc_book.specs.Steps.{step as step_of}
 use Rattle.lrc_book.specs.Histories.{world_after, state_after}
 use Rattle.lrc_book.specs.Changes.{changed_by}
 use Rattle.lrc_book.specs.Stores.{IsOf}
@@ -12,14 +12,16 @@ use Rattle.lrc_book.proofs.step.make.Goals as goal
 pub change-requires : goal.change-requires
 change-requires g c =
     let nodes = c.args.store.now.topology in
-    let past = (world_after nodes c.args.history.now.items).past in (
+    let past = (world_after nodes c.args.history.now.items).past in
+    let made = c.made.inside in
+    let step = rw (← c.made.view_is) at c.requires.1.1.1.1.1 in (
       c.requires.1.0,
       (
         c.requires.1.1.1.1.0,
         record {
           past = past;
-          session = c.args.session;
-          told = subst (λ (st : State). (step nodes past st c.args.session c.args.command).0 ≡ told c.args.answer) c.requires.0 c.requires.1.1.1.1.1;
+          session = made.session;
+          told = subst (λ (st : State). (step_of nodes past st made.session made.command).0 ≡ told made.answer) c.requires.0 step;
         },
       ),
     )
@@ -28,10 +30,11 @@ pub returns-clause-kept : goal.returns-clause-kept
 returns-clause-kept g c = λ limit was below.
     let nodes = c.args.store.now.topology in
     let past = c.args.history.now.items in
-    let e : Entry = record { session = c.args.session; command = c.args.command; reply = told c.args.answer } in
-    let step = c.requires.1.1.1.1.1 in
-    rw (c.push_reserved.ensures.items, c.new.ensures)
+    let made = c.made.inside in
+    let e : Entry = record { session = made.session; command = made.command; reply = told made.answer } in
+    let step = rw (← c.made.view_is) at c.requires.1.1.1.1.1 in
+    rw (c.push_reserved.ensures.items, ← c.made.view_is)
     (kept_push c.args.store.now c.change.new.self c.args.grants.now c.count_grant.new.counts c.args.front.now c.front_after.result limit past e was below step
     c.change.ensures.nodes (subst (λ (st : State). IsOf (changed_by st e.command e.reply) c.change.new.self) (sym c.requires.0) c.change.ensures.kept)
     (c.count_grant.ensures past e refl was.counted)
-    (c.front_after.ensures nodes (world_after nodes past).past (state_after nodes past) c.args.session was.ahead step))
+    (c.front_after.ensures nodes (world_after nodes past).past (state_after nodes past) made.session was.ahead step))

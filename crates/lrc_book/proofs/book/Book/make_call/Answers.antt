@@ -25,7 +25,7 @@ make-requires c =
             leb-true (vec_len b.history + 1) (vec_capacity b.history) ready.0,
             (
               (and_parts (has_room b.store) (is_some b.seats) ready.1).0,
-              sym (told ∙ ap (λ (past : List Entry). (step b.store.topology past w.state c.args.session c.args.command).0) (sym (past-after b.store.topology b.history.items))),
+              rw c.new.ensures (sym (told ∙ ap (λ (past : List Entry). (step b.store.topology past w.state c.args.session c.args.command).0) (sym (past-after b.store.topology b.history.items)))),
             ),
           ),
         ),
@@ -42,5 +42,6 @@ returns-clause-history c =
     let told = c.answer-answer.ensures w.state b.history.items c.self.invariant.store_is c.self.invariant.counted c.self.invariant.ahead in
     rw (← c.self.view_is)
     (c.make.ensures.history
+    ∙ ap (λ (e : Entry). b.history.items ++ e ∷ []) c.new.ensures
     ∙ ap (λ (r : Reply). b.history.items ++ record { session = c.args.session; command = c.args.command; reply = r } ∷ [])
     (told ∙ ap (λ (past : List Entry). (step b.store.topology past w.state c.args.session c.args.command).0) (sym (past-after b.store.topology b.history.items))))
