@@ -1,8 +1,8 @@
 -- Unions of words, what two words have in common, and sets of nothing.
-use Rattle.std.proofs.Common.{bit_and, bit_or, ◌≡◌, ℕ, zero, suc, ◌+◌, ◌*◌, ◌/◌, ◌%◌, ◌^◌, ◌<◌, ◌≤◌, Bool, false, ◌||◌, ◌&&◌, eqb, List, length, get_or, arith, refl, sym, ap, ◌∙◌, inl, inr}
+use Rattle.std.proofs.Common.{bit_and, bit_or, ◌≡◌, ℕ, zero, suc, ◌+◌, ◌-◌, ◌*◌, ◌/◌, ◌%◌, ◌^◌, ◌<◌, ◌≤◌, Bool, true, false, not, ◌||◌, ◌&&◌, eqb, List, length, get_or, arith, refl, sym, ap, ◌∙◌, inl, inr, w64}
 use Rattle.std.proofs.lemmas.Bool.{cases_eq, cases_lt, eq-eqb, ne_eqb}
 use Rattle.std.proofs.lemmas.List.{get_or_past}
-use Rattle.std.proofs.lemmas.Nat.Bits.{bit_at-zero, bit_at_and, bit_at_or, bit_at-lt, same_from_bits_below}
+use Rattle.std.proofs.lemmas.Nat.Bits.{bit_at-zero, bit_at_and, bit_at_or, bit_at_not, bit_at-lt, same_from_bits_below}
 use Rattle.std.proofs.lemmas.Nat.{or_lt}
 use Rattle.std.specs.Int.{bit_at}
 use Rattle.lrc_bits.specs.Flags.{flags}
@@ -63,6 +63,42 @@ flags-common new old ones others xs ys us vs a b c d same also each k =
           let p : length new ≤ k / 64 = omega (arith, past, same) in
           let q : length ones ≤ k / 64 = omega (arith, past, also) in
           rw (get_or_past new (k / 64) 0 p, get_or_past old (k / 64) 0 past, get_or_past ones (k / 64) 0 q, bit_at-zero (k % 64)) refl
+    ])
+
+-- a flag that the one word has and the other lacks is a flag of the one alone
+and_not_flag : (a b t : ℕ) → b < 2 ^ 64 → t < 64 → eqb (bit_at (bit_and a (2 ^ 64 - 1 - b)) t) 1 ≡ (eqb (bit_at a t) 1 && not (eqb (bit_at b t) 1))
+and_not_flag a b t small within =
+    let both = bit_at_and a (2 ^ 64 - 1 - b) t in
+    let turned : bit_at (2 ^ 64 - 1 - b) t ≡ 1 - bit_at b t = bit_at_not w64 b t small within in
+    let p = bit_at-lt a t in
+    let q = bit_at-lt b t in
+    elim (cases_eq (bit_at b t) 1) [
+      | inl one ↦
+          let none : bit_at (bit_and a (2 ^ 64 - 1 - b)) t ≡ 0 = omega (arith, both, turned, one) in
+          rw (none, eq-eqb _ 1 one) (sym (and-false (eqb (bit_at a t) 1)))
+      | inr off ↦
+          let same : bit_at (bit_and a (2 ^ 64 - 1 - b)) t ≡ bit_at a t = omega (arith, both, turned, off, p, q) in
+          rw (same, ne_eqb (bit_at b t) 1 off) (sym (and-true (eqb (bit_at a t) 1)))
+    ] where
+      and-false : (x : Bool) → (x && false) ≡ false
+      and-false true = refl
+      and-false false = refl
+
+      and-true : (x : Bool) → (x && true) ≡ x
+      and-true true = refl
+      and-true false = refl
+
+-- words from which those of another are taken one by one hold what they held and the other does not
+pub flags-difference : (new old others : List ℕ) (xs ys zs : List Bool) → flags new ≡ xs → flags old ≡ ys → flags others ≡ zs
+    → length new ≡ length old → ((j : ℕ) → j < length old → get_or others j 0 < 2 ^ 64)
+    → ((j : ℕ) → j < length old → get_or new j 0 ≡ bit_and (get_or old j 0) (2 ^ 64 - 1 - get_or others j 0)) → (k : ℕ)
+    → get_or xs k false ≡ (get_or ys k false && not (get_or zs k false))
+flags-difference new old others xs ys zs a b c same fits each k =
+    rw (read new xs k a, read old ys k b, read others zs k c) (elim (cases_lt (k / 64) (length old)) [
+      | inl within ↦ rw (each (k / 64) within) (and_not_flag (get_or old (k / 64) 0) (get_or others (k / 64) 0) (k % 64) (fits (k / 64) within) (omega arith))
+      | inr past ↦
+          let p : length new ≤ k / 64 = omega (arith, past, same) in
+          rw (get_or_past new (k / 64) 0 p, get_or_past old (k / 64) 0 past, bit_at-zero (k % 64)) refl
     ])
 
 -- words joined are 0 where both are

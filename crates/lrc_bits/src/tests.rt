@@ -64,6 +64,21 @@ fn a_number_is_near_where_it_stands_in_the_same_word(rt: HostRuntime) -> Result<
 }
 
 #[test]
+fn a_search_in_one_word_ends_with_it(rt: HostRuntime) -> Result<(), Fail> {
+    let mut set = BitSet::<3>::new();
+    set.insert(3);
+    set.insert(130);
+    set.insert(190);
+    assert_eq!(rt; set.first_near(0), Some(3));
+    assert_eq!(rt; set.first_near(3), Some(3));
+    assert_eq!(rt; set.first_near(4), None);
+    assert_eq!(rt; set.first_near(64), None);
+    assert_eq!(rt; set.first_near(131), Some(190));
+    assert_eq!(rt; set.first_near(192), None);
+    Ok(())
+}
+
+#[test]
 fn what_another_set_holds_is_passed_over(rt: HostRuntime) -> Result<(), Fail> {
     let mut set = BitSet::<2>::new();
     let mut other = BitSet::<2>::new();
@@ -93,5 +108,21 @@ fn what_two_sets_have_in_common_is_put_in(rt: HostRuntime) -> Result<(), Fail> {
     assert_eq!(rt; set.first_from(0), Some(7));
     assert_eq!(rt; set.first_from(8), Some(64));
     assert_eq!(rt; set.first_from(65), None);
+    Ok(())
+}
+
+#[test]
+fn what_another_set_holds_is_taken_out(rt: HostRuntime) -> Result<(), Fail> {
+    let mut set = BitSet::<2>::new();
+    let mut other = BitSet::<2>::new();
+    set.insert(5);
+    set.insert(64);
+    set.insert(70);
+    other.insert(6);
+    other.insert(64);
+    set.remove_all(&other);
+    assert_eq!(rt; set.first_from(0), Some(5));
+    assert_eq!(rt; set.first_from(6), Some(70));
+    assert_eq!(rt; set.first_from(71), None);
     Ok(())
 }
