@@ -6,6 +6,7 @@ mod entry;
 pub mod laws;
 mod node_slots;
 mod open_node;
+mod rank_set;
 mod rank_sets;
 mod setup;
 mod spot;

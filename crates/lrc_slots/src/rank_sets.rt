@@ -2,6 +2,7 @@ ghost use Rattle.std.specs.Prelude.{◌≡◌, ℕ, ◌+◌, ◌<◌, ◌||◌, 
 ghost use Rattle.lrc_slots.specs.Indexes.{listed, is_entry, is_entry_of, FindsFirst, FindsLeast, is_of_set, is_of_either};
 
 use crate::entry::Entry;
+use crate::rank_set::RankSet;
 use crate::spot::Spot;
 use lrc_bits::BitSet;
 use std::alloc::{AllocError, Global};
@@ -11,7 +12,7 @@ use std::marker::Model;
 #[derive(Drop)]
 pub(crate) struct RankSets {
     /// For each number below 256 the ranks of its nodes.
-    sets: Vec<BitSet<8>>,
+    sets: Vec<RankSet>,
     /// The numbers whose set is not empty.
     used: BitSet<4>,
 }
@@ -34,7 +35,7 @@ impl RankSets {
     {
         let mut sets = Vec::with_capacity(alloc, 256)?;
         for _ in 0..256usize {
-            sets.push(BitSet::new())?;
+            sets.push(RankSet::new())?;
         }
         Ok(RankSets {
             sets,
@@ -65,8 +66,8 @@ impl RankSets {
         ensures { (l r : ℕ) → listed self.new l r ≡ (listed self.old l r && not (is_entry load rank l r)) }
     {
         let set = &mut self.sets[load];
-        set.remove(rank);
-        if !set.has_near(rank) && set.first().is_none() {
+        let is_empty = set.remove(rank);
+        if is_empty {
             self.used.remove(load);
         }
     }
@@ -86,7 +87,7 @@ impl RankSets {
         let mut from = 0;
         while let Some(load) = self.used.first_from(from) {
             let set = &self.sets[load];
-            if let Some(rank) = set.first_outside(mask) {
+            if let Some(rank) = set.ranks().first_outside(mask) {
                 return Some(rank);
             }
             from = load + 1;
@@ -100,13 +101,13 @@ impl RankSets {
     {
         let least = self.used.first()?;
         let set = &self.sets[least];
-        if let Some(rank) = set.first_outside_both(mask, other) {
+        if let Some(rank) = set.ranks().first_outside_both(mask, other) {
             return Some(rank);
         }
         let mut from = least + 1;
         while let Some(load) = self.used.first_from(from) {
             let set = &self.sets[load];
-            if let Some(rank) = set.first_outside_both(mask, other) {
+            if let Some(rank) = set.ranks().first_outside_both(mask, other) {
                 return Some(rank);
             }
             from = load + 1;
@@ -137,15 +138,9 @@ impl RankSets {
         ensures first { FindsFirst self.now (record { load = least + 1; rank = 0 }) result }
         ensures within { IfSome result (λ s. s.load < 256) }
     {
-        let mut next = least + 1;
-        while let Some(load) = self.used.first_from(next) {
-            let set = &self.sets[load];
-            if let Some(rank) = set.first() {
-                return Some(Spot { load, rank });
-            }
-            next = load + 1;
-        }
-        None
+        let load = self.used.first_from(least + 1)?;
+        let rank = self.sets[load].first();
+        Some(Spot { load, rank })
     }
 
     /// The ranks under a number.
@@ -154,7 +149,7 @@ impl RankSets {
         ensures long { length result.now ≡ 512 }
         ensures members { (r : ℕ) → get_or result.now r false ≡ listed self.now number r }
     {
-        &self.sets[number]
+        self.sets[number].ranks()
     }
 
     /// Takes a rank from under the one load, if it stands there, and puts it under the other, if it is to.
@@ -207,7 +202,7 @@ impl RankSets {
     {
         let mut from = 0;
         while let Some(number) = named.first_from(from) {
-            mask.insert_all(&self.sets[number]);
+            mask.insert_all(self.sets[number].ranks());
             from = number + 1;
         }
     }

@@ -225,6 +225,25 @@ impl SlotTable {
         }
     }
 
+    /// The same as `bar_fault_of` for a node that is one of the table's.
+    pub fn bar_fault_of_known(&self, bars: &mut Taken, node: NodeNo)
+        requires { IsSome (node_at (slots_of self.now).nodes node) }
+        ensures { barred bars.new ≡ with_fault_of (slots_of self.now).nodes (barred bars.old) node }
+    {
+        let known = self.known_row(node).node();
+        bars.bar_fault(known.fault);
+    }
+
+    /// The same as `bar_domains_of` for a node that is one of the table's.
+    pub fn bar_domains_of_known(&self, bars: &mut Taken, node: NodeNo)
+        requires { IsSome (node_at (slots_of self.now).nodes node) }
+        ensures { barred bars.new ≡ with_upgrade_of (slots_of self.now).nodes (with_fault_of (slots_of self.now).nodes (barred bars.old) node) node }
+    {
+        let known = self.known_row(node).node();
+        bars.bar_fault(known.fault);
+        bars.bar_upgrade(known.upgrade);
+    }
+
     /// Bars the nodes of a fault domain too.
     pub fn bar_fault_in(&self, barred_nodes: &mut BarredNodes, domain: FaultNo)
         ensures { (b : Barred) → AreBarredNodes (slots_of self.now).nodes b barred_nodes.old
@@ -354,6 +373,14 @@ impl SlotTable {
         ensures value { place_of self.now node ≡ Some result }
         ensures within { result < length self.now }
     {
-        self.position(node).unwrap()
+        self.index.place_of(node)
+    }
+
+    /// The row of a node of the topology.
+    fn known_row(&self, node: NodeNo) -> &NodeSlots
+        requires { IsSome (node_at (slots_of self.now).nodes node) }
+        ensures { row_at self.now node ≡ Some result.now }
+    {
+        &self.rows[self.place(node)]
     }
 }
