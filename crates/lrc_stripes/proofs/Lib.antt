@@ -23,3 +23,4 @@ pub mod RenewLemmas
 pub mod ShortLemmas
 pub mod ShownLemmas
 pub mod SeatedLemmas
+pub mod BitLemmas

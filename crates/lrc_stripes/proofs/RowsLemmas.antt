@@ -1,5 +1,5 @@
 -- Rows by the stripes' numbers, and the queues that follow from them.
-use Rattle.std.proofs.Common.{◌≡◌, ℕ, zero, suc, ◌<◌, ◌≤◌, ◌+◌, inl, inr, Bool, true, false, cond, List, length, get_or, set, replicate, Option, Some, None, option_and_then, arith, refl, sym, ap, ◌∙◌, subst}
+use Rattle.std.proofs.Common.{◌≡◌, ℕ, zero, suc, ◌<◌, ◌≤◌, ◌+◌, inl, inr, Bool, true, false, cond, List, length, get_or, set, replicate, Option, Some, None, is_some, option_and_then, arith, refl, sym, ap, ◌∙◌, subst}
 use Rattle.std.proofs.Math.Path.{fun_ext}
 use Rattle.std.proofs.Math.ListN.{length-set}
 use Rattle.std.proofs.lemmas.Bool.{cases_eq, cases_lt, eq-eqb, ne_eqb, eqb-true}
@@ -8,14 +8,11 @@ use Rattle.lrc_code.specs.declared.numbers.NodeNo.{NodeNo}
 use Rattle.lrc_code.specs.declared.numbers.StripeNo.{StripeNo}
 use Rattle.lrc_code.specs.Numbers.{same_stripe}
 use Rattle.lrc_code.proofs.NumbersLemmas.{equal_stripes}
-use Rattle.lrc_code.specs.declared.codes.Code.TheVariants.{Wide}
-use Rattle.lrc_code.specs.Losses.{bits_set}
-use Rattle.lrc_stripes.proofs.RankLemmas.{rank_by-few}
 use Rattle.lrc_stripes.specs.declared.losses.Losses.{Losses}
 use Rattle.lrc_stripes.specs.declared.row.Row.{Row}
-use Rattle.lrc_stripes.specs.Sets.{at_rank, IsNext}
+use Rattle.lrc_stripes.specs.Sets.{at_rank, has, IsNext}
 use Rattle.lrc_stripes.specs.Tables.{rows_in}
-use Rattle.lrc_stripes.specs.Masks.{work_rank, rank_of, is_at, IsPutOn, renewed}
+use Rattle.lrc_stripes.specs.Masks.{work_rank, is_at, IsPutOn, renewed}
 use Rattle.lrc_stripes.specs.Kept.{AreQueued, needs_of, AreRenewed, IsRenewed, IsWithLosses, IsMissingOn, IsToMoveOn, queued}
 
 -- ---- no rows
@@ -39,12 +36,13 @@ zero_at zero i = refl
 zero_at (suc n) zero = refl
 zero_at (suc n) (suc i) = zero_at n i
 
-pub are_queued-none : (list : List (Option Row)) (needs : List ℕ) (n : ℕ) (work : List (List Bool)) → n ≡ 4096 → list ≡ replicate n None
-    → needs ≡ replicate n 0 → at_rank work ≡ (λ k s. false) → AreQueued list needs work
-are_queued-none list needs n work all is zeros no_work = record {
+pub are_queued-none : (list : List (Option Row)) (needs : List ℕ) (n : ℕ) (there : List Bool) (work : List (List Bool)) → n ≡ 4096 → list ≡ replicate n None
+    → needs ≡ replicate n 0 → has there ≡ (λ s. false) → at_rank work ≡ (λ k s. false) → AreQueued list needs there work
+are_queued-none list needs n there work all is zeros no_there no_work = record {
   long = ap length is ∙ (length-replicate n no_row ∙ all);
   noted = ap length zeros ∙ (length-replicate n 0 ∙ all);
   needed = λ s. rw zeros (zero_at n s.value) ∙ sym (ap needs_of (ap (λ (f : StripeNo → Option Row). f s) (rows_in-none list n is)));
+  present = no_there ∙ fun_ext (λ s. ap (λ (rows : StripeNo → Option Row). is_some (rows s)) (sym (rows_in-none list n is)));
   works = no_work ∙ queued-none work_rank (rows_in list) (rows_in-none list n is);
 }
 
@@ -89,29 +87,43 @@ module _ (list : List (Option Row)) (stripe : StripeNo) (row : Option Row) (with
         ∙ (before s ∙ sym (ap needs_of (rows_at-set s ∙ ap (λ b. cond b row (rows_in list s)) (ne_eqb stripe.value s.value (λ e. other (sym e))))))
   ]
 
-  pub are_queued-set : (needs : List ℕ) (bits : ℕ) (work new_work : List (List Bool)) (after : Option ℕ) → AreQueued list needs work
-      → bits ≡ needs_of row → after ≡ option_and_then (λ r. work_rank r.losses) row
+  -- the set where the stripe is there or not, as told
+  pub present-set : (old new : List Bool) (is_there : Bool) → has old ≡ (λ s. is_some (rows_in list s)) → is_there ≡ is_some row
+      → has new ≡ (λ s. cond (same_stripe stripe s) is_there (has old s)) → has new ≡ (λ s. is_some (rows_in (set list stripe.value row) s))
+  present-set old new is_there was is moved = moved ∙ fun_ext (λ s.
+      ap (λ (f : StripeNo → Bool). cond (same_stripe stripe s) is_there (f s)) was
+      ∙ (ap (λ b. cond (same_stripe stripe s) b (is_some (rows_in list s))) is
+      ∙ (either (same_stripe stripe s) (rows_in list s) ∙ sym (ap (λ (o : Option Row). is_some o) (rows_at-set s))))) where
+        either : (b : Bool) (o : Option Row) → cond b (is_some row) (is_some o) ≡ is_some (cond b row o)
+        either true o = refl
+        either false o = refl
+
+  -- the set of the stripes that are there stays where one row becomes another
+  pub present-same : (there : List Bool) → has there ≡ (λ s. is_some (rows_in list s)) → is_some row ≡ is_some (rows_in list stripe)
+      → has there ≡ (λ s. is_some (rows_in (set list stripe.value row) s))
+  present-same there was same = present-set there there (is_some row) was refl (fun_ext (λ s. elim (cases_eq stripe.value s.value) [
+    | inl here ↦
+        ap (λ (f : StripeNo → Bool). f s) was
+        ∙ (ap (λ (x : StripeNo). is_some (rows_in list x)) (sym (equal_stripes stripe s here)) ∙ (sym same ∙ ap (λ b. cond b (is_some row) (has there s)) (sym (eq-eqb stripe.value s.value here))))
+    | inr other ↦ ap (λ b. cond b (is_some row) (has there s)) (sym (ne_eqb stripe.value s.value other))
+  ]))
+
+  pub are_queued-set : (needs : List ℕ) (bits : ℕ) (there new_there : List Bool) (work new_work : List (List Bool)) (after : Option ℕ) → AreQueued list needs there work
+      → has new_there ≡ (λ s. is_some (rows_in (set list stripe.value row) s)) → bits ≡ needs_of row → after ≡ option_and_then (λ r. work_rank r.losses) row
       → at_rank new_work ≡ (λ k s. cond (same_stripe stripe s) (is_at k after) (at_rank work k s))
-      → AreQueued (set list stripe.value row) (set needs stripe.value bits) new_work
-  are_queued-set needs bits work new_work after are noted is moved = record {
+      → AreQueued (set list stripe.value row) (set needs stripe.value bits) new_there new_work
+  are_queued-set needs bits there new_there work new_work after are now noted is moved = record {
     long = length-set list stripe.value row ∙ are.long;
     noted = length-set needs stripe.value bits ∙ are.noted;
     needed = needed-set needs bits (let low = stripe.in_range in let all = are.noted in omega (arith, low, all)) are.needed noted;
+    present = now;
     works = queued-set work_rank (at_rank work) (at_rank new_work) after are.works is moved;
   }
 
--- no row has work where no stripe has a rank
-pub idle-rows : (list : List (Option Row)) (needs : List ℕ) (work : List (List Bool)) → AreQueued list needs work → ((k : ℕ) (s : StripeNo) → k < 5 → at_rank work k s ≡ false)
-    → (s : StripeNo) (r : Row) → rows_in list s ≡ Some r → r.losses.needs.bits ≡ 0
-idle-rows list needs work are none s r there = elim (cases_eq r.losses.needs.bits 0) [
-  | inl empty ↦ empty
-  | inr some ↦
-      let few : rank_of r.losses ≤ 4 = rank_by-few Wide (bits_set r.losses.missing.bits) in
-      let hit : queued work_rank (rows_in list) (rank_of r.losses) s ≡ true =
-      ap (λ (o : Option Row). is_at (rank_of r.losses) (option_and_then (λ q. work_rank q.losses) o)) there ∙ rw (ne_eqb r.losses.needs.bits 0 some) (eq-eqb (rank_of r.losses) (rank_of r.losses) refl) in
-      let miss : queued work_rank (rows_in list) (rank_of r.losses) s ≡ false = ap (λ (q : ℕ → StripeNo → Bool). q (rank_of r.losses) s) (sym are.works) ∙ none (rank_of r.losses) s (omega (arith, few)) in
-      absurd (let clash : true ≡ false = sym hit ∙ miss in cc)
-]
+-- a row that has become another is there as it was
+pub renewed-there : (R : Row → Row → Type 0) (old new : Option Row) → IsRenewed R old new → is_some new ≡ is_some old
+renewed-there R None new none = ap (λ (o : Option Row). is_some o) none
+renewed-there R (Some r) new changed = ap (λ (o : Option Row). is_some o) changed.1
 
 -- one row becomes another
 pub renewed-set : (R : Row → Row → Type 0) (now next : StripeNo → Option Row) (s : StripeNo) (o : Option Row) → next ≡ (λ t. cond (same_stripe s t) o (now t))

@@ -1,5 +1,5 @@
 -- Which stripes are short: those that have work, and those with homes on several nodes that are not online.
-use Rattle.std.proofs.Common.{◌≡◌, ◌≢◌, ℕ, ◌+◌, ◌<◌, suc, cond, inl, inr, Bool, true, false, not, ◌&&◌, ◌||◌, nat_lt, nat_eq, ◌≤◌, List, [], ◌∷◌, length, map, take, get_or, Option, Some, None, option_and_then, arith, refl, sym, ap, ◌∙◌, subst}
+use Rattle.std.proofs.Common.{◌≡◌, ◌≢◌, ℕ, ◌+◌, ◌<◌, zero, suc, cond, inl, inr, Bool, true, false, not, ◌&&◌, ◌||◌, nat_lt, nat_eq, ◌≤◌, List, [], ◌∷◌, length, map, take, get_or, Option, Some, None, option_and_then, arith, refl, sym, ap, ap₂, ◌∙◌, subst}
 use Rattle.std.proofs.Math.Path.{fun_ext}
 use Rattle.std.specs.List.{list_any, count_by, AllPairs}
 use Rattle.std.proofs.lemmas.Bool.{and_parts, cases_Bool, cases_lt, eq-eqb, eqb-true, lt-ltb, le-ltb}
@@ -14,7 +14,7 @@ use Rattle.lrc_topology.specs.declared.NodeInfo.{NodeInfo}
 use Rattle.lrc_stripes.specs.declared.row.Row.{Row}
 use Rattle.lrc_stripes.specs.declared.site.Site.{Site}
 use Rattle.lrc_stripes.specs.Sets.{has, at_rank}
-use Rattle.lrc_stripes.specs.Sites.{Sited, SiteTable, AreSites, sited}
+use Rattle.lrc_stripes.specs.Sites.{Sited, SiteTable, sited}
 use Rattle.lrc_stripes.specs.Tables.{rows_in}
 use Rattle.lrc_stripes.specs.Masks.{work_rank, is_at}
 use Rattle.lrc_stripes.specs.Kept.{AreQueued}
@@ -53,7 +53,7 @@ any-found p (x ∷ sets) hit = elim (cases_Bool (p x)) [
 
 -- ---- the stripes that have work
 
-module _ (list : List (Option Row)) (needs : List ℕ) (work : List (List Bool)) (are : AreQueued list needs work) (s : StripeNo) where
+module _ (list : List (Option Row)) (needs : List ℕ) (there : List Bool) (work : List (List Bool)) (are : AreQueued list needs there work) (s : StripeNo) where
   abbrev ranked : ℕ → Option Row → Bool
   ranked k o = is_at k (option_and_then (λ r. work_rank r.losses) o)
 
@@ -114,9 +114,9 @@ module _ (list : List (Option Row)) (needs : List ℕ) (work : List (List Bool))
         let needy = ranked-needy found.0 (rows_in list s) (sym (at found.0) ∙ found.1) in
         absurd (let clash : true ≡ false = sym needy ∙ none in cc)
 
-pub work-joined : (list : List (Option Row)) (needs : List ℕ) (work : List (List Bool)) (first now : List Bool) → AreQueued list needs work
+pub work-joined : (list : List (Option Row)) (needs : List ℕ) (there : List Bool) (work : List (List Bool)) (first now : List Bool) → AreQueued list needs there work
     → has now ≡ (λ s. has first s || list_any (λ m. has m s) work) → has now ≡ λ s. has first s || is_needy (rows_in list s)
-work-joined list needs work first now are joined = joined ∙ fun_ext (λ s. ap (λ b. has first s || b) (work-needy list needs work are s))
+work-joined list needs there work first now are joined = joined ∙ fun_ext (λ s. ap (λ b. has first s || b) (work-needy list needs there work are s))
 
 -- ---- nodes that are not online
 
@@ -198,12 +198,12 @@ scattered-nodes sites sets t view =
     fun_ext (λ s. ap (nat_lt 1) (count-map (λ (n : NodeInfo). not (now.online n.number) && now.on n.number s) (λ (x : Site). x.node) sites)))
 
 -- a node of the list is online where it says so itself
-pub online-there : (sites : List Site) (sets : List (List Bool)) (numbers : List NodeNo) (t : SiteTable) (view : ◌≡◌ {A = SiteTable} (record { list = sites; stripes = sets }) t)
-    (offline : ℕ) → AreSites sites sets numbers offline → (i : ℕ) (d : Site) → i < length sites → (sited t).online (get_or sites i d).node.number ≡ not (get_or sites i d).is_offline
+pub online-there : (sites : List Site) (sets : List (List Bool)) (t : SiteTable) (view : ◌≡◌ {A = SiteTable} (record { list = sites; stripes = sets }) t)
+    → AllPairs (λ (m n : NodeNo). m.value ≢ n.value) (map (λ x. x.node.number) sites) → (i : ℕ) (d : Site) → i < length sites → (sited t).online (get_or sites i d).node.number ≡ not (get_or sites i d).is_offline
 unfolding sited
-online-there sites sets numbers t view offline are i d within =
+online-there sites sets t view apart i d within =
     subst (λ (y : SiteTable). (sited y).online (get_or sites i d).node.number ≡ not (get_or sites i d).is_offline) view
-    (online-own sites i d within (subst (λ (ns : List NodeNo). AllPairs (λ (m n : NodeNo). m.value ≢ n.value) ns) are.found are.apart))
+    (online-own sites i d within apart)
 
 -- what passes one test passes another: as many or more pass that one
 count-within : (p q : Site → Bool) (xs : List Site) → ((i : ℕ) (d : Site) → i < length xs → p (get_or xs i d) ≡ true → q (get_or xs i d) ≡ true)
@@ -218,39 +218,56 @@ count-within p q (x ∷ xs) all =
     rw (sum_by-cons (λ (y : Site). cond (p y) 1 0) x xs, sum_by-cons (λ (y : Site). cond (q y) 1 0) x xs) (omega (arith, rest, one))
 
 -- where fewer than two nodes are offline, no stripe has homes on several of them
-pub few-scattered : (sites : List Site) (sets : List (List Bool)) (numbers : List NodeNo) (t : SiteTable) (view : ◌≡◌ {A = SiteTable} (record { list = sites; stripes = sets }) t)
-    (offline : ℕ) → AreSites sites sets numbers offline → offline < 2 → (λ (s : StripeNo). false) ≡ is_scattered (sited t)
-few-scattered sites sets numbers t view offline are few =
+pub few-scattered : (sites : List Site) (sets : List (List Bool)) (t : SiteTable) (view : ◌≡◌ {A = SiteTable} (record { list = sites; stripes = sets }) t)
+    → AllPairs (λ (m n : NodeNo). m.value ≢ n.value) (map (λ x. x.node.number) sites) → count_by (λ x. x.is_offline) sites < 2 → (λ (s : StripeNo). false) ≡ is_scattered (sited t)
+few-scattered sites sets t view apart few =
     fun_ext (λ s.
     let within = count-within (is_off (sited t) s) (λ x. x.is_offline) sites (λ i d inside hit.
     let at = get_or sites i d in
     let off = (and_parts (not ((sited t).online at.node.number)) _ hit).0 in
-    let said = online-there sites sets numbers t view offline are i d inside in
+    let said = online-there sites sets t view apart i d inside in
     (let both : not (not at.is_offline) ≡ true = ap not (sym said) ∙ off in elim (cases_Bool at.is_offline) [
       | inl yes_off ↦ yes_off
       | inr not_off ↦ absurd (let wrong : false ≡ true = sym (ap (λ b. not (not b)) not_off) ∙ both in cc)
     ])) in
-    let was : offline ≡ count_by (λ x. x.is_offline) sites = are.counted in
-    sym (le-ltb 1 (counted (sited t) s sites) (omega (arith, within, was, few))))
+    sym (le-ltb 1 (counted (sited t) s sites) (omega (arith, within, few))))
     ∙ scattered-nodes sites sets t view
 
 -- where none of them passes the test, none passes it and another
-none-both : (p q : Site → Bool) (xs : List Site) → count_by p xs ≡ 0 → list_any (λ x. p x && q x) xs ≡ false
+none-both : (p q : Site → Bool) (xs : List Site) → ((i : ℕ) (d : Site) → i < length xs → p (get_or xs i d) ≡ false) → list_any (λ x. p x && q x) xs ≡ false
 none-both p q [] none = refl
-none-both p q (x ∷ xs) none =
-    let parts : cond (p x) 1 0 + count_by p xs ≡ 0 = sym (sum_by-cons (λ (y : Site). cond (p y) 1 0) x xs) ∙ none in
-    elim (cases_Bool (p x)) [
-      | inl hit ↦ absurd (let one : 1 + count_by p xs ≡ 0 = rw hit at parts in omega (arith, one))
-      | inr miss ↦ rw miss (none-both p q xs (omega (arith, parts)))
-    ]
+none-both p q (x ∷ xs) none = rw (none 0 x (omega arith)) (none-both p q xs (λ i d within. none (suc i) d (omega (arith, within))))
 
 -- where no node is offline, each that has a stripe is online
-pub none-offline : (sites : List Site) (sets : List (List Bool)) (numbers : List NodeNo) (t : SiteTable) (view : ◌≡◌ {A = SiteTable} (record { list = sites; stripes = sets }) t)
-    (offline : ℕ) → AreSites sites sets numbers offline → offline ≡ 0 → (n : NodeNo) (s : StripeNo) → (sited t).on n s ≡ true → (sited t).online n ≡ true
-none-offline sites sets numbers t view offline are zero n s on = elim (cases_Bool ((sited t).online n)) [
+pub none-offline : (sites : List Site) (sets : List (List Bool)) (t : SiteTable) (view : ◌≡◌ {A = SiteTable} (record { list = sites; stripes = sets }) t)
+    → length sets ≡ length sites → ((i : ℕ) (d : Site) → i < length sites → (get_or sites i d).is_offline ≡ false)
+    → (n : NodeNo) (s : StripeNo) → (sited t).on n s ≡ true → (sited t).online n ≡ true
+none-offline sites sets t view long none n s on = elim (cases_Bool ((sited t).online n)) [
   | inl up ↦ up
   | inr off ↦
-      let hit = offline-all sites sets t view are.long n s off on in
-      let none = none-both (λ x. x.is_offline) (λ x. (sited t).on x.node.number s) sites (sym are.counted ∙ zero) in
-      absurd (let clash : true ≡ false = sym hit ∙ none in cc)
+      let hit = offline-all sites sets t view long n s off on in
+      let miss = none-both (λ x. x.is_offline) (λ x. (sited t).on x.node.number s) sites none in
+      absurd (let clash : true ≡ false = sym hit ∙ miss in cc)
 ]
+
+-- where no other than the one at a place passes the test, at most one does
+none-counted : (p : Site → Bool) (xs : List Site) → ((i : ℕ) (d : Site) → i < length xs → p (get_or xs i d) ≡ false) → count_by p xs ≡ 0
+none-counted p [] none = refl
+none-counted p (x ∷ xs) none =
+    let rest = none-counted p xs (λ i d within. none (suc i) d (omega (arith, within))) in
+    let first : ◌≡◌ {A = ℕ} (cond (p x) 1 0) 0 = ap (λ (b : Bool). let y : ℕ = cond b 1 0 in y) (none 0 x (omega arith)) in
+    sum_by-cons (λ (y : Site). cond (p y) 1 0) x xs ∙ ap₂ (λ (a b : ℕ). a + b) first rest
+
+pub one-counted : (p : Site → Bool) (xs : List Site) (k : ℕ) → ((i : ℕ) (d : Site) → i < length xs → i ≢ k → p (get_or xs i d) ≡ false) → count_by p xs < 2
+one-counted p [] k others = omega arith
+one-counted p (x ∷ xs) zero others =
+    let rest : count_by p xs ≡ 0 = none-counted p xs (λ i d within. others (suc i) d (omega (arith, within)) (omega arith)) in
+    rw (sum_by-cons (λ (y : Site). cond (p y) 1 0) x xs, rest) (elim (cases_Bool (p x)) [
+      | inl hit ↦ rw hit (omega arith)
+      | inr miss ↦ rw miss (omega arith)
+    ])
+one-counted p (x ∷ xs) (suc k) others =
+    let rest : count_by p xs < 2 = one-counted p xs k (λ i d within other. others (suc i) d (omega (arith, within)) (λ e. other (omega (arith, e)))) in
+    let first : ◌≡◌ {A = ℕ} (cond (p x) 1 0) 0 = ap (λ (b : Bool). let y : ℕ = cond b 1 0 in y) (others 0 x (omega arith) (omega arith)) in
+    let total : count_by p (x ∷ xs) ≡ cond (p x) 1 0 + count_by p xs = sum_by-cons (λ (y : Site). cond (p y) 1 0) x xs in
+    omega (arith, total, first, rest)

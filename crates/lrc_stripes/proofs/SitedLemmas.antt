@@ -1,5 +1,5 @@
 -- What look-ups and changes of the nodes as they are kept say of what these stand for.
-use Rattle.std.proofs.Common.{◌≡◌, ℕ, ◌<◌, ◌≤◌, inl, inr, Bool, true, false, not, ◌&&◌, ◌||◌, if◌then◌else◌, nat_eq, List, [], ◌∷◌, ◌+◌, length, map, take, get_or, set, is_some, Option, Some, None, IsTrue, arith, refl, sym, ap, ap₂, ◌∙◌, subst}
+use Rattle.std.proofs.Common.{◌≡◌, ℕ, ◌<◌, ◌≤◌, inl, inr, Bool, true, false, not, ◌&&◌, ◌||◌, if◌then◌else◌, nat_eq, List, [], ◌∷◌, ◌+◌, length, map, take, get_or, set, is_some, IsSome, Option, Some, None, IsTrue, arith, refl, sym, ap, ap₂, ◌∙◌, subst}
 use Rattle.std.proofs.Math.Path.{fun_ext}
 use Rattle.std.specs.List.{All, list_any}
 use Rattle.std.specs.Option.{option_map_or}
@@ -63,6 +63,11 @@ module _ (sites : List Site) (sets : List (List Bool)) (t : SiteTable) (view : �
 
   pub missed-known : IsPlaceOf t n None → IsTrue (has_node (sited t).nodes n) → ⊥
   missed-known none known = let e : false ≡ true = ap (λ (o : Option NodeInfo). is_some o) (missed-node none) ∙ known in cc
+
+  -- where one has the number, a place is found
+  pub placed : (o : Option ℕ) → IsPlaceOf t n o → IsTrue (has_node (sited t).nodes n) → IsSome o
+  placed None none known = absurd (missed-known none known)
+  placed (Some p) at known = refl
 
   -- ---- where a node has the number
 

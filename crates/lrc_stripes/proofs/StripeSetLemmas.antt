@@ -1,5 +1,5 @@
 -- Sets of stripes as lists of truth values.
-use Rattle.std.proofs.Common.{◌≡◌, ℕ, zero, suc, ◌<◌, inl, inr, Bool, true, false, not, ◌&&◌, ◌||◌, List, length, get_or, set, replicate, refl, sym, ap, ◌∙◌}
+use Rattle.std.proofs.Common.{◌≡◌, ℕ, zero, suc, ◌<◌, cond, inl, inr, Bool, true, false, not, ◌&&◌, ◌||◌, List, length, get_or, set, replicate, refl, sym, ap, ◌∙◌}
 use Rattle.std.proofs.Math.Path.{fun_ext}
 use Rattle.std.proofs.lemmas.Bool.{cases_eq, eq-eqb, ne_eqb}
 use Rattle.std.proofs.lemmas.List.{get_or-set_same, get_or-set_other}
@@ -35,6 +35,19 @@ module _ (bits : List Bool) (stripe : StripeNo) (within : stripe.value < length 
         get_or-set_other bits stripe.value s.value false false other
         ∙ ap (λ b. not b && has bits s) (sym (ne_eqb stripe.value s.value (λ e. other (sym e))))
   ])
+
+module _ (stripe : StripeNo) (set_of : StripeNo → Bool) where
+  pub put-in : ◌≡◌ {A = StripeNo → Bool} (λ s. same_stripe stripe s || set_of s) (λ s. cond (same_stripe stripe s) true (set_of s))
+  put-in = fun_ext (λ s. either (same_stripe stripe s) (set_of s)) where
+    either : (b x : Bool) → (b || x) ≡ cond b true x
+    either true x = refl
+    either false x = refl
+
+  pub put-out : ◌≡◌ {A = StripeNo → Bool} (λ s. not (same_stripe stripe s) && set_of s) (λ s. cond (same_stripe stripe s) false (set_of s))
+  put-out = fun_ext (λ s. either (same_stripe stripe s) (set_of s)) where
+    either : (b x : Bool) → (not b && x) ≡ cond b false x
+    either true x = refl
+    either false x = refl
 
 pub has-union : (old new other : List Bool) → ((k : ℕ) → get_or new k false ≡ (get_or old k false || get_or other k false)) → has new ≡ (λ s. has old s || has other s)
 has-union old new other each = fun_ext (λ s. each s.value)

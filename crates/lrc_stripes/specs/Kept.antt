@@ -1,6 +1,6 @@
 -- Internal: no public clause reaches these definitions.
 -- What is kept of the stripes beside their homes: the masks of each row, and the stripes on each node.
-use Rattle.std.specs.Prelude.{◌≡◌, ◌≢◌, ℕ, ◌+◌, ◌-◌, Bool, true, false, List, [], ◌∷◌, ◌++◌, length, get_or, set, map, filter, drop, Option, Some, None, option_and_then, option_map}
+use Rattle.std.specs.Prelude.{◌≡◌, ◌≢◌, ℕ, ◌+◌, ◌-◌, Bool, true, false, List, [], ◌∷◌, ◌++◌, length, get_or, set, map, filter, drop, Option, Some, None, is_some, option_and_then, option_map}
 use Rattle.std.specs.Option.{option_map_or}
 use Rattle.std.specs.List.{list_any, flat_map, range_with_len}
 use Rattle.lrc_code.specs.declared.codes.Code.TheVariants.{Wide}
@@ -15,7 +15,7 @@ use Rattle.lrc_stripes.specs.declared.row.Row.{Row}
 use Rattle.lrc_stripes.specs.Stored.{StripeFragment, StripeLevel}
 use Rattle.lrc_stripes.specs.Rows.{sits_on, sits_at, is_on_seat}
 use Rattle.lrc_stripes.specs.Masks.{IsPutOn, AreKept, renewed, work_rank, is_at, level_of}
-use Rattle.lrc_stripes.specs.Sets.{at_rank, members_from}
+use Rattle.lrc_stripes.specs.Sets.{at_rank, has, members_from}
 use Rattle.lrc_stripes.specs.Sites.{Sited}
 use Rattle.lrc_stripes.specs.Tables.{rows_in}
 
@@ -116,11 +116,12 @@ queued rank rows k s = is_at k (option_and_then (λ r. rank r.losses) (rows s))
 abbrev pub needs_of : Option Row → ℕ
 needs_of o = option_map_or (λ r. r.losses.needs.bits) o 0
 
--- There is a place for each stripe, the fragments that need a lease are those of the rows, and the queue has the stripes with work at their ranks.
-pub record AreQueued (list : List (Option Row)) (needs : List ℕ) (work : List (List Bool)) : Type 0 where
+-- There is a place for each stripe, the fragments that need a lease are those of the rows, the set has the stripes with a row, and the queue those with work at their ranks.
+pub record AreQueued (list : List (Option Row)) (needs : List ℕ) (there : List Bool) (work : List (List Bool)) : Type 0 where
   pub long : length list ≡ 4096
   pub noted : length needs ≡ 4096
   pub needed : (s : StripeNo) → get_or needs s.value 0 ≡ needs_of (rows_in list s)
+  pub present : has there ≡ (λ s. is_some (rows_in list s))
   pub works : at_rank work ≡ queued work_rank (rows_in list)
 
 -- ---- levels

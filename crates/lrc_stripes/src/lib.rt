@@ -2,6 +2,7 @@
 #![tactic(auto)]
 
 mod at_risk;
+mod domains;
 mod homes_on;
 pub mod laws;
 mod level;

@@ -1,4 +1,4 @@
-ghost use Rattle.std.specs.Prelude.{◌≡◌, ◌||◌, ℕ, ◌<◌, ◌≤◌, if◌then◌else◌, length, get_or, option_and_then, replicate, Some, None, true, false, IsTrue, IfOk, IfErr, IfSome};
+ghost use Rattle.std.specs.Prelude.{◌≡◌, ◌||◌, ℕ, ◌<◌, ◌≤◌, if◌then◌else◌, length, get_or, option_and_then, replicate, Some, None, is_some, true, false, IsTrue, IfOk, IfErr, IfSome};
 ghost use Rattle.std.specs.Option.{option_copied};
 ghost use Rattle.lrc_code.specs.Numbers.{same_stripe};
 ghost use Rattle.lrc_code.specs.declared.numbers.StripeNo.{StripeNo as AnyStripe};
@@ -34,6 +34,8 @@ pub(crate) struct Rows {
     /// By the stripe's number, the fragments that need a lease; none where the stripe is not there. They stand here too
     /// so that a walk of the queue need not look at the rows.
     needs: Vec<u16>,
+    /// The stripes that are there, told without a look at the rows.
+    there: StripeSet,
     work: Queue,
 }
 
@@ -46,7 +48,7 @@ impl Model for Rows {
 
     ghost view = { λ t. t.list.items };
 
-    ghost invariant = { λ t. AreQueued t.list.items t.needs.items t.work };
+    ghost invariant = { λ t. AreQueued t.list.items t.needs.items t.there t.work };
 }
 
 impl Rows {
@@ -58,8 +60,16 @@ impl Rows {
         Ok(Rows {
             list: none(alloc, STRIPES)?,
             needs: zeros(alloc, STRIPES)?,
+            there: StripeSet::new(),
             work: Queue::new(alloc)?,
         })
+    }
+
+    /// Whether a stripe is there.
+    pub(crate) fn contains(&self, stripe: StripeNo) -> bool
+        ensures { result ≡ is_some (rows_in self.now stripe) }
+    {
+        self.there.contains(stripe)
     }
 
     /// The row of a stripe, if it is there.
@@ -85,6 +95,7 @@ impl Rows {
         let after = work_rank(row.as_ref());
         self.work.relist(stripe, before, after);
         self.needs[stripe.value as usize] = needs_of(row.as_ref());
+        self.there.set(stripe, row.is_some());
         self.list[stripe.value as usize] = row;
     }
 

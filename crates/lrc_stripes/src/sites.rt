@@ -1,10 +1,11 @@
-ghost use Rattle.std.specs.Prelude.{◌≡◌, ◌&&◌, ◌||◌, not, true, false, if◌then◌else◌, map, Some, IfOk, IfErr, IfSome, IsTrue, ◌+◌, ◌^◌, ◌<◌, ◌≤◌, cond};
+ghost use Rattle.std.specs.Prelude.{◌≡◌, ◌&&◌, ◌||◌, not, true, false, if◌then◌else◌, map, Some, IfOk, IfErr, IfSome, IsTrue, ◌<◌, length, get_or, slice_set};
 ghost use Rattle.std.specs.List.{All, list_any};
 ghost use Rattle.lrc_code.specs.Numbers.{same_stripe, same_node, same_upgrade};
 ghost use Rattle.lrc_code.specs.declared.numbers.NodeNo.{NodeNo as AnyNode};
 ghost use Rattle.lrc_code.specs.declared.numbers.StripeNo.{StripeNo as AnyStripe};
 ghost use Rattle.lrc_code.specs.declared.fault.Fault.TheVariants.{OutOfMemory};
-ghost use Rattle.lrc_topology.specs.Nodes.{node_at};
+ghost use Rattle.lrc_topology.specs.declared.NodeInfo.{NodeInfo as AnyInfo};
+ghost use Rattle.lrc_topology.specs.Nodes.{node_at, nodes_in};
 ghost use Rattle.lrc_stripes.specs.Stored.{has_node};
 ghost use Rattle.lrc_stripes.specs.Sets.{FindsNext, has};
 ghost use Rattle.lrc_stripes.specs.Rows.{sits_on};
@@ -19,7 +20,8 @@ use crate::row::Row;
 use crate::rows::Rows;
 use crate::site::Site;
 use crate::stripe_set::StripeSet;
-use crate::{Seat, masks};
+use crate::{Seat, domains, masks};
+use lrc_bits::BitSet;
 use lrc_code::{Fault, Fragment, LossMask, NodeNo, StripeNo, UpgradeNo};
 use lrc_topology::{NodeIndex, NodeInfo, Topology};
 use std::alloc::Global;
@@ -29,22 +31,26 @@ use std::marker::Model;
 #[derive(Drop)]
 pub(crate) struct Sites {
     /// In the order of the file.
-    list: Vec<Site>,
+    nodes: Vec<NodeInfo>,
     /// In the same order.
     stripes: Vec<StripeSet>,
     places: NodeIndex,
-    /// How many of the nodes are offline.
-    offline: usize,
+    /// The places of the nodes that are offline.
+    offline: BitSet<8>,
+    /// The places of those that are draining.
+    draining: BitSet<8>,
+    /// For each upgrade domain the places of its nodes.
+    domains: Vec<BitSet<8>>,
 }
 
 impl Model for Sites {
-    ghost use Rattle.lrc_stripes.specs.Sites.{SiteTable, AreSites};
+    ghost use Rattle.lrc_stripes.specs.Sites.{SiteTable, AreSites, sites_from};
 
     ghost Value = { SiteTable };
 
-    ghost view = { λ t. record { list = t.list.items; stripes = t.stripes.items } };
+    ghost view = { λ t. record { list = sites_from 0 t.nodes.items t.offline t.draining; stripes = t.stripes.items } };
 
-    ghost invariant = { λ t. AreSites t.list.items t.stripes.items t.places t.offline };
+    ghost invariant = { λ t. AreSites t.nodes.items t.stripes.items t.places t.offline t.draining t.domains.items };
 }
 
 impl Sites {
@@ -53,21 +59,20 @@ impl Sites {
         ensures value { IfOk result (λ t. sited t ≡ first_sites topology.now) }
         ensures err { IfErr result (λ e. e ≡ OutOfMemory) }
     {
-        let mut list = Vec::with_capacity(alloc, topology.len())?;
+        let mut nodes = Vec::with_capacity(alloc, topology.len())?;
         let mut stripes = Vec::with_capacity(alloc, topology.len())?;
         for node in topology.nodes() {
-            list.push(Site {
-                node: *node,
-                is_offline: false,
-                is_draining: false,
-            })?;
+            nodes.push(*node)?;
             stripes.push(StripeSet::new())?;
         }
+        let domains = domains::places_by_upgrade(alloc, &nodes)?;
         Ok(Sites {
-            list,
+            nodes,
             stripes,
             places: NodeIndex::new(alloc, topology)?,
-            offline: 0,
+            offline: BitSet::new(),
+            draining: BitSet::new(),
+            domains,
         })
     }
 
@@ -76,7 +81,22 @@ impl Sites {
         ensures { result ≡ node_at (sited self.now).nodes number }
     {
         let place = self.place(number)?;
-        Some(self.list[place].node)
+        Some(self.nodes[place])
+    }
+
+    /// How many nodes there are.
+    pub(crate) fn len(&self) -> usize
+        ensures { result ≡ length (sited self.now).nodes }
+    {
+        self.nodes.len()
+    }
+
+    /// The node at a place in the order of the file.
+    pub(crate) fn node_at(&self, place: usize) -> NodeInfo
+        requires { place < length (sited self.now).nodes }
+        ensures { (d : AnyInfo) → result ≡ get_or (sited self.now).nodes place d }
+    {
+        self.nodes[place]
     }
 
     /// Whether the node of a number is online; a number that is no node is not.
@@ -84,7 +104,7 @@ impl Sites {
         ensures { result ≡ (sited self.now).online number }
     {
         match self.place(number) {
-            Some(place) => !self.list[place].is_offline,
+            Some(place) => !self.offline.contains(place),
             None => false,
         }
     }
@@ -94,7 +114,7 @@ impl Sites {
         ensures { result ≡ (sited self.now).draining number }
     {
         match self.place(number) {
-            Some(place) => self.list[place].is_draining,
+            Some(place) => self.draining.contains(place),
             None => false,
         }
     }
@@ -104,11 +124,8 @@ impl Sites {
         requires { IsTrue (has_node (sited self.old).nodes number) }
         ensures { sited self.new ≡ record (sited self.old) { online = λ n. if same_node number n then not is_offline else (sited self.old).online n } }
     {
-        if let Some(place) = self.place(number) {
-            let was_offline = self.list[place].is_offline;
-            self.offline = recounted(self.offline, was_offline, is_offline);
-            self.list[place].is_offline = is_offline;
-        }
+        let place = self.place_of(number);
+        mark(&mut self.offline, place, is_offline);
     }
 
     /// Sets whether these nodes are offline.
@@ -121,14 +138,25 @@ impl Sites {
         }
     }
 
+    /// Sets whether the nodes of an upgrade domain are offline.
+    pub(crate) fn set_offline_in(&mut self, domain: UpgradeNo, is_offline: bool)
+        ensures { sited self.new ≡ record (sited self.old) { online = λ m. if list_any (λ n. same_node n.number m) (nodes_in (sited self.old).nodes domain) then not is_offline else (sited self.old).online m } }
+    {
+        let places = &self.domains[domain.value as usize];
+        if is_offline {
+            self.offline.insert_all(places);
+        } else {
+            self.offline.remove_all(places);
+        }
+    }
+
     /// Sets whether a node is draining.
     pub(crate) fn set_draining(&mut self, number: NodeNo, is_draining: bool)
         requires { IsTrue (has_node (sited self.old).nodes number) }
         ensures { sited self.new ≡ record (sited self.old) { draining = λ n. if same_node number n then is_draining else (sited self.old).draining n } }
     {
-        if let Some(place) = self.place(number) {
-            self.list[place].is_draining = is_draining;
-        }
+        let place = self.place_of(number);
+        mark(&mut self.draining, place, is_draining);
     }
 
     /// Puts a stripe among those with a home on the node.
@@ -136,10 +164,9 @@ impl Sites {
         requires { IsTrue (has_node (sited self.old).nodes number) }
         ensures { sited self.new ≡ record (sited self.old) { on = λ n s. (same_node number n && same_stripe stripe s) || (sited self.old).on n s } }
     {
-        if let Some(place) = self.place(number) {
-            let set = &mut self.stripes[place];
-            set.insert(stripe);
-        }
+        let place = self.place_of(number);
+        let set = &mut self.stripes[place];
+        set.insert(stripe);
     }
 
     /// Puts a stripe among those with a home on the nodes of these seats. What is missing of it there, and what needs a
@@ -171,13 +198,13 @@ impl Sites {
         ensures online { not result.is_offline ≡ (sited self.old).online number }
         ensures draining { result.is_draining ≡ (sited self.old).draining number }
     {
-        match self.place(number) {
-            Some(place) => {
-                let set = &mut self.stripes[place];
-                set.insert(stripe);
-                self.list[place]
-            }
-            None => unreachable!(),
+        let place = self.place_of(number);
+        let set = &mut self.stripes[place];
+        set.insert(stripe);
+        Site {
+            node: self.nodes[place],
+            is_offline: self.offline.contains(place),
+            is_draining: self.draining.contains(place),
         }
     }
 
@@ -236,9 +263,10 @@ impl Sites {
         ensures { has result ≡ λ s. list_any (λ n. same_upgrade n.upgrade domain && (sited self.now).on n.number s) (sited self.now).nodes }
     {
         let mut found = StripeSet::new();
-        for site in self.list.iter() {
-            if site.node.upgrade == domain {
-                self.join(site.node.number, &mut found);
+        for place in 0..self.nodes.len() {
+            let node = self.nodes[place];
+            if node.upgrade == domain {
+                self.join(node.number, &mut found);
             }
         }
         found
@@ -249,9 +277,9 @@ impl Sites {
         ensures { (n : AnyNode) (s : AnyStripe) → (sited self.now).online n ≡ false → (sited self.now).on n s ≡ true → has result s ≡ true }
     {
         let mut found = StripeSet::new();
-        for site in self.list.iter() {
-            if site.is_offline {
-                self.join(site.node.number, &mut found);
+        for place in 0..self.nodes.len() {
+            if self.offline.contains(place) {
+                self.join(self.nodes[place].number, &mut found);
             }
         }
         found
@@ -261,14 +289,17 @@ impl Sites {
     pub(crate) fn are_all_online(&self) -> bool
         ensures { result ≡ true → (n : AnyNode) (s : AnyStripe) → (sited self.now).on n s ≡ true → (sited self.now).online n ≡ true }
     {
-        self.offline == 0
+        self.offline.is_empty()
     }
 
     /// Whether fewer than two nodes are offline: then no stripe has homes on several of them.
     pub(crate) fn are_few_offline(&self) -> bool
         ensures { result ≡ true → (s : AnyStripe) → is_scattered (sited self.now) s ≡ false }
     {
-        self.offline < 2
+        match self.offline.first() {
+            Some(place) => self.offline.first_from(place + 1).is_none(),
+            None => true,
+        }
     }
 
     /// The stripes with homes on several nodes that are not online.
@@ -280,9 +311,9 @@ impl Sites {
         }
         let mut once = StripeSet::new();
         let mut twice = StripeSet::new();
-        for site in self.list.iter() {
-            if site.is_offline {
-                self.count(site.node.number, &mut once, &mut twice);
+        for place in 0..self.nodes.len() {
+            if self.offline.contains(place) {
+                self.count(self.nodes[place].number, &mut once, &mut twice);
             }
         }
         twice
@@ -315,19 +346,24 @@ impl Sites {
     {
         self.places.place(number)
     }
+
+    /// Where the node of a number that is there stands.
+    fn place_of(&self, number: NodeNo) -> usize
+        requires { IsTrue (has_node (sited self.now).nodes number) }
+        ensures { IsPlaceOf self.now number (Some result) }
+    {
+        self.places.place_of(number)
+    }
 }
 
-/// How many of some things have a mark, where one of them had it or not, and now has it or not.
-fn recounted(count: usize, had: bool, has: bool) -> usize
-    requires among { cond had 1 0 ≤ count }
-    requires room { count < 2 ^ 63 }
-    ensures { result + cond had 1 0 ≡ count + cond has 1 0 }
+/// Puts a number into a set or takes it out, as told.
+fn mark(set: &mut BitSet<8>, number: usize, is_in: bool)
+    requires { number < length set.old }
+    ensures { set.new ≡ slice_set set.old number is_in }
 {
-    if had == has {
-        count
-    } else if has {
-        count + 1
+    if is_in {
+        set.insert(number);
     } else {
-        count - 1
+        set.remove(number);
     }
 }

@@ -1,4 +1,4 @@
-ghost use Rattle.std.specs.Prelude.{◌≡◌, ◌≤◌, ◌/◌, ◌&&◌, ◌||◌, not, false};
+ghost use Rattle.std.specs.Prelude.{◌≡◌, ◌≤◌, ◌/◌, ◌&&◌, ◌||◌, not, false, if◌then◌else◌};
 ghost use Rattle.lrc_code.specs.Numbers.{same_stripe};
 ghost use Rattle.lrc_code.specs.declared.numbers.StripeNo.{StripeNo as AnyStripe};
 ghost use Rattle.lrc_stripes.specs.Sets.{FindsNext, has};
@@ -33,6 +33,13 @@ impl StripeSet {
         }
     }
 
+    /// Whether a stripe is of the set.
+    pub(crate) fn contains(&self, stripe: StripeNo) -> bool
+        ensures { result ≡ has self.now stripe }
+    {
+        self.bits.contains(stripe.value as usize)
+    }
+
     /// Puts a stripe into the set.
     pub(crate) fn insert(&mut self, stripe: StripeNo)
         ensures { has self.new ≡ λ s. same_stripe stripe s || has self.old s }
@@ -45,6 +52,17 @@ impl StripeSet {
         ensures { has self.new ≡ λ s. not (same_stripe stripe s) && has self.old s }
     {
         self.bits.remove(stripe.value as usize);
+    }
+
+    /// Puts a stripe into the set or takes it out, as told.
+    pub(crate) fn set(&mut self, stripe: StripeNo, is_in: bool)
+        ensures { has self.new ≡ λ s. if same_stripe stripe s then is_in else has self.old s }
+    {
+        if is_in {
+            self.insert(stripe);
+        } else {
+            self.remove(stripe);
+        }
     }
 
     /// Puts all stripes of the other set into this one.

@@ -1,8 +1,11 @@
-ghost use Rattle.std.specs.Prelude.{◌≡◌, ◌≤◌, ◌↔◌, IsTrue, IsFalse, IfOk, IfErr, IfSome, IfNone, OnErr, OnOk, IsOk, None, Some};
+ghost use Rattle.std.specs.Prelude.{◌≡◌, ◌<◌, ◌≤◌, if◌then◌else◌, length, get_or, ◌↔◌, IsTrue, IsFalse, IfOk, IfErr, IfSome, IfNone, OnErr, OnOk, IsOk, None, Some};
 ghost use Rattle.std.specs.List.{All};
 ghost use Rattle.lrc_code.specs.declared.numbers.StripeNo.{StripeNo as AnyStripe};
 ghost use Rattle.lrc_code.specs.declared.codes.Code.TheVariants.{Wide};
 ghost use Rattle.lrc_code.specs.declared.fault.Fault.TheVariants.{OutOfMemory};
+ghost use Rattle.lrc_code.specs.Numbers.{same_upgrade};
+ghost use Rattle.lrc_topology.specs.Nodes.{nodes_in};
+ghost use Rattle.lrc_topology.specs.declared.NodeInfo.{NodeInfo as AnyInfo};
 ghost use Rattle.lrc_stripes.specs.Stored.{empty, with_stripe, with_homes, without_stripe, with_home, with_offline, with_offline_all, with_draining, with_spare, homes_shown, missing_shown, needs_shown, level_shown, has_node, has_slot, HasNoHome, AreHomesOn, AreHomesOnFrom, has_work, AreWork, AreWorkFrom, AreAtRisk};
 ghost use Rattle.lrc_stripes.specs.Tables.{stored_in};
 ghost use Rattle.lrc_stripes.specs.Upgrades.{is_lost_to, is_short_lost_to, IsFirstLostTo, IsFirstShortLostTo};
@@ -83,7 +86,7 @@ impl Stripes {
     pub fn contains(&self, stripe: StripeNo) -> bool
         ensures { result ≡ (stored_in self.now).stripes stripe }
     {
-        self.rows.get(stripe).is_some()
+        self.rows.contains(stripe)
     }
 
     /// Adds a stripe of the code `Wide`, none of whose fragments has a home, in room that there is for it.
@@ -261,6 +264,37 @@ impl Stripes {
             }
         } else {
             self.sites.set_offline_all(nodes, is_offline);
+        }
+    }
+
+    /// Sets whether the nodes of an upgrade domain are offline.
+    pub fn set_offline_in(&mut self, domain: UpgradeNo, is_offline: bool)
+        ensures { stored_in self.new ≡ with_offline_all (stored_in self.old) (nodes_in (stored_in self.old).nodes domain) is_offline }
+    {
+        if self.rows.has_work() {
+            for place in 0..self.node_count() {
+                self.set_offline_at(place, domain, is_offline);
+            }
+        } else {
+            self.sites.set_offline_in(domain, is_offline);
+        }
+    }
+
+    /// How many nodes there are.
+    fn node_count(&self) -> usize
+        ensures { result ≡ length (stored_in self.now).nodes }
+    {
+        self.sites.len()
+    }
+
+    /// Sets whether the node at a place in the order of the file is offline, if it is in the upgrade domain.
+    fn set_offline_at(&mut self, place: usize, domain: UpgradeNo, is_offline: bool)
+        requires { place < length (stored_in self.old).nodes }
+        ensures { (d : AnyInfo) → stored_in self.new ≡ (if same_upgrade (get_or (stored_in self.old).nodes place d).upgrade domain then with_offline (stored_in self.old) (get_or (stored_in self.old).nodes place d).number is_offline else stored_in self.old) }
+    {
+        let node = self.sites.node_at(place);
+        if node.upgrade == domain {
+            self.set_offline(node.number, is_offline);
         }
     }
 
