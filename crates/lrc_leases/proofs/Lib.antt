@@ -3,3 +3,4 @@ pub mod SlabLemmas
 pub mod ChainLemmas
 pub mod TargetLemmas
 pub mod MaskLemmas
+pub mod CountLemmas

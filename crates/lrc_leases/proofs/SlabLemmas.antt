@@ -15,7 +15,7 @@ use Rattle.lrc_code.specs.Numbers.{same_stripe}
 use Rattle.lrc_leases.specs.declared.lease.Lease.{Lease}
 use Rattle.lrc_leases.specs.Leased.{LeaseMap, is_of, leases_in, leased_of, with_lease, without_lease, with_spare, AreOneEach}
 use Rattle.lrc_leases.specs.Granted.{spot}
-use Rattle.lrc_leases.specs.Kept.{leases_of, HasAt, HasNone, AreSingle, AreAt, near, is_lease_of}
+use Rattle.lrc_leases.specs.Kept.{leases_of, HasAt, HasOne, AreSingle, AreAt, near, is_lease_of}
 use Rattle.lrc_leases.proofs.ListLemmas.{find-some, find-none, none-find, one-find, same_answers, is_of-parts, is_of-from, is_of-both}
 
 -- ---- lists of pairs
@@ -104,11 +104,6 @@ one_each slab single =
 
 -- ---- the place of a fragment
 
--- what is under no key is not there
-pub none-under : (o : Option Lease) (s : StripeNo) (f : ℕ) (l : Lease) → is_lease_of s f o ≡ false → o ≡ Some l → is_of s f l ≡ false
-none-under None s f l miss there = absurd (let e : None ≡ Some l = there in cc)
-none-under (Some k) s f l miss there = subst (λ m. is_of s f m ≡ false) (same_Some k l there) miss
-
 -- two fragments have two places
 pub spot-apart : (s t : StripeNo) (f g : Fragment) → spot s f ≡ spot t g → (s.value ≡ t.value) × (f.value ≡ g.value)
 spot-apart s t f g same = (omega (arith, same, f.in_range, g.in_range), omega (arith, same, f.in_range, g.in_range))
@@ -117,18 +112,6 @@ near-low : (key n : ℕ) → near key ≡ n → n ≢ 65535 → key ≡ n
 near-low key n shown low = elim (cases_Bool (nat_lt key 65535)) [
   | inl small ↦ rw small at shown
   | inr large ↦ absurd (low (sym (rw large at shown)))
-]
-
--- a key that stands for itself is the only one under which the fragment's lease can be
-pub at-place : (slab : Slab Lease) (keys : List ℕ) (s : StripeNo) (f : Fragment) (near_key : ℕ) → AreAt slab keys → get_or keys (spot s f) 0 ≡ near_key → near_key ≢ 65535
-    → is_lease_of s f.value (get slab near_key) ≡ false → HasNone slab s f.value
-at-place slab keys s f near_key at here low miss key l there = elim (cases_Bool (is_of s f.value l)) [
-  | inl own ↦
-      let parts = is_of-parts s f.value l own in
-      let place : spot l.stripe l.fragment ≡ spot s f = omega (arith, parts.0, parts.1) in
-      let same : near_key ≡ key = sym (near-low key near_key (sym (at key l there) ∙ (ap (λ n. get_or keys n 0) place ∙ here)) low) in
-      none-under (get slab near_key) s f.value l miss (ap (get slab) same ∙ there)
-  | inr other ↦ other
 ]
 
 -- ---- one more
@@ -243,3 +226,13 @@ pub at_key : (slab : Slab Lease) → AreSingle slab → (s : StripeNo) (f key : 
 at_key slab single s f key has =
     let (l, at, own) = under slab key s f has in
     at ∙ sym (at-found slab single s f key l at own)
+
+-- a key that stands for itself is that of the fragment's lease
+pub at-place : (slab : Slab Lease) (keys : List ℕ) (s : StripeNo) (f : Fragment) (near_key : ℕ) → AreAt slab keys → get_or keys (spot s f) 0 ≡ near_key → near_key ≢ 65535
+    → HasOne slab s f.value → HasAt slab near_key s f.value
+at-place slab keys s f near_key at here low one =
+    let (l, there, own) = under slab one.0 s f.value one.1 in
+    let parts = is_of-parts s f.value l own in
+    let place : spot l.stripe l.fragment ≡ spot s f = omega (arith, parts.0, parts.1) in
+    let same : one.0 ≡ near_key = near-low one.0 near_key (sym (at one.0 l there) ∙ (ap (λ n. get_or keys n 0) place ∙ here)) low in
+    subst (λ k. HasAt slab k s f.value) same one.1

@@ -25,6 +25,10 @@ is_lease_of s f (Some l) = is_of s f l
 abbrev pub HasAt : Slab Lease → ℕ → StripeNo → ℕ → Type 0
 HasAt slab key s f = IsTrue (is_lease_of s f (get slab key))
 
+-- under some key it does
+abbrev pub HasOne : Slab Lease → StripeNo → ℕ → Type 0
+HasOne slab s f = (key : ℕ) × HasAt slab key s f
+
 -- under no key does a lease of the fragment stand
 abbrev pub HasNone : Slab Lease → StripeNo → ℕ → Type 0
 HasNone slab s f = (key : ℕ) (l : Lease) → get slab key ≡ Some l → IsFalse (is_of s f l)

@@ -25,7 +25,7 @@ pub struct Leases {
     keys: Vec<u16>,
     /// The leases by the node of their target.
     targets: Chains,
-    /// The fragments that have a lease.
+    /// The fragments that have a lease. They are few bytes, and tell first whether there is one.
     masks: Masks,
     spare: u32,
 }
@@ -92,7 +92,10 @@ impl Leases {
         ensures value { result ≡ (leased_in self.now).leases stripe fragment.value }
         ensures own { IfSome result (λ lease. (lease.stripe ≡ stripe) × (lease.fragment ≡ fragment)) }
     {
-        let key = key_of(&self.slab, &self.keys, stripe, fragment)?;
+        if !self.masks.mask(stripe).contains(fragment) {
+            return None;
+        }
+        let key = key_of(&self.slab, &self.keys, stripe, fragment);
         self.slab.get(key).copied()
     }
 
@@ -127,7 +130,10 @@ impl Leases {
         ensures spare { (leased_in self.old).spare ≤ (leased_in self.new).spare }
         ensures none { IfNone result (leased_in self.new ≡ leased_in self.old) }
     {
-        let key = key_of(&self.slab, &self.keys, stripe, fragment)?;
+        if !self.masks.mask(stripe).contains(fragment) {
+            return None;
+        }
+        let key = key_of(&self.slab, &self.keys, stripe, fragment);
         let lease = self.slab.remove(key);
         self.targets
             .remove(chain_of(lease.target.node), number_of(stripe, fragment));

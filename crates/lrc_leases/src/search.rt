@@ -1,8 +1,7 @@
 //! The look-up of a lease.
 
 ghost use Rattle.std.specs.Prelude.{◌≡◌, IfSome, IfNone};
-ghost use Rattle.slab.specs.Slab.{get};
-ghost use Rattle.lrc_leases.specs.Kept.{HasAt, HasNone, AreAt, near, is_lease_of};
+ghost use Rattle.lrc_leases.specs.Kept.{HasAt, HasNone, HasOne, AreAt, near};
 ghost use Rattle.lrc_leases.specs.Leased.{is_of};
 
 use crate::Lease;
@@ -22,41 +21,25 @@ pub(crate) fn near(key: usize) -> u16
     if key < FAR as usize { key as u16 } else { FAR }
 }
 
-/// The key of the fragment's lease, if there is one. A fragment without a lease may have any number among the keys, so
-/// what stands under the key is looked at.
+/// The key of the lease of a fragment that has one.
 pub(crate) fn key_of(
     slab: &Slab<Lease>,
     keys: &Vec<u16>,
     stripe: StripeNo,
     fragment: Fragment,
-) -> Option<usize>
-    requires { AreAt slab.now keys.now.items }
-    ensures found { IfSome result (λ key. HasAt slab.now key stripe fragment.value) }
-    ensures none { IfNone result (HasNone slab.now stripe fragment.value) }
+) -> usize
+    requires at { AreAt slab.now keys.now.items }
+    requires there { HasOne slab.now stripe fragment.value }
+    ensures { HasAt slab.now result stripe fragment.value }
 {
     let near = value_at(keys, spot_of(stripe, fragment), 0);
     if near == FAR {
-        return search(slab, stripe, fragment);
+        return search(slab, stripe, fragment).unwrap();
     }
-    let key = near as usize;
-    if has_at(slab, key, stripe, fragment) {
-        Some(key)
-    } else {
-        None
-    }
+    near as usize
 }
 
-/// Whether the fragment's lease stands under a key.
-fn has_at(slab: &Slab<Lease>, key: usize, stripe: StripeNo, fragment: Fragment) -> bool
-    ensures { result ≡ is_lease_of stripe fragment.value (get slab.now key) }
-{
-    match slab.get(key) {
-        Some(lease) => is_of(lease, stripe, fragment),
-        None => false,
-    }
-}
-
-/// The same as `key_of`, by a look at each lease.
+/// The key of the fragment's lease, if there is one, by a look at each lease.
 fn search(slab: &Slab<Lease>, stripe: StripeNo, fragment: Fragment) -> Option<usize>
     ensures found { IfSome result (λ key. HasAt slab.now key stripe fragment.value) }
     ensures none { IfNone result (HasNone slab.now stripe fragment.value) }

@@ -116,3 +116,17 @@ fn grants_are_counted_for_each_fragment_of_each_stripe_number(rt: HostRuntime) -
     assert_eq!(rt; grants.count(other, fragment), 1);
     Ok(())
 }
+
+#[test]
+fn grants_are_counted_on_where_a_byte_is_full(rt: HostRuntime) -> Result<(), Fail> {
+    let mut grants = Grants::new(rt.alloc())?;
+    let stripe = StripeNo::new(2).ok_or("stripe 2")?;
+    let fragment = Fragment::new(5).ok_or("fragment 5")?;
+    let after = Fragment::new(6).ok_or("fragment 6")?;
+    for _ in 0..513 {
+        grant(&rt, &mut grants, stripe, fragment);
+    }
+    assert_eq!(rt; grants.count(stripe, fragment), 513);
+    assert_eq!(rt; grants.count(stripe, after), 0);
+    Ok(())
+}

@@ -5,59 +5,68 @@ use Rattle.lrc_leases.specs.Leased.{leased_of, with_spare, without_lease}
 use Rattle.lrc_leases.specs.Masks.{AreMasks}
 use Rattle.lrc_leases.specs.Kept.{leases_of, is_lease_of}
 use Rattle.lrc_leases.proofs.ListLemmas.{leased-without}
-use Rattle.lrc_leases.proofs.SlabLemmas.{at-none, at_key, under, single-remove, at-remove, leased-remove}
-use Rattle.lrc_leases.proofs.MaskLemmas.{masks-without}
+use Rattle.lrc_leases.proofs.SlabLemmas.{at_key, under, single-remove, at-remove, leased-remove}
+use Rattle.lrc_leases.proofs.MaskLemmas.{masks-without, marked-none, marked-one}
 use Rattle.lrc_leases.proofs.TargetLemmas.{one-number, listed-fragment, listed-remove}
 use Rattle.lrc_leases.proofs.leases.Leases.remove.Goals as goal
 
-pub returns-in_err-key-clause-value : goal.returns-in_err-key-clause-value
+pub returns-then-not-contains-clause-value : goal.returns-then-not-contains-clause-value
 unfolding leased_in
-returns-in_err-key-clause-value c =
-    rw (c.from_residual.ensures, ← c.self.view_is) (sym (at-none c.self.inside.slab c.args.stripe c.args.fragment.value c.in_err-key.ensures.none))
-
-pub returns-in_err-key-clause-lease : goal.returns-in_err-key-clause-lease
-unfolding leased_in
-returns-in_err-key-clause-lease c =
+returns-then-not-contains-clause-value c =
     rw (← c.self.view_is)
-    (leased-without (leases_of c.self.inside.slab) c.args.stripe c.args.fragment c.self.inside.spare (at-none c.self.inside.slab c.args.stripe c.args.fragment.value c.in_err-key.ensures.none))
+    (sym (marked-none c.self.inside.slab c.self.inside.masks c.self.inside.spare c.self.invariant.marked c.args.stripe c.args.fragment.value
+    (sym (c.mask.ensures c.args.fragment.value) ∙ (sym c.contains.ensures ∙ c.if-not-contains.true))))
+
+pub returns-then-not-contains-clause-lease : goal.returns-then-not-contains-clause-lease
+unfolding leased_in
+returns-then-not-contains-clause-lease c =
+    rw (← c.self.view_is)
+    (leased-without (leases_of c.self.inside.slab) c.args.stripe c.args.fragment c.self.inside.spare
+    (marked-none c.self.inside.slab c.self.inside.masks c.self.inside.spare c.self.invariant.marked c.args.stripe c.args.fragment.value
+    (sym (c.mask.ensures c.args.fragment.value) ∙ (sym c.contains.ensures ∙ c.if-not-contains.true))))
+
+pub key_of-key-requires-clause-there : goal.key_of-key-requires-clause-there
+key_of-key-requires-clause-there c =
+    marked-one c.self.inside.slab c.self.inside.masks c.self.inside.spare c.self.invariant.marked c.args.stripe c.args.fragment.value
+    (sym (c.mask.ensures c.args.fragment.value) ∙ (sym c.contains.ensures ∙ c.if-not-contains.false))
 
 pub returns-clause-value : goal.returns-clause-value
 unfolding leased_in
 returns-clause-value c =
     rw (← c.self.view_is)
-    (sym c.remove-lease.ensures.value ∙ at_key c.self.inside.slab c.self.invariant.single c.args.stripe c.args.fragment.value c.in_ok-key.key c.in_ok-key.ensures.found)
+    (sym c.remove-lease.ensures.value ∙ at_key c.self.inside.slab c.self.invariant.single c.args.stripe c.args.fragment.value c.key_of-key.result c.key_of-key.ensures)
 
 pub returns-clause-lease : goal.returns-clause-lease
 unfolding leased_in
 returns-clause-lease c =
-    let (l, at, own) = under c.self.inside.slab c.in_ok-key.key c.args.stripe c.args.fragment.value c.in_ok-key.ensures.found in
+    let (l, at, own) = under c.self.inside.slab c.key_of-key.result c.args.stripe c.args.fragment.value c.key_of-key.ensures in
     rw (← c.self.view_is)
-    (leased-remove c.self.inside.slab c.remove-lease.new.self c.in_ok-key.key c.args.stripe c.args.fragment l c.self.invariant.single c.remove-lease.ensures.updates at own c.self.inside.spare c.self.inside.spare)
+    (leased-remove c.self.inside.slab c.remove-lease.new.self c.key_of-key.result c.args.stripe c.args.fragment l c.self.invariant.single c.remove-lease.ensures.updates at own c.self.inside.spare c.self.inside.spare)
 
 pub remove-requires-clause-there : goal.remove-requires-clause-there
 remove-requires-clause-there c =
     let lease = c.remove-lease.result in
-    let own = subst (λ (o : Option Lease). is_lease_of c.args.stripe c.args.fragment.value o ≡ true) c.remove-lease.ensures.value c.in_ok-key.ensures.found in
-    listed-fragment c.self.inside.slab c.self.inside.targets c.in_ok-key.key lease c.args.stripe c.args.fragment c.chain_of.result c.number_of.result c.self.invariant.targets_are
+    let own = subst (λ (o : Option Lease). is_lease_of c.args.stripe c.args.fragment.value o ≡ true) c.remove-lease.ensures.value c.key_of-key.ensures in
+    listed-fragment c.self.inside.slab c.self.inside.targets c.key_of-key.result lease c.args.stripe c.args.fragment c.chain_of.result c.number_of.result c.self.invariant.targets_are
     c.remove-lease.ensures.value own c.chain_of.ensures.value c.number_of.ensures.value
 
 pub invariant_of-self : goal.invariant_of-self
 invariant_of-self c =
     let lease = c.remove-lease.result in
     let taken = c.remove-lease in
-    let own = subst (λ (o : Option Lease). is_lease_of c.args.stripe c.args.fragment.value o ≡ true) taken.ensures.value c.in_ok-key.ensures.found in
+    let own = subst (λ (o : Option Lease). is_lease_of c.args.stripe c.args.fragment.value o ≡ true) taken.ensures.value c.key_of-key.ensures in
     let number = c.number_of.ensures.value ∙ sym (one-number c.args.stripe c.args.fragment lease own) in
     let masks = c.remove-2 in
     let spare = c.self.inside.spare in
     let before = leased_of (leases_of c.self.inside.slab) spare in
     let live : leased_of (leases_of taken.new.self) spare ≡ with_spare (without_lease before c.args.stripe c.args.fragment) spare =
-    leased-remove c.self.inside.slab taken.new.self c.in_ok-key.key c.args.stripe c.args.fragment lease c.self.invariant.single taken.ensures.updates
+    leased-remove c.self.inside.slab taken.new.self c.key_of-key.result c.args.stripe c.args.fragment lease c.self.invariant.single taken.ensures.updates
     taken.ensures.value own spare spare in
     record {
-      single = single-remove c.self.inside.slab taken.new.self c.in_ok-key.key c.args.stripe c.args.fragment lease c.self.invariant.single taken.ensures.updates taken.ensures.value own;
-      at = at-remove c.self.inside.slab taken.new.self c.in_ok-key.key c.args.stripe c.args.fragment lease c.self.invariant.single taken.ensures.updates taken.ensures.value own c.self.inside.keys.items c.self.invariant.at;
+      single = single-remove c.self.inside.slab taken.new.self c.key_of-key.result c.args.stripe c.args.fragment lease c.self.invariant.single taken.ensures.updates taken.ensures.value own;
+      at = at-remove c.self.inside.slab taken.new.self c.key_of-key.result c.args.stripe c.args.fragment lease c.self.invariant.single taken.ensures.updates taken.ensures.value own c.self.inside.keys.items c.self.invariant.at;
       long = c.self.invariant.long;
-      targets_are = listed-remove c.self.inside.slab taken.new.self c.in_ok-key.key lease c.self.invariant.single taken.ensures.updates taken.ensures.value
+      targets_are = listed-remove c.self.inside.slab taken.new.self c.key_of-key.result lease c.self.invariant.single taken.ensures.updates taken.ensures.value
           c.self.inside.targets c.remove.new.self c.self.invariant.targets_are (λ d. c.remove.ensures d ∙ rw (c.chain_of.ensures.value, number) refl);
       marked = subst (AreMasks masks.new.self) (sym live)
           (masks-without c.self.inside.masks masks.new.self before c.self.invariant.marked c.args.stripe c.args.fragment masks.ensures);
