@@ -1,5 +1,7 @@
 pub mod ListLemmas
 pub mod StepLemmas
+pub mod LastLemmas
+pub mod MateLemmas
 pub mod LawLemmas
 pub mod WorldLemmas
 pub mod MemberLemmas

@@ -1,8 +1,11 @@
 -- The repair that the next lease is granted for.
-use Rattle.std.proofs.Common.{◌≡◌, ℕ, ◌+◌, ◌<◌, Bool, true, false, not, ◌&&◌, if◌then◌else◌, List, drop, get_or, length, find, Option, Some, None, is_none, is_some, refl, sym, ap, ap₂, ◌∙◌}
+use Rattle.std.proofs.Common.{◌≡◌, ℕ, zero, suc, ◌+◌, ◌-◌, ◌<◌, ◌≤◌, Bool, true, false, not, ◌&&◌, if◌then◌else◌, List, take, drop, get_or, length, find, Option, Some, None, is_none, is_some, refl, sym, ap, ap₂, ◌∙◌, arith, w16, lit<}
 use Rattle.std.proofs.lemmas.Bool.{and_parts}
-use Rattle.std.proofs.lemmas.List.{drop_more}
-use Rattle.std.proofs.lemmas.Nat.Bits.{bit_at-zero}
+use Rattle.std.proofs.lemmas.List.{drop_more, take_all, length-drop}
+use Rattle.std.proofs.lemmas.Nat.Bits.{bit_at-zero, bit_at-trailing_zeros}
+use Rattle.std.specs.Int.{trailing_zeros}
+use Rattle.lrc_code.specs.declared.codes.Code.TheVariants.{Wide}
+use Rattle.lrc_code.specs.Codes.{fragment, fragments}
 use Rattle.lrc_code.specs.declared.numbers.StripeNo.{StripeNo}
 use Rattle.lrc_code.specs.declared.numbers.SessionNo.{SessionNo}
 use Rattle.lrc_code.specs.declared.numbers.Fragment.{Fragment}
@@ -22,6 +25,7 @@ use Rattle.lrc_book.specs.Leases.{new_lease, granted, lease_outcome}
 use Rattle.lrc_book.specs.Urgency.{is_grantable}
 use Rattle.lrc_book.specs.Stores.{repair_of}
 use Rattle.lrc_book.specs.Repairing.{is_waiting, IsRepair}
+use Rattle.lrc_book.proofs.FragmentLemmas.{number-at}
 use Rattle.lrc_book.proofs.MostUrgentLemmas.{none-from}
 use Rattle.lrc_book.proofs.LeaseReplyLemmas.{lost-by, able-by, lease-new}
 
@@ -84,6 +88,32 @@ module _ {X : Type 0} (test : X → Bool) (xs : List X) (i : ℕ) (d : X) (withi
 
   pub find-later : test (get_or xs i d) ≡ false → find test (drop i xs) ≡ find test (drop (i + 1) xs)
   find-later miss = rw (drop_more xs i d within, miss) refl
+
+-- what none of the first passes is looked for behind them
+find-past : {X : Type 0} (test : X → Bool) (xs : List X) (k : ℕ) (d : X) → k ≤ length xs → ((i : ℕ) → i < k → test (get_or xs i d) ≡ false)
+    → find test xs ≡ find test (drop k xs)
+find-past test xs zero d few miss = refl
+find-past test xs (suc k) d few miss =
+    find-past test xs k d (omega (arith, few)) (λ i below. miss i (omega (arith, below))) ∙ find-later test xs k d (omega (arith, few)) (miss k (omega arith))
+    ∙ (let next : k + 1 ≡ suc k = omega arith in ap (λ n. find test (drop n xs)) next)
+
+-- the first grantable fragment is not below the first that waits
+pub first-waiting : (nodes : List NodeInfo) (st : State) (s : StripeNo) (waiting : ℕ) (items : List Fragment) → 0 < waiting → waiting < 65536
+    → ((f : Fragment) → bits_set waiting f.value ≡ is_waiting nodes st s f) → items ≡ fragments Wide
+    → find (λ (f : Fragment). is_grantable nodes st (s, f)) (fragments Wide)
+    ≡ find (λ (f : Fragment). is_grantable nodes st (s, f)) (take (16 - trailing_zeros w16 waiting) (drop (trailing_zeros w16 waiting) items))
+first-waiting nodes st s waiting items some small are all =
+    let test = λ (f : Fragment). is_grantable nodes st (s, f) in
+    let k = trailing_zeros w16 waiting in
+    let low = bit_at-trailing_zeros w16 waiting some small in
+    let d = fragment 0 (lit< tt) in
+    let within : k ≤ 16 = omega (arith, low.0) in
+    let left : length (drop k (fragments Wide)) ≤ 16 - k = let h = length-drop k (fragments Wide) in omega (arith, h) in
+    find-past test (fragments Wide) k d within (λ i below.
+    let number = number-at i d (omega (arith, below, within)) in
+    let idle : bits_set waiting (get_or (fragments Wide) i d).value ≡ false = rw (number, low.2 i below) refl in
+    sym (not-waiting nodes st s (get_or (fragments Wide) i d) (sym (are (get_or (fragments Wide) i d)) ∙ idle)))
+    ∙ ap (find test) (sym (rw all (take_all (16 - k) (drop k (fragments Wide)) left)))
 
 -- ---- the lease of such a repair is granted
 

@@ -3,7 +3,8 @@
 ghost use Rattle.std.specs.Prelude.{◌≡◌, ◌++◌, ◌∷◌, [], true, false, IsTrue, IfSome, List, Some, None, map, option_map, is_some};
 ghost use Rattle.std.specs.List.{All};
 ghost use Rattle.lrc_code.specs.declared.numbers.StripeNo.{StripeNo};
-ghost use Rattle.lrc_code.specs.Codes.{class_of};
+ghost use Rattle.lrc_code.specs.declared.numbers.Fragment.{Fragment};
+ghost use Rattle.lrc_code.specs.Codes.{share_class};
 ghost use Rattle.lrc_code.specs.Losses.{bits_set};
 ghost use Rattle.lrc_code.specs.declared.codes.Code.TheVariants.{Wide};
 ghost use Rattle.lrc_topology.specs.declared.seat.Held.{Held};
@@ -118,10 +119,10 @@ impl Store {
             → barred bars.new ≡ bars_in self.now.topology Wide stripe fragment (seats ++ st.homes) }
     {
         let homes = self.stripes.homes(stripe).unwrap();
-        let class = fragment.class();
+        let mates = mates_of(fragment);
         for other in Fragment::all().iter() {
             let home = homes[other.value as usize];
-            self.bar_seat(bars, fragment, class, *other, home);
+            self.bar_seat(bars, fragment, mates, *other, home);
         }
     }
 
@@ -134,10 +135,10 @@ impl Store {
         if leased.bits() == 0 {
             return;
         }
-        let class = fragment.class();
+        let mates = mates_of(fragment);
         for other in Fragment::all().iter() {
             let target = self.target(leased, stripe, *other);
-            self.bar_seat(bars, fragment, class, *other, target);
+            self.bar_seat(bars, fragment, mates, *other, target);
         }
     }
 
@@ -153,17 +154,17 @@ impl Store {
         Some(lease.target)
     }
 
-    /// Bars the domains of a seat of the stripe for a fragment of this class, if it is one of another: its fault domain, and
-    /// its upgrade domain where the other fragment is of the class.
+    /// Bars the domains of a seat of the stripe for a fragment with these mates, if it is one of another: its fault domain,
+    /// and its upgrade domain where the other fragment is a mate.
     fn bar_seat(
         &self,
         bars: &mut Taken,
         fragment: Fragment,
-        class: Class,
+        mates: LossMask,
         other: Fragment,
         seat: Option<Seat>,
     )
-        requires { Some class ≡ class_of Wide fragment.value }
+        requires { bits_set mates.bits other.value ≡ share_class Wide fragment other }
         ensures { (st : State) (stripe : StripeNo) → IsOf st self.now
             → barred bars.new ≡ with_seat self.now.topology stripe fragment (barred bars.old) other seat }
     {
@@ -171,11 +172,22 @@ impl Store {
             return;
         }
         if let Some(seat) = seat {
-            if other.class() == class {
+            if mates.contains(other) {
                 self.table.bar_domains_of(bars, seat.node);
             } else {
                 self.table.bar_fault_of(bars, seat.node);
             }
         }
+    }
+}
+
+/// The fragments of a fragment's class, itself among them.
+fn mates_of(fragment: Fragment) -> LossMask
+    ensures { (g : Fragment) → bits_set result.bits g.value ≡ share_class Wide fragment g }
+{
+    match fragment.class() {
+        Class::A => LossMask::from_bits(0b0001_0000_0011_1111),
+        Class::B => LossMask::from_bits(0b0010_1111_1100_0000),
+        Class::G => LossMask::from_bits(0b1100_0000_0000_0000),
     }
 }

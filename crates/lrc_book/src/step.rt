@@ -89,19 +89,18 @@ impl Book {
         ensures same { (self.new.nodes ≡ self.old.nodes) × (self.new.limit ≡ self.old.limit) }
         ensures history { self.new.history ≡ self.old.history ++ record { session = session; command = command; reply = (outcome_in self.old.nodes (world_of self.old) session command).0 } ∷ [] }
     {
-        let answer = self.store.answer(
-            &self.grants,
-            self.front,
-            session,
-            &command,
-            &mut self.seats,
-        );
+        let place = self.history.len();
+        self.history
+            .push_reserved(Record::new(session, command, Answer::Idle));
+        let made = &mut self.history[place];
+        self.store
+            .answer(&self.grants, self.front, &mut self.seats, made);
         make(
             &mut self.store,
             &mut self.grants,
             &mut self.front,
-            &mut self.history,
-            Record::new(session, command, answer),
+            &self.history[..place],
+            &self.history[place],
         );
     }
 
@@ -120,41 +119,42 @@ impl Book {
             reply,
         } = plan.entry;
         let answer = Answer::of(&reply, &mut self.seats);
+        let made = Record::new(session, command, answer);
         make(
             &mut self.store,
             &mut self.grants,
             &mut self.front,
-            &mut self.history,
-            Record::new(session, command, answer),
+            &self.history,
+            &made,
         );
+        self.history.push_reserved(made);
         reply
     }
 }
 
-/// Makes the step that is to be the next of the history, in a book that has room for it.
+/// Makes the step that is to be the next of the history after these entries, in a book that has room for it.
 fn make(
     store: &mut Store,
     grants: &mut Grants,
     front: &mut Option<StripeNo>,
-    history: &mut Vec<Record>,
-    made: Record,
+    past: &[Record],
+    made: &Record,
 )
     ghost st: { State }
-    requires state { state_after store.old.topology history.old.items ≡ st }
+    requires state { state_after store.old.topology past.now ≡ st }
     requires kept { IsOf st store.old }
     requires few { AreFew grants.old }
-    requires place { vec_len history.old + 1 ≤ vec_capacity history.old }
     requires room { has_room store.old ≡ true }
-    requires step { (outcome_in store.old.topology (world_after store.old.topology history.old.items) made.session made.command).0 ≡ made.reply }
+    requires step { (outcome_in store.old.topology (world_after store.old.topology past.now) made.now.session made.now.command).0 ≡ made.now.reply }
     ensures nodes { store.new.topology ≡ store.old.topology }
-    ensures kept { (limit : ℕ) → IsKept store.old grants.old front.old limit history.old.items → length history.old.items < limit
-        → IsKept store.new grants.new front.new limit history.new.items }
-    ensures history { history.new.items ≡ history.old.items ++ made ∷ [] }
+    ensures kept { (limit : ℕ) → IsKept store.old grants.old front.old limit past.now → length past.now < limit
+        → IsKept store.new grants.new front.new limit (past.now ++ made.now ∷ []) }
 {
-    store.change(&made.command, &made.answer);
     count_grant(grants, &made.answer);
-    *front = front_after(*front, &made.command, &made.answer);
-    history.push_reserved(made);
+    if made.answer.changes() {
+        store.make_change(&made.command, &made.answer);
+        *front = front_after(*front, &made.command, &made.answer);
+    }
 }
 
 /// Room for the seats of a stripe.
@@ -187,30 +187,29 @@ impl Store {
         }
     }
 
-    /// The same, as the history keeps it, in room that there is for the seats of a new stripe.
+    /// Gives the record of a command its answer, in room that there is for the seats of a new stripe.
     pub(crate) fn answer(
         &self,
         counts: &Grants,
         front: Option<StripeNo>,
-        session: SessionNo,
-        command: &Command,
         room: &mut Option<Box<[Seat; 16]>>,
-    ) -> Answer
+        made: &mut Record,
+    )
         requires tied { IsTied self.now }
         requires few { AreFew counts.now }
         requires front { HasFront self.now front }
         requires room { IsSome room.old }
         ensures { (st : State) (past : List Entry) → IsOf st self.now → AreGrantsOf past counts.now → IsFront self.now.topology st front
-            → told result ≡ (step self.now.topology past st session command.now).0 }
+            → made.new ≡ record made.old { reply = (step self.now.topology past st made.old.session made.old.command).0 } }
     {
-        match *command {
-            Command::Place(stripe) => self.place_answer(stripe, room),
-            _ => self.other_reply(counts, front, session, command),
+        match made.command {
+            Command::Place(stripe) => made.answer = self.place_answer(stripe, room),
+            _ => self.answer_other(counts, front, made),
         }
     }
 
-    /// The same of a command that places a stripe.
-    #[inline(never)] // as `other_reply`
+    /// The answer to a command that places a stripe.
+    #[inline(never)] // as `answer_other`
     fn place_answer(&self, stripe: StripeNo, room: &mut Option<Box<[Seat; 16]>>) -> Answer
         requires room { IsSome room.old }
         ensures { (st : State) → IsOf st self.now → told result ≡ (place_outcome self.now.topology st Wide stripe).0 }
@@ -218,8 +217,20 @@ impl Store {
         Answer::of(&self.place_reply(stripe), room)
     }
 
-    /// The same of a command that places no stripe.
-    #[inline(never)] // a step then saves fewer registers: 85 instructions a command
+    /// Gives the record of a command that places no stripe its answer.
+    #[inline(never)] // a step then saves fewer registers, and what is answered is written where it stays
+    fn answer_other(&self, counts: &Grants, front: Option<StripeNo>, made: &mut Record)
+        requires tied { IsTied self.now }
+        requires few { AreFew counts.now }
+        requires front { HasFront self.now front }
+        requires other { is_place made.old.command ≡ false }
+        ensures { (st : State) (past : List Entry) → IsOf st self.now → AreGrantsOf past counts.now → IsFront self.now.topology st front
+            → made.new ≡ record made.old { reply = (step self.now.topology past st made.old.session made.old.command).0 } }
+    {
+        made.answer = self.other_reply(counts, front, made.session, &made.command);
+    }
+
+    /// The reply to a command that places no stripe.
     fn other_reply(
         &self,
         counts: &Grants,
@@ -261,21 +272,7 @@ impl Store {
     }
 
     /// Makes the change of a command that was answered so. Room was made before, so nothing here fails.
-    fn change(&mut self, command: &Command, answer: &Answer)
-        ghost st: { State }
-        requires kept { IsOf st self.old }
-        requires room { has_room self.old ≡ true }
-        requires told { IsAnswer self.old.topology st command.now (told answer.now) }
-        ensures nodes { self.new.topology ≡ self.old.topology }
-        ensures kept { IsOf (changed_by st command.now (told answer.now)) self.new }
-    {
-        if answer.changes() {
-            self.make_change(command, answer);
-        }
-    }
-
-    /// The same, whatever the answer is.
-    #[inline(never)] // as `other_reply`
+    #[inline(never)] // as `answer_other`
     fn make_change(&mut self, command: &Command, answer: &Answer)
         ghost st: { State }
         requires kept { IsOf st self.old }

@@ -87,7 +87,9 @@ impl Store {
         if waiting.bits() == 0 {
             return None;
         }
-        for fragment in Fragment::all().iter() {
+        let all = Fragment::all();
+        let first = waiting.bits().trailing_zeros() as usize;
+        for fragment in all[first..].iter() {
             if let Some(repair) = self.repair(waiting, stripe, *fragment) {
                 return Some(repair);
             }

@@ -43,8 +43,7 @@ impl Store {
         ensures kept { IsOf (with_upgrading st domain) self.new }
     {
         self.modes.upgrade(domain);
-        let nodes = self.topology.nodes_in(domain);
-        self.stripes.set_offline_all(nodes, true);
+        self.stripes.set_offline_in(domain, true);
     }
 
     pub(crate) fn upgraded_reply(&self, domain: UpgradeNo) -> Answer
@@ -68,8 +67,8 @@ impl Store {
         ensures kept { IsOf (without_upgrading st) self.new }
     {
         self.modes.upgraded();
+        self.stripes.set_offline_in(domain, false);
         let nodes = self.topology.nodes_in(domain);
-        self.stripes.set_offline_all(nodes, false);
         keep_offline(&mut self.stripes, &self.modes, nodes);
     }
 }

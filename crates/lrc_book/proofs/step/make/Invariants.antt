@@ -1,4 +1,4 @@
 use Rattle.lrc_book.proofs.step.make.Given as goal
 
-abbrev pub ghost-change : goal.ghost-change
-ghost-change g a = g.st
+abbrev pub ghost-make_change : goal.ghost-make_change
+ghost-make_change g a = g.st

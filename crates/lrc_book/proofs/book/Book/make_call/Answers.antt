@@ -1,5 +1,5 @@
-use Rattle.std.proofs.Common.{nat_le, vec_len, vec_capacity, is_some, ◌+◌, ◌&&◌, List, ◌++◌, ◌∷◌, [], refl, sym, ap, ◌∙◌}
-use Rattle.std.proofs.lemmas.Bool.{and_parts, leb-true}
+use Rattle.std.proofs.Common.{nat_le, vec_len, vec_capacity, is_some, ◌+◌, ◌&&◌, List, ◌++◌, ◌∷◌, [], take, refl, sym, ap, ◌∙◌}
+use Rattle.std.proofs.lemmas.Bool.{and_parts}
 use Rattle.lrc_book.specs.declared.entry.Entry.{Entry}
 use Rattle.lrc_book.specs.declared.reply.Reply.{Reply}
 use Rattle.lrc_book.specs.Histories.{world_after}
@@ -7,41 +7,73 @@ use Rattle.lrc_book.specs.Steps.{step}
 use Rattle.lrc_book.specs.Stores.{has_room}
 use Rattle.lrc_book.proofs.GoodLemmas.{past-after}
 use Rattle.lrc_book.proofs.CountedLemmas.{few-grants}
+use Rattle.lrc_book.proofs.LastLemmas.{length-before, last-pushed, set-last, before-last, last-set}
 use Rattle.lrc_book.proofs.book.Book.make_call.Goals as goal
 
 pub make-requires : goal.make-requires
 make-requires c =
     let b = c.self.inside in
-    let w = world_after b.store.topology b.history.items in
+    let nodes = b.store.topology in
+    let h = b.history.items in
+    let w = world_after nodes h in
+    let entries = c.push_reserved.new.self.items in
+    let pushed = c.push_reserved.ensures.items in
+    let n = c.len-place.result in
+    let first = c.new.result in
+    let made = c.answer.new.made in
+    let at = length-before h entries c.deref.result.now first made n (vec_len b.history) pushed c.deref.ensures.value (c.deref.ensures.len ∙ c.push_reserved.ensures.len) c.len-place.ensures in
     let below = rw (← c.self.view_is) at c.requires.room in
     let ready = and_parts (nat_le (vec_len b.history + 1) (vec_capacity b.history)) (has_room b.store && is_some b.seats) (rw (← c.self.view_is) at c.requires.ready) in
-    let told = c.answer-answer.ensures w.state b.history.items c.self.invariant.store_is c.self.invariant.counted c.self.invariant.ahead in (
+    let found = c.index_mut-made.ensures.value ∙ last-pushed h entries first n at pushed c.index_mut-made.result.now ∙ c.new.ensures in
+    let told = c.answer.ensures w.state h c.self.invariant.store_is c.self.invariant.counted c.self.invariant.ahead
+    ∙ ap (λ (e : Entry). record e { reply = (step nodes h w.state e.session e.command).0 }) found in
+    let past = ap (take n) c.deref.ensures.value ∙ before-last h entries first n at pushed made in
+    let last = c.index.ensures ∙ last-set h entries first n at pushed made c.index.result.now ∙ told in (
       refl,
       (
-        c.self.invariant.store_is,
+        rw past c.self.invariant.store_is,
         (
-          few-grants b.store b.grants b.front b.limit b.history.items c.self.invariant below,
+          few-grants b.store b.grants b.front b.limit h c.self.invariant below,
           (
-            leb-true (vec_len b.history + 1) (vec_capacity b.history) ready.0,
-            (
-              (and_parts (has_room b.store) (is_some b.seats) ready.1).0,
-              rw c.new.ensures (sym (told ∙ ap (λ (past : List Entry). (step b.store.topology past w.state c.args.session c.args.command).0) (sym (past-after b.store.topology b.history.items)))),
-            ),
+            (and_parts (has_room b.store) (is_some b.seats) ready.1).0,
+            rw (past, last) (ap (λ (xs : List Entry). (step nodes xs w.state c.args.session c.args.command).0) (past-after nodes h)),
           ),
         ),
       ),
     )
 
 pub invariant_of-self : goal.invariant_of-self
-invariant_of-self c = c.make.ensures.kept c.self.inside.limit c.self.invariant (rw (← c.self.view_is) at c.requires.room)
+invariant_of-self c =
+    let b = c.self.inside in
+    let h = b.history.items in
+    let entries = c.push_reserved.new.self.items in
+    let pushed = c.push_reserved.ensures.items in
+    let n = c.len-place.result in
+    let first = c.new.result in
+    let made = c.answer.new.made in
+    let at = length-before h entries c.deref.result.now first made n (vec_len b.history) pushed c.deref.ensures.value (c.deref.ensures.len ∙ c.push_reserved.ensures.len) c.len-place.ensures in
+    let past = ap (take n) c.deref.ensures.value ∙ before-last h entries first n at pushed made in
+    let last = c.index.ensures ∙ last-set h entries first n at pushed made c.index.result.now in
+    let kept = c.make.ensures.kept b.limit (rw past c.self.invariant) (rw past (rw (← c.self.view_is) at c.requires.room)) in
+    rw (set-last h entries first n at pushed made) (rw (past, last) at kept)
 
 pub returns-clause-history : goal.returns-clause-history
 returns-clause-history c =
     let b = c.self.inside in
-    let w = world_after b.store.topology b.history.items in
-    let told = c.answer-answer.ensures w.state b.history.items c.self.invariant.store_is c.self.invariant.counted c.self.invariant.ahead in
+    let nodes = b.store.topology in
+    let h = b.history.items in
+    let w = world_after nodes h in
+    let entries = c.push_reserved.new.self.items in
+    let pushed = c.push_reserved.ensures.items in
+    let n = c.len-place.result in
+    let first = c.new.result in
+    let made = c.answer.new.made in
+    let at = length-before h entries c.deref.result.now first made n (vec_len b.history) pushed c.deref.ensures.value (c.deref.ensures.len ∙ c.push_reserved.ensures.len) c.len-place.ensures in
+    let found = c.index_mut-made.ensures.value ∙ last-pushed h entries first n at pushed c.index_mut-made.result.now ∙ c.new.ensures in
+    let told = c.answer.ensures w.state h c.self.invariant.store_is c.self.invariant.counted c.self.invariant.ahead
+    ∙ ap (λ (e : Entry). record e { reply = (step nodes h w.state e.session e.command).0 }) found in
     rw (← c.self.view_is)
-    (c.make.ensures.history
-    ∙ ap (λ (e : Entry). b.history.items ++ e ∷ []) c.new.ensures
-    ∙ ap (λ (r : Reply). b.history.items ++ record { session = c.args.session; command = c.args.command; reply = r } ∷ [])
-    (told ∙ ap (λ (past : List Entry). (step b.store.topology past w.state c.args.session c.args.command).0) (sym (past-after b.store.topology b.history.items))))
+    (set-last h entries first n at pushed made
+    ∙ ap (λ (e : Entry). h ++ e ∷ []) told
+    ∙ ap (λ (r : Reply). h ++ record { session = c.args.session; command = c.args.command; reply = r } ∷ [])
+    (ap (λ (past : List Entry). (step nodes past w.state c.args.session c.args.command).0) (sym (past-after nodes h))))

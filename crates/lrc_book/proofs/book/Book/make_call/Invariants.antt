@@ -2,4 +2,4 @@ use Rattle.lrc_book.specs.Histories.{state_after}
 use Rattle.lrc_book.proofs.book.Book.make_call.Given as goal
 
 abbrev pub ghost-make : goal.ghost-make
-ghost-make a = state_after a.store.now.topology a.history.now.items
+ghost-make a = state_after a.store.now.topology a.past.now

@@ -6,9 +6,7 @@ use Rattle.lrc_book.specs.Urgency.{is_grantable}
 use Rattle.lrc_book.specs.Stores.{IsOf}
 use Rattle.lrc_book.proofs.store.Store.first_repair.Given as goal
 
+-- the first grantable fragment is one of those that are left
 abbrev pub invariant-loop-fragment : goal.invariant-loop-fragment
-invariant-loop-fragment l = record {
-  all : l.fragment-items ≡ fragments Wide;
-  left : (st : State) → IsOf st l.self
-      → find (λ f. is_grantable l.self.topology st (l.stripe, f)) (fragments Wide) ≡ find (λ f. is_grantable l.self.topology st (l.stripe, f)) (drop l.fragment-index l.fragment-items);
-}
+invariant-loop-fragment l = (st : State) → IsOf st l.self
+    → find (λ f. is_grantable l.self.topology st (l.stripe, f)) (fragments Wide) ≡ find (λ f. is_grantable l.self.topology st (l.stripe, f)) (drop l.fragment-index l.fragment-items)

@@ -1,6 +1,7 @@
 use Rattle.std.proofs.Common.{List, false, IsTrue, None, subst, sym, ap, ap₂, ◌∙◌}
 use Rattle.std.specs.List.{All}
 use Rattle.lrc_topology.specs.declared.NodeInfo.{NodeInfo}
+use Rattle.lrc_topology.specs.Nodes.{nodes_in}
 use Rattle.lrc_stripes.specs.Stored.{Stored, has_node, with_offline_all}
 use Rattle.lrc_stripes.specs.Tables.{stored_in}
 use Rattle.lrc_book.specs.Steps.{without_upgrading}
@@ -9,13 +10,10 @@ use Rattle.lrc_book.proofs.DomainLemmas.{domain-there, domain-back, domain-kept}
 use Rattle.lrc_book.proofs.UpgradeLemmas.{upgraded-told}
 use Rattle.lrc_book.proofs.store.Store.upgraded.Goals as goal
 
-pub set_offline_all-requires : goal.set_offline_all-requires
-set_offline_all-requires g c = domain-there g.st c.args.self.now c.requires.0 c.args.domain c.nodes_in-nodes.result.now c.nodes_in-nodes.ensures
-
 pub keep_offline-requires : goal.keep_offline-requires
 keep_offline-requires g c = (
   c.upgraded.ensures g.st c.requires.0.modes_are,
-  subst (λ (t : Stored). All (λ n. IsTrue (has_node t.nodes n.number)) c.nodes_in-nodes.result.now) (sym c.set_offline_all.ensures)
+  subst (λ (t : Stored). All (λ n. IsTrue (has_node t.nodes n.number)) c.nodes_in-nodes.result.now) (sym c.set_offline_in.ensures)
       (domain-there g.st c.args.self.now c.requires.0 c.args.domain c.nodes_in-nodes.result.now c.nodes_in-nodes.ensures),
 )
 
@@ -25,6 +23,6 @@ returns-clause-kept g c =
     let nodes = c.args.self.now.topology in
     domain-kept g.st None c.args.self.now c.upgraded.new.self c.keep_offline.new.stripes kept (c.upgraded.ensures g.st kept.modes_are)
     (c.keep_offline.ensures
-    ∙ ap (λ (t : Stored). with_rest t (without_upgrading g.st) c.nodes_in-nodes.result.now) c.set_offline_all.ensures
-    ∙ ap₂ (λ (t : Stored) (ns : List NodeInfo). with_rest (with_offline_all t ns false) (without_upgrading g.st) ns) kept.stripes_is c.nodes_in-nodes.ensures
+    ∙ ap (λ (t : Stored). with_rest t (without_upgrading g.st) c.nodes_in-nodes.result.now) c.set_offline_in.ensures
+    ∙ ap₂ (λ (t : Stored) (ns : List NodeInfo). with_rest (with_offline_all t (nodes_in t.nodes c.args.domain) false) (without_upgrading g.st) ns) kept.stripes_is c.nodes_in-nodes.ensures
     ∙ domain-back nodes kept.known g.st c.args.domain (upgraded-told nodes g.st c.args.domain c.requires.1) (stored_in c.args.self.now.stripes).spare)
