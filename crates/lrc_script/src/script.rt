@@ -67,6 +67,7 @@ impl<T: Drop> From<AllocFailed<T>> for ScriptError {
 /// # Errors
 ///
 /// `Bad` for the first bad line, and `OutOfMemory` where there is no room for the commands.
+#[inline(never)] // its walk needs all registers
 pub fn parse_script(
     alloc: Global,
     text: &[u8],
