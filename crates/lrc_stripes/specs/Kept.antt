@@ -1,6 +1,6 @@
 -- Internal: no public clause reaches these definitions.
 -- What is kept of the stripes beside their homes: the masks of each row, and the stripes on each node.
-use Rattle.std.specs.Prelude.{◌≡◌, ◌≢◌, ℕ, ◌+◌, ◌-◌, Bool, true, false, List, [], ◌∷◌, ◌++◌, length, get_or, set, map, filter, drop, Option, Some, None, is_some, option_and_then, option_map}
+use Rattle.std.specs.Prelude.{◌≡◌, ◌≢◌, ℕ, ◌+◌, ◌-◌, ◌≤◌, Bool, true, false, IfSome, List, [], ◌∷◌, ◌++◌, length, get_or, set, map, filter, drop, Option, Some, None, is_some, option_and_then, option_map}
 use Rattle.std.specs.Option.{option_map_or}
 use Rattle.std.specs.List.{list_any, flat_map, range_with_len}
 use Rattle.lrc_code.specs.declared.codes.Code.TheVariants.{Wide}
@@ -111,6 +111,13 @@ Covers set queue = (k : ℕ) (s : StripeNo) → set s ≡ false → queue k s �
 -- the stripes of each rank, by the ranks of their rows' masks
 abbrev pub queued : (Losses → Option ℕ) → (StripeNo → Option Row) → ℕ → StripeNo → Bool
 queued rank rows k s = is_at k (option_and_then (λ r. rank r.losses) (rows s))
+
+-- there is a set for each of five ranks, and each stripe is in the set of the rank that is noted of it and in no other
+pub record AreListed (sets : List (List Bool)) (ranks : List (Option ℕ)) : Type 0 where
+  pub five : length sets ≡ 5
+  pub long : length ranks ≡ 4096
+  pub few : (s : StripeNo) → IfSome (get_or ranks s.value None) (λ k. k ≤ 4)
+  pub shown : (k : ℕ) (s : StripeNo) → at_rank sets k s ≡ is_at k (get_or ranks s.value None)
 
 -- the fragments of a row that need a lease, as bits; none where there is no row
 abbrev pub needs_of : Option Row → ℕ

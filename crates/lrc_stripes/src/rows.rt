@@ -12,7 +12,7 @@ ghost use Rattle.lrc_stripes.specs.Tables.{rows_in};
 ghost use Rattle.lrc_stripes.specs.Kept.{Covers, IsKept, queue_from, queued, needs_of, freshened, level_in, is_row_on, holds, AreRenewed, IsRenewed, IsWithLosses, IsRehomed, IsMissingOn, IsToMoveOn};
 
 use crate::losses::Losses;
-use crate::queue::{Queue, RANKS};
+use crate::queue::{Queue, RANKS, STRIPES};
 use crate::ranked::Ranked;
 use crate::risky::Risky;
 use crate::row::Row;
@@ -22,9 +22,6 @@ use crate::{Level, Seat};
 use lrc_code::{Fault, Fragment, LossMask, NodeNo, StripeNo};
 use std::alloc::{AllocError, Global};
 use std::marker::Model;
-
-/// How many stripe numbers there are.
-const STRIPES: usize = 4096;
 
 /// The rows of the stripes that are there, and the stripes that have work by rank.
 #[derive(Drop)]
@@ -91,9 +88,8 @@ impl Rows {
     pub(crate) fn put(&mut self, stripe: StripeNo, row: Option<Row>)
         ensures { rows_in self.new ≡ λ s. if same_stripe stripe s then row else rows_in self.old s }
     {
-        let before = work_rank(self.get(stripe));
-        let after = work_rank(row.as_ref());
-        self.work.relist(stripe, before, after);
+        let rank = work_rank(row.as_ref());
+        self.work.relist(stripe, rank);
         self.needs[stripe.value as usize] = needs_of(row.as_ref());
         self.there.set(stripe, row.is_some());
         self.list[stripe.value as usize] = row;
@@ -103,12 +99,11 @@ impl Rows {
     fn set_losses(&mut self, stripe: StripeNo, losses: Losses)
         ensures { AreRenewed (same_stripe stripe) (IsWithLosses losses) (rows_in self.old) (rows_in self.new) }
     {
-        let before = work_rank(self.get(stripe));
         let place = &mut self.list[stripe.value as usize];
         put_losses(place, losses);
         self.needs[stripe.value as usize] = needs_of(place.as_ref());
-        let after = work_rank(place.as_ref());
-        self.work.relist(stripe, before, after);
+        let rank = work_rank(place.as_ref());
+        self.work.relist(stripe, rank);
     }
 
     /// Gives a fragment of a stripe, if the stripe is there, this home or none, and the stripe these losses.
@@ -121,12 +116,11 @@ impl Rows {
     )
         ensures { AreRenewed (same_stripe stripe) (IsRehomed fragment.value home losses) (rows_in self.old) (rows_in self.new) }
     {
-        let before = work_rank(self.get(stripe));
         let place = &mut self.list[stripe.value as usize];
         put_home(place, fragment, home, losses);
         self.needs[stripe.value as usize] = needs_of(place.as_ref());
-        let after = work_rank(place.as_ref());
-        self.work.relist(stripe, before, after);
+        let rank = work_rank(place.as_ref());
+        self.work.relist(stripe, rank);
     }
 
     /// Whether one of a stripe's fragments has its home on the node.
@@ -228,7 +222,7 @@ impl Rows {
     pub(crate) fn work_from(&self, first: StripeNo) -> Ranked<'_>
         ensures { (k : ℕ) → IsTrue (queued work_rank (rows_in self.now) k first) → result ≡ queue_from (queued work_rank (rows_in self.now)) k first.value }
     {
-        match work_rank(self.get(first)) {
+        match self.work.rank(first) {
             Some(rank) => Ranked::starting_at(&self.work, rank as usize, first.value as usize),
             None => Ranked::new(&self.work),
         }

@@ -8,11 +8,6 @@ use Rattle.lrc_stripes.specs.Masks.{is_at, work_rank}
 use Rattle.lrc_stripes.proofs.RowsLemmas.{rows_in-set, present-same, renewed-there, are_queued-set, renewed-set}
 use Rattle.lrc_stripes.proofs.rows.Rows.set_losses.Goals as goal
 
-pub relist-requires-clause-shown : goal.relist-requires-clause-shown
-relist-requires-clause-shown c = λ k.
-    ap (λ (q : ℕ → StripeNo → Bool). q k c.args.stripe) c.self.invariant.works
-    ∙ (ap (λ (o : Option Row). is_at k (option_and_then (λ r. work_rank r.losses) o)) (sym (rw (← c.self.view_is) at c.get.ensures)) ∙ ap (is_at k) (sym c.work_rank-before.ensures.value))
-
 pub invariant_of-self : goal.invariant_of-self
 invariant_of-self c =
     let list = c.self.inside.list.items in
@@ -21,8 +16,8 @@ invariant_of-self c =
     let old : c.index_mut-place.result.now ≡ rows_in list s =
     c.index_mut-place.ensures.value ∙ get_or_default list s.value c.index_mut-place.result.now None within in
     let there = c.self.inside.there in
-    are_queued-set list s c.put_losses.new.row within c.self.inside.needs.items c.needs_of.result there there c.self.inside.work c.relist.new.self c.work_rank-after.result
-    c.self.invariant (present-same list s c.put_losses.new.row within there c.self.invariant.present (renewed-there (IsWithLosses c.args.losses) c.index_mut-place.result.now c.put_losses.new.row c.put_losses.ensures ∙ ap (λ (o : Option Row). is_some o) old)) (c.needs_of.ensures ∙ ap needs_of c.as_ref.ensures.value) (c.work_rank-after.ensures.value ∙ ap (option_and_then (λ r. work_rank r.losses)) c.as_ref-2.ensures.value) c.relist.ensures
+    are_queued-set list s c.put_losses.new.row within c.self.inside.needs.items c.needs_of.result there there c.self.inside.work c.relist.new.self c.work_rank-rank.result
+    c.self.invariant (present-same list s c.put_losses.new.row within there c.self.invariant.present (renewed-there (IsWithLosses c.args.losses) c.index_mut-place.result.now c.put_losses.new.row c.put_losses.ensures ∙ ap (λ (o : Option Row). is_some o) old)) (c.needs_of.ensures ∙ ap needs_of c.as_ref.ensures.value) (c.work_rank-rank.ensures.value ∙ ap (option_and_then (λ r. work_rank r.losses)) c.as_ref-2.ensures.value) c.relist.ensures
 
 pub returns : goal.returns
 returns c =
