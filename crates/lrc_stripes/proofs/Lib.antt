@@ -24,3 +24,4 @@ pub mod ShortLemmas
 pub mod ShownLemmas
 pub mod SeatedLemmas
 pub mod BitLemmas
+pub mod NotedLemmas

@@ -1,19 +1,22 @@
 -- Rows by the stripes' numbers, and the queues that follow from them.
-use Rattle.std.proofs.Common.{◌≡◌, ℕ, zero, suc, ◌<◌, ◌≤◌, ◌+◌, inl, inr, Bool, true, false, cond, List, length, get_or, set, replicate, Option, Some, None, is_some, option_and_then, arith, refl, sym, ap, ◌∙◌, subst}
+use Rattle.std.proofs.Common.{◌≡◌, ℕ, zero, suc, ◌<◌, ◌≤◌, ◌+◌, inl, inr, Bool, true, false, cond, ◌&&◌, nat_lt, List, length, get_or, set, replicate, Option, Some, None, is_some, option_and_then, arith, refl, sym, ap, ◌∙◌, subst}
 use Rattle.std.proofs.Math.Path.{fun_ext}
 use Rattle.std.proofs.Math.ListN.{length-set}
 use Rattle.std.proofs.lemmas.Bool.{cases_eq, cases_lt, eq-eqb, ne_eqb, eqb-true}
 use Rattle.std.proofs.lemmas.List.{length-replicate, get_or-set_same, get_or-set_other}
+use Rattle.lrc_code.specs.declared.losses.LossMask.{LossMask}
 use Rattle.lrc_code.specs.declared.numbers.NodeNo.{NodeNo}
 use Rattle.lrc_code.specs.declared.numbers.StripeNo.{StripeNo}
+use Rattle.lrc_code.specs.Losses.{bits_set}
 use Rattle.lrc_code.specs.Numbers.{same_stripe}
 use Rattle.lrc_code.proofs.NumbersLemmas.{equal_stripes}
 use Rattle.lrc_stripes.specs.declared.losses.Losses.{Losses}
 use Rattle.lrc_stripes.specs.declared.row.Row.{Row}
 use Rattle.lrc_stripes.specs.Sets.{at_rank, has, IsNext}
+use Rattle.lrc_stripes.specs.Rows.{sits_on}
 use Rattle.lrc_stripes.specs.Tables.{rows_in}
-use Rattle.lrc_stripes.specs.Masks.{work_rank, is_at, IsPutOn, renewed}
-use Rattle.lrc_stripes.specs.Kept.{AreQueued, needs_of, AreRenewed, IsRenewed, IsWithLosses, IsMissingOn, IsToMoveOn, queued}
+use Rattle.lrc_stripes.specs.Masks.{work_rank, is_at, renewed}
+use Rattle.lrc_stripes.specs.Kept.{AreQueued, needs_of, AreRenewed, IsRenewed, IsWithLosses, IsWithMissing, IsMissingOn, IsToMoveOn, queued}
 
 -- ---- no rows
 
@@ -120,10 +123,34 @@ module _ (list : List (Option Row)) (stripe : StripeNo) (row : Option Row) (with
     works = queued-set work_rank (at_rank work) (at_rank new_work) after are.works is moved;
   }
 
+  -- the same where the fragments that need a lease stay
+  pub are_queued-same : (needs : List ℕ) (there : List Bool) (work new_work : List (List Bool)) (after : Option ℕ) → AreQueued list needs there work
+      → is_some row ≡ is_some (rows_in list stripe) → needs_of row ≡ needs_of (rows_in list stripe) → after ≡ option_and_then (λ r. work_rank r.losses) row
+      → at_rank new_work ≡ (λ k s. cond (same_stripe stripe s) (is_at k after) (at_rank work k s))
+      → AreQueued (set list stripe.value row) needs there new_work
+  are_queued-same needs there work new_work after are is_there same is moved = record {
+    long = length-set list stripe.value row ∙ are.long;
+    noted = are.noted;
+    needed = λ s. are.needed s ∙ elim (cases_eq stripe.value s.value) [
+      | inl here ↦
+          ap (λ (n : ℕ). needs_of (get_or list n None)) (sym here)
+          ∙ (sym same ∙ sym (ap needs_of (rows_at-set s ∙ ap (λ b. cond b row (rows_in list s)) (eq-eqb stripe.value s.value here))))
+      | inr other ↦ sym (ap needs_of (rows_at-set s ∙ ap (λ b. cond b row (rows_in list s)) (ne_eqb stripe.value s.value other)))
+    ];
+    present = present-same there are.present is_there;
+    works = queued-set work_rank (at_rank work) (at_rank new_work) after are.works is moved;
+  }
+
 -- a row that has become another is there as it was
 pub renewed-there : (R : Row → Row → Type 0) (old new : Option Row) → IsRenewed R old new → is_some new ≡ is_some old
 renewed-there R None new none = ap (λ (o : Option Row). is_some o) none
 renewed-there R (Some r) new changed = ap (λ (o : Option Row). is_some o) changed.1
+
+-- what a row that has become another needs, where the change leaves that
+pub renewed-needs : (R : Row → Row → Type 0) → ((r q : Row) → R r q → q.losses.needs ≡ r.losses.needs) → (old new : Option Row) → IsRenewed R old new
+    → needs_of new ≡ needs_of old
+renewed-needs R keeps None new none = ap needs_of none
+renewed-needs R keeps (Some r) new changed = ap needs_of changed.1 ∙ ap (λ (m : LossMask). m.bits) (keeps r changed.0 changed.2)
 
 -- one row becomes another
 pub renewed-set : (R : Row → Row → Type 0) (now next : StripeNo → Option Row) (s : StripeNo) (o : Option Row) → next ≡ (λ t. cond (same_stripe s t) o (now t))
@@ -160,27 +187,42 @@ renewed-like Q R now next s r there one gives = record {
   others = one.others;
 }
 
+-- the same where the row may not be there
+pub renewed-alike : (Q R : Row → Row → Type 0) (now next : StripeNo → Option Row) (s : StripeNo) → AreRenewed (same_stripe s) Q now next
+    → ((r q : Row) → now s ≡ Some r → Q r q → R r q) → AreRenewed (same_stripe s) R now next
+renewed-alike Q R now next s one gives = record {
+  listed = λ t same.
+      let alike : s ≡ t = equal_stripes s t (eqb-true s.value t.value same) in
+      by t (now t) (λ r there. ap now alike ∙ there) (one.listed t same);
+  others = one.others;
+} where
+  by : (t : StripeNo) (o : Option Row) → ((r : Row) → o ≡ Some r → now s ≡ Some r) → IsRenewed Q o (next t) → IsRenewed R o (next t)
+  by t None was none = none
+  by t (Some r) was (q, is, holds) = (q, is, gives r q (was r refl) holds)
+
 -- the masks put, as the rows have them
-pub missing_on-put : (n : NodeNo) (are_in : Bool) (losses : Losses) (r q : Row) → losses.homeless ≡ r.losses.homeless → IsPutOn n are_in r.homes r.losses.missing losses.missing
-    → losses.needs ≡ r.losses.needs → IsWithLosses losses r q → IsMissingOn n are_in r q
-missing_on-put n are_in losses r q homeless missing needs is = record {
+pub missing_on-put : (n : NodeNo) (are_in : Bool) (fragments : LossMask) (r q : Row) → ((f : ℕ) → bits_set fragments.bits f ≡ (nat_lt f 16 && sits_on n (get_or r.homes f None)))
+    → IsWithMissing fragments are_in r q → IsMissingOn n are_in r q
+missing_on-put n are_in fragments r q on is = record {
   homes = is.homes;
-  homeless = ap (λ (l : Losses). l.homeless) is.losses ∙ homeless;
-  missing = λ some. subst (λ (l : Losses). IsPutOn n are_in r.homes r.losses.missing l.missing) (sym is.losses) missing;
-  needs = ap (λ (l : Losses). l.needs) is.losses ∙ needs;
+  homeless = is.homeless;
+  missing = λ some f. is.missing f ∙ ap (λ b. cond b are_in (bits_set r.losses.missing.bits f)) (on f);
+  needs = is.needs;
 }
 
 -- a row without work stays
 pub missing_on-idle : (n : NodeNo) (are_in : Bool) (r : Row) → r.losses.needs.bits ≡ 0 → IsMissingOn n are_in r r
 missing_on-idle n are_in r idle = record { homes = refl; homeless = refl; missing = λ some. absurd (some idle); needs = refl }
 
-pub to_move_on-put : (online : NodeNo → Bool) (n : NodeNo) (are_in : Bool) (losses : Losses) (r q : Row) → losses.homeless ≡ r.losses.homeless → losses.missing ≡ (renewed online r.homes r.losses).missing
-    → IsPutOn n are_in r.homes r.losses.needs losses.needs → IsWithLosses losses r q → IsToMoveOn online n are_in r q
-to_move_on-put online n are_in losses r q homeless missing needs is = record {
+pub to_move_on-put : (online : NodeNo → Bool) (n : NodeNo) (are_in : Bool) (fragments : LossMask) (losses : Losses) (r q : Row)
+    → ((f : ℕ) → bits_set fragments.bits f ≡ (nat_lt f 16 && sits_on n (get_or r.homes f None))) → losses.homeless ≡ r.losses.homeless
+    → losses.missing ≡ (renewed online r.homes r.losses).missing
+    → ((f : ℕ) → bits_set losses.needs.bits f ≡ cond (bits_set fragments.bits f) are_in (bits_set r.losses.needs.bits f)) → IsWithLosses losses r q → IsToMoveOn online n are_in r q
+to_move_on-put online n are_in fragments losses r q on homeless missing needs is = record {
   homes = is.homes;
   homeless = ap (λ (l : Losses). l.homeless) is.losses ∙ homeless;
   missing = ap (λ (l : Losses). l.missing) is.losses ∙ missing;
-  needs = subst (λ (l : Losses). IsPutOn n are_in r.homes r.losses.needs l.needs) (sym is.losses) needs;
+  needs = λ f. ap (λ (l : Losses). bits_set l.needs.bits f) is.losses ∙ (needs f ∙ ap (λ b. cond b are_in (bits_set r.losses.needs.bits f)) (on f));
 }
 
 -- ---- the rows of a set, in turn

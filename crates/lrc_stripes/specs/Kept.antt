@@ -1,16 +1,19 @@
 -- Internal: no public clause reaches these definitions.
 -- What is kept of the stripes beside their homes: the masks of each row, and the stripes on each node.
-use Rattle.std.specs.Prelude.{◌≡◌, ◌≢◌, ℕ, ◌+◌, ◌-◌, ◌≤◌, Bool, true, false, IfSome, List, [], ◌∷◌, ◌++◌, length, get_or, set, map, filter, drop, Option, Some, None, is_some, option_and_then, option_map}
+use Rattle.std.specs.Prelude.{◌≡◌, ◌≢◌, ℕ, ◌+◌, ◌-◌, ◌≤◌, Bool, true, false, IfSome, if◌then◌else◌, List, [], ◌∷◌, ◌++◌, length, get_or, set, map, filter, drop, Option, Some, None, is_some, option_and_then, option_map}
 use Rattle.std.specs.Option.{option_map_or}
 use Rattle.std.specs.List.{list_any, flat_map, range_with_len}
 use Rattle.lrc_code.specs.declared.codes.Code.TheVariants.{Wide}
 use Rattle.lrc_code.specs.declared.numbers.StripeNo.{StripeNo}
 use Rattle.lrc_code.specs.declared.numbers.NodeNo.{NodeNo}
 use Rattle.lrc_code.specs.Codes.{fragments}
+use Rattle.lrc_code.specs.Losses.{bits_set}
+use Rattle.lrc_code.specs.declared.losses.LossMask.{LossMask}
 use Rattle.lrc_topology.specs.declared.seat.Seat.{Seat}
 use Rattle.lrc_stripes.specs.declared.level.Level.{Level}
 use Rattle.lrc_stripes.specs.declared.level.Level.TheVariants.{Whole}
 use Rattle.lrc_stripes.specs.declared.losses.Losses.{Losses}
+use Rattle.lrc_stripes.specs.declared.home_nodes.HomeNodes.{HomeNodes}
 use Rattle.lrc_stripes.specs.declared.row.Row.{Row}
 use Rattle.lrc_stripes.specs.Stored.{StripeFragment, StripeLevel}
 use Rattle.lrc_stripes.specs.Rows.{sits_on, sits_at, is_on_seat}
@@ -18,6 +21,7 @@ use Rattle.lrc_stripes.specs.Masks.{IsPutOn, AreKept, renewed, work_rank, is_at,
 use Rattle.lrc_stripes.specs.Sets.{at_rank, has, members_from}
 use Rattle.lrc_stripes.specs.Sites.{Sited}
 use Rattle.lrc_stripes.specs.Tables.{rows_in}
+use Rattle.lrc_stripes.specs.Noted.{AreNodesOf}
 
 -- one of the row's fragments has its home on the node
 abbrev pub is_row_on : NodeNo → Option Row → Bool
@@ -54,6 +58,13 @@ pub record AreRenewed (set : StripeNo → Bool) (R : Row → Row → Type 0) (be
 pub record IsWithLosses (given : Losses) (before after : Row) : Type 0 where
   pub homes : after.homes ≡ before.homes
   pub losses : after.losses ≡ given
+
+-- the row where these fragments are missing or not, as told
+pub record IsWithMissing (fragments : LossMask) (are_missing : Bool) (before after : Row) : Type 0 where
+  pub homes : after.homes ≡ before.homes
+  pub homeless : after.losses.homeless ≡ before.losses.homeless
+  pub missing : (f : ℕ) → bits_set after.losses.missing.bits f ≡ (if bits_set fragments.bits f then are_missing else bits_set before.losses.missing.bits f)
+  pub needs : after.losses.needs ≡ before.losses.needs
 
 -- the row where a fragment has this home or none, with these losses
 pub record IsRehomed (f : ℕ) (home : Option Seat) (given : Losses) (before after : Row) : Type 0 where
@@ -130,6 +141,11 @@ pub record AreQueued (list : List (Option Row)) (needs : List ℕ) (there : List
   pub needed : (s : StripeNo) → get_or needs s.value 0 ≡ needs_of (rows_in list s)
   pub present : has there ≡ (λ s. is_some (rows_in list s))
   pub works : at_rank work ≡ queued work_rank (rows_in list)
+
+-- there is a place for each stripe, and the nodes there are those of the homes of its row
+pub record AreNoted (list : List (Option Row)) (nodes : List HomeNodes) : Type 0 where
+  pub long : length nodes ≡ 4096
+  pub each : (s : StripeNo) (r : Row) (d : HomeNodes) → rows_in list s ≡ Some r → AreNodesOf r.homes (get_or nodes s.value d).numbers (get_or nodes s.value d).homed.bits
 
 -- ---- levels
 

@@ -14,3 +14,4 @@ pub mod Sites
 pub mod Masks
 pub mod Kept
 pub mod Looming
+pub mod Noted

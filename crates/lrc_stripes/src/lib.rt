@@ -3,6 +3,7 @@
 
 mod at_risk;
 mod domains;
+mod home_nodes;
 mod homes_on;
 pub mod laws;
 mod level;

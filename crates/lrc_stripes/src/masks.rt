@@ -11,20 +11,6 @@ use crate::Seat;
 use crate::sites::Sites;
 use lrc_code::{Fragment, LossMask, NodeNo};
 
-/// The fragments whose homes are on the node.
-pub(crate) fn fragments_on(homes: &[Option<Seat>; 16], node: NodeNo) -> LossMask
-    requires { length homes.now ≡ 16 }
-    ensures { (f : ℕ) → bits_set result.bits f ≡ (nat_lt f 16 && sits_on node (get_or homes.now f None)) }
-{
-    let mut mask = LossMask::from_bits(0);
-    for fragment in Fragment::all() {
-        if is_on(homes[fragment.value as usize], node) {
-            mask = mask.with(fragment);
-        }
-    }
-    mask
-}
-
 /// The fragments that have no home, or one on a node that is not online.
 pub(crate) fn missing_of(homes: &[Option<Seat>; 16], sites: &Sites) -> LossMask
     requires { length homes.now ≡ 16 }

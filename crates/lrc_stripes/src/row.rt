@@ -1,10 +1,11 @@
-ghost use Rattle.std.specs.Prelude.{◌≡◌, ◌≤◌, length, map, replicate, find, drop, true, None, Some};
+ghost use Rattle.std.specs.Prelude.{◌≡◌, ◌≤◌, ℕ, if◌then◌else◌, length, map, replicate, find, drop, true, None, Some};
 ghost use Rattle.std.specs.List.{list_any};
 ghost use Rattle.lrc_code.specs.declared.codes.Code.TheVariants.{Wide};
 ghost use Rattle.lrc_code.specs.Codes.{fragments};
+ghost use Rattle.lrc_code.specs.Losses.{bits_set};
 ghost use Rattle.lrc_stripes.specs.Rows.{sits_on, sits_at, is_on_seat};
 ghost use Rattle.lrc_stripes.specs.Sites.{sited};
-ghost use Rattle.lrc_stripes.specs.Masks.{AreAll, AreKept, IsPutOn, renewed};
+ghost use Rattle.lrc_stripes.specs.Masks.{AreAll, AreKept, renewed};
 ghost use Rattle.lrc_code.specs.declared.numbers.NodeNo.{NodeNo as AnyNode};
 ghost use Rattle.lrc_code.specs.declared.numbers.StripeNo.{StripeNo as AnyStripe};
 
@@ -84,49 +85,17 @@ impl Row {
         self.losses_now(sites)
     }
 
-    /// Its losses, where the fragments with a home on the node are missing or not, as told.
-    pub(crate) fn with_missing(&self, node: NodeNo, are_missing: bool) -> Losses
-        ensures homeless { result.homeless ≡ self.now.losses.homeless }
-        ensures missing { IsPutOn node are_missing self.now.homes self.now.losses.missing result.missing }
-        ensures needs { result.needs ≡ self.now.losses.needs }
-    {
-        let mut losses = self.losses;
-        losses.missing = masks::put(
-            losses.missing,
-            masks::fragments_on(&self.homes, node),
-            are_missing,
-        );
-        losses
-    }
-
-    /// Its losses as its homes are, where the fragments with a home on the node need a lease or not, as told.
-    pub(crate) fn with_needs(&self, sites: &Sites, node: NodeNo, are_to_move: bool) -> Losses
+    /// Its losses as its homes are, where these fragments need a lease or not, as told.
+    pub(crate) fn with_needs(&self, sites: &Sites, fragments: LossMask, are_to_move: bool) -> Losses
         requires kept { AreKept (sited sites.now).online (sited sites.now).draining self.now.homes self.now.losses }
         requires stands { (n : AnyNode) → list_any (sits_on n) self.now.homes ≡ true → (s : AnyStripe) × ((sited sites.now).on n s ≡ true) }
         ensures homeless { result.homeless ≡ self.now.losses.homeless }
         ensures missing { result.missing ≡ (renewed (sited sites.now).online self.now.homes self.now.losses).missing }
-        ensures needs { IsPutOn node are_to_move self.now.homes self.now.losses.needs result.needs }
+        ensures needs { (f : ℕ) → bits_set result.needs.bits f ≡ (if bits_set fragments.bits f then are_to_move else bits_set self.now.losses.needs.bits f) }
     {
         let mut losses = self.losses_kept(sites);
-        losses.needs = masks::put(
-            losses.needs,
-            masks::fragments_on(&self.homes, node),
-            are_to_move,
-        );
+        losses.needs = masks::put(losses.needs, fragments, are_to_move);
         losses
-    }
-
-    /// Whether one of the homes is on the node.
-    pub(crate) fn is_on(&self, node: NodeNo) -> bool
-        ensures { result ≡ list_any (sits_on node) self.now.homes }
-    {
-        let mut found = false;
-        for home in self.homes {
-            if masks::is_on(home, node) {
-                found = true;
-            }
-        }
-        found
     }
 
     /// Whether one of the homes is on the seat.

@@ -1,4 +1,4 @@
-ghost use Rattle.std.specs.Prelude.{◌≡◌, ◌||◌, ℕ, ◌<◌, ◌≤◌, if◌then◌else◌, length, get_or, option_and_then, replicate, Some, None, is_some, true, false, IsTrue, IfOk, IfErr, IfSome};
+ghost use Rattle.std.specs.Prelude.{◌≡◌, ◌||◌, ◌&&◌, ℕ, nat_lt, ◌<◌, ◌≤◌, if◌then◌else◌, length, get_or, option_and_then, replicate, Some, None, is_some, true, false, IsTrue, IfOk, IfErr, IfSome};
 ghost use Rattle.std.specs.Option.{option_copied};
 ghost use Rattle.lrc_code.specs.Numbers.{same_stripe};
 ghost use Rattle.lrc_code.specs.declared.numbers.StripeNo.{StripeNo as AnyStripe};
@@ -8,9 +8,13 @@ ghost use Rattle.lrc_stripes.specs.Masks.{work_rank, risk_rank};
 ghost use Rattle.lrc_stripes.specs.Sets.{FindsNext, has};
 ghost use Rattle.lrc_stripes.specs.Looming.{is_needy};
 ghost use Rattle.lrc_stripes.specs.Sites.{sited};
+ghost use Rattle.lrc_stripes.specs.Rows.{sits_on};
+ghost use Rattle.lrc_stripes.specs.Noted.{AreNodesOf};
+ghost use Rattle.lrc_code.specs.Losses.{bits_set};
 ghost use Rattle.lrc_stripes.specs.Tables.{rows_in};
-ghost use Rattle.lrc_stripes.specs.Kept.{Covers, IsKept, queue_from, queued, needs_of, freshened, level_in, is_row_on, holds, AreRenewed, IsRenewed, IsWithLosses, IsRehomed, IsMissingOn, IsToMoveOn};
+ghost use Rattle.lrc_stripes.specs.Kept.{Covers, IsKept, queue_from, queued, needs_of, freshened, level_in, is_row_on, holds, AreRenewed, IsRenewed, IsWithLosses, IsWithMissing, IsRehomed, IsMissingOn, IsToMoveOn};
 
+use crate::home_nodes::HomeNodes;
 use crate::losses::Losses;
 use crate::queue::{Queue, RANKS, STRIPES};
 use crate::ranked::Ranked;
@@ -18,7 +22,7 @@ use crate::risky::Risky;
 use crate::row::Row;
 use crate::sites::Sites;
 use crate::stripe_set::StripeSet;
-use crate::{Level, Seat};
+use crate::{Level, Seat, masks};
 use lrc_code::{Fault, Fragment, LossMask, NodeNo, StripeNo};
 use std::alloc::{AllocError, Global};
 use std::marker::Model;
@@ -34,18 +38,20 @@ pub(crate) struct Rows {
     /// The stripes that are there, told without a look at the rows.
     there: StripeSet,
     work: Queue,
+    /// By the stripe's number, the nodes of its homes; any where it is not there.
+    nodes: Vec<HomeNodes>,
 }
 
 impl Model for Rows {
     ghost use Rattle.std.specs.Prelude.{List, Option};
     ghost use Rattle.lrc_stripes.specs.declared.row.Row.{Row as AnyRow};
-    ghost use Rattle.lrc_stripes.specs.Kept.{AreQueued};
+    ghost use Rattle.lrc_stripes.specs.Kept.{AreNoted, AreQueued};
 
     ghost Value = { List (Option AnyRow) };
 
     ghost view = { λ t. t.list.items };
 
-    ghost invariant = { λ t. AreQueued t.list.items t.needs.items t.there t.work };
+    ghost invariant = { λ t. record { queued : AreQueued t.list.items t.needs.items t.there t.work; noted : AreNoted t.list.items t.nodes.items } };
 }
 
 impl Rows {
@@ -59,6 +65,7 @@ impl Rows {
             needs: zeros(alloc, STRIPES)?,
             there: StripeSet::new(),
             work: Queue::new(alloc)?,
+            nodes: no_homes(alloc, STRIPES)?,
         })
     }
 
@@ -84,15 +91,27 @@ impl Rows {
         LossMask::from_bits(self.needs[stripe.value as usize])
     }
 
-    /// Gives a stripe this row or none.
-    pub(crate) fn put(&mut self, stripe: StripeNo, row: Option<Row>)
-        ensures { rows_in self.new ≡ λ s. if same_stripe stripe s then row else rows_in self.old s }
+    /// Gives a stripe this row, whose homes are on these nodes.
+    pub(crate) fn add(&mut self, stripe: StripeNo, row: Row, nodes: HomeNodes)
+        requires { AreNodesOf row.homes nodes.numbers nodes.homed.bits }
+        ensures { rows_in self.new ≡ λ s. if same_stripe stripe s then Some row else rows_in self.old s }
     {
-        let rank = work_rank(row.as_ref());
+        let rank = row.losses.work_rank();
+        self.needs[stripe.value as usize] = row.losses.needs.bits;
+        self.there.set(stripe, true);
+        self.nodes[stripe.value as usize] = nodes;
+        self.list[stripe.value as usize] = Some(row);
         self.work.relist(stripe, rank);
-        self.needs[stripe.value as usize] = needs_of(row.as_ref());
-        self.there.set(stripe, row.is_some());
-        self.list[stripe.value as usize] = row;
+    }
+
+    /// Takes the row of a stripe out.
+    pub(crate) fn remove(&mut self, stripe: StripeNo)
+        ensures { rows_in self.new ≡ λ s. if same_stripe stripe s then None else rows_in self.old s }
+    {
+        self.needs[stripe.value as usize] = 0;
+        self.there.set(stripe, false);
+        self.list[stripe.value as usize] = None;
+        self.work.relist(stripe, None);
     }
 
     /// Gives the row of a stripe, if it is there, these losses.
@@ -119,18 +138,25 @@ impl Rows {
         let place = &mut self.list[stripe.value as usize];
         put_home(place, fragment, home, losses);
         self.needs[stripe.value as usize] = needs_of(place.as_ref());
+        let nodes = &mut self.nodes[stripe.value as usize];
+        nodes.put(fragment, home);
         let rank = work_rank(place.as_ref());
         self.work.relist(stripe, rank);
+    }
+
+    /// The fragments of a stripe that is there whose homes are on the node.
+    fn fragments_on(&self, stripe: StripeNo, node: NodeNo) -> LossMask
+        ensures few { result.bits < 65536 }
+        ensures on { (r : AnyRow) → rows_in self.now stripe ≡ Some r → (f : ℕ) → bits_set result.bits f ≡ (nat_lt f 16 && sits_on node (get_or r.homes f None)) }
+    {
+        self.nodes[stripe.value as usize].fragments_on(node)
     }
 
     /// Whether one of a stripe's fragments has its home on the node.
     pub(crate) fn is_on(&self, stripe: StripeNo, node: NodeNo) -> bool
         ensures { result ≡ is_row_on node (rows_in self.now stripe) }
     {
-        match self.get(stripe) {
-            Some(row) => row.is_on(node),
-            None => false,
-        }
+        self.contains(stripe) && self.fragments_on(stripe, node).bits != 0
     }
 
     /// Whether one of a stripe's fragments has its home on the seat.
@@ -160,10 +186,18 @@ impl Rows {
     fn renew_missing_of(&mut self, stripe: StripeNo, node: NodeNo, are_missing: bool)
         ensures { AreRenewed (same_stripe stripe) (IsMissingOn node are_missing) (rows_in self.old) (rows_in self.new) }
     {
-        if let Some(row) = self.get(stripe) {
-            let losses = row.with_missing(node, are_missing);
-            self.set_losses(stripe, losses);
-        }
+        let fragments = self.fragments_on(stripe, node);
+        self.put_missing(stripe, fragments, are_missing);
+    }
+
+    /// Sets whether these fragments of a stripe, if it is there, are missing.
+    fn put_missing(&mut self, stripe: StripeNo, fragments: LossMask, are_missing: bool)
+        ensures { AreRenewed (same_stripe stripe) (IsWithMissing fragments are_missing) (rows_in self.old) (rows_in self.new) }
+    {
+        let place = &mut self.list[stripe.value as usize];
+        put_missing(place, fragments, are_missing);
+        let rank = work_rank(place.as_ref());
+        self.work.relist(stripe, rank);
     }
 
     /// Sets whether the fragments with a home on the node need a lease.
@@ -174,7 +208,8 @@ impl Rows {
         let mut from = 0;
         while let Some(stripe) = sites.first_on(node, from) {
             if let Some(row) = self.get(stripe) {
-                let losses = row.with_needs(sites, node, are_to_move);
+                let fragments = self.fragments_on(stripe, node);
+                let losses = row.with_needs(sites, fragments, are_to_move);
                 self.set_losses(stripe, losses);
             }
             from = stripe.value as usize + 1;
@@ -281,6 +316,22 @@ fn zeros(alloc: Global, count: usize) -> Result<Vec<u16>, AllocError>
     ensures { IfOk result (λ v. v.items ≡ replicate count 0) }
 {
     vec![in alloc; 0; count]
+}
+
+/// For so many stripes that none of the fragments has a home.
+fn no_homes(alloc: Global, count: usize) -> Result<Vec<HomeNodes>, AllocError>
+    ensures { IfOk result (λ v. length v.items ≡ count) }
+{
+    vec![in alloc; HomeNodes::new(); count]
+}
+
+/// Sets whether these fragments of a row, if there is one, are missing.
+fn put_missing(row: &mut Option<Row>, fragments: LossMask, are_missing: bool)
+    ensures { IsRenewed (IsWithMissing fragments are_missing) row.old row.new }
+{
+    if let Some(row) = row {
+        row.losses.missing = masks::put(row.losses.missing, fragments, are_missing);
+    }
 }
 
 /// Gives a row, if there is one, these losses.

@@ -10,6 +10,7 @@ ghost use Rattle.lrc_stripes.specs.Stored.{empty, with_stripe, with_homes, witho
 ghost use Rattle.lrc_stripes.specs.Tables.{stored_in};
 ghost use Rattle.lrc_stripes.specs.Upgrades.{is_lost_to, is_short_lost_to, IsFirstLostTo, IsFirstShortLostTo};
 
+use crate::home_nodes::HomeNodes;
 use crate::row::Row;
 use crate::rows::Rows;
 use crate::sites::Sites;
@@ -95,7 +96,7 @@ impl Stripes {
         requires room { 1 ≤ (stored_in self.old).spare }
         ensures { stored_in self.new ≡ with_stripe (stored_in self.old) Wide stripe }
     {
-        self.rows.put(stripe, Some(Row::new()));
+        self.rows.add(stripe, Row::new(), HomeNodes::new());
         self.spare -= 1;
     }
 
@@ -107,7 +108,8 @@ impl Stripes {
         ensures { stored_in self.new ≡ with_homes (stored_in self.old) stripe seats.now }
     {
         let losses = self.sites.enter(stripe, seats);
-        self.rows.put(stripe, Some(Row::seated(seats, losses)));
+        let row = Row::seated(seats, losses);
+        self.rows.add(stripe, row, HomeNodes::seated(seats));
         self.spare -= 1;
     }
 
@@ -119,7 +121,7 @@ impl Stripes {
     {
         if let Some(row) = self.rows.get(stripe) {
             self.sites.leave(stripe, row);
-            self.rows.put(stripe, None);
+            self.rows.remove(stripe);
         }
     }
 

@@ -37,7 +37,8 @@ loop-stripe-preserved c =
           let changed = w.set_losses.ensures in
           rw w.self-is (renewed-one set Renews before (IsWithLosses losses) now (rows_in w.set_losses.new.self) c.loop-stripe.from s row c.in-Some.ensures c.loop-stripe.invariant
           (sym c.get.ensures ∙ ap option_copied w.in-Some-get.is) (record { listed = changed.listed; others = changed.others })
-          (λ q is. to_move_on-put (sited c.args.sites.now).online c.args.node c.args.are_to_move losses row q e.homeless e.missing e.needs is))
+          (λ q is. to_move_on-put (sited c.args.sites.now).online c.args.node c.args.are_to_move w.fragments_on-fragments.result losses row q
+          (w.fragments_on-fragments.ensures.on row (sym c.get.ensures ∙ ap option_copied w.in-Some-get.is)) e.homeless e.missing e.needs is))
       | in_default-get w ↦
           rw w.self-is (renewed-absent set Renews before now c.loop-stripe.from s c.in-Some.ensures c.loop-stripe.invariant (sym c.get.ensures ∙ ap option_copied w.in_default-get.is))
     ]

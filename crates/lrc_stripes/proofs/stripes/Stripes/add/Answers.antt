@@ -1,17 +1,24 @@
-use Rattle.std.proofs.Common.{◌≡◌, false, is_some}
+use Rattle.std.proofs.Common.{◌≡◌, false, List, Option, is_some, subst, sym}
+use Rattle.lrc_topology.specs.declared.seat.Seat.{Seat}
+use Rattle.lrc_stripes.specs.Noted.{AreNodesOf}
 use Rattle.lrc_stripes.specs.Sites.{sited}
 use Rattle.lrc_stripes.specs.Tables.{stored_in, rows_in}
 use Rattle.lrc_stripes.proofs.KeptLemmas.{kept-add}
 use Rattle.lrc_stripes.proofs.StoredLemmas.{stored-add}
 use Rattle.lrc_stripes.proofs.stripes.Stripes.add.Goals as goal
 
+pub add-requires : goal.add-requires
+add-requires c =
+    subst (λ (homes : List (Option Seat)). AreNodesOf homes c.new-2.result.numbers c.new-2.result.homed.bits) (sym c.new.ensures.homes)
+    (record { homed = c.new-2.ensures.homed; numbered = c.new-2.ensures.numbered })
+
 pub invariant_of-self : goal.invariant_of-self
 unfolding stored_in
 invariant_of-self c =
     let absent : is_some (rows_in c.self.inside.rows c.args.stripe) ≡ false = rw (← c.self.view_is) at c.requires.absent in
-    kept-add (sited c.self.inside.sites) (rows_in c.self.inside.rows) c.self.invariant c.args.stripe c.new.result (rows_in c.put.new.self) absent c.new.ensures.homes c.new.ensures.losses c.put.ensures
+    kept-add (sited c.self.inside.sites) (rows_in c.self.inside.rows) c.self.invariant c.args.stripe c.new.result (rows_in c.add.new.self) absent c.new.ensures.homes c.new.ensures.losses c.add.ensures
 
 pub returns : goal.returns
 unfolding stored_in sited
 returns c =
-    rw (← c.self.view_is) (stored-add (sited c.self.inside.sites) (rows_in c.self.inside.rows) (rows_in c.put.new.self) c.args.stripe c.new.result c.self.inside.spare c.new.ensures.homes c.put.ensures)
+    rw (← c.self.view_is) (stored-add (sited c.self.inside.sites) (rows_in c.self.inside.rows) (rows_in c.add.new.self) c.args.stripe c.new.result c.self.inside.spare c.new.ensures.homes c.add.ensures)

@@ -1,10 +1,11 @@
-use Rattle.std.proofs.Common.{◌≡◌, ◌-◌, false, IsTrue, Some, map, get_or, is_some, ap, subst, sym, ◌∙◌}
+use Rattle.std.proofs.Common.{◌≡◌, ◌-◌, false, IsTrue, List, Option, Some, map, get_or, is_some, ap, subst, sym, ◌∙◌}
 use Rattle.std.specs.List.{All}
 use Rattle.lrc_topology.specs.Nodes.{node_at}
 use Rattle.lrc_topology.specs.declared.seat.Seat.{Seat}
 use Rattle.lrc_stripes.specs.declared.losses.Losses.{Losses}
 use Rattle.lrc_stripes.specs.Kept.{IsKept}
 use Rattle.lrc_stripes.specs.Masks.{AreLosses}
+use Rattle.lrc_stripes.specs.Noted.{AreNodesOf}
 use Rattle.lrc_stripes.specs.Stored.{has_slot}
 use Rattle.lrc_stripes.specs.Sites.{Sited, sited}
 use Rattle.lrc_stripes.specs.Tables.{stored_in, rows_in}
@@ -18,6 +19,11 @@ enter-losses-requires c =
     let slots : All (λ (seat : Seat). IsTrue (has_slot (sited c.self.inside.sites).nodes seat)) c.args.seats.now = rw (← c.self.view_is) at c.requires.slots in
     λ k d below. slot-known (node_at (sited c.self.inside.sites).nodes (get_or c.args.seats.now k d).node) (get_or c.args.seats.now k d).slot (slots k d below)
 
+pub add-requires : goal.add-requires
+add-requires c =
+    subst (λ (homes : List (Option Seat)). AreNodesOf homes c.seated.result.numbers c.seated.result.homed.bits) (sym c.seated-row.ensures.homes)
+    (record { homed = c.seated.ensures.homed; numbered = c.seated.ensures.numbered })
+
 pub invariant_of-self : goal.invariant_of-self
 unfolding stored_in
 invariant_of-self c =
@@ -25,14 +31,14 @@ invariant_of-self c =
     let homes = map Some c.args.seats.now in
     let e = c.enter-losses.ensures.losses in
     let absent : is_some (rows_in c.self.inside.rows c.args.stripe) ≡ false = rw (← c.self.view_is) at c.requires.absent in
-    let are : AreLosses z.online z.draining homes c.seated.result.losses =
-    subst (λ (l : Losses). AreLosses z.online z.draining homes l) (sym c.seated.ensures.losses) (record { homeless = e.homeless; missing = e.missing; needs = e.needs }) in
-    subst (λ (y : Sited). IsKept y (rows_in c.put.new.self)) (sym c.enter-losses.ensures.on)
-    (kept-enter z (rows_in c.self.inside.rows) c.self.invariant c.args.stripe homes c.seated.result (rows_in c.put.new.self) absent c.seated.ensures.homes are c.put.ensures)
+    let are : AreLosses z.online z.draining homes c.seated-row.result.losses =
+    subst (λ (l : Losses). AreLosses z.online z.draining homes l) (sym c.seated-row.ensures.losses) (record { homeless = e.homeless; missing = e.missing; needs = e.needs }) in
+    subst (λ (y : Sited). IsKept y (rows_in c.add.new.self)) (sym c.enter-losses.ensures.on)
+    (kept-enter z (rows_in c.self.inside.rows) c.self.invariant c.args.stripe homes c.seated-row.result (rows_in c.add.new.self) absent c.seated-row.ensures.homes are c.add.ensures)
 
 pub returns : goal.returns
 unfolding stored_in sited
 returns c =
-    rw (← c.self.view_is) (ap (λ (z : Sited). stored_by z (rows_in c.put.new.self) (c.self.inside.spare - 1)) c.enter-losses.ensures.on
-    ∙ stored-seated (sited c.self.inside.sites) (rows_in c.self.inside.rows) (rows_in c.put.new.self) c.args.stripe c.seated.result c.args.seats.now c.self.inside.spare
-    c.seated.ensures.homes c.put.ensures)
+    rw (← c.self.view_is) (ap (λ (z : Sited). stored_by z (rows_in c.add.new.self) (c.self.inside.spare - 1)) c.enter-losses.ensures.on
+    ∙ stored-seated (sited c.self.inside.sites) (rows_in c.self.inside.rows) (rows_in c.add.new.self) c.args.stripe c.seated-row.result c.args.seats.now c.self.inside.spare
+    c.seated-row.ensures.homes c.add.ensures)

@@ -1,0 +1,23 @@
+use Rattle.std.proofs.Common.{◌≡◌, ℕ, Bool, ◌∙◌, sym, ap, get_or, nat_eq, nat_lt, ◌&&◌, subst, arith}
+use Rattle.lrc_code.specs.Losses.{bits_set}
+use Rattle.std.proofs.lemmas.Bool.{eq-eqb, ne_eqb}
+use Rattle.lrc_stripes.proofs.MaskLemmas.{item-number, mask-next_true, mask-next_false}
+use Rattle.lrc_stripes.proofs.NotedLemmas.{noted-on}
+use Rattle.lrc_stripes.proofs.home_nodes.HomeNodes.fragments_on.Goals as goal
+use Rattle.lrc_stripes.proofs.home_nodes.HomeNodes.fragments_on.Goals.{then-self-fragment, else-self-fragment}
+
+pub loop-fragment-preserved : goal.loop-fragment-preserved
+loop-fragment-preserved c =
+    let i = c.loop-fragment.fragment-index in
+    let m : ℕ → Bool = λ f. nat_eq (get_or c.args.self.now.numbers f 0) c.args.node.value in
+    let number = item-number c.all-fragment-items.result i c.fragment-item.result c.all-fragment-items.ensures c.loop-fragment-test.true in
+    elim c.if-self-fragment.branch [
+      | then-self-fragment w ↦ rw w.mask-is (mask-next_true m i c.loop-fragment.mask.bits w.with-mask.result.bits _ number (eq-eqb _ _ (ap (λ (k : ℕ). get_or c.args.self.now.numbers k 0) (sym number) ∙ w.if-self-fragment.true)) c.loop-fragment.invariant w.with-mask.ensures)
+      | else-self-fragment w ↦ rw w.mask-is (mask-next_false m i c.loop-fragment.mask.bits (ne_eqb _ _ (λ e. w.if-self-fragment.false (ap (λ (k : ℕ). get_or c.args.self.now.numbers k 0) number ∙ e))) c.loop-fragment.invariant)
+    ]
+
+pub returns-clause-on : goal.returns-clause-on
+returns-clause-on c = λ homes long are.
+    noted-on homes c.args.self.now.numbers c.args.self.now.homed.bits c.loop-fragment.mask.bits c.from_bits.result.bits c.args.node long are
+    (subst (λ (i : ℕ). (f : ℕ) → bits_set c.loop-fragment.mask.bits f ≡ (nat_lt f i && nat_eq (get_or c.args.self.now.numbers f 0) c.args.node.value))
+    (let past = c.loop-fragment-test.false in let all = c.loop-fragment.auto.fragment-index-end in omega (arith, past, all)) c.loop-fragment.invariant) c.from_bits.ensures
