@@ -25,3 +25,4 @@ pub mod ShownLemmas
 pub mod SeatedLemmas
 pub mod BitLemmas
 pub mod NotedLemmas
+pub mod ClearLemmas

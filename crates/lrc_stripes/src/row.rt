@@ -7,12 +7,11 @@ ghost use Rattle.lrc_stripes.specs.Rows.{sits_on, sits_at, is_on_seat};
 ghost use Rattle.lrc_stripes.specs.Sites.{sited};
 ghost use Rattle.lrc_stripes.specs.Masks.{AreAll, AreKept, renewed};
 ghost use Rattle.lrc_code.specs.declared.numbers.NodeNo.{NodeNo as AnyNode};
-ghost use Rattle.lrc_code.specs.declared.numbers.StripeNo.{StripeNo as AnyStripe};
 
 use crate::losses::Losses;
 use crate::sites::Sites;
 use crate::{Seat, masks};
-use lrc_code::{Fragment, LossMask, NodeNo};
+use lrc_code::{Fragment, LossMask, NodeNo, StripeNo};
 
 /// The homes of a stripe's fragments, and what follows from them.
 #[derive(Clone, Copy)]
@@ -55,29 +54,29 @@ impl Row {
         losses
     }
 
-    /// The same of a row whose masks are those that are kept: where it has work, they are so already. Nodes with a home
-    /// of it have a stripe.
-    pub(crate) fn losses_kept(&self, sites: &Sites) -> Losses
+    /// The same of a row whose masks are those that are kept: where it has work, they are so already. The stripe is
+    /// among those of the nodes with a home of it.
+    pub(crate) fn losses_kept(&self, sites: &Sites, stripe: StripeNo) -> Losses
         requires kept { AreKept (sited sites.now).online (sited sites.now).draining self.now.homes self.now.losses }
-        requires stands { (n : AnyNode) → list_any (sits_on n) self.now.homes ≡ true → (s : AnyStripe) × ((sited sites.now).on n s ≡ true) }
+        requires stands { (n : AnyNode) → list_any (sits_on n) self.now.homes ≡ true → (sited sites.now).on n stripe ≡ true }
         ensures { result ≡ renewed (sited sites.now).online self.now.homes self.now.losses }
     {
         if self.losses.needs.bits == 0 {
-            return self.losses_idle(sites);
+            return self.losses_idle(sites, stripe);
         }
         let mut losses = self.losses;
         losses.missing = self.losses.missing();
         losses
     }
 
-    /// The same of a row without work: none is missing where all nodes are online.
-    fn losses_idle(&self, sites: &Sites) -> Losses
+    /// The same of a row without work: none is missing where no node with a home of it is offline.
+    fn losses_idle(&self, sites: &Sites, stripe: StripeNo) -> Losses
         requires kept { AreKept (sited sites.now).online (sited sites.now).draining self.now.homes self.now.losses }
-        requires stands { (n : AnyNode) → list_any (sits_on n) self.now.homes ≡ true → (s : AnyStripe) × ((sited sites.now).on n s ≡ true) }
+        requires stands { (n : AnyNode) → list_any (sits_on n) self.now.homes ≡ true → (sited sites.now).on n stripe ≡ true }
         requires idle { self.now.losses.needs.bits ≡ 0 }
         ensures { result ≡ renewed (sited sites.now).online self.now.homes self.now.losses }
     {
-        if sites.are_all_online() {
+        if sites.is_clear(stripe) {
             let mut losses = self.losses;
             losses.missing = LossMask::from_bits(0);
             return losses;
@@ -86,14 +85,20 @@ impl Row {
     }
 
     /// Its losses as its homes are, where these fragments need a lease or not, as told.
-    pub(crate) fn with_needs(&self, sites: &Sites, fragments: LossMask, are_to_move: bool) -> Losses
+    pub(crate) fn with_needs(
+        &self,
+        sites: &Sites,
+        stripe: StripeNo,
+        fragments: LossMask,
+        are_to_move: bool,
+    ) -> Losses
         requires kept { AreKept (sited sites.now).online (sited sites.now).draining self.now.homes self.now.losses }
-        requires stands { (n : AnyNode) → list_any (sits_on n) self.now.homes ≡ true → (s : AnyStripe) × ((sited sites.now).on n s ≡ true) }
+        requires stands { (n : AnyNode) → list_any (sits_on n) self.now.homes ≡ true → (sited sites.now).on n stripe ≡ true }
         ensures homeless { result.homeless ≡ self.now.losses.homeless }
         ensures missing { result.missing ≡ (renewed (sited sites.now).online self.now.homes self.now.losses).missing }
         ensures needs { (f : ℕ) → bits_set result.needs.bits f ≡ (if bits_set fragments.bits f then are_to_move else bits_set self.now.losses.needs.bits f) }
     {
-        let mut losses = self.losses_kept(sites);
+        let mut losses = self.losses_kept(sites, stripe);
         losses.needs = masks::put(losses.needs, fragments, are_to_move);
         losses
     }

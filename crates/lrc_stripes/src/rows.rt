@@ -209,7 +209,7 @@ impl Rows {
         while let Some(stripe) = sites.first_on(node, from) {
             if let Some(row) = self.get(stripe) {
                 let fragments = self.fragments_on(stripe, node);
-                let losses = row.with_needs(sites, fragments, are_to_move);
+                let losses = row.with_needs(sites, stripe, fragments, are_to_move);
                 self.set_losses(stripe, losses);
             }
             from = stripe.value as usize + 1;

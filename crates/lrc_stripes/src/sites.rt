@@ -1,4 +1,4 @@
-ghost use Rattle.std.specs.Prelude.{◌≡◌, ◌&&◌, ◌||◌, not, true, false, if◌then◌else◌, map, Some, IfOk, IfErr, IfSome, IsTrue, ◌<◌, length, get_or, slice_set};
+ghost use Rattle.std.specs.Prelude.{◌≡◌, ◌&&◌, ◌||◌, not, true, false, if◌then◌else◌, map, Some, IfOk, IfErr, IfSome, IsTrue, ◌<◌, length, get_or, slice_set, []};
 ghost use Rattle.std.specs.List.{All, list_any};
 ghost use Rattle.lrc_code.specs.Numbers.{same_stripe, same_node, same_upgrade};
 ghost use Rattle.lrc_code.specs.declared.numbers.NodeNo.{NodeNo as AnyNode};
@@ -26,6 +26,9 @@ use lrc_code::{Fault, Fragment, LossMask, NodeNo, StripeNo, UpgradeNo};
 use lrc_topology::{NodeIndex, NodeInfo, Topology};
 use std::alloc::Global;
 use std::marker::Model;
+
+/// How many nodes that are offline are looked at for one stripe.
+const FEW: usize = 8;
 
 /// The nodes of a store: which are offline or draining, and for each the stripes with a home there.
 #[derive(Drop)]
@@ -290,6 +293,38 @@ impl Sites {
         ensures { result ≡ true → (n : AnyNode) (s : AnyStripe) → (sited self.now).on n s ≡ true → (sited self.now).online n ≡ true }
     {
         self.offline.is_empty()
+    }
+
+    /// Whether the stripe is found on no node that is offline; `false` also where more than a few are.
+    pub(crate) fn is_clear(&self, stripe: StripeNo) -> bool
+        ensures { result ≡ true → (n : AnyNode) → (sited self.now).on n stripe ≡ true → (sited self.now).online n ≡ true }
+    {
+        if self.are_all_online() {
+            return true;
+        }
+        let mut from = 0;
+        for _ in 0..FEW {
+            match self.offline.first_from(from) {
+                Some(place) => {
+                    if self.has_at(place, stripe) {
+                        return false;
+                    }
+                    from = place + 1;
+                }
+                None => return true,
+            }
+        }
+        false
+    }
+
+    /// Whether the stripe has a home on the node at a place in the order of the file, if there is one.
+    fn has_at(&self, place: usize, stripe: StripeNo) -> bool
+        ensures { result ≡ has (get_or self.now.stripes place []) stripe }
+    {
+        match self.stripes.get(place) {
+            Some(set) => set.contains(stripe),
+            None => false,
+        }
     }
 
     /// Whether fewer than two nodes are offline: then no stripe has homes on several of them.

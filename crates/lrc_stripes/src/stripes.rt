@@ -179,7 +179,7 @@ impl Stripes {
     {
         if let Some(row) = self.rows.get(stripe) {
             let losses = row
-                .losses_kept(&self.sites)
+                .losses_kept(&self.sites, stripe)
                 .with_home(&self.sites, fragment, home);
             let former = row.homes[fragment.value as usize];
             self.rows.set_home(stripe, fragment, home, losses);
@@ -194,7 +194,7 @@ impl Stripes {
         ensures { result ≡ missing_shown (stored_in self.now) stripe }
     {
         let row = self.rows.get(stripe)?;
-        Some(row.losses_kept(&self.sites).missing())
+        Some(row.losses_kept(&self.sites, stripe).missing())
     }
 
     /// The fragments of a stripe that need a lease: those that have no home, or one on a draining node; `None` where
@@ -219,7 +219,7 @@ impl Stripes {
         ensures { result ≡ level_shown (stored_in self.now) stripe }
     {
         let row = self.rows.get(stripe)?;
-        Some(row.losses_kept(&self.sites).level())
+        Some(row.losses_kept(&self.sites, stripe).level())
     }
 
     /// The stripe of the least number that is recoverable now, and would not be with the nodes of this upgrade domain

@@ -4,11 +4,11 @@ use Rattle.lrc_stripes.specs.Sites.{sited}
 use Rattle.lrc_stripes.proofs.FreshLemmas.{none-missing}
 use Rattle.lrc_stripes.proofs.row.Row.losses_idle.Goals as goal
 
-pub returns-then-are_all_online : goal.returns-then-are_all_online
-returns-then-are_all_online c =
+pub returns-then-is_clear : goal.returns-then-is_clear
+returns-then-is_clear c =
     let z = sited c.args.sites.now in
     let r = c.args.self.now in
     let k = c.requires.kept in
     let none = none-missing z.online z.draining r (record { homeless = k.homeless; missing = k.missing; needs = k.needs }) c.requires.idle
-    (λ n off any. let at = c.requires.stands n any in let clash : true ≡ false = sym (c.are_all_online.ensures c.if-are_all_online.true n at.0 at.1) ∙ off in cc) in
+    (λ n off any. let clash : true ≡ false = sym (c.is_clear.ensures c.if-is_clear.true n (c.requires.stands n any)) ∙ off in cc) in
     ap (λ (b : ℕ). let l : Losses = record r.losses { missing = record { bits = b } } in l) (c.from_bits-losses.ensures ∙ sym none)

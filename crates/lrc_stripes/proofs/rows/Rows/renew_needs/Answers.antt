@@ -20,7 +20,7 @@ pub with_needs-losses-requires-clause-stands : goal.with_needs-losses-requires-c
 with_needs-losses-requires-clause-stands c =
     let later = c.in-Some.ensures.later in
     let was = sym (c.loop-stripe.invariant.left c.in-Some.stripe later) ∙ (sym c.get.ensures ∙ ap option_copied c.in-Some-get.is) in
-    λ n any. (c.in-Some.stripe, c.requires.listed n c.in-Some.stripe ∙ (ap (is_row_on n) was ∙ any))
+    λ n any. c.requires.listed n c.in-Some.stripe ∙ (ap (is_row_on n) was ∙ any)
 
 pub loop-stripe-preserved : goal.loop-stripe-preserved
 loop-stripe-preserved c =

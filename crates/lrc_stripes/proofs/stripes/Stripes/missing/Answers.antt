@@ -14,7 +14,7 @@ losses_kept-requires-clause-kept c = c.self.invariant.losses c.args.stripe c.in_
 
 pub losses_kept-requires-clause-stands : goal.losses_kept-requires-clause-stands
 losses_kept-requires-clause-stands c =
-    λ n any. (c.args.stripe, c.self.invariant.listed n c.args.stripe ∙ (ap (is_row_on n) (sym c.get.ensures ∙ ap option_copied c.in_ok-row.was) ∙ any))
+    λ n any. (c.self.invariant.listed n c.args.stripe ∙ (ap (is_row_on n) (sym c.get.ensures ∙ ap option_copied c.in_ok-row.was) ∙ any))
 
 pub returns : goal.returns
 returns c =

@@ -16,7 +16,7 @@ pub losses_kept-requires-clause-kept : goal.losses_kept-requires-clause-kept
 losses_kept-requires-clause-kept c = c.self.invariant.losses c.args.stripe c.in-Some.row.now (sym c.in-Some.ensures)
 
 pub losses_kept-requires-clause-stands : goal.losses_kept-requires-clause-stands
-losses_kept-requires-clause-stands c = λ n any. (c.args.stripe, c.self.invariant.listed n c.args.stripe ∙ (ap (is_row_on n) (sym c.in-Some.ensures) ∙ any))
+losses_kept-requires-clause-stands c = λ n any. (c.self.invariant.listed n c.args.stripe ∙ (ap (is_row_on n) (sym c.in-Some.ensures) ∙ any))
 
 pub seat-requires : goal.seat-requires
 unfolding stored_in sited
