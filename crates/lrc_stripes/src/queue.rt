@@ -61,6 +61,7 @@ impl Queue {
     }
 
     /// Moves a stripe from the rank that it has, if it has one, to another or to none.
+    #[inline(always)] // each change of a row calls it, and most of it is passed over where the rank stays
     pub(crate) fn relist(&mut self, stripe: StripeNo, rank: Option<u8>)
         requires { IfSome rank (λ k. k ≤ 4) }
         ensures { at_rank self.new ≡ λ k s. if same_stripe stripe s then is_at k rank else at_rank self.old k s }
