@@ -302,6 +302,14 @@ impl Sites {
         if self.are_all_online() {
             return true;
         }
+        self.is_clear_of_few(stripe)
+    }
+
+    /// The same where some node may be offline.
+    #[inline(never)] // where all nodes are online the answer then saves no registers
+    fn is_clear_of_few(&self, stripe: StripeNo) -> bool
+        ensures { result ≡ true → (n : AnyNode) → (sited self.now).on n stripe ≡ true → (sited self.now).online n ≡ true }
+    {
         let mut from = 0;
         for _ in 0..FEW {
             match self.offline.first_from(from) {
