@@ -11,9 +11,14 @@ loop-fragment-preserved c =
     let i = c.loop-fragment.fragment-index in
     let m : ℕ → Bool = λ f. nat_eq (get_or c.args.self.now.numbers f 0) c.args.node.value in
     let number = item-number c.all-fragment-items.result i c.fragment-item.result c.all-fragment-items.ensures c.loop-fragment-test.true in
+    let alike : (k : ℕ) → k ≡ i → get_or c.args.self.now.numbers i 0 ≡ get_or c.args.self.now.numbers k 0 = λ k same. ap (λ (n : ℕ). get_or c.args.self.now.numbers n 0) (sym same) in
+    let before = c.loop-fragment.mask.bits in
     elim c.if-self-fragment.branch [
-      | then-self-fragment w ↦ rw w.mask-is (mask-next_true m i c.loop-fragment.mask.bits w.with-mask.result.bits _ number (eq-eqb _ _ (ap (λ (k : ℕ). get_or c.args.self.now.numbers k 0) (sym number) ∙ w.if-self-fragment.true)) c.loop-fragment.invariant w.with-mask.ensures)
-      | else-self-fragment w ↦ rw w.mask-is (mask-next_false m i c.loop-fragment.mask.bits (ne_eqb _ _ (λ e. w.if-self-fragment.false (ap (λ (k : ℕ). get_or c.args.self.now.numbers k 0) number ∙ e))) c.loop-fragment.invariant)
+      | then-self-fragment w ↦
+          rw w.mask-is (mask-next_true m i before w.with-mask.result.bits _ number (eq-eqb _ _ (alike _ number ∙ w.if-self-fragment.true))
+          c.loop-fragment.invariant w.with-mask.ensures)
+      | else-self-fragment w ↦
+          rw w.mask-is (mask-next_false m i before (ne_eqb _ _ (λ e. w.if-self-fragment.false (sym (alike _ number) ∙ e))) c.loop-fragment.invariant)
     ]
 
 pub returns-clause-on : goal.returns-clause-on
