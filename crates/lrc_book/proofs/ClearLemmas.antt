@@ -194,17 +194,24 @@ module _ (st : State) (k : Store) (kept : IsOf st k) (s : StripeNo) (f : Fragmen
       let home = home-kept seat is in
       ap (λ (t : Slots). t.taken seat.node seat.slot) kept.table_is ∙ subst (λ (a : Seat). is_taken (taken_seats st) a.node a.slot ≡ true) home.2 (seat-there k.topology st s f home.0 kept.seated home.1)
 
+  -- with the seat given back, the table is that of the state without the home
+  pub free-kept : (seat : Seat) → (stored_in k.stripes).homes s f.value ≡ Some seat → (table : slots.Table)
+      → slots_of table ≡ with_free (slots_of k.table) seat.node seat.slot → slots_of table ≡ kept_table k.topology (without_home st s f)
+  free-kept seat is table freed =
+      let nodes = k.topology in
+      let home = home-kept seat is in
+      freed ∙ ap (λ (t : Slots). with_free t seat.node seat.slot) kept.table_is
+      ∙ subst (λ (a : Seat). with_free (kept_table nodes st) a.node a.slot ≡ kept_table nodes (without_home st s f)) home.2
+      (clear-table nodes (without_upgrading st) s f home.0 (settled-seated nodes st kept.seated) home.1)
+
   -- with the home cleared and the seat given back, what is kept is that of the state without it
   pub clear-kept : (seat : Seat) → (stored_in k.stripes).homes s f.value ≡ Some seat → (table : slots.Table) (stripes : tables.Table)
       → slots_of table ≡ with_free (slots_of k.table) seat.node seat.slot → stored_in stripes ≡ stored.with_home (stored_in k.stripes) s f None → IsOf (without_home st s f) (record k { table = table; stripes = stripes })
   clear-kept seat is table stripes freed cleared =
-      let nodes = k.topology in
-      let home = home-kept seat is in record {
+      let nodes = k.topology in record {
         known = kept.known;
         seated = homes-seated nodes st (λ g. not (is_of s f.value g)) kept.seated;
-        table_is = freed ∙ ap (λ (t : Slots). with_free t seat.node seat.slot) kept.table_is
-            ∙ subst (λ (a : Seat). with_free (kept_table nodes st) a.node a.slot ≡ kept_table nodes (without_home st s f)) home.2
-            (clear-table nodes (without_upgrading st) s f home.0 (settled-seated nodes st kept.seated) home.1);
+        table_is = free-kept seat is table freed;
         stripes_is = own-spare nodes (without_home st s f) (stored_in stripes) (stored_in k.stripes).spare
             (cleared ∙ ap (λ (t : Stored). stored.with_home t s f None) kept.stripes_is ∙ stored-clear nodes st (stored_in k.stripes).spare s f);
         leases_is = kept.leases_is;

@@ -1,5 +1,5 @@
 -- A lease that is granted, and one that ends.
-use Rattle.std.proofs.Common.{◌≡◌, ◌≢◌, ℕ, ◌&&◌, is_some, IsSomeAnd, lt-ltb, ◌-◌, ◌<◌, Bool, true, false, not, nat_eq, nat_lt, List, [], ◌∷◌, map, filter, find, Option, Some, None, option_map, IsSome, IsTrue, refl, sym, ap, ◌∙◌, subst, inl, inr}
+use Rattle.std.proofs.Common.{◌≡◌, ◌≢◌, ℕ, is_some, IsSomeAnd, lt-ltb, ◌-◌, ◌<◌, Bool, true, false, not, nat_lt, List, [], ◌∷◌, map, filter, find, Option, Some, None, IsSome, IsTrue, refl, sym, ap, ◌∙◌, subst, inl, inr}
 use Rattle.std.specs.List.{All, Contains}
 use Rattle.std.specs.Option.{option_map_or}
 use Rattle.std.proofs.lemmas.Bool.{cases_Bool, eqb-true}
@@ -17,7 +17,6 @@ use Rattle.lrc_slots.specs.Tables as slot_tables
 use Rattle.lrc_slots.specs.Tables.{slots_of}
 use Rattle.lrc_stripes.specs.Stored.{Stored, has_slot, HasNoHome}
 use Rattle.lrc_stripes.specs.Stored as stored
-use Rattle.lrc_stripes.specs.Levels.{home_of}
 use Rattle.lrc_stripes.specs.Tables as tables
 use Rattle.lrc_stripes.specs.Tables.{stored_in}
 use Rattle.lrc_leases.specs.declared.lease.Lease.{Lease}
@@ -29,7 +28,7 @@ use Rattle.lrc_leases.specs.Tables as lease_tables
 use Rattle.lrc_leases.specs.Tables.{leased_in}
 use Rattle.lrc_leases.proofs.ListLemmas.{find-some, is_of-parts, contains-leases_in, leased_of-less, leased_of-append}
 use Rattle.lrc_book.specs.declared.store.Store.{Store}
-use Rattle.lrc_book.specs.States.{State, has_stripe, is_home_of, held_by, taken_seats, lease_of}
+use Rattle.lrc_book.specs.States.{State, has_stripe, held_by, taken_seats, lease_of}
 use Rattle.lrc_book.specs.Leases.{with_lease, without_lease, without_home, moved_in}
 use Rattle.lrc_book.specs.Goodness.{AreSeated, IsStanding}
 use Rattle.lrc_book.specs.Ties.{table_of}
@@ -45,7 +44,7 @@ use Rattle.lrc_book.proofs.SeatingLists.{pairs-unmap}
 use Rattle.lrc_book.proofs.SeatingLemmas.{held-single}
 use Rattle.lrc_book.proofs.LeaseGoodLemmas.{granted-seated, ended-seated, moved-seated}
 use Rattle.lrc_book.proofs.TakenLemmas.{taken-cases, home-seat, target-seat, taken-same, table-more, table-less}
-use Rattle.lrc_book.proofs.StoredLemmas.{find-gone, stored-home, stored-free, own-spare}
+use Rattle.lrc_book.proofs.StoredLemmas.{stored-put, stored-free, own-spare}
 use Rattle.lrc_book.proofs.PlacingLemmas.{chosen-here}
 
 -- what is kept of leases with some room is so with its own
@@ -206,34 +205,28 @@ module _ (st : State) (k : Store) (kept : IsOf st k) (s : StripeNo) (f : Fragmen
 
 -- ---- what is kept when its target becomes the home
 
--- the store k is the one before, and k2 the one with the home cleared
-module _ (st : State) (k k2 : Store) (kept : IsOf st k) (same : k2.topology ≡ k.topology) (s : StripeNo) (f : Fragment) (cleared : IsOf (without_home st s f) k2) (l : Lease) (live : lease_of st s f ≡ Some l) where
-  good : AreSeated k2.topology st
-  good = subst (λ ns. AreSeated ns st) (sym same) kept.seated
+module _ (st : State) (k : Store) (kept : IsOf st k) (s : StripeNo) (f : Fragment) (l : Lease) (live : lease_of st s f ≡ Some l) where
+  pub move-slot : IsTrue (has_slot (stored_in k.stripes).nodes l.target)
+  move-slot = ap (λ (t : Stored). has_slot t.nodes l.target) kept.stripes_is ∙ target-slot k.topology st s f l live kept.seated
 
-  no-home : home_of (without_home st s f).homes s f.value ≡ None
-  no-home = find-gone (λ h. same_stripe h.stripe s && nat_eq h.fragment.value f.value) (λ h. not (is_home_of s f h)) (λ h hit. ap not hit) st.homes
+  pub move-unused : HasNoHome (stored_in k.stripes) l.target
+  move-unused = subst (λ (t : Stored). HasNoHome t l.target) (sym kept.stripes_is)
+      (stored-free k.topology st (stored_in k.stripes).spare l.target (home-apart k.topology st s f l live kept.seated))
 
-  pub move-homeless : (stored_in k2.stripes).homes s f.value ≡ None
-  move-homeless = ap (λ (t : Stored). t.homes s f.value) cleared.stripes_is ∙ ap (option_map (λ (h : Held). h.seat)) no-home
-
-  pub move-slot : IsTrue (has_slot (stored_in k2.stripes).nodes l.target)
-  move-slot = ap (λ (t : Stored). has_slot t.nodes l.target) cleared.stripes_is ∙ target-slot k2.topology st s f l live good
-
-  pub move-unused : HasNoHome (stored_in k2.stripes) l.target
-  move-unused = subst (λ (t : Stored). HasNoHome t l.target) (sym cleared.stripes_is)
-      (stored-free k2.topology (without_home st s f) (stored_in k2.stripes).spare l.target (λ h here. home-apart k2.topology st s f l live good h (filter-member (λ g. not (is_home_of s f g)) st.homes h here).0))
-
-  pub move-kept : (stripes : tables.Table) (leases : lease_tables.Table) → stored_in stripes ≡ stored.with_home (stored_in k2.stripes) s f (Some l.target)
-      → leased_in leases ≡ with_spare (leased.without_lease (leased_in k2.leases) s f) (leased_in leases).spare → IsOf (moved_in st s f l.target) (record k2 { stripes = stripes; leases = leases })
-  move-kept stripes leases set out = record {
-    known = cleared.known;
-    seated = moved-seated k2.topology st s f l live good;
-    table_is = cleared.table_is ∙ move-table k2.topology (without_upgrading st) s f l live (settled-seated k2.topology st good);
-    stripes_is = own-spare k2.topology (moved_in st s f l.target) (stored_in stripes) (stored_in k2.stripes).spare
-        (set ∙ ap (λ (t : Stored). stored.with_home t s f (Some l.target)) cleared.stripes_is ∙ stored-home k2.topology (without_home st s f) (stored_in k2.stripes).spare s f l.target no-home);
-    leases_is = leases-out (without_home st s f) k2 cleared s f leases out;
-    modes_are = same-modes (without_home st s f) (moved_in st s f l.target) k2.modes refl cleared.modes_are;
+  -- the table is that without the former home
+  pub move-kept : (table : slot_tables.Table) (stripes : tables.Table) (leases : lease_tables.Table)
+      → slots_of table ≡ kept_table k.topology (without_home st s f) → stored_in stripes ≡ stored.with_home (stored_in k.stripes) s f (Some l.target)
+      → leased_in leases ≡ with_spare (leased.without_lease (leased_in k.leases) s f) (leased_in leases).spare
+      → IsOf (moved_in st s f l.target) (record k { table = table; stripes = stripes; leases = leases })
+  move-kept table stripes leases freed set out = record {
+    known = kept.known;
+    seated = moved-seated k.topology st s f l live kept.seated;
+    table_is = freed ∙ move-table k.topology (without_upgrading st) s f l live (settled-seated k.topology st kept.seated);
+    stripes_is = own-spare k.topology (moved_in st s f l.target) (stored_in stripes) (stored_in k.stripes).spare
+        (set ∙ ap (λ (t : Stored). stored.with_home t s f (Some l.target)) kept.stripes_is
+        ∙ stored-put k.topology st (stored_in k.stripes).spare s f l.target);
+    leases_is = leases-out st k kept s f leases out;
+    modes_are = same-modes st (moved_in st s f l.target) k.modes refl kept.modes_are;
   }
 
 -- ---- what is kept when one is granted

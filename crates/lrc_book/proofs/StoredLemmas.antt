@@ -199,6 +199,26 @@ module _ (nodes : List NodeInfo) (st : State) (spare : ℕ) (s : StripeNo) where
           ∙ ap (λ v. not (eqb r.value s.value && eqb v f.value)) (eqb-true h.fragment.value g parts.1)
           ∙ ap (λ b. not (b && eqb g f.value)) (test-sym r.value s.value) ∙ ap (λ b. not (eqb s.value r.value && b)) (test-sym g f.value)
 
+-- a home that is set twice is as it was set last
+set-twice : (t : Stored) (s : StripeNo) (f : Fragment) (first last : Option Seat)
+    → stored.with_home t s f last ≡ stored.with_home (stored.with_home t s f first) s f last
+set-twice t s f first last = same_homes t _ _ (λ r g. elim (cases_Bool (eqb s.value r.value && eqb f.value g)) [
+  | inl same ↦ rw same refl
+  | inr other ↦ rw other refl
+])
+
+-- where a fragment's home was taken away, it has none
+pub gone-home : (st : State) (s : StripeNo) (f : Fragment) → home_of (without_home st s f).homes s f.value ≡ None
+gone-home st s f = find-gone (is_of s f.value) (λ h. not (is_of s f.value h)) (λ h hit. ap not hit) st.homes
+
+-- a home put in place of another
+pub stored-put : (nodes : List NodeInfo) (st : State) (spare : ℕ) (s : StripeNo) (f : Fragment) (seat : Seat)
+    → stored.with_home (stored_of nodes st spare) s f (Some seat) ≡ stored_of nodes (with_home (without_home st s f) s f seat) spare
+stored-put nodes st spare s f seat =
+    set-twice (stored_of nodes st spare) s f None (Some seat)
+    ∙ ap (λ (t : Stored). stored.with_home t s f (Some seat)) (stored-clear nodes st spare s f)
+    ∙ stored-home nodes (without_home st s f) spare s f seat (gone-home st s f)
+
 -- ---- free seats
 
 module _ (nodes : List NodeInfo) (st : State) (spare : ℕ) (seat : Seat) where

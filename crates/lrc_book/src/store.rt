@@ -1,9 +1,10 @@
 ghost use Rattle.std.specs.Prelude.{◌≡◌, true, IsTrue, IfOk, IfErr, OnOk, IsOk};
 ghost use Rattle.lrc_code.specs.declared.fault.Fault.TheVariants as fault;
+ghost use Rattle.lrc_slots.specs.Tables.{slots_of};
 ghost use Rattle.lrc_stripes.specs.Tables.{stored_in};
 ghost use Rattle.lrc_book.specs.States.{State, opening, online_at};
 ghost use Rattle.lrc_book.specs.Leases.{without_lease, without_home};
-ghost use Rattle.lrc_book.specs.Stores.{IsOf, IsOfBut, IsTied, AreModesOf, has_room};
+ghost use Rattle.lrc_book.specs.Stores.{IsOf, IsOfBut, IsTied, AreModesOf, kept_table, has_room};
 
 use crate::Mode;
 use crate::modes::Modes;
@@ -79,6 +80,18 @@ impl Store {
         if let Some(seat) = self.stripes.home(stripe, fragment) {
             self.table.free(seat.node, seat.slot);
             self.stripes.clear_home(stripe, fragment);
+        }
+    }
+
+    /// Gives the seat of a fragment's home back, if it has one. The home is left to be replaced.
+    pub(crate) fn free_home(&mut self, stripe: StripeNo, fragment: Fragment)
+        requires tied { IsTied self.old }
+        requires there { IsTrue ((stored_in self.old.stripes).stripes stripe) }
+        ensures rest { self.new ≡ record self.old { table = self.new.table } }
+        ensures table { (st : State) → IsOf st self.old → slots_of self.new.table ≡ kept_table self.old.topology (without_home st stripe fragment) }
+    {
+        if let Some(seat) = self.stripes.home(stripe, fragment) {
+            self.table.free(seat.node, seat.slot);
         }
     }
 

@@ -165,8 +165,8 @@ impl Store {
         }
     }
 
-    /// Ends the lease of a fragment: its home, if it has one, is cleared and the seat given back, and the target,
-    /// whose slot stays taken, becomes its home.
+    /// Ends the lease of a fragment: the seat of its home, if it has one, is given back, and the target, whose slot stays
+    /// taken, becomes its home.
     pub(crate) fn move_in(&mut self, stripe: StripeNo, fragment: Fragment)
         ghost st: { State }
         requires kept { IsOf st self.old }
@@ -175,9 +175,9 @@ impl Store {
         ensures nodes { self.new.topology ≡ self.old.topology }
         ensures kept { IsOf (with_done st stripe fragment (lease_of st stripe fragment)) self.new }
     {
-        self.clear_home(stripe, fragment);
+        self.free_home(stripe, fragment);
         if let Some(lease) = self.leases.remove(stripe, fragment) {
-            self.stripes.set_home(stripe, fragment, lease.target);
+            self.stripes.put_home(stripe, fragment, lease.target);
         }
     }
 
