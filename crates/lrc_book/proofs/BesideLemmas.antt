@@ -1,5 +1,5 @@
 -- The seats of a stripe's fragments, gathered fragment by fragment: the home of each, and its lease's target.
-use Rattle.std.proofs.Common.{◌≡◌, ℕ, ◌+◌, ◌<◌, true, if◌then◌else◌, IsTrue, IsSome, eqb, List, [], ◌∷◌, ◌++◌, map, length, take, get_or, Option, Some, None, option_map, refl, sym, ap, ◌∙◌, subst, inl, inr, append_assoc, append-nil}
+use Rattle.std.proofs.Common.{◌≡◌, ℕ, ◌+◌, ◌<◌, true, if◌then◌else◌, IsTrue, IsSome, eqb, List, [], ◌∷◌, ◌++◌, map, length, take, get_or, Option, Some, None, option_map, refl, sym, ap, ap₂, ◌∙◌, subst, inl, inr, append_assoc, append-nil}
 use Rattle.std.specs.List.{Contains}
 use Rattle.std.proofs.lemmas.Bool.{eqb-true, and_parts}
 use Rattle.std.proofs.lemmas.List.{take_more, get_or-map}
@@ -13,6 +13,7 @@ use Rattle.lrc_code.proofs.NumbersLemmas.{equal_stripes, equal_fragments}
 use Rattle.lrc_topology.specs.declared.NodeInfo.{NodeInfo}
 use Rattle.lrc_topology.specs.declared.seat.Seat.{Seat}
 use Rattle.lrc_topology.specs.declared.seat.Held.{Held}
+use Rattle.lrc_slots.specs.Barred.{Barred}
 use Rattle.lrc_stripes.specs.Levels.{home_of, homes_of, homes_if}
 use Rattle.lrc_stripes.specs.Stored.{Stored, homes_shown}
 use Rattle.lrc_leases.specs.declared.lease.Lease.{Lease}
@@ -122,6 +123,15 @@ module _ (s : StripeNo) (seats : Fragment → Option Seat) where
         ∙ ap (bars_in nodes Wide s f) (append_assoc before so_far one ∙ ap (λ (hs : List Held). before ++ hs)
         (ap (λ (hs : List Held). so_far ++ hs) (sym (append-nil one))
         ∙ sym (ap (held_all s seats) (take_more fs i d within) ∙ held_all-append (take i fs) (g ∷ []))))
+
+    -- one fragment more of all that there are
+    pub held_all-next : (b : Barred) (g : Fragment) (o : Option Seat) → b ≡ bars_in nodes Wide s f (before ++ held_all s seats (take g.value (fragments Wide)))
+        → o ≡ seats g → with_seat nodes s f b g o ≡ bars_in nodes Wide s f (before ++ held_all s seats (take (g.value + 1) (fragments Wide)))
+    held_all-next b g o are is =
+        let so_far = bars_in nodes Wide s f (before ++ held_all s seats (take g.value (fragments Wide))) in
+        ap₂ (λ (c : Barred) (a : Option Seat). with_seat nodes s f c g a) are is
+        ∙ ap (λ (h : Fragment). with_seat nodes s f so_far h (seats h)) (sym (fragment-at g))
+        ∙ held_all-more (fragments Wide) g.value g g.in_range
 
 -- lists with the same seats of the stripe bar the same beside others
 bars-beside : (nodes : List NodeInfo) (s : StripeNo) (f : Fragment) (before xs ys : List Held)

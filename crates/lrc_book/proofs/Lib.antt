@@ -44,6 +44,7 @@ pub mod PlacingLemmas
 pub mod ShownLemmas
 pub mod EndLemmas
 pub mod BesideLemmas
+pub mod KnownSeatLemmas
 pub mod LeaseToldLemmas
 pub mod RepairLemmas
 pub mod RisingLemmas

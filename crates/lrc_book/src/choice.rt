@@ -1,6 +1,6 @@
 //! The choice of a seat, read off the slot table and the seats of the stripe's other fragments.
 
-ghost use Rattle.std.specs.Prelude.{◌≡◌, ◌++◌, ◌∷◌, [], true, false, IsTrue, IfSome, List, Some, None, map, option_map, is_some};
+ghost use Rattle.std.specs.Prelude.{◌≡◌, ◌++◌, ◌∷◌, [], true, false, IsTrue, IfSome, IsSome, List, Some, None, map, option_map, is_some};
 ghost use Rattle.std.specs.List.{All};
 ghost use Rattle.lrc_code.specs.declared.numbers.StripeNo.{StripeNo};
 ghost use Rattle.lrc_code.specs.declared.numbers.Fragment.{Fragment};
@@ -17,8 +17,8 @@ ghost use Rattle.lrc_leases.specs.Leased.{leased_at};
 ghost use Rattle.lrc_leases.specs.Tables.{leased_in};
 ghost use Rattle.lrc_book.specs.States.{State, has_stripe, held_by};
 ghost use Rattle.lrc_book.specs.Placement.{chosen, is_beside};
-ghost use Rattle.lrc_book.specs.Ties.{table_of, bars_of, bars_in, next_seat, with_homes};
-ghost use Rattle.lrc_book.specs.Stores.{IsOf, closed, with_seat};
+ghost use Rattle.lrc_book.specs.Ties.{table_of, bars_in, next_seat, with_homes};
+ghost use Rattle.lrc_book.specs.Stores.{IsOf, IsTied, closed, with_seat};
 ghost use Rattle.lrc_book.specs.Planning.{AreBarsOf, open_seat};
 
 use crate::Seat;
@@ -73,10 +73,13 @@ impl Store {
 
     /// The seat that the rule chooses for a fragment of a stripe that is there.
     pub(crate) fn repair_seat(&self, stripe: StripeNo, fragment: Fragment) -> Option<Seat>
-        requires { IsTrue ((stored_in self.now.stripes).stripes stripe) }
+        requires tied { IsTied self.now }
+        requires there { IsTrue ((stored_in self.now.stripes).stripes stripe) }
         ensures { (st : State) → IsOf st self.now → result ≡ chosen self.now.topology st stripe fragment }
     {
-        let mut bars = self.bars_beside(stripe, fragment);
+        let mut bars = Taken::new();
+        self.bar_homes(&mut bars, stripe, fragment);
+        self.bar_targets(&mut bars, stripe, fragment);
         self.bar_upgrading(&mut bars);
         self.next_beside(&bars)
     }
@@ -101,33 +104,24 @@ impl Store {
         })
     }
 
-    /// The domains that the homes and the leases' targets of a stripe's other fragments bar for a fragment.
-    fn bars_beside(&self, stripe: StripeNo, fragment: Fragment) -> Taken
-        requires { IsTrue ((stored_in self.now.stripes).stripes stripe) }
-        ensures { (st : State) → IsOf st self.now → barred result ≡ bars_of self.now.topology st stripe fragment }
-    {
-        let mut bars = Taken::new();
-        self.bar_homes(&mut bars, stripe, fragment);
-        self.bar_targets(&mut bars, stripe, fragment);
-        bars
-    }
-
     /// Bars the domains of the homes of a stripe's other fragments for a fragment.
     fn bar_homes(&self, bars: &mut Taken, stripe: StripeNo, fragment: Fragment)
-        requires { IsTrue ((stored_in self.now.stripes).stripes stripe) }
+        requires tied { IsTied self.now }
+        requires there { IsTrue ((stored_in self.now.stripes).stripes stripe) }
         ensures { (st : State) (seats : List Held) → IsOf st self.now → barred bars.old ≡ bars_in self.now.topology Wide stripe fragment seats
             → barred bars.new ≡ bars_in self.now.topology Wide stripe fragment (seats ++ st.homes) }
     {
-        let homes = self.stripes.homes(stripe).unwrap();
         let mates = mates_of(fragment);
-        for other in Fragment::all().iter() {
-            let home = homes[other.value as usize];
-            self.bar_seat(bars, fragment, mates, *other, home);
+        for number in 0..16u8 {
+            let other = Fragment { value: number };
+            let home = self.stripes.home(stripe, other);
+            self.bar_seat(bars, fragment, mates, other, home);
         }
     }
 
     /// Bars the domains of the targets of the leases of a stripe's other fragments for a fragment.
     fn bar_targets(&self, bars: &mut Taken, stripe: StripeNo, fragment: Fragment)
+        requires { IsTied self.now }
         ensures { (st : State) (seats : List Held) → IsOf st self.now → barred bars.old ≡ bars_in self.now.topology Wide stripe fragment seats
             → barred bars.new ≡ bars_in self.now.topology Wide stripe fragment (seats ++ map held_by st.leases) }
     {
@@ -155,7 +149,7 @@ impl Store {
     }
 
     /// Bars the domains of a seat of the stripe for a fragment with these mates, if it is one of another: its fault domain,
-    /// and its upgrade domain where the other fragment is a mate.
+    /// and its upgrade domain where the other fragment is a mate. Its node is one of the store's.
     fn bar_seat(
         &self,
         bars: &mut Taken,
@@ -164,7 +158,8 @@ impl Store {
         other: Fragment,
         seat: Option<Seat>,
     )
-        requires { bits_set mates.bits other.value ≡ share_class Wide fragment other }
+        requires mate { bits_set mates.bits other.value ≡ share_class Wide fragment other }
+        requires known { IfSome seat (λ s. IsSome (node_at (slots_of self.now.table).nodes s.node)) }
         ensures { (st : State) (stripe : StripeNo) → IsOf st self.now
             → barred bars.new ≡ with_seat self.now.topology stripe fragment (barred bars.old) other seat }
     {
@@ -173,9 +168,9 @@ impl Store {
         }
         if let Some(seat) = seat {
             if mates.contains(other) {
-                self.table.bar_domains_of(bars, seat.node);
+                self.table.bar_domains_of_known(bars, seat.node);
             } else {
-                self.table.bar_fault_of(bars, seat.node);
+                self.table.bar_fault_of_known(bars, seat.node);
             }
         }
     }

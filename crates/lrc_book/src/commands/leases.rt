@@ -11,7 +11,7 @@ ghost use Rattle.lrc_book.specs.Answers.{told};
 ghost use Rattle.lrc_book.specs.Repairs as repairs;
 ghost use Rattle.lrc_book.specs.Placement.{chosen};
 ghost use Rattle.lrc_book.specs.Changes.{with_done};
-ghost use Rattle.lrc_book.specs.Stores.{IsOf, IsGrant, AreGrantsOf, AreFew, has_room, repair_of};
+ghost use Rattle.lrc_book.specs.Stores.{IsOf, IsTied, IsGrant, AreGrantsOf, AreFew, has_room, repair_of};
 
 use crate::answer::Answer;
 use crate::repair::Repair;
@@ -28,7 +28,8 @@ impl Store {
         stripe: StripeNo,
         fragment: Fragment,
     ) -> Answer
-        requires { AreFew counts.now }
+        requires tied { IsTied self.now }
+        requires few { AreFew counts.now }
         ensures { (st : State) (past : List Entry) → IsOf st self.now → AreGrantsOf past counts.now
             → told result ≡ (lease_outcome self.now.topology past st session stripe fragment).0 }
     {
@@ -84,6 +85,7 @@ impl Store {
         fragment: Fragment,
         kind: Kind,
     ) -> Answer
+        requires tied { IsTied self.now }
         requires few { AreFew counts.now }
         requires there { IsTrue ((stored_in self.now.stripes).stripes stripe) }
         ensures { (st : State) (past : List Entry) → IsOf st self.now → AreGrantsOf past counts.now → kind ≡ repairs.kind self.now.topology st stripe fragment

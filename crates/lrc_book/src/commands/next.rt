@@ -15,7 +15,7 @@ ghost use Rattle.lrc_book.specs.Leases.{next_outcome};
 ghost use Rattle.lrc_book.specs.Answers.{told};
 ghost use Rattle.lrc_book.specs.Steps.{step};
 ghost use Rattle.lrc_book.specs.Changes.{changed_by};
-ghost use Rattle.lrc_book.specs.Stores.{IsOf, AreGrantsOf, AreFew};
+ghost use Rattle.lrc_book.specs.Stores.{IsOf, IsTied, AreGrantsOf, AreFew};
 ghost use Rattle.lrc_book.specs.Repairing.{is_waiting, fragment_of, IsRepair, IsFront, HasFront, HaveGrantable};
 
 use crate::Command;
@@ -78,7 +78,8 @@ impl Store {
 
     /// The repair of the first fragment of a stripe that is there whose lease would be granted.
     fn first_repair(&self, stripe: StripeNo) -> Option<Repair>
-        requires { IsTrue ((stored_in self.now.stripes).stripes stripe) }
+        requires tied { IsTied self.now }
+        requires there { IsTrue ((stored_in self.now.stripes).stripes stripe) }
         ensures first { (st : State) → IsOf st self.now → option_map fragment_of result
             ≡ option_map (λ f. (stripe, f)) (find (λ f. is_grantable self.now.topology st (stripe, f)) (fragments Wide)) }
         ensures repair { IfSome result (λ r. (st : State) → IsOf st self.now → IsRepair self.now.topology st r) }
@@ -100,6 +101,7 @@ impl Store {
     /// The repair of a fragment of a stripe that is there and whose waiting fragments are these, if its lease would be
     /// granted.
     fn repair(&self, waiting: LossMask, stripe: StripeNo, fragment: Fragment) -> Option<Repair>
+        requires tied { IsTied self.now }
         requires there { IsTrue ((stored_in self.now.stripes).stripes stripe) }
         requires waiting { (st : State) → IsOf st self.now → bits_set waiting.bits fragment.value ≡ is_waiting self.now.topology st stripe fragment }
         ensures grantable { (st : State) → IsOf st self.now → is_some result ≡ is_grantable self.now.topology st (stripe, fragment) }

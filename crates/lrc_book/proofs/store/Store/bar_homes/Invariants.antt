@@ -9,10 +9,8 @@ use Rattle.lrc_book.specs.Stores.{IsOf}
 use Rattle.lrc_book.proofs.BesideLemmas.{held_all, home_at}
 use Rattle.lrc_book.proofs.store.Store.bar_homes.Given as goal
 
-abbrev pub invariant-loop-other : goal.invariant-loop-other
-invariant-loop-other l = record {
-  barred_are : (st : State) (seats : List Held) → IsOf st l.self
-      → barred l.initial.bars ≡ bars_in l.self.topology Wide l.fn.stripe l.fragment seats
-      → barred l.bars ≡ bars_in l.self.topology Wide l.fn.stripe l.fragment (seats ++ held_all l.fn.stripe (home_at st l.fn.stripe) (take l.other-index l.other-items));
-  all : l.other-items ≡ fragments Wide;
-}
+-- the homes of the fragments so far are barred
+abbrev pub invariant-loop-number : goal.invariant-loop-number
+invariant-loop-number l = (st : State) (seats : List Held) → IsOf st l.self
+    → barred l.initial.bars ≡ bars_in l.self.topology Wide l.stripe l.fragment seats
+    → barred l.bars ≡ bars_in l.self.topology Wide l.stripe l.fragment (seats ++ held_all l.stripe (home_at st l.stripe) (take l.number (fragments Wide)))

@@ -1,4 +1,4 @@
-use Rattle.std.proofs.Common.{true, false, List, Option, sym, ap, ◌∙◌}
+use Rattle.std.proofs.Common.{true, false, List, Option, IfSome, sym, ap, subst, ◌∙◌}
 use Rattle.lrc_topology.specs.declared.NodeInfo.{NodeInfo}
 use Rattle.lrc_topology.specs.declared.seat.Seat.{Seat}
 use Rattle.lrc_slots.specs.Slots.{Slots}
@@ -6,7 +6,14 @@ use Rattle.lrc_slots.specs.Barred.{with_fault_of, with_upgrade_of}
 use Rattle.lrc_slots.specs.Tables.{barred}
 use Rattle.lrc_book.specs.Stores.{with_seat}
 use Rattle.lrc_book.proofs.BarLemmas.{seat-own, seat-domains}
+use Rattle.lrc_book.proofs.KnownSeatLemmas.{IsKnown}
 use Rattle.lrc_book.proofs.store.Store.bar_seat.Goals as goal
+
+pub bar_domains_of_known-requires : goal.bar_domains_of_known-requires
+bar_domains_of_known-requires c = subst (λ (o : Option Seat). IfSome o (IsKnown c.args.self.now)) c.in-Some.is c.requires.known
+
+pub bar_fault_of_known-requires : goal.bar_fault_of_known-requires
+bar_fault_of_known-requires c = subst (λ (o : Option Seat). IfSome o (IsKnown c.args.self.now)) c.in-Some.is c.requires.known
 
 pub returns-then-eq : goal.returns-then-eq
 returns-then-eq c = λ st stripe kept.
@@ -18,10 +25,10 @@ returns-then-contains c = λ st stripe kept.
     let seat = c.in-Some.seat in
     let before = barred c.args.bars.now in
     let same = ap (λ (t : Slots). t.nodes) kept.table_is in
-    c.bar_domains_of.ensures
+    c.bar_domains_of_known.ensures
     ∙ ap (λ (ns : List NodeInfo). with_upgrade_of ns (with_fault_of ns before seat.node) seat.node) same
     ∙ seat-domains nodes stripe c.args.fragment c.args.other before seat (sym c.eq.ensures ∙ c.if-eq.false) true
-    (sym c.if-contains.true ∙ c.contains.ensures ∙ c.requires)
+    (sym c.if-contains.true ∙ c.contains.ensures ∙ c.requires.mate)
     ∙ ap (λ (o : Option Seat). with_seat nodes stripe c.args.fragment before c.args.other o) (sym c.in-Some.is)
 
 pub returns-else-contains : goal.returns-else-contains
@@ -30,8 +37,8 @@ returns-else-contains c = λ st stripe kept.
     let seat = c.in-Some.seat in
     let before = barred c.args.bars.now in
     let same = ap (λ (t : Slots). t.nodes) kept.table_is in
-    c.bar_fault_of.ensures
+    c.bar_fault_of_known.ensures
     ∙ ap (λ (ns : List NodeInfo). with_fault_of ns before seat.node) same
     ∙ seat-domains nodes stripe c.args.fragment c.args.other before seat (sym c.eq.ensures ∙ c.if-eq.false) false
-    (sym c.if-contains.false ∙ c.contains.ensures ∙ c.requires)
+    (sym c.if-contains.false ∙ c.contains.ensures ∙ c.requires.mate)
     ∙ ap (λ (o : Option Seat). with_seat nodes stripe c.args.fragment before c.args.other o) (sym c.in-Some.is)

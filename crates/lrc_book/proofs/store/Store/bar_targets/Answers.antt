@@ -1,4 +1,4 @@
-use Rattle.std.proofs.Common.{◌≡◌, ◌++◌, List, Option, take, get_or, length, option_map, append-nil, ap, ap₂, refl, sym, arith, ◌∙◌}
+use Rattle.std.proofs.Common.{◌≡◌, ◌++◌, List, Option, take, get_or, length, option_map, append-nil, IfSome, ap, ap₂, refl, sym, subst, arith, ◌∙◌}
 use Rattle.std.proofs.lemmas.List.{take_all}
 use Rattle.lrc_code.specs.declared.codes.Code.TheVariants.{Wide}
 use Rattle.lrc_code.specs.declared.numbers.Fragment.{Fragment}
@@ -11,6 +11,7 @@ use Rattle.lrc_book.specs.Stores.{with_seat}
 use Rattle.lrc_leases.specs.declared.lease.Lease.{Lease}
 use Rattle.lrc_book.proofs.EndLemmas.{lease-kept, none-leased}
 use Rattle.lrc_book.proofs.BesideLemmas.{held_all, target_at, held_all-none, held_all-more, targets-all}
+use Rattle.lrc_book.proofs.KnownSeatLemmas.{IsKnown, target-known}
 use Rattle.lrc_book.proofs.store.Store.bar_targets.Goals as goal
 
 pub returns-then-bits-eq0 : goal.returns-then-bits-eq0
@@ -23,6 +24,14 @@ returns-then-bits-eq0 c = λ st seats kept are.
     ∙ ap (λ (hs : List Held). seats ++ hs)
     (sym (held_all-none s (target_at st s) (λ f. ap (option_map (λ (l : Lease). l.target)) (none f)) (fragments Wide))))
     ∙ targets-all nodes st s kept.seated c.args.fragment seats
+
+pub bar_seat-requires : goal.bar_seat-requires
+bar_seat-requires c =
+    let other = get_or c.all.result c.loop-other.other-index c.other-item.result in record {
+      mate = c.mates_of-mates.ensures other;
+      known = subst (λ (o : Option Seat). IfSome o (IsKnown c.args.self.now)) (sym c.target-target.ensures)
+          (target-known c.requires.0 c.args.self.now c.requires.1 c.args.stripe other _ refl);
+    }
 
 pub loop-other-init : goal.loop-other-init
 loop-other-init c = record {

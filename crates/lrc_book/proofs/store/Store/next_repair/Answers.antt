@@ -35,7 +35,7 @@ loop-stripe-init c =
 pub first_repair-requires : goal.first_repair-requires
 first_repair-requires c =
     let there = subst (All (λ s. IsTrue ((stored_in c.args.self.now.stripes).stripes s))) c.in-Some.ensures.steps c.loop-stripe.invariant.0 in
-    there 0 c.in-Some.stripe (omega (arith))
+    record { tied = (c.requires.0, c.requires.1); there = there 0 c.in-Some.stripe (omega (arith)) }
 
 pub returns-in-Some-first_repair-clause-first : goal.returns-in-Some-first_repair-clause-first
 returns-in-Some-first_repair-clause-first c = λ st kept ahead.

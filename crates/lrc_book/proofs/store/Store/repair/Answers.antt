@@ -1,4 +1,5 @@
-use Rattle.std.proofs.Common.{sym, ◌∙◌}
+use Rattle.std.proofs.Common.{sym, ap, ◌∙◌}
+use Rattle.lrc_stripes.specs.Stored.{Stored}
 use Rattle.lrc_book.proofs.NextRepairLemmas.{not-waiting, beyond-repair, without-seat, with-seat}
 use Rattle.lrc_book.proofs.store.Store.repair.Goals as goal
 
@@ -21,3 +22,11 @@ pub returns-clause-grantable : goal.returns-clause-grantable
 returns-clause-grantable c = λ st kept.
     with-seat c.args.self.now.topology st c.args.stripe c.args.fragment c.in_ok-kind.kind c.in_ok-target.target
     (sym (c.contains.ensures ∙ c.requires.waiting st kept) ∙ c.if-not-contains.false) (sym (c.in_ok-kind.ensures st kept)) (sym (c.in_ok-target.ensures st kept))
+
+pub returns-clause-repair : goal.returns-clause-repair
+returns-clause-repair c = λ st kept. record {
+  there = sym (ap (λ (x : Stored). x.stripes c.args.stripe) kept.stripes_is) ∙ c.requires.there;
+  waiting = sym (c.contains.ensures ∙ c.requires.waiting st kept) ∙ c.if-not-contains.false;
+  kind_is = sym (c.in_ok-kind.ensures st kept);
+  target_is = sym (c.in_ok-target.ensures st kept);
+}
