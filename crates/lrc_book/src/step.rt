@@ -284,8 +284,8 @@ impl Store {
         match (*command, answer) {
             (Command::Place(stripe), Answer::Placed(seats)) => self.place(stripe, &**seats),
             (Command::Drop(stripe), Answer::Dropped) => self.drop_stripe(stripe),
-            (Command::Lease(_, _), Answer::Granted(lease, _)) => self.grant(*lease),
-            (Command::Next, Answer::Granted(lease, _)) => self.grant(*lease),
+            (Command::Lease(_, _), Answer::Granted(lease, _)) => self.grant(lease),
+            (Command::Next, Answer::Granted(lease, _)) => self.grant(lease),
             (Command::Done(stripe, fragment, _), Answer::Ended) => self.move_in(stripe, fragment),
             (Command::Abandon(stripe, fragment, _), Answer::Ended) => {
                 self.end_lease(stripe, fragment)

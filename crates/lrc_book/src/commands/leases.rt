@@ -106,16 +106,16 @@ impl Store {
     }
 
     /// Adds the lease of a fragment that has none, on the seat that is chosen for it.
-    pub(crate) fn grant(&mut self, lease: Lease)
+    pub(crate) fn grant(&mut self, lease: &Lease)
         ghost st: { State }
         requires kept { IsOf st self.old }
         requires room { has_room self.old ≡ true }
-        requires told { IsGrant self.old.topology st lease }
+        requires told { IsGrant self.old.topology st lease.now }
         ensures nodes { self.new.topology ≡ self.old.topology }
-        ensures kept { IsOf (with_lease st lease) self.new }
+        ensures kept { IsOf (with_lease st lease.now) self.new }
     {
         self.table.take_slot(lease.target.node, lease.target.slot);
-        self.leases.add(lease);
+        self.leases.add(*lease);
     }
 
     #[tactic(auto, unfolding(crate::specs::Leases::done_outcome))]
