@@ -1,5 +1,5 @@
 -- A command's line in front of a text.
-use Rattle.std.proofs.Common.{◌≡◌, ◌≢◌, ℕ, ◌+◌, ◌^◌, ◌<◌, lit≤, true, false, not, nat_eq, Some, List, [], ◌∷◌, ◌++◌, length, get_or, take, drop, codes, decimal, refl, sym, ap, ◌∙◌, arith, length-take}
+use Rattle.std.proofs.Common.{◌≡◌, ◌≢◌, ℕ, ◌+◌, ◌^◌, ◌<◌, ◌≤◌, lit≤, true, false, not, nat_eq, Some, List, [], ◌∷◌, ◌++◌, length, get_or, take, drop, codes, decimal, refl, sym, ap, ◌∙◌, arith, length-take}
 use borrow.Author.Tests.{ne_eqb}
 use Rattle.std.specs.Borrow.{Bor}
 use Rattle.std.specs.List.{All, list_all}
@@ -7,6 +7,7 @@ use Rattle.std.specs.Char.{is_ascii_digit}
 use Rattle.std.specs.Str.Parse.{digits_value}
 use Rattle.std.proofs.lemmas.Bool.Decides.{nat_tests}
 use Rattle.std.proofs.lemmas.Fmt.{digits_decimal}
+use Rattle.std.proofs.lemmas.Str.Parse.{digits_value_short}
 use Rattle.std.proofs.lemmas.List.{get_or-take, take-append-drop, drop_more}
 use Rattle.std.proofs.lemmas.List.Elements.{All-append}
 use Rattle.std.proofs.lemmas.List.Sums.{AllPass-from_list_all}
@@ -30,6 +31,15 @@ front_number text at end within some here digits first small =
     sym (take-append-drop at text)
     ∙ ap (λ w. w ++ drop at text) (decimal-number word numeral small)
     ∙ ap (λ t. decimal (digits_value 10 word) ++ t) (drop_more text at 0 within ∙ ap (λ b. b ∷ drop (at + 1) text) here)
+
+-- at most ten digits write a number below this
+pub few_digits :
+    (text : List ℕ) (at most number : ℕ) → at ≤ most → (most ≤ 10) × (most < length text) → list_all is_ascii_digit (take at text) ≡ true
+    → number ≡ digits_value 10 (take at text) → number < 10 ^ 10
+few_digits text at most number few within digits value =
+    let long : length (take at text) ≤ 10 = omega (arith, length-take at text, few, within.0, within.1) in
+    let short = digits_value_short own (take at text) 10 digits long in
+    omega (arith, short, value)
 
 -- ---- no end of a line stands in the line of a command
 

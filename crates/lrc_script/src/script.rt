@@ -6,7 +6,7 @@ ghost use Rattle.lrc_script.specs.Cuts.{words_behind, IsReadAs, IsAdded, IsLineR
 ghost use Rattle.lrc_script.specs.declared.script.Cause.TheVariants as causes;
 
 use crate::cut::{cut_line, cut_word, is_word};
-use crate::front::command_in_front;
+use crate::front::{behind, command_in_front};
 use lrc_book::Command;
 use lrc_code::{Fragment, NodeNo, StripeNo, UpgradeNo};
 use std::alloc::{AllocError, AllocFailed, Global};
@@ -83,12 +83,19 @@ pub fn parse_script(
     let mut rest = text;
     let mut number = first_line;
     loop {
-        let behind = match command_in_front(rest) {
-            Some((command, behind)) => {
-                commands.push(command)?;
+        // Most commands of workers are this one, and it has no number.
+        let behind = match behind(rest, b"next\n") {
+            Some(behind) => {
+                commands.push(Command::Next)?;
                 Some(behind)
             }
-            None => push_first_line(&mut commands, rest, number)?,
+            None => match command_in_front(rest) {
+                Some((command, behind)) => {
+                    commands.push(command)?;
+                    Some(behind)
+                }
+                None => push_first_line(&mut commands, rest, number)?,
+            },
         };
         let Some(next) = behind else {
             return Ok(commands);

@@ -1,4 +1,4 @@
-use Rattle.std.proofs.Common.{◌≡◌, ◌<◌, ◌≤◌, ◌-◌, true, length, take}
+use Rattle.std.proofs.Common.{◌≡◌, ◌≤◌, ◌-◌, true, take}
 use Rattle.std.specs.Char.{is_ascii_digit}
 use Rattle.std.specs.List.{list_all}
 use Rattle.std.specs.Str.Parse.{digits_value}
@@ -6,11 +6,10 @@ use Rattle.lrc_script.proofs.front.number_in_front.Given as goal
 
 abbrev pub invariant-loop-at : goal.invariant-loop-at
 invariant-loop-at l = record {
-  within : l.at ≤ length l.text;
+  within : l.at ≤ l.most;
   digits : list_all is_ascii_digit (take l.at l.text) ≡ true;
   value : l.number ≡ digits_value 10 (take l.at l.text);
-  below : l.number < l.bound;
 }
 
 abbrev pub decreases-loop-at : goal.decreases-loop-at
-decreases-loop-at l = length l.text - l.at
+decreases-loop-at l = l.most - l.at
