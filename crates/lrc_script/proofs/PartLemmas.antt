@@ -1,6 +1,6 @@
 -- A text, cut at its first parting line.
-use Rattle.std.proofs.Common.{◌≡◌, ◌≢◌, ℕ, ◌+◌, ◌-◌, ◌<◌, ◌≤◌, zero, suc, true, false, Option, Some, None, nat_eq, option_map, unwrap_or, codes, List, [], ◌∷◌, ◌++◌, length, get_or, take, drop, All, refl, sym, ap, ◌∙◌, arith, append_assoc, append-nil, length-append, inl, inr}
-use borrow.Author.Tests.{eqb-true}
+use Rattle.std.proofs.Common.{◌≡◌, ◌≢◌, ℕ, ◌+◌, ◌-◌, ◌<◌, ◌≤◌, zero, suc, true, false, Option, Some, None, nat_eq, option_map, unwrap_or, codes, List, [], ◌∷◌, ◌++◌, length, get_or, slice_index, take, drop, All, refl, sym, ap, ◌∙◌, arith, append_assoc, append-nil, length-append, inl, inr}
+use borrow.Author.Tests.{eqb-true, eq-eqb}
 use Rattle.std.specs.Borrow.{Bor}
 use Rattle.std.specs.List.{slice_split, flat_map}
 use Rattle.std.proofs.lemmas.List.{take_at, drop_at, length_push}
@@ -11,7 +11,7 @@ use Rattle.lrc_script.specs.Scripts.{lines_of}
 use Rattle.lrc_script.specs.Bundles.{is_parting, parts_of, ended_lines}
 use Rattle.lrc_script.proofs.ScriptLemmas.{not_so, same_text-true}
 use Rattle.lrc_script.proofs.SplitLemmas.{joined_by, joined_parts}
-use Rattle.memchr.specs.Find.{OccursAt, Nowhere}
+use Rattle.memchr.specs.Find.{OccursAt, Nowhere, Passes, is_byte}
 use Rattle.memchr.proofs.lemmas.MatchLemmas.{OccursAt-from_part}
 use Rattle.lrc_script.proofs.CutLemmas.{has_none, pieces_behind, slice_split-cut}
 
@@ -118,6 +118,13 @@ occurs_there : (text front back : List ℕ) → text ≡ front ++ (codes "%%" ++
 occurs_there text front back is =
     let long = ap length is ∙ length-append front (codes "%%" ++ back) in
     OccursAt-from_part text (codes "%%") (length front) (omega (arith, long)) (ap (λ t. take 2 (drop (length front) t)) is ∙ ap (take 2) (drop_at front (codes "%%" ++ back) (length front) refl))
+
+-- where there is no percent sign, no two stand side by side
+pub nowhere_without : (text : List ℕ) → Nowhere (Passes (is_byte 37) text) 0 (length text) → Nowhere (OccursAt text (codes "%%")) 0 (length text + 1)
+nowhere_without text none k from within there =
+    let byte = there.reads 0 (omega arith) in
+    let here : k + 0 ≡ k = omega arith in
+    none k from (omega (arith, there.fits)) (eq-eqb (slice_index text k) 37 (ap (slice_index text) (sym here) ∙ byte))
 
 module _ (text : List ℕ) (nowhere : Nowhere (OccursAt text (codes "%%")) 0 (length text + 1)) where
   not_so_there : (line front back : List ℕ) → text ≡ front ++ (line ++ back) → is_parting line ≡ true → ⊥

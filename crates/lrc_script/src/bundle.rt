@@ -4,7 +4,7 @@ ghost use Rattle.lrc_script.specs.Cuts.{IsPart};
 ghost use Rattle.lrc_script.specs.declared.bundle.BundleError.TheVariants as errors;
 
 use crate::cut::cut_line;
-use memchr::memmem;
+use memchr::memchr;
 use std::alloc::{AllocError, AllocFailed, Global};
 use thiserror::Error;
 
@@ -109,8 +109,8 @@ struct Part<'a> {
 fn cut_part(text: &[u8]) -> Part<'_>
     ensures { IsPart text.now result.text.now result.lines result.behind }
 {
-    // Most texts have no such line, which one search of all their bytes shows.
-    if memmem::find(text, b"%%").is_none() {
+    // Most texts have no such line, which one search of all their bytes for its first shows.
+    if memchr(b'%', text).is_none() {
         return Part {
             text,
             lines: 0,

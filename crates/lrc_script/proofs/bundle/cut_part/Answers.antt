@@ -1,16 +1,16 @@
 use Rattle.std.proofs.Common.{rules, ◌≡◌, ◌≢◌, true, Some, None, codes}
-use Rattle.memchr.specs.Find.{FindsNeedle}
+use Rattle.memchr.specs.Find.{is_byte, IsFirstByte}
 use Rattle.lrc_script.specs.Cuts.{IsCut}
 use Rattle.lrc_script.specs.Bundles.{is_parting}
 use Rattle.lrc_script.proofs.ScriptLemmas.{same_text-false}
-use Rattle.lrc_script.proofs.PartLemmas.{left_behind, IsPart-whole, IsPassed-next, IsPart-none, IsCutAtParting-at}
+use Rattle.lrc_script.proofs.PartLemmas.{left_behind, nowhere_without, IsPart-whole, IsPassed-next, IsPart-none, IsCutAtParting-at}
 use Rattle.lrc_script.proofs.bundle.cut_part.Goals as goal
 
 pub returns-then-is_none : goal.returns-then-is_none
 returns-then-is_none c =
-    let none : c.find.result ≡ None = search rules in
-    let nowhere : FindsNeedle c.args.text.now (codes "%%") 0 None = rw none at c.find.ensures in
-    IsPart-whole c.args.text.now nowhere
+    let none : c.memchr.result ≡ None = search rules in
+    let nowhere : IsFirstByte (is_byte 37) c.args.text.now None = rw none at c.memchr.ensures in
+    IsPart-whole c.args.text.now (nowhere_without c.args.text.now nowhere)
 
 pub returns-then-eq : goal.returns-then-eq
 returns-then-eq c =
