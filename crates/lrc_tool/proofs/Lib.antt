@@ -10,6 +10,7 @@ pub mod AnswerLemmas
 pub mod CheckLemmas
 pub mod ReadLemmas
 pub mod DigitLemmas
+pub mod PairLemmas
 pub mod FieldLemmas
 pub mod TableLemmas
 pub mod Rows

@@ -2,6 +2,7 @@
 #![tactic(auto)]
 
 mod checking;
+mod digits;
 mod judging;
 pub mod laws;
 mod limits;

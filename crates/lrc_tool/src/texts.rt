@@ -5,14 +5,12 @@ ghost use Rattle.lrc_book.specs.declared.reply.Reply.TheVariants.{Placed, Grante
 ghost use Rattle.lrc_tool.specs.Plays.{lines_from};
 ghost use Rattle.lrc_tool.specs.Texts.{seat_text, spaced, lease_text, kind_text, reply_text, reply_line, script_line, topology_line, cause_number, bad_line_text};
 
+use crate::digits::{Digits, write_short};
 use lrc_book::{Kind, Lease, Record, Refusal, Reply, Seat};
 use lrc_code::{Fragment, SessionNo};
 use lrc_script::Cause;
 use lrc_topology::TopologyError;
 use std::alloc::AllocError;
-
-/// Room for the longest words: a space and `refused`, a code behind it, and a space.
-const WORDS_ROOM: usize = 13;
 
 /// Room for a number of 32 bits.
 const NUMBER_ROOM: usize = 10;
@@ -44,6 +42,9 @@ const REPLY_ROOM: usize = 200;
 /// Room for a line: a place, which is a number of at most twenty digits, and a reply.
 pub(crate) const LINE_ROOM: usize = 220;
 
+/// The places from this one on have more digits than `Digits` keeps.
+const LONG_PLACE: usize = 10_000_000_000;
+
 /// Adds a number in decimal digits.
 fn push_number(out: &mut Vec<u8>, number: u64) -> Result<(), AllocError>
     ensures { OnOk result (out.new.items ≡ out.old.items ++ decimal number) }
@@ -54,15 +55,24 @@ fn push_number(out: &mut Vec<u8>, number: u64) -> Result<(), AllocError>
 
 // ---- pieces, written from the last to the first
 
+/// Writes words over a text that has as many bytes. All are stored at once, since their number is known where this is called.
+#[inline(always)]
+fn put_words<const N: usize>(words: &[u8; N], text: &mut [u8])
+    requires { length text.old ≡ N }
+    ensures { text.new ≡ words.now }
+{
+    *text.as_mut_array().unwrap() = *words;
+}
+
 /// Writes words so that they end at `end`, and answers where they start.
-#[inline]
-fn write_words(words: &[u8], text: &mut [u8], end: usize) -> usize
-    requires { (length words.now ≤ end) × (end ≤ length text.old) }
-    ensures start { result + length words.now ≡ end }
+#[inline(always)]
+pub(crate) fn write_words<const N: usize>(words: &[u8; N], text: &mut [u8], end: usize) -> usize
+    requires { (N ≤ end) × (end ≤ length text.old) }
+    ensures start { result + N ≡ end }
     ensures written { drop result text.new ≡ words.now ++ drop end text.old }
 {
-    let start = end - words.len();
-    text[start..end].copy_from_slice(words);
+    let start = end - N;
+    put_words(words, &mut text[start..end]);
     start
 }
 
@@ -76,13 +86,26 @@ fn write_number(number: u32, text: &mut [u8], end: usize) -> usize
     itoa::write_digits(u64::from(number), text, end)
 }
 
+/// Writes a number of 16 bits so that it ends at `end`, and answers where it starts. Most have at most three digits.
+#[inline(always)]
+fn write_small(number: u16, text: &mut [u8], end: usize) -> usize
+    requires { (5 ≤ end) × (end ≤ length text.old) }
+    ensures start { (end ≤ result + 5) × (result ≤ end) }
+    ensures written { drop result text.new ≡ decimal number ++ drop end text.old }
+{
+    if number < 1000 {
+        return write_short(number, text, end);
+    }
+    itoa::write_digits(u64::from(number), text, end)
+}
+
 /// Writes a mark and a number behind it so that they end at `end`, and answers where they start.
 fn write_marked(mark: u8, number: u16, text: &mut [u8], end: usize) -> usize
     requires { (6 ≤ end) × (end ≤ length text.old) }
     ensures start { (end ≤ result + 6) × (result < end) }
     ensures written { drop result text.new ≡ mark ∷ (decimal number ++ drop end text.old) }
 {
-    let digits = itoa::write_digits(u64::from(number), text, end);
+    let digits = write_small(number, text, end);
     text[digits - 1] = mark;
     digits - 1
 }
@@ -175,9 +198,8 @@ fn write_kind(kind: &Kind, text: &mut [u8], end: usize) -> usize
 // ---- replies
 
 /// Writes words, a number and the end of a line so that they end at `end`, and answers where they start.
-fn write_detail(words: &[u8], number: u32, text: &mut [u8], end: usize) -> usize
-    requires words { length words.now ≤ WORDS_ROOM }
-    requires room { (DETAIL_ROOM ≤ end) × (end ≤ length text.old) }
+fn write_detail(words: &[u8; 13], number: u32, text: &mut [u8], end: usize) -> usize
+    requires { (DETAIL_ROOM ≤ end) × (end ≤ length text.old) }
     ensures start { (end ≤ result + DETAIL_ROOM) × (result ≤ end) }
     ensures written { drop result text.new ≡ (words.now ++ (decimal number ++ codes "\n")) ++ drop end text.old }
 {
@@ -298,6 +320,59 @@ fn write_record(place: usize, entry: &Record, text: &mut [u8], end: usize) -> us
     write_line(place, &entry.reply(), text, end)
 }
 
+/// Writes the reply of an entry as `write_reply` does.
+#[inline(never)]
+fn write_long_told(entry: &Record, text: &mut [u8], end: usize) -> usize
+    requires { (REPLY_ROOM ≤ end) × (end ≤ length text.old) }
+    ensures start { (end ≤ result + REPLY_ROOM) × (result ≤ end) }
+    ensures written { drop result text.new ≡ (codes " " ++ (reply_text entry.now.reply ++ codes "\n")) ++ drop end text.old }
+{
+    write_reply(&entry.reply(), text, end)
+}
+
+/// The same, where a reply that is a word or a refusal is not built to be told.
+#[inline(always)]
+fn write_told(entry: &Record, text: &mut [u8], end: usize) -> usize
+    requires { (REPLY_ROOM ≤ end) × (end ≤ length text.old) }
+    ensures start { (end ≤ result + REPLY_ROOM) × (result ≤ end) }
+    ensures written { drop result text.new ≡ (codes " " ++ (reply_text entry.now.reply ++ codes "\n")) ++ drop end text.old }
+{
+    match entry.reply() {
+        Reply::Dropped => write_words(b" dropped\n", text, end),
+        Reply::Idle => write_words(b" idle\n", text, end),
+        Reply::Ended => write_words(b" ended\n", text, end),
+        Reply::Changed => write_words(b" changed\n", text, end),
+        Reply::Refused(refusal) => write_refusal(&refusal, text, end),
+        _ => write_long_told(entry, text, end),
+    }
+}
+
+/// Writes the lines of entries whose places are so many hundreds and the numbers from `rest` on, so that they end at `end`, and
+/// answers where they start. Their hundreds are made digits once.
+fn write_hundred(
+    records: &[Record],
+    hundreds: usize,
+    rest: usize,
+    text: &mut [u8],
+    end: usize,
+) -> usize
+    requires hundreds { (0 < hundreds) × (hundreds < 10 ^ 8) }
+    requires rest { rest + length records.now ≤ 100 }
+    requires room { (LINE_ROOM * length records.now ≤ end) × (end ≤ length text.old) }
+    ensures start { (end ≤ result + LINE_ROOM * length records.now) × (result ≤ end) }
+    ensures written { drop result text.new ≡ lines_from (hundreds * 100 + rest) records.now ++ drop end text.old }
+{
+    let digits = Digits::of(hundreds as u64);
+    let mut left = records.len();
+    let mut at = end;
+    while left > 0 {
+        left -= 1;
+        let start = write_told(&records[left], text, at);
+        at = digits.write_with(rest + left, text, start);
+    }
+    at
+}
+
 /// Writes the lines of entries, of which the first has this place in the history, so that they end at `end`, and answers where
 /// they start.
 fn write_lines(records: &[Record], first: usize, text: &mut [u8], end: usize) -> usize
@@ -309,8 +384,16 @@ fn write_lines(records: &[Record], first: usize, text: &mut [u8], end: usize) ->
     let mut left = records.len();
     let mut at = end;
     while left > 0 {
-        left -= 1;
-        at = write_record(first + left, &records[left], text, at);
+        let last = first + left - 1;
+        if last < 100 || last >= LONG_PLACE {
+            left -= 1;
+            at = write_record(last, &records[left], text, at);
+        } else {
+            let many = left.min(last % 100 + 1);
+            let same = &records[left - many..left];
+            at = write_hundred(same, last / 100, last % 100 + 1 - many, text, at);
+            left -= many;
+        }
     }
     at
 }
