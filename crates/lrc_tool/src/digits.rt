@@ -17,6 +17,7 @@ static PAIRS: [[u8; 2]; 100] = [
     *b"96", *b"97", *b"98", *b"99",
 ];
 
+// The digits of the hundred numbers that have each of these first digits.
 macro_rules! of_each_hundred {
     ($($hundreds:literal)*) => {
         [$(
@@ -56,14 +57,8 @@ pub(crate) fn write_short(number: u16, text: &mut [u8], end: usize) -> usize
     ensures start { (result < end) × (end ≤ result + 3) }
     ensures written { drop result text.new ≡ decimal number ++ drop end text.old }
 {
-    let zeros = if number < 10 {
-        3
-    } else if number < 100 {
-        2
-    } else {
-        1
-    };
-    write_words(&NUMERALS[usize::from(number)], text, end) + zeros
+    let start = write_words(&NUMERALS[usize::from(number)], text, end) + 1;
+    start + usize::from(number < 10) + usize::from(number < 100)
 }
 
 /// Room for the digits of a number below 100,000,000.

@@ -83,6 +83,9 @@ fn write_number(number: u32, text: &mut [u8], end: usize) -> usize
     ensures start { (end ≤ result + NUMBER_ROOM) × (result ≤ end) }
     ensures written { drop result text.new ≡ decimal number ++ drop end text.old }
 {
+    if number < 1000 {
+        return write_short(number as u16, text, end);
+    }
     itoa::write_digits(u64::from(number), text, end)
 }
 
@@ -111,6 +114,7 @@ fn write_marked(mark: u8, number: u16, text: &mut [u8], end: usize) -> usize
 }
 
 /// Writes a space and a seat behind it so that they end at `end`, and answers where they start.
+#[inline(always)]
 fn write_seat(seat: &Seat, text: &mut [u8], end: usize) -> usize
     requires { (SEAT_ROOM ≤ end) × (end ≤ length text.old) }
     ensures start { (end ≤ result + SEAT_ROOM) × (result < end) }
@@ -330,7 +334,20 @@ fn write_long_told(entry: &Record, text: &mut [u8], end: usize) -> usize
     write_reply(&entry.reply(), text, end)
 }
 
-/// The same, where a reply that is a word or a refusal is not built to be told.
+/// The same, where a grant is not built whole to be told.
+#[inline(never)]
+fn write_granted_told(entry: &Record, text: &mut [u8], end: usize) -> usize
+    requires { (REPLY_ROOM ≤ end) × (end ≤ length text.old) }
+    ensures start { (end ≤ result + REPLY_ROOM) × (result ≤ end) }
+    ensures written { drop result text.new ≡ (codes " " ++ (reply_text entry.now.reply ++ codes "\n")) ++ drop end text.old }
+{
+    match entry.reply() {
+        Reply::Granted(lease, kind) => write_granted(&lease, &kind, text, end),
+        _ => write_long_told(entry, text, end),
+    }
+}
+
+/// The same, where a reply that is a word or a refusal is not built to be told either.
 #[inline(always)]
 fn write_told(entry: &Record, text: &mut [u8], end: usize) -> usize
     requires { (REPLY_ROOM ≤ end) × (end ≤ length text.old) }
@@ -338,12 +355,13 @@ fn write_told(entry: &Record, text: &mut [u8], end: usize) -> usize
     ensures written { drop result text.new ≡ (codes " " ++ (reply_text entry.now.reply ++ codes "\n")) ++ drop end text.old }
 {
     match entry.reply() {
+        Reply::Placed(_) => write_long_told(entry, text, end),
         Reply::Dropped => write_words(b" dropped\n", text, end),
+        Reply::Granted(_, _) => write_granted_told(entry, text, end),
         Reply::Idle => write_words(b" idle\n", text, end),
         Reply::Ended => write_words(b" ended\n", text, end),
         Reply::Changed => write_words(b" changed\n", text, end),
         Reply::Refused(refusal) => write_refusal(&refusal, text, end),
-        _ => write_long_told(entry, text, end),
     }
 }
 

@@ -1,4 +1,4 @@
-use Rattle.std.proofs.Common.{rules, arith, ◌≤◌, length}
+use Rattle.std.proofs.Common.{rules, ◌≤◌, length}
 use Rattle.lrc_tool.proofs.PairLemmas.{written_with}
 use Rattle.lrc_tool.proofs.digits.Digits.write_with.Goals as goal
 
