@@ -23,47 +23,51 @@ pub(crate) fn play(
     alloc: Global,
     topology: Topology,
     scripts: &[Vec<Command>],
+    room: Vec<u8>,
 ) -> Result<Vec<u8>, RunFault>
     requires few { AreFew scripts.now }
     requires alone { length scripts.now ≤ 1 }
+    requires empty { room.items ≡ [] }
     ensures played { IfOk result (λ text. IsPlayed topology (lists_of scripts.now) text.items) }
     ensures err { IfErr result (λ e. e ≡ fault.OutOfMemory) }
 {
     let mut book = Book::new(alloc, topology)?;
-    let replies = play_scripts(alloc, &mut book, scripts)?;
+    let replies = play_scripts(&mut book, scripts, room)?;
     with_tables(alloc, replies, &book)
 }
 
 /// Makes the commands of the only script, if there is one, and answers what is printed of the replies.
 fn play_scripts(
-    alloc: Global,
     book: &mut Book,
     scripts: &[Vec<Command>],
+    room: Vec<u8>,
 ) -> Result<Vec<u8>, RunFault>
     requires fresh { (book.old.history ≡ []) × (book.old.limit ≡ HISTORY_LIMIT) }
     requires few { AreFew scripts.now }
     requires alone { length scripts.now ≤ 1 }
+    requires empty { room.items ≡ [] }
     ensures made { IfOk result (λ text. AreMade book.old.nodes (lists_of scripts.now) book.new.history text.items) }
     ensures nodes { OnOk result (book.new.nodes ≡ book.old.nodes) }
     ensures err { IfErr result (λ e. e ≡ fault.OutOfMemory) }
 {
     match scripts {
-        [] => Ok(Vec::new(alloc)),
-        [script, ..] => play_alone(alloc, book, script.as_slice()),
+        [] => Ok(room),
+        [script, ..] => play_alone(book, script.as_slice(), room),
     }
 }
 
 /// Makes the commands of the only script, all by session 1.
-fn play_alone(alloc: Global, book: &mut Book, commands: &[Command]) -> Result<Vec<u8>, RunFault>
+fn play_alone(book: &mut Book, commands: &[Command], empty: Vec<u8>) -> Result<Vec<u8>, RunFault>
     requires fresh { (book.old.history ≡ []) × (book.old.limit ≡ HISTORY_LIMIT) }
     // The history has room for them.
     requires few { length commands.now ≤ HISTORY_LIMIT }
+    requires empty { empty.items ≡ [] }
     ensures made { IfOk result (λ text. AreMade book.old.nodes (commands.now ∷ []) book.new.history text.items) }
     ensures nodes { OnOk result (book.new.nodes ≡ book.old.nodes) }
     ensures err { IfErr result (λ e. e ≡ fault.OutOfMemory) }
 {
     let session = SessionNo::new(1).unwrap();
-    let mut text = Vec::new(alloc);
+    let mut text = empty;
     push_script_line(&mut text, session)?;
     let mut room = [0u8; TOLD_ROOM];
     let mut told = 0;

@@ -1,6 +1,6 @@
 //! Running a bundle, from the bytes in to the bytes out.
 
-ghost use Rattle.std.specs.Prelude.{◌≡◌, ◌≢◌, ◌||◌, ◌⊎◌, ◌+◌, ◌<◌, ◌≤◌, true, length, OnOk, IfOk, IfErr, IfSome, IsErrOf};
+ghost use Rattle.std.specs.Prelude.{◌≡◌, ◌≢◌, ◌||◌, ◌⊎◌, ◌+◌, ◌<◌, ◌≤◌, true, [], length, OnOk, IfOk, IfErr, IfSome, IsErrOf};
 ghost use Rattle.std.specs.Io.KnownBytes.{Keeps};
 ghost use Rattle.lrc_tool.specs.Streams.{is_read_fault, is_write_fault, ConsumesAtMost};
 ghost use Rattle.lrc_script.specs.Bundles.{scripts_of};
@@ -54,28 +54,38 @@ pub fn run<R: Source, W: Sink, T: Threads + Wait + Sync>(
     ensures full { IsErrOf result fault.HistoryFull → IfSome (R.left source.old) (λ bundle. 1 < length (scripts_of bundle)) }
 {
     let bundle = read_all(alloc, source, BUNDLE_LIMIT)?;
-    let output = output_of(rt, alloc, bundle.as_slice())?;
+    let output = output_of(rt, alloc, bundle)?;
     write_all(sink, output.text.as_slice())?;
     Ok(output.status)
 }
 
-/// The output of a run of this bundle.
+/// The output of a run of this bundle. What one script prints is written where the bundle stood.
 fn output_of<T: Threads + Wait + Sync>(
     rt: &T,
     alloc: Global,
-    bundle: &[u8],
+    bundle: Vec<u8>,
 ) -> Result<Output, RunFault>
-    ensures output { IfOk result (λ o. IsOutput bundle.now (o.text.items) o.status) }
-    ensures err { IfErr result (λ e. (e ≡ fault.OutOfMemory) ⊎ ((e ≡ fault.HistoryFull) × HasSeveral bundle.now)) }
+    ensures output { IfOk result (λ o. IsOutput bundle.items (o.text.items) o.status) }
+    ensures err { IfErr result (λ e. (e ≡ fault.OutOfMemory) ⊎ ((e ≡ fault.HistoryFull) × HasSeveral bundle.items)) }
 {
-    match judge(alloc, bundle)? {
+    match judge(alloc, bundle.as_slice())? {
         Judged::Refused(output) => Ok(output),
         Judged::Good { topology, scripts } => {
-            let text = play_all(rt, alloc, topology, scripts.as_slice())?;
+            let room = emptied(bundle);
+            let text = play_all(rt, alloc, topology, scripts.as_slice(), room)?;
             let status = Status::Done;
             Ok(Output { text, status })
         }
     }
+}
+
+/// The room of these bytes, for others.
+fn emptied(bytes: Vec<u8>) -> Vec<u8>
+    ensures { result.items ≡ [] }
+{
+    let mut room = bytes;
+    room.clear();
+    room
 }
 
 /// Makes the commands of the scripts on a new book over these nodes, and answers what is printed of them, with the tables.
@@ -84,13 +94,15 @@ fn play_all<T: Threads + Wait + Sync>(
     alloc: Global,
     topology: Topology,
     scripts: &[Vec<Command>],
+    room: Vec<u8>,
 ) -> Result<Vec<u8>, RunFault>
     requires few { AreFew scripts.now }
+    requires empty { room.items ≡ [] }
     ensures played { IfOk result (λ text. IsPlayed topology (lists_of scripts.now) text.items) }
     ensures err { IfErr result (λ e. (e ≡ fault.OutOfMemory) ⊎ ((e ≡ fault.HistoryFull) × (1 < length scripts.now))) }
 {
     if scripts.len() > 1 {
         return play_together(rt, alloc, topology, scripts);
     }
-    play(alloc, topology, scripts)
+    play(alloc, topology, scripts, room)
 }

@@ -9,18 +9,18 @@ use Rattle.lrc_tool.proofs.program.output_of.Goals as goal
 
 pub returns-in_ok-text-in-Good-clause-output : goal.returns-in_ok-text-in-Good-clause-output
 returns-in_ok-text-in-Good-clause-output g c =
-    let bundle = c.args.bundle.now in
+    let bundle = c.args.bundle.items in
     let topology = c.in-Good.topology in
     let scripts = c.in-Good.scripts.items in
-    let good : IsJudged bundle (Good topology c.in-Good.scripts) = rw c.in-Good.is at c.in_ok-output.ensures.judged in
-    let played = rw c.as_slice.ensures.value at c.in_ok-text-in-Good.ensures.played in
+    let good : IsJudged bundle (Good topology c.in-Good.scripts) = rw (c.in-Good.is, c.as_slice.ensures.value) at c.in_ok-output.ensures.judged in
+    let played = rw c.as_slice-in-Good.ensures.value at c.in_ok-text-in-Good.ensures.played in
     good_to_any ArePrinted bundle c.in_ok-text-in-Good.text.items Done topology scripts good
     (lists_of scripts, good.commands, played) refl
 
 pub returns-in_err-text-in-Good-clause-err : goal.returns-in_err-text-in-Good-clause-err
 returns-in_err-text-in-Good-clause-err g c =
-    let bundle = c.args.bundle.now in
-    let good : IsJudged bundle (Good c.in-Good.topology c.in-Good.scripts) = rw c.in-Good.is at c.in_ok-output.ensures.judged in
+    let bundle = c.args.bundle.items in
+    let good : IsJudged bundle (Good c.in-Good.topology c.in-Good.scripts) = rw (c.in-Good.is, c.as_slice.ensures.value) at c.in_ok-output.ensures.judged in
     let p = err_from_is_err_and c.from_residual-in_err-text-in-Good.result c.from_residual-in_err-text-in-Good.ensures.1 in
-    let err = rw c.as_slice.ensures.value at c.in_err-text-in-Good.ensures.err in
+    let err = rw c.as_slice-in-Good.ensures.value at c.in_err-text-in-Good.ensures.err in
     rw (p.1, p.2) (several_or _ _ bundle c.in-Good.topology c.in-Good.scripts.items good err)
