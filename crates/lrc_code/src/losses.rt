@@ -1,6 +1,7 @@
 ghost use Rattle.std.specs.Prelude.{◌≡◌, ℕ, ◌<◌, ◌≤◌, ◌↔◌, ◌^◌, ◌||◌, ◌&&◌, not, if◌then◌else◌, IsTrue, nat_eq, nat_lt, bit_and, count_ones, IsSome, IfSome, Option, map, option_map};
 ghost use Rattle.std.specs.List.{list_any};
 ghost use Rattle.lrc_code.specs.declared.codes.Code.TheVariants.{Wide};
+ghost use Rattle.lrc_code.specs.declared.codes.Class.TheVariants.{A, B};
 ghost use Rattle.lrc_code.specs.Codes.{is_in_group, others};
 ghost use Rattle.lrc_code.specs.Losses.{losses_in, excess, IsRecoverable, is_recoverable, IsMargin, bits_set, margin_of, local_sources};
 
@@ -100,6 +101,13 @@ impl LossMask {
         self.bits & members_of(class) != 0
     }
 
+    // Whether each local group has a loss.
+    fn touches_both(self) -> bool
+        ensures { result ≡ (nat_lt 0 (losses_in Wide A (bits_set self.bits)) && nat_lt 0 (losses_in Wide B (bits_set self.bits))) }
+    {
+        self.touches(Class::A) && self.touches(Class::B)
+    }
+
     // How many losses are beyond one in each local group, with all global ones.
     fn excess(self) -> u8
         ensures { result ≡ excess Wide (bits_set self.bits) }
@@ -125,15 +133,9 @@ impl LossMask {
         ensures value { result ≡ margin_of Wide (bits_set self.bits) }
         ensures few { IfSome result (λ t. t ≤ 3) }
     {
-        let excess = self.excess();
-        if excess > 2 {
-            return None;
-        }
-        if self.touches(Class::A) || self.touches(Class::B) {
-            Some(2 - excess)
-        } else {
-            Some(3 - excess)
-        }
+        // Three losses are repaired wherever they are, and a fourth where both local groups have one.
+        let most = 3 + u8::from(self.touches_both());
+        most.checked_sub(self.bits.count_ones() as u8)
     }
 
     /// The fragments that alone rebuild this one: the six others of its local group, in rising order. `None` where
