@@ -1,5 +1,5 @@
 -- The flags of words, read and written.
-use Rattle.std.proofs.Common.{below_more, bit_and, bit_or, subst, min, ◌-◌, ◌≡◌, ◌≢◌, ℕ, zero, suc, ◌+◌, ◌*◌, ◌/◌, ◌%◌, ◌^◌, ◌<◌, ◌≤◌, Bool, true, false, not, eqb, List, length, get_or, set, replicate, arith, refl, sym, ap, ◌∙◌, inl, inr, w64}
+use Rattle.std.proofs.Common.{below_more, bit_and, bit_or, subst, min, ◌-◌, ◌≡◌, ◌≢◌, ℕ, zero, suc, ◌+◌, ◌*◌, ◌/◌, ◌%◌, ◌^◌, ◌<◌, ◌≤◌, Bool, true, false, not, eqb, List, [], ◌∷◌, length, get_or, set, replicate, arith, refl, sym, ap, ◌∙◌, inl, inr, w64}
 use Rattle.std.proofs.Math.ListN.{length-set}
 use Rattle.std.proofs.lemmas.Bool.{cases_eq, cases_lt, eq-eqb, eqb-true, ne_eqb}
 use Rattle.std.proofs.lemmas.List.{length-replicate, ext_get_or, get_or_past, get_or-set_same, get_or-set_other}
@@ -8,7 +8,7 @@ use Rattle.std.proofs.lemmas.Nat.Bits.{shr_and_one, bit_at-zero, bit_at_set_same
 use Rattle.std.proofs.lemmas.Nat.{shr-shr}
 use Rattle.std.proofs.Math.Nat.{div-le_self}
 use Rattle.std.specs.Int.{bit_at, bit_not, trailing_zeros, trailing_ones}
-use Rattle.lrc_bits.specs.Flags.{flag, flags, IsFirstAbsent, IsFirstOutside, IsFirstFrom}
+use Rattle.lrc_bits.specs.Flags.{flag, flags, IsFirstAbsent, IsFirstFrom}
 
 -- there are 64 flags a word
 pub length-flags : (words : List ℕ) → length (flags words) ≡ 64 * length words
@@ -61,6 +61,12 @@ flags-set words k v b within here others =
 -- a place within the flags has a word
 pub word-within : (words : List ℕ) (xs : List Bool) (k w : ℕ) → length words ≡ w → flags words ≡ xs → k < length xs → k / 64 < w
 word-within words xs k w long view within =
+    let all : length xs ≡ 64 * length words = ap length (sym view) ∙ length-flags words in
+    omega (arith, all, within, long)
+
+-- a word whose first place is within the flags is one of so many
+pub word-below : (words : List ℕ) (xs : List Bool) (i w : ℕ) → length words ≡ w → flags words ≡ xs → 64 * i < length xs → i < w
+word-below words xs i w long view within =
     let all : length xs ≡ 64 * length words = ap length (sym view) ∙ length-flags words in
     omega (arith, all, within, long)
 
@@ -127,6 +133,16 @@ at_word words i t small =
 -- the flags of a set, read by their words
 pub read : (words : List ℕ) (xs : List Bool) (k : ℕ) → flags words ≡ xs → get_or xs k false ≡ flag words k
 read words xs k view = ap (λ ys. get_or ys k false) (sym view) ∙ get_or-flags words k
+
+-- the flags of one word alone
+pub alone-word : (words : List ℕ) (xs : List Bool) (i k : ℕ) → flags words ≡ xs → k < 64
+    → get_or (flags (get_or words i 0 ∷ [])) k false ≡ get_or xs (64 * i + k) false
+alone-word words xs i k view small =
+    let word = get_or words i 0 in
+    let place : 64 * i + k ≡ i * 64 + k = omega arith in
+    let own : 0 * 64 + k ≡ k = omega arith in
+    get_or-flags (word ∷ []) k
+    ∙ (ap (flag (word ∷ [])) (sym own) ∙ at_word (word ∷ []) 0 k small ∙ sym (read words xs (64 * i + k) view ∙ (ap (flag words) place ∙ at_word words i k small)))
 
 -- the places of words below are those before the word's own, and its own up to the bit
 in_word : (P : ℕ → Type 0) (i t : ℕ) → t ≤ 64 → ((j : ℕ) → j < 64 * i → P j) → ((b : ℕ) → b < t → P (i * 64 + b)) → (j : ℕ)
@@ -195,51 +211,37 @@ is_one words i t small hit = eqb-true _ 1 (sym (at_word words i t small) ∙ hit
 is_flag : (words : List ℕ) (i t : ℕ) → t < 64 → bit_at (get_or words i 0) t ≡ 1 → flag words (i * 64 + t) ≡ true
 is_flag words i t small one = at_word words i t small ∙ eq-eqb _ 1 one
 
-module _ (words others : List ℕ) (i : ℕ) (fits : get_or others i 0 < 2 ^ 64)
-    (before : (j : ℕ) → j < 64 * i → flag words j ≡ true → flag others j ≡ true) where
+-- the places of a word are those of its bits
+at_bit : (P : ℕ → Type 0) (i t : ℕ) → ((b : ℕ) → b < t → P (i * 64 + b)) → (j : ℕ) → j / 64 ≡ i → j < i * 64 + t → P j
+at_bit P i t here j near below =
+    let same : i * 64 + j % 64 ≡ j = omega (arith, near) in
+    subst P same (here (j % 64) (omega (arith, near, below)))
+
+module _ (words others : List ℕ) (i : ℕ) (fits : get_or others i 0 < 2 ^ 64) where
   -- what the word has below the bit, the other word has too
-  here_too : (t : ℕ) → t ≤ 64 → ((b : ℕ) → b < t → bit_at (bit_and (get_or words i 0) (2 ^ 64 - 1 - get_or others i 0)) b ≡ 0)
-      → (j : ℕ) → j < i * 64 + t → flag words j ≡ true → flag others j ≡ true
-  here_too t small none =
-      in_word (λ k. flag words k ≡ true → flag others k ≡ true) i t small before
-      (λ b less hit. let low : b < 64 = omega (arith, less, small) in is_flag others i b low
-      (and_not-zero (get_or words i 0) (get_or others i 0) b fits low (none b less) (is_one words i b low hit)))
+  bit_too : (t : ℕ) → t ≤ 64 → ((b : ℕ) → b < t → bit_at (bit_and (get_or words i 0) (2 ^ 64 - 1 - get_or others i 0)) b ≡ 0)
+      → (b : ℕ) → b < t → flag words (i * 64 + b) ≡ true → flag others (i * 64 + b) ≡ true
+  bit_too t small none b less hit =
+      let low : b < 64 = omega (arith, less, small) in
+      is_flag others i b low (and_not-zero (get_or words i 0) (get_or others i 0) b fits low (none b less) (is_one words i b low hit))
 
-  -- one more word has nothing outside the other
-  pub inside-more : bit_and (get_or words i 0) (2 ^ 64 - 1 - get_or others i 0) ≡ 0 → (j : ℕ) → j < 64 * (i + 1)
+  -- a word with nothing outside the other has no place outside it
+  pub none-of_word : bit_and (get_or words i 0) (2 ^ 64 - 1 - get_or others i 0) ≡ 0 → (j : ℕ) → j / 64 ≡ i
       → flag words j ≡ true → flag others j ≡ true
-  inside-more empty j below = here_too 64 (omega arith) (λ b less. ap (λ w. bit_at w b) empty ∙ bit_at-zero b) j (omega (arith, below))
+  none-of_word empty j near =
+      at_bit (λ k. flag words k ≡ true → flag others k ≡ true) i 64
+      (bit_too 64 (omega arith) (λ b less. ap (λ w. bit_at w b) empty ∙ bit_at-zero b)) j near (omega (arith, near))
 
-  -- the first bit outside the other is the first place outside it
-  pub found-outside : (xs ys : List Bool) → flags words ≡ xs → flags others ≡ ys → i < length words
-      → bit_and (get_or words i 0) (2 ^ 64 - 1 - get_or others i 0) ≢ 0
-      → bit_and (get_or words i 0) (2 ^ 64 - 1 - get_or others i 0) < 2 ^ 64
-      → IsFirstOutside xs ys (i * 64 + trailing_zeros w64 (bit_and (get_or words i 0) (2 ^ 64 - 1 - get_or others i 0)))
-  found-outside xs ys view view_other within some small =
-      let left : ℕ = bit_and (get_or words i 0) (2 ^ 64 - 1 - get_or others i 0) in
-      let t : ℕ = trailing_zeros w64 left in
-      let h = bit_at-trailing_zeros w64 left (omega (arith, some)) small in
-      let low : t < 64 = h.0 in
-      let bits = and_not-one (get_or words i 0) (get_or others i 0) t fits low h.1 in
-      let long : length xs ≡ 64 * length words = ap length (sym view) ∙ length-flags words in
-      record {
-        within = omega (arith, low, long, within);
-        has = read words xs (i * 64 + t) view ∙ is_flag words i t low bits.0;
-        lacks = read others ys (i * 64 + t) view_other ∙ (at_word others i t low ∙ ap (λ n. eqb n 1) bits.1);
-        first = λ j below hit. read others ys j view_other ∙ here_too t (omega (arith, low)) h.2 j below (sym (read words xs j view) ∙ hit);
-      }
-
--- where no word has a bit outside, no place is outside
-pub found-none_outside : (words others : List ℕ) (xs ys : List Bool) → flags words ≡ xs → flags others ≡ ys
-    → ((j : ℕ) → j < 64 * length words → flag words j ≡ true → flag others j ≡ true) → (j : ℕ) → get_or xs j false ≡ true → get_or ys j false ≡ true
-found-none_outside words others xs ys view view_other all j hit = elim (cases_lt j (64 * length words)) [
-  | inl within ↦ read others ys j view_other ∙ all j within (sym (read words xs j view) ∙ hit)
-  | inr past ↦ absurd (
-      let beyond : length words ≤ j / 64 = omega (arith, past) in
-      let none : get_or words (j / 64) 0 ≡ 0 = get_or_past words (j / 64) 0 beyond in
-      let miss : flag words j ≡ false = ap (λ n. eqb n 1) (ap (λ w. bit_at w (j % 64)) none ∙ bit_at-zero (j % 64)) in
-      let clash : true ≡ false = sym hit ∙ (read words xs j view ∙ miss) in cc)
-]
+  -- the first bit outside the other is the word's first place outside it
+  pub first-of_word : (t : ℕ) → t < 64 → bit_at (bit_and (get_or words i 0) (2 ^ 64 - 1 - get_or others i 0)) t ≡ 1
+      → ((b : ℕ) → b < t → bit_at (bit_and (get_or words i 0) (2 ^ 64 - 1 - get_or others i 0)) b ≡ 0)
+      → ((flag words (i * 64 + t) ≡ true) × (flag others (i * 64 + t) ≡ false))
+      × ((j : ℕ) → j / 64 ≡ i → j < i * 64 + t → flag words j ≡ true → flag others j ≡ true)
+  first-of_word t low one none =
+      let bits = and_not-one (get_or words i 0) (get_or others i 0) t fits low one in (
+        (is_flag words i t low bits.0, at_word others i t low ∙ ap (λ n. eqb n 1) bits.1),
+        at_bit (λ k. flag words k ≡ true → flag others k ≡ true) i t (bit_too t (omega (arith, low)) none),
+      )
 
 -- ---- the first place from one on
 

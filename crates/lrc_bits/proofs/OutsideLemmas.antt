@@ -1,12 +1,13 @@
--- The first place that one list has and neither of two others: the words of the two are joined.
+-- The first place of a word that one list has and neither of two others: the words of the two are joined.
 use Rattle.std.proofs.Common.{bit_and, bit_or, ◌≡◌, ◌≢◌, ℕ, ◌+◌, ◌-◌, ◌*◌, ◌/◌, ◌%◌, ◌^◌, ◌<◌, ◌≤◌, Bool, true, false, ◌||◌, eqb, List, length, get_or, map, arith, refl, sym, ap, ap₂, ◌∙◌, inl, inr, w64}
 use Rattle.std.proofs.lemmas.Bool.{cases_lt}
 use Rattle.std.proofs.lemmas.List.{get_or_past}
+use Rattle.std.proofs.lemmas.Nat.Bits.{bit_at-trailing_zeros}
 use Rattle.std.proofs.lemmas.List.FromFn.{length-map-range_with_len, get_or-map-range_with_len}
 use Rattle.std.specs.Int.{bit_at, trailing_zeros}
 use Rattle.std.specs.List.{range_with_len}
-use Rattle.lrc_bits.specs.Flags.{flag, flags, IsFirstOutsideBoth}
-use Rattle.lrc_bits.proofs.FlagLemmas.{get_or-flags, read, inside-more, found-outside, found-none_outside}
+use Rattle.lrc_bits.specs.Flags.{flag, flags, IsFirstOfWord}
+use Rattle.lrc_bits.proofs.FlagLemmas.{get_or-flags, read, none-of_word, first-of_word}
 use Rattle.lrc_bits.proofs.UnionLemmas.{or_flag}
 
 -- the words of two sets, joined one by one
@@ -39,36 +40,32 @@ module _ (ones others : List ℕ) (same : length others ≡ length ones) where
         ∙ sym (get_or-flags (joined ones others) k ∙ joined-flag k)
 
     module _ (words : List ℕ) (xs : List Bool) (view_words : flags words ≡ xs) where
-      -- where no word has a bit outside, no place is outside
-      pub found-none_both : ((j : ℕ) → j < 64 * length words → flag words j ≡ true → (flag ones j || flag others j) ≡ true) → (j : ℕ)
-          → get_or xs j false ≡ true → (get_or ys j false || get_or zs j false) ≡ true
-      found-none_both all j hit = read_both j ∙ found-none_outside words (joined ones others) xs (flags (joined ones others)) view_words refl
-          (λ k below has. joined-flag k ∙ all k below has) j hit
+      -- a word with nothing outside has no place outside
+      pub none-of_word_both : (i : ℕ) → bit_or (get_or ones i 0) (get_or others i 0) < 2 ^ 64
+          → bit_and (get_or words i 0) (2 ^ 64 - 1 - bit_or (get_or ones i 0) (get_or others i 0)) ≡ 0
+          → (j : ℕ) → j / 64 ≡ i → get_or xs j false ≡ true → (get_or ys j false || get_or zs j false) ≡ true
+      none-of_word_both i fits empty j near hit =
+          let word = joined-word i in
+          read_both j ∙ (get_or-flags (joined ones others) j
+          ∙ none-of_word words (joined ones others) i (rw word fits) (rw word empty) j near (sym (read words xs j view_words) ∙ hit))
 
-      -- the first bit outside is the first place outside
-      pub found-both : (i : ℕ) → bit_or (get_or ones i 0) (get_or others i 0) < 2 ^ 64
-          → ((j : ℕ) → j < 64 * i → flag words j ≡ true → (flag ones j || flag others j) ≡ true) → i < length words
+      -- the first bit outside is the word's first place outside
+      pub found-of_word_both : (i : ℕ) → bit_or (get_or ones i 0) (get_or others i 0) < 2 ^ 64
           → bit_and (get_or words i 0) (2 ^ 64 - 1 - bit_or (get_or ones i 0) (get_or others i 0)) ≢ 0
           → bit_and (get_or words i 0) (2 ^ 64 - 1 - bit_or (get_or ones i 0) (get_or others i 0)) < 2 ^ 64
-          → IsFirstOutsideBoth xs ys zs (i * 64 + trailing_zeros w64 (bit_and (get_or words i 0)
+          → IsFirstOfWord xs ys zs i (i * 64 + trailing_zeros w64 (bit_and (get_or words i 0)
           (2 ^ 64 - 1 - bit_or (get_or ones i 0) (get_or others i 0))))
-      found-both i fits before within some small =
+      found-of_word_both i fits some small =
           let word = joined-word i in
-          let h = rw word at (found-outside words (joined ones others) i (rw word fits) (λ j below has. joined-flag j ∙ before j below has)
-          xs (flags (joined ones others)) view_words refl within (rw word some) (rw word small)) in
+          let left : ℕ = bit_and (get_or words i 0) (2 ^ 64 - 1 - bit_or (get_or ones i 0) (get_or others i 0)) in
+          let t : ℕ = trailing_zeros w64 left in
+          let h = bit_at-trailing_zeros w64 left (omega (arith, some)) small in
+          let low : t < 64 = h.0 in
+          let found = first-of_word words (joined ones others) i (rw word fits) t low (rw word h.1) (rw word h.2) in
           record {
-            within = h.within;
-            has = h.has;
-            lacks = read_both _ ∙ h.lacks;
-            first = λ j below hit. read_both j ∙ h.first j below hit;
+            near = omega (arith, low);
+            has = read words xs (i * 64 + t) view_words ∙ found.0.0;
+            lacks = read_both (i * 64 + t) ∙ (get_or-flags (joined ones others) (i * 64 + t) ∙ found.0.1);
+            first = λ j near below hit. read_both j ∙ (get_or-flags (joined ones others) j
+                ∙ found.1 j near below (sym (read words xs j view_words) ∙ hit));
           }
-
-  -- one more word has nothing outside
-  pub inside-both : (words : List ℕ) (i : ℕ) → bit_or (get_or ones i 0) (get_or others i 0) < 2 ^ 64
-      → ((j : ℕ) → j < 64 * i → flag words j ≡ true → (flag ones j || flag others j) ≡ true)
-      → bit_and (get_or words i 0) (2 ^ 64 - 1 - bit_or (get_or ones i 0) (get_or others i 0)) ≡ 0
-      → (j : ℕ) → j < 64 * (i + 1) → flag words j ≡ true → (flag ones j || flag others j) ≡ true
-  inside-both words i fits before empty j below hit =
-      let word = joined-word i in
-      sym (joined-flag j) ∙ inside-more words (joined ones others) i (rw word fits) (λ k less has. joined-flag k ∙ before k less has)
-      (rw word empty) j below hit

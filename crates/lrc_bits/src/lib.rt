@@ -2,7 +2,9 @@
 #![tactic(auto)]
 
 mod bit_set;
+mod members;
 #[cfg(test)]
 mod tests;
 
 pub use bit_set::BitSet;
+pub use members::Members;

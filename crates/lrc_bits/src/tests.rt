@@ -53,6 +53,34 @@ fn a_search_goes_on_in_the_next_word(rt: HostRuntime) -> Result<(), Fail> {
 }
 
 #[test]
+fn the_numbers_of_a_copy_are_taken_out_in_order(rt: HostRuntime) -> Result<(), Fail> {
+    let mut set = BitSet::<2>::new();
+    set.insert(70);
+    set.insert(5);
+    let mut left = set.copy();
+    assert_eq!(rt; left.pop_first(), Some(5));
+    assert_eq!(rt; left.pop_first(), Some(70));
+    assert_eq!(rt; left.pop_first(), None);
+    assert_eq!(rt; set.first(), Some(5));
+    Ok(())
+}
+
+#[test]
+fn a_walk_gives_each_number_once(rt: HostRuntime) -> Result<(), Fail> {
+    let mut set = BitSet::<3>::new();
+    set.insert(63);
+    set.insert(130);
+    set.insert(131);
+    let mut left = set.members();
+    assert_eq!(rt; left.next_member(), Some(63));
+    assert_eq!(rt; left.next_member(), Some(130));
+    assert_eq!(rt; left.next_member(), Some(131));
+    assert_eq!(rt; left.next_member(), None);
+    assert_eq!(rt; left.next_member(), None);
+    Ok(())
+}
+
+#[test]
 fn a_number_is_near_where_it_stands_in_the_same_word(rt: HostRuntime) -> Result<(), Fail> {
     let mut set = BitSet::<3>::new();
     set.insert(63);
@@ -79,16 +107,45 @@ fn a_search_in_one_word_ends_with_it(rt: HostRuntime) -> Result<(), Fail> {
 }
 
 #[test]
-fn what_another_set_holds_is_passed_over(rt: HostRuntime) -> Result<(), Fail> {
+fn what_another_set_holds_is_put_in(rt: HostRuntime) -> Result<(), Fail> {
     let mut set = BitSet::<2>::new();
     let mut other = BitSet::<2>::new();
     set.insert(5);
     set.insert(64);
-    assert_eq!(rt; set.first_outside(&other), Some(5));
     other.insert(5);
-    assert_eq!(rt; set.first_outside(&other), Some(64));
-    other.insert_all(&set);
-    assert_eq!(rt; set.first_outside(&other), None);
+    other.insert(70);
+    set.insert_all(&other);
+    assert_eq!(rt; set.first_from(0), Some(5));
+    assert_eq!(rt; set.first_from(6), Some(64));
+    assert_eq!(rt; set.first_from(65), Some(70));
+    Ok(())
+}
+
+#[test]
+fn what_two_other_sets_hold_is_passed_over_in_a_word(rt: HostRuntime) -> Result<(), Fail> {
+    let mut set = BitSet::<2>::new();
+    let mut one = BitSet::<2>::new();
+    let mut other = BitSet::<2>::new();
+    set.insert(5);
+    set.insert(66);
+    set.insert(70);
+    one.insert(66);
+    other.insert(5);
+    assert_eq!(rt; set.first_of_word_outside_both(1, &one, &other), Some(70));
+    assert_eq!(rt; set.first_of_word_outside_both(0, &one, &other), None);
+    Ok(())
+}
+
+#[test]
+fn a_word_by_itself_tells_its_numbers_from_its_first(rt: HostRuntime) -> Result<(), Fail> {
+    let mut set = BitSet::<2>::new();
+    set.insert(5);
+    set.insert(66);
+    set.insert(127);
+    let mut word = set.of_word(1);
+    assert_eq!(rt; word.pop_first(), Some(2));
+    assert_eq!(rt; word.pop_first(), Some(63));
+    assert_eq!(rt; word.pop_first(), None);
     Ok(())
 }
 
