@@ -1,6 +1,6 @@
 -- Internal: no public clause reaches these definitions.
 -- How the rows of a table are found: by number, by rank, and for each load and each domain the ranks of its nodes.
-use Rattle.std.specs.Prelude.{◌≡◌, ℕ, ◌<◌, ◌≤◌, ◌⊎◌, Bool, true, false, ◌&&◌, ◌||◌, nat_eq, List, [], length, get_or, map, is_some, Option, Some, None}
+use Rattle.std.specs.Prelude.{◌≡◌, ℕ, ◌/◌, ◌<◌, ◌≤◌, ◌⊎◌, Bool, true, false, ◌&&◌, ◌||◌, nat_eq, List, [], length, get_or, map, is_some, Option, Some, None}
 use Rattle.std.specs.List.{All}
 use Rattle.lrc_code.specs.declared.numbers.NodeNo.{NodeNo}
 use Rattle.lrc_topology.specs.declared.NodeInfo.{NodeInfo}
@@ -49,6 +49,28 @@ pub record IsLeastOutside (sets : List (List Bool)) (bars : ℕ → Bool) (load 
 abbrev pub FindsLeast : List (List Bool) → (ℕ → Bool) → Option ℕ → Type 0
 FindsLeast sets bars None = (load rank : ℕ) → listed sets load rank ≡ true → bars rank ≡ true
 FindsLeast sets bars (Some rank) = (load : ℕ) × IsLeastOutside sets bars load rank
+
+-- the rank is the least of these that is not barred
+pub record IsFirstOpen (Of : ℕ → Type 0) (bars : ℕ → Bool) (rank : ℕ) : Type 0 where
+  pub here : Of rank
+  pub free : bars rank ≡ false
+  pub first : (r : ℕ) → Of r → bars r ≡ false → rank ≤ r
+
+-- what a search for it finds
+abbrev pub FindsOpen : (ℕ → Type 0) → (ℕ → Bool) → Option ℕ → Type 0
+FindsOpen Of bars None = (r : ℕ) → Of r → bars r ≡ true
+FindsOpen Of bars (Some rank) = IsFirstOpen Of bars rank
+
+-- the rank is of the set, and of a word of it
+abbrev pub IsOf : List Bool → ℕ → Type 0
+IsOf set rank = get_or set rank false ≡ true
+
+abbrev pub IsOfWord : List Bool → ℕ → ℕ → Type 0
+IsOfWord set word rank = (rank / 64 ≡ word) × (get_or set rank false ≡ true)
+
+-- the ranks of the set are those of rows
+abbrev pub AreOfRows : Table → List ℕ → List Bool → Type 0
+AreOfRows rows at set = (rank : ℕ) → get_or set rank false ≡ true → (rank < length at) × (get_or at rank 0 < length rows)
 
 -- the rank is of the set
 abbrev pub is_of_set : List Bool → ℕ → Bool

@@ -2,6 +2,7 @@
 #![tactic(auto)]
 
 mod barred_nodes;
+mod barring;
 mod entry;
 pub mod laws;
 mod node_slots;
@@ -12,8 +13,10 @@ mod setup;
 mod spot;
 mod table;
 mod taken;
+mod walk;
 
 pub use barred_nodes::BarredNodes;
+pub use barring::Barring;
 pub use open_node::OpenNode;
 pub use table::SlotTable;
 pub use taken::Taken;

@@ -51,10 +51,10 @@ impl NodeSlots {
         self.node.number
     }
 
-    pub(crate) fn node(&self) -> NodeInfo
-        ensures { result ≡ self.now.node }
+    pub(crate) fn node(&self) -> &NodeInfo
+        ensures { result.now ≡ self.now.node }
     {
-        self.node
+        &self.node
     }
 
     pub(crate) fn is_taken(&self, slot: u16) -> bool

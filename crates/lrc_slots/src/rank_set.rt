@@ -1,5 +1,6 @@
-ghost use Rattle.std.specs.Prelude.{◌≡◌, ℕ, ◌/◌, ◌<◌, true, false, length, get_or, replicate, IsTrue, IsFalse, slice_set};
+ghost use Rattle.std.specs.Prelude.{◌≡◌, ℕ, ◌+◌, ◌*◌, ◌/◌, ◌<◌, true, false, length, get_or, replicate, IsTrue, IsFalse, slice_set};
 ghost use Rattle.lrc_bits.specs.Flags.{FindsFrom, IsFirstFrom};
+ghost use Rattle.lrc_slots.specs.RankWords.{FindsOutsideBoth};
 
 use lrc_bits::BitSet;
 use std::marker::Model;
@@ -92,6 +93,40 @@ impl RankSet {
         }
         let word = self.words.first_from(from / 64 + 1)?;
         Some(self.ranks.first_of_word(word))
+    }
+
+    /// The least rank that is in neither mask. Words without a rank are passed over.
+    #[inline(always)]
+    pub(crate) fn first_outside_both(&self, mask: &BitSet<8>, other: &BitSet<8>) -> Option<usize>
+        ensures { FindsOutsideBoth self.now mask.now other.now result }
+    {
+        let mut left = self.words.copy();
+        while let Some(word) = left.pop_first() {
+            if let Some(rank) = self.ranks.first_of_word_outside_both(word, mask, other) {
+                return Some(rank);
+            }
+        }
+        None
+    }
+
+    /// A set of the words with a rank.
+    #[inline(always)]
+    pub(crate) fn words(&self) -> BitSet<1>
+        ensures long { length result ≡ 64 }
+        ensures low { (word : ℕ) → get_or result word false ≡ true → word < 8 }
+        ensures covered { (rank : ℕ) → get_or self.now rank false ≡ true → get_or result (rank / 64) false ≡ true }
+    {
+        self.words.copy()
+    }
+
+    /// The ranks of one word, told from the word's first.
+    #[inline(always)]
+    pub(crate) fn of_word(&self, word: usize) -> BitSet<1>
+        requires { word < 8 }
+        ensures long { length result ≡ 64 }
+        ensures same { (k : ℕ) → k < 64 → get_or result k false ≡ get_or self.now (64 * word + k) false }
+    {
+        self.ranks.of_word(word)
     }
 
     /// The ranks as a set.

@@ -1,10 +1,10 @@
 ghost use Rattle.std.specs.Prelude.{◌≡◌, ℕ, ◌+◌, ◌<◌, ◌||◌, ◌&&◌, ◌⊎◌, if◌then◌else◌, nat_eq, not, true, false, length, get_or, IfOk, IfSome, IsTrue, IsFalse};
-ghost use Rattle.lrc_slots.specs.Indexes.{listed, is_entry, is_entry_of, FindsFirst, FindsLeast, is_of_set, is_of_either};
+ghost use Rattle.lrc_slots.specs.Indexes.{listed, is_entry, is_entry_of, IsFrom, FindsFirst, FindsLeast, is_of_set, is_of_either};
 
 use crate::entry::Entry;
 use crate::rank_set::RankSet;
 use crate::spot::Spot;
-use lrc_bits::BitSet;
+use lrc_bits::{BitSet, Members};
 use std::alloc::{AllocError, Global};
 use std::marker::Model;
 
@@ -84,15 +84,7 @@ impl RankSets {
     pub(crate) fn first_outside(&self, mask: &BitSet<8>) -> Option<usize>
         ensures { FindsLeast self.now (is_of_set mask.now) result }
     {
-        let mut from = 0;
-        while let Some(load) = self.used.first_from(from) {
-            let set = &self.sets[load];
-            if let Some(rank) = set.ranks().first_outside(mask) {
-                return Some(rank);
-            }
-            from = load + 1;
-        }
-        None
+        self.first_outside_both(mask, mask)
     }
 
     /// The least rank of the least load that is in neither mask.
@@ -101,13 +93,13 @@ impl RankSets {
     {
         let least = self.used.first()?;
         let set = &self.sets[least];
-        if let Some(rank) = set.ranks().first_outside_both(mask, other) {
+        if let Some(rank) = set.first_outside_both(mask, other) {
             return Some(rank);
         }
         let mut from = least + 1;
         while let Some(load) = self.used.first_from(from) {
             let set = &self.sets[load];
-            if let Some(rank) = set.ranks().first_outside_both(mask, other) {
+            if let Some(rank) = set.first_outside_both(mask, other) {
                 return Some(rank);
             }
             from = load + 1;
@@ -120,6 +112,7 @@ impl RankSets {
         requires { from.load < 256 }
         ensures first { FindsFirst self.now from result }
         ensures within { IfSome result (λ s. s.load < 256) }
+        ensures onward { IfSome result (λ s. IsFrom from.load from.rank s.load s.rank) }
     {
         let set = &self.sets[from.load];
         if let Some(rank) = set.first_from(from.rank) {
@@ -137,10 +130,27 @@ impl RankSets {
         requires { least < 256 }
         ensures first { FindsFirst self.now (record { load = least + 1; rank = 0 }) result }
         ensures within { IfSome result (λ s. s.load < 256) }
+        ensures onward { IfSome result (λ s. least < s.load) }
     {
         let load = self.used.first_from(least + 1)?;
         let rank = self.sets[load].first();
         Some(Spot { load, rank })
+    }
+
+    /// A walk over the numbers with a rank.
+    pub(crate) fn used(&self) -> Members<'_>
+        ensures long { length result ≡ 256 }
+        ensures covered { (l r : ℕ) → listed self.now l r ≡ true → get_or result l false ≡ true }
+    {
+        self.used.members()
+    }
+
+    /// The ranks under a number, and which words of the set have one.
+    pub(crate) fn under(&self, number: usize) -> &RankSet
+        requires { number < 256 }
+        ensures { (r : ℕ) → get_or result.now r false ≡ listed self.now number r }
+    {
+        &self.sets[number]
     }
 
     /// The ranks under a number.

@@ -11,15 +11,11 @@ ghost use Rattle.lrc_slots.specs.Rows.{fresh_row, place_of, alone, is_open, prec
 
 use crate::node_slots::NodeSlots;
 use crate::rank_sets::RankSets;
-use crate::spot::Spot;
-use crate::{BarredNodes, OpenNode, Taken, setup};
+use crate::{BarredNodes, Barring, OpenNode, Taken, setup};
 use lrc_code::{Fault, FaultNo, NodeNo, UpgradeNo};
 use lrc_topology::{NodeIndex, NodeInfo, Topology};
 use std::alloc::{AllocError, Global};
 use std::marker::Model;
-
-/// How many rows are looked at one by one, before the nodes of barred domains are joined.
-const WALKED: u32 = 32;
 
 /// The taken slots of the nodes of a topology, and which of the nodes are eligible.
 ///
@@ -27,19 +23,19 @@ const WALKED: u32 = 32;
 #[derive(Drop)]
 pub struct SlotTable {
     /// In the order of the file.
-    rows: Vec<NodeSlots>,
+    pub(crate) rows: Vec<NodeSlots>,
     /// Where the row of each node stands.
     index: NodeIndex,
     /// For each row its node's rank: how many nodes have a lower number.
     ranks: Vec<u16>,
     /// For each rank the place of the row.
-    order: Vec<u16>,
+    pub(crate) order: Vec<u16>,
     /// The ranks of the nodes that are eligible and have a free slot, by load.
-    by_load: RankSets,
+    pub(crate) by_load: RankSets,
     /// The ranks of all nodes, by fault domain.
-    by_fault: RankSets,
+    pub(crate) by_fault: RankSets,
     /// The ranks of all nodes, by upgrade domain.
-    by_upgrade: RankSets,
+    pub(crate) by_upgrade: RankSets,
 }
 
 impl Model for SlotTable {
@@ -107,7 +103,7 @@ impl SlotTable {
         ensures { result ≡ node_at (slots_of self.now).nodes number }
     {
         let row = self.row_of(number)?;
-        Some(row.node())
+        Some(*row.node())
     }
 
     /// The least free slot of a node; `None` where all are taken.
@@ -278,6 +274,16 @@ impl SlotTable {
         Some(row.open())
     }
 
+    /// The node that `choose` would answer where these domains are barred, and its least free slot. Each node is asked
+    /// about by itself.
+    pub fn open_beside_each<B: Barring>(&self, bars: &B) -> Option<OpenNode>
+        ensures node { option_map (λ o. o.node) result ≡ next_node (slots_of self.now) (B.barred bars.now) }
+        ensures slot { IfSome result (λ o. least_free_at (slots_of self.now) o.node.number ≡ Some o.slot) }
+    {
+        let row = self.first_beside_each(bars)?;
+        Some(row.open())
+    }
+
     /// The same where the domains of two sets of barred nodes are barred.
     pub fn open_outside(&self, barred_nodes: &BarredNodes, more: &BarredNodes) -> Option<OpenNode>
         ensures node { (b c : Barred) → AreBarredNodes (slots_of self.now).nodes b barred_nodes.now → AreBarredNodes (slots_of self.now).nodes c more.now
@@ -295,32 +301,7 @@ impl SlotTable {
         self.by_load.has_any()
     }
 
-    /// The row that is chosen before all others that may take a seat. Where few domains are barred, one of the first
-    /// rows is not; behind those the nodes of barred domains are joined.
-    fn first_beside(&self, bars: &Taken) -> Option<&NodeSlots>
-        ensures row { option_copied result ≡ least precedes (filter (is_open (barred bars.now)) self.now) }
-        ensures known { IfSome result (λ r. Contains self.now r.now) }
-        ensures room { IfSome result (λ r. IsSome (least_free (alone r.now) r.now.node)) }
-        ensures nodes { AreNodes (map (λ r. r.node) self.now) }
-    {
-        let mut from = Spot { load: 0, rank: 0 };
-        for _ in 0..WALKED {
-            let spot = self.by_load.first_from(from)?;
-            let place = self.order[spot.rank] as usize;
-            let row = &self.rows[place];
-            if !bars.bars(row.node()) {
-                return Some(row);
-            }
-            from = Spot {
-                load: spot.load,
-                rank: spot.rank + 1,
-            };
-        }
-        let barred_nodes = bars.nodes(&self.by_fault, &self.by_upgrade);
-        self.first_open(&barred_nodes)
-    }
-
-    /// The same where the nodes of both are barred.
+    /// The row that is chosen before all others that may take a seat where the nodes of both are barred.
     fn first_outside_both(
         &self,
         barred_nodes: &BarredNodes,
@@ -340,7 +321,7 @@ impl SlotTable {
     }
 
     /// The same outside these nodes.
-    fn first_open(&self, barred_nodes: &BarredNodes) -> Option<&NodeSlots>
+    pub(crate) fn first_open(&self, barred_nodes: &BarredNodes) -> Option<&NodeSlots>
         ensures row { (b : Barred) → AreBarredNodes (map (λ r. r.node) self.now) b barred_nodes.now
             → option_copied result ≡ least precedes (filter (is_open b) self.now) }
         ensures known { IfSome result (λ r. Contains self.now r.now) }

@@ -3,8 +3,8 @@ ghost use Rattle.lrc_slots.specs.Indexes.{IsJoined};
 ghost use Rattle.lrc_slots.specs.Barred.{no_bars, with_fault, with_upgrade};
 ghost use Rattle.lrc_slots.specs.Tables.{barred};
 
-use crate::BarredNodes;
 use crate::rank_sets::RankSets;
+use crate::{BarredNodes, Barring};
 use lrc_bits::BitSet;
 use lrc_code::{FaultNo, UpgradeNo};
 use lrc_topology::NodeInfo;
@@ -54,14 +54,6 @@ impl Taken {
         self.upgrades.insert(domain.value as usize);
     }
 
-    /// Whether a node is in a barred domain.
-    pub(crate) fn bars(&self, node: NodeInfo) -> bool
-        ensures { result ≡ ((barred self.now).faults node.fault || (barred self.now).upgrades node.upgrade) }
-    {
-        self.faults.contains(node.fault.value as usize)
-            || self.upgrades.contains(node.upgrade.value as usize)
-    }
-
     /// The nodes of barred domains.
     pub(crate) fn nodes(&self, by_fault: &RankSets, by_upgrade: &RankSets) -> BarredNodes
         ensures { (r : ℕ) → (get_or result r false ≡ true) ↔ (IsJoined self.now.faults by_fault.now r ⊎ IsJoined self.now.upgrades by_upgrade.now r) }
@@ -70,5 +62,16 @@ impl Taken {
         by_fault.join(&self.faults, &mut ranks);
         by_upgrade.join(&self.upgrades, &mut ranks);
         BarredNodes::of_ranks(ranks)
+    }
+}
+
+impl Barring for Taken {
+    ghost use Rattle.lrc_slots.specs.Tables as tables;
+
+    ghost barred = { tables.barred };
+
+    fn bars(&self, node: &NodeInfo) -> bool {
+        self.faults.contains(node.fault.value as usize)
+            || self.upgrades.contains(node.upgrade.value as usize)
     }
 }

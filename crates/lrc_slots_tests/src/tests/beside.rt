@@ -74,6 +74,7 @@ fn choose_alike(table: &SlotTable, plain: &PlainTable, bars: &Bars) -> bool {
     table.choose(&bars.taken) == chosen
         && table.choose_outside(&bars.nodes) == chosen
         && table.open_beside(&bars.taken) == open
+        && table.open_beside_each(&bars.taken) == open
         && table.open_outside(&bars.fault_nodes, &bars.upgrade_nodes) == open
         && table.has_open_node() == plain.has_open_node()
 }

@@ -10,7 +10,7 @@ pub returns-in_err-spot-clause-row : goal.returns-in_err-spot-clause-row
 returns-in_err-spot-clause-row c =
     let s = c.self.inside in
     let h = c.self.invariant in
-    let b = barred c.args.bars.now in
+    let b = barred c.args.taken.now in
     let all = walked-none h.ranked h.by_load b c.loop.from c.loop.invariant.passed c.in_err-spot.ensures.first in
     rw (c.from_residual.ensures, ← c.self.view_is)
     (sym (none-open s.rows.items h.nodes h.ranked h.by_load b (is_barred_at s.rows.items s.order.items b) (barred-at h.ranked h.by_load b) all))
@@ -19,7 +19,7 @@ pub returns-then-not-bars-clause-row : goal.returns-then-not-bars-clause-row
 returns-then-not-bars-clause-row c =
     let s = c.self.inside in
     let h = c.self.invariant in
-    let b = barred c.args.bars.now in
+    let b = barred c.args.taken.now in
     let spot = c.in_ok-spot.spot in
     let found = c.in_ok-spot.ensures.first in
     let free = read-barred h.ranked h.by_load spot.load spot.rank found.here c.index.result.now c.index.ensures
@@ -41,6 +41,6 @@ returns-then-not-bars-clause-room c =
 pub returns-clause-row : goal.returns-clause-row
 returns-clause-row c =
     let h = c.self.invariant in
-    let b = barred c.args.bars.now in
-    let each = mask-bars h.by_fault h.by_upgrade c.args.bars.now c.nodes-barred_nodes.result c.nodes-barred_nodes.ensures in
+    let b = barred c.args.taken.now in
+    let each = mask-bars h.by_fault h.by_upgrade c.args.taken.now c.nodes-barred_nodes.result c.nodes-barred_nodes.ensures in
     c.first_open.ensures.row b (rw (← c.self.view_is) (barred-nodes h.ranked b c.nodes-barred_nodes.result each))

@@ -7,5 +7,5 @@ abbrev pub invariant-loop : goal.invariant-loop
 invariant-loop l = record {
   within : l.from.load < 256;
   passed : (load rank : ℕ) → listed l.self-inside.by_load load rank ≡ true
-      → is_barred_at l.self-inside.rows.items l.self-inside.order.items (barred l.bars) rank ≡ false → IsFrom l.from.load l.from.rank load rank;
+      → is_barred_at l.self-inside.rows.items l.self-inside.order.items (barred l.taken) rank ≡ false → IsFrom l.from.load l.from.rank load rank;
 }
