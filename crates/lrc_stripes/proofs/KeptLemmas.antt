@@ -3,7 +3,6 @@ use Rattle.std.proofs.Common.{◌≡◌, ℕ, zero, suc, ◌<◌, inl, inr, Bool
 use Rattle.std.specs.List.{list_any}
 use Rattle.std.proofs.lemmas.Bool.{cases_Bool, cases_eq, eq-eqb, ne_eqb, eqb-true, lt-ltb}
 use Rattle.std.proofs.lemmas.List.{get_or-set_same, get_or-set_other}
-use Rattle.std.proofs.lemmas.List.Folds.{list_any_at}
 use Rattle.std.proofs.lemmas.Option.{same_Some}
 use Rattle.lrc_code.specs.declared.losses.LossMask.{LossMask}
 use Rattle.lrc_code.specs.declared.numbers.StripeNo.{StripeNo}
@@ -173,16 +172,16 @@ module _ (sites : Sited) (rows : StripeNo → Option Row) (kept : IsKept sites r
       pub kept-rehome : (home : Option Seat) (after : StripeNo → Option Row) → q.homes ≡ set r.homes f home → AreWith sites f home (renewed sites.online r.homes r.losses) q.losses
           → after ≡ (λ s. if same_stripe stripe s then Some q else rows s)
           → IsKept (record sites {
-            on = λ n s. (same_stripe stripe s && sits_on n home)
-                || (not (same_stripe stripe s && (sits_on n (get_or r.homes f None) && not (is_row_on n (after stripe)))) && sites.on n s);
+            on = λ n s. not (same_stripe stripe s && (sits_on n (get_or r.homes f None) && not (is_row_on n (after stripe))))
+                && ((same_stripe stripe s && sits_on n home) || sites.on n s);
           }) after
       kept-rehome home after homes with is = kept-put (Some q)
-          (λ n s. (same_stripe stripe s && sits_on n home) || (not (same_stripe stripe s && (sits_on n (get_or r.homes f None) && not (is_row_on n (after stripe)))) && sites.on n s)) after is
+          (λ n s. not (same_stripe stripe s && (sits_on n (get_or r.homes f None) && not (is_row_on n (after stripe)))) && ((same_stripe stripe s && sits_on n home) || sites.on n s)) after is
           (rehomed home (renewed sites.online r.homes r.losses) (renewed-exact sites.online sites.draining r.homes r.losses here-losses) homes with)
           (λ n s. elim (cases_Bool (same_stripe stripe s)) [
             | inl same ↦
                 rw (same, here-on n s same)
-                (turn (sits_on n home) (sits_on n (get_or r.homes f None)) (is_row_on n (after stripe)) (list_any (sits_on n) r.homes) (both n) (λ hit. on-after n ∙ there n hit) ∙ on-after n)
+                (turn (sits_on n (get_or r.homes f None)) (is_row_on n (after stripe)) (sits_on n home || list_any (sits_on n) r.homes) (both n) ∙ on-after n)
             | inr other ↦ rw other refl
           ])
         where
@@ -194,16 +193,10 @@ module _ (sites : Sited) (rows : StripeNo → Option Row) (kept : IsKept sites r
               any-set (sits_on n) r.homes f home many
               ∙ ap (λ (b : Bool). sits_on n (get_or r.homes f None) || b) (ap (list_any (sits_on n)) (sym homes) ∙ sym (on-after n))
 
-          there : (n : NodeNo) → sits_on n home ≡ true → list_any (sits_on n) q.homes ≡ true
-          there n hit =
-              list_any_at (sits_on n) q.homes f None (let all = q.sixteen in omega (arith, low, all))
-              (ap (sits_on n) (ap (λ (hs : List (Option Seat)). get_or hs f None) homes ∙ get_or-set_same r.homes f home None many) ∙ hit)
-
-          turn : (h a b o : Bool) → (h || o) ≡ (a || b) → (h ≡ true → b ≡ true) → (h || (not (a && not b) && o)) ≡ b
-          turn true a b o e hit = sym (hit refl)
-          turn false true true o e hit = e
-          turn false true false o e hit = refl
-          turn false false b o e hit = e
+          turn : (a b o : Bool) → o ≡ (a || b) → (not (a && not b) && o) ≡ b
+          turn true true o e = e
+          turn true false o e = refl
+          turn false b o e = e
 
 -- ---- at first
 

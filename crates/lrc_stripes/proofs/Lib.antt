@@ -26,3 +26,4 @@ pub mod SeatedLemmas
 pub mod BitLemmas
 pub mod NotedLemmas
 pub mod ClearLemmas
+pub mod DomainLemmas

@@ -113,3 +113,44 @@ one-mask zero_bits one f g none is =
 pub put-one : (before after one f : ℕ) (b : Bool) → ((g : ℕ) → bits_set one g ≡ eqb g f) → ((g : ℕ) → bits_set after g ≡ (if bits_set one g then b else bits_set before g))
     → (g : ℕ) → bits_set after g ≡ (if eqb g f then b else bits_set before g)
 put-one before after one f b is put g = put g ∙ ap (λ (x : Bool). if x then b else bits_set before g) (is g)
+
+-- ---- masks that begin full
+
+module _ (m : ℕ → Bool) where
+  -- the fragments so far are in the mask where they are in the set, and so are all behind them
+  abbrev pub IsLeft : ℕ → ℕ → Type 0
+  IsLeft i bits = (f : ℕ) → bits_set bits f ≡ (if ltb f i then m f else ltb f 16)
+
+  pub left-first : (bits : ℕ) → bits ≡ 65535 → IsLeft 0 bits
+  left-first bits full f = full-mask bits full f ∙ sym (ap (λ (b : Bool). if b then m f else ltb f 16) (le-ltb f 0 (omega arith)))
+
+  left-next : (i bits next : ℕ) → IsLeft i bits → ((f : ℕ) → bits_set next f ≡ (if eqb f i then m i else bits_set bits f)) → IsLeft (i + 1) next
+  left-next i bits next before after f = after f ∙ (elim (cases_eq f i) [
+    | inl same ↦ rw (eq-eqb f i same, lt-ltb f (i + 1) (omega (arith, same))) (ap m (sym same))
+    | inr other ↦ elim (cases_lt f i) [
+      | inl below ↦ rw (ne_eqb f i other, before f, lt-ltb f i below, lt-ltb f (i + 1) (omega (arith, below))) refl
+      | inr above ↦ rw (ne_eqb f i other, before f, le-ltb f i above, le-ltb f (i + 1) (omega (arith, above, other))) refl
+    ]
+  ])
+
+  -- the next fragment stays
+  pub left-in : (i bits : ℕ) → i < 16 → m i ≡ true → IsLeft i bits → IsLeft (i + 1) bits
+  left-in i bits low hit before = left-next i bits bits before (λ f. elim (cases_eq f i) [
+    | inl same ↦
+        rw (eq-eqb f i same, hit)
+        (before f ∙ (ap (λ (b : Bool). if b then m f else ltb f 16) (le-ltb f i (omega (arith, same))) ∙ lt-ltb f 16 (omega (arith, same, low))))
+    | inr other ↦ rw (ne_eqb f i other) refl
+  ])
+
+  -- the next fragment is taken out
+  pub left-out : (i bits next k : ℕ) → k ≡ i → m i ≡ false → IsLeft i bits → ((f : ℕ) → bits_set next f ≡ (not (eqb f k) && bits_set bits f)) → IsLeft (i + 1) next
+  left-out i bits next k number miss before after = left-next i bits next before (λ f. after f ∙ (elim (cases_eq f i) [
+    | inl same ↦ rw (number, eq-eqb f i same, miss) refl
+    | inr other ↦ rw (number, ne_eqb f i other) refl
+  ]))
+
+  pub left-all : (i bits : ℕ) → i ≡ 16 → IsLeft i bits → (f : ℕ) → bits_set bits f ≡ (ltb f 16 && m f)
+  left-all i bits all is f = is f ∙ (rw all (by (ltb f 16))) where
+    by : (b : Bool) → (if b then m f else b) ≡ (b && m f)
+    by true = refl
+    by false = refl

@@ -1,22 +1,23 @@
 -- Rows by the stripes' numbers, and the queues that follow from them.
-use Rattle.std.proofs.Common.{◌≡◌, ℕ, zero, suc, ◌<◌, ◌≤◌, ◌+◌, inl, inr, Bool, true, false, cond, ◌&&◌, nat_lt, List, length, get_or, set, replicate, Option, Some, None, is_some, option_and_then, arith, refl, sym, ap, ◌∙◌, subst}
+use Rattle.std.proofs.Common.{◌≡◌, ◌≢◌, not, ℕ, zero, suc, ◌<◌, inl, inr, Bool, true, false, cond, ◌&&◌, nat_lt, List, length, get_or, set, replicate, Option, Some, None, is_some, option_and_then, arith, refl, sym, ap, ◌∙◌, subst}
 use Rattle.std.proofs.Math.Path.{fun_ext}
 use Rattle.std.proofs.Math.ListN.{length-set}
-use Rattle.std.proofs.lemmas.Bool.{cases_eq, cases_lt, eq-eqb, ne_eqb, eqb-true}
+use Rattle.std.proofs.lemmas.Bool.{cases_eq, eq-eqb, ne_eqb, eqb-true}
 use Rattle.std.proofs.lemmas.List.{length-replicate, get_or-set_same, get_or-set_other}
 use Rattle.lrc_code.specs.declared.losses.LossMask.{LossMask}
 use Rattle.lrc_code.specs.declared.numbers.NodeNo.{NodeNo}
 use Rattle.lrc_code.specs.declared.numbers.StripeNo.{StripeNo}
+use Rattle.lrc_topology.specs.declared.seat.Seat.{Seat}
 use Rattle.lrc_code.specs.Losses.{bits_set}
 use Rattle.lrc_code.specs.Numbers.{same_stripe}
 use Rattle.lrc_code.proofs.NumbersLemmas.{equal_stripes}
 use Rattle.lrc_stripes.specs.declared.losses.Losses.{Losses}
 use Rattle.lrc_stripes.specs.declared.row.Row.{Row}
-use Rattle.lrc_stripes.specs.Sets.{at_rank, has, IsNext}
+use Rattle.lrc_stripes.specs.Sets.{at_rank, has}
 use Rattle.lrc_stripes.specs.Rows.{sits_on}
 use Rattle.lrc_stripes.specs.Tables.{rows_in}
 use Rattle.lrc_stripes.specs.Masks.{work_rank, is_at, renewed}
-use Rattle.lrc_stripes.specs.Kept.{AreQueued, needs_of, AreRenewed, IsRenewed, IsWithLosses, IsWithMissing, IsMissingOn, IsToMoveOn, queued}
+use Rattle.lrc_stripes.specs.Kept.{AreQueued, needs_of, AreRenewed, IsRenewed, IsWithLosses, IsWithMissing, IsMissingOn, IsRehomed, IsToMoveOn, queued}
 
 -- ---- no rows
 
@@ -146,6 +147,12 @@ pub renewed-there : (R : Row → Row → Type 0) (old new : Option Row) → IsRe
 renewed-there R None new none = ap (λ (o : Option Row). is_some o) none
 renewed-there R (Some r) new changed = ap (λ (o : Option Row). is_some o) changed.1
 
+-- what a row that is there has become with a home of one fragment, or without
+pub rehomed-there : (f : ℕ) (home : Option Seat) (given : Losses) (old new : Option Row) → IsRenewed (IsRehomed f home given) old new → is_some old ≡ true
+    → (q : Row) × (new ≡ Some q) × (q.losses ≡ given)
+rehomed-there f home given None new none there = absurd (let clash : false ≡ true = there in cc)
+rehomed-there f home given (Some r) new changed there = (changed.0, changed.1, changed.2.losses)
+
 -- what a row that has become another needs, where the change leaves that
 pub renewed-needs : (R : Row → Row → Type 0) → ((r q : Row) → R r q → q.losses.needs ≡ r.losses.needs) → (old new : Option Row) → IsRenewed R old new
     → needs_of new ≡ needs_of old
@@ -227,85 +234,87 @@ to_move_on-put online n are_in fragments losses r q on homeless missing needs is
 
 -- ---- the rows of a set, in turn
 
+-- the stripe is taken from a set
+pub record IsTaken (left : StripeNo → Bool) (s : StripeNo) (after : StripeNo → Bool) : Type 0 where
+  pub there : left s ≡ true
+  pub rest : after ≡ (λ t. not (same_stripe s t) && left t)
+
+module _ (left after : StripeNo → Bool) (s : StripeNo) (is : IsTaken left s after) where
+  taken-own : (t : StripeNo) → s.value ≡ t.value → after t ≡ false
+  taken-own t same = ap (λ (f : StripeNo → Bool). f t) is.rest ∙ ap (λ b. not b && left t) (eq-eqb s.value t.value same)
+
+  taken-other : (t : StripeNo) → s.value ≢ t.value → after t ≡ left t
+  taken-other t other = ap (λ (f : StripeNo → Bool). f t) is.rest ∙ ap (λ b. not b && left t) (ne_eqb s.value t.value other)
+
 module _ (set_of : StripeNo → Bool) (R : Row → Row → Type 0) (before : StripeNo → Option Row) where
-  -- those of the set below a number have become others, and all the rest are as they were
-  pub record AreRenewedTo (now : StripeNo → Option Row) (from : ℕ) : Type 0 where
-    pub passed : (s : StripeNo) → s.value < from → set_of s ≡ true → IsRenewed R (before s) (now s)
-    pub left : (s : StripeNo) → from ≤ s.value → now s ≡ before s
+  -- those of the set that are not left have become others, and all the rest are as they were
+  pub record AreRenewedBut (left : StripeNo → Bool) (now : StripeNo → Option Row) : Type 0 where
+    pub passed : (s : StripeNo) → left s ≡ false → set_of s ≡ true → IsRenewed R (before s) (now s)
+    pub waiting : (s : StripeNo) → left s ≡ true → now s ≡ before s
     pub others : (s : StripeNo) → set_of s ≡ false → now s ≡ before s
+    pub within : (s : StripeNo) → left s ≡ true → set_of s ≡ true
 
-  pub renewed-first : AreRenewedTo before 0
-  renewed-first = record { passed = λ s below. absurd (omega (arith, below)); left = λ s later. refl; others = λ s lacks. refl }
-
-  pub renewed-next : (now next : StripeNo → Option Row) (from : ℕ) (s : StripeNo) → IsNext set_of from s → AreRenewedTo now from
-      → ((t : StripeNo) → same_stripe s t ≡ false → next t ≡ now t) → IsRenewed R (before s) (next s) → AreRenewedTo next (s.value + 1)
-  renewed-next now next from s is so_far rest renewed = record {
-    passed = λ t below there. elim (cases_eq s.value t.value) [
-      | inl same ↦ subst (λ (x : StripeNo). IsRenewed R (before x) (next x)) (equal_stripes s t same) renewed
-      | inr other ↦
-          let lower : t.value < s.value = omega (arith, below, other) in
-          elim (cases_lt t.value from) [
-            | inl old ↦ subst (IsRenewed R (before t)) (sym (rest t (ne_eqb s.value t.value other))) (so_far.passed t old there)
-            | inr new ↦ absurd (let miss = is.first t new lower in let clash : true ≡ false = sym there ∙ miss in cc)
-          ]
-    ];
-    left = λ t later.
-        let less = is.later in
-        rest t (ne_eqb s.value t.value (λ e. omega (arith, e, later))) ∙ so_far.left t (omega (arith, less, later));
-    others = λ t lacks. elim (cases_eq s.value t.value) [
-      | inl same ↦
-          absurd (let hit : set_of t ≡ true = ap set_of (sym (equal_stripes s t same)) ∙ is.has in let clash : true ≡ false = sym hit ∙ lacks in cc)
-      | inr other ↦ rest t (ne_eqb s.value t.value other) ∙ so_far.others t lacks
-    ];
+  pub renewed-first : AreRenewedBut set_of before
+  renewed-first = record {
+    passed = λ s none there. absurd (let clash : true ≡ false = sym there ∙ none in cc);
+    waiting = λ s there. refl;
+    others = λ s lacks. refl;
+    within = λ s there. there;
   }
 
-  -- the next stripe's row becomes another
-  pub renewed-put : (now next : StripeNo → Option Row) (from : ℕ) (s : StripeNo) (r q : Row) → IsNext set_of from s → AreRenewedTo now from → now s ≡ Some r
-      → next ≡ (λ t. cond (same_stripe s t) (Some q) (now t)) → R r q → AreRenewedTo next (s.value + 1)
-  renewed-put now next from s r q is so_far there put holds =
-      let was : before s ≡ Some r = let later = is.later in sym (so_far.left s later) ∙ there in
-      let to : next s ≡ Some q = ap (λ (f : StripeNo → Option Row). f s) put ∙ ap (λ b. cond b (Some q) (now s)) (eq-eqb s.value s.value refl) in
-      renewed-next now next from s is so_far (λ t other. ap (λ (f : StripeNo → Option Row). f t) put ∙ ap (λ b. cond b (Some q) (now t)) other)
-      (subst (λ (o : Option Row). IsRenewed R o (next s)) (sym was) (q, to, holds))
+  module _ (left after : StripeNo → Bool) (now next : StripeNo → Option Row) (s : StripeNo) (taken : IsTaken left s after) (so_far : AreRenewedBut left now) where
+    renewed-next : ((t : StripeNo) → same_stripe s t ≡ false → next t ≡ now t) → IsRenewed R (before s) (next s) → AreRenewedBut after next
+    renewed-next rest renewed = record {
+      passed = λ t none there. elim (cases_eq s.value t.value) [
+        | inl same ↦ subst (λ (x : StripeNo). IsRenewed R (before x) (next x)) (equal_stripes s t same) renewed
+        | inr other ↦
+            subst (IsRenewed R (before t)) (sym (rest t (ne_eqb s.value t.value other)))
+            (so_far.passed t (sym (taken-other left after s taken t other) ∙ none) there)
+      ];
+      waiting = λ t later. elim (cases_eq s.value t.value) [
+        | inl same ↦ absurd (let clash : true ≡ false = sym later ∙ taken-own left after s taken t same in cc)
+        | inr other ↦ rest t (ne_eqb s.value t.value other) ∙ so_far.waiting t (sym (taken-other left after s taken t other) ∙ later)
+      ];
+      others = λ t lacks. elim (cases_eq s.value t.value) [
+        | inl same ↦
+            absurd (let hit : set_of t ≡ true = ap set_of (sym (equal_stripes s t same)) ∙ so_far.within s taken.there in let clash : true ≡ false = sym hit ∙ lacks in cc)
+        | inr other ↦ rest t (ne_eqb s.value t.value other) ∙ so_far.others t lacks
+      ];
+      within = λ t later. elim (cases_eq s.value t.value) [
+        | inl same ↦ absurd (let clash : true ≡ false = sym later ∙ taken-own left after s taken t same in cc)
+        | inr other ↦ so_far.within t (sym (taken-other left after s taken t other) ∙ later)
+      ];
+    }
 
-  -- it becomes another by a change of it alone
-  pub renewed-one : (Q : Row → Row → Type 0) (now next : StripeNo → Option Row) (from : ℕ) (s : StripeNo) (r : Row) → IsNext set_of from s → AreRenewedTo now from
-      → now s ≡ Some r → AreRenewed (same_stripe s) Q now next → ((q : Row) → Q r q → R r q) → AreRenewedTo next (s.value + 1)
-  renewed-one Q now next from s r is so_far there one gives =
-      let was : before s ≡ Some r = let later = is.later in sym (so_far.left s later) ∙ there in
-      let changed : IsRenewed Q (Some r) (next s) = subst (λ (o : Option Row). IsRenewed Q o (next s)) there (one.listed s (eq-eqb s.value s.value refl)) in
-      renewed-next now next from s is so_far one.others
-      (subst (λ (o : Option Row). IsRenewed R o (next s)) (sym was) (changed.0, changed.1, gives changed.0 changed.2))
+    -- the stripe's row becomes another by a change of it alone
+    pub renewed-one : (Q : Row → Row → Type 0) (r : Row) → now s ≡ Some r → AreRenewed (same_stripe s) Q now next → ((q : Row) → Q r q → R r q) → AreRenewedBut after next
+    renewed-one Q r there one gives =
+        let was : before s ≡ Some r = sym (so_far.waiting s taken.there) ∙ there in
+        let changed : IsRenewed Q (Some r) (next s) = subst (λ (o : Option Row). IsRenewed Q o (next s)) there (one.listed s (eq-eqb s.value s.value refl)) in
+        renewed-next one.others (subst (λ (o : Option Row). IsRenewed R o (next s)) (sym was) (changed.0, changed.1, gives changed.0 changed.2))
 
-  -- it has none
-  pub renewed-absent : (now : StripeNo → Option Row) (from : ℕ) (s : StripeNo) → IsNext set_of from s → AreRenewedTo now from → now s ≡ None
-      → AreRenewedTo now (s.value + 1)
-  renewed-absent now from s is so_far none =
-      let was : before s ≡ None = let later = is.later in sym (so_far.left s later) ∙ none in
-      renewed-next now now from s is so_far (λ t other. refl) (subst (λ (o : Option Row). IsRenewed R o (now s)) (sym was) none)
+    -- it becomes another, if it is there
+    pub renewed-more : AreRenewed (same_stripe s) R now next → AreRenewedBut after next
+    renewed-more one =
+        let was : before s ≡ now s = sym (so_far.waiting s taken.there) in
+        renewed-next one.others (subst (λ (o : Option Row). IsRenewed R o (next s)) (sym was) (one.listed s (eq-eqb s.value s.value refl)))
 
-  -- it becomes another, if it is there
-  pub renewed-more : (now next : StripeNo → Option Row) (from : ℕ) (s : StripeNo) → IsNext set_of from s → AreRenewedTo now from → AreRenewed (same_stripe s) R now next
-      → AreRenewedTo next (s.value + 1)
-  renewed-more now next from s is so_far one =
-      let was : before s ≡ now s = let later = is.later in sym (so_far.left s later) in
-      renewed-next now next from s is so_far one.others (subst (λ (o : Option Row). IsRenewed R o (next s)) (sym was) (one.listed s (eq-eqb s.value s.value refl)))
+  module _ (left after : StripeNo → Bool) (now : StripeNo → Option Row) (s : StripeNo) (taken : IsTaken left s after) (so_far : AreRenewedBut left now) where
+    -- it has none
+    pub renewed-absent : now s ≡ None → AreRenewedBut after now
+    renewed-absent none =
+        let was : before s ≡ None = sym (so_far.waiting s taken.there) ∙ none in
+        renewed-next left after now now s taken so_far (λ t other. refl) (subst (λ (o : Option Row). IsRenewed R o (now s)) (sym was) none)
 
-  -- it stays as it is, if it is there
-  pub renewed-same : (now : StripeNo → Option Row) (from : ℕ) (s : StripeNo) → IsNext set_of from s → AreRenewedTo now from → ((r : Row) → now s ≡ Some r → R r r)
-      → AreRenewedTo now (s.value + 1)
-  renewed-same now from s is so_far same =
-      let was : before s ≡ now s = let later = is.later in sym (so_far.left s later) in
-      renewed-next now now from s is so_far (λ t other. refl) (subst (λ (o : Option Row). IsRenewed R o (now s)) (sym was) (by (now s) refl)) where
-        by : (o : Option Row) → now s ≡ o → IsRenewed R o o
-        by None none = refl
-        by (Some r) there = (r, refl, same r there)
+    -- it stays as it is, if it is there
+    pub renewed-same : ((r : Row) → now s ≡ Some r → R r r) → AreRenewedBut after now
+    renewed-same same =
+        let was : before s ≡ now s = sym (so_far.waiting s taken.there) in
+        renewed-next left after now now s taken so_far (λ t other. refl) (subst (λ (o : Option Row). IsRenewed R o (now s)) (sym was) (by (now s) refl)) where
+          by : (o : Option Row) → now s ≡ o → IsRenewed R o o
+          by None none = refl
+          by (Some r) there = (r, refl, same r there)
 
-  pub renewed-all : (now : StripeNo → Option Row) (from : ℕ) → ((t : StripeNo) → from ≤ t.value → set_of t ≡ false) → AreRenewedTo now from → AreRenewed set_of R before now
-  renewed-all now from none so_far = record {
-    listed = λ s there. elim (cases_lt s.value from) [
-      | inl below ↦ so_far.passed s below there
-      | inr later ↦ absurd (let miss = none s later in let clash : true ≡ false = sym there ∙ miss in cc)
-    ];
-    others = so_far.others;
-  }
+  -- none is left
+  pub renewed-all : (left : StripeNo → Bool) (now : StripeNo → Option Row) → ((t : StripeNo) → left t ≡ false) → AreRenewedBut left now → AreRenewed set_of R before now
+  renewed-all left now none so_far = record { listed = λ s there. so_far.passed s (none s) there; others = so_far.others }

@@ -1,6 +1,6 @@
 -- Internal: no public clause reaches these definitions.
 -- What is kept of the stripes beside their homes: the masks of each row, and the stripes on each node.
-use Rattle.std.specs.Prelude.{◌≡◌, ◌≢◌, ℕ, ◌+◌, ◌-◌, ◌≤◌, Bool, true, false, IfSome, if◌then◌else◌, List, [], ◌∷◌, ◌++◌, length, get_or, set, map, filter, drop, Option, Some, None, is_some, option_and_then, option_map}
+use Rattle.std.specs.Prelude.{◌≡◌, ◌≢◌, ℕ, ◌+◌, ◌-◌, ◌≤◌, Bool, true, false, IfSome, if◌then◌else◌, List, [], ◌∷◌, ◌++◌, length, get_or, set, map, filter, Option, Some, None, is_some, option_and_then, option_map}
 use Rattle.std.specs.Option.{option_map_or}
 use Rattle.std.specs.List.{list_any, flat_map, range_with_len}
 use Rattle.lrc_code.specs.declared.codes.Code.TheVariants.{Wide}
@@ -87,24 +87,18 @@ pub record IsToMoveOn (online : NodeNo → Bool) (n : NodeNo) (are_to_move : Boo
 
 -- ---- the homes on a node
 
--- the fragments of a stripe on the node, from this number on
-abbrev pub row_places : NodeNo → ℕ → StripeNo → Option Row → List StripeFragment
-row_places n from s None = []
-row_places n from s (Some r) = map (λ f. (s, f)) (filter (sits_at n r.homes) (drop from (fragments Wide)))
+-- the fragments of a stripe that a mask has
+abbrev pub places_in : StripeNo → ℕ → List StripeFragment
+places_in s bits = map (λ f. (s, f)) (filter (λ f. bits_set bits f.value) (fragments Wide))
+
+-- the fragments of a stripe on the node
+abbrev pub row_places : NodeNo → StripeNo → Option Row → List StripeFragment
+row_places n s None = []
+row_places n s (Some r) = map (λ f. (s, f)) (filter (sits_at n r.homes) (fragments Wide))
 
 -- those of the stripes of a set from a number on
 abbrev pub places_from : NodeNo → (StripeNo → Option Row) → (StripeNo → Bool) → ℕ → List StripeFragment
-places_from n rows set from = flat_map (λ s. row_places n 0 s (rows s)) (members_from set from)
-
--- those of a stripe, if there is one, from a fragment on
-abbrev pub places_of : NodeNo → (StripeNo → Option Row) → Option StripeNo → ℕ → List StripeFragment
-places_of n rows None next = []
-places_of n rows (Some s) next = row_places n next s (rows s)
-
--- what a search for the next of a stripe's fragments on the node finds: none is left, or this one and those behind it
-abbrev pub FindsPlace : NodeNo → (StripeNo → Option Row) → Option StripeNo → ℕ → Option StripeFragment → Type 0
-FindsPlace n rows stripe from None = places_of n rows stripe from ≡ []
-FindsPlace n rows stripe from (Some p) = places_of n rows stripe from ≡ p ∷ places_of n rows stripe (p.1.value + 1)
+places_from n rows set from = flat_map (λ s. row_places n s (rows s)) (members_from set from)
 
 -- ---- the stripes in the order of repair
 
@@ -129,6 +123,16 @@ pub record AreListed (sets : List (List Bool)) (ranks : List (Option ℕ)) : Typ
   pub long : length ranks ≡ 4096
   pub few : (s : StripeNo) → IfSome (get_or ranks s.value None) (λ k. k ≤ 4)
   pub shown : (k : ℕ) (s : StripeNo) → at_rank sets k s ≡ is_at k (get_or ranks s.value None)
+
+-- 1 where there is a rank
+abbrev pub one_if : Option ℕ → ℕ
+one_if None = 0
+one_if (Some k) = 1
+
+-- how many stripes have a rank
+abbrev pub rank_count : List (Option ℕ) → ℕ
+rank_count [] = 0
+rank_count (o ∷ ranks) = one_if o + rank_count ranks
 
 -- the fragments of a row that need a lease, as bits; none where there is no row
 abbrev pub needs_of : Option Row → ℕ

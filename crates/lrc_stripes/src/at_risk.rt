@@ -25,11 +25,13 @@ impl<'a> Model for AtRisk<'a> {
     ghost use Rattle.lrc_stripes.specs.Stored.{StripeLevel};
     ghost use Rattle.lrc_stripes.specs.Tables.{rows_in};
     ghost use Rattle.lrc_stripes.specs.Sites.{sited};
-    ghost use Rattle.lrc_stripes.specs.Kept.{levels_of, freshened};
+    ghost use Rattle.lrc_stripes.specs.Kept.{IsKept, levels_of, freshened};
 
     ghost Value = { List StripeLevel };
 
     ghost view = { λ w. levels_of (rows_in (freshened (sited w.sites.now).online w.rows.now)) w.stripes };
+
+    ghost invariant = { λ w. IsKept (sited w.sites.now) (rows_in w.rows.now) };
 }
 
 impl<'a> AtRisk<'a> {

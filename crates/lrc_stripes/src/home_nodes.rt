@@ -68,4 +68,19 @@ impl HomeNodes {
         }
         LossMask::from_bits(mask.bits & self.homed.bits)
     }
+
+    /// The same, where no other stripe is asked of: the fragments on other nodes are taken out of a full mask, which then
+    /// takes fewer steps.
+    pub(crate) fn fragments_left_on(&self, node: NodeNo) -> LossMask
+        ensures few { result.bits < 65536 }
+        ensures on { (homes : List (Option AnySeat)) → length homes ≡ 16 → AreNodesOf homes self.now.numbers self.now.homed.bits → (f : ℕ) → bits_set result.bits f ≡ (nat_lt f 16 && sits_on node (get_or homes f None)) }
+    {
+        let mut mask = LossMask::from_bits(0xffff);
+        for fragment in Fragment::all() {
+            if self.numbers[fragment.value as usize] != node.value {
+                mask = mask.without(fragment);
+            }
+        }
+        LossMask::from_bits(mask.bits & self.homed.bits)
+    }
 }

@@ -1,12 +1,13 @@
-ghost use Rattle.std.specs.Prelude.{◌≡◌, ◌≤◌, List};
+ghost use Rattle.std.specs.Prelude.{◌≡◌, List};
 ghost use Rattle.std.specs.Iterator.{YieldsFirst, item_count};
 ghost use Rattle.lrc_stripes.specs.Sites.{sited};
 ghost use Rattle.lrc_stripes.specs.Tables.{rows_in};
-ghost use Rattle.lrc_stripes.specs.Kept.{places_from, FindsPlace};
+ghost use Rattle.lrc_stripes.specs.Kept.{places_in, places_from, row_places};
 
+use crate::masks;
 use crate::rows::Rows;
 use crate::sites::Sites;
-use lrc_code::{Fragment, NodeNo, StripeNo};
+use lrc_code::{Fragment, LossMask, NodeNo, StripeNo};
 use std::marker::Model;
 
 /// The fragments with a home on one node, of all stripes or of those from a number on, in rising order of stripe and
@@ -17,25 +18,23 @@ pub struct HomesOn<'a> {
     rows: &'a Rows,
     node: NodeNo,
     /// The stripe whose fragments are being listed.
-    stripe: Option<StripeNo>,
-    /// The number of the first of its fragments that are left.
-    next: usize,
+    stripe: StripeNo,
+    /// Those of its fragments on the node that are left.
+    left: LossMask,
     /// The number from which on all stripes are left.
     from: usize,
 }
 
 impl<'a> Model for HomesOn<'a> {
-    ghost use Rattle.std.specs.Prelude.{◌≤◌, ◌++◌, List};
+    ghost use Rattle.std.specs.Prelude.{◌++◌, List};
     ghost use Rattle.lrc_stripes.specs.Stored.{StripeFragment};
     ghost use Rattle.lrc_stripes.specs.Sites.{sited};
     ghost use Rattle.lrc_stripes.specs.Tables.{rows_in};
-    ghost use Rattle.lrc_stripes.specs.Kept.{places_of, places_from};
+    ghost use Rattle.lrc_stripes.specs.Kept.{places_in, places_from};
 
     ghost Value = { List StripeFragment };
 
-    ghost view = { λ h. places_of h.node (rows_in h.rows.now) h.stripe h.next ++ places_from h.node (rows_in h.rows.now) ((sited h.sites.now).on h.node) h.from };
-
-    ghost invariant = { λ h. h.next ≤ 16 };
+    ghost view = { λ h. places_in h.stripe h.left.bits ++ places_from h.node (rows_in h.rows.now) ((sited h.sites.now).on h.node) h.from };
 }
 
 impl<'a> HomesOn<'a> {
@@ -47,8 +46,8 @@ impl<'a> HomesOn<'a> {
             sites,
             rows,
             node,
-            stripe: None,
-            next: 0,
+            stripe: StripeNo { value: 0 },
+            left: LossMask::from_bits(0),
             from,
         }
     }
@@ -65,30 +64,25 @@ impl<'a> Iterator for HomesOn<'a> {
 
     fn next(&mut self) -> Option<(StripeNo, Fragment)> {
         loop {
-            if let Some(place) = next_of(self.rows, self.node, self.stripe, self.next) {
-                self.next = place.1.value as usize + 1;
-                return Some(place);
+            if let Some(fragment) = masks::first(self.left) {
+                self.left = self.left.without(fragment);
+                return Some((self.stripe, fragment));
             }
             let stripe = self.sites.first_on(self.node, self.from)?;
-            self.stripe = Some(stripe);
-            self.next = 0;
+            self.stripe = stripe;
+            self.left = fragments_on(self.rows, stripe, self.node);
             self.from = stripe.value as usize + 1;
         }
     }
 }
 
-/// The first of a stripe's fragments from this number on whose home is on the node.
-fn next_of(
-    rows: &Rows,
-    node: NodeNo,
-    stripe: Option<StripeNo>,
-    from: usize,
-) -> Option<(StripeNo, Fragment)>
-    requires { from ≤ 16 }
-    ensures { FindsPlace node (rows_in rows.now) stripe from result }
+/// The fragments of a stripe whose homes are on the node; none where it is not there.
+fn fragments_on(rows: &Rows, stripe: StripeNo, node: NodeNo) -> LossMask
+    ensures { places_in stripe result.bits ≡ row_places node stripe (rows_in rows.now stripe) }
 {
-    let stripe = stripe?;
-    let row = rows.get(stripe)?;
-    let fragment = row.next_on(node, from)?;
-    Some((stripe, fragment))
+    if rows.contains(stripe) {
+        rows.fragments_left_on(stripe, node)
+    } else {
+        LossMask::from_bits(0)
+    }
 }

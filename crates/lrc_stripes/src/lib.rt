@@ -3,6 +3,7 @@
 
 mod at_risk;
 mod domains;
+mod home_domains;
 mod home_nodes;
 mod homes_on;
 pub mod laws;
@@ -17,12 +18,14 @@ mod row;
 mod rows;
 mod site;
 mod sites;
+mod stripe_members;
 mod stripe_set;
 mod stripes;
 mod upgrades;
 mod work;
 
 pub use at_risk::AtRisk;
+pub use home_domains::HomeDomains;
 pub use homes_on::HomesOn;
 pub use level::Level;
 pub use lrc_topology::{Held, Seat};

@@ -1,10 +1,7 @@
 ghost use Rattle.std.specs.Prelude.{◌≡◌, ◌<◌, ◌≤◌, IfSome};
-ghost use Rattle.lrc_stripes.specs.Rows.{is_to_move};
-ghost use Rattle.lrc_stripes.specs.Sites.{sited};
-ghost use Rattle.lrc_stripes.specs.Masks.{AreAll, AreWith, level_of, rank_of, work_rank, risk_rank};
+ghost use Rattle.lrc_stripes.specs.Masks.{AreAll, IsPut, level_of, rank_of, work_rank, risk_rank};
 
-use crate::sites::Sites;
-use crate::{Level, Seat, masks};
+use crate::{Level, masks};
 use lrc_code::{Fragment, LossMask};
 
 /// The fragments of a stripe that have no home, those that are missing, and those that need a lease.
@@ -28,15 +25,23 @@ impl Losses {
         }
     }
 
-    /// The same, where a fragment has this home or none.
-    pub(crate) fn with_home(self, sites: &Sites, fragment: Fragment, home: Option<Seat>) -> Losses
-        ensures { AreWith (sited sites.now) fragment.value home self result }
+    /// The same, where a fragment has no home, is missing, and needs a lease, each as told.
+    pub(crate) fn put(
+        self,
+        fragment: Fragment,
+        is_homeless: bool,
+        is_missing: bool,
+        is_to_move: bool,
+    ) -> Losses
+        ensures homeless { IsPut fragment.value is_homeless self.homeless result.homeless }
+        ensures missing { IsPut fragment.value is_missing self.missing result.missing }
+        ensures needs { IsPut fragment.value is_to_move self.needs result.needs }
     {
         let one = LossMask::from_bits(0).with(fragment);
         Losses {
-            homeless: masks::put(self.homeless, one, home.is_none()),
-            missing: masks::put(self.missing, one, masks::is_missing(sites, home)),
-            needs: masks::put(self.needs, one, is_to_move(sites, home)),
+            homeless: masks::put(self.homeless, one, is_homeless),
+            missing: masks::put(self.missing, one, is_missing),
+            needs: masks::put(self.needs, one, is_to_move),
         }
     }
 
@@ -94,15 +99,5 @@ impl Losses {
         ensures few { result ≤ 4 }
     {
         self.missing.margin().unwrap_or(4)
-    }
-}
-
-/// Whether a fragment with this home, if it has one, needs a lease.
-fn is_to_move(sites: &Sites, home: Option<Seat>) -> bool
-    ensures { result ≡ is_to_move (sited sites.now).draining home }
-{
-    match home {
-        Some(seat) => sites.is_draining(seat.node),
-        None => true,
     }
 }

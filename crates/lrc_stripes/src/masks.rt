@@ -1,15 +1,15 @@
 //! Masks of fragments, by the nodes that the fragments' homes are on.
 
-ghost use Rattle.std.specs.Prelude.{◌≡◌, ℕ, if◌then◌else◌, ◌&&◌, ◌||◌, nat_eq, nat_lt, get_or, length, None};
+ghost use Rattle.std.specs.Prelude.{◌≡◌, ℕ, if◌then◌else◌, ◌&&◌, ◌||◌, nat_eq, ◌<◌, true, false, length, IfSome, IfNone};
 ghost use Rattle.lrc_code.specs.declared.codes.Code.TheVariants.{Wide};
 ghost use Rattle.lrc_code.specs.Losses.{bits_set, bits_of};
-ghost use Rattle.lrc_stripes.specs.Rows.{sits_on, is_missing};
+ghost use Rattle.lrc_stripes.specs.Rows.{is_missing};
 ghost use Rattle.lrc_stripes.specs.Sites.{sited};
 ghost use Rattle.lrc_stripes.specs.Masks.{missing_of};
 
 use crate::Seat;
 use crate::sites::Sites;
-use lrc_code::{Fragment, LossMask, NodeNo};
+use lrc_code::{Fragment, LossMask};
 
 /// The fragments that have no home, or one on a node that is not online.
 pub(crate) fn missing_of(homes: &[Option<Seat>; 16], sites: &Sites) -> LossMask
@@ -53,12 +53,14 @@ pub(crate) fn with_where(mask: LossMask, fragment: Fragment, is_in: bool) -> Los
     if is_in { mask.with(fragment) } else { mask }
 }
 
-/// Whether a home is on the node.
-pub(crate) fn is_on(home: Option<Seat>, node: NodeNo) -> bool
-    ensures { result ≡ sits_on node home }
+/// The first fragment of a mask, if it has one.
+pub(crate) fn first(mask: LossMask) -> Option<Fragment>
+    ensures first { IfSome result (λ f. (bits_set mask.bits f.value ≡ true) × ((g : ℕ) → g < f.value → bits_set mask.bits g ≡ false)) }
+    ensures none { IfNone result (mask.bits ≡ 0) }
 {
-    match home {
-        Some(seat) => node == seat.node,
-        None => false,
+    if mask.bits == 0 {
+        return None;
     }
+    let number = mask.bits.trailing_zeros() as u8;
+    Some(Fragment { value: number })
 }

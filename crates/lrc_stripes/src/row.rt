@@ -1,9 +1,7 @@
-ghost use Rattle.std.specs.Prelude.{◌≡◌, ◌≤◌, ℕ, if◌then◌else◌, length, map, replicate, find, drop, true, None, Some};
+ghost use Rattle.std.specs.Prelude.{◌≡◌, ℕ, if◌then◌else◌, length, map, replicate, true, None, Some};
 ghost use Rattle.std.specs.List.{list_any};
-ghost use Rattle.lrc_code.specs.declared.codes.Code.TheVariants.{Wide};
-ghost use Rattle.lrc_code.specs.Codes.{fragments};
 ghost use Rattle.lrc_code.specs.Losses.{bits_set};
-ghost use Rattle.lrc_stripes.specs.Rows.{sits_on, sits_at, is_on_seat};
+ghost use Rattle.lrc_stripes.specs.Rows.{sits_on, is_on_seat};
 ghost use Rattle.lrc_stripes.specs.Sites.{sited};
 ghost use Rattle.lrc_stripes.specs.Masks.{AreAll, AreKept, renewed};
 ghost use Rattle.lrc_code.specs.declared.numbers.NodeNo.{NodeNo as AnyNode};
@@ -11,7 +9,7 @@ ghost use Rattle.lrc_code.specs.declared.numbers.NodeNo.{NodeNo as AnyNode};
 use crate::losses::Losses;
 use crate::sites::Sites;
 use crate::{Seat, masks};
-use lrc_code::{Fragment, LossMask, NodeNo, StripeNo};
+use lrc_code::{LossMask, StripeNo};
 
 /// The homes of a stripe's fragments, and what follows from them.
 #[derive(Clone, Copy)]
@@ -70,6 +68,7 @@ impl Row {
     }
 
     /// The same of a row without work: none is missing where no node with a home of it is offline.
+    #[inline(never)] // a row with work is looked at no further
     fn losses_idle(&self, sites: &Sites, stripe: StripeNo) -> Losses
         requires kept { AreKept (sited sites.now).online (sited sites.now).draining self.now.homes self.now.losses }
         requires stands { (n : AnyNode) → list_any (sits_on n) self.now.homes ≡ true → (sited sites.now).on n stripe ≡ true }
@@ -108,24 +107,5 @@ impl Row {
         ensures { result ≡ list_any (is_on_seat seat) self.now.homes }
     {
         self.homes.iter().any(|home| *home == Some(seat))
-    }
-
-    /// The first of the fragments from this number on whose home is on the node.
-    pub(crate) fn next_on(&self, node: NodeNo, from: usize) -> Option<Fragment>
-        requires { from ≤ 16 }
-        ensures { result ≡ find (sits_at node self.now.homes) (drop from (fragments Wide)) }
-    {
-        let all = Fragment::all();
-        self.first_on(node, &all[from..])
-    }
-
-    /// The first of these fragments whose home is on the node.
-    fn first_on(&self, node: NodeNo, fragments: &[Fragment]) -> Option<Fragment>
-        ensures { result ≡ find (sits_at node self.now.homes) fragments.now }
-    {
-        fragments.iter().copied().find(|fragment| masks::is_on(
-            self.homes[fragment.value as usize],
-            node,
-        ))
     }
 }

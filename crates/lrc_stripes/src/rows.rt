@@ -1,24 +1,25 @@
-ghost use Rattle.std.specs.Prelude.{◌≡◌, ◌||◌, ◌&&◌, ℕ, nat_lt, ◌<◌, ◌≤◌, if◌then◌else◌, length, get_or, option_and_then, replicate, Some, None, is_some, true, false, IsTrue, IfOk, IfErr, IfSome};
+ghost use Rattle.std.specs.Prelude.{◌≡◌, if◌then◌else◌, ◌||◌, ◌&&◌, ℕ, nat_lt, ◌<◌, ◌≤◌, length, get_or, option_and_then, replicate, Some, None, is_some, true, false, IsTrue, IfOk, IfErr, IfSome};
 ghost use Rattle.std.specs.Option.{option_copied};
 ghost use Rattle.lrc_code.specs.Numbers.{same_stripe};
 ghost use Rattle.lrc_code.specs.declared.numbers.StripeNo.{StripeNo as AnyStripe};
 ghost use Rattle.lrc_stripes.specs.declared.row.Row.{Row as AnyRow};
 ghost use Rattle.lrc_code.specs.declared.fault.Fault.TheVariants.{OutOfMemory};
-ghost use Rattle.lrc_stripes.specs.Masks.{work_rank, risk_rank};
-ghost use Rattle.lrc_stripes.specs.Sets.{FindsNext, has};
+ghost use Rattle.lrc_stripes.specs.Masks.{work_rank};
+ghost use Rattle.lrc_stripes.specs.Sets.{has};
 ghost use Rattle.lrc_stripes.specs.Looming.{is_needy};
 ghost use Rattle.lrc_stripes.specs.Sites.{sited};
 ghost use Rattle.lrc_stripes.specs.Rows.{sits_on};
 ghost use Rattle.lrc_stripes.specs.Noted.{AreNodesOf};
 ghost use Rattle.lrc_code.specs.Losses.{bits_set};
 ghost use Rattle.lrc_stripes.specs.Tables.{rows_in};
-ghost use Rattle.lrc_stripes.specs.Kept.{Covers, IsKept, queue_from, queued, needs_of, freshened, level_in, is_row_on, holds, AreRenewed, IsRenewed, IsWithLosses, IsWithMissing, IsRehomed, IsMissingOn, IsToMoveOn};
+ghost use Rattle.lrc_stripes.specs.Kept.{IsKept, queue_from, queued, needs_of, freshened, level_in, is_row_on, holds, AreRenewed, IsRenewed, IsWithLosses, IsWithMissing, IsRehomed, IsMissingOn, IsToMoveOn};
+
+mod risk;
 
 use crate::home_nodes::HomeNodes;
 use crate::losses::Losses;
-use crate::queue::{Queue, RANKS, STRIPES};
+use crate::queue::{Queue, STRIPES};
 use crate::ranked::Ranked;
-use crate::risky::Risky;
 use crate::row::Row;
 use crate::sites::Sites;
 use crate::stripe_set::StripeSet;
@@ -91,6 +92,14 @@ impl Rows {
         LossMask::from_bits(self.needs[stripe.value as usize])
     }
 
+    /// The fragments of a stripe that is there that have a home.
+    pub(crate) fn homed(&self, stripe: StripeNo) -> LossMask
+        ensures few { result.bits < 65536 }
+        ensures homed { (r : AnyRow) → rows_in self.now stripe ≡ Some r → (f : ℕ) → bits_set result.bits f ≡ is_some (get_or r.homes f None) }
+    {
+        LossMask::from_bits(self.nodes[stripe.value as usize].homed.bits)
+    }
+
     /// Gives a stripe this row, whose homes are on these nodes.
     pub(crate) fn add(&mut self, stripe: StripeNo, row: Row, nodes: HomeNodes)
         requires { AreNodesOf row.homes nodes.numbers nodes.homed.bits }
@@ -125,7 +134,7 @@ impl Rows {
         self.work.relist(stripe, rank);
     }
 
-    /// Gives a fragment of a stripe, if the stripe is there, this home or none, and the stripe these losses.
+    /// Gives a fragment of a stripe that is there this home or none, and the stripe these losses.
     pub(crate) fn set_home(
         &mut self,
         stripe: StripeNo,
@@ -133,14 +142,15 @@ impl Rows {
         home: Option<Seat>,
         losses: Losses,
     )
+        requires { IsTrue (is_some (rows_in self.old stripe)) }
         ensures { AreRenewed (same_stripe stripe) (IsRehomed fragment.value home losses) (rows_in self.old) (rows_in self.new) }
     {
         let place = &mut self.list[stripe.value as usize];
         put_home(place, fragment, home, losses);
-        self.needs[stripe.value as usize] = needs_of(place.as_ref());
+        self.needs[stripe.value as usize] = losses.needs.bits;
         let nodes = &mut self.nodes[stripe.value as usize];
         nodes.put(fragment, home);
-        let rank = work_rank(place.as_ref());
+        let rank = losses.work_rank();
         self.work.relist(stripe, rank);
     }
 
@@ -152,11 +162,21 @@ impl Rows {
         self.nodes[stripe.value as usize].fragments_on(node)
     }
 
-    /// Whether one of a stripe's fragments has its home on the node.
+    /// The same, where no other stripe is asked of.
+    pub(crate) fn fragments_left_on(&self, stripe: StripeNo, node: NodeNo) -> LossMask
+        ensures few { result.bits < 65536 }
+        ensures on { (r : AnyRow) → rows_in self.now stripe ≡ Some r → (f : ℕ) → bits_set result.bits f ≡ (nat_lt f 16 && sits_on node (get_or r.homes f None)) }
+    {
+        self.nodes[stripe.value as usize].fragments_left_on(node)
+    }
+
+    /// Whether one of the fragments of a stripe that is there has its home on the node.
     pub(crate) fn is_on(&self, stripe: StripeNo, node: NodeNo) -> bool
+        requires { IsTrue (is_some (rows_in self.now stripe)) }
         ensures { result ≡ is_row_on node (rows_in self.now stripe) }
     {
-        self.contains(stripe) && self.fragments_on(stripe, node).bits != 0
+        let nodes = &self.nodes[stripe.value as usize];
+        nodes.fragments_left_on(node).bits != 0
     }
 
     /// Whether one of a stripe's fragments has its home on the seat.
@@ -173,12 +193,20 @@ impl Rows {
     pub(crate) fn renew_missing(&mut self, sites: &Sites, node: NodeNo, are_missing: bool)
         ensures { AreRenewed ((sited sites.now).on node) (IsMissingOn node are_missing) (rows_in self.old) (rows_in self.new) }
     {
-        let mut from = 0;
-        while let Some(stripe) = sites.first_on(node, from) {
+        if let Some(stripes) = sites.stripes_on(node) {
+            self.renew_missing_in(stripes, node, are_missing);
+        }
+    }
+
+    /// The same for these stripes, whether they have a home on the node or not.
+    fn renew_missing_in(&mut self, stripes: &StripeSet, node: NodeNo, are_missing: bool)
+        ensures { AreRenewed (has stripes.now) (IsMissingOn node are_missing) (rows_in self.old) (rows_in self.new) }
+    {
+        let mut left = stripes.members();
+        while let Some(stripe) = left.next_stripe() {
             if self.needs(stripe).bits != 0 {
                 self.renew_missing_of(stripe, node, are_missing);
             }
-            from = stripe.value as usize + 1;
         }
     }
 
@@ -205,23 +233,39 @@ impl Rows {
         requires { IsKept (sited sites.now) (rows_in self.old) }
         ensures { AreRenewed ((sited sites.now).on node) (IsToMoveOn (sited sites.now).online node are_to_move) (rows_in self.old) (rows_in self.new) }
     {
-        let mut from = 0;
-        while let Some(stripe) = sites.first_on(node, from) {
+        if let Some(stripes) = sites.stripes_on(node) {
+            self.renew_needs_in(stripes, sites, node, are_to_move);
+        }
+    }
+
+    /// The same for these stripes, whether they have a home on the node or not.
+    fn renew_needs_in(
+        &mut self,
+        stripes: &StripeSet,
+        sites: &Sites,
+        node: NodeNo,
+        are_to_move: bool,
+    )
+        requires { IsKept (sited sites.now) (rows_in self.old) }
+        ensures { AreRenewed (has stripes.now) (IsToMoveOn (sited sites.now).online node are_to_move) (rows_in self.old) (rows_in self.new) }
+    {
+        let mut left = stripes.members();
+        while let Some(stripe) = left.next_stripe() {
             if let Some(row) = self.get(stripe) {
                 let fragments = self.fragments_on(stripe, node);
                 let losses = row.with_needs(sites, stripe, fragments, are_to_move);
                 self.set_losses(stripe, losses);
             }
-            from = stripe.value as usize + 1;
         }
     }
 
     /// The level of a stripe; that of a whole one where it is not there.
     pub(crate) fn level(&self, sites: &Sites, stripe: StripeNo) -> Level
+        requires { IsKept (sited sites.now) (rows_in self.now) }
         ensures { result ≡ level_in (rows_in (freshened (sited sites.now).online self.now) stripe) }
     {
         match self.get(stripe) {
-            Some(row) => row.losses_now(sites).level(),
+            Some(row) => row.losses_kept(sites, stripe).level(),
             None => Level::Whole,
         }
     }
@@ -231,12 +275,7 @@ impl Rows {
         ensures none { result ≡ false → (s : AnyStripe) → is_needy (rows_in self.now s) ≡ false }
         ensures some { result ≡ true → (s : AnyStripe) × (is_needy (rows_in self.now s) ≡ true) }
     {
-        for rank in 0..RANKS {
-            if let Some(_stripe) = self.work.first_from(rank, 0) {
-                return true;
-            }
-        }
-        false
+        !self.work.is_empty()
     }
 
     /// Puts the stripes that have work into a set.
@@ -260,46 +299,6 @@ impl Rows {
         match self.work.rank(first) {
             Some(rank) => Ranked::starting_at(&self.work, rank as usize, first.value as usize),
             None => Ranked::new(&self.work),
-        }
-    }
-
-    /// The stripes with a missing fragment, in the order of repair.
-    pub(crate) fn at_risk<'a>(&'a self, sites: &'a Sites) -> Risky<'a>
-        requires { IsKept (sited sites.now) (rows_in self.now) }
-        ensures { result ≡ queue_from (queued risk_rank (rows_in (freshened (sited sites.now).online self.now))) 0 0 }
-    {
-        Risky::new(sites, self)
-    }
-
-    /// The first stripe from this number on that has a missing fragment and is of this rank. All such are in the set.
-    pub(crate) fn first_at_risk(
-        &self,
-        sites: &Sites,
-        among: &StripeSet,
-        rank: usize,
-        from: usize,
-    ) -> Option<StripeNo>
-        requires few { rank ≤ 4 }
-        requires all { Covers (has among.now) (queued risk_rank (rows_in (freshened (sited sites.now).online self.now))) }
-        ensures { FindsNext (queued risk_rank (rows_in (freshened (sited sites.now).online self.now)) rank) from result }
-    {
-        let mut next = from;
-        while let Some(stripe) = among.first_from(next) {
-            if self.is_at_risk(sites, stripe, rank as u8) {
-                return Some(stripe);
-            }
-            next = stripe.value as usize + 1;
-        }
-        None
-    }
-
-    /// Whether a stripe has a missing fragment and is of this rank.
-    fn is_at_risk(&self, sites: &Sites, stripe: StripeNo, rank: u8) -> bool
-        ensures { result ≡ queued risk_rank (rows_in (freshened (sited sites.now).online self.now)) rank stripe }
-    {
-        match self.get(stripe) {
-            Some(row) => row.losses_now(sites).risk_rank() == Some(rank),
-            None => false,
         }
     }
 }

@@ -1,34 +1,33 @@
-ghost use Rattle.std.specs.Prelude.{◌≡◌, ◌&&◌, ◌||◌, not, true, false, if◌then◌else◌, map, Some, IfOk, IfErr, IfSome, IsTrue, ◌<◌, length, get_or, slice_set, []};
+ghost use Rattle.std.specs.Prelude.{◌≡◌, if◌then◌else◌, nat_eq, ◌&&◌, ◌||◌, not, true, false, map, Some, None, is_some, IfOk, IfErr, IfSome, IfNone, IsTrue, ◌<◌, length, get_or, slice_set};
 ghost use Rattle.std.specs.List.{All, list_any};
 ghost use Rattle.lrc_code.specs.Numbers.{same_stripe, same_node, same_upgrade};
-ghost use Rattle.lrc_code.specs.declared.numbers.NodeNo.{NodeNo as AnyNode};
 ghost use Rattle.lrc_code.specs.declared.numbers.StripeNo.{StripeNo as AnyStripe};
 ghost use Rattle.lrc_code.specs.declared.fault.Fault.TheVariants.{OutOfMemory};
 ghost use Rattle.lrc_topology.specs.declared.NodeInfo.{NodeInfo as AnyInfo};
 ghost use Rattle.lrc_topology.specs.Nodes.{node_at, nodes_in};
+ghost use Rattle.lrc_stripes.specs.Levels.{Homes as AnyHomes};
+ghost use Rattle.lrc_stripes.specs.Domains.{AreDomainsOf};
 ghost use Rattle.lrc_stripes.specs.Stored.{has_node};
 ghost use Rattle.lrc_stripes.specs.Sets.{FindsNext, has};
 ghost use Rattle.lrc_stripes.specs.Rows.{sits_on};
 ghost use Rattle.lrc_stripes.specs.Sites.{sited, first_sites, IsPlaceOf};
 ghost use Rattle.lrc_stripes.specs.Tables.{rows_in};
 ghost use Rattle.lrc_stripes.specs.Kept.{is_row_on};
-ghost use Rattle.lrc_stripes.specs.Looming.{is_scattered};
-ghost use Rattle.lrc_stripes.specs.Masks.{AreLosses};
+ghost use Rattle.lrc_stripes.specs.Masks.{AreLosses, AreWith};
+
+mod offline;
 
 use crate::losses::Losses;
 use crate::row::Row;
 use crate::rows::Rows;
 use crate::site::Site;
 use crate::stripe_set::StripeSet;
-use crate::{Seat, domains, masks};
+use crate::{HomeDomains, Seat, domains, masks};
 use lrc_bits::BitSet;
 use lrc_code::{Fault, Fragment, LossMask, NodeNo, StripeNo, UpgradeNo};
 use lrc_topology::{NodeIndex, NodeInfo, Topology};
 use std::alloc::Global;
 use std::marker::Model;
-
-/// How many nodes that are offline are looked at for one stripe.
-const FEW: usize = 8;
 
 /// The nodes of a store: which are offline or draining, and for each the stripes with a home there.
 #[derive(Drop)]
@@ -162,28 +161,24 @@ impl Sites {
         mark(&mut self.draining, place, is_draining);
     }
 
-    /// Puts a stripe among those with a home on the node.
-    fn insert(&mut self, number: NodeNo, stripe: StripeNo)
-        requires { IsTrue (has_node (sited self.old).nodes number) }
-        ensures { sited self.new ≡ record (sited self.old) { on = λ n s. (same_node number n && same_stripe stripe s) || (sited self.old).on n s } }
-    {
-        let place = self.place_of(number);
-        let set = &mut self.stripes[place];
-        set.insert(stripe);
-    }
-
-    /// Puts a stripe among those with a home on the nodes of these seats. What is missing of it there, and what needs a
-    /// lease.
-    pub(crate) fn enter(&mut self, stripe: StripeNo, seats: &[Seat; 16]) -> Losses
+    /// Puts a stripe among those with a home on the nodes of these seats, and notes the domains of these. What is missing
+    /// of it there, and what needs a lease.
+    pub(crate) fn enter(
+        &mut self,
+        stripe: StripeNo,
+        seats: &[Seat; 16],
+        domains: &mut HomeDomains,
+    ) -> Losses
         requires { All (λ seat. IsTrue (has_node (sited self.old).nodes seat.node)) seats.now }
         ensures on { sited self.new ≡ record (sited self.old) { on = λ n s. (same_stripe stripe s && list_any (sits_on n) (map Some seats.now)) || (sited self.old).on n s } }
         ensures losses { AreLosses (sited self.old).online (sited self.old).draining (map Some seats.now) result }
+        ensures domains { AreDomainsOf (sited self.old).nodes (λ f. get_or (map Some seats.now) f None) domains.new }
     {
         let mut missing = LossMask::from_bits(0);
         let mut needs = LossMask::from_bits(0);
         for fragment in Fragment::all() {
             let seat = seats[fragment.value as usize];
-            let site = self.enter_one(seat.node, stripe);
+            let site = self.enter_one(stripe, fragment, seat.node, domains);
             missing = masks::with_where(missing, fragment, site.is_offline);
             needs = masks::with_where(needs, fragment, site.is_draining);
         }
@@ -194,18 +189,30 @@ impl Sites {
         }
     }
 
-    /// Puts a stripe among those with a home on the node, and gives the node.
-    fn enter_one(&mut self, number: NodeNo, stripe: StripeNo) -> Site
+    /// Puts a stripe among those with a home on the node, notes the domains of this fragment's home there, and gives the
+    /// node.
+    fn enter_one(
+        &mut self,
+        stripe: StripeNo,
+        fragment: Fragment,
+        number: NodeNo,
+        domains: &mut HomeDomains,
+    ) -> Site
         requires { IsTrue (has_node (sited self.old).nodes number) }
         ensures on { sited self.new ≡ record (sited self.old) { on = λ n s. (same_node number n && same_stripe stripe s) || (sited self.old).on n s } }
+        ensures node { Some result.node ≡ node_at (sited self.old).nodes number }
         ensures online { not result.is_offline ≡ (sited self.old).online number }
         ensures draining { result.is_draining ≡ (sited self.old).draining number }
+        ensures faults { domains.new.faults ≡ slice_set domains.old.faults fragment.value result.node.fault.value }
+        ensures upgrades { domains.new.upgrades ≡ slice_set domains.old.upgrades fragment.value result.node.upgrade.value }
     {
         let place = self.place_of(number);
         let set = &mut self.stripes[place];
         set.insert(stripe);
+        let node = &self.nodes[place];
+        domains.put(fragment, node);
         Site {
-            node: self.nodes[place],
+            node: *node,
             is_offline: self.offline.contains(place),
             is_draining: self.draining.contains(place),
         }
@@ -232,8 +239,9 @@ impl Sites {
         }
     }
 
-    /// Takes a stripe off the node of a former home, where its row has no home.
+    /// Takes a stripe that is there off the node of a former home, where its row has no home.
     pub(crate) fn unseat(&mut self, stripe: StripeNo, former: Option<Seat>, rows: &Rows)
+        requires { IsTrue (is_some (rows_in rows.now stripe)) }
         ensures { sited self.new ≡ record (sited self.old) { on = λ n s. not (same_stripe stripe s && (sits_on n former && not (is_row_on n (rows_in rows.now stripe)))) && (sited self.old).on n s } }
     {
         if let Some(seat) = former {
@@ -243,14 +251,37 @@ impl Sites {
         }
     }
 
-    /// Puts a stripe among those with a home on the node of this one, if it is one.
-    pub(crate) fn seat(&mut self, stripe: StripeNo, home: Option<Seat>)
+    /// Puts a stripe among those with a home on the node of a fragment's new home, if it has one, and notes the domains
+    /// of that. The stripe's losses with this home.
+    pub(crate) fn seat(
+        &mut self,
+        stripe: StripeNo,
+        fragment: Fragment,
+        home: Option<Seat>,
+        losses: Losses,
+        domains: &mut HomeDomains,
+    ) -> Losses
         requires { IfSome home (λ seat. IsTrue (has_node (sited self.old).nodes seat.node)) }
-        ensures { sited self.new ≡ record (sited self.old) { on = λ n s. (same_stripe stripe s && sits_on n home) || (sited self.old).on n s } }
+        ensures on { sited self.new ≡ record (sited self.old) { on = λ n s. (same_stripe stripe s && sits_on n home) || (sited self.old).on n s } }
+        ensures losses { AreWith (sited self.old) fragment.value home losses result }
+        ensures domains { (homes : AnyHomes) → AreDomainsOf (sited self.old).nodes homes domains.old → AreDomainsOf (sited self.old).nodes (λ g. if nat_eq fragment.value g then home else homes g) domains.new }
     {
-        if let Some(seat) = home {
-            self.insert(seat.node, stripe);
+        match home {
+            Some(seat) => {
+                let site = self.enter_one(stripe, fragment, seat.node, domains);
+                losses.put(fragment, false, site.is_offline, site.is_draining)
+            }
+            None => losses.put(fragment, true, true, true),
         }
+    }
+
+    /// The stripes with a home on the node, where there is one of this number.
+    pub(crate) fn stripes_on(&self, number: NodeNo) -> Option<&StripeSet>
+        ensures set { IfSome result (λ set. has set.now ≡ (sited self.now).on number) }
+        ensures none { IfNone result ((s : AnyStripe) → (sited self.now).on number s ≡ false) }
+    {
+        let place = self.place(number)?;
+        Some(&self.stripes[place])
     }
 
     /// The first stripe from this number on that has a home on the node.
@@ -273,105 +304,6 @@ impl Sites {
             }
         }
         found
-    }
-
-    /// The stripes with a home on a node that is not online.
-    pub(crate) fn stripes_offline(&self) -> StripeSet
-        ensures { (n : AnyNode) (s : AnyStripe) → (sited self.now).online n ≡ false → (sited self.now).on n s ≡ true → has result s ≡ true }
-    {
-        let mut found = StripeSet::new();
-        for place in 0..self.nodes.len() {
-            if self.offline.contains(place) {
-                self.join(self.nodes[place].number, &mut found);
-            }
-        }
-        found
-    }
-
-    /// Whether no node is offline: then each node that has a stripe is online.
-    pub(crate) fn are_all_online(&self) -> bool
-        ensures { result ≡ true → (n : AnyNode) (s : AnyStripe) → (sited self.now).on n s ≡ true → (sited self.now).online n ≡ true }
-    {
-        self.offline.is_empty()
-    }
-
-    /// Whether the stripe is found on no node that is offline; `false` also where more than a few are.
-    pub(crate) fn is_clear(&self, stripe: StripeNo) -> bool
-        ensures { result ≡ true → (n : AnyNode) → (sited self.now).on n stripe ≡ true → (sited self.now).online n ≡ true }
-    {
-        if self.are_all_online() {
-            return true;
-        }
-        self.is_clear_of_few(stripe)
-    }
-
-    /// The same where some node may be offline.
-    #[inline(never)] // where all nodes are online the answer then saves no registers
-    fn is_clear_of_few(&self, stripe: StripeNo) -> bool
-        ensures { result ≡ true → (n : AnyNode) → (sited self.now).on n stripe ≡ true → (sited self.now).online n ≡ true }
-    {
-        let mut from = 0;
-        for _ in 0..FEW {
-            match self.offline.first_from(from) {
-                Some(place) => {
-                    if self.has_at(place, stripe) {
-                        return false;
-                    }
-                    from = place + 1;
-                }
-                None => return true,
-            }
-        }
-        false
-    }
-
-    /// Whether the stripe has a home on the node at a place in the order of the file, if there is one.
-    fn has_at(&self, place: usize, stripe: StripeNo) -> bool
-        ensures { result ≡ has (get_or self.now.stripes place []) stripe }
-    {
-        match self.stripes.get(place) {
-            Some(set) => set.contains(stripe),
-            None => false,
-        }
-    }
-
-    /// Whether fewer than two nodes are offline: then no stripe has homes on several of them.
-    pub(crate) fn are_few_offline(&self) -> bool
-        ensures { result ≡ true → (s : AnyStripe) → is_scattered (sited self.now) s ≡ false }
-    {
-        match self.offline.first() {
-            Some(place) => self.offline.first_from(place + 1).is_none(),
-            None => true,
-        }
-    }
-
-    /// The stripes with homes on several nodes that are not online.
-    pub(crate) fn stripes_scattered(&self) -> StripeSet
-        ensures { has result ≡ is_scattered (sited self.now) }
-    {
-        if self.are_few_offline() {
-            return StripeSet::new();
-        }
-        let mut once = StripeSet::new();
-        let mut twice = StripeSet::new();
-        for place in 0..self.nodes.len() {
-            if self.offline.contains(place) {
-                self.count(self.nodes[place].number, &mut once, &mut twice);
-            }
-        }
-        twice
-    }
-
-    /// Puts the stripes with a home on the node into the first set, and those that are there already into the other.
-    fn count(&self, number: NodeNo, once: &mut StripeSet, twice: &mut StripeSet)
-        ensures once { has once.new ≡ λ s. has once.old s || (sited self.now).on number s }
-        ensures twice { has twice.new ≡ λ s. has twice.old s || (has once.old s && (sited self.now).on number s) }
-    {
-        if let Some(place) = self.place(number) {
-            let set = &self.stripes[place];
-            twice.insert_common(once, set);
-            once.insert_all(set);
-        }
     }
 
     /// Puts the stripes with a home on the node into a set.

@@ -1,4 +1,5 @@
 mod beside;
+mod domains;
 mod plain_store;
 
 use lrc_code::{Fragment, LossMask, NodeNo, StripeNo, UpgradeNo};

@@ -1,12 +1,13 @@
-use Rattle.std.proofs.Common.{◌≡◌, ◌<◌, Option, None, is_some, option_and_then, length, set, arith, sym, ap, subst, ◌∙◌}
+use Rattle.std.proofs.Common.{◌≡◌, ◌<◌, List, Option, None, is_some, option_and_then, length, set, arith, sym, ap, subst, ◌∙◌}
 use Rattle.std.proofs.lemmas.List.{get_or_default}
 use Rattle.lrc_stripes.specs.declared.row.Row.{Row}
+use Rattle.lrc_stripes.specs.declared.losses.Losses.{Losses}
 use Rattle.lrc_stripes.specs.declared.home_nodes.HomeNodes.{HomeNodes}
 use Rattle.lrc_stripes.specs.Masks.{work_rank}
 use Rattle.lrc_stripes.specs.Noted.{AreNodesOf}
 use Rattle.lrc_stripes.specs.Tables.{rows_in}
 use Rattle.lrc_stripes.specs.Kept.{needs_of, IsRenewed, IsRehomed}
-use Rattle.lrc_stripes.proofs.RowsLemmas.{rows_in-set, present-same, renewed-there, are_queued-set, renewed-set}
+use Rattle.lrc_stripes.proofs.RowsLemmas.{rows_in-set, rehomed-there, present-same, renewed-there, are_queued-set, renewed-set}
 use Rattle.lrc_stripes.proofs.NotedLemmas.{noted-put, renewed-nodes}
 use Rattle.lrc_stripes.proofs.rows.Rows.set_home.Goals as goal
 
@@ -22,11 +23,13 @@ invariant_of-self c =
     let there = c.self.inside.there in
     let Renews = IsRehomed c.args.fragment.value c.args.home c.args.losses in
     let new = c.put_home.new.row in
+    let gives = rehomed-there c.args.fragment.value c.args.home c.args.losses place new c.put_home.ensures
+    (ap (λ (o : Option Row). is_some o) old ∙ (ap (λ (rows : List (Option Row)). is_some (rows_in rows s)) c.self.view_is ∙ c.requires)) in
     let is_there = renewed-there Renews place new c.put_home.ensures ∙ ap (λ (o : Option Row). is_some o) old in
     record {
-      queued = are_queued-set list s new within c.self.inside.needs.items c.needs_of.result there there c.self.inside.work c.relist.new.self c.work_rank-rank.result
-          was (present-same list s new within there was.present is_there) (c.needs_of.ensures ∙ ap needs_of c.as_ref.ensures.value)
-          (c.work_rank-rank.ensures.value ∙ ap (option_and_then (λ r. work_rank r.losses)) c.as_ref-2.ensures.value) c.relist.ensures;
+      queued = are_queued-set list s new within c.self.inside.needs.items c.args.losses.needs.bits there there c.self.inside.work c.relist.new.self c.work_rank-rank.result
+          was (present-same list s new within there was.present is_there) (sym (ap needs_of gives.1 ∙ ap (λ (l : Losses). l.needs.bits) gives.2))
+          (c.work_rank-rank.ensures.value ∙ sym (ap (option_and_then (λ r. work_rank r.losses)) gives.1 ∙ ap work_rank gives.2)) c.relist.ensures;
       noted = let before = c.index_mut-nodes.result.now in
           noted-put list nodes s new within c.self.invariant.noted c.put.new.self
           (renewed-nodes c.args.fragment.value c.args.home c.args.losses place new before c.put.new.self c.args.fragment.in_range c.put_home.ensures

@@ -1,6 +1,6 @@
 use Rattle.std.proofs.Common.{◌≡◌, ℕ, ◌+◌, ◌<◌, Bool, ◌&&◌, ◌||◌, nat_lt, get_or, take, length, map, None, Some, Option, IsTrue, arith, sym, ap, ◌∙◌}
 use Rattle.std.specs.List.{list_any}
-use Rattle.std.proofs.lemmas.List.{take_all, length-map}
+use Rattle.std.proofs.lemmas.List.{take_all, length-map, get_or_past}
 use Rattle.std.proofs.lemmas.List.Elements.{All-get_or}
 use Rattle.std.proofs.lemmas.List.Folds.{list_any_more}
 use Rattle.lrc_code.specs.declared.numbers.NodeNo.{NodeNo}
@@ -8,6 +8,8 @@ use Rattle.lrc_topology.specs.declared.seat.Seat.{Seat}
 use Rattle.lrc_stripes.specs.Stored.{has_node}
 use Rattle.lrc_stripes.specs.Rows.{sits_on, is_missing, is_to_move}
 use Rattle.lrc_stripes.specs.Sites.{Sited, sited}
+use Rattle.lrc_topology.specs.Nodes.{node_at}
+use Rattle.lrc_stripes.proofs.DomainLemmas.{domains-next, domains-all}
 use Rattle.lrc_stripes.proofs.MaskLemmas.{item-number}
 use Rattle.lrc_stripes.proofs.SeatedLemmas.{home-at, missing-at, to_move-at, homeless-none, mask-next, entered-more, entered-same}
 use Rattle.lrc_stripes.proofs.sites.Sites.enter.Goals as goal
@@ -47,6 +49,8 @@ loop-fragment-preserved c =
       mask-next (λ f. is_to_move first.draining (get_or homes f None)) i c.loop-fragment.needs.bits c.with_where-needs.result.bits k c.enter_one-site.result.is_draining number
           (to_move-at seats long first.draining no_seat i k c.enter_one-site.result.is_draining below number (e.draining ∙ ap (λ (z : Sited). z.draining (get_or seats k no_seat).node) is.0))
           is.2 c.with_where-needs.ensures,
+      domains-next first.nodes (λ f. get_or homes f None) i k (get_or seats k no_seat) below number (home-at seats long no_seat i below ∙ ap (λ n. Some (get_or seats n no_seat)) (sym number)) c.loop-fragment.domains c.enter_one-site.new.domains
+          c.enter_one-site.result.node (sym (e.node ∙ ap (λ (z : Sited). node_at z.nodes (get_or seats k no_seat).node) is.0)) e.faults e.upgrades is.3,
     )
 
 pub returns-clause-on : goal.returns-clause-on
@@ -56,6 +60,13 @@ returns-clause-on c =
     take_all c.loop-fragment.fragment-index homes (let count = length-map c.args.seats.now (λ (x : Seat). Some x) in omega (arith, count, c.told-seats, c.loop-fragment-test.false)) in
     c.loop-fragment.invariant.0
     ∙ entered-same (sited c.args.self.now) c.args.stripe (λ n. list_any (sits_on n) (take c.loop-fragment.fragment-index homes)) (λ n. list_any (sits_on n) homes) (λ n. ap (list_any (sits_on n)) (sym whole))
+
+pub returns-clause-domains : goal.returns-clause-domains
+returns-clause-domains c =
+    let homes = map Some c.args.seats.now in
+    let all : c.loop-fragment.fragment-index ≡ 16 = omega arith in
+    domains-all (sited c.args.self.now).nodes (λ f. get_or homes f None) c.loop-fragment.fragment-index c.loop-fragment.domains
+    (λ f above. get_or_past homes f None (let count = length-map c.args.seats.now (λ (x : Seat). Some x) in omega (arith, above, count, all, c.told-seats))) c.loop-fragment.invariant.3
 
 pub returns-clause-losses : goal.returns-clause-losses
 returns-clause-losses c =

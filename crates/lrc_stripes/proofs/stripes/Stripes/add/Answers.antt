@@ -1,8 +1,10 @@
 use Rattle.std.proofs.Common.{◌≡◌, false, List, Option, is_some, subst, sym}
 use Rattle.lrc_topology.specs.declared.seat.Seat.{Seat}
-use Rattle.lrc_stripes.specs.Noted.{AreNodesOf}
+use Rattle.lrc_stripes.specs.Stored.{Stored}
+use Rattle.lrc_stripes.specs.Noted.{AreNodesOf, AreDomainsKept}
+use Rattle.lrc_stripes.proofs.DomainLemmas.{domains-dropped}
 use Rattle.lrc_stripes.specs.Sites.{sited}
-use Rattle.lrc_stripes.specs.Tables.{stored_in, rows_in}
+use Rattle.lrc_stripes.specs.Tables.{stored_in, rows_in, row_homes}
 use Rattle.lrc_stripes.proofs.KeptLemmas.{kept-add}
 use Rattle.lrc_stripes.proofs.StoredLemmas.{stored-add}
 use Rattle.lrc_stripes.proofs.stripes.Stripes.add.Goals as goal
@@ -16,7 +18,13 @@ pub invariant_of-self : goal.invariant_of-self
 unfolding stored_in
 invariant_of-self c =
     let absent : is_some (rows_in c.self.inside.rows c.args.stripe) ≡ false = rw (← c.self.view_is) at c.requires.absent in
-    kept-add (sited c.self.inside.sites) (rows_in c.self.inside.rows) c.self.invariant c.args.stripe c.new.result (rows_in c.add.new.self) absent c.new.ensures.homes c.new.ensures.losses c.add.ensures
+    let z = sited c.self.inside.sites in
+    record {
+      kept = kept-add z (rows_in c.self.inside.rows) c.self.invariant.kept c.args.stripe c.new.result (rows_in c.add.new.self) absent c.new.ensures.homes c.new.ensures.losses c.add.ensures;
+      noted = subst (λ (t : Stored). AreDomainsKept t.nodes t.homes c.self.inside.domains.items)
+          (sym (stored-add z (rows_in c.self.inside.rows) (rows_in c.add.new.self) c.args.stripe c.new.result c.self.inside.spare c.new.ensures.homes c.add.ensures))
+          (domains-dropped z.nodes c.self.inside.domains.items (λ s. row_homes (rows_in c.self.inside.rows s)) c.args.stripe c.self.invariant.noted);
+    }
 
 pub returns : goal.returns
 unfolding stored_in sited

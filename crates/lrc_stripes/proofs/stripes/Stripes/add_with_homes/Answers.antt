@@ -1,14 +1,16 @@
-use Rattle.std.proofs.Common.{◌≡◌, ◌-◌, false, IsTrue, List, Option, Some, map, get_or, is_some, ap, subst, sym, ◌∙◌}
+use Rattle.std.proofs.Common.{◌≡◌, ◌-◌, false, IsTrue, List, Option, Some, None, map, set, get_or, is_some, ap, subst, sym, ◌∙◌}
 use Rattle.std.specs.List.{All}
 use Rattle.lrc_topology.specs.Nodes.{node_at}
 use Rattle.lrc_topology.specs.declared.seat.Seat.{Seat}
 use Rattle.lrc_stripes.specs.declared.losses.Losses.{Losses}
 use Rattle.lrc_stripes.specs.Kept.{IsKept}
 use Rattle.lrc_stripes.specs.Masks.{AreLosses}
-use Rattle.lrc_stripes.specs.Noted.{AreNodesOf}
+use Rattle.lrc_stripes.specs.Domains.{AreDomainsOf}
+use Rattle.lrc_stripes.specs.Noted.{AreNodesOf, AreDomainsKept}
+use Rattle.lrc_stripes.proofs.DomainLemmas.{domains-put}
 use Rattle.lrc_stripes.specs.Stored.{has_slot}
 use Rattle.lrc_stripes.specs.Sites.{Sited, sited}
-use Rattle.lrc_stripes.specs.Tables.{stored_in, rows_in}
+use Rattle.lrc_stripes.specs.Tables.{stored_in, rows_in, row_homes}
 use Rattle.lrc_stripes.proofs.KeptLemmas.{kept-enter}
 use Rattle.lrc_stripes.proofs.StoredLemmas.{stored_by, stored-seated, slot-known}
 use Rattle.lrc_stripes.proofs.stripes.Stripes.add_with_homes.Goals as goal
@@ -33,8 +35,14 @@ invariant_of-self c =
     let absent : is_some (rows_in c.self.inside.rows c.args.stripe) ≡ false = rw (← c.self.view_is) at c.requires.absent in
     let are : AreLosses z.online z.draining homes c.seated-row.result.losses =
     subst (λ (l : Losses). AreLosses z.online z.draining homes l) (sym c.seated-row.ensures.losses) (record { homeless = e.homeless; missing = e.missing; needs = e.needs }) in
-    subst (λ (y : Sited). IsKept y (rows_in c.add.new.self)) (sym c.enter-losses.ensures.on)
-    (kept-enter z (rows_in c.self.inside.rows) c.self.invariant c.args.stripe homes c.seated-row.result (rows_in c.add.new.self) absent c.seated-row.ensures.homes are c.add.ensures)
+    let put = c.enter-losses.new.domains in
+    record {
+      kept = subst (λ (y : Sited). IsKept y (rows_in c.add.new.self)) (sym c.enter-losses.ensures.on)
+          (kept-enter z (rows_in c.self.inside.rows) c.self.invariant.kept c.args.stripe homes c.seated-row.result (rows_in c.add.new.self) absent c.seated-row.ensures.homes are c.add.ensures);
+      noted = subst (λ (y : Sited). AreDomainsKept y.nodes (λ s. row_homes (rows_in c.add.new.self s)) (set c.self.inside.domains.items c.args.stripe.value put)) (sym c.enter-losses.ensures.on)
+          (domains-put z.nodes c.self.inside.domains.items (rows_in c.self.inside.rows) (rows_in c.add.new.self) c.args.stripe c.seated-row.result put c.add.ensures
+          (subst (λ (hs : List (Option Seat)). AreDomainsOf z.nodes (λ f. get_or hs f None) put) (sym c.seated-row.ensures.homes) c.enter-losses.ensures.domains) c.self.invariant.noted);
+    }
 
 pub returns : goal.returns
 unfolding stored_in sited

@@ -7,12 +7,12 @@ pub returns-in_err-row : goal.returns-in_err-row
 returns-in_err-row c =
     let s = c.self.inside in
     rw (c.from_residual.ensures, ← c.self.view_is)
-    (sym (needs_shown-absent s.sites s.rows s.spare c.self.invariant c.args.stripe
+    (sym (needs_shown-absent s.sites s.rows s.spare c.self.invariant.kept c.args.stripe
     (sym c.get.ensures ∙ ap option_copied c.in_err-row.was)))
 
 pub returns : goal.returns
 returns c =
     let s = c.self.inside in
     rw (c.needs.ensures.value, ← c.self.view_is)
-    (sym (needs_shown-there s.sites s.rows s.spare c.self.invariant c.args.stripe c.in_ok-row.row.now
+    (sym (needs_shown-there s.sites s.rows s.spare c.self.invariant.kept c.args.stripe c.in_ok-row.row.now
     (let few = c.needs.ensures.few in rw c.needs.ensures.value at few) (sym c.get.ensures ∙ ap option_copied c.in_ok-row.was)))

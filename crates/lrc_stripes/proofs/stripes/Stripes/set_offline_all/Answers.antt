@@ -1,9 +1,10 @@
-use Rattle.std.proofs.Common.{get_or, ap, ◌∙◌}
+use Rattle.std.proofs.Common.{get_or, ap, sym, subst, ◌∙◌}
 use Rattle.lrc_topology.specs.declared.NodeInfo.{NodeInfo}
 use Rattle.lrc_stripes.specs.Stored.{Stored, with_offline}
-use Rattle.lrc_stripes.specs.Sites.{sited}
-use Rattle.lrc_stripes.specs.Tables.{stored_in}
-use Rattle.lrc_stripes.proofs.RenewLemmas.{stored-idle}
+use Rattle.lrc_stripes.specs.Noted.{AreDomainsKept}
+use Rattle.lrc_stripes.specs.Sites.{Sited, sited}
+use Rattle.lrc_stripes.specs.Tables.{stored_in, rows_in, row_homes}
+use Rattle.lrc_stripes.proofs.RenewLemmas.{kept-idle, stored-idle}
 use Rattle.lrc_stripes.proofs.StoredLemmas.{offline-more}
 use Rattle.lrc_stripes.proofs.stripes.Stripes.set_offline_all.Goals as goal
 
@@ -19,8 +20,16 @@ pub set_offline_all-requires : goal.set_offline_all-requires
 unfolding stored_in sited
 set_offline_all-requires c = rw (← c.self.view_is) at c.requires
 
+pub invariant_of-self : goal.invariant_of-self
+invariant_of-self c =
+    let s = c.self.inside in
+    record {
+      kept = kept-idle s.sites c.set_offline_all.new.self s.rows s.spare c.self.invariant.kept _ c.set_offline_all.ensures (c.has_work.ensures.none c.if-has_work.false);
+      noted = subst (λ (z : Sited). AreDomainsKept z.nodes (λ t. row_homes (rows_in s.rows t)) s.domains.items) (sym c.set_offline_all.ensures) c.self.invariant.noted;
+    }
+
 pub returns-else-has_work : goal.returns-else-has_work
 unfolding stored_in sited
 returns-else-has_work c =
     let s = c.self.inside in
-    rw (← c.self.view_is) (stored-idle s.sites c.set_offline_all.new.self s.rows s.spare c.self.invariant _ c.set_offline_all.ensures)
+    rw (← c.self.view_is) (stored-idle s.sites c.set_offline_all.new.self s.rows s.spare c.self.invariant.kept _ c.set_offline_all.ensures)
