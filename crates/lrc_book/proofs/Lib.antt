@@ -2,6 +2,7 @@ pub mod ListLemmas
 pub mod StepLemmas
 pub mod LastLemmas
 pub mod MateLemmas
+pub mod NeighbourLemmas
 pub mod LawLemmas
 pub mod WorldLemmas
 pub mod MemberLemmas

@@ -27,6 +27,7 @@ pub mod Endings
 pub mod Changes
 pub mod Ties
 pub mod Stores
+pub mod Neighbouring
 pub mod Planning
 pub mod Repairing
 pub mod Books

@@ -9,7 +9,7 @@ ghost use Rattle.lrc_code.specs.Losses.{bits_set};
 ghost use Rattle.lrc_code.specs.declared.codes.Code.TheVariants.{Wide};
 ghost use Rattle.lrc_topology.specs.declared.seat.Held.{Held};
 ghost use Rattle.lrc_topology.specs.Nodes.{node_at};
-ghost use Rattle.lrc_slots.specs.Barred.{no_bars};
+ghost use Rattle.lrc_slots.specs.Barred.{no_bars, joined};
 ghost use Rattle.lrc_slots.specs.Next.{next_number};
 ghost use Rattle.lrc_slots.specs.Tables.{slots_of, barred};
 ghost use Rattle.lrc_stripes.specs.Tables.{stored_in};
@@ -20,9 +20,11 @@ ghost use Rattle.lrc_book.specs.Placement.{chosen, is_beside};
 ghost use Rattle.lrc_book.specs.Ties.{table_of, bars_in, next_seat, with_homes};
 ghost use Rattle.lrc_book.specs.Stores.{IsOf, IsTied, closed, with_seat};
 ghost use Rattle.lrc_book.specs.Planning.{AreBarsOf, open_seat};
+ghost use Rattle.lrc_book.specs.Neighbouring.{barred_by};
 
 use crate::Seat;
 use crate::class_bars::ClassBars;
+use crate::neighbours::Neighbours;
 use crate::store::Store;
 use lrc_code::{Class, Fragment, LossMask, StripeNo};
 use lrc_slots::{OpenNode, Taken};
@@ -77,11 +79,10 @@ impl Store {
         requires there { IsTrue ((stored_in self.now.stripes).stripes stripe) }
         ensures { (st : State) → IsOf st self.now → result ≡ chosen self.now.topology st stripe fragment }
     {
-        let mut bars = Taken::new();
-        self.bar_homes(&mut bars, stripe, fragment);
-        self.bar_targets(&mut bars, stripe, fragment);
-        self.bar_upgrading(&mut bars);
-        self.next_beside(&bars)
+        let mut more = Taken::new();
+        self.bar_targets(&mut more, stripe, fragment);
+        self.bar_upgrading(&mut more);
+        self.next_beside(&self.neighbours(stripe, fragment, &more))
     }
 
     /// Bars the upgrading domain too, if there is one.
@@ -94,28 +95,33 @@ impl Store {
     }
 
     /// The least free slot of the next node of the table outside these domains.
-    fn next_beside(&self, bars: &Taken) -> Option<Seat>
-        ensures { result ≡ next_seat (slots_of self.now.table) (barred bars.now) }
+    fn next_beside(&self, neighbours: &Neighbours<'_>) -> Option<Seat>
+        ensures { result ≡ next_seat (slots_of self.now.table) (barred_by neighbours.now) }
     {
-        let next = self.table.open_beside(bars)?;
+        let next = self.table.open_beside_each(neighbours)?;
         Some(Seat {
             node: next.node.number,
             slot: next.slot,
         })
     }
 
-    /// Bars the domains of the homes of a stripe's other fragments for a fragment.
-    fn bar_homes(&self, bars: &mut Taken, stripe: StripeNo, fragment: Fragment)
-        requires tied { IsTied self.now }
-        requires there { IsTrue ((stored_in self.now.stripes).stripes stripe) }
-        ensures { (st : State) (seats : List Held) → IsOf st self.now → barred bars.old ≡ bars_in self.now.topology Wide stripe fragment seats
-            → barred bars.new ≡ bars_in self.now.topology Wide stripe fragment (seats ++ st.homes) }
+    /// The homes of a stripe's other fragments as a fragment's neighbours, and what is barred besides.
+    fn neighbours<'a>(
+        &'a self,
+        stripe: StripeNo,
+        fragment: Fragment,
+        more: &'a Taken,
+    ) -> Neighbours<'a>
+        requires { IsTrue ((stored_in self.now.stripes).stripes stripe) }
+        ensures { (st : State) → IsOf st self.now → barred_by result ≡ joined (barred more.now) (bars_in self.now.topology Wide stripe fragment st.homes) }
     {
-        let mates = mates_of(fragment);
-        for number in 0..16u8 {
-            let other = Fragment { value: number };
-            let home = self.stripes.home(stripe, other);
-            self.bar_seat(bars, fragment, mates, other, home);
+        let others = self.stripes.homed(stripe).without(fragment);
+        let mates = LossMask::from_bits(others.bits & mates_of(fragment).bits);
+        Neighbours {
+            homes: self.stripes.domains(stripe),
+            others,
+            mates,
+            more,
         }
     }
 

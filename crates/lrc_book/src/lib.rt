@@ -12,6 +12,7 @@ mod kind;
 pub mod laws;
 mod mode;
 mod modes;
+mod neighbours;
 mod node_set;
 mod plan;
 mod record;

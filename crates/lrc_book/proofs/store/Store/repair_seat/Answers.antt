@@ -1,18 +1,26 @@
-use Rattle.std.proofs.Common.{[], ap, ◌∙◌}
+use Rattle.std.proofs.Common.{[], refl, ap, ◌∙◌, map}
 use Rattle.lrc_slots.specs.Slots.{Slots}
-use Rattle.lrc_slots.specs.Tables.{barred}
-use Rattle.lrc_book.specs.Ties.{bars_of, next_seat}
+use Rattle.lrc_slots.specs.Barred.{Barred, joined}
+use Rattle.lrc_code.specs.declared.codes.Code.TheVariants.{Wide}
+use Rattle.lrc_book.specs.States.{held_by}
+use Rattle.lrc_book.specs.Ties.{bars_in, bars_of, next_seat}
 use Rattle.lrc_book.specs.Stores.{kept_table, closed}
+use Rattle.lrc_book.specs.Neighbouring.{barred_by}
 use Rattle.lrc_book.proofs.ClosedLemmas.{closed-seat}
+use Rattle.lrc_book.proofs.NeighbourLemmas.{homes-beside}
 use Rattle.lrc_book.proofs.PlanLemmas.{table-chosen}
 use Rattle.lrc_book.proofs.store.Store.repair_seat.Goals as goal
 
 pub returns : goal.returns
 returns c = λ st kept.
     let nodes = c.args.self.now.topology in
-    let beside = c.bar_targets.ensures st st.homes kept (c.bar_homes.ensures st [] kept c.new-bars.ensures) in
+    let s = c.args.stripe in
+    let f = c.args.fragment in
+    let homes = bars_in nodes Wide s f st.homes in
+    let more = c.bar_upgrading.ensures st kept ∙ ap (closed st.upgrading) (c.bar_targets.ensures st [] kept c.new-more.ensures) in
+    let beside = c.neighbours.ensures st kept ∙ ap (λ (b : Barred). joined b homes) more ∙ homes-beside nodes s f st.upgrading st.homes (map held_by st.leases) in
     c.next_beside.ensures
-    ∙ ap (λ (t : Slots). next_seat t (barred c.bar_upgrading.new.bars)) kept.table_is
-    ∙ ap (next_seat (kept_table nodes st)) (c.bar_upgrading.ensures st kept ∙ ap (closed st.upgrading) beside)
-    ∙ closed-seat nodes st (bars_of nodes st c.args.stripe c.args.fragment) kept.known
-    ∙ table-chosen nodes st c.args.stripe c.args.fragment kept.known kept.seated
+    ∙ ap (λ (t : Slots). next_seat t (barred_by c.neighbours.result)) kept.table_is
+    ∙ ap (next_seat (kept_table nodes st)) beside
+    ∙ closed-seat nodes st (bars_of nodes st s f) kept.known
+    ∙ table-chosen nodes st s f kept.known kept.seated
