@@ -1,11 +1,9 @@
 -- The domains of a stripe's homes side by side bar what its homes bar.
-use Rattle.std.proofs.Common.{◌≡◌, ℕ, ◌<◌, inl, inr, Bool, true, false, not, ◌&&◌, ◌||◌, nat_eq, nat_lt, eqb, List, [], ◌∷◌, ◌++◌, get_or, Option, Some, None, is_some, IsSome, min, bit_and, arith, refl, sym, ap, ap₂, ◌∙◌}
+use Rattle.std.proofs.Common.{◌≡◌, ℕ, ◌<◌, inl, inr, Bool, true, false, not, ◌&&◌, ◌||◌, nat_eq, nat_lt, eqb, List, [], ◌∷◌, ◌++◌, get_or, Option, Some, None, is_some, IsSome, bit_and, arith, refl, sym, ap, ap₂, ◌∙◌}
 use Rattle.std.specs.List.{list_any}
-use Rattle.std.specs.Int.{bit_at}
-use Rattle.std.specs.Option.{option_map_or}
 use Rattle.std.proofs.lemmas.Bool.{cases_Bool, cases_eq, eq-eqb, ne_eqb, lt-ltb}
 use Rattle.std.proofs.lemmas.List.Folds.{list_any-append, list_any_at, list_any_none}
-use Rattle.std.proofs.lemmas.Nat.Bits.{bit_at_and, bit_at-lt, bit_at-zero}
+use Rattle.std.proofs.lemmas.Nat.Bits.{bit_at-zero}
 use Rattle.lrc_code.specs.declared.codes.Code.TheVariants.{Wide}
 use Rattle.lrc_code.specs.declared.numbers.StripeNo.{StripeNo}
 use Rattle.lrc_code.specs.declared.numbers.FaultNo.{FaultNo}
@@ -18,6 +16,7 @@ use Rattle.lrc_topology.specs.declared.NodeInfo.{NodeInfo}
 use Rattle.lrc_topology.specs.declared.seat.Seat.{Seat}
 use Rattle.lrc_topology.specs.declared.seat.Held.{Held}
 use Rattle.lrc_stripes.proofs.LevelLemmas.{has_some-bits, has_some-none}
+use Rattle.lrc_stripes.proofs.NotedLemmas.{both-bits}
 use Rattle.lrc_slots.specs.Barred.{joined}
 use Rattle.lrc_book.specs.Ties.{bars_fault, bars_upgrade, bars_in}
 use Rattle.lrc_book.specs.Stores.{closed}
@@ -25,20 +24,10 @@ use Rattle.lrc_book.specs.Neighbouring.{stands_in, homes_bar}
 use Rattle.lrc_book.proofs.BarLemmas.{same_bars}
 use Rattle.lrc_book.proofs.BesideLemmas.{held_if, held_all}
 use Rattle.lrc_book.proofs.ClassBarLemmas.{closed-joined}
-use Rattle.lrc_book.proofs.FragmentLemmas.{number-at, fragment-at}
+use Rattle.lrc_book.proofs.FragmentLemmas.{fragment-at}
 use Rattle.lrc_book.proofs.StoredLemmas.{test-sym}
 
 -- ---- what two masks have in common
-
-both-bits : (a b c f : ℕ) → c ≡ bit_and a b → bits_set c f ≡ (bits_set a f && bits_set b f)
-both-bits a b c f is =
-    let met : bit_at c f ≡ min (bit_at a f) (bit_at b f) = ap (λ (n : ℕ). bit_at n f) is ∙ bit_at_and a b f in
-    let low = bit_at-lt a f in
-    let few = bit_at-lt b f in
-    elim (cases_eq (bit_at a f) 1) [
-      | inl one ↦ rw (eq-eqb _ _ one) (ap (λ (n : ℕ). nat_eq n 1) (let same : bit_at c f ≡ bit_at b f = omega (arith, met, one, few) in same))
-      | inr other ↦ rw (ne_eqb _ _ other) (ne_eqb _ _ (λ e. omega (arith, met, other, e, low)))
-    ]
 
 and-swap : (a b : Bool) → (a && b) ≡ (b && a)
 and-swap true true = refl

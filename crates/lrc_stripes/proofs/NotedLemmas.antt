@@ -25,7 +25,8 @@ use Rattle.lrc_stripes.proofs.RowsLemmas.{rows_in-set}
 
 -- ---- a search for a node
 
-both-bits : (a b c f : ℕ) → c ≡ bit_and a b → bits_set c f ≡ (bits_set a f && bits_set b f)
+-- what two masks have in common
+pub both-bits : (a b c f : ℕ) → c ≡ bit_and a b → bits_set c f ≡ (bits_set a f && bits_set b f)
 both-bits a b c f is =
     let met : bit_at c f ≡ min (bit_at a f) (bit_at b f) = ap (λ (n : ℕ). bit_at n f) is ∙ bit_at_and a b f in
     let low = bit_at-lt a f in

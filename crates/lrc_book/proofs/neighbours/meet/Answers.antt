@@ -1,4 +1,4 @@
-use Rattle.std.proofs.Common.{sym, ap, ◌∙◌, not, eqb, ℕ, arith}
+use Rattle.std.proofs.Common.{arith}
 use Rattle.lrc_book.proofs.NeighbourLemmas.{some-stand}
 use Rattle.lrc_book.proofs.neighbours.meet.Goals as goal
 

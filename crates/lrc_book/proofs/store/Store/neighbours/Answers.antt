@@ -1,14 +1,13 @@
-use Rattle.std.proofs.Common.{◌≡◌, ◌∙◌, ◌&&◌, Bool, not, eqb, List, Option, IfSome, IsSome, Some, is_some, get_or, ap, sym, subst, refl, []}
+use Rattle.std.proofs.Common.{◌∙◌, ◌&&◌, Bool, not, eqb, List, Option, IfSome, IsSome, is_some, ap, subst, refl, []}
 use Rattle.lrc_code.specs.declared.codes.Code.TheVariants.{Wide}
 use Rattle.lrc_code.specs.declared.numbers.Fragment.{Fragment}
 use Rattle.lrc_code.specs.Codes.{fragments}
 use Rattle.lrc_topology.specs.declared.NodeInfo.{NodeInfo}
 use Rattle.lrc_topology.specs.Nodes.{node_at}
 use Rattle.lrc_topology.specs.declared.seat.Seat.{Seat}
-use Rattle.lrc_slots.specs.Barred.{Barred, joined}
+use Rattle.lrc_slots.specs.Barred.{joined}
 use Rattle.lrc_slots.specs.Slots.{Slots}
 use Rattle.lrc_slots.specs.Tables.{barred}
-use Rattle.lrc_stripes.specs.Domains.{AreDomainsOf}
 use Rattle.lrc_stripes.specs.Stored.{Stored}
 use Rattle.lrc_book.proofs.BesideLemmas.{home_at, homes-all}
 use Rattle.lrc_book.proofs.KnownSeatLemmas.{IsKnown, home-known}

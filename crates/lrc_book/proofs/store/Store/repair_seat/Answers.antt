@@ -1,4 +1,4 @@
-use Rattle.std.proofs.Common.{[], refl, ap, ◌∙◌, map}
+use Rattle.std.proofs.Common.{[], ap, ◌∙◌, map}
 use Rattle.lrc_slots.specs.Slots.{Slots}
 use Rattle.lrc_slots.specs.Barred.{Barred, joined}
 use Rattle.lrc_code.specs.declared.codes.Code.TheVariants.{Wide}
