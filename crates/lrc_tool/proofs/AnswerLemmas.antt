@@ -1,5 +1,5 @@
 -- Each bundle has an answer, and only one.
-use Rattle.std.proofs.Common.{[], ◌∷◌, arith, ◌≡◌, ◌≢◌, ℕ, ◌≤◌, ◌↔◌, inl, inr, List, length, Option, Some, None, Result, Ok, Err, refl, sym, ap, subst, ◌∙◌}
+use Rattle.std.proofs.Common.{arith, ◌≡◌, ◌≢◌, ℕ, ◌≤◌, ◌↔◌, inl, inr, List, length, Option, Some, None, Result, Ok, Err, refl, sym, ap, subst, ◌∙◌}
 use Rattle.lrc_topology.specs.declared.NodeInfo.{NodeInfo}
 use Rattle.lrc_topology.specs.declared.error.TopologyError.{TopologyError}
 use Rattle.lrc_topology.proofs.AnswerLemmas.{one_topology, topology_or_refusal, one_refusal}

@@ -1,5 +1,5 @@
 -- What the tracks of scripts tell: the entries of their sessions in the history, and no others.
-use Rattle.std.proofs.Common.{◌≡◌, ℕ, zero, suc, ◌+◌, ◌≤◌, ◌<◌, ◌==◌, inl, inr, Bool, true, nat_le, nat_eq, All, List, [], ◌∷◌, ◌++◌, length, map, get_or, filter, flat_map, count_by, Option, Some, None, Vec, refl, sym, ap, subst, ◌∙◌, arith}
+use Rattle.std.proofs.Common.{◌≡◌, ℕ, zero, suc, ◌+◌, ◌≤◌, ◌<◌, ◌==◌, inl, inr, Bool, true, nat_le, nat_eq, All, List, [], ◌∷◌, ◌++◌, length, map, get_or, flat_map, count_by, Option, Some, None, Vec, refl, sym, ap, subst, ◌∙◌, arith}
 use borrow.Author.Tests.{eq-eqb}
 use Rattle.std.proofs.lemmas.Bool.{cases_Bool, leb-true}
 use Rattle.std.proofs.lemmas.Bool.Decides.{nat_tests}
@@ -14,7 +14,6 @@ use Rattle.lrc_book.specs.declared.command.Command.{Command}
 use Rattle.lrc_book.specs.declared.entry.Entry.{Entry}
 use Rattle.lrc_book.specs.Sessions.{NumberedEntry, numbered_from, is_of, entries_of, commands_of, AreRising}
 use Rattle.lrc_topology.specs.declared.NodeInfo.{NodeInfo}
-use Rattle.lrc_book.specs.Histories.{IsLegal}
 use Rattle.lrc_book.proofs.NumberedLemmas.{all_made}
 use Rattle.lrc_board.specs.declared.receipt.Receipt.{Receipt}
 use Rattle.lrc_sessions.specs.declared.closing.Closing.{Closing}

@@ -1,5 +1,5 @@
 -- Scripts that are run in turn: each list of at most eight scripts has a history.
-use Rattle.std.proofs.Common.{◌≡◌, ℕ, ◌+◌, ◌≤◌, ◌<◌, lit≤, inl, inr, Bool, true, false, nat_eq, All, List, [], ◌∷◌, ◌++◌, length, map, filter, refl, sym, ap, ◌∙◌, arith, append-nil, zero, suc}
+use Rattle.std.proofs.Common.{◌≡◌, ℕ, ◌+◌, ◌≤◌, ◌<◌, lit≤, inl, inr, Bool, false, nat_eq, All, List, [], ◌∷◌, ◌++◌, length, map, filter, refl, ap, ◌∙◌, arith, append-nil, zero, suc}
 use borrow.Author.Tests.{eq-eqb}
 use Rattle.std.specs.List.{range_with_len}
 use Rattle.std.proofs.lemmas.Bool.{cases_Bool}
@@ -11,7 +11,7 @@ use Rattle.lrc_topology.specs.declared.NodeInfo.{NodeInfo}
 use Rattle.lrc_book.specs.declared.command.Command.{Command}
 use Rattle.lrc_book.specs.declared.entry.Entry.{Entry}
 use Rattle.lrc_book.specs.Histories.{World, first_world, outcome_in, next_world, state_after, IsLegalFrom}
-use Rattle.lrc_book.specs.Sessions.{numbered_from, is_of, commands_of, commands_of_each}
+use Rattle.lrc_book.specs.Sessions.{numbered_from, is_of, commands_of}
 use Rattle.lrc_tool.specs.Tables.{tables_text}
 use Rattle.lrc_tool.specs.Texts.{replies_text}
 use Rattle.lrc_tool.specs.Outputs.{IsPlayed}

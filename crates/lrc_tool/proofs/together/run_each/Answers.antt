@@ -7,7 +7,6 @@ use Rattle.lrc_sessions.specs.Views.{SessionView, fresh}
 use Rattle.lrc_sessions.specs.Runs.{AreRun}
 use Rattle.lrc_sessions.specs.Closing.{Closes}
 use Rattle.lrc_sessions.proofs.OpenedLemmas.{length_fresh, all_left}
-use Rattle.lrc_tool.specs.Faults.{first_fault}
 use Rattle.lrc_tool.specs.Judged.{lists_of}
 use Rattle.lrc_tool.specs.Plays.{AreMade, tracks_text}
 use Rattle.lrc_tool.proofs.TrackLemmas.{open_passes, tracks_made}
