@@ -24,6 +24,6 @@ pub mod ShortLemmas
 pub mod ShownLemmas
 pub mod SeatedLemmas
 pub mod BitLemmas
-pub mod NotedLemmas
+pub mod HomesLemmas
 pub mod ClearLemmas
 pub mod DomainLemmas

@@ -13,7 +13,6 @@ use Rattle.lrc_topology.specs.declared.seat.Seat.{Seat}
 use Rattle.lrc_stripes.specs.declared.level.Level.{Level}
 use Rattle.lrc_stripes.specs.declared.level.Level.TheVariants.{Whole}
 use Rattle.lrc_stripes.specs.declared.losses.Losses.{Losses}
-use Rattle.lrc_stripes.specs.declared.home_nodes.HomeNodes.{HomeNodes}
 use Rattle.lrc_stripes.specs.declared.row.Row.{Row}
 use Rattle.lrc_stripes.specs.Stored.{StripeFragment, StripeLevel}
 use Rattle.lrc_stripes.specs.Rows.{sits_on, sits_at, is_on_seat}
@@ -21,7 +20,6 @@ use Rattle.lrc_stripes.specs.Masks.{IsPutOn, AreKept, renewed, work_rank, is_at,
 use Rattle.lrc_stripes.specs.Sets.{at_rank, has, members_from}
 use Rattle.lrc_stripes.specs.Sites.{Sited}
 use Rattle.lrc_stripes.specs.Tables.{rows_in}
-use Rattle.lrc_stripes.specs.Noted.{AreNodesOf}
 
 -- one of the row's fragments has its home on the node
 abbrev pub is_row_on : NodeNo → Option Row → Bool
@@ -145,11 +143,6 @@ pub record AreQueued (list : List (Option Row)) (needs : List ℕ) (there : List
   pub needed : (s : StripeNo) → get_or needs s.value 0 ≡ needs_of (rows_in list s)
   pub present : has there ≡ (λ s. is_some (rows_in list s))
   pub works : at_rank work ≡ queued work_rank (rows_in list)
-
--- there is a place for each stripe, and the nodes there are those of the homes of its row
-pub record AreNoted (list : List (Option Row)) (nodes : List HomeNodes) : Type 0 where
-  pub long : length nodes ≡ 4096
-  pub each : (s : StripeNo) (r : Row) (d : HomeNodes) → rows_in list s ≡ Some r → AreNodesOf r.homes (get_or nodes s.value d).numbers (get_or nodes s.value d).homed.bits
 
 -- ---- levels
 

@@ -8,17 +8,18 @@ ghost use Rattle.lrc_stripes.specs.Sites.{sited};
 ghost use Rattle.lrc_stripes.specs.Masks.{missing_of};
 
 use crate::Seat;
+use crate::homes::Homes;
 use crate::sites::Sites;
 use lrc_code::{Fragment, LossMask};
 
 /// The fragments that have no home, or one on a node that is not online.
-pub(crate) fn missing_of(homes: &[Option<Seat>; 16], sites: &Sites) -> LossMask
+pub(crate) fn missing_of(homes: &Homes, sites: &Sites) -> LossMask
     requires { length homes.now ≡ 16 }
     ensures { result.bits ≡ bits_of Wide (missing_of (sited sites.now).online homes.now) }
 {
     let mut mask = LossMask::from_bits(0);
     for fragment in Fragment::all() {
-        if is_missing(sites, homes[fragment.value as usize]) {
+        if is_missing(sites, homes.home(fragment)) {
             mask = mask.with(fragment);
         }
     }

@@ -6,16 +6,17 @@ ghost use Rattle.lrc_stripes.specs.Sites.{sited};
 ghost use Rattle.lrc_stripes.specs.Masks.{AreAll, AreKept, renewed};
 ghost use Rattle.lrc_code.specs.declared.numbers.NodeNo.{NodeNo as AnyNode};
 
+use crate::homes::Homes;
 use crate::losses::Losses;
 use crate::sites::Sites;
 use crate::{Seat, masks};
 use lrc_code::{LossMask, StripeNo};
 
 /// The homes of a stripe's fragments, and what follows from them.
-#[derive(Clone, Copy)]
+#[derive(Drop)]
 pub(crate) struct Row {
-    pub(crate) homes: [Option<Seat>; 16],
     pub(crate) losses: Losses,
+    pub(crate) homes: Homes,
     pub(crate) ghost sixteen: { length homes ≡ 16 },
 }
 
@@ -26,8 +27,8 @@ impl Row {
         ensures losses { AreAll result.losses }
     {
         Row {
-            homes: [None; 16],
             losses: Losses::all(),
+            homes: Homes::new(),
         }
     }
 
@@ -36,11 +37,10 @@ impl Row {
         ensures homes { result.homes ≡ map Some seats.now }
         ensures losses { result.losses ≡ losses }
     {
-        let mut homes = [None; 16];
-        for place in 0..16usize {
-            homes[place] = Some(seats[place]);
+        Row {
+            losses,
+            homes: Homes::seated(seats),
         }
-        Row { homes, losses }
     }
 
     /// Its losses, where the mask of the missing fragments is as its homes are.
@@ -106,6 +106,6 @@ impl Row {
     pub(crate) fn holds(&self, seat: Seat) -> bool
         ensures { result ≡ list_any (is_on_seat seat) self.now.homes }
     {
-        self.homes.iter().any(|home| *home == Some(seat))
+        self.homes.all().iter().any(|home| *home == Some(seat))
     }
 }

@@ -9,14 +9,12 @@ ghost use Rattle.lrc_stripes.specs.Sets.{has};
 ghost use Rattle.lrc_stripes.specs.Looming.{is_needy};
 ghost use Rattle.lrc_stripes.specs.Sites.{sited};
 ghost use Rattle.lrc_stripes.specs.Rows.{sits_on};
-ghost use Rattle.lrc_stripes.specs.Noted.{AreNodesOf};
 ghost use Rattle.lrc_code.specs.Losses.{bits_set};
 ghost use Rattle.lrc_stripes.specs.Tables.{rows_in};
 ghost use Rattle.lrc_stripes.specs.Kept.{IsKept, queue_from, queued, needs_of, freshened, level_in, is_row_on, holds, AreRenewed, IsRenewed, IsWithLosses, IsWithMissing, IsRehomed, IsMissingOn, IsToMoveOn};
 
 mod risk;
 
-use crate::home_nodes::HomeNodes;
 use crate::losses::Losses;
 use crate::queue::{Queue, STRIPES};
 use crate::ranked::Ranked;
@@ -39,20 +37,18 @@ pub(crate) struct Rows {
     /// The stripes that are there, told without a look at the rows.
     there: StripeSet,
     work: Queue,
-    /// By the stripe's number, the nodes of its homes; any where it is not there.
-    nodes: Vec<HomeNodes>,
 }
 
 impl Model for Rows {
     ghost use Rattle.std.specs.Prelude.{List, Option};
     ghost use Rattle.lrc_stripes.specs.declared.row.Row.{Row as AnyRow};
-    ghost use Rattle.lrc_stripes.specs.Kept.{AreNoted, AreQueued};
+    ghost use Rattle.lrc_stripes.specs.Kept.{AreQueued};
 
     ghost Value = { List (Option AnyRow) };
 
     ghost view = { λ t. t.list.items };
 
-    ghost invariant = { λ t. record { queued : AreQueued t.list.items t.needs.items t.there t.work; noted : AreNoted t.list.items t.nodes.items } };
+    ghost invariant = { λ t. AreQueued t.list.items t.needs.items t.there t.work };
 }
 
 impl Rows {
@@ -66,7 +62,6 @@ impl Rows {
             needs: zeros(alloc, STRIPES)?,
             there: StripeSet::new(),
             work: Queue::new(alloc)?,
-            nodes: no_homes(alloc, STRIPES)?,
         })
     }
 
@@ -97,18 +92,19 @@ impl Rows {
         ensures few { result.bits < 65536 }
         ensures homed { (r : AnyRow) → rows_in self.now stripe ≡ Some r → (f : ℕ) → bits_set result.bits f ≡ is_some (get_or r.homes f None) }
     {
-        LossMask::from_bits(self.nodes[stripe.value as usize].homed.bits)
+        match self.get(stripe) {
+            Some(row) => row.homes.homed(),
+            None => LossMask::from_bits(0),
+        }
     }
 
-    /// Gives a stripe this row, whose homes are on these nodes.
-    pub(crate) fn add(&mut self, stripe: StripeNo, row: Row, nodes: HomeNodes)
-        requires { AreNodesOf row.homes nodes.numbers nodes.homed.bits }
+    /// Gives a stripe this row.
+    pub(crate) fn add(&mut self, stripe: StripeNo, row: Row)
         ensures { rows_in self.new ≡ λ s. if same_stripe stripe s then Some row else rows_in self.old s }
     {
         let rank = row.losses.work_rank();
         self.needs[stripe.value as usize] = row.losses.needs.bits;
         self.there.set(stripe, true);
-        self.nodes[stripe.value as usize] = nodes;
         self.list[stripe.value as usize] = Some(row);
         self.work.relist(stripe, rank);
     }
@@ -148,8 +144,6 @@ impl Rows {
         let place = &mut self.list[stripe.value as usize];
         put_home(place, fragment, home, losses);
         self.needs[stripe.value as usize] = losses.needs.bits;
-        let nodes = &mut self.nodes[stripe.value as usize];
-        nodes.put(fragment, home);
         let rank = losses.work_rank();
         self.work.relist(stripe, rank);
     }
@@ -159,7 +153,10 @@ impl Rows {
         ensures few { result.bits < 65536 }
         ensures on { (r : AnyRow) → rows_in self.now stripe ≡ Some r → (f : ℕ) → bits_set result.bits f ≡ (nat_lt f 16 && sits_on node (get_or r.homes f None)) }
     {
-        self.nodes[stripe.value as usize].fragments_on(node)
+        match self.get(stripe) {
+            Some(row) => row.homes.fragments_on(node),
+            None => LossMask::from_bits(0),
+        }
     }
 
     /// The same, where no other stripe is asked of.
@@ -167,7 +164,10 @@ impl Rows {
         ensures few { result.bits < 65536 }
         ensures on { (r : AnyRow) → rows_in self.now stripe ≡ Some r → (f : ℕ) → bits_set result.bits f ≡ (nat_lt f 16 && sits_on node (get_or r.homes f None)) }
     {
-        self.nodes[stripe.value as usize].fragments_left_on(node)
+        match self.get(stripe) {
+            Some(row) => row.homes.fragments_left_on(node),
+            None => LossMask::from_bits(0),
+        }
     }
 
     /// Whether one of the fragments of a stripe that is there has its home on the node.
@@ -175,8 +175,7 @@ impl Rows {
         requires { IsTrue (is_some (rows_in self.now stripe)) }
         ensures { result ≡ is_row_on node (rows_in self.now stripe) }
     {
-        let nodes = &self.nodes[stripe.value as usize];
-        nodes.fragments_left_on(node).bits != 0
+        self.fragments_left_on(stripe, node).bits != 0
     }
 
     /// Whether one of a stripe's fragments has its home on the seat.
@@ -307,7 +306,11 @@ impl Rows {
 fn none(alloc: Global, count: usize) -> Result<Vec<Option<Row>>, AllocError>
     ensures { IfOk result (λ v. v.items ≡ replicate count None) }
 {
-    vec![in alloc; None; count]
+    let mut rows = Vec::with_capacity(alloc, count)?;
+    for _ in 0..count {
+        rows.push(None)?;
+    }
+    Ok(rows)
 }
 
 /// So many zeros.
@@ -315,13 +318,6 @@ fn zeros(alloc: Global, count: usize) -> Result<Vec<u16>, AllocError>
     ensures { IfOk result (λ v. v.items ≡ replicate count 0) }
 {
     vec![in alloc; 0; count]
-}
-
-/// For so many stripes that none of the fragments has a home.
-fn no_homes(alloc: Global, count: usize) -> Result<Vec<HomeNodes>, AllocError>
-    ensures { IfOk result (λ v. length v.items ≡ count) }
-{
-    vec![in alloc; HomeNodes::new(); count]
 }
 
 /// Sets whether these fragments of a row, if there is one, are missing.
@@ -347,7 +343,7 @@ fn put_home(row: &mut Option<Row>, fragment: Fragment, home: Option<Seat>, losse
     ensures { IsRenewed (IsRehomed fragment.value home losses) row.old row.new }
 {
     if let Some(row) = row {
-        row.homes[fragment.value as usize] = home;
+        row.homes.put(fragment, home);
         row.losses = losses;
     }
 }

@@ -232,8 +232,8 @@ impl Sites {
     pub(crate) fn leave(&mut self, stripe: StripeNo, row: &Row)
         ensures { sited self.new ≡ record (sited self.old) { on = λ n s. not (same_stripe stripe s && list_any (sits_on n) row.now.homes) && (sited self.old).on n s } }
     {
-        for home in row.homes {
-            if let Some(seat) = home {
+        for fragment in Fragment::all() {
+            if let Some(seat) = row.homes.home(fragment) {
                 self.remove(seat.node, stripe);
             }
         }

@@ -10,7 +10,6 @@ ghost use Rattle.lrc_stripes.specs.Tables.{stored_in};
 
 mod answers;
 
-use crate::home_nodes::HomeNodes;
 use crate::queue::STRIPES;
 use crate::row::Row;
 use crate::rows::Rows;
@@ -87,7 +86,7 @@ impl Stripes {
         requires room { 1 ≤ (stored_in self.old).spare }
         ensures { stored_in self.new ≡ with_stripe (stored_in self.old) Wide stripe }
     {
-        self.rows.add(stripe, Row::new(), HomeNodes::new());
+        self.rows.add(stripe, Row::new());
         self.spare -= 1;
     }
 
@@ -101,7 +100,7 @@ impl Stripes {
         let domains = &mut self.domains[stripe.value as usize];
         let losses = self.sites.enter(stripe, seats, domains);
         let row = Row::seated(seats, losses);
-        self.rows.add(stripe, row, HomeNodes::seated(seats));
+        self.rows.add(stripe, row);
         self.spare -= 1;
     }
 
@@ -154,7 +153,7 @@ impl Stripes {
         ensures { stored_in self.new ≡ with_home (stored_in self.old) stripe fragment home }
     {
         if let Some(row) = self.rows.get(stripe) {
-            let former = row.homes[fragment.value as usize];
+            let former = row.homes.home(fragment);
             let kept = row.losses_kept(&self.sites, stripe);
             let domains = &mut self.domains[stripe.value as usize];
             let losses = self.sites.seat(stripe, fragment, home, kept, domains);

@@ -79,7 +79,7 @@ fn missing_without(sites: &Sites, domain: UpgradeNo, row: &Row, missing: LossMas
 {
     let mut mask = missing;
     for fragment in Fragment::all() {
-        if is_home_in(sites, domain, row.homes[fragment.value as usize]) {
+        if is_home_in(sites, domain, row.homes.home(fragment)) {
             mask = mask.with(fragment);
         }
     }

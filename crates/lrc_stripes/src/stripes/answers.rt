@@ -34,7 +34,7 @@ impl Stripes {
         ensures { result ≡ (stored_in self.now).homes stripe fragment.value }
     {
         let row = self.rows.get(stripe)?;
-        row.homes[fragment.value as usize]
+        row.homes.home(fragment)
     }
 
     /// The homes of a stripe's fragments, in rising order of these; `None` where the stripe is not there.
@@ -42,7 +42,7 @@ impl Stripes {
         ensures { result ≡ homes_shown (stored_in self.now) stripe }
     {
         let row = self.rows.get(stripe)?;
-        Some(row.homes)
+        Some(row.homes.all())
     }
 
     /// The fragments of a stripe that have a home.

@@ -14,7 +14,8 @@ loop-fragment-preserved c =
     let i = c.loop-fragment.fragment-index in
     let m : ℕ → Bool = λ f. is_missing (sited c.args.sites.now).online (get_or c.args.homes.now f None) in
     let number = item-number c.all-fragment-items.result i c.fragment-item.result c.all-fragment-items.ensures c.loop-fragment-test.true in
-    let here : m i ≡ c.is_missing.result = ap m (sym number) ∙ sym c.is_missing.ensures in
+    let online = (sited c.args.sites.now).online in
+    let here : m i ≡ c.is_missing.result = ap m (sym number) ∙ (sym (ap (is_missing online) c.home.ensures) ∙ sym c.is_missing.ensures) in
     elim c.if-is_missing.branch [
       | then-is_missing w ↦
           rw w.mask-is (mask-next_true m i c.loop-fragment.mask.bits w.with-mask.result.bits _ number (here ∙ w.if-is_missing.true) c.loop-fragment.invariant w.with-mask.ensures)

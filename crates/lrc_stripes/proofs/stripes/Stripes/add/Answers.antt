@@ -1,18 +1,12 @@
-use Rattle.std.proofs.Common.{◌≡◌, false, List, Option, is_some, subst, sym}
-use Rattle.lrc_topology.specs.declared.seat.Seat.{Seat}
+use Rattle.std.proofs.Common.{◌≡◌, false, is_some, subst, sym}
 use Rattle.lrc_stripes.specs.Stored.{Stored}
-use Rattle.lrc_stripes.specs.Noted.{AreNodesOf, AreDomainsKept}
+use Rattle.lrc_stripes.specs.Noted.{AreDomainsKept}
 use Rattle.lrc_stripes.proofs.DomainLemmas.{domains-dropped}
 use Rattle.lrc_stripes.specs.Sites.{sited}
 use Rattle.lrc_stripes.specs.Tables.{stored_in, rows_in, row_homes}
 use Rattle.lrc_stripes.proofs.KeptLemmas.{kept-add}
 use Rattle.lrc_stripes.proofs.StoredLemmas.{stored-add}
 use Rattle.lrc_stripes.proofs.stripes.Stripes.add.Goals as goal
-
-pub add-requires : goal.add-requires
-add-requires c =
-    subst (λ (homes : List (Option Seat)). AreNodesOf homes c.new-2.result.numbers c.new-2.result.homed.bits) (sym c.new.ensures.homes)
-    (record { homed = c.new-2.ensures.homed; numbered = c.new-2.ensures.numbered })
 
 pub invariant_of-self : goal.invariant_of-self
 unfolding stored_in

@@ -6,7 +6,7 @@ use Rattle.lrc_stripes.specs.declared.losses.Losses.{Losses}
 use Rattle.lrc_stripes.specs.Kept.{IsKept}
 use Rattle.lrc_stripes.specs.Masks.{AreLosses}
 use Rattle.lrc_stripes.specs.Domains.{AreDomainsOf}
-use Rattle.lrc_stripes.specs.Noted.{AreNodesOf, AreDomainsKept}
+use Rattle.lrc_stripes.specs.Noted.{AreDomainsKept}
 use Rattle.lrc_stripes.proofs.DomainLemmas.{domains-put}
 use Rattle.lrc_stripes.specs.Stored.{has_slot}
 use Rattle.lrc_stripes.specs.Sites.{Sited, sited}
@@ -20,11 +20,6 @@ unfolding stored_in sited
 enter-losses-requires c =
     let slots : All (λ (seat : Seat). IsTrue (has_slot (sited c.self.inside.sites).nodes seat)) c.args.seats.now = rw (← c.self.view_is) at c.requires.slots in
     λ k d below. slot-known (node_at (sited c.self.inside.sites).nodes (get_or c.args.seats.now k d).node) (get_or c.args.seats.now k d).slot (slots k d below)
-
-pub add-requires : goal.add-requires
-add-requires c =
-    subst (λ (homes : List (Option Seat)). AreNodesOf homes c.seated.result.numbers c.seated.result.homed.bits) (sym c.seated-row.ensures.homes)
-    (record { homed = c.seated.ensures.homed; numbered = c.seated.ensures.numbered })
 
 pub invariant_of-self : goal.invariant_of-self
 unfolding stored_in

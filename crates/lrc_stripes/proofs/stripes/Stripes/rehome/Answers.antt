@@ -1,7 +1,9 @@
 use Rattle.std.proofs.Common.{◌≡◌, IfSome, true, Bool, Option, Some, None, is_some, refl, get_or, set, cond, arith, not, ◌&&◌, sym, ap, subst, ◌∙◌}
 use Rattle.std.proofs.lemmas.Bool.{eq-eqb}
 use Rattle.lrc_code.specs.declared.numbers.StripeNo.{StripeNo}
+use Rattle.lrc_code.specs.declared.numbers.NodeNo.{NodeNo}
 use Rattle.lrc_code.specs.Numbers.{same_stripe}
+use Rattle.lrc_topology.specs.declared.seat.Seat.{Seat}
 use Rattle.lrc_stripes.specs.declared.losses.Losses.{Losses}
 use Rattle.lrc_stripes.specs.declared.home_domains.HomeDomains.{HomeDomains}
 use Rattle.lrc_stripes.specs.declared.row.Row.{Row}
@@ -18,6 +20,13 @@ use Rattle.lrc_stripes.proofs.RowsLemmas.{renewed-as_put}
 use Rattle.lrc_stripes.proofs.KeptLemmas.{kept-rehome}
 use Rattle.lrc_stripes.proofs.StoredLemmas.{stored_by, stored-home, seat-known}
 use Rattle.lrc_stripes.proofs.stripes.Stripes.rehome.Goals as goal
+
+-- nodes without a stripe where its former home was, by what the home and the nodes are
+unseated-from : (s : StripeNo) (kept : NodeNo → Bool) {former home : Option Seat} {was now : Sited} → former ≡ home → was ≡ now
+    → ◌≡◌ {A = Sited} (record was { on = λ n t. not (same_stripe s t && (sits_on n former && not (kept n))) && was.on n t }) (record now { on = λ n t. not (same_stripe s t && (sits_on n home && not (kept n))) && now.on n t })
+unseated-from s kept {former} {home} {was} {now} same at =
+    ap (λ (o : Option Seat). record was { on = λ n t. not (same_stripe s t && (sits_on n o && not (kept n))) && was.on n t }) same
+    ∙ ap (λ (y : Sited). record y { on = λ n t. not (same_stripe s t && (sits_on n home && not (kept n))) && y.on n t }) at
 
 pub losses_kept-kept-requires-clause-kept : goal.losses_kept-kept-requires-clause-kept
 losses_kept-kept-requires-clause-kept c = c.self.invariant.kept.losses c.args.stripe c.in-Some.row.now (sym c.in-Some.ensures)
@@ -51,7 +60,7 @@ invariant_of-self c =
     let with = subst (λ (l : Losses). AreWith z f.value c.args.home (renewed z.online row.homes row.losses) l) (sym put.2.losses)
     (subst (λ (l : Losses). AreWith z f.value c.args.home l c.seat-losses.result) c.losses_kept-kept.ensures (record { homeless = w.homeless; missing = w.missing; needs = w.needs })) in
     let after = c.unseat.ensures
-    ∙ ap (λ (y : Sited). record y { on = λ n s. not (same_stripe c.args.stripe s && (sits_on n (get_or row.homes f.value None) && not (is_row_on n (rows_in c.set_home.new.self c.args.stripe)))) && y.on n s }) c.seat-losses.ensures.on in
+    ∙ unseated-from c.args.stripe (λ n. is_row_on n (rows_in c.set_home.new.self c.args.stripe)) c.home-former.ensures c.seat-losses.ensures.on in
     let domains = c.seat-losses.new.domains in
     let was = c.index_mut-domains.result.now in
     record {
@@ -76,7 +85,6 @@ returns-in-Some c =
     (record { listed = e.listed; others = e.others }) in
     rw (← c.self.view_is)
     (ap (λ (y : Sited). stored_by y (rows_in c.set_home.new.self) c.self.inside.spare)
-    (c.unseat.ensures
-    ∙ ap (λ (y : Sited). record y { on = λ n s. not (same_stripe c.args.stripe s && (sits_on n (get_or row.homes c.args.fragment.value None) && not (is_row_on n (rows_in c.set_home.new.self c.args.stripe)))) && y.on n s }) c.seat-losses.ensures.on)
+    (c.unseat.ensures ∙ unseated-from c.args.stripe (λ n. is_row_on n (rows_in c.set_home.new.self c.args.stripe)) c.home-former.ensures c.seat-losses.ensures.on)
     ∙ stored-home (sited c.self.inside.sites) (rows_in c.self.inside.rows) (rows_in c.set_home.new.self) c.args.stripe row (sym c.in-Some.ensures) put.0 c.args.fragment c.args.home
     put.2.homes c.self.inside.spare put.1)
