@@ -149,6 +149,7 @@ impl Rows {
     }
 
     /// The fragments of a stripe that is there whose homes are on the node.
+    #[inline(always)] // in a loop over stripes, what sixteen nodes are compared with then stays in registers
     fn fragments_on(&self, stripe: StripeNo, node: NodeNo) -> LossMask
         ensures few { result.bits < 65536 }
         ensures on { (r : AnyRow) → rows_in self.now stripe ≡ Some r → (f : ℕ) → bits_set result.bits f ≡ (nat_lt f 16 && sits_on node (get_or r.homes f None)) }
