@@ -1,10 +1,48 @@
 -- Chains of numbers: what a number more at the front of one changes, and what one taken out does.
-use Rattle.std.proofs.Common.{◌≡◌, ◌≢◌, ◌⊎◌, ◌<◌, ◌≤◌, ℕ, zero, suc, ◌+◌, inl, inr, true, false, not, if◌then◌else◌, nat_eq, List, [], ◌∷◌, length, arith, refl, sym, ap, ◌∙◌, subst}
+use Rattle.std.proofs.Common.{◌≡◌, ◌≢◌, ◌⊎◌, ◌<◌, ◌≤◌, ℕ, zero, suc, ◌+◌, inl, inr, true, false, not, if◌then◌else◌, nat_eq, List, [], ◌∷◌, length, get_or, slice_set, arith, refl, sym, ap, ◌∙◌, subst}
 use Rattle.std.specs.List.{Contains}
 use Rattle.std.proofs.lemmas.Bool.{cases_eq, eq-eqb, ne_eqb}
+use Rattle.std.proofs.lemmas.List.{get_or_default, get_or-set_same, get_or-set_other}
 use Rattle.slab.proofs.SlabLemmas.{Contains-cons, Contains-cons_cases}
-use Rattle.lrc_leases.specs.Chains.{ChainTable, at, walk, chain_in, without, AreOnce, AreLinked, AreChained}
+use Rattle.lrc_leases.specs.declared.link.Link.{Link}
+use Rattle.lrc_leases.specs.Chains.{ChainTable, at, no_link, after_at, before_at, walk, chain_in, without, AreOnce, AreLinked, AreChained}
 use Rattle.lrc_leases.proofs.ListLemmas.{Contains-filter}
+
+-- ---- arrays that are long enough
+
+-- what is read there
+pub read : {X : Type 0} (xs : List X) (i : ℕ) (x d : X) → i < length xs → x ≡ get_or xs i x → x ≡ get_or xs i d
+read xs i x d within is = is ∙ get_or_default xs i x d within
+
+-- what stands at each place after a write
+pub at-set : (xs : List ℕ) (i x : ℕ) → i < length xs → (j : ℕ) → at (slice_set xs i x) j ≡ (if nat_eq j i then x else at xs j)
+at-set xs i x within j = elim (cases_eq j i) [
+  | inl same ↦ rw (eq-eqb j i same, same) (get_or-set_same xs i x 0 within)
+  | inr other ↦ rw (ne_eqb j i other) (get_or-set_other xs i j x 0 other)
+]
+
+-- after a link is written, what stands after each number, and what before
+pub after-put : (old new : List Link) (i m n : ℕ) (link : Link) → get_or new i no_link ≡ (if nat_eq i m then link else get_or old i no_link) → link.after ≡ n
+    → after_at new i ≡ (if nat_eq i m then n else after_at old i)
+after-put old new i m n link put is = elim (cases_eq i m) [
+  | inl same ↦
+      let now : get_or new i no_link ≡ link = rw (eq-eqb i m same) at put in
+      rw (eq-eqb i m same) (ap (λ (k : Link). k.after) now ∙ is)
+  | inr other ↦
+      let now : get_or new i no_link ≡ get_or old i no_link = rw (ne_eqb i m other) at put in
+      rw (ne_eqb i m other) (ap (λ (k : Link). k.after) now)
+]
+
+pub before-put : (old new : List Link) (i m n : ℕ) (link : Link) → get_or new i no_link ≡ (if nat_eq i m then link else get_or old i no_link) → link.before ≡ n
+    → before_at new i ≡ (if nat_eq i m then n else before_at old i)
+before-put old new i m n link put is = elim (cases_eq i m) [
+  | inl same ↦
+      let now : get_or new i no_link ≡ link = rw (eq-eqb i m same) at put in
+      rw (eq-eqb i m same) (ap (λ (k : Link). k.before) now ∙ is)
+  | inr other ↦
+      let now : get_or new i no_link ≡ get_or old i no_link = rw (ne_eqb i m other) at put in
+      rw (ne_eqb i m other) (ap (λ (k : Link). k.before) now)
+]
 
 -- ---- lists in which no number is twice
 
@@ -188,41 +226,42 @@ module _ (a b a_new b_new : ℕ → ℕ) where
 -- ---- the chains of a table
 
 -- where these are the linked numbers of each chain, they are its walk
-module _ (t : ChainTable) (f : ℕ → List ℕ) (linked : (d : ℕ) → AreLinked (at t.after) (at t.before) 0 (at t.firsts d) (f d)) (once : (d : ℕ) → AreOnce (f d)) (low : (d k : ℕ) → Contains (f d) k → k ≤ 65536) where
+module _ (t : ChainTable) (f : ℕ → List ℕ) (linked : (d : ℕ) → AreLinked (after_at t.links) (before_at t.links) 0 (at t.firsts d) (f d)) (once : (d : ℕ) → AreOnce (f d)) (low : (d k : ℕ) → Contains (f d) k → k < length t.links) where
   pub walked : (d : ℕ) → chain_in t d ≡ f d
   walked d =
-      walk-linked (at t.after) (at t.before) 65536 0 (at t.firsts d) (f d) (linked d)
-      (once-few 65536 (f d) (once d) (λ k there. (positive (at t.after) (at t.before) 0 (at t.firsts d) (f d) (linked d) k there, low d k there)))
+      walk-linked (after_at t.links) (before_at t.links) (length t.links) 0 (at t.firsts d) (f d) (linked d)
+      (once-few (length t.links) (f d) (once d) (λ k there. (positive (after_at t.links) (before_at t.links) 0 (at t.firsts d) (f d) (linked d) k there, omega (arith, low d k there))))
 
   pub chained : ((c d k : ℕ) → Contains (f c) k → Contains (f d) k → c ≡ d) → AreChained t
   chained apart = record {
-    linked = λ d. subst (AreLinked (at t.after) (at t.before) 0 (at t.firsts d)) (sym (walked d)) (linked d);
+    linked = λ d. subst (AreLinked (after_at t.links) (before_at t.links) 0 (at t.firsts d)) (sym (walked d)) (linked d);
     once = λ d. subst AreOnce (sym (walked d)) (once d);
     low = λ d k there. low d k (subst (λ ks. Contains ks k) (walked d) there);
     apart = λ c d k here there. apart c d k (subst (λ ks. Contains ks k) (walked c) here) (subst (λ ks. Contains ks k) (walked d) there);
   }
 
 -- one more number at the front of a chain
-module _ (t next : ChainTable) (c m : ℕ) (kept : AreChained t) (some : 0 < m) (small : m ≤ 65536) (fresh : (d k : ℕ) → Contains (chain_in t d) k → k ≢ m)
+module _ (t next : ChainTable) (c m : ℕ) (kept : AreChained t) (some : 0 < m) (fresh : (d k : ℕ) → Contains (chain_in t d) k → k ≢ m)
+    (small : m < length next.links) (longer : length t.links ≤ length next.links)
     (firsts : (i : ℕ) → at next.firsts i ≡ (if nat_eq i c then m else at t.firsts i))
-    (afters : (i : ℕ) → at next.after i ≡ (if nat_eq i m then at t.firsts c else at t.after i))
-    (befores : (i : ℕ) → at next.before i ≡ (if nat_eq i (at t.firsts c) then m else (if nat_eq i m then 0 else at t.before i))) where
+    (afters : (i : ℕ) → after_at next.links i ≡ (if nat_eq i m then at t.firsts c else after_at t.links i))
+    (befores : (i : ℕ) → before_at next.links i ≡ (if nat_eq i (at t.firsts c) then m else (if nat_eq i m then 0 else before_at t.links i))) where
   abbrev more : ℕ → List ℕ
   more d = if nat_eq d c then m ∷ chain_in t d else chain_in t d
 
   first-away : (d k : ℕ) → d ≢ c → Contains (chain_in t d) k → k ≢ at t.firsts c
   first-away d k other there same =
       other (kept.apart d c k there (subst (λ i. Contains (chain_in t c) i) (sym same)
-      (first-in (at t.after) (at t.before) 0 (at t.firsts c) (chain_in t c) (kept.linked c)
-      (subst (λ i. 0 < i) same (positive (at t.after) (at t.before) 0 (at t.firsts d) (chain_in t d) (kept.linked d) k there)))))
+      (first-in (after_at t.links) (before_at t.links) 0 (at t.firsts c) (chain_in t c) (kept.linked c)
+      (subst (λ i. 0 < i) same (positive (after_at t.links) (before_at t.links) 0 (at t.firsts d) (chain_in t d) (kept.linked d) k there)))))
 
-  more-linked : (d : ℕ) → AreLinked (at next.after) (at next.before) 0 (at next.firsts d) (more d)
+  more-linked : (d : ℕ) → AreLinked (after_at next.links) (before_at next.links) 0 (at next.firsts d) (more d)
   more-linked d = elim (cases_eq d c) [
     | inl same ↦ rw (firsts d, eq-eqb d c same)
-        (subst (λ i. AreLinked (at next.after) (at next.before) 0 m (m ∷ chain_in t i)) (sym same)
-        (linked-more (at t.after) (at t.before) (at next.after) (at next.before) m (at t.firsts c) some afters befores (chain_in t c) (kept.linked c) (kept.once c) (fresh c)))
+        (subst (λ i. AreLinked (after_at next.links) (before_at next.links) 0 m (m ∷ chain_in t i)) (sym same)
+        (linked-more (after_at t.links) (before_at t.links) (after_at next.links) (before_at next.links) m (at t.firsts c) some afters befores (chain_in t c) (kept.linked c) (kept.once c) (fresh c)))
     | inr other ↦ rw (firsts d, ne_eqb d c other)
-        (others-more (at t.after) (at t.before) (at next.after) (at next.before) m (at t.firsts c) some afters befores (at t.firsts d) (chain_in t d) (kept.linked d)
+        (others-more (after_at t.links) (before_at t.links) (after_at next.links) (before_at next.links) m (at t.firsts c) some afters befores (at t.firsts d) (chain_in t d) (kept.linked d)
         (λ k there. (fresh d k there, first-away d k other there)))
   ]
 
@@ -242,10 +281,10 @@ module _ (t next : ChainTable) (c m : ℕ) (kept : AreChained t) (some : 0 < m) 
     | inr other ↦ inr (rw (ne_eqb d c other) at there)
   ]
 
-  more-low : (d k : ℕ) → Contains (more d) k → k ≤ 65536
+  more-low : (d k : ℕ) → Contains (more d) k → k < length next.links
   more-low d k there = elim (more-there d k there) [
-    | inl new ↦ subst (λ i. i ≤ 65536) (sym new.1) small
-    | inr old ↦ kept.low d k old
+    | inl new ↦ omega (arith, new.1, small)
+    | inr old ↦ omega (arith, kept.low d k old, longer)
   ]
 
   more-apart : (d e k : ℕ) → Contains (more d) k → Contains (more e) k → d ≡ e
@@ -267,10 +306,10 @@ module _ (t next : ChainTable) (c m : ℕ) (kept : AreChained t) (some : 0 < m) 
   walked-more d = walked next more more-linked more-once more-low d
 
 -- a number taken out of its chain
-module _ (t next : ChainTable) (c m : ℕ) (kept : AreChained t) (there : Contains (chain_in t c) m)
-    (firsts : (i : ℕ) → at next.firsts i ≡ (if nat_eq i c then (if nat_eq (at t.firsts c) m then at t.after m else at t.firsts c) else at t.firsts i))
-    (afters : (i : ℕ) → at next.after i ≡ (if nat_eq i (at t.before m) then at t.after m else at t.after i))
-    (befores : (i : ℕ) → at next.before i ≡ (if nat_eq i (at t.after m) then at t.before m else at t.before i)) where
+module _ (t next : ChainTable) (c m : ℕ) (kept : AreChained t) (there : Contains (chain_in t c) m) (longer : length t.links ≤ length next.links)
+    (firsts : (i : ℕ) → at next.firsts i ≡ (if nat_eq i c then (if nat_eq (at t.firsts c) m then after_at t.links m else at t.firsts c) else at t.firsts i))
+    (afters : (i : ℕ) → after_at next.links i ≡ (if nat_eq i (before_at t.links m) then after_at t.links m else after_at t.links i))
+    (befores : (i : ℕ) → before_at next.links i ≡ (if nat_eq i (after_at t.links m) then before_at t.links m else before_at t.links i)) where
   abbrev less : ℕ → List ℕ
   less d = if nat_eq d c then without m (chain_in t d) else chain_in t d
 
@@ -278,25 +317,25 @@ module _ (t next : ChainTable) (c m : ℕ) (kept : AreChained t) (there : Contai
   away : (d k i : ℕ) → d ≢ c → Contains (chain_in t d) k → (0 < i → Contains (chain_in t c) i) → k ≢ i
   away d k i other among own same =
       other (kept.apart d c k among (subst (λ j. Contains (chain_in t c) j) (sym same)
-      (own (subst (λ j. 0 < j) same (positive (at t.after) (at t.before) 0 (at t.firsts d) (chain_in t d) (kept.linked d) k among)))))
+      (own (subst (λ j. 0 < j) same (positive (after_at t.links) (before_at t.links) 0 (at t.firsts d) (chain_in t d) (kept.linked d) k among)))))
 
-  before-own : 0 < at t.before m → Contains (chain_in t c) (at t.before m)
+  before-own : 0 < before_at t.links m → Contains (chain_in t c) (before_at t.links m)
   before-own some = elim (cases_eq (at t.firsts c) m) [
-    | inl same ↦ absurd (let none = before-first (at t.after) (at t.before) 0 (at t.firsts c) (chain_in t c) (kept.linked c) m there same in omega (arith, none, some))
-    | inr other ↦ before-in (at t.after) (at t.before) 0 (at t.firsts c) (chain_in t c) (kept.linked c) m there other
+    | inl same ↦ absurd (let none = before-first (after_at t.links) (before_at t.links) 0 (at t.firsts c) (chain_in t c) (kept.linked c) m there same in omega (arith, none, some))
+    | inr other ↦ before-in (after_at t.links) (before_at t.links) 0 (at t.firsts c) (chain_in t c) (kept.linked c) m there other
   ]
 
-  less-linked : (d : ℕ) → AreLinked (at next.after) (at next.before) 0 (at next.firsts d) (less d)
+  less-linked : (d : ℕ) → AreLinked (after_at next.links) (before_at next.links) 0 (at next.firsts d) (less d)
   less-linked d = elim (cases_eq d c) [
     | inl same ↦ rw (firsts d, eq-eqb d c same)
-        (subst (λ i. AreLinked (at next.after) (at next.before) 0 (if nat_eq (at t.firsts c) m then at t.after m else at t.firsts c) (without m (chain_in t i))) (sym same)
-        (linked-less (at t.after) (at t.before) (at next.after) (at next.before) m afters befores 0 (at t.firsts c) (chain_in t c) (kept.linked c) (kept.once c)
-        (λ k among e. let some = positive (at t.after) (at t.before) 0 (at t.firsts c) (chain_in t c) (kept.linked c) k among in omega (arith, some, e)) there))
+        (subst (λ i. AreLinked (after_at next.links) (before_at next.links) 0 (if nat_eq (at t.firsts c) m then after_at t.links m else at t.firsts c) (without m (chain_in t i))) (sym same)
+        (linked-less (after_at t.links) (before_at t.links) (after_at next.links) (before_at next.links) m afters befores 0 (at t.firsts c) (chain_in t c) (kept.linked c) (kept.once c)
+        (λ k among e. let some = positive (after_at t.links) (before_at t.links) 0 (at t.firsts c) (chain_in t c) (kept.linked c) k among in omega (arith, some, e)) there))
     | inr other ↦ rw (firsts d, ne_eqb d c other)
-        (others-less (at t.after) (at t.before) (at next.after) (at next.before) m afters befores (at t.firsts d) (chain_in t d) (kept.linked d)
+        (others-less (after_at t.links) (before_at t.links) (after_at next.links) (before_at next.links) m afters befores (at t.firsts d) (chain_in t d) (kept.linked d)
         (λ k among. (
-          away d k (at t.after m) other among (after-in (at t.after) (at t.before) 0 (at t.firsts c) (chain_in t c) (kept.linked c) m there),
-          away d k (at t.before m) other among before-own,
+          away d k (after_at t.links m) other among (after-in (after_at t.links) (before_at t.links) 0 (at t.firsts c) (chain_in t c) (kept.linked c) m there),
+          away d k (before_at t.links m) other among before-own,
         )))
   ]
 
@@ -312,8 +351,8 @@ module _ (t next : ChainTable) (c m : ℕ) (kept : AreChained t) (there : Contai
     | inr other ↦ rw (ne_eqb d c other) at among
   ]
 
-  less-low : (d k : ℕ) → Contains (less d) k → k ≤ 65536
-  less-low d k among = kept.low d k (less-there d k among)
+  less-low : (d k : ℕ) → Contains (less d) k → k < length next.links
+  less-low d k among = omega (arith, kept.low d k (less-there d k among), longer)
 
   pub chained-less : AreChained next
   chained-less = chained next less less-linked less-once less-low (λ d e k here among. kept.apart d e k (less-there d k here) (less-there e k among))
@@ -328,21 +367,24 @@ chained-none t none = (
   walked t (λ d. []) none (λ d. tt) (λ d k there. absurd (omega (arith, there.1))),
 )
 
--- ---- no number is higher than its place can be
+-- ---- each number has a link
 
 module _ (t : ChainTable) (kept : AreChained t) where
-  some-low : (c i : ℕ) → (0 < i → Contains (chain_in t c) i) → i ≤ 65536
-  some-low c zero own = omega arith
-  some-low c (suc i) own = kept.low c (suc i) (own (omega arith))
+  some-low : (c n i : ℕ) → 0 < n → length t.links ≤ n → (0 < i → Contains (chain_in t c) i) → i < n
+  some-low c n zero some long own = some
+  some-low c n (suc i) some long own = omega (arith, kept.low c (suc i) (own (omega arith)), long)
 
-  pub first-low : (c : ℕ) → at t.firsts c ≤ 65536
-  first-low c = some-low c (at t.firsts c) (first-in (at t.after) (at t.before) 0 (at t.firsts c) (chain_in t c) (kept.linked c))
+  pub first-low : (c n : ℕ) → 0 < n → length t.links ≤ n → at t.firsts c < n
+  first-low c n some long =
+      some-low c n (at t.firsts c) some long (first-in (after_at t.links) (before_at t.links) 0 (at t.firsts c) (chain_in t c) (kept.linked c))
 
-  pub after-low : (c m : ℕ) → Contains (chain_in t c) m → at t.after m ≤ 65536
-  after-low c m there = some-low c (at t.after m) (after-in (at t.after) (at t.before) 0 (at t.firsts c) (chain_in t c) (kept.linked c) m there)
+  pub after-low : (c m : ℕ) → Contains (chain_in t c) m → after_at t.links m < length t.links
+  after-low c m there =
+      some-low c (length t.links) (after_at t.links m) (omega (arith, kept.low c m there)) (omega arith)
+      (after-in (after_at t.links) (before_at t.links) 0 (at t.firsts c) (chain_in t c) (kept.linked c) m there)
 
-  pub before-low : (c m : ℕ) → Contains (chain_in t c) m → at t.before m ≤ 65536
-  before-low c m there = some-low c (at t.before m) (λ some. elim (cases_eq (at t.firsts c) m) [
-    | inl same ↦ absurd (let none = before-first (at t.after) (at t.before) 0 (at t.firsts c) (chain_in t c) (kept.linked c) m there same in omega (arith, none, some))
-    | inr other ↦ before-in (at t.after) (at t.before) 0 (at t.firsts c) (chain_in t c) (kept.linked c) m there other
+  pub before-low : (c m : ℕ) → Contains (chain_in t c) m → before_at t.links m < length t.links
+  before-low c m there = some-low c (length t.links) (before_at t.links m) (omega (arith, kept.low c m there)) (omega arith) (λ some. elim (cases_eq (at t.firsts c) m) [
+    | inl same ↦ absurd (let none = before-first (after_at t.links) (before_at t.links) 0 (at t.firsts c) (chain_in t c) (kept.linked c) m there same in omega (arith, none, some))
+    | inr other ↦ before-in (after_at t.links) (before_at t.links) 0 (at t.firsts c) (chain_in t c) (kept.linked c) m there other
   ])

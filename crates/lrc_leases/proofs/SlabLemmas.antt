@@ -15,7 +15,7 @@ use Rattle.lrc_code.specs.Numbers.{same_stripe}
 use Rattle.lrc_leases.specs.declared.lease.Lease.{Lease}
 use Rattle.lrc_leases.specs.Leased.{LeaseMap, is_of, leases_in, leased_of, with_lease, without_lease, with_spare, AreOneEach}
 use Rattle.lrc_leases.specs.Granted.{spot}
-use Rattle.lrc_leases.specs.Kept.{leases_of, HasAt, HasOne, AreSingle, AreAt, near, is_lease_of}
+use Rattle.lrc_leases.specs.Kept.{leases_of, HasAt, HasOne, AreSingle, AreAt, AreBelow, near, is_lease_of}
 use Rattle.lrc_leases.proofs.ListLemmas.{find-some, find-none, none-find, one-find, same_answers, is_of-parts, is_of-from, is_of-both}
 
 -- ---- lists of pairs
@@ -27,7 +27,7 @@ contains-map f (y ∷ xs) x among = elim (Contains-cons_cases y x xs among) [
   | inr later ↦ Contains-cons (f y) (f x) (map f xs) (contains-map f xs x later)
 ]
 
-map-contains : {X Y : Type 0} (f : X → Y) (xs : List X) (y : Y) → Contains (map f xs) y → (x : X) × Contains xs x × (f x ≡ y)
+pub map-contains : {X Y : Type 0} (f : X → Y) (xs : List X) (y : Y) → Contains (map f xs) y → (x : X) × Contains xs x × (f x ≡ y)
 map-contains f [] y among = absurd (omega (arith, among.1))
 map-contains f (x ∷ xs) y among = elim (Contains-cons_cases (f x) y (map f xs) among) [
   | inl same ↦ (x, (0, omega arith, refl), same)
@@ -151,6 +151,12 @@ module _ (old new : Slab Lease) (key : ℕ) (l : Lease) (single : AreSingle old)
         written (spot k.stripe k.fragment) ∙ (rw (ne_eqb _ _ away) (at i k before))
   ]
 
+  pub below-insert : (bound : ℕ) → key < bound → AreBelow bound old → AreBelow bound new
+  below-insert bound low below i k there = elim (cases_eq i key) [
+    | inl here ↦ omega (arith, here, low)
+    | inr other ↦ below i k (sym (updates.others i other) ∙ there)
+  ]
+
   found-insert : (s : StripeNo) (f : ℕ) → leases_in (leases_of new) s f ≡ (if is_of s f l then Some l else leases_in (leases_of old) s f)
   found-insert s f = elim (cases_Bool (is_of s f l)) [
     | inl own ↦ rw own (at-found new single-insert s f key l updates.changed own)
@@ -185,6 +191,9 @@ module _ (old new : Slab Lease) (key : ℕ) (s : StripeNo) (f : Fragment) (l : L
 
   pub at-remove : (keys : List ℕ) → AreAt old keys → AreAt new keys
   at-remove keys at i k there = at i k (before i k there)
+
+  pub below-remove : (bound : ℕ) → AreBelow bound old → AreBelow bound new
+  below-remove bound below i k there = below i k (before i k there)
 
   found-remove : (r : StripeNo) (g : ℕ) → leases_in (leases_of new) r g ≡ (if same_stripe s r && nat_eq f.value g then None else leases_in (leases_of old) r g)
   found-remove r g = elim (cases_Bool (same_stripe s r && nat_eq f.value g)) [

@@ -1,8 +1,8 @@
 -- Internal: no public clause reaches these definitions.
 -- The leases as they are kept: in a slab, where the lease of a fragment stands under one key.
-use Rattle.std.specs.Prelude.{◌≡◌, ◌+◌, ◌%◌, ◌≤◌, ℕ, Bool, if◌then◌else◌, nat_lt, nat_eq, List, map, find, get_or, Option, Some, None, false, IsTrue, IsFalse}
+use Rattle.std.specs.Prelude.{◌≡◌, ◌+◌, ◌%◌, ◌^◌, ◌≤◌, ◌<◌, ℕ, zero, suc, Bool, if◌then◌else◌, nat_lt, List, map, get_or, Option, Some, None, false, IsTrue, IsFalse}
 use Rattle.std.specs.List.{Contains}
-use Rattle.slab.specs.Slab.{Slab, get, entries, HasRoomFor}
+use Rattle.slab.specs.Slab.{Slab, get, entries}
 use Rattle.lrc_code.specs.declared.numbers.StripeNo.{StripeNo}
 use Rattle.lrc_code.specs.declared.numbers.NodeNo.{NodeNo}
 use Rattle.lrc_code.specs.declared.losses.LossMask.{LossMask}
@@ -46,40 +46,41 @@ near key = if nat_lt key 65535 then key else 65535
 abbrev pub AreAt : Slab Lease → List ℕ → Type 0
 AreAt slab keys = (key : ℕ) (l : Lease) → get slab key ≡ Some l → get_or keys (spot l.stripe l.fragment) 0 ≡ near key
 
--- ---- leases by the node of their target
+-- the keys of leases are below a bound
+abbrev pub AreBelow : ℕ → Slab Lease → Type 0
+AreBelow bound slab = (key : ℕ) (l : Lease) → get slab key ≡ Some l → key < bound
 
--- the number of a lease in chains
-abbrev pub number_of : Lease → ℕ
-number_of l = spot l.stripe l.fragment + 1
+-- ---- leases by the node of their target
 
 -- the chain of the leases whose target is on a node
 abbrev pub chain_of : NodeNo → ℕ
 chain_of n = n.value % 512
 
--- the chains have the numbers of the leases, each by the node of its target
+-- the chains have the leases by the nodes of their targets; the number of a lease there is its key and one
 pub record AreListed (slab : Slab Lease) (chains : ChainTable) : Type 0 where
-  pub listed : (key : ℕ) (l : Lease) → get slab key ≡ Some l → Contains (chain_in chains (chain_of l.target.node)) (number_of l)
+  pub listed : (key : ℕ) (l : Lease) → get slab key ≡ Some l → Contains (chain_in chains (chain_of l.target.node)) (key + 1)
   pub live : (d k : ℕ) → Contains (chain_in chains d) k
-      → (key : ℕ) × (l : Lease) × (get slab key ≡ Some l) × (number_of l ≡ k) × (chain_of l.target.node ≡ d)
+      → (key : ℕ) × (l : Lease) × (get slab key ≡ Some l) × (key + 1 ≡ k) × (chain_of l.target.node ≡ d)
 
--- the lease with a number
-abbrev pub numbered : List Lease → ℕ → Option Lease
-numbered leases k = find (λ l. nat_eq (number_of l) k) leases
-
--- the same, if its target is on the node
+-- the lease, if its target is on the node
 abbrev pub if_on : NodeNo → Option Lease → Option Lease
 if_on n None = None
 if_on n (Some l) = if is_target_on n l then Some l else None
 
-abbrev pub target_at : List Lease → NodeNo → ℕ → Option Lease
-target_at leases n k = if_on n (numbered leases k)
+-- the lease with a number, if its target is on the node
+abbrev pub target_at : Slab Lease → NodeNo → ℕ → Option Lease
+target_at slab n zero = None
+target_at slab n (suc key) = if_on n (get slab key)
 
 -- what is kept: one lease for each fragment at most, found by its place and by the node of its target and marked in its stripe's mask, with room for
--- as many more as are spare
+-- a lease of each fragment and for the number of each key
 pub record IsKept (slab : Slab Lease) (keys : List ℕ) (places : ℕ) (targets : ChainTable) (masks : List LossMask) (spare : ℕ) : Type 0 where
   pub single : AreSingle slab
   pub at : AreAt slab keys
   pub long : 65536 ≤ places
   pub targets_are : AreListed slab targets
   pub marked : AreMasks masks (leased_of (leases_of slab) spare)
-  pub room : HasRoomFor slab spare
+  pub roomy : 65536 ≤ slab.capacity
+  pub low : AreBelow slab.capacity slab
+  pub numbers_fit : slab.capacity < targets.room
+  pub keys_fit : slab.capacity + 1 < 2 ^ 64

@@ -2,14 +2,13 @@ ghost use Rattle.std.specs.Prelude.{◌≡◌, ◌≤◌, ℕ, IfOk, IfErr, IfSo
 ghost use Rattle.lrc_code.specs.declared.fault.Fault.TheVariants.{OutOfMemory};
 ghost use Rattle.lrc_code.specs.Losses.{bits_set};
 ghost use Rattle.lrc_leases.specs.Leased.{empty, with_lease, without_lease, with_spare, leased_at, AreTargetsOn};
-ghost use Rattle.lrc_leases.specs.Kept.{numbered, target_at};
 ghost use Rattle.lrc_leases.specs.Tables.{leased_in};
 
 use crate::arrays::write;
 use crate::chains::Chains;
 use crate::masks::Masks;
 use crate::search::{key_of, near};
-use crate::spot::{SPOTS, fragment_of, number_of, spot_of};
+use crate::spot::{SPOTS, spot_of};
 use crate::targets_on::chain_of;
 use crate::{Lease, TargetsOn};
 use lrc_code::{Fault, Fragment, LossMask, NodeNo, StripeNo};
@@ -23,7 +22,7 @@ pub struct Leases {
     slab: Slab<Lease>,
     /// The key of each fragment's lease, as `near` shows it; what stands for a fragment without a lease means nothing.
     keys: Vec<u16>,
-    /// The leases by the node of their target.
+    /// The leases by the node of their target. The number of a lease there is its key and one.
     targets: Chains,
     /// The fragments that have a lease. They are few bytes, and tell first whether there is one.
     masks: Masks,
@@ -44,7 +43,7 @@ impl Model for Leases {
 
 #[tactic(auto, unfolding(crate::specs::Tables::leased_in))]
 impl Leases {
-    /// No leases and no room for any.
+    /// No leases and no room for any. All memory is taken here, for a lease of each fragment.
     ///
     /// # Errors
     ///
@@ -53,10 +52,12 @@ impl Leases {
         ensures value { IfOk result (λ leases. leased_in leases ≡ empty) }
         ensures err { IfErr result (λ e. e ≡ OutOfMemory) }
     {
+        let slab = Slab::with_capacity(alloc, SPOTS)?;
+        let bound = slab.capacity().checked_add(1).ok_or(Fault::OutOfMemory)?;
         Ok(Leases {
-            slab: Slab::new(alloc),
+            slab,
             keys: Vec::with_capacity(alloc, SPOTS)?,
-            targets: Chains::new(alloc)?,
+            targets: Chains::new(alloc, bound)?,
             masks: Masks::new(alloc)?,
             spare: 0,
         })
@@ -75,7 +76,6 @@ impl Leases {
         ensures unchanged { OnErr result (leased_in self.new ≡ leased_in self.old) }
         ensures err { IfErr result (λ e. e ≡ OutOfMemory) }
     {
-        self.slab.reserve(count as usize)?;
         self.spare = self.spare.max(count);
         Ok(())
     }
@@ -115,10 +115,7 @@ impl Leases {
         let spot = spot_of(lease.stripe, lease.fragment);
         let key = self.slab.insert_reserved(lease);
         write(&mut self.keys, spot, near(key), 0);
-        self.targets.add(
-            chain_of(lease.target.node),
-            number_of(lease.stripe, lease.fragment),
-        );
+        self.targets.add(chain_of(lease.target.node), key + 1);
         self.masks.add(lease.stripe, lease.fragment);
         self.spare -= 1;
     }
@@ -135,8 +132,7 @@ impl Leases {
         }
         let key = key_of(&self.slab, &self.keys, stripe, fragment);
         let lease = self.slab.remove(key);
-        self.targets
-            .remove(chain_of(lease.target.node), number_of(stripe, fragment));
+        self.targets.remove(chain_of(lease.target.node), key + 1);
         self.masks.remove(stripe, fragment);
         Some(lease)
     }
@@ -145,26 +141,6 @@ impl Leases {
     pub fn targets_on(&self, node: NodeNo) -> TargetsOn<'_>
         ensures { AreTargetsOn (leased_in self.now) node result }
     {
-        TargetsOn::new(self, self.targets.walk(chain_of(node)), node)
-    }
-
-    /// The lease with this number, if its target is on a node.
-    pub(crate) fn target(&self, number: usize, node: NodeNo) -> Option<Lease>
-        ensures { result ≡ target_at self.now.leases node number }
-    {
-        let lease = self.numbered(number)?;
-        if lease.target.node == node {
-            Some(lease)
-        } else {
-            None
-        }
-    }
-
-    /// The lease of the fragment with this number.
-    fn numbered(&self, number: usize) -> Option<Lease>
-        ensures { result ≡ numbered self.now.leases number }
-    {
-        let (stripe, fragment) = fragment_of(number)?;
-        self.lease(stripe, fragment)
+        TargetsOn::new(&self.slab, self.targets.walk(chain_of(node)), node)
     }
 }

@@ -7,6 +7,7 @@ mod grants;
 pub mod laws;
 mod lease;
 mod leases;
+mod link;
 mod masks;
 mod search;
 mod spot;

@@ -2,10 +2,11 @@ ghost use Rattle.std.specs.Prelude.{◌≡◌, ◌<◌, List, filter_map};
 ghost use Rattle.std.specs.Iterator.{YieldsFirst, item_count};
 ghost use Rattle.lrc_leases.specs.Kept.{chain_of, target_at};
 
+use crate::Lease;
 use crate::chains::CHAINS;
 use crate::walk::Walk;
-use crate::{Lease, Leases};
 use lrc_code::NodeNo;
+use slab::Slab;
 use std::marker::Model;
 
 /// The chain of the leases whose target is on a node. Nodes whose numbers are 512 apart share one.
@@ -19,7 +20,7 @@ pub(crate) fn chain_of(node: NodeNo) -> usize
 /// The leases whose target is on one node.
 #[derive(Drop)]
 pub struct TargetsOn<'a> {
-    leases: &'a Leases,
+    slab: &'a Slab<Lease>,
     numbers: Walk<'a>,
     node: NodeNo,
 }
@@ -31,16 +32,16 @@ impl<'a> Model for TargetsOn<'a> {
 
     ghost Value = { List OneLease };
 
-    ghost view = { λ w. filter_map (target_at w.leases.now.leases w.node) w.numbers };
+    ghost view = { λ w. filter_map (target_at w.slab.now w.node) w.numbers };
 }
 
 impl<'a> TargetsOn<'a> {
     /// Those of the leases with these numbers.
-    pub(crate) fn new(leases: &'a Leases, numbers: Walk<'a>, node: NodeNo) -> TargetsOn<'a>
-        ensures { result ≡ filter_map (target_at leases.now.leases node) numbers.entry }
+    pub(crate) fn new(slab: &'a Slab<Lease>, numbers: Walk<'a>, node: NodeNo) -> TargetsOn<'a>
+        ensures { result ≡ filter_map (target_at slab.now node) numbers.entry }
     {
         TargetsOn {
-            leases,
+            slab,
             numbers,
             node,
         }
@@ -58,10 +59,23 @@ impl<'a> Iterator for TargetsOn<'a> {
 
     fn next(&mut self) -> Option<Lease> {
         while let Some(number) = self.numbers.next() {
-            if let Some(lease) = self.leases.target(number, self.node) {
+            if let Some(lease) = target(self.slab, number, self.node) {
                 return Some(lease);
             }
         }
+        None
+    }
+}
+
+/// The lease with this number, if its target is on a node.
+fn target(slab: &Slab<Lease>, number: usize, node: NodeNo) -> Option<Lease>
+    ensures { result ≡ target_at slab.now node number }
+{
+    let key = number.checked_sub(1)?;
+    let lease = slab.get(key).copied()?;
+    if lease.target.node == node {
+        Some(lease)
+    } else {
         None
     }
 }

@@ -1,24 +1,29 @@
-use Rattle.std.proofs.Common.{◌≡◌, ◌-◌, ◌≤◌, None, arith, refl, sym, ◌∙◌, subst}
+use Rattle.std.proofs.Common.{◌≡◌, ◌-◌, None, arith, refl, sym, ◌∙◌, subst}
 use Rattle.lrc_leases.specs.Leased.{leases_in, leased_of, with_lease}
 use Rattle.lrc_leases.specs.Masks.{AreMasks}
 use Rattle.lrc_leases.proofs.MaskLemmas.{masks-with}
 use Rattle.lrc_leases.specs.Tables.{leased_in}
 use Rattle.lrc_leases.specs.Kept.{leases_of}
-use Rattle.lrc_leases.proofs.SlabLemmas.{single-insert, at-insert, leased-insert}
+use Rattle.lrc_leases.proofs.SlabLemmas.{single-insert, at-insert, below-insert, leased-insert}
+use Rattle.lrc_leases.proofs.RoomLemmas.{few-leases}
 use Rattle.lrc_leases.proofs.TargetLemmas.{fresh-number, listed-insert}
 use Rattle.lrc_leases.proofs.leases.Leases.add.Goals as goal
+
+pub insert_reserved-key-requires : goal.insert_reserved-key-requires
+unfolding leased_in
+insert_reserved-key-requires c =
+    let none : leases_in (leases_of c.self.inside.slab) c.args.lease.stripe c.args.lease.fragment.value ≡ None = rw (← c.self.view_is) at c.requires.absent in
+    omega (arith, few-leases c.self.inside.slab c.args.lease c.self.invariant.single none, c.self.invariant.roomy)
 
 pub add-requires-clause-fresh : goal.add-requires-clause-fresh
 unfolding leased_in
 add-requires-clause-fresh c =
-    let none : leases_in (leases_of c.self.inside.slab) c.args.lease.stripe c.args.lease.fragment.value ≡ None = rw (← c.self.view_is) at c.requires.absent in
-    rw c.number_of.ensures.value (fresh-number c.self.inside.slab c.self.inside.targets c.args.lease c.self.invariant.targets_are none)
+    fresh-number c.self.inside.slab c.self.inside.targets c.insert_reserved-key.result c.self.invariant.targets_are c.insert_reserved-key.ensures.was_vacant
 
 pub invariant_of-self : goal.invariant_of-self
 unfolding leased_in
 invariant_of-self c =
     let none : leases_in (leases_of c.self.inside.slab) c.args.lease.stripe c.args.lease.fragment.value ≡ None = rw (← c.self.view_is) at c.requires.absent in
-    let room : 1 ≤ c.self.inside.spare = rw (← c.self.view_is) at c.requires.room in
     let insert = c.insert_reserved-key in
     let masks = c.add-2 in
     let before = leased_of (leases_of c.self.inside.slab) c.self.inside.spare in
@@ -30,9 +35,14 @@ invariant_of-self c =
           c.self.inside.keys.items c.write.new.values.items c.self.invariant.at (λ i. c.write.ensures.value i ∙ rw (c.spot_of-spot.ensures.value, c.near.ensures) refl);
       long = omega (arith, c.write.ensures.capacity, c.self.invariant.long);
       targets_are = listed-insert c.self.inside.slab insert.new.self insert.result c.args.lease insert.ensures.updates insert.ensures.was_vacant
-          c.self.inside.targets c.add.new.self c.self.invariant.targets_are (λ d. c.add.ensures d ∙ rw (c.chain_of.ensures.value, c.number_of.ensures.value) refl);
+          c.self.inside.targets c.add.new.self c.self.invariant.targets_are (λ d. c.add.ensures.numbers d ∙ rw c.chain_of.ensures.value refl);
       marked = subst (AreMasks masks.new.self) (sym live) (masks-with c.self.inside.masks masks.new.self before c.self.invariant.marked c.args.lease masks.ensures);
-      room = omega (arith, insert.ensures.len, insert.ensures.capacity, c.self.invariant.room, room);
+      low = rw insert.ensures.capacity
+          (below-insert c.self.inside.slab insert.new.self insert.result c.args.lease c.self.invariant.single insert.ensures.updates insert.ensures.was_vacant none
+          c.self.inside.slab.capacity (rw insert.ensures.capacity at insert.ensures.key_in_range) c.self.invariant.low);
+      numbers_fit = omega (arith, insert.ensures.capacity, c.add.ensures.room, c.self.invariant.numbers_fit);
+      keys_fit = omega (arith, insert.ensures.capacity, c.self.invariant.keys_fit);
+      roomy = omega (arith, insert.ensures.capacity, c.self.invariant.roomy);
     }
 
 pub returns : goal.returns

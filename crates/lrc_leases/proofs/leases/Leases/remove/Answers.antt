@@ -5,9 +5,9 @@ use Rattle.lrc_leases.specs.Leased.{leased_of, with_spare, without_lease}
 use Rattle.lrc_leases.specs.Masks.{AreMasks}
 use Rattle.lrc_leases.specs.Kept.{leases_of, is_lease_of}
 use Rattle.lrc_leases.proofs.ListLemmas.{leased-without}
-use Rattle.lrc_leases.proofs.SlabLemmas.{at_key, under, single-remove, at-remove, leased-remove}
+use Rattle.lrc_leases.proofs.SlabLemmas.{at_key, under, single-remove, at-remove, below-remove, leased-remove}
 use Rattle.lrc_leases.proofs.MaskLemmas.{masks-without, marked-none, marked-one}
-use Rattle.lrc_leases.proofs.TargetLemmas.{one-number, listed-fragment, listed-remove}
+use Rattle.lrc_leases.proofs.TargetLemmas.{listed-remove}
 use Rattle.lrc_leases.proofs.leases.Leases.remove.Goals as goal
 
 pub returns-then-not-contains-clause-value : goal.returns-then-not-contains-clause-value
@@ -43,19 +43,20 @@ returns-clause-lease c =
     rw (← c.self.view_is)
     (leased-remove c.self.inside.slab c.remove-lease.new.self c.key_of-key.result c.args.stripe c.args.fragment l c.self.invariant.single c.remove-lease.ensures.updates at own c.self.inside.spare c.self.inside.spare)
 
+pub overflow_add-key : goal.overflow_add-key
+overflow_add-key c =
+    let (l, at, own) = under c.self.inside.slab c.key_of-key.result c.args.stripe c.args.fragment.value c.key_of-key.ensures in
+    omega (arith, c.self.invariant.low c.key_of-key.result l at, c.self.invariant.keys_fit)
+
 pub remove-requires-clause-there : goal.remove-requires-clause-there
 remove-requires-clause-there c =
-    let lease = c.remove-lease.result in
-    let own = subst (λ (o : Option Lease). is_lease_of c.args.stripe c.args.fragment.value o ≡ true) c.remove-lease.ensures.value c.key_of-key.ensures in
-    listed-fragment c.self.inside.slab c.self.inside.targets c.key_of-key.result lease c.args.stripe c.args.fragment c.chain_of.result c.number_of.result c.self.invariant.targets_are
-    c.remove-lease.ensures.value own c.chain_of.ensures.value c.number_of.ensures.value
+    rw c.chain_of.ensures.value (c.self.invariant.targets_are.listed c.key_of-key.result c.remove-lease.result c.remove-lease.ensures.value)
 
 pub invariant_of-self : goal.invariant_of-self
 invariant_of-self c =
     let lease = c.remove-lease.result in
     let taken = c.remove-lease in
     let own = subst (λ (o : Option Lease). is_lease_of c.args.stripe c.args.fragment.value o ≡ true) taken.ensures.value c.key_of-key.ensures in
-    let number = c.number_of.ensures.value ∙ sym (one-number c.args.stripe c.args.fragment lease own) in
     let masks = c.remove-2 in
     let spare = c.self.inside.spare in
     let before = leased_of (leases_of c.self.inside.slab) spare in
@@ -66,9 +67,14 @@ invariant_of-self c =
       single = single-remove c.self.inside.slab taken.new.self c.key_of-key.result c.args.stripe c.args.fragment lease c.self.invariant.single taken.ensures.updates taken.ensures.value own;
       at = at-remove c.self.inside.slab taken.new.self c.key_of-key.result c.args.stripe c.args.fragment lease c.self.invariant.single taken.ensures.updates taken.ensures.value own c.self.inside.keys.items c.self.invariant.at;
       long = c.self.invariant.long;
-      targets_are = listed-remove c.self.inside.slab taken.new.self c.key_of-key.result lease c.self.invariant.single taken.ensures.updates taken.ensures.value
-          c.self.inside.targets c.remove.new.self c.self.invariant.targets_are (λ d. c.remove.ensures d ∙ rw (c.chain_of.ensures.value, number) refl);
+      targets_are = listed-remove c.self.inside.slab taken.new.self c.key_of-key.result lease taken.ensures.updates taken.ensures.value
+          c.self.inside.targets c.remove.new.self c.self.invariant.targets_are (λ d. c.remove.ensures.numbers d ∙ rw c.chain_of.ensures.value refl);
       marked = subst (AreMasks masks.new.self) (sym live)
           (masks-without c.self.inside.masks masks.new.self before c.self.invariant.marked c.args.stripe c.args.fragment masks.ensures);
-      room = omega (arith, taken.ensures.len, taken.ensures.capacity, c.self.invariant.room);
+      low = rw taken.ensures.capacity
+          (below-remove c.self.inside.slab taken.new.self c.key_of-key.result c.args.stripe c.args.fragment lease c.self.invariant.single taken.ensures.updates taken.ensures.value own
+          c.self.inside.slab.capacity c.self.invariant.low);
+      numbers_fit = omega (arith, taken.ensures.capacity, c.remove.ensures.room, c.self.invariant.numbers_fit);
+      keys_fit = omega (arith, taken.ensures.capacity, c.self.invariant.keys_fit);
+      roomy = omega (arith, taken.ensures.capacity, c.self.invariant.roomy);
     }
