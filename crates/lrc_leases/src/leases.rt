@@ -1,4 +1,4 @@
-ghost use Rattle.std.specs.Prelude.{◌≡◌, ◌≤◌, ℕ, IfOk, IfErr, IfSome, IfNone, OnErr, OnOk, IsOk, None};
+ghost use Rattle.std.specs.Prelude.{◌≡◌, ◌≤◌, ℕ, IfOk, IfErr, IfSome, IfNone, OnErr, OnOk, IsOk, IsTrue, Some, None};
 ghost use Rattle.lrc_code.specs.declared.fault.Fault.TheVariants.{OutOfMemory};
 ghost use Rattle.lrc_code.specs.Losses.{bits_set};
 ghost use Rattle.lrc_leases.specs.Leased.{empty, with_lease, without_lease, with_spare, leased_at, AreTargetsOn};
@@ -130,11 +130,22 @@ impl Leases {
         if !self.masks.mask(stripe).contains(fragment) {
             return None;
         }
+        Some(self.take(stripe, fragment))
+    }
+
+    /// Takes the lease of a fragment that has one out. It is called and not spread out, so that `remove` is short.
+    #[inline(never)]
+    fn take(&mut self, stripe: StripeNo, fragment: Fragment) -> Lease
+        requires { IsTrue (leased_at (leased_in self.old) stripe fragment.value) }
+        ensures value { Some result ≡ (leased_in self.old).leases stripe fragment.value }
+        ensures lease { leased_in self.new ≡ with_spare (without_lease (leased_in self.old) stripe fragment) (leased_in self.new).spare }
+        ensures spare { (leased_in self.old).spare ≤ (leased_in self.new).spare }
+    {
         let key = key_of(&self.slab, &self.keys, stripe, fragment);
         let lease = self.slab.remove(key);
         self.targets.remove(chain_of(lease.target.node), key + 1);
         self.masks.remove(stripe, fragment);
-        Some(lease)
+        lease
     }
 
     /// The leases whose target is on a node, in no order of their own.
