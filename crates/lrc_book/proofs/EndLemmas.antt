@@ -274,15 +274,22 @@ no-some : {X : Type 0} (o : Option X) → is_some o ≡ false → o ≡ None
 no-some None e = refl
 no-some (Some x) e = absurd (let never : true ≡ false = e in cc)
 
--- where the mask of its leased fragments is empty, none of them has a lease
+-- what the mask of a stripe's leased fragments leaves out has no lease
+pub not-leased : (st : State) (k : Store) → IsOf st k → (s : StripeNo) (f : Fragment) → leased_at (leased_in k.leases) s f.value ≡ false → lease_of st s f ≡ None
+not-leased st k kept s f out = sym (lease-kept st k kept s f) ∙ no-some ((leased_in k.leases).leases s f.value) out
+
+-- so it has none to end
+pub none-ended : (st : State) (s : StripeNo) (f : Fragment) → lease_of st s f ≡ None → without_lease st s f ≡ st
+none-ended st s f none = ap (λ (ls : List Lease). record st { leases = ls }) (none-out st.leases s f.value none)
+
+-- where the mask is empty, none of the fragments has a lease
 pub none-leased : (st : State) (k : Store) → IsOf st k → (s : StripeNo) (leased : ℕ) → leased ≡ 0
     → ((f : ℕ) → bits_set leased f ≡ leased_at (leased_in k.leases) s f) → (f : Fragment) → lease_of st s f ≡ None
 none-leased st k kept s leased none are f =
-    sym (lease-kept st k kept s f)
-    ∙ no-some ((leased_in k.leases).leases s f.value) (sym (are f.value) ∙ rw (none, bit_at-zero f.value) refl)
+    not-leased st k kept s f (sym (are f.value) ∙ rw (none, bit_at-zero f.value) refl)
 
 -- so none is to be ended
 pub unleased-none : (st : State) (s : StripeNo) → ((f : Fragment) → lease_of st s f ≡ None) → (fs : List Fragment) → unleased st s fs ≡ st
 unleased-none st s none [] = refl
 unleased-none st s none (f ∷ fs) =
-    ap (λ (ls : List Lease). unleased (record st { leases = ls }) s fs) (none-out st.leases s f.value (none f)) ∙ unleased-none st s none fs
+    ap (λ (now : State). unleased now s fs) (none-ended st s f (none f)) ∙ unleased-none st s none fs

@@ -15,6 +15,9 @@ use lrc_stripes::Stripes;
 use lrc_topology::Topology;
 use std::alloc::Global;
 
+/// For how many more stripes and leases room is made at once, so that it is seldom made.
+const MORE: u32 = 16;
+
 /// What a book keeps of its state: the taken slots, the homes of fragments, the live leases, and the modes of
 /// nodes.
 #[derive(Drop)]
@@ -54,9 +57,19 @@ impl Store {
         ensures enough { has_room self.old ≡ true → IsOk result }
         ensures err { IfErr result (λ e. e ≡ fault.OutOfMemory) }
     {
-        self.stripes.reserve(1)?;
-        self.leases.reserve(1)?;
+        if self.has_room() {
+            return Ok(());
+        }
+        self.stripes.reserve(MORE)?;
+        self.leases.reserve(MORE)?;
         Ok(())
+    }
+
+    /// Whether there is room for one more command of any kind.
+    fn has_room(&self) -> bool
+        ensures { result ≡ has_room self.now }
+    {
+        self.stripes.spare() > 0 && self.leases.spare() > 0
     }
 
     /// Whether a node is one of the store's, and can be reached.
@@ -102,6 +115,9 @@ impl Store {
         ensures modes { self.new.modes ≡ self.old.modes }
         ensures kept { (st : State) → IsOf st self.old → IsOf (without_lease st stripe fragment) self.new }
     {
+        if !self.leases.leased(stripe).contains(fragment) {
+            return;
+        }
         if let Some(lease) = self.leases.remove(stripe, fragment) {
             self.table.free(lease.target.node, lease.target.slot);
         }

@@ -1,6 +1,13 @@
-use Rattle.std.proofs.Common.{sym, ◌∙◌}
-use Rattle.lrc_book.proofs.EndLemmas.{lease-kept, end-taken, end-kept, end-none}
+use Rattle.std.proofs.Common.{sym, subst, ◌∙◌}
+use Rattle.lrc_book.specs.States.{State}
+use Rattle.lrc_book.specs.Stores.{IsOf}
+use Rattle.lrc_book.proofs.EndLemmas.{lease-kept, not-leased, none-ended, end-taken, end-kept, end-none}
 use Rattle.lrc_book.proofs.store.Store.end_lease.Goals as goal
+
+pub returns-then-not-contains-clause-kept : goal.returns-then-not-contains-clause-kept
+returns-then-not-contains-clause-kept c = λ st kept.
+    let none = not-leased st c.args.self.now kept c.args.stripe c.args.fragment (sym (c.leased.ensures c.args.fragment.value) ∙ sym c.contains.ensures ∙ c.if-not-contains.true) in
+    subst (λ (s : State). IsOf s c.args.self.now) (sym (none-ended st c.args.stripe c.args.fragment none)) kept
 
 pub free-requires : goal.free-requires
 free-requires c =
