@@ -1,5 +1,13 @@
 -- Answers and the replies that they tell.
-use Rattle.std.proofs.Common.{◌≡◌, refl}
+use Rattle.std.proofs.Common.{◌≡◌, ◌≢◌, false, refl}
+use Rattle.lrc_code.specs.declared.numbers.StripeNo.{StripeNo}
+use Rattle.lrc_code.specs.declared.numbers.Fragment.{Fragment}
+use Rattle.lrc_leases.specs.declared.lease.Lease.{Lease as LeaseRecord}
+use Rattle.lrc_book.specs.declared.kind.Kind.{Kind}
+use Rattle.lrc_book.specs.declared.command.Command.{Command}
+use Rattle.lrc_book.specs.declared.command.Command.TheVariants.{Place, Drop, Lease, Next, Done, Abandon, Revoke, Fail, Down, Up, Drain, Undrain, Retire, Join, Upgrade, Upgraded}
+use Rattle.lrc_book.specs.declared.reply.Reply.{Reply}
+use Rattle.lrc_book.specs.Changes.{grants_lease}
 use Rattle.lrc_book.specs.declared.answer.Answer.{Answer}
 use Rattle.lrc_book.specs.declared.answer.Answer.TheVariants as answer
 use Rattle.lrc_book.specs.declared.reply.Reply.TheVariants as reply
@@ -14,3 +22,41 @@ changed-told (answer.Granted lease kind) e = absurd (let never : reply.Granted l
 changed-told answer.Idle e = absurd (let never : reply.Idle ≡ reply.Changed = e in cc)
 changed-told answer.Ended e = absurd (let never : reply.Ended ≡ reply.Changed = e in cc)
 changed-told (answer.Refused refusal) e = absurd (let never : reply.Refused refusal ≡ reply.Changed = e in cc)
+
+-- ---- what grants no lease
+
+pub next-other : (a : Answer) → ((l : LeaseRecord) (k : Kind) → a ≢ answer.Granted l k) → grants_lease Next (told a) ≡ false
+next-other (answer.Granted l k) other = absurd (other l k refl)
+next-other (answer.Placed seats) other = refl
+next-other answer.Dropped other = refl
+next-other answer.Idle other = refl
+next-other answer.Ended other = refl
+next-other answer.Changed other = refl
+next-other (answer.Refused refusal) other = refl
+
+pub lease-other : (s : StripeNo) (f : Fragment) (a : Answer) → ((l : LeaseRecord) (k : Kind) → a ≢ answer.Granted l k) → grants_lease (Lease s f) (told a) ≡ false
+lease-other s f (answer.Granted l k) other = absurd (other l k refl)
+lease-other s f (answer.Placed seats) other = refl
+lease-other s f answer.Dropped other = refl
+lease-other s f answer.Idle other = refl
+lease-other s f answer.Ended other = refl
+lease-other s f answer.Changed other = refl
+lease-other s f (answer.Refused refusal) other = refl
+
+pub other-command : (c : Command) (r : Reply) → ((s : StripeNo) (f : Fragment) → c ≢ Lease s f) → c ≢ Next → grants_lease c r ≡ false
+other-command (Lease s f) r lease next = absurd (lease s f refl)
+other-command Next r lease next = absurd (next refl)
+other-command (Place s) r lease next = refl
+other-command (Drop s) r lease next = refl
+other-command (Done s f e) r lease next = refl
+other-command (Abandon s f e) r lease next = refl
+other-command (Revoke s f) r lease next = refl
+other-command (Fail n) r lease next = refl
+other-command (Down n) r lease next = refl
+other-command (Up n) r lease next = refl
+other-command (Drain n) r lease next = refl
+other-command (Undrain n) r lease next = refl
+other-command (Retire n) r lease next = refl
+other-command (Join n) r lease next = refl
+other-command (Upgrade u) r lease next = refl
+other-command (Upgraded u) r lease next = refl

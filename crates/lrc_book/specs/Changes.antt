@@ -1,6 +1,6 @@
 -- Internal: no public clause reaches these definitions.
 -- What a call changes of the state, told by its command and its reply.
-use Rattle.std.specs.Prelude.{◌≡◌, not, filter, List, [], ◌∷◌, ◌++◌, Option, Some, None}
+use Rattle.std.specs.Prelude.{◌≡◌, Bool, true, false, not, filter, List, [], ◌∷◌, ◌++◌, Option, Some, None}
 use Rattle.lrc_code.specs.declared.numbers.StripeNo.{StripeNo}
 use Rattle.lrc_code.specs.declared.numbers.Fragment.{Fragment}
 use Rattle.lrc_code.specs.declared.numbers.NodeNo.{NodeNo}
@@ -64,3 +64,9 @@ pub record IsAnswer (nodes : List NodeInfo) (st : State) (c : Command) (r : Repl
   pub past : List Entry
   pub session : SessionNo
   pub told : (step nodes past st session c).0 ≡ r
+
+-- the command asks for a lease, and the reply grants one
+abbrev pub grants_lease : Command → Reply → Bool
+grants_lease (Lease s f) (Granted lease kind) = true
+grants_lease Next (Granted lease kind) = true
+grants_lease _ _ = false

@@ -1,8 +1,11 @@
 ghost use Rattle.std.specs.Prelude.{◌≡◌, false, IsSome};
+ghost use Rattle.lrc_code.specs.declared.numbers.StripeNo.{StripeNo};
+ghost use Rattle.lrc_code.specs.declared.numbers.Fragment.{Fragment};
 ghost use Rattle.lrc_book.specs.declared.command.Command.{Command};
 ghost use Rattle.lrc_book.specs.States.{State};
 ghost use Rattle.lrc_book.specs.Answers.{told};
 ghost use Rattle.lrc_book.specs.Changes.{changed_by};
+ghost use Rattle.lrc_book.specs.Leases.{is_grant};
 
 use crate::{Kind, Lease, Refusal, Reply, Seat};
 
@@ -41,7 +44,8 @@ impl Answer {
 
     /// Whether the store may change by it.
     pub(crate) fn changes(&self) -> bool
-        ensures { result ≡ false → (st : State) (command : Command) → changed_by st command (told self.now) ≡ st }
+        ensures same { result ≡ false → (st : State) (command : Command) → changed_by st command (told self.now) ≡ st }
+        ensures none { result ≡ false → (s : StripeNo) (f : Fragment) → is_grant s f (told self.now) ≡ false }
     {
         match self {
             Answer::Idle | Answer::Refused(_) => false,

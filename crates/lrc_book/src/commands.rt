@@ -1,7 +1,7 @@
 //! The commands: of each the reply, and beside it the change that follows.
 
 pub(crate) mod leases;
-pub(crate) mod next;
+mod next;
 mod nodes;
 mod stripes;
 mod upgrades;

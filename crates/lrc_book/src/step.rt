@@ -9,14 +9,13 @@ ghost use Rattle.lrc_book.specs.States.{State};
 ghost use Rattle.lrc_book.specs.Steps.{step, place_outcome};
 ghost use Rattle.lrc_book.specs.Histories.{world_after, state_after, outcome_in};
 ghost use Rattle.lrc_book.specs.Answers.{told, is_place};
-ghost use Rattle.lrc_book.specs.Changes.{IsAnswer, changed_by};
+ghost use Rattle.lrc_book.specs.Changes.{IsAnswer, changed_by, grants_lease};
 ghost use Rattle.lrc_book.specs.Books.{IsStep, world_of};
 ghost use Rattle.lrc_book.specs.Stores.{IsOf, IsTied, AreGrantsOf, AreFew, has_room};
 ghost use Rattle.lrc_book.specs.Repairing.{IsFront, HasFront, IsKept};
 
 use crate::answer::Answer;
 use crate::commands::leases::count_grant;
-use crate::commands::next::front_after;
 use crate::plan::Plan;
 use crate::store::Store;
 use crate::{Book, Command, Entry, Record, Reply, Seat};
@@ -150,10 +149,20 @@ fn make(
     ensures kept { (limit : ℕ) → IsKept store.old grants.old front.old limit past.now → length past.now < limit
         → IsKept store.new grants.new front.new limit (past.now ++ made.now ∷ []) }
 {
+    if !made.answer.changes() {
+        return;
+    }
     count_grant(grants, &made.answer);
-    if made.answer.changes() {
-        store.make_change(&made.command, &made.answer);
-        *front = front_after(*front, &made.command, &made.answer);
+    match (made.command, &made.answer) {
+        (Command::Lease(_, _), Answer::Granted(lease, _)) => store.grant(lease),
+        (Command::Next, Answer::Granted(lease, _)) => {
+            store.grant(lease);
+            *front = Some(lease.stripe);
+        }
+        _ => {
+            store.make_change(&made.command, &made.answer);
+            *front = None;
+        }
     }
 }
 
@@ -271,21 +280,20 @@ impl Store {
         }
     }
 
-    /// Makes the change of a command that was answered so. Room was made before, so nothing here fails.
+    /// Makes the change of a command that was answered so, but not by a grant. Room was made before, so nothing here fails.
     #[inline(never)] // as `answer_other`
     fn make_change(&mut self, command: &Command, answer: &Answer)
         ghost st: { State }
         requires kept { IsOf st self.old }
         requires room { has_room self.old ≡ true }
         requires told { IsAnswer self.old.topology st command.now (told answer.now) }
+        requires other { grants_lease command.now (told answer.now) ≡ false }
         ensures nodes { self.new.topology ≡ self.old.topology }
         ensures kept { IsOf (changed_by st command.now (told answer.now)) self.new }
     {
         match (*command, answer) {
             (Command::Place(stripe), Answer::Placed(seats)) => self.place(stripe, &**seats),
             (Command::Drop(stripe), Answer::Dropped) => self.drop_stripe(stripe),
-            (Command::Lease(_, _), Answer::Granted(lease, _)) => self.grant(lease),
-            (Command::Next, Answer::Granted(lease, _)) => self.grant(lease),
             (Command::Done(stripe, fragment, _), Answer::Ended) => self.move_in(stripe, fragment),
             (Command::Abandon(stripe, fragment, _), Answer::Ended) => {
                 self.end_lease(stripe, fragment)

@@ -5,20 +5,15 @@ ghost use Rattle.std.specs.List.{All};
 ghost use Rattle.lrc_code.specs.declared.codes.Code.TheVariants.{Wide};
 ghost use Rattle.lrc_code.specs.Codes.{fragments};
 ghost use Rattle.lrc_code.specs.Losses.{bits_set};
-ghost use Rattle.lrc_code.specs.declared.numbers.SessionNo.{SessionNo as AnySession};
-ghost use Rattle.lrc_topology.specs.declared.NodeInfo.{NodeInfo};
 ghost use Rattle.lrc_stripes.specs.Tables.{stored_in};
 ghost use Rattle.lrc_book.specs.declared.entry.Entry.{Entry};
 ghost use Rattle.lrc_book.specs.States.{State};
 ghost use Rattle.lrc_book.specs.Urgency.{is_grantable, next_of};
 ghost use Rattle.lrc_book.specs.Leases.{next_outcome};
 ghost use Rattle.lrc_book.specs.Answers.{told};
-ghost use Rattle.lrc_book.specs.Steps.{step};
-ghost use Rattle.lrc_book.specs.Changes.{changed_by};
 ghost use Rattle.lrc_book.specs.Stores.{IsOf, IsTied, AreGrantsOf, AreFew};
 ghost use Rattle.lrc_book.specs.Repairing.{is_waiting, fragment_of, IsRepair, IsFront, HasFront, HaveGrantable};
 
-use crate::Command;
 use crate::answer::Answer;
 use crate::repair::Repair;
 use crate::store::Store;
@@ -130,24 +125,5 @@ impl Store {
         let needing = self.needs(stripe);
         let leased = self.leases.leased(stripe);
         LossMask::from_bits(needing.bits & !leased.bits)
-    }
-}
-
-/// The front after a call. What the most urgent repair is granted for is the front, and it stays until something else than
-/// a grant changes the state.
-pub(crate) fn front_after(
-    front: Option<StripeNo>,
-    command: &Command,
-    answer: &Answer,
-) -> Option<StripeNo>
-    ensures { (nodes : List NodeInfo) (past : List Entry) (st : State) (session : AnySession) → IsFront nodes st front
-        → (step nodes past st session command.now).0 ≡ told answer.now → IsFront nodes (changed_by st command.now (told answer.now)) result }
-{
-    match (*command, answer) {
-        (Command::Next, Answer::Granted(lease, _)) => Some(lease.stripe),
-        (Command::Next, Answer::Idle) => front,
-        (Command::Lease(_, _), Answer::Granted(_, _)) => front,
-        (_, Answer::Refused(_)) => front,
-        _ => None,
     }
 }

@@ -6,29 +6,14 @@ use Rattle.lrc_book.specs.States.{State}
 use Rattle.lrc_book.specs.Steps.{step}
 use Rattle.lrc_book.specs.Changes.{changed_by}
 use Rattle.lrc_book.specs.Stores.{IsOf}
-use Rattle.lrc_book.proofs.LeaseToldLemmas.{lease-told, next-told, done-told}
+use Rattle.lrc_book.proofs.LeaseToldLemmas.{done-told}
 use Rattle.lrc_book.proofs.ToldLemmas.{retire-told}
 use Rattle.lrc_book.proofs.store.Store.make_change.Goals as goal
-
-pub grant-requires : goal.grant-requires
-grant-requires g c =
-    let nodes = c.args.self.now.topology in
-    let told = c.requires.1.1 in
-    let e = sym (ap (λ (command : Command). (step nodes told.past g.st told.session command).0) c.in-Lease-Granted.is-0) ∙ told.told ∙ ap answers.told c.in-Lease-Granted.is-1 in
-    (c.requires.0, (c.requires.1.0, lease-told nodes told.past g.st told.session c.in-Lease-Granted.field-0-0 c.in-Lease-Granted.field-1-0 c.in-Lease-Granted.lease c.in-Lease-Granted.field-1-1 e))
-
-pub grant-requires-in-Next-Granted : goal.grant-requires-in-Next-Granted
-grant-requires-in-Next-Granted g c =
-    let nodes = c.args.self.now.topology in
-    let told = c.requires.1.1 in
-    let e = sym (ap (λ (command : Command). (step nodes told.past g.st told.session command).0) c.in-Next-Granted.is-0) ∙ told.told
-    ∙ ap answers.told c.in-Next-Granted.is-1 in
-    (c.requires.0, (c.requires.1.0, next-told nodes told.past g.st told.session c.in-Next-Granted.lease c.in-Next-Granted.field-1-1 e))
 
 pub leave-requires : goal.leave-requires
 leave-requires g c =
     let nodes = c.args.self.now.topology in
-    let told = c.requires.1.1 in
+    let told = c.requires.1.1.0 in
     let node = c.in-Retire-Changed.node in
     let e = sym (ap (λ (command : Command). (step nodes told.past g.st told.session command).0) c.in-Retire-Changed.is-0) ∙ told.told
     ∙ ap answers.told c.in-Retire-Changed.is-1 in
@@ -37,7 +22,7 @@ leave-requires g c =
 pub move_in-requires : goal.move_in-requires
 move_in-requires g c =
     let nodes = c.args.self.now.topology in
-    let told = c.requires.1.1 in
+    let told = c.requires.1.1.0 in
     let e = sym (ap (λ (command : Command). (step nodes told.past g.st told.session command).0) c.in-Done-Ended.is-0) ∙ told.told ∙ ap answers.told c.in-Done-Ended.is-1 in
     (c.requires.0, done-told nodes g.st told.session c.in-Done-Ended.stripe c.in-Done-Ended.fragment c.in-Done-Ended.field-2-0 e)
 

@@ -18,9 +18,6 @@ ghost-up g a = g.st
 abbrev pub ghost-join : goal.ghost-join
 ghost-join g a = g.st
 
-abbrev pub ghost-grant : goal.ghost-grant
-ghost-grant g a = g.st
-
 abbrev pub ghost-move_in : goal.ghost-move_in
 ghost-move_in g a = g.st
 
