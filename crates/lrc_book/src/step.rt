@@ -6,7 +6,8 @@ ghost use Rattle.lrc_code.specs.declared.codes.Code.TheVariants.{Wide};
 ghost use Rattle.lrc_code.specs.declared.numbers.SessionNo.{SessionNo};
 ghost use Rattle.lrc_book.specs.declared.entry.Entry.{Entry};
 ghost use Rattle.lrc_book.specs.States.{State};
-ghost use Rattle.lrc_book.specs.Steps.{step, place_outcome};
+ghost use Rattle.lrc_book.specs.Steps.{step, place_outcome, upgrade_outcome};
+ghost use Rattle.lrc_book.specs.Leases.{lease_outcome, next_outcome};
 ghost use Rattle.lrc_book.specs.Histories.{world_after, state_after, outcome_in};
 ghost use Rattle.lrc_book.specs.Answers.{told, is_place};
 ghost use Rattle.lrc_book.specs.Changes.{IsAnswer, changed_by, grants_lease};
@@ -19,7 +20,7 @@ use crate::commands::leases::count_grant;
 use crate::plan::Plan;
 use crate::store::Store;
 use crate::{Book, Command, Entry, Record, Reply, Seat};
-use lrc_code::{Fault, NodeNo, SessionNo, StripeNo};
+use lrc_code::{Fault, Fragment, NodeNo, SessionNo, StripeNo, UpgradeNo};
 use lrc_leases::Grants;
 use std::alloc::{AllocError, Global};
 
@@ -190,13 +191,16 @@ impl Store {
         ensures { (st : State) (past : List Entry) → IsOf st self.now → AreGrantsOf past counts.now → IsFront self.now.topology st front
             → result ≡ (step self.now.topology past st session command.now).0 }
     {
-        match *command {
-            Command::Place(stripe) => self.place_reply(stripe),
-            _ => self.other_reply(counts, front, session, command).reply(),
+        if let Command::Place(stripe) = *command {
+            return self.place_reply(stripe);
         }
+        let mut made = Record::new(session, *command, Answer::Idle);
+        self.answer(counts, front, &mut None, &mut made);
+        made.reply()
     }
 
     /// Gives the record of a command its answer, in room that there is for the seats of a new stripe.
+    #[inline(never)] // a step then saves fewer registers, and what is answered is written where it stays
     pub(crate) fn answer(
         &self,
         counts: &Grants,
@@ -207,81 +211,76 @@ impl Store {
         requires tied { IsTied self.now }
         requires few { AreFew counts.now }
         requires front { HasFront self.now front }
-        requires room { IsSome room.old }
+        requires room { is_place made.old.command ≡ true → IsSome room.old }
         ensures { (st : State) (past : List Entry) → IsOf st self.now → AreGrantsOf past counts.now → IsFront self.now.topology st front
             → made.new ≡ record made.old { reply = (step self.now.topology past st made.old.session made.old.command).0 } }
     {
+        let session = made.session;
         match made.command {
-            Command::Place(stripe) => made.answer = self.place_answer(stripe, room),
-            _ => self.answer_other(counts, front, made),
-        }
-    }
-
-    /// The answer to a command that places a stripe.
-    #[inline(never)] // as `answer_other`
-    fn place_answer(&self, stripe: StripeNo, room: &mut Option<Box<[Seat; 16]>>) -> Answer
-        requires room { IsSome room.old }
-        ensures { (st : State) → IsOf st self.now → told result ≡ (place_outcome self.now.topology st Wide stripe).0 }
-    {
-        Answer::of(&self.place_reply(stripe), room)
-    }
-
-    /// Gives the record of a command that places no stripe its answer.
-    #[inline(never)] // a step then saves fewer registers, and what is answered is written where it stays
-    fn answer_other(&self, counts: &Grants, front: Option<StripeNo>, made: &mut Record)
-        requires tied { IsTied self.now }
-        requires few { AreFew counts.now }
-        requires front { HasFront self.now front }
-        requires other { is_place made.old.command ≡ false }
-        ensures { (st : State) (past : List Entry) → IsOf st self.now → AreGrantsOf past counts.now → IsFront self.now.topology st front
-            → made.new ≡ record made.old { reply = (step self.now.topology past st made.old.session made.old.command).0 } }
-    {
-        made.answer = self.other_reply(counts, front, made.session, &made.command);
-    }
-
-    /// The reply to a command that places no stripe.
-    fn other_reply(
-        &self,
-        counts: &Grants,
-        front: Option<StripeNo>,
-        session: SessionNo,
-        command: &Command,
-    ) -> Answer
-        requires tied { IsTied self.now }
-        requires few { AreFew counts.now }
-        requires front { HasFront self.now front }
-        requires other { is_place command.now ≡ false }
-        ensures { (st : State) (past : List Entry) → IsOf st self.now → AreGrantsOf past counts.now → IsFront self.now.topology st front
-            → told result ≡ (step self.now.topology past st session command.now).0 }
-    {
-        match *command {
-            Command::Place(_) => unreachable!(),
-            Command::Drop(stripe) => self.drop_reply(stripe),
-            Command::Lease(stripe, fragment) => {
-                self.lease_reply(counts, session, stripe, fragment)
-            }
-            Command::Next => self.next_reply(counts, front, session),
+            Command::Place(stripe) => self.answer_place(stripe, room, made),
+            Command::Drop(stripe) => made.answer = self.drop_reply(stripe),
+            Command::Lease(stripe, fragment) => self.answer_lease(counts, stripe, fragment, made),
+            Command::Next => self.answer_next(counts, front, made),
             Command::Done(stripe, fragment, epoch) => {
-                self.done_reply(session, stripe, fragment, epoch)
+                made.answer = self.done_reply(session, stripe, fragment, epoch)
             }
             Command::Abandon(stripe, fragment, epoch) => {
-                self.abandon_reply(session, stripe, fragment, epoch)
+                made.answer = self.abandon_reply(session, stripe, fragment, epoch)
             }
-            Command::Revoke(stripe, fragment) => self.revoke_reply(stripe, fragment),
-            Command::Fail(node) => self.fail_reply(node),
-            Command::Down(node) => self.down_reply(node),
-            Command::Up(node) => self.up_reply(node),
-            Command::Drain(node) => self.drain_reply(node),
-            Command::Undrain(node) => self.undrain_reply(node),
-            Command::Retire(node) => self.retire_reply(node),
-            Command::Join(node) => self.join_reply(node),
-            Command::Upgrade(domain) => self.upgrade_reply(domain),
-            Command::Upgraded(domain) => self.upgraded_reply(domain),
+            Command::Revoke(stripe, fragment) => made.answer = self.revoke_reply(stripe, fragment),
+            Command::Fail(node) => made.answer = self.fail_reply(node),
+            Command::Down(node) => made.answer = self.down_reply(node),
+            Command::Up(node) => made.answer = self.up_reply(node),
+            Command::Drain(node) => made.answer = self.drain_reply(node),
+            Command::Undrain(node) => made.answer = self.undrain_reply(node),
+            Command::Retire(node) => made.answer = self.retire_reply(node),
+            Command::Join(node) => made.answer = self.join_reply(node),
+            Command::Upgrade(domain) => self.answer_upgrade(domain, made),
+            Command::Upgraded(domain) => made.answer = self.upgraded_reply(domain),
         }
+    }
+
+    /// Gives the record of a command that places a stripe its answer.
+    #[inline(never)] // as `answer`
+    fn answer_place(&self, stripe: StripeNo, room: &mut Option<Box<[Seat; 16]>>, made: &mut Record)
+        requires room { IsSome room.old }
+        ensures { (st : State) → IsOf st self.now → made.new ≡ record made.old { reply = (place_outcome self.now.topology st Wide stripe).0 } }
+    {
+        made.answer = Answer::of(&self.place_reply(stripe), room);
+    }
+
+    /// Gives the record of a command that asks for a fragment's lease its answer.
+    #[inline(never)] // as `answer`
+    fn answer_lease(&self, counts: &Grants, stripe: StripeNo, fragment: Fragment, made: &mut Record)
+        requires tied { IsTied self.now }
+        requires few { AreFew counts.now }
+        ensures { (st : State) (past : List Entry) → IsOf st self.now → AreGrantsOf past counts.now
+            → made.new ≡ record made.old { reply = (lease_outcome self.now.topology past st made.old.session stripe fragment).0 } }
+    {
+        made.answer = self.lease_reply(counts, made.session, stripe, fragment);
+    }
+
+    /// Gives the record of a command that asks for the most urgent repair its answer.
+    #[inline(never)] // as `answer`
+    fn answer_next(&self, counts: &Grants, front: Option<StripeNo>, made: &mut Record)
+        requires few { AreFew counts.now }
+        requires front { HasFront self.now front }
+        ensures { (st : State) (past : List Entry) → IsOf st self.now → AreGrantsOf past counts.now → IsFront self.now.topology st front
+            → made.new ≡ record made.old { reply = (next_outcome self.now.topology past st made.old.session).0 } }
+    {
+        made.answer = self.next_reply(counts, front, made.session);
+    }
+
+    /// Gives the record of a command that takes an upgrade domain offline its answer.
+    #[inline(never)] // as `answer`
+    fn answer_upgrade(&self, domain: UpgradeNo, made: &mut Record)
+        ensures { (st : State) → IsOf st self.now → made.new ≡ record made.old { reply = (upgrade_outcome self.now.topology st domain).0 } }
+    {
+        made.answer = self.upgrade_reply(domain);
     }
 
     /// Makes the change of a command that was answered so, but not by a grant. Room was made before, so nothing here fails.
-    #[inline(never)] // as `answer_other`
+    #[inline(never)] // as `answer`
     fn make_change(&mut self, command: &Command, answer: &Answer)
         ghost st: { State }
         requires kept { IsOf st self.old }
