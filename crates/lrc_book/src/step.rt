@@ -6,10 +6,10 @@ ghost use Rattle.lrc_code.specs.declared.codes.Code.TheVariants.{Wide};
 ghost use Rattle.lrc_code.specs.declared.numbers.SessionNo.{SessionNo};
 ghost use Rattle.lrc_book.specs.declared.entry.Entry.{Entry};
 ghost use Rattle.lrc_book.specs.States.{State};
-ghost use Rattle.lrc_book.specs.Steps.{step, place_outcome, upgrade_outcome};
-ghost use Rattle.lrc_book.specs.Leases.{lease_outcome, next_outcome};
+ghost use Rattle.lrc_book.specs.Steps.{step, place_outcome};
+ghost use Rattle.lrc_book.specs.Leases.{next_outcome};
 ghost use Rattle.lrc_book.specs.Histories.{world_after, state_after, outcome_in};
-ghost use Rattle.lrc_book.specs.Answers.{told, is_place};
+ghost use Rattle.lrc_book.specs.Answers.{told, is_place, is_other};
 ghost use Rattle.lrc_book.specs.Changes.{IsAnswer, changed_by, grants_lease};
 ghost use Rattle.lrc_book.specs.Books.{IsStep, world_of};
 ghost use Rattle.lrc_book.specs.Stores.{IsOf, IsTied, AreGrantsOf, AreFew, has_room};
@@ -20,7 +20,7 @@ use crate::commands::leases::count_grant;
 use crate::plan::Plan;
 use crate::store::Store;
 use crate::{Book, Command, Entry, Record, Reply, Seat};
-use lrc_code::{Fault, Fragment, NodeNo, SessionNo, StripeNo, UpgradeNo};
+use lrc_code::{Fault, NodeNo, SessionNo, StripeNo};
 use lrc_leases::Grants;
 use std::alloc::{AllocError, Global};
 
@@ -200,7 +200,6 @@ impl Store {
     }
 
     /// Gives the record of a command its answer, in room that there is for the seats of a new stripe.
-    #[inline(never)] // a step then saves fewer registers, and what is answered is written where it stays
     pub(crate) fn answer(
         &self,
         counts: &Grants,
@@ -215,33 +214,15 @@ impl Store {
         ensures { (st : State) (past : List Entry) → IsOf st self.now → AreGrantsOf past counts.now → IsFront self.now.topology st front
             → made.new ≡ record made.old { reply = (step self.now.topology past st made.old.session made.old.command).0 } }
     {
-        let session = made.session;
         match made.command {
             Command::Place(stripe) => self.answer_place(stripe, room, made),
-            Command::Drop(stripe) => made.answer = self.drop_reply(stripe),
-            Command::Lease(stripe, fragment) => self.answer_lease(counts, stripe, fragment, made),
             Command::Next => self.answer_next(counts, front, made),
-            Command::Done(stripe, fragment, epoch) => {
-                made.answer = self.done_reply(session, stripe, fragment, epoch)
-            }
-            Command::Abandon(stripe, fragment, epoch) => {
-                made.answer = self.abandon_reply(session, stripe, fragment, epoch)
-            }
-            Command::Revoke(stripe, fragment) => made.answer = self.revoke_reply(stripe, fragment),
-            Command::Fail(node) => made.answer = self.fail_reply(node),
-            Command::Down(node) => made.answer = self.down_reply(node),
-            Command::Up(node) => made.answer = self.up_reply(node),
-            Command::Drain(node) => made.answer = self.drain_reply(node),
-            Command::Undrain(node) => made.answer = self.undrain_reply(node),
-            Command::Retire(node) => made.answer = self.retire_reply(node),
-            Command::Join(node) => made.answer = self.join_reply(node),
-            Command::Upgrade(domain) => self.answer_upgrade(domain, made),
-            Command::Upgraded(domain) => made.answer = self.upgraded_reply(domain),
+            _ => self.answer_other(counts, made),
         }
     }
 
     /// Gives the record of a command that places a stripe its answer.
-    #[inline(never)] // as `answer`
+    #[inline(never)] // as `answer_other`
     fn answer_place(&self, stripe: StripeNo, room: &mut Option<Box<[Seat; 16]>>, made: &mut Record)
         requires room { IsSome room.old }
         ensures { (st : State) → IsOf st self.now → made.new ≡ record made.old { reply = (place_outcome self.now.topology st Wide stripe).0 } }
@@ -249,19 +230,8 @@ impl Store {
         made.answer = Answer::of(&self.place_reply(stripe), room);
     }
 
-    /// Gives the record of a command that asks for a fragment's lease its answer.
-    #[inline(never)] // as `answer`
-    fn answer_lease(&self, counts: &Grants, stripe: StripeNo, fragment: Fragment, made: &mut Record)
-        requires tied { IsTied self.now }
-        requires few { AreFew counts.now }
-        ensures { (st : State) (past : List Entry) → IsOf st self.now → AreGrantsOf past counts.now
-            → made.new ≡ record made.old { reply = (lease_outcome self.now.topology past st made.old.session stripe fragment).0 } }
-    {
-        made.answer = self.lease_reply(counts, made.session, stripe, fragment);
-    }
-
     /// Gives the record of a command that asks for the most urgent repair its answer.
-    #[inline(never)] // as `answer`
+    #[inline(never)] // as `answer_other`
     fn answer_next(&self, counts: &Grants, front: Option<StripeNo>, made: &mut Record)
         requires few { AreFew counts.now }
         requires front { HasFront self.now front }
@@ -271,16 +241,53 @@ impl Store {
         made.answer = self.next_reply(counts, front, made.session);
     }
 
-    /// Gives the record of a command that takes an upgrade domain offline its answer.
-    #[inline(never)] // as `answer`
-    fn answer_upgrade(&self, domain: UpgradeNo, made: &mut Record)
-        ensures { (st : State) → IsOf st self.now → made.new ≡ record made.old { reply = (upgrade_outcome self.now.topology st domain).0 } }
+    /// Gives the record of any other command its answer.
+    #[inline(never)] // a step then saves fewer registers, and what is answered is written where it stays
+    fn answer_other(&self, counts: &Grants, made: &mut Record)
+        requires tied { IsTied self.now }
+        requires few { AreFew counts.now }
+        requires other { is_other made.old.command ≡ true }
+        ensures { (st : State) (past : List Entry) → IsOf st self.now → AreGrantsOf past counts.now
+            → made.new ≡ record made.old { reply = (step self.now.topology past st made.old.session made.old.command).0 } }
     {
-        made.answer = self.upgrade_reply(domain);
+        made.answer = self.other_reply(counts, made.session, &made.command);
+    }
+
+    /// The reply to a command that neither places a stripe nor asks for the most urgent repair.
+    fn other_reply(&self, counts: &Grants, session: SessionNo, command: &Command) -> Answer
+        requires tied { IsTied self.now }
+        requires few { AreFew counts.now }
+        requires other { is_other command.now ≡ true }
+        ensures { (st : State) (past : List Entry) → IsOf st self.now → AreGrantsOf past counts.now
+            → told result ≡ (step self.now.topology past st session command.now).0 }
+    {
+        match *command {
+            Command::Place(_) | Command::Next => unreachable!(),
+            Command::Drop(stripe) => self.drop_reply(stripe),
+            Command::Lease(stripe, fragment) => {
+                self.lease_reply(counts, session, stripe, fragment)
+            }
+            Command::Done(stripe, fragment, epoch) => {
+                self.done_reply(session, stripe, fragment, epoch)
+            }
+            Command::Abandon(stripe, fragment, epoch) => {
+                self.abandon_reply(session, stripe, fragment, epoch)
+            }
+            Command::Revoke(stripe, fragment) => self.revoke_reply(stripe, fragment),
+            Command::Fail(node) => self.fail_reply(node),
+            Command::Down(node) => self.down_reply(node),
+            Command::Up(node) => self.up_reply(node),
+            Command::Drain(node) => self.drain_reply(node),
+            Command::Undrain(node) => self.undrain_reply(node),
+            Command::Retire(node) => self.retire_reply(node),
+            Command::Join(node) => self.join_reply(node),
+            Command::Upgrade(domain) => self.upgrade_reply(domain),
+            Command::Upgraded(domain) => self.upgraded_reply(domain),
+        }
     }
 
     /// Makes the change of a command that was answered so, but not by a grant. Room was made before, so nothing here fails.
-    #[inline(never)] // as `answer`
+    #[inline(never)] // as `answer_other`
     fn make_change(&mut self, command: &Command, answer: &Answer)
         ghost st: { State }
         requires kept { IsOf st self.old }

@@ -58,6 +58,7 @@ impl Store {
     }
 
     /// From what a fragment of a stripe that is there is rebuilt; `None` where it can't be.
+    #[inline(always)] // its answer then stays in registers
     pub(super) fn repair_kind(&self, stripe: StripeNo, fragment: Fragment) -> Option<Kind>
         requires { IsTrue ((stored_in self.now.stripes).stripes stripe) }
         ensures { (st : State) → IsOf st self.now → result ≡ repair_of self.now.topology st stripe fragment }
@@ -222,6 +223,7 @@ impl Store {
 }
 
 /// Counts the grant, if the answer is one.
+#[inline(always)] // it is a look at the answer where nothing is granted
 pub(crate) fn count_grant(counts: &mut Grants, answer: &Answer)
     requires { AreFew counts.old }
     ensures { (past : List Entry) (e : Entry) → e.reply ≡ told answer.now → AreGrantsOf past counts.old → AreGrantsOf (past ++ e ∷ []) counts.new }
