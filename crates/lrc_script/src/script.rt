@@ -84,23 +84,18 @@ pub fn parse_script(
     let mut number = first_line;
     loop {
         // Most commands of workers are this one, and it has no number.
-        let behind = match behind(rest, b"next\n") {
-            Some(behind) => {
-                commands.push(Command::Next)?;
-                Some(behind)
+        if let Some(behind) = behind(rest, b"next\n") {
+            commands.push(Command::Next)?;
+            rest = behind;
+        } else if let Some((command, behind)) = command_in_front(rest) {
+            commands.push(command)?;
+            rest = behind;
+        } else {
+            match push_first_line(&mut commands, rest, number)? {
+                Some(behind) => rest = behind,
+                None => return Ok(commands),
             }
-            None => match command_in_front(rest) {
-                Some((command, behind)) => {
-                    commands.push(command)?;
-                    Some(behind)
-                }
-                None => push_first_line(&mut commands, rest, number)?,
-            },
-        };
-        let Some(next) = behind else {
-            return Ok(commands);
-        };
-        rest = next;
+        }
         number += 1;
     }
 }
