@@ -1,10 +1,9 @@
 -- A stripe that is added with homes: the nodes that it stands on, its masks, and what it is in the store.
-use Rattle.std.proofs.Common.{◌≡◌, ℕ, ◌+◌, ◌<◌, Bool, true, false, not, ◌&&◌, ◌||◌, eqb, ltb, nat_lt, List, length, map, get_or, Option, Some, None, is_none, arith, refl, sym, ap, ◌∙◌}
+use Rattle.std.proofs.Common.{◌≡◌, ℕ, ◌+◌, ◌<◌, Bool, true, false, not, ◌&&◌, ◌||◌, eqb, ltb, nat_lt, List, length, map, get_or, Option, Some, None, arith, refl, sym, ap, ◌∙◌}
 use Rattle.std.proofs.Math.Path.{fun_ext}
-use Rattle.std.proofs.lemmas.Bool.{ltb-true}
-use Rattle.std.proofs.lemmas.List.{get_or-map, length-map}
+use Rattle.std.proofs.lemmas.Bool.{ltb-true, le-ltb}
+use Rattle.std.proofs.lemmas.List.{get_or-map}
 use Rattle.std.proofs.lemmas.Nat.Bits.{bit_at-zero}
-use Rattle.std.proofs.lemmas.List.FromFn.{fill_by_all}
 use Rattle.lrc_code.specs.Losses.{bits_set}
 use Rattle.lrc_code.specs.Numbers.{same_node, same_stripe}
 use Rattle.lrc_code.specs.declared.numbers.NodeNo.{NodeNo}
@@ -27,42 +26,34 @@ and-false false = refl
 
 -- ---- homes on seats
 
--- what is at the same place of both lists
-pub homes-filled : (homes : List (Option Seat)) (seats : List Seat) (d : Seat) → length homes ≡ 16 → length seats ≡ 16 → ((k : ℕ) → k < 16 → get_or homes k None ≡ Some (get_or seats k d))
-    → homes ≡ map Some seats
-homes-filled homes seats d long all filled =
-    fill_by_all (λ k. Some (get_or seats k d)) homes 16 None long filled
-    ∙ sym (fill_by_all (λ k. Some (get_or seats k d)) (map Some seats) 16 None (length-map seats Some ∙ all) (λ k below. get_or-map Some seats k d None (omega (arith, below, all))))
-
 module _ (seats : List Seat) (all : length seats ≡ 16) where
   -- the home of a fragment
   pub home-at : (d : Seat) (i : ℕ) → i < 16 → get_or (map Some seats) i None ≡ Some (get_or seats i d)
   home-at d i below = get_or-map Some seats i d None (omega (arith, below, all))
 
-  not-not : (b : Bool) → not (not b) ≡ b
-  not-not true = refl
-  not-not false = refl
-
   -- what the node of the seat says of the fragment
-  pub missing-at : (online : NodeNo → Bool) (d : Seat) (i k : ℕ) (off : Bool) → i < 16 → k ≡ i → not off ≡ online (get_or seats k d).node → is_missing online (get_or (map Some seats) i None) ≡ off
-  missing-at online d i k off below same is =
-      ap (is_missing online) (home-at d i below) ∙ ap not (ap (λ n. online (get_or seats n d).node) (sym same) ∙ sym is) ∙ not-not off
+  pub missing-at : (online : NodeNo → Bool) (d : Seat) (i k : ℕ) (on : Bool) → i < 16 → k ≡ i → on ≡ online (get_or seats k d).node → is_missing online (get_or (map Some seats) i None) ≡ not on
+  missing-at online d i k on below same is = ap (is_missing online) (home-at d i below) ∙ ap not (ap (λ n. online (get_or seats n d).node) (sym same) ∙ sym is)
 
   pub to_move-at : (draining : NodeNo → Bool) (d : Seat) (i k : ℕ) (drains : Bool) → i < 16 → k ≡ i → drains ≡ draining (get_or seats k d).node
       → is_to_move draining (get_or (map Some seats) i None) ≡ drains
   to_move-at draining d i k drains below same is = ap (is_to_move draining) (home-at d i below) ∙ ap (λ n. draining (get_or seats n d).node) (sym same) ∙ sym is
 
-  -- none is without a home
-  pub homeless-none : (d : Seat) (mask : LossMask) → mask.bits ≡ 0 → IsMaskOf is_none (map Some seats) mask
-  homeless-none d mask empty f = none ∙ sym (by (nat_lt f 16) refl) where
+  -- no home passes the test
+  pub mask-empty : (test : Option Seat → Bool) (d : Seat) (mask : LossMask) → mask.bits ≡ 0 → ((f : ℕ) → f < 16 → test (Some (get_or seats f d)) ≡ false) → IsMaskOf test (map Some seats) mask
+  mask-empty test d mask empty fails f = none ∙ sym (by (nat_lt f 16) refl) where
     none : bits_set mask.bits f ≡ false
     none = rw (empty, bit_at-zero f) refl
 
-    by : (b : Bool) → nat_lt f 16 ≡ b → (nat_lt f 16 && is_none (get_or (map Some seats) f None)) ≡ false
-    by true low = rw (low, home-at d f (ltb-true f 16 low)) refl
+    by : (b : Bool) → nat_lt f 16 ≡ b → (nat_lt f 16 && test (get_or (map Some seats) f None)) ≡ false
+    by true low = rw (low, home-at d f (ltb-true f 16 low)) (fails f (ltb-true f 16 low))
     by false high = rw high refl
 
 -- ---- the masks, fragment by fragment
+
+-- no fragment yet
+pub mask-first : (m : ℕ → Bool) (bits : ℕ) → bits ≡ 0 → (f : ℕ) → bits_set bits f ≡ (ltb f 0 && m f)
+mask-first m bits empty f = rw (empty, bit_at-zero f, le-ltb f 0 (omega arith)) refl
 
 -- with the next fragment, where it is in the set
 pub mask-next : (m : ℕ → Bool) (i bits next k : ℕ) (b : Bool) → k ≡ i → m i ≡ b → ((f : ℕ) → bits_set bits f ≡ (ltb f i && m f))

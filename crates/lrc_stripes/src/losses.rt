@@ -25,6 +25,20 @@ impl Losses {
         }
     }
 
+    /// Those of a stripe whose fragments have homes on nodes that are online and not draining.
+    pub(crate) fn none() -> Losses
+        ensures homeless { result.homeless.bits ≡ 0 }
+        ensures missing { result.missing.bits ≡ 0 }
+        ensures needs { result.needs.bits ≡ 0 }
+    {
+        let none = LossMask::from_bits(0);
+        Losses {
+            homeless: none,
+            missing: none,
+            needs: none,
+        }
+    }
+
     /// The same, where a fragment has no home, is missing, and needs a lease, each as told.
     pub(crate) fn put(
         self,

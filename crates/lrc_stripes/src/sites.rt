@@ -1,6 +1,7 @@
 ghost use Rattle.std.specs.Prelude.{◌≡◌, if◌then◌else◌, nat_eq, ◌&&◌, ◌||◌, not, true, false, map, Some, None, is_some, IfOk, IfErr, IfSome, IfNone, IsTrue, ◌<◌, length, get_or, slice_set};
 ghost use Rattle.std.specs.List.{All, list_any};
 ghost use Rattle.lrc_code.specs.Numbers.{same_stripe, same_node, same_upgrade};
+ghost use Rattle.lrc_code.specs.declared.numbers.NodeNo.{NodeNo as AnyNode};
 ghost use Rattle.lrc_code.specs.declared.numbers.StripeNo.{StripeNo as AnyStripe};
 ghost use Rattle.lrc_code.specs.declared.fault.Fault.TheVariants.{OutOfMemory};
 ghost use Rattle.lrc_topology.specs.declared.NodeInfo.{NodeInfo as AnyInfo};
@@ -174,19 +175,44 @@ impl Sites {
         ensures losses { AreLosses (sited self.old).online (sited self.old).draining (map Some seats.now) result }
         ensures domains { AreDomainsOf (sited self.old).nodes (λ f. get_or (map Some seats.now) f None) domains.new }
     {
-        let mut missing = LossMask::from_bits(0);
-        let mut needs = LossMask::from_bits(0);
         for fragment in Fragment::all() {
             let seat = seats[fragment.value as usize];
-            let site = self.enter_one(stripe, fragment, seat.node, domains);
-            missing = masks::with_where(missing, fragment, site.is_offline);
-            needs = masks::with_where(needs, fragment, site.is_draining);
+            self.enter_one(stripe, fragment, seat.node, domains);
         }
-        Losses {
-            homeless: LossMask::from_bits(0),
-            missing,
-            needs,
+        self.losses_of(seats)
+    }
+
+    /// What is missing of a stripe with homes on these seats, and what needs a lease: nothing where no node is offline and
+    /// none draining.
+    fn losses_of(&self, seats: &[Seat; 16]) -> Losses
+        requires { All (λ seat. IsTrue (has_node (sited self.now).nodes seat.node)) seats.now }
+        ensures { AreLosses (sited self.now).online (sited self.now).draining (map Some seats.now) result }
+    {
+        if self.are_plain() {
+            return Losses::none();
         }
+        self.losses_on(seats)
+    }
+
+    /// Whether no node is offline and none draining.
+    fn are_plain(&self) -> bool
+        ensures { result ≡ true → (n : AnyNode) → IsTrue (has_node (sited self.now).nodes n) → ((sited self.now).online n ≡ true) × ((sited self.now).draining n ≡ false) }
+    {
+        self.offline.is_empty() && self.draining.is_empty()
+    }
+
+    /// The same, fragment by fragment.
+    #[inline(never)] // where all nodes are online and none is draining it is not called
+    fn losses_on(&self, seats: &[Seat; 16]) -> Losses
+        ensures { AreLosses (sited self.now).online (sited self.now).draining (map Some seats.now) result }
+    {
+        let mut losses = Losses::none();
+        for fragment in Fragment::all() {
+            let node = seats[fragment.value as usize].node;
+            losses.missing = masks::with_where(losses.missing, fragment, !self.is_online(node));
+            losses.needs = masks::with_where(losses.needs, fragment, self.is_draining(node));
+        }
+        losses
     }
 
     /// Puts a stripe among those with a home on the node, notes the domains of this fragment's home there, and gives the
