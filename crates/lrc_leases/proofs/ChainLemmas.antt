@@ -1,25 +1,13 @@
 -- Chains of numbers: what a number more at the front of one changes, and what one taken out does.
-use Rattle.std.proofs.Common.{◌≡◌, ◌≢◌, ◌⊎◌, ◌<◌, ◌≤◌, ℕ, zero, suc, ◌+◌, inl, inr, true, false, not, if◌then◌else◌, nat_eq, List, [], ◌∷◌, length, get_or, slice_set, arith, refl, sym, ap, ◌∙◌, subst}
+use Rattle.std.proofs.Common.{◌≡◌, ◌≢◌, ◌⊎◌, ◌<◌, ◌≤◌, ℕ, zero, suc, ◌+◌, inl, inr, true, false, not, if◌then◌else◌, nat_eq, List, [], ◌∷◌, length, get_or, arith, refl, sym, ap, ◌∙◌, subst}
 use Rattle.std.specs.List.{Contains}
 use Rattle.std.proofs.lemmas.Bool.{cases_eq, eq-eqb, ne_eqb}
-use Rattle.std.proofs.lemmas.List.{get_or_default, get_or-set_same, get_or-set_other}
 use Rattle.slab.proofs.SlabLemmas.{Contains-cons, Contains-cons_cases}
 use Rattle.lrc_leases.specs.declared.link.Link.{Link}
 use Rattle.lrc_leases.specs.Chains.{ChainTable, at, no_link, after_at, before_at, walk, chain_in, without, AreOnce, AreLinked, AreChained}
 use Rattle.lrc_leases.proofs.ListLemmas.{Contains-filter}
 
--- ---- arrays that are long enough
-
--- what is read there
-pub read : {X : Type 0} (xs : List X) (i : ℕ) (x d : X) → i < length xs → x ≡ get_or xs i x → x ≡ get_or xs i d
-read xs i x d within is = is ∙ get_or_default xs i x d within
-
--- what stands at each place after a write
-pub at-set : (xs : List ℕ) (i x : ℕ) → i < length xs → (j : ℕ) → at (slice_set xs i x) j ≡ (if nat_eq j i then x else at xs j)
-at-set xs i x within j = elim (cases_eq j i) [
-  | inl same ↦ rw (eq-eqb j i same, same) (get_or-set_same xs i x 0 within)
-  | inr other ↦ rw (ne_eqb j i other) (get_or-set_other xs i j x 0 other)
-]
+-- ---- links
 
 -- after a link is written, what stands after each number, and what before
 pub after-put : (old new : List Link) (i m n : ℕ) (link : Link) → get_or new i no_link ≡ (if nat_eq i m then link else get_or old i no_link) → link.after ≡ n

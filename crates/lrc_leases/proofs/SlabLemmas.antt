@@ -137,18 +137,19 @@ module _ (old new : Slab Lease) (key : ℕ) (l : Lease) (single : AreSingle old)
     ]
   ]
 
-  pub at-insert : (keys keys_new : List ℕ) → AreAt old keys → ((i : ℕ) → get_or keys_new i 0 ≡ (if nat_eq i (spot l.stripe l.fragment) then near key else get_or keys i 0)) → AreAt new keys_new
-  at-insert keys keys_new at written i k there = elim (cases_eq i key) [
+  pub at-insert : (keys keys_new : List ℕ) → AreAt old keys → spot l.stripe l.fragment < length keys_new → length keys ≤ length keys_new → ((i : ℕ) → get_or keys_new i 0 ≡ (if nat_eq i (spot l.stripe l.fragment) then near key else get_or keys i 0)) → AreAt new keys_new
+  at-insert keys keys_new at there_now longer written i k there = elim (cases_eq i key) [
     | inl here ↦
         let same : k ≡ l = same_Some k l (sym there ∙ (ap (get new) here ∙ updates.changed)) in
         let place : spot k.stripe k.fragment ≡ spot l.stripe l.fragment = ap (λ (m : Lease). spot m.stripe m.fragment) same in
-        written (spot k.stripe k.fragment) ∙ (rw (eq-eqb _ _ place) (ap near (sym here)))
+        (omega (arith, place, there_now), written (spot k.stripe k.fragment) ∙ (rw (eq-eqb _ _ place) (ap near (sym here))))
     | inr other ↦
         let before : get old i ≡ Some k = sym (updates.others i other) ∙ there in
         let away : spot k.stripe k.fragment ≢ spot l.stripe l.fragment = λ same.
         let parts = spot-apart k.stripe l.stripe k.fragment l.fragment same in
         apart i k before (is_of-from l.stripe l.fragment.value k parts.0 parts.1) in
-        written (spot k.stripe k.fragment) ∙ (rw (ne_eqb _ _ away) (at i k before))
+        let (low, shown) = at i k before in
+        (omega (arith, low, longer), written (spot k.stripe k.fragment) ∙ (rw (ne_eqb _ _ away) shown))
   ]
 
   pub below-insert : (bound : ℕ) → key < bound → AreBelow bound old → AreBelow bound new
@@ -236,6 +237,13 @@ at_key slab single s f key has =
     let (l, at, own) = under slab key s f has in
     at ∙ sym (at-found slab single s f key l at own)
 
+-- the place of a fragment with a lease is one of the keys'
+pub at-low : (slab : Slab Lease) (keys : List ℕ) (s : StripeNo) (f : Fragment) → AreAt slab keys → HasOne slab s f.value → spot s f < length keys
+at-low slab keys s f at one =
+    let (l, there, own) = under slab one.0 s f.value one.1 in
+    let parts = is_of-parts s f.value l own in
+    omega (arith, parts.0, parts.1, (at one.0 l there).0)
+
 -- a key that stands for itself is that of the fragment's lease
 pub at-place : (slab : Slab Lease) (keys : List ℕ) (s : StripeNo) (f : Fragment) (near_key : ℕ) → AreAt slab keys → get_or keys (spot s f) 0 ≡ near_key → near_key ≢ 65535
     → HasOne slab s f.value → HasAt slab near_key s f.value
@@ -243,5 +251,5 @@ at-place slab keys s f near_key at here low one =
     let (l, there, own) = under slab one.0 s f.value one.1 in
     let parts = is_of-parts s f.value l own in
     let place : spot l.stripe l.fragment ≡ spot s f = omega (arith, parts.0, parts.1) in
-    let same : one.0 ≡ near_key = near-low one.0 near_key (sym (at one.0 l there) ∙ (ap (λ n. get_or keys n 0) place ∙ here)) low in
+    let same : one.0 ≡ near_key = near-low one.0 near_key (sym (at one.0 l there).1 ∙ (ap (λ n. get_or keys n 0) place ∙ here)) low in
     subst (λ k. HasAt slab k s f.value) same one.1

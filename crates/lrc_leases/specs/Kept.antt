@@ -1,6 +1,6 @@
 -- Internal: no public clause reaches these definitions.
 -- The leases as they are kept: in a slab, where the lease of a fragment stands under one key.
-use Rattle.std.specs.Prelude.{◌≡◌, ◌+◌, ◌%◌, ◌^◌, ◌≤◌, ◌<◌, ℕ, zero, suc, Bool, if◌then◌else◌, nat_lt, List, map, get_or, Option, Some, None, false, IsTrue, IsFalse}
+use Rattle.std.specs.Prelude.{◌≡◌, ◌+◌, ◌%◌, ◌^◌, ◌≤◌, ◌<◌, ℕ, zero, suc, Bool, if◌then◌else◌, nat_lt, List, length, map, get_or, Option, Some, None, false, IsTrue, IsFalse}
 use Rattle.std.specs.List.{Contains}
 use Rattle.slab.specs.Slab.{Slab, get, entries}
 use Rattle.lrc_code.specs.declared.numbers.StripeNo.{StripeNo}
@@ -44,7 +44,7 @@ near key = if nat_lt key 65535 then key else 65535
 
 -- the key of each lease stands at its fragment's place
 abbrev pub AreAt : Slab Lease → List ℕ → Type 0
-AreAt slab keys = (key : ℕ) (l : Lease) → get slab key ≡ Some l → get_or keys (spot l.stripe l.fragment) 0 ≡ near key
+AreAt slab keys = (key : ℕ) (l : Lease) → get slab key ≡ Some l → (spot l.stripe l.fragment < length keys) × (get_or keys (spot l.stripe l.fragment) 0 ≡ near key)
 
 -- the keys of leases are below a bound
 abbrev pub AreBelow : ℕ → Slab Lease → Type 0

@@ -2,7 +2,8 @@ use Rattle.std.proofs.Common.{◌<◌, length, slice_set, vec_capacity, refl, ar
 use Rattle.std.proofs.lemmas.List.{length-set}
 use Rattle.lrc_leases.specs.declared.link.Link.{Link}
 use Rattle.lrc_leases.specs.Chains.{ChainTable, at}
-use Rattle.lrc_leases.proofs.ChainLemmas.{read, at-set, after-put, before-put, first-low, chained-more, walked-more}
+use Rattle.lrc_leases.proofs.ArrayLemmas.{read, at-set}
+use Rattle.lrc_leases.proofs.ChainLemmas.{after-put, before-put, first-low, chained-more, walked-more}
 use Rattle.lrc_leases.proofs.chains.Chains.add.Goals as goal
 
 pub set_before-requires : goal.set_before-requires

@@ -1,7 +1,8 @@
 use Rattle.std.proofs.Common.{◌<◌, length, slice_set, vec_capacity, refl, arith}
 use Rattle.std.proofs.lemmas.List.{length-set}
 use Rattle.lrc_leases.specs.Chains.{ChainTable, no_link}
-use Rattle.lrc_leases.proofs.ChainLemmas.{read, at-set, after-low, before-low, chained-less, walked-less}
+use Rattle.lrc_leases.proofs.ArrayLemmas.{read, at-set}
+use Rattle.lrc_leases.proofs.ChainLemmas.{after-low, before-low, chained-less, walked-less}
 use Rattle.lrc_leases.proofs.chains.Chains.remove.Goals as goal
 
 pub index-link-requires : goal.index-link-requires
