@@ -231,8 +231,22 @@ impl Store {
     }
 
     /// Gives the record of a command that asks for the most urgent repair its answer.
-    #[inline(never)] // as `answer_other`
     fn answer_next(&self, counts: &Grants, front: Option<StripeNo>, made: &mut Record)
+        requires few { AreFew counts.now }
+        requires front { HasFront self.now front }
+        ensures { (st : State) (past : List Entry) → IsOf st self.now → AreGrantsOf past counts.now → IsFront self.now.topology st front
+            → made.new ≡ record made.old { reply = (next_outcome self.now.topology past st made.old.session).0 } }
+    {
+        if !self.stripes.has_work() {
+            made.answer = Answer::Idle;
+            return;
+        }
+        self.answer_next_of_work(counts, front, made);
+    }
+
+    /// The same where some stripe has work.
+    #[inline(never)] // as `answer_other`
+    fn answer_next_of_work(&self, counts: &Grants, front: Option<StripeNo>, made: &mut Record)
         requires few { AreFew counts.now }
         requires front { HasFront self.now front }
         ensures { (st : State) (past : List Entry) → IsOf st self.now → AreGrantsOf past counts.now → IsFront self.now.topology st front

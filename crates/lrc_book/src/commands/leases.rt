@@ -58,7 +58,6 @@ impl Store {
     }
 
     /// From what a fragment of a stripe that is there is rebuilt; `None` where it can't be.
-    #[inline(always)] // its answer then stays in registers
     pub(super) fn repair_kind(&self, stripe: StripeNo, fragment: Fragment) -> Option<Kind>
         requires { IsTrue ((stored_in self.now.stripes).stripes stripe) }
         ensures { (st : State) → IsOf st self.now → result ≡ repair_of self.now.topology st stripe fragment }

@@ -45,9 +45,6 @@ impl Store {
         ensures first { (st : State) → IsOf st self.now → IsFront self.now.topology st front → option_map fragment_of result ≡ next_of self.now.topology st }
         ensures repair { IfSome result (λ r. (st : State) → IsOf st self.now → IsRepair self.now.topology st r) }
     {
-        if !self.stripes.has_work() {
-            return None;
-        }
         if !self.has_free_seat() {
             return None;
         }

@@ -1,22 +1,15 @@
-use Rattle.std.proofs.Common.{◌≡◌, true, false, IsTrue, suc, List, Option, find, option_map, sym, ap, ◌∙◌, subst, arith}
+use Rattle.std.proofs.Common.{IsTrue, suc, List, Option, find, option_map, sym, ap, ◌∙◌, subst, arith}
 use Rattle.std.specs.List.{All}
 use Rattle.std.specs.Option.{option_or}
 use Rattle.lrc_code.specs.declared.numbers.StripeNo.{StripeNo}
-use Rattle.lrc_stripes.specs.Stored.{Stored, StripeFragment, has_work}
+use Rattle.lrc_stripes.specs.Stored.{StripeFragment}
 use Rattle.lrc_stripes.specs.Tables.{stored_in}
 use Rattle.lrc_book.specs.declared.repair.Repair.{Repair}
 use Rattle.lrc_book.specs.Urgency.{is_grantable}
 use Rattle.lrc_book.specs.Repairing.{fragment_of, HaveGrantable}
-use Rattle.lrc_book.proofs.UrgencyLemmas.{fragments_in, find-turn, next-first, idle-next}
+use Rattle.lrc_book.proofs.UrgencyLemmas.{fragments_in, find-turn, next-first}
 use Rattle.lrc_book.proofs.NoRoomLemmas.{no-next}
 use Rattle.lrc_book.proofs.store.Store.next_repair.Goals as goal
-
-pub returns-then-not-has_work-clause-first : goal.returns-then-not-has_work-clause-first
-returns-then-not-has_work-clause-first c = λ st kept ahead.
-    idle-next c.args.self.now.topology st (stored_in c.args.self.now.stripes).spare
-    (λ s has.
-    (let some : c.has_work.result ≡ true = c.has_work.ensures.1 (s, subst (λ (t : Stored). has_work t s ≡ true) (sym kept.stripes_is) has) in
-    let both : true ≡ false = sym some ∙ c.if-not-has_work.true in cc))
 
 pub returns-then-not-has_free_seat-clause-first : goal.returns-then-not-has_free_seat-clause-first
 returns-then-not-has_free_seat-clause-first c = λ st kept ahead. no-next st c.args.self.now kept (sym (c.has_free_seat.ensures st kept) ∙ c.if-not-has_free_seat.true)
