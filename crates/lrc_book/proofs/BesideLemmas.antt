@@ -31,32 +31,6 @@ use Rattle.lrc_book.proofs.ClearLemmas.{home-only}
 use Rattle.lrc_book.proofs.FragmentLemmas.{fragment-at, number-at, all-fragments}
 use Rattle.lrc_book.proofs.BarLemmas.{bars_in-push, bars_in-same}
 
--- a stripe that is there has a list of its fragments' homes
-pub homes-some : (t : Stored) (s : StripeNo) → IsTrue (t.stripes s) → IsSome (homes_shown t s)
-unfolding homes_if
-homes-some t s there = rw there refl
-
--- in which the home of each stands at its number
-pub home-listed : (st : State) (s : StripeNo) → has_stripe st s ≡ true
-    → (listed : List (Option Seat)) → Some listed ≡ homes_if (has_stripe st s) Wide (homes_of st.homes s)
-    → (f : Fragment) (none : Option Seat) → get_or listed f.value none ≡ homes_of st.homes s f.value
-unfolding homes_if
-home-listed st s there listed is f none =
-    let home = λ (g : Fragment). homes_of st.homes s g.value in
-    let all = map home (fragments Wide) in
-    ap (λ (xs : List (Option Seat)). get_or xs f.value none)
-    (same_Some listed all (is ∙ ap (λ b. if b then Some all else None) there))
-    ∙ get_or-map home (fragments Wide) f.value f none f.in_range
-    ∙ ap home (fragment-at f)
-
--- at the place of each fragment
-pub homes-listed : (st : State) (k : Store) → IsOf st k → (s : StripeNo) → has_stripe st s ≡ true
-    → (listed : List (Option Seat)) → Some listed ≡ homes_shown (stored_in k.stripes) s
-    → (i : ℕ) (d : Fragment) → i < 16 → (none : Option Seat) → get_or listed i none ≡ homes_of st.homes s (get_or (fragments Wide) i d).value
-homes-listed st k kept s there listed is i d within none =
-    ap (λ (n : ℕ). get_or listed n none) (sym (number-at i d within))
-    ∙ home-listed st s there listed (is ∙ ap (λ (x : Stored). homes_shown x s) kept.stripes_is) (get_or (fragments Wide) i d) none
-
 -- a fragment's seat, if it has one
 abbrev pub held_if : StripeNo → Fragment → Option Seat → List Held
 held_if s f None = []

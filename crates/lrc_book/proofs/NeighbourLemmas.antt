@@ -16,7 +16,7 @@ use Rattle.lrc_topology.specs.declared.NodeInfo.{NodeInfo}
 use Rattle.lrc_topology.specs.declared.seat.Seat.{Seat}
 use Rattle.lrc_topology.specs.declared.seat.Held.{Held}
 use Rattle.lrc_stripes.proofs.LevelLemmas.{has_some-bits, has_some-none}
-use Rattle.lrc_stripes.proofs.NotedLemmas.{both-bits}
+use Rattle.lrc_stripes.proofs.HomesLemmas.{both-bits}
 use Rattle.lrc_slots.specs.Barred.{joined}
 use Rattle.lrc_book.specs.Ties.{bars_fault, bars_upgrade, bars_in}
 use Rattle.lrc_book.specs.Stores.{closed}

@@ -124,9 +124,8 @@ impl Store {
         ensures rest { self.new ≡ record self.old { table = self.new.table } }
         ensures table { slots_of self.new.table ≡ kept_table self.old.topology (homeless st stripe (fragments Wide)) }
     {
-        let homes = self.stripes.homes(stripe).unwrap();
-        for home in homes.iter() {
-            if let Some(seat) = *home {
+        for fragment in Fragment::all().iter() {
+            if let Some(seat) = self.stripes.home(stripe, *fragment) {
                 self.table.free(seat.node, seat.slot);
             }
         }
