@@ -214,11 +214,13 @@ module _ (a b a_new b_new : ℕ → ℕ) where
 -- ---- the chains of a table
 
 -- where these are the linked numbers of each chain, they are its walk
-module _ (t : ChainTable) (f : ℕ → List ℕ) (linked : (d : ℕ) → AreLinked (after_at t.links) (before_at t.links) 0 (at t.firsts d) (f d)) (once : (d : ℕ) → AreOnce (f d)) (low : (d k : ℕ) → Contains (f d) k → k < length t.links) where
+module _ (t : ChainTable) (f : ℕ → List ℕ) (linked : (d : ℕ) → AreLinked (after_at t.links) (before_at t.links) 0 (at t.firsts d) (f d))
+    (once : (d : ℕ) → AreOnce (f d)) (low : (d k : ℕ) → Contains (f d) k → k < length t.links) where
   pub walked : (d : ℕ) → chain_in t d ≡ f d
   walked d =
       walk-linked (after_at t.links) (before_at t.links) (length t.links) 0 (at t.firsts d) (f d) (linked d)
-      (once-few (length t.links) (f d) (once d) (λ k there. (positive (after_at t.links) (before_at t.links) 0 (at t.firsts d) (f d) (linked d) k there, omega (arith, low d k there))))
+      (once-few (length t.links) (f d) (once d) (λ k there.
+      (positive (after_at t.links) (before_at t.links) 0 (at t.firsts d) (f d) (linked d) k there, omega (arith, low d k there))))
 
   pub chained : ((c d k : ℕ) → Contains (f c) k → Contains (f d) k → c ≡ d) → AreChained t
   chained apart = record {
@@ -247,9 +249,11 @@ module _ (t next : ChainTable) (c m : ℕ) (kept : AreChained t) (some : 0 < m) 
   more-linked d = elim (cases_eq d c) [
     | inl same ↦ rw (firsts d, eq-eqb d c same)
         (subst (λ i. AreLinked (after_at next.links) (before_at next.links) 0 m (m ∷ chain_in t i)) (sym same)
-        (linked-more (after_at t.links) (before_at t.links) (after_at next.links) (before_at next.links) m (at t.firsts c) some afters befores (chain_in t c) (kept.linked c) (kept.once c) (fresh c)))
+        (linked-more (after_at t.links) (before_at t.links) (after_at next.links) (before_at next.links) m (at t.firsts c) some afters befores (chain_in t c)
+        (kept.linked c) (kept.once c) (fresh c)))
     | inr other ↦ rw (firsts d, ne_eqb d c other)
-        (others-more (after_at t.links) (before_at t.links) (after_at next.links) (before_at next.links) m (at t.firsts c) some afters befores (at t.firsts d) (chain_in t d) (kept.linked d)
+        (others-more (after_at t.links) (before_at t.links) (after_at next.links) (before_at next.links) m (at t.firsts c) some afters befores
+        (at t.firsts d) (chain_in t d) (kept.linked d)
         (λ k there. (fresh d k there, first-away d k other there)))
   ]
 
@@ -309,16 +313,23 @@ module _ (t next : ChainTable) (c m : ℕ) (kept : AreChained t) (there : Contai
 
   before-own : 0 < before_at t.links m → Contains (chain_in t c) (before_at t.links m)
   before-own some = elim (cases_eq (at t.firsts c) m) [
-    | inl same ↦ absurd (let none = before-first (after_at t.links) (before_at t.links) 0 (at t.firsts c) (chain_in t c) (kept.linked c) m there same in omega (arith, none, some))
+    | inl same ↦
+        let none = before-first (after_at t.links) (before_at t.links) 0 (at t.firsts c) (chain_in t c) (kept.linked c) m there same in
+        absurd (omega (arith, none, some))
     | inr other ↦ before-in (after_at t.links) (before_at t.links) 0 (at t.firsts c) (chain_in t c) (kept.linked c) m there other
   ]
 
   less-linked : (d : ℕ) → AreLinked (after_at next.links) (before_at next.links) 0 (at next.firsts d) (less d)
   less-linked d = elim (cases_eq d c) [
     | inl same ↦ rw (firsts d, eq-eqb d c same)
-        (subst (λ i. AreLinked (after_at next.links) (before_at next.links) 0 (if nat_eq (at t.firsts c) m then after_at t.links m else at t.firsts c) (without m (chain_in t i))) (sym same)
-        (linked-less (after_at t.links) (before_at t.links) (after_at next.links) (before_at next.links) m afters befores 0 (at t.firsts c) (chain_in t c) (kept.linked c) (kept.once c)
-        (λ k among e. let some = positive (after_at t.links) (before_at t.links) 0 (at t.firsts c) (chain_in t c) (kept.linked c) k among in omega (arith, some, e)) there))
+        (subst
+        (λ i. AreLinked (after_at next.links) (before_at next.links) 0 (if nat_eq (at t.firsts c) m then after_at t.links m else at t.firsts c) (without m (chain_in t i)))
+        (sym same)
+        (linked-less (after_at t.links) (before_at t.links) (after_at next.links) (before_at next.links) m afters befores 0 (at t.firsts c) (chain_in t c)
+        (kept.linked c) (kept.once c)
+        (λ k among e.
+        let some = positive (after_at t.links) (before_at t.links) 0 (at t.firsts c) (chain_in t c) (kept.linked c) k among in
+        omega (arith, some, e)) there))
     | inr other ↦ rw (firsts d, ne_eqb d c other)
         (others-less (after_at t.links) (before_at t.links) (after_at next.links) (before_at next.links) m afters befores (at t.firsts d) (chain_in t d) (kept.linked d)
         (λ k among. (
@@ -373,6 +384,8 @@ module _ (t : ChainTable) (kept : AreChained t) where
 
   pub before-low : (c m : ℕ) → Contains (chain_in t c) m → before_at t.links m < length t.links
   before-low c m there = some-low c (length t.links) (before_at t.links m) (omega (arith, kept.low c m there)) (omega arith) (λ some. elim (cases_eq (at t.firsts c) m) [
-    | inl same ↦ absurd (let none = before-first (after_at t.links) (before_at t.links) 0 (at t.firsts c) (chain_in t c) (kept.linked c) m there same in omega (arith, none, some))
+    | inl same ↦
+        let none = before-first (after_at t.links) (before_at t.links) 0 (at t.firsts c) (chain_in t c) (kept.linked c) m there same in
+        absurd (omega (arith, none, some))
     | inr other ↦ before-in (after_at t.links) (before_at t.links) 0 (at t.firsts c) (chain_in t c) (kept.linked c) m there other
   ])

@@ -29,7 +29,8 @@ places-once (l ∷ leases) one = (
   λ k there same.
       let (m, among, is) = map-contains place leases k there in
       let parts = spot-apart l.stripe m.stripe l.fragment m.fragment (omega (arith, same, is)) in
-      one 0 (suc among.0) m (omega arith) (omega (arith, among.1)) (rw among.2 (equal_stripes l.stripe m.stripe parts.0)) (rw among.2 (equal_fragments l.fragment m.fragment parts.1)),
+      one 0 (suc among.0) m (omega arith) (omega (arith, among.1))
+      (rw among.2 (equal_stripes l.stripe m.stripe parts.0)) (rw among.2 (equal_fragments l.fragment m.fragment parts.1)),
   places-once leases (λ i j d below within. one (suc i) (suc j) d (omega (arith, below)) (omega (arith, within))),
 )
 

@@ -137,7 +137,8 @@ module _ (old new : Slab Lease) (key : ℕ) (l : Lease) (single : AreSingle old)
     ]
   ]
 
-  pub at-insert : (keys keys_new : List ℕ) → AreAt old keys → spot l.stripe l.fragment < length keys_new → length keys ≤ length keys_new → ((i : ℕ) → get_or keys_new i 0 ≡ (if nat_eq i (spot l.stripe l.fragment) then near key else get_or keys i 0)) → AreAt new keys_new
+  pub at-insert : (keys keys_new : List ℕ) → AreAt old keys → spot l.stripe l.fragment < length keys_new → length keys ≤ length keys_new
+      → ((i : ℕ) → get_or keys_new i 0 ≡ (if nat_eq i (spot l.stripe l.fragment) then near key else get_or keys i 0)) → AreAt new keys_new
   at-insert keys keys_new at there_now longer written i k there = elim (cases_eq i key) [
     | inl here ↦
         let same : k ≡ l = same_Some k l (sym there ∙ (ap (get new) here ∙ updates.changed)) in

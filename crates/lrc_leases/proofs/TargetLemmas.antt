@@ -53,7 +53,8 @@ if_on-some n (Some k) l is = elim (cases_Bool (is_target_on n k)) [
 ]
 
 -- a target that is found is the lease under the number's key
-target-some : (slab : Slab Lease) (n : NodeNo) (k : ℕ) (l : Lease) → target_at slab n k ≡ Some l → (key : ℕ) × (key + 1 ≡ k) × (get slab key ≡ Some l) × (is_target_on n l ≡ true)
+target-some : (slab : Slab Lease) (n : NodeNo) (k : ℕ) (l : Lease) → target_at slab n k ≡ Some l
+    → (key : ℕ) × (key + 1 ≡ k) × (get slab key ≡ Some l) × (is_target_on n l ≡ true)
 target-some slab n zero l is = absurd (let e : None ≡ Some l = is in cc)
 target-some slab n (suc key) l is = let (at, on) = if_on-some n (get slab key) l is in (key, omega arith, at, on)
 
@@ -99,7 +100,8 @@ are-targets slab chains n spare ks single are chain once = record {
 -- ---- one lease more, and one less
 
 -- a vacant key has its number in no chain
-pub fresh-number : (slab : Slab Lease) (chains : ChainTable) (key : ℕ) → AreListed slab chains → get slab key ≡ None → (d k : ℕ) → Contains (chain_in chains d) k → k ≢ key + 1
+pub fresh-number : (slab : Slab Lease) (chains : ChainTable) (key : ℕ) → AreListed slab chains → get slab key ≡ None
+    → (d k : ℕ) → Contains (chain_in chains d) k → k ≢ key + 1
 fresh-number slab chains key are vacant d k there same =
     let (other, l, at, number, chain) = are.live d k there in
     let here : other ≡ key = omega (arith, number, same) in
@@ -132,7 +134,8 @@ module _ (old new : Slab Lease) (key : ℕ) (l : Lease) (updates : Updates old n
           let same : k ≡ l = same_Some k l (sym there ∙ (ap (get new) here ∙ updates.changed)) in
           let number : key + 1 ≡ i + 1 = omega (arith, here) in
           subst (λ (m : Lease). Contains (chain_in next (chain_of m.target.node)) (i + 1)) (sym same)
-          (subst (λ ks. Contains ks (i + 1)) (sym (walked (chain_of l.target.node))) (rw (eq-eqb (chain_of l.target.node) (chain_of l.target.node) refl) (0, omega arith, number)))
+          (subst (λ ks. Contains ks (i + 1)) (sym (walked (chain_of l.target.node)))
+          (rw (eq-eqb (chain_of l.target.node) (chain_of l.target.node) refl) (0, omega arith, number)))
       | inr other ↦ still (chain_of k.target.node) (i + 1) (are.listed i k (sym (updates.others i other) ∙ there))
     ];
     live = λ d k there. elim (was d k there) [
@@ -144,7 +147,8 @@ module _ (old new : Slab Lease) (key : ℕ) (l : Lease) (updates : Updates old n
     ];
   }
 
-module _ (old new : Slab Lease) (key : ℕ) (l : Lease) (updates : Updates old new key None) (at_key : get old key ≡ Some l) (chains next : ChainTable) (are : AreListed old chains)
+module _ (old new : Slab Lease) (key : ℕ) (l : Lease) (updates : Updates old new key None) (at_key : get old key ≡ Some l)
+    (chains next : ChainTable) (are : AreListed old chains)
     (walked : (d : ℕ) → chain_in next d ≡ (if nat_eq d (chain_of l.target.node) then without (key + 1) (chain_in chains d) else chain_in chains d)) where
   away_from : (i : ℕ) (k : Lease) → get new i ≡ Some k → i ≢ key
   away_from i k at here = let e : Some k ≡ None = sym at ∙ (ap (get new) here ∙ updates.changed) in cc

@@ -53,6 +53,7 @@ impl Leases {
         ensures err { IfErr result (λ e. e ≡ OutOfMemory) }
     {
         let slab = Slab::with_capacity(alloc, SPOTS)?;
+        // In chains the number of a lease is its key and one.
         let bound = slab.capacity().checked_add(1).ok_or(Fault::OutOfMemory)?;
         Ok(Leases {
             slab,

@@ -26,7 +26,8 @@ unfolding leased_in
 returns-clause-lease c =
     let (l, at, own) = under c.self.inside.slab c.key_of-key.result c.args.stripe c.args.fragment.value c.key_of-key.ensures in
     rw (← c.self.view_is)
-    (leased-remove c.self.inside.slab c.remove-lease.new.self c.key_of-key.result c.args.stripe c.args.fragment l c.self.invariant.single c.remove-lease.ensures.updates at own c.self.inside.spare c.self.inside.spare)
+    (leased-remove c.self.inside.slab c.remove-lease.new.self c.key_of-key.result c.args.stripe c.args.fragment l c.self.invariant.single
+    c.remove-lease.ensures.updates at own c.self.inside.spare c.self.inside.spare)
 
 pub overflow_add-key : goal.overflow_add-key
 overflow_add-key c =
@@ -49,15 +50,18 @@ invariant_of-self c =
     leased-remove c.self.inside.slab taken.new.self c.key_of-key.result c.args.stripe c.args.fragment lease c.self.invariant.single taken.ensures.updates
     taken.ensures.value own spare spare in
     record {
-      single = single-remove c.self.inside.slab taken.new.self c.key_of-key.result c.args.stripe c.args.fragment lease c.self.invariant.single taken.ensures.updates taken.ensures.value own;
-      at = at-remove c.self.inside.slab taken.new.self c.key_of-key.result c.args.stripe c.args.fragment lease c.self.invariant.single taken.ensures.updates taken.ensures.value own c.self.inside.keys.items c.self.invariant.at;
+      single = single-remove c.self.inside.slab taken.new.self c.key_of-key.result c.args.stripe c.args.fragment lease c.self.invariant.single
+          taken.ensures.updates taken.ensures.value own;
+      at = at-remove c.self.inside.slab taken.new.self c.key_of-key.result c.args.stripe c.args.fragment lease c.self.invariant.single
+          taken.ensures.updates taken.ensures.value own c.self.inside.keys.items c.self.invariant.at;
       long = c.self.invariant.long;
       targets_are = listed-remove c.self.inside.slab taken.new.self c.key_of-key.result lease taken.ensures.updates taken.ensures.value
           c.self.inside.targets c.remove.new.self c.self.invariant.targets_are (λ d. c.remove.ensures.numbers d ∙ rw c.chain_of.ensures.value refl);
       marked = subst (AreMasks masks.new.self) (sym live)
           (masks-without c.self.inside.masks masks.new.self before c.self.invariant.marked c.args.stripe c.args.fragment masks.ensures);
       low = rw taken.ensures.capacity
-          (below-remove c.self.inside.slab taken.new.self c.key_of-key.result c.args.stripe c.args.fragment lease c.self.invariant.single taken.ensures.updates taken.ensures.value own
+          (below-remove c.self.inside.slab taken.new.self c.key_of-key.result c.args.stripe c.args.fragment lease c.self.invariant.single
+          taken.ensures.updates taken.ensures.value own
           c.self.inside.slab.capacity c.self.invariant.low);
       numbers_fit = omega (arith, taken.ensures.capacity, c.remove.ensures.room, c.self.invariant.numbers_fit);
       keys_fit = omega (arith, taken.ensures.capacity, c.self.invariant.keys_fit);
