@@ -1,7 +1,7 @@
 -- What the answers that a history keeps tell.
 use Rattle.std.specs.Prelude.{Bool, true, false}
 use Rattle.lrc_book.specs.declared.command.Command.{Command}
-use Rattle.lrc_book.specs.declared.command.Command.TheVariants.{Place, Next}
+use Rattle.lrc_book.specs.declared.command.Command.TheVariants.{Place, Next, Done}
 use Rattle.lrc_book.specs.declared.answer.Answer.{Answer}
 use Rattle.lrc_book.specs.declared.answer.Answer.TheVariants as answer
 use Rattle.lrc_book.specs.declared.reply.Reply.{Reply}
@@ -22,8 +22,9 @@ abbrev pub is_place : Command → Bool
 is_place (Place s) = true
 is_place _ = false
 
--- the command neither places a stripe nor asks for the most urgent repair
+-- the command neither places a stripe, nor asks for the most urgent repair, nor reports one
 abbrev pub is_other : Command → Bool
 is_other (Place s) = false
 is_other Next = false
+is_other (Done s f e) = false
 is_other _ = true

@@ -7,7 +7,7 @@ ghost use Rattle.lrc_code.specs.declared.numbers.SessionNo.{SessionNo};
 ghost use Rattle.lrc_book.specs.declared.entry.Entry.{Entry};
 ghost use Rattle.lrc_book.specs.States.{State};
 ghost use Rattle.lrc_book.specs.Steps.{step, place_outcome};
-ghost use Rattle.lrc_book.specs.Leases.{next_outcome};
+ghost use Rattle.lrc_book.specs.Leases.{next_outcome, done_outcome};
 ghost use Rattle.lrc_book.specs.Histories.{world_after, state_after, outcome_in};
 ghost use Rattle.lrc_book.specs.Answers.{told, is_place, is_other};
 ghost use Rattle.lrc_book.specs.Changes.{IsAnswer, changed_by, grants_lease};
@@ -20,7 +20,7 @@ use crate::commands::leases::count_grant;
 use crate::plan::Plan;
 use crate::store::Store;
 use crate::{Book, Command, Entry, Record, Reply, Seat};
-use lrc_code::{Fault, NodeNo, SessionNo, StripeNo};
+use lrc_code::{Fault, Fragment, NodeNo, SessionNo, StripeNo};
 use lrc_leases::Grants;
 use std::alloc::{AllocError, Global};
 
@@ -217,6 +217,9 @@ impl Store {
         match made.command {
             Command::Place(stripe) => self.answer_place(stripe, room, made),
             Command::Next => self.answer_next(counts, front, made),
+            Command::Done(stripe, fragment, epoch) => {
+                self.answer_done(stripe, fragment, epoch, made)
+            }
             _ => self.answer_other(counts, made),
         }
     }
@@ -255,6 +258,15 @@ impl Store {
         made.answer = self.next_reply(counts, front, made.session);
     }
 
+    /// Gives the record of a command that reports a repair its answer.
+    #[inline(never)] // as `answer_other`
+    fn answer_done(&self, stripe: StripeNo, fragment: Fragment, epoch: u32, made: &mut Record)
+        ensures { (st : State) → IsOf st self.now
+            → made.new ≡ record made.old { reply = (done_outcome self.now.topology st made.old.session stripe fragment epoch).0 } }
+    {
+        made.answer = self.done_reply(made.session, stripe, fragment, epoch);
+    }
+
     /// Gives the record of any other command its answer.
     #[inline(never)] // a step then saves fewer registers, and what is answered is written where it stays
     fn answer_other(&self, counts: &Grants, made: &mut Record)
@@ -267,7 +279,7 @@ impl Store {
         made.answer = self.other_reply(counts, made.session, &made.command);
     }
 
-    /// The reply to a command that neither places a stripe nor asks for the most urgent repair.
+    /// The reply to a command that neither places a stripe, nor asks for the most urgent repair, nor reports one.
     fn other_reply(&self, counts: &Grants, session: SessionNo, command: &Command) -> Answer
         requires tied { IsTied self.now }
         requires few { AreFew counts.now }
@@ -276,13 +288,10 @@ impl Store {
             → told result ≡ (step self.now.topology past st session command.now).0 }
     {
         match *command {
-            Command::Place(_) | Command::Next => unreachable!(),
+            Command::Place(_) | Command::Next | Command::Done(_, _, _) => unreachable!(),
             Command::Drop(stripe) => self.drop_reply(stripe),
             Command::Lease(stripe, fragment) => {
                 self.lease_reply(counts, session, stripe, fragment)
-            }
-            Command::Done(stripe, fragment, epoch) => {
-                self.done_reply(session, stripe, fragment, epoch)
             }
             Command::Abandon(stripe, fragment, epoch) => {
                 self.abandon_reply(session, stripe, fragment, epoch)
