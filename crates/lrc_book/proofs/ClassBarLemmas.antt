@@ -1,6 +1,7 @@
 -- The domains that planned seats bar for the fragments of a class.
-use Rattle.std.proofs.Common.{◌≡◌, Bool, true, false, ◌&&◌, ◌||◌, List, [], ◌∷◌, ◌++◌, Option, Some, None, inl, inr, refl, sym, ap, ap₂, subst, ◌∙◌}
+use Rattle.std.proofs.Common.{◌≡◌, ◌≢◌, ℕ, ◌<◌, arith, length, get_or, set, Bool, true, false, ◌&&◌, ◌||◌, List, [], ◌∷◌, ◌++◌, Option, Some, None, inl, inr, refl, sym, ap, ap₂, subst, ◌∙◌}
 use Rattle.std.proofs.lemmas.Bool.{cases_Bool}
+use Rattle.std.proofs.lemmas.List.{length-set, get_or_default, get_or-set_same, get_or-set_other}
 use Rattle.std.specs.List.{All, list_any}
 use Rattle.std.specs.Option.{option_map_or}
 use Rattle.std.proofs.lemmas.List.Elements.{All-head, All-tail, All-weaker}
@@ -22,34 +23,25 @@ use Rattle.lrc_slots.specs.BarredNodes.{AreBarredNodes}
 use Rattle.lrc_book.specs.declared.class_bars.ClassBars.{ClassBars}
 use Rattle.lrc_book.specs.Placement.{is_beside}
 use Rattle.lrc_book.specs.Ties.{bars_fault, bars_upgrade, bars_in}
-use Rattle.lrc_book.specs.Planning.{is_in_fault, is_in_upgrade, bars_for, fault_bars, upgrade_bars, AreBarsOf, upgrades_for}
+use Rattle.lrc_book.specs.Planning.{is_in_fault, is_in_upgrade, bars_for, fault_bars, upgrade_bars, AreBarsOf, place_of_class, upgrades_for}
 use Rattle.lrc_book.specs.Stores.{closed}
 use Rattle.lrc_book.proofs.BarLemmas.{or_none, or_last, same_bars}
 
 -- at first nothing is barred
-pub none-barred : (nodes : List NodeInfo) (b : ClassBars) → AreBarredNodes nodes no_bars b.faults → AreBarredNodes nodes no_bars b.a
-    → AreBarredNodes nodes no_bars b.b → AreBarredNodes nodes no_bars b.g → AreBarsOf nodes None [] b
-none-barred nodes b f x y z = record { faults = f; upgrades = each }
+pub none-barred : (nodes : List NodeInfo) (f a b g : List Bool) → AreBarredNodes nodes no_bars f → AreBarredNodes nodes no_bars a
+    → AreBarredNodes nodes no_bars b → AreBarredNodes nodes no_bars g → AreBarsOf nodes None [] (record { faults = f; upgrades = a ∷ b ∷ g ∷ [] })
+none-barred nodes f a b g none x y z = record { faults = none; upgrades = each; classes = refl }
   where
-    each : (c : Class) → AreBarredNodes nodes (upgrade_bars nodes c []) (upgrades_for b c)
+    each : (c : Class) → AreBarredNodes nodes (upgrade_bars nodes c []) (upgrades_for (record { faults = f; upgrades = a ∷ b ∷ g ∷ [] }) c)
     each A = x
     each B = y
     each G = z
-
--- where the set for all classes changes, those of the classes stay
-faults-alone : (b : ClassBars) (faults : List Bool) (c : Class) → upgrades_for b c ≡ upgrades_for (record b { faults = faults }) c
-faults-alone b faults A = refl
-faults-alone b faults B = refl
-faults-alone b faults G = refl
 
 -- then the upgrading domain is barred for all
 pub upgrading-barred : (nodes : List NodeInfo) (u : UpgradeNo) (b : ClassBars) (faults : List Bool)
     → ((x : Barred) → AreBarredNodes nodes x b.faults → AreBarredNodes nodes (with_upgrade x u) faults)
     → AreBarsOf nodes None [] b → AreBarsOf nodes (Some u) [] (record b { faults = faults })
-upgrading-barred nodes u b faults barred are = record {
-  faults = barred (fault_bars nodes []) are.faults;
-  upgrades = λ c. subst (AreBarredNodes nodes (upgrade_bars nodes c [])) (faults-alone b faults c) (are.upgrades c);
-}
+upgrading-barred nodes u b faults barred are = record { faults = barred (fault_bars nodes []) are.faults; upgrades = are.upgrades; classes = are.classes }
 
 -- a fault domain more is barred beside it
 closed-fault : (upgrading : Option UpgradeNo) (b : Barred) (d : FaultNo) → with_fault (closed upgrading b) d ≡ closed upgrading (with_fault b d)
@@ -73,6 +65,26 @@ closed-joined (Some u) b c = same_bars (joined (with_upgrade b u) c) (with_upgra
 pub joined-bars : (nodes : List NodeInfo) (c : Class) (seats : List Held) → joined (fault_bars nodes seats) (upgrade_bars nodes c seats) ≡ bars_for nodes c seats
 joined-bars nodes c seats = same_bars (joined (fault_bars nodes seats) (upgrade_bars nodes c seats)) (bars_for nodes c seats)
     (λ d. sym (or_none (list_any (is_in_fault nodes d) seats))) (λ d. refl)
+
+-- ---- the places of classes
+
+-- each has one of three
+has_place : (us : List (List Bool)) (c : Class) → length us ≡ 3 → place_of_class c < length us
+has_place us A three = omega (arith, three)
+has_place us B three = omega (arith, three)
+has_place us G three = omega (arith, three)
+
+-- of its own
+places-apart : (c d : Class) → same_class c d ≡ false → place_of_class d ≢ place_of_class c
+places-apart A A is = absurd (let never : true ≡ false = is in cc)
+places-apart A B is = λ e. absurd (cc)
+places-apart A G is = λ e. absurd (cc)
+places-apart B A is = λ e. absurd (cc)
+places-apart B B is = absurd (let never : true ≡ false = is in cc)
+places-apart B G is = λ e. absurd (cc)
+places-apart G A is = λ e. absurd (cc)
+places-apart G B is = λ e. absurd (cc)
+places-apart G G is = absurd (let never : true ≡ false = is in cc)
 
 -- ---- one seat more
 
@@ -102,41 +114,39 @@ module _ (nodes : List NodeInfo) (xs : List Held) (h : Held) (n : NodeInfo) (own
       (λ d. or_none (list_any (is_in_upgrade nodes c d) xs) ∙ one-upgrade c d false is)
 
   -- its node's fault domain is barred for all, and its upgrade domain for its class
-  pub bars-push : (upgrading : Option UpgradeNo) (old new : ClassBars) → AreBarsOf nodes upgrading xs old
-      → ((b : Barred) → AreBarredNodes nodes b old.faults → AreBarredNodes nodes (with_fault b n.fault) new.faults)
-      → ((c : Class) → same_class own c ≡ true → (b : Barred) → AreBarredNodes nodes b (upgrades_for old c)
-      → AreBarredNodes nodes (with_upgrade b n.upgrade) (upgrades_for new c))
-      → ((c : Class) → same_class own c ≡ false → upgrades_for old c ≡ upgrades_for new c)
-      → AreBarsOf nodes upgrading (xs ++ h ∷ []) new
-  bars-push upgrading old new are faults mine others = record {
-    faults = subst (λ (b : Barred). AreBarredNodes nodes b new.faults) (closed-fault upgrading (fault_bars nodes xs) n.fault ∙ ap (closed upgrading) fault-push)
-        (faults (closed upgrading (fault_bars nodes xs)) are.faults);
+  bars-push : (upgrading : Option UpgradeNo) (old : ClassBars) (faults mine d : List Bool) → AreBarsOf nodes upgrading xs old
+      → ((b : Barred) → AreBarredNodes nodes b old.faults → AreBarredNodes nodes (with_fault b n.fault) faults)
+      → ((b : Barred) → AreBarredNodes nodes b (get_or old.upgrades (place_of_class own) d) → AreBarredNodes nodes (with_upgrade b n.upgrade) mine)
+      → AreBarsOf nodes upgrading (xs ++ h ∷ []) (record { faults = faults; upgrades = set old.upgrades (place_of_class own) mine })
+  bars-push upgrading old faults mine d are to_faults to_mine = record {
+    faults = subst (λ (b : Barred). AreBarredNodes nodes b faults) (closed-fault upgrading (fault_bars nodes xs) n.fault ∙ ap (closed upgrading) fault-push)
+        (to_faults (closed upgrading (fault_bars nodes xs)) are.faults);
     upgrades = λ c. elim (cases_Bool (same_class own c)) [
-      | inl is ↦ subst (λ (b : Barred). AreBarredNodes nodes b (upgrades_for new c)) (own-push c is) (mine c is (upgrade_bars nodes c xs) (are.upgrades c))
-      | inr is ↦ subst (λ (b : Barred). AreBarredNodes nodes b (upgrades_for new c)) (other-push c is)
-          (subst (AreBarredNodes nodes (upgrade_bars nodes c xs)) (others c is) (are.upgrades c))
+      | inl is ↦ subst (λ (d : Class). AreBarredNodes nodes (upgrade_bars nodes d (xs ++ h ∷ [])) (now d)) ((same_class-iff own c).0 is)
+          (subst (AreBarredNodes nodes (upgrade_bars nodes own (xs ++ h ∷ [])))
+          (sym (get_or-set_same old.upgrades (place_of_class own) mine [] (has_place old.upgrades own are.classes)))
+          (subst (λ (b : Barred). AreBarredNodes nodes b mine) (own-push own ((same_class-iff own own).1 refl))
+          (to_mine (upgrade_bars nodes own xs) (subst (AreBarredNodes nodes (upgrade_bars nodes own xs))
+          (get_or_default old.upgrades (place_of_class own) [] d (has_place old.upgrades own are.classes)) (are.upgrades own)))))
+      | inr is ↦ subst (AreBarredNodes nodes (upgrade_bars nodes c (xs ++ h ∷ [])))
+          (sym (get_or-set_other old.upgrades (place_of_class own) (place_of_class c) mine [] (places-apart own c is)))
+          (subst (λ (b : Barred). AreBarredNodes nodes b (upgrades_for old c)) (other-push c is) (are.upgrades c))
     ];
+    classes = length-set old.upgrades (place_of_class own) mine ∙ are.classes;
   }
+    where
+      now : Class → List Bool
+      now d = get_or (set old.upgrades (place_of_class own) mine) (place_of_class d) []
 
--- where the set of one class changes, those of the others stay
-pub others-A : (old new : ClassBars) → old.b ≡ new.b → old.g ≡ new.g → (c : Class) → same_class A c ≡ false → upgrades_for old c ≡ upgrades_for new c
-others-A old new p q A is = absurd (let never : true ≡ false = is in cc)
-others-A old new p q B is = p
-others-A old new p q G is = q
-
-pub others-B : (old new : ClassBars) → old.a ≡ new.a → old.g ≡ new.g → (c : Class) → same_class B c ≡ false → upgrades_for old c ≡ upgrades_for new c
-others-B old new p q A is = p
-others-B old new p q B is = absurd (let never : true ≡ false = is in cc)
-others-B old new p q G is = q
-
-pub others-G : (old new : ClassBars) → old.a ≡ new.a → old.b ≡ new.b → (c : Class) → same_class G c ≡ false → upgrades_for old c ≡ upgrades_for new c
-others-G old new p q A is = p
-others-G old new p q B is = q
-others-G old new p q G is = absurd (let never : true ≡ false = is in cc)
-
--- what is so of a class is so of each that is the same
-pub of-own : (own : Class) (P : Class → Type 0) → P own → (c : Class) → same_class own c ≡ true → P c
-of-own own P x c is = subst P ((same_class-iff own c).0 is) x
+  -- the same for a place that is the class's
+  pub bars-push-at : (k : ℕ) → k ≡ place_of_class own → (upgrading : Option UpgradeNo) (old : ClassBars) (faults mine d : List Bool) → AreBarsOf nodes upgrading xs old
+      → ((b : Barred) → AreBarredNodes nodes b old.faults → AreBarredNodes nodes (with_fault b n.fault) faults)
+      → ((b : Barred) → AreBarredNodes nodes b (get_or old.upgrades k d) → AreBarredNodes nodes (with_upgrade b n.upgrade) mine)
+      → AreBarsOf nodes upgrading (xs ++ h ∷ []) (record { faults = faults; upgrades = set old.upgrades k mine })
+  bars-push-at k is upgrading old faults mine d are to_faults =
+      subst (λ (i : ℕ). ((b : Barred) → AreBarredNodes nodes b (get_or old.upgrades i d) → AreBarredNodes nodes (with_upgrade b n.upgrade) mine)
+      → AreBarsOf nodes upgrading (xs ++ h ∷ []) (record { faults = faults; upgrades = set old.upgrades i mine })) (sym is)
+      (bars-push upgrading old faults mine d are to_faults)
 
 -- ---- for a fragment of the class
 

@@ -1,6 +1,6 @@
 -- Internal: no public clause reaches these definitions.
 -- The domains that are barred for the fragments of each class, while the seats of a stripe are planned.
-use Rattle.std.specs.Prelude.{Bool, true, false, ◌&&◌, List, Option, Some}
+use Rattle.std.specs.Prelude.{◌≡◌, ℕ, Bool, true, false, ◌&&◌, List, [], length, get_or, Option, Some}
 use Rattle.std.specs.List.{list_any}
 use Rattle.std.specs.Option.{option_map_or}
 use Rattle.lrc_code.specs.declared.codes.Class.{Class}
@@ -20,11 +20,15 @@ use Rattle.lrc_slots.specs.declared.open_node.OpenNode.{OpenNode}
 use Rattle.lrc_book.specs.declared.class_bars.ClassBars.{ClassBars}
 use Rattle.lrc_book.specs.Stores.{closed}
 
+-- where the nodes stand that are barred for the fragments of a class
+abbrev pub place_of_class : Class → ℕ
+place_of_class A = 0
+place_of_class B = 1
+place_of_class G = 2
+
 -- the nodes whose upgrade domains are barred for the fragments of a class, as truth values by rank
 abbrev pub upgrades_for : ClassBars → Class → List Bool
-upgrades_for b A = b.a
-upgrades_for b B = b.b
-upgrades_for b G = b.g
+upgrades_for b c = get_or b.upgrades (place_of_class c) []
 
 -- what is barred, with the fault domain of one more node, and its upgrade domain where the classes are one
 abbrev pub with_node : Bool → Barred → NodeInfo → Barred
@@ -57,6 +61,7 @@ upgrade_bars nodes c seats = record { faults = λ d. false; upgrades = λ d. lis
 pub record AreBarsOf (nodes : List NodeInfo) (upgrading : Option UpgradeNo) (seats : List Held) (b : ClassBars) : Type 0 where
   pub faults : AreBarredNodes nodes (closed upgrading (fault_bars nodes seats)) b.faults
   pub upgrades : (c : Class) → AreBarredNodes nodes (upgrade_bars nodes c seats) (upgrades_for b c)
+  pub classes : length b.upgrades ≡ 3
 
 -- the seat that a node and its least free slot are
 abbrev pub open_seat : OpenNode → Seat

@@ -1,4 +1,4 @@
-ghost use Rattle.std.specs.Prelude.{◌≡◌, ◌++◌, ◌∷◌, List, [], Option, Some, None};
+ghost use Rattle.std.specs.Prelude.{◌≡◌, ◌<◌, ◌++◌, ◌∷◌, List, [], Option, Some, None};
 ghost use Rattle.lrc_code.specs.declared.codes.Code.TheVariants.{Wide};
 ghost use Rattle.lrc_code.specs.Codes.{class_of};
 ghost use Rattle.lrc_code.specs.declared.numbers.UpgradeNo.{UpgradeNo};
@@ -6,7 +6,7 @@ ghost use Rattle.lrc_topology.specs.declared.NodeInfo.{NodeInfo};
 ghost use Rattle.lrc_topology.specs.declared.seat.Held.{Held};
 ghost use Rattle.lrc_topology.specs.Nodes.{node_at};
 ghost use Rattle.lrc_slots.specs.Tables.{slots_of};
-ghost use Rattle.lrc_book.specs.Planning.{AreBarsOf, upgrades_for};
+ghost use Rattle.lrc_book.specs.Planning.{AreBarsOf, place_of_class, upgrades_for};
 
 use lrc_code::Class;
 use lrc_slots::{BarredNodes, SlotTable};
@@ -17,9 +17,7 @@ use lrc_topology::NodeInfo;
 #[derive(Drop)]
 pub(crate) struct ClassBars {
     pub(crate) faults: BarredNodes,
-    pub(crate) a: BarredNodes,
-    pub(crate) b: BarredNodes,
-    pub(crate) g: BarredNodes,
+    pub(crate) upgrades: [BarredNodes; 3],
 }
 
 impl ClassBars {
@@ -29,9 +27,7 @@ impl ClassBars {
     {
         ClassBars {
             faults: BarredNodes::new(),
-            a: BarredNodes::new(),
-            b: BarredNodes::new(),
-            g: BarredNodes::new(),
+            upgrades: [BarredNodes::new(), BarredNodes::new(), BarredNodes::new()],
         }
     }
 
@@ -39,11 +35,7 @@ impl ClassBars {
     pub(crate) fn of(&self, class: Class) -> &BarredNodes
         ensures { result.now ≡ upgrades_for self.now class }
     {
-        match class {
-            Class::A => &self.a,
-            Class::B => &self.b,
-            Class::G => &self.g,
-        }
+        &self.upgrades[place_of(class)]
     }
 
     /// Bars the fault domain of the node that a seat of a fragment is on for all fragments, and its upgrade domain for
@@ -54,10 +46,15 @@ impl ClassBars {
             → AreBarsOf (slots_of table.now).nodes upgrading seats self.old → AreBarsOf (slots_of table.now).nodes upgrading (seats ++ h ∷ []) self.new }
     {
         table.bar_fault_in(&mut self.faults, node.fault);
-        match class {
-            Class::A => table.bar_upgrade_in(&mut self.a, node.upgrade),
-            Class::B => table.bar_upgrade_in(&mut self.b, node.upgrade),
-            Class::G => table.bar_upgrade_in(&mut self.g, node.upgrade),
-        }
+        let of_class = &mut self.upgrades[place_of(class)];
+        table.bar_upgrade_in(of_class, node.upgrade);
     }
+}
+
+/// Where the nodes stand that are barred for the fragments of a class.
+fn place_of(class: Class) -> usize
+    ensures value { result ≡ place_of_class class }
+    ensures few { result < 3 }
+{
+    class as usize
 }

@@ -1,4 +1,4 @@
-ghost use Rattle.std.specs.Prelude.{◌≡◌, ℕ, ◌+◌, ◌<◌, ◌||◌, ◌&&◌, ◌⊎◌, if◌then◌else◌, nat_eq, not, true, false, length, get_or, IfOk, IfSome, IsTrue, IsFalse};
+ghost use Rattle.std.specs.Prelude.{◌≡◌, ℕ, ◌+◌, ◌<◌, ◌≤◌, ◌||◌, ◌&&◌, ◌⊎◌, if◌then◌else◌, nat_eq, not, true, false, length, get_or, IfOk, IfSome, IsTrue, IsFalse};
 ghost use Rattle.lrc_slots.specs.Indexes.{listed, is_entry, is_entry_of, IsFrom, FindsFirst, FindsLeast, is_of_set, is_of_either};
 
 use crate::entry::Entry;
@@ -88,6 +88,7 @@ impl RankSets {
     }
 
     /// The least rank of the least load that is in neither mask.
+    #[inline(always)]
     pub(crate) fn first_outside_both(&self, mask: &BitSet<8>, other: &BitSet<8>) -> Option<usize>
         ensures { FindsLeast self.now (is_of_either mask.now other.now) result }
     {
@@ -96,6 +97,21 @@ impl RankSets {
         if let Some(rank) = set.first_outside_both(mask, other) {
             return Some(rank);
         }
+        self.first_above_outside_both(least, mask, other)
+    }
+
+    /// The same where the ranks of this load and of those below it are all in the masks.
+    #[inline(never)] // the search of the least load finds one nearly always
+    fn first_above_outside_both(
+        &self,
+        least: usize,
+        mask: &BitSet<8>,
+        other: &BitSet<8>,
+    ) -> Option<usize>
+        requires least { least < 256 }
+        requires below { (l r : ℕ) → l ≤ least → listed self.now l r ≡ true → is_of_either mask.now other.now r ≡ true }
+        ensures { FindsLeast self.now (is_of_either mask.now other.now) result }
+    {
         let mut from = least + 1;
         while let Some(load) = self.used.first_from(from) {
             let set = &self.sets[load];

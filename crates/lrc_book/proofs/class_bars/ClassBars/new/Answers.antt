@@ -3,5 +3,5 @@ use Rattle.lrc_book.proofs.class_bars.ClassBars.new.Goals as goal
 
 pub returns : goal.returns
 returns c = λ nodes.
-    none-barred nodes (record { faults = c.new.result; a = c.new-2.result; b = c.new-3.result; g = c.new-4.result }) (c.new.ensures nodes)
-    (c.new-2.ensures nodes) (c.new-3.ensures nodes) (c.new-4.ensures nodes)
+    none-barred nodes c.new.result c.new-2.result c.new-3.result c.new-4.result (c.new.ensures nodes) (c.new-2.ensures nodes) (c.new-3.ensures nodes)
+    (c.new-4.ensures nodes)

@@ -1,6 +1,6 @@
 use Rattle.std.proofs.Common.{◌≡◌, ℕ, ◌<◌, ◌≤◌, ◌-◌, true}
 use Rattle.lrc_slots.specs.Indexes.{listed, is_of_either}
-use Rattle.lrc_slots.proofs.rank_sets.RankSets.first_outside_both.Given as goal
+use Rattle.lrc_slots.proofs.rank_sets.RankSets.first_above_outside_both.Given as goal
 
 abbrev pub invariant-loop-load : goal.invariant-loop-load
 invariant-loop-load l = record {
