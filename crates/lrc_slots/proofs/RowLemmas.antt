@@ -1,5 +1,5 @@
 -- One row kept as marks and a count.
-use Rattle.std.proofs.Common.{◌≡◌, ◌≢◌, ℕ, zero, suc, ◌+◌, ◌-◌, ◌<◌, ◌≤◌, Bool, true, false, ◌&&◌, eqb, is_some, cond, zero-add, length-take-le, ◌∷◌, List, length, get_or, set, take, replicate, Option, Some, None, arith, refl, sym, ap, ◌∙◌, inl, inr}
+use Rattle.std.proofs.Common.{◌≡◌, ◌≢◌, ℕ, zero, suc, ◌+◌, ◌-◌, ◌<◌, ◌≤◌, Bool, true, false, ◌&&◌, eqb, is_some, cond, zero-add, length-take-le, ◌∷◌, List, length, get_or, set, take, replicate, Option, Some, None, IsSome, arith, refl, sym, ap, ◌∙◌, inl, inr}
 use Rattle.std.proofs.Math.ListN.{length-set}
 use Rattle.std.proofs.lemmas.Bool.{cases_lt}
 use Rattle.std.proofs.Math.Seq.{take-set-lt}
@@ -7,7 +7,7 @@ use Rattle.std.proofs.lemmas.List.Sums.{count_by-le-length, sum_by-cons}
 use Rattle.std.proofs.lemmas.List.FromFn.{length-range_with_len}
 use Rattle.std.proofs.lemmas.List.{get_or-take, get_or-set_same, get_or-set_other, length-replicate}
 use Rattle.std.specs.List.{count_by, range_with_len}
-use Rattle.lrc_bits.specs.Flags.{IsFirstAbsent}
+use Rattle.lrc_bits.specs.Flags.{FindsAbsent, IsFirstAbsent}
 use Rattle.lrc_topology.specs.declared.NodeInfo.{NodeInfo}
 use Rattle.lrc_slots.specs.Slots.{least_free, taken_count}
 use Rattle.lrc_slots.specs.Tables.{is_marked}
@@ -48,6 +48,22 @@ least_free-none node eligible load marks h all =
     first_slot-all (is_marked (row_of node eligible marks)) 0 node.slots
     (λ j low less. let within : j < node.slots = omega (arith, less) in marked-within node.slots j marks within ∙ all j
     (omega (arith, within, h.few, h.all)))
+
+-- ---- where a slot is free
+
+module _ (node : NodeInfo) (eligible : Bool) (load : ℕ) (marks : List Bool) (h : AreMarks node load marks)
+    (room : IsSome (least_free (alone (row_of node eligible marks)) node)) where
+  -- a mark is absent
+  pub absent-found : (o : Option ℕ) → FindsAbsent marks o → IsSome o
+  absent-found None all = absurd (let none = rw (least_free-none node eligible load marks h all) at room in cc)
+  absent-found (Some k) first = refl
+
+  -- and the first one is the least free slot
+  pub absent-least : (k : ℕ) → IsFirstAbsent marks k → least_free (alone (row_of node eligible marks)) node ≡ Some k
+  absent-least k first = elim (cases_lt k node.slots) [
+    | inl within ↦ least_free-found node eligible marks k first within
+    | inr past ↦ absurd (let none = rw (least_free-past node eligible marks k first past) at room in cc)
+  ]
 
 -- a least free slot is one of the node, and free
 pub free-found : (node : NodeInfo) (load : ℕ) (marks : List Bool) → AreMarks node load marks → (eligible : Bool) (k : ℕ)

@@ -94,8 +94,16 @@ impl NodeSlots {
     {
         OpenNode {
             node: self.node,
-            slot: self.first_free().unwrap(),
+            slot: self.known_free(),
         }
+    }
+
+    /// The least free slot of a node that has one.
+    fn known_free(&self) -> u16
+        requires { IsSome (least_free (alone self.now) self.now.node) }
+        ensures { least_free (alone self.now) self.now.node ≡ Some result }
+    {
+        self.marks.first_absent().unwrap() as u16
     }
 
     /// The number of taken slots.
