@@ -8,6 +8,7 @@ use Rattle.lrc_topology.specs.declared.seat.Seat.{Seat}
 use Rattle.lrc_topology.specs.declared.seat.Held.{Held}
 use Rattle.lrc_topology.specs.Nodes.{AreNodes, node_at}
 use Rattle.lrc_slots.specs.declared.open_node.OpenNode.{OpenNode}
+use Rattle.lrc_slots.specs.declared.open_node.OpenRow.{OpenRow}
 use Rattle.lrc_slots.specs.Barred.{Barred, joined}
 use Rattle.lrc_slots.specs.BarredNodes.{AreBarredNodes}
 use Rattle.lrc_slots.specs.Next.{next_node, may_take, is_chosen_before}
@@ -17,7 +18,7 @@ use Rattle.lrc_slots.specs.Tables.{slots_of}
 use Rattle.lrc_book.specs.States.{State}
 use Rattle.lrc_book.specs.Ties.{table_of, next_seat}
 use Rattle.lrc_book.specs.Stores.{kept_table, closed}
-use Rattle.lrc_book.specs.Planning.{fault_bars, upgrade_bars, bars_for, open_seat}
+use Rattle.lrc_book.specs.Planning.{fault_bars, upgrade_bars, bars_for, open_seat, row_seat}
 use Rattle.lrc_book.proofs.ClassBarLemmas.{joined-bars, closed-joined}
 use Rattle.lrc_book.proofs.ClosedLemmas.{closed-next}
 use Rattle.lrc_book.proofs.MemberLemmas.{filter-member}
@@ -66,3 +67,26 @@ open-outside table nodes st o faults upgrades c planned known tied next by_fault
     ∙ ap (next_node (kept_table nodes st)) (closed-joined st.upgrading (fault_bars nodes planned) (upgrade_bars nodes c planned)
     ∙ ap (closed st.upgrading) (joined-bars nodes c planned))
     ∙ closed-next nodes st (bars_for nodes c planned) known
+
+-- ---- a node that is told by where the table keeps it
+
+-- the node itself
+abbrev pub opened : OpenRow → OpenNode
+opened r = record { node = r.node.now; slot = r.slot }
+
+pub opened-node : (o : Option OpenRow) → option_map (λ (x : OpenNode). x.node) (option_map opened o) ≡ option_map (λ (r : OpenRow). r.node.now) o
+opened-node None = refl
+opened-node (Some r) = refl
+
+pub opened-seat : (o : Option OpenRow) → option_map open_seat (option_map opened o) ≡ option_map row_seat o
+opened-seat None = refl
+opened-seat (Some r) = refl
+
+-- what is so of the one is so of the other
+pub to-opened : (P : OpenNode → Type 0) (o : Option OpenRow) → IfSome o (λ r. P (opened r)) → IfSome (option_map opened o) P
+to-opened P None h = tt
+to-opened P (Some r) h = h
+
+pub of-opened : (P : OpenNode → Type 0) (o : Option OpenRow) → IfSome (option_map opened o) P → IfSome o (λ r. P (opened r))
+of-opened P None h = tt
+of-opened P (Some r) h = h

@@ -17,6 +17,7 @@ use Rattle.lrc_topology.specs.Nodes.{node_at}
 use Rattle.lrc_slots.specs.Barred.{Barred, with_fault, with_upgrade}
 use Rattle.lrc_slots.specs.BarredNodes.{AreBarredNodes}
 use Rattle.lrc_slots.specs.declared.open_node.OpenNode.{OpenNode}
+use Rattle.lrc_slots.specs.declared.open_node.OpenRow.{OpenRow}
 use Rattle.lrc_book.specs.declared.class_bars.ClassBars.{ClassBars}
 use Rattle.lrc_book.specs.Stores.{closed}
 
@@ -66,3 +67,7 @@ pub record AreBarsOf (nodes : List NodeInfo) (upgrading : Option UpgradeNo) (sea
 -- the seat that a node and its least free slot are
 abbrev pub open_seat : OpenNode → Seat
 open_seat o = record { node = o.node.number; slot = o.slot }
+
+-- the same where the node is told by where the table keeps it
+abbrev pub row_seat : OpenRow → Seat
+row_seat o = record { node = o.node.now.number; slot = o.slot }

@@ -19,7 +19,7 @@ ghost use Rattle.lrc_book.specs.States.{State, has_stripe, held_by};
 ghost use Rattle.lrc_book.specs.Placement.{chosen, is_beside};
 ghost use Rattle.lrc_book.specs.Ties.{table_of, bars_in, next_seat, with_homes};
 ghost use Rattle.lrc_book.specs.Stores.{IsOf, IsTied, closed, with_seat};
-ghost use Rattle.lrc_book.specs.Planning.{AreBarsOf, open_seat};
+ghost use Rattle.lrc_book.specs.Planning.{AreBarsOf, row_seat};
 ghost use Rattle.lrc_book.specs.Neighbouring.{barred_by};
 
 use crate::Seat;
@@ -27,7 +27,7 @@ use crate::class_bars::ClassBars;
 use crate::neighbours::Neighbours;
 use crate::store::Store;
 use lrc_code::{Class, Fragment, LossMask, StripeNo};
-use lrc_slots::{OpenNode, Taken};
+use lrc_slots::{OpenRow, Taken};
 
 impl Store {
     /// Bars the upgrading domain, if there is one, for all fragments of a new stripe.
@@ -41,24 +41,24 @@ impl Store {
 
     /// The node and the slot that the rule chooses for a fragment of a new stripe, beside the planned seats of its other
     /// fragments.
-    pub(crate) fn open_for(&self, bars: &ClassBars, fragment: Fragment) -> Option<OpenNode>
+    pub(crate) fn open_for(&self, bars: &ClassBars, fragment: Fragment) -> Option<OpenRow<'_>>
         ensures chosen { (st : State) (stripe : StripeNo) (planned : List Held) → IsOf st self.now → has_stripe st stripe ≡ false
             → All (λ h. is_beside stripe fragment h ≡ true) planned → AreBarsOf self.now.topology st.upgrading planned bars.now
-            → option_map open_seat result ≡ chosen self.now.topology (with_homes st planned) stripe fragment }
+            → option_map row_seat result ≡ chosen self.now.topology (with_homes st planned) stripe fragment }
         ensures known { (st : State) (planned : List Held) → IsOf st self.now → AreBarsOf self.now.topology st.upgrading planned bars.now
-            → IfSome result (λ o. node_at self.now.topology o.node.number ≡ Some o.node) }
+            → IfSome result (λ o. node_at self.now.topology o.node.now.number ≡ Some o.node.now) }
     {
         self.table
-            .open_outside(&bars.faults, bars.of(fragment.class()))
+            .row_outside(&bars.faults, bars.of(fragment.class()))
     }
 
     /// Bars the domains of the node that is planned for a fragment.
-    pub(crate) fn bar_planned(&self, bars: &mut ClassBars, fragment: Fragment, next: &OpenNode)
+    pub(crate) fn bar_planned(&self, bars: &mut ClassBars, fragment: Fragment, next: &OpenRow<'_>)
         ensures { (st : State) (stripe : StripeNo) (planned : List Held) → IsOf st self.now
-            → node_at self.now.topology next.now.node.number ≡ Some next.now.node → AreBarsOf self.now.topology st.upgrading planned bars.old
-            → AreBarsOf self.now.topology st.upgrading (planned ++ record { stripe = stripe; fragment = fragment; seat = open_seat next.now } ∷ []) bars.new }
+            → node_at self.now.topology next.now.node.now.number ≡ Some next.now.node.now → AreBarsOf self.now.topology st.upgrading planned bars.old
+            → AreBarsOf self.now.topology st.upgrading (planned ++ record { stripe = stripe; fragment = fragment; seat = row_seat next.now } ∷ []) bars.new }
     {
-        bars.bar(&self.table, &next.node, fragment.class());
+        bars.bar(&self.table, next.node, fragment.class());
     }
 
     /// Whether some node takes a seat, where no domain is barred but the upgrading one.

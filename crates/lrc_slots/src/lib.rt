@@ -17,6 +17,6 @@ mod walk;
 
 pub use barred_nodes::BarredNodes;
 pub use barring::Barring;
-pub use open_node::OpenNode;
+pub use open_node::{OpenNode, OpenRow};
 pub use table::SlotTable;
 pub use taken::Taken;

@@ -4,8 +4,8 @@ ghost use Rattle.lrc_slots.specs.Slots.{least_free, taken_count};
 ghost use Rattle.lrc_slots.specs.Tables.{is_marked};
 ghost use Rattle.lrc_slots.specs.Rows.{fresh_row, alone};
 
-use crate::OpenNode;
 use crate::entry::Entry;
+use crate::{OpenNode, OpenRow};
 use lrc_bits::BitSet;
 use lrc_code::NodeNo;
 use lrc_topology::NodeInfo;
@@ -94,6 +94,18 @@ impl NodeSlots {
     {
         OpenNode {
             node: self.node,
+            slot: self.known_free(),
+        }
+    }
+
+    /// The same, and the node is told where it stands.
+    pub(crate) fn open_row(&self) -> OpenRow<'_>
+        requires { IsSome (least_free (alone self.now) self.now.node) }
+        ensures node { result.node.now ≡ self.now.node }
+        ensures slot { least_free (alone self.now) self.now.node ≡ Some result.slot }
+    {
+        OpenRow {
+            node: &self.node,
             slot: self.known_free(),
         }
     }

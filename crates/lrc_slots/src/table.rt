@@ -11,7 +11,7 @@ ghost use Rattle.lrc_slots.specs.Rows.{fresh_row, place_of, alone, is_open, prec
 
 use crate::node_slots::NodeSlots;
 use crate::rank_sets::RankSets;
-use crate::{BarredNodes, Barring, OpenNode, Taken, setup};
+use crate::{BarredNodes, Barring, OpenNode, OpenRow, Taken, setup};
 use lrc_code::{Fault, FaultNo, NodeNo, UpgradeNo};
 use lrc_topology::{NodeIndex, NodeInfo, Topology};
 use std::alloc::{AllocError, Global};
@@ -290,8 +290,21 @@ impl SlotTable {
             → option_map (λ o. o.node) result ≡ next_node (slots_of self.now) (joined b c) }
         ensures slot { IfSome result (λ o. least_free_at (slots_of self.now) o.node.number ≡ Some o.slot) }
     {
+        let row = self.row_outside(barred_nodes, more)?;
+        Some(OpenNode {
+            node: *row.node,
+            slot: row.slot,
+        })
+    }
+
+    /// What `open_outside` answers, with the node where the table keeps it.
+    pub fn row_outside(&self, barred_nodes: &BarredNodes, more: &BarredNodes) -> Option<OpenRow<'_>>
+        ensures node { (b c : Barred) → AreBarredNodes (slots_of self.now).nodes b barred_nodes.now → AreBarredNodes (slots_of self.now).nodes c more.now
+            → option_map (λ o. o.node.now) result ≡ next_node (slots_of self.now) (joined b c) }
+        ensures slot { IfSome result (λ o. least_free_at (slots_of self.now) o.node.now.number ≡ Some o.slot) }
+    {
         let row = self.first_outside_both(barred_nodes, more)?;
-        Some(row.open())
+        Some(row.open_row())
     }
 
     /// Whether some node takes a seat, where no domain is barred.

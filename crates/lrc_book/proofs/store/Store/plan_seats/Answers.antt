@@ -5,8 +5,8 @@ use Rattle.lrc_topology.specs.declared.seat.Seat.{Seat}
 use Rattle.lrc_topology.specs.declared.seat.Held.{Held}
 use Rattle.lrc_book.specs.Steps.{with_stripe}
 use Rattle.lrc_book.specs.Ties.{with_homes}
-use Rattle.lrc_book.specs.Planning.{AreBarsOf, open_seat}
-use Rattle.lrc_slots.specs.declared.open_node.OpenNode.{OpenNode}
+use Rattle.lrc_book.specs.Planning.{AreBarsOf, row_seat}
+use Rattle.lrc_slots.specs.declared.open_node.OpenRow.{OpenRow}
 use Rattle.lrc_topology.specs.Nodes.{node_at}
 use Rattle.lrc_book.specs.Choices.{AreChosen, IsFirstWithout}
 use Rattle.lrc_book.proofs.PlanningLemmas.{planned_to, chosen-end, chosen-none, chosen-more, none-more, planned-more, planned-chosen}
@@ -30,10 +30,10 @@ returns-in-None-clause-first c = λ st kept absent.
     let planned = planned_to c.args.stripe c.all.result c.loop-i.seats i in
     let long : length c.all.result ≡ 16 = rw so_far.all refl in
     let within : i < length c.all.result = omega (arith, long) in
-    let seat = option_map open_seat c.open_for.result in
+    let seat = option_map row_seat c.open_for.result in
     let none = planned-chosen c.args.self.now c.args.stripe c.loop-i.seats c.all.result i d c.loop-i.bars seat so_far.all within c.open_for.ensures.chosen st (so_far.bars st kept) kept absent in
     subst (λ (fs : List Fragment). IsFirstWithout nodes (with_stripe st Wide c.args.stripe) c.args.stripe fs (get_or c.all.result i d)) so_far.all
-    (chosen-none nodes c.args.stripe c.all.result i d within planned (with_stripe st Wide c.args.stripe) (ap (option_map open_seat) (sym c.in-None.is) ∙ none)
+    (chosen-none nodes c.args.stripe c.all.result i d within planned (with_stripe st Wide c.args.stripe) (ap (option_map row_seat) (sym c.in-None.is) ∙ none)
     (so_far.first st kept absent))
 
 pub loop-i-preserved : goal.loop-i-preserved
@@ -48,8 +48,8 @@ loop-i-preserved c =
     let long : length fs ≡ 16 = rw so_far.all refl in
     let within : i < length fs = omega (arith, long) in
     let room : i < length c.loop-i.seats = omega (arith, so_far.seats) in
-    let seat = option_map open_seat c.open_for.result in
-    let here = open_seat c.in-Some.next in
+    let seat = option_map row_seat c.open_for.result in
+    let here = row_seat c.in-Some.next in
     let more = planned-more s c.loop-i.seats fs i d here within room in
     record {
       chosen = λ st kept absent.
@@ -58,7 +58,7 @@ loop-i-preserved c =
           c.open_for.ensures.chosen st (so_far.bars st kept) kept absent in
           subst (λ (hs : List Held). (rest : List Seat) → AreChosen nodes (with_homes begun hs) s (drop (i + 1) fs) rest
           → AreChosen nodes begun s fs (take (i + 1) (set c.loop-i.seats i here) ++ rest)) more
-          (chosen-more nodes s fs i d within planned begun here (ap (option_map open_seat) (sym c.in-Some.is) ∙ some) c.loop-i.seats room
+          (chosen-more nodes s fs i d within planned begun here (ap (option_map row_seat) (sym c.in-Some.is) ∙ some) c.loop-i.seats room
           (so_far.chosen st kept absent));
       first = λ st kept absent.
           let begun = with_stripe st Wide s in
@@ -66,10 +66,10 @@ loop-i-preserved c =
           c.open_for.ensures.chosen st (so_far.bars st kept) kept absent in
           subst (λ (hs : List Held). (g : Fragment) → IsFirstWithout nodes (with_homes begun hs) s (drop (i + 1) fs) g
           → IsFirstWithout nodes begun s fs g) more
-          (none-more nodes s fs i d within planned begun here (ap (option_map open_seat) (sym c.in-Some.is) ∙ some) (so_far.first st kept absent));
+          (none-more nodes s fs i d within planned begun here (ap (option_map row_seat) (sym c.in-Some.is) ∙ some) (so_far.first st kept absent));
       bars = λ st kept. subst (λ (hs : List Held). AreBarsOf nodes st.upgrading hs c.bar_planned.new.bars) more
           (c.bar_planned.ensures st s planned kept
-          (subst (λ (o : Option OpenNode). IfSome o (λ x. node_at nodes x.node.number ≡ Some x.node)) c.in-Some.is
+          (subst (λ (o : Option OpenRow). IfSome o (λ x. node_at nodes x.node.now.number ≡ Some x.node.now)) c.in-Some.is
           (c.open_for.ensures.known st planned kept (so_far.bars st kept)))
           (so_far.bars st kept));
       all = so_far.all;
