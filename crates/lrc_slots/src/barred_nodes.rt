@@ -42,7 +42,7 @@ impl BarredNodes {
     }
 
     /// Bars the nodes of these ranks too.
-    #[inline(never)] // eight words are joined in memory, and none is kept in a register for the next choice
+    #[inline(always)]
     pub(crate) fn bar(&mut self, ranks: &BitSet<8>)
         ensures { (r : ℕ) → get_or self.new r false ≡ (get_or self.old r false || get_or ranks.now r false) }
     {
