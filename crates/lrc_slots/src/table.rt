@@ -127,6 +127,7 @@ impl SlotTable {
     }
 
     /// Takes the least free slot of a node; `first_free` tells which one it is.
+    #[inline(always)]
     pub fn take_slot(&mut self, node: NodeNo, slot: u16)
         requires known { IsSome (node_at (slots_of self.old).nodes node) }
         requires least { least_free_at (slots_of self.old) node ≡ Some slot }
@@ -142,6 +143,7 @@ impl SlotTable {
     }
 
     /// Gives a slot back that is taken; `is_taken` is the test.
+    #[inline(always)]
     pub fn free(&mut self, node: NodeNo, slot: u16)
         requires { IsTrue ((slots_of self.old).taken node slot) }
         ensures { slots_of self.new ≡ with_free (slots_of self.old) node slot }
