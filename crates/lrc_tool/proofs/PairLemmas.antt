@@ -1,5 +1,6 @@
 -- Numbers of at most three digits, two digits of a place, the digits before them, and the lines of places that share those.
-use Rattle.std.proofs.Common.{◌≡◌, ℕ, zero, suc, ◌+◌, ◌-◌, ◌*◌, ◌/◌, ◌%◌, ◌^◌, ◌<◌, ◌≤◌, List, [], ◌∷◌, ◌++◌, get_or, take, drop, length, length-take, length-drop, codes, decimal, refl, sym, ap, ◌∙◌, arith, append_assoc}
+use Rattle.std.proofs.Common.{◌≡◌, ℕ, zero, suc, ◌+◌, ◌-◌, ◌*◌, ◌/◌, ◌%◌, ◌^◌, ◌<◌, ◌≤◌, nat_lt, if◌then◌else◌, inl, inr, List, [], ◌∷◌, ◌++◌, get_or, take, drop, length, length-take, length-drop, codes, decimal, refl, sym, ap, ◌∙◌, arith, append_assoc}
+use Rattle.std.proofs.lemmas.Bool.{cases_lt, lt-ltb, le-ltb}
 use Rattle.std.proofs.lemmas.Fmt.{decimal_digit, decimal_step}
 use Rattle.std.proofs.lemmas.List.{drop-drop, drop-append-le, take-append-drop}
 use Rattle.lrc_book.specs.declared.entry.Entry.{Entry}
@@ -11,8 +12,12 @@ use Rattle.lrc_tool.specs.declared.digits.TheConstants.{PAIRS, NUMERALS}
 abbrev pub pair : ℕ → List ℕ
 pair p = (48 + p / 10) ∷ (48 + p % 10) ∷ []
 
+-- how many digits a number below 1,000 has
+abbrev pub digit_count : ℕ → ℕ
+digit_count n = if nat_lt n 10 then 1 else if nat_lt n 100 then 2 else 3
+
 abbrev pub numeral : ℕ → List ℕ
-numeral n = 48 ∷ (48 + n / 100) ∷ (48 + n / 10 % 10) ∷ (48 + n % 10) ∷ []
+numeral n = digit_count n ∷ (48 + n / 100) ∷ (48 + n / 10 % 10) ∷ (48 + n % 10) ∷ []
 
 -- ---- tables
 
@@ -65,22 +70,59 @@ decimal_three n large small =
     (decimal_step (n / 10) (omega (arith, large)) (omega (arith, small)) ∙ ap (λ ds. ds ++ (48 + n / 10 % 10) ∷ []) (decimal_digit (n / 10 / 10) (omega (arith, small))))
     ∙ ap (λ k. (48 + k) ∷ (48 + n / 10 % 10) ∷ (48 + n % 10) ∷ []) e
 
--- a numeral behind the zeros that are not its own
-pub short_written :
+count_at : (n : ℕ) (d : List ℕ) → n < 1000 → get_or (get_or NUMERALS n d) 0 0 ≡ digit_count n
+count_at n d small = ap (λ (ds : List ℕ). get_or ds 0 0) (numeral_at n d small)
+
+count_one : (n : ℕ) → n < 10 → digit_count n ≡ 1
+count_one n small = rw (lt-ltb n 10 small) refl
+
+count_two : (n : ℕ) → 10 ≤ n → n < 100 → digit_count n ≡ 2
+count_two n large small = rw (le-ltb n 10 large, lt-ltb n 100 small) refl
+
+count_three : (n : ℕ) → 100 ≤ n → digit_count n ≡ 3
+count_three n large = rw (le-ltb n 10 (omega (arith, large)), le-ltb n 100 large) refl
+
+-- it is from one to three
+pub count_within : (n count : ℕ) (d : List ℕ) → n < 1000 → count ≡ get_or (get_or NUMERALS n d) 0 0 → (1 ≤ count) × (count ≤ 3)
+count_within n count d small is =
+    let counted : count ≡ digit_count n = is ∙ count_at n d small in
+    elim (cases_lt n 10) [
+      | inl one ↦ let c : count ≡ 1 = counted ∙ count_one n one in (omega (arith, c), omega (arith, c))
+      | inr more ↦ elim (cases_lt n 100) [
+        | inl two ↦ let c : count ≡ 2 = counted ∙ count_two n more two in (omega (arith, c), omega (arith, c))
+        | inr three ↦ let c : count ≡ 3 = counted ∙ count_three n three in (omega (arith, c), omega (arith, c))
+      ]
+    ]
+
+-- a numeral behind the bytes that are not its own
+kept_digits :
     (n r end zeros : ℕ) (u text d : List ℕ) → n < 1000 → decimal n ≡ drop zeros (numeral n) → zeros ≤ 4
     → drop r u ≡ get_or NUMERALS n d ++ drop end text → drop (r + zeros) u ≡ decimal n ++ drop end text
-short_written n r end zeros u text d small is few outer =
+kept_digits n r end zeros u text d small is few outer =
     sym (drop-drop zeros r u) ∙ ap (drop zeros) (outer ∙ ap (λ ds. ds ++ drop end text) (numeral_at n d small))
     ∙ drop-append-le zeros (numeral n) (drop end text) few ∙ ap (λ ds. ds ++ drop end text) (sym is)
 
-pub one_written : (n r end : ℕ) (u text d : List ℕ) → n < 10 → drop r u ≡ get_or NUMERALS n d ++ drop end text → drop (r + 3) u ≡ decimal n ++ drop end text
-one_written n r end u text d small = short_written n r end 3 u text d (omega (arith, small)) (decimal_one n small) (omega arith)
-
-pub two_written : (n r end : ℕ) (u text d : List ℕ) → 10 ≤ n → n < 100 → drop r u ≡ get_or NUMERALS n d ++ drop end text → drop (r + 2) u ≡ decimal n ++ drop end text
-two_written n r end u text d large small = short_written n r end 2 u text d (omega (arith, small)) (decimal_two n large small) (omega arith)
-
-pub three_written : (n r end : ℕ) (u text d : List ℕ) → 100 ≤ n → n < 1000 → drop r u ≡ get_or NUMERALS n d ++ drop end text → drop (r + 1) u ≡ decimal n ++ drop end text
-three_written n r end u text d large small = short_written n r end 1 u text d small (decimal_three n large small) (omega arith)
+pub short_written :
+    (n r end count : ℕ) (u text d : List ℕ) → n < 1000 → r + 4 ≡ end → count ≡ get_or (get_or NUMERALS n d) 0 0
+    → drop r u ≡ get_or NUMERALS n d ++ drop end text → drop (end - count) u ≡ decimal n ++ drop end text
+short_written n r end count u text d small room is outer =
+    let counted : count ≡ digit_count n = is ∙ count_at n d small in
+    elim (cases_lt n 10) [
+      | inl one ↦
+          let c : count ≡ 1 = counted ∙ count_one n one in
+          let at : end - count ≡ r + 3 = omega (arith, c, room) in
+          rw at (kept_digits n r end 3 u text d small (decimal_one n one) (omega arith) outer)
+      | inr more ↦ elim (cases_lt n 100) [
+        | inl two ↦
+            let c : count ≡ 2 = counted ∙ count_two n more two in
+            let at : end - count ≡ r + 2 = omega (arith, c, room) in
+            rw at (kept_digits n r end 2 u text d small (decimal_two n more two) (omega arith) outer)
+        | inr three ↦
+            let c : count ≡ 3 = counted ∙ count_three n three in
+            let at : end - count ≡ r + 1 = omega (arith, c, room) in
+            rw at (kept_digits n r end 1 u text d small (decimal_three n three small) (omega arith) outer)
+      ]
+    ]
 
 -- the digits of a number with two behind them
 pub decimal_pair : (n p : ℕ) → 0 < n → n * 100 + p < 2 ^ 64 → p < 100 → decimal (n * 100 + p) ≡ decimal n ++ pair p

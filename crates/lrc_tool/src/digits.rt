@@ -17,37 +17,29 @@ static PAIRS: [[u8; 2]; 100] = [
     *b"96", *b"97", *b"98", *b"99",
 ];
 
-// The digits of the hundred numbers that have each of these first digits.
-macro_rules! of_each_hundred {
-    ($($hundreds:literal)*) => {
+// The ten numbers that have each of these first digits, behind how many digits they have.
+macro_rules! of_each_ten {
+    ($($count:literal $hundreds:literal $tens:literal),*) => {
         [$(
-            [b'0', $hundreds, b'0', b'0'], [b'0', $hundreds, b'0', b'1'], [b'0', $hundreds, b'0', b'2'], [b'0', $hundreds, b'0', b'3'], [b'0', $hundreds, b'0', b'4'],
-            [b'0', $hundreds, b'0', b'5'], [b'0', $hundreds, b'0', b'6'], [b'0', $hundreds, b'0', b'7'], [b'0', $hundreds, b'0', b'8'], [b'0', $hundreds, b'0', b'9'],
-            [b'0', $hundreds, b'1', b'0'], [b'0', $hundreds, b'1', b'1'], [b'0', $hundreds, b'1', b'2'], [b'0', $hundreds, b'1', b'3'], [b'0', $hundreds, b'1', b'4'],
-            [b'0', $hundreds, b'1', b'5'], [b'0', $hundreds, b'1', b'6'], [b'0', $hundreds, b'1', b'7'], [b'0', $hundreds, b'1', b'8'], [b'0', $hundreds, b'1', b'9'],
-            [b'0', $hundreds, b'2', b'0'], [b'0', $hundreds, b'2', b'1'], [b'0', $hundreds, b'2', b'2'], [b'0', $hundreds, b'2', b'3'], [b'0', $hundreds, b'2', b'4'],
-            [b'0', $hundreds, b'2', b'5'], [b'0', $hundreds, b'2', b'6'], [b'0', $hundreds, b'2', b'7'], [b'0', $hundreds, b'2', b'8'], [b'0', $hundreds, b'2', b'9'],
-            [b'0', $hundreds, b'3', b'0'], [b'0', $hundreds, b'3', b'1'], [b'0', $hundreds, b'3', b'2'], [b'0', $hundreds, b'3', b'3'], [b'0', $hundreds, b'3', b'4'],
-            [b'0', $hundreds, b'3', b'5'], [b'0', $hundreds, b'3', b'6'], [b'0', $hundreds, b'3', b'7'], [b'0', $hundreds, b'3', b'8'], [b'0', $hundreds, b'3', b'9'],
-            [b'0', $hundreds, b'4', b'0'], [b'0', $hundreds, b'4', b'1'], [b'0', $hundreds, b'4', b'2'], [b'0', $hundreds, b'4', b'3'], [b'0', $hundreds, b'4', b'4'],
-            [b'0', $hundreds, b'4', b'5'], [b'0', $hundreds, b'4', b'6'], [b'0', $hundreds, b'4', b'7'], [b'0', $hundreds, b'4', b'8'], [b'0', $hundreds, b'4', b'9'],
-            [b'0', $hundreds, b'5', b'0'], [b'0', $hundreds, b'5', b'1'], [b'0', $hundreds, b'5', b'2'], [b'0', $hundreds, b'5', b'3'], [b'0', $hundreds, b'5', b'4'],
-            [b'0', $hundreds, b'5', b'5'], [b'0', $hundreds, b'5', b'6'], [b'0', $hundreds, b'5', b'7'], [b'0', $hundreds, b'5', b'8'], [b'0', $hundreds, b'5', b'9'],
-            [b'0', $hundreds, b'6', b'0'], [b'0', $hundreds, b'6', b'1'], [b'0', $hundreds, b'6', b'2'], [b'0', $hundreds, b'6', b'3'], [b'0', $hundreds, b'6', b'4'],
-            [b'0', $hundreds, b'6', b'5'], [b'0', $hundreds, b'6', b'6'], [b'0', $hundreds, b'6', b'7'], [b'0', $hundreds, b'6', b'8'], [b'0', $hundreds, b'6', b'9'],
-            [b'0', $hundreds, b'7', b'0'], [b'0', $hundreds, b'7', b'1'], [b'0', $hundreds, b'7', b'2'], [b'0', $hundreds, b'7', b'3'], [b'0', $hundreds, b'7', b'4'],
-            [b'0', $hundreds, b'7', b'5'], [b'0', $hundreds, b'7', b'6'], [b'0', $hundreds, b'7', b'7'], [b'0', $hundreds, b'7', b'8'], [b'0', $hundreds, b'7', b'9'],
-            [b'0', $hundreds, b'8', b'0'], [b'0', $hundreds, b'8', b'1'], [b'0', $hundreds, b'8', b'2'], [b'0', $hundreds, b'8', b'3'], [b'0', $hundreds, b'8', b'4'],
-            [b'0', $hundreds, b'8', b'5'], [b'0', $hundreds, b'8', b'6'], [b'0', $hundreds, b'8', b'7'], [b'0', $hundreds, b'8', b'8'], [b'0', $hundreds, b'8', b'9'],
-            [b'0', $hundreds, b'9', b'0'], [b'0', $hundreds, b'9', b'1'], [b'0', $hundreds, b'9', b'2'], [b'0', $hundreds, b'9', b'3'], [b'0', $hundreds, b'9', b'4'],
-            [b'0', $hundreds, b'9', b'5'], [b'0', $hundreds, b'9', b'6'], [b'0', $hundreds, b'9', b'7'], [b'0', $hundreds, b'9', b'8'], [b'0', $hundreds, b'9', b'9']
+            [$count, $hundreds, $tens, b'0'], [$count, $hundreds, $tens, b'1'], [$count, $hundreds, $tens, b'2'], [$count, $hundreds, $tens, b'3'], [$count, $hundreds, $tens, b'4'],
+            [$count, $hundreds, $tens, b'5'], [$count, $hundreds, $tens, b'6'], [$count, $hundreds, $tens, b'7'], [$count, $hundreds, $tens, b'8'], [$count, $hundreds, $tens, b'9']
         ),*]
     };
 }
 
-/// The three digits of each number below 1,000, behind one that is written over.
-static NUMERALS: [[u8; 4]; 1000] =
-    of_each_hundred!(b'0' b'1' b'2' b'3' b'4' b'5' b'6' b'7' b'8' b'9');
+/// How many digits each number below 1,000 has, and behind that its last three, zeros before the others.
+static NUMERALS: [[u8; 4]; 1000] = of_each_ten!(
+    1 b'0' b'0', 2 b'0' b'1', 2 b'0' b'2', 2 b'0' b'3', 2 b'0' b'4', 2 b'0' b'5', 2 b'0' b'6', 2 b'0' b'7', 2 b'0' b'8', 2 b'0' b'9',
+    3 b'1' b'0', 3 b'1' b'1', 3 b'1' b'2', 3 b'1' b'3', 3 b'1' b'4', 3 b'1' b'5', 3 b'1' b'6', 3 b'1' b'7', 3 b'1' b'8', 3 b'1' b'9',
+    3 b'2' b'0', 3 b'2' b'1', 3 b'2' b'2', 3 b'2' b'3', 3 b'2' b'4', 3 b'2' b'5', 3 b'2' b'6', 3 b'2' b'7', 3 b'2' b'8', 3 b'2' b'9',
+    3 b'3' b'0', 3 b'3' b'1', 3 b'3' b'2', 3 b'3' b'3', 3 b'3' b'4', 3 b'3' b'5', 3 b'3' b'6', 3 b'3' b'7', 3 b'3' b'8', 3 b'3' b'9',
+    3 b'4' b'0', 3 b'4' b'1', 3 b'4' b'2', 3 b'4' b'3', 3 b'4' b'4', 3 b'4' b'5', 3 b'4' b'6', 3 b'4' b'7', 3 b'4' b'8', 3 b'4' b'9',
+    3 b'5' b'0', 3 b'5' b'1', 3 b'5' b'2', 3 b'5' b'3', 3 b'5' b'4', 3 b'5' b'5', 3 b'5' b'6', 3 b'5' b'7', 3 b'5' b'8', 3 b'5' b'9',
+    3 b'6' b'0', 3 b'6' b'1', 3 b'6' b'2', 3 b'6' b'3', 3 b'6' b'4', 3 b'6' b'5', 3 b'6' b'6', 3 b'6' b'7', 3 b'6' b'8', 3 b'6' b'9',
+    3 b'7' b'0', 3 b'7' b'1', 3 b'7' b'2', 3 b'7' b'3', 3 b'7' b'4', 3 b'7' b'5', 3 b'7' b'6', 3 b'7' b'7', 3 b'7' b'8', 3 b'7' b'9',
+    3 b'8' b'0', 3 b'8' b'1', 3 b'8' b'2', 3 b'8' b'3', 3 b'8' b'4', 3 b'8' b'5', 3 b'8' b'6', 3 b'8' b'7', 3 b'8' b'8', 3 b'8' b'9',
+    3 b'9' b'0', 3 b'9' b'1', 3 b'9' b'2', 3 b'9' b'3', 3 b'9' b'4', 3 b'9' b'5', 3 b'9' b'6', 3 b'9' b'7', 3 b'9' b'8', 3 b'9' b'9'
+);
 
 /// Writes a number below 1,000 so that it ends at `end`, and answers where it starts. What stands before it is written over.
 #[inline(always)]
@@ -57,8 +49,9 @@ pub(crate) fn write_short(number: u16, text: &mut [u8], end: usize) -> usize
     ensures start { (result < end) × (end ≤ result + 3) }
     ensures written { drop result text.new ≡ decimal number ++ drop end text.old }
 {
-    let start = write_words(&NUMERALS[usize::from(number)], text, end) + 1;
-    start + usize::from(number < 10) + usize::from(number < 100)
+    let numeral = &NUMERALS[usize::from(number)];
+    write_words(numeral, text, end);
+    end - usize::from(numeral[0])
 }
 
 /// Room for the digits of a number below 100,000,000.
