@@ -1,57 +1,70 @@
--- One call more of the only script.
-use Rattle.std.proofs.Common.{◌≡◌, ℕ, ◌+◌, ◌-◌, ◌≤◌, ◌<◌, List, [], ◌∷◌, ◌++◌, length, get_or, take, drop, fold, Err, refl, sym, ap, ◌∙◌, arith, length-take, subst}
-use Rattle.std.specs.Result.{IsErrOf}
-use Rattle.std.proofs.lemmas.List.{map-append, length-map, length-drop, take-append-le, take_all, take_more}
-use Rattle.std.proofs.lemmas.List.Elements.{All-push}
-use Rattle.lrc_code.specs.declared.fault.Fault.{Fault}
-use Rattle.lrc_code.specs.declared.fault.Fault.TheVariants as book
-use Rattle.lrc_topology.specs.declared.NodeInfo.{NodeInfo}
+-- Calls of the only script, and what is printed of them.
+use Rattle.std.proofs.Common.{◌≡◌, ℕ, zero, suc, ◌+◌, ◌-◌, ◌≤◌, ◌<◌, All, List, [], ◌∷◌, ◌++◌, length, get_or, take, drop, map, refl, sym, ap, ◌∙◌, arith, append_assoc, append-nil, length-take, subst}
+use Rattle.std.proofs.lemmas.List.{map-append, length-append, length-map, length-drop, take_at, take_all, take_more}
+use Rattle.std.proofs.lemmas.List.Elements.{All-append, All-push}
+use Rattle.lrc_code.specs.declared.numbers.SessionNo.{SessionNo}
 use Rattle.lrc_book.specs.declared.command.Command.{Command}
 use Rattle.lrc_book.specs.declared.entry.Entry.{Entry}
-use Rattle.lrc_book.specs.Histories.{World, first_world, outcome_in, next_world, world_after, IsLegalFrom}
-use Rattle.lrc_tool.specs.declared.streams.RunFault.TheVariants.{OutOfMemory}
-use Rattle.lrc_tool.specs.Faults.{run_fault}
-use Rattle.lrc_tool.specs.Texts.{script_text}
-use Rattle.lrc_tool.specs.Plays.{lines_from}
-use Rattle.lrc_tool.proofs.SessionLemmas.{IsFirst, IsPlayedBy}
+use Rattle.lrc_tool.specs.Plays.{AreMadeBehind, lines_from}
+use Rattle.lrc_tool.proofs.SessionLemmas.{IsFirst}
 
--- a history with one more legal entry is legal
-legal_from_more : (nodes : List NodeInfo) (w : World) (h : List Entry) (e : Entry) → IsLegalFrom nodes w h
-    → (outcome_in nodes (fold (next_world nodes) w h) e.session e.command).0 ≡ e.reply → IsLegalFrom nodes w (h ++ e ∷ [])
-legal_from_more nodes w [] e legal same = (same, tt)
-legal_from_more nodes w (x ∷ h) e legal same = (legal.0, legal_from_more nodes (next_world nodes w x) h e legal.1 same)
+-- ---- commands behind a history
 
-module _ (nodes : List NodeInfo) (commands : List Command) (i : ℕ) (history : List Entry) (so_far : IsPlayedBy nodes (take i commands) history) where
+pub none_made : (before : List Entry) (session : SessionNo) → AreMadeBehind before session [] before
+none_made before session = record {
+  added = [];
+  behind = sym (append-nil before);
+  made = refl;
+  alone = λ k d within. absurd (omega (arith, within));
+}
+
+pub one_more_made :
+    (before after : List Entry) (session : SessionNo) (commands : List Command) (i : ℕ) (e : Entry) → AreMadeBehind before session (take i commands) after
+    → i < length commands → e.command ≡ get_or commands i e.command → e.session ≡ session → AreMadeBehind before session (take (i + 1) commands) (after ++ e ∷ [])
+one_more_made before after session commands i e so_far within here same = record {
+  added = so_far.added ++ e ∷ [];
+  behind = ap (λ es. es ++ e ∷ []) so_far.behind ∙ append_assoc before so_far.added (e ∷ []);
+  made = rw (map-append, so_far.made, take_more commands i e.command within, ← here) refl;
+  alone = All-push (λ x. x.session ≡ session) so_far.added e so_far.alone same;
+}
+
+pub all_made : (before after : List Entry) (session : SessionNo) (commands : List Command) (i : ℕ) → AreMadeBehind before session (take i commands) after
+    → length commands ≤ i → AreMadeBehind before session commands after
+all_made before after session commands i so_far done = subst (λ (cs : List Command). AreMadeBehind before session cs after) (take_all i commands done) so_far
+
+take_both : {X : Type 0} (n m : ℕ) (xs : List X) → take n xs ++ take m (drop n xs) ≡ take (n + m) xs
+take_both zero m xs = let e : m ≡ 0 + m = omega arith in ap (λ k. take k xs) e
+take_both (suc n) m [] = take_all m [] (omega arith) ∙ sym (take_all (suc n + m) [] (omega arith))
+take_both (suc n) m (x ∷ xs) =
+    let e : suc (n + m) ≡ suc n + m = omega arith in
+    ap (λ l. x ∷ l) (take_both n m xs) ∙ ap (λ k. take k (x ∷ xs)) e
+
+module _ (commands : List Command) (n few : ℕ) (session : SessionNo) (before after : List Entry)
+    (first : session.value ≡ 1) (so_far : map (λ e. e.command) before ≡ take n commands) (within : n ≤ length commands)
+    (part : AreMadeBehind before session (take few (drop n commands)) after) where
   -- there are as many entries as calls
-  pub as_many : i ≤ length commands → length history ≡ i
-  as_many within = let a = ap length so_far.made in let b = length-map history (λ (e : Entry). e.command) in let c = length-take i commands in omega (arith, a, b, c)
+  as_many : length before ≡ n
+  as_many = let a = ap length so_far in let b = length-map before (λ (e : Entry). e.command) in let c = length-take n commands in omega (arith, a, b, c, within)
 
-  pub played_more : (e : Entry) (kept : List NodeInfo) → kept ≡ nodes → i < length commands → e.command ≡ get_or commands i e.command → IsFirst e
-      → (outcome_in kept (world_after kept history) e.session e.command).0 ≡ e.reply → IsPlayedBy nodes (take (i + 1) commands) (history ++ e ∷ [])
-  played_more e kept is within here first same = record {
-    legal = legal_from_more nodes first_world history e so_far.legal (subst (λ (ns : List NodeInfo). (outcome_in ns (world_after ns history) e.session e.command).0 ≡ e.reply) is same);
-    made = rw (map-append, so_far.made, take_more commands i e.command within, ← here) refl;
-    alone = All-push IsFirst history e so_far.alone first;
-  }
+  pub made_more : map (λ e. e.command) after ≡ take (n + few) commands
+  made_more = rw (part.behind, map-append, so_far, part.made) (take_both n few commands)
 
-  pub all_played : length commands ≤ i → IsPlayedBy nodes commands history
-  all_played done = subst (λ (cs : List Command). IsPlayedBy nodes cs history) (take_all i commands done) so_far
+  pub alone_more : All IsFirst before → All IsFirst after
+  alone_more alone =
+      let added : All IsFirst part.added = λ k d inside. ap (λ (s : SessionNo). s.value) (part.alone k d inside) ∙ first in
+      rw part.behind (All-append IsFirst before part.added alone added)
 
--- with one entry more, the same entries are told
-pub still_told : (h : List Entry) (e : Entry) (n : ℕ) (text : List ℕ) → n ≤ length h → text ≡ script_text (take n h) 1 → text ≡ script_text (take n (h ++ e ∷ [])) 1
-still_told h e n text within so_far = so_far ∙ ap (λ x. script_text x 1) (sym (take-append-le n h (e ∷ []) within))
+  pub long : n ≤ length after
+  long = let a = ap length part.behind in let b = length-append before part.added in let c = as_many in omega (arith, a, b, c)
 
--- all entries are told
-pub all_told : (h : List Entry) (n : ℕ) (text : List ℕ) → length h ≤ n → text ≡ script_text h 1 → text ≡ script_text (take n h) 1
-all_told h n text all is = is ∙ ap (λ x. script_text x 1) (sym (take_all n h all))
+  -- the entries before are its first
+  pub begun : take n after ≡ before
+  begun = rw part.behind (take_at before part.added n as_many)
+
+-- ---- what is printed
 
 -- what is printed of a history's entries from the `n`th on, cut from it
 pub tail_told : (now h : List Entry) (n : ℕ) (text new : List ℕ) → now ≡ h → new ≡ text ++ lines_from (n + 1) (take (length now - n) (drop n now)) → new ≡ text ++ lines_from (n + 1) (drop n h)
 tail_told now h n text new same next =
     let all : length (drop n now) ≤ length now - n = omega (arith, length-drop n now) in
     next ∙ ap (λ es. text ++ lines_from (n + 1) es) (take_all (length now - n) (drop n now) all) ∙ ap (λ x. text ++ lines_from (n + 1) (drop n x)) same
-
--- a book with room for one more entry is not full
-pub not_full : {T : Type 0} (fault : Fault) (n limit : ℕ) → (IsErrOf {T = T} (Err fault) book.HistoryFull → n ≡ limit) → n < limit → run_fault fault ≡ OutOfMemory
-not_full book.OutOfMemory n limit full below = refl
-not_full book.HistoryFull n limit full below = let e = full refl in absurd (omega (arith, e))

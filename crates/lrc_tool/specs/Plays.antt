@@ -1,6 +1,7 @@
 -- Internal: no public clause reaches these definitions.
 -- The calls of scripts, and what is printed of their replies.
-use Rattle.std.specs.Prelude.{◌≡◌, ℕ, ◌+◌, ◌≤◌, List, [], ◌∷◌, ◌++◌, length, flat_map, All}
+use Rattle.std.specs.Prelude.{◌≡◌, ℕ, ◌+◌, ◌≤◌, List, [], ◌∷◌, ◌++◌, length, map, flat_map, All}
+use Rattle.lrc_code.specs.declared.numbers.SessionNo.{SessionNo}
 use Rattle.lrc_topology.specs.declared.NodeInfo.{NodeInfo}
 use Rattle.lrc_book.specs.declared.command.Command.{Command}
 use Rattle.lrc_book.specs.declared.entry.Entry.{Entry}
@@ -16,6 +17,13 @@ pub record AreMade (nodes : List NodeInfo) (scripts : List (List Command)) (hist
   pub made : commands_of_each (length scripts) history ≡ scripts
   pub alone : All (λ e. e.session.value ≤ length scripts) history
   pub printed : text ≡ replies_text (length scripts) history
+
+-- these commands were made behind these entries, all by this session
+pub record AreMadeBehind (before : List Entry) (session : SessionNo) (commands : List Command) (after : List Entry) : Type 0 where
+  pub added : List Entry
+  pub behind : after ≡ before ++ added
+  pub made : map (λ e. e.command) added ≡ commands
+  pub alone : All (λ e. e.session ≡ session) added
 
 -- what is printed of entries, of which the first has this place in the history
 abbrev pub lines_from : ℕ → List Entry → List ℕ

@@ -1,6 +1,6 @@
-ghost use Rattle.std.specs.Prelude.{◌≡◌, ◌≤◌, [], ◌∷◌, length, IfOk, OnOk, IfErr};
+ghost use Rattle.std.specs.Prelude.{◌≡◌, ◌+◌, ◌≤◌, [], ◌∷◌, length, IfOk, OnOk, IfErr};
 ghost use Rattle.lrc_tool.specs.Judged.{lists_of, AreFew};
-ghost use Rattle.lrc_tool.specs.Plays.{AreMade};
+ghost use Rattle.lrc_tool.specs.Plays.{AreMade, AreMadeBehind};
 ghost use Rattle.lrc_tool.specs.Outputs.{IsPlayed};
 ghost use Rattle.lrc_tool.specs.declared.streams.RunFault.TheVariants as fault;
 
@@ -70,14 +70,26 @@ fn play_alone(book: &mut Book, commands: &[Command], empty: Vec<u8>) -> Result<V
     let mut text = empty;
     push_script_line(&mut text, session)?;
     let mut room = [0u8; TOLD_ROOM];
-    let mut told = 0;
+    let mut made = 0;
+    while made < commands.len() {
+        let few = TOLD.min(commands.len() - made);
+        make_all(book, session, &commands[made..made + few])?;
+        push_lines(&mut text, &book.history()[made..], made + 1, &mut room)?;
+        made += few;
+    }
+    Ok(text)
+}
+
+/// Makes commands, in order, all by one session.
+fn make_all(book: &mut Book, session: SessionNo, commands: &[Command]) -> Result<(), RunFault>
+    // The history has room for them.
+    requires few { length book.old.history + length commands.now ≤ book.old.limit }
+    ensures made { OnOk result (AreMadeBehind book.old.history session commands.now book.new.history) }
+    ensures same { OnOk result ((book.new.nodes ≡ book.old.nodes) × (book.new.limit ≡ book.old.limit)) }
+    ensures err { IfErr result (λ e. e ≡ fault.OutOfMemory) }
+{
     for command in commands.iter() {
         book.add(session, *command)?;
-        if book.history().len() == told + TOLD {
-            push_lines(&mut text, &book.history()[told..], told + 1, &mut room)?;
-            told += TOLD;
-        }
     }
-    push_lines(&mut text, &book.history()[told..], told + 1, &mut room)?;
-    Ok(text)
+    Ok(())
 }

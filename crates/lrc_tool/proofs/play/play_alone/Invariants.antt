@@ -1,15 +1,20 @@
-use Rattle.std.proofs.Common.{◌≡◌, ◌+◌, ◌<◌, ◌≤◌, length, take}
+use Rattle.std.proofs.Common.{◌≡◌, ◌-◌, ◌≤◌, All, length, map, take}
+use Rattle.lrc_book.specs.Histories.{IsLegal}
 use Rattle.lrc_tool.specs.Texts.{script_text}
-use Rattle.lrc_tool.proofs.SessionLemmas.{IsPlayedBy}
+use Rattle.lrc_tool.proofs.SessionLemmas.{IsFirst}
 use Rattle.lrc_tool.proofs.play.play_alone.Given as goal
 
-abbrev pub invariant-loop-command : goal.invariant-loop-command
-invariant-loop-command l = record {
+abbrev pub invariant-loop-made : goal.invariant-loop-made
+invariant-loop-made l = record {
   nodes : l.book.nodes ≡ l.fn.book.nodes;
   limit : l.book.limit ≡ 1000000;
-  played : IsPlayedBy l.fn.book.nodes (take l.command-index l.commands) l.book.history;
-  told : l.told ≤ length l.book.history;
-  few : length l.book.history < l.told + 32;
+  within : l.made ≤ length l.commands;
+  legal : IsLegal l.fn.book.nodes l.book.history;
+  made : map (λ e. e.command) l.book.history ≡ take l.made l.commands;
+  alone : All IsFirst l.book.history;
   room : length l.room ≡ 7040;
-  printed : l.text.items ≡ script_text (take l.told l.book.history) 1;
+  printed : l.text.items ≡ script_text l.book.history 1;
 }
+
+abbrev pub decreases-loop-made : goal.decreases-loop-made
+decreases-loop-made l = length l.commands - l.made

@@ -1,0 +1,29 @@
+use Rattle.std.proofs.Common.{refl, ◌∙◌}
+use Rattle.lrc_book.specs.declared.entry.Entry.{Entry}
+use Rattle.lrc_book.specs.Histories.{outcome_in, world_after}
+use Rattle.lrc_tool.proofs.PlayLemmas.{none_made, one_more_made, all_made}
+use Rattle.lrc_tool.proofs.play.make_all.Goals as goal
+
+pub loop-command-init : goal.loop-command-init
+loop-command-init c = record {
+  nodes = refl;
+  limit = refl;
+  made = none_made c.args.book.now.history c.args.session;
+}
+
+pub loop-command-preserved : goal.loop-command-preserved
+loop-command-preserved c =
+    let before = c.loop-command.invariant in
+    let past = c.loop-command.book.history in
+    let nodes = c.loop-command.book.nodes in
+    let command = c.command-item.result in
+    let entry : Entry = record { session = c.args.session; command = command; reply = (outcome_in nodes (world_after nodes past) c.args.session command).0 } in
+    record {
+      nodes = c.in_ok-add.ensures.same.0 ∙ before.nodes;
+      limit = c.in_ok-add.ensures.same.1 ∙ before.limit;
+      made = rw c.in_ok-add.ensures.entry (one_more_made c.args.book.now.history past c.args.session c.args.commands.now c.loop-command.command-index entry before.made c.loop-command-test.true c.command-item.is refl);
+    }
+
+pub returns-clause-made : goal.returns-clause-made
+returns-clause-made c =
+    all_made c.args.book.now.history c.loop-command.book.history c.args.session c.args.commands.now c.loop-command.command-index c.loop-command.invariant.made c.loop-command-test.false

@@ -1,0 +1,10 @@
+use Rattle.std.proofs.Common.{◌≡◌, take}
+use Rattle.lrc_tool.specs.Plays.{AreMadeBehind}
+use Rattle.lrc_tool.proofs.play.make_all.Given as goal
+
+abbrev pub invariant-loop-command : goal.invariant-loop-command
+invariant-loop-command l = record {
+  nodes : l.book.nodes ≡ l.fn.book.nodes;
+  limit : l.book.limit ≡ l.fn.book.limit;
+  made : AreMadeBehind l.fn.book.history l.session (take l.command-index l.commands) l.book.history;
+}
