@@ -21,7 +21,7 @@ pub(crate) fn with_tables(alloc: Global, text: Vec<u8>, book: &Book) -> Result<V
     ensures err { IfErr result (λ e. e ≡ fault.OutOfMemory) }
 {
     let text = with_risk_table(alloc, text, book)?;
-    with_load_table(alloc, text, book)
+    with_load_table(text, book)
 }
 
 fn with_risk_table(alloc: Global, mut text: Vec<u8>, book: &Book) -> Result<Vec<u8>, RunFault>
@@ -39,7 +39,7 @@ fn with_risk_table(alloc: Global, mut text: Vec<u8>, book: &Book) -> Result<Vec<
     text_of_table(table)
 }
 
-fn with_load_table(alloc: Global, mut text: Vec<u8>, book: &Book) -> Result<Vec<u8>, RunFault>
+fn with_load_table(mut text: Vec<u8>, book: &Book) -> Result<Vec<u8>, RunFault>
     ensures text { IfOk result (λ v. v.items ≡ text.items ++ load_table book.now.nodes (state_of book.now)) }
     ensures err { IfErr result (λ e. e ≡ fault.OutOfMemory) }
 {
@@ -49,7 +49,7 @@ fn with_load_table(alloc: Global, mut text: Vec<u8>, book: &Book) -> Result<Vec<
     for node in book.topology().nodes() {
         let (mode, online) = book.mode(node.number).unwrap();
         let load = book.load(node.number).unwrap();
-        push_load_row(alloc, &mut table, node, mode, online, load)?;
+        push_load_row(&mut table, node, mode, online, load)?;
     }
     text_of_table(table)
 }
@@ -160,7 +160,6 @@ fn push_risk_row(
 
 /// Adds the row of a node with this mode and load.
 fn push_load_row(
-    alloc: Global,
     table: &mut Table,
     node: &NodeInfo,
     mode: Mode,
@@ -172,17 +171,15 @@ fn push_load_row(
     ensures between { OnOk result (IsBetweenRows table.new) }
     ensures err { IfErr result (λ e. e ≡ fault.OutOfMemory) }
 {
-    let number = node.number.value;
-    let slots = node.slots;
-    let number_word = format!(in alloc; "{number}")?;
-    let load_word = format!(in alloc; "{load}")?;
-    let slots_word = format!(in alloc; "{slots}")?;
+    let mut number_digits = itoa::Buffer::new();
+    let mut load_digits = itoa::Buffer::new();
+    let mut slots_digits = itoa::Buffer::new();
     let fields = [
-        number_word.as_bytes(),
+        number_digits.format(node.number.value).as_bytes(),
         mode_word(mode).as_bytes(),
         online_word(online).as_bytes(),
-        load_word.as_bytes(),
-        slots_word.as_bytes(),
+        load_digits.format(load).as_bytes(),
+        slots_digits.format(node.slots).as_bytes(),
     ];
     push_row(table, fields.as_slice())
 }
