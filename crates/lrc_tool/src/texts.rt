@@ -202,6 +202,7 @@ fn write_kind(kind: &Kind, text: &mut [u8], end: usize) -> usize
 // ---- replies
 
 /// Writes words, a number and the end of a line so that they end at `end`, and answers where they start.
+#[inline(never)]
 fn write_detail(words: &[u8; 13], number: u32, text: &mut [u8], end: usize) -> usize
     requires { (DETAIL_ROOM ≤ end) × (end ≤ length text.old) }
     ensures start { (end ≤ result + DETAIL_ROOM) × (result ≤ end) }
@@ -213,6 +214,7 @@ fn write_detail(words: &[u8; 13], number: u32, text: &mut [u8], end: usize) -> u
 }
 
 /// Writes a refusal, a space before it and the end of the line behind it, so that it ends at `end`, and answers where it starts.
+#[inline(always)] // as `write_line`
 fn write_refusal(refusal: &Refusal, text: &mut [u8], end: usize) -> usize
     requires { (DETAIL_ROOM ≤ end) × (end ≤ length text.old) }
     ensures start { (end ≤ result + DETAIL_ROOM) × (result ≤ end) }
@@ -259,6 +261,7 @@ fn write_placed(seats: &[Seat; 16], text: &mut [u8], end: usize) -> usize
     write_words(b" placed", text, first)
 }
 
+#[inline(always)]
 fn write_granted(lease: &Lease, kind: &Kind, text: &mut [u8], end: usize) -> usize
     requires { (GRANTED_ROOM ≤ end) × (end ≤ length text.old) }
     ensures start { (end ≤ result + GRANTED_ROOM) × (result ≤ end) }
