@@ -1,9 +1,11 @@
 -- Masks of fragments, built fragment by fragment.
-use Rattle.std.proofs.Common.{◌≡◌, ℕ, ◌+◌, ◌<◌, inl, inr, Bool, true, false, ◌&&◌, ◌||◌, eqb, ltb, List, get_or, refl, sym, ◌∙◌, arith, zero-add, not, if◌then◌else◌, ap, min, max, ◌-◌, bit_or, bit_and, w16, Option, Some, None, is_some, is_none}
+use Rattle.std.proofs.Common.{◌≡◌, ℕ, ◌+◌, ◌<◌, inl, inr, Bool, true, false, ◌&&◌, ◌||◌, eqb, ltb, List, get_or, refl, sym, ◌∙◌, arith, zero-add, zero, suc, ◌^◌, subst, ◌≤◌, [], ◌∷◌, length, map, cond, not, if◌then◌else◌, ap, min, max, ◌-◌, bit_or, bit_and, w16, Option, Some, None, is_some, is_none}
 use Rattle.std.specs.Int.{bit_at, bit_not}
 use Rattle.std.proofs.lemmas.Nat.Bits.{bit_at_or, bit_at_and, bit_at_not, bit_at-lt, bit_at_above, bit_at_ones, bit_at-zero}
 use Rattle.std.proofs.lemmas.Bool.{cases_eq, cases_lt, eq-eqb, ne_eqb, lt-ltb, le-ltb}
-use Rattle.std.proofs.lemmas.List.{get_or-map}
+use Rattle.std.proofs.lemmas.List.{get_or-map, length-map}
+use Rattle.std.proofs.lemmas.Simd.{mask_l-lt, bit_mask_l}
+use Rattle.std.specs.Simd.Lanes.{mask_l}
 use Rattle.std.proofs.lemmas.List.FromFn.{get_or-range_with_len}
 use Rattle.lrc_code.specs.declared.codes.Code.TheVariants.{Wide}
 use Rattle.lrc_code.specs.declared.numbers.Fragment.{Fragment}
@@ -114,43 +116,33 @@ pub put-one : (before after one f : ℕ) (b : Bool) → ((g : ℕ) → bits_set 
     → (g : ℕ) → bits_set after g ≡ (if eqb g f then b else bits_set before g)
 put-one before after one f b is put g = put g ∙ ap (λ (x : Bool). if x then b else bits_set before g) (is g)
 
--- ---- masks that begin full
+-- ---- sixteen numbers compared with one at once
 
-module _ (m : ℕ → Bool) where
-  -- the fragments so far are in the mask where they are in the set, and so are all behind them
-  abbrev pub IsLeft : ℕ → ℕ → Type 0
-  IsLeft i bits = (f : ℕ) → bits_set bits f ≡ (if ltb f i then m f else ltb f 16)
+-- a list has nothing past its end
+none-past : (bs : List Bool) (i : ℕ) → length bs ≤ i → get_or bs i false ≡ false
+none-past [] i past = refl
+none-past (b ∷ bs) zero past = absurd (omega (arith, past))
+none-past (b ∷ bs) (suc i) past = none-past bs i (omega (arith, past))
 
-  pub left-first : (bits : ℕ) → bits ≡ 65535 → IsLeft 0 bits
-  left-first bits full f = full-mask bits full f ∙ sym (ap (λ (b : Bool). if b then m f else ltb f 16) (le-ltb f 0 (omega arith)))
+-- the mask of those that are alike
+abbrev pub alike : List ℕ → ℕ → ℕ
+alike xs y = mask_l (map (λ x. eqb x y) xs)
 
-  left-next : (i bits next : ℕ) → IsLeft i bits → ((f : ℕ) → bits_set next f ≡ (if eqb f i then m i else bits_set bits f)) → IsLeft (i + 1) next
-  left-next i bits next before after f = after f ∙ (elim (cases_eq f i) [
-    | inl same ↦ rw (eq-eqb f i same, lt-ltb f (i + 1) (omega (arith, same))) (ap m (sym same))
-    | inr other ↦ elim (cases_lt f i) [
-      | inl below ↦ rw (ne_eqb f i other, before f, lt-ltb f i below, lt-ltb f (i + 1) (omega (arith, below))) refl
-      | inr above ↦ rw (ne_eqb f i other, before f, le-ltb f i above, le-ltb f (i + 1) (omega (arith, above, other))) refl
-    ]
-  ])
+pub alike-few : (xs : List ℕ) (y : ℕ) → length xs ≡ 16 → alike xs y < 65536
+alike-few xs y long =
+    let marks = map (λ (x : ℕ). eqb x y) xs in
+    subst (λ (n : ℕ). mask_l marks < 2 ^ n) (length-map xs (λ (x : ℕ). eqb x y) ∙ long) (mask_l-lt marks)
 
-  -- the next fragment stays
-  pub left-in : (i bits : ℕ) → i < 16 → m i ≡ true → IsLeft i bits → IsLeft (i + 1) bits
-  left-in i bits low hit before = left-next i bits bits before (λ f. elim (cases_eq f i) [
-    | inl same ↦
-        rw (eq-eqb f i same, hit)
-        (before f ∙ (ap (λ (b : Bool). if b then m f else ltb f 16) (le-ltb f i (omega (arith, same))) ∙ lt-ltb f 16 (omega (arith, same, low))))
-    | inr other ↦ rw (ne_eqb f i other) refl
-  ])
-
-  -- the next fragment is taken out
-  pub left-out : (i bits next k : ℕ) → k ≡ i → m i ≡ false → IsLeft i bits → ((f : ℕ) → bits_set next f ≡ (not (eqb f k) && bits_set bits f)) → IsLeft (i + 1) next
-  left-out i bits next k number miss before after = left-next i bits next before (λ f. after f ∙ (elim (cases_eq f i) [
-    | inl same ↦ rw (number, eq-eqb f i same, miss) refl
-    | inr other ↦ rw (number, ne_eqb f i other) refl
-  ]))
-
-  pub left-all : (i bits : ℕ) → i ≡ 16 → IsLeft i bits → (f : ℕ) → bits_set bits f ≡ (ltb f 16 && m f)
-  left-all i bits all is f = is f ∙ (rw all (by (ltb f 16))) where
-    by : (b : Bool) → (if b then m f else b) ≡ (b && m f)
-    by true = refl
-    by false = refl
+pub alike-set : (xs : List ℕ) (y f : ℕ) → length xs ≡ 16 → bits_set (alike xs y) f ≡ (ltb f 16 && eqb (get_or xs f 0) y)
+alike-set xs y f long =
+    let marks = map (λ (x : ℕ). eqb x y) xs in
+    let sixteen : length marks ≡ 16 = length-map xs (λ (x : ℕ). eqb x y) ∙ long in
+    ap (λ n. eqb n 1) (bit_mask_l marks f)
+    ∙ back (get_or marks f false)
+    ∙ (elim (cases_lt f 16) [
+      | inl below ↦ get_or-map (λ (x : ℕ). eqb x y) xs f 0 false (omega (arith, below, long)) ∙ sym (ap (λ b. b && eqb (get_or xs f 0) y) (lt-ltb f 16 below))
+      | inr above ↦ none-past marks f (omega (arith, above, sixteen)) ∙ sym (ap (λ b. b && eqb (get_or xs f 0) y) (le-ltb f 16 above))
+    ]) where
+      back : (b : Bool) → eqb (cond b 1 0) 1 ≡ b
+      back true = refl
+      back false = refl
