@@ -26,7 +26,8 @@ grant-requires g c =
     let step = rw (← c.made.view_is) at c.requires.1.1.1.1 in
     let so = subst (λ (st : State). (step_of nodes past st made.session made.command).0 ≡ told made.answer) c.requires.0 step in
     let e = sym (ap (λ (command : Command). (step_of nodes past g.st made.session command).0) c.in-Lease-Granted.is-0) ∙ so ∙ ap told c.in-Lease-Granted.is-1 in
-    (c.requires.1.0, (c.requires.1.1.1.0, lease-told nodes past g.st made.session c.in-Lease-Granted.field-0-0 c.in-Lease-Granted.field-1-0 c.in-Lease-Granted.lease c.in-Lease-Granted.field-1-1 e))
+    let now = c.in-Lease-Granted in
+    (c.requires.1.0, (c.requires.1.1.1.0, lease-told nodes past g.st made.session now.field-0-0 now.field-1-0 now.lease now.field-1-1 e))
 
 pub grant-requires-in-Next-Granted : goal.grant-requires-in-Next-Granted
 grant-requires-in-Next-Granted g c =
@@ -70,7 +71,8 @@ returns-then-not-changes-clause-kept g c = λ limit was below.
     let made = c.made.inside in
     let e : Entry = record { session = made.session; command = made.command; reply = told made.answer } in
     let step = rw (← c.made.view_is) at c.requires.1.1.1.1 in
-    let same : changed_by (state_after nodes past) e.command e.reply ≡ state_after nodes past = c.changes.ensures.same c.if-not-changes.true (state_after nodes past) e.command in
+    let same : changed_by (state_after nodes past) e.command e.reply ≡ state_after nodes past =
+    c.changes.ensures.same c.if-not-changes.true (state_after nodes past) e.command in
     rw (← c.made.view_is)
     (kept_push c.args.store.now c.args.store.now c.args.grants.now c.args.grants.now c.args.front.now c.args.front.now limit past e was below step
     refl (subst (λ (st : State). IsOf st c.args.store.now) (sym same) was.store_is)
@@ -89,9 +91,11 @@ returns-in-Lease-Granted-clause-kept g c = λ limit was below.
     rw (← c.made.view_is)
     (kept_push c.args.store.now c.grant.new.self c.args.grants.now c.count_grant.new.counts c.args.front.now c.args.front.now limit past e was below step
     c.grant.ensures.nodes
-    (subst (λ (st : State). IsOf (changed_by st e.command e.reply) c.grant.new.self) (sym c.requires.0) (subst (λ (st : State). IsOf st c.grant.new.self) (sym (change g.st)) c.grant.ensures.kept))
+    (subst (λ (st : State). IsOf (changed_by st e.command e.reply) c.grant.new.self) (sym c.requires.0)
+    (subst (λ (st : State). IsOf st c.grant.new.self) (sym (change g.st)) c.grant.ensures.kept))
     (c.count_grant.ensures past e refl was.counted)
-    (subst (λ (st : State). IsFront nodes st c.args.front.now) (sym (change (state_after nodes past))) (front-leased nodes (state_after nodes past) c.in-Lease-Granted.lease c.args.front.now was.ahead)))
+    (subst (λ (st : State). IsFront nodes st c.args.front.now) (sym (change (state_after nodes past)))
+    (front-leased nodes (state_after nodes past) c.in-Lease-Granted.lease c.args.front.now was.ahead)))
 
 pub returns-in-Next-Granted-clause-kept : goal.returns-in-Next-Granted-clause-kept
 returns-in-Next-Granted-clause-kept g c = λ limit was below.

@@ -6,7 +6,8 @@ use Rattle.lrc_book.proofs.store.Store.end_lease.Goals as goal
 
 pub returns-then-not-contains-clause-kept : goal.returns-then-not-contains-clause-kept
 returns-then-not-contains-clause-kept c = λ st kept.
-    let none = not-leased st c.args.self.now kept c.args.stripe c.args.fragment (sym (c.leased.ensures c.args.fragment.value) ∙ sym c.contains.ensures ∙ c.if-not-contains.true) in
+    let out = sym (c.leased.ensures c.args.fragment.value) ∙ sym c.contains.ensures ∙ c.if-not-contains.true in
+    let none = not-leased st c.args.self.now kept c.args.stripe c.args.fragment out in
     subst (λ (s : State). IsOf s c.args.self.now) (sym (none-ended st c.args.stripe c.args.fragment none)) kept
 
 pub free-requires : goal.free-requires
