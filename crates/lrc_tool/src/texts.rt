@@ -202,7 +202,7 @@ fn write_kind(kind: &Kind, text: &mut [u8], end: usize) -> usize
 // ---- replies
 
 /// Writes words, a number and the end of a line so that they end at `end`, and answers where they start.
-#[inline(never)]
+#[inline(never)] // most refusals have no number, and their text is then short
 fn write_detail(words: &[u8; 13], number: u32, text: &mut [u8], end: usize) -> usize
     requires { (DETAIL_ROOM ≤ end) × (end ≤ length text.old) }
     ensures start { (end ≤ result + DETAIL_ROOM) × (result ≤ end) }
@@ -261,7 +261,7 @@ fn write_placed(seats: &[Seat; 16], text: &mut [u8], end: usize) -> usize
     write_words(b" placed", text, first)
 }
 
-#[inline(always)]
+#[inline(always)] // as `write_line`
 fn write_granted(lease: &Lease, kind: &Kind, text: &mut [u8], end: usize) -> usize
     requires { (GRANTED_ROOM ≤ end) × (end ≤ length text.old) }
     ensures start { (end ≤ result + GRANTED_ROOM) × (result ≤ end) }
