@@ -5,7 +5,7 @@ use Rattle.std.specs.List.{All, list_all, join_with_byte}
 use Rattle.std.specs.Char.{is_ascii_digit}
 use Rattle.std.specs.Str.Parse.{digits_value}
 use Rattle.std.proofs.lemmas.Bool.Decides.{nat_tests}
-use Rattle.std.proofs.lemmas.Fmt.{digits_decimal, digits_value-decimal, decimal_nonempty, decimal_digit, first_decimal, length-decimal-le}
+use Rattle.std.proofs.lemmas.Fmt.{digits_decimal, digits_value-decimal, decimal_nonempty, length-decimal-le}
 use Rattle.std.proofs.lemmas.List.Splits.{slice_split_none, slice_split_at, join_with_byte-slice_split}
 use Rattle.std.proofs.lemmas.List.Sums.{AllPass-from_list_all}
 use Rattle.lrc_book.specs.declared.command.Command.{Command}
@@ -18,13 +18,11 @@ use Rattle.lrc_script.specs.declared.script.Cause.{Cause}
 use Rattle.lrc_script.specs.declared.script.Cause.TheVariants.{WordCount, NotANumber, OutOfRange}
 use Rattle.lrc_script.specs.Scripts.{Form, same_text, is_number, argument_cause, or_else, arguments_cause, numbers_cause, form_cause, form_of, words_cause, words_of, is_passed_over, numbers_text, command_line, IsInRange, cause_of}
 use Rattle.lrc_script.proofs.LineLemmas.{cause_of-short}
-use Rattle.lrc_script.proofs.ScriptLemmas.{own, is_number-digits, decimal-number, argument_cause-below, cause_of-passed, cause_of-command, same_text-true, words_of-some}
+use Rattle.lrc_front.proofs.DigitLemmas.{own}
+use Rattle.lrc_front.proofs.NumberLemmas.{zero_alone}
+use Rattle.lrc_script.proofs.ScriptLemmas.{is_number-digits, decimal-number, argument_cause-below, cause_of-passed, cause_of-command, same_text-true, words_of-some}
 
 -- ---- the decimal text of a number
-
-zero_alone : (n : ℕ) → n < 2 ^ 64 → 1 < length (decimal n) → get_or (decimal n) 0 0 ≢ 48
-zero_alone zero small long first = absurd (omega (arith, ap length (decimal_digit 0 (omega arith))))
-zero_alone (suc n) small long first = absurd (omega (arith, first_decimal (suc n) (omega arith) small))
 
 digit_no_space : (c : ℕ) → is_ascii_digit c ≡ true → nat_eq c 32 ≡ false
 digit_no_space c digit = grind (arith, nat_tests)

@@ -15,31 +15,8 @@ use Rattle.lrc_book.specs.declared.command.Command.{Command}
 use Rattle.lrc_book.specs.declared.command.Command.TheVariants.{Place, Drop, Lease, Next, Done, Abandon, Revoke, Fail, Down, Up, Drain, Undrain, Retire, Join, Upgrade, Upgraded}
 use Rattle.lrc_script.specs.Scripts.{is_passed_over, numbers_text, command_line, IsInRange}
 use Rattle.lrc_script.specs.Cuts.{IsLineRead}
-use Rattle.lrc_script.proofs.ScriptLemmas.{own, is_number-digits, decimal-number}
+use Rattle.lrc_front.proofs.DigitLemmas.{own}
 use Rattle.lrc_script.proofs.CauseLemmas.{AreBelow, below_pair, below_report, cause_of-command_line}
-
--- a number of so many digits stands in front, and behind it this byte
-pub front_number :
-    (text : List ℕ) (at end : ℕ) → at < length text → 0 < at → get_or text at 0 ≡ end → list_all is_ascii_digit (take at text) ≡ true
-    → (1 < at → get_or text 0 0 ≢ 48) → digits_value 10 (take at text) < 2 ^ 64
-    → text ≡ decimal (digits_value 10 (take at text)) ++ end ∷ drop (at + 1) text
-front_number text at end within some here digits first small =
-    let word = take at text in
-    let long : length word ≡ at = omega (arith, length-take at text, within) in
-    let plain : 1 < length word → get_or word 0 0 ≢ 48 = λ more zero. first (omega (arith, more, long)) (sym (get_or-take at text 0 0 some) ∙ zero) in
-    let numeral = sym (is_number-digits word (omega (arith, some, long)) plain) ∙ digits in
-    sym (take-append-drop at text)
-    ∙ ap (λ w. w ++ drop at text) (decimal-number word numeral small)
-    ∙ ap (λ t. decimal (digits_value 10 word) ++ t) (drop_more text at 0 within ∙ ap (λ b. b ∷ drop (at + 1) text) here)
-
--- at most ten digits write a number below this
-pub few_digits :
-    (text : List ℕ) (at most number : ℕ) → at ≤ most → (most ≤ 10) × (most < length text) → list_all is_ascii_digit (take at text) ≡ true
-    → number ≡ digits_value 10 (take at text) → number < 10 ^ 10
-few_digits text at most number few within digits value =
-    let long : length (take at text) ≤ 10 = omega (arith, length-take at text, few, within.0, within.1) in
-    let short = digits_value_short own (take at text) 10 digits long in
-    omega (arith, short, value)
 
 -- ---- no end of a line stands in the line of a command
 

@@ -17,6 +17,7 @@ use Rattle.std.specs.Borrow.{Bor}
 use Rattle.std.proofs.lemmas.List.Splits.{length-slice_split, join_with_byte-slice_split}
 use Rattle.lrc_script.specs.Cuts.{IsCut, words_behind}
 use Rattle.lrc_script.specs.Scripts.{same_text, is_number, argument_cause, node_forms, form_in, numbers_cause, form_cause, words_cause, cause_of, is_passed_over, words_of}
+use Rattle.lrc_front.proofs.DigitLemmas.{own}
 use Rattle.lrc_script.proofs.CutLemmas.{pieces_behind, slice_split-cut}
 
 -- ---- texts
@@ -60,24 +61,6 @@ is_number-parts word numeral =
     let some = both (nat_lt 0 (length word)) (list_all is_ascii_digit word && plain) numeral in
     let digits = both (list_all is_ascii_digit word) plain some.1 in
     (ltb-true 0 (length word) some.0, digits.0, no_zero (length word) (get_or word 0 0) digits.1)
-
-pub digit_value-digit : (c : ℕ) → is_ascii_digit c ≡ true → digit_value c ≡ c - 48
-digit_value-digit c digit = grind (arith, nat_tests)
-
-pub own : IsNumeralModel (λ ds. list_all is_ascii_digit ds ≡ true) (digits_value 10)
-own = numerals_by_value _ (search rules)
-
--- the digits so far, and the next
-pub digits_value-next :
-    (word : List ℕ) (i : ℕ) → i < length word → is_ascii_digit (get_or word i 0) ≡ true
-    → digits_value 10 (take (i + 1) word) ≡ digits_value 10 (take i word) * 10 + (get_or word i 0 - 48)
-digits_value-next word i within digit =
-    digits_value_more 10 word i within ∙ ap (λ d. digits_value 10 (take i word) * 10 + d) (digit_value-digit (get_or word i 0) digit)
-
-pub digits-next :
-    (word : List ℕ) (i : ℕ) → i < length word → list_all is_ascii_digit (take i word) ≡ true → is_ascii_digit (get_or word i 0) ≡ true
-    → list_all is_ascii_digit (take (i + 1) word) ≡ true
-digits-next word i within digits digit = list_all_more is_ascii_digit word i 0 within ∙ rw (digits, digit) refl
 
 module _ (word : List ℕ) (numeral : is_number word ≡ true) where
   -- a number is the decimal text of its value

@@ -5,6 +5,7 @@ ghost use Rattle.lrc_script.specs.Scripts.{command_line, IsInRange};
 
 use lrc_book::Command;
 use lrc_code::{Fragment, NodeNo, StripeNo, UpgradeNo};
+use lrc_front::{number_behind, number_in_front};
 
 /// The most bytes of a line with its end: those of `abandon`, a stripe, a fragment and an epoch.
 const LONGEST: usize = 27;
@@ -211,67 +212,4 @@ fn report_behind<'a>(text: &'a [u8], word: &[u8]) -> Option<(StripeNo, Fragment,
         },
         None => None,
     }
-}
-
-/// The number below the bound, of at most so many digits, that stands behind a word and ends with this byte, and what stands
-/// behind that.
-#[inline(always)]
-fn number_behind<'a>(
-    text: &'a [u8],
-    word: &[u8],
-    most: usize,
-    bound: u64,
-    end: u8,
-) -> Option<(u64, &'a [u8])>
-    requires { (most ≤ 10) × (length word.now + most < length text.now) }
-    ensures number { IfSome result (λ r. (r.0 < bound) × (text.now ≡ word.now ++ (decimal r.0 ++ end ∷ r.1.now))) }
-    ensures left { IfSome result (λ r. length text.now ≤ length r.1.now + (length word.now + most + 1)) }
-{
-    match behind(text, word) {
-        Some(rest) => number_in_front(rest, most, bound, end),
-        None => None,
-    }
-}
-
-/// What stands behind a word that a text begins with.
-#[inline(always)]
-pub(crate) fn behind<'a>(text: &'a [u8], word: &[u8]) -> Option<&'a [u8]>
-    ensures rest { IfSome result (λ rest. text.now ≡ word.now ++ rest.now) }
-    ensures left { IfSome result (λ rest. length text.now ≡ length rest.now + length word.now) }
-{
-    if text.len() < word.len() {
-        return None;
-    }
-    // All bytes are compared, and so some at once.
-    let mut same = true;
-    let mut at = 0;
-    while at < word.len() {
-        same &= text[at] == word[at];
-        at += 1;
-    }
-    if same {
-        Some(&text[word.len()..])
-    } else {
-        None
-    }
-}
-
-/// The number below the bound, of at most so many digits and without leading zeros, that a text begins with and that ends with
-/// this byte, and what stands behind that.
-#[inline(always)]
-fn number_in_front(text: &[u8], most: usize, bound: u64, end: u8) -> Option<(u64, &[u8])>
-    requires { (most ≤ 10) × (most < length text.now) }
-    ensures number { IfSome result (λ r. (r.0 < bound) × (text.now ≡ decimal r.0 ++ end ∷ r.1.now)) }
-    ensures left { IfSome result (λ r. length text.now ≤ length r.1.now + (most + 1)) }
-{
-    let mut number = 0;
-    let mut at = 0;
-    while at < most && text[at].is_ascii_digit() {
-        number = number * 10 + u64::from(text[at] - b'0');
-        at += 1;
-    }
-    if at == 0 || text[at] != end || (at > 1 && text[0] == b'0') || number >= bound {
-        return None;
-    }
-    Some((number, &text[at + 1..]))
 }

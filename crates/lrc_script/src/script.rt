@@ -6,9 +6,10 @@ ghost use Rattle.lrc_script.specs.Cuts.{words_behind, IsReadAs, IsAdded, IsLineR
 ghost use Rattle.lrc_script.specs.declared.script.Cause.TheVariants as causes;
 
 use crate::cut::{cut_line, cut_word, is_word};
-use crate::front::{behind, command_in_front};
+use crate::front::command_in_front;
 use lrc_book::Command;
 use lrc_code::{Fragment, NodeNo, StripeNo, UpgradeNo};
+use lrc_front::behind;
 use std::alloc::{AllocError, AllocFailed, Global};
 use thiserror::Error;
 

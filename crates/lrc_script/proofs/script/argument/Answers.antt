@@ -3,7 +3,8 @@ use Rattle.std.specs.Char.{is_ascii_digit}
 use Rattle.std.specs.List.{list_all}
 use Rattle.std.specs.Str.Parse.{digits_value}
 use Rattle.std.proofs.lemmas.List.{take_all}
-use Rattle.lrc_script.proofs.ScriptLemmas.{digits_value-next, digits-next, decimal-number, is_number-digits}
+use Rattle.lrc_front.proofs.DigitLemmas.{digits_value-next, digits-next}
+use Rattle.lrc_script.proofs.ScriptLemmas.{decimal-number, is_number-digits}
 use Rattle.lrc_script.proofs.script.argument.Goals as goal
 use Rattle.lrc_script.proofs.script.argument.Goals.{After-loop-byte, then-number-bound, else-number-bound, then-word-gt1, else-word-gt1}
 
