@@ -136,6 +136,28 @@ fn a_topology_may_be_cut_anywhere(rt: HostRuntime) -> Result<(), Fail> {
     Ok(())
 }
 
+/// The nodes of a text are those of the same text in another form.
+fn same_nodes(rt: &(impl AllocGlobal + Abort), plain: &str, other: &str) -> Result<(), TopologyError> {
+    let nodes = Topology::read(rt.alloc(), plain.as_bytes())?;
+    let others = Topology::read(rt.alloc(), other.as_bytes())?;
+    assert_eq!(rt; nodes.len(), others.len());
+    for (node, another) in nodes.nodes().zip(others.nodes()) {
+        assert_eq!(rt; node, another);
+    }
+    Ok(())
+}
+
+#[test]
+fn a_form_that_is_not_plain_has_the_same_nodes(rt: HostRuntime) -> Result<(), Fail> {
+    let plain = twenty(rt.alloc())?;
+    let commented = format!(in rt.alloc(); "# twenty nodes\n{plain}")?;
+    let spaced = format!(in rt.alloc(); "{plain}\n")?;
+    for other in [&commented, &spaced] {
+        same_nodes(&rt, &plain, other)?;
+    }
+    Ok(())
+}
+
 #[test]
 fn nesting_is_limited(rt: HostRuntime) -> Result<(), Fail> {
     for (depth, want) in [(80, Ok(1)), (81, Err(TopologyError::Syntax))] {
