@@ -174,9 +174,9 @@ impl Store {
         }
         if let Some(seat) = seat {
             if mates.contains(other) {
-                self.table.bar_domains_of_known(bars, seat.node);
+                self.table.bar_domains_of(bars, seat.node);
             } else {
-                self.table.bar_fault_of_known(bars, seat.node);
+                self.table.bar_fault_of(bars, seat.node);
             }
         }
     }

@@ -203,28 +203,8 @@ impl SlotTable {
         Some(row.number())
     }
 
-    /// Bars the fault domain of a node, if it is one of the table's.
+    /// Bars the fault domain of a node.
     pub fn bar_fault_of(&self, bars: &mut Taken, node: NodeNo)
-        ensures { barred bars.new ≡ with_fault_of (slots_of self.now).nodes (barred bars.old) node }
-    {
-        if let Some(row) = self.row_of(node) {
-            bars.bar_fault(row.node().fault);
-        }
-    }
-
-    /// Bars the fault domain and the upgrade domain of a node, if it is one of the table's.
-    pub fn bar_domains_of(&self, bars: &mut Taken, node: NodeNo)
-        ensures { barred bars.new ≡ with_upgrade_of (slots_of self.now).nodes (with_fault_of (slots_of self.now).nodes (barred bars.old) node) node }
-    {
-        if let Some(row) = self.row_of(node) {
-            let domains = row.node();
-            bars.bar_fault(domains.fault);
-            bars.bar_upgrade(domains.upgrade);
-        }
-    }
-
-    /// The same as `bar_fault_of` for a node that is one of the table's.
-    pub fn bar_fault_of_known(&self, bars: &mut Taken, node: NodeNo)
         requires { IsSome (node_at (slots_of self.now).nodes node) }
         ensures { barred bars.new ≡ with_fault_of (slots_of self.now).nodes (barred bars.old) node }
     {
@@ -232,8 +212,8 @@ impl SlotTable {
         bars.bar_fault(known.fault);
     }
 
-    /// The same as `bar_domains_of` for a node that is one of the table's.
-    pub fn bar_domains_of_known(&self, bars: &mut Taken, node: NodeNo)
+    /// Bars the fault domain and the upgrade domain of a node.
+    pub fn bar_domains_of(&self, bars: &mut Taken, node: NodeNo)
         requires { IsSome (node_at (slots_of self.now).nodes node) }
         ensures { barred bars.new ≡ with_upgrade_of (slots_of self.now).nodes (with_fault_of (slots_of self.now).nodes (barred bars.old) node) node }
     {
@@ -258,15 +238,6 @@ impl SlotTable {
         barred_nodes.bar(self.by_upgrade.ranks_of(domain.value as usize));
     }
 
-    /// The node that `choose` answers where the same domains are barred.
-    pub fn choose_outside(&self, barred_nodes: &BarredNodes) -> Option<NodeNo>
-        ensures node { (b : Barred) → AreBarredNodes (slots_of self.now).nodes b barred_nodes.now → result ≡ next_number (slots_of self.now) b }
-        ensures known { IfSome result (λ n. IsSome (node_at (slots_of self.now).nodes n)) }
-    {
-        let row = self.first_open(barred_nodes)?;
-        Some(row.number())
-    }
-
     /// The node that `choose` answers, and its least free slot.
     pub fn open_beside(&self, bars: &Taken) -> Option<OpenNode>
         ensures node { option_map (λ o. o.node) result ≡ next_node (slots_of self.now) (barred bars.now) }
@@ -286,20 +257,8 @@ impl SlotTable {
         Some(row.open())
     }
 
-    /// The same where the domains of two sets of barred nodes are barred.
-    pub fn open_outside(&self, barred_nodes: &BarredNodes, more: &BarredNodes) -> Option<OpenNode>
-        ensures node { (b c : Barred) → AreBarredNodes (slots_of self.now).nodes b barred_nodes.now → AreBarredNodes (slots_of self.now).nodes c more.now
-            → option_map (λ o. o.node) result ≡ next_node (slots_of self.now) (joined b c) }
-        ensures slot { IfSome result (λ o. least_free_at (slots_of self.now) o.node.number ≡ Some o.slot) }
-    {
-        let row = self.row_outside(barred_nodes, more)?;
-        Some(OpenNode {
-            node: *row.node,
-            slot: row.slot,
-        })
-    }
-
-    /// What `open_outside` answers, with the node where the table keeps it.
+    /// The node that `choose` would answer where the domains of both sets are barred, where the table keeps it, and its least
+    /// free slot.
     pub fn row_outside(&self, barred_nodes: &BarredNodes, more: &BarredNodes) -> Option<OpenRow<'_>>
         ensures node { (b c : Barred) → AreBarredNodes (slots_of self.now).nodes b barred_nodes.now → AreBarredNodes (slots_of self.now).nodes c more.now
             → option_map (λ o. o.node.now) result ≡ next_node (slots_of self.now) (joined b c) }

@@ -77,15 +77,16 @@ fn barred_and_ineligible_nodes_are_passed_over(rt: HostRuntime) -> Result<(), Fa
 
 #[test]
 fn the_domains_of_a_node_are_barred_by_its_number(rt: HostRuntime) -> Result<(), Fail> {
-    let table = SlotTable::new(rt.alloc(), &three(rt.alloc())?)?;
+    let topology = three(rt.alloc())?;
+    let table = SlotTable::new(rt.alloc(), &topology)?;
+    let (first, second) = (NodeNo { value: 3 }, NodeNo { value: 5 });
+    assert!(rt; topology.node(first).is_some() && topology.node(second).is_some());
     let mut bars = Taken::new();
-    table.bar_fault_of(&mut bars, NodeNo { value: 4 });
-    assert_eq!(rt; table.choose(&bars), Some(NodeNo { value: 3 }));
-    table.bar_fault_of(&mut bars, NodeNo { value: 3 });
-    assert_eq!(rt; table.choose(&bars), Some(NodeNo { value: 5 }));
-    table.bar_domains_of(&mut bars, NodeNo { value: 3 });
+    table.bar_fault_of(&mut bars, first);
+    assert_eq!(rt; table.choose(&bars), Some(second));
+    table.bar_domains_of(&mut bars, first);
     assert_eq!(rt; table.choose(&bars), Some(NodeNo { value: 7 }));
-    table.bar_domains_of(&mut bars, NodeNo { value: 5 });
+    table.bar_domains_of(&mut bars, second);
     assert_eq!(rt; table.choose(&bars), None);
     Ok(())
 }

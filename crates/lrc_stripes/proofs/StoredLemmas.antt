@@ -1,5 +1,5 @@
 -- What a change of a row changes in what the rows stand for.
-use Rattle.std.proofs.Common.{◌≡◌, ℕ, zero, suc, ◌+◌, ◌-◌, ◌<◌, inl, inr, Bool, true, false, not, ◌&&◌, ◌||◌, if◌then◌else◌, nat_eq, nat_lt, List, [], ◌∷◌, length, map, take, get_or, set, replicate, Option, Some, None, IfSome, is_some, refl, sym, ap, ap₂, ◌∙◌}
+use Rattle.std.proofs.Common.{◌≡◌, ℕ, zero, suc, ◌-◌, inl, inr, Bool, true, false, not, ◌&&◌, ◌||◌, if◌then◌else◌, nat_eq, nat_lt, List, [], ◌∷◌, map, get_or, set, replicate, Option, Some, None, IfSome, is_some, refl, sym, ap, ap₂, ◌∙◌}
 use mathlib.Core.Bool.{beq}
 use Rattle.std.proofs.Math.Path.{fun_ext}
 use Rattle.std.specs.List.{slice_get}
@@ -17,10 +17,9 @@ use Rattle.lrc_topology.specs.declared.NodeInfo.{NodeInfo}
 use Rattle.lrc_topology.specs.declared.seat.Seat.{Seat}
 use Rattle.lrc_topology.specs.Nodes.{node_at}
 use Rattle.lrc_stripes.specs.declared.row.Row.{Row}
-use Rattle.lrc_stripes.specs.Stored.{Stored, has_node, has_slot, empty, with_stripe, with_homes, without_stripe, with_home, with_offline, with_offline_all, with_draining, with_spare}
+use Rattle.lrc_stripes.specs.Stored.{Stored, has_node, has_slot, empty, with_stripe, with_homes, without_stripe, with_home, with_offline, with_draining, with_spare}
 use Rattle.lrc_stripes.specs.Sites.{Sited, first_sites}
 use Rattle.lrc_stripes.specs.Tables.{row_homes}
-use Rattle.lrc_stripes.proofs.SitedLemmas.{flags-more}
 use Rattle.lrc_stripes.proofs.KeptLemmas.{replicated}
 
 -- what nodes and rows stand for
@@ -152,12 +151,6 @@ offline-stays t n b apart = ap (λ (o : NodeNo → Bool). record t { online = o 
 
 pub draining-stays : (t : Stored) (n : NodeNo) (b : Bool) → not (beq (t.draining n) b) ≡ false → t ≡ with_draining t n b
 draining-stays t n b alike = ap (λ (d : NodeNo → Bool). record t { draining = d }) (flag-stays t.draining n b (alike-same (t.draining n) b alike))
-
--- ---- nodes set in turn
-
-pub offline-more : (t : Stored) (nodes : List NodeInfo) (i : ℕ) (d : NodeInfo) (b : Bool) → i < length nodes
-    → with_offline (with_offline_all t (take i nodes) b) (get_or nodes i d).number b ≡ with_offline_all t (take (i + 1) nodes) b
-offline-more t nodes i d b within = ap (λ (o : NodeNo → Bool). record t { online = o }) (flags-more t.online nodes i d (not b) within)
 
 -- ---- seats
 

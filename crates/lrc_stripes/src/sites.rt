@@ -131,16 +131,6 @@ impl Sites {
         mark(&mut self.offline, place, is_offline);
     }
 
-    /// Sets whether these nodes are offline.
-    pub(crate) fn set_offline_all(&mut self, nodes: &[NodeInfo], is_offline: bool)
-        requires { All (λ n. IsTrue (has_node (sited self.old).nodes n.number)) nodes.now }
-        ensures { sited self.new ≡ record (sited self.old) { online = λ m. if list_any (λ n. same_node n.number m) nodes.now then not is_offline else (sited self.old).online m } }
-    {
-        for node in nodes.iter() {
-            self.set_offline(node.number, is_offline);
-        }
-    }
-
     /// Sets whether the nodes of an upgrade domain are offline.
     pub(crate) fn set_offline_in(&mut self, domain: UpgradeNo, is_offline: bool)
         ensures { sited self.new ≡ record (sited self.old) { online = λ m. if list_any (λ n. same_node n.number m) (nodes_in (sited self.old).nodes domain) then not is_offline else (sited self.old).online m } }

@@ -175,20 +175,6 @@ impl Stripes {
         }
     }
 
-    /// Sets whether these nodes are offline.
-    pub fn set_offline_all(&mut self, nodes: &[NodeInfo], is_offline: bool)
-        requires { All (λ n. IsTrue (has_node (stored_in self.old).nodes n.number)) nodes.now }
-        ensures { stored_in self.new ≡ with_offline_all (stored_in self.old) nodes.now is_offline }
-    {
-        if self.rows.has_work() {
-            for node in nodes.iter() {
-                self.set_offline(node.number, is_offline);
-            }
-        } else {
-            self.sites.set_offline_all(nodes, is_offline);
-        }
-    }
-
     /// Sets whether the nodes of an upgrade domain are offline.
     pub fn set_offline_in(&mut self, domain: UpgradeNo, is_offline: bool)
         ensures { stored_in self.new ≡ with_offline_all (stored_in self.old) (nodes_in (stored_in self.old).nodes domain) is_offline }

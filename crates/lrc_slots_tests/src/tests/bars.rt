@@ -1,4 +1,4 @@
-//! The same barred domains, told in four ways.
+//! The same barred domains, told in three ways.
 
 use lrc_code::{FaultNo, UpgradeNo};
 use lrc_slots::{BarredNodes, SlotTable, Taken};
@@ -6,7 +6,6 @@ use lrc_slots::{BarredNodes, SlotTable, Taken};
 #[derive(Drop)]
 pub(crate) struct Bars {
     pub(crate) taken: Taken,
-    pub(crate) nodes: BarredNodes,
     pub(crate) fault_nodes: BarredNodes,
     pub(crate) upgrade_nodes: BarredNodes,
     pub(crate) faults: [bool; 256],
@@ -17,7 +16,6 @@ impl Bars {
     pub(crate) fn new() -> Bars {
         Bars {
             taken: Taken::new(),
-            nodes: BarredNodes::new(),
             fault_nodes: BarredNodes::new(),
             upgrade_nodes: BarredNodes::new(),
             faults: [false; 256],
@@ -27,14 +25,12 @@ impl Bars {
 
     pub(crate) fn bar_fault(&mut self, table: &SlotTable, domain: FaultNo) {
         self.taken.bar_fault(domain);
-        table.bar_fault_in(&mut self.nodes, domain);
         table.bar_fault_in(&mut self.fault_nodes, domain);
         self.faults[usize::from(domain.value)] = true;
     }
 
     pub(crate) fn bar_upgrade(&mut self, table: &SlotTable, domain: UpgradeNo) {
         self.taken.bar_upgrade(domain);
-        table.bar_upgrade_in(&mut self.nodes, domain);
         table.bar_upgrade_in(&mut self.upgrade_nodes, domain);
         self.upgrades[usize::from(domain.value)] = true;
     }

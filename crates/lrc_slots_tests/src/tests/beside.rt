@@ -6,7 +6,7 @@ ghost use Rattle.lrc_slots.specs.Tables.{slots_of};
 use crate::tests::bars::Bars;
 use crate::tests::plain_table::PlainTable;
 use lrc_code::{FaultNo, NodeNo, UpgradeNo};
-use lrc_slots::SlotTable;
+use lrc_slots::{OpenNode, SlotTable};
 use lrc_topology::Topology;
 use std::alloc::Global;
 use std::fmt::Write;
@@ -72,11 +72,19 @@ fn choose_alike(table: &SlotTable, plain: &PlainTable, bars: &Bars) -> bool {
     let chosen = plain.choose(&bars.faults, &bars.upgrades);
     let open = plain.open(chosen);
     table.choose(&bars.taken) == chosen
-        && table.choose_outside(&bars.nodes) == chosen
         && table.open_beside(&bars.taken) == open
         && table.open_beside_each(&bars.taken) == open
-        && table.open_outside(&bars.fault_nodes, &bars.upgrade_nodes) == open
+        && open_outside(table, bars) == open
         && table.has_open_node() == plain.has_open_node()
+}
+
+/// The node outside the two sets of barred nodes, and its least free slot.
+fn open_outside(table: &SlotTable, bars: &Bars) -> Option<OpenNode> {
+    let row = table.row_outside(&bars.fault_nodes, &bars.upgrade_nodes)?;
+    Some(OpenNode {
+        node: *row.node,
+        slot: row.slot,
+    })
 }
 
 /// Whether both tell the same load and least free slot of a node.

@@ -7,9 +7,8 @@ ghost use Rattle.lrc_stripes.specs.Tables.{stored_in};
 
 use crate::tests::plain_store::{PlainRow, PlainStore};
 use crate::tests::{node, nodes, seat};
-use lrc_code::{FaultNo, Fragment, UpgradeNo};
+use lrc_code::{Fragment, UpgradeNo};
 use lrc_stripes::{Seat, Stripes};
-use lrc_topology::NodeInfo;
 use std::test::Fail;
 
 /// What comes after a number in a fixed order in which those below 65,537 all come up.
@@ -194,37 +193,21 @@ fn are_slots(stripes: &Stripes, seats: &[Seat]) -> bool
     true
 }
 
-/// Sets whether two nodes are offline.
-fn set_both_offline(stripes: &mut Stripes, plain: &mut PlainStore, number: u16, is_offline: bool) {
-    let other = (number % 20 + 7) % 20;
-    let both = [info(number), info(other)];
-    if number < 20 && are_nodes(stripes, &both) {
-        stripes.set_offline_all(&both, is_offline);
-        plain.offline[number as usize] = is_offline;
-        plain.offline[other as usize] = is_offline;
+/// Sets whether the two nodes of an upgrade domain are offline.
+fn set_domain_offline(
+    stripes: &mut Stripes,
+    plain: &mut PlainStore,
+    domain: u16,
+    is_offline: bool,
+) {
+    if domain < 10 {
+        let number = UpgradeNo {
+            value: domain as u8,
+        };
+        stripes.set_offline_in(number, is_offline);
+        plain.offline[domain as usize] = is_offline;
+        plain.offline[domain as usize + 10] = is_offline;
     }
-}
-
-/// A node of this number.
-fn info(number: u16) -> NodeInfo {
-    NodeInfo {
-        number: node(number),
-        fault: FaultNo { value: 0 },
-        upgrade: UpgradeNo { value: 0 },
-        slots: 4,
-    }
-}
-
-/// Whether all of these are nodes of the store.
-fn are_nodes(stripes: &Stripes, nodes: &[NodeInfo]) -> bool
-    ensures { IsTrue result → All (λ n. IsTrue (has_node (stored_in stripes.now).nodes n.number)) nodes.now }
-{
-    for node in nodes.iter() {
-        if !stripes.has_node(node.number) {
-            return false;
-        }
-    }
-    true
 }
 
 /// Sets whether a node is offline.
@@ -269,7 +252,7 @@ fn call(stripes: &mut Stripes, plain: &mut PlainStore, state: u32, fragment: Fra
     } else if kind < 29 {
         set_offline(stripes, plain, number, is_rare);
     } else if kind < 30 {
-        set_both_offline(stripes, plain, number, is_rare);
+        set_domain_offline(stripes, plain, number % 10, is_rare);
     } else {
         set_draining(stripes, plain, number, is_rare);
     }

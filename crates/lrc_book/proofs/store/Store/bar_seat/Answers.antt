@@ -9,11 +9,11 @@ use Rattle.lrc_book.proofs.BarLemmas.{seat-own, seat-domains}
 use Rattle.lrc_book.proofs.KnownSeatLemmas.{IsKnown}
 use Rattle.lrc_book.proofs.store.Store.bar_seat.Goals as goal
 
-pub bar_domains_of_known-requires : goal.bar_domains_of_known-requires
-bar_domains_of_known-requires c = subst (λ (o : Option Seat). IfSome o (IsKnown c.args.self.now)) c.in-Some.is c.requires.known
+pub bar_domains_of-requires : goal.bar_domains_of-requires
+bar_domains_of-requires c = subst (λ (o : Option Seat). IfSome o (IsKnown c.args.self.now)) c.in-Some.is c.requires.known
 
-pub bar_fault_of_known-requires : goal.bar_fault_of_known-requires
-bar_fault_of_known-requires c = subst (λ (o : Option Seat). IfSome o (IsKnown c.args.self.now)) c.in-Some.is c.requires.known
+pub bar_fault_of-requires : goal.bar_fault_of-requires
+bar_fault_of-requires c = subst (λ (o : Option Seat). IfSome o (IsKnown c.args.self.now)) c.in-Some.is c.requires.known
 
 pub returns-then-eq : goal.returns-then-eq
 returns-then-eq c = λ st stripe kept.
@@ -25,7 +25,7 @@ returns-then-contains c = λ st stripe kept.
     let seat = c.in-Some.seat in
     let before = barred c.args.bars.now in
     let same = ap (λ (t : Slots). t.nodes) kept.table_is in
-    c.bar_domains_of_known.ensures
+    c.bar_domains_of.ensures
     ∙ ap (λ (ns : List NodeInfo). with_upgrade_of ns (with_fault_of ns before seat.node) seat.node) same
     ∙ seat-domains nodes stripe c.args.fragment c.args.other before seat (sym c.eq.ensures ∙ c.if-eq.false) true
     (sym c.if-contains.true ∙ c.contains.ensures ∙ c.requires.mate)
@@ -37,7 +37,7 @@ returns-else-contains c = λ st stripe kept.
     let seat = c.in-Some.seat in
     let before = barred c.args.bars.now in
     let same = ap (λ (t : Slots). t.nodes) kept.table_is in
-    c.bar_fault_of_known.ensures
+    c.bar_fault_of.ensures
     ∙ ap (λ (ns : List NodeInfo). with_fault_of ns before seat.node) same
     ∙ seat-domains nodes stripe c.args.fragment c.args.other before seat (sym c.eq.ensures ∙ c.if-eq.false) false
     (sym c.if-contains.false ∙ c.contains.ensures ∙ c.requires.mate)

@@ -1,10 +1,6 @@
-use Rattle.std.proofs.Common.{refl, sym}
-use Rattle.lrc_slots.proofs.TableLemmas.{node-alone, node-absent}
+use Rattle.lrc_slots.proofs.TableLemmas.{node-alone}
 use Rattle.lrc_slots.proofs.table.SlotTable.bar_fault_of.Goals as goal
 
-pub returns-in-Some : goal.returns-in-Some
-returns-in-Some c =
-    rw (node-alone c.args.self.now c.args.node c.in-Some.row.now (sym c.in-Some.ensures)) (rw c.node.ensures at c.bar_fault.ensures)
-
-pub returns-in_default : goal.returns-in_default
-returns-in_default c = rw (node-absent c.args.self.now c.args.node (sym c.in_default.ensures)) refl
+pub returns : goal.returns
+returns c =
+    rw (node-alone c.args.self.now c.args.node c.known_row.result.now c.known_row.ensures) (rw c.node-known.ensures at c.bar_fault.ensures)
