@@ -1,8 +1,9 @@
 """Bundles of one script each, made by a fixed rule from a seed: a kind of load for each way to use a store.
 
 Every bundle fills its store first: `place` of each stripe. Then its kind goes on until the bundle has as many bytes, or
-as many commands behind those, as it may have. Each command comes with how its reply begins, by `store.Store`."""
+as many lines behind those, as it may have. Each command comes with how its reply begins, by `store.Store`."""
 import random
+import string
 
 import store
 
@@ -11,11 +12,11 @@ FAULTS, UPGRADES, SLOTS = 32, 16, 256
 
 
 class Full(Exception):
-    """The bundle takes no more commands."""
+    """The bundle takes no more lines."""
 
 
 class Script:
-    """The commands so far, how each is answered, and the store behind them."""
+    """The lines so far, how each command of them is answered, and the store behind them."""
 
     def __init__(self, nodes, stripes, seed, most_bytes):
         self.nodes = [store.Node(number % FAULTS, (number // FAULTS + number) % UPGRADES, SLOTS) for number in range(nodes)]
@@ -24,7 +25,7 @@ class Script:
         self.random = random.Random(seed)
         self.lines, self.replies = [], []
         self.bytes_left = most_bytes - len(self.topology()) - len("%%\n")
-        self.commands_left = None  # as many as the bytes allow
+        self.lines_left = None  # as many as the bytes allow
 
     def topology(self):
         tables = (
@@ -36,15 +37,27 @@ class Script:
     def bundle(self):
         return self.topology() + "%%\n" + "".join(line + "\n" for line in self.lines)
 
+    def add(self, line):
+        """Adds a line, and no reply: one that is no command is passed over."""
+        self.bytes_left -= len(line) + 1
+        if self.bytes_left < 0 or self.lines_left == 0:
+            raise Full
+        if self.lines_left is not None:
+            self.lines_left -= 1
+        self.lines.append(line)
+
     def say(self, line, reply):
         """Adds a command that is answered so."""
-        self.bytes_left -= len(line) + 1
-        if self.bytes_left < 0 or self.commands_left == 0:
-            raise Full
-        if self.commands_left is not None:
-            self.commands_left -= 1
-        self.lines.append(line)
+        self.add(line)
         self.replies.append(reply)
+
+    def say_all(self, *calls):
+        """Adds commands that are answered so, all of them or none."""
+        needed = sum(len(line) + 1 for line, _ in calls)
+        if needed > self.bytes_left or self.lines_left is not None and len(calls) > self.lines_left:
+            raise Full
+        for line, reply in calls:
+            self.say(line, reply)
 
     def call(self, line):
         """Adds a command, and answers how its reply begins."""
@@ -134,13 +147,13 @@ def flaps(script):
 
 
 def upgrades(script):
-    """The upgrade domains are upgraded one after the other, round and round, while one node is down."""
+    """The upgrade domains are upgraded one after the other, round and round, while one node is down. None is upgrading at the
+    end, or the table would list each stripe with a home there."""
     script.call(f"down {script.node()}")
     while True:
         for domain in script.store.domains:
             # A stripe misses one fragment at most, and at most one of each class more: it stays recoverable.
-            script.say(f"upgrade {domain}", "changed")
-            script.say(f"upgraded {domain}", "changed")
+            script.say_all((f"upgrade {domain}", "changed"), (f"upgraded {domain}", "changed"))
 
 
 def refused(script):
@@ -166,6 +179,13 @@ def refused(script):
                 ]
             )
         )
+
+
+def comments(script):
+    """Every line is passed over: comments of up to 62 bytes, and one line of sixteen, or so, that is empty."""
+    pick, letters = script.random, string.ascii_lowercase * 3
+    while True:
+        script.add("# " + letters[: pick.randrange(61)] if pick.randrange(16) else "")
 
 
 def idle(script):
@@ -216,16 +236,19 @@ def any_change(script):
     return f"{pick.choices(['fail', 'down', 'drain'], [1, 4, 1])[0]} {node}"
 
 
-KINDS = {kind.__name__: kind for kind in (place, churn, repairs, leases, drains, flaps, upgrades, refused, idle, stuck, mixed)}
+KINDS = {
+    kind.__name__: kind
+    for kind in (place, churn, repairs, leases, drains, flaps, upgrades, refused, comments, idle, stuck, mixed)
+}
 
 
-def make(kind, nodes, stripes, seed, most_bytes, commands=None):
-    """The script of a kind; with at most so many commands behind those that fill the store, where that is given."""
+def make(kind, nodes, stripes, seed, most_bytes, most_lines=None):
+    """The script of a kind; with at most so many lines behind those that fill the store, where that is given."""
     script = Script(nodes, stripes, f"{seed} {kind} {nodes} {stripes}", most_bytes)
     try:
         for stripe in range(stripes):
             script.call(f"place {stripe}")
-        script.commands_left = commands
+        script.lines_left = most_lines
         KINDS[kind](script)
     except Full:
         pass
