@@ -3,6 +3,7 @@
 use super::{answer, entry, numbered, twenty};
 use lrc_code::{FaultNo, NodeNo, UpgradeNo};
 use lrc_topology::{NodeIndex, NodeInfo, Topology, TopologyError};
+use std::process::Abort;
 use std::test::Fail;
 
 fn info(number: u16, fault: u8, upgrade: u8, slots: u16) -> NodeInfo {
@@ -137,7 +138,11 @@ fn a_topology_may_be_cut_anywhere(rt: HostRuntime) -> Result<(), Fail> {
 }
 
 /// The nodes of a text are those of the same text in another form.
-fn same_nodes(rt: &(impl AllocGlobal + Abort), plain: &str, other: &str) -> Result<(), TopologyError> {
+fn same_nodes(
+    rt: &(impl AllocGlobal + Abort),
+    plain: &str,
+    other: &str,
+) -> Result<(), TopologyError> {
     let nodes = Topology::read(rt.alloc(), plain.as_bytes())?;
     let others = Topology::read(rt.alloc(), other.as_bytes())?;
     assert_eq!(rt; nodes.len(), others.len());
