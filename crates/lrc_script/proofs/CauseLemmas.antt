@@ -1,5 +1,5 @@
 -- A line without a cause is the line of a command, and the other way round.
-use Rattle.std.proofs.Common.{◌≡◌, ◌≢◌, ℕ, zero, suc, ◌+◌, ◌*◌, ◌^◌, ◌<◌, ◌≤◌, lit≤, length-append, ◌↔◌, ◌⊎◌, inl, inr, Bool, true, false, nat_eq, nat_lt, if◌then◌else◌, Option, Some, None, List, [], ◌∷◌, ◌++◌, length, map, get_or, codes, decimal, refl, sym, ap, ◌∙◌, arith}
+use Rattle.std.proofs.Common.{◌≡◌, ℕ, suc, ◌+◌, ◌*◌, ◌^◌, ◌<◌, ◌≤◌, lit≤, length-append, ◌↔◌, ◌⊎◌, inl, inr, Bool, true, false, nat_eq, nat_lt, if◌then◌else◌, Option, Some, None, List, [], ◌∷◌, ◌++◌, length, map, get_or, codes, decimal, refl, sym, ap, ◌∙◌, arith}
 use borrow.Author.Tests.{ltb-true, eqb-true, eq-eqb, ne_eqb}
 use Rattle.std.specs.List.{All, list_all, join_with_byte}
 use Rattle.std.specs.Char.{is_ascii_digit}
