@@ -3,8 +3,6 @@
 
 mod bit_set;
 mod members;
-#[cfg(test)]
-mod tests;
 
 pub use bit_set::BitSet;
 pub use members::Members;

@@ -22,7 +22,8 @@ pub const HISTORY_LIMIT: usize = 1_000_000;
 /// answered.
 #[derive(Drop)]
 pub struct Book {
-    pub(crate) store: Store,
+    /// In a box of its own, so that letting a book go is one call wherever it is done.
+    pub(crate) store: Box<Store>,
     pub(crate) grants: Grants,
     /// A stripe with work before which nothing is grantable, if one is known: a search for the next repair begins there.
     pub(crate) front: Option<StripeNo>,
@@ -41,13 +42,13 @@ impl Model for Book {
     ghost Value = { BookView };
 
     ghost view = { λ b. record {
-      nodes = b.store.topology;
+      nodes = b.store.value.topology;
       limit = b.limit;
       history = b.history.items;
-      ready = nat_le (vec_len b.history + 1) (vec_capacity b.history) && (has_room b.store && is_some b.seats);
+      ready = nat_le (vec_len b.history + 1) (vec_capacity b.history) && (has_room b.store.value && is_some b.seats);
     } };
 
-    ghost invariant = { λ b. IsKept b.store b.grants b.front b.limit b.history.items };
+    ghost invariant = { λ b. IsKept b.store.value b.grants b.front b.limit b.history.items };
 }
 
 impl Book {
@@ -60,8 +61,9 @@ impl Book {
         ensures value { IfOk result (λ b. (b.nodes ≡ topology) × (b.limit ≡ HISTORY_LIMIT) × (b.history ≡ [])) }
         ensures err { IfErr result (λ e. e ≡ fault.OutOfMemory) }
     {
+        let store = Store::new(alloc, topology)?;
         Ok(Book {
-            store: Store::new(alloc, topology)?,
+            store: Box::new(alloc, store)?,
             grants: Grants::new(alloc)?,
             front: None,
             history: Vec::new(alloc),

@@ -1,7 +1,11 @@
 ghost use Rattle.std.specs.Prelude.{◌≡◌, true, IsTrue, IfOk, IfErr, OnOk, IsOk};
 ghost use Rattle.lrc_code.specs.declared.fault.Fault.TheVariants as fault;
+ghost use Rattle.lrc_slots.specs.Slots.{all_free};
 ghost use Rattle.lrc_slots.specs.Tables.{slots_of};
+ghost use Rattle.lrc_stripes.specs.Stored as stored;
 ghost use Rattle.lrc_stripes.specs.Tables.{stored_in};
+ghost use Rattle.lrc_leases.specs.Leased as leased;
+ghost use Rattle.lrc_leases.specs.Tables.{leased_in};
 ghost use Rattle.lrc_book.specs.States.{State, opening, online_at};
 ghost use Rattle.lrc_book.specs.Leases.{without_lease, without_home};
 ghost use Rattle.lrc_book.specs.Stores.{IsOf, IsOfBut, IsTied, AreModesOf, kept_table, has_room};
@@ -35,10 +39,8 @@ impl Store {
         ensures value { IfOk result (λ s. (s.topology ≡ topology) × IsOf opening s) }
         ensures err { IfErr result (λ e. e ≡ fault.OutOfMemory) }
     {
-        let table = SlotTable::new(alloc, &topology)?;
-        let stripes = Stripes::new(alloc, &topology)?;
-        let leases = Leases::new(alloc)?;
-        let modes = Modes::new(alloc)?;
+        let (modes, leases) = no_leases(alloc)?;
+        let (table, stripes) = no_stripes(alloc, &topology)?;
         Ok(Store {
             topology,
             table,
@@ -138,4 +140,24 @@ impl Store {
         self.stripes.set_offline(node, !is_online);
         self.stripes.set_draining(node, mode == Mode::Draining);
     }
+}
+
+/// Every node active and online, and no leases.
+fn no_leases(alloc: Global) -> Result<(Modes, Leases), Fault>
+    ensures value { IfOk result (λ r. AreModesOf opening r.0 × (leased_in r.1 ≡ leased.empty)) }
+    ensures err { IfErr result (λ e. e ≡ fault.OutOfMemory) }
+{
+    let modes = Modes::new(alloc)?;
+    let leases = Leases::new(alloc)?;
+    Ok((modes, leases))
+}
+
+/// Every slot free, and no stripes.
+fn no_stripes(alloc: Global, topology: &Topology) -> Result<(SlotTable, Stripes), Fault>
+    ensures value { IfOk result (λ r. (slots_of r.0 ≡ all_free topology.now) × (stored_in r.1 ≡ stored.empty topology.now)) }
+    ensures err { IfErr result (λ e. e ≡ fault.OutOfMemory) }
+{
+    let table = SlotTable::new(alloc, topology)?;
+    let stripes = Stripes::new(alloc, topology)?;
+    Ok((table, stripes))
 }

@@ -19,5 +19,3 @@ pub use lease::Lease;
 pub use leases::Leases;
 pub use targets_on::TargetsOn;
 
-#[cfg(test)]
-mod tests;

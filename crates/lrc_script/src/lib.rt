@@ -6,8 +6,6 @@ mod cut;
 mod front;
 pub mod laws;
 mod script;
-#[cfg(test)]
-mod tests;
 
 pub use bundle::{Bundle, BundleError, ScriptText, split_bundle};
 pub use script::{Cause, ScriptError, parse_script};

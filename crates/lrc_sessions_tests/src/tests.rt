@@ -3,6 +3,7 @@
 ghost use Rattle.std.specs.Prelude.{◌≡◌, length, IfOk};
 ghost use Rattle.lrc_sessions.specs.Views.{fresh};
 
+mod board;
 mod full;
 mod gates;
 mod looks;

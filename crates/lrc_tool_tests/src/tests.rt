@@ -9,6 +9,7 @@ mod nodes;
 mod placing;
 mod recoveries;
 mod repair;
+mod script;
 mod several;
 mod streams;
 mod tables;

@@ -7,4 +7,4 @@ use Rattle.lrc_book.proofs.book.Book.history.Goals as goal
 pub returns-clause-good : goal.returns-clause-good
 returns-clause-good c =
     let b = c.self.inside in
-    subst (λ (v : BookView). IsGood v.nodes v.history (state_of v)) c.self.view_is (state_after-good b.store.topology c.self.invariant.store_is.known b.history.items c.self.invariant.legal)
+    subst (λ (v : BookView). IsGood v.nodes v.history (state_of v)) c.self.view_is (state_after-good b.store.value.topology c.self.invariant.store_is.known b.history.items c.self.invariant.legal)

@@ -13,7 +13,7 @@ use Rattle.lrc_book.proofs.book.Book.make_call.Goals as goal
 pub make-requires : goal.make-requires
 make-requires c =
     let b = c.self.inside in
-    let nodes = b.store.topology in
+    let nodes = b.store.value.topology in
     let h = b.history.items in
     let w = world_after nodes h in
     let entries = c.push_reserved.new.self.items in
@@ -23,7 +23,7 @@ make-requires c =
     let made = c.answer.new.made in
     let at = length-before h entries c.deref.result.now first made n (vec_len b.history) pushed c.deref.ensures.value (c.deref.ensures.len ∙ c.push_reserved.ensures.len) c.len-place.ensures in
     let below = rw (← c.self.view_is) at c.requires.room in
-    let ready = and_parts (nat_le (vec_len b.history + 1) (vec_capacity b.history)) (has_room b.store && is_some b.seats) (rw (← c.self.view_is) at c.requires.ready) in
+    let ready = and_parts (nat_le (vec_len b.history + 1) (vec_capacity b.history)) (has_room b.store.value && is_some b.seats) (rw (← c.self.view_is) at c.requires.ready) in
     let found = c.index_mut-made.ensures.value ∙ last-pushed h entries first n at pushed c.index_mut-made.result.now ∙ c.new.ensures in
     let told = c.answer.ensures w.state h c.self.invariant.store_is c.self.invariant.counted c.self.invariant.ahead
     ∙ ap (λ (e : Entry). record e { reply = (step nodes h w.state e.session e.command).0 }) found in
@@ -33,9 +33,9 @@ make-requires c =
       (
         rw past c.self.invariant.store_is,
         (
-          few-grants b.store b.grants b.front b.limit h c.self.invariant below,
+          few-grants b.store.value b.grants b.front b.limit h c.self.invariant below,
           (
-            (and_parts (has_room b.store) (is_some b.seats) ready.1).0,
+            (and_parts (has_room b.store.value) (is_some b.seats) ready.1).0,
             rw (past, last) (ap (λ (xs : List Entry). (step nodes xs w.state c.args.session c.args.command).0) (past-after nodes h)),
           ),
         ),
@@ -60,7 +60,7 @@ invariant_of-self c =
 pub returns-clause-history : goal.returns-clause-history
 returns-clause-history c =
     let b = c.self.inside in
-    let nodes = b.store.topology in
+    let nodes = b.store.value.topology in
     let h = b.history.items in
     let w = world_after nodes h in
     let entries = c.push_reserved.new.self.items in

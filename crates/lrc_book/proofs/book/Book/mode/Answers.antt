@@ -9,7 +9,7 @@ use Rattle.lrc_book.proofs.book.Book.mode.Goals as goal
 pub returns-in-Some : goal.returns-in-Some
 returns-in-Some c =
     let kept = c.self.invariant.store_is in
-    let st = state_after c.self.inside.store.topology c.self.inside.history.items in
+    let st = state_after c.self.inside.store.value.topology c.self.inside.history.items in
     ap₂ (λ (m : Mode) (online : Bool). Some (m, online)) (c.mode.ensures st kept.modes_are) (c.is_online.ensures st kept.modes_are)
     ∙ sym (ap (option_map (λ (n : NodeInfo). (mode_of st n.number, is_online st n))) (sym c.node.ensures ∙ c.in-Some.is))
     ∙ ap (λ (b : BookView). mode_shown b.nodes (state_of b) c.args.node) c.self.view_is

@@ -9,7 +9,7 @@ use Rattle.lrc_book.proofs.book.Book.risk.Goals as goal
 
 pub returns-clause-value : goal.returns-clause-value
 returns-clause-value c =
-    let store = c.self.inside.store in
+    let store = c.self.inside.store.value in
     let st = state_after store.topology c.self.inside.history.items in
     let kept = c.self.invariant.store_is in
     let all : c.loop-row.rows.items ≡ c.at_risk-row-items.result =

@@ -1,4 +1,0 @@
-use Rattle.lrc_board_tests.proofs.tests.a_viewer_sees_what_it_was_shown.Given as goal
-
-abbrev pub ghosts-watch : goal.ghosts-watch
-ghosts-watch g a = record { log = a.log.front.book; start = a.log.pen.nib.key; topology = a.book.nodes }

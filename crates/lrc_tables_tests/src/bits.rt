@@ -1,0 +1,185 @@
+//! Sets beside lists of truth values that hold the same numbers.
+
+ghost use Rattle.std.specs.Prelude.{◌≡◌, length};
+
+use lrc_bits::BitSet;
+use std::process::Abort;
+use std::test::Fail;
+
+/// Whether a set holds the numbers that a list marks, and finds the first present and absent ones where a plain
+/// search does.
+fn agree(set: &BitSet<2>, plain: &[bool; 128]) -> bool
+    requires { length set.now ≡ 128 }
+{
+    let mut same = set.first_absent() == plain.iter().position(|mark| !*mark);
+    same = same && set.first_from(0) == plain.iter().position(|mark| *mark);
+    same = same && set.first() == set.first_from(0);
+    same = same && set.is_empty() == !plain.iter().any(|mark| *mark);
+    for place in 0..128usize {
+        same = same && set.contains(place) == plain[place];
+    }
+    same
+}
+
+#[test]
+fn a_set_answers_as_a_list_does(rt: HostRuntime) -> Result<(), Fail> {
+    let mut set = BitSet::<2>::new();
+    let mut plain = [false; 128];
+    assert!(rt; agree(&set, &plain));
+    for step in 0..384usize {
+        let place = step * 37 % 128;
+        if plain[place] {
+            set.remove(place);
+        } else {
+            set.insert(place);
+        }
+        plain[place] = !plain[place];
+        assert!(rt; agree(&set, &plain));
+    }
+    Ok(())
+}
+
+#[test]
+fn a_search_goes_on_in_the_next_word(rt: HostRuntime) -> Result<(), Fail> {
+    let mut set = BitSet::<3>::new();
+    set.insert(63);
+    set.insert(130);
+    assert_eq!(rt; set.first_from(0), Some(63));
+    assert_eq!(rt; set.first_from(63), Some(63));
+    assert_eq!(rt; set.first_from(64), Some(130));
+    assert_eq!(rt; set.first_from(131), None);
+    assert_eq!(rt; set.first_from(192), None);
+    Ok(())
+}
+
+#[test]
+fn the_numbers_of_a_copy_are_taken_out_in_order(rt: HostRuntime) -> Result<(), Fail> {
+    let mut set = BitSet::<2>::new();
+    set.insert(70);
+    set.insert(5);
+    let mut left = set.copy();
+    assert_eq!(rt; left.pop_first(), Some(5));
+    assert_eq!(rt; left.pop_first(), Some(70));
+    assert_eq!(rt; left.pop_first(), None);
+    assert_eq!(rt; set.first(), Some(5));
+    Ok(())
+}
+
+#[test]
+fn a_walk_gives_each_number_once(rt: HostRuntime) -> Result<(), Fail> {
+    let mut set = BitSet::<3>::new();
+    set.insert(63);
+    set.insert(130);
+    set.insert(131);
+    let mut left = set.members();
+    assert_eq!(rt; left.next_member(), Some(63));
+    assert_eq!(rt; left.next_member(), Some(130));
+    assert_eq!(rt; left.next_member(), Some(131));
+    assert_eq!(rt; left.next_member(), None);
+    assert_eq!(rt; left.next_member(), None);
+    Ok(())
+}
+
+#[test]
+fn a_number_is_near_where_it_stands_in_the_same_word(rt: HostRuntime) -> Result<(), Fail> {
+    let mut set = BitSet::<3>::new();
+    set.insert(63);
+    set.insert(130);
+    assert!(rt; set.has_near(0));
+    assert!(rt; !set.has_near(64));
+    assert!(rt; set.has_near(191));
+    Ok(())
+}
+
+#[test]
+fn a_search_in_one_word_ends_with_it(rt: HostRuntime) -> Result<(), Fail> {
+    let mut set = BitSet::<3>::new();
+    set.insert(3);
+    set.insert(130);
+    set.insert(190);
+    assert_eq!(rt; set.first_near(0), Some(3));
+    assert_eq!(rt; set.first_near(3), Some(3));
+    assert_eq!(rt; set.first_near(4), None);
+    assert_eq!(rt; set.first_near(64), None);
+    assert_eq!(rt; set.first_near(131), Some(190));
+    assert_eq!(rt; set.first_near(192), None);
+    Ok(())
+}
+
+#[test]
+fn what_another_set_holds_is_put_in(rt: HostRuntime) -> Result<(), Fail> {
+    let mut set = BitSet::<2>::new();
+    let mut other = BitSet::<2>::new();
+    set.insert(5);
+    set.insert(64);
+    other.insert(5);
+    other.insert(70);
+    set.insert_all(&other);
+    assert_eq!(rt; set.first_from(0), Some(5));
+    assert_eq!(rt; set.first_from(6), Some(64));
+    assert_eq!(rt; set.first_from(65), Some(70));
+    Ok(())
+}
+
+#[test]
+fn what_two_other_sets_hold_is_passed_over_in_a_word(rt: HostRuntime) -> Result<(), Fail> {
+    let mut set = BitSet::<2>::new();
+    let mut one = BitSet::<2>::new();
+    let mut other = BitSet::<2>::new();
+    set.insert(5);
+    set.insert(66);
+    set.insert(70);
+    one.insert(66);
+    other.insert(5);
+    assert_eq!(rt; set.first_of_word_outside_both(1, &one, &other), Some(70));
+    assert_eq!(rt; set.first_of_word_outside_both(0, &one, &other), None);
+    Ok(())
+}
+
+#[test]
+fn a_word_by_itself_tells_its_numbers_from_its_first(rt: HostRuntime) -> Result<(), Fail> {
+    let mut set = BitSet::<2>::new();
+    set.insert(5);
+    set.insert(66);
+    set.insert(127);
+    let mut word = set.of_word(1);
+    assert_eq!(rt; word.pop_first(), Some(2));
+    assert_eq!(rt; word.pop_first(), Some(63));
+    assert_eq!(rt; word.pop_first(), None);
+    Ok(())
+}
+
+#[test]
+fn what_two_sets_have_in_common_is_put_in(rt: HostRuntime) -> Result<(), Fail> {
+    let mut set = BitSet::<2>::new();
+    let mut one = BitSet::<2>::new();
+    let mut other = BitSet::<2>::new();
+    set.insert(7);
+    one.insert(3);
+    one.insert(64);
+    one.insert(100);
+    other.insert(4);
+    other.insert(64);
+    other.insert(127);
+    set.insert_common(&one, &other);
+    assert_eq!(rt; set.first_from(0), Some(7));
+    assert_eq!(rt; set.first_from(8), Some(64));
+    assert_eq!(rt; set.first_from(65), None);
+    Ok(())
+}
+
+#[test]
+fn what_another_set_holds_is_taken_out(rt: HostRuntime) -> Result<(), Fail> {
+    let mut set = BitSet::<2>::new();
+    let mut other = BitSet::<2>::new();
+    set.insert(5);
+    set.insert(64);
+    set.insert(70);
+    other.insert(6);
+    other.insert(64);
+    set.remove_all(&other);
+    assert_eq!(rt; set.first_from(0), Some(5));
+    assert_eq!(rt; set.first_from(6), Some(70));
+    assert_eq!(rt; set.first_from(71), None);
+    Ok(())
+}

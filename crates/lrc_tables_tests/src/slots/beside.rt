@@ -1,0 +1,214 @@
+//! Runs of calls of a table beside those of one that is searched from end to end.
+
+ghost use Rattle.std.specs.Prelude.{◌≡◌, ◌≤◌};
+ghost use Rattle.lrc_slots.specs.Tables.{slots_of};
+
+use crate::slots::bars::Bars;
+use crate::slots::plain_table::PlainTable;
+use lrc_code::{FaultNo, NodeNo, UpgradeNo};
+use lrc_slots::{OpenNode, SlotTable};
+use lrc_topology::Topology;
+use std::alloc::Global;
+use std::fmt::Write;
+use std::process::Abort;
+use std::test::Fail;
+
+/// Nodes in 30 fault domains and 10 upgrade domains, with one to four slots, and not in the order of their numbers.
+fn store(alloc: Global, count: u32) -> Result<Topology, Fail> {
+    let mut text = String::new(alloc);
+    for place in 0..count {
+        let number = number_at(place).value;
+        let fault = place % 30;
+        let upgrade = place / 3 % 10;
+        let slots = 1 + place % 4;
+        write!(
+            text,
+            "[[node]]\nnumber = {number}\nfault = {fault}\nupgrade = {upgrade}\nslots = {slots}\n"
+        )?;
+    }
+    Ok(Topology::read(alloc, text.as_bytes())?)
+}
+
+/// The number of the node at a place: no two below 1,009 are the same.
+fn number_at(place: u32) -> NodeNo {
+    NodeNo {
+        value: (place % 1009 * 37 % 1009) as u16,
+    }
+}
+
+/// What comes after a number in a fixed order in which those below 65,537 all come up.
+fn after(state: u32) -> u32 {
+    (state % 65537 * 75 + 74) % 65537
+}
+
+/// Bars two fault domains and an upgrade domain, or none.
+fn bars_of(table: &SlotTable, state: u32) -> Bars {
+    let mut bars = Bars::new();
+    if !state.is_multiple_of(5) {
+        bars.bar_fault(
+            table,
+            FaultNo {
+                value: (state / 8 % 30) as u8,
+            },
+        );
+        bars.bar_fault(
+            table,
+            FaultNo {
+                value: (state / 240 % 30) as u8,
+            },
+        );
+        bars.bar_upgrade(
+            table,
+            UpgradeNo {
+                value: (state / 7200 % 10) as u8,
+            },
+        );
+    }
+    bars
+}
+
+/// Whether both choose the same node and slot, and know alike whether any node takes a seat.
+fn choose_alike(table: &SlotTable, plain: &PlainTable, bars: &Bars) -> bool {
+    let chosen = plain.choose(&bars.faults, &bars.upgrades);
+    let open = plain.open(chosen);
+    table.choose(&bars.taken) == chosen
+        && table.open_beside(&bars.taken) == open
+        && table.open_beside_each(&bars.taken) == open
+        && open_outside(table, bars) == open
+        && table.has_open_node() == plain.has_open_node()
+}
+
+/// The node outside the two sets of barred nodes, and its least free slot.
+fn open_outside(table: &SlotTable, bars: &Bars) -> Option<OpenNode> {
+    let row = table.row_outside(&bars.fault_nodes, &bars.upgrade_nodes)?;
+    Some(OpenNode {
+        node: *row.node,
+        slot: row.slot,
+    })
+}
+
+/// Whether both tell the same load and least free slot of a node.
+fn tell_alike(topology: &Topology, table: &SlotTable, plain: &PlainTable, node: NodeNo) -> bool
+    requires { (slots_of table.now).nodes ≡ topology.now }
+{
+    if topology.node(node).is_none() {
+        return plain.node(node).is_none();
+    }
+    match plain.node(node) {
+        Some(other) => {
+            table.load(node) == other.load() && table.first_free(node) == other.first_free()
+        }
+        None => false,
+    }
+}
+
+/// Takes a slot of the node that is chosen.
+fn take(table: &mut SlotTable, plain: &mut PlainTable, bars: &Bars)
+    ensures { (slots_of table.new).nodes ≡ (slots_of table.old).nodes }
+{
+    if let Some(node) = table.choose(&bars.taken) {
+        if let Some(slot) = table.first_free(node) {
+            table.take_slot(node, slot);
+            if let Some(other) = plain.node_mut(node) {
+                other.set_taken(slot, true);
+            }
+        }
+    }
+}
+
+/// Gives a slot of a node back, if it is taken.
+fn free(table: &mut SlotTable, plain: &mut PlainTable, node: NodeNo, slot: u16)
+    ensures { (slots_of table.new).nodes ≡ (slots_of table.old).nodes }
+{
+    if table.is_taken(node, slot) {
+        table.free(node, slot);
+        if let Some(other) = plain.node_mut(node) {
+            other.set_taken(slot, false);
+        }
+    }
+}
+
+/// Sets whether a node may be chosen.
+fn set_eligible(
+    topology: &Topology,
+    table: &mut SlotTable,
+    plain: &mut PlainTable,
+    node: NodeNo,
+    eligible: bool,
+)
+    requires { (slots_of table.old).nodes ≡ topology.now }
+    ensures { (slots_of table.new).nodes ≡ (slots_of table.old).nodes }
+{
+    if topology.node(node).is_some() {
+        table.set_eligible(node, eligible);
+        if let Some(other) = plain.node_mut(node) {
+            other.set_eligible(eligible);
+        }
+    }
+}
+
+/// Makes one call of each; five of eight take a slot, two free one, and one sets whether a node is eligible.
+fn call(
+    topology: &Topology,
+    table: &mut SlotTable,
+    plain: &mut PlainTable,
+    bars: &Bars,
+    node: NodeNo,
+    state: u32,
+)
+    requires { (slots_of table.old).nodes ≡ topology.now }
+    ensures { (slots_of table.new).nodes ≡ topology.now }
+{
+    let kind = state % 8;
+    if kind < 5 {
+        take(table, plain, bars);
+    } else if kind < 7 {
+        free(table, plain, node, (state / 8 % 4) as u16);
+    } else {
+        set_eligible(topology, table, plain, node, !state.is_multiple_of(3));
+    }
+}
+
+/// Makes 2,000 calls of each, and answers after how many of them both told the same.
+fn calls_alike(
+    topology: &Topology,
+    table: &mut SlotTable,
+    plain: &mut PlainTable,
+    count: u32,
+) -> u32
+    requires nodes { (slots_of table.old).nodes ≡ topology.now }
+    requires some { 1 ≤ count }
+{
+    let mut state = 1;
+    let mut alike = 0;
+    for _ in 0..2000u32 {
+        state = after(state);
+        let node = number_at(state % count);
+        let bars = bars_of(table, state);
+        call(topology, table, plain, &bars, node, state);
+        if choose_alike(table, plain, &bars) && tell_alike(topology, table, plain, node) {
+            alike += 1;
+        }
+    }
+    alike
+}
+
+#[test]
+fn twenty_nodes_are_chosen_as_by_a_plain_search(rt: HostRuntime) -> Result<(), Fail> {
+    let topology = store(rt.alloc(), 20)?;
+    let mut table = SlotTable::new(rt.alloc(), &topology)?;
+    let mut plain = PlainTable::new(rt.alloc(), &topology)?;
+    assert_eq!(rt; calls_alike(&topology, &mut table, &mut plain, 20), 2000);
+    Ok(())
+}
+
+#[test]
+fn the_nodes_of_the_largest_store_are_chosen_as_by_a_plain_search(
+    rt: HostRuntime,
+) -> Result<(), Fail> {
+    let topology = store(rt.alloc(), 512)?;
+    let mut table = SlotTable::new(rt.alloc(), &topology)?;
+    let mut plain = PlainTable::new(rt.alloc(), &topology)?;
+    assert_eq!(rt; calls_alike(&topology, &mut table, &mut plain, 512), 2000);
+    Ok(())
+}

@@ -1,0 +1,59 @@
+//! A table without indexes, which is searched from end to end.
+
+use crate::slots::plain_node::PlainNode;
+use lrc_code::NodeNo;
+use lrc_slots::OpenNode;
+use lrc_topology::Topology;
+use std::alloc::{AllocError, Global};
+
+#[derive(Drop)]
+pub(crate) struct PlainTable {
+    nodes: Vec<PlainNode>,
+}
+
+impl PlainTable {
+    pub(crate) fn new(alloc: Global, topology: &Topology) -> Result<PlainTable, AllocError> {
+        let mut nodes = Vec::new(alloc);
+        for node in topology.nodes() {
+            nodes.push(PlainNode::new(*node))?;
+        }
+        Ok(PlainTable { nodes })
+    }
+
+    pub(crate) fn node(&self, number: NodeNo) -> Option<&PlainNode> {
+        self.nodes.iter().find(|node| node.number() == number)
+    }
+
+    pub(crate) fn node_mut(&mut self, number: NodeNo) -> Option<&mut PlainNode> {
+        self.nodes.iter_mut().find(|node| node.number() == number)
+    }
+
+    /// A node and its least free slot.
+    pub(crate) fn open(&self, number: Option<NodeNo>) -> Option<OpenNode> {
+        let node = self.node(number?)?;
+        let slot = node.first_free()?;
+        Some(OpenNode {
+            node: node.info(),
+            slot,
+        })
+    }
+
+    /// Whether some node takes a seat.
+    pub(crate) fn has_open_node(&self) -> bool {
+        self.nodes.iter().any(|node| node.is_open())
+    }
+
+    /// The node that is chosen where these domains are barred.
+    pub(crate) fn choose(&self, faults: &[bool; 256], upgrades: &[bool; 256]) -> Option<NodeNo> {
+        let mut best: Option<&PlainNode> = None;
+        for node in self.nodes.iter() {
+            if node.may_take(faults, upgrades) {
+                best = match best {
+                    Some(other) if !node.is_chosen_before(other) => Some(other),
+                    _ => Some(node),
+                };
+            }
+        }
+        best.map(|node| node.number())
+    }
+}

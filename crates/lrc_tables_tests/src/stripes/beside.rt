@@ -1,0 +1,295 @@
+//! A run of calls of a store beside those of one that is searched from end to end.
+
+ghost use Rattle.std.specs.Prelude.{IsTrue};
+ghost use Rattle.std.specs.List.{All};
+ghost use Rattle.lrc_stripes.specs.Stored.{has_node, has_slot};
+ghost use Rattle.lrc_stripes.specs.Tables.{stored_in};
+
+use crate::stripes::plain_store::{PlainRow, PlainStore};
+use crate::stripes::{node, nodes, seat};
+use lrc_code::{Fragment, UpgradeNo};
+use lrc_stripes::{Seat, Stripes};
+use std::test::Fail;
+
+/// What comes after a number in a fixed order in which those below 65,537 all come up.
+fn after(state: u32) -> u32 {
+    (state % 65537 * 75 + 74) % 65537
+}
+
+/// Five stripes that are not there, among them the first and the last, and two side by side.
+fn plain() -> Option<PlainStore> {
+    Some(PlainStore {
+        rows: [
+            PlainRow::new(0)?,
+            PlainRow::new(63)?,
+            PlainRow::new(64)?,
+            PlainRow::new(2047)?,
+            PlainRow::new(4095)?,
+        ],
+        offline: [false; 20],
+        draining: [false; 20],
+    })
+}
+
+/// Whether both tell the same of each stripe.
+fn tell_alike(stripes: &Stripes, plain: &PlainStore) -> bool {
+    for row in plain.rows {
+        let alike = if row.is_there {
+            stripes.missing(row.stripe) == Some(plain.missing(&row))
+                && stripes.level(row.stripe) == Some(plain.level(&row))
+                && stripes.contains(row.stripe)
+                && stripes.needs(row.stripe) == Some(stripes.needs_there(row.stripe))
+        } else {
+            stripes.missing(row.stripe).is_none() && stripes.level(row.stripe).is_none()
+        };
+        if !alike {
+            return false;
+        }
+    }
+    true
+}
+
+/// Whether both list the same stripes with work, in one order.
+fn work_alike(stripes: &Stripes, plain: &PlainStore) -> bool {
+    let mut work = stripes.work();
+    let mut some = false;
+    for rank in 0..5u8 {
+        for row in plain.rows {
+            if row.is_there && plain.rank(&row) == rank && plain.needs_lease(&row) {
+                some = true;
+                if work.next() != Some(row.stripe) {
+                    return false;
+                }
+            }
+        }
+    }
+    work.next().is_none() && stripes.has_work() == some
+}
+
+/// Whether both list the same stripes at risk with the same levels, in one order.
+fn risk_alike(stripes: &Stripes, plain: &PlainStore) -> bool {
+    let mut at_risk = stripes.at_risk();
+    for rank in 0..5u8 {
+        for row in plain.rows {
+            let level = plain.level(&row);
+            if row.is_there && plain.rank(&row) == rank && !level.is_whole() {
+                if at_risk.next() != Some((row.stripe, level)) {
+                    return false;
+                }
+            }
+        }
+    }
+    at_risk.next().is_none()
+}
+
+/// Whether both list the same homes on a node, in one order.
+fn homes_alike(stripes: &Stripes, plain: &PlainStore, number: u16) -> bool {
+    let mut homes = stripes.homes_on(node(number));
+    for row in plain.rows {
+        for fragment in Fragment::all() {
+            if row.is_there && is_on(row.home(fragment), number) {
+                if homes.next() != Some((row.stripe, fragment)) {
+                    return false;
+                }
+            }
+        }
+    }
+    homes.next().is_none()
+}
+
+fn is_on(home: Option<Seat>, number: u16) -> bool {
+    match home {
+        Some(seat) => seat.node.value == number,
+        None => false,
+    }
+}
+
+/// Whether the upgrade of a domain would lose the same stripe to both, and the same short one.
+fn lose_alike(stripes: &Stripes, plain: &PlainStore, domain: u8) -> bool {
+    let number = UpgradeNo { value: domain };
+    stripes.would_lose(number) == plain.would_lose(domain as u16)
+        && stripes.would_lose_short(number) == plain.would_lose_short(domain as u16)
+}
+
+/// Gives a fragment a home, if it has none and no other has this one.
+fn set_home(
+    stripes: &mut Stripes,
+    plain: &mut PlainStore,
+    place: usize,
+    fragment: Fragment,
+    seat: Seat,
+) {
+    if place >= 5 {
+        return;
+    }
+    let stripe = plain.rows[place].stripe;
+    if !stripes.contains(stripe) || !stripes.has_slot(seat) {
+        return;
+    }
+    if stripes.home(stripe, fragment).is_none() && stripes.is_without_home(seat) {
+        stripes.set_home(stripe, fragment, seat);
+        plain.rows[place].homes[fragment.value as usize] = Some(seat);
+    }
+}
+
+/// Takes a fragment's home away.
+fn clear_home(stripes: &mut Stripes, plain: &mut PlainStore, place: usize, fragment: Fragment) {
+    if place >= 5 {
+        return;
+    }
+    let stripe = plain.rows[place].stripe;
+    if stripes.contains(stripe) {
+        stripes.clear_home(stripe, fragment);
+        plain.rows[place].homes[fragment.value as usize] = None;
+    }
+}
+
+/// Takes a stripe out that is there, and adds one that is not.
+fn turn(stripes: &mut Stripes, plain: &mut PlainStore, place: usize) {
+    if place >= 5 {
+        return;
+    }
+    let stripe = plain.rows[place].stripe;
+    if stripes.contains(stripe) {
+        stripes.remove(stripe);
+        plain.rows[place].is_there = false;
+        plain.rows[place].homes = [None; 16];
+    } else if stripes.spare() >= 1 {
+        stripes.add(stripe);
+        plain.rows[place].is_there = true;
+        plain.rows[place].homes = [None; 16];
+    }
+}
+
+/// Adds a stripe that is not there with its fragments on nodes from this one on.
+fn add_seated(stripes: &mut Stripes, plain: &mut PlainStore, place: usize, number: u16) {
+    if place >= 5 {
+        return;
+    }
+    let stripe = plain.rows[place].stripe;
+    let mut seats = [seat(0, place as u16 % 4); 16];
+    for fragment in 0..16usize {
+        seats[fragment].node.value = (number % 20 + fragment as u16) % 20;
+    }
+    if stripes.contains(stripe) || stripes.spare() == 0 || !are_slots(stripes, &seats) {
+        return;
+    }
+    stripes.add_with_homes(stripe, &seats);
+    plain.rows[place].is_there = true;
+    for fragment in 0..16usize {
+        plain.rows[place].homes[fragment] = Some(seats[fragment]);
+    }
+}
+
+/// Whether all of these are slots of nodes.
+fn are_slots(stripes: &Stripes, seats: &[Seat]) -> bool
+    ensures { IsTrue result → All (λ seat. IsTrue (has_slot (stored_in stripes.now).nodes seat)) seats.now }
+{
+    for seat in seats.iter() {
+        if !stripes.has_slot(*seat) {
+            return false;
+        }
+    }
+    true
+}
+
+/// Sets whether the two nodes of an upgrade domain are offline.
+fn set_domain_offline(
+    stripes: &mut Stripes,
+    plain: &mut PlainStore,
+    domain: u16,
+    is_offline: bool,
+) {
+    if domain < 10 {
+        let number = UpgradeNo {
+            value: domain as u8,
+        };
+        stripes.set_offline_in(number, is_offline);
+        plain.offline[domain as usize] = is_offline;
+        plain.offline[domain as usize + 10] = is_offline;
+    }
+}
+
+/// Sets whether a node is offline.
+fn set_offline(stripes: &mut Stripes, plain: &mut PlainStore, number: u16, is_offline: bool) {
+    let node = node(number);
+    if number < 20 && stripes.has_node(node) {
+        stripes.set_offline(node, is_offline);
+        plain.offline[number as usize] = is_offline;
+    }
+}
+
+/// Sets whether a node is draining.
+fn set_draining(stripes: &mut Stripes, plain: &mut PlainStore, number: u16, is_draining: bool) {
+    let node = node(number);
+    if number < 20 && stripes.has_node(node) {
+        stripes.set_draining(node, is_draining);
+        plain.draining[number as usize] = is_draining;
+    }
+}
+
+/// Makes one call of each: most set a home, and few take a stripe out or a node offline.
+fn call(stripes: &mut Stripes, plain: &mut PlainStore, state: u32, fragment: Fragment) {
+    let place = (state % 5) as usize;
+    let number = (state / 5 % 20) as u16;
+    let kind = state / 100 % 32;
+    let is_rare = (state / 3200).is_multiple_of(4);
+    if kind < 24 {
+        set_home(
+            stripes,
+            plain,
+            place,
+            fragment,
+            seat(number, (state / 3200 % 4) as u16),
+        );
+    } else if kind < 26 {
+        clear_home(stripes, plain, place, fragment);
+    } else if kind < 27 {
+        if is_rare || !plain_is_there(plain, place) {
+            turn(stripes, plain, place);
+            add_seated(stripes, plain, (place + 1) % 5, number);
+        }
+    } else if kind < 29 {
+        set_offline(stripes, plain, number, is_rare);
+    } else if kind < 30 {
+        set_domain_offline(stripes, plain, number % 10, is_rare);
+    } else {
+        set_draining(stripes, plain, number, is_rare);
+    }
+}
+
+fn plain_is_there(plain: &PlainStore, place: usize) -> bool {
+    match plain.rows.get(place) {
+        Some(row) => row.is_there,
+        None => false,
+    }
+}
+
+/// Makes 3,000 calls of each, and answers whether both told the same after each of them.
+fn calls_alike(stripes: &mut Stripes, plain: &mut PlainStore) -> Result<bool, Fail> {
+    let mut state = 1;
+    let mut are_alike = true;
+    for _ in 0..3000u32 {
+        stripes.reserve(1)?;
+        state = after(state);
+        let fragment = Fragment::new((state % 16) as u8).ok_or("a fragment")?;
+        state = after(state);
+        call(stripes, plain, state, fragment);
+        are_alike = are_alike
+            && tell_alike(stripes, plain)
+            && work_alike(stripes, plain)
+            && risk_alike(stripes, plain)
+            && homes_alike(stripes, plain, (state % 20) as u16)
+            && lose_alike(stripes, plain, (state % 10) as u8);
+    }
+    Ok(are_alike)
+}
+
+#[test]
+fn stripes_are_told_as_by_a_plain_search(rt: HostRuntime) -> Result<(), Fail> {
+    let topology = nodes(rt.alloc(), 20)?;
+    let mut stripes = Stripes::new(rt.alloc(), &topology)?;
+    let mut plain = plain().ok_or("five stripes")?;
+    assert!(rt; calls_alike(&mut stripes, &mut plain)?);
+    Ok(())
+}
