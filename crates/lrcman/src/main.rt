@@ -5,7 +5,7 @@
 mod tests;
 
 use clap::error::ErrorKind;
-use clap::{Arg, ArgAction, Command, Error};
+use clap::{Arg, ArgAction, ArgMatches, Command, Error};
 use lrc_tool::{Plain, RunFault, Status, check, recover, run};
 use std::alloc::{AllocError, Global};
 use std::process::ExitCode;
@@ -75,21 +75,24 @@ impl From<Error> for Stop {
     }
 }
 
-/// The command lines that the program takes.
-fn command_line<'a>(alloc: Global) -> Result<Command<'a>, Error> {
+/// The command lines that the program takes. Each step hands its only command on, so none is let go between.
+fn command_line<'a>(alloc: Global) -> Result<Command<'a>, AllocError> {
     let mask = Arg::new(alloc, "mask")
         .required(true)
         .action(ArgAction::Set);
     let recover = Command::new(alloc, "recover").arg(mask)?;
-    let command = Command::new(alloc, "lrcman")
-        .subcommand(Command::new(alloc, "run"))?
-        .subcommand(Command::new(alloc, "check"))?
-        .subcommand(recover)?;
-    Ok(command)
+    let command = Command::new(alloc, "lrcman").subcommand(recover)?;
+    let command = command.subcommand(Command::new(alloc, "run"))?;
+    command.subcommand(Command::new(alloc, "check"))
 }
 
 fn parse_request<'a>(alloc: Global, words: &'a [String]) -> Result<Request<'a>, Stop> {
     let matches = command_line(alloc)?.try_get_matches_from(words)?;
+    request_in(&matches)
+}
+
+/// The request that the words were matched with.
+fn request_in<'a>(matches: &ArgMatches<'a>) -> Result<Request<'a>, Stop> {
     match matches.subcommand() {
         Some(("run", _)) => Ok(Request::Run),
         Some(("check", _)) => Ok(Request::Check),
@@ -103,24 +106,33 @@ fn parse_request<'a>(alloc: Global, words: &'a [String]) -> Result<Request<'a>, 
 
 /// Does what the command line asks for; scripts run on these threads.
 fn perform<T: Threads + Wait + Sync>(rt: &HostRuntime, threads: &T) -> Result<Status, Stop> {
-    let alloc = rt.alloc();
-    let words = env::args(rt)?.collect::<Vec<String>>(alloc)?;
-    match parse_request(alloc, words.as_slice())? {
-        Request::Run => {
-            let mut source = Plain::new(rt.reader());
-            let mut sink = Plain::new(io::writer(rt));
-            Ok(run(threads, alloc, &mut source, &mut sink)?)
-        }
-        Request::Check => {
-            let mut source = Plain::new(rt.reader());
-            let mut sink = Plain::new(io::writer(rt));
-            Ok(check(alloc, &mut source, &mut sink)?)
-        }
-        Request::Recover { mask } => {
-            let mut sink = Plain::new(io::writer(rt));
-            Ok(recover(alloc, mask, &mut sink)?)
-        }
+    let words = env::args(rt)?.collect::<Vec<String>>(rt.alloc())?;
+    let request = parse_request(rt.alloc(), words.as_slice())?;
+    Ok(serve(rt, threads, request)?)
+}
+
+fn serve<T: Threads + Wait + Sync>(
+    rt: &HostRuntime,
+    threads: &T,
+    request: Request,
+) -> Result<Status, RunFault> {
+    match request {
+        Request::Run => run_input(rt, threads),
+        Request::Check => check_input(rt),
+        Request::Recover { mask } => recover(rt.alloc(), mask, &mut Plain::new(io::writer(rt))),
     }
+}
+
+fn run_input<T: Threads + Wait + Sync>(rt: &HostRuntime, threads: &T) -> Result<Status, RunFault> {
+    let mut source = Plain::new(rt.reader());
+    let mut sink = Plain::new(io::writer(rt));
+    run(threads, rt.alloc(), &mut source, &mut sink)
+}
+
+fn check_input(rt: &HostRuntime) -> Result<Status, RunFault> {
+    let mut source = Plain::new(rt.reader());
+    let mut sink = Plain::new(io::writer(rt));
+    check(rt.alloc(), &mut source, &mut sink)
 }
 
 fn main(rt: HostRuntime) -> ExitCode {
