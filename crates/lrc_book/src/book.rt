@@ -6,6 +6,7 @@ ghost use Rattle.lrc_book.specs.Urgency.{risk};
 ghost use Rattle.lrc_book.specs.Histories.{outcome_in, IsLegal};
 ghost use Rattle.lrc_book.specs.Goodness.{IsGood};
 ghost use Rattle.lrc_book.specs.Books.{world_of, state_of, FaultFits};
+ghost use Rattle.lrc_book.specs.Stores.{IsOf};
 
 use crate::store::Store;
 use crate::{Command, Lease, Level, Mode, Record, Reply, Seat};
@@ -72,6 +73,14 @@ impl Book {
         })
     }
 
+    /// What the book keeps of its state.
+    fn store(&self) -> &Store
+        ensures nodes { result.now.topology ≡ self.now.nodes }
+        ensures kept { IsOf (state_of self.now) result.now }
+    {
+        &self.store
+    }
+
     /// The entries so far.
     pub fn history(&self) -> &[Record]
         ensures value { result.now ≡ self.now.history }
@@ -87,22 +96,23 @@ impl Book {
     pub fn topology(&self) -> &Topology
         ensures { result.now ≡ self.now.nodes }
     {
-        &self.store.topology
+        &self.store().topology
     }
 
     /// The home of each fragment of a stripe, in rising order; `None` where there is no such stripe.
     pub fn homes(&self, stripe: StripeNo) -> Option<[Option<Seat>; 16]>
         ensures { result ≡ homes_shown (state_of self.now) stripe }
     {
-        self.store.stripes.homes(stripe)
+        self.store().stripes.homes(stripe)
     }
 
     /// The number of seats on a node, at most 256; `None` where the store has no such node.
     pub fn load(&self, node: NodeNo) -> Option<u32>
         ensures { result ≡ load_shown self.now.nodes (state_of self.now) node }
     {
-        match self.store.topology.node(node) {
-            Some(_) => Some(self.store.table.load(node)),
+        let store = self.store();
+        match store.topology.node(node) {
+            Some(_) => Some(store.table.load(node)),
             None => None,
         }
     }
@@ -111,7 +121,7 @@ impl Book {
     pub fn level(&self, stripe: StripeNo) -> Option<Level>
         ensures { result ≡ level_shown self.now.nodes (state_of self.now) stripe }
     {
-        self.store.stripes.level(stripe)
+        self.store().stripes.level(stripe)
     }
 
     /// The fragments of a stripe that have no home, or one on a node that is not online; `None` where there is no
@@ -119,7 +129,7 @@ impl Book {
     pub fn missing(&self, stripe: StripeNo) -> Option<LossMask>
         ensures { result ≡ missing_shown self.now.nodes (state_of self.now) stripe }
     {
-        self.store.stripes.missing(stripe)
+        self.store().stripes.missing(stripe)
     }
 
     /// The stripes that are not whole, with their levels, in the order of repair: by rank, and by number.
@@ -132,7 +142,7 @@ impl Book {
         ensures err { IfErr result (λ e. e ≡ fault.OutOfMemory) }
     {
         let mut rows = Vec::new(alloc);
-        for row in self.store.stripes.at_risk() {
+        for row in self.store().stripes.at_risk() {
             rows.push(row)?;
         }
         Ok(rows)
@@ -142,18 +152,16 @@ impl Book {
     pub fn lease(&self, stripe: StripeNo, fragment: Fragment) -> Option<Lease>
         ensures { result ≡ lease_of (state_of self.now) stripe fragment }
     {
-        self.store.leases.lease(stripe, fragment)
+        self.store().leases.lease(stripe, fragment)
     }
 
     /// The mode of a node, and whether it is online; `None` where the store has no such node.
     pub fn mode(&self, node: NodeNo) -> Option<(Mode, bool)>
         ensures { result ≡ mode_shown self.now.nodes (state_of self.now) node }
     {
-        match self.store.topology.node(node) {
-            Some(info) => Some((
-                self.store.modes.mode(info.number),
-                self.store.modes.is_online(&info),
-            )),
+        let store = self.store();
+        match store.topology.node(node) {
+            Some(info) => Some((store.modes.mode(info.number), store.modes.is_online(&info))),
             None => None,
         }
     }

@@ -93,10 +93,10 @@ impl Book {
         self.history
             .push_reserved(Record::new(session, command, Answer::Idle));
         let made = &mut self.history[place];
-        self.store
-            .answer(&self.grants, self.front, &mut self.seats, made);
+        let store = &mut *self.store;
+        store.answer(&self.grants, self.front, &mut self.seats, made);
         make(
-            &mut self.store,
+            store,
             &mut self.grants,
             &mut self.front,
             &self.history[..place],
@@ -120,8 +120,9 @@ impl Book {
         } = plan.entry;
         let answer = Answer::of(&reply, &mut self.seats);
         let made = Record::new(session, command, answer);
+        let store = &mut *self.store;
         make(
-            &mut self.store,
+            store,
             &mut self.grants,
             &mut self.front,
             &self.history,

@@ -10,7 +10,7 @@ pub returns-clause-step : goal.returns-clause-step
 returns-clause-step c =
     let b = c.self.inside in
     let w = world_after b.store.value.topology b.history.items in
-    let told = c.reply-reply.ensures w.state b.history.items c.self.invariant.store_is c.self.invariant.counted c.self.invariant.ahead in
+    let told = (rw c.deref.ensures at c.reply-reply.ensures) w.state b.history.items c.self.invariant.store_is c.self.invariant.counted c.self.invariant.ahead in
     rw (← c.self.view_is)
     (sym (told ∙ ap (λ (past : List Entry). (step b.store.value.topology past w.state c.args.session c.args.command).0) (sym (past-after b.store.value.topology b.history.items))))
 

@@ -1,10 +1,11 @@
-use Rattle.std.proofs.Common.{ap, ◌∙◌}
+use Rattle.std.proofs.Common.{List, ap, ◌∙◌}
+use Rattle.lrc_topology.specs.declared.NodeInfo.{NodeInfo}
 use Rattle.lrc_stripes.specs.Stored.{Stored, level_shown}
 use Rattle.lrc_book.specs.States as states
-use Rattle.lrc_book.specs.Books.{BookView, state_of}
+use Rattle.lrc_book.specs.Books.{state_of}
 use Rattle.lrc_book.proofs.book.Book.level.Goals as goal
 
 pub returns : goal.returns
 returns c =
-    c.level.ensures ∙ ap (λ (x : Stored). level_shown x c.args.stripe) c.self.invariant.store_is.stripes_is
-    ∙ ap (λ (b : BookView). states.level_shown b.nodes (state_of b) c.args.stripe) c.self.view_is
+    c.level.ensures ∙ ap (λ (x : Stored). level_shown x c.args.stripe) c.store.ensures.kept.stripes_is
+    ∙ ap (λ (nodes : List NodeInfo). states.level_shown nodes (state_of c.args.self.now) c.args.stripe) c.store.ensures.nodes

@@ -1,10 +1,11 @@
-use Rattle.std.proofs.Common.{nat_le, vec_len, vec_capacity, is_some, ◌+◌, ◌&&◌, List, ◌++◌, ◌∷◌, [], take, refl, sym, ap, ◌∙◌}
+use Rattle.std.proofs.Common.{◌≡◌, true, subst, nat_le, vec_len, vec_capacity, is_some, ◌+◌, ◌&&◌, List, ◌++◌, ◌∷◌, [], take, refl, sym, ap, ◌∙◌}
 use Rattle.std.proofs.lemmas.Bool.{and_parts}
 use Rattle.lrc_book.specs.declared.entry.Entry.{Entry}
 use Rattle.lrc_book.specs.declared.reply.Reply.{Reply}
-use Rattle.lrc_book.specs.Histories.{world_after}
+use Rattle.lrc_book.specs.declared.store.Store.{Store}
+use Rattle.lrc_book.specs.Histories.{world_after, state_after, outcome_in}
 use Rattle.lrc_book.specs.Steps.{step}
-use Rattle.lrc_book.specs.Stores.{has_room}
+use Rattle.lrc_book.specs.Stores.{IsOf, has_room}
 use Rattle.lrc_book.proofs.GoodLemmas.{past-after}
 use Rattle.lrc_book.proofs.CountedLemmas.{few-grants}
 use Rattle.lrc_book.proofs.LastLemmas.{length-before, last-pushed, set-last, before-last, last-set}
@@ -25,18 +26,22 @@ make-requires c =
     let below = rw (← c.self.view_is) at c.requires.room in
     let ready = and_parts (nat_le (vec_len b.history + 1) (vec_capacity b.history)) (has_room b.store.value && is_some b.seats) (rw (← c.self.view_is) at c.requires.ready) in
     let found = c.index_mut-made.ensures.value ∙ last-pushed h entries first n at pushed c.index_mut-made.result.now ∙ c.new.ensures in
-    let told = c.answer.ensures w.state h c.self.invariant.store_is c.self.invariant.counted c.self.invariant.ahead
+    let told = (rw c.deref_mut-store.ensures.value at c.answer.ensures) w.state h c.self.invariant.store_is c.self.invariant.counted c.self.invariant.ahead
     ∙ ap (λ (e : Entry). record e { reply = (step nodes h w.state e.session e.command).0 }) found in
     let past = ap (take n) c.deref.ensures.value ∙ before-last h entries first n at pushed made in
-    let last = c.index.ensures ∙ last-set h entries first n at pushed made c.index.result.now ∙ told in (
+    let last = c.index.ensures ∙ last-set h entries first n at pushed made c.index.result.now ∙ told in
+    let kept = sym c.deref_mut-store.ensures.value in
+    let answered = ap (λ (xs : List Entry). (step nodes xs w.state c.args.session c.args.command).0) (past-after nodes h) in (
       refl,
       (
-        rw past c.self.invariant.store_is,
+        rw past (subst (λ (k : Store). IsOf (state_after k.topology h) k) kept c.self.invariant.store_is),
         (
           few-grants b.store.value b.grants b.front b.limit h c.self.invariant below,
           (
-            (and_parts (has_room b.store.value) (is_some b.seats) ready.1).0,
-            rw (past, last) (ap (λ (xs : List Entry). (step nodes xs w.state c.args.session c.args.command).0) (past-after nodes h)),
+            subst (λ (k : Store). has_room k ≡ true) kept (and_parts (has_room b.store.value) (is_some b.seats) ready.1).0,
+            rw (past, last)
+              (subst (λ (k : Store). (outcome_in k.topology (world_after k.topology h) c.args.session c.args.command).0
+              ≡ (step nodes h w.state c.args.session c.args.command).0) kept answered),
           ),
         ),
       ),
@@ -54,7 +59,7 @@ invariant_of-self c =
     let at = length-before h entries c.deref.result.now first made n (vec_len b.history) pushed c.deref.ensures.value (c.deref.ensures.len ∙ c.push_reserved.ensures.len) c.len-place.ensures in
     let past = ap (take n) c.deref.ensures.value ∙ before-last h entries first n at pushed made in
     let last = c.index.ensures ∙ last-set h entries first n at pushed made c.index.result.now in
-    let kept = c.make.ensures.kept b.limit (rw past c.self.invariant) (rw past (rw (← c.self.view_is) at c.requires.room)) in
+    let kept = (rw c.deref_mut-store.ensures.value at c.make.ensures.kept) b.limit (rw past c.self.invariant) (rw past (rw (← c.self.view_is) at c.requires.room)) in
     rw (set-last h entries first n at pushed made) (rw (past, last) at kept)
 
 pub returns-clause-history : goal.returns-clause-history
@@ -70,7 +75,7 @@ returns-clause-history c =
     let made = c.answer.new.made in
     let at = length-before h entries c.deref.result.now first made n (vec_len b.history) pushed c.deref.ensures.value (c.deref.ensures.len ∙ c.push_reserved.ensures.len) c.len-place.ensures in
     let found = c.index_mut-made.ensures.value ∙ last-pushed h entries first n at pushed c.index_mut-made.result.now ∙ c.new.ensures in
-    let told = c.answer.ensures w.state h c.self.invariant.store_is c.self.invariant.counted c.self.invariant.ahead
+    let told = (rw c.deref_mut-store.ensures.value at c.answer.ensures) w.state h c.self.invariant.store_is c.self.invariant.counted c.self.invariant.ahead
     ∙ ap (λ (e : Entry). record e { reply = (step nodes h w.state e.session e.command).0 }) found in
     rw (← c.self.view_is)
     (set-last h entries first n at pushed made

@@ -1,19 +1,19 @@
 use Rattle.std.proofs.Common.{List, ◌≡◌, ◌++◌, append-nil, sym, ap, ◌∙◌, subst}
+use Rattle.lrc_topology.specs.declared.NodeInfo.{NodeInfo}
 use Rattle.lrc_stripes.specs.Tables.{stored_in}
 use Rattle.lrc_stripes.specs.Stored.{Stored, StripeLevel, AreAtRisk}
 use Rattle.lrc_book.specs.Urgency.{risk}
-use Rattle.lrc_book.specs.Histories.{state_after}
-use Rattle.lrc_book.specs.Books.{BookView, state_of}
+use Rattle.lrc_book.specs.Books.{state_of}
 use Rattle.lrc_book.proofs.UrgencyLemmas.{risk-is}
 use Rattle.lrc_book.proofs.book.Book.risk.Goals as goal
 
 pub returns-clause-value : goal.returns-clause-value
 returns-clause-value c =
-    let store = c.self.inside.store.value in
-    let st = state_after store.topology c.self.inside.history.items in
-    let kept = c.self.invariant.store_is in
+    let store = c.store.result.now in
+    let st = state_of c.args.self.now in
+    let kept = c.store.ensures.kept in
     let all : c.loop-row.rows.items ≡ c.at_risk-row-items.result =
     sym (append-nil c.loop-row.rows.items) ∙ sym (ap (λ (rest : List StripeLevel). c.loop-row.rows.items ++ rest) c.in-None.ensures.steps.0) ∙ c.loop-row.invariant ∙ c.into_iter-row-iterator.ensures.into_iter_gives in
     let are = subst (λ (t : Stored). AreAtRisk t c.at_risk-row-items.result) kept.stripes_is c.at_risk-row-items.ensures in
     all ∙ risk-is store.topology st (stored_in store.stripes).spare c.at_risk-row-items.result are kept.seated.stripes
-    ∙ ap (λ (b : BookView). risk b.nodes (state_of b)) c.self.view_is
+    ∙ ap (λ (nodes : List NodeInfo). risk nodes st) c.store.ensures.nodes

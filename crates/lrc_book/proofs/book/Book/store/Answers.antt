@@ -1,0 +1,18 @@
+use Rattle.std.proofs.Common.{ap, sym, ◌∙◌, subst}
+use Rattle.lrc_topology.specs.declared.NodeInfo.{NodeInfo}
+use Rattle.lrc_book.specs.declared.store.Store.{Store}
+use Rattle.lrc_book.specs.States.{State}
+use Rattle.lrc_book.specs.Stores.{IsOf}
+use Rattle.lrc_book.specs.Histories.{state_after}
+use Rattle.lrc_book.specs.Books.{BookView, state_of}
+use Rattle.lrc_book.proofs.book.Book.store.Goals as goal
+
+pub returns-clause-nodes : goal.returns-clause-nodes
+returns-clause-nodes c = ap (λ (k : Store). k.topology) c.deref.ensures ∙ ap (λ (b : BookView). b.nodes) c.self.view_is
+
+pub returns-clause-kept : goal.returns-clause-kept
+returns-clause-kept c =
+    let b = c.self.inside in
+    let st = state_after b.store.value.topology b.history.items in
+    subst (λ (v : BookView). IsOf (state_of v) c.deref.result.now) c.self.view_is
+    (subst (λ (k : Store). IsOf st k) (sym c.deref.ensures) c.self.invariant.store_is)
