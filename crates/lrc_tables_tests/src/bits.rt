@@ -2,9 +2,8 @@
 
 ghost use Rattle.std.specs.Prelude.{◌≡◌, length};
 
-use lrc_bits::BitSet;
+use lrc_bits::{BitSet, Members};
 use std::process::Abort;
-use std::test::Fail;
 
 /// Whether a set holds the numbers that a list marks, and finds the first present and absent ones where a plain
 /// search does.
@@ -21,8 +20,33 @@ fn agree(set: &BitSet<2>, plain: &[bool; 128]) -> bool
     same
 }
 
+/// The first number of a set from this one on.
+fn expect_first<const W: usize>(
+    rt: &impl Abort,
+    set: &BitSet<W>,
+    from: usize,
+    want: Option<usize>,
+) {
+    assert!(rt; set.first_from(from) == want, "from {from}");
+}
+
+/// The first number of a set from this one on, in the same word.
+fn expect_near<const W: usize>(rt: &impl Abort, set: &BitSet<W>, from: usize, want: Option<usize>) {
+    assert!(rt; set.first_near(from) == want, "from {from}");
+}
+
+/// The number that is taken out next.
+fn expect_popped<const W: usize>(rt: &impl Abort, set: &mut BitSet<W>, want: Option<usize>) {
+    assert!(rt; set.pop_first() == want);
+}
+
+/// The number that a walk gives next.
+fn expect_member(rt: &impl Abort, left: &mut Members, want: Option<usize>) {
+    assert!(rt; left.next_member() == want);
+}
+
 #[test]
-fn a_set_answers_as_a_list_does(rt: HostRuntime) -> Result<(), Fail> {
+fn a_set_answers_as_a_list_does(rt: HostRuntime) {
     let mut set = BitSet::<2>::new();
     let mut plain = [false; 128];
     assert!(rt; agree(&set, &plain));
@@ -36,78 +60,72 @@ fn a_set_answers_as_a_list_does(rt: HostRuntime) -> Result<(), Fail> {
         plain[place] = !plain[place];
         assert!(rt; agree(&set, &plain));
     }
-    Ok(())
 }
 
 #[test]
-fn a_search_goes_on_in_the_next_word(rt: HostRuntime) -> Result<(), Fail> {
+fn a_search_goes_on_in_the_next_word(rt: HostRuntime) {
     let mut set = BitSet::<3>::new();
     set.insert(63);
     set.insert(130);
-    assert_eq!(rt; set.first_from(0), Some(63));
-    assert_eq!(rt; set.first_from(63), Some(63));
-    assert_eq!(rt; set.first_from(64), Some(130));
-    assert_eq!(rt; set.first_from(131), None);
-    assert_eq!(rt; set.first_from(192), None);
-    Ok(())
+    expect_first(&rt, &set, 0, Some(63));
+    expect_first(&rt, &set, 63, Some(63));
+    expect_first(&rt, &set, 64, Some(130));
+    expect_first(&rt, &set, 131, None);
+    expect_first(&rt, &set, 192, None);
 }
 
 #[test]
-fn the_numbers_of_a_copy_are_taken_out_in_order(rt: HostRuntime) -> Result<(), Fail> {
+fn the_numbers_of_a_copy_are_taken_out_in_order(rt: HostRuntime) {
     let mut set = BitSet::<2>::new();
     set.insert(70);
     set.insert(5);
     let mut left = set.copy();
-    assert_eq!(rt; left.pop_first(), Some(5));
-    assert_eq!(rt; left.pop_first(), Some(70));
-    assert_eq!(rt; left.pop_first(), None);
-    assert_eq!(rt; set.first(), Some(5));
-    Ok(())
+    expect_popped(&rt, &mut left, Some(5));
+    expect_popped(&rt, &mut left, Some(70));
+    expect_popped(&rt, &mut left, None);
+    assert!(rt; set.first() == Some(5));
 }
 
 #[test]
-fn a_walk_gives_each_number_once(rt: HostRuntime) -> Result<(), Fail> {
+fn a_walk_gives_each_number_once(rt: HostRuntime) {
     let mut set = BitSet::<3>::new();
     set.insert(63);
     set.insert(130);
     set.insert(131);
     let mut left = set.members();
-    assert_eq!(rt; left.next_member(), Some(63));
-    assert_eq!(rt; left.next_member(), Some(130));
-    assert_eq!(rt; left.next_member(), Some(131));
-    assert_eq!(rt; left.next_member(), None);
-    assert_eq!(rt; left.next_member(), None);
-    Ok(())
+    expect_member(&rt, &mut left, Some(63));
+    expect_member(&rt, &mut left, Some(130));
+    expect_member(&rt, &mut left, Some(131));
+    expect_member(&rt, &mut left, None);
+    expect_member(&rt, &mut left, None);
 }
 
 #[test]
-fn a_number_is_near_where_it_stands_in_the_same_word(rt: HostRuntime) -> Result<(), Fail> {
+fn a_number_is_near_where_it_stands_in_the_same_word(rt: HostRuntime) {
     let mut set = BitSet::<3>::new();
     set.insert(63);
     set.insert(130);
     assert!(rt; set.has_near(0));
     assert!(rt; !set.has_near(64));
     assert!(rt; set.has_near(191));
-    Ok(())
 }
 
 #[test]
-fn a_search_in_one_word_ends_with_it(rt: HostRuntime) -> Result<(), Fail> {
+fn a_search_in_one_word_ends_with_it(rt: HostRuntime) {
     let mut set = BitSet::<3>::new();
     set.insert(3);
     set.insert(130);
     set.insert(190);
-    assert_eq!(rt; set.first_near(0), Some(3));
-    assert_eq!(rt; set.first_near(3), Some(3));
-    assert_eq!(rt; set.first_near(4), None);
-    assert_eq!(rt; set.first_near(64), None);
-    assert_eq!(rt; set.first_near(131), Some(190));
-    assert_eq!(rt; set.first_near(192), None);
-    Ok(())
+    expect_near(&rt, &set, 0, Some(3));
+    expect_near(&rt, &set, 3, Some(3));
+    expect_near(&rt, &set, 4, None);
+    expect_near(&rt, &set, 64, None);
+    expect_near(&rt, &set, 131, Some(190));
+    expect_near(&rt, &set, 192, None);
 }
 
 #[test]
-fn what_another_set_holds_is_put_in(rt: HostRuntime) -> Result<(), Fail> {
+fn what_another_set_holds_is_put_in(rt: HostRuntime) {
     let mut set = BitSet::<2>::new();
     let mut other = BitSet::<2>::new();
     set.insert(5);
@@ -115,14 +133,13 @@ fn what_another_set_holds_is_put_in(rt: HostRuntime) -> Result<(), Fail> {
     other.insert(5);
     other.insert(70);
     set.insert_all(&other);
-    assert_eq!(rt; set.first_from(0), Some(5));
-    assert_eq!(rt; set.first_from(6), Some(64));
-    assert_eq!(rt; set.first_from(65), Some(70));
-    Ok(())
+    expect_first(&rt, &set, 0, Some(5));
+    expect_first(&rt, &set, 6, Some(64));
+    expect_first(&rt, &set, 65, Some(70));
 }
 
 #[test]
-fn what_two_other_sets_hold_is_passed_over_in_a_word(rt: HostRuntime) -> Result<(), Fail> {
+fn what_two_other_sets_hold_is_passed_over_in_a_word(rt: HostRuntime) {
     let mut set = BitSet::<2>::new();
     let mut one = BitSet::<2>::new();
     let mut other = BitSet::<2>::new();
@@ -131,26 +148,24 @@ fn what_two_other_sets_hold_is_passed_over_in_a_word(rt: HostRuntime) -> Result<
     set.insert(70);
     one.insert(66);
     other.insert(5);
-    assert_eq!(rt; set.first_of_word_outside_both(1, &one, &other), Some(70));
-    assert_eq!(rt; set.first_of_word_outside_both(0, &one, &other), None);
-    Ok(())
+    assert!(rt; set.first_of_word_outside_both(1, &one, &other) == Some(70));
+    assert!(rt; set.first_of_word_outside_both(0, &one, &other) == None);
 }
 
 #[test]
-fn a_word_by_itself_tells_its_numbers_from_its_first(rt: HostRuntime) -> Result<(), Fail> {
+fn a_word_by_itself_tells_its_numbers_from_its_first(rt: HostRuntime) {
     let mut set = BitSet::<2>::new();
     set.insert(5);
     set.insert(66);
     set.insert(127);
     let mut word = set.of_word(1);
-    assert_eq!(rt; word.pop_first(), Some(2));
-    assert_eq!(rt; word.pop_first(), Some(63));
-    assert_eq!(rt; word.pop_first(), None);
-    Ok(())
+    expect_popped(&rt, &mut word, Some(2));
+    expect_popped(&rt, &mut word, Some(63));
+    expect_popped(&rt, &mut word, None);
 }
 
 #[test]
-fn what_two_sets_have_in_common_is_put_in(rt: HostRuntime) -> Result<(), Fail> {
+fn what_two_sets_have_in_common_is_put_in(rt: HostRuntime) {
     let mut set = BitSet::<2>::new();
     let mut one = BitSet::<2>::new();
     let mut other = BitSet::<2>::new();
@@ -162,14 +177,13 @@ fn what_two_sets_have_in_common_is_put_in(rt: HostRuntime) -> Result<(), Fail> {
     other.insert(64);
     other.insert(127);
     set.insert_common(&one, &other);
-    assert_eq!(rt; set.first_from(0), Some(7));
-    assert_eq!(rt; set.first_from(8), Some(64));
-    assert_eq!(rt; set.first_from(65), None);
-    Ok(())
+    expect_first(&rt, &set, 0, Some(7));
+    expect_first(&rt, &set, 8, Some(64));
+    expect_first(&rt, &set, 65, None);
 }
 
 #[test]
-fn what_another_set_holds_is_taken_out(rt: HostRuntime) -> Result<(), Fail> {
+fn what_another_set_holds_is_taken_out(rt: HostRuntime) {
     let mut set = BitSet::<2>::new();
     let mut other = BitSet::<2>::new();
     set.insert(5);
@@ -178,8 +192,7 @@ fn what_another_set_holds_is_taken_out(rt: HostRuntime) -> Result<(), Fail> {
     other.insert(6);
     other.insert(64);
     set.remove_all(&other);
-    assert_eq!(rt; set.first_from(0), Some(5));
-    assert_eq!(rt; set.first_from(6), Some(70));
-    assert_eq!(rt; set.first_from(71), None);
-    Ok(())
+    expect_first(&rt, &set, 0, Some(5));
+    expect_first(&rt, &set, 6, Some(70));
+    expect_first(&rt, &set, 71, None);
 }

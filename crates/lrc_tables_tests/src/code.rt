@@ -1,72 +1,101 @@
 use lrc_code::{Class, Fault, FaultNo, Fragment, LossMask, NodeNo, SessionNo, StripeNo, UpgradeNo};
-use std::test::Fail;
+use std::process::Abort;
+
+fn stripe(number: u16) -> Option<u16> {
+    Some(StripeNo::new(number)?.get())
+}
+
+fn fragment(number: u8) -> Option<u8> {
+    Some(Fragment::new(number)?.get())
+}
+
+fn session(number: u8) -> Option<u8> {
+    Some(SessionNo::new(number)?.get())
+}
 
 #[test]
 fn numbers_end_at_their_limits(rt: HostRuntime) {
-    assert_eq!(rt; StripeNo::new(4095).map(|stripe| stripe.get()), Some(4095));
-    assert_eq!(rt; StripeNo::new(4096), None);
-    assert_eq!(rt; Fragment::new(15).map(|fragment| fragment.get()), Some(15));
-    assert_eq!(rt; Fragment::new(16), None);
-    assert_eq!(rt; SessionNo::new(0), None);
-    assert_eq!(rt; SessionNo::new(1).map(|session| session.get()), Some(1));
-    assert_eq!(rt; SessionNo::new(8).map(|session| session.get()), Some(8));
-    assert_eq!(rt; SessionNo::new(9), None);
-    assert_eq!(rt; NodeNo::new(65535).map(|node| node.get()), Some(65535));
-    assert_eq!(rt; FaultNo::new(255).map(|fault| fault.get()), Some(255));
-    assert_eq!(rt; UpgradeNo::new(255).map(|upgrade| upgrade.get()), Some(255));
+    assert!(rt; stripe(4095) == Some(4095) && stripe(4096).is_none());
+    assert!(rt; fragment(15) == Some(15) && fragment(16).is_none());
+    assert!(rt; session(0).is_none() && session(9).is_none());
+    assert!(rt; session(1) == Some(1) && session(8) == Some(8));
+}
+
+fn node(number: u16) -> Option<u16> {
+    Some(NodeNo::new(number)?.get())
+}
+
+fn fault(number: u8) -> Option<u8> {
+    Some(FaultNo::new(number)?.get())
+}
+
+fn upgrade(number: u8) -> Option<u8> {
+    Some(UpgradeNo::new(number)?.get())
+}
+
+#[test]
+fn nodes_and_domains_have_all_numbers(rt: HostRuntime) {
+    assert!(rt; node(65535) == Some(65535));
+    assert!(rt; fault(255) == Some(255));
+    assert!(rt; upgrade(255) == Some(255));
 }
 
 #[test]
 fn sixteen_fragments_in_three_classes(rt: HostRuntime) {
-    let mut numbers = [0; 16];
-    let mut classes = [Class::G; 16];
-    for (place, fragment) in Fragment::all().iter().enumerate() {
-        numbers[place] = fragment.get();
-        classes[place] = fragment.class();
-    }
-    assert_eq!(rt;
-        numbers,
-        [0, 1, 2, 3, 4, 5, 6, 7, 8, 9, 10, 11, 12, 13, 14, 15]
-    );
     let (a, b, g) = (Class::A, Class::B, Class::G);
-    assert_eq!(rt; classes, [a, a, a, a, a, a, b, b, b, b, b, b, a, b, g, g]);
-}
-
-#[test]
-fn fragments_share_their_group(rt: HostRuntime) -> Result<(), Fail> {
-    let first = Fragment::new(0).ok_or("fragment 0")?;
-    for (number, shares) in [(0, true), (5, true), (6, false), (12, true), (14, false)] {
-        let other = Fragment::new(number).ok_or("a fragment")?;
-        assert_eq!(rt; first.shares_class(other), shares, "fragment {number}");
+    let classes = [a, a, a, a, a, a, b, b, b, b, b, b, a, b, g, g];
+    let all = Fragment::all();
+    for place in 0..16usize {
+        expect_class(&rt, all[place], place, classes[place]);
     }
-    Ok(())
+}
+
+fn expect_class(rt: &impl Abort, fragment: Fragment, number: usize, class: Class) {
+    assert!(rt; usize::from(fragment.get()) == number);
+    assert!(rt; fragment.class() == class, "fragment {number}");
 }
 
 #[test]
-fn faults_have_their_numbers_and_texts(rt: HostRuntime) -> Result<(), Fail> {
-    let rows = [
-        (Fault::OutOfMemory, 1, "out of memory"),
-        (Fault::HistoryFull, 2, "the history is full"),
-    ];
-    for (fault, number, want) in rows {
-        let text = format!(in rt.alloc(); "{fault}")?;
-        assert_eq!(rt; fault as u8, number);
-        assert_eq!(rt; text.as_str(), want);
-    }
-    Ok(())
+fn fragments_share_their_group(rt: HostRuntime) {
+    expect_shared(&rt, 0, true);
+    expect_shared(&rt, 5, true);
+    expect_shared(&rt, 6, false);
+    expect_shared(&rt, 12, true);
+    expect_shared(&rt, 14, false);
+}
+
+/// Whether a fragment is of the group of fragment 0.
+fn expect_shared(rt: &impl Abort, number: u8, want: bool) {
+    let first = fragment_numbered(rt, 0);
+    let other = fragment_numbered(rt, number);
+    assert!(rt; first.shares_class(other) == want, "fragment {number}");
+}
+
+fn fragment_numbered(rt: &impl Abort, number: u8) -> Fragment {
+    Fragment::new(number).expect(rt, "a fragment")
 }
 
 #[test]
-fn a_mask_is_a_set_of_fragments(rt: HostRuntime) -> Result<(), Fail> {
-    let third = Fragment::new(3).ok_or("fragment 3")?;
-    let fourth = Fragment::new(4).ok_or("fragment 4")?;
+fn faults_have_their_numbers_and_texts(rt: HostRuntime) {
+    expect_fault(&rt, Fault::OutOfMemory, 1, "out of memory");
+    expect_fault(&rt, Fault::HistoryFull, 2, "the history is full");
+}
+
+fn expect_fault(rt: &(impl AllocGlobal + Abort), fault: Fault, number: u8, want: &str) {
+    let text = format!(in rt.alloc(); "{fault}").expect(rt, "memory");
+    assert!(rt; text.as_str() == want, "{text}");
+    assert!(rt; fault as u8 == number, "{text}");
+}
+
+#[test]
+fn a_mask_is_a_set_of_fragments(rt: HostRuntime) {
+    let third = fragment_numbered(&rt, 3);
+    let fourth = fragment_numbered(&rt, 4);
     let mask = LossMask::from_bits(0x0001).with(third);
-    assert_eq!(rt; mask.bits(), 0x0009);
-    assert!(rt; mask.contains(third));
-    assert!(rt; !mask.contains(fourth));
-    assert_eq!(rt; mask.without(third).bits(), 0x0001);
-    assert_eq!(rt; mask.without(fourth).bits(), 0x0009);
-    Ok(())
+    assert!(rt; mask.bits() == 0x0009);
+    assert!(rt; mask.contains(third) && !mask.contains(fourth));
+    assert!(rt; mask.without(third).bits() == 0x0001);
+    assert!(rt; mask.without(fourth).bits() == 0x0009);
 }
 
 #[test]
@@ -79,30 +108,29 @@ fn three_losses_are_always_repaired_and_five_never(rt: HostRuntime) {
             }
         }
     }
-    assert_eq!(rt;
-        recoverable,
-        [1, 16, 120, 560, 1568, 0, 0, 0, 0, 0, 0, 0, 0, 0, 0, 0, 0]
-    );
+    let wanted = [1, 16, 120, 560, 1568, 0, 0, 0, 0, 0, 0, 0, 0, 0, 0, 0, 0];
+    assert!(rt; recoverable == wanted, "{recoverable:?}");
 }
 
 #[test]
 fn losses_by_class_and_margins(rt: HostRuntime) {
-    for (bits, a, b, g, margin) in [
-        (0x0000, 0, 0, 0, Some(3)),
-        (0x0041, 1, 1, 0, Some(2)),
-        (0xc000, 0, 0, 2, Some(1)),
-        (0x0047, 3, 1, 0, Some(0)),
-        (0x000f, 4, 0, 0, None),
-        (0xc003, 2, 0, 2, None),
-        (0xffff, 7, 7, 2, None),
-    ] {
-        let mask = LossMask::from_bits(bits);
-        assert_eq!(rt; mask.class_losses(Class::A), a, "A of {bits:04x}");
-        assert_eq!(rt; mask.class_losses(Class::B), b, "B of {bits:04x}");
-        assert_eq!(rt; mask.class_losses(Class::G), g, "G of {bits:04x}");
-        assert_eq!(rt; mask.recoverable(), margin.is_some(), "{bits:04x}");
-        assert_eq!(rt; mask.margin(), margin, "margin of {bits:04x}");
-    }
+    expect_losses(&rt, 0x0000, [0, 0, 0], Some(3));
+    expect_losses(&rt, 0x0041, [1, 1, 0], Some(2));
+    expect_losses(&rt, 0xc000, [0, 0, 2], Some(1));
+    expect_losses(&rt, 0x0047, [3, 1, 0], Some(0));
+    expect_losses(&rt, 0x000f, [4, 0, 0], None);
+    expect_losses(&rt, 0xc003, [2, 0, 2], None);
+    expect_losses(&rt, 0xffff, [7, 7, 2], None);
+}
+
+/// The losses in the two groups and of the global parities, and how many more can be borne.
+fn expect_losses(rt: &impl Abort, bits: u16, [a, b, g]: [u8; 3], margin: Option<u8>) {
+    let mask = LossMask::from_bits(bits);
+    assert!(rt; mask.class_losses(Class::A) == a, "A of {bits:04x}");
+    assert!(rt; mask.class_losses(Class::B) == b, "B of {bits:04x}");
+    assert!(rt; mask.class_losses(Class::G) == g, "G of {bits:04x}");
+    assert!(rt; mask.recoverable() == margin.is_some(), "{bits:04x}");
+    assert!(rt; mask.margin() == margin, "margin of {bits:04x}");
 }
 
 fn sources(bits: u16, number: u8) -> Option<[u8; 6]> {
@@ -112,12 +140,14 @@ fn sources(bits: u16, number: u8) -> Option<[u8; 6]> {
 
 #[test]
 fn local_sources_are_the_others_of_the_group(rt: HostRuntime) {
-    assert_eq!(rt; sources(0x0008, 3), Some([0, 1, 2, 4, 5, 12]));
-    assert_eq!(rt; sources(0x0000, 13), Some([6, 7, 8, 9, 10, 11]));
-    assert_eq!(rt; sources(0x0000, 14), None, "a global parity has no group");
-    assert_eq!(rt;
-        sources(0x0018, 3),
-        None,
+    assert!(rt; sources(0x0008, 3) == Some([0, 1, 2, 4, 5, 12]));
+    assert!(rt; sources(0x0000, 13) == Some([6, 7, 8, 9, 10, 11]));
+    assert!(rt;
+        sources(0x0000, 14).is_none(),
+        "a global parity has no group"
+    );
+    assert!(rt;
+        sources(0x0018, 3).is_none(),
         "fragment 4 of the group is lost too"
     );
 }

@@ -1,22 +1,32 @@
 use lrc_code::{Fragment, NodeNo, SessionNo, StripeNo};
 use lrc_leases::{Grants, Lease, Leases};
 use lrc_topology::Seat;
-use std::alloc::Global;
 use std::process::Abort;
-use std::test::Fail;
+
+fn stripe_numbered(rt: &impl Abort, number: u16) -> StripeNo {
+    StripeNo::new(number).expect(rt, "a stripe")
+}
+
+fn fragment_numbered(rt: &impl Abort, number: u8) -> Fragment {
+    Fragment::new(number).expect(rt, "a fragment")
+}
 
 /// A lease of this fragment of stripe 1, with this slot of this node for its target.
-fn lease(fragment: u8, node: u16, slot: u16) -> Option<Lease> {
-    Some(Lease {
-        stripe: StripeNo::new(1)?,
-        fragment: Fragment::new(fragment)?,
-        holder: SessionNo::new(2)?,
+fn lease(rt: &impl Abort, fragment: u8, node: u16, slot: u16) -> Lease {
+    Lease {
+        stripe: stripe_numbered(rt, 1),
+        fragment: fragment_numbered(rt, fragment),
+        holder: SessionNo::new(2).expect(rt, "a session"),
         target: Seat {
             node: NodeNo { value: node },
             slot,
         },
         epoch: 1,
-    })
+    }
+}
+
+fn reserve(rt: &impl Abort, leases: &mut Leases, count: u32) {
+    leases.reserve(count).expect(rt, "memory");
 }
 
 fn add(rt: &impl Abort, leases: &mut Leases, lease: Lease) {
@@ -25,76 +35,89 @@ fn add(rt: &impl Abort, leases: &mut Leases, lease: Lease) {
     leases.add(lease);
 }
 
+/// Takes a lease out, which is this one if there is any.
+fn expect_removed(rt: &impl Abort, leases: &mut Leases, lease: Lease, is_there: bool) {
+    let want = if is_there { Some(lease) } else { None };
+    assert!(rt; leases.remove(lease.stripe, lease.fragment) == want);
+}
+
+/// The lease of a fragment is this one.
+fn expect_lease(rt: &impl Abort, leases: &Leases, lease: Lease) {
+    assert!(rt; leases.lease(lease.stripe, lease.fragment) == Some(lease));
+}
+
 /// Leases of fragments 3, 4 and 9, the first and the last with targets on node 17.
-fn three(rt: &impl Abort, alloc: Global) -> Result<Leases, Fail> {
-    let mut leases = Leases::new(alloc)?;
-    leases.reserve(3)?;
-    add(rt, &mut leases, lease(3, 17, 0).ok_or("fragment 3")?);
-    add(rt, &mut leases, lease(4, 16, 2).ok_or("fragment 4")?);
-    add(rt, &mut leases, lease(9, 17, 1).ok_or("fragment 9")?);
-    Ok(leases)
+fn three(rt: &(impl AllocGlobal + Abort)) -> Leases {
+    let mut leases = Leases::new(rt.alloc()).expect(rt, "memory");
+    reserve(rt, &mut leases, 3);
+    add(rt, &mut leases, lease(rt, 3, 17, 0));
+    add(rt, &mut leases, lease(rt, 4, 16, 2));
+    add(rt, &mut leases, lease(rt, 9, 17, 1));
+    leases
 }
 
 #[test]
-fn a_lease_is_found_by_its_fragment(rt: HostRuntime) -> Result<(), Fail> {
-    let leases = three(&rt, rt.alloc())?;
-    let fourth = lease(4, 16, 2).ok_or("fragment 4")?;
-    let other = StripeNo::new(2).ok_or("stripe 2")?;
-    assert_eq!(rt; leases.lease(fourth.stripe, fourth.fragment), Some(fourth));
-    assert_eq!(rt; leases.lease(other, fourth.fragment), None);
-    Ok(())
+fn a_lease_is_found_by_its_fragment(rt: HostRuntime) {
+    let leases = three(&rt);
+    let fourth = lease(&rt, 4, 16, 2);
+    expect_lease(&rt, &leases, fourth);
+    let other = stripe_numbered(&rt, 2);
+    assert!(rt; leases.lease(other, fourth.fragment).is_none());
 }
 
 #[test]
-fn a_removed_lease_is_answered_once(rt: HostRuntime) -> Result<(), Fail> {
-    let mut leases = three(&rt, rt.alloc())?;
-    let fourth = lease(4, 16, 2).ok_or("fragment 4")?;
-    assert_eq!(rt; leases.remove(fourth.stripe, fourth.fragment), Some(fourth));
-    assert_eq!(rt; leases.remove(fourth.stripe, fourth.fragment), None);
-    leases.reserve(1)?;
+fn a_removed_lease_is_answered_once(rt: HostRuntime) {
+    let mut leases = three(&rt);
+    let fourth = lease(&rt, 4, 16, 2);
+    expect_removed(&rt, &mut leases, fourth, true);
+    expect_removed(&rt, &mut leases, fourth, false);
+    reserve(&rt, &mut leases, 1);
     add(&rt, &mut leases, fourth);
-    assert_eq!(rt; leases.lease(fourth.stripe, fourth.fragment), Some(fourth));
-    Ok(())
+    expect_lease(&rt, &leases, fourth);
 }
 
 #[test]
-fn the_leased_fragments_of_a_stripe_are_a_mask(rt: HostRuntime) -> Result<(), Fail> {
-    let mut leases = three(&rt, rt.alloc())?;
-    let fourth = lease(4, 16, 2).ok_or("fragment 4")?;
-    let other = StripeNo::new(2).ok_or("stripe 2")?;
-    let before = leases.leased(fourth.stripe).bits();
-    let _fourth = leases.remove(fourth.stripe, fourth.fragment);
-    let after = leases.leased(fourth.stripe).bits();
-    assert_eq!(rt;
-        [before, after, leases.leased(other).bits()],
-        [0x0218, 0x0208, 0]
-    );
-    Ok(())
+fn the_leased_fragments_of_a_stripe_are_a_mask(rt: HostRuntime) {
+    let mut leases = three(&rt);
+    let fourth = lease(&rt, 4, 16, 2);
+    expect_leased(&rt, &leases, 1, 0x0218);
+    expect_removed(&rt, &mut leases, fourth, true);
+    expect_leased(&rt, &leases, 1, 0x0208);
+    expect_leased(&rt, &leases, 2, 0);
+}
+
+fn expect_leased(rt: &impl Abort, leases: &Leases, number: u16, want: u16) {
+    let stripe = stripe_numbered(rt, number);
+    assert!(rt; leases.leased(stripe).bits() == want, "stripe {number}");
 }
 
 #[test]
-fn targets_on_a_node_are_given_each_once(rt: HostRuntime) -> Result<(), Fail> {
-    let leases = three(&rt, rt.alloc())?;
-    let mut slots = Vec::new(rt.alloc());
-    for lease in leases.targets_on(NodeNo { value: 17 }) {
-        slots.push(lease.target.slot)?;
+fn targets_on_a_node_are_given_each_once(rt: HostRuntime) {
+    let mut leases = three(&rt);
+    expect_targets(&rt, &leases, &[(3, 0), (9, 1)]);
+    expect_removed(&rt, &mut leases, lease(&rt, 3, 17, 0), true);
+    expect_targets(&rt, &leases, &[(9, 1)]);
+}
+
+/// The leases with targets on node 17 are so many, and each has a fragment and a slot of these.
+fn expect_targets(rt: &impl Abort, leases: &Leases, wanted: &[(u8, u16)]) {
+    for want in wanted {
+        assert!(rt; is_target(leases, *want), "fragment {}", want.0);
     }
-    assert_eq!(rt; slots.len(), 2);
-    assert!(rt; slots.contains(&0) && slots.contains(&1));
-    Ok(())
+    let mut targets = leases.targets_on(NodeNo { value: 17 });
+    for _ in wanted {
+        assert!(rt; targets.next().is_some());
+    }
+    assert!(rt; targets.next().is_none());
 }
 
-#[test]
-fn a_lease_that_is_gone_is_on_no_node(rt: HostRuntime) -> Result<(), Fail> {
-    let mut leases = three(&rt, rt.alloc())?;
-    let third = lease(3, 17, 0).ok_or("fragment 3")?;
-    let _third = leases.remove(third.stripe, third.fragment);
-    let mut fragments = Vec::new(rt.alloc());
+fn is_target(leases: &Leases, (fragment, slot): (u8, u16)) -> bool {
     for lease in leases.targets_on(NodeNo { value: 17 }) {
-        fragments.push(lease.fragment.get())?;
+        if lease.fragment.get() == fragment && lease.target.slot == slot {
+            return true;
+        }
     }
-    assert!(rt; fragments.as_slice() == [9].as_slice());
-    Ok(())
+    false
 }
 
 /// Counts one more grant.
@@ -104,29 +127,27 @@ fn grant(rt: &impl Abort, grants: &mut Grants, stripe: StripeNo, fragment: Fragm
 }
 
 #[test]
-fn grants_are_counted_for_each_fragment_of_each_stripe_number(rt: HostRuntime) -> Result<(), Fail> {
-    let mut grants = Grants::new(rt.alloc())?;
-    let last = StripeNo::new(4095).ok_or("stripe 4095")?;
-    let other = StripeNo::new(4094).ok_or("stripe 4094")?;
-    let fragment = Fragment::new(15).ok_or("fragment 15")?;
+fn grants_are_counted_for_each_fragment_of_each_stripe_number(rt: HostRuntime) {
+    let mut grants = Grants::new(rt.alloc()).expect(&rt, "memory");
+    let last = stripe_numbered(&rt, 4095);
+    let other = stripe_numbered(&rt, 4094);
+    let fragment = fragment_numbered(&rt, 15);
     grant(&rt, &mut grants, last, fragment);
     grant(&rt, &mut grants, last, fragment);
     grant(&rt, &mut grants, other, fragment);
-    assert_eq!(rt; grants.count(last, fragment), 2);
-    assert_eq!(rt; grants.count(other, fragment), 1);
-    Ok(())
+    assert!(rt; grants.count(last, fragment) == 2);
+    assert!(rt; grants.count(other, fragment) == 1);
 }
 
 #[test]
-fn grants_are_counted_on_where_a_byte_is_full(rt: HostRuntime) -> Result<(), Fail> {
-    let mut grants = Grants::new(rt.alloc())?;
-    let stripe = StripeNo::new(2).ok_or("stripe 2")?;
-    let fragment = Fragment::new(5).ok_or("fragment 5")?;
-    let after = Fragment::new(6).ok_or("fragment 6")?;
+fn grants_are_counted_on_where_a_byte_is_full(rt: HostRuntime) {
+    let mut grants = Grants::new(rt.alloc()).expect(&rt, "memory");
+    let stripe = stripe_numbered(&rt, 2);
+    let fragment = fragment_numbered(&rt, 5);
+    let after = fragment_numbered(&rt, 6);
     for _ in 0..513 {
         grant(&rt, &mut grants, stripe, fragment);
     }
-    assert_eq!(rt; grants.count(stripe, fragment), 513);
-    assert_eq!(rt; grants.count(stripe, after), 0);
-    Ok(())
+    assert!(rt; grants.count(stripe, fragment) == 513);
+    assert!(rt; grants.count(stripe, after) == 0);
 }

@@ -12,6 +12,8 @@ mod leases;
 #[cfg(test)]
 mod slots;
 #[cfg(test)]
+mod stores;
+#[cfg(test)]
 mod stripes;
 #[cfg(test)]
 mod topology;

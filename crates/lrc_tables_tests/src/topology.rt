@@ -1,49 +1,43 @@
 //! Texts and their answers.
 
+mod edits;
 mod nodes;
 mod refusals;
 
 use lrc_topology::{Topology, TopologyError};
 use std::alloc::Global;
-use std::test::Fail;
+use std::process::Abort;
 
-/// One entry of `node`, of the values as they are written.
-fn entry(
-    alloc: Global,
-    number: &str,
-    fault: &str,
-    upgrade: &str,
-    slots: &str,
-) -> Result<String, Fail> {
-    let text = format!(in alloc;
-        "[[node]]\nnumber = {number}\nfault = {fault}\nupgrade = {upgrade}\nslots = {slots}\n"
-    )?;
-    Ok(text)
-}
-
-/// Twenty nodes of four slots, each in a fault domain of its own, in ten upgrade domains.
-fn twenty(alloc: Global) -> Result<String, Fail> {
-    let mut text = String::new(alloc);
-    for i in 0..20u8 {
-        let upgrade = i % 10;
-        write!(
-            text,
-            "[[node]]\nnumber = {i}\nfault = {i}\nupgrade = {upgrade}\nslots = 4\n"
-        )?;
-    }
-    Ok(text)
-}
+type Answer = Result<usize, TopologyError>;
 
 /// What `read` answers: the number of nodes, or the error.
-fn answer(alloc: Global, text: &[u8]) -> Result<usize, TopologyError> {
-    Ok(Topology::read(alloc, text)?.len())
+fn answer(alloc: Global, text: &[u8]) -> Answer {
+    match Topology::read(alloc, text) {
+        Ok(topology) => Ok(topology.len()),
+        Err(error) => Err(error),
+    }
 }
 
-/// An entry of each number, the least that an entry can be.
-fn numbered(alloc: Global, numbers: &[&str]) -> Result<String, Fail> {
-    let mut text = String::new(alloc);
-    for number in numbers {
-        text.push_str(&entry(alloc, number, "0", "0", "1")?)?;
+/// A text has this answer.
+fn expect(rt: &(impl AllocGlobal + Abort), text: &str, want: Answer) {
+    assert_eq!(rt; answer(rt.alloc(), text.as_bytes()), want, "{text}");
+}
+
+/// Each of these texts has this answer.
+fn expect_each(rt: &(impl AllocGlobal + Abort), texts: &[&str], want: Answer) {
+    for text in texts {
+        expect(rt, text, want);
     }
-    Ok(text)
+}
+
+/// An entry of these values, as they are written, has this answer by itself.
+fn expect_entry(
+    rt: &(impl AllocGlobal + Abort),
+    [number, fault, upgrade, slots]: [&str; 4],
+    want: Answer,
+) {
+    let text = format!(in rt.alloc();
+        "[[node]]\nnumber = {number}\nfault = {fault}\nupgrade = {upgrade}\nslots = {slots}\n"
+    ).expect(rt, "memory");
+    expect(rt, &text, want);
 }

@@ -5,34 +5,16 @@ ghost use Rattle.lrc_slots.specs.Tables.{slots_of};
 
 use crate::slots::bars::Bars;
 use crate::slots::plain_table::PlainTable;
+use crate::stores::{Plan, mixed_number, nodes};
 use lrc_code::{FaultNo, NodeNo, UpgradeNo};
 use lrc_slots::{OpenNode, SlotTable};
 use lrc_topology::Topology;
-use std::alloc::Global;
-use std::fmt::Write;
 use std::process::Abort;
-use std::test::Fail;
 
-/// Nodes in 30 fault domains and 10 upgrade domains, with one to four slots, and not in the order of their numbers.
-fn store(alloc: Global, count: u32) -> Result<Topology, Fail> {
-    let mut text = String::new(alloc);
-    for place in 0..count {
-        let number = number_at(place).value;
-        let fault = place % 30;
-        let upgrade = place / 3 % 10;
-        let slots = 1 + place % 4;
-        write!(
-            text,
-            "[[node]]\nnumber = {number}\nfault = {fault}\nupgrade = {upgrade}\nslots = {slots}\n"
-        )?;
-    }
-    Ok(Topology::read(alloc, text.as_bytes())?)
-}
-
-/// The number of the node at a place: no two below 1,009 are the same.
+/// The number of the node at a place.
 fn number_at(place: u32) -> NodeNo {
     NodeNo {
-        value: (place % 1009 * 37 % 1009) as u16,
+        value: mixed_number(place),
     }
 }
 
@@ -193,22 +175,17 @@ fn calls_alike(
     alike
 }
 
-#[test]
-fn twenty_nodes_are_chosen_as_by_a_plain_search(rt: HostRuntime) -> Result<(), Fail> {
-    let topology = store(rt.alloc(), 20)?;
-    let mut table = SlotTable::new(rt.alloc(), &topology)?;
-    let mut plain = PlainTable::new(rt.alloc(), &topology)?;
-    assert_eq!(rt; calls_alike(&topology, &mut table, &mut plain, 20), 2000);
-    Ok(())
+/// Each call tells the same over the first so many mixed nodes.
+fn expect_alike(rt: &(impl AllocGlobal + Abort), count: u32) {
+    let topology = nodes(rt, Plan::Mixed, count);
+    let mut table = SlotTable::new(rt.alloc(), &topology).expect(rt, "memory");
+    let mut plain = PlainTable::new(rt.alloc(), &topology).expect(rt, "memory");
+    assert!(rt; count >= 1);
+    assert!(rt; calls_alike(&topology, &mut table, &mut plain, count) == 2000);
 }
 
 #[test]
-fn the_nodes_of_the_largest_store_are_chosen_as_by_a_plain_search(
-    rt: HostRuntime,
-) -> Result<(), Fail> {
-    let topology = store(rt.alloc(), 512)?;
-    let mut table = SlotTable::new(rt.alloc(), &topology)?;
-    let mut plain = PlainTable::new(rt.alloc(), &topology)?;
-    assert_eq!(rt; calls_alike(&topology, &mut table, &mut plain, 512), 2000);
-    Ok(())
+fn nodes_are_chosen_as_by_a_plain_search(rt: HostRuntime) {
+    expect_alike(&rt, 20);
+    expect_alike(&rt, 512);
 }

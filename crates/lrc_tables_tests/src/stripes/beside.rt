@@ -6,10 +6,10 @@ ghost use Rattle.lrc_stripes.specs.Stored.{has_node, has_slot};
 ghost use Rattle.lrc_stripes.specs.Tables.{stored_in};
 
 use crate::stripes::plain_store::{PlainRow, PlainStore};
-use crate::stripes::{node, nodes, seat};
+use crate::stripes::{fragment_numbered, no_stripe, node, reserve, seat};
 use lrc_code::{Fragment, UpgradeNo};
 use lrc_stripes::{Seat, Stripes};
-use std::test::Fail;
+use std::process::Abort;
 
 /// What comes after a number in a fixed order in which those below 65,537 all come up.
 fn after(state: u32) -> u32 {
@@ -266,30 +266,31 @@ fn plain_is_there(plain: &PlainStore, place: usize) -> bool {
 }
 
 /// Makes 3,000 calls of each, and answers whether both told the same after each of them.
-fn calls_alike(stripes: &mut Stripes, plain: &mut PlainStore) -> Result<bool, Fail> {
+fn calls_alike(rt: &impl Abort, stripes: &mut Stripes, plain: &mut PlainStore) -> bool {
     let mut state = 1;
     let mut are_alike = true;
     for _ in 0..3000u32 {
-        stripes.reserve(1)?;
+        reserve(rt, stripes, 1);
         state = after(state);
-        let fragment = Fragment::new((state % 16) as u8).ok_or("a fragment")?;
+        let fragment = fragment_numbered(rt, (state % 16) as u8);
         state = after(state);
         call(stripes, plain, state, fragment);
-        are_alike = are_alike
-            && tell_alike(stripes, plain)
-            && work_alike(stripes, plain)
-            && risk_alike(stripes, plain)
-            && homes_alike(stripes, plain, (state % 20) as u16)
-            && lose_alike(stripes, plain, (state % 10) as u8);
+        are_alike = are_alike && all_alike(stripes, plain, state);
     }
-    Ok(are_alike)
+    are_alike
+}
+
+fn all_alike(stripes: &Stripes, plain: &PlainStore, state: u32) -> bool {
+    tell_alike(stripes, plain)
+        && work_alike(stripes, plain)
+        && risk_alike(stripes, plain)
+        && homes_alike(stripes, plain, (state % 20) as u16)
+        && lose_alike(stripes, plain, (state % 10) as u8)
 }
 
 #[test]
-fn stripes_are_told_as_by_a_plain_search(rt: HostRuntime) -> Result<(), Fail> {
-    let topology = nodes(rt.alloc(), 20)?;
-    let mut stripes = Stripes::new(rt.alloc(), &topology)?;
-    let mut plain = plain().ok_or("five stripes")?;
-    assert!(rt; calls_alike(&mut stripes, &mut plain)?);
-    Ok(())
+fn stripes_are_told_as_by_a_plain_search(rt: HostRuntime) {
+    let mut stripes = no_stripe(&rt, 20, 0);
+    let mut plain = plain().expect(&rt, "five stripes");
+    assert!(rt; calls_alike(&rt, &mut stripes, &mut plain));
 }

@@ -1,10 +1,10 @@
 //! The nodes of texts that are taken, and how they are looked up.
 
-use super::{answer, entry, numbered, twenty};
+use super::expect;
+use crate::stores::{Plan, nodes, numbered, read, text};
 use lrc_code::{FaultNo, NodeNo, UpgradeNo};
 use lrc_topology::{NodeIndex, NodeInfo, Topology, TopologyError};
 use std::process::Abort;
-use std::test::Fail;
 
 fn info(number: u16, fault: u8, upgrade: u8, slots: u16) -> NodeInfo {
     NodeInfo {
@@ -16,172 +16,153 @@ fn info(number: u16, fault: u8, upgrade: u8, slots: u16) -> NodeInfo {
 }
 
 #[test]
-fn whole_numbers_are_taken_by_value(rt: HostRuntime) -> Result<(), Fail> {
-    let rows = [
-        (
-            entry(rt.alloc(), "1_000", "0x10", "0o20", "0b1")?,
-            info(1000, 16, 16, 1),
-        ),
-        (
-            entry(rt.alloc(), "+5", "-0", "+0", "1_0_0")?,
-            info(5, 0, 0, 100),
-        ),
-        (
-            String::from_str(
-                rt.alloc(),
-                "\u{feff}[[node]] # c\r\nslots = 3\r\n'upgrade' = 7\r\nname = 1.5\r\nfault = 6\r\nrack.row = 1\r\n\"number\" = 5\r\n[node.x]\r\ny = 1\r\n[other]\r\nnode = 2\r\n",
-            )?,
-            info(5, 6, 7, 3),
-        ),
-        (
-            String::from_str(
-                rt.alloc(),
-                "node = [\n{ slots = 3, upgrade = 7, fault = 6, number = 5 },\n]",
-            )?,
-            info(5, 6, 7, 3),
-        ),
-    ];
-    for (text, want) in &rows {
-        let topology = Topology::read(rt.alloc(), text.as_bytes())?;
-        assert_eq!(rt; topology.len(), 1, "{text}");
-        assert_eq!(rt; topology.node(want.number), Some(*want), "{text}");
-    }
-    Ok(())
-}
-
-#[test]
-fn nodes_come_in_the_order_of_the_file(rt: HostRuntime) -> Result<(), Fail> {
-    let text = numbered(rt.alloc(), &["9", "3", "5"])?;
-    let topology = Topology::read(rt.alloc(), text.as_bytes())?;
-    let mut numbers = Vec::new(rt.alloc());
-    for node in topology.nodes() {
-        numbers.push(node.number.value)?;
-    }
-    assert_eq!(rt; numbers.as_slice(), [9, 3, 5].as_slice());
-    Ok(())
-}
-
-#[test]
-fn nodes_and_domains_are_found(rt: HostRuntime) -> Result<(), Fail> {
-    let topology = Topology::read(rt.alloc(), twenty(rt.alloc())?.as_bytes())?;
-    for i in 0..20u8 {
-        let number = NodeNo {
-            value: u16::from(i),
-        };
-        assert_eq!(rt;
-            topology.node(number),
-            Some(info(u16::from(i), i, i % 10, 4))
-        );
-        assert_eq!(rt; topology.has_upgrade_domain(UpgradeNo { value: i }), i < 10);
-    }
-    assert_eq!(rt; topology.node(NodeNo { value: 20 }), None);
-    assert_eq!(rt; topology.nodes().count(), 20);
-    assert_eq!(rt;
-        topology.nodes_in(UpgradeNo { value: 3 }),
-        [info(3, 3, 3, 4), info(13, 13, 3, 4)].as_slice()
+fn whole_numbers_are_taken_by_value(rt: HostRuntime) {
+    expect_alone(
+        &rt,
+        "[[node]]\nnumber = 1_000\nfault = 0x10\nupgrade = 0o20\nslots = 0b1\n",
+        info(1000, 16, 16, 1),
     );
-    Ok(())
+    expect_alone(
+        &rt,
+        "[[node]]\nnumber = +5\nfault = -0\nupgrade = +0\nslots = 1_0_0\n",
+        info(5, 0, 0, 100),
+    );
+    expect_alone(
+        &rt,
+        "\u{feff}[[node]] # c\r\nslots = 3\r\n'upgrade' = 7\r\nname = 1.5\r\nfault = 6\r\nrack.row = 1\r\n\"number\" = 5\r\n[node.x]\r\ny = 1\r\n[other]\r\nnode = 2\r\n",
+        info(5, 6, 7, 3),
+    );
+    expect_alone(
+        &rt,
+        "node = [\n{ slots = 3, upgrade = 7, fault = 6, number = 5 },\n]",
+        info(5, 6, 7, 3),
+    );
+}
+
+/// A text has this node and no other.
+fn expect_alone(rt: &(impl AllocGlobal + Abort), text: &str, want: NodeInfo) {
+    let topology = read(rt, text);
+    expect_node(rt, &topology, want.number, Some(want));
+    assert!(rt; topology.len() == 1, "{text}");
+}
+
+fn expect_node(rt: &impl Abort, topology: &Topology, number: NodeNo, want: Option<NodeInfo>) {
+    assert!(rt; topology.node(number) == want, "node {}", number.value);
 }
 
 #[test]
-fn places_are_found_by_number(rt: HostRuntime) -> Result<(), Fail> {
-    let text = numbered(rt.alloc(), &["9", "65535", "0", "1"])?;
-    let topology = Topology::read(rt.alloc(), text.as_bytes())?;
-    let index = NodeIndex::new(rt.alloc(), &topology)?;
-    for (number, want) in [
-        (9, Some(0)),
-        (65535, Some(1)),
-        (0, Some(2)),
-        (1, Some(3)),
-        (2, None),
-        (65534, None),
-    ] {
-        let got = index.place(NodeNo { value: number });
-        assert_eq!(rt; got, want, "node {number}");
-    }
-    Ok(())
+fn nodes_come_in_the_order_of_the_file(rt: HostRuntime) {
+    let text = numbered(&rt, &[9, 3, 5]);
+    let topology = read(&rt, &text);
+    expect_order(&rt, &topology, &[9, 3, 5]);
 }
 
-/// What is answered where the twenty nodes are cut after so many lines.
-fn after_lines(lines: usize) -> Result<usize, TopologyError> {
-    if lines == 0 {
-        Err(TopologyError::NoNodes)
-    } else if lines % 5 == 0 {
-        Ok(lines / 5)
-    } else {
-        Err(TopologyError::BadField(lines / 5))
+fn expect_order(rt: &impl Abort, topology: &Topology, want: &[u16]) {
+    let mut nodes = topology.nodes();
+    for number in want {
+        assert!(rt; number_of(nodes.next()) == Some(*number));
+    }
+    assert!(rt; nodes.next().is_none());
+}
+
+fn number_of(node: Option<&NodeInfo>) -> Option<u16> {
+    Some(node?.number.value)
+}
+
+#[test]
+fn nodes_and_domains_are_found(rt: HostRuntime) {
+    let topology = nodes(&rt, Plan::Apart, 20);
+    for i in 0..20u8 {
+        let number = u16::from(i);
+        let want = info(number, i, i % 10, 4);
+        expect_node(&rt, &topology, NodeNo { value: number }, Some(want));
+        expect_domain(&rt, &topology, UpgradeNo { value: i }, i < 10);
+    }
+    expect_node(&rt, &topology, NodeNo { value: 20 }, None);
+    assert!(rt; topology.nodes().count() == 20);
+    assert!(rt;
+        topology.nodes_in(UpgradeNo { value: 3 })
+            == [info(3, 3, 3, 4), info(13, 13, 3, 4)].as_slice()
+    );
+}
+
+fn expect_domain(rt: &impl Abort, topology: &Topology, domain: UpgradeNo, want: bool) {
+    assert!(rt;
+        topology.has_upgrade_domain(domain) == want,
+        "domain {}",
+        domain.value
+    );
+}
+
+#[test]
+fn places_are_found_by_number(rt: HostRuntime) {
+    let text = numbered(&rt, &[9, 65535, 0, 1]);
+    let topology = read(&rt, &text);
+    let index = NodeIndex::new(rt.alloc(), &topology).expect(&rt, "memory");
+    expect_place(&rt, &index, 9, Some(0));
+    expect_place(&rt, &index, 65535, Some(1));
+    expect_place(&rt, &index, 0, Some(2));
+    expect_place(&rt, &index, 1, Some(3));
+    expect_place(&rt, &index, 2, None);
+    expect_place(&rt, &index, 65534, None);
+}
+
+fn expect_place(rt: &impl Abort, index: &NodeIndex, number: u16, want: Option<usize>) {
+    assert!(rt;
+        index.place(NodeNo { value: number }) == want,
+        "node {number}"
+    );
+}
+
+#[test]
+fn a_form_that_is_not_plain_has_the_same_nodes(rt: HostRuntime) {
+    let plain = text(&rt, Plan::Apart, 20);
+    expect_same(&rt, &plain, "# twenty nodes\n", "");
+    expect_same(&rt, &plain, "", "\n");
+}
+
+/// The nodes of a text are those of the same text with more in front and behind.
+fn expect_same(rt: &(impl AllocGlobal + Abort), text: &str, front: &str, back: &str) {
+    let other = format!(in rt.alloc(); "{front}{text}{back}").expect(rt, "memory");
+    let nodes = read(rt, text);
+    let others = read(rt, &other);
+    are_same(rt, &nodes, &others);
+}
+
+fn are_same(rt: &impl Abort, nodes: &Topology, others: &Topology) {
+    assert!(rt; nodes.len() == others.len());
+    let mut others = others.nodes();
+    for node in nodes.nodes() {
+        assert!(rt; others.next() == Some(node), "node {}", node.number.value);
     }
 }
 
 #[test]
-fn a_topology_may_be_cut_anywhere(rt: HostRuntime) -> Result<(), Fail> {
-    let text = twenty(rt.alloc())?;
-    let bytes = text.as_bytes();
-    for (end, byte) in bytes.iter().enumerate() {
-        let cut = &bytes[..end];
-        let got = answer(rt.alloc(), cut);
-        let lines = cut.iter().filter(|b| **b == b'\n').count();
-        if end == 0 || cut.ends_with(b"\n") {
-            assert_eq!(rt; got, after_lines(lines), "before byte {end}");
-        } else if *byte == b'\n' {
-            assert_eq!(rt;
-                got,
-                after_lines(lines.saturating_add(1)),
-                "before byte {end}"
-            );
-        } else if cut.ends_with(b" ") {
-            assert_eq!(rt; got, Err(TopologyError::Syntax), "before byte {end}");
-        }
-    }
-    assert_eq!(rt; answer(rt.alloc(), bytes), after_lines(100));
-    Ok(())
+fn nesting_is_limited(rt: HostRuntime) {
+    nest(&rt, 80, Ok(1));
+    nest(&rt, 81, Err(TopologyError::Syntax));
 }
 
-/// The nodes of a text are those of the same text in another form.
-fn same_nodes(
-    rt: &(impl AllocGlobal + Abort),
-    plain: &str,
-    other: &str,
-) -> Result<(), TopologyError> {
-    let nodes = Topology::read(rt.alloc(), plain.as_bytes())?;
-    let others = Topology::read(rt.alloc(), other.as_bytes())?;
-    assert_eq!(rt; nodes.len(), others.len());
-    for (node, another) in nodes.nodes().zip(others.nodes()) {
-        assert_eq!(rt; node, another);
-    }
-    Ok(())
+const NODE: &str = "\n[[node]]\nnumber = 0\nfault = 0\nupgrade = 0\nslots = 1\n";
+
+/// A node behind an array in an array so often, and behind a key of so many parts.
+fn nest(rt: &(impl AllocGlobal + Abort), depth: u32, want: Result<usize, TopologyError>) {
+    let mut text = String::new(rt.alloc());
+    push(rt, &mut text, "x = ", 1);
+    push(rt, &mut text, "[", depth);
+    push(rt, &mut text, "]", depth);
+    push(rt, &mut text, NODE, 1);
+    expect(rt, &text, want);
+    text.clear();
+    push(rt, &mut text, "x", 1);
+    push(rt, &mut text, ".x", depth.saturating_sub(1));
+    push(rt, &mut text, " = 1", 1);
+    push(rt, &mut text, NODE, 1);
+    expect(rt, &text, want);
 }
 
-#[test]
-fn a_form_that_is_not_plain_has_the_same_nodes(rt: HostRuntime) -> Result<(), Fail> {
-    let plain = twenty(rt.alloc())?;
-    let commented = format!(in rt.alloc(); "# twenty nodes\n{plain}")?;
-    let spaced = format!(in rt.alloc(); "{plain}\n")?;
-    for other in [&commented, &spaced] {
-        same_nodes(&rt, &plain, other)?;
+fn push(rt: &impl Abort, text: &mut String, part: &str, times: u32) {
+    for _ in 0..times {
+        text.push_str(part).expect(rt, "memory");
     }
-    Ok(())
-}
-
-#[test]
-fn nesting_is_limited(rt: HostRuntime) -> Result<(), Fail> {
-    for (depth, want) in [(80, Ok(1)), (81, Err(TopologyError::Syntax))] {
-        let alloc = rt.alloc();
-        let mut arrays = String::from_str(alloc, "x = ")?;
-        let mut key = String::new(alloc);
-        for _ in 1..depth {
-            arrays.push('[')?;
-            key.push_str("x.")?;
-        }
-        arrays.push('[')?;
-        for _ in 0..depth {
-            arrays.push(']')?;
-        }
-        let node = entry(alloc, "0", "0", "0", "1")?;
-        let deep = format!(in alloc; "{arrays}\n{node}")?;
-        let long = format!(in alloc; "{key}x = 1\n{node}")?;
-        assert_eq!(rt; answer(alloc, deep.as_bytes()), want, "{depth} arrays");
-        assert_eq!(rt; answer(alloc, long.as_bytes()), want, "{depth} parts");
-    }
-    Ok(())
 }

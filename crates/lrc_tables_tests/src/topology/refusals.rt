@@ -1,38 +1,10 @@
 //! Texts that are refused, and what they are told.
 
-use super::{answer, entry, numbered, twenty};
+use super::{answer, expect, expect_each, expect_entry};
+use crate::stores::numbered;
 use lrc_code::NodeNo;
 use lrc_topology::TopologyError;
-use std::alloc::Global;
 use std::process::Abort;
-use std::test::Fail;
-
-/// Nodes of one slot in one domain, with the numbers from 0 on.
-fn many(alloc: Global, count: u16) -> Result<String, Fail> {
-    let mut text = String::new(alloc);
-    for i in 0..count {
-        write!(
-            text,
-            "[[node]]\nnumber = {i}\nfault = 0\nupgrade = 0\nslots = 1\n"
-        )?;
-    }
-    Ok(text)
-}
-
-/// The text with a part of it written anew, which stands there once.
-fn edited(alloc: Global, text: &str, old: &str, new: &str) -> Result<String, Fail> {
-    let (front, back) = text.split_once(old).ok_or("the part is not there")?;
-    let mut text = String::from_str(alloc, front)?;
-    text.push_str(new)?;
-    text.push_str(back)?;
-    Ok(text)
-}
-
-fn answers(rt: &(impl AllocGlobal + Abort), texts: &[&str], want: Result<usize, TopologyError>) {
-    for text in texts {
-        assert_eq!(rt; answer(rt.alloc(), text.as_bytes()), want, "{text}");
-    }
-}
 
 #[test]
 fn what_is_no_toml_is_syntax(rt: HostRuntime) {
@@ -55,11 +27,14 @@ fn what_is_no_toml_is_syntax(rt: HostRuntime) {
         "# a\rb\n",
         "x = \"\"\"a\rb\"\"\"",
     ];
-    answers(&rt, &texts, Err(TopologyError::Syntax));
+    expect_each(&rt, &texts, Err(TopologyError::Syntax));
+}
+
+#[test]
+fn what_is_not_utf8_is_syntax(rt: HostRuntime) {
     for bytes in [b"\xff".as_slice(), b"# \xff\n".as_slice()] {
-        assert_eq!(rt;
-            answer(rt.alloc(), bytes),
-            Err(TopologyError::Syntax),
+        assert!(rt;
+            answer(rt.alloc(), bytes) == Err(TopologyError::Syntax),
             "{bytes:?}"
         );
     }
@@ -81,11 +56,11 @@ fn what_has_no_entries_has_no_nodes(rt: HostRuntime) {
         "[[Node]]\n",
         "nodes = [1]",
     ];
-    answers(&rt, &texts, Err(TopologyError::NoNodes));
+    expect_each(&rt, &texts, Err(TopologyError::NoNodes));
 }
 
 #[test]
-fn what_lacks_a_whole_number_is_a_bad_field(rt: HostRuntime) -> Result<(), Fail> {
+fn what_lacks_a_field_has_a_bad_one(rt: HostRuntime) {
     let texts = [
         "[[node]]\n",
         "[[node]]\nnumber = 0",
@@ -100,8 +75,12 @@ fn what_lacks_a_whole_number_is_a_bad_field(rt: HostRuntime) -> Result<(), Fail>
         "node = [[]]",
         "node = [{}, 1]",
     ];
-    answers(&rt, &texts, Err(TopologyError::BadField(0)));
-    for value in [
+    expect_each(&rt, &texts, Err(TopologyError::BadField(0)));
+}
+
+#[test]
+fn what_is_no_whole_number_is_a_bad_field(rt: HostRuntime) {
+    let values = [
         "1.0",
         "1e0",
         "nan",
@@ -111,157 +90,91 @@ fn what_lacks_a_whole_number_is_a_bad_field(rt: HostRuntime) -> Result<(), Fail>
         "{}",
         "1979-05-27",
         "07:32:00",
-    ] {
-        let alloc = rt.alloc();
-        let texts = [
-            entry(alloc, value, "0", "0", "1")?,
-            entry(alloc, "0", value, "0", "1")?,
-            entry(alloc, "0", "0", value, "1")?,
-            entry(alloc, "0", "0", "0", value)?,
-        ];
-        for text in &texts {
-            assert_eq!(rt;
-                answer(alloc, text.as_bytes()),
-                Err(TopologyError::BadField(0)),
-                "{text}"
-            );
-        }
+    ];
+    for value in &values {
+        expect_bad_field(&rt, value);
     }
-    Ok(())
+}
+
+/// This value is a bad field in each of the four places.
+fn expect_bad_field(rt: &(impl AllocGlobal + Abort), value: &str) {
+    let want = Err(TopologyError::BadField(0));
+    expect_entry(rt, [value, "0", "0", "1"], want);
+    expect_entry(rt, ["0", value, "0", "1"], want);
+    expect_entry(rt, ["0", "0", value, "1"], want);
+    expect_entry(rt, ["0", "0", "0", value], want);
 }
 
 #[test]
-fn ranges_end_where_they_should(rt: HostRuntime) -> Result<(), Fail> {
-    let out = Err(TopologyError::OutOfRange(0));
-    let rows = [
-        ("0", "0", "0", "1", Ok(1)),
-        ("65535", "255", "255", "256", Ok(1)),
-        ("65536", "0", "0", "1", out),
-        ("-1", "0", "0", "1", out),
-        ("9223372036854775807", "0", "0", "1", out),
-        ("0", "256", "0", "1", out),
-        ("0", "-1", "0", "1", out),
-        ("0", "0", "256", "1", out),
-        ("0", "0", "-1", "1", out),
-        ("0", "0", "0", "257", out),
-        ("0", "0", "0", "0", out),
-        ("0", "0", "0", "-1", out),
+fn ranges_end_where_they_should(rt: HostRuntime) {
+    expect_entry(&rt, ["0", "0", "0", "1"], Ok(1));
+    expect_entry(&rt, ["65535", "255", "255", "256"], Ok(1));
+    let outside = [
+        ["65536", "0", "0", "1"],
+        ["-1", "0", "0", "1"],
+        ["9223372036854775807", "0", "0", "1"],
+        ["0", "256", "0", "1"],
+        ["0", "-1", "0", "1"],
+        ["0", "0", "256", "1"],
+        ["0", "0", "-1", "1"],
+        ["0", "0", "0", "257"],
+        ["0", "0", "0", "0"],
+        ["0", "0", "0", "-1"],
     ];
-    for (number, fault, upgrade, slots, want) in rows {
-        let text = entry(rt.alloc(), number, fault, upgrade, slots)?;
-        assert_eq!(rt; answer(rt.alloc(), text.as_bytes()), want, "{text}");
+    for entry in &outside {
+        expect_entry(&rt, *entry, Err(TopologyError::OutOfRange(0)));
     }
-    Ok(())
 }
 
 #[test]
-fn checks_go_over_all_entries_in_turn(rt: HostRuntime) -> Result<(), Fail> {
-    let alloc = rt.alloc();
-    let whole = twenty(alloc)?;
-    let low = edited(
-        alloc,
-        &whole,
-        "upgrade = 2\nslots = 4",
-        "upgrade = 2\nslots = 0",
-    )?;
-    let twice = edited(alloc, &whole, "number = 8\n", "number = 7\n")?;
-    let last = "fault = 19\nupgrade = 9\nslots = 4";
-    let crowd = many(alloc, 513)?;
-    let tail = "number = 512\nfault = 0\nupgrade = 0\nslots = 1";
-    let rows = [
-        (
-            edited(alloc, &low, "fault = 4\n", "fault = \"a\"\n")?,
-            Err(TopologyError::BadField(4)),
-        ),
-        (
-            edited(alloc, &whole, last, "fault = 19\nupgrade = 9\nslots = 257")?,
-            Err(TopologyError::OutOfRange(19)),
-        ),
-        (
-            edited(alloc, &twice, last, "fault = 19\nupgrade = 9\nslots = 0")?,
-            Err(TopologyError::OutOfRange(19)),
-        ),
-        (
-            edited(alloc, &crowd, tail, "number = 512\nfault = 0\nupgrade = 0")?,
-            Err(TopologyError::BadField(512)),
-        ),
-        (
-            edited(
-                alloc,
-                &crowd,
-                tail,
-                "number = 512\nfault = 0\nupgrade = 0\nslots = 0",
-            )?,
-            Err(TopologyError::OutOfRange(512)),
-        ),
-        (
-            edited(
-                alloc,
-                &crowd,
-                tail,
-                "number = 9\nfault = 0\nupgrade = 0\nslots = 1",
-            )?,
-            Err(TopologyError::DoubleNode(NodeNo { value: 9 })),
-        ),
-        (low, Err(TopologyError::OutOfRange(2))),
-        (twice, Err(TopologyError::DoubleNode(NodeNo { value: 7 }))),
-        (crowd, Err(TopologyError::TooMany)),
-        (many(alloc, 512)?, Ok(512)),
-        (whole, Ok(20)),
-    ];
-    for (text, want) in &rows {
-        assert_eq!(rt; answer(alloc, text.as_bytes()), *want);
-    }
-    Ok(())
+fn the_number_that_is_repeated_first_is_named(rt: HostRuntime) {
+    expect_repeated(&rt, &[9, 3, 5, 5, 3], 5);
+    expect_repeated(&rt, &[9, 3, 5, 3, 5], 3);
+    expect_repeated(&rt, &[9, 3, 9, 0, 0], 9);
+}
+
+fn expect_repeated(rt: &(impl AllocGlobal + Abort), numbers: &[u32], want: u16) {
+    let text = numbered(rt, numbers);
+    let want = NodeNo { value: want };
+    expect(rt, &text, Err(TopologyError::DoubleNode(want)));
 }
 
 #[test]
-fn the_number_that_is_repeated_first_is_named(rt: HostRuntime) -> Result<(), Fail> {
-    let rows = [
-        (["9", "3", "5", "5", "3"], 5),
-        (["9", "3", "5", "3", "5"], 3),
-        (["9", "3", "9", "0", "0"], 9),
-    ];
-    for (numbers, want) in rows {
-        let text = numbered(rt.alloc(), &numbers)?;
-        let want = TopologyError::DoubleNode(NodeNo { value: want });
-        assert_eq!(rt; answer(rt.alloc(), text.as_bytes()), Err(want));
-    }
-    Ok(())
+fn errors_say_what_to_mend(rt: HostRuntime) {
+    says(
+        &rt,
+        TopologyError::Syntax,
+        "the topology is not a TOML 1.1 text in UTF-8",
+    );
+    says(
+        &rt,
+        TopologyError::NoNodes,
+        "the topology has no nodes: `node` must be an array of one table for each node",
+    );
+    says(
+        &rt,
+        TopologyError::BadField(3),
+        "entry 3 of `node` (counted from 0) must be a table with whole numbers at `number`, `fault`, `upgrade` and `slots`",
+    );
+    says(
+        &rt,
+        TopologyError::OutOfRange(3),
+        "entry 3 of `node` (counted from 0) is out of range: `number` is 0 to 65535, `fault` and `upgrade` are 0 to 255, `slots` is 1 to 256",
+    );
+    says(
+        &rt,
+        TopologyError::DoubleNode(NodeNo { value: 7 }),
+        "two entries of `node` have the number 7",
+    );
+    says(
+        &rt,
+        TopologyError::TooMany,
+        "the topology has more than 512 nodes",
+    );
+    says(&rt, TopologyError::OutOfMemory, "out of memory");
 }
 
-#[test]
-fn errors_say_what_to_mend(rt: HostRuntime) -> Result<(), Fail> {
-    let rows = [
-        (
-            TopologyError::Syntax,
-            "the topology is not a TOML 1.1 text in UTF-8",
-        ),
-        (
-            TopologyError::NoNodes,
-            "the topology has no nodes: `node` must be an array of one table for each node",
-        ),
-        (
-            TopologyError::BadField(3),
-            "entry 3 of `node` (counted from 0) must be a table with whole numbers at `number`, `fault`, `upgrade` and `slots`",
-        ),
-        (
-            TopologyError::OutOfRange(3),
-            "entry 3 of `node` (counted from 0) is out of range: `number` is 0 to 65535, `fault` and `upgrade` are 0 to 255, `slots` is 1 to 256",
-        ),
-        (
-            TopologyError::DoubleNode(NodeNo { value: 7 }),
-            "two entries of `node` have the number 7",
-        ),
-        (
-            TopologyError::TooMany,
-            "the topology has more than 512 nodes",
-        ),
-        (TopologyError::OutOfMemory, "out of memory"),
-    ];
-    for (error, want) in rows {
-        let text = format!(in rt.alloc(); "{error}")?;
-        assert_eq!(rt; text.as_str(), want);
-    }
-    Ok(())
+fn says(rt: &(impl AllocGlobal + Abort), error: TopologyError, want: &str) {
+    let text = format!(in rt.alloc(); "{error}").expect(rt, "memory");
+    assert!(rt; text.as_str() == want, "{text}");
 }
