@@ -5,15 +5,26 @@ ghost use Rattle.std.specs.Prelude.{◌≡◌, length};
 use lrc_bits::{BitSet, Members};
 use std::process::Abort;
 
+/// The first place that a plain search finds marked so.
+fn first_marked(plain: &[bool; 128], wanted: bool) -> Option<usize> {
+    for place in 0..128usize {
+        if plain[place] == wanted {
+            return Some(place);
+        }
+    }
+    None
+}
+
 /// Whether a set holds the numbers that a list marks, and finds the first present and absent ones where a plain
 /// search does.
 fn agree(set: &BitSet<2>, plain: &[bool; 128]) -> bool
     requires { length set.now ≡ 128 }
 {
-    let mut same = set.first_absent() == plain.iter().position(|mark| !*mark);
-    same = same && set.first_from(0) == plain.iter().position(|mark| *mark);
-    same = same && set.first() == set.first_from(0);
-    same = same && set.is_empty() == !plain.iter().any(|mark| *mark);
+    let present = first_marked(plain, true);
+    let mut same = set.first_absent() == first_marked(plain, false);
+    same = same && set.first_from(0) == present;
+    same = same && set.first() == present;
+    same = same && set.is_empty() == present.is_none();
     for place in 0..128usize {
         same = same && set.contains(place) == plain[place];
     }
@@ -45,8 +56,7 @@ fn expect_member(rt: &impl Abort, left: &mut Members, want: Option<usize>) {
     assert!(rt; left.next_member() == want);
 }
 
-#[test]
-fn a_set_answers_as_a_list_does(rt: HostRuntime) {
+fn a_set_answers_as_a_list_does(rt: &impl Abort) {
     let mut set = BitSet::<2>::new();
     let mut plain = [false; 128];
     assert!(rt; agree(&set, &plain));
@@ -62,46 +72,42 @@ fn a_set_answers_as_a_list_does(rt: HostRuntime) {
     }
 }
 
-#[test]
-fn a_search_goes_on_in_the_next_word(rt: HostRuntime) {
+fn a_search_goes_on_in_the_next_word(rt: &impl Abort) {
     let mut set = BitSet::<3>::new();
     set.insert(63);
     set.insert(130);
-    expect_first(&rt, &set, 0, Some(63));
-    expect_first(&rt, &set, 63, Some(63));
-    expect_first(&rt, &set, 64, Some(130));
-    expect_first(&rt, &set, 131, None);
-    expect_first(&rt, &set, 192, None);
+    expect_first(rt, &set, 0, Some(63));
+    expect_first(rt, &set, 63, Some(63));
+    expect_first(rt, &set, 64, Some(130));
+    expect_first(rt, &set, 131, None);
+    expect_first(rt, &set, 192, None);
 }
 
-#[test]
-fn the_numbers_of_a_copy_are_taken_out_in_order(rt: HostRuntime) {
+fn the_numbers_of_a_copy_are_taken_out_in_order(rt: &impl Abort) {
     let mut set = BitSet::<2>::new();
     set.insert(70);
     set.insert(5);
     let mut left = set.copy();
-    expect_popped(&rt, &mut left, Some(5));
-    expect_popped(&rt, &mut left, Some(70));
-    expect_popped(&rt, &mut left, None);
+    expect_popped(rt, &mut left, Some(5));
+    expect_popped(rt, &mut left, Some(70));
+    expect_popped(rt, &mut left, None);
     assert!(rt; set.first() == Some(5));
 }
 
-#[test]
-fn a_walk_gives_each_number_once(rt: HostRuntime) {
+fn a_walk_gives_each_number_once(rt: &impl Abort) {
     let mut set = BitSet::<3>::new();
     set.insert(63);
     set.insert(130);
     set.insert(131);
     let mut left = set.members();
-    expect_member(&rt, &mut left, Some(63));
-    expect_member(&rt, &mut left, Some(130));
-    expect_member(&rt, &mut left, Some(131));
-    expect_member(&rt, &mut left, None);
-    expect_member(&rt, &mut left, None);
+    expect_member(rt, &mut left, Some(63));
+    expect_member(rt, &mut left, Some(130));
+    expect_member(rt, &mut left, Some(131));
+    expect_member(rt, &mut left, None);
+    expect_member(rt, &mut left, None);
 }
 
-#[test]
-fn a_number_is_near_where_it_stands_in_the_same_word(rt: HostRuntime) {
+fn a_number_is_near_where_it_stands_in_the_same_word(rt: &impl Abort) {
     let mut set = BitSet::<3>::new();
     set.insert(63);
     set.insert(130);
@@ -110,22 +116,20 @@ fn a_number_is_near_where_it_stands_in_the_same_word(rt: HostRuntime) {
     assert!(rt; set.has_near(191));
 }
 
-#[test]
-fn a_search_in_one_word_ends_with_it(rt: HostRuntime) {
+fn a_search_in_one_word_ends_with_it(rt: &impl Abort) {
     let mut set = BitSet::<3>::new();
     set.insert(3);
     set.insert(130);
     set.insert(190);
-    expect_near(&rt, &set, 0, Some(3));
-    expect_near(&rt, &set, 3, Some(3));
-    expect_near(&rt, &set, 4, None);
-    expect_near(&rt, &set, 64, None);
-    expect_near(&rt, &set, 131, Some(190));
-    expect_near(&rt, &set, 192, None);
+    expect_near(rt, &set, 0, Some(3));
+    expect_near(rt, &set, 3, Some(3));
+    expect_near(rt, &set, 4, None);
+    expect_near(rt, &set, 64, None);
+    expect_near(rt, &set, 131, Some(190));
+    expect_near(rt, &set, 192, None);
 }
 
-#[test]
-fn what_another_set_holds_is_put_in(rt: HostRuntime) {
+fn what_another_set_holds_is_put_in(rt: &impl Abort) {
     let mut set = BitSet::<2>::new();
     let mut other = BitSet::<2>::new();
     set.insert(5);
@@ -133,13 +137,12 @@ fn what_another_set_holds_is_put_in(rt: HostRuntime) {
     other.insert(5);
     other.insert(70);
     set.insert_all(&other);
-    expect_first(&rt, &set, 0, Some(5));
-    expect_first(&rt, &set, 6, Some(64));
-    expect_first(&rt, &set, 65, Some(70));
+    expect_first(rt, &set, 0, Some(5));
+    expect_first(rt, &set, 6, Some(64));
+    expect_first(rt, &set, 65, Some(70));
 }
 
-#[test]
-fn what_two_other_sets_hold_is_passed_over_in_a_word(rt: HostRuntime) {
+fn what_two_other_sets_hold_is_passed_over_in_a_word(rt: &impl Abort) {
     let mut set = BitSet::<2>::new();
     let mut one = BitSet::<2>::new();
     let mut other = BitSet::<2>::new();
@@ -152,20 +155,18 @@ fn what_two_other_sets_hold_is_passed_over_in_a_word(rt: HostRuntime) {
     assert!(rt; set.first_of_word_outside_both(0, &one, &other) == None);
 }
 
-#[test]
-fn a_word_by_itself_tells_its_numbers_from_its_first(rt: HostRuntime) {
+fn a_word_by_itself_tells_its_numbers_from_its_first(rt: &impl Abort) {
     let mut set = BitSet::<2>::new();
     set.insert(5);
     set.insert(66);
     set.insert(127);
     let mut word = set.of_word(1);
-    expect_popped(&rt, &mut word, Some(2));
-    expect_popped(&rt, &mut word, Some(63));
-    expect_popped(&rt, &mut word, None);
+    expect_popped(rt, &mut word, Some(2));
+    expect_popped(rt, &mut word, Some(63));
+    expect_popped(rt, &mut word, None);
 }
 
-#[test]
-fn what_two_sets_have_in_common_is_put_in(rt: HostRuntime) {
+fn what_two_sets_have_in_common_is_put_in(rt: &impl Abort) {
     let mut set = BitSet::<2>::new();
     let mut one = BitSet::<2>::new();
     let mut other = BitSet::<2>::new();
@@ -177,13 +178,12 @@ fn what_two_sets_have_in_common_is_put_in(rt: HostRuntime) {
     other.insert(64);
     other.insert(127);
     set.insert_common(&one, &other);
-    expect_first(&rt, &set, 0, Some(7));
-    expect_first(&rt, &set, 8, Some(64));
-    expect_first(&rt, &set, 65, None);
+    expect_first(rt, &set, 0, Some(7));
+    expect_first(rt, &set, 8, Some(64));
+    expect_first(rt, &set, 65, None);
 }
 
-#[test]
-fn what_another_set_holds_is_taken_out(rt: HostRuntime) {
+fn what_another_set_holds_is_taken_out(rt: &impl Abort) {
     let mut set = BitSet::<2>::new();
     let mut other = BitSet::<2>::new();
     set.insert(5);
@@ -192,7 +192,22 @@ fn what_another_set_holds_is_taken_out(rt: HostRuntime) {
     other.insert(6);
     other.insert(64);
     set.remove_all(&other);
-    expect_first(&rt, &set, 0, Some(5));
-    expect_first(&rt, &set, 6, Some(70));
-    expect_first(&rt, &set, 71, None);
+    expect_first(rt, &set, 0, Some(5));
+    expect_first(rt, &set, 6, Some(70));
+    expect_first(rt, &set, 71, None);
+}
+
+#[test]
+fn sets_answer_as_they_should(rt: HostRuntime) {
+    a_set_answers_as_a_list_does(&rt);
+    a_search_goes_on_in_the_next_word(&rt);
+    the_numbers_of_a_copy_are_taken_out_in_order(&rt);
+    a_walk_gives_each_number_once(&rt);
+    a_number_is_near_where_it_stands_in_the_same_word(&rt);
+    a_search_in_one_word_ends_with_it(&rt);
+    what_another_set_holds_is_put_in(&rt);
+    what_two_other_sets_hold_is_passed_over_in_a_word(&rt);
+    a_word_by_itself_tells_its_numbers_from_its_first(&rt);
+    what_two_sets_have_in_common_is_put_in(&rt);
+    what_another_set_holds_is_taken_out(&rt);
 }

@@ -13,8 +13,7 @@ fn session(number: u8) -> Option<u8> {
     Some(SessionNo::new(number)?.get())
 }
 
-#[test]
-fn numbers_end_at_their_limits(rt: HostRuntime) {
+fn numbers_end_at_their_limits(rt: &impl Abort) {
     assert!(rt; stripe(4095) == Some(4095) && stripe(4096).is_none());
     assert!(rt; fragment(15) == Some(15) && fragment(16).is_none());
     assert!(rt; session(0).is_none() && session(9).is_none());
@@ -33,20 +32,18 @@ fn upgrade(number: u8) -> Option<u8> {
     Some(UpgradeNo::new(number)?.get())
 }
 
-#[test]
-fn nodes_and_domains_have_all_numbers(rt: HostRuntime) {
+fn nodes_and_domains_have_all_numbers(rt: &impl Abort) {
     assert!(rt; node(65535) == Some(65535));
     assert!(rt; fault(255) == Some(255));
     assert!(rt; upgrade(255) == Some(255));
 }
 
-#[test]
-fn sixteen_fragments_in_three_classes(rt: HostRuntime) {
+fn sixteen_fragments_in_three_classes(rt: &impl Abort) {
     let (a, b, g) = (Class::A, Class::B, Class::G);
     let classes = [a, a, a, a, a, a, b, b, b, b, b, b, a, b, g, g];
     let all = Fragment::all();
     for place in 0..16usize {
-        expect_class(&rt, all[place], place, classes[place]);
+        expect_class(rt, all[place], place, classes[place]);
     }
 }
 
@@ -55,13 +52,12 @@ fn expect_class(rt: &impl Abort, fragment: Fragment, number: usize, class: Class
     assert!(rt; fragment.class() == class, "fragment {number}");
 }
 
-#[test]
-fn fragments_share_their_group(rt: HostRuntime) {
-    expect_shared(&rt, 0, true);
-    expect_shared(&rt, 5, true);
-    expect_shared(&rt, 6, false);
-    expect_shared(&rt, 12, true);
-    expect_shared(&rt, 14, false);
+fn fragments_share_their_group(rt: &impl Abort) {
+    expect_shared(rt, 0, true);
+    expect_shared(rt, 5, true);
+    expect_shared(rt, 6, false);
+    expect_shared(rt, 12, true);
+    expect_shared(rt, 14, false);
 }
 
 /// Whether a fragment is of the group of fragment 0.
@@ -75,10 +71,9 @@ fn fragment_numbered(rt: &impl Abort, number: u8) -> Fragment {
     Fragment::new(number).expect(rt, "a fragment")
 }
 
-#[test]
-fn faults_have_their_numbers_and_texts(rt: HostRuntime) {
-    expect_fault(&rt, Fault::OutOfMemory, 1, "out of memory");
-    expect_fault(&rt, Fault::HistoryFull, 2, "the history is full");
+fn faults_have_their_numbers_and_texts(rt: &(impl AllocGlobal + Abort)) {
+    expect_fault(rt, Fault::OutOfMemory, 1, "out of memory");
+    expect_fault(rt, Fault::HistoryFull, 2, "the history is full");
 }
 
 fn expect_fault(rt: &(impl AllocGlobal + Abort), fault: Fault, number: u8, want: &str) {
@@ -87,10 +82,9 @@ fn expect_fault(rt: &(impl AllocGlobal + Abort), fault: Fault, number: u8, want:
     assert!(rt; fault as u8 == number, "{text}");
 }
 
-#[test]
-fn a_mask_is_a_set_of_fragments(rt: HostRuntime) {
-    let third = fragment_numbered(&rt, 3);
-    let fourth = fragment_numbered(&rt, 4);
+fn a_mask_is_a_set_of_fragments(rt: &impl Abort) {
+    let third = fragment_numbered(rt, 3);
+    let fourth = fragment_numbered(rt, 4);
     let mask = LossMask::from_bits(0x0001).with(third);
     assert!(rt; mask.bits() == 0x0009);
     assert!(rt; mask.contains(third) && !mask.contains(fourth));
@@ -98,8 +92,7 @@ fn a_mask_is_a_set_of_fragments(rt: HostRuntime) {
     assert!(rt; mask.without(fourth).bits() == 0x0009);
 }
 
-#[test]
-fn three_losses_are_always_repaired_and_five_never(rt: HostRuntime) {
+fn three_losses_are_always_repaired_and_five_never(rt: &impl Abort) {
     let mut recoverable = [0u32; 17];
     for bits in 0..=u16::MAX {
         if LossMask::from_bits(bits).recoverable() {
@@ -112,15 +105,14 @@ fn three_losses_are_always_repaired_and_five_never(rt: HostRuntime) {
     assert!(rt; recoverable == wanted, "{recoverable:?}");
 }
 
-#[test]
-fn losses_by_class_and_margins(rt: HostRuntime) {
-    expect_losses(&rt, 0x0000, [0, 0, 0], Some(3));
-    expect_losses(&rt, 0x0041, [1, 1, 0], Some(2));
-    expect_losses(&rt, 0xc000, [0, 0, 2], Some(1));
-    expect_losses(&rt, 0x0047, [3, 1, 0], Some(0));
-    expect_losses(&rt, 0x000f, [4, 0, 0], None);
-    expect_losses(&rt, 0xc003, [2, 0, 2], None);
-    expect_losses(&rt, 0xffff, [7, 7, 2], None);
+fn losses_by_class_and_margins(rt: &impl Abort) {
+    expect_losses(rt, 0x0000, [0, 0, 0], Some(3));
+    expect_losses(rt, 0x0041, [1, 1, 0], Some(2));
+    expect_losses(rt, 0xc000, [0, 0, 2], Some(1));
+    expect_losses(rt, 0x0047, [3, 1, 0], Some(0));
+    expect_losses(rt, 0x000f, [4, 0, 0], None);
+    expect_losses(rt, 0xc003, [2, 0, 2], None);
+    expect_losses(rt, 0xffff, [7, 7, 2], None);
 }
 
 /// The losses in the two groups and of the global parities, and how many more can be borne.
@@ -138,8 +130,7 @@ fn sources(bits: u16, number: u8) -> Option<[u8; 6]> {
     Some([a.get(), b.get(), c.get(), d.get(), e.get(), f.get()])
 }
 
-#[test]
-fn local_sources_are_the_others_of_the_group(rt: HostRuntime) {
+fn local_sources_are_the_others_of_the_group(rt: &impl Abort) {
     assert!(rt; sources(0x0008, 3) == Some([0, 1, 2, 4, 5, 12]));
     assert!(rt; sources(0x0000, 13) == Some([6, 7, 8, 9, 10, 11]));
     assert!(rt;
@@ -150,4 +141,17 @@ fn local_sources_are_the_others_of_the_group(rt: HostRuntime) {
         sources(0x0018, 3).is_none(),
         "fragment 4 of the group is lost too"
     );
+}
+
+#[test]
+fn numbers_classes_and_losses_are_as_told(rt: HostRuntime) {
+    numbers_end_at_their_limits(&rt);
+    nodes_and_domains_have_all_numbers(&rt);
+    sixteen_fragments_in_three_classes(&rt);
+    fragments_share_their_group(&rt);
+    faults_have_their_numbers_and_texts(&rt);
+    a_mask_is_a_set_of_fragments(&rt);
+    three_losses_are_always_repaired_and_five_never(&rt);
+    losses_by_class_and_margins(&rt);
+    local_sources_are_the_others_of_the_group(&rt);
 }

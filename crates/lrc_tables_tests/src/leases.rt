@@ -56,34 +56,31 @@ fn three(rt: &(impl AllocGlobal + Abort)) -> Leases {
     leases
 }
 
-#[test]
-fn a_lease_is_found_by_its_fragment(rt: HostRuntime) {
-    let leases = three(&rt);
-    let fourth = lease(&rt, 4, 16, 2);
-    expect_lease(&rt, &leases, fourth);
-    let other = stripe_numbered(&rt, 2);
+fn a_lease_is_found_by_its_fragment(rt: &(impl AllocGlobal + Abort)) {
+    let leases = three(rt);
+    let fourth = lease(rt, 4, 16, 2);
+    expect_lease(rt, &leases, fourth);
+    let other = stripe_numbered(rt, 2);
     assert!(rt; leases.lease(other, fourth.fragment).is_none());
 }
 
-#[test]
-fn a_removed_lease_is_answered_once(rt: HostRuntime) {
-    let mut leases = three(&rt);
-    let fourth = lease(&rt, 4, 16, 2);
-    expect_removed(&rt, &mut leases, fourth, true);
-    expect_removed(&rt, &mut leases, fourth, false);
-    reserve(&rt, &mut leases, 1);
-    add(&rt, &mut leases, fourth);
-    expect_lease(&rt, &leases, fourth);
+fn a_removed_lease_is_answered_once(rt: &(impl AllocGlobal + Abort)) {
+    let mut leases = three(rt);
+    let fourth = lease(rt, 4, 16, 2);
+    expect_removed(rt, &mut leases, fourth, true);
+    expect_removed(rt, &mut leases, fourth, false);
+    reserve(rt, &mut leases, 1);
+    add(rt, &mut leases, fourth);
+    expect_lease(rt, &leases, fourth);
 }
 
-#[test]
-fn the_leased_fragments_of_a_stripe_are_a_mask(rt: HostRuntime) {
-    let mut leases = three(&rt);
-    let fourth = lease(&rt, 4, 16, 2);
-    expect_leased(&rt, &leases, 1, 0x0218);
-    expect_removed(&rt, &mut leases, fourth, true);
-    expect_leased(&rt, &leases, 1, 0x0208);
-    expect_leased(&rt, &leases, 2, 0);
+fn the_leased_fragments_of_a_stripe_are_a_mask(rt: &(impl AllocGlobal + Abort)) {
+    let mut leases = three(rt);
+    let fourth = lease(rt, 4, 16, 2);
+    expect_leased(rt, &leases, 1, 0x0218);
+    expect_removed(rt, &mut leases, fourth, true);
+    expect_leased(rt, &leases, 1, 0x0208);
+    expect_leased(rt, &leases, 2, 0);
 }
 
 fn expect_leased(rt: &impl Abort, leases: &Leases, number: u16, want: u16) {
@@ -91,12 +88,11 @@ fn expect_leased(rt: &impl Abort, leases: &Leases, number: u16, want: u16) {
     assert!(rt; leases.leased(stripe).bits() == want, "stripe {number}");
 }
 
-#[test]
-fn targets_on_a_node_are_given_each_once(rt: HostRuntime) {
-    let mut leases = three(&rt);
-    expect_targets(&rt, &leases, &[(3, 0), (9, 1)]);
-    expect_removed(&rt, &mut leases, lease(&rt, 3, 17, 0), true);
-    expect_targets(&rt, &leases, &[(9, 1)]);
+fn targets_on_a_node_are_given_each_once(rt: &(impl AllocGlobal + Abort)) {
+    let mut leases = three(rt);
+    expect_targets(rt, &leases, &[(3, 0), (9, 1)]);
+    expect_removed(rt, &mut leases, lease(rt, 3, 17, 0), true);
+    expect_targets(rt, &leases, &[(9, 1)]);
 }
 
 /// The leases with targets on node 17 are so many, and each has a fragment and a slot of these.
@@ -126,28 +122,36 @@ fn grant(rt: &impl Abort, grants: &mut Grants, stripe: StripeNo, fragment: Fragm
     grants.add(stripe, fragment);
 }
 
-#[test]
-fn grants_are_counted_for_each_fragment_of_each_stripe_number(rt: HostRuntime) {
-    let mut grants = Grants::new(rt.alloc()).expect(&rt, "memory");
-    let last = stripe_numbered(&rt, 4095);
-    let other = stripe_numbered(&rt, 4094);
-    let fragment = fragment_numbered(&rt, 15);
-    grant(&rt, &mut grants, last, fragment);
-    grant(&rt, &mut grants, last, fragment);
-    grant(&rt, &mut grants, other, fragment);
+fn grants_are_counted_for_each_fragment_of_each_stripe_number(rt: &(impl AllocGlobal + Abort)) {
+    let mut grants = Grants::new(rt.alloc()).expect(rt, "memory");
+    let last = stripe_numbered(rt, 4095);
+    let other = stripe_numbered(rt, 4094);
+    let fragment = fragment_numbered(rt, 15);
+    grant(rt, &mut grants, last, fragment);
+    grant(rt, &mut grants, last, fragment);
+    grant(rt, &mut grants, other, fragment);
     assert!(rt; grants.count(last, fragment) == 2);
     assert!(rt; grants.count(other, fragment) == 1);
 }
 
-#[test]
-fn grants_are_counted_on_where_a_byte_is_full(rt: HostRuntime) {
-    let mut grants = Grants::new(rt.alloc()).expect(&rt, "memory");
-    let stripe = stripe_numbered(&rt, 2);
-    let fragment = fragment_numbered(&rt, 5);
-    let after = fragment_numbered(&rt, 6);
+fn grants_are_counted_on_where_a_byte_is_full(rt: &(impl AllocGlobal + Abort)) {
+    let mut grants = Grants::new(rt.alloc()).expect(rt, "memory");
+    let stripe = stripe_numbered(rt, 2);
+    let fragment = fragment_numbered(rt, 5);
+    let after = fragment_numbered(rt, 6);
     for _ in 0..513 {
-        grant(&rt, &mut grants, stripe, fragment);
+        grant(rt, &mut grants, stripe, fragment);
     }
     assert!(rt; grants.count(stripe, fragment) == 513);
     assert!(rt; grants.count(stripe, after) == 0);
+}
+
+#[test]
+fn leases_and_grants_are_kept(rt: HostRuntime) {
+    a_lease_is_found_by_its_fragment(&rt);
+    a_removed_lease_is_answered_once(&rt);
+    the_leased_fragments_of_a_stripe_are_a_mask(&rt);
+    targets_on_a_node_are_given_each_once(&rt);
+    grants_are_counted_for_each_fragment_of_each_stripe_number(&rt);
+    grants_are_counted_on_where_a_byte_is_full(&rt);
 }

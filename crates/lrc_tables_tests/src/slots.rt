@@ -48,9 +48,8 @@ fn set_eligible(rt: &impl Abort, table: &mut SlotTable, number: u16, eligible: b
     table.set_eligible(node, eligible);
 }
 
-#[test]
-fn a_node_is_found_by_its_number(rt: HostRuntime) {
-    let table = three(&rt);
+fn a_node_is_found_by_its_number(rt: &(impl AllocGlobal + Abort)) {
+    let table = three(rt);
     let last = NodeInfo {
         number: NodeNo { value: 5 },
         fault: FaultNo { value: 1 },
@@ -61,43 +60,40 @@ fn a_node_is_found_by_its_number(rt: HostRuntime) {
     assert!(rt; table.node(NodeNo { value: 4 }).is_none());
 }
 
-#[test]
-fn load_comes_before_number(rt: HostRuntime) {
-    let mut table = three(&rt);
-    expect_next(&rt, &mut table, Some((3, 0)));
-    expect_next(&rt, &mut table, Some((5, 0)));
-    expect_next(&rt, &mut table, Some((7, 0)));
-    expect_next(&rt, &mut table, Some((5, 1)));
-    expect_next(&rt, &mut table, Some((7, 1)));
-    expect_choice(&rt, &table, &Taken::new(), None);
+fn load_comes_before_number(rt: &(impl AllocGlobal + Abort)) {
+    let mut table = three(rt);
+    expect_next(rt, &mut table, Some((3, 0)));
+    expect_next(rt, &mut table, Some((5, 0)));
+    expect_next(rt, &mut table, Some((7, 0)));
+    expect_next(rt, &mut table, Some((5, 1)));
+    expect_next(rt, &mut table, Some((7, 1)));
+    expect_choice(rt, &table, &Taken::new(), None);
 }
 
-#[test]
-fn barred_and_ineligible_nodes_are_passed_over(rt: HostRuntime) {
-    let mut table = three(&rt);
+fn barred_and_ineligible_nodes_are_passed_over(rt: &(impl AllocGlobal + Abort)) {
+    let mut table = three(rt);
     let mut bars = Taken::new();
-    set_eligible(&rt, &mut table, 3, false);
-    expect_choice(&rt, &table, &bars, Some(5));
-    set_eligible(&rt, &mut table, 3, true);
-    expect_choice(&rt, &table, &bars, Some(3));
+    set_eligible(rt, &mut table, 3, false);
+    expect_choice(rt, &table, &bars, Some(5));
+    set_eligible(rt, &mut table, 3, true);
+    expect_choice(rt, &table, &bars, Some(3));
     bars.bar_fault(FaultNo { value: 2 });
-    expect_choice(&rt, &table, &bars, Some(5));
+    expect_choice(rt, &table, &bars, Some(5));
     bars.bar_upgrade(UpgradeNo { value: 6 });
-    expect_choice(&rt, &table, &bars, Some(7));
+    expect_choice(rt, &table, &bars, Some(7));
     bars.bar_fault(FaultNo { value: 1 });
-    expect_choice(&rt, &table, &bars, None);
+    expect_choice(rt, &table, &bars, None);
 }
 
-#[test]
-fn the_domains_of_a_node_are_barred_by_its_number(rt: HostRuntime) {
-    let table = three(&rt);
+fn the_domains_of_a_node_are_barred_by_its_number(rt: &(impl AllocGlobal + Abort)) {
+    let table = three(rt);
     let mut bars = Taken::new();
-    bar(&rt, &table, &mut bars, 3, false);
-    expect_choice(&rt, &table, &bars, Some(5));
-    bar(&rt, &table, &mut bars, 3, true);
-    expect_choice(&rt, &table, &bars, Some(7));
-    bar(&rt, &table, &mut bars, 5, true);
-    expect_choice(&rt, &table, &bars, None);
+    bar(rt, &table, &mut bars, 3, false);
+    expect_choice(rt, &table, &bars, Some(5));
+    bar(rt, &table, &mut bars, 3, true);
+    expect_choice(rt, &table, &bars, Some(7));
+    bar(rt, &table, &mut bars, 5, true);
+    expect_choice(rt, &table, &bars, None);
 }
 
 /// Bars the fault domain of a node, and its upgrade domain where both are to be barred.
@@ -111,16 +107,15 @@ fn bar(rt: &impl Abort, table: &SlotTable, bars: &mut Taken, number: u16, both: 
     }
 }
 
-#[test]
-fn the_least_free_slot_is_taken_again(rt: HostRuntime) {
-    let mut table = three(&rt);
-    expect_slot(&rt, &mut table, Some(0));
-    expect_slot(&rt, &mut table, Some(1));
-    expect_slot(&rt, &mut table, None);
-    expect_load(&rt, &table, 2, None);
-    free_first(&rt, &mut table);
-    expect_load(&rt, &table, 1, Some(0));
-    expect_slot(&rt, &mut table, Some(0));
+fn the_least_free_slot_is_taken_again(rt: &(impl AllocGlobal + Abort)) {
+    let mut table = three(rt);
+    expect_slot(rt, &mut table, Some(0));
+    expect_slot(rt, &mut table, Some(1));
+    expect_slot(rt, &mut table, None);
+    expect_load(rt, &table, 2, None);
+    free_first(rt, &mut table);
+    expect_load(rt, &table, 1, Some(0));
+    expect_slot(rt, &mut table, Some(0));
 }
 
 /// The slot of node 7 that is taken next.
@@ -144,12 +139,23 @@ fn free_first(rt: &impl Abort, table: &mut SlotTable) {
     table.free(node, 0);
 }
 
-#[test]
-fn the_last_node_of_the_largest_store_is_chosen_where_all_others_are_barred(rt: HostRuntime) {
-    let topology = nodes(&rt, Plan::Largest, 512);
-    let table = SlotTable::new(rt.alloc(), &topology).expect(&rt, "memory");
+fn the_last_node_of_the_largest_store_is_chosen_where_all_others_are_barred(
+    rt: &(impl AllocGlobal + Abort),
+) {
+    let topology = nodes(rt, Plan::Largest, 512);
+    let table = SlotTable::new(rt.alloc(), &topology).expect(rt, "memory");
     let mut bars = Taken::new();
-    expect_choice(&rt, &table, &bars, Some(0));
+    expect_choice(rt, &table, &bars, Some(0));
     bars.bar_fault(FaultNo { value: 0 });
-    expect_choice(&rt, &table, &bars, Some(511));
+    expect_choice(rt, &table, &bars, Some(511));
+}
+
+#[test]
+fn slots_are_chosen_and_taken(rt: HostRuntime) {
+    a_node_is_found_by_its_number(&rt);
+    load_comes_before_number(&rt);
+    barred_and_ineligible_nodes_are_passed_over(&rt);
+    the_domains_of_a_node_are_barred_by_its_number(&rt);
+    the_least_free_slot_is_taken_again(&rt);
+    the_last_node_of_the_largest_store_is_chosen_where_all_others_are_barred(&rt);
 }

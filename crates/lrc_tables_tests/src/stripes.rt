@@ -106,35 +106,33 @@ fn add_in_slot(rt: &impl Abort, stripes: &mut Stripes, stripe: StripeNo, slot: u
     }
 }
 
-#[test]
-fn offline_nodes_make_unavailable_and_lost_homes_lost(rt: HostRuntime) {
-    let stripe = stripe_numbered(&rt, 1);
-    let mut stripes = one_stripe(&rt, stripe);
-    assert_missing(&rt, &stripes, stripe, 0, Level::Whole);
+fn offline_nodes_make_unavailable_and_lost_homes_lost(rt: &(impl AllocGlobal + Abort)) {
+    let stripe = stripe_numbered(rt, 1);
+    let mut stripes = one_stripe(rt, stripe);
+    assert_missing(rt, &stripes, stripe, 0, Level::Whole);
 
     for number in 0..4 {
-        set_offline(&rt, &mut stripes, number, true);
+        set_offline(rt, &mut stripes, number, true);
     }
-    assert_missing(&rt, &stripes, stripe, 0x000f, Level::Unavailable);
+    assert_missing(rt, &stripes, stripe, 0x000f, Level::Unavailable);
 
     for number in [0, 1, 2] {
-        set_offline(&rt, &mut stripes, number, false);
+        set_offline(rt, &mut stripes, number, false);
     }
-    assert_missing(&rt, &stripes, stripe, 0x0008, Level::AtRisk(2));
+    assert_missing(rt, &stripes, stripe, 0x0008, Level::AtRisk(2));
 
-    set_offline(&rt, &mut stripes, 3, false);
-    clear_homes(&rt, &mut stripes, stripe, &[0, 1, 2, 4]);
-    assert_missing(&rt, &stripes, stripe, 0x0017, Level::Lost);
+    set_offline(rt, &mut stripes, 3, false);
+    clear_homes(rt, &mut stripes, stripe, &[0, 1, 2, 4]);
+    assert_missing(rt, &stripes, stripe, 0x0017, Level::Lost);
 }
 
-#[test]
-fn an_upgrade_loses_what_offline_nodes_hold_together(rt: HostRuntime) {
-    let first = stripe_numbered(&rt, 3);
-    let second = stripe_numbered(&rt, 7);
-    let mut stripes = one_stripe(&rt, second);
-    reserve(&rt, &mut stripes, 1);
-    add_in_slot(&rt, &mut stripes, first, 0);
-    lose_to_upgrades(&rt, &mut stripes, first, second)
+fn an_upgrade_loses_what_offline_nodes_hold_together(rt: &(impl AllocGlobal + Abort)) {
+    let first = stripe_numbered(rt, 3);
+    let second = stripe_numbered(rt, 7);
+    let mut stripes = one_stripe(rt, second);
+    reserve(rt, &mut stripes, 1);
+    add_in_slot(rt, &mut stripes, first, 0);
+    lose_to_upgrades(rt, &mut stripes, first, second)
 }
 
 /// Nodes 1, 2 and 3 hold three fragments of one group. Without them a stripe bears one loss in the other group and none in
@@ -175,23 +173,22 @@ fn expect_short_loss(rt: &impl Abort, stripes: &Stripes, domain: u8, want: Strip
 
 /// Each stripe has fragment f on node f. The first misses none, the next two miss one and bear any two more, the last misses
 /// three of one group and bears none.
-#[test]
-fn work_and_risk_go_by_rank_and_then_by_number(rt: HostRuntime) {
-    let mut stripes = no_stripe(&rt, 20, 4);
+fn work_and_risk_go_by_rank_and_then_by_number(rt: &(impl AllocGlobal + Abort)) {
+    let mut stripes = no_stripe(rt, 20, 4);
     let named = [
-        stripe_numbered(&rt, 2),
-        stripe_numbered(&rt, 5),
-        stripe_numbered(&rt, 7),
-        stripe_numbered(&rt, 9),
+        stripe_numbered(rt, 2),
+        stripe_numbered(rt, 5),
+        stripe_numbered(rt, 7),
+        stripe_numbered(rt, 9),
     ];
-    add_in_slot(&rt, &mut stripes, named[3], 3);
-    add_in_slot(&rt, &mut stripes, named[1], 1);
-    add_in_slot(&rt, &mut stripes, named[2], 2);
-    add_in_slot(&rt, &mut stripes, named[0], 0);
-    clear_homes(&rt, &mut stripes, named[1], &[0]);
-    clear_homes(&rt, &mut stripes, named[2], &[14]);
-    clear_homes(&rt, &mut stripes, named[3], &[0, 1, 2]);
-    drain_and_lose(&rt, &mut stripes, named);
+    add_in_slot(rt, &mut stripes, named[3], 3);
+    add_in_slot(rt, &mut stripes, named[1], 1);
+    add_in_slot(rt, &mut stripes, named[2], 2);
+    add_in_slot(rt, &mut stripes, named[0], 0);
+    clear_homes(rt, &mut stripes, named[1], &[0]);
+    clear_homes(rt, &mut stripes, named[2], &[14]);
+    clear_homes(rt, &mut stripes, named[3], &[0, 1, 2]);
+    drain_and_lose(rt, &mut stripes, named);
 }
 
 /// A stripe misses these fragments, and is at this level.
@@ -271,42 +268,40 @@ fn assert_at_risk(rt: &impl Abort, stripes: &Stripes, expected: &[(StripeNo, Lev
 }
 
 /// Fragment f is on node f. Offline nodes have no part in it, and a fragment without a home needs one wherever it was.
-#[test]
-fn homeless_and_draining_fragments_need_a_lease(rt: HostRuntime) {
-    let stripe = stripe_numbered(&rt, 6);
-    let other = stripe_numbered(&rt, 7);
-    let mut stripes = one_stripe(&rt, stripe);
-    set_offline(&rt, &mut stripes, 5, true);
-    assert_needs(&rt, &stripes, stripe, 0x0000);
+fn homeless_and_draining_fragments_need_a_lease(rt: &(impl AllocGlobal + Abort)) {
+    let stripe = stripe_numbered(rt, 6);
+    let other = stripe_numbered(rt, 7);
+    let mut stripes = one_stripe(rt, stripe);
+    set_offline(rt, &mut stripes, 5, true);
+    assert_needs(rt, &stripes, stripe, 0x0000);
 
-    set_draining(&rt, &mut stripes, 3, true);
-    set_draining(&rt, &mut stripes, 14, true);
-    assert_needs(&rt, &stripes, stripe, 0x4008);
+    set_draining(rt, &mut stripes, 3, true);
+    set_draining(rt, &mut stripes, 14, true);
+    assert_needs(rt, &stripes, stripe, 0x4008);
 
-    clear_homes(&rt, &mut stripes, stripe, &[0, 3]);
-    assert_needs(&rt, &stripes, stripe, 0x4009);
+    clear_homes(rt, &mut stripes, stripe, &[0, 3]);
+    assert_needs(rt, &stripes, stripe, 0x4009);
 
-    set_draining(&rt, &mut stripes, 3, false);
-    set_draining(&rt, &mut stripes, 14, false);
-    assert_needs(&rt, &stripes, stripe, 0x0009);
+    set_draining(rt, &mut stripes, 3, false);
+    set_draining(rt, &mut stripes, 14, false);
+    assert_needs(rt, &stripes, stripe, 0x0009);
     assert!(rt; stripes.needs(other).is_none());
 }
 
-#[test]
-fn homes_on_a_node_rise(rt: HostRuntime) {
-    let first = stripe_numbered(&rt, 3);
-    let second = stripe_numbered(&rt, 7);
-    let fourth = fragment_numbered(&rt, 4);
-    let ninth = fragment_numbered(&rt, 9);
-    let mut stripes = no_stripe(&rt, 20, 2);
-    add(&rt, &mut stripes, second);
-    add(&rt, &mut stripes, first);
-    set_home(&rt, &mut stripes, second, ninth, seat(5, 0));
-    set_home(&rt, &mut stripes, second, fourth, seat(5, 3));
-    set_home(&rt, &mut stripes, first, fourth, seat(6, 0));
-    set_home(&rt, &mut stripes, first, ninth, seat(5, 2));
+fn homes_on_a_node_rise(rt: &(impl AllocGlobal + Abort)) {
+    let first = stripe_numbered(rt, 3);
+    let second = stripe_numbered(rt, 7);
+    let fourth = fragment_numbered(rt, 4);
+    let ninth = fragment_numbered(rt, 9);
+    let mut stripes = no_stripe(rt, 20, 2);
+    add(rt, &mut stripes, second);
+    add(rt, &mut stripes, first);
+    set_home(rt, &mut stripes, second, ninth, seat(5, 0));
+    set_home(rt, &mut stripes, second, fourth, seat(5, 3));
+    set_home(rt, &mut stripes, first, fourth, seat(6, 0));
+    set_home(rt, &mut stripes, first, ninth, seat(5, 2));
     expect_homes_on(
-        &rt,
+        rt,
         &stripes,
         5,
         &[(first, ninth), (second, fourth), (second, ninth)],
@@ -326,16 +321,15 @@ fn expect_homes_on(
     assert!(rt; homes.next().is_none());
 }
 
-#[test]
-fn homes_of_a_stripe_stand_by_their_fragments(rt: HostRuntime) {
-    let stripe = stripe_numbered(&rt, 8);
-    let other = stripe_numbered(&rt, 9);
-    let third = fragment_numbered(&rt, 3);
-    let last = fragment_numbered(&rt, 15);
-    let mut stripes = no_stripe(&rt, 20, 1);
-    add(&rt, &mut stripes, stripe);
-    set_home(&rt, &mut stripes, stripe, last, seat(5, 2));
-    set_home(&rt, &mut stripes, stripe, third, seat(7, 0));
+fn homes_of_a_stripe_stand_by_their_fragments(rt: &(impl AllocGlobal + Abort)) {
+    let stripe = stripe_numbered(rt, 8);
+    let other = stripe_numbered(rt, 9);
+    let third = fragment_numbered(rt, 3);
+    let last = fragment_numbered(rt, 15);
+    let mut stripes = no_stripe(rt, 20, 1);
+    add(rt, &mut stripes, stripe);
+    set_home(rt, &mut stripes, stripe, last, seat(5, 2));
+    set_home(rt, &mut stripes, stripe, third, seat(7, 0));
     let mut expected = [None; 16];
     expected[3] = Some(seat(7, 0));
     expected[15] = Some(seat(5, 2));
@@ -343,25 +337,23 @@ fn homes_of_a_stripe_stand_by_their_fragments(rt: HostRuntime) {
     assert!(rt; stripes.homes(other).is_none());
 }
 
-#[test]
-fn homes_go_with_their_stripe(rt: HostRuntime) {
-    let stripe = stripe_numbered(&rt, 1);
-    let last = fragment_numbered(&rt, 15);
-    let mut stripes = one_stripe(&rt, stripe);
-    assert!(rt; home(&rt, &stripes, stripe, last) == Some(seat(15, 1)));
+fn homes_go_with_their_stripe(rt: &(impl AllocGlobal + Abort)) {
+    let stripe = stripe_numbered(rt, 1);
+    let last = fragment_numbered(rt, 15);
+    let mut stripes = one_stripe(rt, stripe);
+    assert!(rt; home(rt, &stripes, stripe, last) == Some(seat(15, 1)));
     assert!(rt; !stripes.is_without_home(seat(15, 1)));
-    remove(&rt, &mut stripes, stripe);
+    remove(rt, &mut stripes, stripe);
     assert!(rt; stripes.is_without_home(seat(15, 1)));
     assert!(rt; !stripes.contains(stripe));
     assert!(rt; stripes.level(stripe).is_none());
-    reserve(&rt, &mut stripes, 1);
-    add(&rt, &mut stripes, stripe);
+    reserve(rt, &mut stripes, 1);
+    add(rt, &mut stripes, stripe);
     assert!(rt; stripes.missing(stripe) == Some(LossMask::from_bits(0xffff)));
 }
 
-#[test]
-fn nodes_and_slots_end(rt: HostRuntime) {
-    let stripes = no_stripe(&rt, 20, 0);
+fn nodes_and_slots_end(rt: &(impl AllocGlobal + Abort)) {
+    let stripes = no_stripe(rt, 20, 0);
     assert!(rt; stripes.has_node(node(19)));
     assert!(rt; !stripes.has_node(node(20)));
     assert!(rt; stripes.has_slot(seat(19, 3)));
@@ -369,10 +361,9 @@ fn nodes_and_slots_end(rt: HostRuntime) {
     assert!(rt; !stripes.has_slot(seat(20, 0)));
 }
 
-#[test]
-fn the_largest_store_takes_every_stripe(rt: HostRuntime) {
-    let mut stripes = no_stripe(&rt, 512, 0);
-    add_every_stripe(&rt, &mut stripes);
+fn the_largest_store_takes_every_stripe(rt: &(impl AllocGlobal + Abort)) {
+    let mut stripes = no_stripe(rt, 512, 0);
+    add_every_stripe(rt, &mut stripes);
     assert!(rt; stripes.has_node(node(511)));
 }
 
@@ -381,4 +372,17 @@ fn add_every_stripe(rt: &impl Abort, stripes: &mut Stripes) {
         reserve(rt, stripes, 1);
         add(rt, stripes, stripe_numbered(rt, number));
     }
+}
+
+#[test]
+fn stripes_are_told_by_their_homes(rt: HostRuntime) {
+    offline_nodes_make_unavailable_and_lost_homes_lost(&rt);
+    an_upgrade_loses_what_offline_nodes_hold_together(&rt);
+    work_and_risk_go_by_rank_and_then_by_number(&rt);
+    homeless_and_draining_fragments_need_a_lease(&rt);
+    homes_on_a_node_rise(&rt);
+    homes_of_a_stripe_stand_by_their_fragments(&rt);
+    homes_go_with_their_stripe(&rt);
+    nodes_and_slots_end(&rt);
+    the_largest_store_takes_every_stripe(&rt);
 }

@@ -29,7 +29,13 @@ impl PlainNode {
     }
 
     pub(crate) fn load(&self) -> u32 {
-        self.taken.iter().filter(|mark| **mark).count() as u32
+        let mut load = 0u32;
+        for mark in &self.taken {
+            if *mark {
+                load = load.saturating_add(1);
+            }
+        }
+        load
     }
 
     pub(crate) fn is_taken(&self, slot: u16) -> bool {

@@ -21,7 +21,12 @@ impl PlainTable {
     }
 
     pub(crate) fn node(&self, number: NodeNo) -> Option<&PlainNode> {
-        self.nodes.iter().find(|node| node.number() == number)
+        for node in self.nodes.iter() {
+            if node.number() == number {
+                return Some(node);
+            }
+        }
+        None
     }
 
     pub(crate) fn node_mut(&mut self, number: NodeNo) -> Option<&mut PlainNode> {
@@ -40,7 +45,12 @@ impl PlainTable {
 
     /// Whether some node takes a seat.
     pub(crate) fn has_open_node(&self) -> bool {
-        self.nodes.iter().any(|node| node.is_open())
+        for node in self.nodes.iter() {
+            if node.is_open() {
+                return true;
+            }
+        }
+        false
     }
 
     /// The node that is chosen where these domains are barred.
@@ -54,6 +64,6 @@ impl PlainTable {
                 };
             }
         }
-        best.map(|node| node.number())
+        Some(best?.number())
     }
 }

@@ -32,18 +32,17 @@ fn expect_twice_edited(
 
 const LAST_OF_TWENTY: &str = "fault = 19\nupgrade = 9\nslots = 4";
 
-#[test]
-fn each_check_goes_over_all_of_twenty_entries(rt: HostRuntime) {
-    let whole = text(&rt, Plan::Apart, 20);
-    expect(&rt, &whole, Ok(20));
+fn each_check_goes_over_all_of_twenty_entries(rt: &(impl AllocGlobal + Abort)) {
+    let whole = text(rt, Plan::Apart, 20);
+    expect(rt, &whole, Ok(20));
     expect_edited(
-        &rt,
+        rt,
         &whole,
         [LAST_OF_TWENTY, "fault = 19\nupgrade = 9\nslots = 257"],
         Err(TopologyError::OutOfRange(19)),
     );
     expect_twice_edited(
-        &rt,
+        rt,
         &whole,
         (
             ["upgrade = 2\nslots = 4", "upgrade = 2\nslots = 0"],
@@ -55,7 +54,7 @@ fn each_check_goes_over_all_of_twenty_entries(rt: HostRuntime) {
         ),
     );
     expect_twice_edited(
-        &rt,
+        rt,
         &whole,
         (
             ["number = 8\n", "number = 7\n"],
@@ -68,37 +67,35 @@ fn each_check_goes_over_all_of_twenty_entries(rt: HostRuntime) {
     );
 }
 
-#[test]
-fn nodes_are_counted_after_all_checks(rt: HostRuntime) {
-    let most = text(&rt, Plan::Least, 512);
-    expect(&rt, &most, Ok(512));
-    let crowd = text(&rt, Plan::Least, 513);
-    expect(&rt, &crowd, Err(TopologyError::TooMany));
+fn nodes_are_counted_after_all_checks(rt: &(impl AllocGlobal + Abort)) {
+    let most = text(rt, Plan::Least, 512);
+    expect(rt, &most, Ok(512));
+    let crowd = text(rt, Plan::Least, 513);
+    expect(rt, &crowd, Err(TopologyError::TooMany));
     let old = "number = 512\nfault = 0\nupgrade = 0\nslots = 1";
     expect_edited(
-        &rt,
+        rt,
         &crowd,
         [old, "number = 512\nfault = 0\nupgrade = 0"],
         Err(TopologyError::BadField(512)),
     );
     expect_edited(
-        &rt,
+        rt,
         &crowd,
         [old, "number = 512\nfault = 0\nupgrade = 0\nslots = 0"],
         Err(TopologyError::OutOfRange(512)),
     );
     expect_edited(
-        &rt,
+        rt,
         &crowd,
         [old, "number = 9\nfault = 0\nupgrade = 0\nslots = 1"],
         Err(TopologyError::DoubleNode(NodeNo { value: 9 })),
     );
 }
 
-#[test]
-fn a_topology_may_be_cut_anywhere(rt: HostRuntime) {
-    let text = text(&rt, Plan::Apart, 20);
-    cut_anywhere(&rt, text.as_bytes());
+fn a_topology_may_be_cut_anywhere(rt: &(impl AllocGlobal + Abort)) {
+    let text = text(rt, Plan::Apart, 20);
+    cut_anywhere(rt, text.as_bytes());
     assert!(rt; answer(rt.alloc(), text.as_bytes()) == after_lines(100));
 }
 
@@ -118,7 +115,7 @@ fn expect_cut(rt: &(impl AllocGlobal + Abort), cut: &[u8], next: u8) {
 
 /// What is answered where the text is cut in front of this byte; `None` where it may be either.
 fn after_cut(cut: &[u8], next: u8) -> Option<Answer> {
-    let lines = cut.iter().filter(|b| **b == b'\n').count();
+    let lines = lines_in(cut);
     if cut.is_empty() || cut.ends_with(b"\n") {
         Some(after_lines(lines))
     } else if next == b'\n' {
@@ -130,6 +127,16 @@ fn after_cut(cut: &[u8], next: u8) -> Option<Answer> {
     }
 }
 
+fn lines_in(text: &[u8]) -> usize {
+    let mut lines = 0usize;
+    for byte in text {
+        if *byte == b'\n' {
+            lines = lines.saturating_add(1);
+        }
+    }
+    lines
+}
+
 /// What is answered where the twenty nodes are cut after so many lines.
 fn after_lines(lines: usize) -> Answer {
     if lines == 0 {
@@ -139,4 +146,11 @@ fn after_lines(lines: usize) -> Answer {
     } else {
         Err(TopologyError::BadField(lines / 5))
     }
+}
+
+#[test]
+fn long_texts_are_read_to_their_end(rt: HostRuntime) {
+    each_check_goes_over_all_of_twenty_entries(&rt);
+    nodes_are_counted_after_all_checks(&rt);
+    a_topology_may_be_cut_anywhere(&rt);
 }

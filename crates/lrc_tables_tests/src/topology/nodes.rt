@@ -15,25 +15,24 @@ fn info(number: u16, fault: u8, upgrade: u8, slots: u16) -> NodeInfo {
     }
 }
 
-#[test]
-fn whole_numbers_are_taken_by_value(rt: HostRuntime) {
+fn whole_numbers_are_taken_by_value(rt: &(impl AllocGlobal + Abort)) {
     expect_alone(
-        &rt,
+        rt,
         "[[node]]\nnumber = 1_000\nfault = 0x10\nupgrade = 0o20\nslots = 0b1\n",
         info(1000, 16, 16, 1),
     );
     expect_alone(
-        &rt,
+        rt,
         "[[node]]\nnumber = +5\nfault = -0\nupgrade = +0\nslots = 1_0_0\n",
         info(5, 0, 0, 100),
     );
     expect_alone(
-        &rt,
+        rt,
         "\u{feff}[[node]] # c\r\nslots = 3\r\n'upgrade' = 7\r\nname = 1.5\r\nfault = 6\r\nrack.row = 1\r\n\"number\" = 5\r\n[node.x]\r\ny = 1\r\n[other]\r\nnode = 2\r\n",
         info(5, 6, 7, 3),
     );
     expect_alone(
-        &rt,
+        rt,
         "node = [\n{ slots = 3, upgrade = 7, fault = 6, number = 5 },\n]",
         info(5, 6, 7, 3),
     );
@@ -50,11 +49,10 @@ fn expect_node(rt: &impl Abort, topology: &Topology, number: NodeNo, want: Optio
     assert!(rt; topology.node(number) == want, "node {}", number.value);
 }
 
-#[test]
-fn nodes_come_in_the_order_of_the_file(rt: HostRuntime) {
-    let text = numbered(&rt, &[9, 3, 5]);
-    let topology = read(&rt, &text);
-    expect_order(&rt, &topology, &[9, 3, 5]);
+fn nodes_come_in_the_order_of_the_file(rt: &(impl AllocGlobal + Abort)) {
+    let text = numbered(rt, &[9, 3, 5]);
+    let topology = read(rt, &text);
+    expect_order(rt, &topology, &[9, 3, 5]);
 }
 
 fn expect_order(rt: &impl Abort, topology: &Topology, want: &[u16]) {
@@ -69,16 +67,15 @@ fn number_of(node: Option<&NodeInfo>) -> Option<u16> {
     Some(node?.number.value)
 }
 
-#[test]
-fn nodes_and_domains_are_found(rt: HostRuntime) {
-    let topology = nodes(&rt, Plan::Apart, 20);
+fn nodes_and_domains_are_found(rt: &(impl AllocGlobal + Abort)) {
+    let topology = nodes(rt, Plan::Apart, 20);
     for i in 0..20u8 {
         let number = u16::from(i);
         let want = info(number, i, i % 10, 4);
-        expect_node(&rt, &topology, NodeNo { value: number }, Some(want));
-        expect_domain(&rt, &topology, UpgradeNo { value: i }, i < 10);
+        expect_node(rt, &topology, NodeNo { value: number }, Some(want));
+        expect_domain(rt, &topology, UpgradeNo { value: i }, i < 10);
     }
-    expect_node(&rt, &topology, NodeNo { value: 20 }, None);
+    expect_node(rt, &topology, NodeNo { value: 20 }, None);
     assert!(rt; topology.nodes().count() == 20);
     assert!(rt;
         topology.nodes_in(UpgradeNo { value: 3 })
@@ -94,17 +91,16 @@ fn expect_domain(rt: &impl Abort, topology: &Topology, domain: UpgradeNo, want: 
     );
 }
 
-#[test]
-fn places_are_found_by_number(rt: HostRuntime) {
-    let text = numbered(&rt, &[9, 65535, 0, 1]);
-    let topology = read(&rt, &text);
-    let index = NodeIndex::new(rt.alloc(), &topology).expect(&rt, "memory");
-    expect_place(&rt, &index, 9, Some(0));
-    expect_place(&rt, &index, 65535, Some(1));
-    expect_place(&rt, &index, 0, Some(2));
-    expect_place(&rt, &index, 1, Some(3));
-    expect_place(&rt, &index, 2, None);
-    expect_place(&rt, &index, 65534, None);
+fn places_are_found_by_number(rt: &(impl AllocGlobal + Abort)) {
+    let text = numbered(rt, &[9, 65535, 0, 1]);
+    let topology = read(rt, &text);
+    let index = NodeIndex::new(rt.alloc(), &topology).expect(rt, "memory");
+    expect_place(rt, &index, 9, Some(0));
+    expect_place(rt, &index, 65535, Some(1));
+    expect_place(rt, &index, 0, Some(2));
+    expect_place(rt, &index, 1, Some(3));
+    expect_place(rt, &index, 2, None);
+    expect_place(rt, &index, 65534, None);
 }
 
 fn expect_place(rt: &impl Abort, index: &NodeIndex, number: u16, want: Option<usize>) {
@@ -114,11 +110,10 @@ fn expect_place(rt: &impl Abort, index: &NodeIndex, number: u16, want: Option<us
     );
 }
 
-#[test]
-fn a_form_that_is_not_plain_has_the_same_nodes(rt: HostRuntime) {
-    let plain = text(&rt, Plan::Apart, 20);
-    expect_same(&rt, &plain, "# twenty nodes\n", "");
-    expect_same(&rt, &plain, "", "\n");
+fn a_form_that_is_not_plain_has_the_same_nodes(rt: &(impl AllocGlobal + Abort)) {
+    let plain = text(rt, Plan::Apart, 20);
+    expect_same(rt, &plain, "# twenty nodes\n", "");
+    expect_same(rt, &plain, "", "\n");
 }
 
 /// The nodes of a text are those of the same text with more in front and behind.
@@ -137,10 +132,9 @@ fn are_same(rt: &impl Abort, nodes: &Topology, others: &Topology) {
     }
 }
 
-#[test]
-fn nesting_is_limited(rt: HostRuntime) {
-    nest(&rt, 80, Ok(1));
-    nest(&rt, 81, Err(TopologyError::Syntax));
+fn nesting_is_limited(rt: &(impl AllocGlobal + Abort)) {
+    nest(rt, 80, Ok(1));
+    nest(rt, 81, Err(TopologyError::Syntax));
 }
 
 const NODE: &str = "\n[[node]]\nnumber = 0\nfault = 0\nupgrade = 0\nslots = 1\n";
@@ -165,4 +159,14 @@ fn push(rt: &impl Abort, text: &mut String, part: &str, times: u32) {
     for _ in 0..times {
         text.push_str(part).expect(rt, "memory");
     }
+}
+
+#[test]
+fn nodes_are_read_and_found(rt: HostRuntime) {
+    whole_numbers_are_taken_by_value(&rt);
+    nodes_come_in_the_order_of_the_file(&rt);
+    nodes_and_domains_are_found(&rt);
+    places_are_found_by_number(&rt);
+    a_form_that_is_not_plain_has_the_same_nodes(&rt);
+    nesting_is_limited(&rt);
 }

@@ -6,8 +6,7 @@ use lrc_code::NodeNo;
 use lrc_topology::TopologyError;
 use std::process::Abort;
 
-#[test]
-fn what_is_no_toml_is_syntax(rt: HostRuntime) {
+fn what_is_no_toml_is_syntax(rt: &(impl AllocGlobal + Abort)) {
     let texts = [
         "[[node]]\nnumber = ",
         "x = \"\"\"\n",
@@ -27,11 +26,10 @@ fn what_is_no_toml_is_syntax(rt: HostRuntime) {
         "# a\rb\n",
         "x = \"\"\"a\rb\"\"\"",
     ];
-    expect_each(&rt, &texts, Err(TopologyError::Syntax));
+    expect_each(rt, &texts, Err(TopologyError::Syntax));
 }
 
-#[test]
-fn what_is_not_utf8_is_syntax(rt: HostRuntime) {
+fn what_is_not_utf8_is_syntax(rt: &(impl AllocGlobal + Abort)) {
     for bytes in [b"\xff".as_slice(), b"# \xff\n".as_slice()] {
         assert!(rt;
             answer(rt.alloc(), bytes) == Err(TopologyError::Syntax),
@@ -40,8 +38,7 @@ fn what_is_not_utf8_is_syntax(rt: HostRuntime) {
     }
 }
 
-#[test]
-fn what_has_no_entries_has_no_nodes(rt: HostRuntime) {
+fn what_has_no_entries_has_no_nodes(rt: &(impl AllocGlobal + Abort)) {
     let texts = [
         "",
         "# c\n",
@@ -56,11 +53,10 @@ fn what_has_no_entries_has_no_nodes(rt: HostRuntime) {
         "[[Node]]\n",
         "nodes = [1]",
     ];
-    expect_each(&rt, &texts, Err(TopologyError::NoNodes));
+    expect_each(rt, &texts, Err(TopologyError::NoNodes));
 }
 
-#[test]
-fn what_lacks_a_field_has_a_bad_one(rt: HostRuntime) {
+fn what_lacks_a_field_has_a_bad_one(rt: &(impl AllocGlobal + Abort)) {
     let texts = [
         "[[node]]\n",
         "[[node]]\nnumber = 0",
@@ -75,11 +71,10 @@ fn what_lacks_a_field_has_a_bad_one(rt: HostRuntime) {
         "node = [[]]",
         "node = [{}, 1]",
     ];
-    expect_each(&rt, &texts, Err(TopologyError::BadField(0)));
+    expect_each(rt, &texts, Err(TopologyError::BadField(0)));
 }
 
-#[test]
-fn what_is_no_whole_number_is_a_bad_field(rt: HostRuntime) {
+fn what_is_no_whole_number_is_a_bad_field(rt: &(impl AllocGlobal + Abort)) {
     let values = [
         "1.0",
         "1e0",
@@ -92,7 +87,7 @@ fn what_is_no_whole_number_is_a_bad_field(rt: HostRuntime) {
         "07:32:00",
     ];
     for value in &values {
-        expect_bad_field(&rt, value);
+        expect_bad_field(rt, value);
     }
 }
 
@@ -105,10 +100,9 @@ fn expect_bad_field(rt: &(impl AllocGlobal + Abort), value: &str) {
     expect_entry(rt, ["0", "0", "0", value], want);
 }
 
-#[test]
-fn ranges_end_where_they_should(rt: HostRuntime) {
-    expect_entry(&rt, ["0", "0", "0", "1"], Ok(1));
-    expect_entry(&rt, ["65535", "255", "255", "256"], Ok(1));
+fn ranges_end_where_they_should(rt: &(impl AllocGlobal + Abort)) {
+    expect_entry(rt, ["0", "0", "0", "1"], Ok(1));
+    expect_entry(rt, ["65535", "255", "255", "256"], Ok(1));
     let outside = [
         ["65536", "0", "0", "1"],
         ["-1", "0", "0", "1"],
@@ -122,15 +116,14 @@ fn ranges_end_where_they_should(rt: HostRuntime) {
         ["0", "0", "0", "-1"],
     ];
     for entry in &outside {
-        expect_entry(&rt, *entry, Err(TopologyError::OutOfRange(0)));
+        expect_entry(rt, *entry, Err(TopologyError::OutOfRange(0)));
     }
 }
 
-#[test]
-fn the_number_that_is_repeated_first_is_named(rt: HostRuntime) {
-    expect_repeated(&rt, &[9, 3, 5, 5, 3], 5);
-    expect_repeated(&rt, &[9, 3, 5, 3, 5], 3);
-    expect_repeated(&rt, &[9, 3, 9, 0, 0], 9);
+fn the_number_that_is_repeated_first_is_named(rt: &(impl AllocGlobal + Abort)) {
+    expect_repeated(rt, &[9, 3, 5, 5, 3], 5);
+    expect_repeated(rt, &[9, 3, 5, 3, 5], 3);
+    expect_repeated(rt, &[9, 3, 9, 0, 0], 9);
 }
 
 fn expect_repeated(rt: &(impl AllocGlobal + Abort), numbers: &[u32], want: u16) {
@@ -139,42 +132,53 @@ fn expect_repeated(rt: &(impl AllocGlobal + Abort), numbers: &[u32], want: u16) 
     expect(rt, &text, Err(TopologyError::DoubleNode(want)));
 }
 
-#[test]
-fn errors_say_what_to_mend(rt: HostRuntime) {
+fn errors_say_what_to_mend(rt: &(impl AllocGlobal + Abort)) {
     says(
-        &rt,
+        rt,
         TopologyError::Syntax,
         "the topology is not a TOML 1.1 text in UTF-8",
     );
     says(
-        &rt,
+        rt,
         TopologyError::NoNodes,
         "the topology has no nodes: `node` must be an array of one table for each node",
     );
     says(
-        &rt,
+        rt,
         TopologyError::BadField(3),
         "entry 3 of `node` (counted from 0) must be a table with whole numbers at `number`, `fault`, `upgrade` and `slots`",
     );
     says(
-        &rt,
+        rt,
         TopologyError::OutOfRange(3),
         "entry 3 of `node` (counted from 0) is out of range: `number` is 0 to 65535, `fault` and `upgrade` are 0 to 255, `slots` is 1 to 256",
     );
     says(
-        &rt,
+        rt,
         TopologyError::DoubleNode(NodeNo { value: 7 }),
         "two entries of `node` have the number 7",
     );
     says(
-        &rt,
+        rt,
         TopologyError::TooMany,
         "the topology has more than 512 nodes",
     );
-    says(&rt, TopologyError::OutOfMemory, "out of memory");
+    says(rt, TopologyError::OutOfMemory, "out of memory");
 }
 
 fn says(rt: &(impl AllocGlobal + Abort), error: TopologyError, want: &str) {
     let text = format!(in rt.alloc(); "{error}").expect(rt, "memory");
     assert!(rt; text.as_str() == want, "{text}");
+}
+
+#[test]
+fn texts_are_refused_by_what_is_wrong(rt: HostRuntime) {
+    what_is_no_toml_is_syntax(&rt);
+    what_is_not_utf8_is_syntax(&rt);
+    what_has_no_entries_has_no_nodes(&rt);
+    what_lacks_a_field_has_a_bad_one(&rt);
+    what_is_no_whole_number_is_a_bad_field(&rt);
+    ranges_end_where_they_should(&rt);
+    the_number_that_is_repeated_first_is_named(&rt);
+    errors_say_what_to_mend(&rt);
 }
