@@ -10,119 +10,164 @@ use std::alloc::Global;
 use std::process::Abort;
 use std::test::Fail;
 
+/// A command, and the reply that it is to get.
+type Row = (Command, Reply);
+
+/// The session that makes all calls but those of another.
+const FIRST: SessionNo = SessionNo { value: 1 };
+
+/// The two stripes that the tests place.
+const ONE: StripeNo = StripeNo { value: 1 };
+
+const TWO: StripeNo = StripeNo { value: 2 };
+
 /// The nodes that take fragments 0 to 15 of the first stripe: class A takes nodes 0 to 5, class B takes 6 to 11, and
 /// the upgrade domains of 12 to 15 are those of 2 to 5, while 16 is in domain 6.
-const FIRST: [u16; 16] = [0, 1, 2, 3, 4, 5, 6, 7, 8, 9, 10, 11, 16, 12, 13, 14];
+const FIRST_NODES: [u16; 16] = [0, 1, 2, 3, 4, 5, 6, 7, 8, 9, 10, 11, 16, 12, 13, 14];
 
 /// A book over twenty nodes with four slots, each in a fault domain of its own, in ten upgrade domains.
 fn book(alloc: Global) -> Result<Book, Fail> {
     Ok(Book::new(alloc, twenty_nodes(alloc)?)?)
 }
 
-fn stripe(number: u16) -> Result<StripeNo, Fail> {
-    Ok(StripeNo::new(number).ok_or("a stripe")?)
-}
+/// Lets a book go. Done in a function of its own, it is proved once.
+fn close(_book: Book) {}
 
 fn node(number: u16) -> NodeNo {
     NodeNo { value: number }
 }
 
 fn first_seats() -> [Seat; 16] {
-    FIRST.map(|number| Seat {
+    FIRST_NODES.map(|number| Seat {
         node: node(number),
         slot: 0,
     })
 }
 
-fn ask(book: &mut Book, command: Command) -> Result<Reply, Fail> {
-    Ok(book.call(SessionNo { value: 1 }, command)?)
+/// The reply to a call, for which there is room.
+fn ask(book: &mut Book, session: SessionNo, command: Command) -> Option<Reply> {
+    book.call(session, command).ok()
 }
 
-/// Asks for these commands in order; each gets the reply beside it.
-fn expect_replies(rt: &impl Abort, book: &mut Book, rows: &[(Command, Reply)]) -> Result<(), Fail> {
+/// A session asks for these commands in order; each gets the reply beside it.
+fn expect_replies_to(rt: &impl Abort, book: &mut Book, session: SessionNo, rows: &[Row]) {
     for (command, reply) in rows {
-        assert_eq!(rt; ask(book, *command)?, *reply, "to {command:?}");
+        assert!(rt;
+            ask(book, session, *command) == Some(*reply),
+            "to {command:?}"
+        );
     }
-    Ok(())
 }
 
-fn expect_stripe(
-    rt: &impl Abort,
-    book: &Book,
-    stripe: StripeNo,
-    level: Level,
-    missing: u16,
-) -> Result<(), Fail> {
-    assert_eq!(rt; book.level(stripe), Some(level));
-    assert_eq!(rt; book.missing(stripe), Some(LossMask::from_bits(missing)));
-    Ok(())
+fn expect_replies(rt: &impl Abort, book: &mut Book, rows: &[Row]) {
+    expect_replies_to(rt, book, FIRST, rows);
 }
 
-fn expect_node(
-    rt: &impl Abort,
-    book: &Book,
-    number: u16,
-    mode: Option<(Mode, bool)>,
-    load: Option<u32>,
-) -> Result<(), Fail> {
-    assert_eq!(rt; book.mode(node(number)), mode);
-    assert_eq!(rt; book.load(node(number)), load);
-    Ok(())
+/// Each of these commands changes the book.
+fn expect_changes(rt: &impl Abort, book: &mut Book, commands: &[Command]) {
+    for command in commands {
+        assert!(rt;
+            ask(book, FIRST, *command) == Some(Reply::Changed),
+            "to {command:?}"
+        );
+    }
+}
+
+fn homes(book: &Book, stripe: StripeNo) -> Option<[Option<Seat>; 16]> {
+    book.homes(stripe)
+}
+
+fn level(book: &Book, stripe: StripeNo) -> Option<Level> {
+    book.level(stripe)
+}
+
+fn missing(book: &Book, stripe: StripeNo) -> Option<LossMask> {
+    book.missing(stripe)
+}
+
+fn load(book: &Book, node: NodeNo) -> Option<u32> {
+    book.load(node)
+}
+
+fn mode(book: &Book, node: NodeNo) -> Option<(Mode, bool)> {
+    book.mode(node)
+}
+
+fn expect_stripe(rt: &impl Abort, book: &Book, stripe: StripeNo, wanted: Level, lost: u16) {
+    assert!(rt; level(book, stripe) == Some(wanted));
+    assert!(rt; missing(book, stripe) == Some(LossMask::from_bits(lost)));
+}
+
+/// How many seats are on a node.
+fn expect_load(rt: &impl Abort, book: &Book, number: u16, wanted: Option<u32>) {
+    assert_eq!(rt; load(book, node(number)), wanted, "on {number}");
+}
+
+/// The mode of a node, whether it is online, and how many seats are on it.
+fn expect_node(rt: &impl Abort, book: &Book, number: u16, wanted: (Mode, bool), seats: u32) {
+    assert!(rt; mode(book, node(number)) == Some(wanted), "of {number}");
+    expect_load(rt, book, number, Some(seats));
 }
 
 #[test]
 fn a_stripe_is_placed_and_dropped(rt: HostRuntime) -> Result<(), Fail> {
     let mut book = book(rt.alloc())?;
-    place_and_drop(&rt, &mut book)
-}
-
-fn place_and_drop(rt: &impl Abort, book: &mut Book) -> Result<(), Fail> {
-    let one = stripe(1)?;
-    assert_eq!(rt; book.homes(one), None);
-    let placed = Reply::Placed(first_seats());
-    let rows = [
-        (Command::Drop(one), Reply::Refused(Refusal::UnknownStripe)),
-        (Command::Place(one), placed),
-        (Command::Place(one), Reply::Refused(Refusal::StripeExists)),
-    ];
-    expect_replies(rt, book, &rows)?;
-    assert_eq!(rt; book.homes(one), Some(first_seats().map(|seat| Some(seat))));
-    assert_eq!(rt; loads(book), [Some(1), Some(0), None]);
-    expect_replies(rt, book, &[(Command::Drop(one), Reply::Dropped)])?;
-    assert_eq!(rt; book.homes(one), None);
-    assert_eq!(rt; loads(book), [Some(0), Some(0), None]);
-    assert_eq!(rt; book.history().len(), 4);
-    let entry = Entry {
-        session: SessionNo { value: 1 },
-        command: Command::Place(one),
-        reply: placed,
-    };
-    assert_eq!(rt; book.history()[1].entry(), entry);
-    assert_eq!(rt; HISTORY_LIMIT, 1_000_000);
+    place_and_drop(&rt, &mut book);
+    close(book);
     Ok(())
 }
 
-/// The loads of a node that the first stripe takes, of one that it passes, and of one that is not there.
-fn loads(book: &Book) -> [Option<u32>; 3] {
-    [
-        book.load(node(16)),
-        book.load(node(15)),
-        book.load(node(20)),
-    ]
+fn place_and_drop(rt: &impl Abort, book: &mut Book) {
+    assert!(rt; homes(book, ONE).is_none());
+    let placed = Reply::Placed(first_seats());
+    let rows = [
+        (Command::Drop(ONE), Reply::Refused(Refusal::UnknownStripe)),
+        (Command::Place(ONE), placed),
+        (Command::Place(ONE), Reply::Refused(Refusal::StripeExists)),
+    ];
+    expect_replies(rt, book, &rows);
+    assert!(rt; homes(book, ONE) == Some(first_seats().map(|seat| Some(seat))));
+    expect_first_load(rt, book, 1);
+    expect_replies(rt, book, &[(Command::Drop(ONE), Reply::Dropped)]);
+    assert!(rt; homes(book, ONE).is_none());
+    expect_first_load(rt, book, 0);
+    expect_placed_second(rt, book, placed);
+}
+
+/// The load of a node that the first stripe takes, and beside it of one that it passes and of one that is not there.
+fn expect_first_load(rt: &impl Abort, book: &Book, seats: u32) {
+    expect_load(rt, book, 16, Some(seats));
+    expect_load(rt, book, 15, Some(0));
+    expect_load(rt, book, 20, None);
+}
+
+/// The history has four entries, of which the second has placed the first stripe.
+fn expect_placed_second(rt: &impl Abort, book: &Book, placed: Reply) {
+    assert_eq!(rt; book.history().len(), 4);
+    let entry = Entry {
+        session: FIRST,
+        command: Command::Place(ONE),
+        reply: placed,
+    };
+    assert!(rt; book.history()[1].entry() == entry);
+    assert_eq!(rt; HISTORY_LIMIT, 1_000_000);
 }
 
 #[test]
 fn nodes_fail_go_down_and_come_back(rt: HostRuntime) -> Result<(), Fail> {
     let mut book = book(rt.alloc())?;
-    fail_and_come_back(&rt, &mut book)
+    fail_nodes(&rt, &mut book);
+    come_back(&rt, &mut book);
+    close(book);
+    Ok(())
 }
 
-fn fail_and_come_back(rt: &impl Abort, book: &mut Book) -> Result<(), Fail> {
-    let one = stripe(1)?;
+/// Of the first stripe's nodes 2 goes down and 3 fails, each once.
+fn fail_nodes(rt: &impl Abort, book: &mut Book) {
     let wrong = Reply::Refused(Refusal::WrongMode);
     let unknown = Reply::Refused(Refusal::UnknownNode);
     let rows = [
-        (Command::Place(one), Reply::Placed(first_seats())),
+        (Command::Place(ONE), Reply::Placed(first_seats())),
         (Command::Up(node(2)), wrong),
         (Command::Down(node(2)), Reply::Changed),
         (Command::Down(node(2)), wrong),
@@ -132,63 +177,69 @@ fn fail_and_come_back(rt: &impl Abort, book: &mut Book) -> Result<(), Fail> {
         (Command::Up(node(3)), wrong),
         (Command::Down(node(20)), unknown),
     ];
-    expect_replies(rt, book, &rows)?;
-    expect_stripe(rt, book, one, Level::AtRisk(1), 0x000c)?;
-    expect_node(rt, book, 2, Some((Mode::Active, false)), Some(1))?;
-    expect_node(rt, book, 3, Some((Mode::Gone, false)), Some(0))?;
-    expect_node(rt, book, 20, None, None)?;
-    let rows = [
-        (Command::Up(node(2)), Reply::Changed),
-        (Command::Join(node(3)), Reply::Changed),
-    ];
-    expect_replies(rt, book, &rows)?;
-    expect_stripe(rt, book, one, Level::AtRisk(2), 0x0008)?;
-    expect_node(rt, book, 3, Some((Mode::Active, true)), Some(0))?;
-    assert_eq!(rt; book.level(stripe(2)?), None);
-    assert_eq!(rt; book.missing(stripe(2)?), None);
-    Ok(())
+    expect_replies(rt, book, &rows);
+    expect_stripe(rt, book, ONE, Level::AtRisk(1), 0x000c);
+    expect_node(rt, book, 2, (Mode::Active, false), 1);
+    expect_node(rt, book, 3, (Mode::Gone, false), 0);
+    assert!(rt; mode(book, node(20)).is_none());
+    expect_load(rt, book, 20, None);
+}
+
+/// Both come back, and the one that failed is empty.
+fn come_back(rt: &impl Abort, book: &mut Book) {
+    expect_changes(rt, book, &[Command::Up(node(2)), Command::Join(node(3))]);
+    expect_stripe(rt, book, ONE, Level::AtRisk(2), 0x0008);
+    expect_node(rt, book, 3, (Mode::Active, true), 0);
+    assert!(rt; level(book, TWO).is_none());
+    assert!(rt; missing(book, TWO).is_none());
 }
 
 #[test]
 fn a_node_that_comes_back_is_empty(rt: HostRuntime) -> Result<(), Fail> {
     let mut book = book(rt.alloc())?;
-    come_back_empty(&rt, &mut book)
+    come_back_empty(&rt, &mut book);
+    close(book);
+    Ok(())
 }
 
-fn come_back_empty(rt: &impl Abort, book: &mut Book) -> Result<(), Fail> {
-    let (one, two) = (stripe(1)?, stripe(2)?);
+fn come_back_empty(rt: &impl Abort, book: &mut Book) {
+    expect_replies(
+        rt,
+        book,
+        &[(Command::Place(ONE), Reply::Placed(first_seats()))],
+    );
     let rows = [
-        (Command::Place(one), Reply::Placed(first_seats())),
-        (Command::Fail(node(3)), Reply::Changed),
-        (Command::Join(node(3)), Reply::Changed),
-        (Command::Down(node(3)), Reply::Changed),
-        (Command::Up(node(3)), Reply::Changed),
+        Command::Fail(node(3)),
+        Command::Join(node(3)),
+        Command::Down(node(3)),
+        Command::Up(node(3)),
     ];
-    expect_replies(rt, book, &rows)?;
-    let _placed = ask(book, Command::Place(two))?;
-    expect_stripe(rt, book, one, Level::AtRisk(2), 0x0008)?;
-    expect_stripe(rt, book, two, Level::Whole, 0)?;
-    expect_node(rt, book, 3, Some((Mode::Active, true)), Some(1))
+    expect_changes(rt, book, &rows);
+    assert!(rt; ask(book, FIRST, Command::Place(TWO)).is_some());
+    expect_stripe(rt, book, ONE, Level::AtRisk(2), 0x0008);
+    expect_stripe(rt, book, TWO, Level::Whole, 0);
+    expect_node(rt, book, 3, (Mode::Active, true), 1);
 }
 
 #[test]
 fn four_nodes_of_a_stripe_are_too_many(rt: HostRuntime) -> Result<(), Fail> {
     let mut book = book(rt.alloc())?;
-    lose_four_nodes(&rt, &mut book)
+    lose_four_nodes(&rt, &mut book);
+    close(book);
+    Ok(())
 }
 
-fn lose_four_nodes(rt: &impl Abort, book: &mut Book) -> Result<(), Fail> {
-    let one = stripe(1)?;
+fn lose_four_nodes(rt: &impl Abort, book: &mut Book) {
     expect_replies(
         rt,
         book,
-        &[(Command::Place(one), Reply::Placed(first_seats()))],
-    )?;
-    let downs = [0, 1, 2, 3].map(|number| (Command::Down(node(number)), Reply::Changed));
-    expect_replies(rt, book, &downs)?;
-    expect_stripe(rt, book, one, Level::Unavailable, 0x000f)?;
-    let fails = [0, 1, 2, 4].map(|number| (Command::Fail(node(number)), Reply::Changed));
-    expect_replies(rt, book, &fails)?;
-    expect_replies(rt, book, &[(Command::Up(node(3)), Reply::Changed)])?;
-    expect_stripe(rt, book, one, Level::Lost, 0x0017)
+        &[(Command::Place(ONE), Reply::Placed(first_seats()))],
+    );
+    let downs = [0, 1, 2, 3].map(|number| Command::Down(node(number)));
+    expect_changes(rt, book, &downs);
+    expect_stripe(rt, book, ONE, Level::Unavailable, 0x000f);
+    let fails = [0, 1, 2, 4].map(|number| Command::Fail(node(number)));
+    expect_changes(rt, book, &fails);
+    expect_changes(rt, book, &[Command::Up(node(3))]);
+    expect_stripe(rt, book, ONE, Level::Lost, 0x0017);
 }

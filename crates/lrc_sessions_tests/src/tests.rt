@@ -9,11 +9,11 @@ mod gates;
 mod looks;
 mod mixed;
 
-use lrc_book::{Book, Command, Reply, Seat};
+use lrc_book::{Command, Reply, Seat};
 use lrc_code::{NodeNo, SessionNo, StripeNo};
 use lrc_samples::twenty_nodes;
 use lrc_sessions::{
-    Closing, FinishError, Gate, Manager, Naming, OpenError, Parts, Receipt, Session, Track,
+    Closing, FinishError, Gate, Manager, Naming, OpenError, Parts, Receipt, Session, Stop, Track,
     run_sessions,
 };
 use lrc_topology::Topology;
@@ -24,10 +24,49 @@ use std::sync::Wait;
 use std::test::Fail;
 use std::thread::{Threads, join};
 
-/// The nodes that take fragments 0 to 15 of the first stripe, and those of the second.
-const FIRST: [u16; 16] = [0, 1, 2, 3, 4, 5, 6, 7, 8, 9, 10, 11, 16, 12, 13, 14];
+/// The two stripes that the tests place.
+const ONE: StripeNo = StripeNo { value: 1 };
 
-const SECOND: [u16; 16] = [15, 17, 18, 19, 0, 1, 2, 3, 4, 5, 6, 7, 12, 8, 9, 10];
+const TWO: StripeNo = StripeNo { value: 2 };
+
+/// The nodes and slots that take fragments 0 to 15 of the first stripe, and those of the second.
+const FIRST: [(u16, u16); 16] = [
+    (0, 0),
+    (1, 0),
+    (2, 0),
+    (3, 0),
+    (4, 0),
+    (5, 0),
+    (6, 0),
+    (7, 0),
+    (8, 0),
+    (9, 0),
+    (10, 0),
+    (11, 0),
+    (16, 0),
+    (12, 0),
+    (13, 0),
+    (14, 0),
+];
+
+const SECOND: [(u16, u16); 16] = [
+    (15, 0),
+    (17, 0),
+    (18, 0),
+    (19, 0),
+    (0, 1),
+    (1, 1),
+    (2, 1),
+    (3, 1),
+    (4, 1),
+    (5, 1),
+    (6, 1),
+    (7, 1),
+    (12, 1),
+    (8, 1),
+    (9, 1),
+    (10, 1),
+];
 
 /// Twenty nodes, of which nothing else is known here.
 fn nodes(alloc: Global) -> Result<Topology, Fail> {
@@ -40,13 +79,11 @@ fn parts(alloc: Global, count: u8) -> Result<Parts, Fail>
     Ok(Parts::new(alloc, nodes(alloc)?, count)?)
 }
 
-fn stripe(number: u16) -> Result<StripeNo, Fail> {
-    Ok(StripeNo::new(number).ok_or("a stripe")?)
-}
+/// Lets go what is left of a manager. Done in a function of its own, it is proved once.
+fn close(_closing: Closing) {}
 
-fn two_stripes() -> Result<[StripeNo; 2], Fail> {
-    Ok([stripe(1)?, stripe(2)?])
-}
+/// The same of the scripts that it ran.
+fn close_run(_ended: (Closing, Vec<Track>)) {}
 
 /// A manager over these parts, and its sessions.
 fn open<N: Naming, R: Wait + Abort>(
@@ -79,20 +116,49 @@ fn finish<N: Naming, R: Wait + Abort>(
     }
 }
 
+/// Ends a manager whose sessions are all there, after so many calls of each.
+fn end<N: Naming, R: Wait + Abort>(
+    rt: &R,
+    manager: Manager<N>,
+    sessions: Vec<Session<N>>,
+    made: &[(SessionNo, u64)],
+) {
+    let closing = finish(rt, manager, sessions);
+    expect_made(rt, &closing, made);
+    close(closing);
+}
+
+/// The history has an entry for each call that the sessions made.
+fn expect_made(rt: &impl Abort, closing: &Closing, made: &[(SessionNo, u64)]) {
+    let mut entries = 0;
+    for (_, calls) in made {
+        entries += *calls;
+    }
+    assert_eq!(rt; closing.book.history().len() as u64, entries);
+    assert!(rt; closing.made.as_slice() == made);
+}
+
 #[test]
 fn a_manager_has_one_to_eight_sessions(rt: HostRuntime) -> Result<(), Fail> {
-    for (count, wanted) in [(0, false), (1, true), (8, true), (9, false), (255, false)] {
-        let topology = nodes(rt.alloc())?;
-        match Parts::new(rt.alloc(), topology, count) {
-            Ok(_) => assert!(rt; wanted, "at {count}"),
-            Err(error) => {
-                assert!(rt; !wanted, "at {count}");
-                assert_eq!(rt; error, OpenError::BadCount);
-            }
-        }
+    let bad = Some(OpenError::BadCount);
+    for (count, wanted) in [(0, bad), (1, None), (8, None), (9, bad), (255, bad)] {
+        assert_eq!(rt; refusal(rt.alloc(), count)?, wanted, "at {count}");
     }
     Ok(())
 }
+
+/// Why there are no parts of a manager of so many sessions, if there are none.
+fn refusal(alloc: Global, count: u8) -> Result<Option<OpenError>, Fail> {
+    match Parts::new(alloc, nodes(alloc)?, count) {
+        Ok(parts) => {
+            close_parts(parts);
+            Ok(None)
+        }
+        Err(error) => Ok(Some(error)),
+    }
+}
+
+fn close_parts(_parts: Parts) {}
 
 /// Runs each script by a session of its own, and ends the manager.
 fn run_all<N: Naming + Send + Sync, R: Threads + Wait + Abort + Sync, G: Gate + Sync>(
@@ -115,6 +181,12 @@ fn run_all<N: Naming + Send + Sync, R: Threads + Wait + Abort + Sync, G: Gate + 
         panic!(rt; "room for a run")
     };
     (finish(rt, manager, sessions), tracks)
+}
+
+/// Why a script was stopped, and how many receipts it has.
+fn expect_track(rt: &impl Abort, track: &Track, stopped: Option<Stop>, receipts: usize) {
+    assert!(rt; track.stopped == stopped);
+    assert_eq!(rt; track.receipts.as_slice().len(), receipts);
 }
 
 /// A session that was opened, the last of those that are left.
@@ -166,47 +238,40 @@ fn put<N: Naming>(rt: &impl Abort, sessions: &mut Vec<Session<N>>, session: Sess
     assert!(rt; sessions.push(session).is_ok());
 }
 
-fn seats(nodes: [u16; 16], slots: [u16; 16]) -> Reply {
-    let mut seats = [Seat {
-        node: NodeNo { value: 0 },
-        slot: 0,
-    }; 16];
-    for i in 0..16 {
-        seats[i] = Seat {
-            node: NodeNo { value: nodes[i] },
-            slot: slots[i],
-        };
+/// A call that places a stripe, and has this place in the history.
+fn expect_placed<N: Naming, R: Wait + Abort>(
+    rt: &R,
+    manager: &Manager<N>,
+    session: &mut Session<N>,
+    stripe: StripeNo,
+    wanted: &Receipt,
+) {
+    assert!(rt; call(rt, manager, session, Command::Place(stripe)) == *wanted);
+}
+
+fn placed(place: u64, seats: [(u16, u16); 16]) -> Receipt {
+    let seats = seats.map(|(number, slot)| Seat {
+        node: NodeNo { value: number },
+        slot,
+    });
+    Receipt {
+        place,
+        reply: Reply::Placed(seats),
     }
-    Reply::Placed(seats)
-}
-
-#[test]
-fn two_sessions_place_a_stripe_each(rt: HostRuntime) -> Result<(), Fail> {
-    let stripes = two_stripes()?;
-    let parts = parts(rt.alloc(), 2)?;
-    let closing = place_two::<Brand, _>(&rt, rt.alloc(), parts, stripes);
-    expect_one_each(&rt, &closing);
-    Ok(())
-}
-
-fn expect_closing(rt: &impl Abort, closing: &Closing, entries: usize, made: &[(SessionNo, u64)]) {
-    assert_eq!(rt; closing.book.history().len(), entries);
-    assert_eq!(rt; closing.made.as_slice(), made);
 }
 
 /// Each of two sessions has made one call.
-fn expect_one_each(rt: &impl Abort, closing: &Closing) {
-    let made = [(SessionNo { value: 1 }, 1), (SessionNo { value: 2 }, 1)];
-    expect_closing(rt, closing, 2, &made);
+const ONE_EACH: [(SessionNo, u64); 2] = [(SessionNo { value: 1 }, 1), (SessionNo { value: 2 }, 1)];
+
+#[test]
+fn two_sessions_place_a_stripe_each(rt: HostRuntime) -> Result<(), Fail> {
+    let parts = parts(rt.alloc(), 2)?;
+    place_two::<Brand, _>(&rt, rt.alloc(), parts);
+    Ok(())
 }
 
 /// Each of two sessions places a stripe, one after the other; the first alone does not end the manager.
-fn place_two<N: Naming, R: Wait + Abort>(
-    rt: &R,
-    alloc: Global,
-    parts: Parts,
-    stripes: [StripeNo; 2],
-) -> Closing
+fn place_two<N: Naming, R: Wait + Abort>(rt: &R, alloc: Global, parts: Parts)
     requires topology { parts.topology ≡ N.topology }
     requires count { parts.count ≡ N.count }
     requires name { parts.name ≡ N.name }
@@ -216,42 +281,46 @@ fn place_two<N: Naming, R: Wait + Abort>(
     let (manager, mut sessions) = open::<N, _>(rt, alloc, parts);
     let mut second = take(rt, &mut sessions);
     let mut first = take(rt, &mut sessions);
-    assert_eq!(rt; (first.number().get(), second.number().get()), (1, 2));
-    let reply = seats(FIRST, [0; 16]);
-    let placed = call(rt, &manager, &mut first, Command::Place(stripes[0]));
-    assert_eq!(rt; placed, Receipt { place: 1, reply });
-    let reply = seats(SECOND, [0, 0, 0, 0, 1, 1, 1, 1, 1, 1, 1, 1, 1, 1, 1, 1]);
-    let placed = call(rt, &manager, &mut second, Command::Place(stripes[1]));
-    assert_eq!(rt; placed, Receipt { place: 2, reply });
+    expect_numbers(rt, &first, &second);
+    expect_placed(rt, &manager, &mut first, ONE, &placed(1, FIRST));
+    expect_placed(rt, &manager, &mut second, TWO, &placed(2, SECOND));
     put(rt, &mut sessions, first);
-    let (manager, mut sessions) = expect_out(rt, manager, sessions);
-    assert_eq!(rt; sessions.len(), 1);
+    let (manager, mut sessions) = expect_out(rt, manager, sessions, 1);
     put(rt, &mut sessions, second);
-    finish(rt, manager, sessions)
+    end(rt, manager, sessions, &ONE_EACH);
 }
 
-/// The manager and the sessions, which do not end it.
+/// These are sessions 1 and 2.
+fn expect_numbers<N: Naming>(rt: &impl Abort, one: &Session<N>, other: &Session<N>) {
+    assert_eq!(rt; one.number().get(), 1);
+    assert_eq!(rt; other.number().get(), 2);
+}
+
+/// The manager and the sessions, so many, which do not end it.
 fn expect_out<N: Naming, R: Wait + Abort>(
     rt: &R,
     manager: Manager<N>,
     sessions: Vec<Session<N>>,
+    count: usize,
 ) -> (Manager<N>, Vec<Session<N>>) {
     match manager.finish(rt, sessions) {
         Ok(_) => panic!(rt; "a session is out"),
-        Err(FinishError::SessionsOut(manager, sessions)) => (manager, sessions),
+        Err(FinishError::SessionsOut(manager, sessions)) => {
+            assert_eq!(rt; sessions.len(), count);
+            (manager, sessions)
+        }
     }
 }
 
 #[test]
 fn no_session_ends_no_manager(rt: HostRuntime) -> Result<(), Fail> {
     let parts = parts(rt.alloc(), 1)?;
-    let closing = keep_one::<Brand, _>(&rt, rt.alloc(), parts);
-    expect_closing(&rt, &closing, 0, &[(SessionNo { value: 1 }, 0)]);
+    keep_one::<Brand, _>(&rt, rt.alloc(), parts);
     Ok(())
 }
 
 /// Without its only session the manager goes on.
-fn keep_one<N: Naming, R: Wait + Abort>(rt: &R, alloc: Global, parts: Parts) -> Closing
+fn keep_one<N: Naming, R: Wait + Abort>(rt: &R, alloc: Global, parts: Parts)
     requires topology { parts.topology ≡ N.topology }
     requires count { parts.count ≡ N.count }
     requires name { parts.name ≡ N.name }
@@ -260,18 +329,15 @@ fn keep_one<N: Naming, R: Wait + Abort>(rt: &R, alloc: Global, parts: Parts) -> 
 {
     let (manager, mut sessions) = open::<N, _>(rt, alloc, parts);
     let only = take(rt, &mut sessions);
-    let (manager, mut sessions) = expect_out(rt, manager, sessions);
-    assert!(rt; sessions.is_empty());
+    let (manager, mut sessions) = expect_out(rt, manager, sessions, 0);
     put(rt, &mut sessions, only);
-    finish(rt, manager, sessions)
+    end(rt, manager, sessions, &[(SessionNo { value: 1 }, 0)]);
 }
 
 #[test]
 fn sessions_on_two_threads_make_one_history(rt: HostRuntime) -> Result<(), Fail> {
-    let stripes = two_stripes()?;
     let parts = parts(rt.alloc(), 2)?;
-    let closing = place_at_once::<Brand, _>(&rt, rt.alloc(), parts, stripes);
-    expect_one_each(&rt, &closing);
+    place_at_once::<Brand, _>(&rt, rt.alloc(), parts);
     Ok(())
 }
 
@@ -280,8 +346,7 @@ fn place_at_once<N: Naming + Send + Sync, R: Threads + Wait + Abort + Sync>(
     rt: &R,
     alloc: Global,
     parts: Parts,
-    stripes: [StripeNo; 2],
-) -> Closing
+)
     requires topology { parts.topology ≡ N.topology }
     requires count { parts.count ≡ N.count }
     requires name { parts.name ≡ N.name }
@@ -291,10 +356,10 @@ fn place_at_once<N: Naming + Send + Sync, R: Threads + Wait + Abort + Sync>(
     let (manager, mut sessions) = open::<N, _>(rt, alloc, parts);
     let mut second = take(rt, &mut sessions);
     let mut first = take(rt, &mut sessions);
-    place_both(rt, &manager, &mut first, &mut second, stripes);
+    place_both(rt, &manager, &mut first, &mut second);
     put(rt, &mut sessions, second);
     put(rt, &mut sessions, first);
-    finish(rt, manager, sessions)
+    end(rt, manager, sessions, &ONE_EACH);
 }
 
 fn place_both<N: Naming + Send + Sync, R: Threads + Wait + Abort + Sync>(
@@ -302,15 +367,14 @@ fn place_both<N: Naming + Send + Sync, R: Threads + Wait + Abort + Sync>(
     manager: &Manager<N>,
     first: &mut Session<N>,
     second: &mut Session<N>,
-    stripes: [StripeNo; 2],
 ) {
     join(
         rt,
         || {
-            call(rt, manager, first, Command::Place(stripes[0]));
+            call(rt, manager, first, Command::Place(ONE));
         },
         || {
-            call(rt, manager, second, Command::Place(stripes[1]));
+            call(rt, manager, second, Command::Place(TWO));
         },
     );
 }

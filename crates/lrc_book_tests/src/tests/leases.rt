@@ -1,231 +1,251 @@
 //! Leases on the book of twenty nodes.
 
-use super::{ask, book, expect_replies, expect_stripe, first_seats, node, stripe};
+use super::{
+    FIRST, ONE, ask, book, close, expect_changes, expect_load, expect_replies, expect_replies_to,
+    expect_stripe, first_seats, node,
+};
 use lrc_book::{Book, Command, Kind, Lease, Level, Refusal, Reply, Seat};
 use lrc_code::{Fragment, SessionNo, StripeNo};
 use std::process::Abort;
 use std::test::Fail;
 
-pub(super) fn fragment(number: u8) -> Result<Fragment, Fail> {
-    Ok(Fragment::new(number).ok_or("a fragment")?)
-}
+const SECOND: SessionNo = SessionNo { value: 2 };
 
-fn session(number: u8) -> Result<SessionNo, Fail> {
-    Ok(SessionNo::new(number).ok_or("a session")?)
-}
+/// The fragments of the first stripe that are leased.
+const ZERO: Fragment = Fragment { value: 0 };
 
-pub(super) fn local(numbers: [u8; 6]) -> Result<Kind, Fail> {
-    let mut sources = [fragment(0)?; 6];
-    for i in 0..6 {
-        sources[i] = fragment(numbers[i])?;
-    }
-    Ok(Kind::Local(sources))
-}
+const THREE: Fragment = Fragment { value: 3 };
 
-/// The lease of fragment 3 of a stripe on the first slot of a node, which is rebuilt from its group.
-fn granted(holder: u8, stripe: StripeNo, target: u16, epoch: u32) -> Result<Reply, Fail> {
+const SIX: Fragment = Fragment { value: 6 };
+
+/// What fragments 3 and 6 are rebuilt from: the rest of their local groups.
+const OF_THREE: Kind = Kind::Local([
+    Fragment { value: 0 },
+    Fragment { value: 1 },
+    Fragment { value: 2 },
+    Fragment { value: 4 },
+    Fragment { value: 5 },
+    Fragment { value: 12 },
+]);
+
+const OF_SIX: Kind = Kind::Local([
+    Fragment { value: 7 },
+    Fragment { value: 8 },
+    Fragment { value: 9 },
+    Fragment { value: 10 },
+    Fragment { value: 11 },
+    Fragment { value: 13 },
+]);
+
+/// The lease of fragment 3 of the first stripe on the first slot of a node.
+fn granted(holder: SessionNo, target: u16, epoch: u32) -> Reply {
     let lease = Lease {
-        stripe,
-        fragment: fragment(3)?,
-        holder: session(holder)?,
+        stripe: ONE,
+        fragment: THREE,
+        holder,
         target: Seat {
             node: node(target),
             slot: 0,
         },
         epoch,
     };
-    Ok(Reply::Granted(lease, local([0, 1, 2, 4, 5, 12])?))
+    Reply::Granted(lease, OF_THREE)
 }
 
 /// The first stripe is placed, and fragment 3 loses its home and is leased.
-fn place_and_lease(rt: &impl Abort, book: &mut Book) -> Result<(StripeNo, Fragment), Fail> {
-    let (one, three) = (stripe(1)?, fragment(3)?);
+fn place_and_lease(rt: &impl Abort, book: &mut Book) {
     let rows = [
-        (Command::Place(one), Reply::Placed(first_seats())),
+        (Command::Place(ONE), Reply::Placed(first_seats())),
         (Command::Fail(node(3)), Reply::Changed),
-        (Command::Lease(one, three), granted(1, one, 17, 1)?),
+        (Command::Lease(ONE, THREE), granted(FIRST, 17, 1)),
     ];
-    expect_replies(rt, book, &rows)?;
-    Ok((one, three))
+    expect_replies(rt, book, &rows);
 }
 
-fn lease_epoch(book: &Book, stripe: StripeNo, fragment: Fragment) -> Option<u32> {
-    let lease = book.lease(stripe, fragment)?;
+fn lease(book: &Book, stripe: StripeNo, fragment: Fragment) -> Option<Lease> {
+    book.lease(stripe, fragment)
+}
+
+/// The epoch of the live lease of fragment 3 of the first stripe, if it has one.
+fn epoch(book: &Book) -> Option<u32> {
+    let lease = lease(book, ONE, THREE)?;
     Some(lease.epoch)
 }
 
 #[test]
 fn a_repair_is_done_once_and_by_its_epoch(rt: HostRuntime) -> Result<(), Fail> {
     let mut book = book(rt.alloc())?;
-    repair(&rt, &mut book)
+    repair(&rt, &mut book);
+    close(book);
+    Ok(())
 }
 
-fn repair(rt: &impl Abort, book: &mut Book) -> Result<(), Fail> {
-    let (one, three) = place_and_lease(rt, book)?;
-    assert_eq!(rt; lease_epoch(book, one, three), Some(1));
-    assert_eq!(rt; book.load(node(17)), Some(1));
-    expect_stripe(rt, book, one, Level::AtRisk(2), 0x0008)?;
+fn repair(rt: &impl Abort, book: &mut Book) {
+    place_and_lease(rt, book);
+    assert_eq!(rt; epoch(book), Some(1));
+    expect_load(rt, book, 17, Some(1));
+    expect_stripe(rt, book, ONE, Level::AtRisk(2), 0x0008);
+    let leased = Reply::Refused(Refusal::AlreadyLeased(1));
+    let stale = Reply::Refused(Refusal::Stale);
     let rows = [
-        (
-            Command::Lease(one, three),
-            Reply::Refused(Refusal::AlreadyLeased(1)),
-        ),
-        (Command::Done(one, three, 2), Reply::Refused(Refusal::Stale)),
-        (Command::Done(one, three, 1), Reply::Ended),
-        (Command::Done(one, three, 1), Reply::Refused(Refusal::Stale)),
+        (Command::Lease(ONE, THREE), leased),
+        (Command::Done(ONE, THREE, 2), stale),
+        (Command::Done(ONE, THREE, 1), Reply::Ended),
+        (Command::Done(ONE, THREE, 1), stale),
     ];
-    expect_replies(rt, book, &rows)?;
-    assert_eq!(rt; lease_epoch(book, one, three), None);
-    assert_eq!(rt; book.load(node(17)), Some(1));
-    expect_stripe(rt, book, one, Level::Whole, 0)
+    expect_replies(rt, book, &rows);
+    assert_eq!(rt; epoch(book), None);
+    expect_load(rt, book, 17, Some(1));
+    expect_stripe(rt, book, ONE, Level::Whole, 0);
 }
 
 #[test]
 fn only_the_holder_reports_and_any_session_revokes(rt: HostRuntime) -> Result<(), Fail> {
     let mut book = book(rt.alloc())?;
-    take_over(&rt, &mut book)
+    take_over(&rt, &mut book);
+    close(book);
+    Ok(())
 }
 
-fn take_over(rt: &impl Abort, book: &mut Book) -> Result<(), Fail> {
-    let (one, three) = place_and_lease(rt, book)?;
-    let (first, second) = (session(1)?, session(2)?);
-    let other = Reply::Refused(Refusal::NotHolder(first));
-    assert_eq!(rt; book.call(second, Command::Done(one, three, 1))?, other);
-    assert_eq!(rt; book.call(second, Command::Abandon(one, three, 1))?, other);
-    assert_eq!(rt;
-        book.call(second, Command::Revoke(one, three))?,
-        Reply::Ended
-    );
-    let again = granted(2, one, 17, 2)?;
-    assert_eq!(rt; book.call(second, Command::Lease(one, three))?, again);
-    assert_eq!(rt; lease_epoch(book, one, three), Some(2));
-    Ok(())
+fn take_over(rt: &impl Abort, book: &mut Book) {
+    place_and_lease(rt, book);
+    let other = Reply::Refused(Refusal::NotHolder(FIRST));
+    let rows = [
+        (Command::Done(ONE, THREE, 1), other),
+        (Command::Abandon(ONE, THREE, 1), other),
+        (Command::Revoke(ONE, THREE), Reply::Ended),
+        (Command::Lease(ONE, THREE), granted(SECOND, 17, 2)),
+    ];
+    expect_replies_to(rt, book, SECOND, &rows);
+    assert_eq!(rt; epoch(book), Some(2));
 }
 
 #[test]
 fn a_lease_that_is_given_back_or_revoked_is_stale(rt: HostRuntime) -> Result<(), Fail> {
     let mut book = book(rt.alloc())?;
-    give_back(&rt, &mut book)
+    give_back(&rt, &mut book);
+    close(book);
+    Ok(())
 }
 
-fn give_back(rt: &impl Abort, book: &mut Book) -> Result<(), Fail> {
-    let (one, three) = place_and_lease(rt, book)?;
+fn give_back(rt: &impl Abort, book: &mut Book) {
+    place_and_lease(rt, book);
+    let stale = Reply::Refused(Refusal::Stale);
     let rows = [
-        (Command::Revoke(one, three), Reply::Ended),
-        (Command::Done(one, three, 1), Reply::Refused(Refusal::Stale)),
-        (Command::Lease(one, three), granted(1, one, 17, 2)?),
-        (Command::Abandon(one, three, 2), Reply::Ended),
+        (Command::Revoke(ONE, THREE), Reply::Ended),
+        (Command::Done(ONE, THREE, 1), stale),
+        (Command::Lease(ONE, THREE), granted(FIRST, 17, 2)),
+        (Command::Abandon(ONE, THREE, 2), Reply::Ended),
         (
-            Command::Revoke(one, three),
+            Command::Revoke(ONE, THREE),
             Reply::Refused(Refusal::NoLease),
         ),
     ];
-    expect_replies(rt, book, &rows)?;
-    assert_eq!(rt; book.load(node(17)), Some(0));
-    Ok(())
+    expect_replies(rt, book, &rows);
+    expect_load(rt, book, 17, Some(0));
 }
 
 #[test]
 fn epochs_go_on_when_a_stripe_is_dropped(rt: HostRuntime) -> Result<(), Fail> {
     let mut book = book(rt.alloc())?;
-    drop_and_place(&rt, &mut book)
+    drop_and_place(&rt, &mut book);
+    close(book);
+    Ok(())
 }
 
-fn drop_and_place(rt: &impl Abort, book: &mut Book) -> Result<(), Fail> {
-    let (one, three) = place_and_lease(rt, book)?;
-    expect_replies(rt, book, &[(Command::Drop(one), Reply::Dropped)])?;
-    assert_eq!(rt; lease_epoch(book, one, three), None);
-    assert_eq!(rt; book.load(node(17)), Some(0));
-    let _placed = ask(book, Command::Place(one))?;
+fn drop_and_place(rt: &impl Abort, book: &mut Book) {
+    place_and_lease(rt, book);
+    expect_replies(rt, book, &[(Command::Drop(ONE), Reply::Dropped)]);
+    assert_eq!(rt; epoch(book), None);
+    expect_load(rt, book, 17, Some(0));
+    assert!(rt; ask(book, FIRST, Command::Place(ONE)).is_some());
+    let stale = Reply::Refused(Refusal::Stale);
     let rows = [
         (Command::Fail(node(4)), Reply::Changed),
-        (Command::Lease(one, three), granted(1, one, 17, 2)?),
-        (Command::Done(one, three, 1), Reply::Refused(Refusal::Stale)),
-        (Command::Done(one, three, 2), Reply::Ended),
+        (Command::Lease(ONE, THREE), granted(FIRST, 17, 2)),
+        (Command::Done(ONE, THREE, 1), stale),
+        (Command::Done(ONE, THREE, 2), Reply::Ended),
     ];
-    expect_replies(rt, book, &rows)
+    expect_replies(rt, book, &rows);
 }
 
 #[test]
 fn a_lease_ends_with_its_target(rt: HostRuntime) -> Result<(), Fail> {
     let mut book = book(rt.alloc())?;
-    lose_target(&rt, &mut book)
+    lose_target(&rt, &mut book);
+    close(book);
+    Ok(())
 }
 
-fn lose_target(rt: &impl Abort, book: &mut Book) -> Result<(), Fail> {
-    let (one, three) = place_and_lease(rt, book)?;
+fn lose_target(rt: &impl Abort, book: &mut Book) {
+    place_and_lease(rt, book);
+    let stale = Reply::Refused(Refusal::Stale);
+    let offline = Reply::Refused(Refusal::TargetOffline(node(18)));
     let rows = [
         (Command::Fail(node(17)), Reply::Changed),
-        (Command::Lease(one, three), granted(1, one, 18, 2)?),
-        (Command::Done(one, three, 1), Reply::Refused(Refusal::Stale)),
+        (Command::Lease(ONE, THREE), granted(FIRST, 18, 2)),
+        (Command::Done(ONE, THREE, 1), stale),
         (Command::Down(node(18)), Reply::Changed),
-        (
-            Command::Done(one, three, 2),
-            Reply::Refused(Refusal::TargetOffline(node(18))),
-        ),
+        (Command::Done(ONE, THREE, 2), offline),
         (Command::Up(node(18)), Reply::Changed),
-        (Command::Done(one, three, 2), Reply::Ended),
+        (Command::Done(ONE, THREE, 2), Reply::Ended),
     ];
-    expect_replies(rt, book, &rows)
+    expect_replies(rt, book, &rows);
 }
 
 #[test]
 fn only_what_is_homeless_is_leased(rt: HostRuntime) -> Result<(), Fail> {
     let mut book = book(rt.alloc())?;
-    ask_without_need(&rt, &mut book)
+    ask_without_need(&rt, &mut book);
+    close(book);
+    Ok(())
 }
 
-fn ask_without_need(rt: &impl Abort, book: &mut Book) -> Result<(), Fail> {
-    let (one, zero) = (stripe(1)?, fragment(0)?);
+fn ask_without_need(rt: &impl Abort, book: &mut Book) {
     let unknown = Reply::Refused(Refusal::UnknownStripe);
     let unplaced = [
-        (Command::Lease(one, zero), unknown),
-        (Command::Done(one, zero, 1), unknown),
-        (Command::Abandon(one, zero, 1), unknown),
-        (Command::Revoke(one, zero), unknown),
-        (Command::Place(one), Reply::Placed(first_seats())),
+        (Command::Lease(ONE, ZERO), unknown),
+        (Command::Done(ONE, ZERO, 1), unknown),
+        (Command::Abandon(ONE, ZERO, 1), unknown),
+        (Command::Revoke(ONE, ZERO), unknown),
+        (Command::Place(ONE), Reply::Placed(first_seats())),
     ];
-    expect_replies(rt, book, &unplaced)?;
-    let downs = [0, 1, 2, 3].map(|number| (Command::Down(node(number)), Reply::Changed));
-    expect_replies(rt, book, &downs)?;
-    let rows = [(
-        Command::Lease(one, zero),
-        Reply::Refused(Refusal::NotNeeded),
-    )];
-    expect_replies(rt, book, &rows)?;
-    expect_stripe(rt, book, one, Level::Unavailable, 0x000f)
+    expect_replies(rt, book, &unplaced);
+    let downs = [0, 1, 2, 3].map(|number| Command::Down(node(number)));
+    expect_changes(rt, book, &downs);
+    let needless = Reply::Refused(Refusal::NotNeeded);
+    expect_replies(rt, book, &[(Command::Lease(ONE, ZERO), needless)]);
+    expect_stripe(rt, book, ONE, Level::Unavailable, 0x000f);
 }
 
 #[test]
 fn only_what_can_be_rebuilt_is_leased(rt: HostRuntime) -> Result<(), Fail> {
     let mut book = book(rt.alloc())?;
-    ask_beyond_repair(&rt, &mut book)
+    ask_beyond_repair(&rt, &mut book);
+    close(book);
+    Ok(())
 }
 
-fn ask_beyond_repair(rt: &impl Abort, book: &mut Book) -> Result<(), Fail> {
-    let (one, six) = (stripe(1)?, fragment(6)?);
-    let placed = [(Command::Place(one), Reply::Placed(first_seats()))];
-    expect_replies(rt, book, &placed)?;
-    let fails = [0, 1, 2, 4, 6].map(|number| (Command::Fail(node(number)), Reply::Changed));
-    expect_replies(rt, book, &fails)?;
-    let rows = [(
-        Command::Lease(one, fragment(0)?),
-        Reply::Refused(Refusal::Unrecoverable),
-    )];
-    expect_replies(rt, book, &rows)?;
-    let target = Seat {
-        node: node(15),
-        slot: 0,
-    };
+fn ask_beyond_repair(rt: &impl Abort, book: &mut Book) {
+    let placed = Reply::Placed(first_seats());
+    expect_replies(rt, book, &[(Command::Place(ONE), placed)]);
+    let fails = [0, 1, 2, 4, 6].map(|number| Command::Fail(node(number)));
+    expect_changes(rt, book, &fails);
     let lease = Lease {
-        stripe: one,
-        fragment: six,
-        holder: session(1)?,
-        target,
+        stripe: ONE,
+        fragment: SIX,
+        holder: FIRST,
+        target: Seat {
+            node: node(15),
+            slot: 0,
+        },
         epoch: 1,
     };
-    let kind = local([7, 8, 9, 10, 11, 13])?;
-    let rows = [(Command::Lease(one, six), Reply::Granted(lease, kind))];
-    expect_replies(rt, book, &rows)?;
-    expect_stripe(rt, book, one, Level::Lost, 0x0057)
+    let beyond = Reply::Refused(Refusal::Unrecoverable);
+    let rows = [
+        (Command::Lease(ONE, ZERO), beyond),
+        (Command::Lease(ONE, SIX), Reply::Granted(lease, OF_SIX)),
+    ];
+    expect_replies(rt, book, &rows);
+    expect_stripe(rt, book, ONE, Level::Lost, 0x0057);
 }

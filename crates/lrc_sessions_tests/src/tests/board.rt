@@ -3,22 +3,16 @@
 ghost use Rattle.std.specs.Prelude.{◌≡◌, [], IfOk};
 ghost use Rattle.lrc_book.specs.declared.book.TheConstants.{HISTORY_LIMIT};
 
+use super::{ONE, nodes};
 use lrc_board::{Keeper, NewLog, ViewNaming, Viewer};
 use lrc_book::{Book, Command};
 use lrc_code::{NodeNo, SessionNo, StripeNo};
-use lrc_samples::twenty_nodes;
 use lrc_stripes::Level;
-use lrc_topology::Topology;
 use std::alloc::Global;
 use std::marker::Brand;
 use std::process::Abort;
 use std::sync::Wait;
 use std::test::Fail;
-
-/// Twenty nodes, of which nothing else is known here.
-fn nodes(alloc: Global) -> Result<Topology, Fail> {
-    Ok(twenty_nodes(alloc)?)
-}
 
 fn book(alloc: Global) -> Result<Book, Fail>
     ensures { IfOk result (λ b. (b.history ≡ []) × (b.limit ≡ HISTORY_LIMIT)) }
@@ -29,20 +23,12 @@ fn book(alloc: Global) -> Result<Book, Fail>
 #[test]
 fn a_viewer_sees_what_it_was_shown(rt: HostRuntime) -> Result<(), Fail> {
     let book = book(rt.alloc())?;
-    let stripe = StripeNo::new(1).ok_or("a stripe")?;
-    let book = watch::<Brand, _>(&rt, rt.alloc(), book, NewLog::new(), stripe);
-    assert_eq!(&rt; book.history().len(), 2);
+    watch::<Brand, _>(&rt, rt.alloc(), book, NewLog::new());
     Ok(())
 }
 
 /// Of two viewers one is shown two calls, and the other nothing.
-fn watch<N: ViewNaming, R: Wait + Abort>(
-    rt: &R,
-    alloc: Global,
-    book: Book,
-    log: NewLog,
-    stripe: StripeNo,
-) -> Book
+fn watch<N: ViewNaming, R: Wait + Abort>(rt: &R, alloc: Global, book: Book, log: NewLog)
     requires book { (book.history ≡ []) × (book.nodes ≡ N.topology) × (book.limit ≡ HISTORY_LIMIT) }
     requires log { (log.front.book ≡ N.log) × (log.pen.nib.key ≡ N.start) }
 {
@@ -51,13 +37,18 @@ fn watch<N: ViewNaming, R: Wait + Abort>(
     };
     let mut viewer = take(rt, &mut viewers);
     let other = take(rt, &mut viewers);
-    apply(rt, &mut keeper, Command::Place(stripe), 1);
+    apply(rt, &mut keeper, Command::Place(ONE), 1);
     apply(rt, &mut keeper, Command::Fail(NodeNo { value: 3 }), 2);
     show(&mut keeper, &mut viewer);
     expect_count(rt, &viewer, 2);
     expect_count(rt, &other, 0);
-    expect_seen(rt, alloc, &mut viewer, stripe);
-    keeper.into_book(rt)
+    expect_seen(rt, alloc, &mut viewer);
+    close(rt, keeper.into_book(rt));
+}
+
+/// Lets a book of two entries go.
+fn close(rt: &impl Abort, book: Book) {
+    assert_eq!(rt; book.history().len(), 2);
 }
 
 fn show<N: ViewNaming>(keeper: &mut Keeper<N>, viewer: &mut Viewer<N>) {
@@ -70,17 +61,12 @@ fn expect_count<N: ViewNaming>(rt: &impl Abort, viewer: &Viewer<N>, count: u64) 
 }
 
 /// The stripe has lost one fragment with node 3, and no other node has lost its own.
-fn expect_seen<N: ViewNaming>(
-    rt: &impl Abort,
-    alloc: Global,
-    viewer: &mut Viewer<N>,
-    stripe: StripeNo,
-) {
-    assert_eq!(rt; level(rt, viewer, stripe), Some(Level::AtRisk(2)));
-    assert_eq!(rt; load(rt, viewer, NodeNo { value: 3 }), Some(0));
-    assert_eq!(rt; load(rt, viewer, NodeNo { value: 4 }), Some(1));
-    assert_eq!(rt; load(rt, viewer, NodeNo { value: 99 }), None);
-    expect_at_risk(rt, alloc, viewer, (stripe, Level::AtRisk(2)));
+fn expect_seen<N: ViewNaming>(rt: &impl Abort, alloc: Global, viewer: &mut Viewer<N>) {
+    assert!(rt; level(rt, viewer, ONE) == Some(Level::AtRisk(2)));
+    for (value, seats) in [(3, Some(0)), (4, Some(1)), (99, None)] {
+        assert_eq!(rt; load(rt, viewer, NodeNo { value }), seats, "on {value}");
+    }
+    expect_at_risk(rt, alloc, viewer, (ONE, Level::AtRisk(2)));
 }
 
 fn take<N: ViewNaming>(rt: &impl Abort, viewers: &mut Vec<Viewer<N>>) -> Viewer<N> {
@@ -130,8 +116,7 @@ fn expect_at_risk<N: ViewNaming>(
 ) {
     match viewer.risk(alloc) {
         Ok(seen) => {
-            assert_eq!(rt; seen.value.len(), 1);
-            assert_eq!(rt; seen.value.first(), Some(&row));
+            assert!(rt; seen.value.as_slice() == [row].as_slice());
         }
         Err(_) => panic!(rt; "room and a view"),
     }

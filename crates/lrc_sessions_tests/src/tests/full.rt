@@ -1,6 +1,6 @@
 //! A script with more calls than a history holds.
 
-use super::{parts, run_all};
+use super::{close_run, expect_track, parts, run_all};
 use lrc_book::{Command, HISTORY_LIMIT};
 use lrc_code::Fault;
 use lrc_sessions::{Closing, OpenGate, Stop, Track};
@@ -14,14 +14,9 @@ fn a_full_history_stops_a_script(rt: HostRuntime) -> Result<(), Fail> {
     let scripts = one_script(rt.alloc())?;
     assert_eq!(rt; scripts.len(), 1);
     let parts = parts(rt.alloc(), 1)?;
-    let (closing, tracks) = run_all::<Brand, _, _>(
-        &rt,
-        rt.alloc(),
-        parts,
-        scripts.as_slice(),
-        &OpenGate,
-    );
-    expect_full(&rt, &closing, tracks.as_slice());
+    let ended = run_all::<Brand, _, _>(&rt, rt.alloc(), parts, scripts.as_slice(), &OpenGate);
+    expect_full(&rt, &ended.0, ended.1.as_slice());
+    close_run(ended);
     Ok(())
 }
 
@@ -43,7 +38,7 @@ fn leases(alloc: Global, calls: usize) -> Result<Vec<Command>, Fail> {
 
 fn expect_full(rt: &impl Abort, closing: &Closing, tracks: &[Track]) {
     assert_eq!(rt; tracks.len(), 1);
-    assert_eq!(rt; tracks[0].stopped, Some(Stop::Fault(Fault::HistoryFull)));
-    assert_eq!(rt; tracks[0].receipts.as_slice().len(), HISTORY_LIMIT);
+    let full = Some(Stop::Fault(Fault::HistoryFull));
+    expect_track(rt, &tracks[0], full, HISTORY_LIMIT);
     assert_eq!(rt; closing.book.history().len(), HISTORY_LIMIT);
 }

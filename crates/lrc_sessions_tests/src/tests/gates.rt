@@ -2,7 +2,7 @@
 
 ghost use Rattle.std.specs.Prelude.{⊤};
 
-use super::{parts, run_all, stripe};
+use super::{ONE, TWO, close_run, expect_track, parts, run_all};
 use lrc_book::Command;
 use lrc_code::SessionNo;
 use lrc_sessions::{Closing, Gate, GateError, Stop, Track};
@@ -77,22 +77,17 @@ fn two_scripts_run_on_two_threads(rt: HostRuntime) -> Result<(), Fail> {
     assert_eq!(rt; scripts.len(), 2);
     let parts = parts(rt.alloc(), 2)?;
     let gate = Meeting::new();
-    let (closing, tracks) = run_all::<Brand, _, _>(
-        &rt,
-        rt.alloc(),
-        parts,
-        scripts.as_slice(),
-        &gate,
-    );
-    expect_meeting(&rt, &gate, &closing, tracks.as_slice());
+    let ended = run_all::<Brand, _, _>(&rt, rt.alloc(), parts, scripts.as_slice(), &gate);
+    expect_meeting(&rt, &gate, &ended.0, ended.1.as_slice());
+    close_run(ended);
     Ok(())
 }
 
 /// The first script places two stripes, the second asks twice for the next lease.
 fn meeting_scripts(alloc: Global) -> Result<Vec<Vec<Command>>, Fail> {
     let mut places = Vec::new(alloc);
-    places.push(Command::Place(stripe(1)?))?;
-    places.push(Command::Place(stripe(2)?))?;
+    places.push(Command::Place(ONE))?;
+    places.push(Command::Place(TWO))?;
     let mut leases = Vec::new(alloc);
     leases.push(Command::Next)?;
     leases.push(Command::Next)?;
@@ -104,8 +99,7 @@ fn meeting_scripts(alloc: Global) -> Result<Vec<Vec<Command>>, Fail> {
 
 fn expect_meeting(rt: &impl Abort, gate: &Meeting, closing: &Closing, tracks: &[Track]) {
     for track in tracks {
-        assert_eq!(rt; track.stopped, None);
-        assert_eq!(rt; track.receipts.as_slice().len(), 2);
+        expect_track(rt, track, None, 2);
     }
     assert!(rt; !gate.gave_up.load(Ordering::SeqCst));
     assert_eq!(rt; gate.asked.load(Ordering::SeqCst), 4);
@@ -170,14 +164,9 @@ fn a_gate_stops_a_script_before_its_call(rt: HostRuntime) -> Result<(), Fail> {
     assert_eq!(rt; scripts.len(), 2);
     let parts = parts(rt.alloc(), 2)?;
     let gate = Closed::new();
-    let (closing, tracks) = run_all::<Brand, _, _>(
-        &rt,
-        rt.alloc(),
-        parts,
-        scripts.as_slice(),
-        &gate,
-    );
-    expect_stopped(&rt, &gate, &closing, tracks.as_slice());
+    let ended = run_all::<Brand, _, _>(&rt, rt.alloc(), parts, scripts.as_slice(), &gate);
+    expect_stopped(&rt, &gate, &ended.0, ended.1.as_slice());
+    close_run(ended);
     Ok(())
 }
 
@@ -200,10 +189,8 @@ fn three_leases(alloc: Global) -> Result<Vec<Command>, Fail> {
 /// The first script was stopped behind its first call, the second by nothing.
 fn expect_stopped(rt: &impl Abort, gate: &Closed, closing: &Closing, tracks: &[Track]) {
     assert_eq!(rt; tracks.len(), 2);
-    assert_eq!(rt; tracks[0].stopped, Some(Stop::Gate));
-    assert_eq!(rt; tracks[0].receipts.as_slice().len(), 1);
-    assert_eq!(rt; tracks[1].stopped, None);
-    assert_eq!(rt; tracks[1].receipts.as_slice().len(), 3);
+    expect_track(rt, &tracks[0], Some(Stop::Gate), 1);
+    expect_track(rt, &tracks[1], None, 3);
     assert_eq!(rt; gate.asked.load(Ordering::SeqCst), 111_011);
     assert_eq!(rt; gate.told.load(Ordering::SeqCst), 111_001);
     assert_eq!(rt; closing.book.history().len(), 4);

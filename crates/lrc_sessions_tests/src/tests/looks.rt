@@ -2,13 +2,10 @@
 
 ghost use Rattle.std.specs.Prelude.{◌≡◌};
 
-use super::{
-    call, expect_closing, expect_fronts, expect_one_each, finish, meet, open, parts, put, stripe,
-    take, two_stripes,
-};
+use super::{ONE, ONE_EACH, TWO, call, end, expect_fronts, meet, open, parts, put, take};
 use lrc_book::Command;
 use lrc_code::{NodeNo, SessionNo, StripeNo};
-use lrc_sessions::{Closing, Manager, Naming, Parts, Session};
+use lrc_sessions::{Manager, Naming, Parts, Session};
 use lrc_stripes::Level;
 use std::alloc::Global;
 use std::marker::Brand;
@@ -25,17 +22,9 @@ const LOOKS: u32 = 100_000_000;
 
 #[test]
 fn a_session_sees_the_calls_of_another(rt: HostRuntime) -> Result<(), Fail> {
-    let stripe = stripe(1)?;
     let parts = parts(rt.alloc(), 2)?;
-    let closing = watch::<Brand, _>(&rt, rt.alloc(), parts, stripe);
-    expect_watched(&rt, &closing);
+    watch::<Brand, _>(&rt, rt.alloc(), parts);
     Ok(())
-}
-
-/// The first session has made all calls.
-fn expect_watched(rt: &impl Abort, closing: &Closing) {
-    let made = [(SessionNo { value: 1 }, CALLS), (SessionNo { value: 2 }, 0)];
-    expect_closing(rt, closing, CALLS as usize, &made);
 }
 
 /// One session makes calls, and another looks in a thread of its own until it has seen them; then they meet.
@@ -43,8 +32,7 @@ fn watch<N: Naming + Send + Sync, R: Threads + Wait + Abort + Sync>(
     rt: &R,
     alloc: Global,
     parts: Parts,
-    stripe: StripeNo,
-) -> Closing
+)
     requires topology { parts.topology ≡ N.topology }
     requires count { parts.count ≡ N.count }
     requires name { parts.name ≡ N.name }
@@ -54,12 +42,13 @@ fn watch<N: Naming + Send + Sync, R: Threads + Wait + Abort + Sync>(
     let (manager, mut sessions) = open::<N, _>(rt, alloc, parts);
     let mut second = take(rt, &mut sessions);
     let mut first = take(rt, &mut sessions);
-    call_and_look(rt, &manager, &mut first, &mut second, stripe);
+    call_and_look(rt, &manager, &mut first, &mut second);
     expect_fronts(rt, &first, &second, (CALLS, CALLS));
     meet(rt, &manager, &mut first, &mut second, CALLS);
     put(rt, &mut sessions, second);
     put(rt, &mut sessions, first);
-    finish(rt, manager, sessions)
+    let made = [(SessionNo { value: 1 }, CALLS), (SessionNo { value: 2 }, 0)];
+    end(rt, manager, sessions, &made);
 }
 
 /// One session makes all calls, while the other looks until it has seen them.
@@ -68,12 +57,11 @@ fn call_and_look<N: Naming + Send + Sync, R: Threads + Wait + Abort + Sync>(
     manager: &Manager<N>,
     first: &mut Session<N>,
     second: &mut Session<N>,
-    stripe: StripeNo,
 ) {
     join(
         rt,
         || call_again(rt, manager, first),
-        || look_until_seen(rt, second, stripe),
+        || look_until_seen(rt, second),
     );
 }
 
@@ -85,12 +73,11 @@ fn call_again<N: Naming, R: Wait + Abort>(rt: &R, manager: &Manager<N>, session:
 }
 
 /// Looks until all calls are seen. Each look has a view, and what is seen never falls back.
-fn look_until_seen<N: Naming>(rt: &impl Abort, session: &mut Session<N>, stripe: StripeNo) {
+fn look_until_seen<N: Naming>(rt: &impl Abort, session: &mut Session<N>) {
     let mut front = 0;
     for _ in 0..LOOKS {
-        let (seen, level) = level_of(rt, session, stripe);
-        assert!(rt; seen >= front);
-        assert_eq!(rt; level, None);
+        let (seen, level) = level_of(rt, session, ONE);
+        assert!(rt; seen >= front && level.is_none());
         front = seen;
         if front == CALLS {
             return;
@@ -101,21 +88,14 @@ fn look_until_seen<N: Naming>(rt: &impl Abort, session: &mut Session<N>, stripe:
 
 #[test]
 fn looks_show_what_was_placed(rt: HostRuntime) -> Result<(), Fail> {
-    let stripes = two_stripes()?;
     let parts = parts(rt.alloc(), 2)?;
-    let closing = look_around::<Brand, _>(&rt, rt.alloc(), parts, stripes);
-    expect_one_each(&rt, &closing);
+    look_around::<Brand, _>(&rt, rt.alloc(), parts);
     Ok(())
 }
 
 /// Each of two sessions places a stripe. What one has placed the other sees without a call of its own; when they have met, each
 /// sees both.
-fn look_around<N: Naming, R: Wait + Abort>(
-    rt: &R,
-    alloc: Global,
-    parts: Parts,
-    stripes: [StripeNo; 2],
-) -> Closing
+fn look_around<N: Naming, R: Wait + Abort>(rt: &R, alloc: Global, parts: Parts)
     requires topology { parts.topology ≡ N.topology }
     requires count { parts.count ≡ N.count }
     requires name { parts.name ≡ N.name }
@@ -126,16 +106,16 @@ fn look_around<N: Naming, R: Wait + Abort>(
     let mut second = take(rt, &mut sessions);
     let mut first = take(rt, &mut sessions);
     expect_fronts(rt, &first, &second, (0, 0));
-    call(rt, &manager, &mut first, Command::Place(stripes[0]));
+    call(rt, &manager, &mut first, Command::Place(ONE));
     expect_fronts(rt, &first, &second, (1, 0));
-    expect_whole(rt, &mut first, stripes[0], 1);
-    expect_whole(rt, &mut second, stripes[0], 1);
-    call(rt, &manager, &mut second, Command::Place(stripes[1]));
+    expect_whole(rt, &mut first, ONE, 1);
+    expect_whole(rt, &mut second, ONE, 1);
+    call(rt, &manager, &mut second, Command::Place(TWO));
     meet(rt, &manager, &mut first, &mut second, 2);
-    expect_both_placed(rt, alloc, &mut first, stripes[1]);
+    expect_both_placed(rt, alloc, &mut first);
     put(rt, &mut sessions, first);
     put(rt, &mut sessions, second);
-    finish(rt, manager, sessions)
+    end(rt, manager, sessions, &ONE_EACH);
 }
 
 /// A session sees so many entries, and this stripe whole.
@@ -145,21 +125,29 @@ fn expect_whole<N: Naming>(
     stripe: StripeNo,
     front: u64,
 ) {
-    assert_eq!(rt; level_of(rt, session, stripe), (front, Some(Level::Whole)));
+    assert!(rt; level_of(rt, session, stripe) == (front, Some(Level::Whole)));
 }
 
 /// A session sees the second stripe, how many seats are on a node of it alone and on one of both, and no stripe at risk.
-fn expect_both_placed<N: Naming>(
+fn expect_both_placed<N: Naming>(rt: &impl Abort, alloc: Global, session: &mut Session<N>) {
+    expect_whole(rt, session, TWO, 2);
+    expect_load(rt, session, 15, Some(1));
+    expect_load(rt, session, 0, Some(2));
+    expect_load(rt, session, 99, None);
+    assert!(rt; at_risk(rt, alloc, session) == (2, 0));
+}
+
+/// A session sees two entries, and so many seats on a node.
+fn expect_load<N: Naming>(
     rt: &impl Abort,
-    alloc: Global,
     session: &mut Session<N>,
-    second: StripeNo,
+    number: u16,
+    seats: Option<u32>,
 ) {
-    expect_whole(rt, session, second, 2);
-    assert_eq!(rt; load_of(rt, session, NodeNo { value: 15 }), (2, Some(1)));
-    assert_eq!(rt; load_of(rt, session, NodeNo { value: 0 }), (2, Some(2)));
-    assert_eq!(rt; load_of(rt, session, NodeNo { value: 99 }), (2, None));
-    assert_eq!(rt; at_risk(rt, alloc, session), (2, 0));
+    assert!(rt;
+        load_of(rt, session, NodeNo { value: number }) == (2, seats),
+        "on {number}"
+    );
 }
 
 /// How much a look at a stripe's level has seen, and the level.
@@ -196,30 +184,13 @@ fn at_risk<N: Naming>(rt: &impl Abort, alloc: Global, session: &mut Session<N>) 
 
 #[test]
 fn two_sessions_meet_at_the_call_of_a_third(rt: HostRuntime) -> Result<(), Fail> {
-    let stripe = stripe(1)?;
     let parts = parts(rt.alloc(), 3)?;
-    let closing = meet_at_a_call::<Brand, _>(&rt, rt.alloc(), parts, stripe);
-    expect_third_alone(&rt, &closing);
+    meet_at_a_call::<Brand, _>(&rt, rt.alloc(), parts);
     Ok(())
 }
 
-/// The third of three sessions has made one call, and the others none.
-fn expect_third_alone(rt: &impl Abort, closing: &Closing) {
-    let made = [
-        (SessionNo { value: 1 }, 0),
-        (SessionNo { value: 2 }, 0),
-        (SessionNo { value: 3 }, 1),
-    ];
-    expect_closing(rt, closing, 1, &made);
-}
-
 /// Two sessions that have seen nothing meet after the call of a third, and have then seen it.
-fn meet_at_a_call<N: Naming, R: Wait + Abort>(
-    rt: &R,
-    alloc: Global,
-    parts: Parts,
-    stripe: StripeNo,
-) -> Closing
+fn meet_at_a_call<N: Naming, R: Wait + Abort>(rt: &R, alloc: Global, parts: Parts)
     requires topology { parts.topology ≡ N.topology }
     requires count { parts.count ≡ N.count }
     requires name { parts.name ≡ N.name }
@@ -230,11 +201,16 @@ fn meet_at_a_call<N: Naming, R: Wait + Abort>(
     let mut third = take(rt, &mut sessions);
     let mut second = take(rt, &mut sessions);
     let mut first = take(rt, &mut sessions);
-    call(rt, &manager, &mut third, Command::Place(stripe));
+    call(rt, &manager, &mut third, Command::Place(ONE));
     expect_fronts(rt, &first, &second, (0, 0));
     meet(rt, &manager, &mut first, &mut second, 1);
     put(rt, &mut sessions, first);
     put(rt, &mut sessions, second);
     put(rt, &mut sessions, third);
-    finish(rt, manager, sessions)
+    let made = [
+        (SessionNo { value: 1 }, 0),
+        (SessionNo { value: 2 }, 0),
+        (SessionNo { value: 3 }, 1),
+    ];
+    end(rt, manager, sessions, &made);
 }

@@ -1,7 +1,7 @@
 //! Eight sessions at once, whose history is replayed by one thread.
 
-use super::{nodes, parts, run_all};
-use lrc_book::{Book, Command, Record};
+use super::{close_run, expect_track, nodes, parts, run_all};
+use lrc_book::{Book, Command, Level, Mode, Record, Reply, Seat};
 use lrc_code::{Fragment, NodeNo, SessionNo, StripeNo, UpgradeNo};
 use lrc_sessions::{Closing, OpenGate, Receipt, Track};
 use std::alloc::Global;
@@ -30,12 +30,22 @@ fn run_mixed<R: Threads + Wait + Abort + Sync>(
     let scripts = mixed_scripts(alloc, run)?;
     assert_eq!(rt; scripts.len(), 8);
     let parts = parts(alloc, 8)?;
-    let (closing, tracks) = run_all::<Brand, _, _>(rt, alloc, parts, scripts.as_slice(), &OpenGate);
+    let ended = run_all::<Brand, _, _>(rt, alloc, parts, scripts.as_slice(), &OpenGate);
+    expect_tracks(rt, &ended.0, scripts.as_slice(), ended.1.as_slice());
+    let replayed = replay(rt, alloc, &ended.0.book);
+    close_run(ended);
+    replayed
+}
+
+fn replay(rt: &impl Abort, alloc: Global, book: &Book) -> Result<(), Fail> {
     let mut fresh = Book::new(alloc, nodes(alloc)?)?;
-    expect_replayed(rt, &closing.book, &mut fresh);
-    expect_tracks(rt, &closing, scripts.as_slice(), tracks.as_slice());
+    expect_replies(rt, book.history(), &mut fresh);
+    expect_alike(rt, book, &fresh);
+    close_book(fresh);
     Ok(())
 }
+
+fn close_book(_book: Book) {}
 
 /// The scripts of one run: commands of every kind, over six stripes and all nodes.
 fn mixed_scripts(alloc: Global, run: u64) -> Result<Vec<Vec<Command>>, Fail> {
@@ -103,40 +113,67 @@ fn command_on_nodes(kind: u64, number: u64) -> Command {
     }
 }
 
-/// One thread that makes the calls of the book in their order gets its replies, and leaves its stripes and nodes.
-fn expect_replayed(rt: &impl Abort, book: &Book, fresh: &mut Book) {
-    for record in book.history() {
+/// One thread that makes the calls of a history in their order gets its replies.
+fn expect_replies(rt: &impl Abort, history: &[Record], fresh: &mut Book) {
+    for record in history {
         let entry = record.entry();
-        assert_eq!(rt; fresh.call(entry.session, entry.command), Ok(entry.reply));
+        assert!(rt; reply(fresh, entry.session, entry.command) == Some(entry.reply));
     }
+}
+
+fn reply(book: &mut Book, session: SessionNo, command: Command) -> Option<Reply> {
+    book.call(session, command).ok()
+}
+
+/// Both books have the same stripes and nodes.
+fn expect_alike(rt: &impl Abort, book: &Book, fresh: &Book) {
     for number in 0..6 {
         let stripe = StripeNo { value: number };
-        assert_eq!(rt; fresh.homes(stripe), book.homes(stripe));
-        assert_eq!(rt; fresh.level(stripe), book.level(stripe));
+        assert!(rt;
+            homes(fresh, stripe) == homes(book, stripe),
+            "of stripe {number}"
+        );
+        assert!(rt;
+            level(fresh, stripe) == level(book, stripe),
+            "of stripe {number}"
+        );
     }
     for value in 0..21 {
         let node = NodeNo { value };
-        assert_eq!(rt; fresh.load(node), book.load(node));
-        assert_eq!(rt; fresh.mode(node), book.mode(node));
+        assert_eq!(rt; load(fresh, node), load(book, node), "on node {value}");
+        assert!(rt; mode(fresh, node) == mode(book, node), "of node {value}");
     }
+}
+
+fn homes(book: &Book, stripe: StripeNo) -> Option<[Option<Seat>; 16]> {
+    book.homes(stripe)
+}
+
+fn level(book: &Book, stripe: StripeNo) -> Option<Level> {
+    book.level(stripe)
+}
+
+fn load(book: &Book, node: NodeNo) -> Option<u32> {
+    book.load(node)
+}
+
+fn mode(book: &Book, node: NodeNo) -> Option<(Mode, bool)> {
+    book.mode(node)
 }
 
 /// Each track has the receipts of its whole script, and the counts are theirs.
 fn expect_tracks(rt: &impl Abort, closing: &Closing, scripts: &[Vec<Command>], tracks: &[Track]) {
+    let made = closing.made.as_slice();
+    let history = closing.book.history();
     assert_eq!(rt; tracks.len(), scripts.len());
-    assert_eq!(rt; closing.made.as_slice().len(), scripts.len());
-    assert_eq!(rt; closing.book.history().len(), scripts.len() * CALLS);
+    assert_eq!(rt; made.len(), scripts.len());
+    assert_eq!(rt; history.len(), scripts.len() * CALLS);
     for i in 0..scripts.len() {
-        let (session, made) = closing.made.as_slice()[i];
-        assert_eq!(rt; (session.get() as usize, made), (i + 1, CALLS as u64));
-        assert_eq!(rt; tracks[i].stopped, None);
-        expect_in_order(
-            rt,
-            closing.book.history(),
-            session,
-            scripts[i].as_slice(),
-            tracks[i].receipts.as_slice(),
+        assert_eq!(rt;
+            (made[i].0.get() as usize, made[i].1),
+            (i + 1, CALLS as u64)
         );
+        expect_in_order(rt, history, made[i].0, scripts[i].as_slice(), &tracks[i]);
     }
 }
 
@@ -146,24 +183,22 @@ fn expect_in_order(
     history: &[Record],
     session: SessionNo,
     script: &[Command],
-    receipts: &[Receipt],
+    track: &Track,
 ) {
+    expect_track(rt, track, None, script.len());
+    let receipts = track.receipts.as_slice();
     let mut made = 0;
     for (i, record) in history.iter().enumerate() {
         let entry = record.entry();
         if entry.session == session {
             assert!(rt; made < script.len() && made < receipts.len());
-            assert_eq!(rt; entry.command, script[made]);
-            let place = i as u64 + 1;
-            assert_eq!(rt;
-                receipts[made],
-                Receipt {
-                    place,
-                    reply: entry.reply
-                }
-            );
+            let wanted = Receipt {
+                place: i as u64 + 1,
+                reply: entry.reply,
+            };
+            assert!(rt; entry.command == script[made] && receipts[made] == wanted);
             made += 1;
         }
     }
-    assert_eq!(rt; (made, made), (script.len(), receipts.len()));
+    assert_eq!(rt; made, script.len());
 }
