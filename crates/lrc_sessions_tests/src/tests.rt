@@ -68,6 +68,9 @@ const SECOND: [(u16, u16); 16] = [
     (10, 1),
 ];
 
+/// Each of two sessions has made one call.
+const ONE_EACH: [(SessionNo, u64); 2] = [(SessionNo { value: 1 }, 1), (SessionNo { value: 2 }, 1)];
+
 /// Twenty nodes, of which nothing else is known here.
 fn nodes(alloc: Global) -> Result<Topology, Fail> {
     Ok(twenty_nodes(alloc)?)
@@ -116,7 +119,7 @@ fn finish<N: Naming, R: Wait + Abort>(
     }
 }
 
-/// Ends a manager whose sessions are all there, after so many calls of each.
+/// Ends a manager whose sessions are all there, and have made so many calls.
 fn end<N: Naming, R: Wait + Abort>(
     rt: &R,
     manager: Manager<N>,
@@ -130,9 +133,9 @@ fn end<N: Naming, R: Wait + Abort>(
 
 /// The history has an entry for each call that the sessions made.
 fn expect_made(rt: &impl Abort, closing: &Closing, made: &[(SessionNo, u64)]) {
-    let mut entries = 0;
+    let mut entries: u64 = 0;
     for (_, calls) in made {
-        entries += *calls;
+        entries = entries.saturating_add(*calls);
     }
     assert_eq!(rt; closing.book.history().len() as u64, entries);
     assert!(rt; closing.made.as_slice() == made);
@@ -259,9 +262,6 @@ fn placed(place: u64, seats: [(u16, u16); 16]) -> Receipt {
         reply: Reply::Placed(seats),
     }
 }
-
-/// Each of two sessions has made one call.
-const ONE_EACH: [(SessionNo, u64); 2] = [(SessionNo { value: 1 }, 1), (SessionNo { value: 2 }, 1)];
 
 #[test]
 fn two_sessions_place_a_stripe_each(rt: HostRuntime) -> Result<(), Fail> {

@@ -71,9 +71,12 @@ impl Gate for Meeting {
     }
 }
 
+/// The first script places two stripes, the second asks twice for the next lease.
 #[test]
 fn two_scripts_run_on_two_threads(rt: HostRuntime) -> Result<(), Fail> {
-    let scripts = meeting_scripts(rt.alloc())?;
+    let places = [Command::Place(ONE), Command::Place(TWO)];
+    let leases = [Command::Next, Command::Next];
+    let scripts = scripts(rt.alloc(), &[places.as_slice(), leases.as_slice()])?;
     assert_eq!(rt; scripts.len(), 2);
     let parts = parts(rt.alloc(), 2)?;
     let gate = Meeting::new();
@@ -83,17 +86,14 @@ fn two_scripts_run_on_two_threads(rt: HostRuntime) -> Result<(), Fail> {
     Ok(())
 }
 
-/// The first script places two stripes, the second asks twice for the next lease.
-fn meeting_scripts(alloc: Global) -> Result<Vec<Vec<Command>>, Fail> {
-    let mut places = Vec::new(alloc);
-    places.push(Command::Place(ONE))?;
-    places.push(Command::Place(TWO))?;
-    let mut leases = Vec::new(alloc);
-    leases.push(Command::Next)?;
-    leases.push(Command::Next)?;
+/// A script of each row.
+fn scripts(alloc: Global, rows: &[&[Command]]) -> Result<Vec<Vec<Command>>, Fail> {
     let mut scripts = Vec::new(alloc);
-    scripts.push(places)?;
-    scripts.push(leases)?;
+    for row in rows {
+        let mut script = Vec::new(alloc);
+        script.extend_from_slice(row)?;
+        scripts.push(script)?;
+    }
     Ok(scripts)
 }
 
@@ -158,9 +158,11 @@ fn digit(session: SessionNo, n: u64) -> u64 {
     }
 }
 
+/// Each of two scripts asks three times for the next lease.
 #[test]
 fn a_gate_stops_a_script_before_its_call(rt: HostRuntime) -> Result<(), Fail> {
-    let scripts = lease_scripts(rt.alloc())?;
+    let leases = [Command::Next; 3];
+    let scripts = scripts(rt.alloc(), &[leases.as_slice(), leases.as_slice()])?;
     assert_eq!(rt; scripts.len(), 2);
     let parts = parts(rt.alloc(), 2)?;
     let gate = Closed::new();
@@ -168,22 +170,6 @@ fn a_gate_stops_a_script_before_its_call(rt: HostRuntime) -> Result<(), Fail> {
     expect_stopped(&rt, &gate, &ended.0, ended.1.as_slice());
     close_run(ended);
     Ok(())
-}
-
-/// Each of two scripts asks three times for the next lease.
-fn lease_scripts(alloc: Global) -> Result<Vec<Vec<Command>>, Fail> {
-    let mut scripts = Vec::new(alloc);
-    scripts.push(three_leases(alloc)?)?;
-    scripts.push(three_leases(alloc)?)?;
-    Ok(scripts)
-}
-
-fn three_leases(alloc: Global) -> Result<Vec<Command>, Fail> {
-    let mut script = Vec::new(alloc);
-    script.push(Command::Next)?;
-    script.push(Command::Next)?;
-    script.push(Command::Next)?;
-    Ok(script)
 }
 
 /// The first script was stopped behind its first call, the second by nothing.
