@@ -1,4 +1,4 @@
-//! The tests of `lrc_tool`: whole runs, checks and recoveries, also of streams that fail.
+//! The tests of `lrc_tool` and `lrc_script` that no file under `examples` can stand for.
 #![tactic(auto)]
 
 #[cfg(test)]

@@ -1,9 +1,6 @@
 //! The program `lrcman`: its command line, its standard streams and its exit status.
 #![tactic(auto)]
 
-#[cfg(test)]
-mod tests;
-
 use clap::error::ErrorKind;
 use clap::{Arg, ArgAction, ArgMatches, Command, Error};
 use lrc_tool::{Plain, RunFault, Status, check, recover, run};
@@ -14,7 +11,7 @@ use std::thread::Threads;
 use std::{env, io};
 
 /// What the command line asks for.
-#[derive(Clone, Copy, Debug, PartialEq, Eq)]
+#[derive(Clone, Copy)]
 enum Request<'a> {
     Run,
     Check,
@@ -22,7 +19,7 @@ enum Request<'a> {
 }
 
 /// Why the program ends without the status of its command: the line on standard error.
-#[derive(Clone, Copy, Debug, PartialEq, Eq, thiserror::Error)]
+#[derive(Clone, Copy, Debug, thiserror::Error)]
 enum Stop {
     /// The command line is refused.
     #[error("usage: lrcman run < BUNDLE | lrcman check < BUNDLE | lrcman recover MASK (four hexadecimal digits)")]

@@ -31,7 +31,7 @@ impl Read for Filling {
     }
 }
 
-/// A reader that gives a hundred bytes a call, and fails at one of its calls.
+/// A reader that gives seven bytes a call, and fails at one of its calls.
 #[derive(Drop)]
 pub(crate) struct Faltering<'a> {
     pub rest: &'a [u8],
@@ -46,7 +46,7 @@ impl Read for Faltering<'_> {
         if self.calls == self.fails_at {
             return Err(io::Error::from(self.kind));
         }
-        let count = self.rest.len().min(buf.len()).min(100);
+        let count = self.rest.len().min(buf.len()).min(7);
         let (given, rest) = self.rest.split_at(count);
         buf[..count].copy_from_slice(given);
         self.rest = rest;

@@ -1,139 +1,111 @@
-//! Runs, checks and recoveries whose reader or writer fails.
+//! Runs and checks whose reader or writer fails, or does not end.
 
 use super::fakes::{Dribble, Endless, Failure, Faltering, Filling};
-use super::{ONE_PLACED, bundle, over_twenty};
+use super::{ONE_NODE, ONE_NODE_OUTPUT};
 use lrc_tool::{Plain, RunFault, Sink, Source, Status, check, run};
 use std::alloc::Global;
 use std::io;
-use std::process::Abort;
 use std::sync::Wait;
-use std::test::Fail;
 use std::thread::Threads;
 
-/// What is printed where stripe 1 is to be placed on one node alone.
-const ONE_NODE: &[u8] = b"\
-script 1
-1 refused 103 1
-risk
-stripe,level,margin,missing
-load
-node,mode,online,load,slots
-0,active,yes,0,4
-";
-
-/// What a run says of a bundle that is too long.
-fn expect_too_long(
-    rt: &(impl Threads + Wait + Abort + Sync),
-    alloc: Global,
-    source: &mut impl Source,
-) -> Result<(), Fail> {
+/// Whether a run says of a bundle that it is too long, and no read has failed.
+fn is_too_long(rt: &(impl Threads + Wait + Sync), alloc: Global, source: &mut impl Source) -> bool {
     let mut sink = Plain::new(Vec::new(alloc));
     let result = run(rt, alloc, source, &mut sink);
-    assert_eq!(rt; result, Ok(Status::Refused));
-    assert_eq!(rt; sink.inner.as_slice(), b"bundle 1\n".as_slice());
-    assert!(rt; !source.failed());
-    Ok(())
+    result == Ok(Status::Refused)
+        && sink.inner.as_slice() == b"bundle 1\n".as_slice()
+        && !source.failed()
 }
 
 #[test]
-fn an_endless_bundle_is_too_long(rt: HostRuntime) -> Result<(), Fail> {
-    expect_too_long(&rt, rt.alloc(), &mut Plain::new(Endless {}))
+fn an_endless_bundle_is_too_long(rt: HostRuntime) {
+    assert!(rt; is_too_long(&rt, rt.alloc(), &mut Plain::new(Endless {})));
 }
 
 #[test]
-fn behind_a_byte_too_many_nothing_is_read(rt: HostRuntime) -> Result<(), Fail> {
-    let alloc = rt.alloc();
+fn behind_a_byte_too_many_nothing_is_read(rt: HostRuntime) {
     let mut source = Plain::new(Filling { left: 4_194_305 });
-    expect_too_long(&rt, alloc, &mut source)?;
-    assert_eq!(rt; source.inner.left, 0);
-    let mut sink = Plain::new(Vec::new(alloc));
+    assert!(rt; is_too_long(&rt, rt.alloc(), &mut source));
+    assert!(rt; source.inner.left == 0);
     let mut source = Plain::new(Filling { left: 4_194_304 });
-    assert_eq!(rt;
-        run(&rt, alloc, &mut source, &mut sink),
-        Err(RunFault::Read)
-    );
-    Ok(())
+    let mut sink = Plain::new(Vec::new(rt.alloc()));
+    let result = run(&rt, rt.alloc(), &mut source, &mut sink);
+    assert!(rt; result == Err(RunFault::Read));
 }
 
-/// What a run does whose source fails at this one of its calls, and may have failed before.
-fn expect_read(
-    rt: &(impl Threads + Wait + Abort + Sync),
-    alloc: Global,
-    bundle: &[u8],
-    kind: io::ErrorKind,
-    fails_at: usize,
-    failed: bool,
-) -> Result<(), Fail> {
-    // The last call finds the end.
-    let calls = bundle.len().div_ceil(100) + 1;
-    let mut source = Plain::new(Faltering {
-        rest: bundle,
+/// How often seven bytes are read of the bundle; the last call finds the end.
+fn reads() -> usize {
+    ONE_NODE.len().div_ceil(7) + 1
+}
+
+/// A reader of the bundle that fails at this one of its calls.
+fn faltering(fails_at: usize, kind: io::ErrorKind) -> Plain<Faltering<'static>> {
+    Plain::new(Faltering {
+        rest: ONE_NODE,
         calls: 0,
         fails_at,
         kind,
-    });
+    })
+}
+
+/// Whether a run whose source fails at this one of its calls, and may have failed before, leaves what it may.
+fn is_read(
+    rt: &(impl Threads + Wait + Sync),
+    alloc: Global,
+    kind: io::ErrorKind,
+    fails_at: usize,
+    failed: bool,
+) -> bool {
+    let mut source = faltering(fails_at, kind);
     source.failed = failed;
     let mut sink = Plain::new(Vec::new(alloc));
     let result = run(rt, alloc, &mut source, &mut sink);
-    if fails_at <= calls {
-        assert_eq!(rt; result, Err(RunFault::Read));
-        assert!(rt; source.failed());
-        assert!(rt; sink.inner.is_empty());
+    if fails_at <= reads() {
+        result == Err(RunFault::Read) && source.failed() && sink.inner.is_empty()
     } else {
-        assert_eq!(rt; result, Ok(Status::Done));
-        assert_eq!(rt; source.failed(), failed);
-        assert_eq!(rt; sink.inner.as_slice(), ONE_PLACED.as_bytes());
+        result == Ok(Status::Done)
+            && source.failed() == failed
+            && sink.inner.as_slice() == ONE_NODE_OUTPUT
     }
-    Ok(())
 }
 
 #[test]
-fn after_a_failed_read_nothing_is_written(rt: HostRuntime) -> Result<(), Fail> {
-    let alloc = rt.alloc();
-    let bytes = over_twenty(alloc, b"%%\nplace 1\n")?;
-    let bundle = bytes.as_slice();
-    let calls = bundle.len().div_ceil(100) + 1;
-    for fails_at in 1..calls + 2 {
+fn after_a_failed_read_nothing_is_written(rt: HostRuntime) {
+    for fails_at in 1..reads() + 2 {
         for kind in [io::ErrorKind::ConnectionReset, io::ErrorKind::Interrupted] {
             for failed in [false, true] {
-                expect_read(&rt, alloc, bundle, kind, fails_at, failed)?;
+                assert!(rt;
+                    is_read(&rt, rt.alloc(), kind, fails_at, failed),
+                    "{fails_at}"
+                );
             }
         }
     }
-    Ok(())
 }
 
 #[test]
-fn a_check_reads_to_the_end_and_no_further(rt: HostRuntime) -> Result<(), Fail> {
-    let alloc = rt.alloc();
-    let bytes = over_twenty(alloc, b"%%\nplace 1\n")?;
-    let calls = bytes.len().div_ceil(100) + 1;
-    for (fails_at, want) in [(calls, Err(RunFault::Read)), (calls + 1, Ok(Status::Done))] {
-        let mut source = Plain::new(Faltering {
-            rest: bytes.as_slice(),
-            calls: 0,
-            fails_at,
-            kind: io::ErrorKind::Interrupted,
-        });
-        let mut sink = Plain::new(Vec::new(alloc));
-        assert_eq!(rt; check(alloc, &mut source, &mut sink), want);
+fn a_check_reads_to_the_end_and_no_further(rt: HostRuntime) {
+    let rows = [
+        (reads(), Err(RunFault::Read)),
+        (reads() + 1, Ok(Status::Done)),
+    ];
+    for (fails_at, want) in rows {
+        let mut source = faltering(fails_at, io::ErrorKind::Interrupted);
+        let mut sink = Plain::new(Vec::new(rt.alloc()));
+        let result = check(rt.alloc(), &mut source, &mut sink);
+        assert!(rt; result == want, "{fails_at}");
     }
-    Ok(())
 }
 
-/// What a run does whose sink fails at this one of its calls, and may have failed before.
-fn expect_written(
-    rt: &(impl Threads + Wait + Abort + Sync),
+/// Whether a run whose sink fails at this one of its calls, and may have failed before, leaves what it may.
+fn is_written(
+    rt: &(impl Threads + Wait + Sync),
     alloc: Global,
-    bundle: &[u8],
-    output: &[u8],
     failure: Failure,
     fails_at: usize,
     failed: bool,
-) -> Result<(), Fail> {
-    // A call for each byte, and the flush.
-    let calls = output.len() + 1;
-    let mut source = Plain::new(bundle);
+) -> bool {
+    let mut source = Plain::new(ONE_NODE);
     let mut sink = Plain::new(Dribble {
         taken: Vec::new(alloc),
         calls: 0,
@@ -142,38 +114,50 @@ fn expect_written(
     });
     sink.failed = failed;
     let result = run(rt, alloc, &mut source, &mut sink);
+    let taken = sink.inner.taken.as_slice();
+    // A call for each byte, and the flush.
+    let calls = ONE_NODE_OUTPUT.len() + 1;
     if fails_at <= calls {
-        assert_eq!(rt; result, Err(RunFault::Write));
-        assert!(rt; sink.failed());
-        assert_eq!(rt;
-            sink.inner.taken.as_slice(),
-            &output[..fails_at.saturating_sub(1)]
-        );
+        result == Err(RunFault::Write)
+            && sink.failed()
+            && taken == &ONE_NODE_OUTPUT[..fails_at.saturating_sub(1)]
     } else {
-        assert_eq!(rt; result, Ok(Status::Done));
-        assert_eq!(rt; sink.failed(), failed);
-        assert_eq!(rt; sink.inner.taken.as_slice(), output);
-        assert_eq!(rt; sink.inner.calls, calls);
+        result == Ok(Status::Done)
+            && sink.failed() == failed
+            && taken == ONE_NODE_OUTPUT
+            && sink.inner.calls == calls
     }
-    Ok(())
 }
 
-#[test]
-fn after_a_failed_write_a_prefix_is_written(rt: HostRuntime) -> Result<(), Fail> {
-    let alloc = rt.alloc();
-    let bytes = bundle(alloc, &[0], 4, b"%%\nplace 1\n")?;
-    let failures = [
-        Failure::Error(io::ErrorKind::BrokenPipe),
-        Failure::Error(io::ErrorKind::Interrupted),
-        Failure::NoByte,
-    ];
-    for failure in failures {
+/// Whether that is so at each call, and behind the last one.
+fn is_written_up_to_a_failure(
+    rt: &(impl Threads + Wait + Sync),
+    alloc: Global,
+    failure: Failure,
+) -> bool {
+    for fails_at in 1..ONE_NODE_OUTPUT.len() + 3 {
         for failed in [false, true] {
-            for fails_at in 1..ONE_NODE.len() + 3 {
-                let bundle = bytes.as_slice();
-                expect_written(&rt, alloc, bundle, ONE_NODE, failure, fails_at, failed)?;
+            if !is_written(rt, alloc, failure, fails_at, failed) {
+                return false;
             }
         }
     }
-    Ok(())
+    true
+}
+
+#[test]
+fn after_a_broken_pipe_a_prefix_is_written(rt: HostRuntime) {
+    let failure = Failure::Error(io::ErrorKind::BrokenPipe);
+    assert!(rt; is_written_up_to_a_failure(&rt, rt.alloc(), failure));
+}
+
+#[test]
+fn after_a_write_that_is_interrupted_a_prefix_is_written(rt: HostRuntime) {
+    let failure = Failure::Error(io::ErrorKind::Interrupted);
+    assert!(rt; is_written_up_to_a_failure(&rt, rt.alloc(), failure));
+}
+
+#[test]
+fn after_a_write_that_takes_no_byte_a_prefix_is_written(rt: HostRuntime) {
+    assert!(rt; is_written_up_to_a_failure(&rt, rt.alloc(), Failure::NoByte));
 }

@@ -1,4 +1,0 @@
-//! Rows of bundles and of script lines.
-
-mod bundles;
-mod scripts;
