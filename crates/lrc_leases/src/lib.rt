@@ -18,4 +18,3 @@ pub use grants::Grants;
 pub use lease::Lease;
 pub use leases::Leases;
 pub use targets_on::TargetsOn;
-

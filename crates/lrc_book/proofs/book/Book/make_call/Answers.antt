@@ -40,8 +40,8 @@ make-requires c =
           (
             subst (λ (k : Store). has_room k ≡ true) kept (and_parts (has_room b.store.value) (is_some b.seats) ready.1).0,
             rw (past, last)
-              (subst (λ (k : Store). (outcome_in k.topology (world_after k.topology h) c.args.session c.args.command).0
-              ≡ (step nodes h w.state c.args.session c.args.command).0) kept answered),
+                (subst (λ (k : Store). (outcome_in k.topology (world_after k.topology h) c.args.session c.args.command).0
+                ≡ (step nodes h w.state c.args.session c.args.command).0) kept answered),
           ),
         ),
       ),
