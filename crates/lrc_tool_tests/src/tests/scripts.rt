@@ -134,10 +134,24 @@ fn first_bad_lines(rt: HostRuntime) {
     }
 }
 
+/// Whether a script has no command.
+fn is_without_commands(alloc: Global, text: &[u8]) -> bool {
+    if text.len() > 4096 {
+        return false;
+    }
+    match parse_script(alloc, text, 102) {
+        Ok(read) => read.is_empty(),
+        Err(_) => false,
+    }
+}
+
 #[test]
 fn lines_without_commands(rt: HostRuntime) {
     for text in ["", "\n\n", "#", "#\r\n"] {
-        assert!(rt; is_good(rt.alloc(), text.as_bytes(), &[]), "at {text:?}");
+        assert!(rt;
+            is_without_commands(rt.alloc(), text.as_bytes()),
+            "at {text:?}"
+        );
     }
 }
 
@@ -220,20 +234,27 @@ fn lines_of_nodes_and_domains_have_one_number(rt: HostRuntime) -> Result<(), Fai
     Ok(())
 }
 
+/// Puts bytes of every value but LF behind the first one.
+fn fill(line: &mut [u8]) {
+    for (i, byte) in line.iter_mut().enumerate() {
+        let value = (i % 256) as u8;
+        if i != 0 && value != b'\n' {
+            *byte = value;
+        }
+    }
+}
+
 #[test]
 fn lines_have_at_most_1024_bytes(rt: HostRuntime) {
     for line in [[b'#'; 1025], [b' '; 1025], [b'x'; 1025]] {
         assert!(rt; is_bad(rt.alloc(), &line, 102, Cause::TooLong));
     }
-    // A comment of 1,024 bytes of every value but LF, with and without its end.
-    let mut comment = [b'#'; 1025];
-    for i in 1..1024 {
-        let byte = (i % 256) as u8;
-        if byte != b'\n' {
-            comment[i] = byte;
-        }
-    }
-    comment[1024] = b'\n';
-    assert!(rt; is_good(rt.alloc(), &comment[..1024], &[]));
-    assert!(rt; is_good(rt.alloc(), &comment, &[]));
+    // A comment, with and without its end.
+    let mut comment = [b'#'; 1024];
+    fill(&mut comment);
+    assert!(rt; is_without_commands(rt.alloc(), &comment));
+    let mut ended = [b'#'; 1025];
+    fill(&mut ended);
+    ended[1024] = b'\n';
+    assert!(rt; is_without_commands(rt.alloc(), &ended));
 }
