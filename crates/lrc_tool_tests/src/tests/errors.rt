@@ -5,23 +5,28 @@ use lrc_tool::RunFault;
 use std::test::Fail;
 
 #[test]
-fn each_error_is_told_in_words(rt: HostRuntime) -> Result<(), Fail> {
+fn errors_of_scripts_are_told_in_words(rt: HostRuntime) -> Result<(), Fail> {
     let bad = ScriptError::Bad {
         line: 104,
         cause: Cause::NotANumber,
     };
-    let told = format!(in rt.alloc();
-        "{}, {}; {bad}, {}; {}, {}, {}, {}",
-        BundleError::TooManyScripts,
-        BundleError::OutOfMemory,
-        ScriptError::OutOfMemory,
-        RunFault::OutOfMemory,
-        RunFault::HistoryFull,
-        RunFault::Read,
-        RunFault::Write
-    )?;
-    let words =
-        "too many scripts, out of memory; line 104 is bad: NotANumber, out of memory; fault 1, fault 2, fault 3, fault 4";
-    assert!(rt; told.as_str() == words, "{told}");
+    let told = format!(in rt.alloc(); "{bad}, {}", ScriptError::OutOfMemory)?;
+    assert!(rt; told.as_str() == "line 104 is bad: NotANumber, out of memory");
+    Ok(())
+}
+
+#[test]
+fn errors_of_bundles_are_told_in_words(rt: HostRuntime) -> Result<(), Fail> {
+    let many = BundleError::TooManyScripts;
+    let told = format!(in rt.alloc(); "{many}, {}", BundleError::OutOfMemory)?;
+    assert!(rt; told.as_str() == "too many scripts, out of memory");
+    Ok(())
+}
+
+#[test]
+fn faults_are_told_by_their_numbers(rt: HostRuntime) -> Result<(), Fail> {
+    let (memory, full) = (RunFault::OutOfMemory, RunFault::HistoryFull);
+    let told = format!(in rt.alloc(); "{memory}, {full}, {}, {}", RunFault::Read, RunFault::Write)?;
+    assert!(rt; told.as_str() == "fault 1, fault 2, fault 3, fault 4");
     Ok(())
 }

@@ -33,10 +33,8 @@ fn behind_a_byte_too_many_nothing_is_read(rt: HostRuntime) {
     assert!(rt; result == Err(RunFault::Read));
 }
 
-/// How often seven bytes are read of the bundle; the last call finds the end.
-fn reads() -> usize {
-    ONE_NODE.len().div_ceil(7) + 1
-}
+/// How often the 63 bytes of the bundle are read, seven a call; the last call finds the end.
+const READS: usize = 10;
 
 /// A reader of the bundle that fails at this one of its calls.
 fn faltering(fails_at: usize, kind: io::ErrorKind) -> Plain<Faltering<'static>> {
@@ -60,7 +58,7 @@ fn is_read(
     source.failed = failed;
     let mut sink = Plain::new(Vec::new(alloc));
     let result = run(rt, alloc, &mut source, &mut sink);
-    if fails_at <= reads() {
+    if fails_at <= READS {
         result == Err(RunFault::Read) && source.failed() && sink.inner.is_empty()
     } else {
         result == Ok(Status::Done)
@@ -71,7 +69,7 @@ fn is_read(
 
 #[test]
 fn after_a_failed_read_nothing_is_written(rt: HostRuntime) {
-    for fails_at in 1..reads() + 2 {
+    for fails_at in 1..READS + 2 {
         for kind in [io::ErrorKind::ConnectionReset, io::ErrorKind::Interrupted] {
             for failed in [false, true] {
                 assert!(rt;
@@ -83,18 +81,16 @@ fn after_a_failed_read_nothing_is_written(rt: HostRuntime) {
     }
 }
 
+/// How a check ends whose source fails at this one of its calls.
+fn checked(alloc: Global, fails_at: usize) -> Result<Status, RunFault> {
+    let mut source = faltering(fails_at, io::ErrorKind::Interrupted);
+    check(alloc, &mut source, &mut Plain::new(Vec::new(alloc)))
+}
+
 #[test]
 fn a_check_reads_to_the_end_and_no_further(rt: HostRuntime) {
-    let rows = [
-        (reads(), Err(RunFault::Read)),
-        (reads() + 1, Ok(Status::Done)),
-    ];
-    for (fails_at, want) in rows {
-        let mut source = faltering(fails_at, io::ErrorKind::Interrupted);
-        let mut sink = Plain::new(Vec::new(rt.alloc()));
-        let result = check(rt.alloc(), &mut source, &mut sink);
-        assert!(rt; result == want, "{fails_at}");
-    }
+    assert!(rt; checked(rt.alloc(), READS) == Err(RunFault::Read));
+    assert!(rt; checked(rt.alloc(), READS + 1) == Ok(Status::Done));
 }
 
 /// Whether a run whose sink fails at this one of its calls, and may have failed before, leaves what it may.
