@@ -13,7 +13,7 @@ use crate::session::Session;
 use lrc_board::{Keeper, OpenError, Receipt, Viewer};
 use lrc_book::Command;
 use lrc_code::{Fault, SessionNo};
-use std::alloc::Global;
+use std::alloc::{AllocError, Global};
 use std::marker::Model;
 use std::sync::ledger::Share;
 use std::sync::{Mutex, MutexGuard, Wait};
@@ -57,14 +57,13 @@ impl<N: Naming> Manager<N> {
         ensures ok { IfOk result (λ r. (r.0.count ≡ parts.count) × (r.1.items ≡ fresh parts.count)) }
         ensures err { IfErr result (λ e. e ≢ error.BadCount) }
     {
+        let (made, sessions) = room_for(alloc, parts.count)?;
         let Parts {
             book,
             log,
             tally,
             count,
         } = parts;
-        let made = Vec::with_capacity(alloc, count as usize)?;
-        let sessions = Vec::with_capacity(alloc, count as usize)?;
         let (keeper, viewers) = Keeper::open(alloc, rt, book, log, count)?;
         let (tally, mut rest) = tally.open::<N>();
         let sessions = split(&mut rest, viewers, count, sessions);
@@ -120,6 +119,19 @@ impl<N: Naming> Manager<N> {
         MutexGuard::unlock(desk);
         one.front();
     }
+}
+
+/// Room for so many sessions, and for the counts of their calls at the end.
+fn room_for<N: Naming>(
+    alloc: Global,
+    count: u8,
+) -> Result<(Vec<(SessionNo, u64)>, Vec<Session<N>>), AllocError>
+    ensures made { IfOk result (λ r. (r.0.items ≡ []) × (count ≤ vec_capacity r.0)) }
+    ensures sessions { IfOk result (λ r. (r.1.items ≡ []) × (count ≤ vec_capacity r.1)) }
+{
+    let made = Vec::with_capacity(alloc, count as usize)?;
+    let sessions = Vec::with_capacity(alloc, count as usize)?;
+    Ok((made, sessions))
 }
 
 /// A session for each number from 1 to the count, each with one part of the share and a viewer of its own.
