@@ -73,6 +73,26 @@ fn expect_changes(rt: &impl Abort, book: &mut Book, commands: &[Command]) {
     }
 }
 
+/// These nodes fail, in this order.
+fn fail_all(rt: &impl Abort, book: &mut Book, numbers: &[u16]) {
+    for number in numbers {
+        expect_changes(rt, book, &[Command::Fail(node(*number))]);
+    }
+}
+
+/// Nodes 0 to 3 go down.
+fn take_down_four(rt: &impl Abort, book: &mut Book) {
+    for number in 0..4 {
+        expect_changes(rt, book, &[Command::Down(node(number))]);
+    }
+}
+
+/// The first stripe is placed.
+fn place_first(rt: &impl Abort, book: &mut Book) {
+    let placed = Reply::Placed(first_seats());
+    expect_replies(rt, book, &[(Command::Place(ONE), placed)]);
+}
+
 fn homes(book: &Book, stripe: StripeNo) -> Option<[Option<Seat>; 16]> {
     book.homes(stripe)
 }
@@ -203,11 +223,7 @@ fn a_node_that_comes_back_is_empty(rt: HostRuntime) -> Result<(), Fail> {
 }
 
 fn come_back_empty(rt: &impl Abort, book: &mut Book) {
-    expect_replies(
-        rt,
-        book,
-        &[(Command::Place(ONE), Reply::Placed(first_seats()))],
-    );
+    place_first(rt, book);
     let rows = [
         Command::Fail(node(3)),
         Command::Join(node(3)),
@@ -230,16 +246,10 @@ fn four_nodes_of_a_stripe_are_too_many(rt: HostRuntime) -> Result<(), Fail> {
 }
 
 fn lose_four_nodes(rt: &impl Abort, book: &mut Book) {
-    expect_replies(
-        rt,
-        book,
-        &[(Command::Place(ONE), Reply::Placed(first_seats()))],
-    );
-    let downs = [0, 1, 2, 3].map(|number| Command::Down(node(number)));
-    expect_changes(rt, book, &downs);
+    place_first(rt, book);
+    take_down_four(rt, book);
     expect_stripe(rt, book, ONE, Level::Unavailable, 0x000f);
-    let fails = [0, 1, 2, 4].map(|number| Command::Fail(node(number)));
-    expect_changes(rt, book, &fails);
+    fail_all(rt, book, &[0, 1, 2, 4]);
     expect_changes(rt, book, &[Command::Up(node(3))]);
     expect_stripe(rt, book, ONE, Level::Lost, 0x0017);
 }

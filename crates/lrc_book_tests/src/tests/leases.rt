@@ -1,8 +1,8 @@
 //! Leases on the book of twenty nodes.
 
 use super::{
-    FIRST, ONE, ask, book, close, expect_changes, expect_load, expect_replies, expect_replies_to,
-    expect_stripe, first_seats, node,
+    FIRST, ONE, ask, book, close, expect_load, expect_replies, expect_replies_to, expect_stripe,
+    fail_all, first_seats, node, place_first, take_down_four,
 };
 use lrc_book::{Book, Command, Kind, Lease, Level, Refusal, Reply, Seat};
 use lrc_code::{Fragment, SessionNo, StripeNo};
@@ -211,8 +211,7 @@ fn ask_without_need(rt: &impl Abort, book: &mut Book) {
         (Command::Place(ONE), Reply::Placed(first_seats())),
     ];
     expect_replies(rt, book, &unplaced);
-    let downs = [0, 1, 2, 3].map(|number| Command::Down(node(number)));
-    expect_changes(rt, book, &downs);
+    take_down_four(rt, book);
     let needless = Reply::Refused(Refusal::NotNeeded);
     expect_replies(rt, book, &[(Command::Lease(ONE, ZERO), needless)]);
     expect_stripe(rt, book, ONE, Level::Unavailable, 0x000f);
@@ -227,10 +226,8 @@ fn only_what_can_be_rebuilt_is_leased(rt: HostRuntime) -> Result<(), Fail> {
 }
 
 fn ask_beyond_repair(rt: &impl Abort, book: &mut Book) {
-    let placed = Reply::Placed(first_seats());
-    expect_replies(rt, book, &[(Command::Place(ONE), placed)]);
-    let fails = [0, 1, 2, 4, 6].map(|number| Command::Fail(node(number)));
-    expect_changes(rt, book, &fails);
+    place_first(rt, book);
+    fail_all(rt, book, &[0, 1, 2, 4, 6]);
     let lease = Lease {
         stripe: ONE,
         fragment: SIX,

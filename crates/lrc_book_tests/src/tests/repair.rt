@@ -2,7 +2,7 @@
 
 use super::{
     FIRST, ONE, TWO, ask, book, close, expect_changes, expect_node, expect_replies, expect_stripe,
-    first_seats, node,
+    fail_all, first_seats, node,
 };
 use lrc_book::{Book, Command, Kind, Lease, Level, Mode, Refusal, Reply, Seat};
 use lrc_code::{Fragment, StripeNo, UpgradeNo};
@@ -47,8 +47,7 @@ fn granted((stripe, fragment): (StripeNo, Fragment), target: u16, slot: u16, kin
 fn lose_homes_of_both(rt: &impl Abort, book: &mut Book) {
     assert!(rt; ask(book, FIRST, Command::Place(ONE)).is_some());
     assert!(rt; ask(book, FIRST, Command::Place(TWO)).is_some());
-    let fails = [17, 18, 19, 11].map(|number| Command::Fail(node(number)));
-    expect_changes(rt, book, &fails);
+    fail_all(rt, book, &[17, 18, 19, 11]);
 }
 
 #[test]
@@ -98,7 +97,11 @@ fn a_stripe_that_finds_no_node_holds_up_no_other(rt: HostRuntime) -> Result<(), 
 
 fn pass_by_the_first(rt: &impl Abort, book: &mut Book) {
     lose_homes_of_both(rt, book);
-    let drains = [13, 14, 16].map(|number| Command::Drain(node(number)));
+    let drains = [
+        Command::Drain(node(13)),
+        Command::Drain(node(14)),
+        Command::Drain(node(16)),
+    ];
     expect_changes(rt, book, &drains);
     let rows = [
         (Command::Next, granted((ONE, ELEVEN), 15, 1, OF_ELEVEN)),
@@ -163,8 +166,7 @@ fn upgrade(rt: &impl Abort, book: &mut Book) {
 
 /// With three nodes of the stripe lost, its domain is not upgraded again.
 fn upgrade_with_losses(rt: &impl Abort, book: &mut Book) {
-    let fails = [1, 2, 3].map(|number| Command::Fail(node(number)));
-    expect_changes(rt, book, &fails);
+    fail_all(rt, book, &[1, 2, 3]);
     let lost = Reply::Refused(Refusal::WouldLose(ONE));
     expect_replies(rt, book, &[(Command::Upgrade(domain(0)), lost)]);
     expect_stripe(rt, book, ONE, Level::AtRisk(0), 0x000e);
