@@ -90,11 +90,15 @@ fn two_scripts_run_on_two_threads(rt: HostRuntime) -> Result<(), Fail> {
 fn scripts(alloc: Global, rows: &[&[Command]]) -> Result<Vec<Vec<Command>>, Fail> {
     let mut scripts = Vec::new(alloc);
     for row in rows {
-        let mut script = Vec::new(alloc);
-        script.extend_from_slice(row)?;
-        scripts.push(script)?;
+        scripts.push(script(alloc, row)?)?;
     }
     Ok(scripts)
+}
+
+fn script(alloc: Global, row: &[Command]) -> Result<Vec<Command>, Fail> {
+    let mut script = Vec::new(alloc);
+    script.extend_from_slice(row)?;
+    Ok(script)
 }
 
 fn expect_meeting(rt: &impl Abort, gate: &Meeting, closing: &Closing, tracks: &[Track]) {

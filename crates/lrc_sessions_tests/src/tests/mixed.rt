@@ -165,16 +165,25 @@ fn mode(book: &Book, node: NodeNo) -> Option<(Mode, bool)> {
 fn expect_tracks(rt: &impl Abort, closing: &Closing, scripts: &[Vec<Command>], tracks: &[Track]) {
     let made = closing.made.as_slice();
     let history = closing.book.history();
-    assert_eq!(rt; tracks.len(), scripts.len());
-    assert_eq!(rt; made.len(), scripts.len());
-    assert_eq!(rt; history.len(), scripts.len() * CALLS);
+    assert!(rt; tracks.len() == scripts.len() && made.len() == scripts.len());
+    assert!(rt; history.len() == scripts.len() * CALLS);
     for i in 0..scripts.len() {
-        assert_eq!(rt;
-            (made[i].0.get() as usize, made[i].1),
-            (i + 1, CALLS as u64)
-        );
-        expect_in_order(rt, history, made[i].0, scripts[i].as_slice(), &tracks[i]);
+        assert!(rt; made[i].0.get() as usize == i + 1);
+        expect_script(rt, history, made[i], scripts[i].as_slice(), &tracks[i]);
     }
+}
+
+/// A session has made all calls of its script.
+fn expect_script(
+    rt: &impl Abort,
+    history: &[Record],
+    made: (SessionNo, u64),
+    script: &[Command],
+    track: &Track,
+) {
+    assert_eq!(rt; made.1, CALLS as u64);
+    expect_track(rt, track, None, script.len());
+    expect_in_order(rt, history, made.0, script, track.receipts.as_slice());
 }
 
 /// The entries of a session are the calls of its script in order, and its receipts are their places and replies.
@@ -183,10 +192,8 @@ fn expect_in_order(
     history: &[Record],
     session: SessionNo,
     script: &[Command],
-    track: &Track,
+    receipts: &[Receipt],
 ) {
-    expect_track(rt, track, None, script.len());
-    let receipts = track.receipts.as_slice();
     let mut made = 0;
     for (i, record) in history.iter().enumerate() {
         let entry = record.entry();
