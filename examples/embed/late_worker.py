@@ -6,7 +6,7 @@ import ctypes
 import sys
 
 sys.dont_write_bytecode = True
-from lrc_embed import Book, Command, CommandKind, Fault
+from lrc_embed import Book, Command, CommandKind, Entry, Fault
 
 
 def main(library):
@@ -20,18 +20,28 @@ def main(library):
         Command(CommandKind.REPORT, epoch=1, **of_fragment), Command(CommandKind.REPORT, epoch=2, **of_fragment),
         Command(CommandKind.REPORT, epoch=2, **of_fragment), Command(CommandKind.REVOKE, **of_fragment),
     ]
+    log = []
     with Book(library, nodes) as book:
         print("script 1")
         for command in script:
             reply = book.call(1, command)
+            # A store writes the bytes of the entry to its own log before it acts on the reply.
+            log.append(bytes(book.entry(book.count() - 1)))
             print(book.count(), reply)
-        log = [book.entry(index) for index in range(book.count())]
-    with Book(library, nodes, log) as book:
+
+    # The program starts again; a long log is read and replayed in pieces.
+    with Book(library, nodes) as book:
+        for piece in (log[:5], log[5:]):
+            book.replay(b"".join(piece))
         print("replayed", book.count())
         assert book.risk() == []
-    log[4].reply.lease.epoch = 1
+
+    # A log that was changed is found out.
+    changed = Entry.from_buffer_copy(log[4])
+    changed.reply.lease.epoch = 1
+    log[4] = bytes(changed)
     try:
-        Book(library, nodes, log)
+        Book(library, nodes, b"".join(log))
     except Fault as fault:
         print(fault.status.name.lower(), "at", fault.position)
 

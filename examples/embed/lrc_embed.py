@@ -1,7 +1,9 @@
 """The book of liblrc_embed.so for Python: the structs and constants of lrc_embed.h, and a class that owns the handle."""
 import ctypes
+import weakref
 from ctypes import c_bool, c_size_t, c_uint8, c_uint16, c_uint32, c_void_p
 from enum import IntEnum
+from operator import index as whole
 
 VERSION, STRIPES, FRAGMENTS, SESSIONS, HISTORY_LIMIT = 1, 4096, 16, 8, 1_000_000
 
@@ -43,11 +45,36 @@ DETAILED = {Refusal.NO_LAWFUL_NODE, Refusal.UPGRADE_RUNNING, Refusal.WOULD_LOSE,
             Refusal.NOT_HOLDER, Refusal.TARGET_OFFLINE, Refusal.NOT_EMPTY}
 
 
+# The least and the greatest number of each name that is passed.
+RANGES = {"session": (1, SESSIONS), "kind": (1, len(CommandKind)), "stripe": (0, STRIPES - 1),
+          "fragment": (0, FRAGMENTS - 1), "node": (0, 2**16 - 1), "domain": (0, 2**8 - 1), "epoch": (0, 2**32 - 1),
+          "index": (0, 2**64 - 1)}
+
+
+def within(name, number):
+    """The number, if it is in its range. ctypes would cut it down to the size of its field without a word, and what is
+    left is the number of something else."""
+    number, (least, most) = whole(number), RANGES[name]
+    if not least <= number <= most:
+        raise ValueError(f"{name} {number} is not from {least} to {most}")
+    return number
+
+
+class Checked(ctypes.Structure):
+    """A struct whose numbers are in their ranges, those that it is made of and those that are put into it later. It takes
+    no name that is none of its fields: what was meant would stay 0, which is a node and a stripe like any other."""
+
+    def __setattr__(self, name, value):
+        if not hasattr(type(self), name):
+            raise AttributeError(f"{type(self).__name__} has no field {name}")
+        super().__setattr__(name, within(name, value) if name in RANGES else value)
+
+
 class Handle(ctypes.Structure):
     _fields_ = [("is_open", c_bool), ("at", c_void_p)]
 
 
-class Command(ctypes.Structure):
+class Command(Checked):
     _fields_ = [("kind", c_uint8), ("fragment", c_uint8), ("domain", c_uint8), ("reserved", c_uint8 * 5),
                 ("epoch", c_uint32), ("stripe", c_uint16), ("node", c_uint16)]
 
@@ -86,7 +113,7 @@ class Reply(ctypes.Structure):
         return " ".join(map(str, words))
 
 
-class Entry(ctypes.Structure):
+class Entry(Checked):
     _fields_ = [("session", c_uint8), ("reserved", c_uint8 * 3), ("command", Command), ("reply", Reply)]
 
 
@@ -119,16 +146,19 @@ class Fault(Exception):
 
 
 class Book:
-    """A book over the nodes of a text, after the calls of a log. One thread at a time may use it, in a `with`."""
+    """A book over the nodes of a text, after the calls of a log: a sequence of entries, or their bytes. One thread at a time
+    may use it. It is closed at the end of a `with`, by `close`, or where the program has let go of it."""
 
     def __init__(self, library, nodes, log=()):
         self.library, self.handle = library, Handle()
         if library.lrc_embed_version() != VERSION:
             raise RuntimeError("another version of liblrc_embed")
-        text, detail, position = nodes.encode(), c_size_t(), c_size_t()
+        # A closed handle stays closed, so this may come again. At the end of the program its memory goes anyway.
+        self.finalizer = weakref.finalize(self, library.lrc_embed_close, ctypes.byref(self.handle))
+        self.finalizer.atexit = False
+        text, detail = nodes.encode(), c_size_t()
         self.done("open", text, c_size_t(len(text)), ctypes.byref(detail), where=detail)
-        entries = (Entry * max(1, len(log)))(*log)
-        self.done("replay", entries, c_size_t(len(log)), ctypes.byref(position), where=position)
+        self.replay(log)
 
     def done(self, name, *given, where=None):
         """Makes a call, which has to be done."""
@@ -146,26 +176,39 @@ class Book:
             return None
         return answer
 
+    def replay(self, log):
+        """Makes the calls of entries that were kept anew, after those that the book has: of a sequence of entries, or of the
+        bytes of whole ones, which is faster. A long log is replayed in pieces. A fault has the position in this piece, and the
+        book is closed then."""
+        data = b"".join(log) if isinstance(log, (list, tuple)) else log
+        count, rest = divmod(memoryview(data).nbytes, ctypes.sizeof(Entry))
+        if rest:
+            raise ValueError(f"the log has {rest} bytes behind its last whole entry of {ctypes.sizeof(Entry)}")
+        position = c_size_t()
+        entries = (Entry * count).from_buffer_copy(data)
+        self.done("replay", entries, c_size_t(count), ctypes.byref(position), where=position)
+
     def call(self, session, command):
-        return self.told("call", Reply(), c_uint8(session), ctypes.byref(command))
+        return self.told("call", Reply(), c_uint8(within("session", session)), ctypes.byref(command))
 
     def homes(self, stripe):
-        return self.told("homes", Homes(), c_uint16(stripe))
+        return self.told("homes", Homes(), c_uint16(within("stripe", stripe)))
 
     def level(self, stripe):
-        return self.told("level", Level(), c_uint16(stripe))
+        return self.told("level", Level(), c_uint16(within("stripe", stripe)))
 
     def missing(self, stripe):
-        return self.told("missing", c_uint16(), c_uint16(stripe))
+        return self.told("missing", c_uint16(), c_uint16(within("stripe", stripe)))
 
     def lease(self, stripe, fragment):
-        return self.told("lease", Lease(), c_uint16(stripe), c_uint8(fragment))
+        numbers = c_uint16(within("stripe", stripe)), c_uint8(within("fragment", fragment))
+        return self.told("lease", Lease(), *numbers)
 
     def load(self, node):
-        return self.told("load", c_uint32(), c_uint16(node))
+        return self.told("load", c_uint32(), c_uint16(within("node", node)))
 
     def mode(self, node):
-        return self.told("mode", Mode(), c_uint16(node))
+        return self.told("mode", Mode(), c_uint16(within("node", node)))
 
     def risk(self):
         rows, count = (Risk * STRIPES)(), c_size_t()
@@ -176,10 +219,10 @@ class Book:
         return self.told("count", c_size_t()).value
 
     def entry(self, index):
-        return self.told("entry", Entry(), c_size_t(index))
+        return self.told("entry", Entry(), c_size_t(within("index", index)))
 
     def close(self):
-        self.done("close")
+        self.finalizer()
 
     def __enter__(self):
         return self

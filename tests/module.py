@@ -1,0 +1,151 @@
+"""What the Python module of examples/embed does beside the calls: it refuses numbers that a field would cut down, closes a
+book that is let go of, and replays a log in pieces, from entries and from bytes."""
+import ctypes
+import gc
+
+from library import command_of
+from lrc_embed import Book, Command, CommandKind, Entry, Fault, ModeKind, Status
+
+TWENTY = "".join(f"[[node]]\nnumber = {i}\nfault = {i}\nupgrade = {i % 10}\nslots = 4\n" for i in range(20))
+SCRIPT = ("place 1", "place 2", "fail 3", "next", "lease 2 7", "done 1 3 1", "next", "upgrade 0", "upgraded 0")
+SIZE = ctypes.sizeof(Entry)
+# As the header has them; an index is a size_t.
+RANGES = {"session": (1, 8), "kind": (1, 16), "stripe": (0, 4095), "fragment": (0, 15), "node": (0, 65535),
+          "domain": (0, 255), "epoch": (0, 4294967295), "index": (0, 18446744073709551615)}
+
+
+def ways_of(book):
+    """Each way by which a number comes in."""
+    command, entry = Command(CommandKind.NEXT), Entry(session=1)
+
+    def made_of(kind, name):
+        yield lambda number: Command(kind, **{name: number})
+        yield lambda number: setattr(command, name, number)
+
+    return {
+        "session": [lambda n: book.call(n, Command(CommandKind.NEXT)), lambda n: Entry(session=n),
+                    lambda n: setattr(entry, "session", n)],
+        "kind": [Command, lambda n: setattr(command, "kind", n)],
+        "stripe": [*made_of(CommandKind.PLACE, "stripe"), book.homes, book.level, book.missing, lambda n: book.lease(n, 0)],
+        "fragment": [*made_of(CommandKind.LEASE, "fragment"), lambda n: book.lease(0, n)],
+        "node": [*made_of(CommandKind.FAIL, "node"), book.load, book.mode],
+        "domain": [*made_of(CommandKind.UPGRADE, "domain")],
+        "epoch": [*made_of(CommandKind.REPORT, "epoch")],
+        "index": [book.entry],
+    }
+
+
+def answer(way, number):
+    """What a way says of a number: the text of a ValueError, or None."""
+    try:
+        way(number)
+    except ValueError as error:
+        return str(error)
+    except TypeError:
+        return "no number"
+    except AttributeError:
+        return "no field"
+    return None
+
+
+def test_numbers(count, library):
+    with Book(library, TWENTY) as book:
+        for name, ways in ways_of(book).items():
+            least, most = RANGES[name]
+            for at, way in enumerate(ways):
+                for number in (least, most):
+                    told = answer(way, number)
+                    count.check(f"the module: {name} {number} ({at}): {told}", told is None)
+                for number in (least - 1, most + 1, least + 2**16, least + 2**32, least + 2**64, -2**64):
+                    told = answer(way, number)
+                    right = f"{name} {number} is not from {least} to {most}" if not least <= number <= most else None
+                    count.check(f"the module: {name} {number} ({at}): {told}", told == right)
+                count.check(f"the module: a float as {name} ({at})", answer(way, 1.0) == "no number")
+        for name in ("nodes", "session", "target"):
+            told = answer(lambda number: Command(CommandKind.FAIL, **{name: number}), 3)
+            count.check(f"the module: {name} in a command: {told}", told == "no field")
+        modes = [book.mode(node).mode for node in range(20)]
+        count.check("the module: a number out of its range is nobody's", modes == [ModeKind.ACTIVE] * 20)
+        kept = [book.entry(index).session for index in range(book.count())]
+        count.check(f"the module: the sessions that called: {kept}", kept == [1, 8])
+
+
+def opened(library, **how):
+    """The handle of a book that was let go of."""
+    return Book(library, TWENTY, **how).handle
+
+
+def test_dropped(count, library):
+    handle = opened(library)
+    gc.collect()
+    count.check("the module: a book that is let go of is closed", not handle.is_open)
+    with Book(library, TWENTY) as book:
+        count.check("the module: a book is open in its `with`", book.handle.is_open)
+    count.check("the module: a book is closed behind its `with`", not book.handle.is_open)
+    book.close()
+    for name, call in (("a look", book.count), ("a replay", lambda: book.replay(b""))):
+        status = status_of(call)[0]
+        count.check(f"the module: {name} at a closed book: {status}", status == Status.IS_CLOSED)
+    book = Book(library, TWENTY)
+    book.close()
+    count.check("the module: `close` closes", not book.handle.is_open)
+
+
+def status_of(call):
+    """The status and the position of a fault."""
+    try:
+        call()
+    except Fault as fault:
+        return fault.status, fault.position
+    return Status.DONE, None
+
+
+def log_of(library):
+    """The bytes of the entries of a script, as a store keeps them."""
+    kept = []
+    with Book(library, TWENTY) as book:
+        for session, line in enumerate(SCRIPT[:8], 1):
+            reply = book.call(session, command_of(line))
+            kept.append(bytes(book.entry(book.count() - 1)))
+            if kept[-1] != bytes(Entry(session=session, command=command_of(line), reply=reply)):
+                return None
+        book.call(1, Command(CommandKind.UPGRADED, domain=0, node=7, stripe=9, fragment=5, epoch=3))
+        kept.append(bytes(book.entry(book.count() - 1)))
+    own = Entry.from_buffer_copy(kept[-1])
+    return b"".join(kept) if bytes(own.command) == bytes(Command(CommandKind.UPGRADED)) else None
+
+
+def replayed(library, *pieces):
+    """The bytes of the entries of a book after the pieces of a log."""
+    with Book(library, TWENTY) as book:
+        for piece in pieces:
+            book.replay(piece)
+        return b"".join(bytes(book.entry(index)) for index in range(book.count()))
+
+
+def test_pieces(count, library):
+    log = log_of(library)
+    if not count.check("the module: the entry has the command, and 0 in what its kind does not use", log is not None):
+        return
+    entries = [Entry.from_buffer_copy(log, at) for at in range(0, len(log), SIZE)]
+    view = memoryview(log)
+    for cut in range(0, len(log) + 1, SIZE):
+        count.check(f"the module: a replay of bytes in two pieces, cut at {cut}", replayed(library, view[:cut], view[cut:]) == log)
+    count.check("the module: a replay entry by entry", replayed(library, *([entry] for entry in entries)) == log)
+    count.check("the module: a replay of bytes and of entries", replayed(library, bytearray(log[:SIZE]), tuple(entries[1:])) == log)
+    count.check("the module: a replay of an array", replayed(library, (Entry * len(entries))(*entries)) == log)
+    for how in (log, entries):
+        with Book(library, TWENTY, how) as book:
+            count.check("the module: a log that the book is made with", book.count() == len(entries))
+    with Book(library, TWENTY, log[:SIZE]) as book:
+        count.check("the module: bytes of no whole entry", answer(book.replay, log[SIZE:-1]) is not None and book.count() == 1)
+    entries[5].reply.kind ^= 1
+    book = Book(library, TWENTY, log[:2 * SIZE])
+    told = status_of(lambda: book.replay(entries[2:]))
+    count.check(f"the module: a changed entry in a piece: {told}", told == (Status.DIFFERENT, 3) and not book.handle.is_open)
+
+
+def test(count, library):
+    test_numbers(count, library)
+    test_dropped(count, library)
+    test_pieces(count, library)
