@@ -112,6 +112,9 @@ static void texts(void) {
     size_t detail = 99;
     WANT(open_text("node = [", &detail) == LRC_SYNTAX && detail == 0);
     WANT(open_text("", &detail) == LRC_NO_NODES && detail == 0);
+    uint32_t status;
+    STATUS(status, lrc_embed_open(&handle, 0, 0, &detail)); // as any text without bytes
+    WANT(status == LRC_NO_NODES && detail == 0);
     WANT(open_text("node = [{ number = 7, fault = 0, upgrade = 0, slots = 1 }, {}]", &detail) == LRC_BAD_FIELD);
     WANT(detail == 1);
     WANT(open_text("node = [{ number = 7, fault = 256, upgrade = 0, slots = 1 }]", &detail) == LRC_NODE_OUT_OF_RANGE);
@@ -258,6 +261,8 @@ static void looks(void) {
     WANT(status == LRC_SHORT && count == 99 && rows[0].stripe == 77);
     STATUS(status, lrc_embed_risk(&handle, rows, 0, &count));
     WANT(status == LRC_SHORT && count == 99 && rows[0].stripe == 77);
+    STATUS(status, lrc_embed_risk(&handle, 0, 0, &count));
+    WANT(status == LRC_SHORT && count == 99);
     STATUS(status, lrc_embed_risk(&handle, rows, 3, &count));
     WANT(status == LRC_DONE && count == 2 && rows[2].stripe == 77);
     for (size_t i = 0; i < count; i++) {
@@ -276,7 +281,7 @@ static void looks(void) {
     WANT(lrc_embed_homes(&handle, 7, &homes) == LRC_UNKNOWN);
     WANT(lrc_embed_missing(&handle, 7, &missing) == LRC_UNKNOWN);
     WANT(MAKE(1, .kind = LRC_UPGRADED, .domain = 1).kind == LRC_CHANGED);
-    STATUS(status, lrc_embed_risk(&handle, rows, 0, &count));
+    STATUS(status, lrc_embed_risk(&handle, 0, 0, &count));
     WANT(status == LRC_DONE && count == 0);
 }
 
@@ -305,7 +310,15 @@ static void replays(void) {
     size_t count = count_of(), position;
     WANT(count <= 100 && lrc_embed_entry(&handle, count, &entries[0]) == LRC_UNKNOWN && entries[0].session == 0);
     for (size_t i = 0; i < count; i++) WANT(lrc_embed_entry(&handle, i, &entries[i]) == LRC_DONE);
+    position = 99;
+    WANT(lrc_embed_replay(&handle, 0, 0, &position) == LRC_DONE && position == 99 && count_of() == count);
+    // The first call was made with numbers that `next` does not use: the book has 0 there, and looks at none of them.
+    const lrc_command next = {.kind = LRC_NEXT};
+    WANT(memcmp(&entries[0].command, &next, sizeof next) == 0);
+    lrc_entry first = entries[0];
+    entries[0].command.stripe = 65535, entries[0].command.reserved[4] = 1, entries[0].reserved[2] = 1;
     WANT(replay(entries, count, &position) == LRC_DONE && position == 99 && count_of() == count);
+    entries[0] = first;
     for (size_t i = 0; i < count; i++) {
         lrc_entry entry;
         WANT(lrc_embed_entry(&handle, i, &entry) == LRC_DONE && memcmp(&entry, &entries[i], sizeof entry) == 0);

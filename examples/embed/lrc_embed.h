@@ -12,12 +12,12 @@
 //   would own one book; it may be moved, as a whole.
 // - One call at a time on one handle, looks too. A lock, or a thread's start or join, orders calls of several threads. Two
 //   handles have nothing in common.
-// - No pointer is null, also where a length is 0. Each is aligned, and points to initialized memory of the whole struct,
-//   that of answers too. What a call writes overlaps nothing else that it is given. What it reads does not change while
-//   it runs.
+// - No pointer is null, but that of a text, of entries or of rows may be where the length behind it is 0; this is tested,
+//   and not proved. Each other is aligned, and points to initialized memory of the whole struct, that of answers too. What
+//   a call writes overlaps nothing else that it is given. What it reads does not change while it runs.
 // - malloc, realloc and free are of one allocator, and align a block to every power of two up to 16 that divides its size.
 // - No call from a signal handler, or from the forked child of a process with threads.
-//   How much stack a call takes is not measured.
+// - Stack for the call. How much is not promised; docs/EMBEDDING.md says how much was seen to be taken.
 // Any numbers at all may be passed: those out of range, short buffers and closed handles have a status of their own.
 #ifndef LRC_EMBED_H
 #define LRC_EMBED_H
@@ -76,7 +76,7 @@ typedef struct {
 #define LRC_CLOSED ((lrc_handle){0})
 #endif
 
-// Behind each kind: which fields of lrc_command it uses. The others may be anything.
+// Behind each kind: which fields of lrc_command it uses. The others may be anything, and are 0 in the entry of the history.
 enum lrc_command_kind {
     LRC_PLACE = 1,     // stripe: give each fragment of a new stripe a home
     LRC_DROP = 2,      // stripe: take a stripe out, with its homes and leases
@@ -172,7 +172,9 @@ typedef struct {
     lrc_seat seats[LRC_FRAGMENTS];
 } lrc_reply;
 
-// A command of a session, and its reply: what a store's log keeps of each call.
+// A command of a session, and its reply: what a store's log keeps of each call. As lrc_embed_entry tells it, it has 0 in
+// all that is reserved and in all that the kinds of the command and of the reply do not use, so that two books with the same
+// calls have the same bytes.
 typedef struct {
     uint8_t session; // 1 to 8
     uint8_t reserved[3];
@@ -226,13 +228,15 @@ uint32_t lrc_embed_version(void);
 uint32_t lrc_embed_open(lrc_handle *handle, const uint8_t *text, size_t length, size_t *detail);
 
 // Makes one command. DONE, also where the reply is that it was refused; IS_CLOSED, OUT_OF_RANGE, FULL or OUT_OF_MEMORY,
-// and then the history is as it was. After DONE the history has one entry more: this session, command and reply.
+// and then the history is as it was. After DONE the history has one entry more: this session, command and reply. To keep
+// it, take it from lrc_embed_entry, at the count less 1: the command that was passed may differ from it in bytes.
 uint32_t lrc_embed_call(lrc_handle *handle, uint8_t session, const lrc_command *command, lrc_reply *reply);
 
 // Makes the commands of `count` entries that were kept, after the history that the book has, and compares each reply. After
 // DONE the history has these entries more. With any other status the handle is closed and the book is freed, and, but for
 // IS_CLOSED, `position` is that of the entry where it ended, from 0: DIFFERENT, its reply is not what the book answers;
-// OUT_OF_RANGE, it is no entry; FULL or OUT_OF_MEMORY. A long log may be replayed in pieces.
+// OUT_OF_RANGE, it is no entry; FULL or OUT_OF_MEMORY. A long log may be replayed in pieces. All bytes of a reply are
+// compared; what a command does not use, and what is reserved outside the reply, is not looked at.
 uint32_t lrc_embed_replay(lrc_handle *handle, const lrc_entry *entries, size_t count, size_t *position);
 
 // The looks. They change nothing.
