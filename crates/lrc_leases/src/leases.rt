@@ -64,16 +64,16 @@ impl Leases {
         })
     }
 
-    /// Makes room for so many more leases. Nothing else changes, and on `Err` nothing at all.
+    /// Makes room for so many more leases. Nothing else changes. This takes no memory today: `new` took all of it.
     ///
     /// # Errors
     ///
-    /// Only `Fault::OutOfMemory`, and not where there is room already.
+    /// None today. A table that grows would answer `Fault::OutOfMemory`.
     pub fn reserve(&mut self, count: u32) -> Result<(), Fault>
         ensures room { OnOk result (count ≤ (leased_in self.new).spare) }
         ensures no_less { (leased_in self.old).spare ≤ (leased_in self.new).spare }
         ensures rest { leased_in self.new ≡ with_spare (leased_in self.old) (leased_in self.new).spare }
-        ensures enough { count ≤ (leased_in self.old).spare → IsOk result }
+        ensures always { IsOk result }
         ensures unchanged { OnErr result (leased_in self.new ≡ leased_in self.old) }
         ensures err { IfErr result (λ e. e ≡ OutOfMemory) }
     {

@@ -10,7 +10,7 @@ use crate::homes::Homes;
 use crate::losses::Losses;
 use crate::sites::Sites;
 use crate::{Seat, masks};
-use lrc_code::{LossMask, StripeNo};
+use lrc_code::{FRAGMENTS, LossMask, StripeNo};
 
 /// The homes of a stripe's fragments, and what follows from them.
 #[derive(Drop)]
@@ -33,7 +33,7 @@ impl Row {
     }
 
     /// The fragments have homes on these seats, and these losses.
-    pub(crate) fn seated(seats: &[Seat; 16], losses: Losses) -> Row
+    pub(crate) fn seated(seats: &[Seat; FRAGMENTS], losses: Losses) -> Row
         ensures homes { result.homes ≡ map Some seats.now }
         ensures losses { result.losses ≡ losses }
     {

@@ -25,7 +25,7 @@ use crate::site::Site;
 use crate::stripe_set::StripeSet;
 use crate::{HomeDomains, Seat, domains, masks};
 use lrc_bits::BitSet;
-use lrc_code::{Fault, Fragment, LossMask, NodeNo, StripeNo, UpgradeNo};
+use lrc_code::{FRAGMENTS, Fault, Fragment, LossMask, NodeNo, StripeNo, UpgradeNo};
 use lrc_topology::{NodeIndex, NodeInfo, Topology};
 use std::alloc::Global;
 use std::marker::Model;
@@ -157,7 +157,7 @@ impl Sites {
     pub(crate) fn enter(
         &mut self,
         stripe: StripeNo,
-        seats: &[Seat; 16],
+        seats: &[Seat; FRAGMENTS],
         domains: &mut HomeDomains,
     ) -> Losses
         requires { All (λ seat. IsTrue (has_node (sited self.old).nodes seat.node)) seats.now }
@@ -174,7 +174,7 @@ impl Sites {
 
     /// What is missing of a stripe with homes on these seats, and what needs a lease: nothing where no node is offline and
     /// none draining.
-    fn losses_of(&self, seats: &[Seat; 16]) -> Losses
+    fn losses_of(&self, seats: &[Seat; FRAGMENTS]) -> Losses
         requires { All (λ seat. IsTrue (has_node (sited self.now).nodes seat.node)) seats.now }
         ensures { AreLosses (sited self.now).online (sited self.now).draining (map Some seats.now) result }
     {
@@ -193,7 +193,7 @@ impl Sites {
 
     /// The same, fragment by fragment.
     #[inline(never)] // where all nodes are online and none is draining it is not called
-    fn losses_on(&self, seats: &[Seat; 16]) -> Losses
+    fn losses_on(&self, seats: &[Seat; FRAGMENTS]) -> Losses
         ensures { AreLosses (sited self.now).online (sited self.now).draining (map Some seats.now) result }
     {
         let mut losses = Losses::none();

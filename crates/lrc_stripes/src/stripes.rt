@@ -10,12 +10,11 @@ ghost use Rattle.lrc_stripes.specs.Tables.{stored_in};
 
 mod answers;
 
-use crate::queue::STRIPES;
 use crate::row::Row;
 use crate::rows::Rows;
 use crate::sites::Sites;
 use crate::{HomeDomains, Seat};
-use lrc_code::{Fault, Fragment, NodeNo, StripeNo, UpgradeNo};
+use lrc_code::{FRAGMENTS, Fault, Fragment, NodeNo, STRIPES, StripeNo, UpgradeNo};
 use lrc_topology::{NodeInfo, Topology};
 use std::alloc::Global;
 use std::marker::Model;
@@ -63,16 +62,16 @@ impl Stripes {
         })
     }
 
-    /// Makes room for so many more stripes and their homes. Nothing else changes, and on `Err` nothing at all.
+    /// Makes room for so many more stripes and their homes. Nothing else changes. This takes no memory today: `new` took all of it.
     ///
     /// # Errors
     ///
-    /// Only `Fault::OutOfMemory`, and not where there is room already.
+    /// None today. A table that grows would answer `Fault::OutOfMemory`.
     pub fn reserve(&mut self, count: u32) -> Result<(), Fault>
         ensures room { OnOk result (count ≤ (stored_in self.new).spare) }
         ensures no_less { (stored_in self.old).spare ≤ (stored_in self.new).spare }
         ensures rest { stored_in self.new ≡ with_spare (stored_in self.old) (stored_in self.new).spare }
-        ensures enough { count ≤ (stored_in self.old).spare → IsOk result }
+        ensures always { IsOk result }
         ensures unchanged { OnErr result (stored_in self.new ≡ stored_in self.old) }
         ensures err { IfErr result (λ e. e ≡ OutOfMemory) }
     {
@@ -91,7 +90,7 @@ impl Stripes {
     }
 
     /// Adds a stripe of the code `Wide` whose fragments have these homes, in room that there is for it.
-    pub fn add_with_homes(&mut self, stripe: StripeNo, seats: &[Seat; 16])
+    pub fn add_with_homes(&mut self, stripe: StripeNo, seats: &[Seat; FRAGMENTS])
         requires absent { IsFalse ((stored_in self.old).stripes stripe) }
         requires room { 1 ≤ (stored_in self.old).spare }
         requires slots { All (λ seat. IsTrue (has_slot (stored_in self.old).nodes seat)) seats.now }

@@ -10,7 +10,7 @@ ghost use Rattle.lrc_stripes.specs.Upgrades.{is_lost_to, is_short_lost_to, IsFir
 
 use crate::stripes::Stripes;
 use crate::{AtRisk, HomeDomains, HomesOn, Level, Seat, Work, upgrades};
-use lrc_code::{Fragment, LossMask, NodeNo, StripeNo, UpgradeNo};
+use lrc_code::{FRAGMENTS, Fragment, LossMask, NodeNo, StripeNo, UpgradeNo};
 
 #[tactic(auto, unfolding(crate::specs::Tables::stored_in))]
 impl Stripes {
@@ -38,7 +38,7 @@ impl Stripes {
     }
 
     /// The homes of a stripe's fragments, in rising order of these; `None` where the stripe is not there.
-    pub fn homes(&self, stripe: StripeNo) -> Option<[Option<Seat>; 16]>
+    pub fn homes(&self, stripe: StripeNo) -> Option<[Option<Seat>; FRAGMENTS]>
         ensures { result ≡ homes_shown (stored_in self.now) stripe }
     {
         let row = self.rows.get(stripe)?;

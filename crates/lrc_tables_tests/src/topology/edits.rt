@@ -91,6 +91,7 @@ fn nodes_are_counted_after_all_checks(rt: &(impl AllocGlobal + Abort)) {
         [old, "number = 9\nfault = 0\nupgrade = 0\nslots = 1"],
         Err(TopologyError::DoubleNode(NodeNo { value: 9 })),
     );
+    expect_edited(rt, &crowd, [old, "number = "], Err(TopologyError::Syntax));
 }
 
 fn a_topology_may_be_cut_anywhere(rt: &(impl AllocGlobal + Abort)) {
