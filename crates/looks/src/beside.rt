@@ -32,6 +32,7 @@ pub(crate) fn run_beside<N: Naming + Send + Sync, R: Threads + Wait + Clock + Cp
     plan: Plan,
 ) -> Result<Ran, Stop>
     requires topology { parts.topology ≡ N.topology }
+    requires limit { parts.limit ≡ N.limit }
     requires count { parts.count ≡ N.count }
     requires name { parts.name ≡ N.name }
     requires shares { parts.shares ≡ N.parts }

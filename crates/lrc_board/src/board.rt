@@ -8,11 +8,14 @@ use crate::line::Front;
 use crate::touched::Touched;
 use left_right::Absorb;
 use lrc_book::Book;
-use lrc_code::{NodeNo, StripeNo};
+use lrc_code::{NodeNo, STRIPES, StripeNo};
 use lrc_stripes::Level;
 use lrc_topology::Topology;
 use std::alloc::{AllocError, Global};
 use std::marker::Model;
+
+/// The bound of a stripe's number.
+const STRIPE_BOUND: u16 = STRIPES as u16;
 
 /// What lookers see of a book: the level of each stripe number, the load of each node, and the entries that led there.
 #[derive(Drop)]
@@ -43,7 +46,7 @@ impl Board {
         }) }
     {
         Ok(Board {
-            levels: no_levels(alloc, 4096)?,
+            levels: no_levels(alloc, STRIPES)?,
             loads: no_loads(alloc, topology)?,
             count: 0,
             front,
@@ -149,7 +152,7 @@ fn refresh_all_levels(levels: &mut [Option<Level>], book: &Book)
     requires { length levels.old ≡ 4096 }
     ensures { levels.new ≡ levels_of book.now.nodes (state_of book.now) }
 {
-    for number in 0..4096 {
+    for number in 0..STRIPE_BOUND {
         let stripe = StripeNo::new(number).unwrap();
         levels[usize::from(number)] = book.level(stripe);
     }

@@ -1,7 +1,6 @@
 ghost use Rattle.std.specs.Prelude.{◌≡◌, ◌↔◌, [], ◌∷◌, ◌++◌, length, IfOk, IfErr, OnErr, IsErrOf};
 ghost use mathlib.Core.List.{IsPrefix};
 ghost use Rattle.lrc_code.specs.declared.fault.Fault.TheVariants as fault;
-ghost use Rattle.lrc_book.specs.declared.book.TheConstants.{HISTORY_LIMIT};
 ghost use Rattle.lrc_book.specs.Books.{FaultFits, world_of};
 ghost use Rattle.lrc_book.specs.Histories.{IsLegal, outcome_in};
 
@@ -11,7 +10,7 @@ use crate::receipt::Receipt;
 use crate::screen::Screen;
 use crate::touched::Touched;
 use crate::viewer::Viewer;
-use lrc_book::{Book, Command, Entry};
+use lrc_book::{Book, Command};
 use lrc_code::{Fault, SessionNo};
 use std::marker::Model;
 use std::sync::Wait;
@@ -25,7 +24,6 @@ pub struct Keeper<N: ViewNaming> {
 
 impl<N: ViewNaming> Model for Keeper<N> {
     ghost use Rattle.std.specs.Prelude.{◌≡◌};
-    ghost use Rattle.lrc_book.specs.declared.book.TheConstants.{HISTORY_LIMIT};
     ghost use Rattle.lrc_book.specs.Books.{BookView};
 
     ghost Value = { BookView };
@@ -33,13 +31,13 @@ impl<N: ViewNaming> Model for Keeper<N> {
     ghost view = { λ k. k.book };
 
     // the log is the history, entry for entry, and so is what is published
-    ghost invariant = { λ k. (k.book.nodes ≡ N.topology) × (k.book.limit ≡ HISTORY_LIMIT) × (k.log ≡ k.book.history) × (k.screen ≡ k.book.history) };
+    ghost invariant = { λ k. (k.book.nodes ≡ N.topology) × (k.book.limit ≡ N.limit) × (k.log ≡ k.book.history) × (k.screen ≡ k.book.history) };
 }
 
 impl<N: ViewNaming> Keeper<N> {
     /// A keeper of a book without entries.
     pub(crate) fn new(book: Book, log: Log<N>, screen: Screen<N>) -> Keeper<N>
-        requires book { (book.history ≡ []) × (book.nodes ≡ N.topology) × (book.limit ≡ HISTORY_LIMIT) }
+        requires book { (book.history ≡ []) × (book.nodes ≡ N.topology) × (book.limit ≡ N.limit) }
         requires log { log ≡ [] }
         requires screen { screen ≡ [] }
         ensures { result ≡ book }
@@ -50,7 +48,7 @@ impl<N: ViewNaming> Keeper<N> {
     /// The book as it is now.
     pub fn book(&self) -> &Book
         ensures value { result.now ≡ self.now }
-        ensures named { (self.now.nodes ≡ N.topology) × (self.now.limit ≡ HISTORY_LIMIT) }
+        ensures named { (self.now.nodes ≡ N.topology) × (self.now.limit ≡ N.limit) }
     {
         &self.book
     }
@@ -60,7 +58,7 @@ impl<N: ViewNaming> Keeper<N> {
     ///
     /// # Errors
     ///
-    /// `Fault::HistoryFull` where the history has 1,000,000 entries; else only `Fault::OutOfMemory`.
+    /// `Fault::HistoryFull` where the history has as many entries as its limit; else only `Fault::OutOfMemory`.
     pub fn apply<R: Wait>(
         &mut self,
         rt: &R,
@@ -75,12 +73,10 @@ impl<N: ViewNaming> Keeper<N> {
         ensures fault { IfErr result (FaultFits self.old) }
         ensures err { OnErr result (self.new.history ≡ self.old.history) }
     {
-        let reply = self.book.call(session, command)?;
-        self.log.add(Entry {
-            session,
-            command,
-            reply,
-        });
+        let plan = self.book.decide(session, command)?;
+        self.book.prepare()?;
+        self.log.add(plan.entry);
+        let reply = self.book.commit(plan);
         let place = self.book.history().len() as u64;
         let touched = Touched::by(command, &reply);
         self.screen

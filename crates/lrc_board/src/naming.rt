@@ -4,7 +4,7 @@ ghost use Rattle.lrc_topology.specs.declared.NodeInfo.{NodeInfo};
 
 use std::marker::Brand;
 
-/// What tells one published view from every other: its log, and the nodes of its book. What is of one naming is never of
+/// What tells one published view from every other: its log, and the nodes and the limit of its book. What is of one naming is never of
 /// another.
 pub trait ViewNaming {
     // the log
@@ -15,6 +15,9 @@ pub trait ViewNaming {
 
     // the nodes of the store
     ghost topology: { List NodeInfo };
+
+    // the most entries of a history
+    ghost limit: { ℕ };
 }
 
 impl ViewNaming for Brand {
@@ -23,4 +26,6 @@ impl ViewNaming for Brand {
     ghost start = { 0 };
 
     ghost topology = { [] };
+
+    ghost limit = { 0 };
 }

@@ -1,6 +1,5 @@
 ghost use Rattle.std.specs.Prelude.{◌≡◌, ◌≢◌, ◌≤◌, [], replicate, IfOk, IfErr};
 ghost use Rattle.lrc_topology.specs.Nodes.{AreNodes};
-ghost use Rattle.lrc_book.specs.declared.book.TheConstants.{HISTORY_LIMIT};
 ghost use Rattle.lrc_board.specs.declared.open_error.OpenError.TheVariants as error;
 ghost use Rattle.lrc_board.specs.Views.{empty_board};
 
@@ -78,7 +77,7 @@ fn writer_of<N: ViewNaming, R: Wait>(
 
 /// The keeper of a book without entries.
 fn keeper_of<N: ViewNaming>(book: Book, log: NewLog, writer: BoardWriter<N>) -> Keeper<N>
-    requires book { (book.history ≡ []) × (book.nodes ≡ N.topology) × (book.limit ≡ HISTORY_LIMIT) }
+    requires book { (book.history ≡ []) × (book.nodes ≡ N.topology) × (book.limit ≡ N.limit) }
     requires log { (log.front.book ≡ N.log) × (log.pen.nib.key ≡ N.start) }
     requires shown { writer.desk.shown.value ≡ empty_board N.topology N.log }
     requires spare { writer.desk.spare.value ≡ empty_board N.topology N.log }
@@ -100,7 +99,7 @@ impl<N: ViewNaming> Keeper<N> {
         log: NewLog,
         readers: u8,
     ) -> Result<(Keeper<N>, Vec<Viewer<N>>), OpenError>
-        requires book { (book.history ≡ []) × (book.nodes ≡ N.topology) × (book.limit ≡ HISTORY_LIMIT) }
+        requires book { (book.history ≡ []) × (book.nodes ≡ N.topology) × (book.limit ≡ N.limit) }
         requires log { (log.front.book ≡ N.log) × (log.pen.nib.key ≡ N.start) }
         requires readers { (1 ≤ readers) × (readers ≤ 8) }
         ensures book { IfOk result (λ r. (r.0.nodes ≡ book.nodes) × (r.0.limit ≡ book.limit) × (r.0.history ≡ [])) }

@@ -1,9 +1,8 @@
 -- The seats of a stripe's fragments, gathered fragment by fragment: the home of each, and its lease's target.
-use Rattle.std.proofs.Common.{◌≡◌, ℕ, ◌+◌, ◌<◌, true, if◌then◌else◌, IsTrue, IsSome, eqb, List, [], ◌∷◌, ◌++◌, map, length, take, get_or, Option, Some, None, option_map, refl, sym, ap, ap₂, ◌∙◌, subst, inl, inr, append_assoc, append-nil}
+use Rattle.std.proofs.Common.{◌≡◌, ℕ, ◌+◌, ◌<◌, eqb, List, [], ◌∷◌, ◌++◌, map, length, take, get_or, Option, Some, None, option_map, refl, sym, ap, ap₂, ◌∙◌, subst, inl, inr, append_assoc, append-nil}
 use Rattle.std.specs.List.{Contains}
 use Rattle.std.proofs.lemmas.Bool.{eqb-true, and_parts}
-use Rattle.std.proofs.lemmas.List.{take_more, get_or-map}
-use Rattle.std.proofs.lemmas.Option.{same_Some}
+use Rattle.std.proofs.lemmas.List.{take_more}
 use Rattle.std.proofs.lemmas.List.Elements.{Contains-append_left, Contains-append_right, Contains-append_cases}
 use Rattle.lrc_code.specs.declared.codes.Code.TheVariants.{Wide}
 use Rattle.lrc_code.specs.declared.numbers.StripeNo.{StripeNo}
@@ -14,21 +13,18 @@ use Rattle.lrc_topology.specs.declared.NodeInfo.{NodeInfo}
 use Rattle.lrc_topology.specs.declared.seat.Seat.{Seat}
 use Rattle.lrc_topology.specs.declared.seat.Held.{Held}
 use Rattle.lrc_slots.specs.Barred.{Barred}
-use Rattle.lrc_stripes.specs.Levels.{home_of, homes_of, homes_if}
-use Rattle.lrc_stripes.specs.Stored.{Stored, homes_shown}
+use Rattle.lrc_stripes.specs.Levels.{home_of, homes_of}
 use Rattle.lrc_leases.specs.declared.lease.Lease.{Lease}
 use Rattle.lrc_leases.proofs.ListLemmas.{leases_in-own, leases_in-contains, contains-leases_in}
-use Rattle.lrc_book.specs.States.{State, has_stripe, held_by, lease_of}
+use Rattle.lrc_book.specs.States.{State, held_by, lease_of}
 use Rattle.lrc_book.specs.Goodness.{AreSeated}
 use Rattle.lrc_book.specs.Ties.{bars_in}
-use Rattle.lrc_book.specs.declared.store.Store.{Store}
-use Rattle.lrc_book.specs.Stores.{IsOf, with_seat}
-use Rattle.lrc_stripes.specs.Tables.{stored_in}
+use Rattle.lrc_book.specs.Stores.{with_seat}
 use Rattle.lrc_book.proofs.MemberLemmas.{Contains-here, Contains-cases, not-Contains-nil, map-member}
 use Rattle.lrc_book.proofs.TakenLemmas.{member-map}
 use Rattle.lrc_book.proofs.StoredLemmas.{found-home}
 use Rattle.lrc_book.proofs.ClearLemmas.{home-only}
-use Rattle.lrc_book.proofs.FragmentLemmas.{fragment-at, number-at, all-fragments}
+use Rattle.lrc_book.proofs.FragmentLemmas.{fragment-at, all-fragments}
 use Rattle.lrc_book.proofs.BarLemmas.{bars_in-push, bars_in-same}
 
 -- a fragment's seat, if it has one

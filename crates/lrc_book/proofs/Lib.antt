@@ -1,7 +1,6 @@
 pub mod ListLemmas
 pub mod StepLemmas
 pub mod LastLemmas
-pub mod MateLemmas
 pub mod NeighbourLemmas
 pub mod LawLemmas
 pub mod WorldLemmas
@@ -83,3 +82,6 @@ pub mod NumberedLemmas
 pub mod ClosedLemmas
 pub mod AnswerLemmas
 pub mod AheadLemmas
+pub mod StateLemmas
+pub mod LookLemmas
+pub mod OtherUpgradeLemmas

@@ -1,5 +1,5 @@
 -- What a board shows of a state: the level of each stripe number, and the load of each node.
-use Rattle.std.specs.Prelude.{ℕ, if◌then◌else◌, List, map, find, get_or, slice_set, Option, None, option_map}
+use Rattle.std.specs.Prelude.{ℕ, List, map, find, get_or, slice_set, Option, None, option_map}
 use Rattle.std.specs.List.{range_with_len}
 use Rattle.lrc_code.specs.declared.numbers.StripeNo.{StripeNo}
 use Rattle.lrc_code.specs.declared.numbers.NodeNo.{NodeNo}
@@ -47,10 +47,6 @@ put_level levels change = slice_set levels change.0.value change.1
 abbrev pub Loads : Type 0
 Loads = List (NodeNo × ℕ)
 
--- a node whose load changes, with its new load
-abbrev pub LoadChange : Type 0
-LoadChange = NodeNo × ℕ
-
 -- the loads of nodes, in the order of the file
 abbrev pub loads_by : List NodeInfo → (NodeNo → ℕ) → Loads
 loads_by nodes load = map (λ m. (m.number, load m.number)) nodes
@@ -66,11 +62,3 @@ loads_after nodes history = loads_of nodes (state_after nodes history)
 -- the load of a node; none where the store has no such node
 abbrev pub load_in : Loads → NodeNo → Option ℕ
 load_in loads n = option_map (λ row. row.1) (find (λ row. same_node n row.0) loads)
-
--- the row of a node with its load, where it is this one that changes
-abbrev pub put_row : LoadChange → NodeNo × ℕ → NodeNo × ℕ
-put_row change row = if same_node change.0 row.0 then (row.0, change.1) else row
-
--- the loads with one that changes
-abbrev pub put_load : Loads → LoadChange → Loads
-put_load loads change = map (put_row change) loads

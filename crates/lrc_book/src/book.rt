@@ -17,7 +17,7 @@ use std::alloc::Global;
 use std::marker::Model;
 
 /// The most entries of a history.
-pub const HISTORY_LIMIT: usize = 1_000_000;
+pub const HISTORY_LIMIT: u32 = 1_000_000;
 
 /// The stripes of a store, the seats of their fragments, the live leases and the modes of the nodes, with all that was asked and
 /// answered.
@@ -59,7 +59,20 @@ impl Book {
     ///
     /// Only `Fault::OutOfMemory`.
     pub fn new(alloc: Global, topology: Topology) -> Result<Book, Fault>
-        ensures value { IfOk result (λ b. (b.nodes ≡ topology) × (b.limit ≡ HISTORY_LIMIT) × (b.history ≡ [])) }
+        ensures value { IfOk result (λ b. (b.nodes ≡ topology) × (b.limit ≡ 1000000) × (b.history ≡ [])) }
+        ensures err { IfErr result (λ e. e ≡ fault.OutOfMemory) }
+    {
+        Book::with_limit(alloc, topology, HISTORY_LIMIT)
+    }
+
+    /// A book over the nodes of a store, with an empty history of at most so many entries, which are 1,000,000 at most.
+    ///
+    /// # Errors
+    ///
+    /// Only `Fault::OutOfMemory`.
+    pub fn with_limit(alloc: Global, topology: Topology, limit: u32) -> Result<Book, Fault>
+        requires limit { limit ≤ 1000000 }
+        ensures value { IfOk result (λ b. (b.nodes ≡ topology) × (b.limit ≡ limit) × (b.history ≡ [])) }
         ensures err { IfErr result (λ e. e ≡ fault.OutOfMemory) }
     {
         let store = Store::new(alloc, topology)?;
@@ -69,7 +82,7 @@ impl Book {
             front: None,
             history: Vec::new(alloc),
             seats: None,
-            limit: HISTORY_LIMIT,
+            limit: limit as usize,
         })
     }
 
@@ -86,6 +99,7 @@ impl Book {
         ensures value { result.now ≡ self.now.history }
         ensures legal { IsLegal self.now.nodes self.now.history }
         ensures few { length self.now.history ≤ self.now.limit }
+        ensures limit { self.now.limit ≤ 1000000 }
         ensures nodes { AreNodes self.now.nodes }
         ensures good { IsGood self.now.nodes self.now.history (state_of self.now) }
     {
@@ -201,7 +215,7 @@ impl Book {
         if self.history.len() == self.limit {
             return Err(Fault::HistoryFull);
         }
-        self.make_room()?;
+        self.prepare()?;
         self.make_call(session, command);
         Ok(())
     }

@@ -26,7 +26,7 @@ use crate::Seat;
 use crate::class_bars::ClassBars;
 use crate::neighbours::Neighbours;
 use crate::store::Store;
-use lrc_code::{Class, Fragment, LossMask, StripeNo};
+use lrc_code::{Fragment, LossMask, StripeNo};
 use lrc_slots::{OpenRow, Taken};
 
 impl Store {
@@ -186,9 +186,5 @@ impl Store {
 fn mates_of(fragment: Fragment) -> LossMask
     ensures { (g : Fragment) → bits_set result.bits g.value ≡ share_class Wide fragment g }
 {
-    match fragment.class() {
-        Class::A => LossMask::from_bits(0b0001_0000_0011_1111),
-        Class::B => LossMask::from_bits(0b0010_1111_1100_0000),
-        Class::G => LossMask::from_bits(0b1100_0000_0000_0000),
-    }
+    LossMask::of_class(fragment.class())
 }

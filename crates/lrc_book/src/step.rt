@@ -51,23 +51,12 @@ impl Book {
         })
     }
 
-    /// Makes room for a plan, as for one command of any kind, and changes nothing else.
+    /// Makes room for one command of any kind, and changes nothing else.
     ///
     /// # Errors
     ///
     /// Only `Fault::OutOfMemory`, and not where there is room already.
-    pub fn prepare(&mut self, _plan: &Plan) -> Result<(), Fault>
-        ensures same { (self.new.nodes ≡ self.old.nodes) × (self.new.limit ≡ self.old.limit) × (self.new.history ≡ self.old.history) }
-        ensures ok { OnOk result (self.new.ready ≡ true) }
-        ensures kept { self.old.ready ≡ true → self.new.ready ≡ true }
-        ensures enough { self.old.ready ≡ true → IsOk result }
-        ensures err { IfErr result (λ e. e ≡ fault.OutOfMemory) }
-    {
-        self.make_room()
-    }
-
-    /// Makes room for one command of any kind, and changes nothing else.
-    pub(crate) fn make_room(&mut self) -> Result<(), Fault>
+    pub fn prepare(&mut self) -> Result<(), Fault>
         ensures same { (self.new.nodes ≡ self.old.nodes) × (self.new.limit ≡ self.old.limit) × (self.new.history ≡ self.old.history) }
         ensures ok { OnOk result (self.new.ready ≡ true) }
         ensures kept { self.old.ready ≡ true → self.new.ready ≡ true }

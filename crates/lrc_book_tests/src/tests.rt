@@ -1,10 +1,12 @@
 //! A book over twenty nodes: what it answers, and what it shows after.
 
 mod leases;
+mod limits;
 mod repair;
+mod steps;
 
 use lrc_book::{Book, Command, Entry, HISTORY_LIMIT, Level, Mode, Refusal, Reply, Seat};
-use lrc_code::{LossMask, NodeNo, SessionNo, StripeNo};
+use lrc_code::{Fault, LossMask, NodeNo, SessionNo, StripeNo};
 use lrc_samples::twenty_nodes;
 use std::alloc::Global;
 use std::process::Abort;
@@ -44,9 +46,13 @@ fn first_seats() -> [Seat; 16] {
     })
 }
 
+fn call(book: &mut Book, session: SessionNo, command: Command) -> Result<Reply, Fault> {
+    book.call(session, command)
+}
+
 /// The reply to a call, for which there is room.
 fn ask(book: &mut Book, session: SessionNo, command: Command) -> Option<Reply> {
-    book.call(session, command).ok()
+    call(book, session, command).ok()
 }
 
 /// A session asks for these commands in order; each gets the reply beside it.
@@ -116,6 +122,16 @@ fn mode(book: &Book, node: NodeNo) -> Option<(Mode, bool)> {
 fn expect_stripe(rt: &impl Abort, book: &Book, stripe: StripeNo, wanted: Level, lost: u16) {
     assert!(rt; level(book, stripe) == Some(wanted));
     assert!(rt; missing(book, stripe) == Some(LossMask::from_bits(lost)));
+}
+
+/// These stripes are not whole, and no other, in the order of repair.
+fn expect_risk(rt: &impl Abort, alloc: Global, book: &Book, wanted: &[(StripeNo, Level)]) {
+    match book.risk(alloc) {
+        Ok(rows) => {
+            assert!(rt; rows.as_slice() == wanted);
+        }
+        Err(_) => panic!(rt; "room for the stripes at risk"),
+    }
 }
 
 /// How many seats are on a node.

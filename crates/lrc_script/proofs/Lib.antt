@@ -1,7 +1,6 @@
 pub mod CutLemmas
 pub mod ScriptLemmas
 pub mod LineLemmas
-pub mod SizeLemmas
 pub mod CauseLemmas
 pub mod FrontLemmas
 pub mod FirstLemmas
@@ -10,3 +9,4 @@ pub mod TextLemmas
 pub mod PartLemmas
 pub mod BundleLemmas
 pub mod JoinLemmas
+pub mod SizeLemmas

@@ -3,6 +3,7 @@
 ghost use Rattle.std.specs.Prelude.{◌≡◌, ◌+◌, ◌<◌, ◌≤◌, ◌^◌, ◌∷◌, ◌++◌, length, decimal, IfSome};
 ghost use Rattle.lrc_script.specs.Scripts.{command_line, IsInRange};
 
+use crate::script::{FRAGMENT_BOUND, STRIPE_BOUND};
 use lrc_book::Command;
 use lrc_code::{Fragment, NodeNo, StripeNo, UpgradeNo};
 use lrc_front::{number_behind, number_in_front};
@@ -142,7 +143,7 @@ fn stripe_behind<'a>(text: &'a [u8], word: &[u8]) -> Option<(StripeNo, &'a [u8])
     requires { length word.now + 4 < length text.now }
     ensures { IfSome result (λ r. text.now ≡ word.now ++ (decimal r.0.value ++ 10 ∷ r.1.now)) }
 {
-    match number_behind(text, word, 4, 4096, b'\n') {
+    match number_behind(text, word, 4, STRIPE_BOUND, b'\n') {
         Some((number, rest)) => Some((StripeNo::new(number as u16).unwrap(), rest)),
         None => None,
     }
@@ -178,8 +179,8 @@ fn pair_behind<'a>(text: &'a [u8], word: &[u8]) -> Option<(StripeNo, Fragment, &
     requires { length word.now + 7 < length text.now }
     ensures { IfSome result (λ r. text.now ≡ word.now ++ (decimal r.0.value ++ 32 ∷ (decimal r.1.value ++ 10 ∷ r.2.now))) }
 {
-    match number_behind(text, word, 4, 4096, b' ') {
-        Some((stripe, rest)) => match number_in_front(rest, 2, 16, b'\n') {
+    match number_behind(text, word, 4, STRIPE_BOUND, b' ') {
+        Some((stripe, rest)) => match number_in_front(rest, 2, FRAGMENT_BOUND, b'\n') {
             Some((fragment, rest)) => Some((
                 StripeNo::new(stripe as u16).unwrap(),
                 Fragment::new(fragment as u8).unwrap(),
@@ -197,8 +198,8 @@ fn report_behind<'a>(text: &'a [u8], word: &[u8]) -> Option<(StripeNo, Fragment,
     requires { length word.now + 18 < length text.now }
     ensures { IfSome result (λ r. (r.2 < 4294967296) × (text.now ≡ word.now ++ (decimal r.0.value ++ 32 ∷ (decimal r.1.value ++ 32 ∷ (decimal r.2 ++ 10 ∷ r.3.now))))) }
 {
-    match number_behind(text, word, 4, 4096, b' ') {
-        Some((stripe, rest)) => match number_in_front(rest, 2, 16, b' ') {
+    match number_behind(text, word, 4, STRIPE_BOUND, b' ') {
+        Some((stripe, rest)) => match number_in_front(rest, 2, FRAGMENT_BOUND, b' ') {
             Some((fragment, rest)) => match number_in_front(rest, 10, 4294967296, b'\n') {
                 Some((epoch, rest)) => Some((
                     StripeNo::new(stripe as u16).unwrap(),

@@ -1,10 +1,11 @@
 //! Laws of the definitions, each the contract of a function that does nothing.
 
-ghost use Rattle.std.specs.Prelude.{◌≡◌, ℕ, ◌+◌, ◌≤◌, ◌↔◌, ◌⊎◌, ◌++◌, true, Some, None, List, All, length, codes};
+ghost use Rattle.std.specs.Prelude.{◌≡◌, ℕ, ◌+◌, ◌*◌, ◌≤◌, ◌↔◌, ◌⊎◌, ◌++◌, true, Some, None, List, All, length, sum_by, codes};
+ghost use Rattle.std.specs.List.{AllZip};
 ghost use Rattle.lrc_book.specs.declared.command.Command.{Command};
 ghost use Rattle.lrc_script.specs.declared.script.Cause.{Cause};
 ghost use Rattle.lrc_script.specs.Bundles.{topology_of, scripts_of, HoldsLines, IsJoined, StandsIn, put_together, EndsEmpty};
-ghost use Rattle.lrc_script.specs.Scripts.{lines_of, is_passed_over, command_line, IsInRange, cause_of, first_bad, IsFirstBadAt};
+ghost use Rattle.lrc_script.specs.Scripts.{lines_of, is_passed_over, command_line, IsInRange, IsScript, cause_of, first_bad, IsFirstBadAt};
 
 /// A line is good exactly where it is passed over and has at most 1,024 bytes, or is the line of a command that is in range.
 pub fn good_lines()
@@ -39,4 +40,12 @@ pub fn bundle_bytes()
     ensures { (bundle : List ℕ)
         → (put_together (topology_of bundle) (scripts_of bundle) ≡ bundle)
         ⊎ ((put_together (topology_of bundle) (scripts_of bundle) ≡ bundle ++ codes "\n") × EndsEmpty (scripts_of bundle)) }
+{}
+
+/// The line of a command has at least five bytes with its end, so the commands of all scripts of a bundle together are at most a
+/// fifth as many as its bytes, with one more for an end that its last line may lack.
+pub fn few_commands()
+    ensures { (bundle : List ℕ) (lists : List (List Command))
+        → AllZip (λ script commands. IsScript script.lines commands) (scripts_of bundle) lists
+        → 5 * sum_by (λ commands. length commands) lists ≤ length bundle + 1 }
 {}

@@ -8,10 +8,16 @@ ghost use Rattle.lrc_script.specs.declared.script.Cause.TheVariants as causes;
 use crate::cut::{cut_line, cut_word, is_word};
 use crate::front::command_in_front;
 use lrc_book::Command;
-use lrc_code::{Fragment, NodeNo, StripeNo, UpgradeNo};
+use lrc_code::{FRAGMENTS, Fragment, NodeNo, STRIPES, StripeNo, UpgradeNo};
 use lrc_front::behind;
 use std::alloc::{AllocError, AllocFailed, Global};
 use thiserror::Error;
+
+/// The bound of a stripe's number.
+pub(crate) const STRIPE_BOUND: u64 = STRIPES as u64;
+
+/// The bound of a fragment's number.
+pub(crate) const FRAGMENT_BOUND: u64 = FRAGMENTS as u64;
 
 /// The most bytes of a line, without its end.
 const LINE_LIMIT: usize = 1024;
@@ -308,7 +314,7 @@ fn parse_stripe(word: &[u8]) -> Result<StripeNo, Cause>
     ensures number { IfOk result (λ stripe. word.now ≡ decimal stripe.value) }
     ensures cause { result_err result ≡ argument_cause word.now 4096 }
 {
-    let number = argument(word, 4096)?;
+    let number = argument(word, STRIPE_BOUND)?;
     Ok(StripeNo::new(number as u16).unwrap())
 }
 
@@ -332,7 +338,7 @@ fn parse_fragment(word: &[u8]) -> Result<Fragment, Cause>
     ensures number { IfOk result (λ fragment. word.now ≡ decimal fragment.value) }
     ensures cause { result_err result ≡ argument_cause word.now 16 }
 {
-    let number = argument(word, 16)?;
+    let number = argument(word, FRAGMENT_BOUND)?;
     Ok(Fragment::new(number as u8).unwrap())
 }
 

@@ -40,12 +40,12 @@ some_of [] i low = absurd (omega arith)
 some_of (x ∷ xs) i low = x
 
 -- where each worker ran its script, so did the sessions and tracks that are taken from them
-pub AreRun-taken : {W Z : Type 0} (session : W → SessionView) (receipts : W → List Receipt) (stopped : W → Option Stop) (may_stop : Type 0) (passes : ℕ → ℕ → Type 0)
+pub AreRun-taken : {W Z : Type 0} (session : W → SessionView) (receipts : W → List Receipt) (stopped : W → Option Stop) (limit : ℕ) (may_stop : Type 0) (passes : ℕ → ℕ → Type 0)
     (scripts : List (Vec Command Z)) (old new : List W) → length old ≡ length scripts → length new ≡ length scripts
     → ((i : ℕ) (w : W) (s : Vec Command Z) → i < length scripts
-    → IsRun may_stop passes (get_or scripts i s).items (session (get_or old i w)) (session (get_or new i w)) (receipts (get_or new i w)) (stopped (get_or new i w)))
-    → AreRun may_stop passes scripts (map session old) (map session new) (map (λ w. record { receipts = receipts w; stopped = stopped w }) new)
-AreRun-taken {W} session receipts stopped may_stop passes scripts old new len len' ran = (
+    → IsRun limit may_stop passes (get_or scripts i s).items (session (get_or old i w)) (session (get_or new i w)) (receipts (get_or new i w)) (stopped (get_or new i w)))
+    → AreRun limit may_stop passes scripts (map session old) (map session new) (map (λ w. record { receipts = receipts w; stopped = stopped w }) new)
+AreRun-taken {W} session receipts stopped limit may_stop passes scripts old new len len' ran = (
   length-map new session ∙ len',
   length-map new (λ w. record { receipts = receipts w; stopped = stopped w }) ∙ len',
   λ i s b a t low.

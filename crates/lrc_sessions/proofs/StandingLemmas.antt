@@ -21,6 +21,10 @@ prefix_get (y ∷ xs) [] k x p h = absurd (cc (p.1))
 prefix_get (y ∷ xs) (z ∷ ys) zero x p h = cc (p.1, h)
 prefix_get (y ∷ xs) (z ∷ ys) (suc k) x p h = prefix_get xs ys k x (p.0, cc (p.1)) h
 
+-- so does the entry of a call
+pub stands_on : (number : ℕ) (command : Command) (r : Receipt) (front later : List Entry) → IsPrefix front later → StandsAt number command r front → StandsAt number command r later
+stands_on number command r front later on at = (at.0, prefix_get front later (r.place - 1) at.0 on at.1, at.2)
+
 get_last : {A : Type 0} (xs : List A) (x : A) → slice_get (xs ++ x ∷ []) (length xs) ≡ Some x
 get_last [] x = refl
 get_last (y ∷ xs) x = get_last xs x
@@ -62,7 +66,7 @@ each_more P rs r old new i d low = elim (cases_lt i (length rs)) [
       subst (P i) (sym (get_or_push rs r d i (omega arith))) (subst (λ j. P j r) same new)
 ]
 
-stands_now : (nodes : List NodeInfo) (number : ℕ) (command wanted : Command) (before after : SessionView) (r : Receipt)
+pub stands_now : (nodes : List NodeInfo) (number : ℕ) (command wanted : Command) (before after : SessionView) (r : Receipt)
     → IsCalled nodes before command r after → before.number ≡ number → command ≡ wanted → StandsAt number wanted r after.front
 stands_now nodes number command wanted before after r m is same =
     let old : List Entry = before.front ++ m.between in
@@ -104,13 +108,13 @@ passed_push passes number rs r old new i low = elim (cases_lt i (length rs)) [
 ]
 
 -- a script that a fault stops
-pub left_run : (nodes : List NodeInfo) (may_stop : Type 0) (passes : ℕ → ℕ → Type 0) (script : List Command) (first before after : SessionView) (rs : List Receipt) (f : Fault)
-    → IsLeft nodes before f after → before.number ≡ first.number → before.made ≡ first.made + length rs → length rs < length script
+pub left_run : (nodes : List NodeInfo) (limit : ℕ) (may_stop : Type 0) (passes : ℕ → ℕ → Type 0) (script : List Command) (first before after : SessionView) (rs : List Receipt) (f : Fault)
+    → IsLeft nodes limit before f after → before.number ≡ first.number → before.made ≡ first.made + length rs → length rs < length script
     → IsPrefix first.front before.front → AreStanding first.number (length first.front) script rs before.front
-    → HavePassed passes first.number (length rs) → IsRun may_stop passes script first after rs (Some (Stopped f))
-left_run nodes may_stop passes script first before after rs OutOfMemory left number made part on s through =
-    subst (λ (w : SessionView). IsRun may_stop passes script first w rs (Some (Stopped OutOfMemory))) (sym left.0) (number, made, omega arith, part, on, s, tt, through)
-left_run nodes may_stop passes script first before after rs HistoryFull left number made part on s through = (
+    → HavePassed passes first.number (length rs) → IsRun limit may_stop passes script first after rs (Some (Stopped f))
+left_run nodes limit may_stop passes script first before after rs OutOfMemory left number made part on s through =
+    subst (λ (w : SessionView). IsRun limit may_stop passes script first w rs (Some (Stopped OutOfMemory))) (sym left.0) (number, made, omega arith, part, on, s, left.1, through)
+left_run nodes limit may_stop passes script first before after rs HistoryFull left number made part on s through = (
   left.0 ∙ number,
   left.1 ∙ made,
   omega arith,

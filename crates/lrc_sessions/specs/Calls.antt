@@ -4,7 +4,6 @@ use mathlib.Core.List.{IsPrefix}
 use Rattle.lrc_code.specs.declared.fault.Fault.{Fault}
 use Rattle.lrc_code.specs.declared.fault.Fault.TheVariants.{OutOfMemory, HistoryFull}
 use Rattle.lrc_topology.specs.declared.NodeInfo.{NodeInfo}
-use Rattle.lrc_book.specs.declared.book.TheConstants.{HISTORY_LIMIT}
 use Rattle.lrc_book.specs.declared.command.Command.{Command}
 use Rattle.lrc_book.specs.declared.entry.Entry.{Entry}
 use Rattle.lrc_book.specs.declared.reply.Reply.{Reply}
@@ -31,8 +30,8 @@ pub record IsCalled (nodes : List NodeInfo) (before : SessionView) (command : Co
 
 -- What a fault leaves of a session: want of memory, which comes only before it has seen a full history, leaves it as it was; a
 -- full history it has seen whole.
-abbrev pub IsLeft : List NodeInfo → SessionView → Fault → SessionView → Type 0
-IsLeft nodes before OutOfMemory after = (after ≡ before) × (length before.front < HISTORY_LIMIT)
-IsLeft nodes before HistoryFull after =
+abbrev pub IsLeft : List NodeInfo → ℕ → SessionView → Fault → SessionView → Type 0
+IsLeft nodes limit before OutOfMemory after = (after ≡ before) × (length before.front < limit)
+IsLeft nodes limit before HistoryFull after =
     (after.number ≡ before.number) × (after.made ≡ before.made) × IsLegal nodes after.front × IsPrefix before.front after.front
-    × (HISTORY_LIMIT ≤ length after.front)
+    × (limit ≤ length after.front)

@@ -2,7 +2,6 @@
 use Rattle.std.specs.Prelude.{◌≡◌, ℕ, ◌≤◌, List, [], ◌∷◌, ◌++◌, length}
 use Rattle.lrc_code.specs.declared.numbers.SessionNo.{SessionNo}
 use Rattle.lrc_topology.specs.declared.NodeInfo.{NodeInfo}
-use Rattle.lrc_book.specs.declared.book.TheConstants.{HISTORY_LIMIT}
 use Rattle.lrc_book.specs.declared.command.Command.{Command}
 use Rattle.lrc_book.specs.declared.entry.Entry.{Entry}
 use Rattle.lrc_book.specs.declared.reply.Reply.{Reply}
@@ -10,12 +9,12 @@ use Rattle.lrc_book.specs.Histories.{outcome_in, world_after, state_after, IsLeg
 use Rattle.lrc_book.specs.Goodness.{IsGood}
 use Rattle.lrc_book.specs.Books.{BookView}
 
--- Whenever the lock is free: the book is one over these nodes, its history is legal and leaves a good state, and has as many
--- entries as the tally counts calls, at most the limit.
-abbrev pub IsLocked : List NodeInfo → ℕ → BookView → Type 0
-IsLocked nodes total b =
-    (b.nodes ≡ nodes) × (b.limit ≡ HISTORY_LIMIT) × IsLegal nodes b.history × IsGood nodes b.history (state_after nodes b.history)
-    × (length b.history ≡ total) × (length b.history ≤ HISTORY_LIMIT)
+-- Whenever the lock is free: the book is one over these nodes and with this limit, its history is legal and leaves a good state, and has as many
+-- entries as the tally counts calls, at most the limit, which is at most 1,000,000.
+abbrev pub IsLocked : List NodeInfo → ℕ → ℕ → BookView → Type 0
+IsLocked nodes limit total b =
+    (b.nodes ≡ nodes) × (b.limit ≡ limit) × IsLegal nodes b.history × IsGood nodes b.history (state_after nodes b.history)
+    × (length b.history ≡ total) × (length b.history ≤ limit) × (limit ≤ 1000000)
 
 -- One call of the session with this number: the reply is the step's, and the history has one entry more, of the session, its
 -- command and the reply.

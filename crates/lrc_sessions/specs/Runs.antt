@@ -3,7 +3,6 @@ use Rattle.std.specs.Prelude.{◌≡◌, ℕ, ◌+◌, ◌-◌, ◌<◌, ◌≤�
 use mathlib.Core.List.{IsPrefix}
 use Rattle.lrc_code.specs.declared.fault.Fault.{Fault as CallFault}
 use Rattle.lrc_code.specs.declared.fault.Fault.TheVariants.{OutOfMemory, HistoryFull}
-use Rattle.lrc_book.specs.declared.book.TheConstants.{HISTORY_LIMIT}
 use Rattle.lrc_book.specs.declared.command.Command.{Command}
 use Rattle.lrc_book.specs.declared.entry.Entry.{Entry}
 use Rattle.lrc_board.specs.declared.receipt.Receipt.{Receipt}
@@ -34,16 +33,16 @@ pub record AreStanding (number former : ℕ) (script : List Command) (receipts :
   pub rise : (i j : ℕ) (r q : Receipt) → i < j → j < length receipts
       → (slice_index_or receipts i r).place < (slice_index_or receipts j q).place
 
--- a full history was seen whole
-abbrev pub IsFullIn : List Entry → CallFault → Type 0
-IsFullIn front OutOfMemory = Unit {0}
-IsFullIn front HistoryFull = HISTORY_LIMIT ≤ length front
+-- a full history was seen whole, and want of memory comes only before that
+abbrev pub IsFullIn : ℕ → List Entry → CallFault → Type 0
+IsFullIn limit front OutOfMemory = length front < limit
+IsFullIn limit front HistoryFull = limit ≤ length front
 
--- a script that was stopped by a full history saw it whole
-abbrev pub StopIsSeen : List Entry → Option Stop → Type 0
-StopIsSeen front None = Unit {0}
-StopIsSeen front (Some (Fault f)) = IsFullIn front f
-StopIsSeen front (Some Gate) = Unit {0}
+-- a script that was stopped by a full history saw it whole; one that was stopped by want of memory did not
+abbrev pub StopIsSeen : ℕ → List Entry → Option Stop → Type 0
+StopIsSeen limit front None = Unit {0}
+StopIsSeen limit front (Some (Fault f)) = IsFullIn limit front f
+StopIsSeen limit front (Some Gate) = Unit {0}
 
 -- what is known of a session's call of this count that a gate let through and was told of
 abbrev pub Passes : (ℕ → ℕ → Type 0) → (ℕ → ℕ → Type 0) → ℕ → ℕ → Type 0
@@ -55,17 +54,17 @@ HavePassed passes session calls = (i : ℕ) → i < calls → passes session (i 
 
 -- A session ran a script: it has its number still, and made as many calls more as there are receipts, at most those of the
 -- script, each of which passed the gate. Its front begins with the former one, and the receipts stand in it.
-abbrev pub IsRun : Type 0 → (ℕ → ℕ → Type 0) → List Command → SessionView → SessionView → List Receipt → Option Stop → Type 0
-IsRun may_stop passes script before after receipts stopped =
+abbrev pub IsRun : ℕ → Type 0 → (ℕ → ℕ → Type 0) → List Command → SessionView → SessionView → List Receipt → Option Stop → Type 0
+IsRun limit may_stop passes script before after receipts stopped =
     (after.number ≡ before.number) × (after.made ≡ before.made + length receipts) × (length receipts ≤ length script)
     × StopFits may_stop script (length receipts) stopped × IsPrefix before.front after.front
-    × AreStanding before.number (length before.front) script receipts after.front × StopIsSeen after.front stopped
+    × AreStanding before.number (length before.front) script receipts after.front × StopIsSeen limit after.front stopped
     × HavePassed passes before.number (length receipts)
 
 -- each session ran the script at its place, and its track stands there
-abbrev pub AreRun : {Z : Type 0} → Type 0 → (ℕ → ℕ → Type 0) → List (Vec Command Z) → List SessionView → List SessionView → List Track → Type 0
-AreRun {Z} may_stop passes scripts before after tracks =
+abbrev pub AreRun : {Z : Type 0} → ℕ → Type 0 → (ℕ → ℕ → Type 0) → List (Vec Command Z) → List SessionView → List SessionView → List Track → Type 0
+AreRun {Z} limit may_stop passes scripts before after tracks =
     (length after ≡ length scripts) × (length tracks ≡ length scripts)
     × ((i : ℕ) (s : Vec Command Z) (b a : SessionView) (t : Track) → i < length scripts
-    → IsRun may_stop passes (slice_index_or scripts i s).items (slice_index_or before i b) (slice_index_or after i a)
+    → IsRun limit may_stop passes (slice_index_or scripts i s).items (slice_index_or before i b) (slice_index_or after i a)
     (slice_index_or tracks i t).receipts (slice_index_or tracks i t).stopped)

@@ -5,10 +5,11 @@ use Rattle.lrc_topology.specs.declared.NodeInfo.{NodeInfo}
 use Rattle.lrc_book.specs.declared.entry.Entry.{Entry}
 use Rattle.lrc_book.specs.Sessions.{sessions}
 
--- parts over these nodes for so many sessions, with a ledger of this name and so many shares, and this log, which begins with
+-- parts over these nodes, with so many entries at most, for so many sessions, with a ledger of this name and so many shares, and this log, which begins with
 -- this pen
 pub record PartsView : Type 0 where
   pub topology : List NodeInfo
+  pub limit : ℕ
   pub count : ℕ
   pub name : ℕ
   pub shares : ℕ

@@ -1,7 +1,6 @@
 ghost use Rattle.std.specs.Prelude.{◌≡◌, ℕ, ◌+◌, ◌<◌, ◌≤◌, [], length, IfOk, OnOk, OnErr, IfErr};
 ghost use mathlib.Core.List.{IsPrefix};
 ghost use Rattle.lrc_book.specs.Books.{BookView, FaultFits};
-ghost use Rattle.lrc_book.specs.declared.book.TheConstants.{HISTORY_LIMIT};
 ghost use Rattle.lrc_sessions.specs.Locked.{IsLocked, IsMade};
 ghost use Rattle.lrc_sessions.specs.Calls.{IsCalled, IsLeft};
 
@@ -31,13 +30,13 @@ impl<N: Naming> Model for Desk<N> {
 
     ghost view = { λ d. d.keeper };
 
-    ghost invariant = { λ d. IsLocked N.topology d.tally.total d.keeper × (d.rest.parts + N.count ≡ 8) × (d.rest.amount ≡ 0) };
+    ghost invariant = { λ d. IsLocked N.topology N.limit d.tally.total d.keeper × (d.rest.parts + N.count ≡ 8) × (d.rest.amount ≡ 0) };
 }
 
 impl<N: Naming> Desk<N> {
     /// A desk at which no call was made.
     pub(crate) fn new(keeper: Keeper<N>, tally: Tally<N>, rest: Share<N>) -> Desk<N>
-        requires book { (keeper.nodes ≡ N.topology) × (keeper.limit ≡ HISTORY_LIMIT) × (keeper.history ≡ []) }
+        requires book { (keeper.nodes ≡ N.topology) × (keeper.limit ≡ N.limit) × (keeper.history ≡ []) }
         requires tally { tally.total ≡ 0 }
         requires rest { (rest.parts + N.count ≡ 8) × (rest.amount ≡ 0) }
         ensures { result ≡ keeper }
@@ -59,12 +58,12 @@ impl<N: Naming> Desk<N> {
         command: Command,
     ) -> Result<Receipt, Fault>
         ensures made { IfOk result (λ r. IsMade N.topology self.old.history session.old.number command r.reply self.new.history) }
-        ensures place { IfOk result (λ r. (r.place ≡ length self.new.history) × (session.new.made ≤ r.place) × (r.place ≤ HISTORY_LIMIT)) }
+        ensures place { IfOk result (λ r. (r.place ≡ length self.new.history) × (session.new.made ≤ r.place) × (r.place ≤ N.limit)) }
         ensures seen { OnOk result (session.new.front ≡ self.new.history) }
         ensures called { IfOk result (λ r. IsCalled N.topology session.old command r session.new) }
         ensures fault { IfErr result (FaultFits self.old) }
         ensures err { OnErr result (self.new.history ≡ self.old.history) }
-        ensures left { IfErr result (λ f. IsLeft N.topology session.old f session.new) }
+        ensures left { IfErr result (λ f. IsLeft N.topology N.limit session.old f session.new) }
     {
         let Desk {
             keeper,
@@ -107,7 +106,7 @@ impl<N: Naming> Desk<N> {
     /// Ends the desk: the keeper, the tally, and the share that no session has.
     pub(crate) fn into_parts(self) -> (Keeper<N>, Tally<N>, Share<N>)
         ensures book { result.0 ≡ self }
-        ensures locked { IsLocked N.topology result.1.total result.0 }
+        ensures locked { IsLocked N.topology N.limit result.1.total result.0 }
         ensures rest { (result.2.parts + N.count ≡ 8) × (result.2.amount ≡ 0) }
     {
         let Desk {

@@ -1,6 +1,5 @@
 ghost use Rattle.std.specs.Prelude.{◌≡◌, ◌≢◌, ◌+◌, ◌≤◌, [], length, replicate, vec_capacity, IfOk, IfErr, OnOk};
 ghost use mathlib.Core.List.{IsPrefix};
-ghost use Rattle.lrc_book.specs.declared.book.TheConstants.{HISTORY_LIMIT};
 ghost use Rattle.lrc_book.specs.Histories.{IsLegal};
 ghost use Rattle.lrc_board.specs.declared.open_error.OpenError.TheVariants as error;
 ghost use Rattle.lrc_sessions.specs.Views.{ManagerView, SessionView, fresh};
@@ -50,6 +49,7 @@ impl<N: Naming> Manager<N> {
     ) -> Result<(Manager<N>, Vec<Session<N>>), OpenError>
         // N names these parts.
         requires topology { parts.topology ≡ N.topology }
+        requires limit { parts.limit ≡ N.limit }
         requires count { parts.count ≡ N.count }
         requires name { parts.name ≡ N.name }
         requires shares { parts.shares ≡ N.parts }
@@ -88,7 +88,7 @@ impl<N: Naming> Manager<N> {
     ///
     /// # Errors
     ///
-    /// `Fault::HistoryFull` where the history has 1,000,000 entries; else only `Fault::OutOfMemory`.
+    /// `Fault::HistoryFull` where the history has as many entries as its limit; else only `Fault::OutOfMemory`.
     pub fn call<R: Wait>(
         &self,
         rt: &R,
@@ -96,8 +96,8 @@ impl<N: Naming> Manager<N> {
         command: Command,
     ) -> Result<Receipt, Fault>
         ensures ok { IfOk result (λ r. IsCalled N.topology session.old command r session.new) }
-        ensures place { IfOk result (λ r. (session.new.made ≤ r.place) × (r.place ≤ HISTORY_LIMIT)) }
-        ensures err { IfErr result (λ f. IsLeft N.topology session.old f session.new) }
+        ensures place { IfOk result (λ r. (session.new.made ≤ r.place) × (r.place ≤ N.limit)) }
+        ensures err { IfErr result (λ f. IsLeft N.topology N.limit session.old f session.new) }
     {
         let mut desk = self.desk.lock(rt);
         let called = desk.call(rt, session, command);
@@ -143,6 +143,7 @@ fn split<N: Naming>(
 ) -> Vec<Session<N>>
     requires parts { count ≤ rest.old.parts }
     requires few { count ≤ 8 }
+    requires limit { N.limit ≤ 1000000 }
     requires amount { rest.old.amount ≡ 0 }
     requires viewers { viewers.items ≡ replicate count [] }
     requires room { (count ≤ vec_capacity sessions) × (sessions.items ≡ []) }

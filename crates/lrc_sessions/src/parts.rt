@@ -3,7 +3,7 @@ ghost use Rattle.lrc_sessions.specs.Views.{PartsView};
 ghost use Rattle.lrc_sessions.specs.Errors.{OpenFits};
 
 use lrc_board::{NewLog, OpenError};
-use lrc_book::Book;
+use lrc_book::{Book, HISTORY_LIMIT};
 use lrc_topology::Topology;
 use std::alloc::Global;
 use std::marker::Model;
@@ -21,13 +21,13 @@ pub struct Parts {
 
 impl Model for Parts {
     ghost use Rattle.std.specs.Prelude.{◌≡◌, ◌≤◌, []};
-    ghost use Rattle.lrc_book.specs.declared.book.TheConstants.{HISTORY_LIMIT};
     ghost use Rattle.lrc_sessions.specs.Views.{PartsView};
 
     ghost Value = { PartsView };
 
     ghost view = { λ p. record {
       topology = p.book.nodes;
+      limit = p.book.limit;
       count = p.count;
       name = p.tally.name;
       shares = p.tally.parts;
@@ -35,7 +35,7 @@ impl Model for Parts {
       start = p.log.pen.nib.key;
     } };
 
-    ghost invariant = { λ p. (p.book.history ≡ []) × (p.book.limit ≡ HISTORY_LIMIT) × (p.tally.parts ≡ 8)
+    ghost invariant = { λ p. (p.book.history ≡ []) × (p.book.limit ≤ 1000000) × (p.tally.parts ≡ 8)
         × (1 ≤ p.count) × (p.count ≤ 8) };
 }
 
@@ -46,13 +46,32 @@ impl Parts {
     ///
     /// `OpenError::BadCount` where the count is not 1 to 8, before all else; else only `OpenError::OutOfMemory`.
     pub fn new(alloc: Global, topology: Topology, count: u8) -> Result<Parts, OpenError>
-        ensures ok { IfOk result (λ p. (p.topology ≡ topology) × (p.count ≡ count) × (1 ≤ count) × (count ≤ 8)) }
+        ensures ok { IfOk result (λ p. (p.topology ≡ topology) × (p.limit ≡ 1000000) × (p.count ≡ count) × (1 ≤ count) × (count ≤ 8)) }
+        ensures err { IfErr result (OpenFits count) }
+    {
+        Parts::with_limit(alloc, topology, count, HISTORY_LIMIT)
+    }
+
+    /// Parts for a manager of so many sessions over these nodes, with a history of at most so many entries, which are 1,000,000
+    /// at most.
+    ///
+    /// # Errors
+    ///
+    /// `OpenError::BadCount` where the count is not 1 to 8, before all else; else only `OpenError::OutOfMemory`.
+    pub fn with_limit(
+        alloc: Global,
+        topology: Topology,
+        count: u8,
+        limit: u32,
+    ) -> Result<Parts, OpenError>
+        requires limit { limit ≤ 1000000 }
+        ensures ok { IfOk result (λ p. (p.topology ≡ topology) × (p.limit ≡ limit) × (p.count ≡ count) × (1 ≤ count) × (count ≤ 8)) }
         ensures err { IfErr result (OpenFits count) }
     {
         if count < 1 || count > 8 {
             return Err(OpenError::BadCount);
         }
-        let Ok(book) = Book::new(alloc, topology) else {
+        let Ok(book) = Book::with_limit(alloc, topology, limit) else {
             return Err(OpenError::OutOfMemory);
         };
         Ok(Parts {

@@ -32,7 +32,7 @@ pub fn run_sessions<N: Naming + Send + Sync, R: Threads + Wait + Sync, G: Gate +
     gate: &G,
 ) -> (Vec<Session<N>>, Result<Vec<Track>, Fault>)
     requires { length sessions.items ≡ length scripts.now }
-    ensures ok { IfOk result.1 (λ tracks. AreRun G.may_stop (Passes G.lets G.tells) scripts.now sessions.items result.0.items tracks.items) }
+    ensures ok { IfOk result.1 (λ tracks. AreRun N.limit G.may_stop (Passes G.lets G.tells) scripts.now sessions.items result.0.items tracks.items) }
     ensures err { IfErr result.1 (λ e. (e ≡ fault.OutOfMemory) × (result.0 ≡ sessions)) }
 {
     match Room::new(alloc, scripts) {
@@ -57,7 +57,7 @@ fn run_in<N: Naming + Send + Sync, R: Threads + Wait + Sync, G: Gate + Sync>(
     requires receipts { AreRoomFor scripts.now room.receipts.items }
     requires workers { (room.workers.items ≡ []) × (length scripts.now ≤ vec_capacity room.workers) }
     requires tracks { (room.tracks.items ≡ []) × (length scripts.now ≤ vec_capacity room.tracks) }
-    ensures { AreRun G.may_stop (Passes G.lets G.tells) scripts.now sessions.old.items sessions.new.items result.items }
+    ensures { AreRun N.limit G.may_stop (Passes G.lets G.tells) scripts.now sessions.old.items sessions.new.items result.items }
 {
     let (mut workers, mut tracks) = room.seat(sessions);
     run_workers(rt, manager, &mut workers, scripts, gate);
@@ -79,7 +79,7 @@ fn run_workers<N: Naming + Send + Sync, R: Threads + Wait + Sync, G: Gate + Sync
         → length (slice_index_or scripts.now i s).items ≤ vec_capacity (slice_index_or workers.old.items i w).receipts }
     ensures same { length workers.new.items ≡ length scripts.now }
     ensures run { (i : ℕ) (w : _) (s : _) → i < length scripts.now
-        → IsRun G.may_stop (Passes G.lets G.tells) (slice_index_or scripts.now i s).items (slice_index_or workers.old.items i w).session
+        → IsRun N.limit G.may_stop (Passes G.lets G.tells) (slice_index_or scripts.now i s).items (slice_index_or workers.old.items i w).session
         (slice_index_or workers.new.items i w).session (slice_index_or workers.new.items i w).receipts.items (slice_index_or workers.new.items i w).stopped }
 {
     if workers.is_empty() {
@@ -93,7 +93,7 @@ fn run_workers<N: Naming + Send + Sync, R: Threads + Wait + Sync, G: Gate + Sync
         &|i: usize, worker: &mut Worker<N>|
             requires { (i < length scripts.now) × (worker.old.receipts.items ≡ [])
                 × ((s : _) → length (slice_index_or scripts.now i s).items ≤ vec_capacity worker.old.receipts) }
-            ensures { (s : _) → IsRun G.may_stop (Passes G.lets G.tells) (slice_index_or scripts.entry.now i s).items
+            ensures { (s : _) → IsRun N.limit G.may_stop (Passes G.lets G.tells) (slice_index_or scripts.entry.now i s).items
                 worker.old.session worker.new.session worker.new.receipts.items worker.new.stopped }
         { worker.run(rt, manager, scripts[i].as_slice(), gate) },
     );

@@ -27,7 +27,6 @@ pub struct Session<N: Naming> {
 
 impl<N: Naming> Model for Session<N> {
     ghost use Rattle.std.specs.Prelude.{◌≡◌, ◌≤◌};
-    ghost use Rattle.lrc_book.specs.declared.book.TheConstants.{HISTORY_LIMIT};
     ghost use Rattle.lrc_book.specs.Histories.{IsLegal};
     ghost use Rattle.lrc_sessions.specs.Views.{SessionView};
     ghost use Rattle.lrc_sessions.specs.Counts.{made_in};
@@ -36,7 +35,7 @@ impl<N: Naming> Model for Session<N> {
 
     ghost view = { λ s. record { number = s.number.value; made = s.made; front = s.viewer } };
 
-    ghost invariant = { λ s. (s.share.parts ≡ 1) × (s.share.amount ≡ s.made) × (s.made ≤ HISTORY_LIMIT)
+    ghost invariant = { λ s. (s.share.parts ≡ 1) × (s.share.amount ≡ s.made) × (s.made ≤ N.limit) × (N.limit ≤ 1000000)
         × (s.made ≤ made_in s.number.value s.viewer) × IsLegal N.topology s.viewer };
 }
 
@@ -45,6 +44,7 @@ impl<N: Naming> Session<N> {
     pub(crate) fn new(number: SessionNo, share: Share<N>, viewer: Viewer<N>) -> Session<N>
         requires share { (share.parts ≡ 1) × (share.amount ≡ 0) }
         requires viewer { viewer ≡ [] }
+        requires limit { N.limit ≤ 1000000 }
         ensures { result ≡ record { number = number.value; made = 0; front = [] } }
     {
         Session {

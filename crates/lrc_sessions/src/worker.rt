@@ -29,7 +29,7 @@ impl<N: Naming> Worker<N> {
     )
         requires empty { self.old.receipts.items ≡ [] }
         requires room { length script.now ≤ vec_capacity self.old.receipts }
-        ensures { IsRun G.may_stop (Passes G.lets G.tells) script.now self.old.session self.new.session self.new.receipts.items self.new.stopped }
+        ensures { IsRun N.limit G.may_stop (Passes G.lets G.tells) script.now self.old.session self.new.session self.new.receipts.items self.new.stopped }
     {
         let Worker {
             session,
@@ -51,7 +51,7 @@ fn make_calls<N: Naming, R: Wait, G: Gate>(
 ) -> Option<Stop>
     requires empty { receipts.old.items ≡ [] }
     requires room { length script.now ≤ vec_capacity receipts.old }
-    ensures { IsRun G.may_stop (Passes G.lets G.tells) script.now session.old session.new receipts.new.items result }
+    ensures { IsRun N.limit G.may_stop (Passes G.lets G.tells) script.now session.old session.new receipts.new.items result }
 {
     let mut n = 0;
     for command in script {

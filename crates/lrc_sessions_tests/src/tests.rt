@@ -4,17 +4,19 @@ ghost use Rattle.std.specs.Prelude.{◌≡◌, length, IfOk};
 ghost use Rattle.lrc_sessions.specs.Views.{fresh};
 
 mod board;
-mod full;
+mod crowd;
+mod errors;
 mod gates;
+mod leases;
+mod limits;
 mod looks;
 mod mixed;
 
 use lrc_book::{Command, Reply, Seat};
-use lrc_code::{NodeNo, SessionNo, StripeNo};
+use lrc_code::{Fault, NodeNo, SessionNo, StripeNo};
 use lrc_samples::twenty_nodes;
 use lrc_sessions::{
-    Closing, FinishError, Gate, Manager, Naming, OpenError, Parts, Receipt, Session, Stop, Track,
-    run_sessions,
+    Closing, FinishError, Gate, Manager, Naming, Parts, Receipt, Session, Stop, Track, run_sessions,
 };
 use lrc_topology::Topology;
 use std::alloc::Global;
@@ -95,6 +97,7 @@ fn open<N: Naming, R: Wait + Abort>(
     parts: Parts,
 ) -> (Manager<N>, Vec<Session<N>>)
     requires topology { parts.topology ≡ N.topology }
+    requires limit { parts.limit ≡ N.limit }
     requires count { parts.count ≡ N.count }
     requires name { parts.name ≡ N.name }
     requires shares { parts.shares ≡ N.parts }
@@ -141,28 +144,6 @@ fn expect_made(rt: &impl Abort, closing: &Closing, made: &[(SessionNo, u64)]) {
     assert!(rt; closing.made.as_slice() == made);
 }
 
-#[test]
-fn a_manager_has_one_to_eight_sessions(rt: HostRuntime) -> Result<(), Fail> {
-    let bad = Some(OpenError::BadCount);
-    for (count, wanted) in [(0, bad), (1, None), (8, None), (9, bad), (255, bad)] {
-        assert_eq!(rt; refusal(rt.alloc(), count)?, wanted, "at {count}");
-    }
-    Ok(())
-}
-
-/// Why there are no parts of a manager of so many sessions, if there are none.
-fn refusal(alloc: Global, count: u8) -> Result<Option<OpenError>, Fail> {
-    match Parts::new(alloc, nodes(alloc)?, count) {
-        Ok(parts) => {
-            close_parts(parts);
-            Ok(None)
-        }
-        Err(error) => Ok(Some(error)),
-    }
-}
-
-fn close_parts(_parts: Parts) {}
-
 /// Runs each script by a session of its own, and ends the manager.
 fn run_all<N: Naming + Send + Sync, R: Threads + Wait + Abort + Sync, G: Gate + Sync>(
     rt: &R,
@@ -172,6 +153,27 @@ fn run_all<N: Naming + Send + Sync, R: Threads + Wait + Abort + Sync, G: Gate + 
     gate: &G,
 ) -> (Closing, Vec<Track>)
     requires topology { parts.topology ≡ N.topology }
+    requires limit { parts.limit ≡ N.limit }
+    requires count { parts.count ≡ N.count }
+    requires name { parts.name ≡ N.name }
+    requires shares { parts.shares ≡ N.parts }
+    requires log { (parts.log ≡ N.log) × (parts.start ≡ N.start) }
+    requires scripts { length scripts.now ≡ parts.count }
+{
+    let (manager, sessions, tracks) = run_each::<N, _, _>(rt, alloc, parts, scripts, gate);
+    (finish(rt, manager, sessions), tracks)
+}
+
+/// Runs each script by a session of its own.
+fn run_each<N: Naming + Send + Sync, R: Threads + Wait + Abort + Sync, G: Gate + Sync>(
+    rt: &R,
+    alloc: Global,
+    parts: Parts,
+    scripts: &[Vec<Command>],
+    gate: &G,
+) -> (Manager<N>, Vec<Session<N>>, Vec<Track>)
+    requires topology { parts.topology ≡ N.topology }
+    requires limit { parts.limit ≡ N.limit }
     requires count { parts.count ≡ N.count }
     requires name { parts.name ≡ N.name }
     requires shares { parts.shares ≡ N.parts }
@@ -183,7 +185,7 @@ fn run_all<N: Naming + Send + Sync, R: Threads + Wait + Abort + Sync, G: Gate + 
     let Ok(tracks) = tracks else {
         panic!(rt; "room for a run")
     };
-    (finish(rt, manager, sessions), tracks)
+    (manager, sessions, tracks)
 }
 
 /// Why a script was stopped, and how many receipts it has.
@@ -207,10 +209,19 @@ fn call<N: Naming, R: Wait + Abort>(
     session: &mut Session<N>,
     command: Command,
 ) -> Receipt {
-    match manager.call(rt, session, command) {
+    match try_call(rt, manager, session, command) {
         Ok(receipt) => receipt,
         Err(_) => panic!(rt; "room for a call"),
     }
+}
+
+fn try_call<N: Naming, R: Wait>(
+    rt: &R,
+    manager: &Manager<N>,
+    session: &mut Session<N>,
+    command: Command,
+) -> Result<Receipt, Fault> {
+    manager.call(rt, session, command)
 }
 
 /// How many entries two sessions have seen.
@@ -273,6 +284,7 @@ fn two_sessions_place_a_stripe_each(rt: HostRuntime) -> Result<(), Fail> {
 /// Each of two sessions places a stripe, one after the other; the first alone does not end the manager.
 fn place_two<N: Naming, R: Wait + Abort>(rt: &R, alloc: Global, parts: Parts)
     requires topology { parts.topology ≡ N.topology }
+    requires limit { parts.limit ≡ N.limit }
     requires count { parts.count ≡ N.count }
     requires name { parts.name ≡ N.name }
     requires shares { parts.shares ≡ N.parts }
@@ -322,6 +334,7 @@ fn no_session_ends_no_manager(rt: HostRuntime) -> Result<(), Fail> {
 /// Without its only session the manager goes on.
 fn keep_one<N: Naming, R: Wait + Abort>(rt: &R, alloc: Global, parts: Parts)
     requires topology { parts.topology ≡ N.topology }
+    requires limit { parts.limit ≡ N.limit }
     requires count { parts.count ≡ N.count }
     requires name { parts.name ≡ N.name }
     requires shares { parts.shares ≡ N.parts }
@@ -348,6 +361,7 @@ fn place_at_once<N: Naming + Send + Sync, R: Threads + Wait + Abort + Sync>(
     parts: Parts,
 )
     requires topology { parts.topology ≡ N.topology }
+    requires limit { parts.limit ≡ N.limit }
     requires count { parts.count ≡ N.count }
     requires name { parts.name ≡ N.name }
     requires shares { parts.shares ≡ N.parts }

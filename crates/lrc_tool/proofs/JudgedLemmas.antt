@@ -1,9 +1,9 @@
 -- What the checks of a bundle tell, from its parts, and what it is answered then.
-use Rattle.std.proofs.Common.{◌⊎◌, inl, inr, Bool, true, false, if◌then◌else◌, nat_lt, ◌*◌, ◌≡◌, ℕ, suc, ◌+◌, ◌<◌, ◌≤◌, All, List, [], ◌∷◌, ◌++◌, length, get_or, take, drop, sum_by, Option, Some, None, Result, Ok, Err, IfOk, Vec, Global, refl, sym, ap, subst, ◌∙◌, arith}
+use Rattle.std.proofs.Common.{◌⊎◌, inl, inr, Bool, true, false, if◌then◌else◌, nat_lt, ◌≡◌, ℕ, suc, ◌+◌, ◌<◌, ◌≤◌, All, List, [], ◌∷◌, ◌++◌, length, get_or, take, drop, sum_by, Option, Some, None, Result, Ok, Err, IfOk, Vec, Global, refl, sym, ap, subst, ◌∙◌, arith}
 use borrow.Author.Tests.{ltb-false}
 use Rattle.std.specs.List.{AllZip}
 use Rattle.std.proofs.lemmas.Bool.{le-ltb}
-use Rattle.std.proofs.lemmas.List.Elements.{All-nil, All-cons, All-head, All-tail}
+use Rattle.std.proofs.lemmas.List.Elements.{All-nil, All-cons}
 use Rattle.std.proofs.lemmas.List.Sums.{sum_by-cons}
 use Rattle.std.proofs.lemmas.List.{take_more, drop_more, take-append-drop, length-map}
 use Rattle.lrc_topology.specs.declared.NodeInfo.{NodeInfo}
@@ -17,14 +17,14 @@ use Rattle.lrc_script.specs.Scripts.{lines_of, IsScript, BadLine, or_else, first
 use Rattle.lrc_script.specs.Bundles.{Script, scripts_of, topology_of, HoldsLines, IsTextOf, AreTextsOf}
 use Rattle.lrc_script.proofs.BundleLemmas.{first_bad-holds, IsScript-holds}
 use Rattle.lrc_script.proofs.JoinLemmas.{bundle_texts}
-use Rattle.lrc_script.proofs.SizeLemmas.{few_commands}
+use Rattle.lrc_script.proofs.SizeLemmas.{few_in_bundle}
 use Rattle.lrc_tool.specs.declared.status.Status.{Status}
 use Rattle.lrc_tool.specs.declared.status.Status.TheVariants as ended
 use Rattle.lrc_tool.specs.Limits.{bundle_limit, script_limit}
 use Rattle.lrc_tool.specs.Texts.{bad_line_text}
-use Rattle.lrc_tool.specs.Outputs.{early_refusal, first_bad_of, AreCommandsOf, Answer, IsAnsweredUnless, IsAnsweredOver, IsAnswered}
+use Rattle.lrc_tool.specs.Outputs.{early_refusal, first_bad_of, AreCommandsOf, Answer, IsAnsweredUnless, IsAnsweredOver, IsAnswered, RunsSeveral}
 use Rattle.lrc_tool.proofs.CommandLemmas.{as_many_lists}
-use Rattle.lrc_tool.specs.Judged.{lists_of, first_bad_in, AreParsed, NoAnswer, IsRefusal, IsAccepted, HasSeveral}
+use Rattle.lrc_tool.specs.Judged.{lists_of, first_bad_in, AreParsed, NoAnswer, IsRefusal, IsAccepted}
 
 -- two facts of a value that there is
 pub IfOk-both : {X E : Type 0} (r : Result X E) (P Q R : X → Type 0) → ((x : X) → P x → Q x → R x) → IfOk r P → IfOk r Q → IfOk r R
@@ -104,22 +104,19 @@ texts_commands (s ∷ ss) (t ∷ ts) (l ∷ ls) held are all =
 abbrev HasFew : Vec Command Global → Type 0
 HasFew v = length v.items ≤ 1000000
 
-each_few : (ts : List ScriptText) (vs : List (Vec Command Global)) → AllZip IsTextScript ts (lists_of vs) → All (λ t. t.first_line + length t.text.now ≤ bundle_limit) ts → All HasFew vs
-each_few ts [] all within = All-nil HasFew
-each_few [] (v ∷ vs) all within = absurd all
-each_few (t ∷ ts) (v ∷ vs) all within =
-    let short : t.first_line + length t.text.now ≤ bundle_limit = within 0 t (omega arith) in
-    let bound = few_commands t.text.now v.items all.0 in
-    All-cons HasFew v vs (omega (arith, bound, short)) (each_few ts vs all.1 (λ k d below. within (suc k) d (omega arith)))
+sum_of_lists : (vs : List (Vec Command Global)) → sum_by (λ v. length v.items) vs ≡ sum_by (λ commands. length commands) (lists_of vs)
+sum_of_lists [] = refl
+sum_of_lists (v ∷ vs) =
+    let left = sum_by-cons (λ (x : Vec Command Global). length x.items) v vs in
+    let right = sum_by-cons (λ (commands : List Command). length commands) v.items (lists_of vs) in
+    let more = sum_of_lists vs in
+    omega (arith, left, right, more)
 
--- and so have all together
-few_in_all : (vs : List (Vec Command Global)) → All HasFew vs → sum_by (λ v. length v.items) vs ≤ length vs * 1000000
-few_in_all [] all = omega arith
-few_in_all (v ∷ vs) all =
-    let one = sum_by-cons (λ (x : Vec Command Global). length x.items) v vs in
-    let few = All-head HasFew v vs all in
-    let more = few_in_all vs (All-tail HasFew v vs all) in
-    omega (arith, one, few, more)
+each_few : (vs : List (Vec Command Global)) → sum_by (λ v. length v.items) vs ≤ 1000000 → All HasFew vs
+each_few [] few = All-nil HasFew
+each_few (v ∷ vs) few =
+    let sum = sum_by-cons (λ (x : Vec Command Global). length x.items) v vs in
+    All-cons HasFew v vs (omega (arith, sum, few)) (each_few vs (omega (arith, sum, few)))
 
 -- ---- the bundle
 
@@ -128,18 +125,18 @@ not_refused bundle short few = rw (le-ltb bundle_limit (length bundle) short, le
 
 module _ (bundle : List ℕ) (nodes : List NodeInfo) (texts : List ScriptText) (short : length bundle ≤ bundle_limit) (few : length (scripts_of bundle) ≤ script_limit)
     (read : IsTopologyOf (topology_of bundle) nodes) (are : AreTextsOf (scripts_of bundle) texts) where
-  pub judged_good : (scripts : List (Vec Command Global)) → All (λ t. t.first_line + length t.text.now ≤ length bundle) texts → AreParsed texts (lists_of scripts) → IsAccepted bundle nodes scripts
-  judged_good scripts within parsed =
+  pub judged_good : (scripts : List (Vec Command Global)) → AreParsed texts (lists_of scripts) → IsAccepted bundle nodes scripts
+  judged_good scripts parsed =
       let commands = texts_commands (scripts_of bundle) texts (lists_of scripts) (bundle_texts bundle) are parsed.commands in
       let many : length scripts ≤ script_limit = omega (arith, as_many_lists (scripts_of bundle) (lists_of scripts) commands, length-map scripts (λ (v : Vec Command Global). v.items), few) in
-      let each = each_few texts scripts parsed.commands (λ k d below. omega (arith, within k d below, short)) in
-      let all = few_in_all scripts each in
+      let all : sum_by (λ (v : Vec Command Global). length v.items) scripts ≤ 1000000 =
+      omega (arith, few_in_bundle bundle (lists_of scripts) commands, sum_of_lists scripts, short) in
       record {
         early = not_refused bundle short few;
         read = read;
         no_bad = texts_bad (scripts_of bundle) texts (bundle_texts bundle) are ∙ parsed.no_bad;
         commands = commands;
-        few = record { scripts_few = many; each_few = each; commands_few = omega (arith, many, all) };
+        few = record { scripts_few = many; each_few = each_few scripts all; commands_few = all };
       }
 
   pub judged_bad : (line line' : ℕ) (cause cause' : Cause) (text : List ℕ) (status : Status) → first_bad_in texts ≡ Some (record { line = line; cause = cause })
@@ -166,12 +163,7 @@ good_to_any answer bundle text status nodes scripts good h end =
 lists_many : {Z : Type 0} (scripts : List Script) (lists : List (Vec Command Z)) → AreCommandsOf scripts (lists_of lists) → length lists ≡ length scripts
 lists_many {Z} scripts lists are = sym (length-map lists (λ (v : Vec Command Z). v.items)) ∙ as_many_lists scripts (lists_of lists) are
 
--- an accepted bundle is not too long
-not_long : (long many : Bool) (first second : List ℕ) → (if long then Some first else (if many then Some second else None)) ≡ None → long ≡ false
-not_long true many first second e = absurd (cc)
-not_long false many first second e = refl
-
--- nor has it too many scripts
+-- an accepted bundle has not too many scripts
 not_many : (long many : Bool) (first second : List ℕ) → (if long then Some first else (if many then Some second else None)) ≡ None → many ≡ false
 not_many true many first second e = absurd (cc)
 not_many false true first second e = absurd (cc)
@@ -182,13 +174,10 @@ few_scripts bundle early =
     let none = not_many (nat_lt bundle_limit (length bundle)) (nat_lt script_limit (length (scripts_of bundle))) _ _ early in
     ltb-false script_limit (length (scripts_of bundle)) none
 
-pub several_accepted : {Z : Type 0} (bundle : List ℕ) (nodes : List NodeInfo) (lists : List (Vec Command Z)) → IsAccepted bundle nodes lists → 1 < length lists → HasSeveral bundle
-several_accepted bundle nodes lists good several = record {
-  short = ltb-false bundle_limit (length bundle) (not_long (nat_lt bundle_limit (length bundle)) (nat_lt script_limit (length (scripts_of bundle))) _ _ good.early);
-  several = subst (λ n. 1 < n) (lists_many (scripts_of bundle) lists good.commands) several;
-}
-
+-- a fault of a run on several scripts
 pub several_or : {Z : Type 0} (A B : Type 0) (bundle : List ℕ) (nodes : List NodeInfo) (lists : List (Vec Command Z)) → IsAccepted bundle nodes lists
-    → A ⊎ (B × (1 < length lists)) → A ⊎ (B × HasSeveral bundle)
+    → A ⊎ (B × (1 < length lists)) → A ⊎ (B × RunsSeveral bundle)
 several_or A B bundle nodes lists good (inl a) = inl a
-several_or A B bundle nodes lists good (inr b) = inr (b.0, several_accepted bundle nodes lists good b.1)
+several_or A B bundle nodes lists good (inr b) =
+    let many = lists_many (scripts_of bundle) lists good.commands in
+    inr (b.0, record { early = good.early; nodes = nodes; read = good.read; no_bad = good.no_bad; several = subst (λ n. 1 < n) many b.1 })

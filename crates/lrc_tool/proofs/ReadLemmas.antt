@@ -6,8 +6,6 @@ use Rattle.lrc_tool.specs.declared.status.Status.{Status}
 use Rattle.lrc_tool.specs.Limits.{bundle_limit}
 use Rattle.lrc_tool.specs.Streams.{AppendsPart}
 use Rattle.lrc_tool.specs.Reads.{IsReadUpTo}
-use Rattle.lrc_script.specs.Bundles.{scripts_of}
-use Rattle.lrc_tool.specs.Judged.{HasSeveral}
 use Rattle.lrc_tool.specs.Outputs.{early_refusal, Answer, IsAnsweredUnless, IsAnswered, Writes, WritesPart}
 
 too_long : (bundle : List ℕ) → bundle_limit < length bundle → early_refusal bundle ≡ Some (codes "bundle 1\n")
@@ -42,15 +40,3 @@ module _ (answer : Answer) (after : Option (List ℕ)) (read read' text text' : 
   writes_part (Some bundle) taken h part =
       let same = subst (AppendsPart old new) same_text part in
       record { text = text; status = status; answered = answered bundle taken h; count = same.count; within = same.within; written = same.written }
-
--- what was read and is not too long is the bundle
-pub several_read : (before after : Option (List ℕ)) (read read' : List ℕ) → read' ≡ read → IsReadUpTo bundle_limit before after read → HasSeveral read'
-    → IfSome before (λ bundle. 1 < length (scripts_of bundle))
-several_read None after read read' same taken h = tt
-several_read (Some bundle) None read read' same taken h = absurd taken.0
-several_read (Some bundle) (Some rest) read read' same taken h = elim taken.1 [
-  | inl none ↦
-      let whole : bundle ≡ read = taken.0 ∙ ap (λ t. read ++ t) none ∙ append-nil read in
-      subst (λ (b : List ℕ). 1 < length (scripts_of b)) (same ∙ sym whole) h.several
-  | inr long ↦ let short = h.short in absurd (omega (arith, long, short, ap length same))
-]

@@ -1,5 +1,5 @@
--- What the tracks of scripts tell: the entries of their sessions in the history, and no others.
-use Rattle.std.proofs.Common.{◌≡◌, ℕ, zero, suc, ◌+◌, ◌≤◌, ◌<◌, ◌==◌, inl, inr, Bool, true, nat_le, nat_eq, All, List, [], ◌∷◌, ◌++◌, length, map, get_or, flat_map, count_by, Option, Some, None, Vec, refl, sym, ap, subst, ◌∙◌, arith}
+-- What the tracks of scripts tell: the entries of their sessions in the history, and no others; and which faults stop none.
+use Rattle.std.proofs.Common.{◌≡◌, ◌≢◌, ℕ, zero, suc, ◌+◌, ◌≤◌, ◌<◌, ◌==◌, ◌⊎◌, inl, inr, Bool, true, nat_le, nat_eq, All, List, [], ◌∷◌, ◌++◌, length, map, get_or, flat_map, count_by, sum_by, Option, Some, None, option_map, unwrap_or, Vec, refl, sym, ap, subst, ◌∙◌, arith}
 use borrow.Author.Tests.{eq-eqb}
 use Rattle.std.proofs.lemmas.Bool.{cases_Bool, leb-true}
 use Rattle.std.proofs.lemmas.Bool.Decides.{nat_tests}
@@ -10,6 +10,8 @@ use Rattle.std.proofs.lemmas.List.Sums.{sum_by-cons, count_by-le-length, length-
 use Rattle.std.specs.List.{range_with_len}
 use Rattle.std.specs.Option.{option_or}
 use mathlib.Core.List.{IsPrefix}
+use Rattle.lrc_code.specs.declared.fault.Fault.{Fault}
+use Rattle.lrc_code.specs.declared.fault.Fault.TheVariants as book
 use Rattle.lrc_book.specs.declared.command.Command.{Command}
 use Rattle.lrc_book.specs.declared.entry.Entry.{Entry}
 use Rattle.lrc_book.specs.Sessions.{NumberedEntry, numbered_from, is_of, entries_of, commands_of, AreRising}
@@ -23,12 +25,14 @@ use Rattle.lrc_sessions.specs.declared.track.Track.{Track}
 use Rattle.lrc_sessions.specs.Views.{SessionView, fresh}
 use Rattle.lrc_sessions.specs.Counts.{made_of, made_in, counts_of, counts_in, total_made}
 use Rattle.lrc_sessions.specs.Closing.{Closes}
-use Rattle.lrc_sessions.specs.Runs.{StopFits, AreStanding, IsRun, AreRun}
+use Rattle.lrc_sessions.specs.Runs.{StopFits, StopIsSeen, AreStanding, IsRun, AreRun}
 use Rattle.lrc_sessions.proofs.Counting.{only, total_push}
 use Rattle.lrc_sessions.proofs.RunLemmas.{some_of}
-use Rattle.lrc_sessions.proofs.StandingLemmas.{standing_on}
+use Rattle.lrc_sessions.proofs.StandingLemmas.{prefix_long, standing_on}
+use Rattle.lrc_tool.specs.declared.streams.RunFault.{RunFault}
+use Rattle.lrc_tool.specs.declared.streams.RunFault.TheVariants as fault
 use Rattle.lrc_tool.specs.Judged.{lists_of}
-use Rattle.lrc_tool.specs.Faults.{stop_fault, first_fault}
+use Rattle.lrc_tool.specs.Faults.{run_fault, stop_fault, first_fault}
 use Rattle.lrc_tool.specs.Texts.{reply_line, script_line, script_text, replies_text}
 use Rattle.lrc_tool.specs.Plays.{AreMade, receipts_text, track_text, tracks_text}
 
@@ -219,34 +223,126 @@ none_at (x ∷ ts) (suc i) t none low = none_at ts i t (both_none (stop_fault x.
 
 -- ---- all scripts
 
-module _ {Z : Type 0} (scripts : List (Vec Command Z)) (after : List SessionView) (tracks : List Track) (history : List Entry)
-    (ran : AreRun ⊥ open_passes scripts (fresh (length scripts)) after tracks) (unstopped : first_fault tracks ≡ None) (seen : All (λ s. IsPrefix s.front history) after)
-    (counts : counts_of (length scripts) after ≡ counts_in (length scripts) history) where
+-- so much is counted for each script from this number on
+abbrev counted : {Z : Type 0} → (ℕ → ℕ) → ℕ → List (Vec Command Z) → List (ℕ × ℕ)
+counted f first vs = map (λ k. (k, f k)) (range_with_len first (length vs))
+
+-- and that is no more than its commands
+abbrev NoMore : {Z : Type 0} → (ℕ → ℕ) → ℕ → List (Vec Command Z) → Type 0
+NoMore {Z} f first vs = (i : ℕ) (v : Vec Command Z) → i < length vs → f (first + i) ≤ length (get_or vs i v).items
+
+abbrev commands_in : {Z : Type 0} → List (Vec Command Z) → ℕ
+commands_in vs = sum_by (λ v. length v.items) vs
+
+no_more_here : {Z : Type 0} (f : ℕ → ℕ) (first : ℕ) (v : Vec Command Z) (vs : List (Vec Command Z)) → NoMore f first (v ∷ vs) → f first ≤ length v.items
+no_more_here f first v vs each = subst (λ k. f k ≤ length v.items) (let z : first + 0 ≡ first = omega arith in z) (each 0 v (omega arith))
+
+no_more_behind : {Z : Type 0} (f : ℕ → ℕ) (first : ℕ) (v : Vec Command Z) (vs : List (Vec Command Z)) → NoMore f first (v ∷ vs) → NoMore f (first + 1) vs
+no_more_behind f first v vs each i w low =
+    subst (λ k. f k ≤ length (get_or vs i w).items) (let z : first + suc i ≡ first + 1 + i = omega arith in z) (each (suc i) w (omega (arith, low)))
+
+total_of : {Z : Type 0} (f : ℕ → ℕ) (first : ℕ) (v : Vec Command Z) (vs : List (Vec Command Z)) → total_made (counted f first (v ∷ vs)) ≡ f first + total_made (counted f (first + 1) vs)
+total_of f first v vs = sum_by-cons (λ (c : ℕ × ℕ). c.1) (first, f first) (counted f (first + 1) vs)
+
+-- then it is no more in all
+counted_most : {Z : Type 0} (f : ℕ → ℕ) (first : ℕ) (vs : List (Vec Command Z)) → NoMore f first vs → total_made (counted f first vs) ≤ commands_in vs
+counted_most f first [] each = omega arith
+counted_most {Z} f first (v ∷ vs) each =
+    let all = sum_by-cons (λ (x : Vec Command Z). length x.items) v vs in
+    omega (arith, no_more_here f first v vs each, counted_most f (first + 1) vs (no_more_behind f first v vs each), total_of f first v vs, all)
+
+-- and less where it is less for one of them
+counted_less : {Z : Type 0} (f : ℕ → ℕ) (first j : ℕ) (vs : List (Vec Command Z)) → NoMore f first vs → j < length vs → ((v : Vec Command Z) → f (first + j) < length (get_or vs j v).items)
+    → total_made (counted f first vs) < commands_in vs
+counted_less f first j [] each low less = absurd (omega (arith, low))
+counted_less {Z} f first zero (v ∷ vs) each low less =
+    let all = sum_by-cons (λ (x : Vec Command Z). length x.items) v vs in
+    let here : f first < length v.items = subst (λ k. f k < length v.items) (let z : first + 0 ≡ first = omega arith in z) (less v) in
+    omega (arith, here, counted_most f (first + 1) vs (no_more_behind f first v vs each), total_of f first v vs, all)
+counted_less {Z} f first (suc j) (v ∷ vs) each low less =
+    let all = sum_by-cons (λ (x : Vec Command Z). length x.items) v vs in
+    let next : (w : Vec Command Z) → f (first + 1 + j) < length (get_or vs j w).items =
+    λ w. subst (λ k. f k < length (get_or vs j w).items) (let z : first + suc j ≡ first + 1 + j = omega arith in z) (less w) in
+    omega (arith, no_more_here f first v vs each, counted_less f (first + 1) j vs (no_more_behind f first v vs each) (omega (arith, low)) next, total_of f first v vs, all)
+
+-- a script was stopped by the first fault
+stopped_by : (o : Option Stop) (rest : Option Fault) (f : Fault) → option_or (stop_fault o) rest ≡ Some f → (o ≡ Some (stop.Fault f)) ⊎ (rest ≡ Some f)
+stopped_by (Some (stop.Fault g)) rest f is = inl (ap (λ (p : Option Fault). Some (stop.Fault (unwrap_or p g))) is)
+stopped_by (Some stop.Gate) rest f is = inr is
+stopped_by None rest f is = inr is
+
+first_at : (ts : List Track) (f : Fault) → first_fault ts ≡ Some f → (i : ℕ) × (i < length ts) × ((t : Track) → (get_or ts i t).stopped ≡ Some (stop.Fault f))
+first_at [] f is = absurd (cc)
+first_at (x ∷ ts) f is = elim (stopped_by x.stopped (first_fault ts) f is) [
+  | inl here ↦ (0, omega arith, λ t. here)
+  | inr more ↦ let (i, low, at) = first_at ts f more in (suc i, omega (arith, low), at)
+]
+
+module _ {Z : Type 0} (limit : ℕ) (scripts : List (Vec Command Z)) (after : List SessionView) (tracks : List Track) (ran : AreRun limit ⊥ open_passes scripts (fresh (length scripts)) after tracks) where
   abbrev first_view : ℕ → SessionView
   first_view k = record { number = k; made = 0; front = [] }
 
   run_at : (i : ℕ) (s : Vec Command Z) (a : SessionView) (t : Track) → i < length scripts
-      → IsRun ⊥ open_passes (get_or scripts i s).items (first_view (1 + i)) (get_or after i a) (get_or tracks i t).receipts (get_or tracks i t).stopped
+      → IsRun limit ⊥ open_passes (get_or scripts i s).items (first_view (1 + i)) (get_or after i a) (get_or tracks i t).receipts (get_or tracks i t).stopped
   run_at i s a t low =
       let before = get_or-map-range_with_len first_view 1 (length scripts) i (1 + i) a low refl in
-      subst (λ (b : SessionView). IsRun ⊥ open_passes (get_or scripts i s).items b (get_or after i a) (get_or tracks i t).receipts (get_or tracks i t).stopped) before (ran.2 i s a a t low)
+      subst (λ (b : SessionView). IsRun limit ⊥ open_passes (get_or scripts i s).items b (get_or after i a) (get_or tracks i t).receipts (get_or tracks i t).stopped) before (ran.2 i s a a t low)
 
   are_from : AreFrom 1 after
   are_from i a low =
       let within : i < length scripts = omega (arith, low, ran.0) in
       (run_at i (some_of scripts i within) a (some_of tracks i (omega (arith, within, ran.1))) within).0
 
-  told_at : (i : ℕ) (s : Vec Command Z) (t : Track) → i < length scripts → IsTold (1 + i) history (get_or scripts i s).items (get_or tracks i t).receipts
-  told_at i s t low =
+  made_for : (i : ℕ) (s : Vec Command Z) (t : Track) → i < length scripts → made_of (1 + i) after ≡ length (get_or tracks i t).receipts
+  made_for i s t low =
       let a = first_view 1 in
-      let run = run_at i s a t low in
       let there : i < length after = omega (arith, low, ran.0) in
-      let long = whole (get_or scripts i s).items (length (get_or tracks i t).receipts) (get_or tracks i t).stopped (none_at tracks i t unstopped (omega (arith, low, ran.1))) run.3 in
-      let standing = standing_on (1 + i) 0 (get_or scripts i s).items (get_or tracks i t).receipts (get_or after i a).front history (seen i a there) run.5 in
       let count = made_at 1 i (1 + i) after a are_from there refl in
-      let made = run.1 in
-      let all = sym count ∙ same_count (length scripts) i after history counts low in
-      told (1 + i) history (get_or scripts i s).items (get_or tracks i t).receipts long standing (omega (arith, made, all))
+      let made = (run_at i s a t low).1 in
+      omega (arith, count, made)
+
+  no_more : NoMore (λ k. made_of k after) 1 scripts
+  no_more i v low =
+      let t = some_of tracks i (omega (arith, low, ran.1)) in
+      let most = (run_at i v (first_view 1) t low).2 in
+      omega (arith, made_for i v t low, most)
+
+  module _ (history : List Entry) (seen : All (λ s. IsPrefix s.front history) after) where
+    told_at : first_fault tracks ≡ None → counts_of (length scripts) after ≡ counts_in (length scripts) history → (i : ℕ) (s : Vec Command Z) (t : Track) → i < length scripts
+        → IsTold (1 + i) history (get_or scripts i s).items (get_or tracks i t).receipts
+    told_at unstopped counts i s t low =
+        let a = first_view 1 in
+        let run = run_at i s a t low in
+        let there : i < length after = omega (arith, low, ran.0) in
+        let long = whole (get_or scripts i s).items (length (get_or tracks i t).receipts) (get_or tracks i t).stopped (none_at tracks i t unstopped (omega (arith, low, ran.1))) run.3 in
+        let standing = standing_on (1 + i) 0 (get_or scripts i s).items (get_or tracks i t).receipts (get_or after i a).front history (seen i a there) run.5 in
+        told (1 + i) history (get_or scripts i s).items (get_or tracks i t).receipts long standing (sym (made_for i s t low) ∙ same_count (length scripts) i after history counts low)
+
+    -- a script that a full history stopped has a command left, so all of them have more than the history has entries
+    full_never : length history ≡ total_made (counts_of (length scripts) after) → commands_in scripts ≤ limit → first_fault tracks ≢ Some book.HistoryFull
+    full_never total few full =
+        let (i, low, at) = first_at tracks book.HistoryFull full in
+        let within : i < length scripts = omega (arith, low, ran.1) in
+        let t = some_of tracks i low in
+        let a = first_view 1 in
+        let seen_whole : limit ≤ length (get_or after i a).front = subst (StopIsSeen limit (get_or after i a).front) (at t) (run_at i (some_of scripts i within) a t within).6 in
+        let long = prefix_long (get_or after i a).front history (seen i a (omega (arith, within, ran.0))) in
+        let left : (v : Vec Command Z) → made_of (1 + i) after < length (get_or scripts i v).items =
+        λ v. let less = subst (StopFits ⊥ (get_or scripts i v).items (length (get_or tracks i t).receipts)) (at t) (run_at i v a t within).3 in omega (arith, made_for i v t within, less) in
+        let less = counted_less (λ k. made_of k after) 1 i scripts no_more within left in
+        omega (arith, total, few, seen_whole, long, less)
+
+-- where all commands of the scripts have room in the history, a full one stopped none of them
+pub never_full : {Z : Type 0} (nodes : List NodeInfo) (limit : ℕ) (scripts : List (Vec Command Z)) (after : List SessionView) (tracks : List Track) (c : Closing)
+    → AreRun limit ⊥ open_passes scripts (fresh (length scripts)) after tracks → Closes nodes (length scripts) after c → sum_by (λ v. length v.items) scripts ≤ limit
+    → first_fault tracks ≢ Some book.HistoryFull
+never_full nodes limit scripts after tracks c ran closes few = full_never limit scripts after tracks ran c.book.history closes.6 (closes.4 ∙ ap total_made closes.3) few
+
+-- so the fault that is told is want of memory
+pub told_memory : (o : Option Fault) (e : RunFault) → option_map run_fault o ≡ Some e → o ≢ Some book.HistoryFull → e ≡ fault.OutOfMemory
+told_memory None e told none = absurd (cc)
+told_memory (Some book.OutOfMemory) e told none = sym (ap (λ (x : Option RunFault). unwrap_or x e) told)
+told_memory (Some book.HistoryFull) e told none = absurd (none refl)
 
 commands_all : (h : List Entry) (first : ℕ) (ls : List (List Command)) → ((i : ℕ) → i < length ls → commands_of (first + i) h ≡ get_or ls i [])
     → map (λ s. commands_of s h) (range_with_len first (length ls)) ≡ ls
@@ -267,14 +363,14 @@ texts_all h first (t ∷ ts) each =
     λ i. here i ++ more i
 
 -- the sessions of scripts that were not stopped made all their commands, and what is printed of the tracks is printed of the history
-pub tracks_made : {Z : Type 0} (nodes : List NodeInfo) (scripts : List (Vec Command Z)) (after : List SessionView) (tracks : List Track) (c : Closing)
-    → AreRun ⊥ open_passes scripts (fresh (length scripts)) after tracks → first_fault tracks ≡ None → Closes nodes (length scripts) after c
+pub tracks_made : {Z : Type 0} (nodes : List NodeInfo) (limit : ℕ) (scripts : List (Vec Command Z)) (after : List SessionView) (tracks : List Track) (c : Closing)
+    → AreRun limit ⊥ open_passes scripts (fresh (length scripts)) after tracks → first_fault tracks ≡ None → Closes nodes (length scripts) after c
     → AreMade nodes (lists_of scripts) c.book.history (tracks_text 1 tracks)
-tracks_made {Z} nodes scripts after tracks c ran unstopped closes =
+tracks_made {Z} nodes limit scripts after tracks c ran unstopped closes =
     let h = c.book.history in
     let n = length scripts in
     let long : length (lists_of scripts) ≡ n = length-map scripts (λ (v : Vec Command Z). v.items) in
-    let at = told_at scripts after tracks h ran unstopped closes.6 (sym closes.3 ∙ closes.5) in
+    let at = told_at limit scripts after tracks ran h closes.6 unstopped (sym closes.3 ∙ closes.5) in
     let made = commands_all h 1 (lists_of scripts) (λ i low.
     let within : i < n = omega (arith, low, long) in
     let s = some_of scripts i within in

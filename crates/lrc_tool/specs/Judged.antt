@@ -1,6 +1,6 @@
 -- Internal: no public clause reaches these definitions.
 -- What the checks of a bundle tell: a refusal, or nodes and the commands of its scripts.
-use Rattle.std.specs.Prelude.{◌≡◌, ℕ, ◌≤◌, ◌<◌, ◌*◌, All, List, [], ◌∷◌, length, map, sum_by, Option, None, Vec}
+use Rattle.std.specs.Prelude.{◌≡◌, ℕ, ◌≤◌, All, List, [], ◌∷◌, length, map, sum_by, Option, None, Vec}
 use Rattle.std.specs.List.{AllZip}
 use Rattle.lrc_topology.specs.declared.NodeInfo.{NodeInfo}
 use Rattle.lrc_topology.specs.Documents.{IsTopologyOf}
@@ -12,7 +12,7 @@ use Rattle.lrc_script.specs.Bundles.{scripts_of, topology_of}
 use Rattle.lrc_tool.specs.declared.status.Status.{Status}
 use Rattle.lrc_tool.specs.declared.judging.Judged.{Judged}
 use Rattle.lrc_tool.specs.declared.judging.Judged.TheVariants.{Refused, Good}
-use Rattle.lrc_tool.specs.Limits.{bundle_limit, script_limit}
+use Rattle.lrc_tool.specs.Limits.{script_limit}
 use Rattle.lrc_tool.specs.Outputs.{early_refusal, first_bad_of, AreCommandsOf, Answer, IsAnswered}
 
 -- ---- scripts
@@ -31,11 +31,11 @@ pub record AreParsed (texts : List ScriptText) (lists : List (List Command)) : T
   pub no_bad : first_bad_in texts ≡ None
   pub commands : AllZip (λ text commands. IsScript (lines_of text.text.now) commands) texts lists
 
--- there are not too many scripts, and a history has room for the commands of each
+-- there are not too many scripts, and a history has room for the commands of each, and of all together
 pub record AreFew {Z : Type 0} (scripts : List (Vec Command Z)) : Type 0 where
   pub scripts_few : length scripts ≤ script_limit
   pub each_few : All (λ script. length script.items ≤ HISTORY_LIMIT) scripts
-  pub commands_few : sum_by (λ script. length script.items) scripts ≤ script_limit * HISTORY_LIMIT
+  pub commands_few : sum_by (λ script. length script.items) scripts ≤ HISTORY_LIMIT
 
 -- ---- bundles
 
@@ -54,11 +54,6 @@ pub record IsAccepted {Z : Type 0} (bundle : List ℕ) (nodes : List NodeInfo) (
   pub no_bad : first_bad_of (scripts_of bundle) ≡ None
   pub commands : AreCommandsOf (scripts_of bundle) (lists_of scripts)
   pub few : AreFew scripts
-
--- the bundle is not too long, and has two scripts or more
-pub record HasSeveral (bundle : List ℕ) : Type 0 where
-  pub short : length bundle ≤ bundle_limit
-  pub several : 1 < length (scripts_of bundle)
 
 -- a check of this bundle fails, or it has these nodes, and these commands
 abbrev pub IsJudged : List ℕ → Judged → Type 0

@@ -1,5 +1,5 @@
 -- What a run writes for a bundle, and how it ends.
-use Rattle.std.specs.Prelude.{◌≡◌, ◌≢◌, ℕ, ◌≤◌, if◌then◌else◌, nat_lt, List, [], ◌∷◌, length, take, All, codes, Option, Some, None, Result, Ok, Err}
+use Rattle.std.specs.Prelude.{◌≡◌, ◌≢◌, ℕ, ◌≤◌, ◌<◌, if◌then◌else◌, nat_lt, List, [], ◌∷◌, length, take, All, codes, Option, Some, None, Result, Ok, Err}
 use Rattle.std.specs.List.{AllZip}
 use Rattle.std.specs.Io.KnownBytes.{Appends}
 use Rattle.lrc_topology.specs.declared.NodeInfo.{NodeInfo}
@@ -34,6 +34,14 @@ Reads text (Err error) = (error ≢ OutOfMemory) × IsRefusedBy text error
 abbrev pub first_bad_of : List Script → Option BadLine
 first_bad_of [] = None
 first_bad_of (script ∷ scripts) = or_else (first_bad script.first_line script.lines) (first_bad_of scripts)
+
+-- the bundle passes all checks, and has two scripts or more
+pub record RunsSeveral (bundle : List ℕ) : Type 0 where
+  pub early : early_refusal bundle ≡ None
+  pub nodes : List NodeInfo
+  pub read : IsTopologyOf (topology_of bundle) nodes
+  pub no_bad : first_bad_of (scripts_of bundle) ≡ None
+  pub several : 1 < length (scripts_of bundle)
 
 -- ---- the answer to a bundle: that of the first check that fails, or the one that it gets where all pass
 

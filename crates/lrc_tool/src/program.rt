@@ -1,11 +1,10 @@
 //! Running a bundle, from the bytes in to the bytes out.
 
-ghost use Rattle.std.specs.Prelude.{◌≡◌, ◌≢◌, ◌||◌, ◌⊎◌, ◌+◌, ◌<◌, ◌≤◌, true, [], length, OnOk, IfOk, IfErr, IfSome, IsErrOf};
+ghost use Rattle.std.specs.Prelude.{◌≡◌, ◌≢◌, ◌||◌, ◌⊎◌, ◌+◌, ◌<◌, true, [], length, OnOk, IfOk, IfErr, IfSome, IsErrOf};
 ghost use Rattle.std.specs.Io.KnownBytes.{Keeps};
 ghost use Rattle.lrc_tool.specs.Streams.{is_read_fault, is_write_fault, ConsumesAtMost};
-ghost use Rattle.lrc_script.specs.Bundles.{scripts_of};
-ghost use Rattle.lrc_tool.specs.Judged.{lists_of, AreFew, HasSeveral};
-ghost use Rattle.lrc_tool.specs.Outputs.{IsPlayed, IsOutput, WritesOutput, WritesPartOfOutput};
+ghost use Rattle.lrc_tool.specs.Judged.{lists_of, AreFew};
+ghost use Rattle.lrc_tool.specs.Outputs.{RunsSeveral, IsPlayed, IsOutput, WritesOutput, WritesPartOfOutput};
 ghost use Rattle.lrc_tool.specs.declared.streams.RunFault.TheVariants as fault;
 
 use crate::judging::{Judged, judge};
@@ -26,8 +25,9 @@ use std::thread::Threads;
 ///
 /// # Errors
 ///
-/// `OutOfMemory` where there is no room, `HistoryFull` where the scripts make more than 1,000,000 calls, `Read` where the bundle
-/// is not read, and `Write` where the output is not written.
+/// `OutOfMemory` where there is no room, `Read` where the bundle is not read, `Write` where the output is not written, and
+/// `NoReader` where the bundle passes all checks and has two scripts or more, and the library refuses a session its reader. Never
+/// `HistoryFull`, since a bundle is too short for so many commands.
 pub fn run<R: Source, W: Sink, T: Threads + Wait + Sync>(
     rt: &T,
     alloc: Global,
@@ -47,11 +47,12 @@ pub fn run<R: Source, W: Sink, T: Threads + Wait + Sync>(
     // However long the source is, one byte more than a bundle may have is the most that is read of it.
     ensures most { ConsumesAtMost (BUNDLE_LIMIT + 1) (R.left source.old) (R.left source.new) }
 
-    // It stops by a read where one failed, by a write where one failed, by a full history only where there are two scripts or
-    // more, and else for want of memory alone.
+    // It stops by a read where one failed, by a write where one failed, by no full history, for want of a reader only where two
+    // scripts or more are run, and else for want of memory alone.
     ensures read { R.has_failed source.new ≡ (R.has_failed source.old || is_read_fault result) }
     ensures write { W.has_failed sink.new ≡ (W.has_failed sink.old || is_write_fault result) }
-    ensures full { IsErrOf result fault.HistoryFull → IfSome (R.left source.old) (λ bundle. 1 < length (scripts_of bundle)) }
+    ensures full { IfErr result (λ e. e ≢ fault.HistoryFull) }
+    ensures no_reader { IsErrOf result fault.NoReader → IfSome (R.left source.old) RunsSeveral }
 {
     let bundle = read_all(alloc, source, BUNDLE_LIMIT)?;
     let output = output_of(rt, alloc, bundle)?;
@@ -66,7 +67,7 @@ fn output_of<T: Threads + Wait + Sync>(
     bundle: Vec<u8>,
 ) -> Result<Output, RunFault>
     ensures output { IfOk result (λ o. IsOutput bundle.items (o.text.items) o.status) }
-    ensures err { IfErr result (λ e. (e ≡ fault.OutOfMemory) ⊎ ((e ≡ fault.HistoryFull) × HasSeveral bundle.items)) }
+    ensures err { IfErr result (λ e. (e ≡ fault.OutOfMemory) ⊎ ((e ≡ fault.NoReader) × RunsSeveral bundle.items)) }
 {
     match judge(alloc, bundle.as_slice())? {
         Judged::Refused(output) => Ok(output),
@@ -99,7 +100,7 @@ fn play_all<T: Threads + Wait + Sync>(
     requires few { AreFew scripts.now }
     requires empty { room.items ≡ [] }
     ensures played { IfOk result (λ text. IsPlayed topology (lists_of scripts.now) text.items) }
-    ensures err { IfErr result (λ e. (e ≡ fault.OutOfMemory) ⊎ ((e ≡ fault.HistoryFull) × (1 < length scripts.now))) }
+    ensures err { IfErr result (λ e. (e ≡ fault.OutOfMemory) ⊎ ((e ≡ fault.NoReader) × (1 < length scripts.now))) }
 {
     if scripts.len() > 1 {
         return play_together(rt, alloc, topology, scripts);

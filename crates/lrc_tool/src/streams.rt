@@ -24,6 +24,8 @@ pub enum RunFault {
     Read = 3,
     #[error("fault 4")]
     Write = 4,
+    #[error("fault 5")]
+    NoReader = 5,
 }
 
 impl From<AllocError> for RunFault {

@@ -1,8 +1,8 @@
 //! Several scripts at once, each by a session of its own.
 
-ghost use Rattle.std.specs.Prelude.{◌≡◌, ◌<◌, ◌≤◌, ◌⊎◌, ◌++◌, length, Some, None, option_map, IfOk, OnOk, IfErr};
+ghost use Rattle.std.specs.Prelude.{◌≡◌, ◌<◌, ◌≤◌, ◌⊎◌, ◌++◌, length, sum_by, Some, None, option_map, IfOk, OnOk, IfErr};
 ghost use Rattle.lrc_tool.specs.Faults.{run_fault, first_fault};
-ghost use Rattle.lrc_tool.specs.Judged.{lists_of};
+ghost use Rattle.lrc_tool.specs.Judged.{lists_of, AreFew};
 ghost use Rattle.lrc_tool.specs.Plays.{AreMade, receipts_text, tracks_text};
 ghost use Rattle.lrc_tool.specs.Outputs.{IsPlayed};
 ghost use Rattle.lrc_tool.specs.declared.streams.RunFault.TheVariants as fault;
@@ -13,7 +13,7 @@ use crate::texts::{push_reply_line, push_script_line};
 use lrc_book::{Book, Command};
 use lrc_code::SessionNo;
 use lrc_sessions::{
-    FinishError, Manager, Naming, OpenGate, Parts, Receipt, Stop, Track, run_sessions,
+    FinishError, Manager, Naming, OpenError, OpenGate, Parts, Receipt, Stop, Track, run_sessions,
 };
 use lrc_topology::Topology;
 use std::alloc::{AllocError, Global};
@@ -37,8 +37,9 @@ pub(crate) fn play_together<T: Threads + Wait + Sync>(
     scripts: &[Vec<Command>],
 ) -> Result<Vec<u8>, RunFault>
     requires several { (1 < length scripts.now) × (length scripts.now ≤ 8) }
+    requires few { AreFew scripts.now }
     ensures played { IfOk result (λ text. IsPlayed topology (lists_of scripts.now) text.items) }
-    ensures err { IfErr result (λ e. (e ≡ fault.OutOfMemory) ⊎ (e ≡ fault.HistoryFull)) }
+    ensures err { IfErr result (λ e. (e ≡ fault.OutOfMemory) ⊎ (e ≡ fault.NoReader)) }
 {
     let Ok(parts) = Parts::new(alloc, topology, scripts.len() as u8) else {
         return Err(RunFault::OutOfMemory);
@@ -56,18 +57,23 @@ fn run_each<N: Naming + Send + Sync, T: Threads + Wait + Sync>(
     scripts: &[Vec<Command>],
 ) -> Result<Played, RunFault>
     requires topology { parts.topology ≡ N.topology }
+    requires limit { parts.limit ≡ N.limit }
     requires count { parts.count ≡ N.count }
     requires name { parts.name ≡ N.name }
     requires shares { parts.shares ≡ N.parts }
     requires log { (parts.log ≡ N.log) × (parts.start ≡ N.start) }
     requires scripts { (length scripts.now ≡ parts.count) × (parts.count ≤ 8) }
+    // The history has room for the commands of all.
+    requires few { sum_by (λ script. length script.items) scripts.now ≤ parts.limit }
     ensures nodes { IfOk result (λ p. p.book.nodes ≡ parts.topology) }
     ensures tracks { IfOk result (λ p. length p.tracks.items ≤ 8) }
     ensures made { IfOk result (λ p. AreMade parts.topology (lists_of scripts.now) p.book.history (tracks_text 1 p.tracks.items)) }
-    ensures err { IfErr result (λ e. (e ≡ fault.OutOfMemory) ⊎ (e ≡ fault.HistoryFull)) }
+    ensures err { IfErr result (λ e. (e ≡ fault.OutOfMemory) ⊎ (e ≡ fault.NoReader)) }
 {
-    let Ok((manager, sessions)) = Manager::<N>::open(alloc, rt, parts) else {
-        return Err(RunFault::OutOfMemory);
+    let (manager, sessions) = match Manager::<N>::open(alloc, rt, parts) {
+        Ok(opened) => opened,
+        Err(OpenError::NoReader) => return Err(RunFault::NoReader),
+        Err(_) => return Err(RunFault::OutOfMemory),
     };
     let (sessions, ran) = run_sessions(rt, alloc, &manager, sessions, scripts, &OpenGate);
     match manager.finish(rt, sessions) {
@@ -83,7 +89,6 @@ fn run_each<N: Naming + Send + Sync, T: Threads + Wait + Sync>(
 fn unstopped(tracks: Vec<Track>) -> Result<Vec<Track>, RunFault>
     ensures ok { IfOk result (λ v. (v.items ≡ tracks.items) × (first_fault tracks.items ≡ None)) }
     ensures first { IfErr result (λ e. option_map run_fault (first_fault tracks.items) ≡ Some e) }
-    ensures err { IfErr result (λ e. (e ≡ fault.OutOfMemory) ⊎ (e ≡ fault.HistoryFull)) }
 {
     for track in tracks.as_slice() {
         if let Some(Stop::Fault(fault)) = track.stopped {

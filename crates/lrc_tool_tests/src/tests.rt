@@ -7,6 +7,7 @@ mod errors;
 mod fakes;
 mod recoveries;
 mod scripts;
+mod several;
 mod splitting;
 mod streams;
 

@@ -1,8 +1,10 @@
 //! The program `lrcman`: its command line, its standard streams and its exit status.
 #![tactic(auto)]
 
-use clap::error::ErrorKind;
-use clap::{Arg, ArgAction, ArgMatches, Command, Error};
+mod stop;
+
+use crate::stop::Stop;
+use clap::{Arg, ArgAction, ArgMatches, Command};
 use lrc_tool::{Plain, RunFault, Status, check, recover, run};
 use std::alloc::{AllocError, Global};
 use std::process::ExitCode;
@@ -16,60 +18,6 @@ enum Request<'a> {
     Run,
     Check,
     Recover { mask: &'a str },
-}
-
-/// Why the program ends without the status of its command: the line on standard error.
-#[derive(Clone, Copy, Debug, thiserror::Error)]
-enum Stop {
-    /// The command line is refused.
-    #[error("usage: lrcman run < BUNDLE | lrcman check < BUNDLE | lrcman recover MASK (four hexadecimal digits)")]
-    Usage,
-    #[error("lrcman: {0}")]
-    Fault(RunFault),
-}
-
-impl Stop {
-    /// The exit status.
-    fn status(self) -> u8 {
-        match self {
-            Stop::Usage => 2,
-            Stop::Fault(_) => 3,
-        }
-    }
-}
-
-impl From<RunFault> for Stop {
-    fn from(fault: RunFault) -> Stop {
-        Stop::Fault(fault)
-    }
-}
-
-impl From<AllocError> for Stop {
-    fn from(_error: AllocError) -> Stop {
-        Stop::Fault(RunFault::OutOfMemory)
-    }
-}
-
-impl From<io::Error> for Stop {
-    /// Why the words of the command line were not given.
-    fn from(error: io::Error) -> Stop {
-        match error.kind() {
-            io::ErrorKind::OutOfMemory => Stop::Fault(RunFault::OutOfMemory),
-            // A word is no UTF-8.
-            _ => Stop::Usage,
-        }
-    }
-}
-
-impl From<Error> for Stop {
-    /// Why the words of the command line were refused.
-    fn from(error: Error) -> Stop {
-        match error.kind() {
-            ErrorKind::OutOfMemory => Stop::Fault(RunFault::OutOfMemory),
-            // A request for help too.
-            _ => Stop::Usage,
-        }
-    }
 }
 
 /// The command lines that the program takes. Each step hands its only command on, so none is let go between.

@@ -1,18 +1,17 @@
 //! Laws of boards.
 
-ghost use Rattle.std.specs.Prelude.{◌≡◌, IsFalse, if◌then◌else◌, List, option_map};
+ghost use Rattle.std.specs.Prelude.{◌≡◌, IsFalse, if◌then◌else◌, List};
 ghost use Rattle.lrc_code.specs.declared.numbers.StripeNo.{StripeNo};
 ghost use Rattle.lrc_code.specs.declared.numbers.NodeNo.{NodeNo};
 ghost use Rattle.lrc_code.specs.declared.numbers.SessionNo.{SessionNo};
-ghost use Rattle.lrc_code.specs.Numbers.{same_stripe, same_node};
+ghost use Rattle.lrc_code.specs.Numbers.{same_stripe};
 ghost use Rattle.lrc_topology.specs.declared.NodeInfo.{NodeInfo};
-ghost use Rattle.lrc_topology.specs.Nodes.{node_at};
 ghost use Rattle.lrc_book.specs.declared.command.Command.{Command};
 ghost use Rattle.lrc_book.specs.declared.entry.Entry.{Entry};
 ghost use Rattle.lrc_book.specs.States.{State, load, load_shown, level_shown};
 ghost use Rattle.lrc_book.specs.Steps.{step};
 ghost use Rattle.lrc_book.specs.Touching.{can_change_level, can_change_load};
-ghost use Rattle.lrc_book.specs.Boards.{LevelChange, levels_of, level_in, put_level, LoadChange, loads_of, load_in, put_load};
+ghost use Rattle.lrc_book.specs.Boards.{LevelChange, levels_of, level_in, put_level, loads_of, load_in};
 
 /// A board shows what a book shows: the level of each stripe and the load of each node.
 pub fn boards_show_what_books_show()
@@ -20,13 +19,10 @@ pub fn boards_show_what_books_show()
     ensures loads { (nodes : List NodeInfo) (st : State) (n : NodeNo) → load_in (loads_of nodes st) n ≡ load_shown nodes st n }
 {}
 
-/// A change that is put on a board changes one level or one load, and no other.
-pub fn a_change_is_of_one_stripe_or_node()
-    ensures level { (nodes : List NodeInfo) (st : State) (change : LevelChange) (s : StripeNo)
+/// A change that is put on a board changes the level of one stripe, and no other.
+pub fn a_change_is_of_one_stripe()
+    ensures { (nodes : List NodeInfo) (st : State) (change : LevelChange) (s : StripeNo)
         → level_in (put_level (levels_of nodes st) change) s ≡ (if same_stripe change.0 s then change.1 else level_shown nodes st s) }
-    ensures load { (nodes : List NodeInfo) (st : State) (change : LoadChange) (n : NodeNo)
-        → load_in (put_load (loads_of nodes st) change) n
-        ≡ option_map (λ m. if same_node change.0 m.number then change.1 else load st m.number) (node_at nodes n) }
 {}
 
 /// The level of a stripe is as it was after every command but one that places, drops or repairs it, or one on a node or a

@@ -7,6 +7,7 @@ ghost use Rattle.lrc_topology.specs.Nodes.{AreNodes, has_domain};
 ghost use Rattle.lrc_code.specs.declared.numbers.NodeNo.{NodeNo};
 ghost use Rattle.lrc_code.specs.declared.numbers.SessionNo.{SessionNo};
 ghost use Rattle.lrc_book.specs.declared.entry.Entry.{Entry};
+ghost use Rattle.lrc_book.specs.declared.command.Command.{Command};
 ghost use Rattle.lrc_book.specs.declared.command.Command.TheVariants.{Upgrade, Upgraded};
 ghost use Rattle.lrc_book.specs.declared.reply.Reply.TheVariants.{Changed, Refused};
 ghost use Rattle.lrc_book.specs.declared.refusal.Refusal.TheVariants as refusal;
@@ -74,4 +75,11 @@ pub fn upgrades_change_the_domain_alone()
         → (step nodes past st session (Upgrade u)).0 ≡ Changed → (step nodes past st session (Upgrade u)).1.upgrading ≡ Some u }
     ensures down { (nodes : List NodeInfo) (past : List Entry) (st : State) (session : SessionNo) (u : UpgradeNo) (n : NodeNo)
         → is_down (step nodes past st session (Upgraded u)).1 n ≡ is_down st n }
+{}
+
+/// Which domain is upgrading changes by Upgrade and Upgraded alone.
+pub fn upgrading_changes_by_these_alone()
+    ensures { (nodes : List NodeInfo) (past : List Entry) (st : State) (session : SessionNo) (command : Command)
+        → ((u : UpgradeNo) → command ≢ Upgrade u) → ((u : UpgradeNo) → command ≢ Upgraded u)
+        → (step nodes past st session command).1.upgrading ≡ st.upgrading }
 {}

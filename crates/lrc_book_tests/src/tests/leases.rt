@@ -14,9 +14,9 @@ const SECOND: SessionNo = SessionNo { value: 2 };
 /// The fragments of the first stripe that are leased.
 const ZERO: Fragment = Fragment { value: 0 };
 
-const THREE: Fragment = Fragment { value: 3 };
+pub(super) const THREE: Fragment = Fragment { value: 3 };
 
-const SIX: Fragment = Fragment { value: 6 };
+pub(super) const SIX: Fragment = Fragment { value: 6 };
 
 /// What fragments 3 and 6 are rebuilt from: the rest of their local groups.
 const OF_THREE: Kind = Kind::Local([
@@ -38,8 +38,8 @@ const OF_SIX: Kind = Kind::Local([
 ]);
 
 /// The lease of fragment 3 of the first stripe on the first slot of a node.
-fn granted(holder: SessionNo, target: u16, epoch: u32) -> Reply {
-    let lease = Lease {
+pub(super) fn lease_of_three(holder: SessionNo, target: u16, epoch: u32) -> Lease {
+    Lease {
         stripe: ONE,
         fragment: THREE,
         holder,
@@ -48,8 +48,11 @@ fn granted(holder: SessionNo, target: u16, epoch: u32) -> Reply {
             slot: 0,
         },
         epoch,
-    };
-    Reply::Granted(lease, OF_THREE)
+    }
+}
+
+pub(super) fn granted(holder: SessionNo, target: u16, epoch: u32) -> Reply {
+    Reply::Granted(lease_of_three(holder, target, epoch), OF_THREE)
 }
 
 /// The first stripe is placed, and fragment 3 loses its home and is leased.
@@ -62,7 +65,7 @@ fn place_and_lease(rt: &impl Abort, book: &mut Book) {
     expect_replies(rt, book, &rows);
 }
 
-fn lease(book: &Book, stripe: StripeNo, fragment: Fragment) -> Option<Lease> {
+pub(super) fn lease(book: &Book, stripe: StripeNo, fragment: Fragment) -> Option<Lease> {
     book.lease(stripe, fragment)
 }
 

@@ -1,12 +1,11 @@
 //! Draining, upgrades and the order of repair on the book of twenty nodes.
 
 use super::{
-    FIRST, ONE, TWO, ask, book, close, expect_changes, expect_node, expect_replies, expect_stripe,
-    fail_all, first_seats, node,
+    FIRST, ONE, TWO, ask, book, close, expect_changes, expect_node, expect_replies, expect_risk,
+    expect_stripe, fail_all, first_seats, node,
 };
 use lrc_book::{Book, Command, Kind, Lease, Level, Mode, Refusal, Reply, Seat};
 use lrc_code::{Fragment, StripeNo, UpgradeNo};
-use std::alloc::Global;
 use std::process::Abort;
 use std::test::Fail;
 
@@ -54,7 +53,8 @@ fn lose_homes_of_both(rt: &impl Abort, book: &mut Book) {
 fn the_stripe_nearest_to_loss_is_repaired_first(rt: HostRuntime) -> Result<(), Fail> {
     let mut book = book(rt.alloc())?;
     repair_in_order(&rt, &mut book);
-    expect_both_at_risk(&rt, rt.alloc(), &book);
+    let at_risk = [(TWO, Level::AtRisk(0)), (ONE, Level::AtRisk(2))];
+    expect_risk(&rt, rt.alloc(), &book, &at_risk);
     close(book);
     Ok(())
 }
@@ -74,17 +74,6 @@ fn repair_in_order(rt: &impl Abort, book: &mut Book) {
         (Command::Next, Reply::Idle),
     ];
     expect_replies(rt, book, &rows);
-}
-
-/// The second stripe is at risk before the first, and no other.
-fn expect_both_at_risk(rt: &impl Abort, alloc: Global, book: &Book) {
-    match book.risk(alloc) {
-        Ok(rows) => {
-            let wanted = [(TWO, Level::AtRisk(0)), (ONE, Level::AtRisk(2))];
-            assert!(rt; rows.as_slice() == wanted.as_slice());
-        }
-        Err(_) => panic!(rt; "room for the stripes at risk"),
-    }
 }
 
 #[test]

@@ -1,7 +1,6 @@
 //! A keeper over twenty nodes: what viewers see of two calls.
 
 ghost use Rattle.std.specs.Prelude.{◌≡◌, [], IfOk};
-ghost use Rattle.lrc_book.specs.declared.book.TheConstants.{HISTORY_LIMIT};
 
 use super::{ONE, nodes};
 use lrc_board::{Keeper, NewLog, ViewNaming, Viewer};
@@ -15,7 +14,7 @@ use std::sync::Wait;
 use std::test::Fail;
 
 fn book(alloc: Global) -> Result<Book, Fail>
-    ensures { IfOk result (λ b. (b.history ≡ []) × (b.limit ≡ HISTORY_LIMIT)) }
+    ensures { IfOk result (λ b. b.history ≡ []) }
 {
     Ok(Book::new(alloc, nodes(alloc)?)?)
 }
@@ -29,7 +28,7 @@ fn a_viewer_sees_what_it_was_shown(rt: HostRuntime) -> Result<(), Fail> {
 
 /// Of two viewers one is shown two calls, and the other nothing.
 fn watch<N: ViewNaming, R: Wait + Abort>(rt: &R, alloc: Global, book: Book, log: NewLog)
-    requires book { (book.history ≡ []) × (book.nodes ≡ N.topology) × (book.limit ≡ HISTORY_LIMIT) }
+    requires book { (book.history ≡ []) × (book.nodes ≡ N.topology) × (book.limit ≡ N.limit) }
     requires log { (log.front.book ≡ N.log) × (log.pen.nib.key ≡ N.start) }
 {
     let Ok((mut keeper, mut viewers)) = Keeper::<N>::open(alloc, rt, book, log, 2) else {

@@ -13,7 +13,7 @@ use std::sync::atomic::{AtomicBool, AtomicU64, Ordering};
 use std::test::Fail;
 
 /// How often a held call looks whether the other has come.
-const TURNS: u32 = 100_000_000;
+pub(super) const TURNS: u32 = 100_000_000;
 
 /// A gate for sessions 1 and 2: the second call of each is held until the gate is asked for that of the other.
 #[derive(Drop)]
@@ -87,7 +87,7 @@ fn two_scripts_run_on_two_threads(rt: HostRuntime) -> Result<(), Fail> {
 }
 
 /// A script of each row.
-fn scripts(alloc: Global, rows: &[&[Command]]) -> Result<Vec<Vec<Command>>, Fail> {
+pub(super) fn scripts(alloc: Global, rows: &[&[Command]]) -> Result<Vec<Vec<Command>>, Fail> {
     let mut scripts = Vec::new(alloc);
     for row in rows {
         scripts.push(script(alloc, row)?)?;

@@ -34,6 +34,7 @@ fn watch<N: Naming + Send + Sync, R: Threads + Wait + Abort + Sync>(
     parts: Parts,
 )
     requires topology { parts.topology ≡ N.topology }
+    requires limit { parts.limit ≡ N.limit }
     requires count { parts.count ≡ N.count }
     requires name { parts.name ≡ N.name }
     requires shares { parts.shares ≡ N.parts }
@@ -97,6 +98,7 @@ fn looks_show_what_was_placed(rt: HostRuntime) -> Result<(), Fail> {
 /// sees both.
 fn look_around<N: Naming, R: Wait + Abort>(rt: &R, alloc: Global, parts: Parts)
     requires topology { parts.topology ≡ N.topology }
+    requires limit { parts.limit ≡ N.limit }
     requires count { parts.count ≡ N.count }
     requires name { parts.name ≡ N.name }
     requires shares { parts.shares ≡ N.parts }
@@ -182,6 +184,38 @@ fn at_risk<N: Naming>(rt: &impl Abort, alloc: Global, session: &mut Session<N>) 
     }
 }
 
+/// How many calls the first session makes before the second looks.
+const FAR: u64 = 1500;
+
+#[test]
+fn a_session_that_is_far_behind_sees_the_last_call(rt: HostRuntime) -> Result<(), Fail> {
+    let parts = parts(rt.alloc(), 2)?;
+    look_from_behind::<Brand, _>(&rt, rt.alloc(), parts);
+    Ok(())
+}
+
+fn look_from_behind<N: Naming, R: Wait + Abort>(rt: &R, alloc: Global, parts: Parts)
+    requires topology { parts.topology ≡ N.topology }
+    requires limit { parts.limit ≡ N.limit }
+    requires count { parts.count ≡ N.count }
+    requires name { parts.name ≡ N.name }
+    requires shares { parts.shares ≡ N.parts }
+    requires log { (parts.log ≡ N.log) × (parts.start ≡ N.start) }
+{
+    let (manager, mut sessions) = open::<N, _>(rt, alloc, parts);
+    let mut second = take(rt, &mut sessions);
+    let mut first = take(rt, &mut sessions);
+    for _ in 1..FAR {
+        call(rt, &manager, &mut first, Command::Next);
+    }
+    call(rt, &manager, &mut first, Command::Place(ONE));
+    expect_whole(rt, &mut second, ONE, FAR);
+    put(rt, &mut sessions, first);
+    put(rt, &mut sessions, second);
+    let made = [(SessionNo { value: 1 }, FAR), (SessionNo { value: 2 }, 0)];
+    end(rt, manager, sessions, &made);
+}
+
 #[test]
 fn two_sessions_meet_at_the_call_of_a_third(rt: HostRuntime) -> Result<(), Fail> {
     let parts = parts(rt.alloc(), 3)?;
@@ -192,6 +226,7 @@ fn two_sessions_meet_at_the_call_of_a_third(rt: HostRuntime) -> Result<(), Fail>
 /// Two sessions that have seen nothing meet after the call of a third, and have then seen it.
 fn meet_at_a_call<N: Naming, R: Wait + Abort>(rt: &R, alloc: Global, parts: Parts)
     requires topology { parts.topology ≡ N.topology }
+    requires limit { parts.limit ≡ N.limit }
     requires count { parts.count ≡ N.count }
     requires name { parts.name ≡ N.name }
     requires shares { parts.shares ≡ N.parts }

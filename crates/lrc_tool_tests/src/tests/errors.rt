@@ -26,7 +26,8 @@ fn errors_of_bundles_are_told_in_words(rt: HostRuntime) -> Result<(), Fail> {
 #[test]
 fn faults_are_told_by_their_numbers(rt: HostRuntime) -> Result<(), Fail> {
     let (memory, full) = (RunFault::OutOfMemory, RunFault::HistoryFull);
-    let told = format!(in rt.alloc(); "{memory}, {full}, {}, {}", RunFault::Read, RunFault::Write)?;
-    assert!(rt; told.as_str() == "fault 1, fault 2, fault 3, fault 4");
+    let (read, write, no_reader) = (RunFault::Read, RunFault::Write, RunFault::NoReader);
+    let told = format!(in rt.alloc(); "{memory}, {full}, {read}, {write}, {no_reader}")?;
+    assert!(rt; told.as_str() == "fault 1, fault 2, fault 3, fault 4, fault 5");
     Ok(())
 }

@@ -1,13 +1,8 @@
-use Rattle.std.proofs.Common.{Some, sym, ap, ◌∙◌}
+use Rattle.std.proofs.Common.{Option, ap, ◌∙◌}
 use Rattle.lrc_code.specs.declared.codes.Class.{Class}
-use Rattle.lrc_book.proofs.MateLemmas.{mates-a, mates-b, mates-g}
+use Rattle.lrc_code.specs.declared.codes.Code.TheVariants.{Wide}
+use Rattle.lrc_code.specs.Codes.{class_of, are_one_class}
 use Rattle.lrc_book.proofs.choice.mates_of.Goals as goal
 
-pub returns-in-A : goal.returns-in-A
-returns-in-A c = λ g. rw c.from_bits.ensures (mates-a c.args.fragment g (ap (λ (x : Class). Some x) (sym c.in-A.is) ∙ c.class.ensures))
-
-pub returns-in-B : goal.returns-in-B
-returns-in-B c = λ g. rw c.from_bits-in-B.ensures (mates-b c.args.fragment g (ap (λ (x : Class). Some x) (sym c.in-B.is) ∙ c.class.ensures))
-
-pub returns-in-G : goal.returns-in-G
-returns-in-G c = λ g. rw c.from_bits-in-G.ensures (mates-g c.args.fragment g (ap (λ (x : Class). Some x) (sym c.in-G.is) ∙ c.class.ensures))
+pub returns : goal.returns
+returns c = λ g. c.of_class.ensures g ∙ ap (λ (o : Option Class). are_one_class o (class_of Wide g.value)) c.class.ensures

@@ -28,10 +28,10 @@ returns g c =
     let new = c.run_workers.new.workers.items in
     let track : Worker g.row.N.Denot → Track = λ w. record { receipts = w.receipts.items; stopped = w.stopped } in
     let long : length old ≡ length scripts = sym (length-map old session) ∙ (ap length c.seat-workers.ensures.sessions ∙ c.requires.sessions.0) in
-    let run = AreRun-taken session (λ (w : Worker g.row.N.Denot). w.receipts.items) (λ (w : Worker g.row.N.Denot). w.stopped) may_stop passes scripts old new long (search rules) c.run_workers.ensures.run in
+    let run = AreRun-taken session (λ (w : Worker g.row.N.Denot). w.receipts.items) (λ (w : Worker g.row.N.Denot). w.stopped) g.N.ViewNaming.limit may_stop passes scripts old new long (search rules) c.run_workers.ensures.run in
     let before : map session old ≡ c.args.sessions.now.items = c.seat-workers.ensures.sessions in
     let after : map session new ≡ c.unseat.new.sessions.items = search rules in
     let tracks : map track new ≡ c.unseat.new.tracks.items = search rules in
-    subst (λ ts. AreRun may_stop passes scripts c.args.sessions.now.items c.unseat.new.sessions.items ts) tracks
-    (subst (λ ss. AreRun may_stop passes scripts c.args.sessions.now.items ss (map track new)) after
-    (subst (λ ss. AreRun may_stop passes scripts ss (map session new) (map track new)) before run))
+    subst (λ ts. AreRun g.N.ViewNaming.limit may_stop passes scripts c.args.sessions.now.items c.unseat.new.sessions.items ts) tracks
+    (subst (λ ss. AreRun g.N.ViewNaming.limit may_stop passes scripts c.args.sessions.now.items ss (map track new)) after
+    (subst (λ ss. AreRun g.N.ViewNaming.limit may_stop passes scripts ss (map session new) (map track new)) before run))

@@ -10,7 +10,7 @@ use Rattle.lrc_sessions.proofs.worker.make_calls.Goals as goal
 pub returns-in-Err : goal.returns-in-Err
 returns-in-Err g c =
     let v = c.loop-command.invariant in
-    left_run g.N.ViewNaming.topology g.G.Gate.may_stop (Passes g.G.Gate.lets g.G.Gate.tells) c.args.script.now c.args.session.now c.loop-command.session c.call.new.session
+    left_run g.N.ViewNaming.topology g.N.ViewNaming.limit g.G.Gate.may_stop (Passes g.G.Gate.lets g.G.Gate.tells) c.args.script.now c.args.session.now c.loop-command.session c.call.new.session
     c.loop-command.receipts.items c.in-Err.fault c.in-Err.ensures.err v.number_is v.made_is (omega arith) v.later v.stand v.passed
 
 pub loop-command-preserved : goal.loop-command-preserved

@@ -7,4 +7,4 @@ abbrev pub ghosts-place_at_once-N-Ledger : goal.ghosts-place_at_once-N-Ledger
 ghosts-place_at_once-N-Ledger g a = record { name = a.parts.name; parts = a.parts.shares }
 
 abbrev pub ghosts-place_at_once-N-ViewNaming : goal.ghosts-place_at_once-N-ViewNaming
-ghosts-place_at_once-N-ViewNaming g a = record { log = a.parts.log; start = a.parts.start; topology = a.parts.topology }
+ghosts-place_at_once-N-ViewNaming g a = record { log = a.parts.log; start = a.parts.start; topology = a.parts.topology; limit = a.parts.limit }

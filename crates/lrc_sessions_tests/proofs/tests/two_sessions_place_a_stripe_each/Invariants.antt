@@ -7,4 +7,4 @@ abbrev pub ghosts-place_two-N-Ledger : goal.ghosts-place_two-N-Ledger
 ghosts-place_two-N-Ledger g a = record { name = a.parts.name; parts = a.parts.shares }
 
 abbrev pub ghosts-place_two-N-ViewNaming : goal.ghosts-place_two-N-ViewNaming
-ghosts-place_two-N-ViewNaming g a = record { log = a.parts.log; start = a.parts.start; topology = a.parts.topology }
+ghosts-place_two-N-ViewNaming g a = record { log = a.parts.log; start = a.parts.start; topology = a.parts.topology; limit = a.parts.limit }

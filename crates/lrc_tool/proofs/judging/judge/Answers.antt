@@ -8,7 +8,7 @@ returns-in-Ok-parse_scripts-clause-judged c =
     let topology = c.in-Ok-read.topology in
     let read = subst (λ (text : List ℕ). IsTopologyOf text topology) c.in-Ok.ensures.topology c.in-Ok-read.ensures.ok in
     judged_good c.args.bundle.now topology c.in-Ok.parts.scripts.items c.if-bundle-gt-BUNDLE_LIMIT.false c.in-Ok.ensures.few read c.in-Ok.ensures.scripts
-    c.in-Ok-parse_scripts.scripts.items c.in-Ok.ensures.numbered (rw c.as_slice.ensures.value at c.in-Ok-parse_scripts.ensures.parsed)
+    c.in-Ok-parse_scripts.scripts.items (rw c.as_slice.ensures.value at c.in-Ok-parse_scripts.ensures.parsed)
 
 pub returns-in-Err-Bad-clause-judged : goal.returns-in-Err-Bad-clause-judged
 returns-in-Err-Bad-clause-judged c =

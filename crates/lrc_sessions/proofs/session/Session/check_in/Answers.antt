@@ -9,4 +9,4 @@ returns-clause-made g c =
     let s = c.self.inside in
     let h = c.args.keeper.now.history in
     subst (λ (v : SessionView). v.made ≤ made_in v.number h) c.self.view_is
-    (le_trans c.self.invariant.3 (made_in-prefix s.number.value s.viewer h c.covers.ensures.covers))
+    (le_trans c.self.invariant.4 (made_in-prefix s.number.value s.viewer h c.covers.ensures.covers))

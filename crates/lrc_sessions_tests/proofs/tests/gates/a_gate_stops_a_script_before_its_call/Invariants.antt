@@ -7,4 +7,4 @@ abbrev pub ghosts-run_all-N-Ledger : goal.ghosts-run_all-N-Ledger
 ghosts-run_all-N-Ledger g a = record { name = a.parts.name; parts = a.parts.shares }
 
 abbrev pub ghosts-run_all-N-ViewNaming : goal.ghosts-run_all-N-ViewNaming
-ghosts-run_all-N-ViewNaming g a = record { log = a.parts.log; start = a.parts.start; topology = a.parts.topology }
+ghosts-run_all-N-ViewNaming g a = record { log = a.parts.log; start = a.parts.start; topology = a.parts.topology; limit = a.parts.limit }

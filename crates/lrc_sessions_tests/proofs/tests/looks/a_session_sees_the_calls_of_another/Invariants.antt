@@ -7,4 +7,4 @@ abbrev pub ghosts-watch-N-Ledger : goal.ghosts-watch-N-Ledger
 ghosts-watch-N-Ledger g a = record { name = a.parts.name; parts = a.parts.shares }
 
 abbrev pub ghosts-watch-N-ViewNaming : goal.ghosts-watch-N-ViewNaming
-ghosts-watch-N-ViewNaming g a = record { log = a.parts.log; start = a.parts.start; topology = a.parts.topology }
+ghosts-watch-N-ViewNaming g a = record { log = a.parts.log; start = a.parts.start; topology = a.parts.topology; limit = a.parts.limit }

@@ -7,4 +7,4 @@ abbrev pub ghosts-look_around-N-Ledger : goal.ghosts-look_around-N-Ledger
 ghosts-look_around-N-Ledger g a = record { name = a.parts.name; parts = a.parts.shares }
 
 abbrev pub ghosts-look_around-N-ViewNaming : goal.ghosts-look_around-N-ViewNaming
-ghosts-look_around-N-ViewNaming g a = record { log = a.parts.log; start = a.parts.start; topology = a.parts.topology }
+ghosts-look_around-N-ViewNaming g a = record { log = a.parts.log; start = a.parts.start; topology = a.parts.topology; limit = a.parts.limit }

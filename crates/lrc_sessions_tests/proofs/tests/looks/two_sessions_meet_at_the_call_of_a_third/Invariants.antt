@@ -7,4 +7,4 @@ abbrev pub ghosts-meet_at_a_call-N-Ledger : goal.ghosts-meet_at_a_call-N-Ledger
 ghosts-meet_at_a_call-N-Ledger g a = record { name = a.parts.name; parts = a.parts.shares }
 
 abbrev pub ghosts-meet_at_a_call-N-ViewNaming : goal.ghosts-meet_at_a_call-N-ViewNaming
-ghosts-meet_at_a_call-N-ViewNaming g a = record { log = a.parts.log; start = a.parts.start; topology = a.parts.topology }
+ghosts-meet_at_a_call-N-ViewNaming g a = record { log = a.parts.log; start = a.parts.start; topology = a.parts.topology; limit = a.parts.limit }

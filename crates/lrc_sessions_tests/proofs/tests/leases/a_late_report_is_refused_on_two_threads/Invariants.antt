@@ -1,4 +1,4 @@
-use Rattle.lrc_sessions_tests.proofs.tests.full.a_full_history_stops_a_script.Given as goal
+use Rattle.lrc_sessions_tests.proofs.tests.leases.a_late_report_is_refused_on_two_threads.Given as goal
 
 abbrev pub ghosts-run_all-N-Naming : goal.ghosts-run_all-N-Naming
 ghosts-run_all-N-Naming g a = record { count = a.parts.count }
@@ -7,4 +7,4 @@ abbrev pub ghosts-run_all-N-Ledger : goal.ghosts-run_all-N-Ledger
 ghosts-run_all-N-Ledger g a = record { name = a.parts.name; parts = a.parts.shares }
 
 abbrev pub ghosts-run_all-N-ViewNaming : goal.ghosts-run_all-N-ViewNaming
-ghosts-run_all-N-ViewNaming g a = record { log = a.parts.log; start = a.parts.start; topology = a.parts.topology }
+ghosts-run_all-N-ViewNaming g a = record { log = a.parts.log; start = a.parts.start; topology = a.parts.topology; limit = a.parts.limit }

@@ -1,5 +1,5 @@
 use Rattle.lrc_book.proofs.WorldLemmas.{kept_room}
-use Rattle.lrc_book.proofs.book.Book.make_room.Goals as goal
+use Rattle.lrc_book.proofs.book.Book.prepare.Goals as goal
 
 pub invariant_of-self-in_err-reserve-2 : goal.invariant_of-self-in_err-reserve-2
 invariant_of-self-in_err-reserve-2 c =

@@ -1,0 +1,58 @@
+//! A call in its three parts: decided, prepared and committed.
+
+use super::{FIRST, ONE, book, close, first_seats, node};
+use lrc_book::{Book, Command, Entry, Refusal, Reply};
+use std::process::Abort;
+use std::test::Fail;
+
+#[test]
+fn a_reply_is_known_before_its_step(rt: HostRuntime) -> Result<(), Fail> {
+    let mut book = book(rt.alloc())?;
+    decide_each(&rt, &mut book);
+    close(book);
+    Ok(())
+}
+
+fn decide_each(rt: &impl Abort, book: &mut Book) {
+    let rows = [
+        (Command::Place(ONE), Reply::Placed(first_seats())),
+        (Command::Place(ONE), Reply::Refused(Refusal::StripeExists)),
+        (Command::Next, Reply::Idle),
+        (Command::Fail(node(3)), Reply::Changed),
+        (Command::Drop(ONE), Reply::Dropped),
+    ];
+    for (command, reply) in rows.iter() {
+        expect_decided(rt, book, *command, *reply);
+        expect_made(rt, book, *command, *reply);
+    }
+}
+
+/// The reply that a session would get, and nothing changes.
+fn expect_decided(rt: &impl Abort, book: &Book, command: Command, reply: Reply) {
+    let before = book.history().len();
+    assert!(rt; decided(book, command) == Some(reply), "{command:?}");
+    assert_eq!(rt; book.history().len(), before);
+}
+
+fn decided(book: &Book, command: Command) -> Option<Reply> {
+    Some(book.decide(FIRST, command).ok()?.entry.reply)
+}
+
+/// The reply that it gets, and its entry is the last one.
+fn expect_made(rt: &impl Abort, book: &mut Book, command: Command, reply: Reply) {
+    let before = book.history().len();
+    assert!(rt; made(book, command) == Some(reply), "{command:?}");
+    assert_eq!(rt; book.history().len(), before + 1);
+    let entry = Entry {
+        session: FIRST,
+        command,
+        reply,
+    };
+    assert!(rt; book.history()[before].entry() == entry, "{command:?}");
+}
+
+fn made(book: &mut Book, command: Command) -> Option<Reply> {
+    let plan = book.decide(FIRST, command).ok()?;
+    book.prepare().ok()?;
+    Some(book.commit(plan))
+}

@@ -1,0 +1,95 @@
+ghost use Rattle.std.specs.Prelude.{◌≡◌};
+ghost use Rattle.lrc_tool.specs.declared.streams.RunFault.{RunFault};
+ghost use Rattle.lrcman.specs.declared.stop.Stop.TheVariants as stop;
+
+use clap::Error;
+use clap::error::ErrorKind;
+use lrc_tool::RunFault;
+use std::alloc::AllocError;
+use std::io;
+
+/// Why the program ends without the status of its command: the line on standard error.
+#[derive(Clone, Copy, Debug, thiserror::Error)]
+pub(crate) enum Stop {
+    /// The command line is refused.
+    #[error("usage: lrcman run < BUNDLE | lrcman check < BUNDLE | lrcman recover MASK (four hexadecimal digits)")]
+    Usage,
+    #[error("lrcman: {0}")]
+    Fault(RunFault),
+}
+
+impl Stop {
+    /// The exit status.
+    pub(crate) fn status(self) -> u8
+        ensures usage { self ≡ stop.Usage → result ≡ 2 }
+        ensures fault { (fault : RunFault) → self ≡ stop.Fault fault → result ≡ 3 }
+    {
+        match self {
+            Stop::Usage => 2,
+            Stop::Fault(_) => 3,
+        }
+    }
+}
+
+impl From<RunFault> for Stop {
+    ghost use Rattle.std.specs.Prelude.{◌≡◌};
+    ghost use Rattle.lrcman.specs.declared.stop.Stop.TheVariants as stop;
+
+    ghost from_gives = { λ fault e. e ≡ stop.Fault fault };
+
+    fn from(fault: RunFault) -> Stop {
+        Stop::Fault(fault)
+    }
+}
+
+impl From<AllocError> for Stop {
+    ghost use Rattle.std.specs.Prelude.{◌≡◌};
+    ghost use Rattle.lrcman.specs.declared.stop.Stop.TheVariants as stop;
+    ghost use Rattle.lrc_tool.specs.declared.streams.RunFault.TheVariants.{OutOfMemory};
+
+    ghost from_gives = { λ _ e. e ≡ stop.Fault OutOfMemory };
+
+    fn from(_error: AllocError) -> Stop {
+        Stop::Fault(RunFault::OutOfMemory)
+    }
+}
+
+impl From<io::Error> for Stop {
+    ghost use Rattle.std.specs.Prelude.{◌≡◌, ◌≢◌};
+    ghost use Rattle.lrcman.specs.declared.stop.Stop.TheVariants as stop;
+    ghost use Rattle.lrc_tool.specs.declared.streams.RunFault.TheVariants.{OutOfMemory};
+    ghost use Rattle.std.specs.IoError.{error_kind};
+    ghost use Rattle.std.specs.declared.io.ErrorKind.TheVariants as kind;
+
+    ghost from_gives = { λ error e. (error_kind error ≡ kind.OutOfMemory → e ≡ stop.Fault OutOfMemory)
+        × (error_kind error ≢ kind.OutOfMemory → e ≡ stop.Usage) };
+
+    /// Why the words of the command line were not given.
+    fn from(error: io::Error) -> Stop {
+        match error.kind() {
+            io::ErrorKind::OutOfMemory => Stop::Fault(RunFault::OutOfMemory),
+            // A word is no UTF-8.
+            _ => Stop::Usage,
+        }
+    }
+}
+
+impl From<Error> for Stop {
+    ghost use Rattle.std.specs.Prelude.{◌≡◌, ◌≢◌};
+    ghost use Rattle.lrcman.specs.declared.stop.Stop.TheVariants as stop;
+    ghost use Rattle.lrc_tool.specs.declared.streams.RunFault.TheVariants.{OutOfMemory};
+    ghost use Rattle.clap.specs.Values.{kind_of};
+    ghost use Rattle.clap.specs.declared.error.kind.ErrorKind.TheVariants as kind;
+
+    ghost from_gives = { λ error e. (kind_of error ≡ kind.OutOfMemory → e ≡ stop.Fault OutOfMemory)
+        × (kind_of error ≢ kind.OutOfMemory → e ≡ stop.Usage) };
+
+    /// Why the words of the command line were refused.
+    fn from(error: Error) -> Stop {
+        match error.kind() {
+            ErrorKind::OutOfMemory => Stop::Fault(RunFault::OutOfMemory),
+            // A request for help too.
+            _ => Stop::Usage,
+        }
+    }
+}
