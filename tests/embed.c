@@ -1,5 +1,5 @@
 // Each function of lrc_embed.h with each of its statuses, from C. tests/embed builds and runs it, also where memory is
-// refused: a call that memory was refused to has changed nothing, and is made again.
+// refused: a call that memory was refused to has changed nothing that the book tells, and is made again.
 // Usage: embed [full], with `full` also until the history is full. It prints how many requests for memory there were. With
 // REFUSE=N in the environment the Nth of them is refused, from 1, and with REFUSE_FROM=N the Nth and all later ones.
 #include "lrc_embed.h"
@@ -19,8 +19,11 @@ void __wrap_free(void *);
 
 static long held;
 static unsigned long requests, refuse, refuse_from;
+// What is asked of a book between the calls that are tried is neither counted nor refused.
+static bool is_looking;
 
 static bool refuses_this(void) {
+    if (is_looking) return false;
     requests++;
     return requests == refuse || (refuse_from != 0 && requests >= refuse_from);
 }
@@ -51,11 +54,58 @@ static void want(bool holds, int line) {
 }
 #define WANT(condition) want(condition, __LINE__)
 
+#define ENTRIES 100
+#define STRIPES 4
+#define NODES 21
+// All that a book tells of its entries, of the stripes that are placed here and one that is not, and of its nodes and one more;
+// with each status.
+typedef struct {
+    size_t count, at_risk;
+    lrc_entry entries[ENTRIES];
+    lrc_homes homes[STRIPES];
+    lrc_level levels[STRIPES];
+    uint16_t missing[STRIPES];
+    lrc_lease leases[STRIPES][LRC_FRAGMENTS];
+    uint32_t loads[NODES];
+    lrc_mode modes[NODES];
+    lrc_risk rows[STRIPES];
+    uint32_t statuses[2 + ENTRIES + STRIPES * (3 + LRC_FRAGMENTS) + NODES * 2];
+} looks_of_book;
+
+static void look(looks_of_book *it) {
+    uint32_t *status = it->statuses;
+    memset(it, 0, sizeof *it);
+    is_looking = true;
+    *status++ = lrc_embed_count(&handle, &it->count);
+    WANT(it->count <= ENTRIES);
+    for (size_t i = 0; i < it->count; i++) *status++ = lrc_embed_entry(&handle, i, &it->entries[i]);
+    for (uint16_t stripe = 0; stripe < STRIPES; stripe++) {
+        *status++ = lrc_embed_homes(&handle, stripe, &it->homes[stripe]);
+        *status++ = lrc_embed_level(&handle, stripe, &it->levels[stripe]);
+        *status++ = lrc_embed_missing(&handle, stripe, &it->missing[stripe]);
+        for (uint8_t fragment = 0; fragment < LRC_FRAGMENTS; fragment++)
+            *status++ = lrc_embed_lease(&handle, stripe, fragment, &it->leases[stripe][fragment]);
+    }
+    for (uint16_t node = 0; node < NODES; node++) {
+        *status++ = lrc_embed_load(&handle, node, &it->loads[node]);
+        *status++ = lrc_embed_mode(&handle, node, &it->modes[node]);
+    }
+    *status++ = lrc_embed_risk(&handle, it->rows, STRIPES, &it->at_risk);
+    is_looking = false;
+}
+
+static looks_of_book before, after;
+
+// Whether the book tells what it told before.
+static bool is_as_before(void) {
+    look(&after);
+    return memcmp(&before, &after, sizeof before) == 0;
+}
+
 // Memory was refused twice in a row, so it is refused for good. What stands can be looked at and closed.
 static void give_up(void) {
-    size_t count = 0;
-    uint32_t status = lrc_embed_count(&handle, &count);
-    WANT(status == LRC_DONE || status == LRC_IS_CLOSED);
+    look(&after);
+    WANT(after.statuses[0] == LRC_DONE || after.statuses[0] == LRC_IS_CLOSED);
     WANT(lrc_embed_close(&handle) == LRC_DONE && held == 0);
     _Exit(3);
 }
@@ -70,12 +120,15 @@ static size_t count_of(void) {
 // The status of a call that is made again where memory was refused.
 #define STATUS(status, call)                                                                                           \
     do {                                                                                                               \
-        size_t before = count_of();                                                                                    \
+        look(&before);                                                                                                 \
         status = (call);                                                                                               \
         if (status == LRC_OUT_OF_MEMORY) {                                                                             \
-            WANT(count_of() == before);                                                                                \
+            WANT(is_as_before());                                                                                      \
             status = (call);                                                                                           \
-            if (status == LRC_OUT_OF_MEMORY) give_up();                                                                \
+            if (status == LRC_OUT_OF_MEMORY) {                                                                         \
+                WANT(is_as_before());                                                                                  \
+                give_up();                                                                                             \
+            }                                                                                                          \
         }                                                                                                              \
     } while (0)
 

@@ -1,0 +1,102 @@
+//! Calls of a book.
+
+ghost use Rattle.std.specs.Prelude.{◌≡◌, [], IfOk};
+
+use crate::host::{Call, FIRST, Host, Stop, Trial, begin, end};
+use lrc_book::{Book, Command};
+use lrc_code::{Fragment, NodeNo, StripeNo};
+use lrc_samples::twenty_nodes;
+
+/// A book over twenty nodes.
+pub(crate) fn new_book(rt: &impl Host) -> Result<Book, Stop>
+    ensures { IfOk result (λ b. b.history ≡ []) }
+{
+    let nodes = twenty_nodes(rt.alloc())?;
+    match Book::new(rt.alloc(), nodes) {
+        Ok(book) => Ok(book),
+        Err(_fault) => Err(Stop),
+    }
+}
+
+/// Lets a book go. Done in a function of its own, it is proved once.
+pub(crate) fn close(_book: Book) {}
+
+/// Tells all that a book answers: of its entries, of two stripes and of one that is not there, and of the nodes and one more.
+pub(crate) fn look(rt: &impl Host, book: &Book) -> Result<(), Stop> {
+    for entry in book.history() {
+        println!(rt; "{:?}", entry.entry())?;
+    }
+    for value in 1..4 {
+        look_at_stripe(rt, book, StripeNo { value })?;
+    }
+    for value in 0..21 {
+        let node = NodeNo { value };
+        println!(rt; "node {value} {:?} {:?}", book.load(node), book.mode(node))?;
+    }
+    println!(rt; "risk {:?}", book.risk(rt.alloc()))?;
+    Ok(())
+}
+
+fn look_at_stripe(rt: &impl Host, book: &Book, stripe: StripeNo) -> Result<(), Stop> {
+    println!(rt;
+        "{stripe:?} {:?} {:?}",
+        book.level(stripe),
+        book.missing(stripe)
+    )?;
+    println!(rt; "homes {:?}", book.homes(stripe))?;
+    for fragment in Fragment::all() {
+        println!(rt; "lease {:?}", book.lease(stripe, fragment))?;
+    }
+    Ok(())
+}
+
+/// Tries a call of a new book.
+pub(crate) fn try_call(rt: &impl Host, trial: &Trial) -> Result<(), Stop> {
+    let mut book = new_book(rt)?;
+    let told = try_on(rt, &mut book, trial);
+    close(book);
+    told
+}
+
+fn try_on(rt: &impl Host, book: &mut Book, trial: &Trial) -> Result<(), Stop> {
+    for command in trial.before.as_slice() {
+        book.call(FIRST, *command)?;
+    }
+    look(rt, book)?;
+    if try_once(rt, book, trial)? {
+        try_once(rt, book, trial)?;
+    }
+    Ok(())
+}
+
+/// Makes the call, and answers whether memory was refused to it.
+fn try_once(rt: &impl Host, book: &mut Book, trial: &Trial) -> Result<bool, Stop> {
+    if let Call::Prepare = trial.call {
+        return prepare_once(rt, book, trial.last);
+    }
+    begin(rt);
+    let is_refused = match trial.call {
+        Call::Command => end(rt, &book.call(FIRST, trial.last))?,
+        Call::Decide => end(rt, &book.decide(FIRST, trial.last))?,
+        _ => end(rt, &book.risk(rt.alloc()))?,
+    };
+    look(rt, book)?;
+    Ok(is_refused)
+}
+
+/// Makes room for a command, and commits it where there is room.
+fn prepare_once(rt: &impl Host, book: &mut Book, command: Command) -> Result<bool, Stop> {
+    let plan = book.decide(FIRST, command)?;
+    begin(rt);
+    let prepared = book.prepare();
+    end(rt, &prepared)?;
+    look(rt, book)?;
+    match prepared {
+        Ok(()) => {
+            println!(rt; "{:?}", book.commit(plan))?;
+            look(rt, book)?;
+            Ok(false)
+        }
+        Err(_fault) => Ok(true),
+    }
+}

@@ -1,0 +1,75 @@
+//! Calls that make a value, or room in one.
+
+use crate::host::{Host, ONE, Stop, begin, end};
+use crate::{keepers, managers};
+use lrc_book::Book;
+use lrc_code::StripeNo;
+use lrc_samples::twenty_nodes;
+use lrc_script::parse_script;
+use lrc_sessions::Parts;
+use lrc_slots::SlotTable;
+use lrc_stripes::Stripes;
+use lrc_topology::Topology;
+
+/// Makes the value of a call, and makes it once more where memory was refused.
+pub(crate) fn try_call(rt: &impl Host, call: &str, text: &str) -> Result<(), Stop> {
+    if try_once(rt, call, text)? {
+        try_once(rt, call, text)?;
+    }
+    Ok(())
+}
+
+/// Makes the value, and answers whether memory was refused to it.
+fn try_once(rt: &impl Host, call: &str, text: &str) -> Result<bool, Stop> {
+    match call {
+        "Stripes::reserve" => make_room(rt),
+        "Keeper::open" => keepers::open_once(rt),
+        "Manager::open" => managers::open_once(rt),
+        _ => make_once(rt, call, text),
+    }
+}
+
+/// The same of what is made of a text, or of the nodes of a store. It is let go before the second mark, which takes no memory.
+fn make_once(rt: &impl Host, call: &str, text: &str) -> Result<bool, Stop> {
+    let alloc = rt.alloc();
+    let nodes = twenty_nodes(alloc)?;
+    begin(rt);
+    match call {
+        "Topology::read" => end(rt, &Topology::read(alloc, text.as_bytes()).and(Ok(()))),
+        "parse_script" => end(rt, &parse_script(alloc, text.as_bytes(), 1)),
+        "SlotTable::new" => end(rt, &SlotTable::new(alloc, &nodes).and(Ok(()))),
+        "Stripes::new" => end(rt, &Stripes::new(alloc, &nodes).and(Ok(()))),
+        "Book::new" => end(rt, &Book::new(alloc, nodes).and(Ok(()))),
+        "Book::with_limit" => end(rt, &Book::with_limit(alloc, nodes, 2).and(Ok(()))),
+        "Parts::new" => end(rt, &Parts::new(alloc, nodes, 2).and(Ok(()))),
+        "Parts::with_limit" => end(rt, &Parts::with_limit(alloc, nodes, 2, 2).and(Ok(()))),
+        _ => Err(Stop),
+    }
+}
+
+/// Makes room for stripes beside one that has no homes, and answers whether memory was refused to it.
+fn make_room(rt: &impl Host) -> Result<bool, Stop> {
+    let nodes = twenty_nodes(rt.alloc())?;
+    let mut stripes = Stripes::new(rt.alloc(), &nodes)?;
+    let is_refused = make_room_in(rt, &mut stripes);
+    close(stripes);
+    is_refused
+}
+
+fn close(_stripes: Stripes) {}
+
+fn make_room_in(rt: &impl Host, stripes: &mut Stripes) -> Result<bool, Stop> {
+    stripes.reserve(2)?;
+    add(stripes, ONE);
+    println!(rt; "{:?} {:?}", stripes.level(ONE), stripes.homes(ONE))?;
+    begin(rt);
+    let is_refused = end(rt, &stripes.reserve(4000))?;
+    println!(rt; "{:?} {:?}", stripes.level(ONE), stripes.homes(ONE))?;
+    Ok(is_refused)
+}
+
+fn add(stripes: &mut Stripes, stripe: StripeNo) {
+    if !stripes.contains(stripe) && stripes.spare() > 0 {
+        stripes.add(stripe);
+    }
+}
