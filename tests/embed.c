@@ -359,9 +359,9 @@ static uint32_t replay(const lrc_entry *entries, size_t count, size_t *position)
 }
 
 static void replays(void) {
-    static lrc_entry entries[100];
+    static lrc_entry entries[ENTRIES];
     size_t count = count_of(), position;
-    WANT(count <= 100 && lrc_embed_entry(&handle, count, &entries[0]) == LRC_UNKNOWN && entries[0].session == 0);
+    WANT(count <= ENTRIES && lrc_embed_entry(&handle, count, &entries[0]) == LRC_UNKNOWN && entries[0].session == 0);
     for (size_t i = 0; i < count; i++) WANT(lrc_embed_entry(&handle, i, &entries[i]) == LRC_DONE);
     position = 99;
     WANT(lrc_embed_replay(&handle, 0, 0, &position) == LRC_DONE && position == 99 && count_of() == count);
