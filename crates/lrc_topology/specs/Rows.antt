@@ -12,6 +12,12 @@ entry_with number fault upgrade slots =
 abbrev pub entry : ℤ → ℤ → ℤ → ℤ → Data
 entry number fault upgrade slots = entry_with (integer number) (integer fault) (integer upgrade) (integer slots)
 
+-- a table with something at other keys too
+abbrev pub entry_beside : Data → ℤ → ℤ → ℤ → ℤ → Data
+entry_beside other number fault upgrade slots =
+    table (member (codes "Number") other (member (codes "fault") (integer fault) (member (codes "number") (integer number)
+    (member (codes "slots") (integer slots) (member (codes "upgrade") (integer upgrade) (member (codes "zone") other no_members))))))
+
 -- the entry of a node
 abbrev pub entry_of : NodeInfo → Data
 entry_of n = entry (pos n.number.value) (pos n.fault.value) (pos n.upgrade.value) (pos n.slots)

@@ -5,6 +5,7 @@ pub returns : goal.returns
 returns c = record {
   listed = λ a b. refl;
   unlisted = (refl, λ items. refl, refl);
+  others = (λ other items. refl, λ other number fault upgrade slots. refl, λ other number fault upgrade slots. refl, refl);
   none = refl;
   keys = refl;
   least = refl;
