@@ -7,7 +7,7 @@ use Rattle.lrc_code.specs.declared.numbers.StripeNo.{StripeNo}
 use Rattle.lrc_code.specs.declared.numbers.NodeNo.{NodeNo}
 use Rattle.lrc_code.specs.declared.losses.LossMask.{LossMask}
 use Rattle.lrc_leases.specs.declared.lease.Lease.{Lease}
-use Rattle.lrc_leases.specs.Leased.{is_of, is_target_on, leased_of}
+use Rattle.lrc_leases.specs.Leased.{is_of, leased_of}
 use Rattle.lrc_leases.specs.Granted.{spot}
 use Rattle.lrc_leases.specs.Chains.{ChainTable, chain_in}
 use Rattle.lrc_leases.specs.Masks.{AreMasks}
@@ -50,37 +50,51 @@ AreAt slab keys = (key : ℕ) (l : Lease) → get slab key ≡ Some l → (spot 
 abbrev pub AreBelow : ℕ → Slab Lease → Type 0
 AreBelow bound slab = (key : ℕ) (l : Lease) → get slab key ≡ Some l → key < bound
 
--- ---- leases by the node of their target
+-- ---- leases by the node of their target, and by their end
 
 -- the chain of the leases whose target is on a node
-abbrev pub chain_of : NodeNo → ℕ
-chain_of n = n.value % 512
+abbrev pub node_chain : NodeNo → ℕ
+node_chain n = n.value % 512
 
--- the chains have the leases by the nodes of their targets; the number of a lease there is its key and one
-pub record AreListed (slab : Slab Lease) (chains : ChainTable) : Type 0 where
-  pub listed : (key : ℕ) (l : Lease) → get slab key ≡ Some l → Contains (chain_in chains (chain_of l.target.node)) (key + 1)
+-- the chain of a lease, by the node of its target
+abbrev pub target_chain : Lease → ℕ
+target_chain l = node_chain l.target.node
+
+-- the chain of the leases that end at a clock
+abbrev pub clock_chain : ℕ → ℕ
+clock_chain clock = clock % 512
+
+-- the chain of a lease, by its end
+abbrev pub end_chain : Lease → ℕ
+end_chain l = clock_chain l.expiry
+
+-- each lease is in its own chain, and no others are in any; the number of a lease there is its key and one
+pub record AreListed (chain : Lease → ℕ) (slab : Slab Lease) (chains : ChainTable) : Type 0 where
+  pub listed : (key : ℕ) (l : Lease) → get slab key ≡ Some l → Contains (chain_in chains (chain l)) (key + 1)
   pub live : (d k : ℕ) → Contains (chain_in chains d) k
-      → (key : ℕ) × (l : Lease) × (get slab key ≡ Some l) × (key + 1 ≡ k) × (chain_of l.target.node ≡ d)
+      → (key : ℕ) × (l : Lease) × (get slab key ≡ Some l) × (key + 1 ≡ k) × (chain l ≡ d)
 
--- the lease, if its target is on the node
-abbrev pub if_on : NodeNo → Option Lease → Option Lease
-if_on n None = None
-if_on n (Some l) = if is_target_on n l then Some l else None
+-- the lease, if it passes the test
+abbrev pub if_passes : (Lease → Bool) → Option Lease → Option Lease
+if_passes test None = None
+if_passes test (Some l) = if test l then Some l else None
 
--- the lease with a number, if its target is on the node
-abbrev pub target_at : Slab Lease → NodeNo → ℕ → Option Lease
-target_at slab n zero = None
-target_at slab n (suc key) = if_on n (get slab key)
+-- the lease with a number, if it passes the test
+abbrev pub passing_at : (Lease → Bool) → Slab Lease → ℕ → Option Lease
+passing_at test slab zero = None
+passing_at test slab (suc key) = if_passes test (get slab key)
 
--- what is kept: one lease for each fragment at most, found by its place and by the node of its target and marked in its stripe's mask, with room for
--- a lease of each fragment and for the number of each key
-pub record IsKept (slab : Slab Lease) (keys : List ℕ) (places : ℕ) (targets : ChainTable) (masks : List LossMask) (spare : ℕ) : Type 0 where
+-- what is kept: one lease for each fragment at most, found by its place, by the node of its target and by its end and marked in its stripe's mask, with
+-- room for a lease of each fragment and for the number of each key
+pub record IsKept (slab : Slab Lease) (keys : List ℕ) (places : ℕ) (targets ends : ChainTable) (masks : List LossMask) (spare : ℕ) : Type 0 where
   pub single : AreSingle slab
   pub at : AreAt slab keys
   pub long : 65536 ≤ places
-  pub targets_are : AreListed slab targets
+  pub targets_are : AreListed target_chain slab targets
+  pub ends_are : AreListed end_chain slab ends
   pub marked : AreMasks masks (leased_of (leases_of slab) spare)
   pub roomy : 65536 ≤ slab.capacity
   pub low : AreBelow slab.capacity slab
-  pub numbers_fit : slab.capacity < targets.room
+  pub targets_fit : slab.capacity < targets.room
+  pub ends_fit : slab.capacity < ends.room
   pub keys_fit : slab.capacity + 1 < 2 ^ 64

@@ -1,16 +1,17 @@
-ghost use Rattle.std.specs.Prelude.{◌≡◌, ◌≤◌, ℕ, IfOk, IfErr, IfSome, IfNone, OnErr, OnOk, IsOk, IsTrue, Some, None};
+ghost use Rattle.std.specs.Prelude.{◌≡◌, ◌≤◌, length, ℕ, IfOk, IfErr, IfSome, IfNone, OnErr, OnOk, IsOk, IsTrue, Some, None};
 ghost use Rattle.lrc_code.specs.declared.fault.Fault.TheVariants.{OutOfMemory};
 ghost use Rattle.lrc_code.specs.Losses.{bits_set};
-ghost use Rattle.lrc_leases.specs.Leased.{empty, with_lease, without_lease, with_spare, leased_at, AreTargetsOn};
+ghost use Rattle.lrc_leases.specs.Leased.{empty, with_lease, without_lease, with_spare, leased_at, ends_at, AreTargetsOn, AreThose};
 ghost use Rattle.lrc_leases.specs.Tables.{leased_in};
 
 use crate::arrays::write;
 use crate::chains::Chains;
+use crate::ending_at::clock_chain;
 use crate::masks::Masks;
 use crate::search::{key_of, near};
 use crate::spot::{SPOTS, spot_of};
-use crate::targets_on::chain_of;
-use crate::{Lease, TargetsOn};
+use crate::targets_on::node_chain;
+use crate::{EndingAt, Lease, TargetsOn};
 use lrc_code::{Fault, Fragment, LossMask, NodeNo, StripeNo};
 use slab::Slab;
 use std::alloc::Global;
@@ -24,6 +25,8 @@ pub struct Leases {
     keys: Vec<u16>,
     /// The leases by the node of their target. The number of a lease there is its key and one.
     targets: Chains,
+    /// The leases by their end, numbered in the same way.
+    ends: Chains,
     /// The fragments that have a lease. They are few bytes, and tell first whether there is one.
     masks: Masks,
     spare: u32,
@@ -38,7 +41,7 @@ impl Model for Leases {
 
     ghost view = { λ t. record { leases = leases_of t.slab; spare = t.spare } };
 
-    ghost invariant = { λ t. IsKept t.slab t.keys.items (vec_capacity t.keys) t.targets t.masks t.spare };
+    ghost invariant = { λ t. IsKept t.slab t.keys.items (vec_capacity t.keys) t.targets t.ends t.masks t.spare };
 }
 
 #[tactic(auto, unfolding(crate::specs::Tables::leased_in))]
@@ -59,6 +62,7 @@ impl Leases {
             slab,
             keys: Vec::with_capacity(alloc, SPOTS)?,
             targets: Chains::new(alloc, bound)?,
+            ends: Chains::new(alloc, bound)?,
             masks: Masks::new(alloc)?,
             spare: 0,
         })
@@ -116,7 +120,8 @@ impl Leases {
         let spot = spot_of(lease.stripe, lease.fragment);
         let key = self.slab.insert_reserved(lease);
         write(&mut self.keys, spot, near(key), 0);
-        self.targets.add(chain_of(lease.target.node), key + 1);
+        self.targets.add(node_chain(lease.target.node), key + 1);
+        self.ends.add(clock_chain(lease.expiry), key + 1);
         self.masks.add(lease.stripe, lease.fragment);
         self.spare -= 1;
     }
@@ -144,7 +149,8 @@ impl Leases {
     {
         let key = key_of(&self.slab, &self.keys, stripe, fragment);
         let lease = self.slab.remove(key);
-        self.targets.remove(chain_of(lease.target.node), key + 1);
+        self.targets.remove(node_chain(lease.target.node), key + 1);
+        self.ends.remove(clock_chain(lease.expiry), key + 1);
         self.masks.remove(stripe, fragment);
         lease
     }
@@ -153,6 +159,15 @@ impl Leases {
     pub fn targets_on(&self, node: NodeNo) -> TargetsOn<'_>
         ensures { AreTargetsOn (leased_in self.now) node result }
     {
-        TargetsOn::new(&self.slab, self.targets.walk(chain_of(node)), node)
+        TargetsOn::new(&self.slab, self.targets.walk(node_chain(node)), node)
+    }
+
+    /// The leases that end at a clock, in no order of their own. The walk is over these, and over those whose end is a
+    /// multiple of 512 away.
+    pub fn ending_at(&self, clock: u32) -> EndingAt<'_>
+        ensures those { AreThose (ends_at clock) (leased_in self.now) result }
+        ensures few { length result ≤ 65536 }
+    {
+        EndingAt::new(&self.slab, self.ends.walk(clock_chain(clock)), clock)
     }
 }

@@ -3,6 +3,7 @@
 
 mod arrays;
 mod chains;
+mod ending_at;
 mod grants;
 pub mod laws;
 mod lease;
@@ -14,6 +15,7 @@ mod spot;
 mod targets_on;
 mod walk;
 
+pub use ending_at::EndingAt;
 pub use grants::Grants;
 pub use lease::Lease;
 pub use leases::Leases;

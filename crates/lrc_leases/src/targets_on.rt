@@ -1,6 +1,7 @@
 ghost use Rattle.std.specs.Prelude.{◌≡◌, ◌<◌, List, filter_map};
 ghost use Rattle.std.specs.Iterator.{YieldsFirst, item_count};
-ghost use Rattle.lrc_leases.specs.Kept.{chain_of, target_at};
+ghost use Rattle.lrc_leases.specs.Kept.{node_chain, passing_at};
+ghost use Rattle.lrc_leases.specs.Leased.{is_target_on};
 
 use crate::Lease;
 use crate::chains::CHAINS;
@@ -10,8 +11,8 @@ use slab::Slab;
 use std::marker::Model;
 
 /// The chain of the leases whose target is on a node. Nodes whose numbers are 512 apart share one.
-pub(crate) fn chain_of(node: NodeNo) -> usize
-    ensures value { result ≡ chain_of node }
+pub(crate) fn node_chain(node: NodeNo) -> usize
+    ensures value { result ≡ node_chain node }
     ensures low { result < 512 }
 {
     usize::from(node.value) % CHAINS
@@ -28,17 +29,18 @@ pub struct TargetsOn<'a> {
 impl<'a> Model for TargetsOn<'a> {
     ghost use Rattle.std.specs.Prelude.{List, filter_map};
     ghost use Rattle.lrc_leases.specs.declared.lease.Lease.{Lease as OneLease};
-    ghost use Rattle.lrc_leases.specs.Kept.{target_at};
+    ghost use Rattle.lrc_leases.specs.Kept.{passing_at};
+    ghost use Rattle.lrc_leases.specs.Leased.{is_target_on};
 
     ghost Value = { List OneLease };
 
-    ghost view = { λ w. filter_map (target_at w.slab.now w.node) w.numbers };
+    ghost view = { λ w. filter_map (passing_at (is_target_on w.node) w.slab.now) w.numbers };
 }
 
 impl<'a> TargetsOn<'a> {
     /// Those of the leases with these numbers.
     pub(crate) fn new(slab: &'a Slab<Lease>, numbers: Walk<'a>, node: NodeNo) -> TargetsOn<'a>
-        ensures { result ≡ filter_map (target_at slab.now node) numbers.entry }
+        ensures { result ≡ filter_map (passing_at (is_target_on node) slab.now) numbers.entry }
     {
         TargetsOn {
             slab,
@@ -69,7 +71,7 @@ impl<'a> Iterator for TargetsOn<'a> {
 
 /// The lease with this number, if its target is on a node.
 fn target(slab: &Slab<Lease>, number: usize, node: NodeNo) -> Option<Lease>
-    ensures { result ≡ target_at slab.now node number }
+    ensures { result ≡ passing_at (is_target_on node) slab.now number }
 {
     let key = number.checked_sub(1)?;
     let lease = slab.get(key).copied()?;

@@ -11,7 +11,7 @@ fn fragment_numbered(rt: &impl Abort, number: u8) -> Fragment {
     Fragment::new(number).expect(rt, "a fragment")
 }
 
-/// A lease of this fragment of stripe 1, with this slot of this node for its target.
+/// A lease of this fragment of stripe 1, with this slot of this node for its target. It ends at clock 3.
 fn lease(rt: &impl Abort, fragment: u8, node: u16, slot: u16) -> Lease {
     Lease {
         stripe: stripe_numbered(rt, 1),
@@ -22,6 +22,15 @@ fn lease(rt: &impl Abort, fragment: u8, node: u16, slot: u16) -> Lease {
             slot,
         },
         epoch: 1,
+        expiry: 3,
+    }
+}
+
+/// A lease of this fragment that ends at a clock.
+fn lease_until(rt: &impl Abort, fragment: u8, clock: u32) -> Lease {
+    Lease {
+        expiry: clock,
+        ..lease(rt, fragment, 17, 0)
     }
 }
 
@@ -116,6 +125,77 @@ fn is_target(leases: &Leases, (fragment, slot): (u8, u16)) -> bool {
     false
 }
 
+/// Leases of fragments 0, 3, 4 and 9. The first two end at clock 5, the third at 517, and the last at 6.
+fn four_ends(rt: &(impl AllocGlobal + Abort)) -> Leases {
+    let mut leases = Leases::new(rt.alloc()).expect(rt, "memory");
+    reserve(rt, &mut leases, 4);
+    add(rt, &mut leases, lease_until(rt, 0, 5));
+    add(rt, &mut leases, lease_until(rt, 3, 5));
+    add(rt, &mut leases, lease_until(rt, 4, 517));
+    add(rt, &mut leases, lease_until(rt, 9, 6));
+    leases
+}
+
+fn leases_that_end_at_a_clock_are_given_each_once(rt: &(impl AllocGlobal + Abort)) {
+    let leases = four_ends(rt);
+    expect_ending(rt, &leases, 5, &[0, 3]);
+    expect_ending(rt, &leases, 6, &[9]);
+    expect_ending(rt, &leases, 4, &[]);
+}
+
+fn ends_that_are_512_apart_are_told_apart(rt: &(impl AllocGlobal + Abort)) {
+    let mut leases = four_ends(rt);
+    expect_ending(rt, &leases, 517, &[4]);
+    expect_ending(rt, &leases, 1029, &[]);
+    expect_removed(rt, &mut leases, lease_until(rt, 4, 517), true);
+    expect_ending(rt, &leases, 517, &[]);
+    expect_ending(rt, &leases, 5, &[0, 3]);
+}
+
+fn a_removed_lease_ends_no_more(rt: &(impl AllocGlobal + Abort)) {
+    let mut leases = four_ends(rt);
+    expect_removed(rt, &mut leases, lease_until(rt, 0, 5), true);
+    expect_ending(rt, &leases, 5, &[3]);
+    expect_removed(rt, &mut leases, lease_until(rt, 3, 5), true);
+    expect_ending(rt, &leases, 5, &[]);
+    expect_ending(rt, &leases, 517, &[4]);
+}
+
+fn a_lease_that_is_added_again_ends_at_its_new_end(rt: &(impl AllocGlobal + Abort)) {
+    let mut leases = four_ends(rt);
+    expect_removed(rt, &mut leases, lease_until(rt, 0, 5), true);
+    expect_removed(rt, &mut leases, lease_until(rt, 3, 5), true);
+    reserve(rt, &mut leases, 2);
+    add(rt, &mut leases, lease_until(rt, 0, 6));
+    add(rt, &mut leases, lease_until(rt, 3, 5));
+    expect_ending(rt, &leases, 5, &[3]);
+    expect_ending(rt, &leases, 6, &[0, 9]);
+}
+
+/// The leases that end at a clock are so many, and each is of one of these fragments.
+fn expect_ending(rt: &impl Abort, leases: &Leases, clock: u32, wanted: &[u8]) {
+    for fragment in wanted {
+        assert!(rt;
+            is_ending(leases, clock, *fragment),
+            "fragment {fragment} at {clock}"
+        );
+    }
+    let mut ending = leases.ending_at(clock);
+    for _ in wanted {
+        assert!(rt; ending.next().is_some());
+    }
+    assert!(rt; ending.next().is_none());
+}
+
+fn is_ending(leases: &Leases, clock: u32, fragment: u8) -> bool {
+    for lease in leases.ending_at(clock) {
+        if lease.fragment.get() == fragment {
+            return true;
+        }
+    }
+    false
+}
+
 /// Counts one more grant.
 fn grant(rt: &impl Abort, grants: &mut Grants, stripe: StripeNo, fragment: Fragment) {
     assert!(rt; grants.count(stripe, fragment) < u32::MAX);
@@ -152,6 +232,10 @@ fn leases_and_grants_are_kept(rt: HostRuntime) {
     a_removed_lease_is_answered_once(&rt);
     the_leased_fragments_of_a_stripe_are_a_mask(&rt);
     targets_on_a_node_are_given_each_once(&rt);
+    leases_that_end_at_a_clock_are_given_each_once(&rt);
+    ends_that_are_512_apart_are_told_apart(&rt);
+    a_removed_lease_ends_no_more(&rt);
+    a_lease_that_is_added_again_ends_at_its_new_end(&rt);
     grants_are_counted_for_each_fragment_of_each_stripe_number(&rt);
     grants_are_counted_on_where_a_byte_is_full(&rt);
 }

@@ -3,10 +3,10 @@ use Rattle.lrc_leases.specs.Leased.{leases_in, leased_of, with_lease}
 use Rattle.lrc_leases.specs.Masks.{AreMasks}
 use Rattle.lrc_leases.proofs.MaskLemmas.{masks-with}
 use Rattle.lrc_leases.specs.Tables.{leased_in}
-use Rattle.lrc_leases.specs.Kept.{leases_of}
+use Rattle.lrc_leases.specs.Kept.{leases_of, target_chain, end_chain}
 use Rattle.lrc_leases.proofs.SlabLemmas.{single-insert, at-insert, below-insert, leased-insert}
 use Rattle.lrc_leases.proofs.RoomLemmas.{few-leases}
-use Rattle.lrc_leases.proofs.TargetLemmas.{fresh-number, listed-insert}
+use Rattle.lrc_leases.proofs.ListedLemmas.{fresh-number, listed-insert}
 use Rattle.lrc_leases.proofs.leases.Leases.add.Goals as goal
 
 pub insert_reserved-key-requires : goal.insert_reserved-key-requires
@@ -18,14 +18,19 @@ insert_reserved-key-requires c =
 pub add-requires-clause-fresh : goal.add-requires-clause-fresh
 unfolding leased_in
 add-requires-clause-fresh c =
-    fresh-number c.self.inside.slab c.self.inside.targets c.insert_reserved-key.result c.self.invariant.targets_are c.insert_reserved-key.ensures.was_vacant
+    fresh-number target_chain c.self.inside.slab c.self.inside.targets c.insert_reserved-key.result c.self.invariant.targets_are c.insert_reserved-key.ensures.was_vacant
+
+pub add-requires-2-clause-fresh : goal.add-requires-2-clause-fresh
+unfolding leased_in
+add-requires-2-clause-fresh c =
+    fresh-number end_chain c.self.inside.slab c.self.inside.ends c.insert_reserved-key.result c.self.invariant.ends_are c.insert_reserved-key.ensures.was_vacant
 
 pub invariant_of-self : goal.invariant_of-self
 unfolding leased_in
 invariant_of-self c =
     let none : leases_in (leases_of c.self.inside.slab) c.args.lease.stripe c.args.lease.fragment.value ≡ None = rw (← c.self.view_is) at c.requires.absent in
     let insert = c.insert_reserved-key in
-    let masks = c.add-2 in
+    let masks = c.add-3 in
     let before = leased_of (leases_of c.self.inside.slab) c.self.inside.spare in
     let live : leased_of (leases_of insert.new.self) (c.self.inside.spare - 1) ≡ with_lease before c.args.lease =
     leased-insert c.self.inside.slab insert.new.self insert.result c.args.lease c.self.invariant.single insert.ensures.updates insert.ensures.was_vacant none c.self.inside.spare in
@@ -37,13 +42,16 @@ invariant_of-self c =
           (omega (arith, c.write.ensures.no_shorter, c.write.new.values.ok.0, c.self.inside.keys.ok.0))
           (λ i. c.write.ensures.value i ∙ rw (c.spot_of-spot.ensures.value, c.near.ensures) refl);
       long = omega (arith, c.write.ensures.capacity, c.self.invariant.long);
-      targets_are = listed-insert c.self.inside.slab insert.new.self insert.result c.args.lease insert.ensures.updates insert.ensures.was_vacant
-          c.self.inside.targets c.add.new.self c.self.invariant.targets_are (λ d. c.add.ensures.numbers d ∙ rw c.chain_of.ensures.value refl);
+      targets_are = listed-insert target_chain c.self.inside.slab insert.new.self insert.result c.args.lease insert.ensures.updates insert.ensures.was_vacant
+          c.self.inside.targets c.add.new.self c.self.invariant.targets_are (λ d. c.add.ensures.numbers d ∙ rw c.node_chain.ensures.value refl);
+      ends_are = listed-insert end_chain c.self.inside.slab insert.new.self insert.result c.args.lease insert.ensures.updates insert.ensures.was_vacant
+          c.self.inside.ends c.add-2.new.self c.self.invariant.ends_are (λ d. c.add-2.ensures.numbers d ∙ rw c.clock_chain.ensures.value refl);
       marked = subst (AreMasks masks.new.self) (sym live) (masks-with c.self.inside.masks masks.new.self before c.self.invariant.marked c.args.lease masks.ensures);
       low = rw insert.ensures.capacity
           (below-insert c.self.inside.slab insert.new.self insert.result c.args.lease c.self.invariant.single insert.ensures.updates insert.ensures.was_vacant none
           c.self.inside.slab.capacity (rw insert.ensures.capacity at insert.ensures.key_in_range) c.self.invariant.low);
-      numbers_fit = omega (arith, insert.ensures.capacity, c.add.ensures.room, c.self.invariant.numbers_fit);
+      targets_fit = omega (arith, insert.ensures.capacity, c.add.ensures.room, c.self.invariant.targets_fit);
+      ends_fit = omega (arith, insert.ensures.capacity, c.add-2.ensures.room, c.self.invariant.ends_fit);
       keys_fit = omega (arith, insert.ensures.capacity, c.self.invariant.keys_fit);
       roomy = omega (arith, insert.ensures.capacity, c.self.invariant.roomy);
     }

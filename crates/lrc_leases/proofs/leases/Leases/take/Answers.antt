@@ -3,10 +3,10 @@ use Rattle.lrc_leases.specs.Tables.{leased_in}
 use Rattle.lrc_leases.specs.declared.lease.Lease.{Lease}
 use Rattle.lrc_leases.specs.Leased.{leased_of, with_spare, without_lease}
 use Rattle.lrc_leases.specs.Masks.{AreMasks}
-use Rattle.lrc_leases.specs.Kept.{leases_of, is_lease_of}
+use Rattle.lrc_leases.specs.Kept.{leases_of, is_lease_of, target_chain, end_chain}
 use Rattle.lrc_leases.proofs.SlabLemmas.{at_key, under, single-remove, at-remove, below-remove, leased-remove}
 use Rattle.lrc_leases.proofs.MaskLemmas.{masks-without, marked-one}
-use Rattle.lrc_leases.proofs.TargetLemmas.{listed-remove}
+use Rattle.lrc_leases.proofs.ListedLemmas.{listed-remove}
 use Rattle.lrc_leases.proofs.leases.Leases.take.Goals as goal
 
 pub key_of-key-requires-clause-there : goal.key_of-key-requires-clause-there
@@ -36,14 +36,18 @@ overflow_add-key c =
 
 pub remove-requires-clause-there : goal.remove-requires-clause-there
 remove-requires-clause-there c =
-    rw c.chain_of.ensures.value (c.self.invariant.targets_are.listed c.key_of-key.result c.remove-lease.result c.remove-lease.ensures.value)
+    rw c.node_chain.ensures.value (c.self.invariant.targets_are.listed c.key_of-key.result c.remove-lease.result c.remove-lease.ensures.value)
+
+pub remove-requires-2-clause-there : goal.remove-requires-2-clause-there
+remove-requires-2-clause-there c =
+    rw c.clock_chain.ensures.value (c.self.invariant.ends_are.listed c.key_of-key.result c.remove-lease.result c.remove-lease.ensures.value)
 
 pub invariant_of-self : goal.invariant_of-self
 invariant_of-self c =
     let lease = c.remove-lease.result in
     let taken = c.remove-lease in
     let own = subst (λ (o : Option Lease). is_lease_of c.args.stripe c.args.fragment.value o ≡ true) taken.ensures.value c.key_of-key.ensures in
-    let masks = c.remove-2 in
+    let masks = c.remove-3 in
     let spare = c.self.inside.spare in
     let before = leased_of (leases_of c.self.inside.slab) spare in
     let live : leased_of (leases_of taken.new.self) spare ≡ with_spare (without_lease before c.args.stripe c.args.fragment) spare =
@@ -55,15 +59,18 @@ invariant_of-self c =
       at = at-remove c.self.inside.slab taken.new.self c.key_of-key.result c.args.stripe c.args.fragment lease c.self.invariant.single
           taken.ensures.updates taken.ensures.value own c.self.inside.keys.items c.self.invariant.at;
       long = c.self.invariant.long;
-      targets_are = listed-remove c.self.inside.slab taken.new.self c.key_of-key.result lease taken.ensures.updates taken.ensures.value
-          c.self.inside.targets c.remove.new.self c.self.invariant.targets_are (λ d. c.remove.ensures.numbers d ∙ rw c.chain_of.ensures.value refl);
+      targets_are = listed-remove target_chain c.self.inside.slab taken.new.self c.key_of-key.result lease taken.ensures.updates taken.ensures.value
+          c.self.inside.targets c.remove.new.self c.self.invariant.targets_are (λ d. c.remove.ensures.numbers d ∙ rw c.node_chain.ensures.value refl);
+      ends_are = listed-remove end_chain c.self.inside.slab taken.new.self c.key_of-key.result lease taken.ensures.updates taken.ensures.value
+          c.self.inside.ends c.remove-2.new.self c.self.invariant.ends_are (λ d. c.remove-2.ensures.numbers d ∙ rw c.clock_chain.ensures.value refl);
       marked = subst (AreMasks masks.new.self) (sym live)
           (masks-without c.self.inside.masks masks.new.self before c.self.invariant.marked c.args.stripe c.args.fragment masks.ensures);
       low = rw taken.ensures.capacity
           (below-remove c.self.inside.slab taken.new.self c.key_of-key.result c.args.stripe c.args.fragment lease c.self.invariant.single
           taken.ensures.updates taken.ensures.value own
           c.self.inside.slab.capacity c.self.invariant.low);
-      numbers_fit = omega (arith, taken.ensures.capacity, c.remove.ensures.room, c.self.invariant.numbers_fit);
+      targets_fit = omega (arith, taken.ensures.capacity, c.remove.ensures.room, c.self.invariant.targets_fit);
+      ends_fit = omega (arith, taken.ensures.capacity, c.remove-2.ensures.room, c.self.invariant.ends_fit);
       keys_fit = omega (arith, taken.ensures.capacity, c.self.invariant.keys_fit);
       roomy = omega (arith, taken.ensures.capacity, c.self.invariant.roomy);
     }
