@@ -6,8 +6,7 @@ use Rattle.lrc_leases.specs.declared.lease.Lease.{Lease as LeaseRecord}
 use Rattle.lrc_book.specs.declared.kind.Kind.{Kind}
 use Rattle.lrc_book.specs.declared.command.Command.{Command}
 use Rattle.lrc_book.specs.declared.command.Command.TheVariants.{Place, Drop, Lease, Next, Done, Abandon, Revoke}
-use Rattle.lrc_book.specs.declared.command.Command.TheVariants.{Fail, Down, Up, Drain, Undrain, Retire, Join, Upgrade, Upgraded}
-use Rattle.lrc_book.specs.declared.reply.Reply.{Reply}
+use Rattle.lrc_book.specs.declared.command.Command.TheVariants.{Fail, Down, Up, Drain, Undrain, Retire, Join, Upgrade, Upgraded, Tick}
 use Rattle.lrc_book.specs.Changes.{grants_lease}
 use Rattle.lrc_book.specs.declared.answer.Answer.{Answer}
 use Rattle.lrc_book.specs.declared.answer.Answer.TheVariants as answer
@@ -22,11 +21,12 @@ changed-told answer.Dropped e = absurd (let never : reply.Dropped ≡ reply.Chan
 changed-told (answer.Granted lease kind) e = absurd (let never : reply.Granted lease kind ≡ reply.Changed = e in cc)
 changed-told answer.Idle e = absurd (let never : reply.Idle ≡ reply.Changed = e in cc)
 changed-told answer.Ended e = absurd (let never : reply.Ended ≡ reply.Changed = e in cc)
+changed-told (answer.Ticked clock ended) e = absurd (let never : reply.Ticked clock ended ≡ reply.Changed = e in cc)
 changed-told (answer.Refused refusal) e = absurd (let never : reply.Refused refusal ≡ reply.Changed = e in cc)
 
 -- ---- what grants no lease
 
-pub next-other : (a : Answer) → ((l : LeaseRecord) (k : Kind) → a ≢ answer.Granted l k) → grants_lease Next (told a) ≡ false
+next-other : (a : Answer) → ((l : LeaseRecord) (k : Kind) → a ≢ answer.Granted l k) → grants_lease Next (told a) ≡ false
 next-other (answer.Granted l k) other = absurd (other l k refl)
 next-other (answer.Placed seats) other = refl
 next-other answer.Dropped other = refl
@@ -34,8 +34,9 @@ next-other answer.Idle other = refl
 next-other answer.Ended other = refl
 next-other answer.Changed other = refl
 next-other (answer.Refused refusal) other = refl
+next-other (answer.Ticked clock ended) other = refl
 
-pub lease-other : (s : StripeNo) (f : Fragment) (a : Answer) → ((l : LeaseRecord) (k : Kind) → a ≢ answer.Granted l k) → grants_lease (Lease s f) (told a) ≡ false
+lease-other : (s : StripeNo) (f : Fragment) (a : Answer) → ((l : LeaseRecord) (k : Kind) → a ≢ answer.Granted l k) → grants_lease (Lease s f) (told a) ≡ false
 lease-other s f (answer.Granted l k) other = absurd (other l k refl)
 lease-other s f (answer.Placed seats) other = refl
 lease-other s f answer.Dropped other = refl
@@ -43,21 +44,23 @@ lease-other s f answer.Idle other = refl
 lease-other s f answer.Ended other = refl
 lease-other s f answer.Changed other = refl
 lease-other s f (answer.Refused refusal) other = refl
+lease-other s f (answer.Ticked clock ended) other = refl
 
-pub other-command : (c : Command) (r : Reply) → ((s : StripeNo) (f : Fragment) → c ≢ Lease s f) → c ≢ Next → grants_lease c r ≡ false
-other-command (Lease s f) r lease next = absurd (lease s f refl)
-other-command Next r lease next = absurd (next refl)
-other-command (Place s) r lease next = refl
-other-command (Drop s) r lease next = refl
-other-command (Done s f e) r lease next = refl
-other-command (Abandon s f e) r lease next = refl
-other-command (Revoke s f) r lease next = refl
-other-command (Fail n) r lease next = refl
-other-command (Down n) r lease next = refl
-other-command (Up n) r lease next = refl
-other-command (Drain n) r lease next = refl
-other-command (Undrain n) r lease next = refl
-other-command (Retire n) r lease next = refl
-other-command (Join n) r lease next = refl
-other-command (Upgrade u) r lease next = refl
-other-command (Upgraded u) r lease next = refl
+pub other-answer : (c : Command) (a : Answer) → ((l : LeaseRecord) (k : Kind) → a ≢ answer.Granted l k) → grants_lease c (told a) ≡ false
+other-answer Next a other = next-other a other
+other-answer (Lease s f) a other = lease-other s f a other
+other-answer (Place s) a other = refl
+other-answer (Drop s) a other = refl
+other-answer (Done s f e) a other = refl
+other-answer (Abandon s f e) a other = refl
+other-answer (Revoke s f) a other = refl
+other-answer (Fail n) a other = refl
+other-answer (Down n) a other = refl
+other-answer (Up n) a other = refl
+other-answer (Drain n) a other = refl
+other-answer (Undrain n) a other = refl
+other-answer (Retire n) a other = refl
+other-answer (Join n) a other = refl
+other-answer (Upgrade u) a other = refl
+other-answer (Upgraded u) a other = refl
+other-answer Tick a other = refl

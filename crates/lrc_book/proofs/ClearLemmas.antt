@@ -216,6 +216,7 @@ module _ (st : State) (k : Store) (kept : IsOf st k) (s : StripeNo) (f : Fragmen
             (cleared ∙ ap (λ (t : Stored). stored.with_home t s f None) kept.stripes_is ∙ stored-clear nodes st (stored_in k.stripes).spare s f);
         leases_is = kept.leases_is;
         modes_are = same-modes st (without_home st s f) k.modes refl kept.modes_are;
+        clock_is = kept.clock_is;
       }
 
   -- a fragment without a home has none to clear

@@ -149,6 +149,7 @@ domain-kept st upgrading k modes stripes kept told set = record {
   stripes_is = own-spare k.topology (record st { upgrading = upgrading }) (stored_in stripes) (stored_in k.stripes).spare set;
   leases_is = kept.leases_is;
   modes_are = told;
+  clock_is = kept.clock_is;
 }
 
 -- ---- one node of a list after the other

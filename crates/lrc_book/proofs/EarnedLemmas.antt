@@ -13,7 +13,7 @@ use Rattle.lrc_topology.specs.Nodes.{node_at, has_domain}
 use Rattle.lrc_leases.specs.declared.lease.Lease.{Lease as LeaseRecord}
 use Rattle.lrc_book.specs.declared.kind.Kind.{Kind}
 use Rattle.lrc_book.specs.declared.command.Command.{Command}
-use Rattle.lrc_book.specs.declared.command.Command.TheVariants.{Place, Drop, Lease, Next, Done, Abandon, Revoke, Fail, Down, Up, Drain, Undrain, Retire, Join, Upgrade, Upgraded}
+use Rattle.lrc_book.specs.declared.command.Command.TheVariants.{Place, Drop, Lease, Next, Done, Abandon, Revoke, Fail, Down, Up, Drain, Undrain, Retire, Join, Upgrade, Upgraded, Tick}
 use Rattle.lrc_book.specs.declared.reply.Reply.{Reply}
 use Rattle.lrc_book.specs.declared.reply.Reply.TheVariants.{Dropped, Granted, Idle, Ended, Changed, Refused}
 use Rattle.lrc_book.specs.declared.refusal.Refusal.{Refusal}
@@ -25,7 +25,7 @@ use Rattle.lrc_book.specs.Granting.{AsksFor}
 use Rattle.lrc_stripes.specs.Stored.{StripeFragment}
 use Rattle.lrc_book.specs.Placement.{placed}
 use Rattle.lrc_book.specs.Outcomes.{Outcome, refuse_if}
-use Rattle.lrc_book.specs.Leases.{next_answer, next_outcome, without_lease, at_epoch, is_held_by, moved_in, done_answer, done_outcome, abandon_answer, abandon_outcome, revoke_outcome}
+use Rattle.lrc_book.specs.Leases.{tick_outcome, next_answer, next_outcome, without_lease, at_epoch, is_held_by, moved_in, done_answer, done_outcome, abandon_answer, abandon_outcome, revoke_outcome}
 use Rattle.lrc_book.specs.Steps.{with_stripe, place_answer, place_outcome, without_stripe, drop_outcome, node_outcome, with_gone, fail_outcome, down_outcome, up_outcome, drain_outcome, undrain_outcome, retire_outcome, join_outcome, without_upgrading, would_lose, upgrade_answer, upgrade_outcome, is_the_domain, upgraded_outcome, step}
 use Rattle.lrc_book.specs.Histories.{World, first_world, outcome_in, next_world, state_after, IsLegalFrom, IsLegal}
 use Rattle.lrc_book.proofs.MemberLemmas.{not-Contains-nil}
@@ -144,6 +144,10 @@ module _ (l : LeaseRecord) (k : Kind) where
         never-if st (not (has_stripe st s)) refusal.UnknownStripe _
         (never-if st (is_none (lease_of st s f)) refusal.NoLease (Ended, without_lease st s f) no-end)
 
+  never-tick : (st : State) → Never (tick_outcome st)
+  unfolding tick_outcome
+  never-tick st e = absurd (cc)
+
   -- the entry in which the holder asked by this command, and was granted the lease
   abbrev grant_of : Command → Entry
   grant_of c = record { session = l.holder; command = c; reply = Granted l k }
@@ -161,7 +165,8 @@ module _ (l : LeaseRecord) (k : Kind) where
   unfolding next_outcome
   next-asked nodes past st session e = next-by nodes past st session (next_of nodes st) e
 
-  asked : (nodes : List NodeInfo) (past : List Entry) (st : State) (session : SessionNo) (c : Command)
+  -- a lease is granted to the session that asks, by one of two commands
+  pub asked : (nodes : List NodeInfo) (past : List Entry) (st : State) (session : SessionNo) (c : Command)
       → (step nodes past st session c).0 ≡ Granted l k → AsksFor l c × (session ≡ l.holder)
   asked nodes past st session (Lease s f) e =
       let new = lease-new nodes past st session s f l k e in
@@ -181,6 +186,7 @@ module _ (l : LeaseRecord) (k : Kind) where
   asked nodes past st session (Join n) e = absurd (never-join nodes st n e)
   asked nodes past st session (Upgrade u) e = absurd (never-upgrade nodes st u e)
   asked nodes past st session (Upgraded u) e = absurd (never-upgraded nodes st u e)
+  asked nodes past st session Tick e = absurd (never-tick st e)
 
   entry-is : (nodes : List NodeInfo) (w : World) (x : Entry) → (outcome_in nodes w x.session x.command).0 ≡ x.reply → x.reply ≡ Granted l k
       → AsksFor l x.command × (x ≡ grant_of x.command)

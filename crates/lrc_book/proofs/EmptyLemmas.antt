@@ -1,10 +1,9 @@
 -- A node that is emptied: the leases on it end, and its homes are cleared with their fragments' leases, one after the other.
-use Rattle.std.proofs.Common.{◌≡◌, ℕ, ◌<◌, ◌&&◌, ◌||◌, map, arith, Bool, true, false, not, cond, nat_eq, eqb, List, [], ◌∷◌, filter, Option, Some, None, option_map, IsSome, refl, sym, ap, ◌∙◌, subst, inl, inr}
-use Rattle.std.specs.List.{All, Contains, list_any, count_by}
+use Rattle.std.proofs.Common.{◌≡◌, ℕ, ◌<◌, ◌&&◌, ◌||◌, arith, Bool, true, false, not, cond, nat_eq, eqb, List, [], ◌∷◌, filter, Option, Some, None, option_map, IsSome, refl, sym, ap, ◌∙◌, subst, inl, inr}
+use Rattle.std.specs.List.{All, Contains, list_any}
 use Rattle.std.specs.Option.{option_map_or}
 use Rattle.std.proofs.lemmas.Bool.{cases_Bool, and_parts, and_right, false_from_ne_true, eqb-true, eq-eqb, not-true}
 use Rattle.std.proofs.lemmas.List.Elements.{All-head, All-tail, All-weaker, All-filter}
-use Rattle.std.proofs.lemmas.List.Sums.{sum_by-cons}
 use Rattle.lrc_code.specs.declared.numbers.StripeNo.{StripeNo}
 use Rattle.lrc_code.specs.declared.numbers.NodeNo.{NodeNo}
 use Rattle.lrc_code.specs.declared.numbers.Fragment.{Fragment}
@@ -32,7 +31,7 @@ use Rattle.lrc_book.specs.Leases.{without_lease}
 use Rattle.lrc_book.proofs.StoredLemmas.{is_of as home_is, found-home}
 use Rattle.lrc_book.proofs.FragmentLemmas.{bared}
 use Rattle.lrc_book.proofs.EndLemmas.{there-lease, only-lease, lease-kept}
-use Rattle.lrc_book.proofs.TakenLemmas.{load-parts, count-held, load-falls}
+use Rattle.lrc_book.proofs.TakenLemmas.{load-parts, count-held, count-targets, load-falls}
 use Rattle.lrc_book.specs.Stores.{IsOf}
 use Rattle.lrc_book.proofs.ClearLemmas.{count-fewer, count-falls, only, stripe-there, home-kept, home-only}
 
@@ -55,7 +54,7 @@ pub record IsEmptying (st : State) (n : NodeNo) (k : Store) : Type 0 where
 
 module _ {X : Type 0} (test kept : X → Bool) where
   -- what is left out before would be left out anyway
-  filter-skips : (xs : List X) → ((x : X) → Contains xs x → kept x ≡ false → test x ≡ false) → filter test (filter kept xs) ≡ filter test xs
+  pub filter-skips : (xs : List X) → ((x : X) → Contains xs x → kept x ≡ false → test x ≡ false) → filter test (filter kept xs) ≡ filter test xs
   filter-skips [] fails = refl
   filter-skips (x ∷ xs) fails =
       let more = filter-skips xs (λ y here. fails y (Contains-later x y xs here)) in
@@ -64,7 +63,7 @@ module _ {X : Type 0} (test kept : X → Bool) where
         | inr goes ↦ rw (goes, fails x (Contains-here x xs) goes) more
       ]
 
-filter-whole : {X : Type 0} (test : X → Bool) (xs : List X) → All (λ x. test x ≡ true) xs → filter test xs ≡ xs
+pub filter-whole : {X : Type 0} (test : X → Bool) (xs : List X) → All (λ x. test x ≡ true) xs → filter test xs ≡ xs
 filter-whole test [] all = refl
 filter-whole test (x ∷ xs) all = rw (All-head (λ y. test y ≡ true) x xs all) (ap (λ ys. x ∷ ys) (filter-whole test xs (All-tail (λ y. test y ≡ true) x xs all)))
 
@@ -84,12 +83,7 @@ any-skips test kept (x ∷ xs) fails = elim (cases_Bool (kept x)) [
   | inr goes ↦ rw (goes, fails x goes) (any-skips test kept xs fails)
 ]
 
-count-targets : (ls : List Lease) (n : NodeNo) → load_of (map (λ (l : Lease). l.target) ls) n ≡ count_by (λ l. nat_eq l.target.node.value n.value) ls
-count-targets [] n = refl
-count-targets (l ∷ ls) n =
-    rw (sum_by-cons (λ (a : Seat). cond (eqb a.node.value n.value) 1 0) l.target (map (λ (l : Lease). l.target) ls), sum_by-cons (λ (m : Lease). cond (eqb m.target.node.value n.value) 1 0) l ls, count-targets ls n) refl
-
-not-false : (b : Bool) → not b ≡ false → b ≡ true
+pub not-false : (b : Bool) → not b ≡ false → b ≡ true
 not-false true e = refl
 not-false false e = sym e
 

@@ -189,6 +189,7 @@ module _ (st : State) (k : Store) (kept : IsOf st k) (s : StripeNo) (f : Fragmen
     stripes_is = kept.stripes_is;
     leases_is = leases-out leases out;
     modes_are = same-modes st (without_lease st s f) k.modes refl kept.modes_are;
+    clock_is = kept.clock_is;
   }
 
   -- a fragment without a lease has none to end
@@ -201,6 +202,7 @@ module _ (st : State) (k : Store) (kept : IsOf st k) (s : StripeNo) (f : Fragmen
     stripes_is = kept.stripes_is;
     leases_is = leases-out leases out;
     modes_are = same-modes st (without_lease st s f) k.modes refl kept.modes_are;
+    clock_is = kept.clock_is;
   }
 
 -- ---- what is kept when its target becomes the home
@@ -227,6 +229,7 @@ module _ (st : State) (k : Store) (kept : IsOf st k) (s : StripeNo) (f : Fragmen
         ∙ stored-put k.topology st (stored_in k.stripes).spare s f l.target);
     leases_is = leases-out st k kept s f leases out;
     modes_are = same-modes st (moved_in st s f l.target) k.modes refl kept.modes_are;
+    clock_is = kept.clock_is;
   }
 
 -- ---- what is kept when one is granted
@@ -266,6 +269,7 @@ module _ (st : State) (k : Store) (kept : IsOf st k) (l : Lease) (told : IsGrant
     leases_is = own-room (with_lease st l).leases (leased_in leases) ((leased_in k.leases).spare - 1)
         (added ∙ ap (λ (t : Leased). leased.with_lease t l) kept.leases_is ∙ sym (leased_of-append st.leases l (leased_in k.leases).spare told.new));
     modes_are = same-modes st (with_lease st l) k.modes refl kept.modes_are;
+    clock_is = kept.clock_is;
   }
 
 -- ---- a stripe without leases

@@ -1,5 +1,5 @@
 -- A live lease outlasts the commands that cannot end it.
-use Rattle.std.proofs.Common.{◌≡◌, ◌≢◌, inl, inr, Bool, true, false, not, nat_lt, is_none, List, [], ◌∷◌, filter, find, Option, Some, None, Result, Ok, Err, refl, sym, ap, ◌∙◌}
+use Rattle.std.proofs.Common.{◌+◌, ◌≡◌, ◌≢◌, inl, inr, Bool, true, false, not, nat_lt, is_none, List, [], ◌∷◌, filter, find, Option, Some, None, Result, Ok, Err, refl, sym, ap, ◌∙◌}
 use Rattle.std.proofs.lemmas.Bool.{cases_Bool, ne_eqb}
 use Rattle.std.proofs.lemmas.Option.{same_Some}
 use Rattle.lrc_code.specs.declared.codes.Code.TheVariants.{Wide}
@@ -14,8 +14,10 @@ use Rattle.lrc_topology.specs.Nodes.{node_at, has_domain}
 use Rattle.lrc_leases.specs.declared.lease.Lease.{Lease as LeaseRecord}
 use Rattle.lrc_leases.specs.Leased.{is_of}
 use Rattle.lrc_leases.proofs.ListLemmas.{leases_in-own, is_of-parts, is_of-from}
+use Rattle.lrc_book.specs.Leases.{tick_outcome}
+use Rattle.lrc_leases.specs.Leased.{ends_at}
 use Rattle.lrc_book.specs.declared.command.Command.{Command}
-use Rattle.lrc_book.specs.declared.command.Command.TheVariants.{Place, Drop, Lease, Next, Done, Abandon, Revoke, Fail, Down, Up, Drain, Undrain, Retire, Join, Upgrade, Upgraded}
+use Rattle.lrc_book.specs.declared.command.Command.TheVariants.{Place, Drop, Lease, Next, Done, Abandon, Revoke, Fail, Down, Up, Drain, Undrain, Retire, Join, Upgrade, Upgraded, Tick}
 use Rattle.lrc_book.specs.declared.reply.Reply.TheVariants.{Dropped, Changed}
 use Rattle.lrc_book.specs.declared.refusal.Refusal.TheVariants as refusal
 use Rattle.lrc_book.specs.declared.entry.Entry.{Entry}
@@ -92,6 +94,12 @@ module _ (nodes : List NodeInfo) (past : List Entry) (st : State) (session : Ses
   fail-lasts n free =
       node-lasts n _ (with_gone (emptied st n) n)
       (find-filter (is_of s f.value) (λ (k : LeaseRecord). not (hangs_on st n k)) st.leases l live (stays-on n free))
+
+  tick-lasts : ends_at (st.clock + 1) l ≢ true → Lasts (tick_outcome st).1
+  unfolding tick_outcome
+  tick-lasts runs =
+      find-filter (is_of s f.value) (λ (k : LeaseRecord). not (ends_at (st.clock + 1) k)) st.leases l live
+      (elim (cases_Bool (ends_at (st.clock + 1) l)) [ inl hit ↦ absurd (runs hit) | inr miss ↦ ap not miss ])
 
   down-lasts : (n : NodeNo) → Lasts (down_outcome nodes st n).1
   unfolding down_outcome
@@ -185,3 +193,4 @@ module _ (nodes : List NodeInfo) (past : List Entry) (st : State) (session : Ses
   lease-lasts-by (Retire n) other = retire-lasts n
   lease-lasts-by (Upgrade u) other = upgrade-lasts u
   lease-lasts-by (Upgraded u) other = upgraded-lasts u
+  lease-lasts-by Tick other = tick-lasts other

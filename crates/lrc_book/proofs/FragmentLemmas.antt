@@ -239,4 +239,5 @@ dropped-kept st s before k table stripes first last same freed removed =
           ∙ ap (λ (x : Stored). stored.with_spare x (stored_in stripes).spare) (stored-without k.topology left (stored_in k.stripes).spare s);
       leases_is = kept.leases_is;
       modes_are = same-modes left (without_stripe st s) k.modes refl kept.modes_are;
+      clock_is = kept.clock_is;
     }

@@ -1,26 +1,30 @@
 -- After each legal history the state is good.
-use Rattle.std.proofs.Common.{◌≡◌, ◌+◌, inl, inr, Bool, true, false, cond, List, [], ◌∷◌, ◌++◌, fold, None, sym, ap, ◌∙◌, subst, append_assoc, append-nil, arith}
+use Rattle.std.proofs.Common.{◌≡◌, ◌≢◌, ℕ, ◌+◌, ◌<◌, ◌≤◌, inl, inr, Bool, true, false, not, cond, List, [], ◌∷◌, ◌++◌, fold, None, sym, ap, ◌∙◌, subst, append_assoc, append-nil, arith}
 use Rattle.std.specs.List.{All, Contains}
-use Rattle.std.proofs.lemmas.Bool.{cases_Bool}
+use Rattle.std.proofs.lemmas.Bool.{cases_Bool, eq-eqb}
 use Rattle.std.proofs.lemmas.List.Elements.{All-nil, All-contains, Contains-push_cases}
 use Rattle.lrc_code.specs.declared.numbers.StripeNo.{StripeNo}
+use Rattle.lrc_code.specs.declared.numbers.SessionNo.{SessionNo}
 use Rattle.lrc_code.specs.declared.numbers.Fragment.{Fragment}
 use Rattle.lrc_topology.specs.declared.NodeInfo.{NodeInfo}
 use Rattle.lrc_topology.specs.Nodes.{AreNodes}
 use Rattle.lrc_leases.specs.declared.lease.Lease.{Lease}
-use Rattle.lrc_leases.specs.Leased.{is_of}
+use Rattle.lrc_leases.specs.Leased.{is_of, ends_at}
 use Rattle.lrc_leases.proofs.ListLemmas.{is_of-own, is_of-parts, is_of-from, find-none}
+use Rattle.lrc_book.specs.declared.command.Command.{Command}
 use Rattle.lrc_book.specs.declared.reply.Reply.{Reply}
 use Rattle.lrc_book.specs.declared.reply.Reply.TheVariants.{Granted}
 use Rattle.lrc_book.specs.declared.entry.Entry.{Entry}
 use Rattle.lrc_book.specs.States.{State, opening, lease_of}
 use Rattle.lrc_book.specs.Outcomes.{Outcome}
-use Rattle.lrc_book.specs.Leases.{is_grant, grants}
+use Rattle.lrc_book.specs.Leases.{is_grant, grants, term, is_tick, tick_outcome}
+use Rattle.lrc_book.specs.Steps.{step}
 use Rattle.lrc_book.specs.Histories.{World, first_world, outcome_in, next_world, world_after, state_after, IsLegalFrom, IsLegal}
 use Rattle.lrc_book.specs.Goodness.{IsGood}
-use Rattle.lrc_book.proofs.MemberLemmas.{All-members}
+use Rattle.lrc_book.proofs.MemberLemmas.{All-members, filter-member}
 use Rattle.lrc_book.proofs.StepSeatedLemmas.{opening-seated, step-seated}
 use Rattle.lrc_book.proofs.LeaseCountLemmas.{Follows, grants-push, step-follows}
+use Rattle.lrc_book.proofs.ClockLemmas.{tick-is, other-clock}
 
 abbrev AreCurrent : List Entry → List Lease → Type 0
 AreCurrent past leases = All (λ l. l.epoch ≡ grants past l.stripe l.fragment) leases
@@ -60,6 +64,39 @@ current-push past st e o told (inl grant) current = All-members (λ l. l.epoch �
           ∙ ap (λ (b : Bool). grants past grant.lease.stripe grant.lease.fragment + cond b 1 0) own))
     ])
 
+-- ---- the terms of leases
+
+-- the clock has not come to the end of the lease, which is at most a term away
+abbrev IsRunning : ℕ → Lease → Type 0
+IsRunning clock l = (clock < l.expiry) × (l.expiry ≤ clock + term)
+
+module _ (st : State) (running : (l : Lease) → Contains st.leases l → IsRunning st.clock l) where
+  -- after a tick
+  tick-running : (l : Lease) → Contains (tick_outcome st).1.leases l → IsRunning (tick_outcome st).1.clock l
+  unfolding tick_outcome
+  tick-running l here =
+      let both = filter-member (λ (k : Lease). not (ends_at (st.clock + 1) k)) st.leases l here in
+      let was = running l both.0 in
+      let other : l.expiry ≢ st.clock + 1 = λ same. absurd (let off : not true ≡ true = rw (eq-eqb l.expiry (st.clock + 1) same) at both.1 in cc) in
+      (omega (arith, was.0, other), omega (arith, was.1))
+
+  -- after a step that leaves the clock where it is
+  still-running : (past : List Entry) (o : Outcome) → o.1.clock ≡ st.clock → Follows past st o → (l : Lease) → Contains o.1.leases l → IsRunning o.1.clock l
+  still-running past o still (inr none) l here = rw still (running l (none.fewer l here))
+  still-running past o still (inl grant) l here =
+      elim (Contains-push_cases st.leases grant.lease l (subst (λ (ls : List Lease). Contains ls l) grant.leases here)) [
+        | inl old ↦ rw still (running l old)
+        | inr new ↦ rw still (subst (λ (k : Lease). IsRunning st.clock k) new (rw grant.expiry (omega arith, omega arith)))
+      ]
+
+  step-running : (nodes : List NodeInfo) (past : List Entry) (session : SessionNo) (c : Command) (l : Lease)
+      → Contains (step nodes past st session c).1.leases l → IsRunning (step nodes past st session c).1.clock l
+  step-running nodes past session c = elim (cases_Bool (is_tick c)) [
+    | inl hit ↦ subst (λ (d : Command). (l : Lease) → Contains (step nodes past st session d).1.leases l → IsRunning (step nodes past st session d).1.clock l)
+        (sym (tick-is c hit)) tick-running
+    | inr miss ↦ still-running past (step nodes past st session c) (other-clock nodes past st session c miss) (step-follows nodes past st session c)
+  ]
+
 -- ---- histories
 
 -- the entries of a world are those that it began with, and those that followed
@@ -76,17 +113,28 @@ abbrev pub IsGoodIn : List NodeInfo → World → Type 0
 IsGoodIn nodes w = IsGood nodes w.past w.state
 
 pub opening-good : (nodes : List NodeInfo) → IsGood nodes [] opening
-opening-good nodes = record { seated = opening-seated nodes; current = All-nil (λ l. l.epoch ≡ grants [] l.stripe l.fragment) }
+opening-good nodes = record {
+  seated = opening-seated nodes;
+  current = All-nil (λ l. l.epoch ≡ grants [] l.stripe l.fragment);
+  running = All-nil (λ l. 0 < l.expiry);
+  termed = All-nil (λ l. l.expiry ≤ 0 + term);
+}
 
 -- An entry whose reply is the step's leaves all good,
 pub next-good : (nodes : List NodeInfo) → AreNodes nodes → (w : World) (e : Entry) → (outcome_in nodes w e.session e.command).0 ≡ e.reply
     → IsGoodIn nodes w → IsGoodIn nodes (next_world nodes w e)
-next-good nodes known w e told good = record {
-  seated = step-seated nodes known w.past w.state e.session e.command good.seated;
-  current =
-      current-push w.past w.state e (outcome_in nodes w e.session e.command) told
-      (step-follows nodes w.past w.state e.session e.command) good.current;
-}
+next-good nodes known w e told good =
+    let next = (next_world nodes w e).state in
+    let runs = step-running w.state (λ l here. (All-contains (λ k. w.state.clock < k.expiry) w.state.leases l good.running here, All-contains (λ k. k.expiry ≤ w.state.clock + term) w.state.leases l good.termed here))
+    nodes w.past e.session e.command in
+    record {
+      seated = step-seated nodes known w.past w.state e.session e.command good.seated;
+      current =
+          current-push w.past w.state e (outcome_in nodes w e.session e.command) told
+          (step-follows nodes w.past w.state e.session e.command) good.current;
+      running = All-members (λ l. next.clock < l.expiry) next.leases (λ l here. (runs l here).0);
+      termed = All-members (λ l. l.expiry ≤ next.clock + term) next.leases (λ l here. (runs l here).1);
+    }
 
 -- and so do legal entries.
 worlds-good : (nodes : List NodeInfo) → AreNodes nodes → (w : World) (history : List Entry) → IsLegalFrom nodes w history → IsGoodIn nodes w

@@ -41,7 +41,7 @@ module _ (nodes : List NodeInfo) (past : List Entry) (st : State) (session : Ses
   -- what each answer says
   abbrev pub Says : Reply → Type 0
   Says (Granted l k) =
-      IsOwed nodes st s f × (chosen nodes st s f ≡ Some l.target) × (l ≡ new_lease past session s f l.target) × (k ≡ kind nodes st s f)
+      IsOwed nodes st s f × (chosen nodes st s f ≡ Some l.target) × (l ≡ new_lease past st session s f l.target) × (k ≡ kind nodes st s f)
   Says (Refused r) = SaysRefused r
   Says _ = ⊥
 

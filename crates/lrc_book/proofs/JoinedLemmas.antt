@@ -13,9 +13,10 @@ use Rattle.lrc_topology.specs.declared.NodeInfo.{NodeInfo}
 use Rattle.lrc_topology.specs.declared.seat.Seat.{Seat}
 use Rattle.lrc_topology.specs.Nodes.{AreNodes, node_at}
 use Rattle.lrc_leases.specs.declared.lease.Lease.{Lease as LeaseRecord}
+use Rattle.lrc_book.specs.Leases.{tick_outcome}
 use Rattle.lrc_book.specs.declared.mode.Mode.TheVariants.{Active, Draining}
 use Rattle.lrc_book.specs.declared.command.Command.{Command}
-use Rattle.lrc_book.specs.declared.command.Command.TheVariants.{Place, Drop, Lease, Next, Done, Abandon, Revoke, Fail, Down, Up, Drain, Undrain, Retire, Join, Upgrade, Upgraded}
+use Rattle.lrc_book.specs.declared.command.Command.TheVariants.{Place, Drop, Lease, Next, Done, Abandon, Revoke, Fail, Down, Up, Drain, Undrain, Retire, Join, Upgrade, Upgraded, Tick}
 use Rattle.lrc_book.specs.declared.reply.Reply.TheVariants.{Dropped, Ended, Changed}
 use Rattle.lrc_book.specs.declared.refusal.Refusal.TheVariants as refusal
 use Rattle.lrc_book.specs.declared.entry.Entry.{Entry}
@@ -122,6 +123,10 @@ module _ (nodes : List NodeInfo) (past : List Entry) (st : State) (session : Ses
   join-apart n = node-stays nodes st NoneBoth apart n _ (without_gone st n) (λ right m gone.
       apart m (part-of (not (eqb n.value m.value)) (has_number st.gone m) (sym (left st.gone n m (eqb n.value m.value) refl) ∙ gone)))
 
+  tick-apart : NoneBoth (tick_outcome st).1
+  unfolding tick_outcome
+  tick-apart = apart
+
   step-apart : (c : Command) → NoneBoth (step nodes past st session c).1
   step-apart (Place r) = place-apart r
   step-apart (Drop r) = drop-apart r
@@ -139,6 +144,7 @@ module _ (nodes : List NodeInfo) (past : List Entry) (st : State) (session : Ses
   step-apart (Retire n) = retire-apart n
   step-apart (Upgrade u) = upgrade-stays nodes past st session NoneBoth kept-apart u
   step-apart (Upgraded u) = upgraded-stays nodes past st session NoneBoth kept-apart u
+  step-apart Tick = tick-apart
 
 worlds-apart : (nodes : List NodeInfo) (w : World) (history : List Entry) → NoneBoth w.state → NoneBoth (fold (next_world nodes) w history).state
 worlds-apart nodes w [] apart = apart

@@ -14,8 +14,9 @@ use Rattle.lrc_topology.specs.declared.NodeInfo.{NodeInfo}
 use Rattle.lrc_topology.specs.declared.seat.Seat.{Seat}
 use Rattle.lrc_topology.specs.declared.seat.Held.{Held}
 use Rattle.lrc_topology.specs.Nodes.{node_at, has_domain}
+use Rattle.lrc_book.specs.Leases.{tick_outcome}
 use Rattle.lrc_book.specs.declared.command.Command.{Command}
-use Rattle.lrc_book.specs.declared.command.Command.TheVariants.{Place, Drop, Lease, Next, Done, Abandon, Revoke, Fail, Down, Up, Drain, Undrain, Retire, Join, Upgrade, Upgraded}
+use Rattle.lrc_book.specs.declared.command.Command.TheVariants.{Place, Drop, Lease, Next, Done, Abandon, Revoke, Fail, Down, Up, Drain, Undrain, Retire, Join, Upgrade, Upgraded, Tick}
 use Rattle.lrc_book.specs.declared.reply.Reply.TheVariants.{Placed, Dropped, Ended, Changed, Refused}
 use Rattle.lrc_book.specs.declared.refusal.Refusal.{Refusal}
 use Rattle.lrc_book.specs.declared.refusal.Refusal.TheVariants as refusal
@@ -162,6 +163,10 @@ module _ (nodes : List NodeInfo) (st : State) (u : UpgradeNo) where
       keeps-if st (not (has_domain nodes u)) refusal.UnknownDomain _
       (keeps-if st (not (is_the_domain u st.upgrading)) refusal.NotUpgrading (Changed, without_upgrading st) (λ q e. absurd (cc)))
 
+keeps-tick : (st : State) → KeepsRefused st (tick_outcome st)
+unfolding tick_outcome
+keeps-tick st r e = absurd (cc)
+
 -- A refused command leaves the state as it was.
 pub refused-keeps : (nodes : List NodeInfo) (past : List Entry) (st : State) (session : SessionNo) (c : Command) (r : Refusal)
     → (step nodes past st session c).0 ≡ Refused r → (step nodes past st session c).1 ≡ st
@@ -181,6 +186,7 @@ refused-keeps nodes past st session (Retire n) r e = keeps-retire nodes st n r e
 refused-keeps nodes past st session (Join n) r e = keeps-join nodes st n r e
 refused-keeps nodes past st session (Upgrade u) r e = keeps-upgrade nodes st u r e
 refused-keeps nodes past st session (Upgraded u) r e = keeps-upgraded nodes st u r e
+refused-keeps nodes past st session Tick r e = keeps-tick st r e
 
 -- ---- seats chosen one after the other
 

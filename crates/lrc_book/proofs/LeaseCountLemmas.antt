@@ -1,6 +1,6 @@
 -- Which leases a command leaves live, and how many it grants.
 use Rattle.std.proofs.Common.{◌≡◌, ◌⊎◌, ℕ, ◌+◌, nat_lt, inl, inr, Bool, true, false, not, is_none, cond, List, [], ◌∷◌, ◌++◌, filter, Option, Some, None, Result, Ok, Err, refl, ap, ◌∙◌, subst, arith}
-use Rattle.std.specs.List.{Contains}
+use Rattle.std.specs.List.{Contains, count_by}
 use Rattle.std.proofs.lemmas.List.Sums.{sum_by-append, sum_by-cons}
 use Rattle.lrc_code.specs.declared.codes.Code.TheVariants.{Wide}
 use Rattle.lrc_code.specs.declared.numbers.StripeNo.{StripeNo}
@@ -12,12 +12,12 @@ use Rattle.lrc_topology.specs.declared.NodeInfo.{NodeInfo}
 use Rattle.lrc_topology.specs.declared.seat.Seat.{Seat}
 use Rattle.lrc_topology.specs.Nodes.{node_at, has_domain}
 use Rattle.lrc_leases.specs.declared.lease.Lease.{Lease as LeaseRecord}
-use Rattle.lrc_leases.specs.Leased.{is_of}
+use Rattle.lrc_leases.specs.Leased.{is_of, ends_at}
 use Rattle.lrc_book.specs.declared.kind.Kind.{Kind}
 use Rattle.lrc_book.specs.declared.command.Command.{Command}
-use Rattle.lrc_book.specs.declared.command.Command.TheVariants.{Place, Drop, Lease, Next, Done, Abandon, Revoke, Fail, Down, Up, Drain, Undrain, Retire, Join, Upgrade, Upgraded}
+use Rattle.lrc_book.specs.declared.command.Command.TheVariants.{Place, Drop, Lease, Next, Done, Abandon, Revoke, Fail, Down, Up, Drain, Undrain, Retire, Join, Upgrade, Upgraded, Tick}
 use Rattle.lrc_book.specs.declared.reply.Reply.{Reply}
-use Rattle.lrc_book.specs.declared.reply.Reply.TheVariants.{Dropped, Granted, Idle, Ended, Changed, Refused}
+use Rattle.lrc_book.specs.declared.reply.Reply.TheVariants.{Dropped, Granted, Idle, Ended, Changed, Refused, Ticked}
 use Rattle.lrc_book.specs.declared.refusal.Refusal.{Refusal}
 use Rattle.lrc_book.specs.declared.refusal.Refusal.TheVariants as refusal
 use Rattle.lrc_book.specs.declared.entry.Entry.{Entry}
@@ -27,7 +27,7 @@ use Rattle.lrc_stripes.specs.Stored.{StripeFragment}
 use Rattle.lrc_book.specs.Placement.{chosen, placed}
 use Rattle.lrc_book.specs.Repairs.{needs, kind, is_beyond_repair}
 use Rattle.lrc_book.specs.Outcomes.{Outcome, refuse_if}
-use Rattle.lrc_book.specs.Leases.{is_grant, grants, new_lease, granted, lease_answer, lease_outcome, next_answer, next_outcome, without_lease, at_epoch, is_held_by, moved_in, done_answer, done_outcome, abandon_answer, abandon_outcome, revoke_outcome}
+use Rattle.lrc_book.specs.Leases.{is_grant, grants, term, ticked, tick_outcome, new_lease, granted, lease_answer, lease_outcome, next_answer, next_outcome, without_lease, at_epoch, is_held_by, moved_in, done_answer, done_outcome, abandon_answer, abandon_outcome, revoke_outcome}
 use Rattle.lrc_book.specs.Steps.{with_stripe, place_answer, place_outcome, is_other, without_stripe, drop_outcome, node_outcome, hangs_on, emptied, with_gone, with_down, without_down, with_draining, without_draining, without_gone, fail_outcome, down_outcome, up_outcome, drain_outcome, undrain_outcome, retire_outcome, join_outcome, with_upgrading, without_upgrading, would_lose, upgrade_answer, upgrade_outcome, is_the_domain, upgraded_outcome, step}
 use Rattle.lrc_book.proofs.MemberLemmas.{filter-member}
 use Rattle.lrc_book.proofs.StepLemmas.{placed-grown}
@@ -51,6 +51,7 @@ pub record IsGranted (past : List Entry) (st : State) (r : Reply) (next : State)
   pub leases : next.leases ≡ st.leases ++ lease ∷ []
   pub none : lease_of st lease.stripe lease.fragment ≡ None
   pub epoch : lease.epoch ≡ grants past lease.stripe lease.fragment + 1
+  pub expiry : lease.expiry ≡ st.clock + term
 
 -- the reply grants none, and no lease is live that was not before
 pub record GrantsNone (st : State) (r : Reply) (next : State) : Type 0 where
@@ -98,7 +99,7 @@ module _ (nodes : List NodeInfo) (past : List Entry) (st : State) (session : Ses
   granted-follows : lease_of st s f ≡ None → (o : Option Seat) → Follows past st (granted nodes past st session s f o)
   granted-follows none None = same past st _ st (λ r g. refl) refl
   granted-follows none (Some seat) =
-      inl (record { lease = new_lease past session s f seat; from = kind nodes st s f; told = refl; leases = refl; none = none; epoch = refl })
+      inl (record { lease = new_lease past st session s f seat; from = kind nodes st s f; told = refl; leases = refl; none = none; epoch = refl; expiry = refl })
 
   leased-follows : (o : Option LeaseRecord) → lease_of st s f ≡ o → Follows past st (lease_answer nodes past st session s f o)
   leased-follows (Some l) e = same past st _ st (λ r g. refl) refl
@@ -208,6 +209,10 @@ module _ (nodes : List NodeInfo) (past : List Entry) (st : State) (u : UpgradeNo
       (refused-follows past st (not (is_the_domain u st.upgrading)) refusal.NotUpgrading _
       (same past st Changed (without_upgrading st) (λ r g. refl) refl))
 
+tick-follows : (past : List Entry) (st : State) → Follows past st (tick_outcome st)
+unfolding tick_outcome
+tick-follows past st = fewer past st (Ticked (st.clock + 1) (count_by (ends_at (st.clock + 1)) st.leases)) (ticked st) (λ (l : LeaseRecord). not (ends_at (st.clock + 1) l)) (λ s f. refl) refl
+
 -- Each command grants one lease, of a fragment that had none, or none; and all other live leases were there before.
 pub step-follows : (nodes : List NodeInfo) (past : List Entry) (st : State) (session : SessionNo) (c : Command)
     → Follows past st (step nodes past st session c)
@@ -227,3 +232,4 @@ step-follows nodes past st session (Retire n) = retire-follows nodes past st n
 step-follows nodes past st session (Join n) = join-follows nodes past st n
 step-follows nodes past st session (Upgrade u) = upgrade-follows nodes past st u
 step-follows nodes past st session (Upgraded u) = upgraded-follows nodes past st u
+step-follows nodes past st session Tick = tick-follows past st

@@ -72,7 +72,7 @@ module _ (nodes : List NodeInfo) (past : List Entry) (st : State) (session : Ses
   pub record IsNew (o : Outcome) : Type 0 where
     pub live : lease_of o.1 s f ≡ Some l
     pub seat : chosen nodes st s f ≡ Some l.target
-    pub own : l ≡ new_lease past session s f l.target
+    pub own : l ≡ new_lease past st session s f l.target
     pub from : k ≡ kind nodes st s f
 
   new-live : (m : LeaseRecord) → (m.stripe ≡ s) → (m.fragment ≡ f) → lease_of st s f ≡ None → lease_of (with_lease st m) s f ≡ Some m
@@ -87,12 +87,12 @@ module _ (nodes : List NodeInfo) (past : List Entry) (st : State) (session : Ses
       → IsNew (granted nodes past st session s f o)
   granted-new none None is e = absurd (let never : Refused (refusal.NoLawfulNode f) ≡ Granted l k = e in cc)
   granted-new none (Some seat) is e =
-      let same = same_granted (new_lease past session s f seat) l (kind nodes st s f) k e in
+      let same = same_granted (new_lease past st session s f seat) l (kind nodes st s f) k e in
       let seats : seat ≡ l.target = ap (λ (x : LeaseRecord). x.target) same.0 in
       record {
-        live = new-live (new_lease past session s f seat) refl refl none ∙ ap (λ (x : LeaseRecord). Some x) same.0;
+        live = new-live (new_lease past st session s f seat) refl refl none ∙ ap (λ (x : LeaseRecord). Some x) same.0;
         seat = is ∙ ap (λ (x : Seat). Some x) seats;
-        own = sym same.0 ∙ ap (new_lease past session s f) seats;
+        own = sym same.0 ∙ ap (new_lease past st session s f) seats;
         from = sym same.1;
       }
 
@@ -141,7 +141,7 @@ module _ (nodes : List NodeInfo) (st : State) (session : SessionNo) (s r : Strip
 
   granted-keeps : (past : List Entry) → lease_of st s f ≡ None → (o : Option Seat) → KeepsLease (granted nodes past st session s f o).1
   granted-keeps past none None = refl
-  granted-keeps past none (Some seat) = new-keeps (new_lease past session s f seat) refl refl none
+  granted-keeps past none (Some seat) = new-keeps (new_lease past st session s f seat) refl refl none
 
   answer-keeps : (past : List Entry) (o : Option LeaseRecord) → lease_of st s f ≡ o → KeepsLease (lease_answer nodes past st session s f o).1
   answer-keeps past (Some l) is = refl

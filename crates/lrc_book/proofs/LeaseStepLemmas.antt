@@ -47,7 +47,7 @@ module _ (nodes : List NodeInfo) (known : AreNodes nodes) (past : List Entry) (s
       → AreSeated nodes (granted nodes past st session s f o).1
   chosen-seated seated there none None e = seated
   chosen-seated seated there none (Some seat) e =
-      granted-seated nodes known st (new_lease past session s f seat) seated (chosen-choice nodes st s f seat known e) (stripe-there st s there) none
+      granted-seated nodes known st (new_lease past st session s f seat) seated (chosen-choice nodes st s f seat known e) (stripe-there st s there) none
 
   answered-seated : AreSeated nodes st → has_stripe st s ≡ true → (o : Option Lease) → lease_of st s f ≡ o
       → AreSeated nodes (lease_answer nodes past st session s f o).1

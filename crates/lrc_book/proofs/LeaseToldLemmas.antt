@@ -37,7 +37,7 @@ module _ (nodes : List NodeInfo) (past : List Entry) (st : State) (session : Ses
   granted-by there new true true seat is e = absurd (not-granted refusal.Unrecoverable l k e)
   granted-by there new true false None is e = absurd (not-granted (refusal.NoLawfulNode f) l k e)
   granted-by there new true false (Some seat) is e =
-      subst (IsGrant nodes st) (same-lease (new_lease past session s f seat) l _ k e) (record { there = there; new = new; chosen_is = is })
+      subst (IsGrant nodes st) (same-lease (new_lease past st session s f seat) l _ k e) (record { there = there; new = new; chosen_is = is })
 
   lease-by : (there : Bool) → has_stripe st s ≡ there → (o : Option Lease) → lease_of st s f ≡ o
       → (refuse_if (not there) refusal.UnknownStripe st (lease_answer nodes past st session s f o)).0 ≡ Granted l k → IsGrant nodes st l

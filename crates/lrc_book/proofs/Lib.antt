@@ -37,6 +37,7 @@ pub mod DomainLemmas
 pub mod UpgradeLemmas
 pub mod ShortUpgradeLemmas
 pub mod ClearLemmas
+pub mod DueLemmas
 pub mod EmptyLemmas
 pub mod ToldLemmas
 pub mod ThereLemmas
@@ -79,9 +80,12 @@ pub mod FrontLemmas
 pub mod TouchingLemmas
 pub mod LoadLemmas
 pub mod NumberedLemmas
+pub mod ClockLemmas
 pub mod ClosedLemmas
 pub mod AnswerLemmas
 pub mod AheadLemmas
 pub mod StateLemmas
 pub mod LookLemmas
 pub mod OtherUpgradeLemmas
+pub mod TermLemmas
+pub mod GrantedLemmas

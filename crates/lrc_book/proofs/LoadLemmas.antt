@@ -17,8 +17,11 @@ use Rattle.lrc_topology.specs.declared.seat.Held.{Held}
 use Rattle.lrc_topology.specs.Seats.{load_of}
 use Rattle.lrc_leases.specs.declared.lease.Lease.{Lease as LeaseRecord}
 use Rattle.lrc_leases.specs.Leased.{is_of, is_target_on}
+use Rattle.lrc_book.specs.Leases.{ticked}
+use Rattle.lrc_leases.specs.Leased.{ends_at}
+use Rattle.lrc_book.specs.declared.reply.Reply.TheVariants.{Ticked}
 use Rattle.lrc_book.specs.declared.command.Command.{Command}
-use Rattle.lrc_book.specs.declared.command.Command.TheVariants.{Place, Drop, Lease, Next, Done, Abandon, Revoke, Fail, Down, Up, Drain, Undrain, Retire, Join, Upgrade, Upgraded}
+use Rattle.lrc_book.specs.declared.command.Command.TheVariants.{Place, Drop, Lease, Next, Done, Abandon, Revoke, Fail, Down, Up, Drain, Undrain, Retire, Join, Upgrade, Upgraded, Tick}
 use Rattle.lrc_book.specs.declared.reply.Reply.{Reply}
 use Rattle.lrc_book.specs.declared.reply.Reply.TheVariants.{Placed, Dropped, Granted, Ended, Changed}
 use Rattle.lrc_book.specs.declared.entry.Entry.{Entry}
@@ -140,6 +143,7 @@ module _ (st : State) (n : NodeNo) where
   changed-keeps (Join m) Changed other = refl
   changed-keeps (Upgrade u) Changed other = refl
   changed-keeps (Upgraded u) Changed other = refl
+  changed-keeps Tick (Ticked clock ended) other = by-parts (ticked st) refl (load-unless (λ (l : LeaseRecord). l.target) n (ends_at (st.clock + 1)) st.leases other)
   changed-keeps _ _ other = refl
 
 -- a node whose load the command can't change keeps it

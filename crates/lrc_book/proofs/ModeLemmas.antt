@@ -145,6 +145,7 @@ module _ (node : NodeNo) (was st : State) (k : Store) (behind : IsOfBut node was
         (set_too ∙ ap₂ (λ (t : Stored) (b : Bool). with_offline t node (not b)) behind.stripes_is o) d ∙ stored-follows (stored_in k.stripes).spare);
     leases_is = behind.leases_is ∙ ap (λ (ls : List Lease). leased_of ls (leased_in k.leases).spare) behind.leases_stay;
     modes_are = behind.modes_are;
+    clock_is = behind.clock_is;
   }
 
 -- what is kept of a state is behind of one in which a node's mode was changed
@@ -163,6 +164,7 @@ behind-of was st node k modes kept seated there same others told = record {
   stripes_is = kept.stripes_is;
   leases_is = kept.leases_is;
   modes_are = told;
+  clock_is = kept.clock_is ∙ ap (λ (x : State). x.clock) same;
 }
 
 -- ---- the other nodes

@@ -177,7 +177,7 @@ module _ (nodes : List NodeInfo) (past : List Entry) (st : State) (session : Ses
       → (l : LeaseRecord) × ((lease_outcome nodes past st session p.0 p.1).0 ≡ Granted l (kind nodes st p.0 p.1))
   grantable-granted p so =
       let seat = seat-by nodes st p.0 p.1 so.node so.fitting (chosen nodes st p.0 p.1) refl in
-      let l = new_lease past session p.0 p.1 seat.0 in
+      let l = new_lease past st session p.0 p.1 seat.0 in
       (l, tell-granted nodes past st session p.0 p.1 l (kind nodes st p.0 p.1) (so.owed, seat.1, refl, refl))
 
   -- where a fragment is the most urgent, Next is Lease of it

@@ -1,5 +1,5 @@
 -- Which seats a command can take: those of nodes that are active and online.
-use Rattle.std.proofs.Common.{◌≡◌, ◌⊎◌, inl, inr, Bool, true, false, not, List, [], ◌∷◌, filter, Option, Some, None, refl, sym, ap, ◌∙◌, subst}
+use Rattle.std.proofs.Common.{◌+◌, ◌≡◌, ◌⊎◌, inl, inr, Bool, true, false, not, List, [], ◌∷◌, filter, Option, Some, None, refl, sym, ap, ◌∙◌, subst}
 use Rattle.std.specs.List.{Contains}
 use Rattle.std.specs.Option.{option_map_or}
 use Rattle.std.proofs.lemmas.List.Elements.{Contains-append_cases}
@@ -15,9 +15,12 @@ use Rattle.lrc_topology.specs.declared.seat.Held.{Held}
 use Rattle.lrc_topology.specs.Nodes.{AreNodes}
 use Rattle.lrc_leases.specs.declared.lease.Lease.{Lease as LeaseRecord}
 use Rattle.lrc_leases.specs.Leased.{is_of}
+use Rattle.lrc_book.specs.Leases.{ticked}
+use Rattle.lrc_leases.specs.Leased.{ends_at}
+use Rattle.lrc_book.specs.declared.reply.Reply.TheVariants.{Ticked}
 use Rattle.lrc_book.specs.declared.mode.Mode.TheVariants.{Active}
 use Rattle.lrc_book.specs.declared.command.Command.{Command}
-use Rattle.lrc_book.specs.declared.command.Command.TheVariants.{Place, Drop, Lease, Next, Done, Abandon, Revoke, Fail, Down, Up, Drain, Undrain, Retire, Join, Upgrade, Upgraded}
+use Rattle.lrc_book.specs.declared.command.Command.TheVariants.{Place, Drop, Lease, Next, Done, Abandon, Revoke, Fail, Down, Up, Drain, Undrain, Retire, Join, Upgrade, Upgraded, Tick}
 use Rattle.lrc_book.specs.declared.reply.Reply.{Reply}
 use Rattle.lrc_book.specs.declared.reply.Reply.TheVariants.{Placed, Dropped, Granted, Ended, Changed}
 use Rattle.lrc_book.specs.declared.entry.Entry.{Entry}
@@ -145,6 +148,9 @@ module _ (nodes : List NodeInfo) (st : State) where
   failed-comes n =
       each-comes (with_gone (emptied st n) n) (left-home (λ (h : Held). not (stands_on n h))) (left-target (λ (l : LeaseRecord). not (hangs_on st n l)))
 
+  ticked-comes : (seat : Seat) → Contains (taken_seats (ticked st)) seat → Comes seat
+  ticked-comes = each-comes (ticked st) old-home (left-target (λ (l : LeaseRecord). not (ends_at (st.clock + 1) l)))
+
 -- ---- the step
 
 module _ (nodes : List NodeInfo) (known : AreNodes nodes) (past : List Entry) (st : State) (session : SessionNo) where
@@ -179,6 +185,7 @@ module _ (nodes : List NodeInfo) (known : AreNodes nodes) (past : List Entry) (s
   changed-comes (Join n) Changed told = λ seat here. inl here
   changed-comes (Upgrade u) Changed told = λ seat here. inl here
   changed-comes (Upgraded u) Changed told = λ seat here. inl here
+  changed-comes Tick (Ticked clock ended) told = ticked-comes nodes st
   changed-comes _ _ told = λ seat here. inl here
 
   pub step-comes : (c : Command) (seat : Seat) → Contains (taken_seats (step nodes past st session c).1) seat → Comes nodes st seat

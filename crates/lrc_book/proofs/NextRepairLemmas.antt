@@ -118,10 +118,10 @@ first-waiting nodes st s waiting items some small are all =
 -- ---- the lease of such a repair is granted
 
 pub repair-granted : (nodes : List NodeInfo) (past : List Entry) (st : State) (session : SessionNo) (r : Repair) → IsRepair nodes st r
-    → (lease_outcome nodes past st session r.stripe r.fragment).0 ≡ Granted (new_lease past session r.stripe r.fragment r.target) r.kind
+    → (lease_outcome nodes past st session r.stripe r.fragment).0 ≡ Granted (new_lease past st session r.stripe r.fragment r.target) r.kind
 repair-granted nodes past st session r is =
     let waits = and_parts (needs nodes st r.stripe r.fragment) (is_none (lease_of st r.stripe r.fragment)) is.waiting in
     let new = lease-new nodes past st session r.stripe r.fragment is.there (none-from (lease_of st r.stripe r.fragment) waits.1) r.kind waits.0 is.kind_is in
     new.0
     ∙ ap (λ (o : Option Seat). (granted nodes past st session r.stripe r.fragment o).0) is.target_is
-    ∙ ap (λ (k : Kind). Granted (new_lease past session r.stripe r.fragment r.target) k) (sym new.1)
+    ∙ ap (λ (k : Kind). Granted (new_lease past st session r.stripe r.fragment r.target) k) (sym new.1)

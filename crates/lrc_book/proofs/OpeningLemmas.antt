@@ -31,8 +31,8 @@ drains-first None = refl
 drains-first (Some n) = refl
 
 pub opening-kept : (k : Store) → AreNodes k.topology → slots_of k.table ≡ all_free k.topology → stored_in k.stripes ≡ stored.empty k.topology
-    → leased_in k.leases ≡ leased.empty → AreModesOf opening k.modes → IsOf opening k
-opening-kept k known table stripes leases modes = record {
+    → leased_in k.leases ≡ leased.empty → AreModesOf opening k.modes → k.clock.value ≡ 0 → IsOf opening k
+opening-kept k known table stripes leases modes clock = record {
   known = known;
   seated = opening-seated k.topology;
   table_is = table ∙ ap (λ (eligible : NodeNo → Bool). record (all_free k.topology) { eligible = eligible })
@@ -42,4 +42,5 @@ opening-kept k known table stripes leases modes = record {
       (λ n. online-first (node_at k.topology n)) (λ n. drains-first (node_at k.topology n)));
   leases_is = own-room [] (leased_in k.leases) 0 leases;
   modes_are = modes;
+  clock_is = clock;
 }

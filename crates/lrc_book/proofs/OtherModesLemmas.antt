@@ -8,9 +8,10 @@ use Rattle.lrc_code.specs.declared.numbers.Fragment.{Fragment}
 use Rattle.lrc_code.proofs.NumbersLemmas.{equal_nodes}
 use Rattle.lrc_topology.specs.declared.NodeInfo.{NodeInfo}
 use Rattle.lrc_leases.specs.declared.lease.Lease.{Lease as LeaseRecord}
+use Rattle.lrc_book.specs.declared.reply.Reply.TheVariants.{Ticked}
 use Rattle.lrc_book.specs.declared.mode.Mode.TheVariants.{Active, Draining, Gone}
 use Rattle.lrc_book.specs.declared.command.Command.{Command}
-use Rattle.lrc_book.specs.declared.command.Command.TheVariants.{Place, Drop, Lease, Next, Done, Abandon, Revoke, Fail, Down, Up, Drain, Undrain, Retire, Join, Upgrade, Upgraded}
+use Rattle.lrc_book.specs.declared.command.Command.TheVariants.{Place, Drop, Lease, Next, Done, Abandon, Revoke, Fail, Down, Up, Drain, Undrain, Retire, Join, Upgrade, Upgraded, Tick}
 use Rattle.lrc_book.specs.declared.reply.Reply.{Reply}
 use Rattle.lrc_book.specs.declared.reply.Reply.TheVariants.{Placed, Dropped, Granted, Ended, Changed}
 use Rattle.lrc_book.specs.declared.entry.Entry.{Entry}
@@ -63,6 +64,7 @@ module _ (st : State) (m : NodeNo) where
   changed-same (Join n) Changed other = record { gone = left-apart st.gone n m (away n other); draining = refl; down = refl }
   changed-same (Upgrade u) Changed other = record { gone = refl; draining = refl; down = refl }
   changed-same (Upgraded u) Changed other = record { gone = refl; draining = refl; down = refl }
+  changed-same Tick (Ticked clock ended) other = record { gone = refl; draining = refl; down = refl }
   changed-same _ _ other = as-it-was
 
   same-mode : (next : State) → IsAsItWas next → mode_of next m ≡ mode_of st m

@@ -173,4 +173,5 @@ placed-kept st s seats i k table stripes past sixteen kept absent p added =
           ∙ stored-placed k.topology st (stored_in k.stripes).spare s seats kept.seated absent sixteen);
       leases_is = kept.leases_is;
       modes_are = same-modes st (with_placed st s seats) k.modes refl kept.modes_are;
+      clock_is = kept.clock_is;
     }

@@ -13,8 +13,9 @@ use Rattle.lrc_topology.specs.Nodes.{AreNodes}
 use Rattle.lrc_leases.specs.declared.lease.Lease.{Lease as LeaseRecord}
 use Rattle.lrc_leases.specs.Leased.{is_of}
 use Rattle.lrc_leases.proofs.ListLemmas.{is_of-parts, find-some}
+use Rattle.lrc_book.specs.declared.reply.Reply.TheVariants.{Ticked}
 use Rattle.lrc_book.specs.declared.command.Command.{Command}
-use Rattle.lrc_book.specs.declared.command.Command.TheVariants.{Place, Drop, Lease, Next, Done, Abandon, Revoke, Fail, Down, Up, Drain, Undrain, Retire, Join, Upgrade, Upgraded}
+use Rattle.lrc_book.specs.declared.command.Command.TheVariants.{Place, Drop, Lease, Next, Done, Abandon, Revoke, Fail, Down, Up, Drain, Undrain, Retire, Join, Upgrade, Upgraded, Tick}
 use Rattle.lrc_book.specs.declared.reply.Reply.{Reply}
 use Rattle.lrc_book.specs.declared.reply.Reply.TheVariants.{Placed, Dropped, Granted, Idle, Ended, Changed, Refused}
 use Rattle.lrc_book.specs.declared.refusal.Refusal.{Refusal}
@@ -55,6 +56,7 @@ report-is s f e (Retire n) hit = absurd (cc)
 report-is s f e (Join n) hit = absurd (cc)
 report-is s f e (Upgrade u) hit = absurd (cc)
 report-is s f e (Upgraded u) hit = absurd (cc)
+report-is s f e Tick hit = absurd (cc)
 
 ended-is : (r : Reply) → is_ended r ≡ true → r ≡ Ended
 ended-is Ended hit = refl
@@ -63,6 +65,7 @@ ended-is Dropped hit = absurd (cc)
 ended-is (Granted l k) hit = absurd (cc)
 ended-is Idle hit = absurd (cc)
 ended-is Changed hit = absurd (cc)
+ended-is (Ticked clock ended) hit = absurd (cc)
 ended-is (Refused r) hit = absurd (cc)
 
 -- a report that is taken is of a live lease of its epoch, and leaves the others

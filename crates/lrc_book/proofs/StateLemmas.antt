@@ -1,12 +1,13 @@
--- Homes, and homeless and missing fragments, in the words of a state; and the state before the first entry.
-use Rattle.std.proofs.Common.{◌≡◌, ◌≢◌, ◌⊎◌, inl, inr, ℕ, ◌<◌, ◌≤◌, Bool, true, false, not, eqb, List, Option, Some, None, option_map, is_none, IsSome, refl, sym, ap, ap₂, ◌∙◌, subst}
-use Rattle.std.specs.List.{AllPairs, Contains}
+-- Stripes, homes, leases, loads, and homeless and missing fragments, in the words of a state; and the state before the first entry.
+use Rattle.std.proofs.Common.{◌≡◌, ◌≢◌, ◌⊎◌, inl, inr, ℕ, ◌+◌, ◌<◌, ◌≤◌, Bool, true, false, not, eqb, List, Option, Some, None, option_map, is_none, IsSome, refl, sym, ap, ap₂, ◌∙◌, subst}
+use Rattle.std.specs.List.{AllPairs, Contains, count_by}
 use Rattle.std.specs.Option.{option_map_or}
-use Rattle.std.proofs.lemmas.Bool.{and_parts, and_from, and_left, eqb-true, eq-eqb, lt-ltb, ltb-true, le-ltb}
+use Rattle.std.proofs.lemmas.Bool.{and_parts, and_from, and_left, false_from_ne_true, eqb-true, eq-eqb, lt-ltb, ltb-true, le-ltb}
 use Rattle.std.proofs.lemmas.Option.{same_Some}
 use Rattle.lrc_code.specs.declared.numbers.StripeNo.{StripeNo}
 use Rattle.lrc_code.specs.declared.numbers.NodeNo.{NodeNo}
 use Rattle.lrc_code.specs.declared.numbers.Fragment.{Fragment}
+use Rattle.lrc_code.specs.Numbers.{same_stripe, same_node}
 use Rattle.lrc_code.specs.Codes.{fragment_count, has_fragment}
 use Rattle.lrc_code.proofs.NumbersLemmas.{equal_stripes, equal_fragments}
 use Rattle.lrc_topology.specs.declared.NodeInfo.{NodeInfo}
@@ -15,11 +16,28 @@ use Rattle.lrc_topology.specs.declared.seat.Held.{Held}
 use Rattle.lrc_topology.specs.Nodes.{node_at}
 use Rattle.lrc_stripes.specs.Levels.{home_of, homes_of}
 use Rattle.lrc_stripes.proofs.LevelLemmas.{homeless-missing}
-use Rattle.lrc_leases.proofs.ListLemmas.{find-none}
-use Rattle.lrc_book.specs.States.{State, opening, is_online, online_at, code_of, homeless, missing}
-use Rattle.lrc_book.proofs.MemberLemmas.{find-member}
+use Rattle.lrc_leases.specs.declared.lease.Lease.{Lease}
+use Rattle.lrc_leases.specs.Leased.{leases_in, is_of as lease_is, AreOneEach}
+use Rattle.lrc_leases.proofs.ListLemmas.{find-none, is_of-from, leases_in-own, leases_in-contains, contains-leases_in}
+use Rattle.lrc_book.specs.States.{State, opening, has_stripe, lease_of, load, is_online, online_at, code_of, homeless, missing}
+use Rattle.lrc_book.proofs.MemberLemmas.{find-member, list_any-member}
+use Rattle.lrc_book.proofs.LeaseStepLemmas.{stripe-there}
+use Rattle.lrc_book.proofs.TakenLemmas.{load-parts, count-held, count-targets}
 use Rattle.lrc_book.proofs.StoredLemmas.{is_of}
 use Rattle.lrc_book.proofs.ClearLemmas.{home-only}
+
+-- ---- stripes
+
+module _ (st : State) (s : StripeNo) where
+  -- a stripe of the list is found by the test
+  pub there-stripe : Contains st.stripes s → has_stripe st s ≡ true
+  there-stripe among = list_any-member (same_stripe s) st.stripes s among (eq-eqb s.value s.value refl)
+
+  pub absent-stripe : has_stripe st s ≡ false → ¬ (Contains st.stripes s)
+  absent-stripe miss among = let both : true ≡ false = sym (there-stripe among) ∙ miss in cc
+
+  pub stripe-absent : ¬ (Contains st.stripes s) → has_stripe st s ≡ false
+  stripe-absent none = false_from_ne_true (has_stripe st s) (λ hit. none (stripe-there st s hit))
 
 -- ---- homes
 
@@ -72,6 +90,51 @@ module _ (homes : List Held) where
   pub home-found : AllPairs (λ h g. h.stripe ≡ g.stripe → h.fragment ≢ g.fragment) homes → (h : Held) → Contains homes h
       → homes_of homes h.stripe h.fragment.value ≡ Some h.seat
   home-found single h among = ap (λ (o : Option Held). option_map (λ g. g.seat) o) (home-only homes single h among)
+
+-- ---- leases
+
+module _ (st : State) (s : StripeNo) (f : Fragment) where
+  -- the lease is a live one of the fragment
+  abbrev pub IsLeaseOf : Lease → Type 0
+  IsLeaseOf l = Contains st.leases l × (l.stripe ≡ s) × (l.fragment ≡ f)
+
+  -- no live lease is of the fragment
+  abbrev pub IsUnleased : Type 0
+  IsUnleased = (l : Lease) → Contains st.leases l → l.stripe ≡ s → l.fragment ≢ f
+
+  -- what is found is in the list
+  pub found-lease : (l : Lease) → lease_of st s f ≡ Some l → IsLeaseOf l
+  found-lease l is =
+      let own = leases_in-own st.leases s f.value l is in
+      (leases_in-contains st.leases s f.value l is, own.0, equal_fragments l.fragment f own.1)
+
+  -- where none is found there is none
+  pub none-lease : lease_of st s f ≡ None → IsUnleased
+  none-lease is l among stripe fragment =
+      let miss : lease_is s f.value l ≡ false = find-none (lease_is s f.value) st.leases l is among in
+      let hit = is_of-from s f.value l (ap (λ (r : StripeNo). r.value) stripe) (ap (λ (g : Fragment). g.value) fragment) in
+      let both : true ≡ false = sym hit ∙ miss in cc
+
+  -- and where there is none, none is found
+  pub lease-none : IsUnleased → lease_of st s f ≡ None
+  lease-none none = by (lease_of st s f) refl
+    where
+      by : (o : Option Lease) → lease_of st s f ≡ o → lease_of st s f ≡ None
+      by None is = is
+      by (Some l) is = absurd (let own = found-lease l is in none l own.0 own.1 own.2)
+
+  -- the one lease of a fragment is found
+  pub lease-found : AreOneEach st.leases → (l : Lease) → IsLeaseOf l → lease_of st s f ≡ Some l
+  lease-found single l (among, stripe, fragment) =
+      ap₂ (λ (r : StripeNo) (g : Fragment). leases_in st.leases r g.value) (sym stripe) (sym fragment)
+      ∙ contains-leases_in st.leases l single among
+
+-- ---- loads
+
+-- the load of a node is its homes and the targets on it
+pub load-counts : (st : State) (n : NodeNo)
+    → load st n ≡ count_by (λ h. same_node h.seat.node n) st.homes + count_by (λ (l : Lease). same_node l.target.node n) st.leases
+load-counts st n = load-parts st n ∙ ap₂ (λ (a b : ℕ). a + b) (count-held st.homes n) (count-targets st.leases n)
 
 -- ---- homeless and missing fragments
 

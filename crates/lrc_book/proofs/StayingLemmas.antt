@@ -21,8 +21,9 @@ use Rattle.lrc_topology.specs.Nodes.{node_at, has_domain}
 use Rattle.lrc_stripes.specs.Levels.{home_of, homes_of}
 use Rattle.lrc_stripes.specs.Stored.{StripeFragment}
 use Rattle.lrc_leases.specs.declared.lease.Lease.{Lease as LeaseRecord}
+use Rattle.lrc_book.specs.Leases.{tick_outcome}
 use Rattle.lrc_book.specs.declared.command.Command.{Command}
-use Rattle.lrc_book.specs.declared.command.Command.TheVariants.{Place, Drop, Lease, Next, Done, Abandon, Revoke, Fail, Down, Up, Drain, Undrain, Retire, Join, Upgrade, Upgraded}
+use Rattle.lrc_book.specs.declared.command.Command.TheVariants.{Place, Drop, Lease, Next, Done, Abandon, Revoke, Fail, Down, Up, Drain, Undrain, Retire, Join, Upgrade, Upgraded, Tick}
 use Rattle.lrc_book.specs.declared.reply.Reply.TheVariants.{Dropped, Changed, Ended}
 use Rattle.lrc_book.specs.declared.refusal.Refusal.TheVariants as refusal
 use Rattle.lrc_book.specs.declared.entry.Entry.{Entry}
@@ -57,7 +58,7 @@ module _ (nodes : List NodeInfo) (past : List Entry) (st : State) (session : Ses
 
   granted-stays : (s : StripeNo) (f : Fragment) (o : Option Seat) → P (granted nodes past st session s f o).1
   granted-stays s f None = before
-  granted-stays s f (Some seat) = kept (with_lease st (new_lease past session s f seat)) refl refl refl refl
+  granted-stays s f (Some seat) = kept (with_lease st (new_lease past st session s f seat)) refl refl refl refl
 
   answer-stays : (s : StripeNo) (f : Fragment) (o : Option LeaseRecord) → P (lease_answer nodes past st session s f o).1
   answer-stays s f (Some l) = before
@@ -225,6 +226,10 @@ module _ (nodes : List NodeInfo) (past : List Entry) (st : State) (session : Ses
       node-stays nodes st Stays own n _ (with_gone (emptied st n) n)
       (λ right. filtered (λ (h : Held). not (stands_on n h)) (other-node n other))
 
+  home-tick : Stays (tick_outcome st).1
+  unfolding tick_outcome
+  home-tick = own
+
   -- a home stays where it is at each command that cannot move it
   pub home-stays-by : (c : Command) → ¬ (CanMove s f seat c) → Stays (step nodes past st session c).1
   home-stays-by (Place r) other = place-home r
@@ -244,6 +249,7 @@ module _ (nodes : List NodeInfo) (past : List Entry) (st : State) (session : Ses
   home-stays-by (Retire n) other = retire-stays nodes st Stays kept-home n
   home-stays-by (Upgrade u) other = upgrade-stays nodes past st session Stays (λ next h s g d. kept-home next h s) u
   home-stays-by (Upgraded u) other = upgraded-stays nodes past st session Stays (λ next h s g d. kept-home next h s) u
+  home-stays-by Tick other = home-tick
 
 -- ---- stripes
 
@@ -304,6 +310,10 @@ module _ (nodes : List NodeInfo) (past : List Entry) (st : State) (session : Ses
   unfolding fail_outcome
   fail-there n = node-stays nodes st IsThere there n _ (with_gone (emptied st n) n) (λ right. there)
 
+  stripe-tick : IsThere (tick_outcome st).1
+  unfolding tick_outcome
+  stripe-tick = there
+
   -- a stripe is there after each command but its Drop
   pub stripe-stays-by : (c : Command) → ¬ (IsDropOf s c) → IsThere (step nodes past st session c).1
   stripe-stays-by (Place r) other = place-there r
@@ -322,3 +332,4 @@ module _ (nodes : List NodeInfo) (past : List Entry) (st : State) (session : Ses
   stripe-stays-by (Retire n) other = retire-stays nodes st IsThere kept-stripe n
   stripe-stays-by (Upgrade u) other = upgrade-stays nodes past st session IsThere (λ next h s g d. kept-stripe next h s) u
   stripe-stays-by (Upgraded u) other = upgraded-stays nodes past st session IsThere (λ next h s g d. kept-stripe next h s) u
+  stripe-stays-by Tick other = stripe-tick

@@ -13,8 +13,9 @@ use Rattle.lrc_code.specs.Codes.{fragments}
 use Rattle.lrc_topology.specs.declared.NodeInfo.{NodeInfo}
 use Rattle.lrc_topology.specs.declared.seat.Seat.{Seat}
 use Rattle.lrc_topology.specs.declared.seat.Held.{Held}
+use Rattle.lrc_book.specs.Leases.{tick_outcome}
 use Rattle.lrc_book.specs.declared.command.Command.{Command}
-use Rattle.lrc_book.specs.declared.command.Command.TheVariants.{Place, Drop, Lease, Next, Done, Abandon, Revoke, Fail, Down, Up, Drain, Undrain, Retire, Join, Upgrade, Upgraded}
+use Rattle.lrc_book.specs.declared.command.Command.TheVariants.{Place, Drop, Lease, Next, Done, Abandon, Revoke, Fail, Down, Up, Drain, Undrain, Retire, Join, Upgrade, Upgraded, Tick}
 use Rattle.lrc_book.specs.declared.reply.Reply.TheVariants.{Dropped, Granted, Ended, Changed, Refused}
 use Rattle.lrc_book.specs.declared.refusal.Refusal.{Refusal}
 use Rattle.lrc_book.specs.declared.refusal.Refusal.TheVariants as refusal
@@ -231,7 +232,7 @@ module _ (nodes : List NodeInfo) (past : List Entry) (st : State) (session : Ses
     unfolding IsToldBy
     needed-changed false beyond seat = sym (grants.refusing refusal.NotNeeded)
     needed-changed true true seat = sym (grants.refusing refusal.Unrecoverable)
-    needed-changed true false (Some seat) = sym (grants.granting (new_lease past session s f seat) (kind nodes st s f))
+    needed-changed true false (Some seat) = sym (grants.granting (new_lease past st session s f seat) (kind nodes st s f))
     needed-changed true false None = sym (grants.refusing (refusal.NoLawfulNode f))
 
     answer-told : (o : Option LeaseRecord) → IsToldBy c (lease_answer nodes past st session s f o)
@@ -325,6 +326,10 @@ module _ (nodes : List NodeInfo) (past : List Entry) (st : State) (session : Ses
   unfolding next_outcome
   next-changed = next-cases (next_of nodes st)
 
+tick-changed : (st : State) → (tick_outcome st).1 ≡ changed_by st Tick (tick_outcome st).0
+unfolding tick_outcome
+tick-changed st = refl
+
 -- the state that a step leaves is told by the command and the reply
 pub step-changed : (nodes : List NodeInfo) (past : List Entry) (st : State) (session : SessionNo) (c : Command)
     → (step nodes past st session c).1 ≡ changed_by st c (step nodes past st session c).0
@@ -344,3 +349,4 @@ step-changed nodes past st session (Retire n) = retire-changed nodes st n
 step-changed nodes past st session (Join n) = join-changed nodes st n
 step-changed nodes past st session (Upgrade u) = upgrade-changed nodes st u
 step-changed nodes past st session (Upgraded u) = upgraded-changed nodes st u
+step-changed nodes past st session Tick = tick-changed st

@@ -1,5 +1,5 @@
 -- Each command leaves the stripes seated, from the opening state on.
-use Rattle.std.proofs.Common.{◌≢◌, List, arith}
+use Rattle.std.proofs.Common.{◌≢◌, ◌+◌, ℕ, not, List, arith}
 use Rattle.std.specs.List.{Contains}
 use Rattle.std.proofs.lemmas.List.Elements.{All-nil}
 use Rattle.lrc_code.specs.declared.codes.Code.TheVariants.{Wide}
@@ -7,12 +7,16 @@ use Rattle.lrc_code.specs.declared.numbers.SessionNo.{SessionNo}
 use Rattle.lrc_topology.specs.declared.NodeInfo.{NodeInfo}
 use Rattle.lrc_topology.specs.Nodes.{AreNodes}
 use Rattle.lrc_book.specs.declared.command.Command.{Command}
-use Rattle.lrc_book.specs.declared.command.Command.TheVariants.{Place, Drop, Lease, Next, Done, Abandon, Revoke, Fail, Down, Up, Drain, Undrain, Retire, Join, Upgrade, Upgraded}
+use Rattle.lrc_book.specs.declared.command.Command.TheVariants.{Place, Drop, Lease, Next, Done, Abandon, Revoke, Fail, Down, Up, Drain, Undrain, Retire, Join, Upgrade, Upgraded, Tick}
 use Rattle.lrc_book.specs.declared.entry.Entry.{Entry}
 use Rattle.lrc_book.specs.declared.mode.Mode.TheVariants.{Gone}
 use Rattle.lrc_book.specs.States.{State, opening, mode_of}
 use Rattle.lrc_book.specs.Steps.{step}
 use Rattle.lrc_book.specs.Goodness.{IsStanding, AreSeated}
+use Rattle.lrc_leases.specs.declared.lease.Lease.{Lease as LeaseRecord}
+use Rattle.lrc_leases.specs.Leased.{ends_at}
+use Rattle.lrc_book.specs.Leases.{tick_outcome, without_ending}
+use Rattle.lrc_book.proofs.LeaseGoodLemmas.{leases-seated}
 use Rattle.lrc_book.proofs.LeaseStepLemmas.{lease-seated, done-seated, abandon-seated, revoke-seated}
 use Rattle.lrc_book.proofs.SeatedLemmas.{place-seated, drop-seated, fail-seated, down-seated, up-seated, join-seated, drain-seated, undrain-seated, retire-seated, upgrade-seated, upgraded-seated, next-seated}
 
@@ -27,6 +31,24 @@ opening-seated nodes = record {
   there = All-nil (λ h. Contains opening.stripes h.stripe);
   reachable = All-nil (λ n. mode_of opening n ≢ Gone);
 }
+
+-- what is seated stays so as the clock moves
+pub clocked-seated : (nodes : List NodeInfo) (st : State) (clock : ℕ) → AreSeated nodes st → AreSeated nodes (record st { clock = clock })
+clocked-seated nodes st clock s = record {
+  stripes = s.stripes;
+  single = s.single;
+  standing = s.standing;
+  lawful = s.lawful;
+  one_home = s.one_home;
+  one_lease = s.one_lease;
+  there = s.there;
+  reachable = s.reachable;
+}
+
+tick-seated : (nodes : List NodeInfo) (st : State) → AreSeated nodes st → AreSeated nodes (tick_outcome st).1
+unfolding tick_outcome
+tick-seated nodes st seated =
+    clocked-seated nodes (without_ending st (st.clock + 1)) (st.clock + 1) (leases-seated nodes st (λ (l : LeaseRecord). not (ends_at (st.clock + 1) l)) seated)
 
 -- Each command leaves the stripes seated.
 pub step-seated : (nodes : List NodeInfo) → AreNodes nodes → (past : List Entry) (st : State) (session : SessionNo) (command : Command)
@@ -47,3 +69,4 @@ step-seated nodes known past st session (Undrain n) seated = undrain-seated node
 step-seated nodes known past st session (Retire n) seated = retire-seated nodes st n seated
 step-seated nodes known past st session (Upgrade u) seated = upgrade-seated nodes st u seated
 step-seated nodes known past st session (Upgraded u) seated = upgraded-seated nodes st u seated
+step-seated nodes known past st session Tick seated = tick-seated nodes st seated

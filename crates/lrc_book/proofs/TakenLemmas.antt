@@ -114,6 +114,11 @@ count-held [] n = refl
 count-held (h ∷ hs) n =
     rw (sum_by-cons (λ (a : Seat). cond (eqb a.node.value n.value) 1 0) h.seat (map (λ h. h.seat) hs), sum_by-cons (λ (a : Held). cond (eqb a.seat.node.value n.value) 1 0) h hs, count-held hs n) refl
 
+pub count-targets : (ls : List Lease) (n : NodeNo) → load_of (map (λ (l : Lease). l.target) ls) n ≡ count_by (λ l. nat_eq l.target.node.value n.value) ls
+count-targets [] n = refl
+count-targets (l ∷ ls) n =
+    rw (sum_by-cons (λ (a : Seat). cond (eqb a.node.value n.value) 1 0) l.target (map (λ (l : Lease). l.target) ls), sum_by-cons (λ (m : Lease). cond (eqb m.target.node.value n.value) 1 0) l ls, count-targets ls n) refl
+
 -- the load of a node, by homes and targets
 pub load-parts : (st : State) (n : NodeNo) → load_of (taken_seats st) n ≡ load_of (map (λ h. h.seat) st.homes) n + load_of (map (λ (l : Lease). l.target) st.leases) n
 load-parts st n =

@@ -21,9 +21,10 @@ use Rattle.lrc_stripes.specs.Levels.{home_of, homes_of, homeless_in, level_by, l
 use Rattle.lrc_stripes.specs.Stored as stored
 use Rattle.lrc_stripes.specs.Stored.{Stored}
 use Rattle.lrc_leases.specs.declared.lease.Lease.{Lease as LeaseRecord}
+use Rattle.lrc_book.specs.declared.reply.Reply.TheVariants.{Ticked}
 use Rattle.lrc_book.specs.declared.mode.Mode.TheVariants.{Active, Draining, Gone}
 use Rattle.lrc_book.specs.declared.command.Command.{Command}
-use Rattle.lrc_book.specs.declared.command.Command.TheVariants.{Place, Drop, Lease, Next, Done, Abandon, Revoke, Fail, Down, Up, Drain, Undrain, Retire, Join, Upgrade, Upgraded}
+use Rattle.lrc_book.specs.declared.command.Command.TheVariants.{Place, Drop, Lease, Next, Done, Abandon, Revoke, Fail, Down, Up, Drain, Undrain, Retire, Join, Upgrade, Upgraded, Tick}
 use Rattle.lrc_book.specs.declared.reply.Reply.{Reply}
 use Rattle.lrc_book.specs.declared.reply.Reply.TheVariants.{Placed, Dropped, Granted, Ended, Changed}
 use Rattle.lrc_book.specs.declared.entry.Entry.{Entry}
@@ -204,6 +205,7 @@ module _ (nodes : List NodeInfo) (past : List Entry) (st : State) (session : Ses
       (λ h here is. online-alike nodes st (changed_by st (Undrain n) Changed) h.seat.node refl refl (λ x e. refl))
   changed-keeps (Retire n) Changed told other =
       node-keeps n (Retire n) Changed other (λ m away. changed-same st m (Retire n) Changed (apart-from n m away)) refl refl (λ f. refl)
+  changed-keeps Tick (Ticked clock ended) told other = refl
   changed-keeps (Join n) Changed told other =
       node-keeps n (Join n) Changed other (λ m away. changed-same st m (Join n) Changed (apart-from n m away)) refl refl (λ f. refl)
   changed-keeps (Upgrade u) Changed told other =

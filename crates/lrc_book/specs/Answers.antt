@@ -16,6 +16,7 @@ told answer.Idle = reply.Idle
 told answer.Ended = reply.Ended
 told answer.Changed = reply.Changed
 told (answer.Refused refusal) = reply.Refused refusal
+told (answer.Ticked clock ended) = reply.Ticked clock ended
 
 -- the command places a stripe
 abbrev pub is_place : Command → Bool

@@ -9,16 +9,16 @@ use Rattle.lrc_code.specs.Codes.{fragments}
 use Rattle.lrc_topology.specs.declared.seat.Seat.{Seat}
 use Rattle.lrc_topology.specs.declared.seat.Held.{Held}
 use Rattle.lrc_book.specs.declared.command.Command.{Command}
-use Rattle.lrc_book.specs.declared.command.Command.TheVariants.{Place, Drop, Lease, Next, Done, Abandon, Revoke, Fail, Down, Up, Drain, Undrain, Retire, Join, Upgrade, Upgraded}
+use Rattle.lrc_book.specs.declared.command.Command.TheVariants.{Place, Drop, Lease, Next, Done, Abandon, Revoke, Fail, Down, Up, Drain, Undrain, Retire, Join, Upgrade, Upgraded, Tick}
 use Rattle.lrc_book.specs.declared.reply.Reply.{Reply}
-use Rattle.lrc_book.specs.declared.reply.Reply.TheVariants.{Placed, Dropped, Granted, Ended, Changed}
+use Rattle.lrc_book.specs.declared.reply.Reply.TheVariants.{Placed, Dropped, Granted, Ended, Changed, Ticked}
 use Rattle.lrc_topology.specs.declared.NodeInfo.{NodeInfo}
 use Rattle.lrc_leases.specs.declared.lease.Lease.{Lease as LeaseRecord}
 use Rattle.lrc_leases.specs.Leased.{is_target_on}
 use Rattle.lrc_book.specs.States.{State, lease_of}
 use Rattle.lrc_code.specs.declared.numbers.SessionNo.{SessionNo}
 use Rattle.lrc_book.specs.declared.entry.Entry.{Entry}
-use Rattle.lrc_book.specs.Leases.{with_lease, without_lease, moved_in}
+use Rattle.lrc_book.specs.Leases.{with_lease, without_lease, moved_in, ticked}
 use Rattle.lrc_book.specs.Steps.{step, without_stripe, emptied, with_gone, with_down, without_down, with_draining, without_draining, without_gone, with_upgrading, without_upgrading}
 
 -- each of these fragments of a stripe on the seat at its place
@@ -57,6 +57,7 @@ changed_by st (Retire n) Changed = with_gone st n
 changed_by st (Join n) Changed = without_gone st n
 changed_by st (Upgrade u) Changed = with_upgrading st u
 changed_by st (Upgraded u) Changed = without_upgrading st
+changed_by st Tick (Ticked clock ended) = ticked st
 changed_by st _ _ = st
 
 -- the reply is the one that a session's command gets in this state, after some entries

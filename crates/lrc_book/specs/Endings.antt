@@ -1,23 +1,35 @@
 -- Which commands can end a live lease, a home or a stripe, or change the mode of a node, and what is left of a lease then.
-use Rattle.std.specs.Prelude.{◌≡◌, ◌≢◌, IsTrue, None}
+use Rattle.std.specs.Prelude.{◌≡◌, ◌≢◌, ◌⊎◌, ◌+◌, IsTrue, List, [], ◌∷◌, None}
 use Rattle.lrc_code.specs.declared.numbers.StripeNo.{StripeNo}
 use Rattle.lrc_code.specs.declared.numbers.Fragment.{Fragment}
 use Rattle.lrc_code.specs.declared.numbers.NodeNo.{NodeNo}
+use Rattle.lrc_topology.specs.declared.NodeInfo.{NodeInfo}
 use Rattle.lrc_topology.specs.declared.seat.Seat.{Seat}
 use Rattle.lrc_leases.specs.declared.lease.Lease.{Lease as LeaseRecord}
+use Rattle.lrc_leases.specs.Leased.{ends_at}
 use Rattle.lrc_book.specs.declared.command.Command.{Command}
-use Rattle.lrc_book.specs.declared.command.Command.TheVariants.{Done, Abandon, Revoke, Drop, Fail, Down, Up, Drain, Undrain, Retire, Join}
+use Rattle.lrc_book.specs.declared.command.Command.TheVariants.{Done, Abandon, Revoke, Drop, Fail, Down, Up, Drain, Undrain, Retire, Join, Tick}
+use Rattle.lrc_book.specs.declared.entry.Entry.{Entry}
 use Rattle.lrc_book.specs.States.{State, lease_of}
+use Rattle.lrc_book.specs.Leases.{is_tick}
+use Rattle.lrc_book.specs.Histories.{World, next_world}
 use Rattle.lrc_book.specs.Steps.{hangs_on}
 
--- the command reports, gives back or revokes the lease of this fragment, drops its stripe, or fails a node on which the lease hangs
+-- the command reports, gives back or revokes the lease of this fragment, drops its stripe, fails a node on which the lease
+-- hangs, or is the tick that comes to its end
 abbrev pub CanEnd : State → LeaseRecord → Command → Type 0
 CanEnd st l (Done s f e) = (l.stripe ≡ s) × (l.fragment ≡ f)
 CanEnd st l (Abandon s f e) = (l.stripe ≡ s) × (l.fragment ≡ f)
 CanEnd st l (Revoke s f) = (l.stripe ≡ s) × (l.fragment ≡ f)
 CanEnd st l (Drop s) = l.stripe ≡ s
 CanEnd st l (Fail n) = IsTrue (hangs_on st n l)
+CanEnd st l Tick = IsTrue (ends_at (st.clock + 1) l)
 CanEnd st l _ = ⊥
+
+-- from this world on no entry can end the lease, but for the ticks
+abbrev pub IsLeftAlone : List NodeInfo → LeaseRecord → World → List Entry → Type 0
+IsLeftAlone nodes l w [] = Unit {0}
+IsLeftAlone nodes l w (e ∷ es) = (IsTrue (is_tick e.command) ⊎ (¬ (CanEnd w.state l e.command))) × IsLeftAlone nodes l (next_world nodes w e) es
 
 -- the command reports this fragment, drops its stripe, or fails the node of its home on this seat
 abbrev pub CanMove : StripeNo → Fragment → Seat → Command → Type 0

@@ -1,5 +1,5 @@
 -- What holds after every legal history.
-use Rattle.std.specs.Prelude.{◌≡◌, ◌≢◌, ◌<◌, List, All, AllPairs, Contains, IfSome, IsSomeAnd}
+use Rattle.std.specs.Prelude.{◌≡◌, ◌≢◌, ◌+◌, ◌<◌, ◌≤◌, List, All, AllPairs, Contains, IfSome, IsSomeAnd}
 use Rattle.lrc_topology.specs.declared.NodeInfo.{NodeInfo}
 use Rattle.lrc_topology.specs.declared.seat.Seat.{Seat}
 use Rattle.lrc_topology.specs.declared.seat.Held.{Held}
@@ -9,7 +9,7 @@ use Rattle.lrc_book.specs.declared.entry.Entry.{Entry}
 use Rattle.lrc_book.specs.declared.mode.Mode.TheVariants.{Gone}
 use Rattle.lrc_book.specs.States.{State, code_of, seats_of, taken_seats, mode_of}
 use Rattle.lrc_book.specs.Choices.{AreApart}
-use Rattle.lrc_book.specs.Leases.{grants}
+use Rattle.lrc_book.specs.Leases.{grants, term}
 
 -- the seat is a slot of a node of the store that is not gone
 abbrev pub IsStanding : List NodeInfo → State → Seat → Type 0
@@ -34,8 +34,11 @@ pub record AreSeated (nodes : List NodeInfo) (st : State) : Type 0 where
   pub there : All (λ h. Contains st.stripes h.stripe) (seats_of st)
   pub reachable : All (λ n. mode_of st n ≢ Gone) st.down
 
--- What holds of a state after the entries that led to it: its stripes are seated, and the epoch of each live lease is
--- the number of its fragment's grants, so the last that was granted.
+-- What holds of a state after the entries that led to it: its stripes are seated, the epoch of each live lease is the
+-- number of its fragment's grants, so the last that was granted, and the clock has not come to its end, which is at most
+-- a term away.
 pub record IsGood (nodes : List NodeInfo) (history : List Entry) (st : State) : Type 0 where
   pub seated : AreSeated nodes st
   pub current : All (λ l. l.epoch ≡ grants history l.stripe l.fragment) st.leases
+  pub running : All (λ l. st.clock < l.expiry) st.leases
+  pub termed : All (λ l. l.expiry ≤ st.clock + term) st.leases

@@ -7,12 +7,12 @@ use Rattle.lrc_code.specs.Numbers.{same_stripe, same_fragment}
 use Rattle.lrc_topology.specs.declared.NodeInfo.{NodeInfo}
 use Rattle.lrc_topology.specs.declared.seat.Seat.{Seat}
 use Rattle.lrc_leases.specs.declared.lease.Lease.{Lease}
-use Rattle.lrc_leases.specs.Leased.{is_of}
+use Rattle.lrc_leases.specs.Leased.{is_of, ends_at}
 use Rattle.lrc_stripes.specs.Stored.{StripeFragment}
 use Rattle.lrc_book.specs.declared.command.Command.{Command}
-use Rattle.lrc_book.specs.declared.command.Command.TheVariants.{Done}
+use Rattle.lrc_book.specs.declared.command.Command.TheVariants.{Done, Tick}
 use Rattle.lrc_book.specs.declared.reply.Reply.{Reply}
-use Rattle.lrc_book.specs.declared.reply.Reply.TheVariants.{Granted, Idle, Ended}
+use Rattle.lrc_book.specs.declared.reply.Reply.TheVariants.{Granted, Idle, Ended, Ticked}
 use Rattle.lrc_book.specs.declared.refusal.Refusal.TheVariants as refusal
 use Rattle.lrc_book.specs.declared.entry.Entry.{Entry}
 use Rattle.lrc_book.specs.States.{State, has_stripe, lease_of, is_home_of, online_at}
@@ -32,9 +32,13 @@ is_grant s f _ = false
 abbrev pub grants : List Entry → StripeNo → Fragment → ℕ
 grants past s f = count_by (λ e. is_grant s f e.reply) past
 
+-- for how many ticks a lease is granted
+abbrev pub term : ℕ
+term = 3
+
 -- a lease of the session on this seat
-abbrev pub new_lease : List Entry → SessionNo → StripeNo → Fragment → Seat → Lease
-new_lease past session s f seat = record { stripe = s; fragment = f; holder = session; target = seat; epoch = grants past s f + 1 }
+abbrev pub new_lease : List Entry → State → SessionNo → StripeNo → Fragment → Seat → Lease
+new_lease past st session s f seat = record { stripe = s; fragment = f; holder = session; target = seat; epoch = grants past s f + 1; expiry = st.clock + term }
 
 -- one more live lease
 abbrev pub with_lease : State → Lease → State
@@ -42,7 +46,7 @@ with_lease st lease = record st { leases = st.leases ++ lease ∷ [] }
 
 -- the lease on the chosen seat, if one is chosen
 abbrev pub granted : List NodeInfo → List Entry → State → SessionNo → StripeNo → Fragment → Option Seat → Outcome
-granted nodes past st session s f (Some seat) = (Granted (new_lease past session s f seat) (kind nodes st s f), with_lease st (new_lease past session s f seat))
+granted nodes past st session s f (Some seat) = (Granted (new_lease past st session s f seat) (kind nodes st s f), with_lease st (new_lease past st session s f seat))
 granted nodes past st session s f None = refused (refusal.NoLawfulNode f) st
 
 -- the answer where the fragment has this live lease, or none
@@ -118,6 +122,29 @@ revoke_outcome st s f =
     refuse_if (not (has_stripe st s)) refusal.UnknownStripe st
     (refuse_if (is_none (lease_of st s f)) refusal.NoLease st
     (Ended, without_lease st s f))
+
+-- ---- the clock
+
+-- the command moves the clock on
+abbrev pub is_tick : Command → Bool
+is_tick Tick = true
+is_tick _ = false
+
+-- how many ticks the entries have
+abbrev pub ticks : List Entry → ℕ
+ticks past = count_by (λ e. is_tick e.command) past
+
+-- the leases that end at a clock taken out
+abbrev pub without_ending : State → ℕ → State
+without_ending st clock = record st { leases = filter (λ l. not (ends_at clock l)) st.leases }
+
+-- one tick later: the leases that end then are taken out
+abbrev pub ticked : State → State
+ticked st = record (without_ending st (st.clock + 1)) { clock = st.clock + 1 }
+
+-- Tick: told are the new clock and how many leases ended; it is never refused
+unfoldable pub tick_outcome : State → Outcome
+tick_outcome st = (Ticked (st.clock + 1) (count_by (ends_at (st.clock + 1)) st.leases), ticked st)
 
 -- ---- reports
 

@@ -25,7 +25,7 @@ use Rattle.lrc_book.specs.declared.mode.Mode.{Mode}
 use Rattle.lrc_book.specs.declared.mode.Mode.TheVariants.{Active, Draining, Gone}
 
 -- All lists stand in the order in which things happened. A node in none of the lists is active and not down. At most one
--- upgrade domain is upgrading.
+-- upgrade domain is upgrading. The clock counts the ticks.
 pub record State : Type 0 where
   pub stripes : List StripeNo
   pub homes : List Held
@@ -34,10 +34,11 @@ pub record State : Type 0 where
   pub draining : List NodeNo
   pub down : List NodeNo
   pub upgrading : Option UpgradeNo
+  pub clock : ℕ
 
 -- an empty store, whose nodes are all active and not down, with no domain upgrading
 abbrev pub opening : State
-opening = record { stripes = []; homes = []; leases = []; gone = []; draining = []; down = []; upgrading = None }
+opening = record { stripes = []; homes = []; leases = []; gone = []; draining = []; down = []; upgrading = None; clock = 0 }
 
 -- ---- stripes and seats
 

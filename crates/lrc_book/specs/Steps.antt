@@ -16,7 +16,7 @@ use Rattle.lrc_topology.specs.declared.seat.Seat.{Seat}
 use Rattle.lrc_topology.specs.declared.seat.Held.{Held}
 use Rattle.lrc_topology.specs.Nodes.{node_at, has_domain}
 use Rattle.lrc_book.specs.declared.command.Command.{Command}
-use Rattle.lrc_book.specs.declared.command.Command.TheVariants.{Place, Drop, Lease, Next, Done, Abandon, Revoke, Fail, Down, Up, Drain, Undrain, Retire, Join, Upgrade, Upgraded}
+use Rattle.lrc_book.specs.declared.command.Command.TheVariants.{Place, Drop, Lease, Next, Done, Abandon, Revoke, Fail, Down, Up, Drain, Undrain, Retire, Join, Upgrade, Upgraded, Tick}
 use Rattle.lrc_book.specs.declared.reply.Reply.{Reply}
 use Rattle.lrc_book.specs.declared.reply.Reply.TheVariants.{Placed, Dropped, Changed}
 use Rattle.lrc_book.specs.declared.refusal.Refusal.TheVariants as refusal
@@ -27,7 +27,7 @@ use Rattle.lrc_book.specs.States.{State, has_stripe, is_home_of, without_number,
 use Rattle.lrc_book.specs.Placement.{placed}
 use Rattle.lrc_book.specs.Repairs.{is_safe}
 use Rattle.lrc_book.specs.Outcomes.{Outcome, refused, refuse_if}
-use Rattle.lrc_book.specs.Leases.{lease_outcome, next_outcome, done_outcome, abandon_outcome, revoke_outcome}
+use Rattle.lrc_book.specs.Leases.{lease_outcome, next_outcome, done_outcome, abandon_outcome, revoke_outcome, tick_outcome}
 
 -- ---- stripes
 
@@ -197,3 +197,4 @@ step nodes past st session (Retire n) = retire_outcome nodes st n
 step nodes past st session (Join n) = join_outcome nodes st n
 step nodes past st session (Upgrade u) = upgrade_outcome nodes st u
 step nodes past st session (Upgraded u) = upgraded_outcome nodes st u
+step nodes past st session Tick = tick_outcome st

@@ -76,6 +76,7 @@ pub record IsOf (st : State) (s : Store) : Type 0 where
   pub stripes_is : stored_in s.stripes ≡ stored_of s.topology st (stored_in s.stripes).spare
   pub leases_is : leased_in s.leases ≡ leased_of st.leases (leased_in s.leases).spare
   pub modes_are : AreModesOf st s.modes
+  pub clock_is : s.clock.value ≡ st.clock
 
 -- the node takes seats but for upgrades, is online and is draining as it was
 pub record StaysAsItWas (was st : State) (n : NodeInfo) : Type 0 where
@@ -96,6 +97,7 @@ pub record IsOfBut (node : NodeNo) (was st : State) (s : Store) : Type 0 where
   pub stripes_is : stored_in s.stripes ≡ stored_of s.topology was (stored_in s.stripes).spare
   pub leases_is : leased_in s.leases ≡ leased_of was.leases (leased_in s.leases).spare
   pub modes_are : AreModesOf st s.modes
+  pub clock_is : s.clock.value ≡ st.clock
 
 -- the same stripes, but those of these nodes that are not online in the state are offline
 abbrev pub with_rest : Stored → State → List NodeInfo → Stored

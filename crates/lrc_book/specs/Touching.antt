@@ -1,5 +1,5 @@
 -- Which levels and which loads a command can change.
-use Rattle.std.specs.Prelude.{Bool, false, ◌&&◌, ◌||◌, List}
+use Rattle.std.specs.Prelude.{◌+◌, Bool, false, ◌&&◌, ◌||◌, List}
 use Rattle.std.specs.List.{list_any}
 use Rattle.std.specs.Option.{option_map_or}
 use Rattle.lrc_code.specs.declared.numbers.StripeNo.{StripeNo}
@@ -10,11 +10,11 @@ use Rattle.lrc_topology.specs.declared.NodeInfo.{NodeInfo}
 use Rattle.lrc_topology.specs.Nodes.{node_at}
 use Rattle.lrc_topology.specs.declared.seat.Held.{Held}
 use Rattle.lrc_leases.specs.declared.lease.Lease.{Lease as LeaseRecord}
-use Rattle.lrc_leases.specs.Leased.{is_of, is_target_on}
+use Rattle.lrc_leases.specs.Leased.{is_of, is_target_on, ends_at}
 use Rattle.lrc_book.specs.declared.command.Command.{Command}
-use Rattle.lrc_book.specs.declared.command.Command.TheVariants.{Place, Drop, Lease, Next, Done, Abandon, Revoke, Fail, Down, Up, Retire, Join, Upgrade, Upgraded}
+use Rattle.lrc_book.specs.declared.command.Command.TheVariants.{Place, Drop, Lease, Next, Done, Abandon, Revoke, Fail, Down, Up, Retire, Join, Upgrade, Upgraded, Tick}
 use Rattle.lrc_book.specs.declared.reply.Reply.{Reply}
-use Rattle.lrc_book.specs.declared.reply.Reply.TheVariants.{Placed, Dropped, Granted, Ended, Changed}
+use Rattle.lrc_book.specs.declared.reply.Reply.TheVariants.{Placed, Dropped, Granted, Ended, Changed, Ticked}
 use Rattle.lrc_book.specs.States.{State, is_home_of}
 use Rattle.lrc_book.specs.Steps.{stands_on, hangs_on}
 
@@ -62,4 +62,5 @@ can_change_load st n (Done s f e) Ended = has_home_there st n (is_home_of s f) |
 can_change_load st n (Abandon s f e) Ended = has_target_there st n (is_of s f.value)
 can_change_load st n (Revoke s f) Ended = has_target_there st n (is_of s f.value)
 can_change_load st n (Fail m) Changed = has_home_there st n (stands_on m) || has_target_there st n (hangs_on st m)
+can_change_load st n Tick (Ticked clock ended) = has_target_there st n (ends_at (st.clock + 1))
 can_change_load st n _ _ = false

@@ -19,6 +19,7 @@ pub(crate) enum Answer {
     Ended,
     Changed,
     Refused(Refusal),
+    Ticked { clock: u32, ended: u32 },
 }
 
 impl Answer {
@@ -39,6 +40,10 @@ impl Answer {
             Reply::Ended => Answer::Ended,
             Reply::Changed => Answer::Changed,
             Reply::Refused(refusal) => Answer::Refused(*refusal),
+            Reply::Ticked { clock, ended } => Answer::Ticked {
+                clock: *clock,
+                ended: *ended,
+            },
         }
     }
 
@@ -65,6 +70,10 @@ impl Answer {
             Answer::Ended => Reply::Ended,
             Answer::Changed => Reply::Changed,
             Answer::Refused(refusal) => Reply::Refused(*refusal),
+            Answer::Ticked { clock, ended } => Reply::Ticked {
+                clock: *clock,
+                ended: *ended,
+            },
         }
     }
 }

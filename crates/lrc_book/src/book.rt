@@ -169,6 +169,13 @@ impl Book {
         self.store().leases.lease(stripe, fragment)
     }
 
+    /// How many ticks there were, at most 1,000,000. A live lease ends when the clock comes to its `expiry`.
+    pub fn clock(&self) -> u32
+        ensures { result ≡ (state_of self.now).clock }
+    {
+        self.store().clock.get()
+    }
+
     /// The mode of a node, and whether it is online; `None` where the store has no such node.
     pub fn mode(&self, node: NodeNo) -> Option<(Mode, bool)>
         ensures { result ≡ mode_shown self.now.nodes (state_of self.now) node }

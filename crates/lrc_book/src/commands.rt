@@ -4,4 +4,5 @@ pub(crate) mod leases;
 mod next;
 mod nodes;
 mod stripes;
+mod ticks;
 mod upgrades;

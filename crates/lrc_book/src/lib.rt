@@ -5,6 +5,7 @@ mod answer;
 mod book;
 mod choice;
 mod class_bars;
+mod clock;
 mod command;
 mod commands;
 mod entry;

@@ -3,9 +3,11 @@ ghost use Rattle.lrc_book.specs.declared.entry.Entry.{Entry};
 ghost use Rattle.lrc_book.specs.declared.reply.Reply.TheVariants.{Granted};
 ghost use Rattle.lrc_book.specs.Answers.{told};
 ghost use Rattle.lrc_book.specs.Leases.{new_lease};
+ghost use Rattle.lrc_book.specs.States.{State};
 ghost use Rattle.lrc_book.specs.Stores.{AreFew, AreGrantsOf};
 
 use crate::answer::Answer;
+use crate::clock::Clock;
 use crate::{Kind, Lease, Seat};
 use lrc_code::{Fragment, SessionNo, StripeNo};
 use lrc_leases::Grants;
@@ -21,10 +23,10 @@ pub(crate) struct Repair {
 
 impl Repair {
     /// The reply to a session that gets the lease.
-    pub(crate) fn granted_to(self, session: SessionNo, counts: &Grants) -> Answer
+    pub(crate) fn granted_to(self, session: SessionNo, counts: &Grants, clock: Clock) -> Answer
         requires { AreFew counts.now }
-        ensures { (past : List Entry) → AreGrantsOf past counts.now
-            → told result ≡ Granted (new_lease past session self.stripe self.fragment self.target) self.kind }
+        ensures { (past : List Entry) (st : State) → AreGrantsOf past counts.now → clock.value ≡ st.clock
+            → told result ≡ Granted (new_lease past st session self.stripe self.fragment self.target) self.kind }
     {
         let lease = Lease {
             stripe: self.stripe,
@@ -32,6 +34,7 @@ impl Repair {
             holder: session,
             target: self.target,
             epoch: counts.count(self.stripe, self.fragment) + 1,
+            expiry: clock.end_of_term(),
         };
         Answer::Granted(lease, self.kind)
     }

@@ -17,4 +17,6 @@ pub enum Reply {
     /// The node or the upgrade domain was changed.
     Changed,
     Refused(Refusal),
+    /// The clock was moved on: what it is now, and how many leases ended by it, at most 65,536.
+    Ticked { clock: u32, ended: u32 },
 }

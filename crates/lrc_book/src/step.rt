@@ -123,6 +123,7 @@ impl Book {
 }
 
 /// Makes the step that is to be the next of the history after these entries, in a book that has room for it.
+#[inline(always)] // it is a look at the answer where nothing changes
 fn make(
     store: &mut Store,
     grants: &mut Grants,
@@ -136,6 +137,7 @@ fn make(
     requires few { AreFew grants.old }
     requires room { has_room store.old ≡ true }
     requires step { (outcome_in store.old.topology (world_after store.old.topology past.now) made.now.session made.now.command).0 ≡ made.now.reply }
+    requires early { store.old.clock.value < 4294967292 }
     ensures nodes { store.new.topology ≡ store.old.topology }
     ensures kept { (limit : ℕ) → IsKept store.old grants.old front.old limit past.now → length past.now < limit
         → IsKept store.new grants.new front.new limit (past.now ++ made.now ∷ []) }
@@ -144,11 +146,12 @@ fn make(
         return;
     }
     count_grant(grants, &made.answer);
-    match (made.command, &made.answer) {
-        (Command::Lease(_, _), Answer::Granted(lease, _)) => store.grant(lease),
-        (Command::Next, Answer::Granted(lease, _)) => {
+    match &made.answer {
+        Answer::Granted(lease, _) => {
             store.grant(lease);
-            *front = Some(lease.stripe);
+            if let Command::Next = made.command {
+                *front = Some(lease.stripe);
+            }
         }
         _ => {
             store.make_change(&made.command, &made.answer);
@@ -296,6 +299,7 @@ impl Store {
             Command::Join(node) => self.join_reply(node),
             Command::Upgrade(domain) => self.upgrade_reply(domain),
             Command::Upgraded(domain) => self.upgraded_reply(domain),
+            Command::Tick => self.tick_reply(),
         }
     }
 
@@ -307,6 +311,7 @@ impl Store {
         requires room { has_room self.old ≡ true }
         requires told { IsAnswer self.old.topology st command.now (told answer.now) }
         requires other { grants_lease command.now (told answer.now) ≡ false }
+        requires early { self.old.clock.value < 4294967292 }
         ensures nodes { self.new.topology ≡ self.old.topology }
         ensures kept { IsOf (changed_by st command.now (told answer.now)) self.new }
     {
@@ -327,6 +332,7 @@ impl Store {
             (Command::Join(node), Answer::Changed) => self.join(node),
             (Command::Upgrade(domain), Answer::Changed) => self.upgrade(domain),
             (Command::Upgraded(domain), Answer::Changed) => self.upgraded(domain),
+            (Command::Tick, Answer::Ticked { clock: _, ended }) => self.tick(*ended),
             _ => {}
         }
     }

@@ -11,6 +11,7 @@ ghost use Rattle.lrc_book.specs.Leases.{without_lease, without_home};
 ghost use Rattle.lrc_book.specs.Stores.{IsOf, IsOfBut, IsTied, AreModesOf, kept_table, has_room};
 
 use crate::Mode;
+use crate::clock::Clock;
 use crate::modes::Modes;
 use lrc_code::{Fault, Fragment, NodeNo, StripeNo};
 use lrc_leases::Leases;
@@ -22,8 +23,8 @@ use std::alloc::Global;
 /// For how many more stripes and leases room is made at once, so that it is seldom made.
 const MORE: u32 = 16;
 
-/// What a book keeps of its state: the taken slots, the homes of fragments, the live leases, and the modes of
-/// nodes.
+/// What a book keeps of its state: the taken slots, the homes of fragments, the live leases, the modes of
+/// nodes, and the clock.
 #[derive(Drop)]
 pub(crate) struct Store {
     pub(crate) topology: Topology,
@@ -31,6 +32,7 @@ pub(crate) struct Store {
     pub(crate) stripes: Stripes,
     pub(crate) leases: Leases,
     pub(crate) modes: Modes,
+    pub(crate) clock: Clock,
 }
 
 impl Store {
@@ -47,6 +49,7 @@ impl Store {
             stripes,
             leases,
             modes,
+            clock: Clock::new(),
         })
     }
 
@@ -115,6 +118,7 @@ impl Store {
         requires { IsTied self.old }
         ensures nodes { self.new.topology ≡ self.old.topology }
         ensures modes { self.new.modes ≡ self.old.modes }
+        ensures clock { self.new.clock ≡ self.old.clock }
         ensures kept { (st : State) → IsOf st self.old → IsOf (without_lease st stripe fragment) self.new }
     {
         if !self.leases.leased(stripe).contains(fragment) {

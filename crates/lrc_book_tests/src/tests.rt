@@ -4,6 +4,7 @@ mod leases;
 mod limits;
 mod repair;
 mod steps;
+mod ticks;
 
 use lrc_book::{Book, Command, Entry, HISTORY_LIMIT, Level, Mode, Refusal, Reply, Seat};
 use lrc_code::{Fault, LossMask, NodeNo, SessionNo, StripeNo};
@@ -117,6 +118,10 @@ fn load(book: &Book, node: NodeNo) -> Option<u32> {
 
 fn mode(book: &Book, node: NodeNo) -> Option<(Mode, bool)> {
     book.mode(node)
+}
+
+fn clock(book: &Book) -> u32 {
+    book.clock()
 }
 
 fn expect_stripe(rt: &impl Abort, book: &Book, stripe: StripeNo, wanted: Level, lost: u16) {

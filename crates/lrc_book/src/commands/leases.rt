@@ -99,13 +99,14 @@ impl Store {
                     kind,
                     target,
                 };
-                repair.granted_to(session, counts)
+                repair.granted_to(session, counts, self.clock)
             }
             None => Answer::Refused(Refusal::NoLawfulNode(fragment)),
         }
     }
 
     /// Adds the lease of a fragment that has none, on the seat that is chosen for it.
+    #[inline(never)] // a step that grants nothing then saves fewer registers
     pub(crate) fn grant(&mut self, lease: &Lease)
         ghost st: { State }
         requires kept { IsOf st self.old }

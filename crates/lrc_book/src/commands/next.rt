@@ -34,7 +34,7 @@ impl Store {
             → told result ≡ (next_outcome self.now.topology past st session).0 }
     {
         match self.next_repair(front) {
-            Some(repair) => repair.granted_to(session, counts),
+            Some(repair) => repair.granted_to(session, counts, self.clock),
             None => Answer::Idle,
         }
     }

@@ -27,7 +27,8 @@ ghost use Rattle.lrc_book.specs.Goodness.{IsGood};
 ghost use Rattle.lrc_book.specs.Sessions.{NumberedEntry, entries_of, AreRising};
 
 /// After each legal history every placement is lawful, every seat is held once and is a slot of a node that is not gone,
-/// each fragment has one home and one lease at most, and the epoch of each live lease is the last that was granted.
+/// and each fragment has one home and one lease at most. The epoch of each live lease is the last that was granted, and
+/// the clock has not come to its end, which is at most three ticks away.
 pub fn legal_histories_leave_good_states()
     ensures { (nodes : List NodeInfo) (history : List Entry)
         → AreNodes nodes → IsLegal nodes history → IsGood nodes history (state_after nodes history) }
@@ -67,7 +68,7 @@ pub fn live_leases_were_granted()
 {}
 
 /// A live lease is there unchanged after every command, unless this is Done, Abandon or Revoke of its fragment, Drop of
-/// its stripe, or Fail of the node of its target or of its fragment's home.
+/// its stripe, Fail of the node of its target or of its fragment's home, or the Tick that comes to its end.
 pub fn leases_end_by_these_alone()
     ensures { (nodes : List NodeInfo) (past : List Entry) (st : State) (session : SessionNo)
         (command : Command) (s : StripeNo) (f : Fragment) (l : LeaseRecord)

@@ -1,27 +1,30 @@
 //! Laws of leases: which are granted, what they are, and how they end.
 
-ghost use Rattle.std.specs.Prelude.{◌≡◌, ◌≢◌, ◌↔◌, ℕ, ◌+◌, IsTrue, IsFalse, IsSome, IsSomeAnd, List, Some, None};
+ghost use Rattle.std.specs.Prelude.{◌≡◌, ◌≢◌, ◌↔◌, ◌⊎◌, ℕ, ◌+◌, ◌<◌, IsTrue, IsFalse, IsSome, IsSomeAnd, List, [], ◌∷◌, ◌++◌, Contains, count_by, nat_eq, Some, None};
 ghost use Rattle.lrc_code.specs.declared.numbers.StripeNo.{StripeNo};
 ghost use Rattle.lrc_code.specs.declared.numbers.Fragment.{Fragment};
 ghost use Rattle.lrc_topology.specs.declared.NodeInfo.{NodeInfo};
+ghost use Rattle.lrc_topology.specs.declared.seat.Held.{Held};
 ghost use Rattle.lrc_topology.specs.Nodes.{AreNodes};
 ghost use Rattle.lrc_code.specs.declared.numbers.SessionNo.{SessionNo};
 ghost use Rattle.lrc_code.specs.declared.numbers.NodeNo.{NodeNo};
 ghost use Rattle.lrc_book.specs.declared.entry.Entry.{Entry};
-ghost use Rattle.lrc_book.specs.declared.command.Command.TheVariants.{Lease, Done, Abandon, Revoke};
-ghost use Rattle.lrc_book.specs.declared.reply.Reply.TheVariants.{Granted, Ended, Refused};
+ghost use Rattle.lrc_book.specs.declared.command.Command.{Command};
+ghost use Rattle.lrc_book.specs.declared.command.Command.TheVariants.{Lease, Done, Abandon, Revoke, Tick};
+ghost use Rattle.lrc_book.specs.declared.reply.Reply.TheVariants.{Granted, Ended, Refused, Ticked};
 ghost use Rattle.lrc_book.specs.declared.refusal.Refusal.TheVariants as refusal;
 ghost use Rattle.lrc_book.specs.declared.kind.Kind.{Kind};
 ghost use Rattle.lrc_book.specs.declared.kind.Kind.TheVariants.{Local, Global, Move};
 ghost use Rattle.lrc_stripes.specs.Levels.{homes_of};
 ghost use Rattle.lrc_leases.specs.declared.lease.Lease.{Lease as LeaseRecord};
-ghost use Rattle.lrc_book.specs.Leases.{grants, new_lease};
+ghost use Rattle.lrc_book.specs.Leases.{grants, ticks, new_lease};
 ghost use Rattle.lrc_book.specs.Repairs.{needs, is_safe, kind, IsAtHome, IsFromItsGroup};
 ghost use Rattle.lrc_book.specs.Granting.{IsOwed};
 ghost use Rattle.lrc_book.specs.Reporting.{IsReported};
-ghost use Rattle.lrc_book.specs.Endings.{IsWithoutLease};
+ghost use Rattle.lrc_book.specs.Endings.{IsWithoutLease, IsLeftAlone};
 ghost use Rattle.lrc_book.specs.Steps.{step};
-ghost use Rattle.lrc_book.specs.States.{State, has_stripe, lease_of, online_at};
+ghost use Rattle.lrc_book.specs.States.{State, has_stripe, held_by, seats_of, lease_of, online_at};
+ghost use Rattle.lrc_book.specs.Histories.{IsLegal, world_after, state_after};
 ghost use Rattle.lrc_book.specs.Choices.{IsFitting, IsChoice};
 
 /// Lease is answered with a lease exactly where the fragment is owed one and a seat is chosen for it: the lease is then
@@ -30,7 +33,7 @@ pub fn a_lease_is_granted_where_it_is_owed()
     ensures granted { (nodes : List NodeInfo) (past : List Entry) (st : State) (session : SessionNo)
         (s : StripeNo) (f : Fragment) (l : LeaseRecord) (k : Kind)
         → AreNodes nodes → ((step nodes past st session (Lease s f)).0 ≡ Granted l k)
-        ↔ (IsOwed nodes st s f × IsChoice nodes st s f l.target × (l ≡ new_lease past session s f l.target) × (k ≡ kind nodes st s f)) }
+        ↔ (IsOwed nodes st s f × IsChoice nodes st s f l.target × (l ≡ new_lease past st session s f l.target) × (k ≡ kind nodes st s f)) }
     ensures unknown { (nodes : List NodeInfo) (past : List Entry) (st : State) (session : SessionNo) (s : StripeNo) (f : Fragment)
         → ((step nodes past st session (Lease s f)).0 ≡ Refused refusal.UnknownStripe) ↔ IsFalse (has_stripe st s) }
     ensures leased { (nodes : List NodeInfo) (past : List Entry) (st : State) (session : SessionNo) (s : StripeNo) (f : Fragment) (e : ℕ)
@@ -49,7 +52,8 @@ pub fn a_lease_is_granted_where_it_is_owed()
 {}
 
 /// Right after a grant the live lease of the fragment is the one that was told. Its holder is the session that asked,
-/// its target the seat that is chosen for the fragment, its epoch one more than the grants before it.
+/// its target the seat that is chosen for the fragment, its epoch one more than the grants before it, and its end the clock
+/// and three.
 pub fn a_grant_is_the_lease()
     ensures live { (nodes : List NodeInfo) (past : List Entry) (st : State) (session : SessionNo)
         (s : StripeNo) (f : Fragment) (l : LeaseRecord) (k : Kind)
@@ -57,7 +61,8 @@ pub fn a_grant_is_the_lease()
     ensures own { (nodes : List NodeInfo) (past : List Entry) (st : State) (session : SessionNo)
         (s : StripeNo) (f : Fragment) (l : LeaseRecord) (k : Kind)
         → (step nodes past st session (Lease s f)).0 ≡ Granted l k
-        → (l.stripe ≡ s) × (l.fragment ≡ f) × (l.holder ≡ session) × (l.epoch ≡ grants past s f + 1) × (k ≡ kind nodes st s f) }
+        → (l.stripe ≡ s) × (l.fragment ≡ f) × (l.holder ≡ session) × (l.epoch ≡ grants past s f + 1) × (l.expiry ≡ st.clock + 3)
+        × (k ≡ kind nodes st s f) }
     ensures target { (nodes : List NodeInfo) (past : List Entry) (st : State) (session : SessionNo)
         (s : StripeNo) (f : Fragment) (l : LeaseRecord) (k : Kind)
         → AreNodes nodes → (step nodes past st session (Lease s f)).0 ≡ Granted l k → IsChoice nodes st s f l.target }
@@ -150,4 +155,35 @@ pub fn a_lease_is_revoked_whoever_holds_it()
         → ((step nodes past st session (Revoke s f)).0 ≡ Refused refusal.NoLease) ↔ (IsTrue (has_stripe st s) × (lease_of st s f ≡ None)) }
     ensures after { (nodes : List NodeInfo) (past : List Entry) (st : State) (session : SessionNo) (s : StripeNo) (f : Fragment)
         → (step nodes past st session (Revoke s f)).0 ≡ Ended → IsWithoutLease st s f (step nodes past st session (Revoke s f)).1 }
+{}
+
+/// Tick is never refused. It moves the clock on by one, and tells the new clock and how many live leases have it as their
+/// end. These alone are ended: every other lease is live as before, the targets of those that ended are held no more, and
+/// nothing else is changed.
+pub fn ticks_in_words()
+    ensures told { (nodes : List NodeInfo) (past : List Entry) (st : State) (session : SessionNo)
+        → (step nodes past st session Tick).0 ≡ Ticked (st.clock + 1) (count_by (λ l. nat_eq l.expiry (st.clock + 1)) st.leases) }
+    ensures leases { (nodes : List NodeInfo) (past : List Entry) (st : State) (session : SessionNo) (l : LeaseRecord)
+        → Contains (step nodes past st session Tick).1.leases l ↔ (Contains st.leases l × (l.expiry ≢ st.clock + 1)) }
+    ensures seats { (nodes : List NodeInfo) (past : List Entry) (st : State) (session : SessionNo) (h : Held)
+        → Contains (seats_of (step nodes past st session Tick).1) h
+        ↔ (Contains st.homes h ⊎ ((l : LeaseRecord) × Contains st.leases l × (l.expiry ≢ st.clock + 1) × (held_by l ≡ h))) }
+    ensures rest { (nodes : List NodeInfo) (past : List Entry) (st : State) (session : SessionNo)
+        → (step nodes past st session Tick).1 ≡ record st { leases = (step nodes past st session Tick).1.leases; clock = st.clock + 1 } }
+{}
+
+/// The clock is the number of ticks so far, and no command but Tick moves it. The end of a lease is the clock of its grant
+/// and three, by whichever command it was granted. If no other command ends it, it is live until the third tick after its
+/// grant, and no longer, whatever else comes between.
+pub fn leases_last_three_ticks()
+    ensures clock { (nodes : List NodeInfo) (history : List Entry) → (state_after nodes history).clock ≡ ticks history }
+    ensures others { (nodes : List NodeInfo) (past : List Entry) (st : State) (session : SessionNo) (command : Command)
+        → command ≢ Tick → (step nodes past st session command).1.clock ≡ st.clock }
+    ensures granted { (nodes : List NodeInfo) (past : List Entry) (st : State) (session : SessionNo)
+        (command : Command) (l : LeaseRecord) (k : Kind)
+        → (step nodes past st session command).0 ≡ Granted l k → l.expiry ≡ st.clock + 3 }
+    ensures live { (nodes : List NodeInfo) (history : List Entry) (e : Entry) (es : List Entry) (l : LeaseRecord) (k : Kind)
+        → AreNodes nodes → IsLegal nodes (history ++ e ∷ es) → e.reply ≡ Granted l k
+        → IsLeftAlone nodes l (world_after nodes (history ++ e ∷ [])) es
+        → (lease_of (state_after nodes (history ++ e ∷ es)) l.stripe l.fragment ≡ Some l) ↔ (ticks es < 3) }
 {}

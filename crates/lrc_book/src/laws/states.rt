@@ -1,11 +1,12 @@
-//! Laws of states: what the homes of a stripe, its missing fragments and its level are in the state's own words, and what is
-//! answered of them.
+//! Laws of states: what the stripes, homes, leases, loads, missing fragments and levels are in the state's own words, and what
+//! is answered of them.
 
-ghost use Rattle.std.specs.Prelude.{◌≡◌, ◌≢◌, ◌↔◌, ◌⊎◌, ℕ, ◌<◌, ◌≤◌, Bool, IsTrue, IsFalse, IsSome, List, [], AllPairs, Contains, length, get_or, Option, Some, None};
+ghost use Rattle.std.specs.Prelude.{◌≡◌, ◌≢◌, ◌↔◌, ◌⊎◌, ℕ, ◌+◌, ◌<◌, ◌≤◌, Bool, IsTrue, IsFalse, IsSome, List, [], AllPairs, Contains, count_by, length, get_or, Option, Some, None};
 ghost use Rattle.lrc_code.specs.declared.losses.LossMask.{LossMask};
 ghost use Rattle.lrc_code.specs.declared.numbers.StripeNo.{StripeNo};
 ghost use Rattle.lrc_code.specs.declared.numbers.NodeNo.{NodeNo};
 ghost use Rattle.lrc_code.specs.declared.numbers.Fragment.{Fragment};
+ghost use Rattle.lrc_code.specs.Numbers.{same_node};
 ghost use Rattle.lrc_code.specs.Codes.{fragment_count};
 ghost use Rattle.lrc_code.specs.Losses.{IsRecoverable, IsMargin, bits_set};
 ghost use Rattle.lrc_topology.specs.declared.NodeInfo.{NodeInfo};
@@ -16,11 +17,18 @@ ghost use Rattle.lrc_stripes.specs.declared.level.Level.{Level};
 ghost use Rattle.lrc_stripes.specs.declared.level.Level.TheVariants.{Whole, AtRisk, Unavailable, Lost};
 ghost use Rattle.lrc_stripes.specs.Levels.{homes_of, SomeMissing, NoneMissing};
 ghost use Rattle.lrc_leases.specs.declared.lease.Lease.{Lease as LeaseRecord};
+ghost use Rattle.lrc_leases.specs.Leased.{AreOneEach};
 ghost use Rattle.lrc_book.specs.declared.mode.Mode.{Mode};
 ghost use Rattle.lrc_book.specs.declared.mode.Mode.TheVariants.{Active};
-ghost use Rattle.lrc_book.specs.States.{State, opening, has_stripe, code_of, load, mode_of, is_down, online_at, homeless, missing, level, homes_shown, load_shown, level_shown, missing_shown, mode_shown};
+ghost use Rattle.lrc_book.specs.States.{State, opening, has_stripe, code_of, load, lease_of, mode_of, is_down, online_at, homeless, missing, level, homes_shown, load_shown, level_shown, missing_shown, mode_shown};
 ghost use Rattle.lrc_book.specs.Goodness.{AreSeated};
 ghost use Rattle.lrc_book.specs.Histories.{state_after};
+
+/// A stripe is there exactly where the state has it among its stripes.
+pub fn stripes_in_words()
+    ensures there { (st : State) (s : StripeNo) → IsTrue (has_stripe st s) ↔ Contains st.stripes s }
+    ensures absent { (st : State) (s : StripeNo) → IsFalse (has_stripe st s) ↔ (¬ (Contains st.stripes s)) }
+{}
 
 /// The seat that is found for a fragment is that of a home of it in the list, and none is found exactly where the list has
 /// no home of it. Where the list has at most one home for each fragment, each of its homes is the one that is found.
@@ -31,6 +39,23 @@ pub fn homes_are_found_by_their_fragment()
         → (homes_of homes s f.value ≡ None) ↔ ((seat : Seat) → ¬ (Contains homes (record { stripe = s; fragment = f; seat = seat }))) }
     ensures each { (homes : List Held) (h : Held) → AllPairs (λ h g. h.stripe ≡ g.stripe → h.fragment ≢ g.fragment) homes
         → Contains homes h ↔ (homes_of homes h.stripe h.fragment.value ≡ Some h.seat) }
+{}
+
+/// The lease that is found for a fragment is a live one of it, and none is found exactly where no live lease is of it. Where
+/// the live leases are at most one for each fragment, each of them is the one that is found.
+pub fn leases_are_found_by_their_fragment()
+    ensures own { (st : State) (s : StripeNo) (f : Fragment) (l : LeaseRecord)
+        → lease_of st s f ≡ Some l → Contains st.leases l × (l.stripe ≡ s) × (l.fragment ≡ f) }
+    ensures none { (st : State) (s : StripeNo) (f : Fragment)
+        → (lease_of st s f ≡ None) ↔ ((l : LeaseRecord) → Contains st.leases l → l.stripe ≡ s → l.fragment ≢ f) }
+    ensures each { (st : State) (s : StripeNo) (f : Fragment) (l : LeaseRecord) → AreOneEach st.leases
+        → (lease_of st s f ≡ Some l) ↔ (Contains st.leases l × (l.stripe ≡ s) × (l.fragment ≡ f)) }
+{}
+
+/// The load of a node is the number of homes on it and of live leases whose target is on it.
+pub fn loads_in_words()
+    ensures sum { (st : State) (n : NodeNo)
+        → load st n ≡ count_by (λ h. same_node h.seat.node n) st.homes + count_by (λ l. same_node l.target.node n) st.leases }
 {}
 
 /// A fragment of the stripe's code is homeless exactly where the state has no home of it. It is missing exactly where that

@@ -19,7 +19,7 @@ pub(super) const THREE: Fragment = Fragment { value: 3 };
 pub(super) const SIX: Fragment = Fragment { value: 6 };
 
 /// What fragments 3 and 6 are rebuilt from: the rest of their local groups.
-const OF_THREE: Kind = Kind::Local([
+pub(super) const OF_THREE: Kind = Kind::Local([
     Fragment { value: 0 },
     Fragment { value: 1 },
     Fragment { value: 2 },
@@ -37,7 +37,7 @@ const OF_SIX: Kind = Kind::Local([
     Fragment { value: 13 },
 ]);
 
-/// The lease of fragment 3 of the first stripe on the first slot of a node.
+/// The lease of fragment 3 of the first stripe on the first slot of a node, granted before the first tick.
 pub(super) fn lease_of_three(holder: SessionNo, target: u16, epoch: u32) -> Lease {
     Lease {
         stripe: ONE,
@@ -48,6 +48,7 @@ pub(super) fn lease_of_three(holder: SessionNo, target: u16, epoch: u32) -> Leas
             slot: 0,
         },
         epoch,
+        expiry: 3,
     }
 }
 
@@ -56,7 +57,7 @@ pub(super) fn granted(holder: SessionNo, target: u16, epoch: u32) -> Reply {
 }
 
 /// The first stripe is placed, and fragment 3 loses its home and is leased.
-fn place_and_lease(rt: &impl Abort, book: &mut Book) {
+pub(super) fn place_and_lease(rt: &impl Abort, book: &mut Book) {
     let rows = [
         (Command::Place(ONE), Reply::Placed(first_seats())),
         (Command::Fail(node(3)), Reply::Changed),
@@ -240,6 +241,7 @@ fn ask_beyond_repair(rt: &impl Abort, book: &mut Book) {
             slot: 0,
         },
         epoch: 1,
+        expiry: 3,
     };
     let beyond = Reply::Refused(Refusal::Unrecoverable);
     let rows = [

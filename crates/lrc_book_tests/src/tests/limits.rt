@@ -3,9 +3,10 @@
 ghost use Rattle.std.specs.Prelude.{◌≤◌};
 
 use super::leases::{SIX, THREE, granted, lease, lease_of_three};
+use super::ticks::ticked;
 use super::{
-    FIRST, ONE, Row, TWO, call, close, expect_load, expect_node, expect_replies, expect_risk,
-    expect_stripe, first_seats, homes, level, missing, mode, node, place_first,
+    FIRST, ONE, Row, TWO, call, clock, close, expect_load, expect_node, expect_replies,
+    expect_risk, expect_stripe, first_seats, homes, level, missing, mode, node, place_first,
 };
 use lrc_book::{Book, Command, Entry, Level, Mode, Plan, Reply, Seat};
 use lrc_code::{Fault, StripeNo, UpgradeNo};
@@ -88,7 +89,7 @@ fn expect_history(rt: &impl Abort, book: &Book, rows: &[Row]) {
 }
 
 /// A command of each kind. All but the last would change the book that is filled below.
-fn each_kind() -> [Command; 16] {
+fn each_kind() -> [Command; 17] {
     let domain = UpgradeNo { value: 0 };
     [
         Command::Place(TWO),
@@ -106,6 +107,7 @@ fn each_kind() -> [Command; 16] {
         Command::Retire(node(19)),
         Command::Join(node(3)),
         Command::Upgrade(domain),
+        Command::Tick,
         Command::Upgraded(domain),
     ]
 }
@@ -131,6 +133,7 @@ fn expect_untouched(rt: &impl Abort, alloc: Global, book: &Book) {
     expect_no_stripe(rt, book, ONE);
     expect_no_stripe(rt, book, TWO);
     assert!(rt; lease(book, ONE, THREE).is_none());
+    assert_eq!(rt; clock(book), 0);
     expect_risk(rt, alloc, book, &[]);
     for number in 0..20 {
         expect_node(rt, book, number, (Mode::Active, true), 0);
@@ -145,7 +148,7 @@ fn expect_no_stripe(rt: &impl Abort, book: &Book, stripe: StripeNo) {
 
 #[test]
 fn a_full_history_takes_no_command_of_any_kind(rt: HostRuntime) -> Result<(), Fail> {
-    let mut book = limited(rt.alloc(), 6)?;
+    let mut book = limited(rt.alloc(), 8)?;
     refuse_all_when_full(&rt, rt.alloc(), &mut book);
     close(book);
     Ok(())
@@ -160,22 +163,26 @@ fn refuse_all_when_full(rt: &impl Abort, alloc: Global, book: &mut Book) {
     }
 }
 
-/// The first stripe loses two fragments, of which one is leased. One node is down, and one drains.
-fn filling() -> [Row; 6] {
+/// The first stripe loses two fragments, of which one is leased, until the tick after the two that follow. One node is down,
+/// and one drains.
+fn filling() -> [Row; 8] {
     [
         (Command::Place(ONE), Reply::Placed(first_seats())),
         (Command::Fail(node(3)), Reply::Changed),
         (Command::Fail(node(6)), Reply::Changed),
         (Command::Lease(ONE, THREE), granted(FIRST, 17, 1)),
+        (Command::Tick, ticked(1, 0)),
+        (Command::Tick, ticked(2, 0)),
         (Command::Down(node(18)), Reply::Changed),
         (Command::Drain(node(19)), Reply::Changed),
     ]
 }
 
-/// The book shows what it shows after these six calls.
+/// The book shows what it shows after these eight calls.
 fn expect_filled(rt: &impl Abort, alloc: Global, book: &Book) {
     expect_history(rt, book, &filling());
     expect_leased(rt, book);
+    assert_eq!(rt; clock(book), 2);
     expect_no_stripe(rt, book, TWO);
     expect_risk(rt, alloc, book, &[(ONE, Level::AtRisk(2))]);
     for number in 0..20 {

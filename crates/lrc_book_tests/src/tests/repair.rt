@@ -38,6 +38,7 @@ fn granted((stripe, fragment): (StripeNo, Fragment), target: u16, slot: u16, kin
             slot,
         },
         epoch: 1,
+        expiry: 3,
     };
     Reply::Granted(lease, kind)
 }

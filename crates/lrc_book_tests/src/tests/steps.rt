@@ -1,5 +1,7 @@
 //! A call in its three parts: decided, prepared and committed.
 
+use super::leases::{THREE, granted};
+use super::ticks::ticked;
 use super::{FIRST, ONE, book, close, first_seats, node};
 use lrc_book::{Book, Command, Entry, Refusal, Reply};
 use std::process::Abort;
@@ -19,6 +21,10 @@ fn decide_each(rt: &impl Abort, book: &mut Book) {
         (Command::Place(ONE), Reply::Refused(Refusal::StripeExists)),
         (Command::Next, Reply::Idle),
         (Command::Fail(node(3)), Reply::Changed),
+        (Command::Lease(ONE, THREE), granted(FIRST, 17, 1)),
+        (Command::Tick, ticked(1, 0)),
+        (Command::Tick, ticked(2, 0)),
+        (Command::Tick, ticked(3, 1)),
         (Command::Drop(ONE), Reply::Dropped),
     ];
     for (command, reply) in rows.iter() {

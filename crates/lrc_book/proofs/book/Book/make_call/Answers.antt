@@ -1,4 +1,4 @@
-use Rattle.std.proofs.Common.{◌≡◌, true, subst, nat_le, vec_len, vec_capacity, is_some, ◌+◌, ◌&&◌, List, ◌++◌, ◌∷◌, [], take, refl, sym, ap, ◌∙◌}
+use Rattle.std.proofs.Common.{◌≡◌, ◌<◌, true, subst, nat_le, vec_len, vec_capacity, is_some, ◌+◌, ◌&&◌, List, ◌++◌, ◌∷◌, [], take, refl, sym, ap, ◌∙◌}
 use Rattle.std.proofs.lemmas.Bool.{and_parts}
 use Rattle.lrc_book.specs.declared.entry.Entry.{Entry}
 use Rattle.lrc_book.specs.declared.reply.Reply.{Reply}
@@ -8,6 +8,7 @@ use Rattle.lrc_book.specs.Steps.{step}
 use Rattle.lrc_book.specs.Stores.{IsOf, has_room}
 use Rattle.lrc_book.proofs.GoodLemmas.{past-after}
 use Rattle.lrc_book.proofs.CountedLemmas.{few-grants}
+use Rattle.lrc_book.proofs.ClockLemmas.{clock-early}
 use Rattle.lrc_book.proofs.LastLemmas.{length-before, last-pushed, set-last, before-last, last-set}
 use Rattle.lrc_book.proofs.book.Book.make_call.Goals as goal
 
@@ -39,9 +40,12 @@ make-requires c =
           few-grants b.store.value b.grants b.front b.limit h c.self.invariant below,
           (
             subst (λ (k : Store). has_room k ≡ true) kept (and_parts (has_room b.store.value) (is_some b.seats) ready.1).0,
-            rw (past, last)
-                (subst (λ (k : Store). (outcome_in k.topology (world_after k.topology h) c.args.session c.args.command).0
-                ≡ (step nodes h w.state c.args.session c.args.command).0) kept answered),
+            (
+              rw (past, last)
+                  (subst (λ (k : Store). (outcome_in k.topology (world_after k.topology h) c.args.session c.args.command).0
+                  ≡ (step nodes h w.state c.args.session c.args.command).0) kept answered),
+              subst (λ (k : Store). k.clock.value < 4294967292) kept (clock-early b.store.value b.grants b.front b.limit h c.self.invariant below),
+            ),
           ),
         ),
       ),

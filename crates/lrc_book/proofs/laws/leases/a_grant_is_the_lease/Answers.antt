@@ -14,6 +14,7 @@ returns-clause-own c = λ nodes past st session s f l k told.
       ap (λ (x : Lease). x.fragment) new.own,
       ap (λ (x : Lease). x.holder) new.own,
       ap (λ (x : Lease). x.epoch) new.own,
+      ap (λ (x : Lease). x.expiry) new.own,
       new.from,
     )
 

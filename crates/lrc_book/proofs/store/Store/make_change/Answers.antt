@@ -8,6 +8,7 @@ use Rattle.lrc_book.specs.Changes.{changed_by}
 use Rattle.lrc_book.specs.Stores.{IsOf}
 use Rattle.lrc_book.proofs.LeaseToldLemmas.{done-told}
 use Rattle.lrc_book.proofs.ToldLemmas.{retire-told}
+use Rattle.lrc_book.proofs.DueLemmas.{tick-told}
 use Rattle.lrc_book.proofs.store.Store.make_change.Goals as goal
 
 pub leave-requires : goal.leave-requires
@@ -35,3 +36,10 @@ pub returns-in-Revoke-Ended-clause-kept : goal.returns-in-Revoke-Ended-clause-ke
 returns-in-Revoke-Ended-clause-kept g c =
     subst (λ (st : State). IsOf st c.end_lease-in-Revoke-Ended.new.self) (sym (ap₂ (λ (command : Command) (a : Answer). changed_by g.st command (answers.told a)) c.in-Revoke-Ended.is-0 c.in-Revoke-Ended.is-1))
     (c.end_lease-in-Revoke-Ended.ensures.kept g.st c.requires.0)
+
+pub tick-requires : goal.tick-requires
+tick-requires g c =
+    let nodes = c.args.self.now.topology in
+    let told = c.requires.1.1.0 in
+    let e = sym (ap (λ (command : Command). (step nodes told.past g.st told.session command).0) c.in-Tick-Ticked.is-0) ∙ told.told ∙ ap answers.told c.in-Tick-Ticked.is-1 in
+    (c.requires.0, (c.requires.1.1.1.1, tick-told g.st c.in-Tick-Ticked.clock-1 c.in-Tick-Ticked.ended e))

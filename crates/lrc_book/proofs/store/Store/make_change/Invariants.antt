@@ -35,3 +35,6 @@ ghost-upgrade g a = g.st
 
 abbrev pub ghost-upgraded : goal.ghost-upgraded
 ghost-upgraded g a = g.st
+
+abbrev pub ghost-tick : goal.ghost-tick
+ghost-tick g a = g.st

@@ -11,7 +11,7 @@ unfolding next_outcome
 returns-in-Some c = λ st past kept counted ahead.
     let nodes = c.args.self.now.topology in
     let found = sym (ap (λ (o : Option Repair). option_map fragment_of o) c.in-Some.is) ∙ c.next_repair.ensures.first st kept ahead in
-    c.granted_to.ensures past counted
+    c.granted_to.ensures past st counted kept.clock_is
     ∙ sym (repair-granted nodes past st c.args.session c.in-Some.repair (c.in-Some.ensures.repair st kept))
     ∙ ap (λ (o : Option StripeFragment). (next_answer nodes past st c.args.session o).0) found
 

@@ -1,0 +1,52 @@
+ghost use Rattle.std.specs.Prelude.{◌≡◌, ◌+◌, ◌<◌, ◌≤◌};
+ghost use Rattle.lrc_book.specs.Leases.{term};
+
+/// For how many ticks a lease is granted.
+const TERM: u32 = 3;
+
+/// How many ticks there were. It is at most 4,294,967,292, so that the end of a lease that is granted now is a `u32`.
+#[derive(Clone, Copy)]
+pub(crate) struct Clock {
+    pub(crate) value: u32,
+    pub(crate) ghost small: { value ≤ 4294967292 },
+}
+
+impl Clock {
+    /// Before the first tick.
+    pub(crate) fn new() -> Clock
+        ensures { result.value ≡ 0 }
+    {
+        Clock { value: 0 }
+    }
+
+    /// The number of ticks.
+    pub(crate) fn get(self) -> u32
+        ensures { result ≡ self.value }
+    {
+        self.value
+    }
+
+    /// The number of ticks after the next one.
+    pub(crate) fn next(self) -> u32
+        ensures { result ≡ self.value + 1 }
+    {
+        self.value + 1
+    }
+
+    /// The end of a lease that is granted now.
+    pub(crate) fn end_of_term(self) -> u32
+        ensures { result ≡ self.value + term }
+    {
+        self.value + TERM
+    }
+
+    /// Moves on by one tick.
+    pub(crate) fn advance(&mut self)
+        requires { self.old.value < 4294967292 }
+        ensures { self.new.value ≡ self.old.value + 1 }
+    {
+        *self = Clock {
+            value: self.value + 1,
+        };
+    }
+}
