@@ -1,4 +1,4 @@
-ghost use Rattle.std.specs.Prelude.{◌≡◌, ◌↔◌, [], ◌∷◌, ◌++◌, length, IfOk, IfErr, OnErr, IsErrOf};
+ghost use Rattle.std.specs.Prelude.{◌≡◌, ◌↔◌, ◌<◌, [], ◌∷◌, ◌++◌, length, true, IfOk, IfErr, OnErr, IsOk, IsErrOf};
 ghost use mathlib.Core.List.{IsPrefix};
 ghost use Rattle.lrc_code.specs.declared.fault.Fault.TheVariants as fault;
 ghost use Rattle.lrc_book.specs.Books.{FaultFits, world_of};
@@ -71,6 +71,7 @@ impl<N: ViewNaming> Keeper<N> {
         ensures same { (self.new.nodes ≡ self.old.nodes) × (self.new.limit ≡ self.old.limit) }
         ensures full { IsErrOf result fault.HistoryFull ↔ (length self.old.history ≡ self.old.limit) }
         ensures fault { IfErr result (FaultFits self.old) }
+        ensures enough { self.old.ready ≡ true → length self.old.history < self.old.limit → IsOk result }
         ensures err { OnErr result (self.new.history ≡ self.old.history) }
     {
         let plan = self.book.decide(session, command)?;

@@ -16,7 +16,7 @@ pub trait ViewNaming {
     // the nodes of the store
     ghost topology: { List NodeInfo };
 
-    // the most entries of a history
+    // the most entries of a history, up to 1,000,000
     ghost limit: { ℕ };
 }
 

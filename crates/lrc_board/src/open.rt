@@ -87,7 +87,9 @@ fn keeper_of<N: ViewNaming>(book: Book, log: NewLog, writer: BoardWriter<N>) -> 
 }
 
 impl<N: ViewNaming> Keeper<N> {
-    /// A keeper of a new book, and its viewers, which have seen nothing. `N` names the log and the nodes.
+    /// A keeper of a new book, and its viewers, which have seen nothing. `N` names the log, the nodes and the limit: the most
+    /// entries of the history, up to 1,000,000. A history that has as many takes no command. The call waits for viewers to leave
+    /// a board that no caller has seen yet, so there are none to wait for.
     ///
     /// # Errors
     ///
@@ -102,7 +104,7 @@ impl<N: ViewNaming> Keeper<N> {
         requires book { (book.history ≡ []) × (book.nodes ≡ N.topology) × (book.limit ≡ N.limit) }
         requires log { (log.front.book ≡ N.log) × (log.pen.nib.key ≡ N.start) }
         requires readers { (1 ≤ readers) × (readers ≤ 8) }
-        ensures book { IfOk result (λ r. (r.0.nodes ≡ book.nodes) × (r.0.limit ≡ book.limit) × (r.0.history ≡ [])) }
+        ensures book { IfOk result (λ r. (r.0.nodes ≡ book.nodes) × (r.0.limit ≡ book.limit) × (r.0.history ≡ []) × (r.0.ready ≡ book.ready)) }
         ensures viewers { IfOk result (λ r. r.1.items ≡ replicate readers []) }
         ensures err { IfErr result (λ e. e ≢ error.BadCount) }
     {

@@ -1,5 +1,5 @@
 -- What a call leaves of its session.
-use Rattle.std.specs.Prelude.{◌≡◌, ℕ, ◌+◌, ◌<◌, ◌≤◌, List, [], ◌∷◌, ◌++◌, length}
+use Rattle.std.specs.Prelude.{◌≡◌, ℕ, ◌+◌, ◌<◌, List, [], ◌∷◌, ◌++◌, length}
 use mathlib.Core.List.{IsPrefix}
 use Rattle.lrc_code.specs.declared.fault.Fault.{Fault}
 use Rattle.lrc_code.specs.declared.fault.Fault.TheVariants.{OutOfMemory, HistoryFull}
@@ -29,9 +29,9 @@ pub record IsCalled (nodes : List NodeInfo) (before : SessionView) (command : Co
   pub later : length before.front < r.place
 
 -- What a fault leaves of a session: want of memory, which comes only before it has seen a full history, leaves it as it was; a
--- full history it has seen whole.
+-- full history, which is as long as the limit, it has seen whole.
 abbrev pub IsLeft : List NodeInfo → ℕ → SessionView → Fault → SessionView → Type 0
 IsLeft nodes limit before OutOfMemory after = (after ≡ before) × (length before.front < limit)
 IsLeft nodes limit before HistoryFull after =
     (after.number ≡ before.number) × (after.made ≡ before.made) × IsLegal nodes after.front × IsPrefix before.front after.front
-    × (limit ≤ length after.front)
+    × (length after.front ≡ limit)

@@ -7,11 +7,11 @@ use Rattle.lrc_sessions.specs.Views.{SessionView}
 use Rattle.lrc_sessions.specs.Counts.{AreAll, counts_of, counts_in, total_made}
 use Rattle.lrc_sessions.specs.declared.closing.Closing.{Closing}
 
--- All sessions came in: the book is one over these nodes, its history is legal and has as many entries as the sessions made
--- calls, and the counts are those of the sessions by rising number. Each session made as many calls as the history has entries
--- of it, and what it has seen begins the history.
-abbrev pub Closes : List NodeInfo → ℕ → List SessionView → Closing → Type 0
-Closes nodes count ss c =
-    AreAll count ss × (c.book.nodes ≡ nodes) × IsLegal nodes c.book.history × (c.made ≡ counts_of count ss)
+-- All sessions came in: the book is one over these nodes and with this limit, its history is legal and has as many entries as
+-- the sessions made calls, and the counts are those of the sessions by rising number. Each session made as many calls as the
+-- history has entries of it, and what it has seen begins the history.
+abbrev pub Closes : List NodeInfo → ℕ → ℕ → List SessionView → Closing → Type 0
+Closes nodes limit count ss c =
+    AreAll count ss × (c.book.nodes ≡ nodes) × (c.book.limit ≡ limit) × IsLegal nodes c.book.history × (c.made ≡ counts_of count ss)
     × (length c.book.history ≡ total_made c.made) × (c.made ≡ counts_in count c.book.history)
     × All (λ s. IsPrefix s.front c.book.history) ss

@@ -36,7 +36,7 @@ pub record AreStanding (number former : ℕ) (script : List Command) (receipts :
 -- a full history was seen whole, and want of memory comes only before that
 abbrev pub IsFullIn : ℕ → List Entry → CallFault → Type 0
 IsFullIn limit front OutOfMemory = length front < limit
-IsFullIn limit front HistoryFull = limit ≤ length front
+IsFullIn limit front HistoryFull = length front ≡ limit
 
 -- a script that was stopped by a full history saw it whole; one that was stopped by want of memory did not
 abbrev pub StopIsSeen : ℕ → List Entry → Option Stop → Type 0

@@ -1,4 +1,4 @@
-ghost use Rattle.std.specs.Prelude.{◌≡◌, ℕ, ◌+◌, ◌<◌, ◌≤◌, [], length, IfOk, OnOk, OnErr, IfErr};
+ghost use Rattle.std.specs.Prelude.{◌≡◌, ℕ, ◌+◌, ◌<◌, ◌≤◌, [], length, true, IfOk, OnOk, OnErr, IfErr, IsOk};
 ghost use mathlib.Core.List.{IsPrefix};
 ghost use Rattle.lrc_book.specs.Books.{BookView, FaultFits};
 ghost use Rattle.lrc_sessions.specs.Locked.{IsLocked, IsMade};
@@ -62,6 +62,7 @@ impl<N: Naming> Desk<N> {
         ensures seen { OnOk result (session.new.front ≡ self.new.history) }
         ensures called { IfOk result (λ r. IsCalled N.topology session.old command r session.new) }
         ensures fault { IfErr result (FaultFits self.old) }
+        ensures enough { self.old.ready ≡ true → length self.old.history < self.old.limit → IsOk result }
         ensures err { OnErr result (self.new.history ≡ self.old.history) }
         ensures left { IfErr result (λ f. IsLeft N.topology N.limit session.old f session.new) }
     {

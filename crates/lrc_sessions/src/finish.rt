@@ -31,7 +31,7 @@ impl<N: Naming> Manager<N> {
         rt: &R,
         sessions: Vec<Session<N>>,
     ) -> Result<Closing, FinishError<N>>
-        ensures { MatchResult result (Closes N.topology self.count sessions.items)
+        ensures { MatchResult result (Closes N.topology N.limit self.count sessions.items)
             (λ e. (¬ AreAll self.count sessions.items) × (e ≡ FinishError.SessionsOut self sessions)) }
     {
         if !are_all(sessions.as_slice(), self.count()) {

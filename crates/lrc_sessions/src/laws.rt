@@ -26,12 +26,12 @@ pub fn opened_sessions_are_all<G: Gate>()
 /// Each receipt stands in the history that the end of the manager gives back: at the place that it tells, with the number of its
 /// session, its command and its reply. So does each receipt of a run, with the command of its script.
 pub fn receipts_stand_in_the_history<G: Gate>()
-    ensures call { (nodes : List NodeInfo) (count : ℕ) (sessions : List SessionView) (closing : ClosingRecord) (before after last : SessionView) (command : Command) (r : Receipt)
-        → IsCalled nodes before command r after → IsPrefix after.front last.front → Contains sessions last → Closes nodes count sessions closing
+    ensures call { (nodes : List NodeInfo) (count limit : ℕ) (sessions : List SessionView) (closing : ClosingRecord) (before after last : SessionView) (command : Command) (r : Receipt)
+        → IsCalled nodes before command r after → IsPrefix after.front last.front → Contains sessions last → Closes nodes limit count sessions closing
         → StandsAt before.number command r closing.book.history }
     ensures run { (nodes : List NodeInfo) (count limit : ℕ) (scripts : List (Vec Command Global)) (before after sessions : List SessionView) (tracks : List Track) (closing : ClosingRecord)
         (i j : ℕ) (s : Vec Command Global) (b a last : SessionView) (t : Track) (r : Receipt) (command : Command)
         → AreRun limit G.may_stop (Passes G.lets G.tells) scripts before after tracks → i < length scripts → j < length (slice_index_or tracks i t).receipts
-        → IsPrefix (slice_index_or after i a).front last.front → Contains sessions last → Closes nodes count sessions closing
+        → IsPrefix (slice_index_or after i a).front last.front → Contains sessions last → Closes nodes limit count sessions closing
         → StandsAt (slice_index_or before i b).number (slice_index_or (slice_index_or scripts i s).items j command) (slice_index_or (slice_index_or tracks i t).receipts j r) closing.book.history }
 {}

@@ -37,7 +37,9 @@ impl<N: Naming> Model for Manager<N> {
 }
 
 impl<N: Naming> Manager<N> {
-    /// A manager with a new book, and its sessions: they have the numbers from 1 to the count of the parts, in order.
+    /// A manager with a new book, and its sessions: they have the numbers from 1 to the count of the parts, in order. It takes no
+    /// lock. It waits, as `Keeper::open` does, for viewers to leave a board that no caller has seen yet, so there are none to
+    /// wait for.
     ///
     /// # Errors
     ///

@@ -11,6 +11,7 @@ mod leases;
 mod limits;
 mod looks;
 mod mixed;
+mod ticks;
 
 use lrc_book::{Command, Reply, Seat};
 use lrc_code::{Fault, NodeNo, SessionNo, StripeNo};

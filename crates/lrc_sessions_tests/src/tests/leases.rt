@@ -18,12 +18,12 @@ use std::sync::atomic::{AtomicBool, Ordering};
 use std::test::Fail;
 
 /// The two sessions.
-const S1: SessionNo = SessionNo { value: 1 };
+pub(super) const S1: SessionNo = SessionNo { value: 1 };
 
-const S2: SessionNo = SessionNo { value: 2 };
+pub(super) const S2: SessionNo = SessionNo { value: 2 };
 
 /// The fragment of the first stripe that is leased, and the rest of its local group.
-const THREE: Fragment = Fragment { value: 3 };
+pub(super) const THREE: Fragment = Fragment { value: 3 };
 
 const OF_THREE: Kind = Kind::Local([
     Fragment { value: 0 },
@@ -35,10 +35,15 @@ const OF_THREE: Kind = Kind::Local([
 ]);
 
 /// The node that fragment 3 is on.
-const NODE: NodeNo = NodeNo { value: 3 };
+pub(super) const NODE: NodeNo = NodeNo { value: 3 };
 
-/// The lease of the fragment on the first slot of node 17.
+/// The lease of the fragment on the first slot of node 17, where there was no tick yet.
 fn granted(holder: SessionNo, epoch: u32) -> Reply {
+    granted_until(3, holder, epoch)
+}
+
+/// The same lease, which ends when the clock comes to a number.
+pub(super) fn granted_until(expiry: u32, holder: SessionNo, epoch: u32) -> Reply {
     let lease = Lease {
         stripe: ONE,
         fragment: THREE,
@@ -48,6 +53,7 @@ fn granted(holder: SessionNo, epoch: u32) -> Reply {
             slot: 0,
         },
         epoch,
+        expiry,
     };
     Reply::Granted(lease, OF_THREE)
 }

@@ -37,7 +37,7 @@ fn run_mixed<R: Threads + Wait + Abort + Sync>(
     replayed
 }
 
-fn replay(rt: &impl Abort, alloc: Global, book: &Book) -> Result<(), Fail> {
+pub(super) fn replay(rt: &impl Abort, alloc: Global, book: &Book) -> Result<(), Fail> {
     let mut fresh = Book::new(alloc, nodes(alloc)?)?;
     expect_replies(rt, book.history(), &mut fresh);
     expect_alike(rt, book, &fresh);
@@ -64,7 +64,8 @@ fn mixed_scripts(alloc: Global, run: u64) -> Result<Vec<Vec<Command>>, Fail> {
     Ok(scripts)
 }
 
-/// The command that a number stands for: half of them are of stripes and leases, and half of nodes and upgrade domains.
+/// The command that a number stands for: half of them are of stripes and leases, and half of nodes and upgrade domains, but
+/// for one in sixteen, which is a tick.
 fn command_of(number: u64) -> Command {
     let rest = number / 32;
     if number % 2 == 0 {
@@ -83,7 +84,8 @@ fn command_on_stripes(kind: u64, number: u64) -> Command {
     };
     let epoch = (number / 128 % 3 + 1) as u32;
     match kind {
-        0 | 1 | 2 => Command::Place(stripe),
+        0 | 1 => Command::Place(stripe),
+        2 => Command::Tick,
         3 => Command::Drop(stripe),
         4 | 5 | 6 => Command::Lease(stripe, fragment),
         7 | 8 | 9 | 10 => Command::Next,
@@ -109,7 +111,8 @@ fn command_on_nodes(kind: u64, number: u64) -> Command {
         8 | 9 => Command::Retire(node),
         10 | 11 => Command::Join(node),
         12 | 13 => Command::Upgrade(upgrade),
-        _ => Command::Upgraded(upgrade),
+        14 => Command::Upgraded(upgrade),
+        _ => Command::Tick,
     }
 }
 
@@ -125,8 +128,9 @@ fn reply(book: &mut Book, session: SessionNo, command: Command) -> Option<Reply>
     book.call(session, command).ok()
 }
 
-/// Both books have the same stripes and nodes.
+/// Both books have the same clock, stripes and nodes.
 fn expect_alike(rt: &impl Abort, book: &Book, fresh: &Book) {
+    assert_eq!(rt; clock(fresh), clock(book));
     for number in 0..6 {
         let stripe = StripeNo { value: number };
         assert!(rt;
@@ -143,6 +147,10 @@ fn expect_alike(rt: &impl Abort, book: &Book, fresh: &Book) {
         assert_eq!(rt; load(fresh, node), load(book, node), "on node {value}");
         assert!(rt; mode(fresh, node) == mode(book, node), "of node {value}");
     }
+}
+
+fn clock(book: &Book) -> u32 {
+    book.clock()
 }
 
 fn homes(book: &Book, stripe: StripeNo) -> Option<[Option<Seat>; 16]> {

@@ -29,6 +29,7 @@ returns g c =
     let same = joined.made ∙ squeezed count ss h (subst (λ k. AreAll k ss) (sym n) all) few below (counted ∙ ap total_made joined.made) in (
       all,
       ap (λ (b : BookView). b.nodes) out ∙ parts.locked.0,
+      ap (λ (b : BookView). b.limit) out ∙ parts.locked.1,
       subst (λ (b : BookView). IsLegal nodes b.history) (sym out) parts.locked.2,
       subst (λ k. made ≡ counts_of k ss) n joined.made,
       ap (λ (b : BookView). length b.history) out ∙ counted,
