@@ -9,7 +9,7 @@ use Rattle.std.proofs.lemmas.Fmt.{digits_decimal, digits_value-decimal, decimal_
 use Rattle.std.proofs.lemmas.List.Splits.{slice_split_none, slice_split_at, join_with_byte-slice_split}
 use Rattle.std.proofs.lemmas.List.Sums.{AllPass-from_list_all}
 use Rattle.lrc_book.specs.declared.command.Command.{Command}
-use Rattle.lrc_book.specs.declared.command.Command.TheVariants.{Place, Drop, Lease, Next, Done, Abandon, Revoke, Fail, Down, Up, Drain, Undrain, Retire, Join, Upgrade, Upgraded}
+use Rattle.lrc_book.specs.declared.command.Command.TheVariants.{Place, Drop, Lease, Next, Done, Abandon, Revoke, Fail, Down, Up, Drain, Undrain, Retire, Join, Upgrade, Upgraded, Tick}
 use Rattle.lrc_code.specs.declared.numbers.StripeNo.{StripeNo}
 use Rattle.lrc_code.specs.declared.numbers.NodeNo.{NodeNo}
 use Rattle.lrc_code.specs.declared.numbers.Fragment.{Fragment}
@@ -133,6 +133,7 @@ cause_of-command_line (Retire n) small = of_node_line (codes "retire") n small (
 cause_of-command_line (Join n) small = of_node_line (codes "join") n small (lit≤ tt) refl refl refl
 cause_of-command_line (Upgrade u) small = of_domain_line (codes "upgrade") u small (lit≤ tt) refl refl refl
 cause_of-command_line (Upgraded u) small = of_domain_line (codes "upgraded") u small (lit≤ tt) refl refl refl
+cause_of-command_line Tick _ = cause_of-command (codes "tick") (lit≤ tt) refl
 
 -- ---- a line without a cause
 
@@ -246,6 +247,7 @@ module _ (word : List ℕ) (words : List (List ℕ)) where
       (try_form (codes "drop") (4096 ∷ []) _ (lit≤ tt, tt) (of_stripe (codes "drop") Drop (λ s. tt) (λ s. refl))
       (try_form (codes "lease") (4096 ∷ 16 ∷ []) _ (lit≤ tt, (lit≤ tt, tt)) (of_pair (codes "lease") Lease (λ s f. tt) (λ s f. refl))
       (try_form (codes "next") [] _ tt (of_none (codes "next") Next tt refl)
+      (try_form (codes "tick") [] _ tt (of_none (codes "tick") Tick tt refl)
       (try_form (codes "done") (4096 ∷ 16 ∷ 4294967296 ∷ []) _ (lit≤ tt, (lit≤ tt, (lit≤ tt, tt))) (of_report (codes "done") Done (λ s f e small. small) (λ s f e. refl))
       (try_form (codes "abandon") (4096 ∷ 16 ∷ 4294967296 ∷ []) _ (lit≤ tt, (lit≤ tt, (lit≤ tt, tt))) (of_report (codes "abandon") Abandon (λ s f e small. small) (λ s f e. refl))
       (try_form (codes "revoke") (4096 ∷ 16 ∷ []) _ (lit≤ tt, (lit≤ tt, tt)) (of_pair (codes "revoke") Revoke (λ s f. tt) (λ s f. refl))
@@ -257,7 +259,7 @@ module _ (word : List ℕ) (words : List (List ℕ)) where
       (try_form (codes "retire") (65536 ∷ []) _ (lit≤ tt, tt) (of_node (codes "retire") Retire (λ n small. small) (λ n. refl))
       (try_form (codes "join") (65536 ∷ []) _ (lit≤ tt, tt) (of_node (codes "join") Join (λ n small. small) (λ n. refl))
       (try_form (codes "upgrade") (256 ∷ []) _ (lit≤ tt, tt) (of_domain (codes "upgrade") Upgrade (λ u small. small) (λ u. refl))
-      (try_form (codes "upgraded") (256 ∷ []) None (lit≤ tt, tt) (of_domain (codes "upgraded") Upgraded (λ u small. small) (λ u. refl)) (λ good. cc))))))))))))))))
+      (try_form (codes "upgraded") (256 ∷ []) None (lit≤ tt, tt) (of_domain (codes "upgraded") Upgraded (λ u small. small) (λ u. refl)) (λ good. cc)))))))))))))))))
 
 -- a line whose words have no cause is the line of a command
 pub words_cause-none : (line : List ℕ) → words_cause (words_of line) ≡ None → (command : Command) × IsInRange command × (line ≡ command_line command)

@@ -9,7 +9,7 @@ use Rattle.std.proofs.lemmas.Fmt.{digits_decimal}
 use Rattle.std.proofs.lemmas.List.Elements.{All-append}
 use Rattle.std.proofs.lemmas.List.Sums.{AllPass-from_list_all}
 use Rattle.lrc_book.specs.declared.command.Command.{Command}
-use Rattle.lrc_book.specs.declared.command.Command.TheVariants.{Place, Drop, Lease, Next, Done, Abandon, Revoke, Fail, Down, Up, Drain, Undrain, Retire, Join, Upgrade, Upgraded}
+use Rattle.lrc_book.specs.declared.command.Command.TheVariants.{Place, Drop, Lease, Next, Done, Abandon, Revoke, Fail, Down, Up, Drain, Undrain, Retire, Join, Upgrade, Upgraded, Tick}
 use Rattle.lrc_script.specs.Scripts.{is_passed_over, numbers_text, command_line, IsInRange}
 use Rattle.lrc_script.specs.Cuts.{IsLineRead}
 use Rattle.lrc_front.proofs.DigitLemmas.{own}
@@ -61,6 +61,7 @@ command_no_end (Retire n) small = node_no_end (codes "retire ") n.value refl sma
 command_no_end (Join n) small = node_no_end (codes "join ") n.value refl small
 command_no_end (Upgrade u) small = node_no_end (codes "upgrade ") u.value refl (omega (arith, small))
 command_no_end (Upgraded u) small = node_no_end (codes "upgraded ") u.value refl (omega (arith, small))
+command_no_end Tick _ = word_no_end (codes "tick") refl
 
 -- ---- the line of a command is no comment
 
@@ -84,6 +85,7 @@ command_kept (Retire n) = letter_kept 114 (codes "etire " ++ decimal n.value) re
 command_kept (Join n) = letter_kept 106 (codes "oin " ++ decimal n.value) refl
 command_kept (Upgrade u) = letter_kept 117 (codes "pgrade " ++ decimal u.value) refl
 command_kept (Upgraded u) = letter_kept 117 (codes "pgraded " ++ decimal u.value) refl
+command_kept Tick = letter_kept 116 (codes "ick") refl
 
 -- a line in front of a text, and its command behind those before
 pub IsLineRead-front :

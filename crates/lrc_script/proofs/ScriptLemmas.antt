@@ -116,18 +116,19 @@ words_behind-count rest more line word n there cut other same =
     let count = ap length (words_behind-next rest more line word (words_behind more) there cut refl) in
     other (omega (arith, same, count))
 
--- the word of no command on stripes
+-- the word of no command on stripes or the clock
 pub words_cause-node :
     (line word : List ℕ) (rest : Option (Bor (List ℕ))) → IsCut 32 line word rest
-    → word ≢ codes "place" → word ≢ codes "drop" → word ≢ codes "lease" → word ≢ codes "next"
+    → word ≢ codes "place" → word ≢ codes "drop" → word ≢ codes "lease" → word ≢ codes "next" → word ≢ codes "tick"
     → word ≢ codes "done" → word ≢ codes "abandon" → word ≢ codes "revoke"
     → words_cause (words_of line) ≡ form_cause (words_behind rest) (form_in node_forms word)
-words_cause-node line word rest cut no_place no_drop no_lease no_next no_done no_abandon no_revoke =
+words_cause-node line word rest cut no_place no_drop no_lease no_next no_tick no_done no_abandon no_revoke =
     ap words_cause (words_of-cut line word rest cut) ∙ rw (
       same_text-false word (codes "place") no_place,
       same_text-false word (codes "drop") no_drop,
       same_text-false word (codes "lease") no_lease,
       same_text-false word (codes "next") no_next,
+      same_text-false word (codes "tick") no_tick,
       same_text-false word (codes "done") no_done,
       same_text-false word (codes "abandon") no_abandon,
       same_text-false word (codes "revoke") no_revoke,

@@ -4,7 +4,7 @@ use Rattle.std.specs.List.{slice_split, onto_first, AllZip}
 use Rattle.std.proofs.lemmas.Fmt.{decimal_nonempty}
 use Rattle.std.proofs.lemmas.List.Sums.{sum_by-cons}
 use Rattle.lrc_book.specs.declared.command.Command.{Command}
-use Rattle.lrc_book.specs.declared.command.Command.TheVariants.{Place, Drop, Lease, Next, Done, Abandon, Revoke, Fail, Down, Up, Drain, Undrain, Retire, Join, Upgrade, Upgraded}
+use Rattle.lrc_book.specs.declared.command.Command.TheVariants.{Place, Drop, Lease, Next, Done, Abandon, Revoke, Fail, Down, Up, Drain, Undrain, Retire, Join, Upgrade, Upgraded, Tick}
 use Rattle.lrc_script.specs.Scripts.{lines_of, is_passed_over, numbers_text, command_line, IsInRange, IsScript}
 use Rattle.lrc_script.specs.Bundles.{Script, scripts_of, topology_of, HoldsLines}
 use Rattle.lrc_script.proofs.BundleLemmas.{IsScript-holds}
@@ -50,6 +50,7 @@ length-command_line (Retire n) _ = omega (arith, length-append (codes "retire ")
 length-command_line (Join n) _ = omega (arith, length-append (codes "join ") (decimal n.value))
 length-command_line (Upgrade u) _ = omega (arith, length-append (codes "upgrade ") (decimal u.value))
 length-command_line (Upgraded u) _ = omega (arith, length-append (codes "upgraded ") (decimal u.value))
+length-command_line Tick _ = omega arith
 
 size_of-commands : (cs : List Command) → All IsInRange cs → 5 * length cs ≤ size_of (map command_line cs)
 size_of-commands [] _ = omega arith

@@ -4,7 +4,7 @@ use Rattle.std.specs.List.{slice_split, list_all, starts_with, join_with_byte}
 use Rattle.std.specs.Char.{is_ascii_digit}
 use Rattle.std.specs.Str.Parse.{digits_value}
 use Rattle.lrc_book.specs.declared.command.Command.{Command}
-use Rattle.lrc_book.specs.declared.command.Command.TheVariants.{Place, Drop, Lease, Next, Done, Abandon, Revoke, Fail, Down, Up, Drain, Undrain, Retire, Join, Upgrade, Upgraded}
+use Rattle.lrc_book.specs.declared.command.Command.TheVariants.{Place, Drop, Lease, Next, Done, Abandon, Revoke, Fail, Down, Up, Drain, Undrain, Retire, Join, Upgrade, Upgraded, Tick}
 use Rattle.lrc_script.specs.declared.script.Cause.{Cause}
 use Rattle.lrc_script.specs.declared.script.ScriptError.{ScriptError}
 use Rattle.lrc_script.specs.declared.script.ScriptError.TheVariants.{Bad, OutOfMemory}
@@ -42,6 +42,7 @@ command_line (Retire n) = codes "retire " ++ decimal n.value
 command_line (Join n) = codes "join " ++ decimal n.value
 command_line (Upgrade u) = codes "upgrade " ++ decimal u.value
 command_line (Upgraded u) = codes "upgraded " ++ decimal u.value
+command_line Tick = codes "tick"
 
 -- a command's node has a number below 65,536, its upgrade domain one below 256, and its epoch is below 4,294,967,296;
 -- the numbers of a stripe and a fragment are in their range by their types
@@ -62,6 +63,7 @@ IsInRange (Retire n) = n.value < 65536
 IsInRange (Join n) = n.value < 65536
 IsInRange (Upgrade u) = u.value < 256
 IsInRange (Upgraded u) = u.value < 256
+IsInRange Tick = Unit {0}
 
 -- these are the commands of the lines, in order: no line is too long, and each line that is not passed over is that of a command
 pub record IsScript (lines : List (List ℕ)) (commands : List Command) : Type 0 where
@@ -76,13 +78,13 @@ pub record Form : Type 0 where
   pub word : List ℕ
   pub bounds : List ℕ
 
--- the forms of the commands on stripes and their fragments
+-- the forms of the commands on stripes, their fragments and the clock
 abbrev pub stripe_forms : List Form
 stripe_forms =
     record { word = codes "place"; bounds = 4096 ∷ [] } ∷ record { word = codes "drop"; bounds = 4096 ∷ [] }
     ∷ record { word = codes "lease"; bounds = 4096 ∷ 16 ∷ [] } ∷ record { word = codes "next"; bounds = [] }
-    ∷ record { word = codes "done"; bounds = 4096 ∷ 16 ∷ 4294967296 ∷ [] } ∷ record { word = codes "abandon"; bounds = 4096 ∷ 16 ∷ 4294967296 ∷ [] }
-    ∷ record { word = codes "revoke"; bounds = 4096 ∷ 16 ∷ [] } ∷ []
+    ∷ record { word = codes "tick"; bounds = [] } ∷ record { word = codes "done"; bounds = 4096 ∷ 16 ∷ 4294967296 ∷ [] }
+    ∷ record { word = codes "abandon"; bounds = 4096 ∷ 16 ∷ 4294967296 ∷ [] } ∷ record { word = codes "revoke"; bounds = 4096 ∷ 16 ∷ [] } ∷ []
 
 -- those of the commands on nodes and upgrade domains
 abbrev pub node_forms : List Form

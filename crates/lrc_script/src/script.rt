@@ -176,6 +176,9 @@ fn parse_command(line: &[u8]) -> Result<Command, Cause>
     } else if is_word(word, b"next") {
         no_word(rest)?;
         Ok(Command::Next)
+    } else if is_word(word, b"tick") {
+        no_word(rest)?;
+        Ok(Command::Tick)
     } else if is_word(word, b"done") {
         let (stripe, fragment, epoch) = parse_report(rest)?;
         Ok(Command::Done(stripe, fragment, epoch))

@@ -10,7 +10,7 @@ use Rattle.lrc_code.specs.declared.numbers.Fragment.{Fragment}
 use Rattle.lrc_code.specs.declared.numbers.UpgradeNo.{UpgradeNo}
 use Rattle.lrc_code.proofs.NumbersLemmas.{equal_stripes, equal_nodes, equal_fragments}
 use Rattle.lrc_book.specs.declared.command.Command.{Command}
-use Rattle.lrc_book.specs.declared.command.Command.TheVariants.{Place, Drop, Lease, Next, Done, Abandon, Revoke, Fail, Down, Up, Drain, Undrain, Retire, Join, Upgrade, Upgraded}
+use Rattle.lrc_book.specs.declared.command.Command.TheVariants.{Place, Drop, Lease, Next, Done, Abandon, Revoke, Fail, Down, Up, Drain, Undrain, Retire, Join, Upgrade, Upgraded, Tick}
 use Rattle.lrc_script.specs.Scripts.{is_passed_over, numbers_text, words_of, command_line, IsInRange, IsScript, BadLine, or_else, first_bad, cause_of}
 use Rattle.lrc_script.specs.Bundles.{Script}
 use Rattle.lrc_script.proofs.CauseLemmas.{cause_of-good, AreBelow, words_of-numbers, below_pair, below_report}
@@ -87,6 +87,7 @@ same_command (Retire m) (Retire n) a b e = ap Retire (same_node m n a b (append_
 same_command (Join m) (Join n) a b e = ap Join (same_node m n a b (append_cancel_left (codes "join ") _ _ e))
 same_command (Upgrade u) (Upgrade v) a b e = ap Upgrade (same_domain u v a b (append_cancel_left (codes "upgrade ") _ _ e))
 same_command (Upgraded u) (Upgraded v) a b e = ap Upgraded (same_domain u v a b (append_cancel_left (codes "upgraded ") _ _ e))
+same_command Tick Tick a b e = refl
 same_command (Upgrade u) (Upgraded v) a b e = absurd (no_space_d _ _ (append_cancel_left (codes "upgrade") _ _ e))
 same_command (Upgraded u) (Upgrade v) a b e = absurd (no_space_d _ _ (append_cancel_left (codes "upgrade") _ _ (sym e)))
 same_command c d a b e = absurd (let bad : letters (command_line c) ≡ letters (command_line d) = ap letters e in omega (arith, bad))

@@ -18,6 +18,7 @@ mod RowsOfPlacing
 mod RowsOfNodes
 mod RowsOfLeases
 mod RowsOfLeaseRefusals
+mod RowsOfTerms
 mod RowsOfRepair
 mod RowsOfDraining
 mod RowsOfUpgrades

@@ -80,6 +80,9 @@ upgrade u = command.Upgrade (record { value = u })
 abbrev pub upgraded : ℕ → Command
 upgraded u = command.Upgraded (record { value = u })
 
+abbrev pub tick : Command
+tick = command.Tick
+
 -- ---- stores
 
 -- a node in a fault domain of its own

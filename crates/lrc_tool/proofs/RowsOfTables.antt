@@ -7,11 +7,11 @@ use Rattle.lrc_book.specs.declared.command.Command.{Command}
 use Rattle.lrc_book.specs.Urgency.{risk, next_of}
 use Rattle.lrc_book.specs.Repairs.{kind}
 use Rattle.lrc_book.specs.Placement.{chosen, placed}
-use Rattle.lrc_book.specs.Leases.{lease_outcome, next_outcome, done_outcome}
+use Rattle.lrc_book.specs.Leases.{lease_outcome, next_outcome, done_outcome, tick_outcome}
 use Rattle.lrc_book.specs.Steps.{place_outcome, drop_outcome, fail_outcome, down_outcome, up_outcome, join_outcome, drain_outcome, undrain_outcome, retire_outcome, would_lose, upgrade_outcome, upgraded_outcome}
 use Rattle.lrc_tool.specs.Tables.{mask_field, risk_line, risk_table, load_line, load_row, load_table}
 use Rattle.lrc_tool.specs.Texts.{output_text}
-use Rattle.lrc_tool.proofs.Rows.{node, place, remove, lease, next, done, fail, down, up, join, drain, undrain, retire, upgrade, upgraded, ten_domains, played}
+use Rattle.lrc_tool.proofs.Rows.{node, place, remove, lease, next, done, fail, down, up, join, drain, undrain, retire, upgrade, upgraded, tick, ten_domains, played}
 
 -- the risk table after a script
 abbrev risk_after : List NodeInfo → List Command → List ℕ
@@ -109,6 +109,13 @@ undrained_is_active = refl
 drained_and_leased : load_after 17 7 (place 1 ∷ drain 0 ∷ next ∷ []) ++ load_after 0 0 (place 1 ∷ drain 0 ∷ next ∷ []) ≡ codes "17,active,yes,1,4\n0,draining,yes,1,4\n"
 unfolding place_outcome next_outcome lease_outcome drain_outcome next_of kind placed chosen load_line digits
 drained_and_leased = refl
+
+-- and that of a lease that ended counts no more
+ended_targets :
+    load_after 17 7 (place 1 ∷ fail 3 ∷ fail 4 ∷ next ∷ tick ∷ next ∷ tick ∷ tick ∷ tick ∷ []) ++ load_after 18 8 (place 1 ∷ fail 3 ∷ fail 4 ∷ next ∷ tick ∷ next ∷ tick ∷ tick ∷ tick ∷ [])
+    ≡ codes "17,active,yes,0,4\n18,active,yes,0,4\n"
+unfolding place_outcome next_outcome lease_outcome fail_outcome tick_outcome next_of kind placed chosen rank_by load_line digits
+ended_targets = refl
 
 -- a node is offline while its domain is upgrading, and where it is down
 offline_nodes :

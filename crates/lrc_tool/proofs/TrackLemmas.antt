@@ -1,5 +1,5 @@
 -- What the tracks of scripts tell: the entries of their sessions in the history, and no others; and which faults stop none.
-use Rattle.std.proofs.Common.{◌≡◌, ◌≢◌, ℕ, zero, suc, ◌+◌, ◌≤◌, ◌<◌, ◌==◌, ◌⊎◌, inl, inr, Bool, true, nat_le, nat_eq, All, List, [], ◌∷◌, ◌++◌, length, map, get_or, flat_map, count_by, sum_by, Option, Some, None, option_map, unwrap_or, Vec, refl, sym, ap, subst, ◌∙◌, arith}
+use Rattle.std.proofs.Common.{◌≡◌, ◌≢◌, ℕ, zero, suc, ◌+◌, ◌≤◌, ◌<◌, ◌==◌, inl, inr, Bool, true, nat_le, nat_eq, All, List, [], ◌∷◌, ◌++◌, length, map, get_or, flat_map, count_by, sum_by, Option, Some, None, unwrap_or, Vec, refl, sym, ap, subst, ◌∙◌, arith}
 use borrow.Author.Tests.{eq-eqb}
 use Rattle.std.proofs.lemmas.Bool.{cases_Bool, leb-true}
 use Rattle.std.proofs.lemmas.Bool.Decides.{nat_tests}
@@ -29,10 +29,8 @@ use Rattle.lrc_sessions.specs.Runs.{StopFits, StopIsSeen, AreStanding, IsRun, Ar
 use Rattle.lrc_sessions.proofs.Counting.{only, total_push}
 use Rattle.lrc_sessions.proofs.RunLemmas.{some_of}
 use Rattle.lrc_sessions.proofs.StandingLemmas.{prefix_long, standing_on}
-use Rattle.lrc_tool.specs.declared.streams.RunFault.{RunFault}
-use Rattle.lrc_tool.specs.declared.streams.RunFault.TheVariants as fault
 use Rattle.lrc_tool.specs.Judged.{lists_of}
-use Rattle.lrc_tool.specs.Faults.{run_fault, stop_fault, first_fault}
+use Rattle.lrc_tool.specs.Faults.{stop_fault, first_fault}
 use Rattle.lrc_tool.specs.Texts.{reply_line, script_line, script_text, replies_text}
 use Rattle.lrc_tool.specs.Plays.{AreMade, receipts_text, track_text, tracks_text}
 
@@ -265,18 +263,11 @@ counted_less {Z} f first (suc j) (v ∷ vs) each low less =
     λ w. subst (λ k. f k < length (get_or vs j w).items) (let z : first + suc j ≡ first + 1 + j = omega arith in z) (less w) in
     omega (arith, no_more_here f first v vs each, counted_less f (first + 1) j vs (no_more_behind f first v vs each) (omega (arith, low)) next, total_of f first v vs, all)
 
--- a script was stopped by the first fault
-stopped_by : (o : Option Stop) (rest : Option Fault) (f : Fault) → option_or (stop_fault o) rest ≡ Some f → (o ≡ Some (stop.Fault f)) ⊎ (rest ≡ Some f)
-stopped_by (Some (stop.Fault g)) rest f is = inl (ap (λ (p : Option Fault). Some (stop.Fault (unwrap_or p g))) is)
-stopped_by (Some stop.Gate) rest f is = inr is
-stopped_by None rest f is = inr is
-
-first_at : (ts : List Track) (f : Fault) → first_fault ts ≡ Some f → (i : ℕ) × (i < length ts) × ((t : Track) → (get_or ts i t).stopped ≡ Some (stop.Fault f))
-first_at [] f is = absurd (cc)
-first_at (x ∷ ts) f is = elim (stopped_by x.stopped (first_fault ts) f is) [
-  | inl here ↦ (0, omega arith, λ t. here)
-  | inr more ↦ let (i, low, at) = first_at ts f more in (suc i, omega (arith, low), at)
-]
+-- a fault that is told of a script has stopped it
+stopped_by : (o : Option Stop) (f : Fault) → stop_fault o ≡ Some f → o ≡ Some (stop.Fault f)
+stopped_by (Some (stop.Fault g)) f is = ap (λ (p : Option Fault). Some (stop.Fault (unwrap_or p g))) is
+stopped_by (Some stop.Gate) f is = absurd (cc)
+stopped_by None f is = absurd (cc)
 
 module _ {Z : Type 0} (limit : ℕ) (scripts : List (Vec Command Z)) (after : List SessionView) (tracks : List Track) (ran : AreRun limit ⊥ open_passes scripts (fresh (length scripts)) after tracks) where
   abbrev first_view : ℕ → SessionView
@@ -319,30 +310,23 @@ module _ {Z : Type 0} (limit : ℕ) (scripts : List (Vec Command Z)) (after : Li
         told (1 + i) history (get_or scripts i s).items (get_or tracks i t).receipts long standing (sym (made_for i s t low) ∙ same_count (length scripts) i after history counts low)
 
     -- a script that a full history stopped has a command left, so all of them have more than the history has entries
-    full_never : length history ≡ total_made (counts_of (length scripts) after) → commands_in scripts ≤ limit → first_fault tracks ≢ Some book.HistoryFull
-    full_never total few full =
-        let (i, low, at) = first_at tracks book.HistoryFull full in
+    full_never : length history ≡ total_made (counts_of (length scripts) after) → commands_in scripts ≤ limit → All (λ t. stop_fault t.stopped ≢ Some book.HistoryFull) tracks
+    full_never total few i t low full =
         let within : i < length scripts = omega (arith, low, ran.1) in
-        let t = some_of tracks i low in
         let a = first_view 1 in
-        let seen_whole : limit ≤ length (get_or after i a).front = subst (StopIsSeen limit (get_or after i a).front) (at t) (run_at i (some_of scripts i within) a t within).6 in
+        let at = stopped_by (get_or tracks i t).stopped book.HistoryFull full in
+        let seen_whole : length (get_or after i a).front ≡ limit = subst (StopIsSeen limit (get_or after i a).front) at (run_at i (some_of scripts i within) a t within).6 in
         let long = prefix_long (get_or after i a).front history (seen i a (omega (arith, within, ran.0))) in
         let left : (v : Vec Command Z) → made_of (1 + i) after < length (get_or scripts i v).items =
-        λ v. let less = subst (StopFits ⊥ (get_or scripts i v).items (length (get_or tracks i t).receipts)) (at t) (run_at i v a t within).3 in omega (arith, made_for i v t within, less) in
+        λ v. let less = subst (StopFits ⊥ (get_or scripts i v).items (length (get_or tracks i t).receipts)) at (run_at i v a t within).3 in omega (arith, made_for i v t within, less) in
         let less = counted_less (λ k. made_of k after) 1 i scripts no_more within left in
         omega (arith, total, few, seen_whole, long, less)
 
 -- where all commands of the scripts have room in the history, a full one stopped none of them
 pub never_full : {Z : Type 0} (nodes : List NodeInfo) (limit : ℕ) (scripts : List (Vec Command Z)) (after : List SessionView) (tracks : List Track) (c : Closing)
-    → AreRun limit ⊥ open_passes scripts (fresh (length scripts)) after tracks → Closes nodes (length scripts) after c → sum_by (λ v. length v.items) scripts ≤ limit
-    → first_fault tracks ≢ Some book.HistoryFull
-never_full nodes limit scripts after tracks c ran closes few = full_never limit scripts after tracks ran c.book.history closes.6 (closes.4 ∙ ap total_made closes.3) few
-
--- so the fault that is told is want of memory
-pub told_memory : (o : Option Fault) (e : RunFault) → option_map run_fault o ≡ Some e → o ≢ Some book.HistoryFull → e ≡ fault.OutOfMemory
-told_memory None e told none = absurd (cc)
-told_memory (Some book.OutOfMemory) e told none = sym (ap (λ (x : Option RunFault). unwrap_or x e) told)
-told_memory (Some book.HistoryFull) e told none = absurd (none refl)
+    → AreRun limit ⊥ open_passes scripts (fresh (length scripts)) after tracks → Closes nodes limit (length scripts) after c → sum_by (λ v. length v.items) scripts ≤ limit
+    → All (λ t. stop_fault t.stopped ≢ Some book.HistoryFull) tracks
+never_full nodes limit scripts after tracks c ran closes few = full_never limit scripts after tracks ran c.book.history closes.7 (closes.5 ∙ ap total_made closes.4) few
 
 commands_all : (h : List Entry) (first : ℕ) (ls : List (List Command)) → ((i : ℕ) → i < length ls → commands_of (first + i) h ≡ get_or ls i [])
     → map (λ s. commands_of s h) (range_with_len first (length ls)) ≡ ls
@@ -364,13 +348,13 @@ texts_all h first (t ∷ ts) each =
 
 -- the sessions of scripts that were not stopped made all their commands, and what is printed of the tracks is printed of the history
 pub tracks_made : {Z : Type 0} (nodes : List NodeInfo) (limit : ℕ) (scripts : List (Vec Command Z)) (after : List SessionView) (tracks : List Track) (c : Closing)
-    → AreRun limit ⊥ open_passes scripts (fresh (length scripts)) after tracks → first_fault tracks ≡ None → Closes nodes (length scripts) after c
+    → AreRun limit ⊥ open_passes scripts (fresh (length scripts)) after tracks → first_fault tracks ≡ None → Closes nodes limit (length scripts) after c
     → AreMade nodes (lists_of scripts) c.book.history (tracks_text 1 tracks)
 tracks_made {Z} nodes limit scripts after tracks c ran unstopped closes =
     let h = c.book.history in
     let n = length scripts in
     let long : length (lists_of scripts) ≡ n = length-map scripts (λ (v : Vec Command Z). v.items) in
-    let at = told_at limit scripts after tracks ran h closes.6 unstopped (sym closes.3 ∙ closes.5) in
+    let at = told_at limit scripts after tracks ran h closes.7 unstopped (sym closes.4 ∙ closes.6) in
     let made = commands_all h 1 (lists_of scripts) (λ i low.
     let within : i < n = omega (arith, low, long) in
     let s = some_of scripts i within in
@@ -378,8 +362,8 @@ tracks_made {Z} nodes limit scripts after tracks c ran unstopped closes =
     (at i s t within).made ∙ sym (get_or-map (λ (v : Vec Command Z). v.items) scripts i s [] within)) in
     let printed = texts_all h 1 tracks (λ i t low. let within : i < n = omega (arith, low, ran.1) in (at i (some_of scripts i within) t within).printed) in
     record {
-      legal = closes.2;
+      legal = closes.3;
       made = made;
-      alone = subst (λ k. All (λ e. e.session.value ≤ k) h) (sym long) (all_among n h (closes.4 ∙ ap total_made closes.5));
+      alone = subst (λ k. All (λ e. e.session.value ≤ k) h) (sym long) (all_among n h (closes.5 ∙ ap total_made closes.6));
       printed = printed ∙ ap (λ k. replies_text k h) (ran.1 ∙ sym long);
     }

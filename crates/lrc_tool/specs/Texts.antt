@@ -9,7 +9,7 @@ use Rattle.lrc_book.specs.declared.entry.Entry.{Entry}
 use Rattle.lrc_book.specs.declared.kind.Kind.{Kind}
 use Rattle.lrc_book.specs.declared.kind.Kind.TheVariants.{Local, Global, Move}
 use Rattle.lrc_book.specs.declared.reply.Reply.{Reply}
-use Rattle.lrc_book.specs.declared.reply.Reply.TheVariants.{Placed, Dropped, Granted, Idle, Ended, Changed, Refused}
+use Rattle.lrc_book.specs.declared.reply.Reply.TheVariants.{Placed, Dropped, Granted, Idle, Ended, Changed, Refused, Ticked}
 use Rattle.lrc_book.specs.declared.refusal.Refusal.{Refusal}
 use Rattle.lrc_book.specs.declared.refusal.Refusal.TheVariants as refusal
 use Rattle.lrc_book.specs.Histories.{state_after}
@@ -68,6 +68,7 @@ reply_text Idle = codes "idle"
 reply_text Ended = codes "ended"
 reply_text Changed = codes "changed"
 reply_text (Refused refusal) = codes "refused " ++ refusal_text refusal
+reply_text (Ticked clock ended) = codes "ticked " ++ decimal clock ++ codes " " ++ decimal ended
 
 -- a reply's line: the place of its call in the history, and its text
 abbrev pub reply_line : ℕ → Reply → List ℕ

@@ -1,7 +1,7 @@
 //! The lines of replies, and those of refusals of input.
 
 ghost use Rattle.std.specs.Prelude.{◌≡◌, ◌+◌, ◌*◌, ◌^◌, ◌<◌, ◌≤◌, ◌∷◌, ◌++◌, length, drop, OnOk, string_bytes, codes, decimal, map};
-ghost use Rattle.lrc_book.specs.declared.reply.Reply.TheVariants.{Placed, Granted, Refused};
+ghost use Rattle.lrc_book.specs.declared.reply.Reply.TheVariants.{Placed, Granted, Refused, Ticked};
 ghost use Rattle.lrc_tool.specs.Plays.{lines_from};
 ghost use Rattle.lrc_tool.specs.Texts.{seat_text, spaced, lease_text, kind_text, reply_text, reply_line, script_line, topology_line, cause_number, bad_line_text};
 
@@ -35,6 +35,9 @@ const LEASE_ROOM: usize = 41;
 
 /// Room for a word, a lease, from what is rebuilt, and the end of a line.
 const GRANTED_ROOM: usize = 92;
+
+/// Room for a word, two numbers, and the end of a line.
+const TICKED_ROOM: usize = 30;
 
 /// Room for the longest reply: a word, the sixteen seats of a stripe, and the end of a line.
 const REPLY_ROOM: usize = 200;
@@ -273,6 +276,18 @@ fn write_granted(lease: &Lease, kind: &Kind, text: &mut [u8], end: usize) -> usi
     write_words(b" granted", text, target)
 }
 
+fn write_ticked(clock: u32, ended: u32, text: &mut [u8], end: usize) -> usize
+    requires { (TICKED_ROOM ≤ end) × (end ≤ length text.old) }
+    ensures start { (end ≤ result + TICKED_ROOM) × (result ≤ end) }
+    ensures written { drop result text.new ≡ (codes " " ++ (reply_text (Ticked clock ended) ++ codes "\n")) ++ drop end text.old }
+{
+    let last = write_words(b"\n", text, end);
+    let second = write_number(ended, text, last);
+    let between = write_words(b" ", text, second);
+    let first = write_number(clock, text, between);
+    write_words(b" ticked ", text, first)
+}
+
 /// Writes a reply, a space before it and the end of the line behind it, so that it ends at `end`, and answers where it starts.
 #[inline(always)] // as `write_line`
 fn write_reply(reply: &Reply, text: &mut [u8], end: usize) -> usize
@@ -288,6 +303,7 @@ fn write_reply(reply: &Reply, text: &mut [u8], end: usize) -> usize
         Reply::Ended => write_words(b" ended\n", text, end),
         Reply::Changed => write_words(b" changed\n", text, end),
         Reply::Refused(refusal) => write_refusal(refusal, text, end),
+        Reply::Ticked { clock, ended } => write_ticked(*clock, *ended, text, end),
     }
 }
 
@@ -365,6 +381,7 @@ fn write_told(entry: &Record, text: &mut [u8], end: usize) -> usize
         Reply::Ended => write_words(b" ended\n", text, end),
         Reply::Changed => write_words(b" changed\n", text, end),
         Reply::Refused(refusal) => write_refusal(&refusal, text, end),
+        Reply::Ticked { clock, ended } => write_ticked(clock, ended, text, end),
     }
 }
 

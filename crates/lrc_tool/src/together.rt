@@ -1,7 +1,8 @@
 //! Several scripts at once, each by a session of its own.
 
-ghost use Rattle.std.specs.Prelude.{◌≡◌, ◌<◌, ◌≤◌, ◌⊎◌, ◌++◌, length, sum_by, Some, None, option_map, IfOk, OnOk, IfErr};
-ghost use Rattle.lrc_tool.specs.Faults.{run_fault, first_fault};
+ghost use Rattle.std.specs.Prelude.{◌≡◌, ◌≢◌, ◌<◌, ◌≤◌, ◌⊎◌, ◌++◌, length, sum_by, All, Some, None, option_map, IfOk, OnOk, IfErr};
+ghost use Rattle.lrc_code.specs.declared.fault.Fault.TheVariants as book;
+ghost use Rattle.lrc_tool.specs.Faults.{run_fault, stop_fault, first_fault};
 ghost use Rattle.lrc_tool.specs.Judged.{lists_of, AreFew};
 ghost use Rattle.lrc_tool.specs.Plays.{AreMade, receipts_text, tracks_text};
 ghost use Rattle.lrc_tool.specs.Outputs.{IsPlayed};
@@ -85,10 +86,13 @@ fn run_each<N: Naming + Send + Sync, T: Threads + Wait + Sync>(
     }
 }
 
-/// The tracks, where no fault stopped one; else the fault that stopped the first of those.
+/// The tracks, where no fault stopped one; else the fault that stopped the first of those, which is want of memory.
 fn unstopped(tracks: Vec<Track>) -> Result<Vec<Track>, RunFault>
+    // No script met a full history.
+    requires room { All (λ track. stop_fault track.stopped ≢ Some book.HistoryFull) tracks.items }
     ensures ok { IfOk result (λ v. (v.items ≡ tracks.items) × (first_fault tracks.items ≡ None)) }
     ensures first { IfErr result (λ e. option_map run_fault (first_fault tracks.items) ≡ Some e) }
+    ensures err { IfErr result (λ e. e ≡ fault.OutOfMemory) }
 {
     for track in tracks.as_slice() {
         if let Some(Stop::Fault(fault)) = track.stopped {

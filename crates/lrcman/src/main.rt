@@ -1,6 +1,11 @@
 //! The program `lrcman`: its command line, its standard streams and its exit status.
 #![tactic(auto)]
 
+ghost use Rattle.std.specs.Prelude.{◌≡◌, Ok, Err};
+ghost use Rattle.lrc_tool.specs.declared.status.Status.TheVariants as status;
+ghost use Rattle.lrc_tool.specs.declared.streams.RunFault.{RunFault};
+ghost use Rattle.lrcman.specs.declared.stop.Stop.TheVariants as stop;
+
 mod stop;
 
 use crate::stop::Stop;
@@ -80,12 +85,23 @@ fn check_input(rt: &HostRuntime) -> Result<Status, RunFault> {
     check(rt.alloc(), &mut source, &mut sink)
 }
 
-fn main(rt: HostRuntime) -> ExitCode {
-    match perform(&rt, &rt) {
-        Ok(status) => ExitCode::from(status as u8),
-        Err(stop) => {
-            let _ = eprintln!(&rt; "{stop}");
-            ExitCode::from(stop.status())
-        }
+/// The exit status for how a command ended, or for why the program stopped.
+fn exit_status(ended: &Result<Status, Stop>) -> u8
+    ensures done { (ended.now ≡ Ok status.Done → result ≡ 0) × (ended.now ≡ Ok status.BadLine → result ≡ 1)
+        × (ended.now ≡ Ok status.Refused → result ≡ 2) }
+    ensures stopped { (ended.now ≡ Err stop.Usage → result ≡ 2)
+        × ((fault : RunFault) → ended.now ≡ Err (stop.Fault fault) → result ≡ 3) }
+{
+    match ended {
+        Ok(status) => *status as u8,
+        Err(stop) => stop.status(),
     }
+}
+
+fn main(rt: HostRuntime) -> ExitCode {
+    let ended = perform(&rt, &rt);
+    if let Err(stop) = &ended {
+        let _ = eprintln!(&rt; "{stop}");
+    }
+    ExitCode::from(exit_status(&ended))
 }

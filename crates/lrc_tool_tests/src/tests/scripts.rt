@@ -6,13 +6,15 @@ use lrc_script::{Cause, ScriptError, parse_script};
 use std::alloc::Global;
 use std::test::Fail;
 
-const UNKNOWN_WORDS: [&str; 14] = [
+const UNKNOWN_WORDS: [&str; 16] = [
     " place 1",
     "Place 1",
     "DROP 1",
     "NEXT",
     "nexts",
     "next\r",
+    "Tick",
+    "ticks",
     "upgrades 1",
     "un drain 1",
     "place\t1",
@@ -23,7 +25,7 @@ const UNKNOWN_WORDS: [&str; 14] = [
     "\r",
 ];
 
-const WORD_COUNTS: [&str; 15] = [
+const WORD_COUNTS: [&str; 17] = [
     "place",
     "place 1 ",
     "place  1",
@@ -35,6 +37,8 @@ const WORD_COUNTS: [&str; 15] = [
     "revoke 1  3",
     "next 1",
     "next ",
+    "tick 1",
+    "tick ",
     "drain",
     "retire 1 1",
     "upgrade 1 ",
@@ -232,6 +236,12 @@ fn lines_of_nodes_and_domains_have_one_number(rt: HostRuntime) -> Result<(), Fai
         b"drain 65535\nundrain 0\nretire 17\njoin 65535\nupgrade 255\nupgraded 0\nnext\nfail 17\ndown 0\nup 17";
     assert!(rt; is_good(rt.alloc(), text, &commands));
     Ok(())
+}
+
+#[test]
+fn lines_without_a_number_are_one_word(rt: HostRuntime) {
+    let commands = [Command::Tick, Command::Next, Command::Tick];
+    assert!(rt; is_good(rt.alloc(), b"tick\nnext\ntick", &commands));
 }
 
 /// Puts bytes of every value but LF behind the first one.

@@ -18,6 +18,10 @@ pub returns-in_ok-no_word-clause-command : goal.returns-in_ok-no_word-clause-com
 returns-in_ok-no_word-clause-command c =
     (tt, line-words c.args.line.now c.cut_word.result.0.now (codes "next") _ c.cut_word.result.1 c.cut_word.ensures c.in_ok-no_word.ensures.ok (search rules))
 
+pub returns-in_ok-no_word-2-clause-command : goal.returns-in_ok-no_word-2-clause-command
+returns-in_ok-no_word-2-clause-command c =
+    (tt, line-words c.args.line.now c.cut_word.result.0.now (codes "tick") _ c.cut_word.result.1 c.cut_word.ensures c.in_ok-no_word-2.ensures.ok (search rules))
+
 pub returns-in_ok-stripe-2-clause-command : goal.returns-in_ok-stripe-2-clause-command
 returns-in_ok-stripe-2-clause-command c =
     (c.in_ok-stripe-2.ensures.numbers.0, line-words c.args.line.now c.cut_word.result.0.now (codes "done") _ c.cut_word.result.1 c.cut_word.ensures c.in_ok-stripe-2.ensures.numbers.1 (search rules))
@@ -30,12 +34,12 @@ pub returns-in_ok-stripe-4-clause-command : goal.returns-in_ok-stripe-4-clause-c
 returns-in_ok-stripe-4-clause-command c =
     (tt, line-words c.args.line.now c.cut_word.result.0.now (codes "revoke") _ c.cut_word.result.1 c.cut_word.ensures c.in_ok-stripe-4.ensures.numbers (search rules))
 
-pub returns-else-is_word-7-clause-command : goal.returns-else-is_word-7-clause-command
-returns-else-is_word-7-clause-command c =
+pub returns-else-is_word-8-clause-command : goal.returns-else-is_word-8-clause-command
+returns-else-is_word-8-clause-command c =
     rw (line-words c.args.line.now c.cut_word.result.0.now c.cut_word.result.0.now _ c.cut_word.result.1 c.cut_word.ensures refl refl) c.parse_node_command.ensures.command
 
-pub returns-else-is_word-7-clause-cause : goal.returns-else-is_word-7-clause-cause
-returns-else-is_word-7-clause-cause c =
+pub returns-else-is_word-8-clause-cause : goal.returns-else-is_word-8-clause-cause
+returns-else-is_word-8-clause-cause c =
     c.parse_node_command.ensures.cause
     ∙ sym (words_cause-node c.args.line.now c.cut_word.result.0.now c.cut_word.result.1 c.cut_word.ensures
-    (search rules) (search rules) (search rules) (search rules) (search rules) (search rules) (search rules))
+    (search rules) (search rules) (search rules) (search rules) (search rules) (search rules) (search rules) (search rules))

@@ -1,4 +1,4 @@
-use Rattle.std.proofs.Common.{◌≡◌, ◌<◌, ◌++◌, drop, decimal, ap, ◌∙◌, arith}
+use Rattle.std.proofs.Common.{◌<◌, ◌++◌, drop, decimal, ap, ◌∙◌, arith}
 use Rattle.lrc_tool.proofs.PairLemmas.{count_within, short_written}
 use Rattle.lrc_tool.proofs.digits.write_short.Goals as goal
 

@@ -9,7 +9,7 @@ use Rattle.lrc_sessions.specs.Closing.{Closes}
 use Rattle.lrc_sessions.proofs.OpenedLemmas.{length_fresh, all_left}
 use Rattle.lrc_tool.specs.Judged.{lists_of}
 use Rattle.lrc_tool.specs.Plays.{AreMade, tracks_text}
-use Rattle.lrc_tool.proofs.TrackLemmas.{open_passes, tracks_made, never_full, told_memory}
+use Rattle.lrc_tool.proofs.TrackLemmas.{open_passes, tracks_made, never_full}
 use Rattle.lrc_tool.proofs.together.run_each.Goals as goal
 
 pub run_sessions-sessions-requires-after_bounds : goal.run_sessions-sessions-requires-after_bounds
@@ -30,10 +30,9 @@ returns-in_err-ran-in-Ok-finish-clause-err g c =
     let none = subst (λ r. IfErr r (λ e. (e ≡ book.OutOfMemory) × (ran.result.0 ≡ c.in-Ok.opened.1))) c.in_err-ran-in-Ok-finish.was ran.ensures.err in
     rw (p.1, p.2, none.0) (inl refl)
 
--- a script was stopped, and by no full history
-pub returns-in_err-unstopped-in-Ok-finish-clause-err : goal.returns-in_err-unstopped-in-Ok-finish-clause-err
-returns-in_err-unstopped-in-Ok-finish-clause-err g c =
-    let p = err_from_is_err_and c.from_residual-in_err-unstopped-in-Ok-finish.result c.from_residual-in_err-unstopped-in-Ok-finish.ensures.1 in
+-- a full history stopped no script
+pub unstopped-requires : goal.unstopped-requires
+unstopped-requires g c =
     let scripts = c.args.scripts.now in
     let after = c.run_sessions-sessions.result.0.items in
     let tracks = c.in_ok-ran-in-Ok-finish.field-0.items in
@@ -41,10 +40,9 @@ returns-in_err-unstopped-in-Ok-finish-clause-err g c =
     let count : c.in-Ok.opened.0.count ≡ length scripts = c.in-Ok.ensures.ok.0 ∙ sym c.requires.scripts.0 in
     let made = subst (λ r. IfOk r (λ v. AreRun g.N.ViewNaming.limit ⊥ open_passes scripts c.in-Ok.opened.1.items after v.items)) c.in_ok-ran-in-Ok-finish.was c.run_sessions-sessions.ensures.ok in
     let ran = subst (λ (ss : List SessionView). AreRun g.N.ViewNaming.limit ⊥ open_passes scripts ss after tracks) opened made in
-    let closes = subst (λ n. Closes g.N.ViewNaming.topology n after c.in-Ok-finish.closing) count c.in-Ok-finish.ensures in
+    let closes = subst (λ n. Closes g.N.ViewNaming.topology g.N.ViewNaming.limit n after c.in-Ok-finish.closing) count c.in-Ok-finish.ensures in
     let few = subst (λ n. sum_by (λ v. length v.items) scripts ≤ n) c.requires.limit c.requires.few in
-    let never = never_full g.N.ViewNaming.topology g.N.ViewNaming.limit scripts after tracks c.in-Ok-finish.closing ran closes few in
-    rw (p.1, p.2) (inl (told_memory _ _ c.in_err-unstopped-in-Ok-finish.ensures.first never))
+    record { room = never_full g.N.ViewNaming.topology g.N.ViewNaming.limit scripts after tracks c.in-Ok-finish.closing ran closes few }
 
 pub returns-clause-made : goal.returns-clause-made
 returns-clause-made g c =
@@ -54,7 +52,7 @@ returns-clause-made g c =
     let count : c.in-Ok.opened.0.count ≡ length scripts = c.in-Ok.ensures.ok.0 ∙ sym c.requires.scripts.0 in
     let made = subst (λ r. IfOk r (λ v. AreRun g.N.ViewNaming.limit ⊥ open_passes scripts c.in-Ok.opened.1.items after v.items)) c.in_ok-ran-in-Ok-finish.was c.run_sessions-sessions.ensures.ok in
     let ran = subst (λ (ss : List SessionView). AreRun g.N.ViewNaming.limit ⊥ open_passes scripts ss after c.in_ok-ran-in-Ok-finish.field-0.items) opened made in
-    let closes = subst (λ n. Closes g.N.ViewNaming.topology n after c.in-Ok-finish.closing) count c.in-Ok-finish.ensures in
+    let closes = subst (λ n. Closes g.N.ViewNaming.topology g.N.ViewNaming.limit n after c.in-Ok-finish.closing) count c.in-Ok-finish.ensures in
     let told = tracks_made g.N.ViewNaming.topology g.N.ViewNaming.limit scripts after c.in_ok-ran-in-Ok-finish.field-0.items c.in-Ok-finish.closing ran c.in_ok-unstopped-in-Ok-finish.ensures.ok.1 closes in
     let shown = subst (λ (ts : List Track). AreMade g.N.ViewNaming.topology (lists_of scripts) c.in-Ok-finish.closing.book.history (tracks_text 1 ts))
     (sym c.in_ok-unstopped-in-Ok-finish.ensures.ok.0) told in
