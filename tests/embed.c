@@ -61,6 +61,7 @@ static void want(bool holds, int line) {
 // with each status.
 typedef struct {
     size_t count, at_risk;
+    uint32_t clock;
     lrc_entry entries[ENTRIES];
     lrc_homes homes[STRIPES];
     lrc_level levels[STRIPES];
@@ -69,7 +70,7 @@ typedef struct {
     uint32_t loads[NODES];
     lrc_mode modes[NODES];
     lrc_risk rows[STRIPES];
-    uint32_t statuses[2 + ENTRIES + STRIPES * (3 + LRC_FRAGMENTS) + NODES * 2];
+    uint32_t statuses[3 + ENTRIES + STRIPES * (3 + LRC_FRAGMENTS) + NODES * 2];
 } looks_of_book;
 
 static void look(looks_of_book *it) {
@@ -78,6 +79,7 @@ static void look(looks_of_book *it) {
     is_looking = true;
     *status++ = lrc_embed_count(&handle, &it->count);
     WANT(it->count <= ENTRIES);
+    *status++ = lrc_embed_clock(&handle, &it->clock);
     for (size_t i = 0; i < it->count; i++) *status++ = lrc_embed_entry(&handle, i, &it->entries[i]);
     for (uint16_t stripe = 0; stripe < STRIPES; stripe++) {
         *status++ = lrc_embed_homes(&handle, stripe, &it->homes[stripe]);
@@ -214,6 +216,7 @@ static void closed(void) {
     WANT(lrc_embed_mode(&handle, 1, &told.mode) == LRC_IS_CLOSED);
     WANT(lrc_embed_risk(&handle, told.rows, 2, &number) == LRC_IS_CLOSED);
     WANT(lrc_embed_count(&handle, &told.number) == LRC_IS_CLOSED);
+    WANT(lrc_embed_clock(&handle, &told.load) == LRC_IS_CLOSED);
     WANT(lrc_embed_entry(&handle, 0, &told.entry) == LRC_IS_CLOSED);
     WANT(number == 99 && memcmp(&told, pattern.bytes, sizeof pattern.bytes) == 0);
     WANT(lrc_embed_close(&handle) == LRC_DONE);
@@ -222,7 +225,7 @@ static void closed(void) {
 static void ranges(void) {
     const lrc_command outside[] = {
         {.kind = 0},
-        {.kind = LRC_UPGRADED + 1},
+        {.kind = LRC_TICK + 1},
         {.kind = 255},
         {.kind = LRC_PLACE, .stripe = LRC_STRIPES},
         {.kind = LRC_DROP, .stripe = 65535},
@@ -257,7 +260,9 @@ static void leases(void) {
     lrc_reply reply = MAKE(2, .kind = LRC_NEXT);
     WANT(reply.kind == LRC_GRANTED && reply.repair == LRC_LOCAL && reply.sources[5] == 12);
     WANT(reply.lease.stripe == 1 && reply.lease.fragment == 3 && reply.lease.holder == 2 && reply.lease.epoch == 1);
-    WANT(lrc_embed_lease(&handle, 1, 3, &lease) == LRC_DONE && memcmp(&lease, &reply.lease, sizeof lease) == 0);
+    WANT(lrc_embed_lease(&handle, 1, 3, &lease) == LRC_DONE && lease.expiry == 3 && reply.lease.expiry == 0);
+    lease.expiry = 0;
+    WANT(memcmp(&lease, &reply.lease, sizeof lease) == 0);
     WANT(lrc_embed_lease(&handle, 1, 4, &lease) == LRC_UNKNOWN);
     WANT(is_refused(MAKE(1, .kind = LRC_LEASE, .stripe = 1, .fragment = 3), LRC_ALREADY_LEASED, 1));
     WANT(is_refused(MAKE(1, .kind = LRC_ABANDON, .stripe = 1, .fragment = 3, .epoch = 1), LRC_NOT_HOLDER, 2));
@@ -292,6 +297,39 @@ static void nodes(void) {
     WANT(MAKE(1, .kind = LRC_DRAIN, .node = 3).kind == LRC_CHANGED);
     WANT(MAKE(1, .kind = LRC_RETIRE, .node = 3).kind == LRC_CHANGED);
     WANT(lrc_embed_mode(&handle, 3, &mode) == LRC_DONE && mode.mode == LRC_GONE && mode.is_online == 0);
+}
+
+static bool has_ticked(uint8_t session, uint32_t clock, uint32_t ended) {
+    lrc_reply reply = MAKE(session, .kind = LRC_TICK);
+    uint32_t told = 99;
+    WANT(lrc_embed_clock(&handle, &told) == LRC_DONE);
+    return reply.kind == LRC_TICKED && reply.clock == clock && reply.ended == ended && told == clock;
+}
+
+// Two sessions have leases that a third one's ticks end, each at the third tick after its grant. Then both are granted anew.
+static void ticks(void) {
+    lrc_lease lease = {.epoch = 99};
+    uint32_t load = 99;
+    for (uint16_t node = 5; node < 7; node++) {
+        WANT(MAKE(1, .kind = LRC_FAIL, .node = node).kind == LRC_CHANGED);
+        WANT(MAKE(1, .kind = LRC_JOIN, .node = node).kind == LRC_CHANGED);
+    }
+    WANT(MAKE(2, .kind = LRC_LEASE, .stripe = 1, .fragment = 5).kind == LRC_GRANTED);
+    WANT(has_ticked(3, 1, 0));
+    lrc_seat target = MAKE(4, .kind = LRC_LEASE, .stripe = 1, .fragment = 6).lease.target;
+    WANT(lrc_embed_load(&handle, target.node, &load) == LRC_DONE && load == 1);
+    WANT(has_ticked(3, 2, 0) && has_ticked(2, 3, 1));
+    WANT(lrc_embed_lease(&handle, 1, 5, &lease) == LRC_UNKNOWN && lease.epoch == 99);
+    WANT(lrc_embed_lease(&handle, 1, 6, &lease) == LRC_DONE && lease.holder == 4 && lease.expiry == 4);
+    WANT(is_refused(MAKE(2, .kind = LRC_REPORT, .stripe = 1, .fragment = 5, .epoch = 1), LRC_STALE, 0));
+    WANT(has_ticked(3, 4, 1));
+    WANT(lrc_embed_load(&handle, target.node, &load) == LRC_DONE && load == 0);
+    WANT(is_refused(MAKE(1, .kind = LRC_REVOKE, .stripe = 1, .fragment = 6), LRC_NO_LEASE, 0));
+    for (uint8_t fragment = 5; fragment < 7; fragment++) {
+        WANT(MAKE(2, .kind = LRC_LEASE, .stripe = 1, .fragment = fragment).lease.epoch == 2);
+        WANT(MAKE(2, .kind = LRC_REPORT, .stripe = 1, .fragment = fragment, .epoch = 2).kind == LRC_ENDED);
+    }
+    WANT(has_ticked(3, 5, 0));
 }
 
 static void upgrades(void) {
@@ -404,6 +442,10 @@ static void fill(void) {
     reply.kind = 99;
     WANT(lrc_embed_call(&handle, 1, &command, &reply) == LRC_FULL && reply.kind == 99);
     WANT(count_of() == LRC_HISTORY_LIMIT);
+    const lrc_command tick = {.kind = LRC_TICK};
+    uint32_t clock = 99;
+    WANT(lrc_embed_call(&handle, 1, &tick, &reply) == LRC_FULL && reply.kind == 99);
+    WANT(lrc_embed_clock(&handle, &clock) == LRC_DONE && clock == 0);
     WANT(lrc_embed_replay(&handle, &entry, 1, &position) == LRC_FULL && position == 0);
     WANT(lrc_embed_count(&handle, &position) == LRC_IS_CLOSED);
 }
@@ -425,6 +467,7 @@ int main(int argc, char **argv) {
     WANT(is_refused(MAKE(1, .kind = LRC_PLACE, .stripe = 1), LRC_STRIPE_EXISTS, 0));
     leases();
     nodes();
+    ticks();
     upgrades();
     looks();
     WANT(MAKE(1, .kind = LRC_DROP, .stripe = 2).kind == LRC_DROPPED);

@@ -6,7 +6,7 @@ sys.path[:0] = [os.path.join(os.path.dirname(os.path.abspath(__file__)), "..", "
 import lrc_embed
 
 FIELDS = {
-    "upgrade": ["domain"], "upgraded": ["domain"], "next": [], "lease": ["stripe", "fragment"],
+    "upgrade": ["domain"], "upgraded": ["domain"], "next": [], "tick": [], "lease": ["stripe", "fragment"],
     "revoke": ["stripe", "fragment"], "place": ["stripe"], "drop": ["stripe"],
     "done": ["stripe", "fragment", "epoch"], "abandon": ["stripe", "fragment", "epoch"],
 }

@@ -1,7 +1,8 @@
 """What the Python module of examples/embed does beside the calls: it refuses numbers that a field would cut down, closes a
-book that is let go of, and replays a log in pieces, from entries and from bytes."""
+book that is let go of, and replays a log in pieces, from entries and from bytes, also one from before leases had an end."""
 import ctypes
 import gc
+import struct
 
 from library import command_of
 from lrc_embed import Book, Command, CommandKind, Entry, Fault, ModeKind, Status
@@ -9,8 +10,10 @@ from lrc_embed import Book, Command, CommandKind, Entry, Fault, ModeKind, Status
 TWENTY = "".join(f"[[node]]\nnumber = {i}\nfault = {i}\nupgrade = {i % 10}\nslots = 4\n" for i in range(20))
 SCRIPT = ("place 1", "place 2", "fail 3", "next", "lease 2 7", "done 1 3 1", "next", "upgrade 0", "upgraded 0")
 SIZE = ctypes.sizeof(Entry)
+# An entry as it was kept before leases had an end. What has a name since then was reserved, and 0.
+KEPT = struct.Struct("<B3x BBB5xIHH BBB6s3xI12x HBBHHI4x 32H")
 # As the header has them; an index is a size_t.
-RANGES = {"session": (1, 8), "kind": (1, 16), "stripe": (0, 4095), "fragment": (0, 15), "node": (0, 65535),
+RANGES = {"session": (1, 8), "kind": (1, 17), "stripe": (0, 4095), "fragment": (0, 15), "node": (0, 65535),
           "domain": (0, 255), "epoch": (0, 4294967295), "index": (0, 18446744073709551615)}
 
 
@@ -145,7 +148,25 @@ def test_pieces(count, library):
     count.check(f"the module: a changed entry in a piece: {told}", told == (Status.DIFFERENT, 3) and not book.handle.is_open)
 
 
+def log_kept_before():
+    """The bytes of `place 1`, `fail 3`, `lease 1 3` and `done 1 3 1`."""
+    no_lease, no_seats, seats = (0,) * 6, (0,) * 32, [number for node in (*range(12), 16, 12, 13, 14) for number in (node, 0)]
+    yield KEPT.pack(1, 1, 0, 0, 0, 1, 0, 1, 0, 0, b"", 0, *no_lease, *seats)
+    yield KEPT.pack(1, 8, 0, 0, 0, 0, 3, 6, 0, 0, b"", 0, *no_lease, *no_seats)
+    yield KEPT.pack(2, 3, 3, 0, 0, 1, 0, 3, 0, 1, bytes([0, 1, 2, 4, 5, 12]), 0, 1, 3, 2, 17, 0, 1, *no_seats)
+    yield KEPT.pack(2, 5, 3, 0, 1, 1, 0, 5, 0, 0, b"", 0, *no_lease, *no_seats)
+
+
+def test_kept(count, library):
+    log = b"".join(log_kept_before())
+    told = status_of(lambda: Book(library, TWENTY, log))
+    count.check(f"the module: a log from before leases had an end: {told}", len(log) == 4 * SIZE and told[0] == Status.DONE)
+    with Book(library, TWENTY, log[:3 * SIZE]) as book:
+        count.check("the module: a lease of that log has its end", (book.lease(1, 3).expiry, book.clock()) == (3, 0))
+
+
 def test(count, library):
     test_numbers(count, library)
     test_dropped(count, library)
     test_pieces(count, library)
+    test_kept(count, library)

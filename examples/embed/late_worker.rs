@@ -50,7 +50,7 @@ struct Lease {
     holder: u8,
     target: Seat,
     epoch: u32,
-    reserved: u32,
+    expiry: u32,
 }
 
 #[repr(C)]
@@ -62,7 +62,9 @@ struct Reply {
     sources: [u8; 6],
     reserved: [u8; 3],
     detail: u32,
-    reserved_numbers: [u32; 3],
+    clock: u32,
+    ended: u32,
+    reserved_number: u32,
     lease: Lease,
     seats: [Seat; 16],
 }

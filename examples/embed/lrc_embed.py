@@ -15,11 +15,11 @@ class Status(IntEnum):
 
 class CommandKind(IntEnum):
     PLACE, DROP, LEASE, NEXT, REPORT, ABANDON, REVOKE, FAIL = range(1, 9)
-    DOWN, UP, DRAIN, UNDRAIN, RETIRE, JOIN, UPGRADE, UPGRADED = range(9, 17)
+    DOWN, UP, DRAIN, UNDRAIN, RETIRE, JOIN, UPGRADE, UPGRADED, TICK = range(9, 18)
 
 
 class ReplyKind(IntEnum):
-    PLACED, DROPPED, GRANTED, IDLE, ENDED, CHANGED, REFUSED = range(1, 8)
+    PLACED, DROPPED, GRANTED, IDLE, ENDED, CHANGED, REFUSED, TICKED = range(1, 9)
 
 
 class Repair(IntEnum):
@@ -87,8 +87,10 @@ class Seat(ctypes.Structure):
 
 
 class Lease(ctypes.Structure):
+    """A lease. `Book.lease` tells its expiry, the clock at which it ends; in a reply that is 0."""
+
     _fields_ = [("stripe", c_uint16), ("fragment", c_uint8), ("holder", c_uint8), ("target", Seat),
-                ("epoch", c_uint32), ("reserved", c_uint32)]
+                ("epoch", c_uint32), ("expiry", c_uint32)]
 
     def __str__(self):
         return f"{self.stripe} {self.fragment} {self.target} epoch {self.epoch}"
@@ -96,8 +98,8 @@ class Lease(ctypes.Structure):
 
 class Reply(ctypes.Structure):
     _fields_ = [("kind", c_uint8), ("refusal", c_uint8), ("repair", c_uint8), ("sources", c_uint8 * 6),
-                ("reserved", c_uint8 * 3), ("detail", c_uint32), ("reserved_numbers", c_uint32 * 3),
-                ("lease", Lease), ("seats", Seat * FRAGMENTS)]
+                ("reserved", c_uint8 * 3), ("detail", c_uint32), ("clock", c_uint32), ("ended", c_uint32),
+                ("reserved_number", c_uint32), ("lease", Lease), ("seats", Seat * FRAGMENTS)]
 
     def __str__(self):
         """What `lrcman run` prints of the reply."""
@@ -110,6 +112,8 @@ class Reply(ctypes.Structure):
             words += self.sources if self.repair == Repair.LOCAL else []
         elif kind is ReplyKind.REFUSED:
             words += [self.refusal] + ([self.detail] if self.refusal in DETAILED else [])
+        elif kind is ReplyKind.TICKED:
+            words += [self.clock, self.ended]
         return " ".join(map(str, words))
 
 
@@ -214,6 +218,9 @@ class Book:
         rows, count = (Risk * STRIPES)(), c_size_t()
         self.done("risk", rows, c_size_t(STRIPES), ctypes.byref(count))
         return rows[:count.value]
+
+    def clock(self):
+        return self.told("clock", c_uint32()).value
 
     def count(self):
         return self.told("count", c_size_t()).value

@@ -94,6 +94,7 @@ enum lrc_command_kind {
     LRC_JOIN = 14,     // node: take a node that is gone in again, empty
     LRC_UPGRADE = 15,  // domain: take all nodes of an upgrade domain offline
     LRC_UPGRADED = 16, // domain: its nodes can be reached again, but those that are down
+    LRC_TICK = 17,     // nothing: move the clock on by one, and end each lease for which this is the third tick
 };
 
 typedef struct {
@@ -118,7 +119,8 @@ typedef struct {
     uint8_t holder;  // the session that has it
     lrc_seat target; // the seat that the fragment is to have
     uint32_t epoch;  // how often this fragment of this stripe number was leased, this time included
-    uint32_t reserved;
+    uint32_t expiry; // as lrc_embed_lease tells it, the clock at which the lease ends, if it has not ended before: that of
+                     // its grant and three. 0 in a reply, so that entries of a library without a clock replay as they are
 } lrc_lease;
 
 enum lrc_reply_kind {
@@ -129,6 +131,7 @@ enum lrc_reply_kind {
     LRC_ENDED = 5,   // the lease has ended
     LRC_CHANGED = 6, // the node or the upgrade domain was changed
     LRC_REFUSED = 7, // refusal, detail: nothing was changed but the history
+    LRC_TICKED = 8,  // clock, ended
 };
 
 // From what a leased fragment is made.
@@ -167,7 +170,9 @@ typedef struct {
     uint8_t sources[6];
     uint8_t reserved[3];
     uint32_t detail;
-    uint32_t reserved_numbers[3];
+    uint32_t clock; // how many ticks there were, this one included
+    uint32_t ended; // how many leases ended at it
+    uint32_t reserved_number;
     lrc_lease lease;
     lrc_seat seats[LRC_FRAGMENTS];
 } lrc_reply;
@@ -250,6 +255,8 @@ uint32_t lrc_embed_lease(lrc_handle *handle, uint16_t stripe, uint8_t fragment, 
 // DONE, IS_CLOSED, or UNKNOWN where there is no such node. The load counts homes and targets of leases.
 uint32_t lrc_embed_load(lrc_handle *handle, uint16_t node, uint32_t *load);
 uint32_t lrc_embed_mode(lrc_handle *handle, uint16_t node, lrc_mode *mode);
+// How many ticks there were: DONE or IS_CLOSED.
+uint32_t lrc_embed_clock(lrc_handle *handle, uint32_t *clock);
 // The stripes that are not whole, in the order of repair. DONE, with `*count` rows; IS_CLOSED, OUT_OF_MEMORY, or SHORT
 // where they are more than `length`, which LRC_STRIPES rows never are.
 uint32_t lrc_embed_risk(lrc_handle *handle, lrc_risk *rows, size_t length, size_t *count);

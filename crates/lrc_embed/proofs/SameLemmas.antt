@@ -17,18 +17,18 @@ seat-Decides a b = Decides-like _
     (Decides-and _ _ (Decides-eqb a.node b.node) (Decides-eqb a.slot b.slot))
 
 same_lease : (a b : LrcLease) → (a.stripe ≡ b.stripe) × ((a.fragment ≡ b.fragment) × ((a.holder ≡ b.holder)
-    × ((a.target ≡ b.target) × ((a.epoch ≡ b.epoch) × (a.reserved ≡ b.reserved))))) → a ≡ b
+    × ((a.target ≡ b.target) × ((a.epoch ≡ b.epoch) × (a.expiry ≡ b.expiry))))) → a ≡ b
 same_lease a b h i = record {
   stripe = h.0 i;
   fragment = h.1.0 i;
   holder = h.1.1.0 i;
   target = h.1.1.1.0 i;
   epoch = h.1.1.1.1.0 i;
-  reserved = h.1.1.1.1.1 i;
+  expiry = h.1.1.1.1.1 i;
 }
 
 parts_lease : (a b : LrcLease) → a ≡ b → (a.stripe ≡ b.stripe) × ((a.fragment ≡ b.fragment)
-    × ((a.holder ≡ b.holder) × ((a.target ≡ b.target) × ((a.epoch ≡ b.epoch) × (a.reserved ≡ b.reserved)))))
+    × ((a.holder ≡ b.holder) × ((a.target ≡ b.target) × ((a.epoch ≡ b.epoch) × (a.expiry ≡ b.expiry)))))
 parts_lease a b e = (
   ap (λ (l : LrcLease). l.stripe) e,
   (
@@ -39,7 +39,7 @@ parts_lease a b e = (
         ap (λ (l : LrcLease). l.target) e,
         (
           ap (λ (l : LrcLease). l.epoch) e,
-          ap (λ (l : LrcLease). l.reserved) e,
+          ap (λ (l : LrcLease). l.expiry) e,
         ),
       ),
     ),
@@ -52,11 +52,11 @@ lease-Decides a b = Decides-like _ (same_lease a b) (parts_lease a b)
     (Decides-and _ _ (Decides-eqb a.fragment b.fragment)
     (Decides-and _ _ (Decides-eqb a.holder b.holder)
     (Decides-and _ _ (seat-Decides a.target b.target)
-    (Decides-and _ _ (Decides-eqb a.epoch b.epoch) (Decides-eqb a.reserved b.reserved))))))
+    (Decides-and _ _ (Decides-eqb a.epoch b.epoch) (Decides-eqb a.expiry b.expiry))))))
 
 same_reply : (a b : LrcReply) → (a.kind ≡ b.kind) × ((a.refusal ≡ b.refusal) × ((a.repair ≡ b.repair)
-    × ((a.sources ≡ b.sources) × ((a.reserved ≡ b.reserved) × ((a.detail ≡ b.detail)
-    × ((a.reserved_numbers ≡ b.reserved_numbers) × ((a.lease ≡ b.lease) × (a.seats ≡ b.seats)))))))) → a ≡ b
+    × ((a.sources ≡ b.sources) × ((a.reserved ≡ b.reserved) × ((a.detail ≡ b.detail) × ((a.clock ≡ b.clock) × ((a.ended ≡ b.ended)
+    × ((a.reserved_number ≡ b.reserved_number) × ((a.lease ≡ b.lease) × (a.seats ≡ b.seats)))))))))) → a ≡ b
 same_reply a b h i = record {
   kind = h.0 i;
   refusal = h.1.0 i;
@@ -64,14 +64,16 @@ same_reply a b h i = record {
   sources = h.1.1.1.0 i;
   reserved = h.1.1.1.1.0 i;
   detail = h.1.1.1.1.1.0 i;
-  reserved_numbers = h.1.1.1.1.1.1.0 i;
-  lease = h.1.1.1.1.1.1.1.0 i;
-  seats = h.1.1.1.1.1.1.1.1 i;
+  clock = h.1.1.1.1.1.1.0 i;
+  ended = h.1.1.1.1.1.1.1.0 i;
+  reserved_number = h.1.1.1.1.1.1.1.1.0 i;
+  lease = h.1.1.1.1.1.1.1.1.1.0 i;
+  seats = h.1.1.1.1.1.1.1.1.1.1 i;
 }
 
 parts_reply : (a b : LrcReply) → a ≡ b → (a.kind ≡ b.kind) × ((a.refusal ≡ b.refusal) × ((a.repair ≡ b.repair)
-    × ((a.sources ≡ b.sources) × ((a.reserved ≡ b.reserved) × ((a.detail ≡ b.detail)
-    × ((a.reserved_numbers ≡ b.reserved_numbers) × ((a.lease ≡ b.lease) × (a.seats ≡ b.seats))))))))
+    × ((a.sources ≡ b.sources) × ((a.reserved ≡ b.reserved) × ((a.detail ≡ b.detail) × ((a.clock ≡ b.clock) × ((a.ended ≡ b.ended)
+    × ((a.reserved_number ≡ b.reserved_number) × ((a.lease ≡ b.lease) × (a.seats ≡ b.seats))))))))))
 parts_reply a b e = (
   ap (λ (r : LrcReply). r.kind) e,
   (
@@ -85,10 +87,16 @@ parts_reply a b e = (
           (
             ap (λ (r : LrcReply). r.detail) e,
             (
-              ap (λ (r : LrcReply). r.reserved_numbers) e,
+              ap (λ (r : LrcReply). r.clock) e,
               (
-                ap (λ (r : LrcReply). r.lease) e,
-                ap (λ (r : LrcReply). r.seats) e,
+                ap (λ (r : LrcReply). r.ended) e,
+                (
+                  ap (λ (r : LrcReply). r.reserved_number) e,
+                  (
+                    ap (λ (r : LrcReply). r.lease) e,
+                    ap (λ (r : LrcReply). r.seats) e,
+                  ),
+                ),
               ),
             ),
           ),
@@ -106,6 +114,8 @@ reply-Decides a b = Decides-like _ (same_reply a b) (parts_reply a b)
     (Decides-and _ _ (slice_eq-Decides Decides-eqb a.sources b.sources _ refl)
     (Decides-and _ _ (slice_eq-Decides Decides-eqb a.reserved b.reserved _ refl)
     (Decides-and _ _ (Decides-eqb a.detail b.detail)
-    (Decides-and _ _ (slice_eq-Decides Decides-eqb a.reserved_numbers b.reserved_numbers _ refl)
+    (Decides-and _ _ (Decides-eqb a.clock b.clock)
+    (Decides-and _ _ (Decides-eqb a.ended b.ended)
+    (Decides-and _ _ (Decides-eqb a.reserved_number b.reserved_number)
     (Decides-and _ _ (lease-Decides a.lease b.lease)
-    (slice_eq-Decides seat-Decides a.seats b.seats _ refl)))))))))
+    (slice_eq-Decides seat-Decides a.seats b.seats _ refl)))))))))))

@@ -5,7 +5,7 @@ use Rattle.lrc_leases.specs.declared.lease.Lease.{Lease}
 use Rattle.lrc_book.specs.declared.kind.Kind.{Kind}
 use Rattle.lrc_book.specs.declared.kind.Kind.TheVariants.{Local, Global, Move}
 use Rattle.lrc_book.specs.declared.reply.Reply.{Reply}
-use Rattle.lrc_book.specs.declared.reply.Reply.TheVariants.{Placed, Dropped, Granted, Idle, Ended, Changed, Refused}
+use Rattle.lrc_book.specs.declared.reply.Reply.TheVariants.{Placed, Dropped, Granted, Idle, Ended, Changed, Refused, Ticked}
 use Rattle.lrc_book.specs.declared.refusal.Refusal.{Refusal}
 use Rattle.lrc_book.specs.declared.refusal.Refusal.TheVariants as refusal
 use Rattle.lrc_book.specs.declared.entry.Entry.{Entry}
@@ -23,10 +23,14 @@ no_seat = record { node = 0; slot = 0 }
 
 abbrev pub lease_told : Lease → LrcLease
 lease_told l =
-    record { stripe = l.stripe.value; fragment = l.fragment.value; holder = l.holder.value; target = seat_told l.target; epoch = l.epoch; reserved = 0 }
+    record { stripe = l.stripe.value; fragment = l.fragment.value; holder = l.holder.value; target = seat_told l.target; epoch = l.epoch; expiry = l.expiry }
+
+-- a lease in a reply, whose end is not told
+abbrev pub lease_in_reply : Lease → LrcLease
+lease_in_reply l = record (lease_told l) { expiry = 0 }
 
 abbrev pub no_lease : LrcLease
-no_lease = record { stripe = 0; fragment = 0; holder = 0; target = no_seat; epoch = 0; reserved = 0 }
+no_lease = record { stripe = 0; fragment = 0; holder = 0; target = no_seat; epoch = 0; expiry = 0 }
 
 -- the number of a kind of repair, and the fragments that it reads
 abbrev pub repair_told : Kind → ℕ × List ℕ
@@ -63,7 +67,9 @@ blank_reply = record {
   sources = replicate 6 0;
   reserved = replicate 3 0;
   detail = 0;
-  reserved_numbers = replicate 3 0;
+  clock = 0;
+  ended = 0;
+  reserved_number = 0;
   lease = no_lease;
   seats = replicate 16 no_seat;
 }
@@ -72,11 +78,12 @@ blank_reply = record {
 abbrev pub reply_told : Reply → LrcReply
 reply_told (Placed seats) = record blank_reply { kind = 1; seats = map seat_told seats }
 reply_told Dropped = record blank_reply { kind = 2 }
-reply_told (Granted lease kind) = record blank_reply { kind = 3; repair = (repair_told kind).0; sources = (repair_told kind).1; lease = lease_told lease }
+reply_told (Granted lease kind) = record blank_reply { kind = 3; repair = (repair_told kind).0; sources = (repair_told kind).1; lease = lease_in_reply lease }
 reply_told Idle = record blank_reply { kind = 4 }
 reply_told Ended = record blank_reply { kind = 5 }
 reply_told Changed = record blank_reply { kind = 6 }
 reply_told (Refused r) = record blank_reply { kind = 7; refusal = (refusal_told r).0; detail = (refusal_told r).1 }
+reply_told (Ticked clock ended) = record blank_reply { kind = 8; clock = clock; ended = ended }
 
 abbrev pub entry_told : Entry → LrcEntry
 entry_told e = record { session = e.session.value; reserved = replicate 3 0; command = command_told e.command; reply = reply_told e.reply }

@@ -1,10 +1,11 @@
 ghost use Rattle.std.specs.Prelude.{◌≡◌};
-ghost use Rattle.lrc_embed.specs.Replies.{lease_told};
+ghost use Rattle.lrc_embed.specs.Replies.{lease_told, lease_in_reply};
 
 use crate::LrcSeat;
 use lrc_book::Lease;
 
-/// A lease of a fragment of a stripe: its holder is a session, and its target the seat that the fragment is to have.
+/// A lease of a fragment of a stripe: its holder is a session, its target the seat that the fragment is to have, and its
+/// expiry the clock at which it ends, which is 0 in a reply.
 #[repr(C)]
 #[derive(Clone, Copy, PartialEq, Eq)]
 pub struct LrcLease {
@@ -13,7 +14,7 @@ pub struct LrcLease {
     pub holder: u8,
     pub target: LrcSeat,
     pub epoch: u32,
-    pub reserved: u32,
+    pub expiry: u32,
 }
 
 impl LrcLease {
@@ -23,7 +24,7 @@ impl LrcLease {
         holder: 0,
         target: LrcSeat::NONE,
         epoch: 0,
-        reserved: 0,
+        expiry: 0,
     };
 
     pub(crate) fn of(lease: &Lease) -> LrcLease
@@ -35,7 +36,17 @@ impl LrcLease {
             holder: lease.holder.value,
             target: LrcSeat::of(lease.target),
             epoch: lease.epoch,
-            reserved: 0,
+            expiry: lease.expiry,
+        }
+    }
+
+    /// A lease in a reply. Its end is not told, so that entries which were kept before leases had one are told alike.
+    pub(crate) fn in_reply(lease: &Lease) -> LrcLease
+        ensures { result ≡ lease_in_reply lease.now }
+    {
+        LrcLease {
+            expiry: 0,
+            ..LrcLease::of(lease)
         }
     }
 }

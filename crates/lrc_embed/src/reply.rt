@@ -7,7 +7,8 @@ use lrc_code::Fragment;
 
 /// A reply. Kind 1 is placed, on the seats of fragments 0 to 15; 2 dropped; 3 granted, with the lease and the kind of
 /// its repair; 4 idle; 5 ended; 6 changed; 7 refused, with the number of the refusal and what that names as its
-/// detail. Repair 1 is local, from the six sources; 2 global; 3 a move. What the kind does not use is 0.
+/// detail; 8 ticked, with the new clock and how many leases ended. Repair 1 is local, from the six sources; 2 global; 3 a
+/// move. What the kind does not use is 0.
 #[repr(C)]
 #[derive(Clone, Copy, PartialEq, Eq)]
 pub struct LrcReply {
@@ -17,7 +18,9 @@ pub struct LrcReply {
     pub sources: [u8; 6],
     pub reserved: [u8; 3],
     pub detail: u32,
-    pub reserved_numbers: [u32; 3],
+    pub clock: u32,
+    pub ended: u32,
+    pub reserved_number: u32,
     pub lease: LrcLease,
     pub seats: [LrcSeat; 16],
 }
@@ -29,7 +32,9 @@ const BLANK: LrcReply = LrcReply {
     sources: [0; 6],
     reserved: [0; 3],
     detail: 0,
-    reserved_numbers: [0; 3],
+    clock: 0,
+    ended: 0,
+    reserved_number: 0,
     lease: LrcLease::NONE,
     seats: [LrcSeat::NONE; 16],
 };
@@ -56,7 +61,7 @@ impl LrcReply {
             Reply::Dropped => self.kind = 2,
             Reply::Granted(lease, kind) => {
                 self.kind = 3;
-                self.lease = LrcLease::of(lease);
+                self.lease = LrcLease::in_reply(lease);
                 self.tell_repair(kind);
             }
             Reply::Idle => self.kind = 4,
@@ -65,6 +70,11 @@ impl LrcReply {
             Reply::Refused(refusal) => {
                 self.kind = 7;
                 (self.refusal, self.detail) = refusal_of(refusal);
+            }
+            Reply::Ticked { clock, ended } => {
+                self.kind = 8;
+                self.clock = *clock;
+                self.ended = *ended;
             }
         }
     }

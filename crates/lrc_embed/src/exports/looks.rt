@@ -210,6 +210,23 @@ pub extern "C" fn lrc_embed_mode(
     }
 }
 
+/// How many ticks there were. A live lease ends when the clock comes to its expiry.
+#[unsafe(no_mangle)]
+pub extern "C" fn lrc_embed_clock(alloc: Global, handle: &mut LrcHandle, clock: &mut u32) -> u32
+    ensures same { handle.new.owned.book ≡ handle.old.owned.book }
+    ensures told { (result ≡ 0) → Of handle.old.owned.book (λ b. (state_of b).clock ≡ clock.new) }
+    ensures closed { (result ≡ 1) → handle.old.owned.book ≡ None }
+    ensures statuses { (result ≡ 0) ⊎ (result ≡ 1) }
+    ensures unwritten { (result ≢ 0) → clock.new ≡ clock.old }
+{
+    let Some(book) = handle.take(alloc) else {
+        return IS_CLOSED;
+    };
+    *clock = book.clock();
+    handle.put(book);
+    DONE
+}
+
 /// The stripes that are not whole, with their levels, in the order of repair: by rank, and by number. They are put into
 /// the first of the rows, as many as the count tells.
 #[unsafe(no_mangle)]
