@@ -7,8 +7,8 @@ Range = namedtuple("Range", "stripes nodes domains")
 
 # How often a command is drawn, of a hundred.
 WEIGHTS = {
-    "place": 9, "drop": 5, "lease": 9, "next": 18, "done": 18, "abandon": 3, "revoke": 3, "fail": 2, "join": 6,
-    "down": 3, "up": 5, "drain": 4, "undrain": 2, "retire": 4, "upgrade": 4, "upgraded": 5,
+    "place": 9, "drop": 3, "lease": 9, "next": 24, "done": 15, "abandon": 2, "revoke": 2, "tick": 10, "fail": 1, "join": 6,
+    "down": 3, "up": 4, "drain": 3, "undrain": 1, "retire": 2, "upgrade": 2, "upgraded": 4,
 }
 
 
@@ -70,12 +70,17 @@ def drawn_fragment(store, row):
 
 
 def drawn_report(store, row, session):
-    """A session, a stripe, a fragment and an epoch: most often of a live lease, now and then with one thing wrong."""
+    """A session, a stripe, a fragment and an epoch: most often of a live lease, now and then of one that has ended, or with
+    one thing wrong."""
+    wrong = next(row) % 16
+    ended = sorted(key for key in store.grants if key not in store.leases and key[0] in store.stripes)
+    if ended and (wrong == 4 or not store.leases):
+        key = one_of(row, ended)
+        return session, *key, store.grants[key]
     if not store.leases:
         return session, 0, next(row) % 16, 1
     stripe, fragment = key = one_of(row, sorted(store.leases))
     lease = store.leases[key]
-    wrong = next(row) % 16
     epoch = lease.epoch + (wrong == 0) - (wrong == 1)
     return session if wrong == 2 else lease.holder, stripe, (fragment + (wrong == 3)) % 16, epoch
 
@@ -84,7 +89,7 @@ def drawn_call(store, row, within):
     """A session and the line of its command."""
     word, session = drawn_word(row), 1 + next(row) % 8
     stripe, fragment = next(row) % (within.stripes + 1), next(row) % 16
-    if word == "next":
+    if word in ("next", "tick"):
         return session, word
     if word in ("place", "drop"):
         return session, f"{word} {drawn_stripe(store, row, word, within)}"

@@ -1,16 +1,17 @@
 """The rules of the stripe manager, written down once more after docs/RULES.md: plain, slow, and no part of the program.
 
 A `Store` takes a call after the other and answers the text of each reply. Everything is asked of the homes and leases
-that there are; nothing is kept beside them but the count of grants."""
+that there are; nothing is kept beside them but the counts of grants and of ticks."""
 from collections import Counter, namedtuple
 from functools import cache
 from itertools import combinations
 
 CLASSES = {"A": frozenset([0, 1, 2, 3, 4, 5, 12]), "B": frozenset([6, 7, 8, 9, 10, 11, 13]), "G": frozenset([14, 15])}
 FRAGMENTS = range(16)
+TERM = 3  # how many ticks after its grant a lease ends
 
 Node = namedtuple("Node", "fault upgrade slots")
-Lease = namedtuple("Lease", "holder target epoch")
+Lease = namedtuple("Lease", "holder target epoch expiry")
 
 
 class Refused(Exception):
@@ -54,6 +55,7 @@ class Store:
         self.homes = {}  # (stripe, fragment): (node, slot)
         self.leases = {}  # (stripe, fragment): Lease
         self.grants = Counter()  # (stripe, fragment): how many leases were granted
+        self.clock = 0  # how many ticks there were
 
     # What is asked of a store.
 
@@ -202,7 +204,7 @@ class Store:
     def do_lease(self, session, *key):
         target, kind = self.owed(key), self.kind(key)
         self.grants[key] += 1
-        self.leases[key] = Lease(session, target, self.grants[key])
+        self.leases[key] = Lease(session, target, self.grants[key], self.clock + TERM)
         return "granted %d %d %d:%d epoch %d %s" % (*key, *target, self.grants[key], kind)
 
     def do_next(self, session):
@@ -243,6 +245,12 @@ class Store:
             raise Refused(116)
         del self.leases[key]
         return "ended"
+
+    def do_tick(self, session):
+        self.clock += 1
+        live = len(self.leases)
+        self.forget(lambda key, _: True, lambda key, lease: lease.expiry != self.clock)
+        return f"ticked {self.clock} {live - len(self.leases)}"
 
     def expect(self, node, fits):
         """The node is one of the topology, and its mode allows the command."""

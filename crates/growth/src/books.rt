@@ -21,11 +21,13 @@ pub(crate) fn new_book(rt: &impl Host) -> Result<Book, Stop>
 /// Lets a book go. Done in a function of its own, it is proved once.
 pub(crate) fn close(_book: Book) {}
 
-/// Tells all that a book answers: of its entries, of two stripes and of one that is not there, and of the nodes and one more.
+/// Tells all that a book answers: of its entries, of its clock, of two stripes and of one that is not there, and of the nodes
+/// and one more.
 pub(crate) fn look(rt: &impl Host, book: &Book) -> Result<(), Stop> {
     for entry in book.history() {
         println!(rt; "{:?}", entry.entry())?;
     }
+    println!(rt; "clock {}", book.clock())?;
     for value in 1..4 {
         look_at_stripe(rt, book, StripeNo { value })?;
     }

@@ -1,4 +1,4 @@
-use Rattle.std.proofs.Common.{◌≡◌, ℕ, length, sym, ap, ◌∙◌}
+use Rattle.std.proofs.Common.{ℕ, length, sym, ap, ◌∙◌}
 use Rattle.growth.proofs.RunLemmas.{all_after}
 use Rattle.growth.proofs.runs.run_once.Goals as goal
 
