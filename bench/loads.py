@@ -1,7 +1,8 @@
 """Bundles of one script each, made by a fixed rule from a seed: a kind of load for each way to use a store.
 
-Every bundle fills its store first: `place` of each stripe. Then its kind goes on until the bundle has as many bytes, or
-as many lines behind those, as it may have. Each command comes with how its reply begins, by `store.Store`."""
+Every bundle fills its store first: `place` of each stripe, and what else its kind needs once. Then its kind goes on until
+the bundle has as many bytes, or as many lines behind those, as it may have. Each command comes with how its reply begins,
+by `store.Store`."""
 import random
 import string
 
@@ -9,6 +10,8 @@ import store
 
 MOST_BYTES = 4194304
 FAULTS, UPGRADES, SLOTS = 32, 16, 256
+STRIPES = 4096
+LIVE = 40000  # the leases of `ticks` that are live at once, where there are so many stripes
 
 
 class Full(Exception):
@@ -80,6 +83,28 @@ class Script:
         return self.random.randrange(self.stripes)
 
 
+# What fills a store.
+
+
+def fill(script):
+    for stripe in range(script.stripes):
+        script.call(f"place {stripe}")
+
+
+def fill_for_moves(script):
+    """Three nodes of eight are gone meanwhile and join empty, so that there is room for all that two nodes of five hold,
+    which are drained. But twenty nodes are there all the time, or a stripe would find none."""
+    nodes = len(script.nodes)
+    away = range(max(nodes - nodes * 3 // 8, min(nodes, 20)), nodes)
+    for node in away:
+        script.call(f"fail {node}")
+    fill(script)
+    for node in away:
+        script.call(f"join {node}")
+    for node in range(-(-nodes * 2 // 5)):
+        script.call(f"drain {node}")
+
+
 # The kinds. Each goes on until the script is full.
 
 
@@ -118,6 +143,17 @@ def leases(script):
                 script.call(f"{word} {stripe} {fragment}" + (f" {epoch}" if word != "revoke" else ""))
         for node in nodes:
             script.call(f"join {node}")
+
+
+def ticks(script):
+    """Fragments on nodes that drain are leased, and nothing is reported: before each tick a third of as many as are live at
+    once, so that each tick from the third on ends a third."""
+    third = LIVE * script.stripes // STRIPES // 3 + 1
+    while True:
+        for _ in range(third):
+            if not script.lease_next():
+                break
+        script.call("tick")
 
 
 def drains(script):
@@ -203,7 +239,7 @@ def stuck(script):
 
 
 def mixed(script):
-    """All commands, most of them such as do something."""
+    """All commands but `tick`, most of them such as do something."""
     pick, state = script.random, script.store
     for node in pick.sample(range(len(script.nodes)), 2):
         script.call(f"fail {node}")
@@ -238,16 +274,16 @@ def any_change(script):
 
 KINDS = {
     kind.__name__: kind
-    for kind in (place, churn, repairs, leases, drains, flaps, upgrades, refused, comments, idle, stuck, mixed)
+    for kind in (place, churn, repairs, leases, ticks, drains, flaps, upgrades, refused, comments, idle, stuck, mixed)
 }
+FILLS = {"ticks": fill_for_moves}
 
 
 def make(kind, nodes, stripes, seed, most_bytes, most_lines=None):
     """The script of a kind; with at most so many lines behind those that fill the store, where that is given."""
     script = Script(nodes, stripes, f"{seed} {kind} {nodes} {stripes}", most_bytes)
     try:
-        for stripe in range(stripes):
-            script.call(f"place {stripe}")
+        FILLS.get(kind, fill)(script)
         script.lines_left = most_lines
         KINDS[kind](script)
     except Full:

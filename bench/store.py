@@ -2,13 +2,14 @@
 
 It knows which node holds which fragment, and not in which slot. Sets of nodes, of stripes and of fragments are whole
 numbers with a bit for each member. Each command is a method that answers how its reply begins."""
-from collections import Counter, namedtuple
+from collections import Counter, defaultdict, namedtuple
 
 Node = namedtuple("Node", "fault upgrade slots")
 
 CLASSES = [sum(1 << fragment for fragment in members) for members in ([0, 1, 2, 3, 4, 5, 12], [6, 7, 8, 9, 10, 11, 13], [14, 15])]
 CLASS_OF = [next(members for members in CLASSES if members >> fragment & 1) for fragment in range(16)]
 RANKS = 5
+TERM = 3  # how many ticks after its grant a lease ends
 
 
 def members(mask):
@@ -62,8 +63,10 @@ class Store:
     def __init__(self, nodes):
         self.nodes = nodes
         self.stripes = {}
-        self.leases = {}  # (stripe, fragment): (epoch, node)
+        self.leases = {}  # (stripe, fragment): (epoch, node, clock at its end)
+        self.ending = defaultdict(set)  # clock: the leases that end then
         self.grants = Counter()
+        self.clock = 0
         self.homes_on = [set() for _ in nodes]
         self.targets_on = [set() for _ in nodes]
         self.gone, self.down, self.draining, self.upgrading = set(), set(), set(), None
@@ -73,6 +76,7 @@ class Store:
         self.open_at = Counter()  # load: the nodes that take a fragment
         self.loads = 0  # the loads that such a node has
         self.work = [0] * RANKS  # rank: the stripes with an open fragment
+        self.passed = 0  # the stripes of which nothing can be granted, until something else than a grant comes
         for number, node in enumerate(nodes):
             self.in_fault[node.fault] |= 1 << number
             self.in_upgrade[node.upgrade] |= 1 << number
@@ -170,7 +174,8 @@ class Store:
 
     def forget_lease(self, key):
         """Ends the lease of a fragment, and answers the node of its target, which stays held."""
-        _, node = self.leases.pop(key)
+        _, node, end = self.leases.pop(key)
+        self.ending[end].discard(key)
         self.targets_on[node].discard(key)
         self.stripes[key[0]].leased &= ~(1 << key[1])
         return node
@@ -228,7 +233,8 @@ class Store:
 
     def grant(self, key, node):
         self.grants[key] += 1
-        self.leases[key] = self.grants[key], node
+        self.leases[key] = self.grants[key], node, self.clock + TERM
+        self.ending[self.clock + TERM].add(key)
         self.targets_on[node].add(key)
         self.add_load(node, 1)
         self.stripes[key[0]].leased |= 1 << key[1]
@@ -237,11 +243,12 @@ class Store:
 
     def next(self):
         for stripes in self.work:
-            for number in members(stripes):
+            for number in members(stripes & ~self.passed):
                 for fragment in members(self.stripes[number].open()):
                     node, _ = self.target_of((number, fragment))
                     if node is not None:
                         return self.grant((number, fragment), node)
+                self.passed |= 1 << number
         return "idle"
 
     def refused_report(self, key, epoch):
@@ -275,6 +282,16 @@ class Store:
         self.end_lease((number, fragment))
         self.list_again(number)
         return "ended"
+
+    def tick(self):
+        self.clock += 1
+        ended = list(self.ending[self.clock])
+        for key in ended:
+            self.end_lease(key)
+            self.list_again(key[0])
+            self.passed = 0
+        del self.ending[self.clock]
+        return f"ticked {self.clock} {len(ended)}"
 
     def turn(self, number):
         """Lets the stripes with a home on a node follow its modes, and the choice of nodes too."""
@@ -393,5 +410,7 @@ class Store:
     def call(self, line):
         """How the reply to the command of a line begins."""
         word, *numbers = line.split(" ")
+        if word not in ("lease", "next", "tick"):
+            self.passed = 0
         method = {"down": self.go_down, "up": self.come_up}.get(word) or getattr(self, word)
         return method(*map(int, numbers))
