@@ -1,9 +1,12 @@
 -- What each change of a row keeps.
-use Rattle.std.proofs.Common.{◌≡◌, ℕ, zero, suc, ◌<◌, inl, inr, Bool, true, false, not, ◌&&◌, ◌||◌, if◌then◌else◌, nat_lt, List, [], ◌∷◌, length, get_or, set, replicate, Option, Some, None, is_some, is_none, arith, refl, sym, ap, ◌∙◌, subst}
+use Rattle.std.proofs.Common.{◌≡◌, ℕ, zero, suc, ◌<◌, inl, inr, Bool, true, false, not, ◌&&◌, ◌||◌, if◌then◌else◌, List, [], ◌∷◌, length, get_or, set, replicate, Option, Some, None, is_some, is_none, arith, refl, sym, ap, ◌∙◌, subst}
 use Rattle.std.specs.List.{list_any}
-use Rattle.std.proofs.lemmas.Bool.{cases_Bool, cases_eq, eq-eqb, ne_eqb, eqb-true, lt-ltb}
+use Rattle.std.proofs.lemmas.Bool.{cases_Bool, cases_eq, eq-eqb, ne_eqb, eqb-true}
 use Rattle.std.proofs.lemmas.List.{get_or-set_same, get_or-set_other}
 use Rattle.std.proofs.lemmas.Option.{same_Some}
+use Rattle.lrc_code.specs.declared.codes.Code.{Code}
+use Rattle.lrc_code.specs.Codes.{has_fragment}
+use Rattle.lrc_code.specs.Losses.{bits_set}
 use Rattle.lrc_code.specs.declared.losses.LossMask.{LossMask}
 use Rattle.lrc_code.specs.declared.numbers.StripeNo.{StripeNo}
 use Rattle.lrc_code.specs.declared.numbers.NodeNo.{NodeNo}
@@ -16,8 +19,10 @@ use Rattle.lrc_stripes.specs.declared.row.Row.{Row}
 use Rattle.lrc_stripes.specs.Rows.{sits_on, is_missing, is_to_move}
 use Rattle.lrc_stripes.specs.Sites.{Sited, first_sites}
 use Rattle.lrc_stripes.specs.Masks.{AreAll, AreWith, AreLosses, AreKept, renewed, IsFull, IsPut, IsMaskOf}
+use Rattle.lrc_stripes.specs.Tables.{row_code}
 use Rattle.lrc_stripes.specs.Kept.{IsKept, is_row_on}
 use Rattle.lrc_stripes.proofs.SitedLemmas.{or-false}
+use Rattle.lrc_stripes.proofs.MaskLemmas.{has-low}
 use Rattle.lrc_stripes.proofs.FreshLemmas.{loosened, renewed-exact}
 
 -- ---- masks of homes
@@ -38,38 +43,53 @@ or-turned true false c = refl
 or-turned false true c = refl
 or-turned false false c = refl
 
-module _ (test : Option Seat → Bool) where
+module _ (code : Code) (test : Option Seat → Bool) where
   -- without homes
-  mask-bare : test None ≡ true → (homes : List (Option Seat)) → homes ≡ replicate 16 None → (mask : LossMask) → IsFull mask → IsMaskOf test homes mask
+  mask-bare : test None ≡ true → (homes : List (Option Seat)) → homes ≡ replicate 16 None → (mask : LossMask) → IsFull code mask → IsMaskOf code test homes mask
   mask-bare bare homes none mask full f =
-      full f ∙ and-true (nat_lt f 16) ∙ ap (λ (b : Bool). nat_lt f 16 && b) (sym (ap test (ap (λ (hs : List (Option Seat)). get_or hs f None) none ∙ replicated 16 f None) ∙ bare) ∙ refl)
+      full f ∙ and-true (has_fragment code f) ∙ ap (λ (b : Bool). has_fragment code f && b) (sym (ap test (ap (λ (hs : List (Option Seat)). get_or hs f None) none ∙ replicated 16 f None) ∙ bare) ∙ refl)
 
   -- with one home
-  mask-set : (homes : List (Option Seat)) (f : ℕ) (home : Option Seat) (before after : LossMask) → f < 16 → length homes ≡ 16
-      → IsMaskOf test homes before → IsPut f (test home) before after → IsMaskOf test (set homes f home) after
+  mask-set : (homes : List (Option Seat)) (f : ℕ) (home : Option Seat) (before after : LossMask) → has_fragment code f ≡ true → length homes ≡ 16
+      → IsMaskOf code test homes before → IsPut f (test home) before after → IsMaskOf code test (set homes f home) after
   mask-set homes f home before after within long is put g = put g ∙ (elim (cases_eq g f) [
     | inl same ↦
-        rw (eq-eqb g f same, same, lt-ltb f 16 within) (ap test (sym (get_or-set_same homes f home None (omega (arith, within, long)))))
+        rw (eq-eqb g f same, same, within) (ap test (sym (get_or-set_same homes f home None (let low = has-low code f within in omega (arith, low, long)))))
     | inr other ↦
-        rw (ne_eqb g f other) (is g ∙ ap (λ (h : Option Seat). nat_lt g 16 && test h) (sym (get_or-set_other homes f g home None other)))
+        rw (ne_eqb g f other) (is g ∙ ap (λ (h : Option Seat). has_fragment code g && test h) (sym (get_or-set_other homes f g home None other)))
   ])
 
 -- ---- the masks of one row
 
-pub losses-bare : (online draining : NodeNo → Bool) (homes : List (Option Seat)) (l : Losses) → homes ≡ replicate 16 None → AreAll l → AreLosses online draining homes l
-losses-bare online draining homes l none all = record {
-  homeless = mask-bare is_none refl homes none l.homeless all.homeless;
-  missing = mask-bare (is_missing online) refl homes none l.missing all.missing;
-  needs = mask-bare (is_to_move draining) refl homes none l.needs all.needs;
+pub losses-bare : (code : Code) (online draining : NodeNo → Bool) (homes : List (Option Seat)) (l : Losses) → homes ≡ replicate 16 None → AreAll code l → AreLosses code online draining homes l
+losses-bare code online draining homes l none all = record {
+  within = λ f lacks. ap (λ (hs : List (Option Seat)). get_or hs f None) none ∙ replicated 16 f None;
+  homeless = mask-bare code is_none refl homes none l.homeless all.homeless;
+  missing = mask-bare code (is_missing online) refl homes none l.missing all.missing;
+  needs = mask-bare code (is_to_move draining) refl homes none l.needs all.needs;
 }
 
-pub losses-with : (sites : Sited) (homes : List (Option Seat)) (f : ℕ) (home : Option Seat) (before after : Losses) → f < 16 → length homes ≡ 16
-    → AreLosses sites.online sites.draining homes before → AreWith sites f home before after → AreLosses sites.online sites.draining (set homes f home) after
-losses-with sites homes f home before after within long are with = record {
-  homeless = mask-set is_none homes f home before.homeless after.homeless within long are.homeless with.homeless;
-  missing = mask-set (is_missing sites.online) homes f home before.missing after.missing within long are.missing with.missing;
-  needs = mask-set (is_to_move sites.draining) homes f home before.needs after.needs within long are.needs with.needs;
+pub losses-with : (code : Code) (sites : Sited) (homes : List (Option Seat)) (f : ℕ) (home : Option Seat) (before after : Losses) → has_fragment code f ≡ true → length homes ≡ 16
+    → AreLosses code sites.online sites.draining homes before → AreWith sites f home before after → AreLosses code sites.online sites.draining (set homes f home) after
+losses-with code sites homes f home before after within long are with = record {
+  within = λ g lacks. get_or-set_other homes f g home None (λ same. let clash : true ≡ false = sym within ∙ (ap (has_fragment code) (sym same) ∙ lacks) in cc) ∙ are.within g lacks;
+  homeless = mask-set code is_none homes f home before.homeless after.homeless within long are.homeless with.homeless;
+  missing = mask-set code (is_missing sites.online) homes f home before.missing after.missing within long are.missing with.missing;
+  needs = mask-set code (is_to_move sites.draining) homes f home before.needs after.needs within long are.needs with.needs;
 }
+
+-- a fragment with a home is one of the stripe's code, by a mask of those that have one
+pub homed-within : (sites : Sited) (rows : StripeNo → Option Row) → IsKept sites rows → (s : StripeNo) (mask : LossMask) → is_some (rows s) ≡ true
+    → ((r : Row) → rows s ≡ Some r → (f : ℕ) → bits_set mask.bits f ≡ is_some (get_or r.homes f None)) → (f : ℕ) → bits_set mask.bits f ≡ true → has_fragment (row_code (rows s)) f ≡ true
+homed-within sites rows kept s mask there told f hit = by (rows s) refl there where
+  by : (o : Option Row) → rows s ≡ o → is_some o ≡ true → has_fragment (row_code o) f ≡ true
+  by None at there = absurd (let clash : false ≡ true = there in cc)
+  by (Some r) at there = elim (cases_Bool (has_fragment r.losses.code f)) [
+    | inl within ↦ within
+    | inr lacks ↦
+        absurd (let home : get_or r.homes f None ≡ None = (kept.losses s r at).within f lacks in
+        let clash : true ≡ false = sym hit ∙ (told r at f ∙ ap (λ (o : Option Seat). is_some o) home) in cc)
+  ]
 
 -- ---- one row changed
 
@@ -105,22 +125,22 @@ module _ (sites : Sited) (rows : StripeNo → Option Row) (kept : IsKept sites r
   no-row n (Some q) e = absurd (let f : true ≡ false = e in cc)
 
   -- a row without homes
-  pub kept-add : (r : Row) (after : StripeNo → Option Row) → is_some (rows stripe) ≡ false → r.homes ≡ replicate 16 None → AreAll r.losses
+  pub kept-add : (r : Row) (after : StripeNo → Option Row) → is_some (rows stripe) ≡ false → r.homes ≡ replicate 16 None → AreAll r.losses.code r.losses
       → after ≡ (λ s. if same_stripe stripe s then Some r else rows s) → IsKept sites after
   kept-add r after absent none all is = kept-put (Some r) sites.on after is
       (λ q e. subst (λ (x : Row). AreKept sites.online sites.draining x.homes x.losses) (same_Some r q e)
-      (loosened sites.online sites.draining r.homes r.losses (losses-bare sites.online sites.draining r.homes r.losses none all)))
+      (loosened sites.online sites.draining r.homes r.losses (losses-bare r.losses.code sites.online sites.draining r.homes r.losses none all)))
       (λ n s. elim (cases_Bool (same_stripe stripe s)) [
         | inl same ↦ rw same (own-on n s same ∙ no-row n (rows stripe) absent ∙ sym (ap (list_any (sits_on n)) none ∙ any-bare n 16))
         | inr other ↦ rw other refl
       ])
 
   -- a row with homes, on whose nodes the stripe stands now
-  pub kept-enter : (homes : List (Option Seat)) (r : Row) (after : StripeNo → Option Row) → is_some (rows stripe) ≡ false → r.homes ≡ homes → AreLosses sites.online sites.draining homes r.losses
+  pub kept-enter : (homes : List (Option Seat)) (r : Row) (after : StripeNo → Option Row) → is_some (rows stripe) ≡ false → r.homes ≡ homes → AreLosses r.losses.code sites.online sites.draining homes r.losses
       → after ≡ (λ s. if same_stripe stripe s then Some r else rows s) → IsKept (record sites { on = λ n s. (same_stripe stripe s && list_any (sits_on n) homes) || sites.on n s }) after
   kept-enter homes r after absent own are is = kept-put (Some r) (λ n s. (same_stripe stripe s && list_any (sits_on n) homes) || sites.on n s) after is
       (λ q e. subst (λ (x : Row). AreKept sites.online sites.draining x.homes x.losses) (same_Some r q e)
-      (loosened sites.online sites.draining r.homes r.losses (subst (λ (hs : List (Option Seat)). AreLosses sites.online sites.draining hs r.losses) (sym own) are)))
+      (loosened sites.online sites.draining r.homes r.losses (subst (λ (hs : List (Option Seat)). AreLosses r.losses.code sites.online sites.draining hs r.losses) (sym own) are)))
       (λ n s. elim (cases_Bool (same_stripe stripe s)) [
         | inl same ↦ rw (same, own-on n s same ∙ no-row n (rows stripe) absent) (or-false (list_any (sits_on n) homes) ∙ ap (list_any (sits_on n)) (sym own))
         | inr other ↦ rw other refl
@@ -156,17 +176,18 @@ module _ (sites : Sited) (rows : StripeNo → Option Row) (kept : IsKept sites r
         or-turned (p home) (p h) (list_any p hs) ∙ ap (λ (b : Bool). p h || b) (any-set p hs f home (omega (arith, within)))
         ∙ or-turned (p h) (p (get_or hs f None)) (list_any p (set hs f home))
 
-    module _ (q : Row) (f : ℕ) (low : f < 16) where
+    module _ (q : Row) (f : ℕ) (low : has_fragment r.losses.code f ≡ true) where
       many : f < length r.homes
-      many = let all = r.sixteen in omega (arith, low, all)
+      many = let all = r.sixteen in let few = has-low r.losses.code f low in omega (arith, few, all)
 
-      rehomed : (home : Option Seat) (before : Losses) → AreLosses sites.online sites.draining r.homes before → q.homes ≡ set r.homes f home → AreWith sites f home before q.losses
+      rehomed : (home : Option Seat) (before : Losses) → before.code ≡ r.losses.code → AreLosses r.losses.code sites.online sites.draining r.homes before → q.homes ≡ set r.homes f home → AreWith sites f home before q.losses
           → (x : Row) → Some q ≡ Some x → AreKept sites.online sites.draining x.homes x.losses
-      rehomed home before are homes with x e =
+      rehomed home before coded are homes with x e =
           subst (λ (y : Row). AreKept sites.online sites.draining y.homes y.losses) (same_Some q x e)
           (loosened sites.online sites.draining q.homes q.losses
-          (subst (λ (hs : List (Option Seat)). AreLosses sites.online sites.draining hs q.losses) (sym homes)
-          (losses-with sites r.homes f home before q.losses low r.sixteen are with)))
+          (subst (λ (hs : List (Option Seat)). AreLosses q.losses.code sites.online sites.draining hs q.losses) (sym homes)
+          (subst (λ (code : Code). AreLosses code sites.online sites.draining (set r.homes f home) q.losses) (sym (with.code ∙ coded))
+          (losses-with r.losses.code sites r.homes f home before q.losses low r.sixteen are with))))
 
       -- another home, or none
       pub kept-rehome : (home : Option Seat) (after : StripeNo → Option Row) → q.homes ≡ set r.homes f home → AreWith sites f home (renewed sites.online r.homes r.losses) q.losses
@@ -177,7 +198,7 @@ module _ (sites : Sited) (rows : StripeNo → Option Row) (kept : IsKept sites r
           }) after
       kept-rehome home after homes with is = kept-put (Some q)
           (λ n s. not (same_stripe stripe s && (sits_on n (get_or r.homes f None) && not (is_row_on n (after stripe)))) && ((same_stripe stripe s && sits_on n home) || sites.on n s)) after is
-          (rehomed home (renewed sites.online r.homes r.losses) (renewed-exact sites.online sites.draining r.homes r.losses here-losses) homes with)
+          (rehomed home (renewed sites.online r.homes r.losses) refl (renewed-exact sites.online sites.draining r.homes r.losses here-losses) homes with)
           (λ n s. elim (cases_Bool (same_stripe stripe s)) [
             | inl same ↦
                 rw (same, here-on n s same)

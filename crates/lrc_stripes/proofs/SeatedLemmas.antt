@@ -1,18 +1,20 @@
 -- A stripe that is added with homes: the nodes that it stands on, its masks, and what it is in the store.
-use Rattle.std.proofs.Common.{◌≡◌, ℕ, ◌+◌, ◌<◌, Bool, true, false, not, ◌&&◌, ◌||◌, eqb, ltb, nat_lt, List, length, map, get_or, Option, Some, None, arith, refl, sym, ap, ◌∙◌}
+use Rattle.std.proofs.Common.{◌≡◌, ℕ, ◌+◌, ◌<◌, Bool, true, false, not, ◌&&◌, ◌||◌, eqb, ltb, List, length, get_or, Option, Some, None, arith, refl, sym, ap, ◌∙◌}
 use Rattle.std.proofs.Math.Path.{fun_ext}
-use Rattle.std.proofs.lemmas.Bool.{ltb-true, le-ltb}
-use Rattle.std.proofs.lemmas.List.{get_or-map}
+use Rattle.std.proofs.lemmas.Bool.{ltb-true, ltb-false, le-ltb}
 use Rattle.std.proofs.lemmas.Nat.Bits.{bit_at-zero}
+use Rattle.lrc_code.specs.declared.codes.Code.{Code}
+use Rattle.lrc_code.specs.Codes.{fragment_count, has_fragment}
 use Rattle.lrc_code.specs.Losses.{bits_set}
 use Rattle.lrc_code.specs.Numbers.{same_node, same_stripe}
 use Rattle.lrc_code.specs.declared.numbers.NodeNo.{NodeNo}
 use Rattle.lrc_code.specs.declared.numbers.StripeNo.{StripeNo}
 use Rattle.lrc_topology.specs.declared.seat.Seat.{Seat}
 use Rattle.lrc_code.specs.declared.losses.LossMask.{LossMask}
-use Rattle.lrc_stripes.specs.Rows.{is_missing, is_to_move}
-use Rattle.lrc_stripes.specs.Masks.{IsMaskOf}
+use Rattle.lrc_stripes.specs.Rows.{seated_homes, is_missing, is_to_move}
+use Rattle.lrc_stripes.specs.Masks.{IsMaskOf, AreWithin}
 use Rattle.lrc_stripes.specs.Sites.{Sited}
+use Rattle.lrc_stripes.proofs.HomesLemmas.{seated-there, seated-past}
 use Rattle.lrc_stripes.proofs.MaskLemmas.{mask-next_true, mask-next_false}
 use Rattle.lrc_stripes.proofs.SitedLemmas.{same-turned}
 
@@ -26,27 +28,32 @@ and-false false = refl
 
 -- ---- homes on seats
 
-module _ (seats : List Seat) (all : length seats ≡ 16) where
+module _ (code : Code) (seats : List Seat) (all : length seats ≡ fragment_count code) where
   -- the home of a fragment
-  pub home-at : (d : Seat) (i : ℕ) → i < 16 → get_or (map Some seats) i None ≡ Some (get_or seats i d)
-  home-at d i below = get_or-map Some seats i d None (omega (arith, below, all))
+  pub home-at : (d : Seat) (i : ℕ) → i < fragment_count code → get_or (seated_homes seats) i None ≡ Some (get_or seats i d)
+  home-at d i below = seated-there seats d i (omega (arith, below, all))
 
   -- what the node of the seat says of the fragment
-  pub missing-at : (online : NodeNo → Bool) (d : Seat) (i k : ℕ) (on : Bool) → i < 16 → k ≡ i → on ≡ online (get_or seats k d).node → is_missing online (get_or (map Some seats) i None) ≡ not on
-  missing-at online d i k on below same is = ap (is_missing online) (home-at d i below) ∙ ap not (ap (λ n. online (get_or seats n d).node) (sym same) ∙ sym is)
+  pub missing-at : (online : NodeNo → Bool) (d : Seat) (i : ℕ) (on : Bool) → i < fragment_count code → on ≡ online (get_or seats i d).node → is_missing online (get_or (seated_homes seats) i None) ≡ not on
+  missing-at online d i on below is = ap (is_missing online) (home-at d i below) ∙ ap not (sym is)
 
-  pub to_move-at : (draining : NodeNo → Bool) (d : Seat) (i k : ℕ) (drains : Bool) → i < 16 → k ≡ i → drains ≡ draining (get_or seats k d).node
-      → is_to_move draining (get_or (map Some seats) i None) ≡ drains
-  to_move-at draining d i k drains below same is = ap (is_to_move draining) (home-at d i below) ∙ ap (λ n. draining (get_or seats n d).node) (sym same) ∙ sym is
+  pub to_move-at : (draining : NodeNo → Bool) (d : Seat) (i : ℕ) (drains : Bool) → i < fragment_count code → drains ≡ draining (get_or seats i d).node
+      → is_to_move draining (get_or (seated_homes seats) i None) ≡ drains
+  to_move-at draining d i drains below is = ap (is_to_move draining) (home-at d i below) ∙ sym is
+
+  -- no fragment that the code lacks has one
+  pub within-seated : AreWithin code (seated_homes seats)
+  within-seated f lacks = seated-past seats f (omega (arith, all, ltb-false f (fragment_count code) lacks))
 
   -- no home passes the test
-  pub mask-empty : (test : Option Seat → Bool) (d : Seat) (mask : LossMask) → mask.bits ≡ 0 → ((f : ℕ) → f < 16 → test (Some (get_or seats f d)) ≡ false) → IsMaskOf test (map Some seats) mask
-  mask-empty test d mask empty fails f = none ∙ sym (by (nat_lt f 16) refl) where
+  pub mask-empty : (test : Option Seat → Bool) (d : Seat) (mask : LossMask) → mask.bits ≡ 0 → ((f : ℕ) → f < fragment_count code → test (Some (get_or seats f d)) ≡ false)
+      → IsMaskOf code test (seated_homes seats) mask
+  mask-empty test d mask empty fails f = none ∙ sym (by (has_fragment code f) refl) where
     none : bits_set mask.bits f ≡ false
     none = rw (empty, bit_at-zero f) refl
 
-    by : (b : Bool) → nat_lt f 16 ≡ b → (nat_lt f 16 && test (get_or (map Some seats) f None)) ≡ false
-    by true low = rw (low, home-at d f (ltb-true f 16 low)) (fails f (ltb-true f 16 low))
+    by : (b : Bool) → has_fragment code f ≡ b → (has_fragment code f && test (get_or (seated_homes seats) f None)) ≡ false
+    by true low = rw low (ap test (home-at d f (ltb-true f (fragment_count code) low)) ∙ fails f (ltb-true f (fragment_count code) low))
     by false high = rw high refl
 
 -- ---- the masks, fragment by fragment
@@ -56,10 +63,10 @@ pub mask-first : (m : ℕ → Bool) (bits : ℕ) → bits ≡ 0 → (f : ℕ) �
 mask-first m bits empty f = rw (empty, bit_at-zero f, le-ltb f 0 (omega arith)) refl
 
 -- with the next fragment, where it is in the set
-pub mask-next : (m : ℕ → Bool) (i bits next k : ℕ) (b : Bool) → k ≡ i → m i ≡ b → ((f : ℕ) → bits_set bits f ≡ (ltb f i && m f))
-    → ((f : ℕ) → bits_set next f ≡ ((eqb f k && b) || bits_set bits f)) → (f : ℕ) → bits_set next f ≡ (ltb f (i + 1) && m f)
-mask-next m i bits next k true same hit before after f = mask-next_true m i bits next k same hit before (λ g. after g ∙ ap (λ b. b || bits_set bits g) (sym (and-true (eqb g k)))) f
-mask-next m i bits next k false same miss before after f = after f ∙ ap (λ b. b || bits_set bits f) (and-false (eqb f k)) ∙ mask-next_false m i bits miss before f
+pub mask-next : (m : ℕ → Bool) (i bits next : ℕ) (b : Bool) → m i ≡ b → ((f : ℕ) → bits_set bits f ≡ (ltb f i && m f))
+    → ((f : ℕ) → bits_set next f ≡ ((eqb f i && b) || bits_set bits f)) → (f : ℕ) → bits_set next f ≡ (ltb f (i + 1) && m f)
+mask-next m i bits next true hit before after f = mask-next_true m i bits next i refl hit before (λ g. after g ∙ ap (λ b. b || bits_set bits g) (sym (and-true (eqb g i)))) f
+mask-next m i bits next false miss before after f = after f ∙ ap (λ b. b || bits_set bits f) (and-false (eqb f i)) ∙ mask-next_false m i bits miss before f
 
 -- ---- the nodes that the stripe stands on
 

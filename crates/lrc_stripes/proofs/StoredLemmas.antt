@@ -1,5 +1,5 @@
 -- What a change of a row changes in what the rows stand for.
-use Rattle.std.proofs.Common.{◌≡◌, ℕ, zero, suc, ◌-◌, inl, inr, Bool, true, false, not, ◌&&◌, ◌||◌, if◌then◌else◌, nat_eq, nat_lt, List, [], ◌∷◌, map, get_or, set, replicate, Option, Some, None, IfSome, is_some, refl, sym, ap, ap₂, ◌∙◌}
+use Rattle.std.proofs.Common.{◌≡◌, ℕ, zero, suc, ◌-◌, inl, inr, Bool, true, false, not, ◌&&◌, ◌||◌, if◌then◌else◌, nat_eq, nat_lt, List, [], ◌∷◌, ◌++◌, length, map, get_or, set, replicate, Option, Some, None, IfSome, is_some, refl, sym, ap, ap₂, ◌∙◌}
 use mathlib.Core.Bool.{beq}
 use Rattle.std.proofs.Math.Path.{fun_ext}
 use Rattle.std.specs.List.{slice_get}
@@ -19,7 +19,8 @@ use Rattle.lrc_topology.specs.Nodes.{node_at}
 use Rattle.lrc_stripes.specs.declared.row.Row.{Row}
 use Rattle.lrc_stripes.specs.Stored.{Stored, has_node, has_slot, empty, with_stripe, with_homes, without_stripe, with_home, with_offline, with_draining, with_spare}
 use Rattle.lrc_stripes.specs.Sites.{Sited, first_sites}
-use Rattle.lrc_stripes.specs.Tables.{row_homes}
+use Rattle.lrc_stripes.specs.Rows.{seated_homes}
+use Rattle.lrc_stripes.specs.Tables.{row_homes, row_code}
 use Rattle.lrc_stripes.proofs.KeptLemmas.{replicated}
 
 -- what nodes and rows stand for
@@ -27,7 +28,7 @@ abbrev pub stored_by : Sited → (StripeNo → Option Row) → ℕ → Stored
 stored_by z rows spare = record {
   nodes = z.nodes;
   stripes = λ s. is_some (rows s);
-  code = λ s. Wide;
+  code = λ s. row_code (rows s);
   homes = λ s. row_homes (rows s);
   online = z.online;
   draining = z.draining;
@@ -41,12 +42,13 @@ stored-first nodes z rows at none = ap₂ (λ (y : Sited) (a : StripeNo → Opti
 
 -- ---- one row changed
 
--- all stripes stay Wide where one is
-wide_stays : (s : StripeNo) → ◌≡◌ {A = StripeNo → Code} (λ u. Wide) (λ u. if same_stripe s u then Wide else Wide)
-wide_stays s = fun_ext (λ u. sym (either (same_stripe s u))) where
-  either : (b : Bool) → (if b then Wide else Wide) ≡ Wide
-  either true = refl
-  either false = refl
+-- the codes with one more row, and without one
+codes-put : (s : StripeNo) (rows : StripeNo → Option Row) (o : Option Row) (code : Code) → row_code o ≡ code
+    → ◌≡◌ {A = StripeNo → Code} (λ u. row_code (if same_stripe s u then o else rows u)) (λ u. if same_stripe s u then code else row_code (rows u))
+codes-put s rows o code is = fun_ext (λ u. either (same_stripe s u) (rows u)) where
+  either : (b : Bool) (p : Option Row) → row_code (if b then o else p) ≡ (if b then code else row_code p)
+  either true p = is
+  either false p = refl
 
 stripes-added : (b : Bool) (o p : Option Row) → is_some o ≡ true → is_some (if b then o else p) ≡ (b || is_some p)
 stripes-added true o p e = e
@@ -65,48 +67,54 @@ module _ (z : Sited) (rows after : StripeNo → Option Row) (s : StripeNo) where
   before spare = stored_by z rows spare
 
   -- a stripe without homes added
-  pub stored-add : (r : Row) (spare : ℕ) → r.homes ≡ replicate 16 None → after ≡ (λ u. if same_stripe s u then Some r else rows u)
-      → stored_by z after (spare - 1) ≡ with_stripe (before spare) Wide s
-  stored-add r spare bare is =
+  pub stored-add : (code : Code) (r : Row) (spare : ℕ) → r.losses.code ≡ code → r.homes ≡ replicate 16 None → after ≡ (λ u. if same_stripe s u then Some r else rows u)
+      → stored_by z after (spare - 1) ≡ with_stripe (before spare) code s
+  stored-add code r spare coded bare is =
       let no_homes : (f : ℕ) → row_homes (Some r) f ≡ None = λ f. ap (λ (hs : List (Option Seat)). get_or hs f None) bare ∙ replicated 16 f None in
       ap (λ (a : StripeNo → Option Row). stored_by z a (spare - 1)) is
-      ∙ ap (λ (b : StripeNo → Bool). record (before spare) { stripes = b; homes = λ u. row_homes (if same_stripe s u then Some r else rows u); spare = spare - 1 }) (fun_ext (λ u. stripes-added (same_stripe s u) (Some r) (rows u) refl))
-      ∙ ap (λ (h : StripeNo → ℕ → Option Seat). record (with_stripe (before spare) Wide s) { code = λ u. Wide; homes = h }) (fun_ext (λ u. fun_ext (λ f. homes-chosen (same_stripe s u) (Some r) (rows u) f (no_homes f))))
-      ∙ ap (λ (c : StripeNo → Code). record (with_stripe (before spare) Wide s) { code = c }) (wide_stays s)
+      ∙ ap (λ (b : StripeNo → Bool). record (before spare) { stripes = b; code = λ u. row_code (if same_stripe s u then Some r else rows u); homes = λ u. row_homes (if same_stripe s u then Some r else rows u); spare = spare - 1 }) (fun_ext (λ u. stripes-added (same_stripe s u) (Some r) (rows u) refl))
+      ∙ ap (λ (h : StripeNo → ℕ → Option Seat). record (with_stripe (before spare) code s) { code = λ u. row_code (if same_stripe s u then Some r else rows u); homes = h }) (fun_ext (λ u. fun_ext (λ f. homes-chosen (same_stripe s u) (Some r) (rows u) f (no_homes f))))
+      ∙ ap (λ (c : StripeNo → Code). record (with_stripe (before spare) code s) { code = c }) (codes-put s rows (Some r) code coded)
 
   -- a stripe with homes on seats added
-  pub stored-seated : (r : Row) (seats : List Seat) (spare : ℕ) → r.homes ≡ map Some seats → after ≡ (λ u. if same_stripe s u then Some r else rows u)
-      → stored_by z after (spare - 1) ≡ with_homes (before spare) s seats
-  stored-seated r seats spare own is =
+  pub stored-seated : (code : Code) (r : Row) (seats : List Seat) (spare : ℕ) → r.losses.code ≡ code → r.homes ≡ seated_homes seats → after ≡ (λ u. if same_stripe s u then Some r else rows u)
+      → stored_by z after (spare - 1) ≡ with_homes (before spare) code s seats
+  stored-seated code r seats spare coded own is =
       ap (λ (a : StripeNo → Option Row). stored_by z a (spare - 1)) is
-      ∙ ap (λ (b : StripeNo → Bool). record (before spare) { stripes = b; homes = λ u. row_homes (if same_stripe s u then Some r else rows u); spare = spare - 1 }) (fun_ext (λ u. stripes-added (same_stripe s u) (Some r) (rows u) refl))
-      ∙ ap (λ (h : StripeNo → ℕ → Option Seat). record (with_stripe (before spare) Wide s) { code = λ u. Wide; homes = h }) (fun_ext (λ u. fun_ext (λ f. by (same_stripe s u) (rows u) f)))
-      ∙ ap (λ (c : StripeNo → Code). record (with_homes (before spare) s seats) { code = c }) (wide_stays s)
+      ∙ ap (λ (b : StripeNo → Bool). record (before spare) { stripes = b; code = λ u. row_code (if same_stripe s u then Some r else rows u); homes = λ u. row_homes (if same_stripe s u then Some r else rows u); spare = spare - 1 }) (fun_ext (λ u. stripes-added (same_stripe s u) (Some r) (rows u) refl))
+      ∙ ap (λ (h : StripeNo → ℕ → Option Seat). record (with_stripe (before spare) code s) { code = λ u. row_code (if same_stripe s u then Some r else rows u); homes = h }) (fun_ext (λ u. fun_ext (λ f. by (same_stripe s u) (rows u) f)))
+      ∙ ap (λ (c : StripeNo → Code). record (with_homes (before spare) code s seats) { code = c }) (codes-put s rows (Some r) code coded)
     where
-      mapped : (xs : List Seat) (f : ℕ) → get_or (map Some xs) f None ≡ slice_get xs f
-      mapped [] f = refl
-      mapped (x ∷ xs) zero = refl
-      mapped (x ∷ xs) (suc f) = mapped xs f
+      mapped : (xs : List Seat) (n f : ℕ) → get_or (map Some xs ++ replicate n None) f None ≡ slice_get xs f
+      mapped [] n f = replicated n f None
+      mapped (x ∷ xs) n zero = refl
+      mapped (x ∷ xs) n (suc f) = mapped xs n f
 
       by : (b : Bool) (p : Option Row) (f : ℕ) → row_homes (if b then Some r else p) f ≡ (if b then slice_get seats f else row_homes p f)
-      by true p f = ap (λ (hs : List (Option Seat)). get_or hs f None) own ∙ mapped seats f
+      by true p f = ap (λ (hs : List (Option Seat)). get_or hs f None) own ∙ mapped seats (16 - length seats) f
       by false p f = refl
 
   -- a stripe taken out with its homes
   pub stored-remove : (spare : ℕ) → after ≡ (λ u. if same_stripe s u then None else rows u) → stored_by z after spare ≡ with_spare (without_stripe (before spare) s) spare
   stored-remove spare is =
       ap (λ (a : StripeNo → Option Row). stored_by z a spare) is
-      ∙ ap (λ (b : StripeNo → Bool). record (before spare) { stripes = b; homes = λ u. row_homes (if same_stripe s u then None else rows u) }) (fun_ext (λ u. stripes-removed (same_stripe s u) (rows u)))
-      ∙ ap (λ (h : StripeNo → ℕ → Option Seat). record (with_spare (without_stripe (before spare) s) spare) { code = λ u. Wide; homes = h }) (fun_ext (λ u. fun_ext (λ f. homes-chosen (same_stripe s u) None (rows u) f refl)))
-      ∙ ap (λ (c : StripeNo → Code). record (with_spare (without_stripe (before spare) s) spare) { code = c }) (wide_stays s)
+      ∙ ap (λ (b : StripeNo → Bool). record (before spare) { stripes = b; code = λ u. row_code (if same_stripe s u then None else rows u); homes = λ u. row_homes (if same_stripe s u then None else rows u) }) (fun_ext (λ u. stripes-removed (same_stripe s u) (rows u)))
+      ∙ ap (λ (h : StripeNo → ℕ → Option Seat). record (with_spare (without_stripe (before spare) s) spare) { code = λ u. row_code (if same_stripe s u then None else rows u); homes = h }) (fun_ext (λ u. fun_ext (λ f. homes-chosen (same_stripe s u) None (rows u) f refl)))
+      ∙ ap (λ (c : StripeNo → Code). record (with_spare (without_stripe (before spare) s) spare) { code = c }) (codes-put s rows None Wide refl)
 
-  module _ (r : Row) (found : rows s ≡ Some r) (q : Row) (f : Fragment) (home : Option Seat) (homes : q.homes ≡ set r.homes f.value home) where
+  module _ (r : Row) (found : rows s ≡ Some r) (q : Row) (f : Fragment) (home : Option Seat) (coded : q.losses.code ≡ r.losses.code) (homes : q.homes ≡ set r.homes f.value home) where
     own : (u : StripeNo) → s.value ≡ u.value → rows u ≡ Some r
     own u same = ap rows (sym (equal_stripes s u same)) ∙ found
 
     stripes-kept : (u : StripeNo) → is_some (if same_stripe s u then Some q else rows u) ≡ is_some (rows u)
     stripes-kept u = elim (cases_eq s.value u.value) [
       | inl same ↦ rw (eq-eqb _ _ same, own u same) refl
+      | inr other ↦ rw (ne_eqb _ _ other) refl
+    ]
+
+    codes-kept : (u : StripeNo) → row_code (if same_stripe s u then Some q else rows u) ≡ row_code (rows u)
+    codes-kept u = elim (cases_eq s.value u.value) [
+      | inl same ↦ rw (eq-eqb _ _ same, own u same) coded
       | inr other ↦ rw (ne_eqb _ _ other) refl
     ]
 
@@ -123,7 +131,8 @@ module _ (z : Sited) (rows after : StripeNo → Option Row) (s : StripeNo) where
     pub stored-home : (spare : ℕ) → after ≡ (λ u. if same_stripe s u then Some q else rows u) → stored_by z after spare ≡ with_home (before spare) s f home
     stored-home spare is =
         ap (λ (a : StripeNo → Option Row). stored_by z a spare) is
-        ∙ ap (λ (b : StripeNo → Bool). record (before spare) { stripes = b; homes = λ u. row_homes (if same_stripe s u then Some q else rows u) }) (fun_ext stripes-kept)
+        ∙ ap (λ (b : StripeNo → Bool). record (before spare) { stripes = b; code = λ u. row_code (if same_stripe s u then Some q else rows u); homes = λ u. row_homes (if same_stripe s u then Some q else rows u) }) (fun_ext stripes-kept)
+        ∙ ap (λ (c : StripeNo → Code). record (before spare) { code = c; homes = λ u. row_homes (if same_stripe s u then Some q else rows u) }) (fun_ext codes-kept)
         ∙ ap (λ (h : StripeNo → ℕ → Option Seat). record (before spare) { homes = h }) (fun_ext (λ u. fun_ext (λ g. homes-set u g)))
 
 -- ---- nodes that stay as they are

@@ -2,6 +2,7 @@
 use Rattle.std.specs.Prelude.{ℕ, ◌<◌, IsTrue, IsFalse, Bool, true, false, not, ◌&&◌, ◌||◌, if◌then◌else◌, nat_lt, nat_eq, List, map, find, Option, Some, None, is_none, unwrap_or, option_map}
 use Rattle.std.specs.Option.{option_map_or}
 use Rattle.lrc_code.specs.declared.codes.Code.{Code}
+use Rattle.lrc_code.specs.declared.codes.Code.TheVariants.{Wide}
 use Rattle.lrc_code.specs.declared.losses.LossMask.{LossMask}
 use Rattle.lrc_code.specs.declared.numbers.StripeNo.{StripeNo}
 use Rattle.lrc_code.specs.declared.numbers.NodeNo.{NodeNo}
@@ -85,9 +86,9 @@ rank_at Lost = 4
 
 -- ---- what is shown of a stripe, if it is there
 
--- the homes of a stripe's fragments, in rising order of these
-unfoldable pub homes_if : Bool → Code → Homes → Option (List (Option Seat))
-homes_if there code homes = if there then Some (map (λ f. homes f.value) (fragments code)) else None
+-- the homes of a stripe by the sixteen numbers of fragments, rising
+unfoldable pub homes_if : Bool → Homes → Option (List (Option Seat))
+homes_if there homes = if there then Some (map (λ f. homes f.value) (fragments Wide)) else None
 
 -- the missing fragments of a stripe of this code with these homes
 unfoldable pub missing_if : Bool → Code → (NodeNo → Bool) → Homes → Option LossMask

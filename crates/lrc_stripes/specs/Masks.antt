@@ -1,10 +1,11 @@
 -- Internal: no public clause reaches these definitions.
 -- The masks that a row keeps, and the ranks that follow from them.
-use Rattle.std.specs.Prelude.{◌≡◌, ◌≢◌, ℕ, ◌&&◌, Bool, false, if◌then◌else◌, nat_lt, nat_eq, List, get_or, Option, Some, None, is_none}
+use Rattle.std.specs.Prelude.{◌≡◌, ◌≢◌, ℕ, ◌&&◌, Bool, false, IsFalse, if◌then◌else◌, nat_lt, nat_eq, List, get_or, Option, Some, None, is_none}
 use Rattle.std.specs.Option.{option_map_or}
-use Rattle.lrc_code.specs.declared.codes.Code.TheVariants.{Wide}
+use Rattle.lrc_code.specs.declared.codes.Code.{Code}
 use Rattle.lrc_code.specs.declared.losses.LossMask.{LossMask}
 use Rattle.lrc_code.specs.declared.numbers.NodeNo.{NodeNo}
+use Rattle.lrc_code.specs.Codes.{has_fragment}
 use Rattle.lrc_code.specs.Losses.{FragmentSet, bits_set, bits_of}
 use Rattle.lrc_topology.specs.declared.seat.Seat.{Seat}
 use Rattle.lrc_stripes.specs.declared.level.Level.{Level}
@@ -15,15 +16,15 @@ use Rattle.lrc_stripes.specs.Sites.{Sited}
 
 -- ---- masks
 
--- every fragment is in the mask
-abbrev pub IsFull : LossMask → Type 0
-IsFull mask = (f : ℕ) → bits_set mask.bits f ≡ nat_lt f 16
+-- every fragment of the code is in the mask
+abbrev pub IsFull : Code → LossMask → Type 0
+IsFull code mask = (f : ℕ) → bits_set mask.bits f ≡ has_fragment code f
 
--- every fragment is in each mask
-pub record AreAll (l : Losses) : Type 0 where
-  pub homeless : IsFull l.homeless
-  pub missing : IsFull l.missing
-  pub needs : IsFull l.needs
+-- every fragment of the code is in each mask
+pub record AreAll (code : Code) (l : Losses) : Type 0 where
+  pub homeless : IsFull code l.homeless
+  pub missing : IsFull code l.missing
+  pub needs : IsFull code l.needs
 
 -- the mask has this of one fragment, and of the others what the former mask has
 abbrev pub IsPut : ℕ → Bool → LossMask → LossMask → Type 0
@@ -31,6 +32,7 @@ IsPut f is_in before after = (g : ℕ) → bits_set after.bits g ≡ (if nat_eq 
 
 -- the masks where one fragment has this home
 pub record AreWith (sites : Sited) (f : ℕ) (home : Option Seat) (before after : Losses) : Type 0 where
+  pub code : after.code ≡ before.code
   pub homeless : IsPut f (is_none home) before.homeless after.homeless
   pub missing : IsPut f (is_missing sites.online home) before.missing after.missing
   pub needs : IsPut f (is_to_move sites.draining home) before.needs after.needs
@@ -40,39 +42,45 @@ abbrev pub IsPutOn : NodeNo → Bool → List (Option Seat) → LossMask → Los
 IsPutOn n are_in homes before after =
     (g : ℕ) → bits_set after.bits g ≡ (if nat_lt g 16 && sits_on n (get_or homes g None) then are_in else bits_set before.bits g)
 
--- the mask has the fragments whose homes pass the test
-abbrev pub IsMaskOf : (Option Seat → Bool) → List (Option Seat) → LossMask → Type 0
-IsMaskOf test homes mask = (f : ℕ) → bits_set mask.bits f ≡ (nat_lt f 16 && test (get_or homes f None))
+-- the mask has the fragments of the code whose homes pass the test
+abbrev pub IsMaskOf : Code → (Option Seat → Bool) → List (Option Seat) → LossMask → Type 0
+IsMaskOf code test homes mask = (f : ℕ) → bits_set mask.bits f ≡ (has_fragment code f && test (get_or homes f None))
+
+-- no fragment that the code lacks has a home
+abbrev pub AreWithin : Code → List (Option Seat) → Type 0
+AreWithin code homes = (f : ℕ) → IsFalse (has_fragment code f) → get_or homes f None ≡ None
 
 -- the masks are those of the homes, by the nodes that are online and those that are draining
-pub record AreLosses (online draining : NodeNo → Bool) (homes : List (Option Seat)) (l : Losses) : Type 0 where
-  pub homeless : IsMaskOf is_none homes l.homeless
-  pub missing : IsMaskOf (is_missing online) homes l.missing
-  pub needs : IsMaskOf (is_to_move draining) homes l.needs
+pub record AreLosses (code : Code) (online draining : NodeNo → Bool) (homes : List (Option Seat)) (l : Losses) : Type 0 where
+  pub within : AreWithin code homes
+  pub homeless : IsMaskOf code is_none homes l.homeless
+  pub missing : IsMaskOf code (is_missing online) homes l.missing
+  pub needs : IsMaskOf code (is_to_move draining) homes l.needs
 
 -- the masks that are kept beside the homes: that of the missing ones where a fragment needs a lease, and the others
 pub record AreKept (online draining : NodeNo → Bool) (homes : List (Option Seat)) (l : Losses) : Type 0 where
-  pub homeless : IsMaskOf is_none homes l.homeless
-  pub missing : l.needs.bits ≢ 0 → IsMaskOf (is_missing online) homes l.missing
-  pub needs : IsMaskOf (is_to_move draining) homes l.needs
+  pub within : AreWithin l.code homes
+  pub homeless : IsMaskOf l.code is_none homes l.homeless
+  pub missing : l.needs.bits ≢ 0 → IsMaskOf l.code (is_missing online) homes l.missing
+  pub needs : IsMaskOf l.code (is_to_move draining) homes l.needs
 
--- the fragments of these homes that are missing
-abbrev pub missing_of : (NodeNo → Bool) → List (Option Seat) → FragmentSet
-missing_of online homes f = nat_lt f 16 && is_missing online (get_or homes f None)
+-- the fragments of the code with these homes that are missing
+abbrev pub missing_of : Code → (NodeNo → Bool) → List (Option Seat) → FragmentSet
+missing_of code online homes f = has_fragment code f && is_missing online (get_or homes f None)
 
 -- the masks, where that of the missing ones is as the homes are
 abbrev pub renewed : (NodeNo → Bool) → List (Option Seat) → Losses → Losses
-renewed online homes l = record l { missing = record { bits = bits_of Wide (missing_of online homes) } }
+renewed online homes l = record l { missing = record { bits = bits_of l.code (missing_of l.code online homes) } }
 
 -- ---- ranks
 
 -- how far a stripe with these masks is from loss
 unfoldable pub level_of : Losses → Level
-level_of l = level_by Wide (bits_set l.homeless.bits) (bits_set l.missing.bits)
+level_of l = level_by l.code (bits_set l.homeless.bits) (bits_set l.missing.bits)
 
 -- its rank
 abbrev pub rank_of : Losses → ℕ
-rank_of l = rank_by Wide (bits_set l.missing.bits)
+rank_of l = rank_by l.code (bits_set l.missing.bits)
 
 -- its rank, where it has work
 abbrev pub work_rank : Losses → Option ℕ

@@ -52,9 +52,9 @@ with_stripe t code s = record t {
   spare = t.spare - 1;
 }
 
--- one more stripe of the code Wide, whose fragments have their homes on these seats
-abbrev pub with_homes : Stored → StripeNo → List Seat → Stored
-with_homes t s seats = record (with_stripe t Wide s) { homes = λ r f. if same_stripe s r then slice_get seats f else t.homes r f }
+-- one more stripe, of this code, whose fragments have their homes on these seats, in rising order of the fragments
+abbrev pub with_homes : Stored → Code → StripeNo → List Seat → Stored
+with_homes t code s seats = record (with_stripe t code s) { homes = λ r f. if same_stripe s r then slice_get seats f else t.homes r f }
 
 -- the stripe and its homes taken out
 abbrev pub without_stripe : Stored → StripeNo → Stored
@@ -86,9 +86,9 @@ with_spare t spare = record t { spare = spare }
 
 -- ---- what is shown of one stripe
 
--- the homes of a stripe's fragments, in rising order of these; none where there is no such stripe
+-- the homes of a stripe by the sixteen numbers of fragments, rising; none where there is no such stripe
 abbrev pub homes_shown : Stored → StripeNo → Option (List (Option Seat))
-homes_shown t s = homes_if (t.stripes s) (t.code s) (t.homes s)
+homes_shown t s = homes_if (t.stripes s) (t.homes s)
 
 -- the missing fragments of a stripe; none where there is no such stripe
 abbrev pub missing_shown : Stored → StripeNo → Option LossMask

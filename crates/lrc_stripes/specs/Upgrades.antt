@@ -2,6 +2,7 @@
 use Rattle.std.specs.Prelude.{ℕ, ◌<◌, Bool, false, not, ◌&&◌, ◌||◌, nat_lt, IsTrue, IsFalse, List, count_by}
 use Rattle.std.specs.List.{list_any}
 use Rattle.std.specs.Option.{option_map_or}
+use Rattle.lrc_code.specs.declared.codes.Code.TheVariants.{Wide}
 use Rattle.lrc_code.specs.declared.numbers.StripeNo.{StripeNo}
 use Rattle.lrc_code.specs.declared.numbers.NodeNo.{NodeNo}
 use Rattle.lrc_code.specs.declared.numbers.UpgradeNo.{UpgradeNo}
@@ -29,9 +30,9 @@ is_safe t s = is_recoverable (t.code s) (missing_in (t.code s) t.online (t.homes
 unfoldable pub is_lost_to : Stored → UpgradeNo → StripeNo → Bool
 is_lost_to t u s = t.stripes s && (is_safe t s && not (is_safe (with_upgrade t u) s))
 
--- one of the stripe's fragments has its home on the node
+-- one of the fragments, by their sixteen numbers, has its home on the node
 abbrev pub is_stripe_on : Stored → NodeNo → StripeNo → Bool
-is_stripe_on t n s = list_any (λ f. is_home_on t n (s, f)) (fragments (t.code s))
+is_stripe_on t n s = list_any (λ f. is_home_on t n (s, f)) (fragments Wide)
 
 -- how many nodes that are not online have a home of the stripe
 abbrev pub offline_count : Stored → StripeNo → ℕ

@@ -2,37 +2,42 @@ ghost use Rattle.std.specs.Prelude.{◌≡◌, ◌<◌, ◌≤◌, IfSome};
 ghost use Rattle.lrc_stripes.specs.Masks.{AreAll, IsPut, level_of, rank_of, work_rank, risk_rank};
 
 use crate::{Level, masks};
-use lrc_code::{Fragment, LossMask};
+use lrc_code::{Code, Fragment, LossMask};
 
-/// The fragments of a stripe that have no home, those that are missing, and those that need a lease.
+/// The code of a stripe, and which of its fragments have no home, which are missing, and which need a lease.
 #[derive(Clone, Copy)]
 pub(crate) struct Losses {
+    pub(crate) code: Code,
     pub(crate) homeless: LossMask,
     pub(crate) missing: LossMask,
     pub(crate) needs: LossMask,
 }
 
 impl Losses {
-    /// Those of a stripe none of whose fragments has a home.
-    pub(crate) fn all() -> Losses
-        ensures { AreAll result }
+    /// Those of a stripe of the code none of whose fragments has a home: all fragments of the code.
+    pub(crate) fn all(code: Code) -> Losses
+        ensures code { result.code ≡ code }
+        ensures all { AreAll code result }
     {
-        let all = LossMask::from_bits(0xffff);
+        let all = LossMask::all_of(code);
         Losses {
+            code,
             homeless: all,
             missing: all,
             needs: all,
         }
     }
 
-    /// Those of a stripe whose fragments have homes on nodes that are online and not draining.
-    pub(crate) fn none() -> Losses
+    /// Those of a stripe of the code whose fragments have homes on nodes that are online and not draining: none.
+    pub(crate) fn none(code: Code) -> Losses
+        ensures code { result.code ≡ code }
         ensures homeless { result.homeless.bits ≡ 0 }
         ensures missing { result.missing.bits ≡ 0 }
         ensures needs { result.needs.bits ≡ 0 }
     {
         let none = LossMask::from_bits(0);
         Losses {
+            code,
             homeless: none,
             missing: none,
             needs: none,
@@ -47,12 +52,14 @@ impl Losses {
         is_missing: bool,
         is_to_move: bool,
     ) -> Losses
+        ensures code { result.code ≡ self.code }
         ensures homeless { IsPut fragment.value is_homeless self.homeless result.homeless }
         ensures missing { IsPut fragment.value is_missing self.missing result.missing }
         ensures needs { IsPut fragment.value is_to_move self.needs result.needs }
     {
         let one = LossMask::from_bits(0).with(fragment);
         Losses {
+            code: self.code,
             homeless: masks::put(self.homeless, one, is_homeless),
             missing: masks::put(self.missing, one, is_missing),
             needs: masks::put(self.needs, one, is_to_move),
@@ -80,7 +87,7 @@ impl Losses {
     pub(crate) fn level(self) -> Level
         ensures { result ≡ level_of self }
     {
-        Level::of(self.homeless, self.missing)
+        Level::of(self.code, self.homeless, self.missing)
     }
 
     /// The rank where the stripe has work.
@@ -112,6 +119,6 @@ impl Losses {
         ensures value { result ≡ rank_of self }
         ensures few { result ≤ 4 }
     {
-        self.missing.margin().unwrap_or(4)
+        self.missing.margin_in(self.code).unwrap_or(4)
     }
 }

@@ -1,7 +1,6 @@
 //! Masks of fragments, by the nodes that the fragments' homes are on.
 
 ghost use Rattle.std.specs.Prelude.{◌≡◌, ℕ, if◌then◌else◌, ◌&&◌, ◌||◌, nat_eq, ◌<◌, true, false, length, IfSome, IfNone};
-ghost use Rattle.lrc_code.specs.declared.codes.Code.TheVariants.{Wide};
 ghost use Rattle.lrc_code.specs.Losses.{bits_set, bits_of};
 ghost use Rattle.lrc_stripes.specs.Rows.{is_missing};
 ghost use Rattle.lrc_stripes.specs.Sites.{sited};
@@ -10,12 +9,12 @@ ghost use Rattle.lrc_stripes.specs.Masks.{missing_of};
 use crate::Seat;
 use crate::homes::Homes;
 use crate::sites::Sites;
-use lrc_code::{Fragment, LossMask};
+use lrc_code::{Code, Fragment, LossMask};
 
-/// The fragments that have no home, or one on a node that is not online.
-pub(crate) fn missing_of(homes: &Homes, sites: &Sites) -> LossMask
+/// The fragments of the code that have no home, or one on a node that is not online.
+pub(crate) fn missing_of(code: Code, homes: &Homes, sites: &Sites) -> LossMask
     requires { length homes.now ≡ 16 }
-    ensures { result.bits ≡ bits_of Wide (missing_of (sited sites.now).online homes.now) }
+    ensures { result.bits ≡ bits_of code (missing_of code (sited sites.now).online homes.now) }
 {
     let mut mask = LossMask::from_bits(0);
     for fragment in Fragment::all() {
@@ -23,7 +22,7 @@ pub(crate) fn missing_of(homes: &Homes, sites: &Sites) -> LossMask
             mask = mask.with(fragment);
         }
     }
-    LossMask::from_bits(mask.bits())
+    LossMask::from_bits(mask.bits & LossMask::all_of(code).bits)
 }
 
 /// Whether a fragment with this home, if it has one, is missing.

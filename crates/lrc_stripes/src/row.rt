@@ -1,7 +1,8 @@
-ghost use Rattle.std.specs.Prelude.{◌≡◌, ℕ, if◌then◌else◌, length, map, replicate, true, None, Some};
+ghost use Rattle.std.specs.Prelude.{◌≡◌, ℕ, if◌then◌else◌, length, replicate, true, None};
 ghost use Rattle.std.specs.List.{list_any};
+ghost use Rattle.lrc_code.specs.Codes.{fragment_count};
 ghost use Rattle.lrc_code.specs.Losses.{bits_set};
-ghost use Rattle.lrc_stripes.specs.Rows.{sits_on, is_on_seat};
+ghost use Rattle.lrc_stripes.specs.Rows.{seated_homes, sits_on, is_on_seat};
 ghost use Rattle.lrc_stripes.specs.Sites.{sited};
 ghost use Rattle.lrc_stripes.specs.Masks.{AreAll, AreKept, renewed};
 ghost use Rattle.lrc_code.specs.declared.numbers.NodeNo.{NodeNo as AnyNode};
@@ -10,7 +11,7 @@ use crate::homes::Homes;
 use crate::losses::Losses;
 use crate::sites::Sites;
 use crate::{Seat, masks};
-use lrc_code::{FRAGMENTS, LossMask, StripeNo};
+use lrc_code::{Code, LossMask, StripeNo};
 
 /// The homes of a stripe's fragments, and what follows from them.
 #[derive(Drop)]
@@ -21,25 +22,27 @@ pub(crate) struct Row {
 }
 
 impl Row {
-    /// None of the fragments has a home.
-    pub(crate) fn new() -> Row
+    /// None of the fragments of a stripe of the code has a home.
+    pub(crate) fn new(code: Code) -> Row
+        ensures code { result.losses.code ≡ code }
         ensures homes { result.homes ≡ replicate 16 None }
-        ensures losses { AreAll result.losses }
+        ensures losses { AreAll code result.losses }
     {
         Row {
-            losses: Losses::all(),
+            losses: Losses::all(code),
             homes: Homes::new(),
         }
     }
 
-    /// The fragments have homes on these seats, and these losses.
-    pub(crate) fn seated(seats: &[Seat; FRAGMENTS], losses: Losses) -> Row
-        ensures homes { result.homes ≡ map Some seats.now }
+    /// The fragments of a stripe of the code have homes on these seats, and the stripe has these losses.
+    pub(crate) fn seated(code: Code, seats: &[Seat], losses: Losses) -> Row
+        requires { length seats.now ≡ fragment_count code }
+        ensures homes { result.homes ≡ seated_homes seats.now }
         ensures losses { result.losses ≡ losses }
     {
         Row {
             losses,
-            homes: Homes::seated(seats),
+            homes: Homes::seated(code, seats),
         }
     }
 
@@ -48,7 +51,7 @@ impl Row {
         ensures { result ≡ renewed (sited sites.now).online self.now.homes self.now.losses }
     {
         let mut losses = self.losses;
-        losses.missing = masks::missing_of(&self.homes, sites);
+        losses.missing = masks::missing_of(self.losses.code, &self.homes, sites);
         losses
     }
 
@@ -93,6 +96,7 @@ impl Row {
     ) -> Losses
         requires kept { AreKept (sited sites.now).online (sited sites.now).draining self.now.homes self.now.losses }
         requires stands { (n : AnyNode) → list_any (sits_on n) self.now.homes ≡ true → (sited sites.now).on n stripe ≡ true }
+        ensures code { result.code ≡ self.now.losses.code }
         ensures homeless { result.homeless ≡ self.now.losses.homeless }
         ensures missing { result.missing ≡ (renewed (sited sites.now).online self.now.homes self.now.losses).missing }
         ensures needs { (f : ℕ) → bits_set result.needs.bits f ≡ (if bits_set fragments.bits f then are_to_move else bits_set self.now.losses.needs.bits f) }

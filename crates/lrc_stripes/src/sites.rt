@@ -1,5 +1,6 @@
-ghost use Rattle.std.specs.Prelude.{◌≡◌, if◌then◌else◌, nat_eq, ◌&&◌, ◌||◌, not, true, false, map, Some, None, is_some, IfOk, IfErr, IfSome, IfNone, IsTrue, ◌<◌, length, get_or, slice_set};
+ghost use Rattle.std.specs.Prelude.{◌≡◌, if◌then◌else◌, nat_eq, ◌&&◌, ◌||◌, not, true, false, None, Some, is_some, IfOk, IfErr, IfSome, IfNone, IsTrue, ◌<◌, length, get_or, slice_set};
 ghost use Rattle.std.specs.List.{All, list_any};
+ghost use Rattle.lrc_code.specs.Codes.{fragment_count};
 ghost use Rattle.lrc_code.specs.Numbers.{same_stripe, same_node, same_upgrade};
 ghost use Rattle.lrc_code.specs.declared.numbers.NodeNo.{NodeNo as AnyNode};
 ghost use Rattle.lrc_code.specs.declared.numbers.StripeNo.{StripeNo as AnyStripe};
@@ -10,7 +11,7 @@ ghost use Rattle.lrc_stripes.specs.Levels.{Homes as AnyHomes};
 ghost use Rattle.lrc_stripes.specs.Domains.{AreDomainsOf};
 ghost use Rattle.lrc_stripes.specs.Stored.{has_node};
 ghost use Rattle.lrc_stripes.specs.Sets.{FindsNext, has};
-ghost use Rattle.lrc_stripes.specs.Rows.{sits_on};
+ghost use Rattle.lrc_stripes.specs.Rows.{seated_homes, sits_on};
 ghost use Rattle.lrc_stripes.specs.Sites.{sited, first_sites, IsPlaceOf};
 ghost use Rattle.lrc_stripes.specs.Tables.{rows_in};
 ghost use Rattle.lrc_stripes.specs.Kept.{is_row_on};
@@ -25,7 +26,7 @@ use crate::site::Site;
 use crate::stripe_set::StripeSet;
 use crate::{HomeDomains, Seat, domains, masks};
 use lrc_bits::BitSet;
-use lrc_code::{FRAGMENTS, Fault, Fragment, LossMask, NodeNo, StripeNo, UpgradeNo};
+use lrc_code::{Code, Fault, Fragment, LossMask, NodeNo, StripeNo, UpgradeNo};
 use lrc_topology::{NodeIndex, NodeInfo, Topology};
 use std::alloc::Global;
 use std::marker::Model;
@@ -152,36 +153,42 @@ impl Sites {
         mark(&mut self.draining, place, is_draining);
     }
 
-    /// Puts a stripe among those with a home on the nodes of these seats, and notes the domains of these. What is missing
-    /// of it there, and what needs a lease.
+    /// Puts a stripe of the code among those with a home on the nodes of these seats, and notes the domains of these. What
+    /// is missing of it there, and what needs a lease.
     pub(crate) fn enter(
         &mut self,
+        code: Code,
         stripe: StripeNo,
-        seats: &[Seat; FRAGMENTS],
+        seats: &[Seat],
         domains: &mut HomeDomains,
     ) -> Losses
-        requires { All (λ seat. IsTrue (has_node (sited self.old).nodes seat.node)) seats.now }
-        ensures on { sited self.new ≡ record (sited self.old) { on = λ n s. (same_stripe stripe s && list_any (sits_on n) (map Some seats.now)) || (sited self.old).on n s } }
-        ensures losses { AreLosses (sited self.old).online (sited self.old).draining (map Some seats.now) result }
-        ensures domains { AreDomainsOf (sited self.old).nodes (λ f. get_or (map Some seats.now) f None) domains.new }
+        requires length { length seats.now ≡ fragment_count code }
+        requires nodes { All (λ seat. IsTrue (has_node (sited self.old).nodes seat.node)) seats.now }
+        ensures on { sited self.new ≡ record (sited self.old) { on = λ n s. (same_stripe stripe s && list_any (sits_on n) (seated_homes seats.now)) || (sited self.old).on n s } }
+        ensures code { result.code ≡ code }
+        ensures losses { AreLosses code (sited self.old).online (sited self.old).draining (seated_homes seats.now) result }
+        ensures domains { AreDomainsOf (sited self.old).nodes (λ f. get_or (seated_homes seats.now) f None) domains.new }
     {
-        for fragment in Fragment::all() {
-            let seat = seats[fragment.value as usize];
+        for number in 0..code.fragments() {
+            let fragment = Fragment { value: number };
+            let seat = seats[number as usize];
             self.enter_one(stripe, fragment, seat.node, domains);
         }
-        self.losses_of(seats)
+        self.losses_of(code, seats)
     }
 
-    /// What is missing of a stripe with homes on these seats, and what needs a lease: nothing where no node is offline and
-    /// none draining.
-    fn losses_of(&self, seats: &[Seat; FRAGMENTS]) -> Losses
-        requires { All (λ seat. IsTrue (has_node (sited self.now).nodes seat.node)) seats.now }
-        ensures { AreLosses (sited self.now).online (sited self.now).draining (map Some seats.now) result }
+    /// What is missing of a stripe of the code with homes on these seats, and what needs a lease: nothing where no node is
+    /// offline and none draining.
+    fn losses_of(&self, code: Code, seats: &[Seat]) -> Losses
+        requires length { length seats.now ≡ fragment_count code }
+        requires nodes { All (λ seat. IsTrue (has_node (sited self.now).nodes seat.node)) seats.now }
+        ensures code { result.code ≡ code }
+        ensures losses { AreLosses code (sited self.now).online (sited self.now).draining (seated_homes seats.now) result }
     {
         if self.are_plain() {
-            return Losses::none();
+            return Losses::none(code);
         }
-        self.losses_on(seats)
+        self.losses_on(code, seats)
     }
 
     /// Whether no node is offline and none draining.
@@ -193,12 +200,15 @@ impl Sites {
 
     /// The same, fragment by fragment.
     #[inline(never)] // where all nodes are online and none is draining it is not called
-    fn losses_on(&self, seats: &[Seat; FRAGMENTS]) -> Losses
-        ensures { AreLosses (sited self.now).online (sited self.now).draining (map Some seats.now) result }
+    fn losses_on(&self, code: Code, seats: &[Seat]) -> Losses
+        requires { length seats.now ≡ fragment_count code }
+        ensures code { result.code ≡ code }
+        ensures losses { AreLosses code (sited self.now).online (sited self.now).draining (seated_homes seats.now) result }
     {
-        let mut losses = Losses::none();
-        for fragment in Fragment::all() {
-            let node = seats[fragment.value as usize].node;
+        let mut losses = Losses::none(code);
+        for number in 0..code.fragments() {
+            let fragment = Fragment { value: number };
+            let node = seats[number as usize].node;
             losses.missing = masks::with_where(losses.missing, fragment, !self.is_online(node));
             losses.needs = masks::with_where(losses.needs, fragment, self.is_draining(node));
         }

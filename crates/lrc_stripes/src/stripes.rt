@@ -1,8 +1,9 @@
 ghost use Rattle.std.specs.Prelude.{◌≡◌, if◌then◌else◌, ◌<◌, ◌≤◌, length, get_or, IsTrue, IsFalse, IfOk, IfErr, IfSome, OnErr, OnOk, IsOk, None, Some};
 ghost use Rattle.std.specs.List.{All};
-ghost use Rattle.lrc_code.specs.declared.codes.Code.TheVariants.{Wide};
+ghost use Rattle.lrc_code.specs.declared.codes.Code.TheVariants.{Wide, Narrow};
 ghost use Rattle.lrc_code.specs.declared.fault.Fault.TheVariants.{OutOfMemory};
 ghost use Rattle.lrc_code.specs.Numbers.{same_upgrade};
+ghost use Rattle.lrc_code.specs.Codes.{fragment_count, has_fragment};
 ghost use Rattle.lrc_topology.specs.Nodes.{nodes_in};
 ghost use Rattle.lrc_topology.specs.declared.NodeInfo.{NodeInfo as AnyInfo};
 ghost use Rattle.lrc_stripes.specs.Stored.{empty, with_stripe, with_homes, without_stripe, with_home, with_offline, with_offline_all, with_draining, with_spare, has_node, has_slot, HasNoHome};
@@ -14,12 +15,12 @@ use crate::row::Row;
 use crate::rows::Rows;
 use crate::sites::Sites;
 use crate::{HomeDomains, Seat};
-use lrc_code::{FRAGMENTS, Fault, Fragment, NodeNo, STRIPES, StripeNo, UpgradeNo};
+use lrc_code::{Code, Fault, Fragment, NodeNo, STRIPES, StripeNo, UpgradeNo};
 use lrc_topology::{NodeInfo, Topology};
 use std::alloc::Global;
 use std::marker::Model;
 
-/// The stripes of a store, the homes of their fragments, and the nodes that are offline or draining.
+/// The stripes of a store with their codes, the homes of their fragments, and the nodes that are offline or draining.
 #[derive(Drop)]
 pub struct Stripes {
     sites: Sites,
@@ -85,20 +86,32 @@ impl Stripes {
         requires room { 1 ≤ (stored_in self.old).spare }
         ensures { stored_in self.new ≡ with_stripe (stored_in self.old) Wide stripe }
     {
-        self.rows.add(stripe, Row::new());
+        self.rows.add(stripe, Row::new(Code::Wide));
         self.spare -= 1;
     }
 
-    /// Adds a stripe of the code `Wide` whose fragments have these homes, in room that there is for it.
-    pub fn add_with_homes(&mut self, stripe: StripeNo, seats: &[Seat; FRAGMENTS])
+    /// Adds a stripe of the code `Narrow`, none of whose fragments has a home, in room that there is for it.
+    pub fn add_narrow(&mut self, stripe: StripeNo)
         requires absent { IsFalse ((stored_in self.old).stripes stripe) }
         requires room { 1 ≤ (stored_in self.old).spare }
+        ensures { stored_in self.new ≡ with_stripe (stored_in self.old) Narrow stripe }
+    {
+        self.rows.add(stripe, Row::new(Code::Narrow));
+        self.spare -= 1;
+    }
+
+    /// Adds a stripe of the code whose fragments have these homes, in rising order of the fragments, in room that there is
+    /// for it.
+    pub fn add_with_homes(&mut self, code: Code, stripe: StripeNo, seats: &[Seat])
+        requires absent { IsFalse ((stored_in self.old).stripes stripe) }
+        requires room { 1 ≤ (stored_in self.old).spare }
+        requires length { length seats.now ≡ fragment_count code }
         requires slots { All (λ seat. IsTrue (has_slot (stored_in self.old).nodes seat)) seats.now }
-        ensures { stored_in self.new ≡ with_homes (stored_in self.old) stripe seats.now }
+        ensures { stored_in self.new ≡ with_homes (stored_in self.old) code stripe seats.now }
     {
         let domains = &mut self.domains[stripe.value as usize];
-        let losses = self.sites.enter(stripe, seats, domains);
-        let row = Row::seated(seats, losses);
+        let losses = self.sites.enter(code, stripe, seats, domains);
+        let row = Row::seated(code, seats, losses);
         self.rows.add(stripe, row);
         self.spare -= 1;
     }
@@ -115,9 +128,10 @@ impl Stripes {
         }
     }
 
-    /// Gives a fragment without a home one on a seat that is no other's home.
+    /// Gives a fragment of the stripe's code that has no home one on a seat that is no other's home.
     pub fn set_home(&mut self, stripe: StripeNo, fragment: Fragment, seat: Seat)
         requires stripe { IsTrue ((stored_in self.old).stripes stripe) }
+        requires code { IsTrue (has_fragment ((stored_in self.old).code stripe) fragment.value) }
         requires homeless { (stored_in self.old).homes stripe fragment.value ≡ None }
         requires slot { IsTrue (has_slot (stored_in self.old).nodes seat) }
         requires unused { HasNoHome (stored_in self.old) seat }
@@ -126,9 +140,11 @@ impl Stripes {
         self.rehome(stripe, fragment, Some(seat));
     }
 
-    /// Gives a fragment a home on a seat that is no other's home, in place of the one that it has, if it has one.
+    /// Gives a fragment of the stripe's code a home on a seat that is no other's home, in place of the one that it has, if it
+    /// has one.
     pub fn put_home(&mut self, stripe: StripeNo, fragment: Fragment, seat: Seat)
         requires stripe { IsTrue ((stored_in self.old).stripes stripe) }
+        requires code { IsTrue (has_fragment ((stored_in self.old).code stripe) fragment.value) }
         requires slot { IsTrue (has_slot (stored_in self.old).nodes seat) }
         requires unused { HasNoHome (stored_in self.old) seat }
         ensures { stored_in self.new ≡ with_home (stored_in self.old) stripe fragment (Some seat) }
@@ -136,18 +152,20 @@ impl Stripes {
         self.rehome(stripe, fragment, Some(seat));
     }
 
-    /// Takes a fragment's home away, if it has one.
+    /// Takes the home of a fragment of the stripe's code away, if it has one.
     pub fn clear_home(&mut self, stripe: StripeNo, fragment: Fragment)
-        requires { IsTrue ((stored_in self.old).stripes stripe) }
+        requires stripe { IsTrue ((stored_in self.old).stripes stripe) }
+        requires code { IsTrue (has_fragment ((stored_in self.old).code stripe) fragment.value) }
         ensures { stored_in self.new ≡ with_home (stored_in self.old) stripe fragment None }
     {
         self.rehome(stripe, fragment, None);
     }
 
-    /// Gives a fragment this home or none, in place of the one that it has, if it has one.
+    /// Gives a fragment of the stripe's code this home or none, in place of the one that it has, if it has one.
     #[inline(always)] // a call with a home takes one way through it, and a call without another
     fn rehome(&mut self, stripe: StripeNo, fragment: Fragment, home: Option<Seat>)
         requires there { IsTrue ((stored_in self.old).stripes stripe) }
+        requires code { IsTrue (has_fragment ((stored_in self.old).code stripe) fragment.value) }
         requires slot { IfSome home (λ seat. IsTrue (has_slot (stored_in self.old).nodes seat)) }
         ensures { stored_in self.new ≡ with_home (stored_in self.old) stripe fragment home }
     {

@@ -1,16 +1,17 @@
 //! What a store answers of its stripes, their homes and its nodes; nothing changes.
 
-ghost use Rattle.std.specs.Prelude.{◌≡◌, ℕ, is_some, ◌<◌, ◌↔◌, IsTrue, IsFalse, IfSome, IfNone, Some};
+ghost use Rattle.std.specs.Prelude.{◌≡◌, ℕ, if◌then◌else◌, None, is_some, ◌<◌, ◌↔◌, IsTrue, IsFalse, IfSome, IfNone, Some};
 ghost use Rattle.lrc_code.specs.declared.numbers.StripeNo.{StripeNo as AnyStripe};
 ghost use Rattle.lrc_stripes.specs.Stored.{homes_shown, missing_shown, needs_shown, level_shown, has_node, has_slot, HasNoHome, AreHomesOn, AreHomesOnFrom, has_work, AreWork, AreWorkFrom, AreAtRisk};
 ghost use Rattle.lrc_stripes.specs.Domains.{AreDomainsOf};
+ghost use Rattle.lrc_code.specs.Codes.{has_fragment};
 ghost use Rattle.lrc_code.specs.Losses.{bits_set};
 ghost use Rattle.lrc_stripes.specs.Tables.{stored_in};
 ghost use Rattle.lrc_stripes.specs.Upgrades.{is_lost_to, is_short_lost_to, IsFirstLostTo, IsFirstShortLostTo};
 
 use crate::stripes::Stripes;
 use crate::{AtRisk, HomeDomains, HomesOn, Level, Seat, Work, upgrades};
-use lrc_code::{FRAGMENTS, Fragment, LossMask, NodeNo, StripeNo, UpgradeNo};
+use lrc_code::{Code, FRAGMENTS, Fragment, LossMask, NodeNo, StripeNo, UpgradeNo};
 
 #[tactic(auto, unfolding(crate::specs::Tables::stored_in))]
 impl Stripes {
@@ -28,7 +29,7 @@ impl Stripes {
         self.rows.contains(stripe)
     }
 
-    /// The home of a fragment of a stripe, if it has one.
+    /// The home of a fragment of a stripe, if it has one; a fragment that the stripe's code lacks has none.
     pub fn home(&self, stripe: StripeNo, fragment: Fragment) -> Option<Seat>
         requires { IsTrue ((stored_in self.now).stripes stripe) }
         ensures { result ≡ (stored_in self.now).homes stripe fragment.value }
@@ -37,7 +38,8 @@ impl Stripes {
         row.homes.home(fragment)
     }
 
-    /// The homes of a stripe's fragments, in rising order of these; `None` where the stripe is not there.
+    /// The homes of a stripe by the sixteen numbers of fragments, rising: no home for a number that the stripe's code lacks.
+    /// `None` where the stripe is not there.
     pub fn homes(&self, stripe: StripeNo) -> Option<[Option<Seat>; FRAGMENTS]>
         ensures { result ≡ homes_shown (stored_in self.now) stripe }
     {
@@ -45,11 +47,12 @@ impl Stripes {
         Some(row.homes.all())
     }
 
-    /// The fragments of a stripe that have a home.
+    /// The fragments of a stripe that have a home; each is one of the stripe's code.
     pub fn homed(&self, stripe: StripeNo) -> LossMask
         requires { IsTrue ((stored_in self.now).stripes stripe) }
         ensures few { result.bits < 65536 }
         ensures homed { (f : ℕ) → bits_set result.bits f ≡ is_some ((stored_in self.now).homes stripe f) }
+        ensures within { (f : ℕ) → IsTrue (bits_set result.bits f) → IsTrue (has_fragment ((stored_in self.now).code stripe) f) }
     {
         self.rows.homed(stripe)
     }
@@ -128,6 +131,14 @@ impl Stripes {
         ensures { AreHomesOnFrom (stored_in self.now) node first result }
     {
         HomesOn::new(&self.sites, &self.rows, node, first.value as usize)
+    }
+
+    /// The code of a stripe; `None` where there is no such stripe.
+    pub fn code(&self, stripe: StripeNo) -> Option<Code>
+        ensures { result ≡ (if (stored_in self.now).stripes stripe then Some ((stored_in self.now).code stripe) else None) }
+    {
+        let row = self.rows.get(stripe)?;
+        Some(row.losses.code)
     }
 
     /// Whether there is a stripe with a fragment that needs a lease.

@@ -1,7 +1,4 @@
-use Rattle.lrc_stripes.proofs.MaskLemmas.{full-mask}
 use Rattle.lrc_stripes.proofs.losses.Losses.all.Goals as goal
 
-pub returns : goal.returns
-returns c =
-    let full = full-mask c.from_bits-all.result.bits c.from_bits-all.ensures in
-    record { homeless = full; missing = full; needs = full }
+pub returns-clause-all : goal.returns-clause-all
+returns-clause-all c = record { homeless = c.all_of-all.ensures; missing = c.all_of-all.ensures; needs = c.all_of-all.ensures }

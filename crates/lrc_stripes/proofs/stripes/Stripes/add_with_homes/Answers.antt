@@ -1,9 +1,11 @@
-use Rattle.std.proofs.Common.{◌≡◌, ◌-◌, false, IsTrue, List, Option, Some, None, map, set, get_or, is_some, ap, subst, sym, ◌∙◌}
+use Rattle.std.proofs.Common.{◌≡◌, ◌-◌, false, IsTrue, List, Option, None, set, get_or, is_some, ap, subst, sym, ◌∙◌}
 use Rattle.std.specs.List.{All}
 use Rattle.lrc_topology.specs.Nodes.{node_at}
 use Rattle.lrc_topology.specs.declared.seat.Seat.{Seat}
 use Rattle.lrc_stripes.specs.declared.losses.Losses.{Losses}
+use Rattle.lrc_code.specs.declared.codes.Code.{Code}
 use Rattle.lrc_stripes.specs.Kept.{IsKept}
+use Rattle.lrc_stripes.specs.Rows.{seated_homes}
 use Rattle.lrc_stripes.specs.Masks.{AreLosses}
 use Rattle.lrc_stripes.specs.Domains.{AreDomainsOf}
 use Rattle.lrc_stripes.specs.Noted.{AreDomainsKept}
@@ -19,17 +21,19 @@ pub enter-losses-requires : goal.enter-losses-requires
 unfolding stored_in sited
 enter-losses-requires c =
     let slots : All (λ (seat : Seat). IsTrue (has_slot (sited c.self.inside.sites).nodes seat)) c.args.seats.now = rw (← c.self.view_is) at c.requires.slots in
-    λ k d below. slot-known (node_at (sited c.self.inside.sites).nodes (get_or c.args.seats.now k d).node) (get_or c.args.seats.now k d).slot (slots k d below)
+    record { length = c.requires.length; nodes = λ k d below. slot-known (node_at (sited c.self.inside.sites).nodes (get_or c.args.seats.now k d).node) (get_or c.args.seats.now k d).slot (slots k d below) }
 
 pub invariant_of-self : goal.invariant_of-self
 unfolding stored_in
 invariant_of-self c =
     let z = sited c.self.inside.sites in
-    let homes = map Some c.args.seats.now in
+    let homes = seated_homes c.args.seats.now in
     let e = c.enter-losses.ensures.losses in
     let absent : is_some (rows_in c.self.inside.rows c.args.stripe) ≡ false = rw (← c.self.view_is) at c.requires.absent in
-    let are : AreLosses z.online z.draining homes c.seated-row.result.losses =
-    subst (λ (l : Losses). AreLosses z.online z.draining homes l) (sym c.seated-row.ensures.losses) (record { homeless = e.homeless; missing = e.missing; needs = e.needs }) in
+    let coded : c.seated-row.result.losses.code ≡ c.args.code = ap (λ (l : Losses). l.code) c.seated-row.ensures.losses ∙ c.enter-losses.ensures.code in
+    let are : AreLosses c.seated-row.result.losses.code z.online z.draining homes c.seated-row.result.losses =
+    subst (λ (code : Code). AreLosses code z.online z.draining homes c.seated-row.result.losses) (sym coded)
+    (subst (λ (l : Losses). AreLosses c.args.code z.online z.draining homes l) (sym c.seated-row.ensures.losses) (record { within = e.within; homeless = e.homeless; missing = e.missing; needs = e.needs })) in
     let put = c.enter-losses.new.domains in
     record {
       kept = subst (λ (y : Sited). IsKept y (rows_in c.add.new.self)) (sym c.enter-losses.ensures.on)
@@ -43,5 +47,5 @@ pub returns : goal.returns
 unfolding stored_in sited
 returns c =
     rw (← c.self.view_is) (ap (λ (z : Sited). stored_by z (rows_in c.add.new.self) (c.self.inside.spare - 1)) c.enter-losses.ensures.on
-    ∙ stored-seated (sited c.self.inside.sites) (rows_in c.self.inside.rows) (rows_in c.add.new.self) c.args.stripe c.seated-row.result c.args.seats.now c.self.inside.spare
-    c.seated-row.ensures.homes c.add.ensures)
+    ∙ stored-seated (sited c.self.inside.sites) (rows_in c.self.inside.rows) (rows_in c.add.new.self) c.args.stripe c.args.code c.seated-row.result c.args.seats.now c.self.inside.spare
+    (ap (λ (l : Losses). l.code) c.seated-row.ensures.losses ∙ c.enter-losses.ensures.code) c.seated-row.ensures.homes c.add.ensures)
