@@ -1,11 +1,11 @@
 -- Answers and the replies that they tell.
-use Rattle.std.proofs.Common.{◌≡◌, ◌≢◌, false, refl}
+use Rattle.std.proofs.Common.{◌≡◌, ◌≢◌, false, take, refl}
 use Rattle.lrc_code.specs.declared.numbers.StripeNo.{StripeNo}
 use Rattle.lrc_code.specs.declared.numbers.Fragment.{Fragment}
 use Rattle.lrc_leases.specs.declared.lease.Lease.{Lease as LeaseRecord}
 use Rattle.lrc_book.specs.declared.kind.Kind.{Kind}
 use Rattle.lrc_book.specs.declared.command.Command.{Command}
-use Rattle.lrc_book.specs.declared.command.Command.TheVariants.{Place, Drop, Lease, Next, Done, Abandon, Revoke}
+use Rattle.lrc_book.specs.declared.command.Command.TheVariants.{Place, Place6, Drop, Lease, Next, Done, Abandon, Revoke}
 use Rattle.lrc_book.specs.declared.command.Command.TheVariants.{Fail, Down, Up, Drain, Undrain, Retire, Join, Upgrade, Upgraded, Tick}
 use Rattle.lrc_book.specs.Changes.{grants_lease}
 use Rattle.lrc_book.specs.declared.answer.Answer.{Answer}
@@ -17,6 +17,7 @@ use Rattle.lrc_book.specs.Answers.{told}
 pub changed-told : (a : Answer) → told a ≡ reply.Changed → a ≡ answer.Changed
 changed-told answer.Changed e = refl
 changed-told (answer.Placed seats) e = absurd (let never : reply.Placed seats.value ≡ reply.Changed = e in cc)
+changed-told (answer.Placed6 seats) e = absurd (let never : reply.Placed6 (take 10 seats.value) ≡ reply.Changed = e in cc)
 changed-told answer.Dropped e = absurd (let never : reply.Dropped ≡ reply.Changed = e in cc)
 changed-told (answer.Granted lease kind) e = absurd (let never : reply.Granted lease kind ≡ reply.Changed = e in cc)
 changed-told answer.Idle e = absurd (let never : reply.Idle ≡ reply.Changed = e in cc)
@@ -29,6 +30,7 @@ changed-told (answer.Refused refusal) e = absurd (let never : reply.Refused refu
 next-other : (a : Answer) → ((l : LeaseRecord) (k : Kind) → a ≢ answer.Granted l k) → grants_lease Next (told a) ≡ false
 next-other (answer.Granted l k) other = absurd (other l k refl)
 next-other (answer.Placed seats) other = refl
+next-other (answer.Placed6 seats) other = refl
 next-other answer.Dropped other = refl
 next-other answer.Idle other = refl
 next-other answer.Ended other = refl
@@ -39,6 +41,7 @@ next-other (answer.Ticked clock ended) other = refl
 lease-other : (s : StripeNo) (f : Fragment) (a : Answer) → ((l : LeaseRecord) (k : Kind) → a ≢ answer.Granted l k) → grants_lease (Lease s f) (told a) ≡ false
 lease-other s f (answer.Granted l k) other = absurd (other l k refl)
 lease-other s f (answer.Placed seats) other = refl
+lease-other s f (answer.Placed6 seats) other = refl
 lease-other s f answer.Dropped other = refl
 lease-other s f answer.Idle other = refl
 lease-other s f answer.Ended other = refl
@@ -50,6 +53,7 @@ pub other-answer : (c : Command) (a : Answer) → ((l : LeaseRecord) (k : Kind) 
 other-answer Next a other = next-other a other
 other-answer (Lease s f) a other = lease-other s f a other
 other-answer (Place s) a other = refl
+other-answer (Place6 s) a other = refl
 other-answer (Drop s) a other = refl
 other-answer (Done s f e) a other = refl
 other-answer (Abandon s f e) a other = refl

@@ -13,7 +13,6 @@ use Rattle.lrc_code.specs.declared.numbers.UpgradeNo.{UpgradeNo}
 use Rattle.lrc_code.specs.declared.numbers.Fragment.{Fragment}
 use Rattle.lrc_code.specs.Codes.{fragments, share_class}
 use Rattle.lrc_code.specs.Numbers.{same_fault, same_upgrade}
-use Rattle.lrc_code.specs.declared.codes.Code.TheVariants.{Wide}
 use Rattle.lrc_topology.specs.Nodes.{node_at}
 use Rattle.lrc_code.proofs.NumbersLemmas.{equal_fragments}
 use Rattle.lrc_topology.specs.declared.NodeInfo.{NodeInfo}
@@ -69,26 +68,26 @@ pub node-upgrades : (one : Bool) (b : Barred) (n : NodeInfo) (d : UpgradeNo)
 node-upgrades true b n d = refl
 node-upgrades false b n d = or_none (b.upgrades d)
 
-module _ (nodes : List NodeInfo) (s : StripeNo) (f g : Fragment) (b : Barred) where
+module _ (nodes : List NodeInfo) (code : Code) (s : StripeNo) (f g : Fragment) (b : Barred) where
   -- a seat of the fragment itself bars nothing
-  pub seat-own : (o : Option Seat) → eqb g.value f.value ≡ true → b ≡ with_seat nodes s f b g o
+  pub seat-own : (o : Option Seat) → eqb g.value f.value ≡ true → b ≡ with_seat nodes code s f b g o
   seat-own None own = refl
-  seat-own (Some seat) own = same_bars b (with_seat nodes s f b g (Some seat))
+  seat-own (Some seat) own = same_bars b (with_seat nodes code s f b g (Some seat))
       (λ d. rw (eq-eqb s.value s.value refl, own) (or_none (b.faults d)))
       (λ d. rw (eq-eqb s.value s.value refl, own) (or_none (b.upgrades d)))
 
   -- a seat of another fragment bars the domains of its node
   pub seat-barred : (o : Option Seat) (n : NodeInfo) → option_and_then (λ (x : Seat). node_at nodes x.node) o ≡ Some n → eqb g.value f.value ≡ false
-      → with_node (share_class Wide f g) b n ≡ with_seat nodes s f b g o
+      → with_node (share_class code f g) b n ≡ with_seat nodes code s f b g o
   seat-barred None n found other = absurd cc
-  seat-barred (Some seat) n found other = same_bars (with_node (share_class Wide f g) b n) (with_seat nodes s f b g (Some seat))
-      (λ d. rw (eq-eqb s.value s.value refl, other, found) (node-faults (share_class Wide f g) b n d))
-      (λ d. rw (eq-eqb s.value s.value refl, other, found) (node-upgrades (share_class Wide f g) b n d))
+  seat-barred (Some seat) n found other = same_bars (with_node (share_class code f g) b n) (with_seat nodes code s f b g (Some seat))
+      (λ d. rw (eq-eqb s.value s.value refl, other, found) (node-faults (share_class code f g) b n d))
+      (λ d. rw (eq-eqb s.value s.value refl, other, found) (node-upgrades (share_class code f g) b n d))
 
   -- and none, where the store has no such node
-  pub seat-nowhere : (o : Option Seat) → option_and_then (λ (x : Seat). node_at nodes x.node) o ≡ None → b ≡ with_seat nodes s f b g o
+  pub seat-nowhere : (o : Option Seat) → option_and_then (λ (x : Seat). node_at nodes x.node) o ≡ None → b ≡ with_seat nodes code s f b g o
   seat-nowhere None gone = refl
-  seat-nowhere (Some seat) gone = same_bars b (with_seat nodes s f b g (Some seat))
+  seat-nowhere (Some seat) gone = same_bars b (with_seat nodes code s f b g (Some seat))
       (λ d. rw gone (or_nothing (b.faults d) (is_beside s f (record { stripe = s; fragment = g; seat = seat }))))
       (λ d. rw gone (or_nothing (b.upgrades d) (is_beside s f (record { stripe = s; fragment = g; seat = seat }))))
 
@@ -100,15 +99,15 @@ module _ (nodes : List NodeInfo) (s : StripeNo) (f g : Fragment) (b : Barred) wh
     abbrev both_too : Option NodeInfo → Barred
     both_too m = option_map_or (λ n. with_upgrade (fault_too m) n.upgrade) m (fault_too m)
 
-    seat-at : (one : Bool) (m : Option NodeInfo) → node_at nodes seat.node ≡ m → one ≡ share_class Wide f g
-        → cond one (both_too (node_at nodes seat.node)) (fault_too (node_at nodes seat.node)) ≡ with_seat nodes s f b g (Some seat)
+    seat-at : (one : Bool) (m : Option NodeInfo) → node_at nodes seat.node ≡ m → one ≡ share_class code f g
+        → cond one (both_too (node_at nodes seat.node)) (fault_too (node_at nodes seat.node)) ≡ with_seat nodes code s f b g (Some seat)
     seat-at true (Some n) found is = ap both_too found ∙ ap (λ (x : Bool). with_node x b n) is ∙ seat-barred (Some seat) n found other
     seat-at false (Some n) found is = ap fault_too found ∙ ap (λ (x : Bool). with_node x b n) is ∙ seat-barred (Some seat) n found other
     seat-at true None gone is = ap both_too gone ∙ seat-nowhere (Some seat) gone
     seat-at false None gone is = ap fault_too gone ∙ seat-nowhere (Some seat) gone
 
-    pub seat-domains : (one : Bool) → one ≡ share_class Wide f g
-        → cond one (with_upgrade_of nodes (with_fault_of nodes b seat.node) seat.node) (with_fault_of nodes b seat.node) ≡ with_seat nodes s f b g (Some seat)
+    pub seat-domains : (one : Bool) → one ≡ share_class code f g
+        → cond one (with_upgrade_of nodes (with_fault_of nodes b seat.node) seat.node) (with_fault_of nodes b seat.node) ≡ with_seat nodes code s f b g (Some seat)
     seat-domains one is = seat-at one (node_at nodes seat.node) refl is
 
 -- ---- what several seats bar

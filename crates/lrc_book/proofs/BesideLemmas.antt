@@ -1,9 +1,10 @@
 -- The seats of a stripe's fragments, gathered fragment by fragment: the home of each, and its lease's target.
-use Rattle.std.proofs.Common.{◌≡◌, ℕ, ◌+◌, ◌<◌, eqb, List, [], ◌∷◌, ◌++◌, map, length, take, get_or, Option, Some, None, option_map, refl, sym, ap, ap₂, ◌∙◌, subst, inl, inr, append_assoc, append-nil}
+use Rattle.std.proofs.Common.{◌≡◌, ℕ, ◌+◌, ◌<◌, eqb, List, [], ◌∷◌, ◌++◌, map, length, take, get_or, Option, Some, None, option_map, refl, sym, ap, ◌∙◌, subst, inl, inr, append_assoc, append-nil}
 use Rattle.std.specs.List.{Contains}
 use Rattle.std.proofs.lemmas.Bool.{eqb-true, and_parts}
 use Rattle.std.proofs.lemmas.List.{take_more}
 use Rattle.std.proofs.lemmas.List.Elements.{Contains-append_left, Contains-append_right, Contains-append_cases}
+use Rattle.lrc_code.specs.declared.codes.Code.{Code}
 use Rattle.lrc_code.specs.declared.codes.Code.TheVariants.{Wide}
 use Rattle.lrc_code.specs.declared.numbers.StripeNo.{StripeNo}
 use Rattle.lrc_code.specs.declared.numbers.Fragment.{Fragment}
@@ -12,7 +13,6 @@ use Rattle.lrc_code.proofs.NumbersLemmas.{equal_stripes, equal_fragments}
 use Rattle.lrc_topology.specs.declared.NodeInfo.{NodeInfo}
 use Rattle.lrc_topology.specs.declared.seat.Seat.{Seat}
 use Rattle.lrc_topology.specs.declared.seat.Held.{Held}
-use Rattle.lrc_slots.specs.Barred.{Barred}
 use Rattle.lrc_stripes.specs.Levels.{home_of, homes_of}
 use Rattle.lrc_leases.specs.declared.lease.Lease.{Lease}
 use Rattle.lrc_leases.proofs.ListLemmas.{leases_in-own, leases_in-contains, contains-leases_in}
@@ -24,7 +24,7 @@ use Rattle.lrc_book.proofs.MemberLemmas.{Contains-here, Contains-cases, not-Cont
 use Rattle.lrc_book.proofs.TakenLemmas.{member-map}
 use Rattle.lrc_book.proofs.StoredLemmas.{found-home}
 use Rattle.lrc_book.proofs.ClearLemmas.{home-only}
-use Rattle.lrc_book.proofs.FragmentLemmas.{fragment-at, all-fragments}
+use Rattle.lrc_book.proofs.FragmentLemmas.{all-fragments}
 use Rattle.lrc_book.proofs.BarLemmas.{bars_in-push, bars_in-same}
 
 -- a fragment's seat, if it has one
@@ -74,40 +74,31 @@ module _ (s : StripeNo) (seats : Fragment → Option Seat) where
     | inr more ↦ Contains-append_right (held_if s g (seats g)) (held_all s seats gs) h (own-held gs f more h here)
   ]
 
-  module _ (nodes : List NodeInfo) (f : Fragment) (before : List Held) where
+  module _ (nodes : List NodeInfo) (code : Code) (f : Fragment) (before : List Held) where
     -- what one more seat bars, if there is one
     seat-barred : (g : Fragment) (hs : List Held) (o : Option Seat)
-        → with_seat nodes s f (bars_in nodes Wide s f hs) g o ≡ bars_in nodes Wide s f (hs ++ held_if s g o)
-    seat-barred g hs None = ap (bars_in nodes Wide s f) (sym (append-nil hs))
-    seat-barred g hs (Some seat) = bars_in-push nodes Wide s f hs (record { stripe = s; fragment = g; seat = seat })
+        → with_seat nodes code s f (bars_in nodes code s f hs) g o ≡ bars_in nodes code s f (hs ++ held_if s g o)
+    seat-barred g hs None = ap (bars_in nodes code s f) (sym (append-nil hs))
+    seat-barred g hs (Some seat) = bars_in-push nodes code s f hs (record { stripe = s; fragment = g; seat = seat })
 
     -- one fragment more of a list that is gone through
     pub held_all-more : (fs : List Fragment) (i : ℕ) (d : Fragment) → i < length fs
-        → with_seat nodes s f (bars_in nodes Wide s f (before ++ held_all s seats (take i fs))) (get_or fs i d) (seats (get_or fs i d))
-        ≡ bars_in nodes Wide s f (before ++ held_all s seats (take (i + 1) fs))
+        → with_seat nodes code s f (bars_in nodes code s f (before ++ held_all s seats (take i fs))) (get_or fs i d) (seats (get_or fs i d))
+        ≡ bars_in nodes code s f (before ++ held_all s seats (take (i + 1) fs))
     held_all-more fs i d within =
         let g = get_or fs i d in
         let so_far = held_all s seats (take i fs) in
         let one = held_if s g (seats g) in
         seat-barred g (before ++ so_far) (seats g)
-        ∙ ap (bars_in nodes Wide s f) (append_assoc before so_far one ∙ ap (λ (hs : List Held). before ++ hs)
+        ∙ ap (bars_in nodes code s f) (append_assoc before so_far one ∙ ap (λ (hs : List Held). before ++ hs)
         (ap (λ (hs : List Held). so_far ++ hs) (sym (append-nil one))
         ∙ sym (ap (held_all s seats) (take_more fs i d within) ∙ held_all-append (take i fs) (g ∷ []))))
 
-    -- one fragment more of all that there are
-    pub held_all-next : (b : Barred) (g : Fragment) (o : Option Seat) → b ≡ bars_in nodes Wide s f (before ++ held_all s seats (take g.value (fragments Wide)))
-        → o ≡ seats g → with_seat nodes s f b g o ≡ bars_in nodes Wide s f (before ++ held_all s seats (take (g.value + 1) (fragments Wide)))
-    held_all-next b g o are is =
-        let so_far = bars_in nodes Wide s f (before ++ held_all s seats (take g.value (fragments Wide))) in
-        ap₂ (λ (c : Barred) (a : Option Seat). with_seat nodes s f c g a) are is
-        ∙ ap (λ (h : Fragment). with_seat nodes s f so_far h (seats h)) (sym (fragment-at g))
-        ∙ held_all-more (fragments Wide) g.value g g.in_range
-
 -- lists with the same seats of the stripe bar the same beside others
-bars-beside : (nodes : List NodeInfo) (s : StripeNo) (f : Fragment) (before xs ys : List Held)
+bars-beside : (nodes : List NodeInfo) (code : Code) (s : StripeNo) (f : Fragment) (before xs ys : List Held)
     → ((h : Held) → Contains xs h → Contains ys h) → ((h : Held) → h.stripe ≡ s → Contains ys h → Contains xs h)
-    → bars_in nodes Wide s f (before ++ xs) ≡ bars_in nodes Wide s f (before ++ ys)
-bars-beside nodes s f before xs ys down up = bars_in-same nodes Wide s f (before ++ xs) (before ++ ys) (λ h beside. (
+    → bars_in nodes code s f (before ++ xs) ≡ bars_in nodes code s f (before ++ ys)
+bars-beside nodes code s f before xs ys down up = bars_in-same nodes code s f (before ++ xs) (before ++ ys) (λ h beside. (
   λ here. elim (Contains-append_cases before xs h here) [
     | inl first ↦ Contains-append_left before ys h first
     | inr later ↦ Contains-append_right before ys h (down h later)
@@ -167,14 +158,14 @@ module _ (nodes : List NodeInfo) (st : State) (s : StripeNo) (seated : AreSeated
       (subst (λ (r : StripeNo). Contains (held_if r h.fragment (Some h.seat)) h) stripe (Contains-here h [])))
 
   -- so they bar the same for each fragment, beside what is barred before
-  pub homes-all : (f : Fragment) (before : List Held)
-      → bars_in nodes Wide s f (before ++ held_all s (home_at st s) (fragments Wide)) ≡ bars_in nodes Wide s f (before ++ st.homes)
-  homes-all f before = bars-beside nodes s f before (held_all s (home_at st s) (fragments Wide)) st.homes
+  pub homes-all : (code : Code) (f : Fragment) (before : List Held)
+      → bars_in nodes code s f (before ++ held_all s (home_at st s) (fragments Wide)) ≡ bars_in nodes code s f (before ++ st.homes)
+  homes-all code f before = bars-beside nodes code s f before (held_all s (home_at st s) (fragments Wide)) st.homes
       (held-one s (home_at st s) st.homes (λ g. home-if g (home_of st.homes s g.value) refl) (fragments Wide))
       (λ h stripe home. own-held s (home_at st s) (fragments Wide) h.fragment (all-fragments h.fragment) h (home-held h stripe home))
 
-  pub targets-all : (f : Fragment) (before : List Held)
-      → bars_in nodes Wide s f (before ++ held_all s (target_at st s) (fragments Wide)) ≡ bars_in nodes Wide s f (before ++ map held_by st.leases)
-  targets-all f before = bars-beside nodes s f before (held_all s (target_at st s) (fragments Wide)) (map held_by st.leases)
+  pub targets-all : (code : Code) (f : Fragment) (before : List Held)
+      → bars_in nodes code s f (before ++ held_all s (target_at st s) (fragments Wide)) ≡ bars_in nodes code s f (before ++ map held_by st.leases)
+  targets-all code f before = bars-beside nodes code s f before (held_all s (target_at st s) (fragments Wide)) (map held_by st.leases)
       (held-one s (target_at st s) (map held_by st.leases) (λ g. target-if g (lease_of st s g) refl) (fragments Wide))
       (λ h stripe target. own-held s (target_at st s) (fragments Wide) h.fragment (all-fragments h.fragment) h (target-held h stripe target))

@@ -8,6 +8,7 @@ use Rattle.std.proofs.lemmas.List.Sums.{sum_by-cons}
 use Rattle.lrc_code.specs.declared.numbers.StripeNo.{StripeNo}
 use Rattle.lrc_code.specs.declared.numbers.NodeNo.{NodeNo}
 use Rattle.lrc_code.specs.declared.numbers.Fragment.{Fragment}
+use Rattle.lrc_code.specs.Codes.{has_fragment}
 use Rattle.lrc_code.proofs.NumbersLemmas.{equal_fragments}
 use Rattle.lrc_topology.specs.declared.NodeInfo.{NodeInfo}
 use Rattle.lrc_topology.specs.declared.seat.Seat.{Seat}
@@ -18,7 +19,7 @@ use Rattle.lrc_slots.specs.Slots.{Slots, with_free, load_at}
 use Rattle.lrc_stripes.specs.Levels.{home_of}
 use Rattle.lrc_stripes.specs.Stored.{Stored, StripeFragment, AreHomesOn, is_home_on}
 use Rattle.lrc_stripes.specs.Stored as stored
-use Rattle.lrc_book.specs.States.{State, has_stripe, held_by, seats_of, taken_seats}
+use Rattle.lrc_book.specs.States.{State, has_stripe, code_of, held_by, seats_of, taken_seats}
 use Rattle.lrc_book.specs.Steps.{stands_on, without_upgrading}
 use Rattle.lrc_book.specs.Goodness.{AreSeated}
 use Rattle.lrc_book.specs.Ties.{table_of}
@@ -113,6 +114,14 @@ module _ (nodes : List NodeInfo) (st : State) (s : StripeNo) (f : Fragment) (h :
       list_any-member (λ (u : StripeNo). eqb s.value u.value) st.stripes h.stripe (All-contains (λ (g : Held). Contains st.stripes g.stripe) (seats_of st) h good.there (Contains-append_left st.homes (map held_by st.leases) h there-home.0))
       (eq-eqb s.value h.stripe.value (sym (eqb-true h.stripe.value s.value parts.0)))
 
+  -- its fragment is one of the stripe's code
+  pub home-own : has_fragment (code_of st s) f.value ≡ true
+  home-own =
+      let parts = and_parts (eqb h.stripe.value s.value) (eqb h.fragment.value f.value) there-home.1 in
+      subst (λ (g : Fragment). has_fragment (code_of st s) g.value ≡ true) (equal_fragments h.fragment f (eqb-true _ _ parts.1))
+      (subst (λ (r : StripeNo). has_fragment (code_of st r) h.fragment.value ≡ true) (same_stripe h.stripe s (eqb-true _ _ parts.0))
+      (All-contains (λ (g : Held). has_fragment (code_of st g.stripe) g.fragment.value ≡ true) (seats_of st) h good.within (Contains-append_left st.homes (map held_by st.leases) h there-home.0)))
+
   pub seat-there : is_taken (taken_seats st) h.seat.node h.seat.slot ≡ true
   seat-there = member-taken (taken_seats st) h.seat.node h.seat.slot (home-seat st h there-home.0)
 
@@ -187,6 +196,12 @@ module _ (st : State) (k : Store) (kept : IsOf st k) (s : StripeNo) (f : Fragmen
   -- the home that the stripes show is one of the state
   pub home-kept : (seat : Seat) → (stored_in k.stripes).homes s f.value ≡ Some seat → (h : Held) × (home_of st.homes s f.value ≡ Some h) × (h.seat ≡ seat)
   home-kept seat is = home-at s f st.homes (home_of st.homes s f.value) refl seat (sym (ap (λ (t : Stored). t.homes s f.value) kept.stripes_is) ∙ is)
+
+  -- the code that is kept has its fragment
+  pub own-kept : (seat : Seat) → (stored_in k.stripes).homes s f.value ≡ Some seat → has_fragment ((stored_in k.stripes).code s) f.value ≡ true
+  own-kept seat is =
+      let home = home-kept seat is in
+      ap (λ (t : Stored). has_fragment (t.code s) f.value) kept.stripes_is ∙ home-own k.topology st s f home.0 kept.seated home.1
 
   -- its seat is taken
   pub clear-taken : (seat : Seat) → (stored_in k.stripes).homes s f.value ≡ Some seat → (slots_of k.table).taken seat.node seat.slot ≡ true

@@ -8,9 +8,9 @@ use Rattle.lrc_code.specs.declared.numbers.Fragment.{Fragment}
 use Rattle.lrc_topology.specs.declared.NodeInfo.{NodeInfo}
 use Rattle.lrc_leases.specs.declared.lease.Lease.{Lease as LeaseRecord}
 use Rattle.lrc_book.specs.declared.command.Command.{Command}
-use Rattle.lrc_book.specs.declared.command.Command.TheVariants.{Place, Drop, Lease, Next, Done, Abandon, Revoke, Fail, Down, Up, Drain, Undrain, Retire, Join, Upgrade, Upgraded, Tick}
+use Rattle.lrc_book.specs.declared.command.Command.TheVariants.{Place, Place6, Drop, Lease, Next, Done, Abandon, Revoke, Fail, Down, Up, Drain, Undrain, Retire, Join, Upgrade, Upgraded, Tick}
 use Rattle.lrc_book.specs.declared.reply.Reply.{Reply}
-use Rattle.lrc_book.specs.declared.reply.Reply.TheVariants.{Placed, Dropped, Granted, Ended, Changed}
+use Rattle.lrc_book.specs.declared.reply.Reply.TheVariants.{Placed, Placed6, Dropped, Granted, Ended, Changed}
 use Rattle.lrc_book.specs.declared.entry.Entry.{Entry}
 use Rattle.lrc_book.specs.declared.store.Store.{Store}
 use Rattle.lrc_book.specs.States.{State, lease_of}
@@ -30,6 +30,7 @@ done-clock st s f (Some l) = refl
 -- no change but that of a tick moves the clock
 changed-clock : (st : State) (c : Command) (r : Reply) → is_tick c ≡ false → (changed_by st c r).clock ≡ st.clock
 changed-clock st (Place s) (Placed seats) other = refl
+changed-clock st (Place6 s) (Placed6 seats) other = refl
 changed-clock st (Drop s) Dropped other = refl
 changed-clock st (Lease s f) (Granted l k) other = refl
 changed-clock st Next (Granted l k) other = refl
@@ -51,6 +52,7 @@ changed-clock st _ _ other = refl
 pub tick-is : (c : Command) → is_tick c ≡ true → c ≡ Tick
 tick-is Tick hit = refl
 tick-is (Place s) hit = absurd (cc)
+tick-is (Place6 s) hit = absurd (cc)
 tick-is (Drop s) hit = absurd (cc)
 tick-is (Lease s f) hit = absurd (cc)
 tick-is Next hit = absurd (cc)

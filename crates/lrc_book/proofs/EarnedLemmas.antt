@@ -2,7 +2,8 @@
 use Rattle.std.proofs.Common.{◌≡◌, inl, inr, Bool, true, false, not, is_none, List, [], ◌∷◌, ◌++◌, fold, Option, Some, None, Result, Ok, Err, ℕ, nat_lt, refl, sym, ap, ◌∙◌, subst}
 use Rattle.std.specs.List.{Contains}
 use Rattle.std.proofs.lemmas.List.Elements.{Contains-append_left, Contains-push, Contains-push_cases}
-use Rattle.lrc_code.specs.declared.codes.Code.TheVariants.{Wide}
+use Rattle.lrc_code.specs.declared.codes.Code.{Code}
+use Rattle.lrc_code.specs.declared.codes.Code.TheVariants.{Wide, Narrow}
 use Rattle.lrc_code.specs.declared.numbers.StripeNo.{StripeNo}
 use Rattle.lrc_code.specs.declared.numbers.NodeNo.{NodeNo}
 use Rattle.lrc_code.specs.declared.numbers.UpgradeNo.{UpgradeNo}
@@ -13,7 +14,7 @@ use Rattle.lrc_topology.specs.Nodes.{node_at, has_domain}
 use Rattle.lrc_leases.specs.declared.lease.Lease.{Lease as LeaseRecord}
 use Rattle.lrc_book.specs.declared.kind.Kind.{Kind}
 use Rattle.lrc_book.specs.declared.command.Command.{Command}
-use Rattle.lrc_book.specs.declared.command.Command.TheVariants.{Place, Drop, Lease, Next, Done, Abandon, Revoke, Fail, Down, Up, Drain, Undrain, Retire, Join, Upgrade, Upgraded, Tick}
+use Rattle.lrc_book.specs.declared.command.Command.TheVariants.{Place, Place6, Drop, Lease, Next, Done, Abandon, Revoke, Fail, Down, Up, Drain, Undrain, Retire, Join, Upgrade, Upgraded, Tick}
 use Rattle.lrc_book.specs.declared.reply.Reply.{Reply}
 use Rattle.lrc_book.specs.declared.reply.Reply.TheVariants.{Dropped, Granted, Idle, Ended, Changed, Refused}
 use Rattle.lrc_book.specs.declared.refusal.Refusal.{Refusal}
@@ -55,13 +56,14 @@ module _ (l : LeaseRecord) (k : Kind) where
   no-refusal : (r : Refusal) → Refused r ≡ Granted l k → ⊥
   no-refusal r e = cc
 
-  never-answer : (st : State) (s : StripeNo) (r : Result State Fragment) → Never (place_answer st s r)
-  never-answer st s (Ok done) e = absurd (cc)
-  never-answer st s (Err f) e = no-refusal (refusal.NoLawfulNode f) e
+  never-answer : (st : State) (code : Code) (r : Result State Fragment) → Never (place_answer st code r)
+  never-answer st Wide (Ok done) e = absurd (cc)
+  never-answer st Narrow (Ok done) e = absurd (cc)
+  never-answer st code (Err f) e = no-refusal (refusal.NoLawfulNode f) e
 
-  never-place : (nodes : List NodeInfo) (st : State) (s : StripeNo) → Never (place_outcome nodes st Wide s)
+  never-place : (nodes : List NodeInfo) (st : State) (code : Code) (s : StripeNo) → Never (place_outcome nodes st code s)
   unfolding place_outcome
-  never-place nodes st s = never-if st (has_stripe st s) refusal.StripeExists _ (never-answer st s (placed nodes (with_stripe st Wide s) s))
+  never-place nodes st code s = never-if st (has_stripe st s) refusal.StripeExists _ (never-answer st code (placed nodes (with_stripe st code s) s))
 
   never-drop : (st : State) (s : StripeNo) → Never (drop_outcome st s)
   unfolding drop_outcome
@@ -172,7 +174,8 @@ module _ (l : LeaseRecord) (k : Kind) where
       let new = lease-new nodes past st session s f l k e in
       (inl (sym (ap (λ (x : LeaseRecord). Lease x.stripe x.fragment) new.own)), sym (ap (λ (x : LeaseRecord). x.holder) new.own))
   asked nodes past st session Next e = (inr refl, next-asked nodes past st session e)
-  asked nodes past st session (Place s) e = absurd (never-place nodes st s e)
+  asked nodes past st session (Place s) e = absurd (never-place nodes st Wide s e)
+  asked nodes past st session (Place6 s) e = absurd (never-place nodes st Narrow s e)
   asked nodes past st session (Drop s) e = absurd (never-drop st s e)
   asked nodes past st session (Done s f d) e = absurd (never-done nodes st session s f d e)
   asked nodes past st session (Abandon s f d) e = absurd (never-abandon nodes st session s f d e)

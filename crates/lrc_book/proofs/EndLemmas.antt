@@ -3,12 +3,13 @@ use Rattle.std.proofs.Common.{◌≡◌, ◌≢◌, ℕ, is_some, IsSomeAnd, lt-
 use Rattle.std.specs.List.{All, Contains}
 use Rattle.std.specs.Option.{option_map_or}
 use Rattle.std.proofs.lemmas.Bool.{cases_Bool, eqb-true}
-use Rattle.std.proofs.lemmas.List.Elements.{All-contains, Contains-append_left, Contains-push, Contains-push_cases}
+use Rattle.std.proofs.lemmas.List.Elements.{All-contains, Contains-append_left, Contains-append_right, Contains-push, Contains-push_cases}
 use Rattle.lrc_code.specs.declared.numbers.StripeNo.{StripeNo}
 use Rattle.lrc_code.specs.declared.numbers.NodeNo.{NodeNo}
 use Rattle.lrc_code.specs.declared.numbers.Fragment.{Fragment}
 use Rattle.lrc_code.proofs.NumbersLemmas.{equal_fragments, equal_stripes}
 use Rattle.lrc_code.specs.Numbers.{same_stripe}
+use Rattle.lrc_code.specs.Codes.{has_fragment}
 use Rattle.lrc_topology.specs.declared.NodeInfo.{NodeInfo}
 use Rattle.lrc_topology.specs.declared.seat.Held.{Held}
 use Rattle.lrc_topology.specs.Nodes.{node_at}
@@ -28,7 +29,7 @@ use Rattle.lrc_leases.specs.Tables as lease_tables
 use Rattle.lrc_leases.specs.Tables.{leased_in}
 use Rattle.lrc_leases.proofs.ListLemmas.{find-some, is_of-parts, contains-leases_in, leased_of-less, leased_of-append}
 use Rattle.lrc_book.specs.declared.store.Store.{Store}
-use Rattle.lrc_book.specs.States.{State, has_stripe, held_by, taken_seats, lease_of}
+use Rattle.lrc_book.specs.States.{State, has_stripe, code_of, held_by, seats_of, taken_seats, lease_of}
 use Rattle.lrc_book.specs.Leases.{with_lease, without_lease, without_home, moved_in}
 use Rattle.lrc_book.specs.Goodness.{AreSeated, IsStanding}
 use Rattle.lrc_book.specs.Ties.{table_of}
@@ -68,6 +69,15 @@ module _ (nodes : List NodeInfo) (st : State) (s : StripeNo) (f : Fragment) (l :
       let at : lease_of st s f ≡ Some k =
       subst (λ (g : Fragment). lease_of st s g ≡ Some k) (equal_fragments k.fragment f parts.1) (subst (λ (r : StripeNo). lease_of st r k.fragment ≡ Some k) (equal_stripes k.stripe s parts.0) found) in
       let same : Some k ≡ Some l = sym at ∙ live in cc
+
+  -- its fragment is one of the stripe's code
+  pub lease-own : has_fragment (code_of st s) f.value ≡ true
+  lease-own =
+      let parts = is_of-parts s f.value l there-lease.1 in
+      subst (λ (g : Fragment). has_fragment (code_of st s) g.value ≡ true) (equal_fragments l.fragment f parts.1)
+      (subst (λ (r : StripeNo). has_fragment (code_of st r) l.fragment.value ≡ true) (equal_stripes l.stripe s parts.0)
+      (All-contains (λ (h : Held). has_fragment (code_of st h.stripe) h.fragment.value ≡ true) (seats_of st) (held_by l) good.within
+      (Contains-append_right st.homes (map held_by st.leases) (held_by l) (map-member held_by st.leases l there-lease.0))))
 
   abbrev pub targets : List Held
   targets = map held_by st.leases
@@ -208,6 +218,9 @@ module _ (st : State) (k : Store) (kept : IsOf st k) (s : StripeNo) (f : Fragmen
 -- ---- what is kept when its target becomes the home
 
 module _ (st : State) (k : Store) (kept : IsOf st k) (s : StripeNo) (f : Fragment) (l : Lease) (live : lease_of st s f ≡ Some l) where
+  pub move-own : IsTrue (has_fragment ((stored_in k.stripes).code s) f.value)
+  move-own = ap (λ (t : Stored). has_fragment (t.code s) f.value) kept.stripes_is ∙ lease-own k.topology st s f l live kept.seated
+
   pub move-slot : IsTrue (has_slot (stored_in k.stripes).nodes l.target)
   move-slot = ap (λ (t : Stored). has_slot t.nodes l.target) kept.stripes_is ∙ target-slot k.topology st s f l live kept.seated
 
@@ -263,7 +276,7 @@ module _ (st : State) (k : Store) (kept : IsOf st k) (l : Lease) (told : IsGrant
       → IsOf (with_lease st l) (record k { table = table; leases = leases })
   grant-kept table leases taken added = record {
     known = kept.known;
-    seated = granted-seated k.topology kept.known st l kept.seated (chosen-here st k kept l.stripe l.fragment l.target told.chosen_is) (stripe-member st l.stripe told.there) told.new;
+    seated = granted-seated k.topology kept.known st l kept.seated (chosen-here st k kept l.stripe l.fragment l.target told.chosen_is) (stripe-member st l.stripe told.there) told.own told.new;
     table_is = taken ∙ ap (λ (t : Slots). with_taken t l.target.node (Some l.target.slot)) kept.table_is ∙ grant-table;
     stripes_is = kept.stripes_is;
     leases_is = own-room (with_lease st l).leases (leased_in leases) ((leased_in k.leases).spare - 1)

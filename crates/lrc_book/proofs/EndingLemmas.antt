@@ -2,7 +2,8 @@
 use Rattle.std.proofs.Common.{◌+◌, ◌≡◌, ◌≢◌, inl, inr, Bool, true, false, not, nat_lt, is_none, List, [], ◌∷◌, filter, find, Option, Some, None, Result, Ok, Err, refl, sym, ap, ◌∙◌}
 use Rattle.std.proofs.lemmas.Bool.{cases_Bool, ne_eqb}
 use Rattle.std.proofs.lemmas.Option.{same_Some}
-use Rattle.lrc_code.specs.declared.codes.Code.TheVariants.{Wide}
+use Rattle.lrc_code.specs.declared.codes.Code.{Code}
+use Rattle.lrc_code.specs.declared.codes.Code.TheVariants.{Wide, Narrow}
 use Rattle.lrc_code.specs.declared.numbers.StripeNo.{StripeNo}
 use Rattle.lrc_code.specs.declared.numbers.NodeNo.{NodeNo}
 use Rattle.lrc_code.specs.declared.numbers.UpgradeNo.{UpgradeNo}
@@ -17,7 +18,7 @@ use Rattle.lrc_leases.proofs.ListLemmas.{leases_in-own, is_of-parts, is_of-from}
 use Rattle.lrc_book.specs.Leases.{tick_outcome}
 use Rattle.lrc_leases.specs.Leased.{ends_at}
 use Rattle.lrc_book.specs.declared.command.Command.{Command}
-use Rattle.lrc_book.specs.declared.command.Command.TheVariants.{Place, Drop, Lease, Next, Done, Abandon, Revoke, Fail, Down, Up, Drain, Undrain, Retire, Join, Upgrade, Upgraded, Tick}
+use Rattle.lrc_book.specs.declared.command.Command.TheVariants.{Place, Place6, Drop, Lease, Next, Done, Abandon, Revoke, Fail, Down, Up, Drain, Undrain, Retire, Join, Upgrade, Upgraded, Tick}
 use Rattle.lrc_book.specs.declared.reply.Reply.TheVariants.{Dropped, Changed}
 use Rattle.lrc_book.specs.declared.refusal.Refusal.TheVariants as refusal
 use Rattle.lrc_book.specs.declared.entry.Entry.{Entry}
@@ -63,14 +64,14 @@ module _ (nodes : List NodeInfo) (past : List Entry) (st : State) (session : Ses
   apart-of : (r : StripeNo) (g : Fragment) → ¬ ((l.stripe ≡ r) × (l.fragment ≡ g)) → s ≡ r → f ≢ g
   apart-of r g other same_stripe same_fragment = other (own_stripe ∙ same_stripe, own_fragment ∙ same_fragment)
 
-  placed-lasts : (r : StripeNo) (o : Result State Fragment) → placed nodes (with_stripe st Wide r) r ≡ o → Lasts (place_answer st r o).1
-  placed-lasts r (Err g) e = live
-  placed-lasts r (Ok done) e = ap (λ (x : State). lease_of x s f) (placed-grown nodes st r done e).is ∙ live
+  placed-lasts : (code : Code) (r : StripeNo) (o : Result State Fragment) → placed nodes (with_stripe st code r) r ≡ o → Lasts (place_answer st code o).1
+  placed-lasts code r (Err g) e = live
+  placed-lasts code r (Ok done) e = ap (λ (x : State). lease_of x s f) (placed-grown nodes st code r done e).is ∙ live
 
-  place-lasts : (r : StripeNo) → Lasts (place_outcome nodes st Wide r).1
+  place-lasts : (code : Code) (r : StripeNo) → Lasts (place_outcome nodes st code r).1
   unfolding place_outcome
-  place-lasts r =
-      either-way Lasts (has_stripe st r) refusal.StripeExists st _ live (λ absent. placed-lasts r (placed nodes (with_stripe st Wide r) r) refl)
+  place-lasts code r =
+      either-way Lasts (has_stripe st r) refusal.StripeExists st _ live (λ absent. placed-lasts code r (placed nodes (with_stripe st code r) r) refl)
 
   other-stripe : (r : StripeNo) → l.stripe ≢ r → is_other r l.stripe ≡ true
   other-stripe r other = ap not (ne_eqb r.value l.stripe.value (λ same. other (sym (equal_stripes r l.stripe same))))
@@ -177,7 +178,8 @@ module _ (nodes : List NodeInfo) (past : List Entry) (st : State) (session : Ses
 
   -- a lease that is live is live after each command that cannot end it
   pub lease-lasts-by : (c : Command) → ¬ (CanEnd st l c) → Lasts (step nodes past st session c).1
-  lease-lasts-by (Place r) other = place-lasts r
+  lease-lasts-by (Place r) other = place-lasts Wide r
+  lease-lasts-by (Place6 r) other = place-lasts Narrow r
   lease-lasts-by (Drop r) other = drop-lasts r other
   lease-lasts-by (Lease r g) other = lease-lasts r g
   lease-lasts-by Next other = next-lasts

@@ -2,13 +2,14 @@
 use Rattle.std.proofs.Common.{Some, None, ◌≢◌, fold, if◌then◌else◌, ◌||◌, ◌≡◌, ℕ, ◌+◌, ◌<◌, ◌≤◌, Bool, true, false, not, ◌&&◌, eqb, List, [], ◌∷◌, map, filter, length, take, get_or, zero-add, refl, sym, ap, ◌∙◌, subst, inl, inr, arith}
 use Rattle.std.proofs.Math.Path.{fun_ext}
 use Rattle.std.specs.List.{Contains, list_any, range_with_len}
-use Rattle.std.proofs.lemmas.Bool.{cases_Bool, eqb-true, eq-eqb, ne_eqb}
+use Rattle.std.proofs.lemmas.Bool.{cases_Bool, eqb-true, eq-eqb, ne_eqb, lt-ltb, ltb-true}
 use Rattle.std.proofs.lemmas.List.{take_more, get_or-map}
 use Rattle.std.proofs.lemmas.List.FromFn.{get_or-range_with_len}
+use Rattle.lrc_code.specs.declared.codes.Code.{Code}
 use Rattle.lrc_code.specs.declared.codes.Code.TheVariants.{Wide}
 use Rattle.lrc_code.specs.declared.numbers.StripeNo.{StripeNo}
 use Rattle.lrc_code.specs.declared.numbers.Fragment.{Fragment}
-use Rattle.lrc_code.specs.Codes.{fragments}
+use Rattle.lrc_code.specs.Codes.{fragments, fragment_count, has_fragment}
 use Rattle.lrc_code.proofs.NumbersLemmas.{equal_fragments}
 use Rattle.lrc_topology.specs.declared.seat.Held.{Held}
 use Rattle.lrc_book.specs.Steps.{is_other, without_upgrading}
@@ -37,6 +38,7 @@ use Rattle.lrc_slots.specs.Slots.{Slots, with_free}
 use Rattle.lrc_slots.specs.Tables as slots
 use Rattle.lrc_slots.specs.Tables.{slots_of}
 use Rattle.lrc_stripes.specs.Levels.{home_of, homes_of}
+use Rattle.lrc_stripes.proofs.MaskLemmas.{fragment-number_in, fragments-long}
 use Rattle.lrc_book.proofs.ClearLemmas.{home-at, none-at, seat-there, clear-table}
 use Rattle.lrc_book.proofs.StoredLemmas.{is_of}
 use Rattle.lrc_book.specs.Stores.{IsOf, kept_table}
@@ -52,6 +54,28 @@ fragment-at f =
 -- and so is one of the code's
 pub all-fragments : (f : Fragment) → Contains (fragments Wide) f
 all-fragments f = (f.value, f.in_range, fragment-at f)
+
+-- a fragment that a code has is one of its list
+pub code-fragments : (code : Code) (f : Fragment) → has_fragment code f.value ≡ true → Contains (fragments code) f
+code-fragments code f own =
+    let within = ltb-true f.value (fragment_count code) own in
+    (f.value, omega (arith, within, fragments-long code), equal_fragments (get_or (fragments code) f.value f) f (fragment-number_in code f.value f within))
+
+-- and only those are
+pub fragments-own : (code : Code) (f : Fragment) → Contains (fragments code) f → has_fragment code f.value ≡ true
+fragments-own code f (i, inside, is) =
+    let within : i < fragment_count code = omega (arith, inside, fragments-long code) in
+    let number : f.value ≡ i = ap (λ (g : Fragment). g.value) (sym is) ∙ fragment-number_in code i f within in
+    lt-ltb f.value (fragment_count code) (omega (arith, within, number))
+
+-- they stand in rising order
+pub code-rising : (code : Code) (i j : ℕ) (d : Fragment) → i < j → j < length (fragments code)
+    → (get_or (fragments code) i d).value < (get_or (fragments code) j d).value
+code-rising code i j d below within =
+    let long = fragments-long code in
+    let low = fragment-number_in code i d (omega (arith, below, within, long)) in
+    let high = fragment-number_in code j d (omega (arith, within, long)) in
+    omega (arith, below, low, high)
 
 -- a fragment's lease ended, and its home cleared
 abbrev pub bared : State → StripeNo → Fragment → State

@@ -11,14 +11,13 @@ use Rattle.lrc_code.specs.declared.numbers.Fragment.{Fragment}
 use Rattle.lrc_topology.specs.declared.NodeInfo.{NodeInfo}
 use Rattle.lrc_topology.specs.declared.seat.Seat.{Seat}
 use Rattle.lrc_topology.specs.declared.seat.Held.{Held}
-use Rattle.lrc_code.specs.declared.codes.Code.TheVariants.{Wide}
 use Rattle.lrc_code.specs.Codes.{fragments}
 use Rattle.lrc_stripes.specs.Levels.{comes_first}
 use Rattle.lrc_stripes.specs.Stored.{StripeFragment, has_work, AreWork, AreWorkFrom}
 use Rattle.lrc_stripes.proofs.ListLemmas.{Contains-unmap}
 use Rattle.lrc_leases.specs.declared.lease.Lease.{Lease as LeaseRecord}
 use Rattle.lrc_leases.specs.Leased.{is_of}
-use Rattle.lrc_book.specs.States.{State, held_by, has_stripe, seats_of, taken_seats, lease_of, rank}
+use Rattle.lrc_book.specs.States.{State, code_of, held_by, has_stripe, seats_of, taken_seats, lease_of, rank}
 use Rattle.lrc_book.specs.Choices.{IsApartFrom}
 use Rattle.lrc_book.specs.Repairs.{needs, kind}
 use Rattle.lrc_book.specs.Urgency.{is_grantable, all_fragments}
@@ -27,9 +26,9 @@ use Rattle.lrc_book.specs.Granting.{IsGrantable, IsMoreUrgent, IsMostUrgent}
 use Rattle.lrc_book.specs.Leases.{with_lease}
 use Rattle.lrc_book.specs.Repairing.{IsPast, IsFront, HaveGrantable}
 use Rattle.lrc_book.proofs.MemberLemmas.{All-members, map-member, member-filter, list_any-member}
-use Rattle.lrc_book.proofs.FragmentLemmas.{all-fragments}
+use Rattle.lrc_book.proofs.FragmentLemmas.{code-fragments}
 use Rattle.lrc_book.proofs.LeaseStepLemmas.{stripe-there}
-use Rattle.lrc_book.proofs.UrgencyLemmas.{fragments-from, granted-works, has-work}
+use Rattle.lrc_book.proofs.UrgencyLemmas.{fragments-from, needs-own, grantable-own, granted-works, has-work}
 use Rattle.lrc_book.proofs.MostUrgentLemmas.{stripe-words, grantable-words}
 
 -- ---- with one more lease, what is grantable was so
@@ -121,7 +120,8 @@ module _ (nodes : List NodeInfo) (st : State) (spare : ℕ) where
   pub past-works : (s : StripeNo) → IsPast nodes st s → has_work (stored_of nodes st spare) s ≡ true
   past-works s past =
       has-work nodes st spare s (stripe-there st s past.there)
-      (list_any-member (needs nodes st s) (fragments Wide) past.fragment (all-fragments past.fragment) past.needed)
+      (list_any-member (needs nodes st s) (fragments (code_of st s)) past.fragment
+      (code-fragments (code_of st s) past.fragment (needs-own nodes st s past.fragment past.needed)) past.needed)
 
   there-by : (s : StripeNo) → has_work (stored_of nodes st spare) s ≡ true → Contains st.stripes s
   there-by s has = stripe-there st s (and_parts (has_stripe st s) _ has).0
@@ -139,6 +139,6 @@ module _ (nodes : List NodeInfo) (st : State) (spare : ℕ) where
     there = λ s here. there-by s (and_parts (has_work (stored_of nodes st spare) s) _ ((are.each s).0 here)).0;
     rising = are.rising;
     each = λ p there grantable.
-        let words = grantable-words nodes st p (member-filter (is_grantable nodes st) (all_fragments st) p (fragments-from st.stripes p there) grantable) in
+        let words = grantable-words nodes st p (member-filter (is_grantable nodes st) (all_fragments st) p (fragments-from st st.stripes p (grantable-own nodes st p grantable) there) grantable) in
         (are.each p.0).1 (and_from _ _ (has-work nodes st spare p.0 there (granted-works nodes st spare p grantable)) (ap not (past.first p words)));
   }

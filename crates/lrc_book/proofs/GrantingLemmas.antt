@@ -7,7 +7,7 @@ use Rattle.lrc_topology.specs.declared.NodeInfo.{NodeInfo}
 use Rattle.lrc_topology.specs.declared.seat.Seat.{Seat}
 use Rattle.lrc_leases.specs.declared.lease.Lease.{Lease as LeaseRecord}
 use Rattle.lrc_book.specs.declared.kind.Kind.{Kind}
-use Rattle.lrc_book.specs.declared.kind.Kind.TheVariants.{Local, Global, Move}
+use Rattle.lrc_book.specs.declared.kind.Kind.TheVariants.{Local, Local3, Global, Move}
 use Rattle.lrc_book.specs.declared.reply.Reply.{Reply}
 use Rattle.lrc_book.specs.declared.reply.Reply.TheVariants.{Granted, Refused}
 use Rattle.lrc_book.specs.declared.refusal.Refusal.{Refusal}
@@ -59,6 +59,8 @@ module _ (nodes : List NodeInfo) (past : List Entry) (st : State) (session : Ses
       by-seat (record { there = there; none = none; needed = needed; suffices = λ g. absurd (let never : Move ≡ Global = sym from ∙ g in cc) }) (chosen nodes st s f) refl
   by-kind there none needed false is (Local sources) from =
       by-seat (record { there = there; none = none; needed = needed; suffices = λ g. absurd (let never : Local sources ≡ Global = sym from ∙ g in cc) }) (chosen nodes st s f) refl
+  by-kind there none needed false is (Local3 sources) from =
+      by-seat (record { there = there; none = none; needed = needed; suffices = λ g. absurd (let never : Local3 sources ≡ Global = sym from ∙ g in cc) }) (chosen nodes st s f) refl
 
   by-need : has_stripe st s ≡ true → lease_of st s f ≡ None → (b : Bool) → needs nodes st s f ≡ b
       → Says (refuse_if (not b) refusal.NotNeeded st (refuse_if (is_beyond_repair nodes st s f) refusal.Unrecoverable st (granted nodes past st session s f (chosen nodes st s f)))).0
@@ -103,6 +105,7 @@ module _ (nodes : List NodeInfo) (past : List Entry) (st : State) (session : Ses
       → (kind nodes st s f ≡ Global → is_safe nodes st s ≡ true) → (not safe && is_global k) ≡ false
   not-beyond true is k from suffices = refl
   not-beyond false is (Local sources) from suffices = refl
+  not-beyond false is (Local3 sources) from suffices = refl
   not-beyond false is Move from suffices = refl
   not-beyond false is Global from suffices = absurd (let both : false ≡ true = sym is ∙ suffices from in cc)
 

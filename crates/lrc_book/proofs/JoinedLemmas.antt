@@ -2,7 +2,8 @@
 use Rattle.std.proofs.Common.{◌≡◌, ◌≢◌, ◌&&◌, inl, inr, Bool, true, false, not, nat_lt, is_none, eqb, List, [], ◌∷◌, fold, Option, Some, None, Result, Ok, Err, ℕ, refl, sym, ap, ◌∙◌, subst}
 use Rattle.std.specs.List.{All}
 use Rattle.std.proofs.lemmas.Bool.{cases_Bool, eqb-true, eq-eqb}
-use Rattle.lrc_code.specs.declared.codes.Code.TheVariants.{Wide}
+use Rattle.lrc_code.specs.declared.codes.Code.{Code}
+use Rattle.lrc_code.specs.declared.codes.Code.TheVariants.{Wide, Narrow}
 use Rattle.lrc_code.specs.declared.numbers.StripeNo.{StripeNo}
 use Rattle.lrc_code.specs.declared.numbers.NodeNo.{NodeNo}
 use Rattle.lrc_code.specs.declared.numbers.SessionNo.{SessionNo}
@@ -16,7 +17,7 @@ use Rattle.lrc_leases.specs.declared.lease.Lease.{Lease as LeaseRecord}
 use Rattle.lrc_book.specs.Leases.{tick_outcome}
 use Rattle.lrc_book.specs.declared.mode.Mode.TheVariants.{Active, Draining}
 use Rattle.lrc_book.specs.declared.command.Command.{Command}
-use Rattle.lrc_book.specs.declared.command.Command.TheVariants.{Place, Drop, Lease, Next, Done, Abandon, Revoke, Fail, Down, Up, Drain, Undrain, Retire, Join, Upgrade, Upgraded, Tick}
+use Rattle.lrc_book.specs.declared.command.Command.TheVariants.{Place, Place6, Drop, Lease, Next, Done, Abandon, Revoke, Fail, Down, Up, Drain, Undrain, Retire, Join, Upgrade, Upgraded, Tick}
 use Rattle.lrc_book.specs.declared.reply.Reply.TheVariants.{Dropped, Ended, Changed}
 use Rattle.lrc_book.specs.declared.refusal.Refusal.TheVariants as refusal
 use Rattle.lrc_book.specs.declared.entry.Entry.{Entry}
@@ -57,14 +58,14 @@ module _ (nodes : List NodeInfo) (past : List Entry) (st : State) (session : Ses
       ap (λ (numbers : List NodeNo). has_number numbers m) same_draining
       ∙ apart m (ap (λ (numbers : List NodeNo). has_number numbers m) (sym same_gone) ∙ gone)
 
-  placed-apart : (r : StripeNo) (o : Result State Fragment) → placed nodes (with_stripe st Wide r) r ≡ o → NoneBoth (place_answer st r o).1
-  placed-apart r (Err g) e = apart
-  placed-apart r (Ok done) e = subst NoneBoth (sym (placed-grown nodes st r done e).is) apart
+  placed-apart : (code : Code) (r : StripeNo) (o : Result State Fragment) → placed nodes (with_stripe st code r) r ≡ o → NoneBoth (place_answer st code o).1
+  placed-apart code r (Err g) e = apart
+  placed-apart code r (Ok done) e = subst NoneBoth (sym (placed-grown nodes st code r done e).is) apart
 
-  place-apart : (r : StripeNo) → NoneBoth (place_outcome nodes st Wide r).1
+  place-apart : (code : Code) (r : StripeNo) → NoneBoth (place_outcome nodes st code r).1
   unfolding place_outcome
-  place-apart r =
-      either-way NoneBoth (has_stripe st r) refusal.StripeExists st _ apart (λ absent. placed-apart r (placed nodes (with_stripe st Wide r) r) refl)
+  place-apart code r =
+      either-way NoneBoth (has_stripe st r) refusal.StripeExists st _ apart (λ absent. placed-apart code r (placed nodes (with_stripe st code r) r) refl)
 
   drop-apart : (r : StripeNo) → NoneBoth (drop_outcome st r).1
   unfolding drop_outcome
@@ -128,7 +129,8 @@ module _ (nodes : List NodeInfo) (past : List Entry) (st : State) (session : Ses
   tick-apart = apart
 
   step-apart : (c : Command) → NoneBoth (step nodes past st session c).1
-  step-apart (Place r) = place-apart r
+  step-apart (Place r) = place-apart Wide r
+  step-apart (Place6 r) = place-apart Narrow r
   step-apart (Drop r) = drop-apart r
   step-apart (Lease r g) = lease-stays nodes past st session NoneBoth kept-apart r g
   step-apart Next = next-stays nodes past st session NoneBoth kept-apart

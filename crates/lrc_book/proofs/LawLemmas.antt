@@ -1,9 +1,9 @@
 -- What the reply to a command says of the state before it, and of the one that it leaves.
-use Rattle.std.proofs.Common.{inl, inr, ◌≡◌, ℕ, nat_lt, Bool, true, false, not, ◌||◌, is_none, List, [], ◌∷◌, ◌++◌, length, fold, Option, Some, None, Result, Ok, Err, refl, sym, ap, ◌∙◌, append_assoc, append-nil, arith}
+use Rattle.std.proofs.Common.{inl, inr, ◌≡◌, ◌≢◌, ℕ, nat_lt, Bool, true, false, not, ◌||◌, is_none, List, [], ◌∷◌, ◌++◌, length, map, drop, fold, Option, Some, None, Result, Ok, Err, refl, sym, ap, ◌∙◌, append_assoc, append-nil, arith}
 use Rattle.std.specs.Option.{option_map_or}
 use Rattle.std.proofs.lemmas.List.Folds.{fold_stays}
 use Rattle.lrc_code.specs.declared.codes.Code.{Code}
-use Rattle.lrc_code.specs.declared.codes.Code.TheVariants.{Wide}
+use Rattle.lrc_code.specs.declared.codes.Code.TheVariants.{Wide, Narrow}
 use Rattle.lrc_code.specs.declared.numbers.StripeNo.{StripeNo}
 use Rattle.lrc_code.specs.declared.numbers.NodeNo.{NodeNo}
 use Rattle.lrc_code.specs.declared.numbers.UpgradeNo.{UpgradeNo}
@@ -16,8 +16,8 @@ use Rattle.lrc_topology.specs.declared.seat.Held.{Held}
 use Rattle.lrc_topology.specs.Nodes.{node_at, has_domain}
 use Rattle.lrc_book.specs.Leases.{tick_outcome}
 use Rattle.lrc_book.specs.declared.command.Command.{Command}
-use Rattle.lrc_book.specs.declared.command.Command.TheVariants.{Place, Drop, Lease, Next, Done, Abandon, Revoke, Fail, Down, Up, Drain, Undrain, Retire, Join, Upgrade, Upgraded, Tick}
-use Rattle.lrc_book.specs.declared.reply.Reply.TheVariants.{Placed, Dropped, Ended, Changed, Refused}
+use Rattle.lrc_book.specs.declared.command.Command.TheVariants.{Place, Place6, Drop, Lease, Next, Done, Abandon, Revoke, Fail, Down, Up, Drain, Undrain, Retire, Join, Upgrade, Upgraded, Tick}
+use Rattle.lrc_book.specs.declared.reply.Reply.TheVariants.{Dropped, Ended, Changed, Refused}
 use Rattle.lrc_book.specs.declared.refusal.Refusal.{Refusal}
 use Rattle.lrc_book.specs.declared.refusal.Refusal.TheVariants as refusal
 use Rattle.lrc_book.specs.declared.entry.Entry.{Entry}
@@ -30,9 +30,9 @@ use Rattle.lrc_book.specs.Leases.{granted, lease_answer, lease_outcome, next_ans
 use Rattle.lrc_book.specs.Placement.{chosen, with_home, place_next, placed}
 use Rattle.lrc_book.specs.Choices.{AreChosen, IsFirstWithout}
 use Rattle.lrc_book.specs.Changes.{held_at, with_placed}
-use Rattle.lrc_book.proofs.StepLemmas.{place-there, place-passed, seats-added}
+use Rattle.lrc_book.proofs.StepLemmas.{place-there, place-passed, placed-all, seats-added}
 use Rattle.lrc_book.specs.Outcomes.{Outcome, refuse_if}
-use Rattle.lrc_book.specs.Steps.{with_stripe, without_stripe, place_answer, place_outcome, drop_outcome, node_outcome, with_gone, fail_outcome, down_outcome, up_outcome, drain_outcome, undrain_outcome, retire_outcome, join_outcome, without_upgrading, would_lose, upgrade_answer, upgrade_outcome, is_the_domain, upgraded_outcome, step}
+use Rattle.lrc_book.specs.Steps.{with_stripe, without_stripe, placed_reply, place_answer, place_outcome, drop_outcome, node_outcome, with_gone, fail_outcome, down_outcome, up_outcome, drain_outcome, undrain_outcome, retire_outcome, join_outcome, without_upgrading, would_lose, upgrade_answer, upgrade_outcome, is_the_domain, upgraded_outcome, step}
 
 -- ---- refused commands
 
@@ -44,9 +44,14 @@ keeps-if : (st : State) (met : Bool) (r : Refusal) (other : Outcome) → KeepsRe
 keeps-if st true r other next = λ q e. refl
 keeps-if st false r other next = next
 
-keeps-placed : (st : State) (s : StripeNo) (r : Result State Fragment) → KeepsRefused st (place_answer st s r)
-keeps-placed st s (Err f) = λ q e. refl
-keeps-placed st s (Ok done) = λ q e. absurd (cc)
+-- the reply to a stripe that is placed is no refusal
+pub never-refused : (code : Code) (seats : List Seat) (r : Refusal) → placed_reply code seats ≢ Refused r
+never-refused Wide seats r e = cc
+never-refused Narrow seats r e = cc
+
+keeps-placed : (st : State) (code : Code) (r : Result State Fragment) → KeepsRefused st (place_answer st code r)
+keeps-placed st code (Err f) = λ q e. refl
+keeps-placed st code (Ok done) = λ q e. absurd (never-refused code (map (λ h. h.seat) (drop (length st.homes) done.homes)) q e)
 
 keeps-node : (nodes : List NodeInfo) (st : State) (n : NodeNo) (wrong : Bool) (changed : State)
     → KeepsRefused st (node_outcome nodes st n wrong changed)
@@ -57,8 +62,8 @@ keeps-node nodes st n wrong changed =
 keeps-place : (nodes : List NodeInfo) (st : State) (code : Code) (s : StripeNo) → KeepsRefused st (place_outcome nodes st code s)
 unfolding place_outcome
 keeps-place nodes st code s =
-    keeps-if st (has_stripe st s) refusal.StripeExists (place_answer st s (placed nodes (with_stripe st code s) s))
-    (keeps-placed st s (placed nodes (with_stripe st code s) s))
+    keeps-if st (has_stripe st s) refusal.StripeExists (place_answer st code (placed nodes (with_stripe st code s) s))
+    (keeps-placed st code (placed nodes (with_stripe st code s) s))
 
 keeps-drop : (st : State) (s : StripeNo) → KeepsRefused st (drop_outcome st s)
 unfolding drop_outcome
@@ -171,6 +176,7 @@ keeps-tick st r e = absurd (cc)
 pub refused-keeps : (nodes : List NodeInfo) (past : List Entry) (st : State) (session : SessionNo) (c : Command) (r : Refusal)
     → (step nodes past st session c).0 ≡ Refused r → (step nodes past st session c).1 ≡ st
 refused-keeps nodes past st session (Place s) r e = keeps-place nodes st Wide s r e
+refused-keeps nodes past st session (Place6 s) r e = keeps-place nodes st Narrow s r e
 refused-keeps nodes past st session (Drop s) r e = keeps-drop st s r e
 refused-keeps nodes past st session (Lease s f) r e = keeps-lease nodes past st session s f r e
 refused-keeps nodes past st session Next r e = keeps-next nodes past st session r e
@@ -240,46 +246,43 @@ placed-none nodes s st (g ∷ gs) f e = placed-none-turn nodes s st g gs f (chos
 
 -- ---- the reply to Place
 
-module _ (nodes : List NodeInfo) (st : State) (s : StripeNo) where
+module _ (nodes : List NodeInfo) (st : State) (code : Code) (s : StripeNo) where
   abbrev begun : State
-  begun = with_stripe st Wide s
+  begun = with_stripe st code s
 
-  chosen-all : (seats : List Seat) → AreChosen nodes begun s (fragments Wide) seats → placed nodes begun s ≡ Ok (with_placed st s seats)
-  unfolding placed
-  chosen-all seats all = chosen-placed nodes s begun (fragments Wide) seats all
+  chosen-all : (seats : List Seat) → AreChosen nodes begun s (fragments code) seats → placed nodes begun s ≡ Ok (with_placed st code s seats)
+  chosen-all seats all = placed-all nodes st code s ∙ chosen-placed nodes s begun (fragments code) seats all
 
   -- seats that are chosen for a stripe that is absent are the reply
-  pub chosen-told : (seats : List Seat) → has_stripe st s ≡ false → AreChosen nodes begun s (fragments Wide) seats
-      → (place_outcome nodes st Wide s).0 ≡ Placed seats
+  pub chosen-told : (seats : List Seat) → has_stripe st s ≡ false → AreChosen nodes begun s (fragments code) seats
+      → (place_outcome nodes st code s).0 ≡ placed_reply code seats
   chosen-told seats absent all =
-      ap (λ (o : Outcome). o.0) (place-passed nodes st s absent ∙ ap (place_answer st s) (chosen-all seats all))
-      ∙ ap Placed (seats-added s st.homes seats (chosen-length nodes begun s (fragments Wide) seats all))
+      ap (λ (o : Outcome). o.0) (place-passed nodes st code s absent ∙ ap (place_answer st code) (chosen-all seats all))
+      ∙ ap (placed_reply code) (seats-added code s st.homes seats (chosen-length nodes begun s (fragments code) seats all))
 
-  none-all : (f : Fragment) → IsFirstWithout nodes begun s (fragments Wide) f → placed nodes begun s ≡ Err f
-  unfolding placed
-  none-all f first = none-placed nodes s begun (fragments Wide) f first
+  none-all : (f : Fragment) → IsFirstWithout nodes begun s (fragments code) f → placed nodes begun s ≡ Err f
+  none-all f first = placed-all nodes st code s ∙ none-placed nodes s begun (fragments code) f first
 
-  all-none : (f : Fragment) → placed nodes begun s ≡ Err f → IsFirstWithout nodes begun s (fragments Wide) f
-  unfolding placed
-  all-none f e = placed-none nodes s begun (fragments Wide) f e
+  all-none : (f : Fragment) → placed nodes begun s ≡ Err f → IsFirstWithout nodes begun s (fragments code) f
+  all-none f e = placed-none nodes s begun (fragments code) f (sym (placed-all nodes st code s) ∙ e)
 
   -- and so is the first fragment that finds no seat
-  pub none-told : (f : Fragment) → has_stripe st s ≡ false → IsFirstWithout nodes begun s (fragments Wide) f
-      → (place_outcome nodes st Wide s).0 ≡ Refused (refusal.NoLawfulNode f)
-  none-told f absent first = ap (λ (o : Outcome). o.0) (place-passed nodes st s absent ∙ ap (place_answer st s) (none-all f first))
+  pub none-told : (f : Fragment) → has_stripe st s ≡ false → IsFirstWithout nodes begun s (fragments code) f
+      → (place_outcome nodes st code s).0 ≡ Refused (refusal.NoLawfulNode f)
+  none-told f absent first = ap (λ (o : Outcome). o.0) (place-passed nodes st code s absent ∙ ap (place_answer st code) (none-all f first))
 
-  refused-by : (f : Fragment) (r : Result State Fragment) → placed nodes begun s ≡ r → (place_answer st s r).0 ≡ Refused (refusal.NoLawfulNode f)
-      → IsFirstWithout nodes begun s (fragments Wide) f
-  refused-by f (Ok done) is e = absurd (cc)
+  refused-by : (f : Fragment) (r : Result State Fragment) → placed nodes begun s ≡ r → (place_answer st code r).0 ≡ Refused (refusal.NoLawfulNode f)
+      → IsFirstWithout nodes begun s (fragments code) f
+  refused-by f (Ok done) is e = absurd (never-refused code (map (λ h. h.seat) (drop (length st.homes) done.homes)) (refusal.NoLawfulNode f) e)
   refused-by f (Err g) is e = let same : g ≡ f = cc in all-none f (is ∙ ap (λ (x : Fragment). Err x) same)
 
-  told-by : (f : Fragment) (there : Bool) → has_stripe st s ≡ there → (place_outcome nodes st Wide s).0 ≡ Refused (refusal.NoLawfulNode f)
-      → (has_stripe st s ≡ false) × IsFirstWithout nodes begun s (fragments Wide) f
+  told-by : (f : Fragment) (there : Bool) → has_stripe st s ≡ there → (place_outcome nodes st code s).0 ≡ Refused (refusal.NoLawfulNode f)
+      → (has_stripe st s ≡ false) × IsFirstWithout nodes begun s (fragments code) f
   told-by f true hit e =
       absurd (let never : Refused refusal.StripeExists ≡ Refused (refusal.NoLawfulNode f) = sym
-      (ap (λ (o : Outcome). o.0) (place-there nodes st s hit)) ∙ e in cc)
-  told-by f false miss e = (miss, refused-by f (placed nodes begun s) refl (sym (ap (λ (o : Outcome). o.0) (place-passed nodes st s miss)) ∙ e))
+      (ap (λ (o : Outcome). o.0) (place-there nodes st code s hit)) ∙ e in cc)
+  told-by f false miss e = (miss, refused-by f (placed nodes begun s) refl (sym (ap (λ (o : Outcome). o.0) (place-passed nodes st code s miss)) ∙ e))
 
-  pub told-none : (f : Fragment) → (place_outcome nodes st Wide s).0 ≡ Refused (refusal.NoLawfulNode f)
-      → (has_stripe st s ≡ false) × IsFirstWithout nodes begun s (fragments Wide) f
+  pub told-none : (f : Fragment) → (place_outcome nodes st code s).0 ≡ Refused (refusal.NoLawfulNode f)
+      → (has_stripe st s ≡ false) × IsFirstWithout nodes begun s (fragments code) f
   told-none f e = told-by f (has_stripe st s) refl e

@@ -1,8 +1,9 @@
 -- Which leases a command leaves live, and how many it grants.
-use Rattle.std.proofs.Common.{◌≡◌, ◌⊎◌, ℕ, ◌+◌, nat_lt, inl, inr, Bool, true, false, not, is_none, cond, List, [], ◌∷◌, ◌++◌, filter, Option, Some, None, Result, Ok, Err, refl, ap, ◌∙◌, subst, arith}
+use Rattle.std.proofs.Common.{◌≡◌, ◌⊎◌, ℕ, ◌+◌, nat_lt, inl, inr, Bool, true, false, not, is_none, cond, List, [], ◌∷◌, ◌++◌, filter, map, drop, length, Option, Some, None, Result, Ok, Err, refl, ap, ◌∙◌, subst, arith}
 use Rattle.std.specs.List.{Contains, count_by}
 use Rattle.std.proofs.lemmas.List.Sums.{sum_by-append, sum_by-cons}
-use Rattle.lrc_code.specs.declared.codes.Code.TheVariants.{Wide}
+use Rattle.lrc_code.specs.declared.codes.Code.{Code}
+use Rattle.lrc_code.specs.declared.codes.Code.TheVariants.{Wide, Narrow}
 use Rattle.lrc_code.specs.declared.numbers.StripeNo.{StripeNo}
 use Rattle.lrc_code.specs.declared.numbers.NodeNo.{NodeNo}
 use Rattle.lrc_code.specs.declared.numbers.UpgradeNo.{UpgradeNo}
@@ -15,7 +16,7 @@ use Rattle.lrc_leases.specs.declared.lease.Lease.{Lease as LeaseRecord}
 use Rattle.lrc_leases.specs.Leased.{is_of, ends_at}
 use Rattle.lrc_book.specs.declared.kind.Kind.{Kind}
 use Rattle.lrc_book.specs.declared.command.Command.{Command}
-use Rattle.lrc_book.specs.declared.command.Command.TheVariants.{Place, Drop, Lease, Next, Done, Abandon, Revoke, Fail, Down, Up, Drain, Undrain, Retire, Join, Upgrade, Upgraded, Tick}
+use Rattle.lrc_book.specs.declared.command.Command.TheVariants.{Place, Place6, Drop, Lease, Next, Done, Abandon, Revoke, Fail, Down, Up, Drain, Undrain, Retire, Join, Upgrade, Upgraded, Tick}
 use Rattle.lrc_book.specs.declared.reply.Reply.{Reply}
 use Rattle.lrc_book.specs.declared.reply.Reply.TheVariants.{Dropped, Granted, Idle, Ended, Changed, Refused, Ticked}
 use Rattle.lrc_book.specs.declared.refusal.Refusal.{Refusal}
@@ -28,7 +29,7 @@ use Rattle.lrc_book.specs.Placement.{chosen, placed}
 use Rattle.lrc_book.specs.Repairs.{needs, kind, is_beyond_repair}
 use Rattle.lrc_book.specs.Outcomes.{Outcome, refuse_if}
 use Rattle.lrc_book.specs.Leases.{is_grant, grants, term, ticked, tick_outcome, new_lease, granted, lease_answer, lease_outcome, next_answer, next_outcome, without_lease, at_epoch, is_held_by, moved_in, done_answer, done_outcome, abandon_answer, abandon_outcome, revoke_outcome}
-use Rattle.lrc_book.specs.Steps.{with_stripe, place_answer, place_outcome, is_other, without_stripe, drop_outcome, node_outcome, hangs_on, emptied, with_gone, with_down, without_down, with_draining, without_draining, without_gone, fail_outcome, down_outcome, up_outcome, drain_outcome, undrain_outcome, retire_outcome, join_outcome, with_upgrading, without_upgrading, would_lose, upgrade_answer, upgrade_outcome, is_the_domain, upgraded_outcome, step}
+use Rattle.lrc_book.specs.Steps.{with_stripe, placed_reply, place_answer, place_outcome, is_other, without_stripe, drop_outcome, node_outcome, hangs_on, emptied, with_gone, with_down, without_down, with_draining, without_draining, without_gone, fail_outcome, down_outcome, up_outcome, drain_outcome, undrain_outcome, retire_outcome, join_outcome, with_upgrading, without_upgrading, would_lose, upgrade_answer, upgrade_outcome, is_the_domain, upgraded_outcome, step}
 use Rattle.lrc_book.proofs.MemberLemmas.{filter-member}
 use Rattle.lrc_book.proofs.StepLemmas.{placed-grown}
 
@@ -76,16 +77,22 @@ module _ (past : List Entry) (st : State) where
 
 -- ---- stripes
 
-module _ (nodes : List NodeInfo) (s : StripeNo) where
-  answer-follows : (past : List Entry) (st : State) (r : Result State Fragment) → placed nodes (with_stripe st Wide s) s ≡ r
-      → Follows past st (place_answer st s r)
-  answer-follows past st (Ok done) e = same past st _ done (λ r f. refl) (ap (λ (x : State). x.leases) (placed-grown nodes st s done e).is)
+-- the reply to a stripe that is placed grants nothing
+placed-none : (code : Code) (seats : List Seat) (s : StripeNo) (f : Fragment) → is_grant s f (placed_reply code seats) ≡ false
+placed-none Wide seats s f = refl
+placed-none Narrow seats s f = refl
+
+module _ (nodes : List NodeInfo) (code : Code) (s : StripeNo) where
+  answer-follows : (past : List Entry) (st : State) (r : Result State Fragment) → placed nodes (with_stripe st code s) s ≡ r
+      → Follows past st (place_answer st code r)
+  answer-follows past st (Ok done) e =
+      same past st _ done (placed-none code (map (λ h. h.seat) (drop (length st.homes) done.homes))) (ap (λ (x : State). x.leases) (placed-grown nodes st code s done e).is)
   answer-follows past st (Err f) e = same past st _ st (λ r f. refl) refl
 
-  place-follows : (past : List Entry) (st : State) → Follows past st (place_outcome nodes st Wide s)
+  place-follows : (past : List Entry) (st : State) → Follows past st (place_outcome nodes st code s)
   unfolding place_outcome
   place-follows past st =
-      refused-follows past st (has_stripe st s) refusal.StripeExists _ (answer-follows past st (placed nodes (with_stripe st Wide s) s) refl)
+      refused-follows past st (has_stripe st s) refusal.StripeExists _ (answer-follows past st (placed nodes (with_stripe st code s) s) refl)
 
 drop-follows : (past : List Entry) (st : State) (s : StripeNo) → Follows past st (drop_outcome st s)
 unfolding drop_outcome
@@ -216,7 +223,8 @@ tick-follows past st = fewer past st (Ticked (st.clock + 1) (count_by (ends_at (
 -- Each command grants one lease, of a fragment that had none, or none; and all other live leases were there before.
 pub step-follows : (nodes : List NodeInfo) (past : List Entry) (st : State) (session : SessionNo) (c : Command)
     → Follows past st (step nodes past st session c)
-step-follows nodes past st session (Place s) = place-follows nodes s past st
+step-follows nodes past st session (Place s) = place-follows nodes Wide s past st
+step-follows nodes past st session (Place6 s) = place-follows nodes Narrow s past st
 step-follows nodes past st session (Drop s) = drop-follows past st s
 step-follows nodes past st session (Lease s f) = lease-follows nodes past st session s f
 step-follows nodes past st session Next = next-follows nodes past st session

@@ -1,11 +1,12 @@
 -- Leases that are granted and that end leave the stripes seated.
-use Rattle.std.proofs.Common.{◌≡◌, ◌≢◌, Bool, true, false, not, List, [], ◌∷◌, map, filter, Some, None, refl, sym, ap, ◌∙◌, subst}
+use Rattle.std.proofs.Common.{◌≡◌, ◌≢◌, IsTrue, Bool, true, false, not, List, [], ◌∷◌, map, filter, Some, None, refl, sym, ap, ◌∙◌, subst}
 use Rattle.std.specs.List.{Contains}
 use Rattle.std.proofs.lemmas.Bool.{not-true, not_from_true, eq-eqb}
 use Rattle.std.proofs.lemmas.List.Elements.{All-map, All-contains, Contains-append_right}
 use Rattle.std.proofs.lemmas.List.Kept.{AllPairs-filter}
 use Rattle.lrc_code.specs.declared.numbers.StripeNo.{StripeNo}
 use Rattle.lrc_code.specs.declared.numbers.Fragment.{Fragment}
+use Rattle.lrc_code.specs.Codes.{has_fragment}
 use Rattle.lrc_topology.specs.declared.NodeInfo.{NodeInfo}
 use Rattle.lrc_topology.specs.declared.seat.Held.{Held}
 use Rattle.lrc_topology.specs.Nodes.{AreNodes}
@@ -13,14 +14,14 @@ use Rattle.lrc_leases.specs.declared.lease.Lease.{Lease}
 use Rattle.lrc_leases.specs.Leased.{is_of}
 use Rattle.lrc_leases.proofs.ListLemmas.{find-some, one_each-filter, leases_in-own}
 use Rattle.lrc_code.proofs.NumbersLemmas.{equal_fragments}
-use Rattle.lrc_book.specs.States.{State, held_by, lease_of, seats_of, is_home_of}
+use Rattle.lrc_book.specs.States.{State, code_of, held_by, lease_of, seats_of, is_home_of}
 use Rattle.lrc_book.specs.Choices.{IsChoice}
 use Rattle.lrc_book.specs.Leases.{with_lease, without_lease, moved_in}
 use Rattle.lrc_book.specs.Goodness.{IsStanding, KeepApart, AreSeated}
 use Rattle.lrc_book.proofs.MemberLemmas.{All-members, filter-member, map-member}
 use Rattle.lrc_book.proofs.SeatingLists.{pairs-map}
 use Rattle.lrc_book.proofs.PairLemmas.{All-kept, pairs-kept, beside-left_out}
-use Rattle.lrc_book.proofs.SeatingLemmas.{HasNone, held_on, MayStand, KeepApart-turn, held-single, held-standing, inserted-seated, leased-seated, choice-stands}
+use Rattle.lrc_book.proofs.SeatingLemmas.{HasNone, held_on, IsWithin, MayStand, KeepApart-turn, held-single, held-standing, inserted-seated, leased-seated, choice-stands}
 
 -- some homes and some leases left out
 pub kept-seated : (nodes : List NodeInfo) (st : State) (p : Held → Bool) (q : Lease → Bool) → AreSeated nodes st
@@ -38,7 +39,9 @@ kept-seated nodes st p q seated =
       lawful = pairs-kept held_by p q st.homes st.leases (KeepApart nodes st) seated.lawful;
       one_home = AllPairs-filter (λ h g. h.stripe ≡ g.stripe → h.fragment ≢ g.fragment) p st.homes seated.one_home;
       one_lease = one_each-filter q st.leases seated.one_lease;
+      coded = seated.coded;
       there = All-kept held_by p q st.homes st.leases (λ h. Contains st.stripes h.stripe) seated.there;
+      within = All-kept held_by p q st.homes st.leases (IsWithin st) seated.within;
       reachable = seated.reachable;
     }
 
@@ -69,10 +72,10 @@ leases-seated nodes st q seated =
 
 -- a lease granted on a chosen seat, for a fragment that has none
 pub granted-seated : (nodes : List NodeInfo) → AreNodes nodes → (st : State) (l : Lease) → AreSeated nodes st
-    → IsChoice nodes st l.stripe l.fragment l.target → Contains st.stripes l.stripe
+    → IsChoice nodes st l.stripe l.fragment l.target → Contains st.stripes l.stripe → IsTrue (has_fragment (code_of st l.stripe) l.fragment.value)
     → lease_of st l.stripe l.fragment ≡ None → AreSeated nodes (with_lease st l)
-granted-seated nodes known st l seated choice there none =
-    leased-seated nodes st seated l (choice-stands nodes known st l.stripe l.fragment l.target choice there) none
+granted-seated nodes known st l seated choice there own none =
+    leased-seated nodes st seated l (choice-stands nodes known st l.stripe l.fragment l.target choice there own) none
 
 module _ (nodes : List NodeInfo) (st : State) (s : StripeNo) (f : Fragment) where
   -- the lease of a fragment ended
@@ -111,6 +114,7 @@ module _ (nodes : List NodeInfo) (st : State) (s : StripeNo) (f : Fragment) wher
           beside-left_out held_by p q st.homes st.leases (KeepApart nodes st) seated.lawful (KeepApart-turn nodes st) l found.0
           (not_from_true _ found.1);
       there = All-contains (λ h. Contains st.stripes h.stripe) (seats_of st) (held_by l) seated.there among;
+      within = All-contains (IsWithin st) (seats_of st) (held_by l) seated.within among;
     }
 
     left-none : HasNone s (filter p st.homes) f

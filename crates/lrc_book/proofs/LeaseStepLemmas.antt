@@ -1,12 +1,13 @@
 -- The commands of repair leases leave the stripes seated.
-use Rattle.std.proofs.Common.{◌≡◌, ℕ, inl, inr, true, not, is_none, nat_eq, List, Option, Some, None, refl, sym, subst}
+use Rattle.std.proofs.Common.{◌≡◌, ℕ, IsTrue, inl, inr, true, not, is_none, nat_eq, List, Option, Some, None, refl, sym, subst}
 use Rattle.std.specs.List.{Contains}
-use Rattle.std.proofs.lemmas.Bool.{cases_Bool, eqb-true}
+use Rattle.std.proofs.lemmas.Bool.{cases_Bool, eqb-true, and_parts}
 use Rattle.std.proofs.lemmas.Option.{same_Some}
 use Rattle.lrc_code.specs.declared.numbers.StripeNo.{StripeNo}
 use Rattle.lrc_code.specs.declared.numbers.SessionNo.{SessionNo}
 use Rattle.lrc_code.specs.declared.numbers.Fragment.{Fragment}
 use Rattle.lrc_code.specs.Numbers.{same_stripe}
+use Rattle.lrc_code.specs.Codes.{has_fragment}
 use Rattle.lrc_code.proofs.NumbersLemmas.{equal_stripes}
 use Rattle.lrc_topology.specs.declared.NodeInfo.{NodeInfo}
 use Rattle.lrc_topology.specs.declared.seat.Seat.{Seat}
@@ -16,7 +17,7 @@ use Rattle.lrc_stripes.specs.Stored.{StripeFragment}
 use Rattle.lrc_book.specs.declared.reply.Reply.TheVariants.{Ended}
 use Rattle.lrc_book.specs.declared.refusal.Refusal.TheVariants as refusal
 use Rattle.lrc_book.specs.declared.entry.Entry.{Entry}
-use Rattle.lrc_book.specs.States.{State, has_stripe, lease_of, online_at}
+use Rattle.lrc_book.specs.States.{State, has_stripe, code_of, lease_of, online_at}
 use Rattle.lrc_book.specs.Placement.{chosen}
 use Rattle.lrc_book.specs.Repairs.{needs, is_beyond_repair}
 use Rattle.lrc_book.specs.Leases.{new_lease, granted, lease_answer, lease_outcome, next_answer, next_outcome, without_lease, at_epoch, is_held_by, moved_in, done_answer, done_outcome, abandon_answer, abandon_outcome, revoke_outcome}
@@ -40,14 +41,18 @@ at_epoch-some e (Some k) l is = elim (cases_Bool (nat_eq k.epoch e)) [
   | inr miss ↦ absurd (let both : None ≡ Some l = rw miss at is in cc)
 ]
 
+-- what needs a lease is a fragment that the stripe's code has
+pub needs-own : (nodes : List NodeInfo) (st : State) (s : StripeNo) (f : Fragment) → needs nodes st s f ≡ true → has_fragment (code_of st s) f.value ≡ true
+needs-own nodes st s f e = (and_parts (has_fragment (code_of st s) f.value) _ e).0
+
 -- ---- grants
 
 module _ (nodes : List NodeInfo) (known : AreNodes nodes) (past : List Entry) (st : State) (session : SessionNo) (s : StripeNo) (f : Fragment) where
-  chosen-seated : AreSeated nodes st → has_stripe st s ≡ true → lease_of st s f ≡ None → (o : Option Seat) → chosen nodes st s f ≡ o
+  chosen-seated : AreSeated nodes st → has_stripe st s ≡ true → IsTrue (has_fragment (code_of st s) f.value) → lease_of st s f ≡ None → (o : Option Seat) → chosen nodes st s f ≡ o
       → AreSeated nodes (granted nodes past st session s f o).1
-  chosen-seated seated there none None e = seated
-  chosen-seated seated there none (Some seat) e =
-      granted-seated nodes known st (new_lease past st session s f seat) seated (chosen-choice nodes st s f seat known e) (stripe-there st s there) none
+  chosen-seated seated there own none None e = seated
+  chosen-seated seated there own none (Some seat) e =
+      granted-seated nodes known st (new_lease past st session s f seat) seated (chosen-choice nodes st s f seat known e) (stripe-there st s there) own none
 
   answered-seated : AreSeated nodes st → has_stripe st s ≡ true → (o : Option Lease) → lease_of st s f ≡ o
       → AreSeated nodes (lease_answer nodes past st session s f o).1
@@ -55,7 +60,7 @@ module _ (nodes : List NodeInfo) (known : AreNodes nodes) (past : List Entry) (s
   answered-seated seated there None e =
       either-way (AreSeated nodes) (not (needs nodes st s f)) refusal.NotNeeded st _ seated
       (λ needed. either-way (AreSeated nodes) (is_beyond_repair nodes st s f) refusal.Unrecoverable st _ seated
-      (λ safe. chosen-seated seated there e (chosen nodes st s f) refl))
+      (λ safe. chosen-seated seated there (needs-own nodes st s f (from_not _ needed)) e (chosen nodes st s f) refl))
 
   pub lease-seated : AreSeated nodes st → AreSeated nodes (lease_outcome nodes past st session s f).1
   unfolding lease_outcome

@@ -19,6 +19,7 @@ use Rattle.lrc_book.specs.Urgency.{next_of}
 use Rattle.lrc_book.specs.Repairs.{needs, is_beyond_repair}
 use Rattle.lrc_book.specs.Leases.{new_lease, granted, lease_answer, lease_outcome, next_answer, next_outcome, at_epoch, done_answer, done_outcome}
 use Rattle.lrc_book.specs.Stores.{IsGrant}
+use Rattle.lrc_book.proofs.LeaseStepLemmas.{needs-own}
 
 same-lease : (a b : Lease) (k l : Kind) → Granted a k ≡ Granted b l → a ≡ b
 same-lease a b k l e = cc
@@ -30,20 +31,20 @@ not-ended : (r : Refusal) → Refused r ≡ Ended → ⊥
 not-ended r e = cc
 
 module _ (nodes : List NodeInfo) (past : List Entry) (st : State) (session : SessionNo) (s : StripeNo) (f : Fragment) (l : Lease) (k : Kind) where
-  granted-by : has_stripe st s ≡ true → lease_of st s f ≡ None → (needed beyond : Bool) (seat : Option Seat) → chosen nodes st s f ≡ seat
+  granted-by : has_stripe st s ≡ true → lease_of st s f ≡ None → (needed beyond : Bool) → needs nodes st s f ≡ needed → (seat : Option Seat) → chosen nodes st s f ≡ seat
       → (refuse_if (not needed) refusal.NotNeeded st (refuse_if beyond refusal.Unrecoverable st (granted nodes past st session s f seat))).0
       ≡ Granted l k → IsGrant nodes st l
-  granted-by there new false beyond seat is e = absurd (not-granted refusal.NotNeeded l k e)
-  granted-by there new true true seat is e = absurd (not-granted refusal.Unrecoverable l k e)
-  granted-by there new true false None is e = absurd (not-granted (refusal.NoLawfulNode f) l k e)
-  granted-by there new true false (Some seat) is e =
-      subst (IsGrant nodes st) (same-lease (new_lease past st session s f seat) l _ k e) (record { there = there; new = new; chosen_is = is })
+  granted-by there new false beyond need seat is e = absurd (not-granted refusal.NotNeeded l k e)
+  granted-by there new true true need seat is e = absurd (not-granted refusal.Unrecoverable l k e)
+  granted-by there new true false need None is e = absurd (not-granted (refusal.NoLawfulNode f) l k e)
+  granted-by there new true false need (Some seat) is e =
+      subst (IsGrant nodes st) (same-lease (new_lease past st session s f seat) l _ k e) (record { there = there; own = needs-own nodes st s f need; new = new; chosen_is = is })
 
   lease-by : (there : Bool) → has_stripe st s ≡ there → (o : Option Lease) → lease_of st s f ≡ o
       → (refuse_if (not there) refusal.UnknownStripe st (lease_answer nodes past st session s f o)).0 ≡ Granted l k → IsGrant nodes st l
   lease-by false is o live e = absurd (not-granted refusal.UnknownStripe l k e)
   lease-by true is (Some m) live e = absurd (not-granted (refusal.AlreadyLeased m.epoch) l k e)
-  lease-by true is None live e = granted-by is live (needs nodes st s f) (is_beyond_repair nodes st s f) (chosen nodes st s f) refl e
+  lease-by true is None live e = granted-by is live (needs nodes st s f) (is_beyond_repair nodes st s f) refl (chosen nodes st s f) refl e
 
   -- a lease was granted: its stripe is there, its fragment had none, and its target was chosen
   pub lease-told : (lease_outcome nodes past st session s f).0 ≡ Granted l k → IsGrant nodes st l

@@ -72,6 +72,9 @@ pub mod OnlineLemmas
 pub mod OtherModesLemmas
 pub mod FailedLemmas
 pub mod NewSeatsLemmas
+pub mod CodedLemmas
+pub mod CodesStayLemmas
+pub mod LackingLemmas
 pub mod CountedLemmas
 pub mod NoRoomLemmas
 pub mod BoardLemmas

@@ -20,10 +20,10 @@ use Rattle.lrc_book.specs.Repairs.{needs}
 use Rattle.lrc_book.specs.Urgency.{by_rank, has_work, work, risk}
 use Rattle.lrc_book.specs.Granting.{IsMoreUrgent}
 use Rattle.lrc_book.proofs.MemberLemmas.{filter-member, member-filter, list_any-member, member-list_any, map-member}
-use Rattle.lrc_book.proofs.FragmentLemmas.{all-fragments}
+use Rattle.lrc_book.proofs.FragmentLemmas.{code-fragments}
 use Rattle.lrc_book.proofs.LeaseStepLemmas.{stripe-there}
 use Rattle.lrc_book.proofs.RisingLemmas.{in_order-strict}
-use Rattle.lrc_book.proofs.UrgencyLemmas.{stripe-order, stripe-ties}
+use Rattle.lrc_book.proofs.UrgencyLemmas.{stripe-order, stripe-ties, needs-own}
 use Rattle.lrc_book.proofs.MostUrgentLemmas.{stripe-words}
 
 not-whole : (l : Level) → not (is_whole l) ≡ true → l ≢ Whole
@@ -77,7 +77,8 @@ module _ (nodes : List NodeInfo) (st : State) where
   pub listed-work : (s : StripeNo) → has_stripe st s ≡ true → (f : Fragment) → needs nodes st s f ≡ true → Contains (work nodes st) s
   unfolding work
   listed-work s there f need =
-      listed-from (has_work nodes st) s there (list_any-member (needs nodes st s) (fragments (code_of st s)) f (all-fragments f) need)
+      listed-from (has_work nodes st) s there
+      (list_any-member (needs nodes st s) (fragments (code_of st s)) f (code-fragments (code_of st s) f (needs-own nodes st s f need)) need)
 
   pub work-rising : AllPairs (λ s t. s ≢ t) st.stripes → AllPairs (IsMoreUrgent nodes st) (work nodes st)
   unfolding work

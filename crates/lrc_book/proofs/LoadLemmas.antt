@@ -4,7 +4,8 @@ use Rattle.std.proofs.lemmas.List.{map-append}
 use Rattle.std.specs.List.{list_any}
 use Rattle.std.proofs.lemmas.Bool.{cases_Bool, or_parts}
 use Rattle.std.proofs.lemmas.List.Sums.{sum_by-append, sum_by-cons}
-use Rattle.lrc_code.specs.declared.codes.Code.TheVariants.{Wide}
+use Rattle.lrc_code.specs.declared.codes.Code.{Code}
+use Rattle.lrc_code.specs.declared.codes.Code.TheVariants.{Wide, Narrow}
 use Rattle.lrc_code.specs.declared.numbers.StripeNo.{StripeNo}
 use Rattle.lrc_code.specs.declared.numbers.NodeNo.{NodeNo}
 use Rattle.lrc_code.specs.declared.numbers.SessionNo.{SessionNo}
@@ -21,9 +22,9 @@ use Rattle.lrc_book.specs.Leases.{ticked}
 use Rattle.lrc_leases.specs.Leased.{ends_at}
 use Rattle.lrc_book.specs.declared.reply.Reply.TheVariants.{Ticked}
 use Rattle.lrc_book.specs.declared.command.Command.{Command}
-use Rattle.lrc_book.specs.declared.command.Command.TheVariants.{Place, Drop, Lease, Next, Done, Abandon, Revoke, Fail, Down, Up, Drain, Undrain, Retire, Join, Upgrade, Upgraded, Tick}
+use Rattle.lrc_book.specs.declared.command.Command.TheVariants.{Place, Place6, Drop, Lease, Next, Done, Abandon, Revoke, Fail, Down, Up, Drain, Undrain, Retire, Join, Upgrade, Upgraded, Tick}
 use Rattle.lrc_book.specs.declared.reply.Reply.{Reply}
-use Rattle.lrc_book.specs.declared.reply.Reply.TheVariants.{Placed, Dropped, Granted, Ended, Changed}
+use Rattle.lrc_book.specs.declared.reply.Reply.TheVariants.{Placed, Placed6, Dropped, Granted, Ended, Changed}
 use Rattle.lrc_book.specs.declared.entry.Entry.{Entry}
 use Rattle.lrc_book.specs.States.{State, is_home_of, load, lease_of}
 use Rattle.lrc_book.specs.Steps.{step, stands_on, hangs_on, without_stripe, with_gone, emptied}
@@ -116,10 +117,14 @@ module _ (st : State) (n : NodeNo) where
       ∙ load-unless (λ (h : Held). h.seat) n (is_home_of s f) st.homes homes)
       (load-unless (λ (l : LeaseRecord). l.target) n (is_of s f.value) st.leases targets)
 
+  placed-keeps : (code : Code) (s : StripeNo) (seats : List Seat) → list_any (λ seat. same_node seat.node n) seats ≡ false → load (with_placed st code s seats) n ≡ load st n
+  placed-keeps code s seats other =
+      by-parts (with_placed st code s seats) (load-with (λ (h : Held). h.seat) n st.homes (held_at s (fragments code) seats)
+      (held-none n s (fragments code) seats other)) refl
+
   changed-keeps : (c : Command) (r : Reply) → can_change_load st n c r ≡ false → Keeps (changed_by st c r)
-  changed-keeps (Place s) (Placed seats) other =
-      by-parts (with_placed st s seats) (load-with (λ (h : Held). h.seat) n st.homes (held_at s (fragments Wide) seats)
-      (held-none n s (fragments Wide) seats other)) refl
+  changed-keeps (Place s) (Placed seats) other = placed-keeps Wide s seats other
+  changed-keeps (Place6 s) (Placed6 seats) other = placed-keeps Narrow s seats other
   changed-keeps (Drop s) Dropped other =
       let parts = or_parts (has_home_there st n (λ h. same_stripe s h.stripe)) (has_target_there st n (λ l. same_stripe s l.stripe)) other in
       by-parts (without_stripe st s) (load-unless (λ (h : Held). h.seat) n (λ h. same_stripe s h.stripe) st.homes parts.0)

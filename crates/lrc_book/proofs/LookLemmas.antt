@@ -22,7 +22,7 @@ use Rattle.lrc_stripes.specs.declared.level.Level.{Level}
 use Rattle.lrc_stripes.specs.Levels.{homes_of, level_if, missing_if}
 use Rattle.lrc_stripes.proofs.MaskLemmas.{fragment-number}
 use Rattle.lrc_book.specs.declared.mode.Mode.{Mode}
-use Rattle.lrc_book.specs.States.{State, has_stripe, code_of, load, mode_of, is_online, online_at, missing, level, homes_shown, load_shown, level_shown, missing_shown, mode_shown}
+use Rattle.lrc_book.specs.States.{State, has_stripe, code_of, load, mode_of, is_online, online_at, missing, level, code_shown, homes_shown, load_shown, level_shown, missing_shown, mode_shown}
 use Rattle.lrc_book.proofs.NodeLemmas.{member-node_at}
 use Rattle.lrc_book.proofs.StateLemmas.{none-beyond}
 
@@ -53,6 +53,15 @@ module _ (nodes : List NodeInfo) (st : State) (s : StripeNo) where
   pub level-untold : (level_shown nodes st s ≡ None) ↔ (has_stripe st s ≡ false)
   unfolding level_if
   level-untold = (if-none (level nodes st s) (has_stripe st s), none-if (level nodes st s) (has_stripe st s))
+
+-- ---- codes
+
+module _ (st : State) (s : StripeNo) where
+  pub code-told : (c : Code) → (code_shown st s ≡ Some c) ↔ ((has_stripe st s ≡ true) × (code_of st s ≡ c))
+  code-told c = (if-some (code_of st s) (has_stripe st s) c, some-if (code_of st s) (has_stripe st s) c)
+
+  pub code-untold : (code_shown st s ≡ None) ↔ (has_stripe st s ≡ false)
+  code-untold = (if-none (code_of st s) (has_stripe st s), none-if (code_of st s) (has_stripe st s))
 
 -- ---- missing fragments
 

@@ -128,7 +128,7 @@ module _ (node : NodeNo) (was st : State) (k : Store) (behind : IsOfBut node was
       ∙ at-number (online_at k.topology st node) false (is_online was) (is_online st) refl (λ x stays. stays.online) m)
       (at-number (is_draining (mode_of st node)) false (λ n. is_draining (mode_of was n.number)) (λ n. is_draining (mode_of st n.number)) drains-here
       (λ x stays. stays.drains))
-      ∙ same_lists k.topology was st spare behind.stripes_stay behind.homes_stay
+      ∙ same_lists k.topology was st spare behind.stripes_stay behind.narrow_stay behind.homes_stay
 
   -- with all told, what is kept is that of the state
   pub follows : (online takes draining : Bool) → online ≡ online_at k.topology st node
@@ -157,6 +157,7 @@ behind-of was st node k modes kept seated there same others told = record {
   seated = seated;
   there = there;
   stripes_stay = ap (λ (x : State). x.stripes) same;
+  narrow_stay = ap (λ (x : State). x.narrow) same;
   homes_stay = ap (λ (x : State). x.homes) same;
   leases_stay = ap (λ (x : State). x.leases) same;
   others_stay = others;

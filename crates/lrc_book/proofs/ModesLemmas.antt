@@ -8,9 +8,9 @@ use Rattle.lrc_book.specs.declared.modes.Modes.{Modes}
 use Rattle.lrc_book.specs.States.{State, is_active, is_draining, is_gone}
 use Rattle.lrc_book.specs.Stores.{AreModesOf}
 
--- what is kept of the modes is that of each state that differs in its stripes, homes and leases alone
-pub same-modes : (was st : State) (m : Modes) → record was { stripes = st.stripes; homes = st.homes; leases = st.leases } ≡ st → AreModesOf was m
-    → AreModesOf st m
+-- what is kept of the modes is that of each state that differs in its stripes, their codes, homes and leases alone
+pub same-modes : (was st : State) (m : Modes)
+    → record was { stripes = st.stripes; narrow = st.narrow; homes = st.homes; leases = st.leases } ≡ st → AreModesOf was m → AreModesOf st m
 same-modes was st m e kept = subst (λ (x : State). AreModesOf x m) e (record {
   gone_are = kept.gone_are;
   draining_are = kept.draining_are;

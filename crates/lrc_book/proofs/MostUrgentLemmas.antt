@@ -18,7 +18,7 @@ use Rattle.lrc_stripes.specs.Stored.{StripeFragment}
 use Rattle.lrc_stripes.proofs.RepairLaws.{law_first}
 use Rattle.lrc_leases.specs.declared.lease.Lease.{Lease as LeaseRecord}
 use Rattle.lrc_book.specs.declared.kind.Kind.{Kind}
-use Rattle.lrc_book.specs.declared.kind.Kind.TheVariants.{Local, Global, Move}
+use Rattle.lrc_book.specs.declared.kind.Kind.TheVariants.{Local, Local3, Global, Move}
 use Rattle.lrc_book.specs.declared.reply.Reply.TheVariants.{Granted, Idle, Refused}
 use Rattle.lrc_book.specs.declared.refusal.Refusal.{Refusal}
 use Rattle.lrc_book.specs.declared.entry.Entry.{Entry}
@@ -35,7 +35,7 @@ use Rattle.lrc_book.proofs.ChoiceLemmas.{node-fits, none-fitting}
 use Rattle.lrc_book.proofs.LeaseStepLemmas.{stripe-there}
 use Rattle.lrc_book.proofs.LeaseLawLemmas.{lease-new}
 use Rattle.lrc_book.proofs.GrantingLemmas.{tell-granted}
-use Rattle.lrc_book.proofs.UrgencyLemmas.{fragment-order, fragment-ties, fragments-into, fragments-from}
+use Rattle.lrc_book.proofs.UrgencyLemmas.{fragment-order, fragment-ties, fragments-into, fragments-from, needs-own}
 
 -- ---- the order in words
 
@@ -59,12 +59,14 @@ suffices-from : (safe : Bool) (k : Kind) → not (not safe && is_global k) ≡ t
 suffices-from true k e from = refl
 suffices-from false Global e from = absurd (cc)
 suffices-from false (Local sources) e from = absurd (let never : Local sources ≡ Global = from in cc)
+suffices-from false (Local3 sources) e from = absurd (let never : Local3 sources ≡ Global = from in cc)
 suffices-from false Move e from = absurd (let never : Move ≡ Global = from in cc)
 
 from-suffices : (safe : Bool) (k : Kind) → (k ≡ Global → safe ≡ true) → not (not safe && is_global k) ≡ true
 from-suffices true k suffices = refl
 from-suffices false Global suffices = absurd (let both : false ≡ true = suffices refl in cc)
 from-suffices false (Local sources) suffices = refl
+from-suffices false (Local3 sources) suffices = refl
 from-suffices false Move suffices = refl
 
 pub none-from : (o : Option LeaseRecord) → is_none o ≡ true → o ≡ None
@@ -97,7 +99,7 @@ module _ (nodes : List NodeInfo) (st : State) where
       let need = and_parts (needs nodes st p.0 p.1) _ free.1 in
       let rest = and_parts (not (is_beyond_repair nodes st p.0 p.1)) _ need.1 in
       let found = node-of nodes st p.0 p.1 rest.1 in
-      let there : has_stripe st p.0 ≡ true = list_any-member (same_stripe p.0) st.stripes p.0 (fragments-into st.stripes p m.0)
+      let there : has_stripe st p.0 ≡ true = list_any-member (same_stripe p.0) st.stripes p.0 (fragments-into st st.stripes p m.0)
       (eq-eqb p.0.value p.0.value refl) in
       record {
         owed =
@@ -115,7 +117,7 @@ module _ (nodes : List NodeInfo) (st : State) where
   words-grantable : (p : StripeFragment) → IsGrantable nodes st p → Contains candidates p
   words-grantable p so =
       let seat = seat-by nodes st p.0 p.1 so.node so.fitting (chosen nodes st p.0 p.1) refl in
-      member-filter (is_grantable nodes st) (all_fragments st) p (fragments-from st.stripes p (stripe-there st p.0 so.owed.there))
+      member-filter (is_grantable nodes st) (all_fragments st) p (fragments-from st st.stripes p (needs-own nodes st p.0 p.1 so.owed.needed) (stripe-there st p.0 so.owed.there))
       (and_from (is_none (lease_of st p.0 p.1)) _ (ap (λ (o : Option LeaseRecord). is_none o) so.owed.none)
       (and_from (needs nodes st p.0 p.1) _ so.owed.needed
       (and_from (not (is_beyond_repair nodes st p.0 p.1)) _ (from-suffices (is_safe nodes st p.0) (kind nodes st p.0 p.1) so.owed.suffices)

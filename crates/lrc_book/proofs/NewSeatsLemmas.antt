@@ -3,7 +3,8 @@ use Rattle.std.proofs.Common.{◌+◌, ◌≡◌, ◌⊎◌, inl, inr, Bool, tru
 use Rattle.std.specs.List.{Contains}
 use Rattle.std.specs.Option.{option_map_or}
 use Rattle.std.proofs.lemmas.List.Elements.{Contains-append_cases}
-use Rattle.lrc_code.specs.declared.codes.Code.TheVariants.{Wide}
+use Rattle.lrc_code.specs.declared.codes.Code.{Code}
+use Rattle.lrc_code.specs.declared.codes.Code.TheVariants.{Wide, Narrow}
 use Rattle.lrc_code.specs.declared.numbers.StripeNo.{StripeNo}
 use Rattle.lrc_code.specs.declared.numbers.NodeNo.{NodeNo}
 use Rattle.lrc_code.specs.declared.numbers.SessionNo.{SessionNo}
@@ -20,9 +21,9 @@ use Rattle.lrc_leases.specs.Leased.{ends_at}
 use Rattle.lrc_book.specs.declared.reply.Reply.TheVariants.{Ticked}
 use Rattle.lrc_book.specs.declared.mode.Mode.TheVariants.{Active}
 use Rattle.lrc_book.specs.declared.command.Command.{Command}
-use Rattle.lrc_book.specs.declared.command.Command.TheVariants.{Place, Drop, Lease, Next, Done, Abandon, Revoke, Fail, Down, Up, Drain, Undrain, Retire, Join, Upgrade, Upgraded, Tick}
+use Rattle.lrc_book.specs.declared.command.Command.TheVariants.{Place, Place6, Drop, Lease, Next, Done, Abandon, Revoke, Fail, Down, Up, Drain, Undrain, Retire, Join, Upgrade, Upgraded, Tick}
 use Rattle.lrc_book.specs.declared.reply.Reply.{Reply}
-use Rattle.lrc_book.specs.declared.reply.Reply.TheVariants.{Placed, Dropped, Granted, Ended, Changed}
+use Rattle.lrc_book.specs.declared.reply.Reply.TheVariants.{Placed, Placed6, Dropped, Granted, Ended, Changed}
 use Rattle.lrc_book.specs.declared.entry.Entry.{Entry}
 use Rattle.lrc_book.specs.States.{State, taken_seats, lease_of, mode_of, is_online, online_at, is_home_of}
 use Rattle.lrc_book.specs.Placement.{with_home}
@@ -100,13 +101,13 @@ module _ (nodes : List NodeInfo) (st : State) where
   left-target : (keep : LeaseRecord → Bool) (l : LeaseRecord) → Contains (filter keep st.leases) l → Comes l.target
   left-target keep l here = old-target l (filter-member keep st.leases l here).0
 
-  placed-comes : (s : StripeNo) (seats : List Seat) → ((seat : Seat) → Contains seats seat → MayCome nodes st seat)
-      → (seat : Seat) → Contains (taken_seats (with_placed st s seats)) seat → Comes seat
-  placed-comes s seats may =
-      each-comes (with_placed st s seats)
-      (λ h here. elim (Contains-append_cases st.homes (held_at s (fragments Wide) seats) h here) [
+  placed-comes : (code : Code) (s : StripeNo) (seats : List Seat) → ((seat : Seat) → Contains seats seat → MayCome nodes st seat)
+      → (seat : Seat) → Contains (taken_seats (with_placed st code s seats)) seat → Comes seat
+  placed-comes code s seats may =
+      each-comes (with_placed st code s seats)
+      (λ h here. elim (Contains-append_cases st.homes (held_at s (fragments code) seats) h here) [
         | inl old ↦ old-home h old
-        | inr new ↦ inr (may h.seat (held-seat s (fragments Wide) seats h new))
+        | inr new ↦ inr (may h.seat (held-seat s (fragments code) seats h new))
       ])
       old-target
 
@@ -168,8 +169,11 @@ module _ (nodes : List NodeInfo) (known : AreNodes nodes) (past : List Entry) (s
   changed-comes : (c : Command) (r : Reply) → (step nodes past st session c).0 ≡ r → (seat : Seat) → Contains (taken_seats (changed_by st c r)) seat
       → Comes nodes st seat
   changed-comes (Place s) (Placed seats) told =
-      placed-comes nodes st s seats
-      (placed-may nodes known s (fragments Wide) seats (with_stripe st Wide s) (place-told nodes st s seats told).chosen_are)
+      placed-comes nodes st Wide s seats
+      (placed-may nodes known s (fragments Wide) seats (with_stripe st Wide s) (place-told nodes st Wide s seats told).chosen_are)
+  changed-comes (Place6 s) (Placed6 seats) told =
+      placed-comes nodes st Narrow s seats
+      (placed-may nodes known s (fragments Narrow) seats (with_stripe st Narrow s) (place-told nodes st Narrow s seats told).chosen_are)
   changed-comes (Drop s) Dropped told = dropped-comes nodes st s
   changed-comes (Lease s f) (Granted l k) told = leased-comes nodes st l (granted-may s f l k told)
   changed-comes Next (Granted l k) told = leased-comes nodes st l (next-may l k told)

@@ -5,7 +5,7 @@ use Rattle.std.proofs.lemmas.List.{drop_more, take_all, length-drop}
 use Rattle.std.proofs.lemmas.Nat.Bits.{bit_at-zero, bit_at-trailing_zeros}
 use Rattle.std.specs.Int.{trailing_zeros}
 use Rattle.lrc_code.specs.declared.codes.Code.TheVariants.{Wide}
-use Rattle.lrc_code.specs.Codes.{fragment, fragments}
+use Rattle.lrc_code.specs.Codes.{fragment, fragments, has_fragment}
 use Rattle.lrc_code.specs.declared.numbers.StripeNo.{StripeNo}
 use Rattle.lrc_code.specs.declared.numbers.SessionNo.{SessionNo}
 use Rattle.lrc_code.specs.declared.numbers.Fragment.{Fragment}
@@ -18,7 +18,7 @@ use Rattle.lrc_book.specs.declared.entry.Entry.{Entry}
 use Rattle.lrc_book.specs.declared.kind.Kind.{Kind}
 use Rattle.lrc_book.specs.declared.repair.Repair.{Repair}
 use Rattle.lrc_book.specs.declared.reply.Reply.TheVariants.{Granted}
-use Rattle.lrc_book.specs.States.{State, lease_of}
+use Rattle.lrc_book.specs.States.{State, code_of, lease_of}
 use Rattle.lrc_book.specs.Placement.{chosen}
 use Rattle.lrc_book.specs.Repairs.{needs, kind, is_beyond_repair}
 use Rattle.lrc_book.specs.Leases.{new_lease, granted, lease_outcome}
@@ -28,6 +28,7 @@ use Rattle.lrc_book.specs.Repairing.{is_waiting, IsRepair}
 use Rattle.lrc_book.proofs.FragmentLemmas.{number-at}
 use Rattle.lrc_book.proofs.MostUrgentLemmas.{none-from}
 use Rattle.lrc_book.proofs.LeaseReplyLemmas.{lost-by, able-by, lease-new}
+use Rattle.lrc_book.proofs.UrgencyLemmas.{needs-own}
 
 -- ---- the fragments that wait: those that need a lease, but for those that have one
 
@@ -40,6 +41,10 @@ left-out (Some l) false = refl
 -- ---- whether a lease of a fragment would be granted, found in three steps
 
 module _ (nodes : List NodeInfo) (st : State) (s : StripeNo) (f : Fragment) where
+  -- a fragment that waits is one of the stripe's code
+  pub waiting-own : is_waiting nodes st s f ≡ true → has_fragment (code_of st s) f.value ≡ true
+  waiting-own waits = needs-own nodes st s f (and_parts (needs nodes st s f) (is_none (lease_of st s f)) waits).0
+
   regrouped : (a b c : Bool) → (a && (b && c)) ≡ ((b && a) && c)
   regrouped true true c = refl
   regrouped true false c = refl

@@ -1,5 +1,5 @@
 -- Which nodes are online, which fragments need a lease, and which rank a level shows, in words.
-use Rattle.std.proofs.Common.{◌≡◌, ◌≢◌, ◌⊎◌, inl, inr, ℕ, Bool, true, false, not, List, Option, Some, None, IsSome, refl, sym, ap, ◌∙◌, subst}
+use Rattle.std.proofs.Common.{◌≡◌, ◌≢◌, ◌⊎◌, ◌<◌, inl, inr, ℕ, Bool, true, false, not, List, Option, Some, None, IsSome, refl, sym, ap, ◌∙◌, subst}
 use Rattle.std.specs.Option.{option_map_or}
 use Rattle.std.proofs.lemmas.Bool.{and_parts, and_from, eqb-true, eq-eqb}
 use Rattle.std.proofs.lemmas.Option.{same_Some}
@@ -9,6 +9,7 @@ use Rattle.lrc_code.specs.declared.numbers.NodeNo.{NodeNo}
 use Rattle.lrc_code.specs.declared.numbers.UpgradeNo.{UpgradeNo}
 use Rattle.lrc_code.specs.declared.numbers.Fragment.{Fragment}
 use Rattle.lrc_code.specs.Numbers.{same_upgrade}
+use Rattle.lrc_code.specs.Codes.{fragment_count}
 use Rattle.lrc_topology.specs.declared.NodeInfo.{NodeInfo}
 use Rattle.lrc_topology.specs.declared.seat.Seat.{Seat}
 use Rattle.lrc_topology.specs.Nodes.{node_at}
@@ -107,16 +108,17 @@ module _ (nodes : List NodeInfo) (st : State) where
       (homes_of st.homes s f.value ≡ None) ⊎ ((seat : Seat) × (homes_of st.homes s f.value ≡ Some seat) × IsSome (node_at nodes seat.node)
       × (mode_of st seat.node ≡ Draining))
 
-  pub needs-words : (s : StripeNo) (f : Fragment) → needs nodes st s f ≡ true → HasToMove s f
-  needs-words s f needed = by ((law_needs (code_of st s) (drains_at nodes st) (homes_of st.homes s) f.value).0 needed).1
+  pub needs-words : (s : StripeNo) (f : Fragment) → needs nodes st s f ≡ true → (f.value < fragment_count (code_of st s)) × HasToMove s f
+  needs-words s f needed =
+      let so = (law_needs (code_of st s) (drains_at nodes st) (homes_of st.homes s) f.value).0 needed in (so.0, by so.1)
     where
       by : (homes_of st.homes s f.value ≡ None) ⊎ ((seat : Seat) × (homes_of st.homes s f.value ≡ Some seat) × (drains_at nodes st seat.node ≡ true))
           → HasToMove s f
       by (inl none) = inl none
       by (inr (seat, own, drains)) = (let d = drains-words seat.node drains in inr (seat, own, d.0, d.1))
 
-  pub words-needs : (s : StripeNo) (f : Fragment) → HasToMove s f → needs nodes st s f ≡ true
-  words-needs s f so = (law_needs (code_of st s) (drains_at nodes st) (homes_of st.homes s) f.value).1 (f.in_range, by so)
+  pub words-needs : (s : StripeNo) (f : Fragment) → (f.value < fragment_count (code_of st s)) × HasToMove s f → needs nodes st s f ≡ true
+  words-needs s f so = (law_needs (code_of st s) (drains_at nodes st) (homes_of st.homes s) f.value).1 (so.0, by so.1)
     where
       by : HasToMove s f
           → (homes_of st.homes s f.value ≡ None) ⊎ ((seat : Seat) × (homes_of st.homes s f.value ≡ Some seat) × (drains_at nodes st seat.node ≡ true))

@@ -1,6 +1,7 @@
 -- The node that a table opens, and the seat that the rule chooses.
 use Rattle.std.proofs.Common.{◌≡◌, Bool, List, Option, Some, None, IfSome, is_some, filter, option_map, option_and_then, refl, subst, sym, ap, ◌∙◌}
 use Rattle.lrc_code.specs.declared.codes.Class.{Class}
+use Rattle.lrc_code.specs.declared.codes.Code.{Code}
 use Rattle.lrc_code.specs.declared.numbers.NodeNo.{NodeNo}
 use Rattle.lrc_code.proofs.OrderLemmas.{least-listed}
 use Rattle.lrc_topology.specs.declared.NodeInfo.{NodeInfo}
@@ -51,22 +52,22 @@ open-known nodes st b (Some x) known node =
     (least-listed (is_chosen_before (table_of nodes st)) x.node (filter (may_take (table_of nodes st) b) nodes) (sym node))).0
 
 -- outside the nodes that planned seats bar for a class, it is the next beside what they bar
-pub open-outside : (table : slot_tables.Table) (nodes : List NodeInfo) (st : State) (o : Option OpenNode) (faults upgrades : List Bool) (c : Class) (planned : List Held)
+pub open-outside : (table : slot_tables.Table) (nodes : List NodeInfo) (st : State) (o : Option OpenNode) (faults upgrades : List Bool) (code : Code) (c : Class) (planned : List Held)
     → AreNodes nodes → slots_of table ≡ kept_table nodes st
     → ((b d : Barred) → AreBarredNodes (slots_of table).nodes b faults → AreBarredNodes (slots_of table).nodes d upgrades
     → option_map (λ (x : OpenNode). x.node) o ≡ next_node (slots_of table) (joined b d))
-    → AreBarredNodes nodes (closed st.upgrading (fault_bars nodes planned)) faults → AreBarredNodes nodes (upgrade_bars nodes c planned) upgrades
-    → option_map (λ (x : OpenNode). x.node) o ≡ next_node (table_of nodes st) (bars_for nodes c planned)
-open-outside table nodes st o faults upgrades c planned known tied next by_fault by_upgrade =
+    → AreBarredNodes nodes (closed st.upgrading (fault_bars nodes planned)) faults → AreBarredNodes nodes (upgrade_bars nodes code c planned) upgrades
+    → option_map (λ (x : OpenNode). x.node) o ≡ next_node (table_of nodes st) (bars_for nodes code c planned)
+open-outside table nodes st o faults upgrades code c planned known tied next by_fault by_upgrade =
     let same = sym (ap (λ (t : Slots). t.nodes) tied) in
     let shut = closed st.upgrading (fault_bars nodes planned) in
-    next shut (upgrade_bars nodes c planned)
+    next shut (upgrade_bars nodes code c planned)
     (subst (λ (ns : List NodeInfo). AreBarredNodes ns shut faults) same by_fault)
-    (subst (λ (ns : List NodeInfo). AreBarredNodes ns (upgrade_bars nodes c planned) upgrades) same by_upgrade)
-    ∙ ap (λ (t : Slots). next_node t (joined shut (upgrade_bars nodes c planned))) tied
-    ∙ ap (next_node (kept_table nodes st)) (closed-joined st.upgrading (fault_bars nodes planned) (upgrade_bars nodes c planned)
-    ∙ ap (closed st.upgrading) (joined-bars nodes c planned))
-    ∙ closed-next nodes st (bars_for nodes c planned) known
+    (subst (λ (ns : List NodeInfo). AreBarredNodes ns (upgrade_bars nodes code c planned) upgrades) same by_upgrade)
+    ∙ ap (λ (t : Slots). next_node t (joined shut (upgrade_bars nodes code c planned))) tied
+    ∙ ap (next_node (kept_table nodes st)) (closed-joined st.upgrading (fault_bars nodes planned) (upgrade_bars nodes code c planned)
+    ∙ ap (closed st.upgrading) (joined-bars nodes code c planned))
+    ∙ closed-next nodes st (bars_for nodes code c planned) known
 
 -- ---- a node that is told by where the table keeps it
 

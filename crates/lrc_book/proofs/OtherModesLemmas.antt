@@ -11,9 +11,9 @@ use Rattle.lrc_leases.specs.declared.lease.Lease.{Lease as LeaseRecord}
 use Rattle.lrc_book.specs.declared.reply.Reply.TheVariants.{Ticked}
 use Rattle.lrc_book.specs.declared.mode.Mode.TheVariants.{Active, Draining, Gone}
 use Rattle.lrc_book.specs.declared.command.Command.{Command}
-use Rattle.lrc_book.specs.declared.command.Command.TheVariants.{Place, Drop, Lease, Next, Done, Abandon, Revoke, Fail, Down, Up, Drain, Undrain, Retire, Join, Upgrade, Upgraded, Tick}
+use Rattle.lrc_book.specs.declared.command.Command.TheVariants.{Place, Place6, Drop, Lease, Next, Done, Abandon, Revoke, Fail, Down, Up, Drain, Undrain, Retire, Join, Upgrade, Upgraded, Tick}
 use Rattle.lrc_book.specs.declared.reply.Reply.{Reply}
-use Rattle.lrc_book.specs.declared.reply.Reply.TheVariants.{Placed, Dropped, Granted, Ended, Changed}
+use Rattle.lrc_book.specs.declared.reply.Reply.TheVariants.{Placed, Placed6, Dropped, Granted, Ended, Changed}
 use Rattle.lrc_book.specs.declared.entry.Entry.{Entry}
 use Rattle.lrc_book.specs.States.{State, has_number, mode_of, is_down, lease_of}
 use Rattle.lrc_book.specs.Steps.{step}
@@ -41,6 +41,7 @@ module _ (st : State) (m : NodeNo) where
 
   pub changed-same : (c : Command) (r : Reply) → ¬ (IsOnNode m c) → IsAsItWas (changed_by st c r)
   changed-same (Place s) (Placed seats) other = record { gone = refl; draining = refl; down = refl }
+  changed-same (Place6 s) (Placed6 seats) other = record { gone = refl; draining = refl; down = refl }
   changed-same (Drop s) Dropped other = record { gone = refl; draining = refl; down = refl }
   changed-same (Lease s f) (Granted l k) other = record { gone = refl; draining = refl; down = refl }
   changed-same Next (Granted l k) other = record { gone = refl; draining = refl; down = refl }

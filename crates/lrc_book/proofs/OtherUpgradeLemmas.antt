@@ -7,9 +7,9 @@ use Rattle.lrc_code.specs.declared.numbers.Fragment.{Fragment}
 use Rattle.lrc_topology.specs.declared.NodeInfo.{NodeInfo}
 use Rattle.lrc_leases.specs.declared.lease.Lease.{Lease as LeaseRecord}
 use Rattle.lrc_book.specs.declared.command.Command.{Command}
-use Rattle.lrc_book.specs.declared.command.Command.TheVariants.{Place, Drop, Lease, Next, Done, Abandon, Revoke, Fail, Down, Up, Drain, Undrain, Retire, Join, Upgrade, Upgraded, Tick}
+use Rattle.lrc_book.specs.declared.command.Command.TheVariants.{Place, Place6, Drop, Lease, Next, Done, Abandon, Revoke, Fail, Down, Up, Drain, Undrain, Retire, Join, Upgrade, Upgraded, Tick}
 use Rattle.lrc_book.specs.declared.reply.Reply.{Reply}
-use Rattle.lrc_book.specs.declared.reply.Reply.TheVariants.{Placed, Dropped, Granted, Ended, Changed, Ticked}
+use Rattle.lrc_book.specs.declared.reply.Reply.TheVariants.{Placed, Placed6, Dropped, Granted, Ended, Changed, Ticked}
 use Rattle.lrc_book.specs.declared.entry.Entry.{Entry}
 use Rattle.lrc_book.specs.States.{State, lease_of}
 use Rattle.lrc_book.specs.Steps.{step}
@@ -31,6 +31,7 @@ module _ (st : State) where
 
   changed-same : (c : Command) (r : Reply) → IsOther c → IsSame st (changed_by st c r)
   changed-same (Place s) (Placed seats) other = refl
+  changed-same (Place6 s) (Placed6 seats) other = refl
   changed-same (Drop s) Dropped other = refl
   changed-same (Lease s f) (Granted l k) other = refl
   changed-same Next (Granted l k) other = refl

@@ -1,14 +1,16 @@
 -- The homes of a stripe that was placed, and of all others.
-use Rattle.std.proofs.Common.{◌≡◌, ◌≢◌, ℕ, zero, suc, ◌+◌, ◌-◌, zero-add, eqb, inl, inr, Bool, true, false, ◌&&◌, ◌||◌, nat_eq, if◌then◌else◌, List, [], ◌∷◌, ◌++◌, map, length, get_or, Option, Some, None, option_map, Result, Ok, Err, refl, sym, ap, ap₂, ◌∙◌, subst, arith}
-use Rattle.std.specs.List.{All, AllPairs, slice_get}
+use Rattle.std.proofs.Common.{◌≡◌, ◌≢◌, ◌≤◌, ℕ, zero, suc, ◌+◌, ◌-◌, zero-add, eqb, inl, inr, Bool, true, false, ◌&&◌, ◌||◌, nat_eq, nat_le, if◌then◌else◌, List, [], ◌∷◌, ◌++◌, map, length, drop, replicate, get_or, Option, Some, None, option_map, Result, Ok, Err, refl, sym, ap, ap₂, ◌∙◌, subst, arith}
+use Rattle.std.specs.List.{All, AllPairs, list_all, slice_get}
 use Rattle.std.specs.Option.{option_or}
 use Rattle.std.specs.Bool.{⊤}
-use Rattle.std.proofs.lemmas.Bool.{cases_Bool, eq-eqb, ne_eqb, eqb-true}
-use Rattle.std.proofs.lemmas.List.Elements.{All-head, All-tail, All-weaker, Contains-push}
+use Rattle.std.proofs.lemmas.Bool.{cases_Bool, eq-eqb, ne_eqb, eqb-true, and_parts, leb-true}
+use Rattle.std.proofs.lemmas.List.Elements.{All-nil, All-cons, All-head, All-tail, All-weaker, Contains-push}
+use Rattle.std.proofs.lemmas.List.{map-append}
+use Rattle.std.proofs.lemmas.Option.{slice_get_past}
 use Rattle.std.proofs.lemmas.List.Folds.{find-append, list_any-append}
-use Rattle.lrc_code.specs.declared.codes.Code.TheVariants.{Wide}
+use Rattle.lrc_code.specs.declared.codes.Code.{Code}
+use Rattle.lrc_code.specs.declared.codes.Code.TheVariants.{Wide, Narrow}
 use Rattle.lrc_code.specs.declared.numbers.StripeNo.{StripeNo}
-use Rattle.lrc_code.specs.declared.numbers.SessionNo.{SessionNo}
 use Rattle.lrc_code.specs.declared.numbers.Fragment.{Fragment}
 use Rattle.lrc_code.specs.Numbers.{same_stripe}
 use Rattle.lrc_code.specs.Codes.{fragments}
@@ -19,19 +21,17 @@ use Rattle.lrc_topology.specs.declared.seat.Held.{Held}
 use Rattle.lrc_stripes.specs.Levels.{home_of, homes_of}
 use Rattle.lrc_stripes.specs.Stored as stored
 use Rattle.lrc_stripes.specs.Stored.{Stored}
-use Rattle.lrc_book.specs.declared.command.Command.TheVariants.{Place}
-use Rattle.lrc_book.specs.declared.reply.Reply.TheVariants.{Placed}
+use Rattle.lrc_book.specs.declared.reply.Reply.TheVariants.{Placed, Placed6}
 use Rattle.lrc_book.specs.declared.refusal.Refusal.TheVariants as refusal
-use Rattle.lrc_book.specs.declared.entry.Entry.{Entry}
 use Rattle.lrc_book.specs.States.{State, has_stripe, homes_shown}
 use Rattle.lrc_book.specs.Placement.{placed}
 use Rattle.lrc_book.specs.Goodness.{AreSeated}
-use Rattle.lrc_book.specs.Steps.{with_stripe, place_answer, place_outcome}
-use Rattle.lrc_book.specs.Changes.{held_at, with_placed, changed_by}
+use Rattle.lrc_book.specs.Steps.{with_stripe, placed_reply, place_answer, place_outcome}
+use Rattle.lrc_book.specs.Changes.{held_at, with_placed}
 use Rattle.lrc_book.proofs.MemberLemmas.{list_any-member, AllPairs-head, AllPairs-tail}
 use Rattle.lrc_book.proofs.SeatingLemmas.{fragments-distinct}
 use Rattle.lrc_book.proofs.OutcomeLemmas.{either-way}
-use Rattle.lrc_book.proofs.StepLemmas.{placed-grown, step-changed}
+use Rattle.lrc_book.proofs.StepLemmas.{placed-grown, place-left}
 use Rattle.lrc_book.specs.Stores.{stored_of}
 use Rattle.lrc_book.proofs.StoredLemmas.{no_home, stored-stripe, same_homes}
 use Rattle.lrc_book.proofs.ToldLemmas.{place-told}
@@ -85,69 +85,7 @@ before-none (Some h) p none = refl
 pub homes-append : (homes more : List Held) (s : StripeNo) (n : ℕ) → home_of (homes ++ more) s n ≡ option_or (home_of homes s n) (home_of more s n)
 homes-append homes more s n = find-append (λ (h : Held). same_stripe h.stripe s && nat_eq h.fragment.value n) homes more
 
--- ---- what is shown
-
-abbrev seats_by : List Held → StripeNo → List (Option Seat)
-seats_by homes s = map (λ (f : Fragment). homes_of homes s f.value) (fragments Wide)
-
-abbrev shown : Bool → List (Option Seat) → Option (List (Option Seat))
-shown there seats = if there then Some seats else None
-
-module _ (nodes : List NodeInfo) (st : State) (s : StripeNo) where
-  placed-homes : (seats : List Seat) → AreSeated nodes st → has_stripe st s ≡ false → length seats ≡ 16
-      → homes_shown (with_placed st s seats) s ≡ Some (map (λ (seat : Seat). Some seat) seats)
-  placed-homes seats seated absent sixteen =
-      let there : has_stripe (with_placed st s seats) s ≡ true = list_any-member (same_stripe s) (st.stripes ++ s ∷ []) s
-      (Contains-push st.stripes s) (eq-eqb s.value s.value refl) in
-      let added = held_at s (fragments Wide) seats in
-      let same : seats_by (st.homes ++ added) s ≡ seats_by added s = map-agree (λ (f : Fragment). homes_of (st.homes ++ added) s f.value)
-      (λ (f : Fragment). homes_of added s f.value) (fragments Wide)
-      (λ i d within. ap home_in (homes-append st.homes added s (get_or (fragments Wide) i d).value
-      ∙ after-none (home_of st.homes s (get_or (fragments Wide) i d).value) (home_of added s (get_or (fragments Wide) i d).value)
-      (no_home nodes st s (get_or (fragments Wide) i d).value seated absent))) in
-      ap (λ (b : Bool). shown b (seats_by (st.homes ++ added) s)) there ∙ ap Some
-      (same ∙ added-homes s (fragments Wide) seats (fragments-distinct Wide) sixteen)
-
-  abbrev Shows : StripeNo → State → Type 0
-  Shows r next = homes_shown next r ≡ homes_shown st r
-
-  other-homes : (r : StripeNo) (seats : List Seat) → r ≢ s → Shows r (with_placed st s seats)
-  other-homes r seats other =
-      let added = held_at s (fragments Wide) seats in
-      let there : has_stripe (with_placed st s seats) r ≡ has_stripe st r =
-      list_any-append (same_stripe r) st.stripes (s ∷ [])
-      ∙ rw (ne_eqb r.value s.value (λ same. other (equal_stripes r s same))) (or_none (has_stripe st r)) in
-      let same : seats_by (st.homes ++ added) r ≡ seats_by st.homes r = map-agree (λ (f : Fragment). homes_of (st.homes ++ added) r f.value)
-      (λ (f : Fragment). homes_of st.homes r f.value) (fragments Wide)
-      (λ i d within. ap home_in (homes-append st.homes added r (get_or (fragments Wide) i d).value
-      ∙ before-none (home_of st.homes r (get_or (fragments Wide) i d).value) (home_of added r (get_or (fragments Wide) i d).value)
-      (none-added s r (fragments Wide) seats (get_or (fragments Wide) i d).value other))) in
-      ap (λ (b : Bool). shown b (seats_by (st.homes ++ added) r)) there ∙ ap (shown (has_stripe st r)) same
-    where
-      or_none : (b : Bool) → (b || false) ≡ b
-      or_none true = refl
-      or_none false = refl
-
-  shows-by : (r : StripeNo) (p : Result State Fragment) → placed nodes (with_stripe st Wide s) s ≡ p → r ≢ s → Shows r (place_answer st s p).1
-  shows-by r (Err f) is other = refl
-  shows-by r (Ok done) is other = let g = placed-grown nodes st s done is in subst (Shows r) (sym g.is) (other-homes r g.seats other)
-
-  -- every other stripe keeps its homes
-  pub place-others : (r : StripeNo) → r ≢ s → Shows r (place_outcome nodes st Wide s).1
-  unfolding place_outcome
-  place-others r other =
-      either-way (Shows r) (has_stripe st s) refusal.StripeExists st _ refl (λ absent. shows-by r (placed nodes (with_stripe st Wide s) s) refl other)
-
-  -- the seats that are told are the homes
-  pub place-homes : (past : List Entry) (session : SessionNo) (seats : List Seat) → AreSeated nodes st
-      → (place_outcome nodes st Wide s).0 ≡ Placed seats
-      → homes_shown (place_outcome nodes st Wide s).1 s ≡ Some (map (λ (seat : Seat). Some seat) seats)
-  place-homes past session seats seated told =
-      let parts = place-told nodes st s seats told in
-      ap (λ (next : State). homes_shown next s) (step-changed nodes past st session (Place s) ∙ ap (changed_by st (Place s)) told)
-      ∙ placed-homes seats seated parts.absent (chosen-length nodes (with_stripe st Wide s) s (fragments Wide) seats parts.chosen_are)
-
--- ---- what is stored of a stripe that was placed
+-- ---- homes by their numbers
 
 -- the fragments have the numbers from this one on
 abbrev AreNumbered : ℕ → List Fragment → Type 0
@@ -169,16 +107,114 @@ numbered-homes s n (f ∷ fs) (x ∷ xs) (suc i) k numbered e at =
     rw (eq-eqb s.value s.value refl, ne_eqb f.value k (λ same. let first = numbered.0 in absurd (omega (arith, first, at, same))))
     (numbered-homes s (n + 1) fs xs i k numbered.1 more later)
 
-fragments-numbered : AreNumbered 0 (fragments Wide)
-fragments-numbered = (refl, (refl, (refl, (refl, (refl, (refl, (refl, (refl, (refl, (refl, (refl, (refl, (refl, (refl, (refl, (refl, tt))))))))))))))))
+fragments-numbered : (code : Code) → AreNumbered 0 (fragments code)
+fragments-numbered Wide = (refl, (refl, (refl, (refl, (refl, (refl, (refl, (refl, (refl, (refl, (refl, (refl, (refl, (refl, (refl, (refl, tt))))))))))))))))
+fragments-numbered Narrow = (refl, (refl, (refl, (refl, (refl, (refl, (refl, (refl, (refl, (refl, tt))))))))))
+
+-- ---- what is shown
+
+abbrev seats_by : List Held → StripeNo → List (Option Seat)
+seats_by homes s = map (λ (f : Fragment). homes_of homes s f.value) (fragments Wide)
+
+abbrev shown : Bool → List (Option Seat) → Option (List (Option Seat))
+shown there seats = if there then Some seats else None
+
+-- the seats of a stripe's fragments by the sixteen numbers, with none where its code has no such fragment
+abbrev pub shown_seats : Code → List Seat → List (Option Seat)
+shown_seats Wide seats = map (λ (seat : Seat). Some seat) seats
+shown_seats Narrow seats = map (λ (seat : Seat). Some seat) seats ++ replicate 6 None
+
+-- the fragments that the narrow code lacks
+past-ten : (fs : List Fragment) → list_all (λ (f : Fragment). nat_le 10 f.value) fs ≡ true → All (λ f. 10 ≤ f.value) fs
+past-ten [] e = All-nil (λ (f : Fragment). 10 ≤ f.value)
+past-ten (f ∷ fs) e =
+    let parts = and_parts (nat_le 10 f.value) (list_all (λ (g : Fragment). nat_le 10 g.value) fs) e in
+    All-cons (λ (g : Fragment). 10 ≤ g.value) f fs (leb-true 10 f.value parts.0) (past-ten fs parts.1)
+
+-- the homes that are added to a stripe are its seats
+all-added : (code : Code) (s : StripeNo) (seats : List Seat) → length seats ≡ length (fragments code) → seats_by (held_at s (fragments code) seats) s ≡ shown_seats code seats
+all-added Wide s seats all = added-homes s (fragments Wide) seats (fragments-distinct Wide) all
+all-added Narrow s seats all =
+    let added = held_at s (fragments Narrow) seats in
+    let none : (f : Fragment) → 10 ≤ f.value → homes_of added s f.value ≡ None = λ f past.
+    numbered-homes s 0 (fragments Narrow) seats f.value f.value (fragments-numbered Narrow) all (sym (zero-add f.value)) ∙ slice_get_past seats f.value (omega (arith, all, past)) in
+    map-append (λ (f : Fragment). homes_of added s f.value) (fragments Narrow) (drop 10 (fragments Wide))
+    ∙ ap₂ (λ (xs ys : List (Option Seat)). xs ++ ys) (added-homes s (fragments Narrow) seats (fragments-distinct Narrow) all)
+    (map-agree (λ (f : Fragment). homes_of added s f.value) (λ f. None) (drop 10 (fragments Wide))
+    (All-weaker (λ (f : Fragment). 10 ≤ f.value) (λ (f : Fragment). homes_of added s f.value ≡ None) none (drop 10 (fragments Wide)) (past-ten (drop 10 (fragments Wide)) refl)))
+
+module _ (nodes : List NodeInfo) (st : State) (code : Code) (s : StripeNo) where
+  placed-homes : (seats : List Seat) → AreSeated nodes st → has_stripe st s ≡ false → length seats ≡ length (fragments code)
+      → homes_shown (with_placed st code s seats) s ≡ Some (shown_seats code seats)
+  placed-homes seats seated absent all =
+      let there : has_stripe (with_placed st code s seats) s ≡ true = list_any-member (same_stripe s) (st.stripes ++ s ∷ []) s
+      (Contains-push st.stripes s) (eq-eqb s.value s.value refl) in
+      let added = held_at s (fragments code) seats in
+      let same : seats_by (st.homes ++ added) s ≡ seats_by added s = map-agree (λ (f : Fragment). homes_of (st.homes ++ added) s f.value)
+      (λ (f : Fragment). homes_of added s f.value) (fragments Wide)
+      (λ i d within. ap home_in (homes-append st.homes added s (get_or (fragments Wide) i d).value
+      ∙ after-none (home_of st.homes s (get_or (fragments Wide) i d).value) (home_of added s (get_or (fragments Wide) i d).value)
+      (no_home nodes st s (get_or (fragments Wide) i d).value seated absent))) in
+      ap (λ (b : Bool). shown b (seats_by (st.homes ++ added) s)) there ∙ ap Some
+      (same ∙ all-added code s seats all)
+
+  abbrev Shows : StripeNo → State → Type 0
+  Shows r next = homes_shown next r ≡ homes_shown st r
+
+  other-homes : (r : StripeNo) (seats : List Seat) → r ≢ s → Shows r (with_placed st code s seats)
+  other-homes r seats other =
+      let added = held_at s (fragments code) seats in
+      let there : has_stripe (with_placed st code s seats) r ≡ has_stripe st r =
+      list_any-append (same_stripe r) st.stripes (s ∷ [])
+      ∙ rw (ne_eqb r.value s.value (λ same. other (equal_stripes r s same))) (or_none (has_stripe st r)) in
+      let same : seats_by (st.homes ++ added) r ≡ seats_by st.homes r = map-agree (λ (f : Fragment). homes_of (st.homes ++ added) r f.value)
+      (λ (f : Fragment). homes_of st.homes r f.value) (fragments Wide)
+      (λ i d within. ap home_in (homes-append st.homes added r (get_or (fragments Wide) i d).value
+      ∙ before-none (home_of st.homes r (get_or (fragments Wide) i d).value) (home_of added r (get_or (fragments Wide) i d).value)
+      (none-added s r (fragments code) seats (get_or (fragments Wide) i d).value other))) in
+      ap (λ (b : Bool). shown b (seats_by (st.homes ++ added) r)) there ∙ ap (shown (has_stripe st r)) same
+    where
+      or_none : (b : Bool) → (b || false) ≡ b
+      or_none true = refl
+      or_none false = refl
+
+  shows-by : (r : StripeNo) (p : Result State Fragment) → placed nodes (with_stripe st code s) s ≡ p → r ≢ s → Shows r (place_answer st code p).1
+  shows-by r (Err f) is other = refl
+  shows-by r (Ok done) is other = let g = placed-grown nodes st code s done is in subst (Shows r) (sym g.is) (other-homes r g.seats other)
+
+  -- every other stripe keeps its homes
+  pub place-others : (r : StripeNo) → r ≢ s → Shows r (place_outcome nodes st code s).1
+  unfolding place_outcome
+  place-others r other =
+      either-way (Shows r) (has_stripe st s) refusal.StripeExists st _ refl (λ absent. shows-by r (placed nodes (with_stripe st code s) s) refl other)
+
+  -- the seats that are told are the homes
+  pub place-homes : (seats : List Seat) → AreSeated nodes st → (place_outcome nodes st code s).0 ≡ placed_reply code seats
+      → homes_shown (place_outcome nodes st code s).1 s ≡ Some (shown_seats code seats)
+  place-homes seats seated told =
+      let parts = place-told nodes st code s seats told in
+      ap (λ (next : State). homes_shown next s) (place-left nodes st code s seats told)
+      ∙ placed-homes seats seated parts.absent (chosen-length nodes (with_stripe st code s) s (fragments code) seats parts.chosen_are)
+
+module _ (nodes : List NodeInfo) (st : State) (s : StripeNo) (seats : List Seat) (seated : AreSeated nodes st) where
+  -- of either code in words
+  pub told-wide : (place_outcome nodes st Wide s).0 ≡ Placed seats
+      → homes_shown (place_outcome nodes st Wide s).1 s ≡ Some (map (λ (seat : Seat). Some seat) seats)
+  told-wide told = place-homes nodes st Wide s seats seated told
+
+  pub told-narrow : (place_outcome nodes st Narrow s).0 ≡ Placed6 seats
+      → homes_shown (place_outcome nodes st Narrow s).1 s ≡ Some (map (λ (seat : Seat). Some seat) seats ++ replicate 6 None)
+  told-narrow told = place-homes nodes st Narrow s seats seated told
+
+-- ---- what is stored of a stripe that was placed
 
 -- a stripe that is added with its homes is stored as one that was placed
-pub stored-placed : (nodes : List NodeInfo) (st : State) (spare : ℕ) (s : StripeNo) (seats : List Seat) → AreSeated nodes st → has_stripe st s ≡ false
-    → length seats ≡ 16 → stored.with_homes (stored_of nodes st spare) s seats ≡ stored_of nodes (with_placed st s seats) (spare - 1)
-stored-placed nodes st spare s seats seated absent sixteen =
-    let added = held_at s (fragments Wide) seats in
-    ap (λ (t : Stored). record t { homes = λ r n. if same_stripe s r then slice_get seats n else homes_of st.homes r n }) (stored-stripe nodes st spare s seated absent)
-    ∙ same_homes (stored_of nodes (with_placed st s seats) (spare - 1)) _ (λ r. homes_of (with_placed st s seats).homes r)
+pub stored-placed : (nodes : List NodeInfo) (st : State) (spare : ℕ) (code : Code) (s : StripeNo) (seats : List Seat) → AreSeated nodes st → has_stripe st s ≡ false
+    → length seats ≡ length (fragments code) → stored.with_homes (stored_of nodes st spare) code s seats ≡ stored_of nodes (with_placed st code s seats) (spare - 1)
+stored-placed nodes st spare code s seats seated absent all =
+    let added = held_at s (fragments code) seats in
+    ap (λ (t : Stored). record t { homes = λ r n. if same_stripe s r then slice_get seats n else homes_of st.homes r n }) (stored-stripe nodes st spare s code seated absent)
+    ∙ same_homes (stored_of nodes (with_placed st code s seats) (spare - 1)) _ (λ r. homes_of (with_placed st code s seats).homes r)
     (λ r n. elim (cases_Bool (eqb s.value r.value)) [
       | inl same ↦
           let own : s ≡ r = equal_stripes s r (eqb-true s.value r.value same) in
@@ -186,8 +222,8 @@ stored-placed nodes st spare s seats seated absent sixteen =
           ∙ ap home_in (after-none (home_of st.homes r n) (home_of added r n)
           (subst (λ (q : StripeNo). home_of st.homes q n ≡ None) own (no_home nodes st s n seated absent)))
           ∙ subst (λ (q : StripeNo). homes_of added q n ≡ slice_get seats n) own
-          (numbered-homes s 0 (fragments Wide) seats n n fragments-numbered sixteen (sym (zero-add n)))))
+          (numbered-homes s 0 (fragments code) seats n n (fragments-numbered code) all (sym (zero-add n)))))
       | inr other ↦ rw other (sym (ap home_in (homes-append st.homes added r n
           ∙ before-none (home_of st.homes r n) (home_of added r n)
-          (none-added s r (fragments Wide) seats n (λ same. let both : true ≡ false = sym (eq-eqb s.value r.value (ap (λ (q : StripeNo). q.value) (sym same))) ∙ other in absurd (cc))))))
+          (none-added s r (fragments code) seats n (λ same. let both : true ≡ false = sym (eq-eqb s.value r.value (ap (λ (q : StripeNo). q.value) (sym same))) ∙ other in absurd (cc))))))
     ])

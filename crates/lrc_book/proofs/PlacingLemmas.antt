@@ -4,7 +4,7 @@ use Rattle.std.specs.Option.{option_map_or}
 use Rattle.std.specs.List.{All, Contains}
 use Rattle.std.proofs.lemmas.List.{drop_more, take_more, take_all}
 use Rattle.std.proofs.lemmas.List.Elements.{All-nil, All-push, Contains-append_left, Contains-push, Contains-push_cases}
-use Rattle.lrc_code.specs.declared.codes.Code.TheVariants.{Wide}
+use Rattle.lrc_code.specs.declared.codes.Code.{Code}
 use Rattle.lrc_code.specs.declared.numbers.StripeNo.{StripeNo}
 use Rattle.lrc_code.specs.declared.numbers.Fragment.{Fragment}
 use Rattle.lrc_code.specs.Codes.{fragments}
@@ -80,41 +80,41 @@ home-taken nodes st s f seat =
 -- ---- one after the other
 
 -- the state with the first so many fragments of a new stripe placed
-abbrev pub placed_to : State → StripeNo → List Seat → ℕ → State
-placed_to st s seats i = record st { stripes = st.stripes ++ s ∷ []; homes = st.homes ++ held_at s (take i (fragments Wide)) (take i seats) }
+abbrev pub placed_to : State → Code → StripeNo → List Seat → ℕ → State
+placed_to st code s seats i = record (with_stripe st code s) { homes = st.homes ++ held_at s (take i (fragments code)) (take i seats) }
 
 -- The slots of the first so many seats are taken, and the others are chosen for the fragments that are left.
-pub record IsTakenTo (nodes : List NodeInfo) (st : State) (s : StripeNo) (seats : List Seat) (i : ℕ) (table : Slots) : Type 0 where
-  pub table_is : table ≡ kept_table nodes (placed_to st s seats i)
-  pub chosen_are : AreChosen nodes (placed_to st s seats i) s (drop i (fragments Wide)) (drop i seats)
-  pub placing : IsPlacing nodes s (placed_to st s seats i) (drop i (fragments Wide))
+pub record IsTakenTo (nodes : List NodeInfo) (st : State) (code : Code) (s : StripeNo) (seats : List Seat) (i : ℕ) (table : Slots) : Type 0 where
+  pub table_is : table ≡ kept_table nodes (placed_to st code s seats i)
+  pub chosen_are : AreChosen nodes (placed_to st code s seats i) s (drop i (fragments code)) (drop i seats)
+  pub placing : IsPlacing nodes s (placed_to st code s seats i) (drop i (fragments code))
   pub slots : All (λ seat. has_slot nodes seat ≡ true) (take i seats)
 
-module _ (nodes : List NodeInfo) (known : AreNodes nodes) (st : State) (s : StripeNo) (seats : List Seat) where
+module _ (nodes : List NodeInfo) (known : AreNodes nodes) (st : State) (code : Code) (s : StripeNo) (seats : List Seat) where
   -- at first the stripe has no homes
-  pub taken-start : AreSeated nodes st → ArePlaced nodes st s seats → (table : Slots) → table ≡ kept_table nodes st → IsTakenTo nodes st s seats 0 table
+  pub taken-start : AreSeated nodes st → ArePlaced nodes st code s seats → (table : Slots) → table ≡ kept_table nodes st → IsTakenTo nodes st code s seats 0 table
   taken-start seated told table tied =
-      let none : with_stripe st Wide s ≡ placed_to st s seats 0 = ap (λ (hs : List Held). record st { stripes = st.stripes ++ s ∷ []; homes = hs }) (sym (append-nil st.homes)) in
+      let none : with_stripe st code s ≡ placed_to st code s seats 0 = ap (λ (hs : List Held). record (with_stripe st code s) { homes = hs }) (sym (append-nil st.homes)) in
       record {
         table_is = tied ∙ ap (kept_table nodes) none;
-        chosen_are = subst (λ (x : State). AreChosen nodes x s (fragments Wide) seats) none told.chosen_are;
-        placing = subst (λ (x : State). IsPlacing nodes s x (fragments Wide)) none (stripe-placing nodes known st s Wide seated told.absent);
+        chosen_are = subst (λ (x : State). AreChosen nodes x s (fragments code) seats) none told.chosen_are;
+        placing = subst (λ (x : State). IsPlacing nodes s x (fragments code)) none (stripe-placing nodes known st s code seated told.absent);
         slots = All-nil (λ seat. has_slot nodes seat ≡ true);
       }
 
-  module _ (i : ℕ) (d : Fragment) (e : Seat) (within : i < length (fragments Wide)) (there : i < length seats) (table : Slots) (p : IsTakenTo nodes st s seats i table) where
+  module _ (i : ℕ) (d : Fragment) (e : Seat) (within : i < length (fragments code)) (there : i < length seats) (table : Slots) (p : IsTakenTo nodes st code s seats i table) where
     abbrev f : Fragment
-    f = get_or (fragments Wide) i d
+    f = get_or (fragments code) i d
 
     abbrev seat : Seat
     seat = get_or seats i e
 
     abbrev now : State
-    now = placed_to st s seats i
+    now = placed_to st code s seats i
 
-    rest : AreChosen nodes now s (f ∷ drop (i + 1) (fragments Wide)) (seat ∷ drop (i + 1) seats)
-    rest = subst (λ (fs : List Fragment). AreChosen nodes now s fs (seat ∷ drop (i + 1) seats)) (drop_more (fragments Wide) i d within)
-        (subst (λ (xs : List Seat). AreChosen nodes now s (drop i (fragments Wide)) xs) (drop_more seats i e there) p.chosen_are)
+    rest : AreChosen nodes now s (f ∷ drop (i + 1) (fragments code)) (seat ∷ drop (i + 1) seats)
+    rest = subst (λ (fs : List Fragment). AreChosen nodes now s fs (seat ∷ drop (i + 1) seats)) (drop_more (fragments code) i d within)
+        (subst (λ (xs : List Seat). AreChosen nodes now s (drop i (fragments code)) xs) (drop_more seats i e there) p.chosen_are)
 
     choice : IsChoice nodes now s f seat
     choice = chosen-choice nodes now s f seat known rest.0
@@ -130,9 +130,9 @@ module _ (nodes : List NodeInfo) (known : AreNodes nodes) (st : State) (s : Stri
     pub taken-least : least_free_at table seat.node ≡ Some seat.slot
     taken-least = ap (λ (t : Slots). least_free_at t seat.node) p.table_is ∙ chosen-first_free nodes now s f seat known rest.0
 
-    next-is : with_home now s f seat ≡ placed_to st s seats (i + 1)
-    next-is = ap (λ (hs : List Held). record st { stripes = st.stripes ++ s ∷ []; homes = hs })
-        (append_assoc st.homes (held_at s (take i (fragments Wide)) (take i seats)) _ ∙ ap (λ (hs : List Held). st.homes ++ hs) (sym (held_at-more s (fragments Wide) seats i d e within there)))
+    next-is : with_home now s f seat ≡ placed_to st code s seats (i + 1)
+    next-is = ap (λ (hs : List Held). record (with_stripe st code s) { homes = hs })
+        (append_assoc st.homes (held_at s (take i (fragments code)) (take i seats)) _ ∙ ap (λ (hs : List Held). st.homes ++ hs) (sym (held_at-more s (fragments code) seats i d e within there)))
 
     slot-there : has_slot nodes seat ≡ true
     slot-there =
@@ -140,38 +140,38 @@ module _ (nodes : List NodeInfo) (known : AreNodes nodes) (st : State) (s : Stri
         ∙ lt-ltb seat.slot choice.node.slots choice.free.within
 
     -- with its slot taken, it is one more
-    pub taken-more : (next : Slots) → next ≡ slots.with_taken table seat.node (Some seat.slot) → IsTakenTo nodes st s seats (i + 1) next
+    pub taken-more : (next : Slots) → next ≡ slots.with_taken table seat.node (Some seat.slot) → IsTakenTo nodes st code s seats (i + 1) next
     taken-more next taken = record {
       table_is = taken ∙ ap (λ (t : Slots). slots.with_taken t seat.node (Some seat.slot)) p.table_is
           ∙ home-taken nodes now s f seat ∙ ap (kept_table nodes) next-is;
-      chosen_are = subst (λ (x : State). AreChosen nodes x s (drop (i + 1) (fragments Wide)) (drop (i + 1) seats)) next-is rest.1;
-      placing = subst (λ (x : State). IsPlacing nodes s x (drop (i + 1) (fragments Wide))) next-is
-          (placing-some nodes known s now f (drop (i + 1) (fragments Wide)) seat
-          (subst (IsPlacing nodes s now) (drop_more (fragments Wide) i d within) p.placing) rest.0);
+      chosen_are = subst (λ (x : State). AreChosen nodes x s (drop (i + 1) (fragments code)) (drop (i + 1) seats)) next-is rest.1;
+      placing = subst (λ (x : State). IsPlacing nodes s x (drop (i + 1) (fragments code))) next-is
+          (placing-some nodes known s now f (drop (i + 1) (fragments code)) seat
+          (subst (IsPlacing nodes s now) (drop_more (fragments code) i d within) p.placing) rest.0);
       slots = subst (λ (xs : List Seat). All (λ x. has_slot nodes x ≡ true) xs) (sym (take_more seats i e there))
           (All-push (λ x. has_slot nodes x ≡ true) (take i seats) seat p.slots slot-there);
     }
 
 -- at last all fragments are placed
-pub placed-end : (st : State) (s : StripeNo) (seats : List Seat) (i : ℕ) → 16 ≤ i → length seats ≡ 16 → placed_to st s seats i ≡ with_placed st s seats
-placed-end st s seats i past sixteen =
-    ap (λ (fs : List Fragment). record st { stripes = st.stripes ++ s ∷ []; homes = st.homes ++ held_at s fs (take i seats) }) (take_all i (fragments Wide) past)
-    ∙ ap (λ (xs : List Seat). record st { stripes = st.stripes ++ s ∷ []; homes = st.homes ++ held_at s (fragments Wide) xs }) (take_all i seats (omega (arith, sixteen)))
+pub placed-end : (st : State) (code : Code) (s : StripeNo) (seats : List Seat) (i : ℕ) → length (fragments code) ≤ i → length seats ≡ length (fragments code) → placed_to st code s seats i ≡ with_placed st code s seats
+placed-end st code s seats i past all =
+    ap (λ (fs : List Fragment). record (with_stripe st code s) { homes = st.homes ++ held_at s fs (take i seats) }) (take_all i (fragments code) past)
+    ∙ ap (λ (xs : List Seat). record (with_stripe st code s) { homes = st.homes ++ held_at s (fragments code) xs }) (take_all i seats (omega (arith, past, all)))
 
 -- With all slots taken, the stripe is added with its homes.
-pub placed-kept : (st : State) (s : StripeNo) (seats : List Seat) (i : ℕ) (k : Store) (table : slot_tables.Table) (stripes : tables.Table) → 16 ≤ i
-    → length seats ≡ 16 → IsOf st k → has_stripe st s ≡ false → IsTakenTo k.topology st s seats i (slots_of table)
-    → stored_in stripes ≡ stored.with_homes (stored_in k.stripes) s seats
-    → IsOf (with_placed st s seats) (record k { table = table; stripes = stripes })
-placed-kept st s seats i k table stripes past sixteen kept absent p added =
-    let all = placed-end st s seats i past sixteen in record {
+pub placed-kept : (st : State) (code : Code) (s : StripeNo) (seats : List Seat) (i : ℕ) (k : Store) (table : slot_tables.Table) (stripes : tables.Table) → length (fragments code) ≤ i
+    → length seats ≡ length (fragments code) → IsOf st k → has_stripe st s ≡ false → IsTakenTo k.topology st code s seats i (slots_of table)
+    → stored_in stripes ≡ stored.with_homes (stored_in k.stripes) code s seats
+    → IsOf (with_placed st code s seats) (record k { table = table; stripes = stripes })
+placed-kept st code s seats i k table stripes past sixteen kept absent p added =
+    let all = placed-end st code s seats i past sixteen in record {
       known = kept.known;
       seated = subst (AreSeated k.topology) all p.placing.seated;
       table_is = p.table_is ∙ ap (kept_table k.topology) all;
-      stripes_is = own-spare k.topology (with_placed st s seats) (stored_in stripes) ((stored_in k.stripes).spare - 1)
-          (added ∙ ap (λ (x : Stored). stored.with_homes x s seats) kept.stripes_is
-          ∙ stored-placed k.topology st (stored_in k.stripes).spare s seats kept.seated absent sixteen);
+      stripes_is = own-spare k.topology (with_placed st code s seats) (stored_in stripes) ((stored_in k.stripes).spare - 1)
+          (added ∙ ap (λ (x : Stored). stored.with_homes x code s seats) kept.stripes_is
+          ∙ stored-placed k.topology st (stored_in k.stripes).spare code s seats kept.seated absent sixteen);
       leases_is = kept.leases_is;
-      modes_are = same-modes st (with_placed st s seats) k.modes refl kept.modes_are;
+      modes_are = same-modes st (with_placed st code s seats) k.modes refl kept.modes_are;
       clock_is = kept.clock_is;
     }

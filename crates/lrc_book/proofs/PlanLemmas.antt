@@ -7,7 +7,7 @@ use Rattle.std.proofs.lemmas.List.{map-append}
 use Rattle.std.proofs.lemmas.List.Elements.{All-nil, All-cons, All-head, All-tail, All-weaker, All-map, Contains-append_left, Contains-append_right, Contains-append_cases}
 use Rattle.std.proofs.lemmas.List.Sums.{sum_by-cons, sum_by-append}
 use Rattle.std.proofs.lemmas.List.Folds.{list_any-append}
-use Rattle.lrc_code.specs.declared.codes.Code.TheVariants.{Wide}
+use Rattle.lrc_code.specs.declared.codes.Code.{Code}
 use Rattle.lrc_code.specs.declared.numbers.StripeNo.{StripeNo}
 use Rattle.lrc_code.specs.declared.numbers.NodeNo.{NodeNo}
 use Rattle.lrc_code.specs.declared.numbers.Fragment.{Fragment}
@@ -22,6 +22,7 @@ use Rattle.lrc_slots.specs.Next.{may_take, is_chosen_before, next_node}
 use Rattle.lrc_book.specs.States.{State, held_by, seats_of, taken_seats, takes_seats, is_eligible}
 use Rattle.lrc_book.specs.Placement.{bars, fits, chosen, chosen_node}
 use Rattle.lrc_book.specs.Goodness.{AreSeated}
+use Rattle.lrc_book.specs.Steps.{with_stripe}
 use Rattle.lrc_book.specs.Ties.{table_of, bars_of, bars_in, next_seat, with_homes}
 use Rattle.lrc_book.specs.Placement.{is_beside}
 use Rattle.lrc_book.proofs.MemberLemmas.{All-members, filter-member, map-member}
@@ -30,6 +31,7 @@ use Rattle.lrc_code.proofs.OrderLemmas.{least-listed}
 use Rattle.lrc_book.proofs.NodeLemmas.{node_at-member, seat_on}
 use Rattle.lrc_book.proofs.ChoiceLemmas.{chosen-choice, choice-slot}
 use Rattle.lrc_book.proofs.BarLemmas.{bars_in-same}
+use Rattle.lrc_book.proofs.CodedLemmas.{code-own}
 use Rattle.lrc_book.proofs.TieLemmas.{HasSlot, standing-slots, load-seats, bars-domains, may_take-eligible}
 
 -- ---- lists
@@ -217,9 +219,11 @@ chosen-first_free nodes st s f seat known e =
     ap (least_free_at (table_of nodes st)) choice.on ∙ ap (option_and_then (least_free (table_of nodes st))) (node_at-member nodes known choice.node choice.fitting.known)
     ∙ choice-slot nodes st s f seat choice
 
--- Over the table of a state, with the domains barred of the stripe's other fragments' seats, those of planned homes among them, the seat is the one that is chosen beside these.
-pub beside-chosen : (nodes : List NodeInfo) (st : State) (new beside : List Held) (s : StripeNo) (f : Fragment) → AreNodes nodes → AreSeated nodes st → All (λ h. is_beside s f h ≡ true) new
-    → ((h : Held) → is_beside s f h ≡ true → Contains beside h ↔ Contains (seats_of (with_homes st new)) h) → next_seat (table_of nodes st) (bars_in nodes Wide s f beside) ≡ chosen nodes (with_homes st new) s f
-beside-chosen nodes st new beside s f known good mine same =
-    ap (next_seat (table_of nodes st)) (bars_in-same nodes Wide s f beside (seats_of (with_homes st new)) same)
-    ∙ planned-chosen nodes st new s f mine known good.single (standing-slots nodes st (taken_seats st) good.standing)
+-- Over the table of a state, with the domains barred of the seats of a new stripe's other fragments, those of planned homes among them, the seat is the one that is chosen beside these.
+pub beside-chosen : (nodes : List NodeInfo) (st : State) (code : Code) (new beside : List Held) (s : StripeNo) (f : Fragment) → AreNodes nodes → AreSeated nodes st → All (λ h. is_beside s f h ≡ true) new
+    → ((h : Held) → is_beside s f h ≡ true → Contains beside h ↔ Contains (seats_of (with_homes st new)) h)
+    → next_seat (table_of nodes st) (bars_in nodes code s f beside) ≡ chosen nodes (with_homes (with_stripe st code s) new) s f
+beside-chosen nodes st code new beside s f known good mine same =
+    let seats = seats_of (with_homes st new) in
+    ap (next_seat (table_of nodes st)) (bars_in-same nodes code s f beside seats same ∙ ap (λ (c : Code). bars_in nodes c s f seats) (sym (code-own st code s)))
+    ∙ planned-chosen nodes (with_stripe st code s) new s f mine known good.single (standing-slots nodes st (taken_seats st) good.standing)

@@ -1,14 +1,18 @@
 -- The seats of a stripe planned one after the other.
-use Rattle.std.proofs.Common.{◌++◌, ◌∷◌, inl, inr, ◌≡◌, ◌≢◌, false, ℕ, ◌+◌, ◌<◌, ◌≤◌, true, List, [], length, get_or, set, take, drop, Option, Some, None, arith, refl, subst, sym, ap, ap₂, ◌∙◌, append_assoc, append-nil, length-take}
+use Rattle.std.proofs.Common.{◌++◌, ◌∷◌, inl, inr, ◌≡◌, ◌≢◌, false, ℕ, ◌+◌, ◌<◌, ◌≤◌, true, List, [], length, get_or, set, take, drop, Option, Some, None, IsSome, arith, refl, subst, sym, ap, ap₂, ◌∙◌, append_assoc, append-nil, length-take}
 use Rattle.std.specs.List.{All}
 use Rattle.std.proofs.lemmas.List.{drop_all, take_all, drop_more, take_more, take_more_set}
-use Rattle.lrc_code.specs.declared.codes.Code.TheVariants.{Wide}
+use Rattle.lrc_code.specs.declared.codes.Class.{Class}
+use Rattle.lrc_code.specs.declared.codes.Code.{Code}
+use Rattle.lrc_code.specs.declared.codes.Code.TheVariants.{Wide, Narrow}
 use Rattle.lrc_code.specs.declared.numbers.StripeNo.{StripeNo}
 use Rattle.lrc_code.specs.declared.numbers.Fragment.{Fragment}
-use Rattle.lrc_code.specs.Codes.{fragments}
+use Rattle.lrc_code.specs.Codes.{fragments, fragment_count, class_of}
+use Rattle.lrc_code.proofs.CodesLemmas.{known-class}
 use Rattle.lrc_topology.specs.declared.NodeInfo.{NodeInfo}
 use Rattle.lrc_topology.specs.declared.seat.Seat.{Seat}
 use Rattle.lrc_topology.specs.declared.seat.Held.{Held}
+use Rattle.lrc_stripes.proofs.MaskLemmas.{fragment-number_in, fragments-long}
 use Rattle.lrc_book.specs.Steps.{with_stripe}
 use Rattle.lrc_book.specs.Choices.{AreChosen, IsFirstWithout}
 use Rattle.lrc_book.specs.States.{State, has_stripe}
@@ -54,12 +58,12 @@ module _ (nodes : List NodeInfo) (s : StripeNo) (fs : List Fragment) (i : ℕ) (
     none-more so_far g later =
         so_far g (subst (λ gs. IsFirstWithout nodes now s gs g) (sym (drop_more fs i d within)) (inr (seat, sym some, subst (λ x. IsFirstWithout nodes x s (drop (i + 1) fs) g) (sym next-is) later)))
 
--- at last the seats are those that are chosen for all fragments
-pub chosen-end : (nodes : List NodeInfo) (s : StripeNo) (fs : List Fragment) (i : ℕ) (planned : List Held) (seats : List Seat) (begun : State) → length fs ≤ i → length seats ≤ i
+-- at last the seats so far are those that are chosen for all fragments
+pub chosen-end : (nodes : List NodeInfo) (s : StripeNo) (fs : List Fragment) (i : ℕ) (planned : List Held) (seats : List Seat) (begun : State) → length fs ≤ i
     → ((rest : List Seat) → AreChosen nodes (with_homes begun planned) s (drop i fs) rest
-    → AreChosen nodes begun s fs (take i seats ++ rest)) → AreChosen nodes begun s fs seats
-chosen-end nodes s fs i planned seats begun past over so_far =
-    subst (AreChosen nodes begun s fs) (append-nil (take i seats) ∙ take_all i seats over)
+    → AreChosen nodes begun s fs (take i seats ++ rest)) → AreChosen nodes begun s fs (take i seats)
+chosen-end nodes s fs i planned seats begun past so_far =
+    subst (AreChosen nodes begun s fs) (append-nil (take i seats))
     (so_far [] (subst (λ gs. AreChosen nodes (with_homes begun planned) s gs []) (sym (drop_all i fs past)) tt))
 
 -- the homes that are planned for the first of these fragments
@@ -76,25 +80,37 @@ planned-more s seats fs i d seat within room =
 
 -- ---- the planned homes are those of other fragments
 
-pub planned-beside : (s : StripeNo) (seats : List Seat) (fs : List Fragment) (i : ℕ) (d : Fragment) → fs ≡ fragments Wide → i < length fs
+pub planned-beside : (code : Code) (s : StripeNo) (seats : List Seat) (fs : List Fragment) (i : ℕ) (d : Fragment) → fs ≡ fragments code → i < length fs
     → All (λ h. is_beside s (get_or fs i d) h ≡ true) (planned_to s fs seats i)
-planned-beside s seats fs i d all within =
+planned-beside code s seats fs i d all within =
     held_at-beside s (get_or fs i d) (take i fs) (take i seats)
-    (subst (λ (gs : List Fragment). i < length gs → All (λ g. g ≢ get_or gs i d) (take i gs)) (sym all) (earlier-fragments Wide i d) within)
+    (subst (λ (gs : List Fragment). i < length gs → All (λ g. g ≢ get_or gs i d) (take i gs)) (sym all) (earlier-fragments code i d) within)
 
--- the choice reads nothing of the stripes
-chosen-stripes : (nodes : List NodeInfo) (st : State) (stripes : List StripeNo) (s : StripeNo) (f : Fragment) → chosen nodes (record st { stripes = stripes }) s f ≡ chosen nodes st s f
-unfolding chosen
-chosen-stripes nodes st stripes s f = refl
+-- ---- the fragments of the code
+
+-- the first of all fragments, so many as the code has
+first-fragments : (code : Code) → take (fragment_count code) (fragments Wide) ≡ fragments code
+first-fragments Wide = refl
+first-fragments Narrow = refl
+
+pub code-items : (code : Code) (items : List Fragment) (n : ℕ) → items ≡ fragments Wide → n ≡ fragment_count code → take n items ≡ fragments code
+code-items code items n all many = ap₂ (λ (k : ℕ) (fs : List Fragment). take k fs) many all ∙ first-fragments code
+
+-- each of them has a class
+pub fragment-class : (code : Code) (fs : List Fragment) (i : ℕ) (d : Fragment) → fs ≡ fragments code → i < length fs → IsSome (class_of code (get_or fs i d).value)
+fragment-class code fs i d all within =
+    let long : length fs ≡ fragment_count code = ap (λ (gs : List Fragment). length gs) all ∙ fragments-long code in
+    let low : i < fragment_count code = omega (arith, within, long) in
+    let number = ap (λ (gs : List Fragment). (get_or gs i d).value) all ∙ fragment-number_in code i d low in
+    (known-class code (get_or fs i d).value).1 (subst (λ (n : ℕ). n < fragment_count code) (sym number) low)
 
 -- the seat that is found for the next fragment is the one that is chosen for it in the state with the stripe, beside those that are planned
-pub planned-chosen : (k : Store) (s : StripeNo) (seats : List Seat) (fs : List Fragment) (i : ℕ) (d : Fragment) (bars : ClassBars)
-    (o : Option Seat) → fs ≡ fragments Wide → i < length fs
-    → ((st : State) (stripe : StripeNo) (planned : List Held) → IsOf st k → has_stripe st stripe ≡ false
-    → All (λ h. is_beside stripe (get_or fs i d) h ≡ true) planned
-    → AreBarsOf k.topology st.upgrading planned bars → o ≡ chosen k.topology (with_homes st planned) stripe (get_or fs i d))
-    → (st : State) → AreBarsOf k.topology st.upgrading (planned_to s fs seats i) bars → IsOf st k → has_stripe st s ≡ false
-    → o ≡ chosen k.topology (with_homes (with_stripe st Wide s) (planned_to s fs seats i)) s (get_or fs i d)
-planned-chosen k s seats fs i d bars o all within found st barred kept absent =
-    found st s (planned_to s fs seats i) kept absent (planned-beside s seats fs i d all within) barred
-    ∙ sym (chosen-stripes k.topology (with_homes st (planned_to s fs seats i)) (st.stripes ++ s ∷ []) s (get_or fs i d))
+pub planned-chosen : (k : Store) (code : Code) (s : StripeNo) (seats : List Seat) (fs : List Fragment) (i : ℕ) (d : Fragment) (class : Class) (bars : ClassBars)
+    (o : Option Seat) → fs ≡ fragments code → i < length fs → class_of code (get_or fs i d).value ≡ Some class
+    → ((st : State) (own : Code) (stripe : StripeNo) (fragment : Fragment) (planned : List Held) → IsOf st k → has_stripe st stripe ≡ false
+    → class_of own fragment.value ≡ Some class → All (λ h. is_beside stripe fragment h ≡ true) planned
+    → AreBarsOf k.topology own st.upgrading planned bars → o ≡ chosen k.topology (with_homes (with_stripe st own stripe) planned) stripe fragment)
+    → (st : State) → AreBarsOf k.topology code st.upgrading (planned_to s fs seats i) bars → IsOf st k → has_stripe st s ≡ false
+    → o ≡ chosen k.topology (with_homes (with_stripe st code s) (planned_to s fs seats i)) s (get_or fs i d)
+planned-chosen k code s seats fs i d class bars o all within of_class found st barred kept absent =
+    found st code s (get_or fs i d) (planned_to s fs seats i) kept absent of_class (planned-beside code s seats fs i d all within) barred

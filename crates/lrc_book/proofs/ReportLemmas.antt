@@ -15,9 +15,9 @@ use Rattle.lrc_leases.specs.Leased.{is_of}
 use Rattle.lrc_leases.proofs.ListLemmas.{is_of-parts, find-some}
 use Rattle.lrc_book.specs.declared.reply.Reply.TheVariants.{Ticked}
 use Rattle.lrc_book.specs.declared.command.Command.{Command}
-use Rattle.lrc_book.specs.declared.command.Command.TheVariants.{Place, Drop, Lease, Next, Done, Abandon, Revoke, Fail, Down, Up, Drain, Undrain, Retire, Join, Upgrade, Upgraded, Tick}
+use Rattle.lrc_book.specs.declared.command.Command.TheVariants.{Place, Place6, Drop, Lease, Next, Done, Abandon, Revoke, Fail, Down, Up, Drain, Undrain, Retire, Join, Upgrade, Upgraded, Tick}
 use Rattle.lrc_book.specs.declared.reply.Reply.{Reply}
-use Rattle.lrc_book.specs.declared.reply.Reply.TheVariants.{Placed, Dropped, Granted, Idle, Ended, Changed, Refused}
+use Rattle.lrc_book.specs.declared.reply.Reply.TheVariants.{Placed, Placed6, Dropped, Granted, Idle, Ended, Changed, Refused}
 use Rattle.lrc_book.specs.declared.refusal.Refusal.{Refusal}
 use Rattle.lrc_book.specs.declared.refusal.Refusal.TheVariants as refusal
 use Rattle.lrc_book.specs.declared.entry.Entry.{Entry}
@@ -42,6 +42,7 @@ report-is s f e (Done t g d) hit =
     ap (λ (r : StripeNo). Done r g d) (equal_stripes t s (eqb-true _ _ pair.0)) ∙ ap (λ (h : Fragment). Done s h d)
     (equal_fragments g f (eqb-true _ _ pair.1)) ∙ ap (Done s f) (eqb-true _ _ parts.1)
 report-is s f e (Place t) hit = absurd (cc)
+report-is s f e (Place6 t) hit = absurd (cc)
 report-is s f e (Drop t) hit = absurd (cc)
 report-is s f e (Lease t g) hit = absurd (cc)
 report-is s f e Next hit = absurd (cc)
@@ -61,6 +62,7 @@ report-is s f e Tick hit = absurd (cc)
 ended-is : (r : Reply) → is_ended r ≡ true → r ≡ Ended
 ended-is Ended hit = refl
 ended-is (Placed seats) hit = absurd (cc)
+ended-is (Placed6 seats) hit = absurd (cc)
 ended-is Dropped hit = absurd (cc)
 ended-is (Granted l k) hit = absurd (cc)
 ended-is Idle hit = absurd (cc)

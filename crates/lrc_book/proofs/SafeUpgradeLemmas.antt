@@ -2,7 +2,7 @@
 use Rattle.std.proofs.Common.{◌≡◌, ◌≢◌, ℕ, ◌+◌, ◌-◌, ◌≤◌, ◌<◌, inl, inr, Bool, true, false, not, ◌&&◌, nat_lt, cond, List, [], ◌∷◌, map, filter, length, get_or, Option, Some, None, option_map, IfSome, IsTrue, arith, refl, sym, ap, ◌∙◌, subst}
 use Rattle.std.specs.List.{AllPairs, Contains, count_by}
 use Rattle.std.specs.Option.{option_map_or}
-use Rattle.std.proofs.lemmas.Bool.{cases_Bool, eqb-true, eq-eqb, ltb-true, ltb-false, le-ltb, lt-ltb, not-true, not-false, and_parts, and_from}
+use Rattle.std.proofs.lemmas.Bool.{cases_Bool, eqb-true, eq-eqb, ltb-true, ltb-false, le-ltb, not-true, not-false, and_parts, and_from}
 use Rattle.std.proofs.lemmas.Option.{same_Some}
 use Rattle.std.proofs.lemmas.List.{get_or_default}
 use Rattle.std.proofs.lemmas.List.Elements.{All-weaker, All-contains, Contains-append_left}
@@ -11,12 +11,12 @@ use Rattle.std.proofs.lemmas.List.MinMax.{IsStrictWeakOrder-by_number}
 use Rattle.std.proofs.lemmas.List.Sums.{sum_by-cons}
 use Rattle.lrc_code.specs.declared.codes.Class.{Class}
 use Rattle.lrc_code.specs.declared.codes.Class.TheVariants.{A, B, G}
-use Rattle.lrc_code.specs.declared.codes.Code.TheVariants.{Wide}
+use Rattle.lrc_code.specs.declared.codes.Code.{Code}
 use Rattle.lrc_code.specs.declared.numbers.StripeNo.{StripeNo}
 use Rattle.lrc_code.specs.declared.numbers.UpgradeNo.{UpgradeNo}
 use Rattle.lrc_code.specs.declared.numbers.Fragment.{Fragment}
 use Rattle.lrc_code.specs.Numbers.{same_stripe, same_upgrade}
-use Rattle.lrc_code.specs.Codes.{fragments, class_of, are_one_class, share_class}
+use Rattle.lrc_code.specs.Codes.{fragments, fragment_count, has_fragment, class_of, are_one_class, share_class}
 use Rattle.lrc_code.specs.Losses.{FragmentSet, losses_in, excess, IsRecoverable, is_recoverable, IsMargin}
 use Rattle.lrc_code.specs.Order.{HasNoTies}
 use Rattle.lrc_code.proofs.CodesLemmas.{members-class, are_one_class-iff}
@@ -85,53 +85,53 @@ pairs-by R xs apart each i j d below within =
     (j, within, get_or_default xs j (get_or xs j d) d within) (apart i j d below within)
 
 -- no two fragments of one class are in the set
-abbrev pub HasNoTwo : FragmentSet → Type 0
-HasNoTwo m = (f g : Fragment) → f ≢ g → IsTrue (share_class Wide f g) → m f.value ≡ true → m g.value ≡ true → ⊥
+abbrev pub HasNoTwo : Code → FragmentSet → Type 0
+HasNoTwo code m = (f g : Fragment) → f ≢ g → IsTrue (share_class code f g) → m f.value ≡ true → m g.value ≡ true → ⊥
 
-abbrev of_class : Class → Fragment → Bool
-of_class c f = are_one_class (class_of Wide f.value) (Some c)
+abbrev of_class : Code → Class → Fragment → Bool
+of_class code c f = are_one_class (class_of code f.value) (Some c)
 
-both-share : (c : Class) (f g : Fragment) → of_class c f ≡ true → of_class c g ≡ true → share_class Wide f g ≡ true
-both-share c f g here there =
-    let one = (are_one_class-iff (class_of Wide f.value) (Some c)).0 here in
-    let two = (are_one_class-iff (class_of Wide g.value) (Some c)).0 there in
-    (are_one_class-iff (class_of Wide f.value) (class_of Wide g.value)).1 (one.0, one.1, two.1 ∙ sym two.2 ∙ one.2)
+both-share : (code : Code) (c : Class) (f g : Fragment) → of_class code c f ≡ true → of_class code c g ≡ true → share_class code f g ≡ true
+both-share code c f g here there =
+    let one = (are_one_class-iff (class_of code f.value) (Some c)).0 here in
+    let two = (are_one_class-iff (class_of code g.value) (Some c)).0 there in
+    (are_one_class-iff (class_of code f.value) (class_of code g.value)).1 (one.0, one.1, two.1 ∙ sym two.2 ∙ one.2)
 
 -- so it has one of each class at most
-pub class-one : (m : FragmentSet) → HasNoTwo m → (c : Class) → losses_in Wide c m ≤ 1
-class-one m none c =
-    let fs = filter (of_class c) (fragments Wide) in
+pub class-one : (code : Code) (m : FragmentSet) → HasNoTwo code m → (c : Class) → losses_in code c m ≤ 1
+class-one code m none c =
+    let fs = filter (of_class code c) (fragments code) in
     let few = at_most_one (λ (f : Fragment). m f.value) fs (pairs-by (λ (f g : Fragment). m f.value ≡ true → m g.value ≡ true → ⊥) fs
-    (AllPairs-filter (λ (f g : Fragment). f ≢ g) (of_class c) (fragments Wide) (fragments-distinct Wide))
+    (AllPairs-filter (λ (f g : Fragment). f ≢ g) (of_class code c) (fragments code) (fragments-distinct code))
     (λ f g here there other. none f g other
-    (both-share c f g (filter-member (of_class c) (fragments Wide) f here).1 (filter-member (of_class c) (fragments Wide) g there).1))) in
-    subst (λ (ns : List ℕ). count_by m ns ≤ 1) (members-class Wide c) (subst (λ (n : ℕ). n ≤ 1) (sym (count-numbers m fs)) few)
+    (both-share code c f g (filter-member (of_class code c) (fragments code) f here).1 (filter-member (of_class code c) (fragments code) g there).1))) in
+    subst (λ (ns : List ℕ). count_by m ns ≤ 1) (members-class code c) (subst (λ (n : ℕ). n ≤ 1) (sym (count-numbers m fs)) few)
 
 few-beyond : (a b c : ℕ) → a ≤ 1 → b ≤ 1 → c ≤ 1 → (a - 1) + (b - 1) + c ≤ 1
 few-beyond a b c x y z = omega (arith, x, y, z)
 
-module _ (m : FragmentSet) (none : HasNoTwo m) where
-  excess-one : excess Wide m ≤ 1
+module _ (code : Code) (m : FragmentSet) (none : HasNoTwo code m) where
+  excess-one : excess code m ≤ 1
   excess-one =
-      few-beyond (losses_in Wide A m) (losses_in Wide B m) (losses_in Wide G m) (class-one m none A) (class-one m none B) (class-one m none G)
+      few-beyond (losses_in code A m) (losses_in code B m) (losses_in code G m) (class-one code m none A) (class-one code m none B) (class-one code m none G)
 
-  recoverable-still : IsRecoverable Wide m
-  recoverable-still = (by_counts Wide m).1 (two (excess Wide m) excess-one)
+  recoverable-still : IsRecoverable code m
+  recoverable-still = (by_counts code m).1 (two (excess code m) excess-one)
     where
       two : (e : ℕ) → e ≤ 1 → e ≤ 2
       two e x = omega (arith, x)
 
   -- and withstands one loss more
-  margin-by : (some : Bool) → nat_lt 0 (losses_in Wide A m + losses_in Wide B m) ≡ some → (t : ℕ) × (1 ≤ t) × IsMargin Wide m t
-  margin-by true is = (2 - excess Wide m, left (excess Wide m) excess-one, margin_lost Wide m recoverable-still (ltb-true _ _ is))
+  margin-by : (some : Bool) → nat_lt 0 (losses_in code A m + losses_in code B m) ≡ some → (t : ℕ) × (1 ≤ t) × IsMargin code m t
+  margin-by true is = (2 - excess code m, left (excess code m) excess-one, margin_lost code m recoverable-still (ltb-true _ _ is))
     where
       left : (e : ℕ) → e ≤ 1 → 1 ≤ 2 - e
       left e x = omega (arith, x)
   margin-by false is = (
-    3 - losses_in Wide G m,
-    left (losses_in Wide G m) (class-one m none G),
-    margin_all_whole Wide m recoverable-still
-        (zero_of (losses_in Wide A m + losses_in Wide B m) (ltb-false _ _ is)),
+    3 - losses_in code G m,
+    left (losses_in code G m) (class-one code m none G),
+    margin_all_whole code m recoverable-still
+        (zero_of (losses_in code A m + losses_in code B m) (ltb-false _ _ is)),
   )
     where
       left : (c : ℕ) → c ≤ 1 → 1 ≤ 3 - c
@@ -140,8 +140,8 @@ module _ (m : FragmentSet) (none : HasNoTwo m) where
       zero_of : (n : ℕ) → n ≤ 0 → n ≡ 0
       zero_of n x = omega (arith, x)
 
-  one-left : (t : ℕ) × (1 ≤ t) × IsMargin Wide m t
-  one-left = margin-by (nat_lt 0 (losses_in Wide A m + losses_in Wide B m)) refl
+  one-left : (t : ℕ) × (1 ≤ t) × IsMargin code m t
+  one-left = margin-by (nat_lt 0 (losses_in code A m + losses_in code B m)) refl
 
 -- ---- where the fragments of a stripe are
 
@@ -169,16 +169,17 @@ module _ (nodes : List NodeInfo) (st : State) (s : StripeNo) (seated : AreSeated
   both-known P None p n m at there both = absurd (cc)
 
   -- those of different fragments are apart
-  pub nodes-apart : (f g : Fragment) → f ≢ g → (t : IsOn f.value) (v : IsOn g.value) → AreApart Wide f t.node g v.node
+  pub nodes-apart : (f g : Fragment) → f ≢ g → (t : IsOn f.value) (v : IsOn g.value) → AreApart (code_of st s) f t.node g v.node
   nodes-apart f g other t v =
       let apart_homes : t.home.fragment ≢ v.home.fragment = λ same. other (sym (own_fragment f t) ∙ same ∙ own_fragment g v) in
       let keep = pairs-members (KeepApart nodes st) (KeepApart-turn nodes st) (seats_of st) t.home v.home seated.lawful (among f.value t)
       (among g.value v) (λ same. apart_homes (ap (λ (h : Held). h.fragment) same)) in
-      let apart = both-known (λ n m. AreApart Wide t.home.fragment n v.home.fragment m) (node_at nodes t.home.seat.node)
+      let apart = both-known (λ n m. AreApart (code_of st t.home.stripe) t.home.fragment n v.home.fragment m) (node_at nodes t.home.seat.node)
       (node_at nodes v.home.seat.node) t.node v.node t.at v.at
       (keep (own_stripe f.value t ∙ sym (own_stripe g.value v)) apart_homes) in
-      subst (λ (x : Fragment). AreApart Wide f t.node x v.node) (own_fragment g v)
-      (subst (λ (x : Fragment). AreApart Wide x t.node v.home.fragment v.node) (own_fragment f t) apart)
+      subst (λ (r : StripeNo). AreApart (code_of st r) f t.node g v.node) (own_stripe f.value t)
+      (subst (λ (x : Fragment). AreApart (code_of st t.home.stripe) f t.node x v.node) (own_fragment g v)
+      (subst (λ (x : Fragment). AreApart (code_of st t.home.stripe) x t.node v.home.fragment v.node) (own_fragment f t) apart))
 
 -- ---- the fragments that an upgrade takes offline
 
@@ -219,21 +220,22 @@ module _ (nodes : List NodeInfo) (st : State) (u : UpgradeNo) (s : StripeNo) (se
   and_false true b is e = e
   and_false false b is e = absurd (cc)
 
-  taken : (f : ℕ) → f < 16 → missing nodes st s f ≡ false → missing nodes then s f ≡ true → IsTaken f
-  taken f within before hit =
-      by-home f (home_of st.homes s f) refl (and_false _ _ (lt-ltb f 16 within) before) (and_parts (nat_lt f 16) _ hit).1
+  taken : (f : ℕ) → missing nodes st s f ≡ false → missing nodes then s f ≡ true → IsTaken f
+  taken f before hit =
+      let parts = and_parts (has_fragment (code_of st s) f) _ hit in
+      by-home f (home_of st.homes s f) refl (and_false _ _ parts.0 before) parts.1
 
   -- the fragments that were not missing, and are then
   abbrev pub added : FragmentSet
   added f = not (missing nodes st s f) && missing nodes then s f
 
   -- of one class the domain takes one fragment at most
-  pub no_two : HasNoTwo added
+  pub no_two : HasNoTwo (code_of st s) added
   no_two f g other class here there =
       let first = and_parts (not (missing nodes st s f.value)) (missing nodes then s f.value) here in
       let second = and_parts (not (missing nodes st s g.value)) (missing nodes then s g.value) there in
-      let t = taken f.value f.in_range (not-true _ first.0) first.1 in
-      let v = taken g.value g.in_range (not-true _ second.0) second.1 in
+      let t = taken f.value (not-true _ first.0) first.1 in
+      let v = taken g.value (not-true _ second.0) second.1 in
       (nodes-apart nodes st s seated f g other t.on v.on).upgrades class (sym t.within ∙ v.within)
 
   -- ---- a whole stripe
@@ -242,15 +244,19 @@ module _ (nodes : List NodeInfo) (st : State) (u : UpgradeNo) (s : StripeNo) (se
     none-missing : NoneMissing (code_of st s) (missing nodes st s)
     none-missing = ((law_whole (code_of st s) (homeless st s) (missing nodes st s)).0 whole).1
 
-    none_two : HasNoTwo (missing nodes then s)
-    none_two f g other class here there =
-        no_two f g other class (and_from _ _ (ap not (none-missing f.value f.in_range)) here) (and_from _ _ (ap not (none-missing g.value g.in_range)) there)
+    -- so each that is missing then was not
+    none-before : (f : ℕ) → missing nodes then s f ≡ true → added f ≡ true
+    none-before f hit =
+        and_from _ _ (ap not (none-missing f (ltb-true f (fragment_count (code_of st s)) (and_parts (has_fragment (code_of st s) f) _ hit).0))) hit
+
+    none_two : HasNoTwo (code_of st s) (missing nodes then s)
+    none_two f g other class here there = no_two f g other class (none-before f.value here) (none-before g.value there)
 
     pub whole-recoverable : IsRecoverable (code_of st s) (missing nodes then s)
-    whole-recoverable = recoverable-still (missing nodes then s) none_two
+    whole-recoverable = recoverable-still (code_of st s) (missing nodes then s) none_two
 
     pub whole-margin : (t : ℕ) × (1 ≤ t) × IsMargin (code_of st s) (missing nodes then s) t
-    whole-margin = one-left (missing nodes then s) none_two
+    whole-margin = one-left (code_of st s) (missing nodes then s) none_two
 
 -- ---- which stripe would be lost
 

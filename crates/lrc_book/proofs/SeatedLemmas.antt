@@ -1,19 +1,20 @@
 -- Each outcome leaves the stripes seated.
-use Rattle.std.proofs.Common.{inl, inr, ◌||◌, ℕ, ◌+◌, cond, zero-add, if◌then◌else◌, nat_lt, is_none, ◌≡◌, ◌≢◌, ◌<◌, Bool, true, false, not, eqb, List, [], ◌∷◌, ◌++◌, map, filter, Option, Some, None, Result, Ok, Err, IsSomeAnd, arith, refl, sym, ap, ◌∙◌, subst}
+use Rattle.std.proofs.Common.{inl, inr, ◌||◌, ℕ, ◌+◌, cond, zero-add, if◌then◌else◌, nat_lt, is_none, ◌≡◌, ◌≢◌, ◌<◌, Bool, true, false, not, eqb, List, [], ◌∷◌, ◌++◌, map, filter, Option, Some, None, Result, Ok, Err, IfSome, IsSomeAnd, IsTrue, fold, arith, refl, sym, ap, ◌∙◌, subst}
 use Rattle.std.specs.List.{All, Contains}
-use Rattle.std.proofs.lemmas.Bool.{cases_Bool, ne_eqb, eq-eqb, eqb-false, ltb-false, not-true, or_parts}
-use Rattle.std.proofs.lemmas.List.Elements.{All-nil, All-cons, All-head, All-tail, All-append, All-weaker, All-filter, All-map, All-contains, Contains-append_left, Contains-push, Contains-push_cases}
+use Rattle.std.proofs.lemmas.Bool.{cases_Bool, lt-ltb, ne_eqb, eq-eqb, eqb-false, ltb-false, not-true, or_parts}
+use Rattle.std.proofs.lemmas.List.Elements.{All-nil, All-cons, All-head, All-tail, All-append, All-weaker, All-filter, All-map, All-push, All-contains, Contains-append_left, Contains-push, Contains-push_cases}
 use Rattle.std.proofs.lemmas.List.Folds.{list_any-append}
 use Rattle.std.proofs.lemmas.List.Kept.{AllPairs-filter}
 use Rattle.std.proofs.lemmas.List.Sums.{sum_by-cons}
 use Rattle.lrc_code.specs.declared.codes.Code.{Code}
-use Rattle.lrc_code.specs.declared.codes.Code.TheVariants.{Wide}
+use Rattle.lrc_code.specs.declared.codes.Code.TheVariants.{Wide, Narrow}
 use Rattle.lrc_code.specs.declared.numbers.StripeNo.{StripeNo}
 use Rattle.lrc_code.specs.declared.numbers.NodeNo.{NodeNo}
 use Rattle.lrc_code.specs.declared.numbers.UpgradeNo.{UpgradeNo}
 use Rattle.lrc_code.specs.declared.numbers.SessionNo.{SessionNo}
 use Rattle.lrc_code.specs.declared.numbers.Fragment.{Fragment}
-use Rattle.lrc_code.specs.Codes.{fragments}
+use Rattle.lrc_code.specs.Codes.{fragments, fragment_count, has_fragment}
+use Rattle.lrc_stripes.proofs.MaskLemmas.{fragment-number_in, fragments-long}
 use Rattle.lrc_topology.specs.declared.NodeInfo.{NodeInfo}
 use Rattle.lrc_topology.specs.declared.seat.Seat.{Seat}
 use Rattle.lrc_topology.specs.declared.seat.Held.{Held}
@@ -26,16 +27,18 @@ use Rattle.lrc_book.specs.declared.mode.Mode.TheVariants.{Active, Draining, Gone
 use Rattle.lrc_leases.specs.declared.lease.Lease.{Lease as LeaseRecord}
 use Rattle.lrc_leases.specs.Leased.{is_target_on}
 use Rattle.lrc_book.specs.States.{State, held_by, has_stripe, has_number, without_number, mode_of, is_draining, is_gone, is_down, code_of, seats_of, taken_seats, load}
-use Rattle.lrc_book.specs.Placement.{placed}
+use Rattle.lrc_book.specs.Placement.{place_next, placed}
 use Rattle.lrc_book.specs.Outcomes.{refuse_if}
-use Rattle.lrc_book.specs.Steps.{with_stripe, place_answer, place_outcome, is_other, without_stripe, drop_outcome, node_outcome, stands_on, hangs_on, emptied, with_gone, with_down, without_down, with_draining, without_draining, without_gone, fail_outcome, down_outcome, up_outcome, join_outcome, drain_outcome, undrain_outcome, retire_outcome, without_upgrading, upgrade_answer, upgrade_outcome, is_the_domain, upgraded_outcome, would_lose}
+use Rattle.lrc_book.specs.Steps.{with_code, with_stripe, place_answer, place_outcome, is_other, without_stripe, drop_outcome, node_outcome, stands_on, hangs_on, emptied, with_gone, with_down, without_down, with_draining, without_draining, without_gone, fail_outcome, down_outcome, up_outcome, join_outcome, drain_outcome, undrain_outcome, retire_outcome, without_upgrading, upgrade_answer, upgrade_outcome, is_the_domain, upgraded_outcome, would_lose}
 use Rattle.lrc_stripes.specs.Stored.{StripeFragment}
 use Rattle.lrc_book.specs.Urgency.{next_of}
 use Rattle.lrc_book.specs.Leases.{next_answer, next_outcome}
-use Rattle.lrc_book.specs.Goodness.{IsStanding, AreSeated}
+use Rattle.lrc_book.specs.Goodness.{IsStanding, KeepApart, AreSeated}
+use Rattle.lrc_book.specs.Choices.{AreApart}
 use Rattle.lrc_book.proofs.MemberLemmas.{list_any-All, All-list_any, All-members, member-filter, filter-member, list_any-member}
-use Rattle.lrc_book.proofs.SeatingLists.{pairs-push}
-use Rattle.lrc_book.proofs.SeatingLemmas.{HasNone, homes-all, leases-all, IsPlacing, placing, fragments-distinct}
+use Rattle.lrc_book.proofs.SeatingLists.{All-both, pairs-push, pairs-carried}
+use Rattle.lrc_book.proofs.CodedLemmas.{code-own, code-other, code-left}
+use Rattle.lrc_book.proofs.SeatingLemmas.{HasNone, IsWithin, homes-all, leases-all, IsPlacing, placing, fragments-distinct}
 use Rattle.lrc_book.proofs.LeaseGoodLemmas.{kept-seated}
 use Rattle.lrc_book.proofs.OutcomeLemmas.{either-way}
 use Rattle.lrc_book.proofs.LeaseStepLemmas.{lease-seated}
@@ -49,29 +52,65 @@ not_there st s e t here same =
     (eq-eqb s.value t.value (ap (λ (x : StripeNo). x.value) (sym same))) in
     let both : true ≡ false = sym hit ∙ e in cc
 
+-- nor has it the number of one of them
+other-stripe : (st : State) (s : StripeNo) → has_stripe st s ≡ false → (t : StripeNo) → Contains st.stripes t → eqb s.value t.value ≡ false
+other-stripe st s e t here =
+    All-contains (λ (u : StripeNo). eqb s.value u.value ≡ false) st.stripes t (All-list_any (λ (u : StripeNo). eqb s.value u.value) st.stripes e) here
+
+-- the fragments of a code are those that it has
+fragments-own : (code : Code) → All (λ f. IsTrue (has_fragment code f.value)) (fragments code)
+fragments-own code i d within =
+    let low : i < fragment_count code = omega (arith, within, fragments-long code) in
+    subst (λ n. has_fragment code n ≡ true) (sym (fragment-number_in code i d low)) (lt-ltb i (fragment_count code) low)
+
+-- with one more stripe, of either code, the narrow stripes are there
+coded-with : (st : State) (code : Code) (s : StripeNo) → All (Contains st.stripes) st.narrow → All (Contains (st.stripes ++ s ∷ [])) (with_code code s st.narrow)
+coded-with st Wide s coded = All-filter (is_other s) (Contains (st.stripes ++ s ∷ [])) st.narrow
+    (All-weaker (Contains st.stripes) (Contains (st.stripes ++ s ∷ [])) (Contains-append_left st.stripes (s ∷ [])) st.narrow coded)
+coded-with st Narrow s coded = All-push (Contains (st.stripes ++ s ∷ [])) st.narrow s
+    (All-weaker (Contains st.stripes) (Contains (st.stripes ++ s ∷ [])) (Contains-append_left st.stripes (s ∷ [])) st.narrow coded) (Contains-push st.stripes s)
+
+-- two seats that are apart by a code are so by one that is the same
+KeepApart-code : (nodes : List NodeInfo) (st st' : State) (h g : Held) → code_of st' h.stripe ≡ code_of st h.stripe → KeepApart nodes st h g → KeepApart nodes st' h g
+KeepApart-code nodes st st' h g same apart stripe fragment =
+    subst (λ (c : Code). IfSome (node_at nodes h.seat.node) (λ n. IfSome (node_at nodes g.seat.node) (λ m. AreApart c h.fragment n g.fragment m)))
+    (sym same) (apart stripe fragment)
+
+-- and a seat of a fragment that the stripe's code has is so
+IsWithin-code : (st st' : State) (h : Held) → code_of st' h.stripe ≡ code_of st h.stripe → IsWithin st h → IsWithin st' h
+IsWithin-code st st' h same within = subst (λ (c : Code). IsTrue (has_fragment c h.fragment.value)) (sym same) within
+
 module _ (nodes : List NodeInfo) (known : AreNodes nodes) (st : State) (s : StripeNo) where
   -- a stripe that was not there, with no homes yet
   pub stripe-seated : (code : Code) → AreSeated nodes st → has_stripe st s ≡ false → AreSeated nodes (with_stripe st code s)
-  stripe-seated Wide seated e = record {
-    stripes = pairs-push (λ s t. s ≢ t) st.stripes s seated.stripes (All-members (λ t. t ≢ s) st.stripes (not_there st s e));
-    single = seated.single;
-    standing = seated.standing;
-    lawful = seated.lawful;
-    one_home = seated.one_home;
-    one_lease = seated.one_lease;
-    there =
-        All-weaker (λ h. Contains st.stripes h.stripe) (λ h. Contains (st.stripes ++ s ∷ []) h.stripe)
-        (λ h here. Contains-append_left st.stripes (s ∷ []) h.stripe here) (seats_of st) seated.there;
-    reachable = seated.reachable;
-  }
+  stripe-seated code seated e =
+      let same = λ (h : Held) (here : Contains st.stripes h.stripe). code-other st code s h.stripe (other-stripe st s e h.stripe here) in
+      record {
+        stripes = pairs-push (λ s t. s ≢ t) st.stripes s seated.stripes (All-members (λ t. t ≢ s) st.stripes (not_there st s e));
+        single = seated.single;
+        standing = seated.standing;
+        lawful = pairs-carried (KeepApart nodes st) (KeepApart nodes (with_stripe st code s)) (λ h. Contains st.stripes h.stripe) (seats_of st)
+            (λ h g here apart. KeepApart-code nodes st (with_stripe st code s) h g (same h here) apart) seated.there seated.lawful;
+        one_home = seated.one_home;
+        one_lease = seated.one_lease;
+        coded = coded-with st code s seated.coded;
+        there =
+            All-weaker (λ h. Contains st.stripes h.stripe) (λ h. Contains (st.stripes ++ s ∷ []) h.stripe)
+            (λ h here. Contains-append_left st.stripes (s ∷ []) h.stripe here) (seats_of st) seated.there;
+        within =
+            All-weaker (λ h. Contains st.stripes h.stripe × IsWithin st h) (IsWithin (with_stripe st code s))
+            (λ h both. IsWithin-code st (with_stripe st code s) h (same h both.0) both.1) (seats_of st)
+            (All-both (λ h. Contains st.stripes h.stripe) (IsWithin st) (seats_of st) seated.there seated.within);
+        reachable = seated.reachable;
+      }
 
-  pub stripe-placing : (code : Code) → AreSeated nodes st → has_stripe st s ≡ false
-      → IsPlacing nodes s (with_stripe st code s) (fragments (code_of (with_stripe st code s) s))
-  stripe-placing Wide seated e = record {
-    seated = stripe-seated Wide seated e;
+  pub stripe-placing : (code : Code) → AreSeated nodes st → has_stripe st s ≡ false → IsPlacing nodes s (with_stripe st code s) (fragments code)
+  stripe-placing code seated e = record {
+    seated = stripe-seated code seated e;
     there = Contains-push st.stripes s;
-    distinct = fragments-distinct (code_of (with_stripe st Wide s) s);
-    absent = All-members (HasNone s st.homes) (fragments (code_of (with_stripe st Wide s) s))
+    distinct = fragments-distinct code;
+    own = subst (λ (c : Code). All (λ f. IsTrue (has_fragment c f.value)) (fragments code)) (sym (code-own st code s)) (fragments-own code);
+    absent = All-members (HasNone s st.homes) (fragments code)
         (λ f here. All-weaker (λ h. Contains st.stripes h.stripe) (λ h. h.stripe ≡ s → h.fragment ≢ f)
         (λ h there stripe. absurd (not_there st s e h.stripe there stripe)) st.homes
         (homes-all (λ h. Contains st.stripes h.stripe) st seated.there));
@@ -82,17 +121,18 @@ module _ (nodes : List NodeInfo) (known : AreNodes nodes) (st : State) (s : Stri
       → placed nodes (with_stripe st code s) s ≡ Ok final → AreSeated nodes final
   unfolding placed
   placed-seated code final seated e done =
-      placing nodes known s (with_stripe st code s) (fragments (code_of (with_stripe st code s) s)) final (stripe-placing code seated e) done
+      placing nodes known s (with_stripe st code s) (fragments code) final (stripe-placing code seated e)
+      (ap (λ (c : Code). fold (place_next nodes s) (Ok (with_stripe st code s)) (fragments c)) (sym (code-own st code s)) ∙ done)
 
   answer-seated : (code : Code) (r : Result State Fragment) → AreSeated nodes st → has_stripe st s ≡ false
-      → placed nodes (with_stripe st code s) s ≡ r → AreSeated nodes (place_answer st s r).1
+      → placed nodes (with_stripe st code s) s ≡ r → AreSeated nodes (place_answer st code r).1
   answer-seated code (Ok final) seated e done = placed-seated code final seated e done
   answer-seated code (Err f) seated e done = seated
 
   pub place-seated : (code : Code) → AreSeated nodes st → AreSeated nodes (place_outcome nodes st code s).1
   unfolding place_outcome
   place-seated code seated =
-      either-way (AreSeated nodes) (has_stripe st s) refusal.StripeExists st (place_answer st s (placed nodes (with_stripe st code s) s)) seated
+      either-way (AreSeated nodes) (has_stripe st s) refusal.StripeExists st (place_answer st code (placed nodes (with_stripe st code s) s)) seated
       (λ e. answer-seated code (placed nodes (with_stripe st code s) s) seated e refl)
 
   -- the stripe, its homes and its leases taken out
@@ -101,14 +141,26 @@ module _ (nodes : List NodeInfo) (known : AreNodes nodes) (st : State) (s : Stri
       let p = λ (h : Held). is_other s h.stripe in
       let q = λ (l : LeaseRecord). is_other s l.stripe in
       let left = kept-seated nodes st p q seated in
+      let others : All (λ (h : Held). is_other s h.stripe ≡ true) (seats_of (without_stripe st s)) =
+      All-append (λ (h : Held). is_other s h.stripe ≡ true) (filter p st.homes) (map held_by (filter q st.leases))
+      (All-members (λ (h : Held). is_other s h.stripe ≡ true) (filter p st.homes) (λ h here. (filter-member p st.homes h here).1))
+      (All-map (λ (h : Held). is_other s h.stripe ≡ true) held_by (filter q st.leases)
+      (All-members (λ (l : LeaseRecord). is_other s l.stripe ≡ true) (filter q st.leases) (λ l here. (filter-member q st.leases l here).1))) in
       let stays = λ (t : StripeNo) (here : Contains st.stripes t) (other : is_other s t ≡ true). member-filter (is_other s) st.stripes t here other in
       record {
         stripes = AllPairs-filter (λ s t. s ≢ t) (is_other s) st.stripes seated.stripes;
         single = left.single;
         standing = left.standing;
-        lawful = left.lawful;
+        lawful = pairs-carried (KeepApart nodes st) (KeepApart nodes (without_stripe st s)) (λ h. is_other s h.stripe ≡ true) (seats_of (without_stripe st s))
+            (λ h g other apart. KeepApart-code nodes st (without_stripe st s) h g (code-left st s h.stripe (not-true _ other)) apart) others left.lawful;
         one_home = left.one_home;
         one_lease = left.one_lease;
+        coded = All-members (Contains (filter (is_other s) st.stripes)) (filter (is_other s) st.narrow)
+            (λ t here. let m = filter-member (is_other s) st.narrow t here in stays t (All-contains (Contains st.stripes) st.narrow t seated.coded m.0) m.1);
+        within =
+            All-weaker (λ h. (is_other s h.stripe ≡ true) × IsWithin st h) (IsWithin (without_stripe st s))
+            (λ h both. IsWithin-code st (without_stripe st s) h (code-left st s h.stripe (not-true _ both.0)) both.1) (seats_of (without_stripe st s))
+            (All-both (λ h. is_other s h.stripe ≡ true) (IsWithin st) (seats_of (without_stripe st s)) others left.within);
         there = All-append (λ h. Contains (filter (is_other s) st.stripes) h.stripe) (filter p st.homes) (map held_by (filter q st.leases))
             (All-members (λ h. Contains (filter (is_other s) st.stripes) h.stripe) (filter p st.homes)
             (λ h here. let m = filter-member p st.homes h here in
@@ -181,7 +233,9 @@ modes-seated nodes st gone draining down upgrading seated present reachable =
       lawful = seated.lawful;
       one_home = seated.one_home;
       one_lease = seated.one_lease;
+      coded = seated.coded;
       there = seated.there;
+      within = seated.within;
       reachable = All-members (λ m. mode_of st' m ≢ Gone) down (λ m here. not_gone gone draining m (reachable m here));
     }
 

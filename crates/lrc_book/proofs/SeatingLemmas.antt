@@ -1,5 +1,5 @@
 -- One home or lease more on a seat that is apart from the others, and a stripe's fragments placed one after the other, leave the stripes seated.
-use Rattle.std.proofs.Common.{◌≡◌, ◌≢◌, ◌<◌, Bool, true, not, ◌&&◌, eqb, append_assoc, List, [], ◌∷◌, ◌++◌, map, fold, Option, Some, None, Ok, Err, IfSome, IsSomeAnd, arith, refl, sym, ap, ◌∙◌, subst}
+use Rattle.std.proofs.Common.{◌≡◌, ◌≢◌, ◌<◌, IsTrue, Bool, true, not, ◌&&◌, eqb, append_assoc, List, [], ◌∷◌, ◌++◌, map, fold, Option, Some, None, Ok, Err, IfSome, IsSomeAnd, arith, refl, sym, ap, ◌∙◌, subst}
 use Rattle.std.specs.List.{All, AllPairs, Contains, list_any}
 use Rattle.std.specs.Option.{option_map_or}
 use Rattle.std.proofs.lemmas.Bool.{eqb-false, not-true, and_parts}
@@ -9,10 +9,10 @@ use Rattle.std.proofs.lemmas.List.Elements.{All-head, All-tail, All-append, All-
 use Rattle.std.proofs.lemmas.List.Folds.{fold_stays}
 use Rattle.std.proofs.lemmas.List.Kept.{AllPairs-cons}
 use Rattle.lrc_code.specs.declared.codes.Code.{Code}
-use Rattle.lrc_code.specs.declared.codes.Code.TheVariants.{Wide}
+use Rattle.lrc_code.specs.declared.codes.Code.TheVariants.{Wide, Narrow}
 use Rattle.lrc_code.specs.declared.numbers.StripeNo.{StripeNo}
 use Rattle.lrc_code.specs.declared.numbers.Fragment.{Fragment}
-use Rattle.lrc_code.specs.Codes.{fragments}
+use Rattle.lrc_code.specs.Codes.{fragments, has_fragment}
 use Rattle.lrc_code.proofs.CodesLemmas.{share_class-turn}
 use Rattle.lrc_topology.specs.declared.NodeInfo.{NodeInfo}
 use Rattle.lrc_topology.specs.declared.seat.Seat.{Seat}
@@ -63,11 +63,17 @@ apart-turn code f g (Some n) (Some m) h = AreApart-turn code f g n m h
 -- being apart is the same both ways
 pub KeepApart-turn : (nodes : List NodeInfo) (st : State) (h g : Held) → KeepApart nodes st h g → KeepApart nodes st g h
 KeepApart-turn nodes st h g apart stripe fragment =
-    apart-turn (code_of st h.stripe) h.fragment g.fragment (node_at nodes h.seat.node) (node_at nodes g.seat.node)
-    (apart (sym stripe) (λ e. fragment (sym e)))
+    subst (λ (r : StripeNo). IfSome (node_at nodes g.seat.node) (λ n. IfSome (node_at nodes h.seat.node) (λ m. AreApart (code_of st r) g.fragment n h.fragment m)))
+    (sym stripe)
+    (apart-turn (code_of st h.stripe) h.fragment g.fragment (node_at nodes h.seat.node) (node_at nodes g.seat.node)
+    (apart (sym stripe) (λ e. fragment (sym e))))
 
 other-turn : (h g : Held) → h.seat ≢ g.seat → g.seat ≢ h.seat
 other-turn h g other = λ e. other (sym e)
+
+-- the seat is of a fragment that the stripe's code has
+abbrev pub IsWithin : State → Held → Type 0
+IsWithin st h = IsTrue (has_fragment (code_of st h.stripe) h.fragment.value)
 
 -- a seat that may be added: it stands, and all others are others and apart from it
 pub record MayStand (nodes : List NodeInfo) (st : State) (y : Held) : Type 0 where
@@ -75,6 +81,7 @@ pub record MayStand (nodes : List NodeInfo) (st : State) (y : Held) : Type 0 whe
   pub others : All (λ h. h.seat ≢ y.seat) (seats_of st)
   pub apart : All (λ h. KeepApart nodes st h y) (seats_of st)
   pub there : Contains st.stripes y.stripe
+  pub within : IsTrue (has_fragment (code_of st y.stripe) y.fragment.value)
 
 module _ (nodes : List NodeInfo) (st : State) (seated : AreSeated nodes st) where
   pub held-single : AllPairs (λ h g. h.seat ≢ g.seat) (seats_of st)
@@ -106,7 +113,9 @@ module _ (nodes : List NodeInfo) (st : State) (seated : AreSeated nodes st) wher
         lawful = pairs-insert (KeepApart nodes st) (KeepApart-turn nodes st) st.homes targets y seated.lawful may.apart;
         one_home = pairs-push (λ h g. h.stripe ≡ g.stripe → h.fragment ≢ g.fragment) st.homes y seated.one_home absent;
         one_lease = seated.one_lease;
+        coded = seated.coded;
         there = All-inserted (λ h. Contains st.stripes h.stripe) y seated.there may.there;
+        within = All-inserted (IsWithin st) y seated.within may.within;
         reachable = seated.reachable;
       }
 
@@ -127,9 +136,11 @@ module _ (nodes : List NodeInfo) (st : State) (seated : AreSeated nodes st) wher
         lawful = subst (AllPairs (KeepApart nodes st)) (sym held) (pairs-push (KeepApart nodes st) (seats_of st) y seated.lawful may.apart);
         one_home = seated.one_home;
         one_lease = one_each-append st.leases l seated.one_lease none;
+        coded = seated.coded;
         there =
             subst (All (λ h. Contains st.stripes h.stripe)) (sym held)
             (All-push (λ h. Contains st.stripes h.stripe) (seats_of st) y seated.there may.there);
+        within = subst (All (IsWithin st)) (sym held) (All-push (IsWithin st) (seats_of st) y seated.within may.within);
         reachable = seated.reachable;
       }
 
@@ -164,20 +175,21 @@ module _ (nodes : List NodeInfo) (known : AreNodes nodes) (st : State) (s : Stri
       (sym (choice-found choice choice.node choice.fitting.known choice.on))
       (subst (λ t. AreApart (code_of st t) h.fragment m f choice.node) (sym stripe) (AreApart-turn (code_of st s) f h.fragment choice.node m a)))
 
-  pub choice-stands : IsChoice nodes st s f seat → Contains st.stripes s → MayStand nodes st (held_on s f seat)
-  choice-stands choice there = record {
+  pub choice-stands : IsChoice nodes st s f seat → Contains st.stripes s → IsTrue (has_fragment (code_of st s) f.value) → MayStand nodes st (held_on s f seat)
+  choice-stands choice there own = record {
     standing = choice-standing choice;
     others = All-unmap (λ a. a ≢ seat) (λ (h : Held). h.seat) (seats_of st) (choice-new choice);
     apart =
         All-weaker (IsApartFrom nodes st s f choice.node) (λ h. KeepApart nodes st h (held_on s f seat)) (choice-apart choice)
         (seats_of st) choice.fitting.lawful;
     there = there;
+    within = own;
   }
 
   -- a home on a chosen seat, for a fragment that has none
-  pub home-seated : AreSeated nodes st → IsChoice nodes st s f seat → Contains st.stripes s → HasNone s st.homes f
+  pub home-seated : AreSeated nodes st → IsChoice nodes st s f seat → Contains st.stripes s → IsTrue (has_fragment (code_of st s) f.value) → HasNone s st.homes f
       → AreSeated nodes (with_home st s f seat)
-  home-seated seated choice there absent = inserted-seated nodes st seated (held_on s f seat) (choice-stands choice there) absent
+  home-seated seated choice there own absent = inserted-seated nodes st seated (held_on s f seat) (choice-stands choice there own) absent
 
 -- ---- placing
 
@@ -186,6 +198,7 @@ pub record IsPlacing (nodes : List NodeInfo) (s : StripeNo) (st : State) (rest :
   pub seated : AreSeated nodes st
   pub there : Contains st.stripes s
   pub distinct : AllPairs (λ f g. f ≢ g) rest
+  pub own : All (λ f. IsTrue (has_fragment (code_of st s) f.value)) rest
   pub absent : All (HasNone s st.homes) rest
 
 module _ (nodes : List NodeInfo) (known : AreNodes nodes) (s : StripeNo) where
@@ -194,9 +207,11 @@ module _ (nodes : List NodeInfo) (known : AreNodes nodes) (s : StripeNo) where
   placing-some st f fs seat p e =
       let absent = All-head (HasNone s st.homes) f fs p.absent in
       record {
-        seated = home-seated nodes known st s f seat p.seated (chosen-choice nodes st s f seat known e) p.there absent;
+        seated = home-seated nodes known st s f seat p.seated (chosen-choice nodes st s f seat known e) p.there
+            (All-head (λ g. IsTrue (has_fragment (code_of st s) g.value)) f fs p.own) absent;
         there = p.there;
         distinct = AllPairs-tail (λ f g. f ≢ g) f fs p.distinct;
+        own = All-tail (λ g. IsTrue (has_fragment (code_of st s) g.value)) f fs p.own;
         absent = All-weaker (λ g. HasNone s st.homes g × (f ≢ g)) (HasNone s (st.homes ++ held_on s f seat ∷ []))
             (λ g parts. All-push (λ h. h.stripe ≡ s → h.fragment ≢ g) st.homes (held_on s f seat) parts.0 (λ stripe same. parts.1 same)) fs
             (All-both (HasNone s st.homes) (λ g. f ≢ g) fs (All-tail (HasNone s st.homes) f fs p.absent)
@@ -234,3 +249,4 @@ distinct-from (f ∷ fs) e =
 pub fragments-distinct : (code : Code) → AllPairs (λ f g. f ≢ g) (fragments code)
 unfolding are_distinct
 fragments-distinct Wide = distinct-from (fragments Wide) refl
+fragments-distinct Narrow = distinct-from (fragments Narrow) refl

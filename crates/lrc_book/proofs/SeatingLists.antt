@@ -1,5 +1,5 @@
 -- Lists whose elements are mapped, and one element more.
-use Rattle.std.proofs.Common.{List, [], ◌∷◌, ◌++◌, map, arith}
+use Rattle.std.proofs.Common.{get_or, List, [], ◌∷◌, ◌++◌, map, arith}
 use Rattle.std.specs.List.{All, AllPairs}
 use Rattle.std.proofs.lemmas.List.Elements.{All-nil, All-cons, All-head, All-tail, All-map}
 use Rattle.std.proofs.lemmas.List.Quantifiers.{all_pairs_push}
@@ -25,6 +25,10 @@ module _ {X Y : Type 0} (R : Y → Y → Type 0) (f : X → Y) where
 
 pub pairs-push : {X : Type 0} (R : X → X → Type 0) (xs : List X) (y : X) → AllPairs R xs → All (λ x. R x y) xs → AllPairs R (xs ++ y ∷ [])
 pairs-push R xs y pairs all = all_pairs_push R xs y pairs all
+
+-- pairs of elements that are carried over, where what each element has carries them
+pub pairs-carried : {X : Type 0} (R S : X → X → Type 0) (P : X → Type 0) (xs : List X) → ((x y : X) → P x → R x y → S x y) → All P xs → AllPairs R xs → AllPairs S xs
+pairs-carried R S P xs carry all pairs i j d below within = carry (get_or xs i d) (get_or xs j d) (all i d (omega (arith, below, within))) (pairs i j d below within)
 
 pub All-both : {X : Type 0} (P Q : X → Type 0) (xs : List X) → All P xs → All Q xs → All (λ x. P x × Q x) xs
 All-both P Q xs p q k d within = (p k d within, q k d within)

@@ -1,19 +1,20 @@
 -- A stripe that an upgrade would lose is short: it needs a lease, or has homes on several nodes that are not online.
-use Rattle.std.proofs.Common.{◌≡◌, ◌≢◌, ◌⊎◌, ℕ, ◌+◌, ◌-◌, ◌≤◌, ◌<◌, inl, inr, Bool, true, false, not, ◌&&◌, ◌||◌, nat_lt, cond, List, [], ◌∷◌, map, Option, Some, None, option_map, IsFalse, IsSomeAnd, arith, refl, sym, ap, ◌∙◌, subst}
+use Rattle.std.proofs.Common.{◌≡◌, ◌≢◌, ◌⊎◌, ℕ, ◌+◌, ◌-◌, ◌≤◌, ◌<◌, inl, inr, Bool, true, false, not, ◌&&◌, ◌||◌, cond, List, [], ◌∷◌, map, Option, Some, None, option_map, IsFalse, IsSomeAnd, arith, refl, sym, ap, ◌∙◌, subst}
 use Rattle.std.specs.List.{Contains, count_by}
 use Rattle.std.specs.Option.{option_map_or}
-use Rattle.std.proofs.lemmas.Bool.{cases_Bool, eqb-true, eq-eqb, ltb-false, le-leb, lt-ltb, not-true, and_parts, and_from}
+use Rattle.std.proofs.lemmas.Bool.{cases_Bool, eqb-true, eq-eqb, ltb-false, le-leb, ltb-true, not-true, and_parts, and_from}
 use Rattle.std.proofs.lemmas.List.Elements.{All-contains, Contains-append_left}
 use Rattle.std.proofs.lemmas.List.Sums.{sum_by-cons}
 use Rattle.lrc_code.specs.declared.codes.Class.{Class}
 use Rattle.lrc_code.specs.declared.codes.Class.TheVariants.{A, B, G}
+use Rattle.lrc_code.specs.declared.codes.Code.{Code}
 use Rattle.lrc_code.specs.declared.codes.Code.TheVariants.{Wide}
 use Rattle.lrc_code.specs.declared.numbers.StripeNo.{StripeNo}
 use Rattle.lrc_code.specs.declared.numbers.NodeNo.{NodeNo}
 use Rattle.lrc_code.specs.declared.numbers.UpgradeNo.{UpgradeNo}
 use Rattle.lrc_code.specs.declared.numbers.Fragment.{Fragment}
 use Rattle.lrc_code.specs.Numbers.{same_node}
-use Rattle.lrc_code.specs.Codes.{fragments, members}
+use Rattle.lrc_code.specs.Codes.{fragments, fragment_count, has_fragment, members}
 use Rattle.lrc_code.specs.Losses.{FragmentSet, losses_in, size_of, excess}
 use Rattle.lrc_code.proofs.LossesLemmas.{size_of-classes}
 use Rattle.lrc_code.proofs.NumbersLemmas.{equal_nodes}
@@ -27,7 +28,7 @@ use Rattle.lrc_stripes.specs.Upgrades as upgrades
 use Rattle.lrc_stripes.specs.Upgrades.{is_stripe_on, offline_count, IsFirstLostTo, IsFirstShortLostTo, is_short_lost_to}
 use Rattle.lrc_stripes.proofs.LevelLemmas.{has_some-false}
 use Rattle.lrc_book.specs.declared.mode.Mode.TheVariants.{Gone}
-use Rattle.lrc_book.specs.States.{State, has_stripe, held_by, seats_of, taken_seats, mode_of, online_at, drains_at, missing}
+use Rattle.lrc_book.specs.States.{State, has_stripe, code_of, held_by, seats_of, taken_seats, mode_of, online_at, drains_at, missing}
 use Rattle.lrc_book.specs.Repairs.{is_safe}
 use Rattle.lrc_book.specs.Goodness.{AreSeated, IsStanding}
 use Rattle.lrc_book.specs.Steps.{with_upgrading, is_lost_to}
@@ -99,22 +100,25 @@ module _ (nodes : List NodeInfo) (st : State) (spare : ℕ) (s : StripeNo) (seat
     pub on : IsOn nodes st s seated f
     pub off : online_at nodes st on.home.seat.node ≡ false
 
+  abbrev code : Code
+  code = code_of st s
+
   abbrev homes : ℕ → Option Seat
   homes f = option_map (λ (h : Held). h.seat) (home_of st.homes s f)
 
-  none-needed : has_some Wide (needs_in Wide (drains_at nodes st) homes) ≡ false
-  none-needed = sym (ap (λ b. b && has_some Wide (needs_in Wide (drains_at nodes st) homes)) there) ∙ idle
+  none-needed : has_some code (needs_in code (drains_at nodes st) homes) ≡ false
+  none-needed = sym (ap (λ b. b && has_some code (needs_in code (drains_at nodes st) homes)) there) ∙ idle
 
   by-node : (f : ℕ) (h : Held) → home_of st.homes s f ≡ Some h → online_at nodes st h.seat.node ≡ false → (o : Option NodeInfo)
       → node_at nodes h.seat.node ≡ o → IsSomeAnd o (λ n. (h.seat.slot < n.slots) × (mode_of st h.seat.node ≢ Gone)) → IsAway f
   by-node f h found off None at stands = absurd stands
   by-node f h found off (Some n) at stands = record { on = record { home = h; found = found; node = n; at = at }; off = off }
 
-  by-home : (f : ℕ) → f < 16 → (o : Option Held) → home_of st.homes s f ≡ o
+  by-home : (f : ℕ) → (o : Option Held) → home_of st.homes s f ≡ o
       → option_map_or (λ (seat : Seat). drains_at nodes st seat.node) (option_map (λ (h : Held). h.seat) o) true ≡ false
       → option_map_or (λ (seat : Seat). not (online_at nodes st seat.node)) (option_map (λ (h : Held). h.seat) o) true ≡ true → IsAway f
-  by-home f within None found needed hit = absurd (cc)
-  by-home f within (Some h) found needed hit =
+  by-home f None found needed hit = absurd (cc)
+  by-home f (Some h) found needed hit =
       let listed = Contains-append_left st.homes (map held_by st.leases) h (found-home st s f h found).0 in
       by-node f h found (not-true _ hit) (node_at nodes h.seat.node) refl
       (All-contains (IsStanding nodes st) (taken_seats st) h.seat seated.standing (map-member (λ (g : Held). g.seat) (seats_of st) h listed))
@@ -123,10 +127,12 @@ module _ (nodes : List NodeInfo) (st : State) (spare : ℕ) (s : StripeNo) (seat
   and_false true b is e = e
   and_false false b is e = absurd (cc)
 
-  away : (f : ℕ) → f < 16 → missing nodes st s f ≡ true → IsAway f
-  away f within hit =
-      by-home f within (home_of st.homes s f) refl (and_false _ _ (lt-ltb f 16 within) (has_some-false Wide (needs_in Wide (drains_at nodes st) homes) none-needed f within))
-      (and_parts (nat_lt f 16) _ hit).1
+  away : (f : ℕ) → missing nodes st s f ≡ true → IsAway f
+  away f hit =
+      let parts = and_parts (has_fragment code f) _ hit in
+      let within = ltb-true f (fragment_count code) parts.0 in
+      by-home f (home_of st.homes s f) refl
+      (and_false _ _ parts.0 (has_some-false code (needs_in code (drains_at nodes st) homes) none-needed f within)) parts.1
 
   -- such a node is counted
   abbrev counted : NodeInfo → Bool
@@ -148,17 +154,17 @@ module _ (nodes : List NodeInfo) (st : State) (spare : ℕ) (s : StripeNo) (seat
 
   one-now : (f g : Fragment) → f ≢ g → missing nodes st s f.value ≡ true → missing nodes st s g.value ≡ true → ⊥
   one-now f g other here also =
-      let t = away f.value f.in_range here in
-      let v = away g.value g.in_range also in
+      let t = away f.value here in
+      let v = away g.value also in
       let apart = nodes-apart nodes st s seated f g other t.on v.on in
       two-counted counted nodes t.on.node v.on.node (own-number f.value t).1 (own-number g.value v).1
       (λ same. apart.faults (ap (λ (n : NodeInfo). n.fault) same)) (is-counted f t) (is-counted g v) few
 
-  few-now : size_of Wide (missing nodes st s) ≤ 1
+  few-now : size_of code (missing nodes st s) ≤ 1
   few-now =
-      at_most_one (λ (f : Fragment). missing nodes st s f.value) (fragments Wide)
-      (pairs-by (λ (f g : Fragment). missing nodes st s f.value ≡ true → missing nodes st s g.value ≡ true → ⊥) (fragments Wide)
-      (fragments-distinct Wide) (λ f g here also other. one-now f g other))
+      at_most_one (λ (f : Fragment). missing nodes st s f.value) (fragments code)
+      (pairs-by (λ (f g : Fragment). missing nodes st s f.value ≡ true → missing nodes st s g.value ≡ true → ⊥) (fragments code)
+      (fragments-distinct code) (λ f g here also other. one-now f g other))
 
   module _ (u : UpgradeNo) where
     abbrev then : FragmentSet
@@ -171,14 +177,14 @@ module _ (nodes : List NodeInfo) (st : State) (spare : ℕ) (s : StripeNo) (seat
       by false e = absurd (cc)
 
     -- so the upgrade leaves it recoverable
-    pub few-then : excess Wide then ≤ 2
+    pub few-then : excess code then ≤ 2
     few-then =
         let new = added nodes st u s seated in
         let now = missing nodes st s in
-        let part : (c : Class) → losses_in Wide c then ≤ losses_in Wide c new + losses_in Wide c now = λ c. count-parts then new now covered (members Wide c) in
-        let one : (c : Class) → losses_in Wide c new ≤ 1 = class-one new (no_two nodes st u s seated) in
-        few-in_all _ _ _ (losses_in Wide A new) (losses_in Wide B new) (losses_in Wide G new) (losses_in Wide A now) (losses_in Wide B now) (losses_in Wide G now)
-        (part A) (part B) (part G) (one A) (one B) (one G) (subst (λ (n : ℕ). n ≤ 1) (size_of-classes now) few-now)
+        let part : (c : Class) → losses_in code c then ≤ losses_in code c new + losses_in code c now = λ c. count-parts then new now covered (members code c) in
+        let one : (c : Class) → losses_in code c new ≤ 1 = class-one code new (no_two nodes st u s seated) in
+        few-in_all _ _ _ (losses_in code A new) (losses_in code B new) (losses_in code G new) (losses_in code A now) (losses_in code B now) (losses_in code G now)
+        (part A) (part B) (part G) (one A) (one B) (one G) (subst (λ (n : ℕ). n ≤ 1) (size_of-classes code now) few-now)
 
 -- ---- the stripes that are lost
 

@@ -20,11 +20,13 @@ use Rattle.lrc_leases.specs.declared.lease.Lease.{Lease}
 use Rattle.lrc_leases.specs.Leased.{leases_in, is_of as lease_is, AreOneEach}
 use Rattle.lrc_leases.proofs.ListLemmas.{find-none, is_of-from, leases_in-own, leases_in-contains, contains-leases_in}
 use Rattle.lrc_book.specs.States.{State, opening, has_stripe, lease_of, load, is_online, online_at, code_of, homeless, missing}
+use Rattle.lrc_book.specs.Goodness.{AreSeated}
 use Rattle.lrc_book.proofs.MemberLemmas.{find-member, list_any-member}
 use Rattle.lrc_book.proofs.LeaseStepLemmas.{stripe-there}
 use Rattle.lrc_book.proofs.TakenLemmas.{load-parts, count-held, count-targets}
 use Rattle.lrc_book.proofs.StoredLemmas.{is_of}
-use Rattle.lrc_book.proofs.ClearLemmas.{home-only}
+use Rattle.lrc_book.proofs.ClearLemmas.{home-only, home-own}
+use Rattle.lrc_book.proofs.EndLemmas.{lease-own}
 
 -- ---- stripes
 
@@ -192,6 +194,25 @@ pub none-beyond : (nodes : List NodeInfo) (st : State) (s : StripeNo) (f : ℕ) 
 none-beyond nodes st s f past =
     let none : has_fragment (code_of st s) f ≡ false = le-ltb f (fragment_count (code_of st s)) past in
     (and_left (has_fragment (code_of st s) f) _ none, and_left (has_fragment (code_of st s) f) _ none)
+
+-- and where stripes are seated none has a home or a lease
+module _ (nodes : List NodeInfo) (st : State) (s : StripeNo) (f : Fragment) (seated : AreSeated nodes st) (past : fragment_count (code_of st s) ≤ f.value) where
+  lacks : has_fragment (code_of st s) f.value ≡ false
+  lacks = le-ltb f.value (fragment_count (code_of st s)) past
+
+  home-by : (o : Option Held) → home_of st.homes s f.value ≡ o → o ≡ None
+  home-by None is = refl
+  home-by (Some h) is = absurd (let both : true ≡ false = sym (home-own nodes st s f h seated is) ∙ lacks in cc)
+
+  lease-by : (o : Option Lease) → lease_of st s f ≡ o → o ≡ None
+  lease-by None is = refl
+  lease-by (Some l) is = absurd (let both : true ≡ false = sym (lease-own nodes st s f l is seated) ∙ lacks in cc)
+
+  pub held-beyond : (homes_of st.homes s f.value ≡ None) × (lease_of st s f ≡ None)
+  held-beyond = (
+    ap (λ (o : Option Held). option_map (λ h. h.seat) o) (home-by (home_of st.homes s f.value) refl),
+    lease-by (lease_of st s f) refl,
+  )
 
 -- ---- before the first entry
 

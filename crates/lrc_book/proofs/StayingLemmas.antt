@@ -5,7 +5,8 @@ use Rattle.std.specs.List.{list_any}
 use Rattle.std.proofs.lemmas.Bool.{cases_Bool, and_parts, eqb-true, ne_eqb}
 use Rattle.std.proofs.lemmas.Option.{same_Some}
 use Rattle.std.proofs.lemmas.List.Folds.{list_any-append}
-use Rattle.lrc_code.specs.declared.codes.Code.TheVariants.{Wide}
+use Rattle.lrc_code.specs.declared.codes.Code.{Code}
+use Rattle.lrc_code.specs.declared.codes.Code.TheVariants.{Wide, Narrow}
 use Rattle.lrc_code.specs.declared.numbers.StripeNo.{StripeNo}
 use Rattle.lrc_code.specs.declared.numbers.NodeNo.{NodeNo}
 use Rattle.lrc_code.specs.declared.numbers.UpgradeNo.{UpgradeNo}
@@ -23,7 +24,7 @@ use Rattle.lrc_stripes.specs.Stored.{StripeFragment}
 use Rattle.lrc_leases.specs.declared.lease.Lease.{Lease as LeaseRecord}
 use Rattle.lrc_book.specs.Leases.{tick_outcome}
 use Rattle.lrc_book.specs.declared.command.Command.{Command}
-use Rattle.lrc_book.specs.declared.command.Command.TheVariants.{Place, Drop, Lease, Next, Done, Abandon, Revoke, Fail, Down, Up, Drain, Undrain, Retire, Join, Upgrade, Upgraded, Tick}
+use Rattle.lrc_book.specs.declared.command.Command.TheVariants.{Place, Place6, Drop, Lease, Next, Done, Abandon, Revoke, Fail, Down, Up, Drain, Undrain, Retire, Join, Upgrade, Upgraded, Tick}
 use Rattle.lrc_book.specs.declared.reply.Reply.TheVariants.{Dropped, Changed, Ended}
 use Rattle.lrc_book.specs.declared.refusal.Refusal.TheVariants as refusal
 use Rattle.lrc_book.specs.declared.entry.Entry.{Entry}
@@ -194,16 +195,16 @@ module _ (nodes : List NodeInfo) (past : List Entry) (st : State) (session : Ses
       (homes-append st.homes more s f.value ∙ either-first (home_of st.homes s f.value) (home_of more s f.value) home.0 home.1)
       ∙ ap (λ (x : Seat). Some x) home.2
 
-  placed-home : (r : StripeNo) (o : Result State Fragment) → placed nodes (with_stripe st Wide r) r ≡ o → Stays (place_answer st r o).1
-  placed-home r (Err g) e = own
-  placed-home r (Ok done) e =
-      let grown = placed-grown nodes st r done e in
-      ap (λ (x : State). homes_of x.homes s f.value) grown.is ∙ grown-home (held_at r (fragments Wide) grown.seats)
+  placed-home : (code : Code) (r : StripeNo) (o : Result State Fragment) → placed nodes (with_stripe st code r) r ≡ o → Stays (place_answer st code o).1
+  placed-home code r (Err g) e = own
+  placed-home code r (Ok done) e =
+      let grown = placed-grown nodes st code r done e in
+      ap (λ (x : State). homes_of x.homes s f.value) grown.is ∙ grown-home (held_at r (fragments code) grown.seats)
 
-  place-home : (r : StripeNo) → Stays (place_outcome nodes st Wide r).1
+  place-home : (code : Code) (r : StripeNo) → Stays (place_outcome nodes st code r).1
   unfolding place_outcome
-  place-home r =
-      either-way Stays (has_stripe st r) refusal.StripeExists st _ own (λ absent. placed-home r (placed nodes (with_stripe st Wide r) r) refl)
+  place-home code r =
+      either-way Stays (has_stripe st r) refusal.StripeExists st _ own (λ absent. placed-home code r (placed nodes (with_stripe st code r) r) refl)
 
   other-stripe : (r : StripeNo) → s ≢ r → is_other r home.0.stripe ≡ true
   other-stripe r other =
@@ -232,7 +233,8 @@ module _ (nodes : List NodeInfo) (past : List Entry) (st : State) (session : Ses
 
   -- a home stays where it is at each command that cannot move it
   pub home-stays-by : (c : Command) → ¬ (CanMove s f seat c) → Stays (step nodes past st session c).1
-  home-stays-by (Place r) other = place-home r
+  home-stays-by (Place r) other = place-home Wide r
+  home-stays-by (Place6 r) other = place-home Narrow r
   home-stays-by (Drop r) other = drop-home r other
   home-stays-by (Lease r g) other = lease-stays nodes past st session Stays (λ next h s g d. kept-home next h s) r g
   home-stays-by Next other = next-stays nodes past st session Stays (λ next h s g d. kept-home next h s)
@@ -273,17 +275,17 @@ module _ (nodes : List NodeInfo) (past : List Entry) (st : State) (session : Ses
   kept-stripe : (next : State) → next.homes ≡ st.homes → next.stripes ≡ st.stripes → IsThere next
   kept-stripe next same_homes same_stripes = ap (λ (stripes : List StripeNo). list_any (same_stripe s) stripes) same_stripes ∙ there
 
-  grown-stripe : (r : StripeNo) → IsThere (with_stripe st Wide r)
-  grown-stripe r = list_any-append (same_stripe s) st.stripes (r ∷ []) ∙ ap (λ (b : Bool). b || list_any (same_stripe s) (r ∷ [])) there
+  grown-stripe : (code : Code) (r : StripeNo) → IsThere (with_stripe st code r)
+  grown-stripe code r = list_any-append (same_stripe s) st.stripes (r ∷ []) ∙ ap (λ (b : Bool). b || list_any (same_stripe s) (r ∷ [])) there
 
-  placed-there : (r : StripeNo) (o : Result State Fragment) → placed nodes (with_stripe st Wide r) r ≡ o → IsThere (place_answer st r o).1
-  placed-there r (Err g) e = there
-  placed-there r (Ok done) e = ap (λ (x : State). has_stripe x s) (placed-grown nodes st r done e).is ∙ grown-stripe r
+  placed-there : (code : Code) (r : StripeNo) (o : Result State Fragment) → placed nodes (with_stripe st code r) r ≡ o → IsThere (place_answer st code o).1
+  placed-there code r (Err g) e = there
+  placed-there code r (Ok done) e = ap (λ (x : State). has_stripe x s) (placed-grown nodes st code r done e).is ∙ grown-stripe code r
 
-  place-there : (r : StripeNo) → IsThere (place_outcome nodes st Wide r).1
+  place-there : (code : Code) (r : StripeNo) → IsThere (place_outcome nodes st code r).1
   unfolding place_outcome
-  place-there r =
-      either-way IsThere (has_stripe st r) refusal.StripeExists st _ there (λ absent. placed-there r (placed nodes (with_stripe st Wide r) r) refl)
+  place-there code r =
+      either-way IsThere (has_stripe st r) refusal.StripeExists st _ there (λ absent. placed-there code r (placed nodes (with_stripe st code r) r) refl)
 
   apart : (r t : StripeNo) → s ≢ r → same_stripe s t ≡ true → is_other r t ≡ true
   apart r t other own =
@@ -316,7 +318,8 @@ module _ (nodes : List NodeInfo) (past : List Entry) (st : State) (session : Ses
 
   -- a stripe is there after each command but its Drop
   pub stripe-stays-by : (c : Command) → ¬ (IsDropOf s c) → IsThere (step nodes past st session c).1
-  stripe-stays-by (Place r) other = place-there r
+  stripe-stays-by (Place r) other = place-there Wide r
+  stripe-stays-by (Place6 r) other = place-there Narrow r
   stripe-stays-by (Drop r) other = drop-there r other
   stripe-stays-by (Lease r g) other = lease-stays nodes past st session IsThere (λ next h s g d. kept-stripe next h s) r g
   stripe-stays-by Next other = next-stays nodes past st session IsThere (λ next h s g d. kept-stripe next h s)

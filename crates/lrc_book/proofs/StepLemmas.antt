@@ -2,7 +2,8 @@
 use Rattle.std.proofs.Common.{◌≡◌, ℕ, Bool, true, false, not, nat_eq, nat_lt, if◌then◌else◌, ◌||◌, is_none, List, [], ◌∷◌, ◌++◌, length, map, drop, fold, Option, Some, None, Result, Ok, Err, refl, sym, ap, ◌∙◌, append_assoc, append-nil, arith}
 use Rattle.std.specs.Option.{option_map_or}
 use Rattle.std.proofs.lemmas.List.Folds.{fold_stays}
-use Rattle.lrc_code.specs.declared.codes.Code.TheVariants.{Wide}
+use Rattle.lrc_code.specs.declared.codes.Code.{Code}
+use Rattle.lrc_code.specs.declared.codes.Code.TheVariants.{Wide, Narrow}
 use Rattle.lrc_code.specs.declared.numbers.StripeNo.{StripeNo}
 use Rattle.lrc_code.specs.declared.numbers.NodeNo.{NodeNo}
 use Rattle.lrc_code.specs.declared.numbers.UpgradeNo.{UpgradeNo}
@@ -15,7 +16,7 @@ use Rattle.lrc_topology.specs.declared.seat.Seat.{Seat}
 use Rattle.lrc_topology.specs.declared.seat.Held.{Held}
 use Rattle.lrc_book.specs.Leases.{tick_outcome}
 use Rattle.lrc_book.specs.declared.command.Command.{Command}
-use Rattle.lrc_book.specs.declared.command.Command.TheVariants.{Place, Drop, Lease, Next, Done, Abandon, Revoke, Fail, Down, Up, Drain, Undrain, Retire, Join, Upgrade, Upgraded, Tick}
+use Rattle.lrc_book.specs.declared.command.Command.TheVariants.{Place, Place6, Drop, Lease, Next, Done, Abandon, Revoke, Fail, Down, Up, Drain, Undrain, Retire, Join, Upgrade, Upgraded, Tick}
 use Rattle.lrc_book.specs.declared.reply.Reply.TheVariants.{Dropped, Granted, Ended, Changed, Refused}
 use Rattle.lrc_book.specs.declared.refusal.Refusal.{Refusal}
 use Rattle.lrc_book.specs.declared.refusal.Refusal.TheVariants as refusal
@@ -29,8 +30,9 @@ use Rattle.lrc_book.specs.Leases.{new_lease, with_lease, granted, lease_answer, 
 use Rattle.lrc_book.specs.States.{State, has_stripe, lease_of, online_at, mode_of, is_active, is_draining, is_gone, is_down, load}
 use Rattle.lrc_book.specs.Placement.{chosen, with_home, place_next, placed}
 use Rattle.lrc_book.specs.Outcomes.{Outcome, refuse_if}
-use Rattle.lrc_book.specs.Steps.{with_stripe, without_stripe, place_answer, place_outcome, drop_outcome, with_gone, without_upgrading, fail_outcome, down_outcome, up_outcome, drain_outcome, undrain_outcome, retire_outcome, join_outcome, would_lose, upgrade_answer, upgrade_outcome, is_the_domain, upgraded_outcome, step}
+use Rattle.lrc_book.specs.Steps.{with_stripe, without_stripe, placed_reply, place_command, place_answer, place_outcome, drop_outcome, with_gone, without_upgrading, fail_outcome, down_outcome, up_outcome, drain_outcome, undrain_outcome, retire_outcome, join_outcome, would_lose, upgrade_answer, upgrade_outcome, is_the_domain, upgraded_outcome, step}
 use Rattle.lrc_book.specs.Choices.{AreChosen}
+use Rattle.lrc_book.proofs.CodedLemmas.{code-own}
 use Rattle.lrc_book.specs.Changes.{held_at, with_placed, with_done, changed_by}
 
 -- what one more fragment gives, by what was chosen
@@ -50,9 +52,9 @@ drop-front [] ys = refl
 drop-front (x ∷ xs) ys = drop-front xs ys
 
 -- the homes that were added stand on these seats
-pub seats-added : (s : StripeNo) (homes : List Held) (seats : List Seat) → length seats ≡ 16
-    → map (λ h. h.seat) (drop (length homes) (homes ++ held_at s (fragments Wide) seats)) ≡ seats
-seats-added s homes seats sixteen = rw (drop-front homes (held_at s (fragments Wide) seats)) (seats-held_at s (fragments Wide) seats sixteen)
+pub seats-added : (code : Code) (s : StripeNo) (homes : List Held) (seats : List Seat) → length seats ≡ length (fragments code)
+    → map (λ h. h.seat) (drop (length homes) (homes ++ held_at s (fragments code) seats)) ≡ seats
+seats-added code s homes seats all = rw (drop-front homes (held_at s (fragments code) seats)) (seats-held_at s (fragments code) seats all)
 
 refused-if : (met : Bool) (r : _) (st : State) (other : Outcome) → met ≡ true → refuse_if met r st other ≡ (Refused r, st)
 refused-if true r st other e = refl
@@ -62,8 +64,8 @@ passed-if : (met : Bool) (r : _) (st : State) (other : Outcome) → met ≡ fals
 passed-if false r st other e = refl
 passed-if true r st other e = absurd (let k : true ≡ false = e in cc)
 
-module _ (nodes : List NodeInfo) (st : State) (s : StripeNo) where
-  pub place-there : has_stripe st s ≡ true → place_outcome nodes st Wide s ≡ (Refused refusal.StripeExists, st)
+module _ (nodes : List NodeInfo) (st : State) (code : Code) (s : StripeNo) where
+  pub place-there : has_stripe st s ≡ true → place_outcome nodes st code s ≡ (Refused refusal.StripeExists, st)
   unfolding place_outcome
   place-there there = refused-if _ _ st _ there
 
@@ -107,34 +109,60 @@ placing-grown nodes s [] st done e =
     record { seats = []; all = refl; chosen_are = tt; is = sym (same_ok st done e) ∙ ap (λ (hs : List Held). record st { homes = hs }) (sym (append-nil st.homes)) }
 placing-grown nodes s (f ∷ fs) st done e = grown-turn nodes s f fs st done (chosen nodes st s f) refl (λ next. placing-grown nodes s fs next done) e
 
-answer-changed : (nodes : List NodeInfo) (st : State) (s : StripeNo) (r : Result State Fragment)
-    → ((done : State) → r ≡ Ok done → IsGrown nodes s (fragments Wide) (with_stripe st Wide s) done)
-    → (place_answer st s r).1 ≡ changed_by st (Place s) (place_answer st s r).0
-answer-changed nodes st s (Err f) grown = refl
-answer-changed nodes st s (Ok done) grown =
+-- what a command that places a stripe leaves, and what it leaves where it is refused
+placed-left : (st : State) (code : Code) (s : StripeNo) (seats : List Seat) → changed_by st (place_command code s) (placed_reply code seats) ≡ with_placed st code s seats
+placed-left st Wide s seats = refl
+placed-left st Narrow s seats = refl
+
+unplaced-left : (st : State) (code : Code) (s : StripeNo) (r : Refusal) → changed_by st (place_command code s) (Refused r) ≡ st
+unplaced-left st Wide s r = refl
+unplaced-left st Narrow s r = refl
+
+answer-changed : (nodes : List NodeInfo) (st : State) (code : Code) (s : StripeNo) (r : Result State Fragment)
+    → ((done : State) → r ≡ Ok done → IsGrown nodes s (fragments code) (with_stripe st code s) done)
+    → (place_answer st code r).1 ≡ changed_by st (place_command code s) (place_answer st code r).0
+answer-changed nodes st code s (Err f) grown = sym (unplaced-left st code s (refusal.NoLawfulNode f))
+answer-changed nodes st code s (Ok done) grown =
     let g = grown done refl in
     let added : map (λ h. h.seat) (drop (length st.homes) done.homes) ≡ g.seats =
-    ap (λ (x : State). map (λ h. h.seat) (drop (length st.homes) x.homes)) g.is ∙ seats-added s st.homes g.seats g.all in
-    g.is ∙ ap (with_placed st s) (sym added)
+    ap (λ (x : State). map (λ h. h.seat) (drop (length st.homes) x.homes)) g.is ∙ seats-added code s st.homes g.seats g.all in
+    g.is ∙ ap (with_placed st code s) (sym added) ∙ sym (placed-left st code s (map (λ h. h.seat) (drop (length st.homes) done.homes)))
 
-pub place-passed : (nodes : List NodeInfo) (st : State) (s : StripeNo) → has_stripe st s ≡ false
-    → place_outcome nodes st Wide s ≡ place_answer st s (placed nodes (with_stripe st Wide s) s)
+pub place-passed : (nodes : List NodeInfo) (st : State) (code : Code) (s : StripeNo) → has_stripe st s ≡ false
+    → place_outcome nodes st code s ≡ place_answer st code (placed nodes (with_stripe st code s) s)
 unfolding place_outcome
-place-passed nodes st s absent = passed-if _ _ st _ absent
+place-passed nodes st code s absent = passed-if _ _ st _ absent
 
-pub placed-grown : (nodes : List NodeInfo) (st : State) (s : StripeNo) (done : State) → placed nodes (with_stripe st Wide s) s ≡ Ok done
-    → IsGrown nodes s (fragments Wide) (with_stripe st Wide s) done
+-- the fragments that are placed are those of the code
+pub placed-all : (nodes : List NodeInfo) (st : State) (code : Code) (s : StripeNo)
+    → placed nodes (with_stripe st code s) s ≡ fold (place_next nodes s) (Ok (with_stripe st code s)) (fragments code)
 unfolding placed
-placed-grown nodes st s done e = placing-grown nodes s (fragments Wide) (with_stripe st Wide s) done e
+placed-all nodes st code s = ap (λ (c : Code). fold (place_next nodes s) (Ok (with_stripe st code s)) (fragments c)) (code-own st code s)
 
-place-changed : (nodes : List NodeInfo) (st : State) (s : StripeNo) (there : Bool) → has_stripe st s ≡ there
-    → (place_outcome nodes st Wide s).1 ≡ changed_by st (Place s) (place_outcome nodes st Wide s).0
-place-changed nodes st s true e =
-    let o = place-there nodes st s e in ap (λ (o : Outcome). o.1) o ∙ sym (ap (λ (o : Outcome). changed_by st (Place s) o.0) o)
-place-changed nodes st s false e =
-    let o = place-passed nodes st s e in
-    ap (λ (o : Outcome). o.1) o ∙ answer-changed nodes st s (placed nodes (with_stripe st Wide s) s) (placed-grown nodes st s)
-    ∙ sym (ap (λ (o : Outcome). changed_by st (Place s) o.0) o)
+pub placed-grown : (nodes : List NodeInfo) (st : State) (code : Code) (s : StripeNo) (done : State) → placed nodes (with_stripe st code s) s ≡ Ok done
+    → IsGrown nodes s (fragments code) (with_stripe st code s) done
+placed-grown nodes st code s done e = placing-grown nodes s (fragments code) (with_stripe st code s) done (sym (placed-all nodes st code s) ∙ e)
+
+place-changed : (nodes : List NodeInfo) (st : State) (code : Code) (s : StripeNo) (there : Bool) → has_stripe st s ≡ there
+    → (place_outcome nodes st code s).1 ≡ changed_by st (place_command code s) (place_outcome nodes st code s).0
+place-changed nodes st code s true e =
+    let o = place-there nodes st code s e in
+    ap (λ (o : Outcome). o.1) o ∙ sym (ap (λ (o : Outcome). changed_by st (place_command code s) o.0) o ∙ unplaced-left st code s refusal.StripeExists)
+place-changed nodes st code s false e =
+    let o = place-passed nodes st code s e in
+    ap (λ (o : Outcome). o.1) o ∙ answer-changed nodes st code s (placed nodes (with_stripe st code s) s) (placed-grown nodes st code s)
+    ∙ sym (ap (λ (o : Outcome). changed_by st (place_command code s) o.0) o)
+
+-- the step of a command that places a stripe
+pub place-step : (nodes : List NodeInfo) (past : List Entry) (st : State) (session : SessionNo) (code : Code) (s : StripeNo)
+    → step nodes past st session (place_command code s) ≡ place_outcome nodes st code s
+place-step nodes past st session Wide s = refl
+place-step nodes past st session Narrow s = refl
+
+-- where it placed the stripe
+pub place-left : (nodes : List NodeInfo) (st : State) (code : Code) (s : StripeNo) (seats : List Seat) → (place_outcome nodes st code s).0 ≡ placed_reply code seats
+    → (place_outcome nodes st code s).1 ≡ with_placed st code s seats
+place-left nodes st code s seats told = place-changed nodes st code s (has_stripe st s) refl ∙ ap (changed_by st (place_command code s)) told ∙ placed-left st code s seats
 
 drop-cases : (st : State) (s : StripeNo) (there : Bool)
     → (refuse_if (not there) refusal.UnknownStripe st (Dropped, without_stripe st s)).1
@@ -333,7 +361,8 @@ tick-changed st = refl
 -- the state that a step leaves is told by the command and the reply
 pub step-changed : (nodes : List NodeInfo) (past : List Entry) (st : State) (session : SessionNo) (c : Command)
     → (step nodes past st session c).1 ≡ changed_by st c (step nodes past st session c).0
-step-changed nodes past st session (Place s) = place-changed nodes st s (has_stripe st s) refl
+step-changed nodes past st session (Place s) = place-changed nodes st Wide s (has_stripe st s) refl
+step-changed nodes past st session (Place6 s) = place-changed nodes st Narrow s (has_stripe st s) refl
 step-changed nodes past st session (Drop s) = drop-changed st s
 step-changed nodes past st session (Lease s f) = lease-changed nodes past st session s f
 step-changed nodes past st session Next = next-changed nodes past st session

@@ -2,12 +2,12 @@
 use Rattle.std.proofs.Common.{◌≢◌, ◌+◌, ℕ, not, List, arith}
 use Rattle.std.specs.List.{Contains}
 use Rattle.std.proofs.lemmas.List.Elements.{All-nil}
-use Rattle.lrc_code.specs.declared.codes.Code.TheVariants.{Wide}
+use Rattle.lrc_code.specs.declared.codes.Code.TheVariants.{Wide, Narrow}
 use Rattle.lrc_code.specs.declared.numbers.SessionNo.{SessionNo}
 use Rattle.lrc_topology.specs.declared.NodeInfo.{NodeInfo}
 use Rattle.lrc_topology.specs.Nodes.{AreNodes}
 use Rattle.lrc_book.specs.declared.command.Command.{Command}
-use Rattle.lrc_book.specs.declared.command.Command.TheVariants.{Place, Drop, Lease, Next, Done, Abandon, Revoke, Fail, Down, Up, Drain, Undrain, Retire, Join, Upgrade, Upgraded, Tick}
+use Rattle.lrc_book.specs.declared.command.Command.TheVariants.{Place, Place6, Drop, Lease, Next, Done, Abandon, Revoke, Fail, Down, Up, Drain, Undrain, Retire, Join, Upgrade, Upgraded, Tick}
 use Rattle.lrc_book.specs.declared.entry.Entry.{Entry}
 use Rattle.lrc_book.specs.declared.mode.Mode.TheVariants.{Gone}
 use Rattle.lrc_book.specs.States.{State, opening, mode_of}
@@ -16,6 +16,7 @@ use Rattle.lrc_book.specs.Goodness.{IsStanding, AreSeated}
 use Rattle.lrc_leases.specs.declared.lease.Lease.{Lease as LeaseRecord}
 use Rattle.lrc_leases.specs.Leased.{ends_at}
 use Rattle.lrc_book.specs.Leases.{tick_outcome, without_ending}
+use Rattle.lrc_book.proofs.SeatingLemmas.{IsWithin}
 use Rattle.lrc_book.proofs.LeaseGoodLemmas.{leases-seated}
 use Rattle.lrc_book.proofs.LeaseStepLemmas.{lease-seated, done-seated, abandon-seated, revoke-seated}
 use Rattle.lrc_book.proofs.SeatedLemmas.{place-seated, drop-seated, fail-seated, down-seated, up-seated, join-seated, drain-seated, undrain-seated, retire-seated, upgrade-seated, upgraded-seated, next-seated}
@@ -28,7 +29,9 @@ opening-seated nodes = record {
   lawful = λ i j d below within. absurd (omega arith);
   one_home = λ i j d below within. absurd (omega arith);
   one_lease = λ i j d below within. absurd (omega arith);
+  coded = All-nil (Contains opening.stripes);
   there = All-nil (λ h. Contains opening.stripes h.stripe);
+  within = All-nil (IsWithin opening);
   reachable = All-nil (λ n. mode_of opening n ≢ Gone);
 }
 
@@ -41,7 +44,9 @@ clocked-seated nodes st clock s = record {
   lawful = s.lawful;
   one_home = s.one_home;
   one_lease = s.one_lease;
+  coded = s.coded;
   there = s.there;
+  within = s.within;
   reachable = s.reachable;
 }
 
@@ -54,6 +59,7 @@ tick-seated nodes st seated =
 pub step-seated : (nodes : List NodeInfo) → AreNodes nodes → (past : List Entry) (st : State) (session : SessionNo) (command : Command)
     → AreSeated nodes st → AreSeated nodes (step nodes past st session command).1
 step-seated nodes known past st session (Place s) seated = place-seated nodes known st s Wide seated
+step-seated nodes known past st session (Place6 s) seated = place-seated nodes known st s Narrow seated
 step-seated nodes known past st session (Drop s) seated = drop-seated nodes known st s seated
 step-seated nodes known past st session (Lease s f) seated = lease-seated nodes known past st session s f seated
 step-seated nodes known past st session (Done s f e) seated = done-seated nodes st session s f e seated

@@ -9,7 +9,7 @@ use Rattle.std.proofs.lemmas.List.Elements.{All-contains, Contains-append_left}
 use Rattle.std.proofs.lemmas.List.Folds.{list_any-append, find-append}
 use Rattle.std.proofs.lemmas.Map.Views.{any-filter_same}
 use Rattle.lrc_code.specs.declared.codes.Code.{Code}
-use Rattle.lrc_code.specs.declared.codes.Code.TheVariants.{Wide}
+use Rattle.lrc_code.specs.declared.codes.Code.TheVariants.{Wide, Narrow}
 use Rattle.lrc_code.specs.declared.numbers.StripeNo.{StripeNo}
 use Rattle.lrc_code.specs.declared.numbers.NodeNo.{NodeNo}
 use Rattle.lrc_code.specs.declared.numbers.Fragment.{Fragment}
@@ -26,6 +26,7 @@ use Rattle.lrc_book.specs.Steps.{with_stripe, is_other, without_stripe}
 use Rattle.lrc_book.specs.Goodness.{AreSeated}
 use Rattle.lrc_book.specs.Stores.{stored_of}
 use Rattle.lrc_book.specs.Leases.{without_home}
+use Rattle.lrc_book.proofs.CodedLemmas.{code-with, code-without}
 use Rattle.lrc_book.proofs.MemberLemmas.{map-member, find-member, list_any-member}
 
 -- the home is of the fragment of this number
@@ -79,11 +80,6 @@ same_stored t stripes stripes' code code' homes homes' a b c =
     ∙ ap (λ (k : StripeNo → Code). record t { stripes = stripes'; code = k; homes = homes }) (fun_ext b)
     ∙ ap (λ (h : StripeNo → ℕ → Option Seat). record t { stripes = stripes'; code = code'; homes = h }) (fun_ext (λ s. fun_ext (c s)))
 
--- a stripe of the one code is of the code that all others are of
-same_code : (b : Bool) → (if b then Wide else Wide) ≡ Wide
-same_code true = refl
-same_code false = refl
-
 pub same_homes : (t : Stored) (homes homes' : StripeNo → ℕ → Option Seat) → ((s : StripeNo) (f : ℕ) → homes s f ≡ homes' s f) → ◌≡◌ {A = Stored} (record t { homes = homes }) (record t { homes = homes' })
 same_homes t homes homes' b = ap (λ (h : StripeNo → ℕ → Option Seat). record t { homes = h }) (fun_ext (λ s. fun_ext (b s)))
 
@@ -95,13 +91,18 @@ same_modes t online online' draining draining' a b =
     ∙ ap (λ (p : NodeNo → Bool). record t { online = online'; draining = p }) (fun_ext b)
 
 -- a state's modes, with the stripes and homes of another that are the same
-pub same_lists : (nodes : List NodeInfo) (was st : State) (spare : ℕ) → was.stripes ≡ st.stripes → was.homes ≡ st.homes
+pub same_lists : (nodes : List NodeInfo) (was st : State) (spare : ℕ) → was.stripes ≡ st.stripes → was.narrow ≡ st.narrow → was.homes ≡ st.homes
     → ◌≡◌ {A = Stored} (record (stored_of nodes was spare) { online = online_at nodes st; draining = drains_at nodes st }) (stored_of nodes st spare)
-same_lists nodes was st spare stripes homes =
+same_lists nodes was st spare stripes narrow homes =
     ap (λ (ss : List StripeNo). record (stored_of nodes st spare) {
       stripes = λ s. list_any (same_stripe s) ss;
+      code = λ s. if list_any (same_stripe s) was.narrow then Narrow else Wide;
       homes = λ s. homes_of was.homes s;
     }) stripes
+    ∙ ap (λ (ss : List StripeNo). record (stored_of nodes st spare) {
+      code = λ s. if list_any (same_stripe s) ss then Narrow else Wide;
+      homes = λ s. homes_of was.homes s;
+    }) narrow
     ∙ ap (λ (hs : List Held). record (stored_of nodes st spare) { homes = λ s. homes_of hs s }) homes
 
 -- what is stored of a state with some room is so with its own
@@ -138,12 +139,13 @@ module _ (nodes : List NodeInfo) (st : State) (s : StripeNo) (f : ℕ) (seated :
 
 module _ (nodes : List NodeInfo) (st : State) (spare : ℕ) (s : StripeNo) where
   -- one more stripe
-  pub stored-stripe : AreSeated nodes st → has_stripe st s ≡ false → stored.with_stripe (stored_of nodes st spare) Wide s ≡ stored_of nodes (with_stripe st Wide s) (spare - 1)
-  stored-stripe seated absent =
-      same_stored (stored_of nodes st (spare - 1)) _ (has_stripe (with_stripe st Wide s)) _ (code_of (with_stripe st Wide s)) _ (λ r. homes_of st.homes r)
+  pub stored-stripe : (code : Code) → AreSeated nodes st → has_stripe st s ≡ false
+      → stored.with_stripe (stored_of nodes st spare) code s ≡ stored_of nodes (with_stripe st code s) (spare - 1)
+  stored-stripe code seated absent =
+      same_stored (stored_of nodes st (spare - 1)) _ (has_stripe (with_stripe st code s)) _ (code_of (with_stripe st code s)) _ (λ r. homes_of st.homes r)
       (λ r. ap (λ b. b || has_stripe st r) (test-sym s.value r.value) ∙ or_nil (eqb r.value s.value) (has_stripe st r)
       ∙ sym (list_any-append (λ (t : StripeNo). eqb r.value t.value) st.stripes (s ∷ [])))
-      (λ r. same_code (eqb s.value r.value))
+      (λ r. sym (code-with st code s r))
       (λ r f. elim (cases_Bool (eqb s.value r.value)) [
         | inl same ↦ rw same (sym (ap (λ v. homes_by st.homes v f) (sym (eqb-true s.value r.value same)) ∙ ap seat_in (no_home nodes st s f seated absent)))
         | inr other ↦ rw other refl
@@ -155,7 +157,7 @@ module _ (nodes : List NodeInfo) (st : State) (spare : ℕ) (s : StripeNo) where
       same_stored (stored_of nodes st spare) _ (has_stripe (without_stripe st s)) _ (code_of (without_stripe st s)) _ (λ r. homes_of (without_stripe st s).homes r)
       (λ r. sym (any-filter_same (λ (t : StripeNo). eqb r.value t.value) (is_other s) (not (eqb s.value r.value))
       (λ t hit. ap (λ v. not (eqb s.value v)) (sym (eqb-true r.value t.value hit))) st.stripes))
-      (λ r. same_code (eqb s.value r.value))
+      (λ r. sym (code-without st s r))
       (λ r f. elim (cases_Bool (eqb s.value r.value)) [
         | inl same ↦ rw same (sym (ap seat_in (find-gone (is_of r f) (λ h. is_other s h.stripe) (λ h hit. at h r f hit ∙ rw same refl) st.homes)))
         | inr other ↦ rw other (sym (ap seat_in (find-kept (is_of r f) (λ h. is_other s h.stripe) (λ h hit. at h r f hit ∙ rw other refl) st.homes)))

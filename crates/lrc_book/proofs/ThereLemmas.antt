@@ -1,8 +1,8 @@
--- Which answers to Place and Drop tell whether the stripe is there, and what is left where one was dropped.
-use Rattle.std.proofs.Common.{◌≡◌, ◌≢◌, ◌↔◌, Bool, true, false, not, List, filter, Result, Ok, Err, refl, sym, ap, ◌∙◌, subst}
+-- Which answers to Place, Place6 and Drop tell whether the stripe is there, and what is left where one was dropped.
+use Rattle.std.proofs.Common.{◌≡◌, ◌≢◌, ◌↔◌, Bool, true, false, not, List, length, map, drop, filter, Result, Ok, Err, refl, sym, ap, ◌∙◌, subst}
 use Rattle.std.specs.List.{Contains}
 use Rattle.std.proofs.lemmas.Bool.{not-true, eqb-false, ne_eqb}
-use Rattle.lrc_code.specs.declared.codes.Code.TheVariants.{Wide}
+use Rattle.lrc_code.specs.declared.codes.Code.{Code}
 use Rattle.lrc_code.specs.declared.numbers.StripeNo.{StripeNo}
 use Rattle.lrc_code.specs.declared.numbers.Fragment.{Fragment}
 use Rattle.lrc_code.specs.Numbers.{same_stripe}
@@ -18,26 +18,27 @@ use Rattle.lrc_book.specs.Placement.{placed}
 use Rattle.lrc_book.specs.Steps.{with_stripe, place_answer, place_outcome, is_other, without_stripe, drop_outcome}
 use Rattle.lrc_book.proofs.MemberLemmas.{filter-member, member-filter}
 use Rattle.lrc_book.proofs.GrantingLemmas.{passed, stopped}
+use Rattle.lrc_book.proofs.LawLemmas.{never-refused}
 use Rattle.lrc_book.proofs.StepLemmas.{place-there, place-passed}
 use Rattle.lrc_book.proofs.ToldLemmas.{drop-told}
 
--- ---- Place
+-- ---- Place and Place6
 
-module _ (nodes : List NodeInfo) (st : State) (s : StripeNo) where
-  other-answer : (r : Result State Fragment) → (place_answer st s r).0 ≢ Refused refusal.StripeExists
+module _ (nodes : List NodeInfo) (st : State) (code : Code) (s : StripeNo) where
+  other-answer : (r : Result State Fragment) → (place_answer st code r).0 ≢ Refused refusal.StripeExists
   other-answer (Err f) e = (let never : Refused (refusal.NoLawfulNode f) ≡ Refused refusal.StripeExists = e in cc)
-  other-answer (Ok done) e = cc
+  other-answer (Ok done) e = never-refused code (map (λ h. h.seat) (drop (length st.homes) done.homes)) refusal.StripeExists e
 
-  there-by : (b : Bool) → has_stripe st s ≡ b → (place_outcome nodes st Wide s).0 ≡ Refused refusal.StripeExists → b ≡ true
+  there-by : (b : Bool) → has_stripe st s ≡ b → (place_outcome nodes st code s).0 ≡ Refused refusal.StripeExists → b ≡ true
   there-by true hit e = refl
   there-by false miss e =
-      absurd (other-answer (placed nodes (with_stripe st Wide s) s) (sym (ap (λ (o : Outcome). o.0) (place-passed nodes st s miss)) ∙ e))
+      absurd (other-answer (placed nodes (with_stripe st code s) s) (sym (ap (λ (o : Outcome). o.0) (place-passed nodes st code s miss)) ∙ e))
 
-  pub exists-there : (place_outcome nodes st Wide s).0 ≡ Refused refusal.StripeExists → has_stripe st s ≡ true
+  pub exists-there : (place_outcome nodes st code s).0 ≡ Refused refusal.StripeExists → has_stripe st s ≡ true
   exists-there e = there-by (has_stripe st s) refl e
 
-  pub there-exists : has_stripe st s ≡ true → (place_outcome nodes st Wide s).0 ≡ Refused refusal.StripeExists
-  there-exists there = ap (λ (o : Outcome). o.0) (place-there nodes st s there)
+  pub there-exists : has_stripe st s ≡ true → (place_outcome nodes st code s).0 ≡ Refused refusal.StripeExists
+  there-exists there = ap (λ (o : Outcome). o.0) (place-there nodes st code s there)
 
 -- ---- Drop
 
@@ -85,6 +86,12 @@ module _ (st : State) (s : StripeNo) where
       left-where (λ (next : State). Contains next.stripes r ↔ (Contains st.stripes r × (r ≢ s)))
       (others-left (λ (t : StripeNo). t) st.stripes r)
 
+  pub codes-left : (r : StripeNo) → (drop_outcome st s).0 ≡ Dropped
+      → Contains (drop_outcome st s).1.narrow r ↔ (Contains st.narrow r × (r ≢ s))
+  codes-left r =
+      left-where (λ (next : State). Contains next.narrow r ↔ (Contains st.narrow r × (r ≢ s)))
+      (others-left (λ (t : StripeNo). t) st.narrow r)
+
   pub homes-left : (h : Held) → (drop_outcome st s).0 ≡ Dropped
       → Contains (drop_outcome st s).1.homes h ↔ (Contains st.homes h × (h.stripe ≢ s))
   homes-left h =
@@ -99,7 +106,7 @@ module _ (st : State) (s : StripeNo) where
 
   -- what else there is stays
   abbrev Stays : State → Type 0
-  Stays next = next ≡ record st { stripes = next.stripes; homes = next.homes; leases = next.leases }
+  Stays next = next ≡ record st { stripes = next.stripes; narrow = next.narrow; homes = next.homes; leases = next.leases }
 
   pub rest-left : (drop_outcome st s).0 ≡ Dropped → Stays (drop_outcome st s).1
   rest-left = left-where Stays refl

@@ -1,7 +1,8 @@
 -- What a reply tells of the state that it was given in.
 use Rattle.std.proofs.Common.{◌≡◌, ◌≢◌, nat_lt, arith, Bool, true, false, not, ◌||◌, List, map, drop, length, Option, Some, None, IsSome, is_none, Result, Ok, Err, refl, sym, ap, ◌∙◌, subst}
 use Rattle.std.proofs.lemmas.Bool.{or_parts, ltb-false}
-use Rattle.lrc_code.specs.declared.codes.Code.TheVariants.{Wide}
+use Rattle.lrc_code.specs.declared.codes.Code.{Code}
+use Rattle.lrc_code.specs.declared.codes.Code.TheVariants.{Wide, Narrow}
 use Rattle.lrc_code.specs.declared.numbers.StripeNo.{StripeNo}
 use Rattle.lrc_code.specs.declared.numbers.NodeNo.{NodeNo}
 use Rattle.lrc_code.specs.declared.numbers.Fragment.{Fragment}
@@ -10,40 +11,44 @@ use Rattle.lrc_topology.specs.declared.NodeInfo.{NodeInfo}
 use Rattle.lrc_topology.specs.declared.seat.Seat.{Seat}
 use Rattle.lrc_topology.specs.declared.seat.Held.{Held}
 use Rattle.lrc_topology.specs.Nodes.{node_at}
-use Rattle.lrc_book.specs.declared.reply.Reply.TheVariants.{Placed, Dropped, Changed, Refused}
+use Rattle.lrc_book.specs.declared.reply.Reply.TheVariants.{Dropped, Changed, Refused}
 use Rattle.lrc_book.specs.declared.refusal.Refusal.TheVariants as refusal
 use Rattle.lrc_book.specs.States.{State, has_stripe, mode_of, is_active, is_draining, is_gone, is_down, load}
 use Rattle.lrc_book.specs.Placement.{placed}
 use Rattle.lrc_book.specs.Outcomes.{Outcome, refuse_if}
-use Rattle.lrc_book.specs.Steps.{with_stripe, without_stripe, place_answer, place_outcome, drop_outcome, fail_outcome, down_outcome, up_outcome, join_outcome, drain_outcome, undrain_outcome, node_outcome, retire_outcome, with_gone}
+use Rattle.lrc_book.specs.Steps.{with_stripe, placed_reply, without_stripe, place_answer, place_outcome, drop_outcome, fail_outcome, down_outcome, up_outcome, join_outcome, drain_outcome, undrain_outcome, node_outcome, retire_outcome, with_gone}
 use Rattle.lrc_book.specs.Choices.{AreChosen}
+use Rattle.lrc_book.proofs.LawLemmas.{never-refused}
 use Rattle.lrc_book.proofs.StepLemmas.{place-passed, place-there, placed-grown, seats-added}
 
 -- a stripe was placed: it was not there, and each of its seats was chosen
-pub record ArePlaced (nodes : List NodeInfo) (st : State) (s : StripeNo) (seats : List Seat) : Type 0 where
+pub record ArePlaced (nodes : List NodeInfo) (st : State) (code : Code) (s : StripeNo) (seats : List Seat) : Type 0 where
   pub absent : has_stripe st s ≡ false
-  pub chosen_are : AreChosen nodes (with_stripe st Wide s) s (fragments Wide) seats
+  pub chosen_are : AreChosen nodes (with_stripe st code s) s (fragments code) seats
 
-same_seats : (a b : List Seat) → Placed a ≡ Placed b → a ≡ b
-same_seats a b e = cc
+same_seats : (code : Code) (a b : List Seat) → placed_reply code a ≡ placed_reply code b → a ≡ b
+same_seats Wide a b e = cc
+same_seats Narrow a b e = cc
 
-placed-by : (nodes : List NodeInfo) (st : State) (s : StripeNo) (seats : List Seat) (r : Result State Fragment) → placed nodes (with_stripe st Wide s) s ≡ r → (place_answer st s r).0 ≡ Placed seats
-    → AreChosen nodes (with_stripe st Wide s) s (fragments Wide) seats
-placed-by nodes st s seats (Err f) is e = absurd (let never : Refused (refusal.NoLawfulNode f) ≡ Placed seats = e in cc)
-placed-by nodes st s seats (Ok done) is e =
-    let g = placed-grown nodes st s done is in
-    let added : map (λ (h : Held). h.seat) (drop (length st.homes) done.homes) ≡ g.seats = ap (λ (x : State). map (λ (h : Held). h.seat) (drop (length st.homes) x.homes)) g.is ∙ seats-added s st.homes g.seats g.all in
-    subst (AreChosen nodes (with_stripe st Wide s) s (fragments Wide)) (sym added ∙ same_seats (map (λ (h : Held). h.seat) (drop (length st.homes) done.homes)) seats e) g.chosen_are
+placed-by : (nodes : List NodeInfo) (st : State) (code : Code) (s : StripeNo) (seats : List Seat) (r : Result State Fragment) → placed nodes (with_stripe st code s) s ≡ r
+    → (place_answer st code r).0 ≡ placed_reply code seats → AreChosen nodes (with_stripe st code s) s (fragments code) seats
+placed-by nodes st code s seats (Err f) is e = absurd (never-refused code seats (refusal.NoLawfulNode f) (sym e))
+placed-by nodes st code s seats (Ok done) is e =
+    let g = placed-grown nodes st code s done is in
+    let added : map (λ (h : Held). h.seat) (drop (length st.homes) done.homes) ≡ g.seats = ap (λ (x : State). map (λ (h : Held). h.seat) (drop (length st.homes) x.homes)) g.is ∙ seats-added code s st.homes g.seats g.all in
+    subst (AreChosen nodes (with_stripe st code s) s (fragments code)) (sym added ∙ same_seats code (map (λ (h : Held). h.seat) (drop (length st.homes) done.homes)) seats e) g.chosen_are
 
-there-by : (nodes : List NodeInfo) (st : State) (s : StripeNo) (seats : List Seat) (there : Bool) → has_stripe st s ≡ there → (place_outcome nodes st Wide s).0 ≡ Placed seats → ArePlaced nodes st s seats
-there-by nodes st s seats true hit e = absurd (let never : Refused refusal.StripeExists ≡ Placed seats = sym (ap (λ (o : Outcome). o.0) (place-there nodes st s hit)) ∙ e in cc)
-there-by nodes st s seats false miss e = record {
+there-by : (nodes : List NodeInfo) (st : State) (code : Code) (s : StripeNo) (seats : List Seat) (there : Bool) → has_stripe st s ≡ there
+    → (place_outcome nodes st code s).0 ≡ placed_reply code seats → ArePlaced nodes st code s seats
+there-by nodes st code s seats true hit e = absurd (never-refused code seats refusal.StripeExists (sym e ∙ ap (λ (o : Outcome). o.0) (place-there nodes st code s hit)))
+there-by nodes st code s seats false miss e = record {
   absent = miss;
-  chosen_are = placed-by nodes st s seats (placed nodes (with_stripe st Wide s) s) refl (sym (ap (λ (o : Outcome). o.0) (place-passed nodes st s miss)) ∙ e);
+  chosen_are = placed-by nodes st code s seats (placed nodes (with_stripe st code s) s) refl (sym (ap (λ (o : Outcome). o.0) (place-passed nodes st code s miss)) ∙ e);
 }
 
-pub place-told : (nodes : List NodeInfo) (st : State) (s : StripeNo) (seats : List Seat) → (place_outcome nodes st Wide s).0 ≡ Placed seats → ArePlaced nodes st s seats
-place-told nodes st s seats e = there-by nodes st s seats (has_stripe st s) refl e
+pub place-told : (nodes : List NodeInfo) (st : State) (code : Code) (s : StripeNo) (seats : List Seat) → (place_outcome nodes st code s).0 ≡ placed_reply code seats
+    → ArePlaced nodes st code s seats
+place-told nodes st code s seats e = there-by nodes st code s seats (has_stripe st s) refl e
 
 drop-by : (st : State) (s : StripeNo) (there : Bool) → (refuse_if (not there) refusal.UnknownStripe st (Dropped, without_stripe st s)).0 ≡ Dropped → there ≡ true
 drop-by st s true e = refl

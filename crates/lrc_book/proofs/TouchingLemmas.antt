@@ -5,7 +5,8 @@ use Rattle.std.specs.List.{Contains, list_any}
 use Rattle.std.specs.Option.{option_map_or}
 use Rattle.std.proofs.lemmas.Bool.{cases_Bool, eqb-true, eqb-false, ne_eqb, and_parts, or_parts}
 use Rattle.std.proofs.lemmas.List.Folds.{list_any-append}
-use Rattle.lrc_code.specs.declared.codes.Code.TheVariants.{Wide}
+use Rattle.lrc_code.specs.declared.codes.Code.{Code}
+use Rattle.lrc_code.specs.declared.codes.Code.TheVariants.{Wide, Narrow}
 use Rattle.lrc_code.specs.declared.numbers.StripeNo.{StripeNo}
 use Rattle.lrc_code.specs.declared.numbers.NodeNo.{NodeNo}
 use Rattle.lrc_code.specs.declared.numbers.UpgradeNo.{UpgradeNo}
@@ -24,11 +25,11 @@ use Rattle.lrc_leases.specs.declared.lease.Lease.{Lease as LeaseRecord}
 use Rattle.lrc_book.specs.declared.reply.Reply.TheVariants.{Ticked}
 use Rattle.lrc_book.specs.declared.mode.Mode.TheVariants.{Active, Draining, Gone}
 use Rattle.lrc_book.specs.declared.command.Command.{Command}
-use Rattle.lrc_book.specs.declared.command.Command.TheVariants.{Place, Drop, Lease, Next, Done, Abandon, Revoke, Fail, Down, Up, Drain, Undrain, Retire, Join, Upgrade, Upgraded, Tick}
+use Rattle.lrc_book.specs.declared.command.Command.TheVariants.{Place, Place6, Drop, Lease, Next, Done, Abandon, Revoke, Fail, Down, Up, Drain, Undrain, Retire, Join, Upgrade, Upgraded, Tick}
 use Rattle.lrc_book.specs.declared.reply.Reply.{Reply}
-use Rattle.lrc_book.specs.declared.reply.Reply.TheVariants.{Placed, Dropped, Granted, Ended, Changed}
+use Rattle.lrc_book.specs.declared.reply.Reply.TheVariants.{Placed, Placed6, Dropped, Granted, Ended, Changed}
 use Rattle.lrc_book.specs.declared.entry.Entry.{Entry}
-use Rattle.lrc_book.specs.States.{State, has_stripe, has_number, is_home_of, mode_of, is_gone, is_online, is_upgrading, online_at, level_shown, lease_of}
+use Rattle.lrc_book.specs.States.{State, has_stripe, code_of, has_number, is_home_of, mode_of, is_gone, is_online, is_upgrading, online_at, level_shown, lease_of}
 use Rattle.lrc_book.specs.Steps.{step, stands_on, without_stripe}
 use Rattle.lrc_book.specs.Changes.{held_at, with_placed, with_done, changed_by}
 use Rattle.lrc_book.specs.Touching.{has_home_on, is_in_domain, can_change_level}
@@ -36,6 +37,7 @@ use Rattle.lrc_book.proofs.MemberLemmas.{list_any-member}
 use Rattle.lrc_book.proofs.NodeLemmas.{member-node_at}
 use Rattle.lrc_book.proofs.OtherModesLemmas.{IsAsItWas, changed-same}
 use Rattle.lrc_book.proofs.PlacedHomesLemmas.{none-added, before-none, homes-append}
+use Rattle.lrc_book.proofs.CodedLemmas.{code-other}
 use Rattle.lrc_book.proofs.StepLemmas.{step-changed}
 use Rattle.lrc_book.proofs.StoredLemmas.{is_of, found-home, find-kept, stored-without}
 use Rattle.lrc_book.proofs.UpgradeLemmas.{upgrade-told, upgraded-told}
@@ -77,7 +79,7 @@ module _ (nodes : List NodeInfo) (was st : State) where
         (gone-number st x.number ∙ subst (λ (k : NodeNo). has_number st.gone k ≡ has_number was.gone k) number gone ∙ sym (gone-number was x.number))
         (ap₂ (λ (d u : Bool). not d && not u) (subst (λ (k : NodeNo). has_number st.down k ≡ has_number was.down k) number down) (upgrading x e))
 
-  module _ (s : StripeNo) (there : has_stripe st s ≡ has_stripe was s) (homes : (f : ℕ) → homes_of st.homes s f ≡ homes_of was.homes s f)
+  module _ (s : StripeNo) (coded : code_of st s ≡ code_of was s) (there : has_stripe st s ≡ has_stripe was s) (homes : (f : ℕ) → homes_of st.homes s f ≡ homes_of was.homes s f)
       (online : (h : Held) → Contains was.homes h → same_stripe h.stripe s ≡ true → online_at nodes st h.seat.node ≡ online_at nodes was h.seat.node) where
     missing-by : (f : ℕ) (o : Option Held) → home_of was.homes s f ≡ o
         → option_map_or (λ (seat : Seat). not (online_at nodes st seat.node)) (option_map (λ (h : Held). h.seat) o) true
@@ -91,10 +93,11 @@ module _ (nodes : List NodeInfo) (was st : State) where
     level-alike : level_shown nodes st s ≡ level_shown nodes was s
     unfolding level_if
     level-alike =
-        ap (λ (b : Bool). level_if b Wide (online_at nodes st) (homes_of st.homes s)) there
-        ∙ ap (λ (h : ℕ → Option Seat). level_if (has_stripe was s) Wide (online_at nodes st) h) (fun_ext homes)
-        ∙ ap (λ (missing : ℕ → Bool). if has_stripe was s then Some (level_by Wide (homeless_in Wide (homes_of was.homes s)) missing) else None)
-        (fun_ext (λ f. ap (λ b. has_fragment Wide f && b) (missing-by f (home_of was.homes s f) refl)))
+        ap (λ (b : Bool). level_if b (code_of st s) (online_at nodes st) (homes_of st.homes s)) there
+        ∙ ap (λ (c : Code). level_if (has_stripe was s) c (online_at nodes st) (homes_of st.homes s)) coded
+        ∙ ap (λ (h : ℕ → Option Seat). level_if (has_stripe was s) (code_of was s) (online_at nodes st) h) (fun_ext homes)
+        ∙ ap (λ (missing : ℕ → Bool). if has_stripe was s then Some (level_by (code_of was s) (homeless_in (code_of was s) (homes_of was.homes s)) missing) else None)
+        (fun_ext (λ f. ap (λ b. has_fragment (code_of was s) f && b) (missing-by f (home_of was.homes s f) refl)))
 
 -- ---- commands
 
@@ -116,14 +119,14 @@ module _ (nodes : List NodeInfo) (past : List Entry) (st : State) (session : Ses
   other-stripe : (r : StripeNo) → same_stripe r s ≡ false → s ≢ r
   other-stripe r other same = eqb-false r.value s.value other (ap (λ (t : StripeNo). t.value) (sym same))
 
-  place-keeps : (r : StripeNo) (seats : List Seat) → same_stripe r s ≡ false → Keeps (with_placed st r seats)
-  place-keeps r seats other =
-      let added = held_at r (fragments Wide) seats in
-      level-alike nodes st (with_placed st r seats) s
+  place-keeps : (code : Code) (r : StripeNo) (seats : List Seat) → same_stripe r s ≡ false → Keeps (with_placed st code r seats)
+  place-keeps code r seats other =
+      let added = held_at r (fragments code) seats in
+      level-alike nodes st (with_placed st code r seats) s (code-other st code r s other)
       (list_any-append (same_stripe s) st.stripes (r ∷ [])
       ∙ rw (ne_eqb s.value r.value (λ e. eqb-false r.value s.value other (sym e))) (or_none (has_stripe st s)))
       (λ f. ap (option_map (λ (h : Held). h.seat)) (homes-append st.homes added s f
-      ∙ before-none (home_of st.homes s f) (home_of added s f) (none-added r s (fragments Wide) seats f (other-stripe r other))))
+      ∙ before-none (home_of st.homes s f) (home_of added s f) (none-added r s (fragments code) seats f (other-stripe r other))))
       (λ h here is. refl)
     where
       or_none : (b : Bool) → (b || false) ≡ b
@@ -133,13 +136,13 @@ module _ (nodes : List NodeInfo) (past : List Entry) (st : State) (session : Ses
   drop-keeps : (r : StripeNo) → same_stripe r s ≡ false → Keeps (without_stripe st r)
   drop-keeps r other =
       ap (λ (t : Stored). stored.level_shown t s) (sym (stored-without nodes st 0 r))
-      ∙ ap (λ (b : Bool). level_if (not b && has_stripe st s) (if b then Wide else Wide) (online_at nodes st)
+      ∙ ap (λ (b : Bool). level_if (not b && has_stripe st s) (if b then Wide else code_of st s) (online_at nodes st)
       (λ f. if b then None else homes_of st.homes s f)) other
 
   done-keeps : (r : StripeNo) (f : Fragment) (o : Option LeaseRecord) → same_stripe r s ≡ false → Keeps (with_done st r f o)
   done-keeps r f None other = refl
   done-keeps r f (Some l) other =
-      level-alike nodes st (with_done st r f (Some l)) s refl
+      level-alike nodes st (with_done st r f (Some l)) s refl refl
       (λ g. ap (option_map (λ (h : Held). h.seat)) (homes-append left (moved ∷ []) s g
       ∙ before-none (home_of left s g) (home_of (moved ∷ []) s g) (rw other refl)
       ∙ find-kept (is_of s g) (λ h. not (is_home_of r f h)) (λ h hit. apart h g hit) st.homes))
@@ -159,10 +162,10 @@ module _ (nodes : List NodeInfo) (past : List Entry) (st : State) (session : Ses
   -- a command on a node that no home of the stripe is on
   node-keeps : (n : NodeNo) (c : Command) (r : Reply) → has_home_on st s (same_node n) ≡ false
       → ((m : NodeNo) → same_node n m ≡ false → IsAsItWas st m (changed_by st c r))
-      → (changed_by st c r).stripes ≡ st.stripes → (changed_by st c r).upgrading ≡ st.upgrading
+      → (changed_by st c r).stripes ≡ st.stripes → (changed_by st c r).narrow ≡ st.narrow → (changed_by st c r).upgrading ≡ st.upgrading
       → ((f : ℕ) → homes_of (changed_by st c r).homes s f ≡ homes_of st.homes s f) → Keeps (changed_by st c r)
-  node-keeps n c r none same stripes upgrading homes =
-      level-alike nodes st (changed_by st c r) s (ap (λ (ss : List StripeNo). list_any (same_stripe s) ss) stripes) homes
+  node-keeps n c r none same stripes narrow upgrading homes =
+      level-alike nodes st (changed_by st c r) s (ap (λ (ss : List StripeNo). if list_any (same_stripe s) ss then Narrow else Wide) narrow) (ap (λ (ss : List StripeNo). list_any (same_stripe s) ss) stripes) homes
       (λ h here is.
       let was = same h.seat.node (elsewhere (same_node n) none h here is) in
       online-alike nodes st (changed_by st c r) h.seat.node was.gone was.down
@@ -176,13 +179,14 @@ module _ (nodes : List NodeInfo) (past : List Entry) (st : State) (session : Ses
       → ((x : NodeInfo) → same_upgrade u x.upgrade ≡ false → option_map_or (λ v. same_upgrade v x.upgrade) running false ≡ is_upgrading st x)
       → Keeps (record st { upgrading = running })
   domain-keeps u running none same =
-      level-alike nodes st (record st { upgrading = running }) s refl (λ f. refl)
+      level-alike nodes st (record st { upgrading = running }) s refl refl (λ f. refl)
       (λ h here is. online-alike nodes st (record st { upgrading = running }) h.seat.node refl refl
       (λ x e. same x (ap (λ (o : Option NodeInfo). option_map_or (λ (m : NodeInfo). same_upgrade u m.upgrade) o false) (sym e)
       ∙ elsewhere (is_in_domain nodes u) none h here is)))
 
   changed-keeps : (c : Command) (r : Reply) → (step nodes past st session c).0 ≡ r → can_change_level nodes st s c ≡ false → Keeps (changed_by st c r)
-  changed-keeps (Place r) (Placed seats) told other = place-keeps r seats other
+  changed-keeps (Place r) (Placed seats) told other = place-keeps Wide r seats other
+  changed-keeps (Place6 r) (Placed6 seats) told other = place-keeps Narrow r seats other
   changed-keeps (Drop r) Dropped told other = drop-keeps r other
   changed-keeps (Lease r f) (Granted l k) told other = refl
   changed-keeps Next (Granted l k) told other = refl
@@ -190,24 +194,24 @@ module _ (nodes : List NodeInfo) (past : List Entry) (st : State) (session : Ses
   changed-keeps (Abandon r f e) Ended told other = refl
   changed-keeps (Revoke r f) Ended told other = refl
   changed-keeps (Fail n) Changed told other =
-      node-keeps n (Fail n) Changed other (λ m away. changed-same st m (Fail n) Changed (apart-from n m away)) refl refl
+      node-keeps n (Fail n) Changed other (λ m away. changed-same st m (Fail n) Changed (apart-from n m away)) refl refl refl
       (λ f. ap (option_map (λ (h : Held). h.seat)) (find-unless (is_of s f) (λ h. same_stripe h.stripe s) (stands_on n)
       (λ h hit. (and_parts (eqb h.stripe.value s.value) (eqb h.fragment.value f) hit).0) st.homes other))
   changed-keeps (Down n) Changed told other =
-      node-keeps n (Down n) Changed other (λ m away. changed-same st m (Down n) Changed (apart-from n m away)) refl refl (λ f. refl)
+      node-keeps n (Down n) Changed other (λ m away. changed-same st m (Down n) Changed (apart-from n m away)) refl refl refl (λ f. refl)
   changed-keeps (Up n) Changed told other =
-      node-keeps n (Up n) Changed other (λ m away. changed-same st m (Up n) Changed (apart-from n m away)) refl refl (λ f. refl)
+      node-keeps n (Up n) Changed other (λ m away. changed-same st m (Up n) Changed (apart-from n m away)) refl refl refl (λ f. refl)
   changed-keeps (Drain n) Changed told other =
-      level-alike nodes st (changed_by st (Drain n) Changed) s refl (λ f. refl)
+      level-alike nodes st (changed_by st (Drain n) Changed) s refl refl (λ f. refl)
       (λ h here is. online-alike nodes st (changed_by st (Drain n) Changed) h.seat.node refl refl (λ x e. refl))
   changed-keeps (Undrain n) Changed told other =
-      level-alike nodes st (changed_by st (Undrain n) Changed) s refl (λ f. refl)
+      level-alike nodes st (changed_by st (Undrain n) Changed) s refl refl (λ f. refl)
       (λ h here is. online-alike nodes st (changed_by st (Undrain n) Changed) h.seat.node refl refl (λ x e. refl))
   changed-keeps (Retire n) Changed told other =
-      node-keeps n (Retire n) Changed other (λ m away. changed-same st m (Retire n) Changed (apart-from n m away)) refl refl (λ f. refl)
+      node-keeps n (Retire n) Changed other (λ m away. changed-same st m (Retire n) Changed (apart-from n m away)) refl refl refl (λ f. refl)
   changed-keeps Tick (Ticked clock ended) told other = refl
   changed-keeps (Join n) Changed told other =
-      node-keeps n (Join n) Changed other (λ m away. changed-same st m (Join n) Changed (apart-from n m away)) refl refl (λ f. refl)
+      node-keeps n (Join n) Changed other (λ m away. changed-same st m (Join n) Changed (apart-from n m away)) refl refl refl (λ f. refl)
   changed-keeps (Upgrade u) Changed told other =
       domain-keeps u (Some u) other
       (λ x away. away ∙ sym (ap (λ (o : Option UpgradeNo). option_map_or (λ v. same_upgrade v x.upgrade) o false) (upgrade-told nodes st u told)))

@@ -4,14 +4,15 @@ use Rattle.std.specs.Prelude.{◌≡◌, Bool, true, false, not, filter, List, [
 use Rattle.lrc_code.specs.declared.numbers.StripeNo.{StripeNo}
 use Rattle.lrc_code.specs.declared.numbers.Fragment.{Fragment}
 use Rattle.lrc_code.specs.declared.numbers.NodeNo.{NodeNo}
-use Rattle.lrc_code.specs.declared.codes.Code.TheVariants.{Wide}
+use Rattle.lrc_code.specs.declared.codes.Code.{Code}
+use Rattle.lrc_code.specs.declared.codes.Code.TheVariants.{Wide, Narrow}
 use Rattle.lrc_code.specs.Codes.{fragments}
 use Rattle.lrc_topology.specs.declared.seat.Seat.{Seat}
 use Rattle.lrc_topology.specs.declared.seat.Held.{Held}
 use Rattle.lrc_book.specs.declared.command.Command.{Command}
-use Rattle.lrc_book.specs.declared.command.Command.TheVariants.{Place, Drop, Lease, Next, Done, Abandon, Revoke, Fail, Down, Up, Drain, Undrain, Retire, Join, Upgrade, Upgraded, Tick}
+use Rattle.lrc_book.specs.declared.command.Command.TheVariants.{Place, Place6, Drop, Lease, Next, Done, Abandon, Revoke, Fail, Down, Up, Drain, Undrain, Retire, Join, Upgrade, Upgraded, Tick}
 use Rattle.lrc_book.specs.declared.reply.Reply.{Reply}
-use Rattle.lrc_book.specs.declared.reply.Reply.TheVariants.{Placed, Dropped, Granted, Ended, Changed, Ticked}
+use Rattle.lrc_book.specs.declared.reply.Reply.TheVariants.{Placed, Placed6, Dropped, Granted, Ended, Changed, Ticked}
 use Rattle.lrc_topology.specs.declared.NodeInfo.{NodeInfo}
 use Rattle.lrc_leases.specs.declared.lease.Lease.{Lease as LeaseRecord}
 use Rattle.lrc_leases.specs.Leased.{is_target_on}
@@ -19,16 +20,16 @@ use Rattle.lrc_book.specs.States.{State, lease_of}
 use Rattle.lrc_code.specs.declared.numbers.SessionNo.{SessionNo}
 use Rattle.lrc_book.specs.declared.entry.Entry.{Entry}
 use Rattle.lrc_book.specs.Leases.{with_lease, without_lease, moved_in, ticked}
-use Rattle.lrc_book.specs.Steps.{step, without_stripe, emptied, with_gone, with_down, without_down, with_draining, without_draining, without_gone, with_upgrading, without_upgrading}
+use Rattle.lrc_book.specs.Steps.{step, with_stripe, without_stripe, emptied, with_gone, with_down, without_down, with_draining, without_draining, without_gone, with_upgrading, without_upgrading}
 
 -- each of these fragments of a stripe on the seat at its place
 abbrev pub held_at : StripeNo → List Fragment → List Seat → List Held
 held_at s (f ∷ fs) (seat ∷ seats) = record { stripe = s; fragment = f; seat = seat } ∷ held_at s fs seats
 held_at s _ _ = []
 
--- the stripe with its homes on these seats
-abbrev pub with_placed : State → StripeNo → List Seat → State
-with_placed st s seats = record st { stripes = st.stripes ++ s ∷ []; homes = st.homes ++ held_at s (fragments Wide) seats }
+-- the stripe with this code, and its homes on these seats
+abbrev pub with_placed : State → Code → StripeNo → List Seat → State
+with_placed st code s seats = record (with_stripe st code s) { homes = st.homes ++ held_at s (fragments code) seats }
 
 -- the state with the fragment's lease ended, and its target the fragment's home
 abbrev pub with_done : State → StripeNo → Fragment → Option LeaseRecord → State
@@ -41,7 +42,8 @@ without_targets st n = record st { leases = filter (λ l. not (is_target_on n l)
 
 -- the state that a command with this reply leaves
 abbrev pub changed_by : State → Command → Reply → State
-changed_by st (Place s) (Placed seats) = with_placed st s seats
+changed_by st (Place s) (Placed seats) = with_placed st Wide s seats
+changed_by st (Place6 s) (Placed6 seats) = with_placed st Narrow s seats
 changed_by st (Drop s) Dropped = without_stripe st s
 changed_by st (Lease s f) (Granted lease kind) = with_lease st lease
 changed_by st Next (Granted lease kind) = with_lease st lease

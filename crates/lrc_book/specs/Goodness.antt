@@ -1,5 +1,6 @@
 -- What holds after every legal history.
-use Rattle.std.specs.Prelude.{◌≡◌, ◌≢◌, ◌+◌, ◌<◌, ◌≤◌, List, All, AllPairs, Contains, IfSome, IsSomeAnd}
+use Rattle.std.specs.Prelude.{◌≡◌, ◌≢◌, ◌+◌, ◌<◌, ◌≤◌, List, All, AllPairs, Contains, IfSome, IsSomeAnd, IsTrue}
+use Rattle.lrc_code.specs.Codes.{has_fragment}
 use Rattle.lrc_topology.specs.declared.NodeInfo.{NodeInfo}
 use Rattle.lrc_topology.specs.declared.seat.Seat.{Seat}
 use Rattle.lrc_topology.specs.declared.seat.Held.{Held}
@@ -22,8 +23,8 @@ KeepApart nodes st h g =
     → IfSome (node_at nodes h.seat.node) (λ n. IfSome (node_at nodes g.seat.node) (λ m. AreApart (code_of st h.stripe) h.fragment n g.fragment m))
 
 -- Each stripe is there once, each seat is held once, by a home or as a target, and is a slot of a node that is not gone,
--- placements are lawful, each fragment has one home and one lease at most, held seats are those of stripes that are there,
--- and no node that is down is gone.
+-- placements are lawful, each fragment has one home and one lease at most, narrow stripes are there, held seats are those of
+-- stripes that are there and of fragments that their codes have, and no node that is down is gone.
 pub record AreSeated (nodes : List NodeInfo) (st : State) : Type 0 where
   pub stripes : AllPairs (λ s t. s ≢ t) st.stripes
   pub single : AllPairs (λ a b. a ≢ b) (taken_seats st)
@@ -31,7 +32,9 @@ pub record AreSeated (nodes : List NodeInfo) (st : State) : Type 0 where
   pub lawful : AllPairs (KeepApart nodes st) (seats_of st)
   pub one_home : AllPairs (λ h g. h.stripe ≡ g.stripe → h.fragment ≢ g.fragment) st.homes
   pub one_lease : AreOneEach st.leases
+  pub coded : All (λ s. Contains st.stripes s) st.narrow
   pub there : All (λ h. Contains st.stripes h.stripe) (seats_of st)
+  pub within : All (λ h. IsTrue (has_fragment (code_of st h.stripe) h.fragment.value)) (seats_of st)
   pub reachable : All (λ n. mode_of st n ≢ Gone) st.down
 
 -- What holds of a state after the entries that led to it: its stripes are seated, the epoch of each live lease is the

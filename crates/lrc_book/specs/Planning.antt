@@ -5,7 +5,7 @@ use Rattle.std.specs.List.{list_any}
 use Rattle.std.specs.Option.{option_map_or}
 use Rattle.lrc_code.specs.declared.codes.Class.{Class}
 use Rattle.lrc_code.specs.declared.codes.Class.TheVariants.{A, B, G}
-use Rattle.lrc_code.specs.declared.codes.Code.TheVariants.{Wide}
+use Rattle.lrc_code.specs.declared.codes.Code.{Code}
 use Rattle.lrc_code.specs.declared.numbers.FaultNo.{FaultNo}
 use Rattle.lrc_code.specs.declared.numbers.UpgradeNo.{UpgradeNo}
 use Rattle.lrc_code.specs.Numbers.{same_fault, same_upgrade}
@@ -41,27 +41,27 @@ abbrev pub is_in_fault : List NodeInfo → FaultNo → Held → Bool
 is_in_fault nodes d h = option_map_or (λ m. same_fault d m.fault) (node_at nodes h.seat.node) false
 
 -- the seat is of a fragment of the class, on a node of the upgrade domain
-abbrev pub is_in_upgrade : List NodeInfo → Class → UpgradeNo → Held → Bool
-is_in_upgrade nodes c d h =
-    option_map_or (λ m. are_one_class (class_of Wide h.fragment.value) (Some c) && same_upgrade d m.upgrade) (node_at nodes h.seat.node) false
+abbrev pub is_in_upgrade : List NodeInfo → Code → Class → UpgradeNo → Held → Bool
+is_in_upgrade nodes code c d h =
+    option_map_or (λ m. are_one_class (class_of code h.fragment.value) (Some c) && same_upgrade d m.upgrade) (node_at nodes h.seat.node) false
 
 -- the domains that these seats bar for the other fragments of the stripe that are of the class
-abbrev pub bars_for : List NodeInfo → Class → List Held → Barred
-bars_for nodes c seats = record { faults = λ d. list_any (is_in_fault nodes d) seats; upgrades = λ d. list_any (is_in_upgrade nodes c d) seats }
+abbrev pub bars_for : List NodeInfo → Code → Class → List Held → Barred
+bars_for nodes code c seats = record { faults = λ d. list_any (is_in_fault nodes d) seats; upgrades = λ d. list_any (is_in_upgrade nodes code c d) seats }
 
 -- the fault domains among them
 abbrev pub fault_bars : List NodeInfo → List Held → Barred
 fault_bars nodes seats = record { faults = λ d. list_any (is_in_fault nodes d) seats; upgrades = λ d. false }
 
 -- the upgrade domains among them
-abbrev pub upgrade_bars : List NodeInfo → Class → List Held → Barred
-upgrade_bars nodes c seats = record { faults = λ d. false; upgrades = λ d. list_any (is_in_upgrade nodes c d) seats }
+abbrev pub upgrade_bars : List NodeInfo → Code → Class → List Held → Barred
+upgrade_bars nodes code c seats = record { faults = λ d. false; upgrades = λ d. list_any (is_in_upgrade nodes code c d) seats }
 
 -- The barred nodes are those in the domains that these seats bar: in fault domains for all fragments, in upgrade domains for
 -- each class. Those of the upgrading domain, if there is one, are barred for all fragments too.
-pub record AreBarsOf (nodes : List NodeInfo) (upgrading : Option UpgradeNo) (seats : List Held) (b : ClassBars) : Type 0 where
+pub record AreBarsOf (nodes : List NodeInfo) (code : Code) (upgrading : Option UpgradeNo) (seats : List Held) (b : ClassBars) : Type 0 where
   pub faults : AreBarredNodes nodes (closed upgrading (fault_bars nodes seats)) b.faults
-  pub upgrades : (c : Class) → AreBarredNodes nodes (upgrade_bars nodes c seats) (upgrades_for b c)
+  pub upgrades : (c : Class) → AreBarredNodes nodes (upgrade_bars nodes code c seats) (upgrades_for b c)
   pub classes : length b.upgrades ≡ 3
 
 -- the seat that a node and its least free slot are

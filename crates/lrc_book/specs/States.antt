@@ -3,7 +3,7 @@ use Rattle.std.specs.Prelude.{ℕ, Bool, true, false, not, ◌&&◌, if◌then�
 use Rattle.std.specs.List.{list_any}
 use Rattle.std.specs.Option.{option_map_or}
 use Rattle.lrc_code.specs.declared.codes.Code.{Code}
-use Rattle.lrc_code.specs.declared.codes.Code.TheVariants.{Wide}
+use Rattle.lrc_code.specs.declared.codes.Code.TheVariants.{Wide, Narrow}
 use Rattle.lrc_code.specs.declared.losses.LossMask.{LossMask}
 use Rattle.lrc_code.specs.declared.numbers.StripeNo.{StripeNo}
 use Rattle.lrc_code.specs.declared.numbers.NodeNo.{NodeNo}
@@ -24,10 +24,12 @@ use Rattle.lrc_leases.specs.Leased.{leases_in}
 use Rattle.lrc_book.specs.declared.mode.Mode.{Mode}
 use Rattle.lrc_book.specs.declared.mode.Mode.TheVariants.{Active, Draining, Gone}
 
--- All lists stand in the order in which things happened. A node in none of the lists is active and not down. At most one
--- upgrade domain is upgrading. The clock counts the ticks.
+-- All lists stand in the order in which things happened. The narrow stripes are those of the code Narrow; all others are of
+-- the code Wide. A node in none of the lists is active and not down. At most one upgrade domain is upgrading. The clock
+-- counts the ticks.
 pub record State : Type 0 where
   pub stripes : List StripeNo
+  pub narrow : List StripeNo
   pub homes : List Held
   pub leases : List Lease
   pub gone : List NodeNo
@@ -38,7 +40,7 @@ pub record State : Type 0 where
 
 -- an empty store, whose nodes are all active and not down, with no domain upgrading
 abbrev pub opening : State
-opening = record { stripes = []; homes = []; leases = []; gone = []; draining = []; down = []; upgrading = None; clock = 0 }
+opening = record { stripes = []; narrow = []; homes = []; leases = []; gone = []; draining = []; down = []; upgrading = None; clock = 0 }
 
 -- ---- stripes and seats
 
@@ -48,7 +50,7 @@ has_stripe st s = list_any (same_stripe s) st.stripes
 
 -- the code of a stripe
 abbrev pub code_of : State → StripeNo → Code
-code_of st s = Wide
+code_of st s = if list_any (same_stripe s) st.narrow then Narrow else Wide
 
 -- the seat that a lease holds for its fragment
 abbrev pub held_by : Lease → Held
@@ -157,6 +159,10 @@ level nodes st s = level_by (code_of st s) (homeless st s) (missing nodes st s)
 -- the seats of a stripe's fragments by the sixteen numbers, rising, with no seat for a number that its code lacks; none where there is no such stripe
 abbrev pub homes_shown : State → StripeNo → Option (List (Option Seat))
 homes_shown st s = if has_stripe st s then Some (map (λ f. homes_of st.homes s f.value) (fragments Wide)) else None
+
+-- the code of a stripe; none where there is no such stripe
+abbrev pub code_shown : State → StripeNo → Option Code
+code_shown st s = if has_stripe st s then Some (code_of st s) else None
 
 -- the load of a node; none where the store has no such node
 abbrev pub load_shown : List NodeInfo → State → NodeNo → Option ℕ

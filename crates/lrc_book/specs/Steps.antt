@@ -3,7 +3,7 @@ use Rattle.std.specs.Prelude.{Bool, false, not, ◌&&◌, ◌||◌, nat_lt, List
 use Rattle.std.specs.List.{list_any}
 use Rattle.std.specs.Option.{option_map_or}
 use Rattle.lrc_code.specs.declared.codes.Code.{Code}
-use Rattle.lrc_code.specs.declared.codes.Code.TheVariants.{Wide}
+use Rattle.lrc_code.specs.declared.codes.Code.TheVariants.{Wide, Narrow}
 use Rattle.lrc_code.specs.declared.numbers.StripeNo.{StripeNo}
 use Rattle.lrc_code.specs.declared.numbers.NodeNo.{NodeNo}
 use Rattle.lrc_code.specs.declared.numbers.UpgradeNo.{UpgradeNo}
@@ -16,14 +16,14 @@ use Rattle.lrc_topology.specs.declared.seat.Seat.{Seat}
 use Rattle.lrc_topology.specs.declared.seat.Held.{Held}
 use Rattle.lrc_topology.specs.Nodes.{node_at, has_domain}
 use Rattle.lrc_book.specs.declared.command.Command.{Command}
-use Rattle.lrc_book.specs.declared.command.Command.TheVariants.{Place, Drop, Lease, Next, Done, Abandon, Revoke, Fail, Down, Up, Drain, Undrain, Retire, Join, Upgrade, Upgraded, Tick}
+use Rattle.lrc_book.specs.declared.command.Command.TheVariants.{Place, Place6, Drop, Lease, Next, Done, Abandon, Revoke, Fail, Down, Up, Drain, Undrain, Retire, Join, Upgrade, Upgraded, Tick}
 use Rattle.lrc_book.specs.declared.reply.Reply.{Reply}
-use Rattle.lrc_book.specs.declared.reply.Reply.TheVariants.{Placed, Dropped, Changed}
+use Rattle.lrc_book.specs.declared.reply.Reply.TheVariants.{Placed, Placed6, Dropped, Changed}
 use Rattle.lrc_book.specs.declared.refusal.Refusal.TheVariants as refusal
 use Rattle.lrc_book.specs.declared.entry.Entry.{Entry}
 use Rattle.lrc_leases.specs.declared.lease.Lease.{Lease as LeaseRecord}
 use Rattle.lrc_leases.specs.Leased.{is_target_on}
-use Rattle.lrc_book.specs.States.{State, has_stripe, is_home_of, without_number, mode_of, is_active, is_draining, is_gone, is_down, load, code_of}
+use Rattle.lrc_book.specs.States.{State, has_stripe, is_home_of, without_number, mode_of, is_active, is_draining, is_gone, is_down, load}
 use Rattle.lrc_book.specs.Placement.{placed}
 use Rattle.lrc_book.specs.Repairs.{is_safe}
 use Rattle.lrc_book.specs.Outcomes.{Outcome, refused, refuse_if}
@@ -31,31 +31,47 @@ use Rattle.lrc_book.specs.Leases.{lease_outcome, next_outcome, done_outcome, aba
 
 -- ---- stripes
 
--- the stripe added, with this code
-abbrev pub with_stripe : State → Code → StripeNo → State
-with_stripe st Wide s = record st { stripes = st.stripes ++ s ∷ [] }
-
--- the reply to a stripe of this code placed on these seats
-abbrev pub placed_reply : Code → List Seat → Reply
-placed_reply Wide seats = Placed seats
-
--- the homes that were added, or the fragment that found no seat
-abbrev pub place_answer : State → StripeNo → Result State Fragment → Outcome
-place_answer st s (Ok done) = (placed_reply (code_of done s) (map (λ h. h.seat) (drop (length st.homes) done.homes)), done)
-place_answer st s (Err f) = refused (refusal.NoLawfulNode f) st
-
--- Place: refused where the stripe is there, or for the first fragment that finds no seat
-unfoldable pub place_outcome : List NodeInfo → State → Code → StripeNo → Outcome
-place_outcome nodes st code s = refuse_if (has_stripe st s) refusal.StripeExists st (place_answer st s (placed nodes (with_stripe st code s) s))
-
 -- this is another stripe
 abbrev pub is_other : StripeNo → StripeNo → Bool
 is_other s t = not (same_stripe s t)
 
--- the stripe, its homes and its leases taken out
+-- the narrow stripes, where this one has this code
+abbrev pub with_code : Code → StripeNo → List StripeNo → List StripeNo
+with_code Wide s narrow = filter (is_other s) narrow
+with_code Narrow s narrow = narrow ++ s ∷ []
+
+-- the stripe added, with this code
+abbrev pub with_stripe : State → Code → StripeNo → State
+with_stripe st code s = record st { stripes = st.stripes ++ s ∷ []; narrow = with_code code s st.narrow }
+
+-- the reply to a stripe of this code placed on these seats
+abbrev pub placed_reply : Code → List Seat → Reply
+placed_reply Wide seats = Placed seats
+placed_reply Narrow seats = Placed6 seats
+
+-- the command that places a stripe of this code
+abbrev pub place_command : Code → StripeNo → Command
+place_command Wide s = Place s
+place_command Narrow s = Place6 s
+
+-- the homes that were added, or the fragment that found no seat
+abbrev pub place_answer : State → Code → Result State Fragment → Outcome
+place_answer st code (Ok done) = (placed_reply code (map (λ h. h.seat) (drop (length st.homes) done.homes)), done)
+place_answer st code (Err f) = refused (refusal.NoLawfulNode f) st
+
+-- Place and Place6: refused where the stripe is there, or for the first fragment of the code that finds no seat
+unfoldable pub place_outcome : List NodeInfo → State → Code → StripeNo → Outcome
+place_outcome nodes st code s = refuse_if (has_stripe st s) refusal.StripeExists st (place_answer st code (placed nodes (with_stripe st code s) s))
+
+-- the stripe, its code, its homes and its leases taken out
 abbrev pub without_stripe : State → StripeNo → State
 without_stripe st s =
-    record st { stripes = filter (is_other s) st.stripes; homes = filter (λ h. is_other s h.stripe) st.homes; leases = filter (λ l. is_other s l.stripe) st.leases }
+    record st {
+      stripes = filter (is_other s) st.stripes;
+      narrow = filter (is_other s) st.narrow;
+      homes = filter (λ h. is_other s h.stripe) st.homes;
+      leases = filter (λ l. is_other s l.stripe) st.leases;
+    }
 
 -- Drop: refused where there is no such stripe
 unfoldable pub drop_outcome : State → StripeNo → Outcome
@@ -182,6 +198,7 @@ upgraded_outcome nodes st u =
 -- what a session's command answers after these entries in this state, and the state that it leaves
 abbrev pub step : List NodeInfo → List Entry → State → SessionNo → Command → Outcome
 step nodes past st session (Place s) = place_outcome nodes st Wide s
+step nodes past st session (Place6 s) = place_outcome nodes st Narrow s
 step nodes past st session (Drop s) = drop_outcome st s
 step nodes past st session (Lease s f) = lease_outcome nodes past st session s f
 step nodes past st session Next = next_outcome nodes past st session

@@ -1,14 +1,16 @@
 -- Internal: no public clause reaches these definitions.
 -- What a book keeps of a state, and the room that it has.
-use Rattle.std.specs.Prelude.{◌≡◌, ◌≢◌, ◌<◌, ℕ, Bool, not, ◌&&◌, ◌||◌, true, false, if◌then◌else◌, nat_le, List, get_or, Option, Some, None, IsSome}
+use Rattle.std.specs.Prelude.{◌≡◌, ◌≢◌, ◌<◌, ℕ, Bool, not, ◌&&◌, ◌||◌, true, false, if◌then◌else◌, nat_le, List, get_or, Option, Some, None, IsSome, IsTrue}
 use Rattle.std.specs.List.{list_any}
 use Rattle.lrc_code.specs.declared.codes.Code.{Code}
-use Rattle.lrc_code.specs.declared.codes.Code.TheVariants.{Wide}
 use Rattle.lrc_code.specs.declared.numbers.StripeNo.{StripeNo}
 use Rattle.lrc_code.specs.declared.numbers.NodeNo.{NodeNo}
 use Rattle.lrc_code.specs.declared.numbers.UpgradeNo.{UpgradeNo}
 use Rattle.lrc_code.specs.declared.numbers.Fragment.{Fragment}
 use Rattle.lrc_code.specs.Numbers.{same_node}
+use Rattle.lrc_code.specs.Codes.{has_fragment, share_class}
+use Rattle.lrc_code.specs.declared.losses.LossMask.{LossMask}
+use Rattle.lrc_code.specs.Losses.{bits_set}
 use Rattle.lrc_topology.specs.declared.NodeInfo.{NodeInfo}
 use Rattle.lrc_topology.specs.declared.seat.Seat.{Seat}
 use Rattle.lrc_topology.specs.declared.seat.Held.{Held}
@@ -90,6 +92,7 @@ pub record IsOfBut (node : NodeNo) (was st : State) (s : Store) : Type 0 where
   pub seated : AreSeated s.topology st
   pub there : IsSome (node_at s.topology node)
   pub stripes_stay : was.stripes ≡ st.stripes
+  pub narrow_stay : was.narrow ≡ st.narrow
   pub homes_stay : was.homes ≡ st.homes
   pub leases_stay : was.leases ≡ st.leases
   pub others_stay : (n : NodeInfo) → n.number ≢ node → StaysAsItWas was st n
@@ -111,9 +114,10 @@ IsTied s = (st : State) × IsOf st s
 abbrev pub has_room : Store → Bool
 has_room s = nat_le 1 (stored_in s.stripes).spare && nat_le 1 (leased_in s.leases).spare
 
--- the stripe is there, the fragment has no lease, and the new one's target is chosen for it
+-- the stripe is there, its code has the fragment, which has no lease, and the new one's target is chosen for it
 pub record IsGrant (nodes : List NodeInfo) (st : State) (lease : Lease) : Type 0 where
   pub there : has_stripe st lease.stripe ≡ true
+  pub own : IsTrue (has_fragment (code_of st lease.stripe) lease.fragment.value)
   pub new : lease_of st lease.stripe lease.fragment ≡ None
   pub chosen_is : chosen nodes st lease.stripe lease.fragment ≡ Some lease.target
 
@@ -126,10 +130,14 @@ abbrev pub with_held : List NodeInfo → Code → StripeNo → Fragment → Barr
 with_held nodes code s f b h =
     record { faults = λ d. b.faults d || bars_fault nodes s f d h; upgrades = λ d. b.upgrades d || bars_upgrade nodes code s f d h }
 
+-- the mask has the fragments that share the fragment's class
+abbrev pub AreMates : Code → Fragment → LossMask → Type 0
+AreMates code f mates = (g : Fragment) → bits_set mates.bits g.value ≡ share_class code f g
+
 -- the same with a seat of another fragment of the stripe, if it has one
-abbrev pub with_seat : List NodeInfo → StripeNo → Fragment → Barred → Fragment → Option Seat → Barred
-with_seat nodes s f b other None = b
-with_seat nodes s f b other (Some seat) = with_held nodes Wide s f b (record { stripe = s; fragment = other; seat = seat })
+abbrev pub with_seat : List NodeInfo → Code → StripeNo → Fragment → Barred → Fragment → Option Seat → Barred
+with_seat nodes code s f b other None = b
+with_seat nodes code s f b other (Some seat) = with_held nodes code s f b (record { stripe = s; fragment = other; seat = seat })
 
 -- these are the counts of the entries' grants
 abbrev pub AreGrantsOf : List Entry → List ℕ → Type 0

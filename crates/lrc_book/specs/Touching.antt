@@ -12,9 +12,9 @@ use Rattle.lrc_topology.specs.declared.seat.Held.{Held}
 use Rattle.lrc_leases.specs.declared.lease.Lease.{Lease as LeaseRecord}
 use Rattle.lrc_leases.specs.Leased.{is_of, is_target_on, ends_at}
 use Rattle.lrc_book.specs.declared.command.Command.{Command}
-use Rattle.lrc_book.specs.declared.command.Command.TheVariants.{Place, Drop, Lease, Next, Done, Abandon, Revoke, Fail, Down, Up, Retire, Join, Upgrade, Upgraded, Tick}
+use Rattle.lrc_book.specs.declared.command.Command.TheVariants.{Place, Place6, Drop, Lease, Next, Done, Abandon, Revoke, Fail, Down, Up, Retire, Join, Upgrade, Upgraded, Tick}
 use Rattle.lrc_book.specs.declared.reply.Reply.{Reply}
-use Rattle.lrc_book.specs.declared.reply.Reply.TheVariants.{Placed, Dropped, Granted, Ended, Changed, Ticked}
+use Rattle.lrc_book.specs.declared.reply.Reply.TheVariants.{Placed, Placed6, Dropped, Granted, Ended, Changed, Ticked}
 use Rattle.lrc_book.specs.States.{State, is_home_of}
 use Rattle.lrc_book.specs.Steps.{stands_on, hangs_on}
 
@@ -31,6 +31,7 @@ is_in_domain nodes u n = option_map_or (λ m. same_upgrade u m.upgrade) (node_at
 -- the command places, drops or repairs the stripe, or is on a node or a domain that a home of the stripe is on
 abbrev pub can_change_level : List NodeInfo → State → StripeNo → Command → Bool
 can_change_level nodes st s (Place r) = same_stripe r s
+can_change_level nodes st s (Place6 r) = same_stripe r s
 can_change_level nodes st s (Drop r) = same_stripe r s
 can_change_level nodes st s (Done r f e) = same_stripe r s
 can_change_level nodes st s (Fail n) = has_home_on st s (same_node n)
@@ -55,6 +56,7 @@ has_target_there st n test = list_any (λ l. test l && is_target_on n l) st.leas
 -- the command that was answered so gives or takes a seat on the node, or moves a fragment to one
 abbrev pub can_change_load : State → NodeNo → Command → Reply → Bool
 can_change_load st n (Place s) (Placed seats) = list_any (λ seat. same_node seat.node n) seats
+can_change_load st n (Place6 s) (Placed6 seats) = list_any (λ seat. same_node seat.node n) seats
 can_change_load st n (Drop s) Dropped = has_home_there st n (λ h. same_stripe s h.stripe) || has_target_there st n (λ l. same_stripe s l.stripe)
 can_change_load st n (Lease s f) (Granted l kind) = is_target_on n l
 can_change_load st n Next (Granted l kind) = is_target_on n l

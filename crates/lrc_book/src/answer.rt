@@ -1,4 +1,4 @@
-ghost use Rattle.std.specs.Prelude.{◌≡◌, false, IsSome};
+ghost use Rattle.std.specs.Prelude.{◌≡◌, false, take, IsSome};
 ghost use Rattle.lrc_code.specs.declared.numbers.StripeNo.{StripeNo};
 ghost use Rattle.lrc_code.specs.declared.numbers.Fragment.{Fragment};
 ghost use Rattle.lrc_book.specs.declared.command.Command.{Command};
@@ -8,11 +8,20 @@ ghost use Rattle.lrc_book.specs.Changes.{changed_by};
 ghost use Rattle.lrc_book.specs.Leases.{is_grant};
 
 use crate::{Kind, Lease, Refusal, Reply, Seat};
+use lrc_code::{FRAGMENTS, NARROW_FRAGMENTS, NodeNo};
+
+/// What stands where no seat was chosen yet.
+pub(crate) const NO_SEAT: Seat = Seat {
+    node: NodeNo { value: 0 },
+    slot: 0,
+};
 
 /// A reply as the history keeps it: the seats of a new stripe stand apart, so that an entry is small.
 #[derive(Drop)]
 pub(crate) enum Answer {
-    Placed(Box<[Seat; 16]>),
+    Placed(Box<[Seat; FRAGMENTS]>),
+    /// The first ten are those of the stripe.
+    Placed6(Box<[Seat; FRAGMENTS]>),
     Dropped,
     Granted(Lease, Kind),
     Idle,
@@ -24,7 +33,7 @@ pub(crate) enum Answer {
 
 impl Answer {
     /// The answer that tells this reply. Its seats, if it has some, stand in the room that there is for them.
-    pub(crate) fn of(reply: &Reply, room: &mut Option<Box<[Seat; 16]>>) -> Answer
+    pub(crate) fn of(reply: &Reply, room: &mut Option<Box<[Seat; FRAGMENTS]>>) -> Answer
         requires { IsSome room.old }
         ensures { told result ≡ reply.now }
     {
@@ -33,6 +42,11 @@ impl Answer {
                 let mut kept = room.take().unwrap();
                 *kept = *seats;
                 Answer::Placed(kept)
+            }
+            Reply::Placed6(seats) => {
+                let mut kept = room.take().unwrap();
+                put_first(&mut *kept, seats);
+                Answer::Placed6(kept)
             }
             Reply::Dropped => Answer::Dropped,
             Reply::Granted(lease, kind) => Answer::Granted(*lease, *kind),
@@ -64,6 +78,7 @@ impl Answer {
     {
         match self {
             Answer::Placed(seats) => Reply::Placed(**seats),
+            Answer::Placed6(seats) => Reply::Placed6(first_ten(seats)),
             Answer::Dropped => Reply::Dropped,
             Answer::Granted(lease, kind) => Reply::Granted(*lease, *kind),
             Answer::Idle => Reply::Idle,
@@ -76,4 +91,20 @@ impl Answer {
             },
         }
     }
+}
+
+/// Puts ten seats in the place of the first of sixteen.
+fn put_first(kept: &mut [Seat; FRAGMENTS], seats: &[Seat; NARROW_FRAGMENTS])
+    ensures { take 10 kept.new ≡ seats.now }
+{
+    kept[..NARROW_FRAGMENTS].copy_from_slice(seats);
+}
+
+/// The first ten of sixteen seats.
+fn first_ten(seats: &[Seat; FRAGMENTS]) -> [Seat; NARROW_FRAGMENTS]
+    ensures { result ≡ take 10 seats.now }
+{
+    let mut first = [NO_SEAT; NARROW_FRAGMENTS];
+    first.copy_from_slice(&seats[..NARROW_FRAGMENTS]);
+    first
 }

@@ -1,7 +1,7 @@
 ghost use Rattle.std.specs.Prelude.{◌≡◌, ◌↔◌, ◌<◌, ◌≤◌, ◌++◌, ◌∷◌, [], true, IfOk, OnOk, IfErr, OnErr, IsOk, IsErrOf, length};
 ghost use Rattle.lrc_code.specs.declared.fault.Fault.TheVariants as fault;
 ghost use Rattle.lrc_topology.specs.Nodes.{AreNodes};
-ghost use Rattle.lrc_book.specs.States.{homes_shown, load_shown, level_shown, missing_shown, lease_of, mode_shown};
+ghost use Rattle.lrc_book.specs.States.{code_shown, homes_shown, load_shown, level_shown, missing_shown, lease_of, mode_shown};
 ghost use Rattle.lrc_book.specs.Urgency.{risk};
 ghost use Rattle.lrc_book.specs.Histories.{outcome_in, IsLegal};
 ghost use Rattle.lrc_book.specs.Goodness.{IsGood};
@@ -10,7 +10,7 @@ ghost use Rattle.lrc_book.specs.Stores.{IsOf};
 
 use crate::store::Store;
 use crate::{Command, Lease, Level, Mode, Record, Reply, Seat};
-use lrc_code::{Fault, Fragment, LossMask, NodeNo, SessionNo, StripeNo};
+use lrc_code::{Code, FRAGMENTS, Fault, Fragment, LossMask, NodeNo, SessionNo, StripeNo};
 use lrc_leases::Grants;
 use lrc_topology::Topology;
 use std::alloc::Global;
@@ -30,7 +30,7 @@ pub struct Book {
     pub(crate) front: Option<StripeNo>,
     pub(crate) history: Vec<Record>,
     /// Room for the seats of the next stripe that is placed.
-    pub(crate) seats: Option<Box<[Seat; 16]>>,
+    pub(crate) seats: Option<Box<[Seat; FRAGMENTS]>>,
     pub(crate) limit: usize,
 }
 
@@ -113,8 +113,16 @@ impl Book {
         &self.store().topology
     }
 
-    /// The home of each fragment of a stripe, in rising order; `None` where there is no such stripe.
-    pub fn homes(&self, stripe: StripeNo) -> Option<[Option<Seat>; 16]>
+    /// The code of a stripe; `None` where there is no such stripe.
+    pub fn code(&self, stripe: StripeNo) -> Option<Code>
+        ensures { result ≡ code_shown (state_of self.now) stripe }
+    {
+        self.store().stripes.code(stripe)
+    }
+
+    /// The home of each fragment of a stripe, in rising order, with no home at the numbers that the stripe's code lacks;
+    /// `None` where there is no such stripe.
+    pub fn homes(&self, stripe: StripeNo) -> Option<[Option<Seat>; FRAGMENTS]>
         ensures { result ≡ homes_shown (state_of self.now) stripe }
     {
         self.store().stripes.homes(stripe)

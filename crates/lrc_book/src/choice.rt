@@ -2,11 +2,11 @@
 
 ghost use Rattle.std.specs.Prelude.{◌≡◌, ◌++◌, ◌∷◌, [], true, false, IsTrue, IfSome, IsSome, List, Some, None, map, option_map, is_some};
 ghost use Rattle.std.specs.List.{All};
+ghost use Rattle.lrc_code.specs.declared.codes.Code.{Code as AnyCode};
 ghost use Rattle.lrc_code.specs.declared.numbers.StripeNo.{StripeNo};
 ghost use Rattle.lrc_code.specs.declared.numbers.Fragment.{Fragment};
-ghost use Rattle.lrc_code.specs.Codes.{share_class};
+ghost use Rattle.lrc_code.specs.Codes.{class_of};
 ghost use Rattle.lrc_code.specs.Losses.{bits_set};
-ghost use Rattle.lrc_code.specs.declared.codes.Code.TheVariants.{Wide};
 ghost use Rattle.lrc_topology.specs.declared.seat.Held.{Held};
 ghost use Rattle.lrc_topology.specs.Nodes.{node_at};
 ghost use Rattle.lrc_slots.specs.Barred.{no_bars, joined};
@@ -17,8 +17,9 @@ ghost use Rattle.lrc_leases.specs.Leased.{leased_at};
 ghost use Rattle.lrc_leases.specs.Tables.{leased_in};
 ghost use Rattle.lrc_book.specs.States.{State, has_stripe, held_by};
 ghost use Rattle.lrc_book.specs.Placement.{chosen, is_beside};
+ghost use Rattle.lrc_book.specs.Steps.{with_stripe};
 ghost use Rattle.lrc_book.specs.Ties.{table_of, bars_in, next_seat, with_homes};
-ghost use Rattle.lrc_book.specs.Stores.{IsOf, IsTied, closed, with_seat};
+ghost use Rattle.lrc_book.specs.Stores.{IsOf, IsTied, closed, with_seat, AreMates};
 ghost use Rattle.lrc_book.specs.Planning.{AreBarsOf, row_seat};
 ghost use Rattle.lrc_book.specs.Neighbouring.{barred_by};
 
@@ -26,39 +27,40 @@ use crate::Seat;
 use crate::class_bars::ClassBars;
 use crate::neighbours::Neighbours;
 use crate::store::Store;
-use lrc_code::{Fragment, LossMask, StripeNo};
+use lrc_code::{Class, Code, Fragment, LossMask, StripeNo};
 use lrc_slots::{OpenRow, Taken};
 
 impl Store {
     /// Bars the upgrading domain, if there is one, for all fragments of a new stripe.
     pub(crate) fn bar_upgrading_for_all(&self, bars: &mut ClassBars)
-        ensures { (st : State) → IsOf st self.now → AreBarsOf self.now.topology None [] bars.old → AreBarsOf self.now.topology st.upgrading [] bars.new }
+        ensures { (st : State) (code : AnyCode) → IsOf st self.now → AreBarsOf self.now.topology code None [] bars.old → AreBarsOf self.now.topology code st.upgrading [] bars.new }
     {
         if let Some(domain) = self.modes.upgrading {
             self.table.bar_upgrade_in(&mut bars.faults, domain);
         }
     }
 
-    /// The node and the slot that the rule chooses for a fragment of a new stripe, beside the planned seats of its other
-    /// fragments.
-    pub(crate) fn open_for(&self, bars: &ClassBars, fragment: Fragment) -> Option<OpenRow<'_>>
-        ensures chosen { (st : State) (stripe : StripeNo) (planned : List Held) → IsOf st self.now → has_stripe st stripe ≡ false
-            → All (λ h. is_beside stripe fragment h ≡ true) planned → AreBarsOf self.now.topology st.upgrading planned bars.now
-            → option_map row_seat result ≡ chosen self.now.topology (with_homes st planned) stripe fragment }
-        ensures known { (st : State) (planned : List Held) → IsOf st self.now → AreBarsOf self.now.topology st.upgrading planned bars.now
+    /// The node and the slot that the rule chooses for a fragment of a class, in a new stripe of a code, beside the planned
+    /// seats of its other fragments.
+    pub(crate) fn open_for(&self, bars: &ClassBars, class: Class) -> Option<OpenRow<'_>>
+        ensures chosen { (st : State) (code : AnyCode) (stripe : StripeNo) (fragment : Fragment) (planned : List Held) → IsOf st self.now → has_stripe st stripe ≡ false
+            → class_of code fragment.value ≡ Some class
+            → All (λ h. is_beside stripe fragment h ≡ true) planned → AreBarsOf self.now.topology code st.upgrading planned bars.now
+            → option_map row_seat result ≡ chosen self.now.topology (with_homes (with_stripe st code stripe) planned) stripe fragment }
+        ensures known { (st : State) (code : AnyCode) (planned : List Held) → IsOf st self.now → AreBarsOf self.now.topology code st.upgrading planned bars.now
             → IfSome result (λ o. node_at self.now.topology o.node.now.number ≡ Some o.node.now) }
     {
-        self.table
-            .row_outside(&bars.faults, bars.of(fragment.class()))
+        self.table.row_outside(&bars.faults, bars.of(class))
     }
 
-    /// Bars the domains of the node that is planned for a fragment.
-    pub(crate) fn bar_planned(&self, bars: &mut ClassBars, fragment: Fragment, next: &OpenRow<'_>)
-        ensures { (st : State) (stripe : StripeNo) (planned : List Held) → IsOf st self.now
-            → node_at self.now.topology next.now.node.now.number ≡ Some next.now.node.now → AreBarsOf self.now.topology st.upgrading planned bars.old
-            → AreBarsOf self.now.topology st.upgrading (planned ++ record { stripe = stripe; fragment = fragment; seat = row_seat next.now } ∷ []) bars.new }
+    /// Bars the domains of the node that is planned for a fragment of a class.
+    pub(crate) fn bar_planned(&self, bars: &mut ClassBars, class: Class, next: &OpenRow<'_>)
+        ensures { (st : State) (code : AnyCode) (stripe : StripeNo) (fragment : Fragment) (planned : List Held) → IsOf st self.now
+            → class_of code fragment.value ≡ Some class
+            → node_at self.now.topology next.now.node.now.number ≡ Some next.now.node.now → AreBarsOf self.now.topology code st.upgrading planned bars.old
+            → AreBarsOf self.now.topology code st.upgrading (planned ++ record { stripe = stripe; fragment = fragment; seat = row_seat next.now } ∷ []) bars.new }
     {
-        bars.bar(&self.table, next.node, fragment.class());
+        bars.bar(&self.table, next.node, class);
     }
 
     /// Whether some node takes a seat, where no domain is barred but the upgrading one.
@@ -79,10 +81,11 @@ impl Store {
         requires there { IsTrue ((stored_in self.now.stripes).stripes stripe) }
         ensures { (st : State) → IsOf st self.now → result ≡ chosen self.now.topology st stripe fragment }
     {
+        let mates = mates_of(self.code_of(stripe), fragment);
         let mut more = Taken::new();
-        self.bar_targets(&mut more, stripe, fragment);
+        self.bar_targets(&mut more, stripe, fragment, mates);
         self.bar_upgrading(&mut more);
-        self.next_beside(&self.neighbours(stripe, fragment, &more))
+        self.next_beside(&self.neighbours(stripe, fragment, mates, &more))
     }
 
     /// Bars the upgrading domain too, if there is one.
@@ -105,18 +108,20 @@ impl Store {
         })
     }
 
-    /// The homes of a stripe's other fragments as a fragment's neighbours, and what is barred besides.
+    /// The homes of a stripe's other fragments as the neighbours of a fragment with these mates, and what is barred besides.
     fn neighbours<'a>(
         &'a self,
         stripe: StripeNo,
         fragment: Fragment,
+        mates: LossMask,
         more: &'a Taken,
     ) -> Neighbours<'a>
         requires { IsTrue ((stored_in self.now.stripes).stripes stripe) }
-        ensures { (st : State) → IsOf st self.now → barred_by result ≡ joined (barred more.now) (bars_in self.now.topology Wide stripe fragment st.homes) }
+        ensures { (st : State) (code : AnyCode) → IsOf st self.now → AreMates code fragment mates
+            → barred_by result ≡ joined (barred more.now) (bars_in self.now.topology code stripe fragment st.homes) }
     {
         let others = self.stripes.homed(stripe).without(fragment);
-        let mates = LossMask::from_bits(others.bits & mates_of(fragment).bits);
+        let mates = LossMask::from_bits(others.bits & mates.bits);
         Neighbours {
             homes: self.stripes.domains(stripe),
             others,
@@ -125,17 +130,17 @@ impl Store {
         }
     }
 
-    /// Bars the domains of the targets of the leases of a stripe's other fragments for a fragment.
-    fn bar_targets(&self, bars: &mut Taken, stripe: StripeNo, fragment: Fragment)
+    /// Bars the domains of the targets of the leases of a stripe's other fragments for a fragment with these mates.
+    fn bar_targets(&self, bars: &mut Taken, stripe: StripeNo, fragment: Fragment, mates: LossMask)
         requires { IsTied self.now }
-        ensures { (st : State) (seats : List Held) → IsOf st self.now → barred bars.old ≡ bars_in self.now.topology Wide stripe fragment seats
-            → barred bars.new ≡ bars_in self.now.topology Wide stripe fragment (seats ++ map held_by st.leases) }
+        ensures { (st : State) (code : AnyCode) (seats : List Held) → IsOf st self.now → AreMates code fragment mates
+            → barred bars.old ≡ bars_in self.now.topology code stripe fragment seats
+            → barred bars.new ≡ bars_in self.now.topology code stripe fragment (seats ++ map held_by st.leases) }
     {
         let leased = self.leases.leased(stripe);
         if leased.bits() == 0 {
             return;
         }
-        let mates = mates_of(fragment);
         for other in Fragment::all().iter() {
             let target = self.target(leased, stripe, *other);
             self.bar_seat(bars, fragment, mates, *other, target);
@@ -164,10 +169,9 @@ impl Store {
         other: Fragment,
         seat: Option<Seat>,
     )
-        requires mate { bits_set mates.bits other.value ≡ share_class Wide fragment other }
         requires known { IfSome seat (λ s. IsSome (node_at (slots_of self.now.table).nodes s.node)) }
-        ensures { (st : State) (stripe : StripeNo) → IsOf st self.now
-            → barred bars.new ≡ with_seat self.now.topology stripe fragment (barred bars.old) other seat }
+        ensures { (st : State) (code : AnyCode) (stripe : StripeNo) → IsOf st self.now → AreMates code fragment mates
+            → barred bars.new ≡ with_seat self.now.topology code stripe fragment (barred bars.old) other seat }
     {
         if other == fragment {
             return;
@@ -182,9 +186,12 @@ impl Store {
     }
 }
 
-/// The fragments of a fragment's class, itself among them.
-fn mates_of(fragment: Fragment) -> LossMask
-    ensures { (g : Fragment) → bits_set result.bits g.value ≡ share_class Wide fragment g }
+/// The fragments of a fragment's class in a code, itself among them; none where the code has no such fragment.
+fn mates_of(code: Code, fragment: Fragment) -> LossMask
+    ensures { AreMates code fragment result }
 {
-    LossMask::of_class(fragment.class())
+    match fragment.class_in(code) {
+        Some(class) => LossMask::of_class(code, class),
+        None => LossMask::from_bits(0),
+    }
 }

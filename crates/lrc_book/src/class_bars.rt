@@ -1,5 +1,5 @@
 ghost use Rattle.std.specs.Prelude.{◌≡◌, ◌<◌, ◌++◌, ◌∷◌, List, [], Option, Some, None};
-ghost use Rattle.lrc_code.specs.declared.codes.Code.TheVariants.{Wide};
+ghost use Rattle.lrc_code.specs.declared.codes.Code.{Code};
 ghost use Rattle.lrc_code.specs.Codes.{class_of};
 ghost use Rattle.lrc_code.specs.declared.numbers.UpgradeNo.{UpgradeNo};
 ghost use Rattle.lrc_topology.specs.declared.NodeInfo.{NodeInfo};
@@ -23,7 +23,7 @@ pub(crate) struct ClassBars {
 impl ClassBars {
     /// Bars no node.
     pub(crate) fn new() -> ClassBars
-        ensures { (nodes : List NodeInfo) → AreBarsOf nodes None [] result }
+        ensures { (nodes : List NodeInfo) (code : Code) → AreBarsOf nodes code None [] result }
     {
         ClassBars {
             faults: BarredNodes::new(),
@@ -41,9 +41,9 @@ impl ClassBars {
     /// Bars the fault domain of the node that a seat of a fragment is on for all fragments, and its upgrade domain for
     /// those of the fragment's class.
     pub(crate) fn bar(&mut self, table: &SlotTable, node: &NodeInfo, class: Class)
-        ensures { (upgrading : Option UpgradeNo) (seats : List Held) (h : Held) → node_at (slots_of table.now).nodes h.seat.node ≡ Some node.now
-            → class_of Wide h.fragment.value ≡ Some class
-            → AreBarsOf (slots_of table.now).nodes upgrading seats self.old → AreBarsOf (slots_of table.now).nodes upgrading (seats ++ h ∷ []) self.new }
+        ensures { (code : Code) (upgrading : Option UpgradeNo) (seats : List Held) (h : Held) → node_at (slots_of table.now).nodes h.seat.node ≡ Some node.now
+            → class_of code h.fragment.value ≡ Some class
+            → AreBarsOf (slots_of table.now).nodes code upgrading seats self.old → AreBarsOf (slots_of table.now).nodes code upgrading (seats ++ h ∷ []) self.new }
     {
         table.bar_fault_in(&mut self.faults, node.fault);
         let of_class = &mut self.upgrades[place_of(class)];

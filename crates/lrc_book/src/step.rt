@@ -2,7 +2,6 @@
 
 ghost use Rattle.std.specs.Prelude.{◌≡◌, ◌<◌, ◌+◌, ◌≤◌, ◌++◌, ◌∷◌, [], ℕ, true, false, IfOk, IfErr, OnOk, IsOk, IsSome, List, length, nat_le, is_some, vec_len, vec_capacity};
 ghost use Rattle.lrc_code.specs.declared.fault.Fault.TheVariants as fault;
-ghost use Rattle.lrc_code.specs.declared.codes.Code.TheVariants.{Wide};
 ghost use Rattle.lrc_code.specs.declared.numbers.SessionNo.{SessionNo};
 ghost use Rattle.lrc_book.specs.declared.entry.Entry.{Entry};
 ghost use Rattle.lrc_book.specs.States.{State};
@@ -15,12 +14,12 @@ ghost use Rattle.lrc_book.specs.Books.{IsStep, world_of};
 ghost use Rattle.lrc_book.specs.Stores.{IsOf, IsTied, AreGrantsOf, AreFew, has_room};
 ghost use Rattle.lrc_book.specs.Repairing.{IsFront, HasFront, IsKept};
 
-use crate::answer::Answer;
+use crate::answer::{Answer, NO_SEAT};
 use crate::commands::leases::count_grant;
 use crate::plan::Plan;
 use crate::store::Store;
 use crate::{Book, Command, Entry, Record, Reply, Seat};
-use lrc_code::{Fault, Fragment, NodeNo, SessionNo, StripeNo};
+use lrc_code::{Code, FRAGMENTS, Fault, Fragment, NARROW_FRAGMENTS, SessionNo, StripeNo};
 use lrc_leases::Grants;
 use std::alloc::{AllocError, Global};
 
@@ -161,12 +160,8 @@ fn make(
 }
 
 /// Room for the seats of a stripe.
-fn room_for_seats(alloc: Global) -> Result<Box<[Seat; 16]>, AllocError> {
-    let no_seat = Seat {
-        node: NodeNo { value: 0 },
-        slot: 0,
-    };
-    Ok(Box::new(alloc, [no_seat; 16])?)
+fn room_for_seats(alloc: Global) -> Result<Box<[Seat; FRAGMENTS]>, AllocError> {
+    Ok(Box::new(alloc, [NO_SEAT; FRAGMENTS])?)
 }
 
 impl Store {
@@ -184,8 +179,8 @@ impl Store {
         ensures { (st : State) (past : List Entry) → IsOf st self.now → AreGrantsOf past counts.now → IsFront self.now.topology st front
             → result ≡ (step self.now.topology past st session command.now).0 }
     {
-        if let Command::Place(stripe) = *command {
-            return self.place_reply(stripe);
+        if let Some((code, stripe)) = command.placing() {
+            return self.place_reply(code, stripe);
         }
         let mut made = Record::new(session, *command, Answer::Idle);
         self.answer(counts, front, &mut None, &mut made);
@@ -197,7 +192,7 @@ impl Store {
         &self,
         counts: &Grants,
         front: Option<StripeNo>,
-        room: &mut Option<Box<[Seat; 16]>>,
+        room: &mut Option<Box<[Seat; FRAGMENTS]>>,
         made: &mut Record,
     )
         requires tied { IsTied self.now }
@@ -208,7 +203,8 @@ impl Store {
             → made.new ≡ record made.old { reply = (step self.now.topology past st made.old.session made.old.command).0 } }
     {
         match made.command {
-            Command::Place(stripe) => self.answer_place(stripe, room, made),
+            Command::Place(stripe) => self.answer_place(Code::Wide, stripe, room, made),
+            Command::Place6(stripe) => self.answer_place(Code::Narrow, stripe, room, made),
             Command::Next => self.answer_next(counts, front, made),
             Command::Done(stripe, fragment, epoch) => {
                 self.answer_done(stripe, fragment, epoch, made)
@@ -219,11 +215,17 @@ impl Store {
 
     /// Gives the record of a command that places a stripe its answer.
     #[inline(never)] // as `answer_other`
-    fn answer_place(&self, stripe: StripeNo, room: &mut Option<Box<[Seat; 16]>>, made: &mut Record)
+    fn answer_place(
+        &self,
+        code: Code,
+        stripe: StripeNo,
+        room: &mut Option<Box<[Seat; FRAGMENTS]>>,
+        made: &mut Record,
+    )
         requires room { IsSome room.old }
-        ensures { (st : State) → IsOf st self.now → made.new ≡ record made.old { reply = (place_outcome self.now.topology st Wide stripe).0 } }
+        ensures { (st : State) → IsOf st self.now → made.new ≡ record made.old { reply = (place_outcome self.now.topology st code stripe).0 } }
     {
-        made.answer = Answer::of(&self.place_reply(stripe), room);
+        made.answer = Answer::of(&self.place_reply(code, stripe), room);
     }
 
     /// Gives the record of a command that asks for the most urgent repair its answer.
@@ -281,7 +283,8 @@ impl Store {
             → told result ≡ (step self.now.topology past st session command.now).0 }
     {
         match *command {
-            Command::Place(_) | Command::Next | Command::Done(_, _, _) => unreachable!(),
+            Command::Place(_) | Command::Place6(_) | Command::Next | Command::Done(_, _, _) =>
+                unreachable!(),
             Command::Drop(stripe) => self.drop_reply(stripe),
             Command::Lease(stripe, fragment) => {
                 self.lease_reply(counts, session, stripe, fragment)
@@ -316,7 +319,12 @@ impl Store {
         ensures kept { IsOf (changed_by st command.now (told answer.now)) self.new }
     {
         match (*command, answer) {
-            (Command::Place(stripe), Answer::Placed(seats)) => self.place(stripe, &**seats),
+            (Command::Place(stripe), Answer::Placed(seats)) => {
+                self.place(Code::Wide, stripe, seats.as_slice())
+            }
+            (Command::Place6(stripe), Answer::Placed6(seats)) => {
+                self.place(Code::Narrow, stripe, &seats[..NARROW_FRAGMENTS])
+            }
             (Command::Drop(stripe), Answer::Dropped) => self.drop_stripe(stripe),
             (Command::Done(stripe, fragment, _), Answer::Ended) => self.move_in(stripe, fragment),
             (Command::Abandon(stripe, fragment, _), Answer::Ended) => {

@@ -6,14 +6,14 @@ ghost use Rattle.lrc_stripes.specs.Stored as stored;
 ghost use Rattle.lrc_stripes.specs.Tables.{stored_in};
 ghost use Rattle.lrc_leases.specs.Leased as leased;
 ghost use Rattle.lrc_leases.specs.Tables.{leased_in};
-ghost use Rattle.lrc_book.specs.States.{State, opening, online_at};
+ghost use Rattle.lrc_book.specs.States.{State, opening, code_of, online_at};
 ghost use Rattle.lrc_book.specs.Leases.{without_lease, without_home};
 ghost use Rattle.lrc_book.specs.Stores.{IsOf, IsOfBut, IsTied, AreModesOf, kept_table, has_room};
 
 use crate::Mode;
 use crate::clock::Clock;
 use crate::modes::Modes;
-use lrc_code::{Fault, Fragment, NodeNo, StripeNo};
+use lrc_code::{Code, Fault, Fragment, NodeNo, StripeNo};
 use lrc_leases::Leases;
 use lrc_slots::SlotTable;
 use lrc_stripes::Stripes;
@@ -85,6 +85,13 @@ impl Store {
             Some(info) => self.modes.is_online(&info),
             None => false,
         }
+    }
+
+    /// The code of a stripe; `Wide` where there is no such stripe.
+    pub(crate) fn code_of(&self, stripe: StripeNo) -> Code
+        ensures { (st : State) → IsOf st self.now → result ≡ code_of st stripe }
+    {
+        self.stripes.code(stripe).unwrap_or(Code::Wide)
     }
 
     /// Takes a fragment's home away, if it has one, and gives the seat back.

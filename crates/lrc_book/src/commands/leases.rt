@@ -1,11 +1,12 @@
 //! Commands of repair leases.
 
-ghost use Rattle.std.specs.Prelude.{◌≡◌, ◌++◌, ◌∷◌, [], true, List, IsTrue, IsSome};
+ghost use Rattle.std.specs.Prelude.{◌≡◌, ◌++◌, ◌∷◌, [], true, if◌then◌else◌, List, Some, None, IsTrue, IsSome};
 ghost use Rattle.lrc_book.specs.declared.entry.Entry.{Entry};
 ghost use Rattle.lrc_code.specs.declared.numbers.Fragment.{Fragment};
-ghost use Rattle.lrc_code.specs.Losses.{bits_set};
+ghost use Rattle.lrc_code.specs.Codes.{has_fragment, others};
+ghost use Rattle.lrc_code.specs.Losses.{bits_set, is_local};
 ghost use Rattle.lrc_stripes.specs.Tables.{stored_in};
-ghost use Rattle.lrc_book.specs.States.{State, has_stripe, lease_of, online_at};
+ghost use Rattle.lrc_book.specs.States.{State, has_stripe, code_of, lease_of, online_at};
 ghost use Rattle.lrc_book.specs.Leases.{granted, lease_outcome, done_outcome, abandon_outcome, revoke_outcome, at_epoch, with_lease};
 ghost use Rattle.lrc_book.specs.Answers.{told};
 ghost use Rattle.lrc_book.specs.Repairs as repairs;
@@ -17,7 +18,7 @@ use crate::answer::Answer;
 use crate::repair::Repair;
 use crate::store::Store;
 use crate::{Kind, Lease, Refusal};
-use lrc_code::{Fragment, LossMask, NodeNo, SessionNo, StripeNo};
+use lrc_code::{Code, Fragment, LossMask, NodeNo, SessionNo, StripeNo};
 use lrc_leases::Grants;
 
 impl Store {
@@ -57,19 +58,22 @@ impl Store {
         self.stripes.needs_there(stripe)
     }
 
-    /// From what a fragment of a stripe that is there is rebuilt; `None` where it can't be.
+    /// From what a fragment of a stripe that is there is rebuilt; `None` where it can't be. The fragment is one that the
+    /// stripe's code has.
     pub(super) fn repair_kind(&self, stripe: StripeNo, fragment: Fragment) -> Option<Kind>
         requires { IsTrue ((stored_in self.now.stripes).stripes stripe) }
-        ensures { (st : State) → IsOf st self.now → result ≡ repair_of self.now.topology st stripe fragment }
+        ensures { (st : State) → IsOf st self.now → IsTrue (has_fragment (code_of st stripe) fragment.value)
+            → result ≡ repair_of self.now.topology st stripe fragment }
     {
         let missing = self.stripes.missing(stripe)?;
         if !missing.contains(fragment) {
             return Some(Kind::Move);
         }
-        if let Some(sources) = missing.local_sources(fragment) {
-            return Some(Kind::Local(sources));
+        let code = self.code_of(stripe);
+        if let Some(kind) = local_kind(code, missing, fragment) {
+            return Some(kind);
         }
-        if missing.recoverable() {
+        if missing.recoverable_in(code) {
             Some(Kind::Global)
         } else {
             None
@@ -219,6 +223,16 @@ impl Store {
             return Answer::Refused(Refusal::NoLease);
         }
         Answer::Ended
+    }
+}
+
+/// How a fragment is rebuilt from its local group, where it can be, beside these missing fragments of its stripe.
+fn local_kind(code: Code, missing: LossMask, fragment: Fragment) -> Option<Kind>
+    ensures { result ≡ (if is_local code (bits_set missing.bits) fragment then Some (repairs.local_kind code (others code fragment)) else None) }
+{
+    match code {
+        Code::Wide => Some(Kind::Local(missing.local_sources(fragment)?)),
+        Code::Narrow => Some(Kind::Local3(missing.narrow_sources(fragment)?)),
     }
 }
 

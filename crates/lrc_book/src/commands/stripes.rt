@@ -1,56 +1,66 @@
 //! Commands on stripes.
 
-ghost use Rattle.std.specs.Prelude.{◌≡◌, true, false, IfOk, IfErr};
+ghost use Rattle.std.specs.Prelude.{◌≡◌, true, false, take, OnOk, IfErr};
 ghost use Rattle.lrc_code.specs.declared.codes.Code.TheVariants.{Wide};
-ghost use Rattle.lrc_code.specs.Codes.{fragments};
+ghost use Rattle.lrc_code.specs.Codes.{fragments, fragment_count};
 ghost use Rattle.lrc_slots.specs.Tables.{slots_of};
-ghost use Rattle.lrc_book.specs.declared.reply.Reply.TheVariants.{Placed, Dropped};
+ghost use Rattle.lrc_book.specs.declared.reply.Reply.TheVariants.{Dropped};
 ghost use Rattle.lrc_book.specs.Answers.{told};
 ghost use Rattle.lrc_book.specs.States.{State, has_stripe};
 ghost use Rattle.lrc_book.specs.Choices.{AreChosen, IsFirstWithout};
-ghost use Rattle.lrc_book.specs.Steps.{with_stripe, place_outcome, drop_outcome, without_stripe};
+ghost use Rattle.lrc_book.specs.Steps.{with_stripe, placed_reply, place_outcome, drop_outcome, without_stripe};
 ghost use Rattle.lrc_book.specs.Changes.{with_placed};
 ghost use Rattle.lrc_book.specs.Dropping.{unleased, homeless};
 ghost use Rattle.lrc_book.specs.Stores.{IsOf, kept_table, has_room};
 
-use crate::answer::Answer;
+use crate::answer::{Answer, NO_SEAT};
 use crate::class_bars::ClassBars;
 use crate::store::Store;
 use crate::{Refusal, Reply, Seat};
-use lrc_code::{Fragment, NodeNo, StripeNo};
+use lrc_code::{Code, FRAGMENTS, Fragment, NARROW_FRAGMENTS, StripeNo};
 
 impl Store {
-    pub(crate) fn place_reply(&self, stripe: StripeNo) -> Reply
-        ensures { (st : State) → IsOf st self.now → result ≡ (place_outcome self.now.topology st Wide stripe).0 }
+    pub(crate) fn place_reply(&self, code: Code, stripe: StripeNo) -> Reply
+        ensures { (st : State) → IsOf st self.now → result ≡ (place_outcome self.now.topology st code stripe).0 }
     {
         if self.stripes.contains(stripe) {
             return Reply::Refused(Refusal::StripeExists);
         }
-        match self.plan_seats(stripe) {
-            Ok(seats) => Reply::Placed(seats),
+        let mut seats = [NO_SEAT; FRAGMENTS];
+        match self.plan_seats(code, stripe, &mut seats) {
+            Ok(()) => match code {
+                Code::Wide => Reply::Placed(seats),
+                Code::Narrow => {
+                    let mut first = [NO_SEAT; NARROW_FRAGMENTS];
+                    first.copy_from_slice(&seats[..NARROW_FRAGMENTS]);
+                    Reply::Placed6(first)
+                }
+            },
             Err(fragment) => Reply::Refused(Refusal::NoLawfulNode(fragment)),
         }
     }
 
-    /// The seats that the rule chooses for the fragments of a new stripe, one after the other, or the first fragment
-    /// that finds none.
-    fn plan_seats(&self, stripe: StripeNo) -> Result<[Seat; 16], Fragment>
-        ensures chosen { IfOk result (λ seats. (st : State) → IsOf st self.now → has_stripe st stripe ≡ false
-            → AreChosen self.now.topology (with_stripe st Wide stripe) stripe (fragments Wide) seats) }
+    /// Gives the seats that the rule chooses for the fragments of a new stripe of the code, one after the other, as the
+    /// first of these; or the first fragment that finds none.
+    fn plan_seats(
+        &self,
+        code: Code,
+        stripe: StripeNo,
+        seats: &mut [Seat; FRAGMENTS],
+    ) -> Result<(), Fragment>
+        ensures chosen { OnOk result ((st : State) → IsOf st self.now → has_stripe st stripe ≡ false
+            → AreChosen self.now.topology (with_stripe st code stripe) stripe (fragments code) (take (fragment_count code) seats.new)) }
         ensures first { IfErr result (λ f. (st : State) → IsOf st self.now → has_stripe st stripe ≡ false
-            → IsFirstWithout self.now.topology (with_stripe st Wide stripe) stripe (fragments Wide) f) }
+            → IsFirstWithout self.now.topology (with_stripe st code stripe) stripe (fragments code) f) }
     {
-        let no_seat = Seat {
-            node: NodeNo { value: 0 },
-            slot: 0,
-        };
-        let mut seats = [no_seat; 16];
         let mut bars = ClassBars::new();
         self.bar_upgrading_for_all(&mut bars);
-        for (i, fragment) in Fragment::all().iter().enumerate() {
-            match self.open_for(&bars, *fragment) {
+        let all = Fragment::all();
+        for (i, fragment) in all[..code.fragments() as usize].iter().enumerate() {
+            let class = fragment.class_in(code).unwrap();
+            match self.open_for(&bars, class) {
                 Some(next) => {
-                    self.bar_planned(&mut bars, *fragment, &next);
+                    self.bar_planned(&mut bars, class, &next);
                     seats[i] = Seat {
                         node: next.node.number,
                         slot: next.slot,
@@ -59,22 +69,23 @@ impl Store {
                 None => return Err(*fragment),
             }
         }
-        Ok(seats)
+        Ok(())
     }
 
-    /// Takes the seats that were chosen for the fragments of a new stripe, and adds the stripe with them as homes.
-    pub(crate) fn place(&mut self, stripe: StripeNo, seats: &[Seat; 16])
+    /// Takes the seats that were chosen for the fragments of a new stripe of the code, and adds the stripe with them as
+    /// homes.
+    pub(crate) fn place(&mut self, code: Code, stripe: StripeNo, seats: &[Seat])
         ghost st: { State }
         requires kept { IsOf st self.old }
         requires room { has_room self.old ≡ true }
-        requires told { (place_outcome self.old.topology st Wide stripe).0 ≡ Placed seats.now }
+        requires told { (place_outcome self.old.topology st code stripe).0 ≡ placed_reply code seats.now }
         ensures nodes { self.new.topology ≡ self.old.topology }
-        ensures kept { IsOf (with_placed st stripe seats.now) self.new }
+        ensures kept { IsOf (with_placed st code stripe seats.now) self.new }
     {
         for seat in seats.iter() {
             self.table.take_slot(seat.node, seat.slot);
         }
-        self.stripes.add_with_homes(stripe, seats);
+        self.stripes.add_with_homes(code, stripe, seats);
     }
 
     #[tactic(auto, unfolding(crate::specs::Steps::drop_outcome))]

@@ -1,6 +1,8 @@
 //! Laws of leases: which are granted, what they are, and how they end.
 
-ghost use Rattle.std.specs.Prelude.{◌≡◌, ◌≢◌, ◌↔◌, ◌⊎◌, ℕ, ◌+◌, ◌<◌, IsTrue, IsFalse, IsSome, IsSomeAnd, List, [], ◌∷◌, ◌++◌, Contains, count_by, nat_eq, Some, None};
+ghost use Rattle.std.specs.Prelude.{◌≡◌, ◌≢◌, ◌↔◌, ◌⊎◌, ℕ, ◌+◌, ◌<◌, ◌≤◌, IsTrue, IsFalse, IsSome, IsSomeAnd, List, [], ◌∷◌, ◌++◌, Contains, count_by, nat_eq, Some, None};
+ghost use Rattle.lrc_code.specs.declared.codes.Code.TheVariants.{Wide, Narrow};
+ghost use Rattle.lrc_code.specs.Codes.{fragment_count};
 ghost use Rattle.lrc_code.specs.declared.numbers.StripeNo.{StripeNo};
 ghost use Rattle.lrc_code.specs.declared.numbers.Fragment.{Fragment};
 ghost use Rattle.lrc_topology.specs.declared.NodeInfo.{NodeInfo};
@@ -14,7 +16,7 @@ ghost use Rattle.lrc_book.specs.declared.command.Command.TheVariants.{Lease, Don
 ghost use Rattle.lrc_book.specs.declared.reply.Reply.TheVariants.{Granted, Ended, Refused, Ticked};
 ghost use Rattle.lrc_book.specs.declared.refusal.Refusal.TheVariants as refusal;
 ghost use Rattle.lrc_book.specs.declared.kind.Kind.{Kind};
-ghost use Rattle.lrc_book.specs.declared.kind.Kind.TheVariants.{Local, Global, Move};
+ghost use Rattle.lrc_book.specs.declared.kind.Kind.TheVariants.{Local, Local3, Global, Move};
 ghost use Rattle.lrc_stripes.specs.Levels.{homes_of};
 ghost use Rattle.lrc_leases.specs.declared.lease.Lease.{Lease as LeaseRecord};
 ghost use Rattle.lrc_book.specs.Leases.{grants, ticks, new_lease};
@@ -23,9 +25,10 @@ ghost use Rattle.lrc_book.specs.Granting.{IsOwed};
 ghost use Rattle.lrc_book.specs.Reporting.{IsReported};
 ghost use Rattle.lrc_book.specs.Endings.{IsWithoutLease, IsLeftAlone};
 ghost use Rattle.lrc_book.specs.Steps.{step};
-ghost use Rattle.lrc_book.specs.States.{State, has_stripe, held_by, seats_of, lease_of, online_at};
+ghost use Rattle.lrc_book.specs.States.{State, has_stripe, code_of, held_by, seats_of, lease_of, online_at};
 ghost use Rattle.lrc_book.specs.Histories.{IsLegal, world_after, state_after};
 ghost use Rattle.lrc_book.specs.Choices.{IsFitting, IsChoice};
+ghost use Rattle.lrc_book.specs.Goodness.{AreSeated};
 
 /// Lease is answered with a lease exactly where the fragment is owed one and a seat is chosen for it: the lease is then
 /// the session's on this seat. Each refusal is told exactly where what it says is so, and none before it.
@@ -69,15 +72,34 @@ pub fn a_grant_is_the_lease()
 {}
 
 /// A fragment is copied from its own home exactly where that is online. Else it is rebuilt from its local group exactly
-/// where it is of one and no other of its class is missing. The sources are then the six others of its class, rising.
-/// Every other fragment is rebuilt from the whole stripe.
+/// where it is of one and no other of its class is missing. The sources are then the others of its class, rising: six in
+/// a stripe of the code `Wide`, three in one of the code `Narrow`. Every other fragment is rebuilt from the whole stripe.
 pub fn kinds_in_words()
     ensures own { (nodes : List NodeInfo) (st : State) (s : StripeNo) (f : Fragment)
         → (kind nodes st s f ≡ Move) ↔ IsAtHome nodes st s f }
     ensures local { (nodes : List NodeInfo) (st : State) (s : StripeNo) (f : Fragment) (sources : List Fragment)
-        → (kind nodes st s f ≡ Local sources) ↔ IsFromItsGroup nodes st s f sources }
+        → (kind nodes st s f ≡ Local sources) ↔ ((code_of st s ≡ Wide) × IsFromItsGroup nodes st s f sources) }
+    ensures local3 { (nodes : List NodeInfo) (st : State) (s : StripeNo) (f : Fragment) (sources : List Fragment)
+        → (kind nodes st s f ≡ Local3 sources) ↔ ((code_of st s ≡ Narrow) × IsFromItsGroup nodes st s f sources) }
     ensures global { (nodes : List NodeInfo) (st : State) (s : StripeNo) (f : Fragment)
         → (kind nodes st s f ≡ Global) ↔ ((¬ (IsAtHome nodes st s f)) × ((sources : List Fragment) → ¬ (IsFromItsGroup nodes st s f sources))) }
+{}
+
+/// In a state whose stripes are seated, what a session asks of a fragment that the code of a stripe that is there lacks is
+/// refused: it needs no lease, and it has none.
+pub fn lacking_fragments_are_refused()
+    ensures lease { (nodes : List NodeInfo) (past : List Entry) (st : State) (session : SessionNo) (s : StripeNo) (f : Fragment)
+        → AreSeated nodes st → IsTrue (has_stripe st s) → fragment_count (code_of st s) ≤ f.value
+        → (step nodes past st session (Lease s f)).0 ≡ Refused refusal.NotNeeded }
+    ensures done { (nodes : List NodeInfo) (past : List Entry) (st : State) (session : SessionNo) (s : StripeNo) (f : Fragment) (e : ℕ)
+        → AreSeated nodes st → IsTrue (has_stripe st s) → fragment_count (code_of st s) ≤ f.value
+        → (step nodes past st session (Done s f e)).0 ≡ Refused refusal.Stale }
+    ensures abandon { (nodes : List NodeInfo) (past : List Entry) (st : State) (session : SessionNo) (s : StripeNo) (f : Fragment) (e : ℕ)
+        → AreSeated nodes st → IsTrue (has_stripe st s) → fragment_count (code_of st s) ≤ f.value
+        → (step nodes past st session (Abandon s f e)).0 ≡ Refused refusal.Stale }
+    ensures revoke { (nodes : List NodeInfo) (past : List Entry) (st : State) (session : SessionNo) (s : StripeNo) (f : Fragment)
+        → AreSeated nodes st → IsTrue (has_stripe st s) → fragment_count (code_of st s) ≤ f.value
+        → (step nodes past st session (Revoke s f)).0 ≡ Refused refusal.NoLease }
 {}
 
 /// Lease, Done, Abandon and Revoke of one fragment leave the lease of every other fragment as it was.

@@ -1,8 +1,9 @@
 //! Laws of the order of repair: what needs a lease, and what comes first.
 
-ghost use Rattle.std.specs.Prelude.{◌≡◌, ◌≢◌, ◌↔◌, ◌⊎◌, IsTrue, IsSome, List, AllPairs, Contains, Some, None};
+ghost use Rattle.std.specs.Prelude.{◌≡◌, ◌≢◌, ◌↔◌, ◌⊎◌, ◌<◌, IsTrue, IsSome, List, AllPairs, Contains, Some, None};
 ghost use Rattle.lrc_code.specs.declared.numbers.StripeNo.{StripeNo};
 ghost use Rattle.lrc_code.specs.declared.numbers.Fragment.{Fragment};
+ghost use Rattle.lrc_code.specs.Codes.{fragment_count};
 ghost use Rattle.lrc_topology.specs.declared.NodeInfo.{NodeInfo};
 ghost use Rattle.lrc_topology.specs.declared.seat.Seat.{Seat};
 ghost use Rattle.lrc_topology.specs.Nodes.{node_at};
@@ -22,15 +23,17 @@ ghost use Rattle.lrc_book.specs.Repairs.{needs};
 ghost use Rattle.lrc_book.specs.Urgency.{work, risk};
 ghost use Rattle.lrc_book.specs.Granting.{IsGrantable, IsMoreUrgent, IsMostUrgent};
 ghost use Rattle.lrc_book.specs.Steps.{step};
-ghost use Rattle.lrc_book.specs.States.{State, has_stripe, mode_of, rank, level, level_shown};
+ghost use Rattle.lrc_book.specs.States.{State, has_stripe, code_of, mode_of, rank, level, level_shown};
 ghost use Rattle.lrc_book.specs.Goodness.{AreSeated};
 
-/// A fragment needs a lease exactly where it has no home, or its home is on a draining node of the store.
+/// A fragment needs a lease exactly where the stripe's code has it, and it has no home, or its home is on a draining node
+/// of the store.
 pub fn needs_in_words()
     ensures { (nodes : List NodeInfo) (st : State) (s : StripeNo) (f : Fragment)
         → IsTrue (needs nodes st s f)
-        ↔ ((homes_of st.homes s f.value ≡ None)
-        ⊎ ((seat : Seat) × (homes_of st.homes s f.value ≡ Some seat) × IsSome (node_at nodes seat.node) × (mode_of st seat.node ≡ Draining))) }
+        ↔ ((f.value < fragment_count (code_of st s))
+        × ((homes_of st.homes s f.value ≡ None)
+        ⊎ ((seat : Seat) × (homes_of st.homes s f.value ≡ Some seat) × IsSome (node_at nodes seat.node) × (mode_of st seat.node ≡ Draining)))) }
 {}
 
 /// The rank by which a stripe stands in the order of repair is the one that its level shows.

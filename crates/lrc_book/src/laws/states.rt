@@ -2,6 +2,7 @@
 //! is answered of them.
 
 ghost use Rattle.std.specs.Prelude.{◌≡◌, ◌≢◌, ◌↔◌, ◌⊎◌, ℕ, ◌+◌, ◌<◌, ◌≤◌, Bool, IsTrue, IsFalse, IsSome, List, [], AllPairs, Contains, count_by, length, get_or, Option, Some, None};
+ghost use Rattle.lrc_code.specs.declared.codes.Code.{Code};
 ghost use Rattle.lrc_code.specs.declared.losses.LossMask.{LossMask};
 ghost use Rattle.lrc_code.specs.declared.numbers.StripeNo.{StripeNo};
 ghost use Rattle.lrc_code.specs.declared.numbers.NodeNo.{NodeNo};
@@ -20,7 +21,7 @@ ghost use Rattle.lrc_leases.specs.declared.lease.Lease.{Lease as LeaseRecord};
 ghost use Rattle.lrc_leases.specs.Leased.{AreOneEach};
 ghost use Rattle.lrc_book.specs.declared.mode.Mode.{Mode};
 ghost use Rattle.lrc_book.specs.declared.mode.Mode.TheVariants.{Active};
-ghost use Rattle.lrc_book.specs.States.{State, opening, has_stripe, code_of, load, lease_of, mode_of, is_down, online_at, homeless, missing, level, homes_shown, load_shown, level_shown, missing_shown, mode_shown};
+ghost use Rattle.lrc_book.specs.States.{State, opening, has_stripe, code_of, load, lease_of, mode_of, is_down, online_at, homeless, missing, level, code_shown, homes_shown, load_shown, level_shown, missing_shown, mode_shown};
 ghost use Rattle.lrc_book.specs.Goodness.{AreSeated};
 ghost use Rattle.lrc_book.specs.Histories.{state_after};
 
@@ -60,7 +61,8 @@ pub fn loads_in_words()
 
 /// A fragment of the stripe's code is homeless exactly where the state has no home of it. It is missing exactly where that
 /// is so, or its home is on a node that is not online. In a state whose stripes are seated that home is the only one that
-/// the state has of it. No number but those of the code's fragments is homeless or missing.
+/// the state has of it. No number but those of the code's fragments is homeless or missing, and in a state whose stripes are
+/// seated none has a home or a lease.
 pub fn missing_fragments_in_words()
     ensures homeless { (st : State) (s : StripeNo) (f : Fragment)
         → IsTrue (homeless st s f.value)
@@ -79,6 +81,8 @@ pub fn missing_fragments_in_words()
         × ((seat : Seat) × Contains st.homes (record { stripe = s; fragment = f; seat = seat }) × IsFalse (online_at nodes st seat.node)))) }
     ensures no_other { (nodes : List NodeInfo) (st : State) (s : StripeNo) (f : ℕ)
         → fragment_count (code_of st s) ≤ f → IsFalse (homeless st s f) × IsFalse (missing nodes st s f) }
+    ensures none_beyond { (nodes : List NodeInfo) (st : State) (s : StripeNo) (f : Fragment)
+        → AreSeated nodes st → fragment_count (code_of st s) ≤ f.value → (homes_of st.homes s f.value ≡ None) × (lease_of st s f ≡ None) }
 {}
 
 /// A stripe is lost exactly where its homeless fragments are not recoverable. Else it is unavailable exactly where its
@@ -98,8 +102,8 @@ pub fn levels_in_words()
         ↔ (IsRecoverable (code_of st s) (homeless st s) × NoneMissing (code_of st s) (missing nodes st s)) }
 {}
 
-/// What is answered of a stripe that is there is its level, the mask of its missing fragments, and the seats of its
-/// fragments by the sixteen numbers; of any other stripe nothing is answered. What is answered of a node of the store is
+/// What is answered of a stripe that is there is its level, its code, the mask of its missing fragments, and the seats of
+/// its fragments by the sixteen numbers; of any other stripe nothing is answered. What is answered of a node of the store is
 /// its mode, whether it is online, and its load; of any other number nothing is.
 pub fn answers_in_words()
     ensures level { (nodes : List NodeInfo) (st : State) (s : StripeNo) (l : Level)
@@ -108,6 +112,8 @@ pub fn answers_in_words()
     ensures missing { (nodes : List NodeInfo) (st : State) (s : StripeNo) (m : LossMask)
         → (missing_shown nodes st s ≡ Some m)
         ↔ (IsTrue (has_stripe st s) × ((f : ℕ) → bits_set m.bits f ≡ missing nodes st s f)) }
+    ensures code { (st : State) (s : StripeNo) (c : Code) → (code_shown st s ≡ Some c) ↔ (IsTrue (has_stripe st s) × (code_of st s ≡ c)) }
+    ensures no_code { (st : State) (s : StripeNo) → (code_shown st s ≡ None) ↔ IsFalse (has_stripe st s) }
     ensures no_missing { (nodes : List NodeInfo) (st : State) (s : StripeNo) → (missing_shown nodes st s ≡ None) ↔ IsFalse (has_stripe st s) }
     ensures homes { (st : State) (s : StripeNo) (seats : List (Option Seat))
         → (homes_shown st s ≡ Some seats)

@@ -1,6 +1,6 @@
 use Rattle.std.proofs.Common.{ap}
 use Rattle.lrc_book.specs.Outcomes.{Outcome}
-use Rattle.lrc_book.proofs.ThereLemmas.{there-dropped, absent-unknown, unknown-absent, stripes-left, homes-left, leases-left, rest-left}
+use Rattle.lrc_book.proofs.ThereLemmas.{there-dropped, absent-unknown, unknown-absent, stripes-left, codes-left, homes-left, leases-left, rest-left}
 use Rattle.lrc_book.proofs.ToldLemmas.{drop-told}
 use Rattle.lrc_book.proofs.laws.placing.dropped_stripes_leave_nothing.Goals as goal
 
@@ -12,6 +12,9 @@ returns-clause-unknown c = λ nodes past st session s. (unknown-absent st s, abs
 
 pub returns-clause-stripes : goal.returns-clause-stripes
 returns-clause-stripes c = λ nodes past st session s r. stripes-left st s r
+
+pub returns-clause-codes : goal.returns-clause-codes
+returns-clause-codes c = λ nodes past st session s r. codes-left st s r
 
 pub returns-clause-homes : goal.returns-clause-homes
 returns-clause-homes c = λ nodes past st session s h. homes-left st s h

@@ -1,8 +1,16 @@
-use Rattle.lrc_book.proofs.PlacedHomesLemmas.{place-homes, place-others}
+use Rattle.std.proofs.Common.{◌≡◌, sym, subst}
+use Rattle.lrc_book.specs.Outcomes.{Outcome}
+use Rattle.lrc_book.specs.States.{homes_shown}
+use Rattle.lrc_book.proofs.StepLemmas.{place-step}
+use Rattle.lrc_book.proofs.PlacedHomesLemmas.{told-wide, told-narrow, place-others}
 use Rattle.lrc_book.proofs.laws.placing.placed_seats_are_the_homes.Goals as goal
 
 pub returns-clause-told : goal.returns-clause-told
-returns-clause-told c = λ nodes past st session s seats seated told. place-homes nodes st s past session seats seated told
+returns-clause-told c = λ nodes past st session s seats seated told. told-wide nodes st s seats seated told
+
+pub returns-clause-told6 : goal.returns-clause-told6
+returns-clause-told6 c = λ nodes past st session s seats seated told. told-narrow nodes st s seats seated told
 
 pub returns-clause-others : goal.returns-clause-others
-returns-clause-others c = λ nodes past st session s r other. place-others nodes st s r other
+returns-clause-others c = λ nodes past st session code s r other.
+    subst (λ (o : Outcome). homes_shown o.1 r ≡ homes_shown st r) (sym (place-step nodes past st session code s)) (place-others nodes st code s r other)

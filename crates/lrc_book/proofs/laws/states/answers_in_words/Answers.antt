@@ -1,4 +1,4 @@
-use Rattle.lrc_book.proofs.LookLemmas.{level-told, level-untold, missing-told, missing-untold, homes-told, homes-untold, mode-told, mode-untold, load-told, load-untold}
+use Rattle.lrc_book.proofs.LookLemmas.{level-told, level-untold, code-told, code-untold, missing-told, missing-untold, homes-told, homes-untold, mode-told, mode-untold, load-told, load-untold}
 use Rattle.lrc_book.proofs.laws.states.answers_in_words.Goals as goal
 
 pub returns : goal.returns
@@ -7,6 +7,8 @@ returns c = record {
   no_level = level-untold;
   missing = missing-told;
   no_missing = missing-untold;
+  code = code-told;
+  no_code = code-untold;
   homes = homes-told;
   no_homes = homes-untold;
   mode = mode-told;

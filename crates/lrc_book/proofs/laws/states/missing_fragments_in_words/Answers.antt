@@ -1,5 +1,5 @@
 use Rattle.std.proofs.Common.{inl, inr}
-use Rattle.lrc_book.proofs.StateLemmas.{homeless-words, words-homeless, missing-words, words-missing, found-home, home-found, held_on, none-beyond}
+use Rattle.lrc_book.proofs.StateLemmas.{homeless-words, words-homeless, missing-words, words-missing, found-home, home-found, held_on, none-beyond, held-beyond}
 use Rattle.lrc_book.proofs.laws.states.missing_fragments_in_words.Goals as goal
 
 pub returns : goal.returns
@@ -18,4 +18,5 @@ returns c = record {
     ],
   );
   no_other = none-beyond;
+  none_beyond = held-beyond;
 }

@@ -15,28 +15,28 @@ use Rattle.lrc_book.proofs.KnownSeatLemmas.{IsKnown, target-known}
 use Rattle.lrc_book.proofs.store.Store.bar_targets.Goals as goal
 
 pub returns-then-bits-eq0 : goal.returns-then-bits-eq0
-returns-then-bits-eq0 c = λ st seats kept are.
+returns-then-bits-eq0 c = λ st code seats kept mates are.
     let s = c.args.stripe in
     let nodes = c.args.self.now.topology in
     let none = none-leased st c.args.self.now kept s c.leased-leased.result.bits (sym c.bits.ensures ∙ c.if-bits-eq0.true) c.leased-leased.ensures in
     are
-    ∙ ap (bars_in nodes Wide s c.args.fragment) (sym (append-nil seats)
+    ∙ ap (bars_in nodes code s c.args.fragment) (sym (append-nil seats)
     ∙ ap (λ (hs : List Held). seats ++ hs)
     (sym (held_all-none s (target_at st s) (λ f. ap (option_map (λ (l : Lease). l.target)) (none f)) (fragments Wide))))
-    ∙ targets-all nodes st s kept.seated c.args.fragment seats
+    ∙ targets-all nodes st s kept.seated code c.args.fragment seats
 
 pub bar_seat-requires : goal.bar_seat-requires
 bar_seat-requires c =
-    let other = get_or c.all.result c.loop-other.other-index c.other-item.result in record {
-      mate = c.mates_of-mates.ensures other;
+    let other = get_or c.all.result c.loop-other.other-index c.other-item.result in
+    record {
       known = subst (λ (o : Option Seat). IfSome o (IsKnown c.args.self.now)) (sym c.target-target.ensures)
           (target-known c.requires.0 c.args.self.now c.requires.1 c.args.stripe other _ refl);
     }
 
 pub loop-other-init : goal.loop-other-init
 loop-other-init c = record {
-  barred_are = λ st seats kept are.
-      are ∙ ap (bars_in c.args.self.now.topology Wide c.args.stripe c.args.fragment) (sym (append-nil seats));
+  barred_are = λ st code seats kept mates are.
+      are ∙ ap (bars_in c.args.self.now.topology code c.args.stripe c.args.fragment) (sym (append-nil seats));
   all = c.all.ensures;
 }
 
@@ -48,20 +48,20 @@ loop-other-preserved c =
     let nodes = c.args.self.now.topology in
     let long : length c.all.result ≡ 16 = rw c.loop-other.invariant.all refl in
     let other = get_or c.all.result i c.other-item.result in record {
-      barred_are = λ st seats kept are.
-          c.bar_seat.ensures st s kept
-          ∙ ap₂ (λ (b : Barred) (o : Option Seat). with_seat nodes s f b other o) (c.loop-other.invariant.barred_are st seats kept are)
+      barred_are = λ st code seats kept mates are.
+          c.bar_seat.ensures st code s kept mates
+          ∙ ap₂ (λ (b : Barred) (o : Option Seat). with_seat nodes code s f b other o) (c.loop-other.invariant.barred_are st code seats kept mates are)
           (c.target-target.ensures ∙ ap (option_map (λ (l : Lease). l.target)) (lease-kept st c.args.self.now kept s other))
-          ∙ held_all-more s (target_at st s) nodes f seats c.all.result i c.other-item.result (omega (arith, long));
+          ∙ held_all-more s (target_at st s) nodes code f seats c.all.result i c.other-item.result (omega (arith, long));
       all = c.loop-other.invariant.all;
     }
 
 pub returns : goal.returns
-returns c = λ st seats kept are.
+returns c = λ st code seats kept mates are.
     let i = c.loop-other.other-index in
     let s = c.args.stripe in
     let nodes = c.args.self.now.topology in
     let whole : take i c.all.result ≡ fragments Wide = ap (take i) c.loop-other.invariant.all ∙ take_all i (fragments Wide) (omega arith) in
-    c.loop-other.invariant.barred_are st seats kept are
-    ∙ ap (λ (fs : List Fragment). bars_in nodes Wide s c.args.fragment (seats ++ held_all s (target_at st s) fs)) whole
-    ∙ targets-all nodes st s kept.seated c.args.fragment seats
+    c.loop-other.invariant.barred_are st code seats kept mates are
+    ∙ ap (λ (fs : List Fragment). bars_in nodes code s c.args.fragment (seats ++ held_all s (target_at st s) fs)) whole
+    ∙ targets-all nodes st s kept.seated code c.args.fragment seats

@@ -1,9 +1,13 @@
 use Rattle.std.proofs.Common.{sym, ◌∙◌}
-use Rattle.lrc_book.proofs.ClearLemmas.{clear-taken, clear-kept, clear-none}
+use Rattle.lrc_book.proofs.ClearLemmas.{own-kept, clear-taken, clear-kept, clear-none}
 use Rattle.lrc_book.proofs.store.Store.clear_home.Goals as goal
 
 pub free-requires : goal.free-requires
 free-requires c = clear-taken c.requires.tied.0 c.args.self.now c.requires.tied.1 c.args.stripe c.args.fragment c.in-Some.seat (sym c.home.ensures ∙ c.in-Some.is)
+
+pub clear_home-requires-clause-code : goal.clear_home-requires-clause-code
+clear_home-requires-clause-code c =
+    own-kept c.requires.tied.0 c.args.self.now c.requires.tied.1 c.args.stripe c.args.fragment c.in-Some.seat (sym c.home.ensures ∙ c.in-Some.is)
 
 pub returns-in-Some-clause-kept : goal.returns-in-Some-clause-kept
 returns-in-Some-clause-kept c = λ st kept.

@@ -2,6 +2,7 @@ use Rattle.std.proofs.Common.{sym, ap, ◌∙◌}
 use Rattle.lrc_stripes.specs.Stored.{Stored}
 use Rattle.lrc_book.proofs.EndLemmas.{lease-kept}
 use Rattle.lrc_book.proofs.LeaseReplyLemmas.{lease-absent, lease-again, lease-unneeded, lease-lost, lease-new}
+use Rattle.lrc_book.proofs.UrgencyLemmas.{needs-own}
 use Rattle.lrc_book.proofs.store.Store.lease_reply.Goals as goal
 
 pub returns-then-not-contains : goal.returns-then-not-contains
@@ -26,7 +27,8 @@ returns-in-Some-repair_kind c = λ st past kept counted.
     let there = sym (ap (λ (x : Stored). x.stripes c.args.stripe) kept.stripes_is) ∙ sym c.contains.ensures ∙ c.if-not-contains.false in
     let none = sym (lease-kept st c.args.self.now kept c.args.stripe c.args.fragment) ∙ sym c.lease.ensures.value ∙ c.in_default.is in
     let needed = sym (c.contains-2.ensures ∙ c.needs.ensures st c.args.fragment kept) ∙ c.if-not-contains-2.false in
-    let new = lease-new c.args.self.now.topology past st c.args.session c.args.stripe c.args.fragment there none c.in-Some-repair_kind.kind needed (sym (c.repair_kind.ensures st kept) ∙ c.in-Some-repair_kind.is) in
+    let own = needs-own c.args.self.now.topology st c.args.stripe c.args.fragment needed in
+    let new = lease-new c.args.self.now.topology past st c.args.session c.args.stripe c.args.fragment there none c.in-Some-repair_kind.kind needed (sym (c.repair_kind.ensures st kept own) ∙ c.in-Some-repair_kind.is) in
     c.grant_reply.ensures st past kept counted new.1 ∙ sym new.0
 
 pub returns-in-None : goal.returns-in-None
@@ -34,4 +36,5 @@ returns-in-None c = λ st past kept counted.
     let there = sym (ap (λ (x : Stored). x.stripes c.args.stripe) kept.stripes_is) ∙ sym c.contains.ensures ∙ c.if-not-contains.false in
     let none = sym (lease-kept st c.args.self.now kept c.args.stripe c.args.fragment) ∙ sym c.lease.ensures.value ∙ c.in_default.is in
     let needed = sym (c.contains-2.ensures ∙ c.needs.ensures st c.args.fragment kept) ∙ c.if-not-contains-2.false in
-    sym (lease-lost c.args.self.now.topology past st c.args.session c.args.stripe c.args.fragment there none needed (sym (c.repair_kind.ensures st kept) ∙ c.in-None.is))
+    let own = needs-own c.args.self.now.topology st c.args.stripe c.args.fragment needed in
+    sym (lease-lost c.args.self.now.topology past st c.args.session c.args.stripe c.args.fragment there none needed (sym (c.repair_kind.ensures st kept own) ∙ c.in-None.is))

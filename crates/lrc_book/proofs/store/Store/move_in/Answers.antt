@@ -1,4 +1,5 @@
 use Rattle.std.proofs.Common.{◌≡◌, true, false, Option, Some, None, IsTrue, sym, ap, subst, ◌∙◌}
+use Rattle.lrc_code.specs.Codes.{has_fragment}
 use Rattle.lrc_leases.specs.declared.lease.Lease.{Lease}
 use Rattle.lrc_leases.specs.Tables.{leased_in}
 use Rattle.lrc_leases.specs.Leased as leased
@@ -11,7 +12,7 @@ use Rattle.lrc_book.specs.States.{lease_of}
 use Rattle.lrc_book.specs.Leases.{moved_in}
 use Rattle.lrc_book.specs.Changes.{with_done}
 use Rattle.lrc_book.specs.Stores.{IsOf}
-use Rattle.lrc_book.proofs.EndLemmas.{lease-kept, move-slot, move-unused, move-kept}
+use Rattle.lrc_book.proofs.EndLemmas.{lease-kept, move-own, move-slot, move-unused, move-kept}
 use Rattle.lrc_book.proofs.store.Store.move_in.Goals as goal
 
 pub free_home-requires : goal.free_home-requires
@@ -28,6 +29,7 @@ put_home-requires g c =
     ∙ ap (λ (x : Store). (leased_in x.leases).leases s f.value) same ∙ sym c.remove.ensures.value ∙ c.in-Some.is in
     record {
       stripe = subst (λ (x : Store). IsTrue ((stored_in x.stripes).stripes s)) same (ap (λ (x : Stored). x.stripes s) c.requires.0.stripes_is ∙ c.requires.1.0);
+      code = subst (λ (x : Store). IsTrue (has_fragment ((stored_in x.stripes).code s) f.value)) same (move-own g.st k c.requires.0 s f lease live);
       slot = subst (λ (x : Store). IsTrue (has_slot (stored_in x.stripes).nodes lease.target)) same (move-slot g.st k c.requires.0 s f lease live);
       unused = subst (λ (x : Store). HasNoHome (stored_in x.stripes) lease.target) same (move-unused g.st k c.requires.0 s f lease live);
     }

@@ -7,7 +7,7 @@ use Rattle.lrc_stripes.specs.Tables.{stored_in}
 use Rattle.lrc_book.specs.declared.repair.Repair.{Repair}
 use Rattle.lrc_book.specs.Urgency.{is_grantable}
 use Rattle.lrc_book.specs.Repairing.{fragment_of, HaveGrantable}
-use Rattle.lrc_book.proofs.UrgencyLemmas.{fragments_in, find-turn, next-first}
+use Rattle.lrc_book.proofs.UrgencyLemmas.{fragments_in, grantable-turn, next-first}
 use Rattle.lrc_book.proofs.NoRoomLemmas.{no-next}
 use Rattle.lrc_book.proofs.store.Store.next_repair.Goals as goal
 
@@ -35,8 +35,8 @@ returns-in-Some-first_repair-clause-first c = λ st kept ahead.
     let test = is_grantable c.args.self.now.topology st in
     let rest = c.next.new.self in
     sym (
-    c.loop-stripe.invariant.1 st kept ahead ∙ ap (λ (left : List StripeNo). find test (fragments_in left)) c.in-Some.ensures.steps ∙ find-turn test c.in-Some.stripe rest
-    ∙ ap (λ (o : Option StripeFragment). option_or o (find test (fragments_in rest))) (sym (c.first_repair.ensures.first st kept) ∙ ap (λ (o : Option Repair). option_map fragment_of o) c.in-Some-first_repair.is)
+    c.loop-stripe.invariant.1 st kept ahead ∙ ap (λ (left : List StripeNo). find test (fragments_in st left)) c.in-Some.ensures.steps ∙ grantable-turn c.args.self.now.topology st c.in-Some.stripe rest
+    ∙ ap (λ (o : Option StripeFragment). option_or o (find test (fragments_in st rest))) (sym (c.first_repair.ensures.first st kept) ∙ ap (λ (o : Option Repair). option_map fragment_of o) c.in-Some-first_repair.is)
     )
 
 pub loop-stripe-preserved : goal.loop-stripe-preserved
@@ -46,6 +46,6 @@ loop-stripe-preserved c =
       λ k d within. there (suc k) d (omega (arith, within)),
       λ st kept ahead.
           let test = is_grantable c.args.self.now.topology st in
-          c.loop-stripe.invariant.1 st kept ahead ∙ ap (λ (left : List StripeNo). find test (fragments_in left)) c.in-Some.ensures.steps ∙ find-turn test c.in-Some.stripe rest
-          ∙ ap (λ (o : Option StripeFragment). option_or o (find test (fragments_in rest))) (sym (c.first_repair.ensures.first st kept) ∙ ap (λ (o : Option Repair). option_map fragment_of o) c.in_default.is),
+          c.loop-stripe.invariant.1 st kept ahead ∙ ap (λ (left : List StripeNo). find test (fragments_in st left)) c.in-Some.ensures.steps ∙ grantable-turn c.args.self.now.topology st c.in-Some.stripe rest
+          ∙ ap (λ (o : Option StripeFragment). option_or o (find test (fragments_in st rest))) (sym (c.first_repair.ensures.first st kept) ∙ ap (λ (o : Option Repair). option_map fragment_of o) c.in_default.is),
     )

@@ -12,4 +12,4 @@ use Rattle.lrc_book.proofs.store.Store.next_repair.Given as goal
 abbrev pub invariant-loop-stripe : goal.invariant-loop-stripe
 invariant-loop-stripe l =
     All (λ s. IsTrue ((stored_in l.self.stripes).stripes s)) l.stripe-iterator
-    × ((st : State) → IsOf st l.self → IsFront l.self.topology st l.fn.front → next_of l.self.topology st ≡ find (is_grantable l.self.topology st) (fragments_in l.stripe-iterator))
+    × ((st : State) → IsOf st l.self → IsFront l.self.topology st l.fn.front → next_of l.self.topology st ≡ find (is_grantable l.self.topology st) (fragments_in st l.stripe-iterator))

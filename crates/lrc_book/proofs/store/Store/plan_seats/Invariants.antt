@@ -1,5 +1,4 @@
 use Rattle.std.proofs.Common.{◌≡◌, ◌++◌, false, List, drop, take, length}
-use Rattle.lrc_code.specs.declared.codes.Code.TheVariants.{Wide}
 use Rattle.lrc_code.specs.declared.numbers.Fragment.{Fragment}
 use Rattle.lrc_code.specs.Codes.{fragments}
 use Rattle.lrc_topology.specs.declared.seat.Seat.{Seat}
@@ -16,14 +15,14 @@ abbrev pub invariant-loop-i : goal.invariant-loop-i
 invariant-loop-i l = record {
   chosen : (st : State) → IsOf st l.self → has_stripe st l.fn.stripe ≡ false → (rest : List Seat)
       → AreChosen l.self.topology
-      (with_homes (with_stripe st Wide l.fn.stripe) (planned_to l.fn.stripe l.fragment-items l.seats l.i)) l.fn.stripe
+      (with_homes (with_stripe st l.code l.fn.stripe) (planned_to l.fn.stripe l.fragment-items l.seats l.i)) l.fn.stripe
       (drop l.i l.fragment-items) rest
-      → AreChosen l.self.topology (with_stripe st Wide l.fn.stripe) l.fn.stripe l.fragment-items (take l.i l.seats ++ rest);
+      → AreChosen l.self.topology (with_stripe st l.code l.fn.stripe) l.fn.stripe l.fragment-items (take l.i l.seats ++ rest);
   first : (st : State) → IsOf st l.self → has_stripe st l.fn.stripe ≡ false → (f : Fragment)
       → IsFirstWithout l.self.topology
-      (with_homes (with_stripe st Wide l.fn.stripe) (planned_to l.fn.stripe l.fragment-items l.seats l.i)) l.fn.stripe (drop l.i l.fragment-items) f
-      → IsFirstWithout l.self.topology (with_stripe st Wide l.fn.stripe) l.fn.stripe l.fragment-items f;
-  bars : (st : State) → IsOf st l.self → AreBarsOf l.self.topology st.upgrading (planned_to l.fn.stripe l.fragment-items l.seats l.i) l.bars;
-  all : l.fragment-items ≡ fragments Wide;
+      (with_homes (with_stripe st l.code l.fn.stripe) (planned_to l.fn.stripe l.fragment-items l.seats l.i)) l.fn.stripe (drop l.i l.fragment-items) f
+      → IsFirstWithout l.self.topology (with_stripe st l.code l.fn.stripe) l.fn.stripe l.fragment-items f;
+  bars : (st : State) → IsOf st l.self → AreBarsOf l.self.topology l.code st.upgrading (planned_to l.fn.stripe l.fragment-items l.seats l.i) l.bars;
+  all : l.fragment-items ≡ fragments l.code;
   seats : length l.seats ≡ 16;
 }

@@ -1,10 +1,10 @@
-use Rattle.std.proofs.Common.{[], ap, ◌∙◌, map}
+use Rattle.std.proofs.Common.{[], ap, subst, ◌∙◌, map}
 use Rattle.lrc_slots.specs.Slots.{Slots}
 use Rattle.lrc_slots.specs.Barred.{Barred, joined}
-use Rattle.lrc_code.specs.declared.codes.Code.TheVariants.{Wide}
-use Rattle.lrc_book.specs.States.{held_by}
+use Rattle.lrc_code.specs.declared.codes.Code.{Code}
+use Rattle.lrc_book.specs.States.{code_of, held_by}
 use Rattle.lrc_book.specs.Ties.{bars_in, bars_of, next_seat}
-use Rattle.lrc_book.specs.Stores.{kept_table, closed}
+use Rattle.lrc_book.specs.Stores.{kept_table, closed, AreMates}
 use Rattle.lrc_book.specs.Neighbouring.{barred_by}
 use Rattle.lrc_book.proofs.ClosedLemmas.{closed-seat}
 use Rattle.lrc_book.proofs.NeighbourLemmas.{homes-beside}
@@ -16,9 +16,11 @@ returns c = λ st kept.
     let nodes = c.args.self.now.topology in
     let s = c.args.stripe in
     let f = c.args.fragment in
-    let homes = bars_in nodes Wide s f st.homes in
-    let more = c.bar_upgrading.ensures st kept ∙ ap (closed st.upgrading) (c.bar_targets.ensures st [] kept c.new-more.ensures) in
-    let beside = c.neighbours.ensures st kept ∙ ap (λ (b : Barred). joined b homes) more ∙ homes-beside nodes s f st.upgrading st.homes (map held_by st.leases) in
+    let code = code_of st s in
+    let mates = subst (λ (own : Code). AreMates own f c.mates_of-mates.result) (c.code_of.ensures st kept) c.mates_of-mates.ensures in
+    let homes = bars_in nodes code s f st.homes in
+    let more = c.bar_upgrading.ensures st kept ∙ ap (closed st.upgrading) (c.bar_targets.ensures st code [] kept mates c.new-more.ensures) in
+    let beside = c.neighbours.ensures st code kept mates ∙ ap (λ (b : Barred). joined b homes) more ∙ homes-beside nodes code s f st.upgrading st.homes (map held_by st.leases) in
     c.next_beside.ensures
     ∙ ap (λ (t : Slots). next_seat t (barred_by c.neighbours.result)) kept.table_is
     ∙ ap (next_seat (kept_table nodes st)) beside
