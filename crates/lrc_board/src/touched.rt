@@ -38,6 +38,7 @@ impl Touched {
     {
         match command {
             Command::Place(stripe) => Touched::Stripe(stripe),
+            Command::Place6(stripe) => Touched::Stripe(stripe),
             Command::Drop(stripe) => Touched::Stripe(stripe),
             Command::Done(stripe, _, _) => Touched::Stripe(stripe),
             Command::Fail(_) => Touched::All,
