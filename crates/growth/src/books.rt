@@ -41,7 +41,8 @@ pub(crate) fn look(rt: &impl Host, book: &Book) -> Result<(), Stop> {
 
 fn look_at_stripe(rt: &impl Host, book: &Book, stripe: StripeNo) -> Result<(), Stop> {
     println!(rt;
-        "{stripe:?} {:?} {:?}",
+        "{stripe:?} {:?} {:?} {:?}",
+        book.code(stripe),
         book.level(stripe),
         book.missing(stripe)
     )?;

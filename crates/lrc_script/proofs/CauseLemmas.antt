@@ -9,7 +9,7 @@ use Rattle.std.proofs.lemmas.Fmt.{digits_decimal, digits_value-decimal, decimal_
 use Rattle.std.proofs.lemmas.List.Splits.{slice_split_none, slice_split_at, join_with_byte-slice_split}
 use Rattle.std.proofs.lemmas.List.Sums.{AllPass-from_list_all}
 use Rattle.lrc_book.specs.declared.command.Command.{Command}
-use Rattle.lrc_book.specs.declared.command.Command.TheVariants.{Place, Drop, Lease, Next, Done, Abandon, Revoke, Fail, Down, Up, Drain, Undrain, Retire, Join, Upgrade, Upgraded, Tick}
+use Rattle.lrc_book.specs.declared.command.Command.TheVariants.{Place, Place6, Drop, Lease, Next, Done, Abandon, Revoke, Fail, Down, Up, Drain, Undrain, Retire, Join, Upgrade, Upgraded, Tick}
 use Rattle.lrc_code.specs.declared.numbers.StripeNo.{StripeNo}
 use Rattle.lrc_code.specs.declared.numbers.NodeNo.{NodeNo}
 use Rattle.lrc_code.specs.declared.numbers.Fragment.{Fragment}
@@ -118,6 +118,7 @@ below_report s f e small = ((s.in_range, lit≤ tt), ((f.in_range, lit≤ tt), (
 
 pub cause_of-command_line : (command : Command) → IsInRange command → cause_of (command_line command) ≡ None
 cause_of-command_line (Place s) _ = of_stripe_line (codes "place") s (lit≤ tt) refl refl refl
+cause_of-command_line (Place6 s) _ = of_stripe_line (codes "place6") s (lit≤ tt) refl refl refl
 cause_of-command_line (Drop s) _ = of_stripe_line (codes "drop") s (lit≤ tt) refl refl refl
 cause_of-command_line (Lease s f) _ = good_line (codes "lease") s.value (f.value ∷ []) (4096 ∷ 16 ∷ []) (below_pair s f) (lit≤ tt) refl refl refl
 cause_of-command_line Next _ = cause_of-command (codes "next") (lit≤ tt) refl
@@ -244,6 +245,7 @@ module _ (word : List ℕ) (words : List (List ℕ)) where
   by_word : form_cause words (form_of word) ≡ None → IsFound
   by_word =
       try_form (codes "place") (4096 ∷ []) _ (lit≤ tt, tt) (of_stripe (codes "place") Place (λ s. tt) (λ s. refl))
+      (try_form (codes "place6") (4096 ∷ []) _ (lit≤ tt, tt) (of_stripe (codes "place6") Place6 (λ s. tt) (λ s. refl))
       (try_form (codes "drop") (4096 ∷ []) _ (lit≤ tt, tt) (of_stripe (codes "drop") Drop (λ s. tt) (λ s. refl))
       (try_form (codes "lease") (4096 ∷ 16 ∷ []) _ (lit≤ tt, (lit≤ tt, tt)) (of_pair (codes "lease") Lease (λ s f. tt) (λ s f. refl))
       (try_form (codes "next") [] _ tt (of_none (codes "next") Next tt refl)
@@ -259,7 +261,7 @@ module _ (word : List ℕ) (words : List (List ℕ)) where
       (try_form (codes "retire") (65536 ∷ []) _ (lit≤ tt, tt) (of_node (codes "retire") Retire (λ n small. small) (λ n. refl))
       (try_form (codes "join") (65536 ∷ []) _ (lit≤ tt, tt) (of_node (codes "join") Join (λ n small. small) (λ n. refl))
       (try_form (codes "upgrade") (256 ∷ []) _ (lit≤ tt, tt) (of_domain (codes "upgrade") Upgrade (λ u small. small) (λ u. refl))
-      (try_form (codes "upgraded") (256 ∷ []) None (lit≤ tt, tt) (of_domain (codes "upgraded") Upgraded (λ u small. small) (λ u. refl)) (λ good. cc)))))))))))))))))
+      (try_form (codes "upgraded") (256 ∷ []) None (lit≤ tt, tt) (of_domain (codes "upgraded") Upgraded (λ u small. small) (λ u. refl)) (λ good. cc))))))))))))))))))
 
 -- a line whose words have no cause is the line of a command
 pub words_cause-none : (line : List ℕ) → words_cause (words_of line) ≡ None → (command : Command) × IsInRange command × (line ≡ command_line command)

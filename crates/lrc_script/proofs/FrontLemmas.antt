@@ -9,7 +9,7 @@ use Rattle.std.proofs.lemmas.Fmt.{digits_decimal}
 use Rattle.std.proofs.lemmas.List.Elements.{All-append}
 use Rattle.std.proofs.lemmas.List.Sums.{AllPass-from_list_all}
 use Rattle.lrc_book.specs.declared.command.Command.{Command}
-use Rattle.lrc_book.specs.declared.command.Command.TheVariants.{Place, Drop, Lease, Next, Done, Abandon, Revoke, Fail, Down, Up, Drain, Undrain, Retire, Join, Upgrade, Upgraded, Tick}
+use Rattle.lrc_book.specs.declared.command.Command.TheVariants.{Place, Place6, Drop, Lease, Next, Done, Abandon, Revoke, Fail, Down, Up, Drain, Undrain, Retire, Join, Upgrade, Upgraded, Tick}
 use Rattle.lrc_script.specs.Scripts.{is_passed_over, numbers_text, command_line, IsInRange}
 use Rattle.lrc_script.specs.Cuts.{IsLineRead}
 use Rattle.lrc_front.proofs.DigitLemmas.{own}
@@ -46,6 +46,7 @@ node_no_end word n letters small = line_no_end word n [] (65536 ∷ []) letters 
 
 command_no_end : (command : Command) → IsInRange command → All (λ b. b ≢ 10) (command_line command)
 command_no_end (Place s) _ = line_no_end (codes "place ") s.value [] (4096 ∷ []) refl ((s.in_range, lit≤ tt), tt)
+command_no_end (Place6 s) _ = line_no_end (codes "place6 ") s.value [] (4096 ∷ []) refl ((s.in_range, lit≤ tt), tt)
 command_no_end (Drop s) _ = line_no_end (codes "drop ") s.value [] (4096 ∷ []) refl ((s.in_range, lit≤ tt), tt)
 command_no_end (Lease s f) _ = line_no_end (codes "lease ") s.value (f.value ∷ []) (4096 ∷ 16 ∷ []) refl (below_pair s f)
 command_no_end Next _ = word_no_end (codes "next") refl
@@ -70,6 +71,7 @@ letter_kept first line letter = rw (ne_eqb (length (first ∷ line)) 0 (omega ar
 
 command_kept : (command : Command) → is_passed_over (command_line command) ≡ false
 command_kept (Place s) = letter_kept 112 (codes "lace " ++ decimal s.value) refl
+command_kept (Place6 s) = letter_kept 112 (codes "lace6 " ++ decimal s.value) refl
 command_kept (Drop s) = letter_kept 100 (codes "rop " ++ decimal s.value) refl
 command_kept (Lease s f) = letter_kept 108 (codes "ease " ++ numbers_text (s.value ∷ f.value ∷ [])) refl
 command_kept Next = letter_kept 110 (codes "ext") refl

@@ -119,12 +119,13 @@ words_behind-count rest more line word n there cut other same =
 -- the word of no command on stripes or the clock
 pub words_cause-node :
     (line word : List ℕ) (rest : Option (Bor (List ℕ))) → IsCut 32 line word rest
-    → word ≢ codes "place" → word ≢ codes "drop" → word ≢ codes "lease" → word ≢ codes "next" → word ≢ codes "tick"
+    → word ≢ codes "place" → word ≢ codes "place6" → word ≢ codes "drop" → word ≢ codes "lease" → word ≢ codes "next" → word ≢ codes "tick"
     → word ≢ codes "done" → word ≢ codes "abandon" → word ≢ codes "revoke"
     → words_cause (words_of line) ≡ form_cause (words_behind rest) (form_in node_forms word)
-words_cause-node line word rest cut no_place no_drop no_lease no_next no_tick no_done no_abandon no_revoke =
+words_cause-node line word rest cut no_place no_place6 no_drop no_lease no_next no_tick no_done no_abandon no_revoke =
     ap words_cause (words_of-cut line word rest cut) ∙ rw (
       same_text-false word (codes "place") no_place,
+      same_text-false word (codes "place6") no_place6,
       same_text-false word (codes "drop") no_drop,
       same_text-false word (codes "lease") no_lease,
       same_text-false word (codes "next") no_next,

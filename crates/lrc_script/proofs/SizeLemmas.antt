@@ -4,7 +4,7 @@ use Rattle.std.specs.List.{slice_split, onto_first, AllZip}
 use Rattle.std.proofs.lemmas.Fmt.{decimal_nonempty}
 use Rattle.std.proofs.lemmas.List.Sums.{sum_by-cons}
 use Rattle.lrc_book.specs.declared.command.Command.{Command}
-use Rattle.lrc_book.specs.declared.command.Command.TheVariants.{Place, Drop, Lease, Next, Done, Abandon, Revoke, Fail, Down, Up, Drain, Undrain, Retire, Join, Upgrade, Upgraded, Tick}
+use Rattle.lrc_book.specs.declared.command.Command.TheVariants.{Place, Place6, Drop, Lease, Next, Done, Abandon, Revoke, Fail, Down, Up, Drain, Undrain, Retire, Join, Upgrade, Upgraded, Tick}
 use Rattle.lrc_script.specs.Scripts.{lines_of, is_passed_over, numbers_text, command_line, IsInRange, IsScript}
 use Rattle.lrc_script.specs.Bundles.{Script, scripts_of, topology_of, HoldsLines}
 use Rattle.lrc_script.proofs.BundleLemmas.{IsScript-holds}
@@ -35,6 +35,7 @@ size_of-filter p (line ∷ lines) = size_of-kept (p line) line (filter p lines) 
 
 length-command_line : (c : Command) → IsInRange c → 4 ≤ length (command_line c)
 length-command_line (Place s) _ = omega (arith, length-append (codes "place ") (decimal s.value))
+length-command_line (Place6 s) _ = omega (arith, length-append (codes "place6 ") (decimal s.value))
 length-command_line (Drop s) _ = omega (arith, length-append (codes "drop ") (decimal s.value))
 length-command_line (Lease s f) _ = omega (arith, length-append (codes "lease ") (numbers_text (s.value ∷ f.value ∷ [])))
 length-command_line Next _ = omega arith

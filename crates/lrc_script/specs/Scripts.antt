@@ -4,7 +4,7 @@ use Rattle.std.specs.List.{slice_split, list_all, starts_with, join_with_byte}
 use Rattle.std.specs.Char.{is_ascii_digit}
 use Rattle.std.specs.Str.Parse.{digits_value}
 use Rattle.lrc_book.specs.declared.command.Command.{Command}
-use Rattle.lrc_book.specs.declared.command.Command.TheVariants.{Place, Drop, Lease, Next, Done, Abandon, Revoke, Fail, Down, Up, Drain, Undrain, Retire, Join, Upgrade, Upgraded, Tick}
+use Rattle.lrc_book.specs.declared.command.Command.TheVariants.{Place, Place6, Drop, Lease, Next, Done, Abandon, Revoke, Fail, Down, Up, Drain, Undrain, Retire, Join, Upgrade, Upgraded, Tick}
 use Rattle.lrc_script.specs.declared.script.Cause.{Cause}
 use Rattle.lrc_script.specs.declared.script.ScriptError.{ScriptError}
 use Rattle.lrc_script.specs.declared.script.ScriptError.TheVariants.{Bad, OutOfMemory}
@@ -27,6 +27,7 @@ numbers_text numbers = join_with_byte 32 (map decimal numbers)
 -- the line of a command
 abbrev pub command_line : Command → List ℕ
 command_line (Place s) = codes "place " ++ decimal s.value
+command_line (Place6 s) = codes "place6 " ++ decimal s.value
 command_line (Drop s) = codes "drop " ++ decimal s.value
 command_line (Lease s f) = codes "lease " ++ numbers_text (s.value ∷ f.value ∷ [])
 command_line Next = codes "next"
@@ -48,6 +49,7 @@ command_line Tick = codes "tick"
 -- the numbers of a stripe and a fragment are in their range by their types
 abbrev pub IsInRange : Command → Type 0
 IsInRange (Place s) = Unit {0}
+IsInRange (Place6 s) = Unit {0}
 IsInRange (Drop s) = Unit {0}
 IsInRange (Lease s f) = Unit {0}
 IsInRange Next = Unit {0}
@@ -81,8 +83,8 @@ pub record Form : Type 0 where
 -- the forms of the commands on stripes, their fragments and the clock
 abbrev pub stripe_forms : List Form
 stripe_forms =
-    record { word = codes "place"; bounds = 4096 ∷ [] } ∷ record { word = codes "drop"; bounds = 4096 ∷ [] }
-    ∷ record { word = codes "lease"; bounds = 4096 ∷ 16 ∷ [] } ∷ record { word = codes "next"; bounds = [] }
+    record { word = codes "place"; bounds = 4096 ∷ [] } ∷ record { word = codes "place6"; bounds = 4096 ∷ [] }
+    ∷ record { word = codes "drop"; bounds = 4096 ∷ [] } ∷ record { word = codes "lease"; bounds = 4096 ∷ 16 ∷ [] } ∷ record { word = codes "next"; bounds = [] }
     ∷ record { word = codes "tick"; bounds = [] } ∷ record { word = codes "done"; bounds = 4096 ∷ 16 ∷ 4294967296 ∷ [] }
     ∷ record { word = codes "abandon"; bounds = 4096 ∷ 16 ∷ 4294967296 ∷ [] } ∷ record { word = codes "revoke"; bounds = 4096 ∷ 16 ∷ [] } ∷ []
 

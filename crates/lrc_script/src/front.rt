@@ -41,10 +41,7 @@ pub(crate) fn command_in_front(text: &[u8]) -> Option<(Command, &[u8])>
             Some((stripe, fragment, rest)) => Some((Command::Lease(stripe, fragment), rest)),
             None => None,
         },
-        b'p' => match stripe_behind(text, b"place ") {
-            Some((stripe, rest)) => Some((Command::Place(stripe), rest)),
-            None => None,
-        },
+        b'p' => place_or_place6(text),
         b'r' => revoke_or_retire(text),
         b'u' => up_or_other(text),
         _ => None,
@@ -75,6 +72,24 @@ fn done_or_other(text: &[u8]) -> Option<(Command, &[u8])>
         },
         _ => match node_behind(text, b"drain ") {
             Some((node, rest)) => Some((Command::Drain(node), rest)),
+            None => None,
+        },
+    }
+}
+
+/// The same for lines that begin with the letter `p`.
+#[inline(always)]
+fn place_or_place6(text: &[u8]) -> Option<(Command, &[u8])>
+    requires { LONGEST ≤ length text.now }
+    ensures { IfSome result (λ r. IsInRange r.0 × (text.now ≡ command_line r.0 ++ 10 ∷ r.1.now)) }
+{
+    match text[5] {
+        b' ' => match stripe_behind(text, b"place ") {
+            Some((stripe, rest)) => Some((Command::Place(stripe), rest)),
+            None => None,
+        },
+        _ => match stripe_behind(text, b"place6 ") {
+            Some((stripe, rest)) => Some((Command::Place6(stripe), rest)),
             None => None,
         },
     }

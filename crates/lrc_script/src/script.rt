@@ -168,6 +168,8 @@ fn parse_command(line: &[u8]) -> Result<Command, Cause>
     let (word, rest) = cut_word(line);
     if is_word(word, b"place") {
         Ok(Command::Place(only_stripe(rest)?))
+    } else if is_word(word, b"place6") {
+        Ok(Command::Place6(only_stripe(rest)?))
     } else if is_word(word, b"drop") {
         Ok(Command::Drop(only_stripe(rest)?))
     } else if is_word(word, b"lease") {

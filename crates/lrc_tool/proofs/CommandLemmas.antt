@@ -10,7 +10,7 @@ use Rattle.lrc_code.specs.declared.numbers.Fragment.{Fragment}
 use Rattle.lrc_code.specs.declared.numbers.UpgradeNo.{UpgradeNo}
 use Rattle.lrc_code.proofs.NumbersLemmas.{equal_stripes, equal_nodes, equal_fragments}
 use Rattle.lrc_book.specs.declared.command.Command.{Command}
-use Rattle.lrc_book.specs.declared.command.Command.TheVariants.{Place, Drop, Lease, Next, Done, Abandon, Revoke, Fail, Down, Up, Drain, Undrain, Retire, Join, Upgrade, Upgraded, Tick}
+use Rattle.lrc_book.specs.declared.command.Command.TheVariants.{Place, Place6, Drop, Lease, Next, Done, Abandon, Revoke, Fail, Down, Up, Drain, Undrain, Retire, Join, Upgrade, Upgraded, Tick}
 use Rattle.lrc_script.specs.Scripts.{is_passed_over, numbers_text, words_of, command_line, IsInRange, IsScript, BadLine, or_else, first_bad, cause_of}
 use Rattle.lrc_script.specs.Bundles.{Script}
 use Rattle.lrc_script.proofs.CauseLemmas.{cause_of-good, AreBelow, words_of-numbers, below_pair, below_report}
@@ -70,8 +70,12 @@ letters other = 0
 no_space_d : (xs ys : List ℕ) → codes " " ++ xs ≡ codes "d " ++ ys → ⊥
 no_space_d xs ys e = let first = ap (λ l. get_or l 0 0) e in absurd (omega (arith, first))
 
+no_space_6 : (xs ys : List ℕ) → codes " " ++ xs ≡ codes "6 " ++ ys → ⊥
+no_space_6 xs ys e = let first = ap (λ l. get_or l 0 0) e in absurd (omega (arith, first))
+
 same_command : (c d : Command) → IsInRange c → IsInRange d → command_line c ≡ command_line d → c ≡ d
 same_command (Place s) (Place t) a b e = ap Place (same_stripe s t (append_cancel_left (codes "place ") _ _ e))
+same_command (Place6 s) (Place6 t) a b e = ap Place6 (same_stripe s t (append_cancel_left (codes "place6 ") _ _ e))
 same_command (Drop s) (Drop t) a b e = ap Drop (same_stripe s t (append_cancel_left (codes "drop ") _ _ e))
 same_command (Lease s f) (Lease t g) a b e = same_pair Lease s t f g (append_cancel_left (codes "lease ") _ _ e)
 same_command Next Next a b e = refl
@@ -88,6 +92,8 @@ same_command (Join m) (Join n) a b e = ap Join (same_node m n a b (append_cancel
 same_command (Upgrade u) (Upgrade v) a b e = ap Upgrade (same_domain u v a b (append_cancel_left (codes "upgrade ") _ _ e))
 same_command (Upgraded u) (Upgraded v) a b e = ap Upgraded (same_domain u v a b (append_cancel_left (codes "upgraded ") _ _ e))
 same_command Tick Tick a b e = refl
+same_command (Place s) (Place6 t) a b e = absurd (no_space_6 _ _ (append_cancel_left (codes "place") _ _ e))
+same_command (Place6 s) (Place t) a b e = absurd (no_space_6 _ _ (append_cancel_left (codes "place") _ _ (sym e)))
 same_command (Upgrade u) (Upgraded v) a b e = absurd (no_space_d _ _ (append_cancel_left (codes "upgrade") _ _ e))
 same_command (Upgraded u) (Upgrade v) a b e = absurd (no_space_d _ _ (append_cancel_left (codes "upgrade") _ _ (sym e)))
 same_command c d a b e = absurd (let bad : letters (command_line c) ≡ letters (command_line d) = ap letters e in omega (arith, bad))

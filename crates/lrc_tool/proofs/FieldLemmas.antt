@@ -9,7 +9,7 @@ use Rattle.std.proofs.lemmas.Str.Parse.{tells_all_ascii_digits, numerals_by_valu
 use Rattle.std.proofs.lemmas.Fmt.{digits_decimal}
 use Rattle.csv.specs.Quoting.{needs_byte}
 use Rattle.csv.specs.Writing.{default_writer, needs_quotes, fields_text, is_blank, row_text}
-use Rattle.lrc_code.specs.declared.codes.Code.TheVariants.{Wide}
+use Rattle.lrc_code.specs.declared.codes.Code.{Code}
 use Rattle.lrc_code.specs.declared.numbers.StripeNo.{StripeNo}
 use Rattle.lrc_code.specs.Losses.{margin_of, bits_set}
 use Rattle.lrc_topology.specs.declared.NodeInfo.{NodeInfo}
@@ -86,12 +86,12 @@ online_plain true = refl
 online_plain false = refl
 
 -- the fields of a row, each what it is to be
-pub risk_written : (stripe : StripeNo) (level : Level) (missing : ℕ) (m : Option ℕ) (number word margin mask : List ℕ) → IfSome m (λ x. x ≤ 3)
-    → m ≡ margin_of Wide (bits_set missing)
+pub risk_written : (stripe : StripeNo) (level : Level) (code : Code) (missing : ℕ) (m : Option ℕ) (number word margin mask : List ℕ) → IfSome m (λ x. x ≤ 3)
+    → m ≡ margin_of code (bits_set missing)
     → number ≡ decimal stripe.value → word ≡ level_text level → margin ≡ margin_field m → mask ≡ mask_field missing
-    → row_text default_writer (number ∷ word ∷ margin ∷ mask ∷ []) ≡ risk_line stripe level missing
+    → row_text default_writer (number ∷ word ∷ margin ∷ mask ∷ []) ≡ risk_line stripe level code missing
 unfolding risk_line
-risk_written stripe level missing m number word margin mask few is a b c d =
+risk_written stripe level code missing m number word margin mask few is a b c d =
     let range = stripe.in_range in
     rw (a, b, c, d, ← is)
     (row_plain (decimal stripe.value) (level_text level) (margin_field m ∷ mask_field missing ∷ [])

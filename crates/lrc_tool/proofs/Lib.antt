@@ -25,4 +25,5 @@ mod RowsOfUpgrades
 mod RowsOfHistories
 mod RowsOfSessions
 mod RowsOfTables
+mod RowsOfNarrow
 pub mod MaskLemmas

@@ -7,10 +7,10 @@ use Rattle.std.specs.Int.{is_in_range, IsInRange}
 use Rattle.std.specs.List.{list_all}
 use Rattle.std.specs.Result.{result_ok, OkIff}
 use Rattle.std.specs.Str.Parse.{digits_value, ParsesUnsigned}
-use Rattle.lrc_code.specs.declared.codes.Code.TheVariants.{Wide}
+use Rattle.lrc_code.specs.declared.codes.Code.{Code}
 use Rattle.lrc_code.specs.declared.codes.Class.TheVariants.{A, B, G}
 use Rattle.lrc_code.specs.Losses.{losses_in, margin_of, bits_set}
-use Rattle.lrc_tool.specs.Recoveries.{is_mask, mask_of, counts_text, margin_text, losses_line}
+use Rattle.lrc_tool.specs.Recoveries.{is_mask, counts_text, margin_text, losses_line}
 
 -- what is known of a digit
 record IsDigit (c : ℕ) : Type 0 where
@@ -65,23 +65,23 @@ four (a ∷ b ∷ c ∷ d ∷ []) r long hex parses =
     four_digits a b c d r (digit a of_a.0) (digit b of_b.0) (digit c of_c.0) (digit d of_d.0) parses
 
 -- the number of such a word is what the word is read as
-pub mask_read : {E : Type 0} (word : List ℕ) (r : Result ℕ E) → is_mask word ≡ true → ParsesUnsigned 16 16 word r → result_ok r ≡ mask_of word
+pub mask_read : {E : Type 0} (word : List ℕ) (r : Result ℕ E) → is_mask word ≡ true → ParsesUnsigned 16 16 word r → result_ok r ≡ Some (digits_value 16 word)
 mask_read word r mask parses =
     let both = and_parts (nat_eq (length word) 4) (list_all is_ascii_hexdigit word) mask in
-    rw mask (four word r (eqb-true (length word) 4 both.0) both.1 parses)
+    four word r (eqb-true (length word) 4 both.0) both.1 parses
 
 pub mask_digits : (word : List ℕ) → length word ≡ 4 → list_all is_ascii_hexdigit word ≡ is_mask word
 mask_digits word long = ap (λ b. b && list_all is_ascii_hexdigit word) (sym (eq-eqb (length word) 4 long))
 
 -- the counts and the margin are the line
-pub line_told : {X E : Type 0} (r : Result X E) (new between old : List ℕ) (bits a b g : ℕ) (m : Option ℕ)
-    → a ≡ losses_in Wide A (bits_set bits) → b ≡ losses_in Wide B (bits_set bits) → g ≡ losses_in Wide G (bits_set bits) → m ≡ margin_of Wide (bits_set bits)
-    → between ≡ old ++ counts_text a b g → OnOk r (new ≡ between ++ margin_text m) → OnOk r (new ≡ old ++ losses_line bits)
+pub line_told : {X E : Type 0} (r : Result X E) (new between old : List ℕ) (code : Code) (bits a b g : ℕ) (m : Option ℕ)
+    → a ≡ losses_in code A (bits_set bits) → b ≡ losses_in code B (bits_set bits) → g ≡ losses_in code G (bits_set bits) → m ≡ margin_of code (bits_set bits)
+    → between ≡ old ++ counts_text a b g → OnOk r (new ≡ between ++ margin_text m) → OnOk r (new ≡ old ++ losses_line code bits)
 unfolding losses_line
-line_told (Ok x) new between old bits a b g m of_a of_b of_g of_m counts margin =
+line_told (Ok x) new between old code bits a b g m of_a of_b of_g of_m counts margin =
     margin ∙ ap (λ t. t ++ margin_text m) counts ∙ append_assoc old (counts_text a b g) (margin_text m)
     ∙ ap (λ n. old ++ (counts_text n b g ++ margin_text m)) of_a
-    ∙ ap (λ n. old ++ (counts_text (losses_in Wide A (bits_set bits)) n g ++ margin_text m)) of_b
-    ∙ ap (λ n. old ++ (counts_text (losses_in Wide A (bits_set bits)) (losses_in Wide B (bits_set bits)) n ++ margin_text m)) of_g
-    ∙ ap (λ o. old ++ (counts_text (losses_in Wide A (bits_set bits)) (losses_in Wide B (bits_set bits)) (losses_in Wide G (bits_set bits)) ++ margin_text o)) of_m
-line_told (Err e) new between old bits a b g m of_a of_b of_g of_m counts margin = tt
+    ∙ ap (λ n. old ++ (counts_text (losses_in code A (bits_set bits)) n g ++ margin_text m)) of_b
+    ∙ ap (λ n. old ++ (counts_text (losses_in code A (bits_set bits)) (losses_in code B (bits_set bits)) n ++ margin_text m)) of_g
+    ∙ ap (λ o. old ++ (counts_text (losses_in code A (bits_set bits)) (losses_in code B (bits_set bits)) (losses_in code G (bits_set bits)) ++ margin_text o)) of_m
+line_told (Err e) new between old code bits a b g m of_a of_b of_g of_m counts margin = tt

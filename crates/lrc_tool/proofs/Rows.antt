@@ -35,6 +35,9 @@ node_number n = record { value = n }
 abbrev pub place : ℕ → Command
 place s = command.Place (stripe s)
 
+abbrev pub place6 : ℕ → Command
+place6 s = command.Place6 (stripe s)
+
 abbrev pub remove : ℕ → Command
 remove s = command.Drop (stripe s)
 

@@ -6,6 +6,7 @@ use Rattle.std.proofs.lemmas.Option.{same_Some}
 use Rattle.std.proofs.lemmas.List.{take_all, take_more}
 use Rattle.std.proofs.lemmas.List.Elements.{All-from_recursion}
 use Rattle.std.proofs.lemmas.List.Concat.{flat_map-append}
+use Rattle.lrc_code.specs.declared.codes.Code.{Code}
 use Rattle.lrc_code.specs.declared.losses.LossMask.{LossMask}
 use Rattle.lrc_code.specs.declared.numbers.StripeNo.{StripeNo}
 use Rattle.lrc_code.specs.Numbers.{same_stripe}
@@ -15,7 +16,7 @@ use Rattle.lrc_code.proofs.OrderLemmas.{each_listed, all_kept, all-put_before}
 use Rattle.lrc_topology.specs.declared.NodeInfo.{NodeInfo}
 use Rattle.lrc_topology.specs.Nodes.{AreNodes, node_at}
 use Rattle.lrc_book.specs.declared.Level.{Level}
-use Rattle.lrc_book.specs.States.{State, has_stripe, code_of, load, mode_of, is_online, level, rank, missing, missing_shown, load_shown, mode_shown}
+use Rattle.lrc_book.specs.States.{State, has_stripe, code_of, load, mode_of, is_online, level, rank, missing, missing_shown, code_shown, load_shown, mode_shown}
 use Rattle.lrc_book.specs.Urgency.{by_rank, risk}
 use Rattle.lrc_tool.specs.Tables.{risk_line, risk_row, risk_table, load_row, load_table}
 use Rattle.lrc_book.proofs.MemberLemmas.{list_any-member}
@@ -106,6 +107,10 @@ module _ (nodes : List NodeInfo) (st : State) where
     pub missing_at : missing_shown nodes st row.0 ≡ Some (record { bits = bits_of (code_of st row.0) (missing nodes st row.0) })
     missing_at = missing_told nodes st row.0 row_there
 
+    -- its code is told too
+    pub code_at : code_shown st row.0 ≡ Some (code_of st row.0)
+    code_at = rw row_there refl
+
     row_next : flat_map (risk_row nodes st) (take (i + 1) rows) ≡ flat_map (risk_row nodes st) (take i rows) ++ risk_row nodes st row
     row_next =
         let f = risk_row nodes st in
@@ -113,12 +118,13 @@ module _ (nodes : List NodeInfo) (st : State) where
         ∙ ap (λ t. flat_map f (take i rows) ++ t) (append-nil (f (get_or rows i row))) ∙ ap (λ r. flat_map f (take i rows) ++ f r) (sym here)
 
     -- one row more
-    pub risks_more : (header old new : List ℕ) (mask : LossMask) → old ≡ header ++ flat_map (risk_row nodes st) (take i rows)
-        → Some mask ≡ missing_shown nodes st row.0
-        → new ≡ old ++ risk_line row.0 row.1 mask.bits → new ≡ header ++ flat_map (risk_row nodes st) (take (i + 1) rows)
-    risks_more header old new mask so_far told next =
+    pub risks_more : (header old new : List ℕ) (code : Code) (mask : LossMask) → old ≡ header ++ flat_map (risk_row nodes st) (take i rows)
+        → Some code ≡ code_shown st row.0 → Some mask ≡ missing_shown nodes st row.0
+        → new ≡ old ++ risk_line row.0 row.1 code mask.bits → new ≡ header ++ flat_map (risk_row nodes st) (take (i + 1) rows)
+    risks_more header old new code mask so_far coded told next =
+        let is = same_Some _ _ (coded ∙ code_at) in
         let bits : mask.bits ≡ bits_of (code_of st row.0) (missing nodes st row.0) = ap (λ (m : LossMask). m.bits) (same_Some _ _ (told ∙ missing_at)) in
-        next ∙ ap (λ n. old ++ risk_line row.0 row.1 n) bits ∙ ap (λ t. t ++ risk_row nodes st row) so_far
+        next ∙ ap (λ c. old ++ risk_line row.0 row.1 c mask.bits) is ∙ ap (λ n. old ++ risk_line row.0 row.1 (code_of st row.0) n) bits ∙ ap (λ t. t ++ risk_row nodes st row) so_far
         ∙ append_assoc header (flat_map (risk_row nodes st) (take i rows)) (risk_row nodes st row) ∙ ap (λ t. header ++ t) (sym row_next)
 
 -- the nodes to come are found in the book

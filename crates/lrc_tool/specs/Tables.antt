@@ -1,7 +1,7 @@
 -- What is printed of a state: which stripes are at risk, and what each node carries.
 use Rattle.std.specs.Prelude.{ℕ, ◌/◌, ◌%◌, Bool, true, false, List, [], ◌∷◌, ◌++◌, codes, decimal, map, flat_map, Option, Some, None}
 use Rattle.std.specs.Fmt.{digit_glyph}
-use Rattle.lrc_code.specs.declared.codes.Code.TheVariants.{Wide}
+use Rattle.lrc_code.specs.declared.codes.Code.{Code}
 use Rattle.lrc_code.specs.declared.numbers.StripeNo.{StripeNo}
 use Rattle.lrc_code.specs.Losses.{margin_of, bits_set, bits_of}
 use Rattle.lrc_topology.specs.declared.NodeInfo.{NodeInfo}
@@ -37,14 +37,14 @@ margin_field None = codes "-"
 abbrev pub mask_field : ℕ → List ℕ
 mask_field bits = map (λ place. digit_glyph false (bits / place % 16)) (4096 ∷ 256 ∷ 16 ∷ 1 ∷ [])
 
--- the row of a stripe of this number and level, whose missing fragments are the bits of a number
-unfoldable pub risk_line : StripeNo → Level → ℕ → List ℕ
-risk_line stripe level missing =
-    row_line (decimal stripe.value ∷ level_text level ∷ margin_field (margin_of Wide (bits_set missing)) ∷ mask_field missing ∷ [])
+-- the row of a stripe of this number, level and code, whose missing fragments are the bits of a number
+unfoldable pub risk_line : StripeNo → Level → Code → ℕ → List ℕ
+risk_line stripe level code missing =
+    row_line (decimal stripe.value ∷ level_text level ∷ margin_field (margin_of code (bits_set missing)) ∷ mask_field missing ∷ [])
 
 -- the row of a stripe at risk
 abbrev pub risk_row : List NodeInfo → State → StripeNo × Level → List ℕ
-risk_row nodes st risky = risk_line risky.0 risky.1 (bits_of (code_of st risky.0) (missing nodes st risky.0))
+risk_row nodes st risky = risk_line risky.0 risky.1 (code_of st risky.0) (bits_of (code_of st risky.0) (missing nodes st risky.0))
 
 -- a row for each stripe that is not whole, in the order of repair
 abbrev pub risk_table : List NodeInfo → State → List ℕ

@@ -7,9 +7,9 @@ use Rattle.lrc_topology.specs.declared.error.TopologyError.TheVariants.{Syntax, 
 use Rattle.lrc_book.specs.declared.Lease.{Lease}
 use Rattle.lrc_book.specs.declared.entry.Entry.{Entry}
 use Rattle.lrc_book.specs.declared.kind.Kind.{Kind}
-use Rattle.lrc_book.specs.declared.kind.Kind.TheVariants.{Local, Global, Move}
+use Rattle.lrc_book.specs.declared.kind.Kind.TheVariants.{Local, Local3, Global, Move}
 use Rattle.lrc_book.specs.declared.reply.Reply.{Reply}
-use Rattle.lrc_book.specs.declared.reply.Reply.TheVariants.{Placed, Dropped, Granted, Idle, Ended, Changed, Refused, Ticked}
+use Rattle.lrc_book.specs.declared.reply.Reply.TheVariants.{Placed, Placed6, Dropped, Granted, Idle, Ended, Changed, Refused, Ticked}
 use Rattle.lrc_book.specs.declared.refusal.Refusal.{Refusal}
 use Rattle.lrc_book.specs.declared.refusal.Refusal.TheVariants as refusal
 use Rattle.lrc_book.specs.Histories.{state_after}
@@ -36,6 +36,7 @@ lease_text lease = decimal lease.stripe.value ++ codes " " ++ decimal lease.frag
 -- from what a leased fragment is rebuilt
 abbrev pub kind_text : Kind → List ℕ
 kind_text (Local sources) = codes "local" ++ spaced (map (λ f. decimal f.value) sources)
+kind_text (Local3 sources) = codes "local" ++ spaced (map (λ f. decimal f.value) sources)
 kind_text Global = codes "global"
 kind_text Move = codes "move"
 
@@ -62,6 +63,7 @@ refusal_text (refusal.NotEmpty load) = codes "117 " ++ decimal load
 -- what is printed of a reply
 abbrev pub reply_text : Reply → List ℕ
 reply_text (Placed seats) = codes "placed" ++ spaced (map seat_text seats)
+reply_text (Placed6 seats) = codes "placed" ++ spaced (map seat_text seats)
 reply_text Dropped = codes "dropped"
 reply_text (Granted lease kind) = codes "granted " ++ lease_text lease ++ codes " " ++ kind_text kind
 reply_text Idle = codes "idle"

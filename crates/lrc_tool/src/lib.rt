@@ -20,6 +20,6 @@ mod together;
 pub use checking::check;
 pub use lrc_script::{Cause, ScriptError, parse_script};
 pub use program::run;
-pub use recovery::recover;
+pub use recovery::{recover, recover_narrow};
 pub use status::Status;
 pub use streams::{Plain, RunFault, Sink, Source};

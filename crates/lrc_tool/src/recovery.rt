@@ -2,6 +2,7 @@
 
 ghost use Rattle.std.specs.Prelude.{◌≡◌, ◌≢◌, ◌||◌, ◌⊎◌, ◌++◌, true, OnOk, IfOk, IfErr, IsErrOf, string_bytes};
 ghost use Rattle.std.specs.Io.KnownBytes.{Appends, Keeps};
+ghost use Rattle.lrc_code.specs.declared.codes.Code.TheVariants.{Wide, Narrow};
 ghost use Rattle.lrc_tool.specs.Streams.{is_write_fault, AppendsPart};
 ghost use Rattle.lrc_tool.specs.Recoveries.{is_mask, mask_of, counts_text, margin_text, losses_line, recovery_text, recovery_status};
 ghost use Rattle.lrc_tool.specs.declared.streams.RunFault.TheVariants as fault;
@@ -9,23 +10,24 @@ ghost use Rattle.lrc_tool.specs.declared.streams.RunFault.TheVariants as fault;
 use crate::output::Output;
 use crate::status::Status;
 use crate::streams::{RunFault, Sink, write_all};
-use lrc_code::{Class, LossMask};
+use lrc_code::{Class, Code, LossMask};
 use std::alloc::{AllocError, Global};
 
-/// Tells of a mask, a word of four hexadecimal digits in either case with fragment f as bit f, how many fragments of
-/// each class are lost and how many further losses are withstood, or that the losses are not recoverable.
+/// Tells of a mask of a stripe of the code `Wide`, a word of four hexadecimal digits in either case with fragment f as
+/// bit f, how many fragments of each class are lost and how many further losses are withstood, or that the losses are
+/// not recoverable.
 ///
 /// # Errors
 ///
 /// `OutOfMemory` where there is no room for the line, and `Write` where it is not written.
 pub fn recover<W: Sink>(alloc: Global, mask: &str, sink: &mut W) -> Result<Status, RunFault>
     // The line for the mask was written, whole.
-    ensures written { OnOk result (Appends (W.written sink.old) (W.written sink.new) (recovery_text mask.now)) }
-    ensures status { IfOk result (λ status. status ≡ recovery_status mask.now) }
+    ensures written { OnOk result (Appends (W.written sink.old) (W.written sink.new) (recovery_text Wide mask.now)) }
+    ensures status { IfOk result (λ status. status ≡ recovery_status Wide mask.now) }
 
     // Where it stops, nothing was written, but for a prefix of the line if a write failed.
     ensures nothing { IfErr result (λ e. e ≢ fault.Write → Keeps (W.written sink.old) (W.written sink.new)) }
-    ensures part { IsErrOf result fault.Write → AppendsPart (W.written sink.old) (W.written sink.new) (recovery_text mask.now) }
+    ensures part { IsErrOf result fault.Write → AppendsPart (W.written sink.old) (W.written sink.new) (recovery_text Wide mask.now) }
 
     // Where it ends well, the sink was flushed behind its last write.
     ensures flushed { OnOk result (W.is_flushed sink.new ≡ true) }
@@ -34,21 +36,64 @@ pub fn recover<W: Sink>(alloc: Global, mask: &str, sink: &mut W) -> Result<Statu
     ensures err { IfErr result (λ e. (e ≡ fault.OutOfMemory) ⊎ (e ≡ fault.Write)) }
     ensures write { W.has_failed sink.new ≡ (W.has_failed sink.old || is_write_fault result) }
 {
-    let output = recovery_of(alloc, mask)?;
+    recover_in(alloc, Code::Wide, mask, sink)
+}
+
+/// Tells the same of a mask of a stripe of the code `Narrow`, whose fragments have the numbers below ten. A mask with
+/// another bit is refused.
+///
+/// # Errors
+///
+/// As those of `recover`.
+pub fn recover_narrow<W: Sink>(alloc: Global, mask: &str, sink: &mut W) -> Result<Status, RunFault>
+    // The line for the mask was written, whole.
+    ensures written { OnOk result (Appends (W.written sink.old) (W.written sink.new) (recovery_text Narrow mask.now)) }
+    ensures status { IfOk result (λ status. status ≡ recovery_status Narrow mask.now) }
+
+    // Where it stops, nothing was written, but for a prefix of the line if a write failed.
+    ensures nothing { IfErr result (λ e. e ≢ fault.Write → Keeps (W.written sink.old) (W.written sink.new)) }
+    ensures part { IsErrOf result fault.Write → AppendsPart (W.written sink.old) (W.written sink.new) (recovery_text Narrow mask.now) }
+
+    // Where it ends well, the sink was flushed behind its last write.
+    ensures flushed { OnOk result (W.is_flushed sink.new ≡ true) }
+
+    // It stops by a write where one failed, and else for want of memory alone.
+    ensures err { IfErr result (λ e. (e ≡ fault.OutOfMemory) ⊎ (e ≡ fault.Write)) }
+    ensures write { W.has_failed sink.new ≡ (W.has_failed sink.old || is_write_fault result) }
+{
+    recover_in(alloc, Code::Narrow, mask, sink)
+}
+
+/// Tells it of a mask of a stripe of this code.
+fn recover_in<W: Sink>(
+    alloc: Global,
+    code: Code,
+    mask: &str,
+    sink: &mut W,
+) -> Result<Status, RunFault>
+    ensures written { OnOk result (Appends (W.written sink.old) (W.written sink.new) (recovery_text code mask.now)) }
+    ensures status { IfOk result (λ status. status ≡ recovery_status code mask.now) }
+    ensures nothing { IfErr result (λ e. e ≢ fault.Write → Keeps (W.written sink.old) (W.written sink.new)) }
+    ensures part { IsErrOf result fault.Write → AppendsPart (W.written sink.old) (W.written sink.new) (recovery_text code mask.now) }
+    ensures flushed { OnOk result (W.is_flushed sink.new ≡ true) }
+    ensures err { IfErr result (λ e. (e ≡ fault.OutOfMemory) ⊎ (e ≡ fault.Write)) }
+    ensures write { W.has_failed sink.new ≡ (W.has_failed sink.old || is_write_fault result) }
+{
+    let output = recovery_of(alloc, code, mask)?;
     write_all(sink, output.text.as_slice())?;
     Ok(output.status)
 }
 
 /// The line for this word, and how it ends.
-fn recovery_of(alloc: Global, word: &str) -> Result<Output, RunFault>
-    ensures text { IfOk result (λ o. o.text.items ≡ recovery_text word.now) }
-    ensures status { IfOk result (λ o. o.status ≡ recovery_status word.now) }
+fn recovery_of(alloc: Global, code: Code, word: &str) -> Result<Output, RunFault>
+    ensures text { IfOk result (λ o. o.text.items ≡ recovery_text code word.now) }
+    ensures status { IfOk result (λ o. o.status ≡ recovery_status code word.now) }
     ensures err { IfErr result (λ e. e ≡ fault.OutOfMemory) }
 {
     let mut text = String::new(alloc);
-    let status = match parse_mask(word) {
+    let status = match parse_mask(code, word) {
         Some(bits) => {
-            push_losses(&mut text, LossMask::from_bits(bits))?;
+            push_losses(&mut text, code, LossMask::from_bits(bits))?;
             Status::Done
         }
         None => {
@@ -62,12 +107,16 @@ fn recovery_of(alloc: Global, word: &str) -> Result<Output, RunFault>
     })
 }
 
-/// The number that a word of exactly four hexadecimal digits writes.
-fn parse_mask(word: &str) -> Option<u16>
-    ensures { result ≡ mask_of word.now }
+/// The number that a word of exactly four hexadecimal digits writes, where its bits are of fragments of the code.
+fn parse_mask(code: Code, word: &str) -> Option<u16>
+    ensures { result ≡ mask_of code word.now }
 {
-    if is_mask(word.as_bytes()) {
-        u16::from_str_radix(word, 16).ok()
+    if !is_mask(word.as_bytes()) {
+        return None;
+    }
+    let bits = u16::from_str_radix(word, 16).ok()?;
+    if LossMask::from_bits(bits).fits(code) {
+        Some(bits)
     } else {
         None
     }
@@ -79,15 +128,15 @@ fn is_mask(word: &[u8]) -> bool
     word.len() == 4 && word.iter().all(|byte| byte.is_ascii_hexdigit())
 }
 
-/// Adds the line for these losses.
-fn push_losses(out: &mut String, losses: LossMask) -> Result<(), AllocError>
-    ensures { OnOk result (string_bytes out.new ≡ string_bytes out.old ++ losses_line losses.bits) }
+/// Adds the line for these losses of a stripe of the code.
+fn push_losses(out: &mut String, code: Code, losses: LossMask) -> Result<(), AllocError>
+    ensures { OnOk result (string_bytes out.new ≡ string_bytes out.old ++ losses_line code losses.bits) }
 {
-    let a = losses.class_losses(Class::A);
-    let b = losses.class_losses(Class::B);
-    let g = losses.class_losses(Class::G);
+    let a = losses.class_losses_in(code, Class::A);
+    let b = losses.class_losses_in(code, Class::B);
+    let g = losses.class_losses_in(code, Class::G);
     push_counts(out, a, b, g)?;
-    push_margin(out, losses.margin())
+    push_margin(out, losses.margin_in(code))
 }
 
 fn push_counts(out: &mut String, a: u8, b: u8, g: u8) -> Result<(), AllocError>

@@ -1,7 +1,6 @@
 //! The tables of stripes at risk and of loads.
 
 ghost use Rattle.std.specs.Prelude.{◌≡◌, ◌++◌, codes, string_bytes, IfOk, OnOk, IfErr};
-ghost use Rattle.lrc_code.specs.declared.codes.Code.TheVariants.{Wide};
 ghost use Rattle.lrc_code.specs.Losses.{bits_set, margin_of};
 ghost use Rattle.lrc_book.specs.Books.{state_of};
 ghost use Rattle.lrc_tool.specs.Tables.{level_text, margin_field, mask_field, risk_line, risk_table, mode_text, online_text, load_line, load_table, tables_text};
@@ -11,7 +10,7 @@ ghost use Rattle.lrc_tool.specs.declared.streams.RunFault.TheVariants as fault;
 use crate::streams::RunFault;
 use crate::table::{Table, push_row, table_behind, text_of_table};
 use lrc_book::{Book, Level, Mode};
-use lrc_code::{LossMask, StripeNo};
+use lrc_code::{Code, LossMask, StripeNo};
 use lrc_topology::NodeInfo;
 use std::alloc::{AllocError, Global};
 
@@ -33,8 +32,9 @@ fn with_risk_table(alloc: Global, mut text: Vec<u8>, book: &Book) -> Result<Vec<
     let mut table = table_behind(text);
     push_risk_header(&mut table)?;
     for (stripe, level) in rows.as_slice() {
+        let code = book.code(*stripe).unwrap();
         let missing = book.missing(*stripe).unwrap();
-        push_risk_row(alloc, &mut table, *stripe, *level, missing)?;
+        push_risk_row(alloc, &mut table, *stripe, *level, code, missing)?;
     }
     text_of_table(table)
 }
@@ -132,22 +132,23 @@ fn push_load_header(table: &mut Table) -> Result<(), RunFault>
     push_row(table, fields.as_slice())
 }
 
-/// Adds the row of a stripe of this level that misses these fragments.
+/// Adds the row of a stripe of this level and code that misses these fragments.
 fn push_risk_row(
     alloc: Global,
     table: &mut Table,
     stripe: StripeNo,
     level: Level,
+    code: Code,
     missing: LossMask,
 ) -> Result<(), RunFault>
     requires { IsBetweenRows table.old }
-    ensures row { OnOk result (text_in table.new ≡ text_in table.old ++ risk_line stripe level missing.bits) }
+    ensures row { OnOk result (text_in table.new ≡ text_in table.old ++ risk_line stripe level code missing.bits) }
     ensures between { OnOk result (IsBetweenRows table.new) }
     ensures err { IfErr result (λ e. e ≡ fault.OutOfMemory) }
 {
     let number = stripe.value;
     let stripe_word = format!(in alloc; "{number}")?;
-    let margin = margin_word(alloc, missing.margin())?;
+    let margin = margin_word(alloc, missing.margin_in(code))?;
     let mask = mask_word(alloc, missing.bits())?;
     let fields = [
         stripe_word.as_bytes(),

@@ -1,7 +1,7 @@
 //! The lines of replies, and those of refusals of input.
 
 ghost use Rattle.std.specs.Prelude.{◌≡◌, ◌+◌, ◌*◌, ◌^◌, ◌<◌, ◌≤◌, ◌∷◌, ◌++◌, length, drop, OnOk, string_bytes, codes, decimal, map};
-ghost use Rattle.lrc_book.specs.declared.reply.Reply.TheVariants.{Placed, Granted, Refused, Ticked};
+ghost use Rattle.lrc_book.specs.declared.reply.Reply.TheVariants.{Granted, Refused, Ticked};
 ghost use Rattle.lrc_tool.specs.Plays.{lines_from};
 ghost use Rattle.lrc_tool.specs.Texts.{seat_text, spaced, lease_text, kind_text, reply_text, reply_line, script_line, topology_line, cause_number, bad_line_text};
 
@@ -180,8 +180,9 @@ fn write_sources(sources: &[Fragment], text: &mut [u8], end: usize) -> usize
 }
 
 /// Writes a word and the sources of a repair from a local group so that they end at `end`, and answers where they start.
-fn write_local(sources: &[Fragment; 6], text: &mut [u8], end: usize) -> usize
-    requires { (KIND_ROOM ≤ end) × (end ≤ length text.old) }
+fn write_local<const N: usize>(sources: &[Fragment; N], text: &mut [u8], end: usize) -> usize
+    requires few { N ≤ 6 }
+    requires room { (KIND_ROOM ≤ end) × (end ≤ length text.old) }
     ensures start { (end ≤ result + KIND_ROOM) × (result ≤ end) }
     ensures written { drop result text.new ≡ (codes " local" ++ spaced (map (λ f. decimal f.value) sources.now)) ++ drop end text.old }
 {
@@ -197,6 +198,7 @@ fn write_kind(kind: &Kind, text: &mut [u8], end: usize) -> usize
 {
     match kind {
         Kind::Local(sources) => write_local(sources, text, end),
+        Kind::Local3(sources) => write_local(sources, text, end),
         Kind::Global => write_words(b" global", text, end),
         Kind::Move => write_words(b" move", text, end),
     }
@@ -254,10 +256,13 @@ fn write_refusal(refusal: &Refusal, text: &mut [u8], end: usize) -> usize
     }
 }
 
-fn write_placed(seats: &[Seat; 16], text: &mut [u8], end: usize) -> usize
-    requires { (REPLY_ROOM ≤ end) × (end ≤ length text.old) }
+/// Writes a space, a word, the seats of a stripe of either code, and the end of the line, so that they end at `end`, and
+/// answers where they start.
+fn write_placed<const N: usize>(seats: &[Seat; N], text: &mut [u8], end: usize) -> usize
+    requires few { N ≤ 16 }
+    requires room { (REPLY_ROOM ≤ end) × (end ≤ length text.old) }
     ensures start { (end ≤ result + REPLY_ROOM) × (result ≤ end) }
-    ensures written { drop result text.new ≡ (codes " " ++ (reply_text (Placed seats.now) ++ codes "\n")) ++ drop end text.old }
+    ensures written { drop result text.new ≡ (codes " placed" ++ (spaced (map seat_text seats.now) ++ codes "\n")) ++ drop end text.old }
 {
     let last = write_words(b"\n", text, end);
     let first = write_seats(seats.as_slice(), text, last);
@@ -297,6 +302,7 @@ fn write_reply(reply: &Reply, text: &mut [u8], end: usize) -> usize
 {
     match reply {
         Reply::Placed(seats) => write_placed(seats, text, end),
+        Reply::Placed6(seats) => write_placed(seats, text, end),
         Reply::Dropped => write_words(b" dropped\n", text, end),
         Reply::Granted(lease, kind) => write_granted(lease, kind, text, end),
         Reply::Idle => write_words(b" idle\n", text, end),
@@ -375,6 +381,7 @@ fn write_told(entry: &Record, text: &mut [u8], end: usize) -> usize
 {
     match entry.reply() {
         Reply::Placed(_) => write_long_told(entry, text, end),
+        Reply::Placed6(_) => write_long_told(entry, text, end),
         Reply::Dropped => write_words(b" dropped\n", text, end),
         Reply::Granted(_, _) => write_granted_told(entry, text, end),
         Reply::Idle => write_words(b" idle\n", text, end),

@@ -10,7 +10,7 @@ mod stop;
 
 use crate::stop::Stop;
 use clap::{Arg, ArgAction, ArgMatches, Command};
-use lrc_tool::{Plain, RunFault, Status, check, recover, run};
+use lrc_tool::{Plain, RunFault, Status, check, recover, recover_narrow, run};
 use std::alloc::{AllocError, Global};
 use std::process::ExitCode;
 use std::sync::Wait;
@@ -23,17 +23,25 @@ enum Request<'a> {
     Run,
     Check,
     Recover { mask: &'a str },
+    Recover6 { mask: &'a str },
 }
 
-/// The command lines that the program takes. Each step hands its only command on, so none is let go between.
+/// The command lines that the program takes. Most steps hand their only command on, so that none is let go between.
 fn command_line<'a>(alloc: Global) -> Result<Command<'a>, AllocError> {
+    let recover = of_mask(alloc, "recover")?;
+    let command = Command::new(alloc, "lrcman").subcommand(recover)?;
+    let recover6 = of_mask(alloc, "recover6")?;
+    let command = command.subcommand(recover6)?;
+    let command = command.subcommand(Command::new(alloc, "run"))?;
+    command.subcommand(Command::new(alloc, "check"))
+}
+
+/// The command line of a word and a mask.
+fn of_mask<'a>(alloc: Global, word: &'a str) -> Result<Command<'a>, AllocError> {
     let mask = Arg::new(alloc, "mask")
         .required(true)
         .action(ArgAction::Set);
-    let recover = Command::new(alloc, "recover").arg(mask)?;
-    let command = Command::new(alloc, "lrcman").subcommand(recover)?;
-    let command = command.subcommand(Command::new(alloc, "run"))?;
-    command.subcommand(Command::new(alloc, "check"))
+    Command::new(alloc, word).arg(mask)
 }
 
 fn parse_request<'a>(alloc: Global, words: &'a [String]) -> Result<Request<'a>, Stop> {
@@ -46,12 +54,18 @@ fn request_in<'a>(matches: &ArgMatches<'a>) -> Result<Request<'a>, Stop> {
     match matches.subcommand() {
         Some(("run", _)) => Ok(Request::Run),
         Some(("check", _)) => Ok(Request::Check),
-        Some(("recover", found)) => {
-            let mask = found.get_str("mask").ok_or(Stop::Usage)?;
-            Ok(Request::Recover { mask })
-        }
+        Some(("recover", found)) => Ok(Request::Recover {
+            mask: mask_in(found)?,
+        }),
+        Some(("recover6", found)) => Ok(Request::Recover6 {
+            mask: mask_in(found)?,
+        }),
         _ => Err(Stop::Usage),
     }
+}
+
+fn mask_in<'a>(matches: &ArgMatches<'a>) -> Result<&'a str, Stop> {
+    matches.get_str("mask").ok_or(Stop::Usage)
 }
 
 /// Does what the command line asks for; scripts run on these threads.
@@ -70,6 +84,9 @@ fn serve<T: Threads + Wait + Sync>(
         Request::Run => run_input(rt, threads),
         Request::Check => check_input(rt),
         Request::Recover { mask } => recover(rt.alloc(), mask, &mut Plain::new(io::writer(rt))),
+        Request::Recover6 { mask } => {
+            recover_narrow(rt.alloc(), mask, &mut Plain::new(io::writer(rt)))
+        }
     }
 }
 

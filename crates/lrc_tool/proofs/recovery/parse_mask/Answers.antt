@@ -1,9 +1,11 @@
-use Rattle.std.proofs.Common.{rules, ◌≡◌, true, ◌∙◌}
+use Rattle.std.proofs.Common.{rules, ◌≡◌, true, None, sym, ◌∙◌}
 use Rattle.lrc_tool.specs.Recoveries.{is_mask}
 use Rattle.lrc_tool.proofs.MaskLemmas.{mask_read}
 use Rattle.lrc_tool.proofs.recovery.parse_mask.Goals as goal
 
-pub returns-then-is_mask : goal.returns-then-is_mask
-returns-then-is_mask c =
+-- a mask is read as a number
+pub returns-in_err-bits : goal.returns-in_err-bits
+returns-in_err-bits c =
     let mask : is_mask c.args.word.now ≡ true = search rules in
-    c.ok.ensures.value ∙ mask_read c.args.word.now c.from_str_radix.result mask c.from_str_radix.ensures.value
+    let none : c.ok.result ≡ None = search rules in
+    absurd (let both = sym none ∙ c.ok.ensures.value ∙ mask_read c.args.word.now c.from_str_radix.result mask c.from_str_radix.ensures.value in cc)

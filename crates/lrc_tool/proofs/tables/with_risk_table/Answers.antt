@@ -1,9 +1,16 @@
 use Rattle.std.proofs.Common.{◌≡◌, List, ℕ, Some, IfOk, subst, refl, ◌∙◌, rules}
 use Rattle.lrc_book.specs.Books.{state_of}
-use Rattle.lrc_book.specs.States.{missing_shown}
+use Rattle.lrc_book.specs.States.{code_shown, missing_shown}
 use Rattle.lrc_book.specs.Urgency.{risk}
-use Rattle.lrc_tool.proofs.TableLemmas.{missing_at, risks_more, risks_told}
+use Rattle.lrc_tool.proofs.TableLemmas.{code_at, missing_at, risks_more, risks_told}
 use Rattle.lrc_tool.proofs.tables.with_risk_table.Goals as goal
+
+pub unwrap-code-requires : goal.unwrap-code-requires
+unwrap-code-requires c =
+    let nodes = c.args.book.now.nodes in
+    let st = state_of c.args.book.now in
+    let all : c.as_slice-stripe-items.result.now ≡ risk nodes st = search rules in
+    rw (c.code.ensures ∙ code_at nodes st _ c.loop-stripe.stripe-index c.loop-stripe-item.result all c.loop-stripe-test.true c.loop-stripe-item.is) refl
 
 pub unwrap-missing-requires : goal.unwrap-missing-requires
 unwrap-missing-requires c =
@@ -17,11 +24,12 @@ loop-stripe-preserved c =
     let nodes = c.args.book.now.nodes in
     let st = state_of c.args.book.now in
     let all : c.as_slice-stripe-items.result.now ≡ risk nodes st = search rules in
+    let coded : Some c.unwrap-code.result ≡ code_shown st c.loop-stripe-item.result.0 = search rules in
     let told : Some c.unwrap-missing.result ≡ missing_shown nodes st c.loop-stripe-item.result.0 = search rules in
     record {
       between = c.in_ok-push_risk_row.ensures.between;
-      told = risks_more nodes st _ c.loop-stripe.stripe-index c.loop-stripe-item.result all c.loop-stripe-test.true c.loop-stripe-item.is _ _ _ c.unwrap-missing.result
-          c.loop-stripe.invariant.told told c.in_ok-push_risk_row.ensures.row;
+      told = risks_more nodes st _ c.loop-stripe.stripe-index c.loop-stripe-item.result all c.loop-stripe-test.true c.loop-stripe-item.is _ _ _ c.unwrap-code.result c.unwrap-missing.result
+          c.loop-stripe.invariant.told coded told c.in_ok-push_risk_row.ensures.row;
     }
 
 pub returns-clause-text : goal.returns-clause-text
