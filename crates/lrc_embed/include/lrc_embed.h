@@ -36,8 +36,12 @@ extern "C" {
 
 // The numbers of stripes, 0 to 4095; as many rows as lrc_embed_risk can ever need.
 #define LRC_STRIPES 4096
-// The numbers of fragments of a stripe, 0 to 15: 0 to 5 and 12 are group A, 6 to 11 and 13 group B, 14 and 15 are global.
+// The numbers of fragments, 0 to 15. A wide stripe has all of them: 0 to 5 and 12 are group A, 6 to 11 and 13 group B, 14
+// and 15 are global.
 #define LRC_FRAGMENTS 16
+// A narrow stripe has 0 to 9: 0 to 2 and 6 are group A, 3 to 5 and 7 group B, 8 and 9 are global. Of 10 to 15 it has no
+// homes, misses none, and needs no lease.
+#define LRC_NARROW_FRAGMENTS 10
 // The numbers of sessions are 1 to 8. A session is whoever holds a lease.
 #define LRC_SESSIONS 8
 // The most entries of a history.
@@ -78,7 +82,7 @@ typedef struct {
 
 // Behind each kind: which fields of lrc_command it uses. The others may be anything, and are 0 in the entry of the history.
 enum lrc_command_kind {
-    LRC_PLACE = 1,     // stripe: give each fragment of a new stripe a home
+    LRC_PLACE = 1,     // stripe: give each fragment of a new wide stripe a home
     LRC_DROP = 2,      // stripe: take a stripe out, with its homes and leases
     LRC_LEASE = 3,     // stripe, fragment: ask for the lease of a fragment
     LRC_NEXT = 4,      // nothing: ask for the lease of the most urgent fragment
@@ -95,6 +99,7 @@ enum lrc_command_kind {
     LRC_UPGRADE = 15,  // domain: take all nodes of an upgrade domain offline
     LRC_UPGRADED = 16, // domain: its nodes can be reached again, but those that are down
     LRC_TICK = 17,     // nothing: move the clock on by one, and end each lease for which this is the third tick
+    LRC_PLACE6 = 18,   // stripe: give each fragment of a new narrow stripe a home
 };
 
 typedef struct {
@@ -124,7 +129,7 @@ typedef struct {
 } lrc_lease;
 
 enum lrc_reply_kind {
-    LRC_PLACED = 1,  // seats: the homes of fragments 0 to 15
+    LRC_PLACED = 1,  // seats: the homes of fragments 0 to 15 of a wide stripe
     LRC_DROPPED = 2,
     LRC_GRANTED = 3, // lease, repair, sources
     LRC_IDLE = 4,    // no fragment can be leased
@@ -132,13 +137,15 @@ enum lrc_reply_kind {
     LRC_CHANGED = 6, // the node or the upgrade domain was changed
     LRC_REFUSED = 7, // refusal, detail: nothing was changed but the history
     LRC_TICKED = 8,  // clock, ended
+    LRC_PLACED6 = 9, // seats: the homes of fragments 0 to 9 of a narrow stripe, and 0 in the last six
 };
 
 // From what a leased fragment is made.
 enum lrc_repair {
-    LRC_LOCAL = 1,  // sources: the six other fragments of its group, rising
+    LRC_LOCAL = 1,  // sources: the six other fragments of its group in a wide stripe, rising
     LRC_GLOBAL = 2, // the whole stripe
     LRC_MOVE = 3,   // its own home, which is online
+    LRC_LOCAL3 = 4, // sources: the three other fragments of its group in a narrow stripe, rising, and 0 in the last three
 };
 
 // Behind a refusal: what `detail` is, else 0.
@@ -187,7 +194,7 @@ typedef struct {
     lrc_reply reply;
 } lrc_entry;
 
-// The home of a fragment; all is 0 where it has none.
+// The home of a fragment; all is 0 where it has none, and where the stripe has no such fragment.
 typedef struct {
     lrc_seat seat;
     uint8_t is_there; // 0 or 1
@@ -197,6 +204,12 @@ typedef struct {
 typedef struct {
     lrc_home homes[LRC_FRAGMENTS];
 } lrc_homes;
+
+// The code of a stripe: which fragments it has, and from which of them a lost one is made.
+enum lrc_code {
+    LRC_WIDE = 1,   // LRC(12,2,2), of sixteen fragments
+    LRC_NARROW = 2, // LRC(6,2,2), of ten
+};
 
 enum lrc_level_kind {
     LRC_WHOLE = 1,       // no fragment is missing
@@ -250,6 +263,8 @@ uint32_t lrc_embed_homes(lrc_handle *handle, uint16_t stripe, lrc_homes *homes);
 uint32_t lrc_embed_level(lrc_handle *handle, uint16_t stripe, lrc_level *level);
 // The fragments without a home, or with one on a node that is not online. Fragment f is bit f.
 uint32_t lrc_embed_missing(lrc_handle *handle, uint16_t stripe, uint16_t *missing);
+// The lrc_code of the stripe, which is that of the command that placed it.
+uint32_t lrc_embed_code(lrc_handle *handle, uint16_t stripe, uint8_t *code);
 // The same, or UNKNOWN where the fragment has no live lease.
 uint32_t lrc_embed_lease(lrc_handle *handle, uint16_t stripe, uint8_t fragment, lrc_lease *lease);
 // DONE, IS_CLOSED, or UNKNOWN where there is no such node. The load counts homes and targets of leases.

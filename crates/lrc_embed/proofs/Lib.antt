@@ -1,3 +1,4 @@
+pub mod FilledLemmas
 pub mod OfLemmas
 pub mod ReplayLemmas
 pub mod Rows

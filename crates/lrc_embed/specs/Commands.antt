@@ -5,7 +5,7 @@ use Rattle.lrc_code.specs.declared.numbers.NodeNo.{NodeNo}
 use Rattle.lrc_code.specs.declared.numbers.UpgradeNo.{UpgradeNo}
 use Rattle.lrc_code.specs.declared.numbers.Fragment.{Fragment}
 use Rattle.lrc_book.specs.declared.command.Command.{Command}
-use Rattle.lrc_book.specs.declared.command.Command.TheVariants.{Place, Drop, Lease, Next, Done, Abandon, Revoke, Fail, Down, Up, Drain, Undrain, Retire, Join, Upgrade, Upgraded, Tick}
+use Rattle.lrc_book.specs.declared.command.Command.TheVariants.{Place, Place6, Drop, Lease, Next, Done, Abandon, Revoke, Fail, Down, Up, Drain, Undrain, Retire, Join, Upgrade, Upgraded, Tick}
 use Rattle.lrc_embed.specs.declared.command.LrcCommand.{LrcCommand}
 
 -- the command has this kind and names this stripe
@@ -47,6 +47,7 @@ IsCommand c (Join n) = IsOfNode 14 n c
 IsCommand c (Upgrade u) = IsOfDomain 15 u c
 IsCommand c (Upgraded u) = IsOfDomain 16 u c
 IsCommand c Tick = c.kind ≡ 17
+IsCommand c (Place6 s) = IsOfStripe 18 s c
 
 -- commands of this kind name a fragment
 abbrev pub names_fragment : ℕ → Bool
@@ -54,12 +55,12 @@ names_fragment kind = nat_eq kind 3 || (nat_eq kind 5 || (nat_eq kind 6 || nat_e
 
 -- commands of this kind name a stripe
 abbrev pub names_stripe : ℕ → Bool
-names_stripe kind = nat_eq kind 1 || (nat_eq kind 2 || names_fragment kind)
+names_stripe kind = nat_eq kind 1 || (nat_eq kind 2 || (nat_eq kind 18 || names_fragment kind))
 
 -- the kind, and the stripe and fragment that it names, are in their ranges
 abbrev pub is_command : LrcCommand → Bool
 is_command c =
-    (nat_le 1 c.kind && nat_le c.kind 17)
+    (nat_le 1 c.kind && nat_le c.kind 18)
     && ((not (names_stripe c.kind) || nat_lt c.stripe 4096) && (not (names_fragment c.kind) || nat_lt c.fragment 16))
 
 -- no command: all is 0
@@ -97,3 +98,4 @@ command_told (Join n) = of_node 14 n
 command_told (Upgrade u) = of_domain 15 u
 command_told (Upgraded u) = of_domain 16 u
 command_told Tick = record blank_command { kind = 17 }
+command_told (Place6 s) = of_stripe 18 s

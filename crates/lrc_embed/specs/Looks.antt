@@ -1,5 +1,7 @@
 -- What looks tell to C of what the book shows.
 use Rattle.std.specs.Prelude.{ℕ, Bool, if◌then◌else◌, List, map, replicate, Option, Some, None}
+use Rattle.lrc_code.specs.declared.codes.Code.{Code}
+use Rattle.lrc_code.specs.declared.codes.Code.TheVariants.{Wide, Narrow}
 use Rattle.lrc_code.specs.declared.numbers.StripeNo.{StripeNo}
 use Rattle.lrc_topology.specs.declared.seat.Seat.{Seat}
 use Rattle.lrc_topology.specs.declared.error.TopologyError.{TopologyError}
@@ -18,6 +20,11 @@ use Rattle.lrc_embed.specs.declared.risk.LrcRisk.{LrcRisk}
 -- 1 for yes
 abbrev pub flag : Bool → ℕ
 flag b = if b then 1 else 0
+
+-- the number of a code
+abbrev pub code_told : Code → ℕ
+code_told Wide = 1
+code_told Narrow = 2
 
 -- a home, or none
 abbrev pub home_told : Option Seat → LrcHome

@@ -1,11 +1,11 @@
 -- What a reply that crosses to C says of the book's own.
-use Rattle.std.specs.Prelude.{ℕ, List, map, replicate}
+use Rattle.std.specs.Prelude.{ℕ, List, ◌++◌, map, replicate}
 use Rattle.lrc_topology.specs.declared.seat.Seat.{Seat}
 use Rattle.lrc_leases.specs.declared.lease.Lease.{Lease}
 use Rattle.lrc_book.specs.declared.kind.Kind.{Kind}
-use Rattle.lrc_book.specs.declared.kind.Kind.TheVariants.{Local, Global, Move}
+use Rattle.lrc_book.specs.declared.kind.Kind.TheVariants.{Local, Local3, Global, Move}
 use Rattle.lrc_book.specs.declared.reply.Reply.{Reply}
-use Rattle.lrc_book.specs.declared.reply.Reply.TheVariants.{Placed, Dropped, Granted, Idle, Ended, Changed, Refused, Ticked}
+use Rattle.lrc_book.specs.declared.reply.Reply.TheVariants.{Placed, Placed6, Dropped, Granted, Idle, Ended, Changed, Refused, Ticked}
 use Rattle.lrc_book.specs.declared.refusal.Refusal.{Refusal}
 use Rattle.lrc_book.specs.declared.refusal.Refusal.TheVariants as refusal
 use Rattle.lrc_book.specs.declared.entry.Entry.{Entry}
@@ -32,11 +32,12 @@ lease_in_reply l = record (lease_told l) { expiry = 0 }
 abbrev pub no_lease : LrcLease
 no_lease = record { stripe = 0; fragment = 0; holder = 0; target = no_seat; epoch = 0; expiry = 0 }
 
--- the number of a kind of repair, and the fragments that it reads
+-- the number of a kind of repair, and the fragments that it reads, with 0 behind them where they are fewer than six
 abbrev pub repair_told : Kind → ℕ × List ℕ
 repair_told (Local sources) = (1, map (λ f. f.value) sources)
 repair_told Global = (2, replicate 6 0)
 repair_told Move = (3, replicate 6 0)
+repair_told (Local3 sources) = (4, map (λ f. f.value) sources ++ replicate 3 0)
 
 -- the number of a refusal, and the number that it names, or 0
 abbrev pub refusal_told : Refusal → ℕ × ℕ
@@ -84,6 +85,7 @@ reply_told Ended = record blank_reply { kind = 5 }
 reply_told Changed = record blank_reply { kind = 6 }
 reply_told (Refused r) = record blank_reply { kind = 7; refusal = (refusal_told r).0; detail = (refusal_told r).1 }
 reply_told (Ticked clock ended) = record blank_reply { kind = 8; clock = clock; ended = ended }
+reply_told (Placed6 seats) = record blank_reply { kind = 9; seats = map seat_told seats ++ replicate 6 no_seat }
 
 abbrev pub entry_told : Entry → LrcEntry
 entry_told e = record { session = e.session.value; reserved = replicate 3 0; command = command_told e.command; reply = reply_told e.reply }

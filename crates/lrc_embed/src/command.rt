@@ -5,8 +5,8 @@ use lrc_book::Command;
 use lrc_code::{Fragment, NodeNo, StripeNo, UpgradeNo};
 
 /// A command. Kind 1 is `place`, 2 `drop`, 3 `lease`, 4 `next`, 5 `done`, 6 `abandon`, 7 `revoke`, 8 `fail`, 9 `down`,
-/// 10 `up`, 11 `drain`, 12 `undrain`, 13 `retire`, 14 `join`, 15 `upgrade`, 16 `upgraded` and 17 `tick`. What the kind does
-/// not use may be anything, and is told as 0.
+/// 10 `up`, 11 `drain`, 12 `undrain`, 13 `retire`, 14 `join`, 15 `upgrade`, 16 `upgraded`, 17 `tick` and 18 `place6`. What
+/// the kind does not use may be anything, and is told as 0.
 #[repr(C)]
 #[derive(Clone, Copy)]
 pub struct LrcCommand {
@@ -62,6 +62,7 @@ impl LrcCommand {
             15 => Some(Command::Upgrade(UpgradeNo { value: self.domain })),
             16 => Some(Command::Upgraded(UpgradeNo { value: self.domain })),
             17 => Some(Command::Tick),
+            18 => Some(Command::Place6(StripeNo::new(self.stripe)?)),
             _ => None,
         }
     }
@@ -87,6 +88,7 @@ impl LrcCommand {
             Command::Upgrade(domain) => of_domain(15, domain),
             Command::Upgraded(domain) => of_domain(16, domain),
             Command::Tick => LrcCommand { kind: 17, ..BLANK },
+            Command::Place6(stripe) => of_stripe(18, stripe),
         }
     }
 }

@@ -13,7 +13,7 @@ pub struct LrcHome {
     pub reserved: [u8; 3],
 }
 
-/// The homes of fragments 0 to 15.
+/// The homes of fragments 0 to 15; a narrow stripe has none from 10 on.
 #[repr(C)]
 #[derive(Clone, Copy)]
 pub struct LrcHomes {

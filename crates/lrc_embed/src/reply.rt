@@ -1,4 +1,4 @@
-ghost use Rattle.std.specs.Prelude.{◌≡◌, map, replicate};
+ghost use Rattle.std.specs.Prelude.{◌≡◌, ◌-◌, ◌≤◌, ◌++◌, length, map, replicate};
 ghost use Rattle.lrc_embed.specs.Replies.{repair_told, refusal_told, reply_told};
 
 use crate::{LrcLease, LrcSeat};
@@ -7,8 +7,8 @@ use lrc_code::Fragment;
 
 /// A reply. Kind 1 is placed, on the seats of fragments 0 to 15; 2 dropped; 3 granted, with the lease and the kind of
 /// its repair; 4 idle; 5 ended; 6 changed; 7 refused, with the number of the refusal and what that names as its
-/// detail; 8 ticked, with the new clock and how many leases ended. Repair 1 is local, from the six sources; 2 global; 3 a
-/// move. What the kind does not use is 0.
+/// detail; 8 ticked, with the new clock and how many leases ended; 9 placed6, on the seats of fragments 0 to 9. Repair 1 is
+/// local, from the six sources; 2 global; 3 a move; 4 local3, from the first three sources. What the kind does not use is 0.
 #[repr(C)]
 #[derive(Clone, Copy, PartialEq, Eq)]
 pub struct LrcReply {
@@ -76,6 +76,10 @@ impl LrcReply {
                 self.clock = *clock;
                 self.ended = *ended;
             }
+            Reply::Placed6(seats) => {
+                self.kind = 9;
+                self.seats = LrcSeat::of_all(seats);
+            }
         }
     }
 
@@ -91,12 +95,18 @@ impl LrcReply {
             }
             Kind::Global => self.repair = 2,
             Kind::Move => self.repair = 3,
+            Kind::Local3(sources) => {
+                self.repair = 4;
+                self.sources = numbers_of(sources);
+            }
         }
     }
 }
 
-fn numbers_of(fragments: &[Fragment; 6]) -> [u8; 6]
-    ensures { result ≡ map (λ f. f.value) fragments.now }
+/// The numbers of the fragments, and 0 behind them.
+fn numbers_of(fragments: &[Fragment]) -> [u8; 6]
+    requires few { length fragments.now ≤ 6 }
+    ensures { result ≡ map (λ f. f.value) fragments.now ++ replicate (6 - length fragments.now) 0 }
 {
     let mut numbers = [0; 6];
     for (i, fragment) in fragments.iter().enumerate() {

@@ -1,5 +1,5 @@
-ghost use Rattle.std.specs.Prelude.{◌≡◌, map};
-ghost use Rattle.lrc_embed.specs.Replies.{seat_told};
+ghost use Rattle.std.specs.Prelude.{◌≡◌, ◌-◌, ◌≤◌, ◌++◌, length, map, replicate};
+ghost use Rattle.lrc_embed.specs.Replies.{seat_told, no_seat};
 
 use lrc_book::Seat;
 
@@ -23,8 +23,10 @@ impl LrcSeat {
         }
     }
 
-    pub(crate) fn of_all(seats: &[Seat; 16]) -> [LrcSeat; 16]
-        ensures { result ≡ map seat_told seats.now }
+    /// The seats of the fragments from 0 on, and no seat behind them.
+    pub(crate) fn of_all(seats: &[Seat]) -> [LrcSeat; 16]
+        requires few { length seats.now ≤ 16 }
+        ensures { result ≡ map seat_told seats.now ++ replicate (16 - length seats.now) no_seat }
     {
         let mut told = [LrcSeat::NONE; 16];
         for (i, seat) in seats.iter().enumerate() {

@@ -1,18 +1,18 @@
 ghost use Rattle.std.specs.Prelude.{◌≡◌, ◌≢◌, ◌≤◌, ◌<◌, ◌⊎◌, true, is_some, Some, None, option_map, length, map};
 ghost use Rattle.lrc_book.specs.Books.{state_of};
-ghost use Rattle.lrc_book.specs.States.{homes_shown, level_shown, missing_shown, lease_of, load_shown, mode_shown};
+ghost use Rattle.lrc_book.specs.States.{code_shown, homes_shown, level_shown, missing_shown, lease_of, load_shown, mode_shown};
 ghost use Rattle.lrc_book.specs.Urgency.{risk};
 ghost use Rattle.lrc_embed.specs.Calls.{Of, AtStripe, AtFragment, IsAtFront, node_no};
 ghost use Rattle.lrc_embed.specs.Replies.{lease_told};
-ghost use Rattle.lrc_embed.specs.Looks.{homes_told, level_told, risk_told, mode_told};
+ghost use Rattle.lrc_embed.specs.Looks.{code_told, homes_told, level_told, risk_told, mode_told};
 
 use crate::status::{DONE, IS_CLOSED, OUT_OF_MEMORY, OUT_OF_RANGE, SHORT, UNKNOWN};
 use crate::{LrcHandle, LrcHomes, LrcLease, LrcLevel, LrcMode, LrcRisk};
 use lrc_book::Level;
-use lrc_code::{Fragment, NodeNo, StripeNo};
+use lrc_code::{Code, Fragment, NodeNo, StripeNo};
 use std::alloc::Global;
 
-/// The home of each fragment of a stripe.
+/// The home of each of the sixteen fragments; a narrow stripe has none from 10 on.
 #[unsafe(no_mangle)]
 pub extern "C" fn lrc_embed_homes(
     alloc: Global,
@@ -111,6 +111,50 @@ pub extern "C" fn lrc_embed_missing(
             DONE
         }
         None => UNKNOWN,
+    }
+}
+
+/// The code of a stripe: 1 is wide, 2 narrow.
+#[unsafe(no_mangle)]
+pub extern "C" fn lrc_embed_code(
+    alloc: Global,
+    handle: &mut LrcHandle,
+    stripe: u16,
+    code: &mut u8,
+) -> u32
+    ensures same { handle.new.owned.book ≡ handle.old.owned.book }
+    ensures told { (result ≡ 0) → Of handle.old.owned.book (λ b. AtStripe stripe (λ s. option_map code_told (code_shown (state_of b) s) ≡ Some code.new)) }
+    ensures unknown { (result ≡ 4) → Of handle.old.owned.book (λ b. AtStripe stripe (λ s. code_shown (state_of b) s ≡ None)) }
+    ensures closed { (result ≡ 1) → handle.old.owned.book ≡ None }
+    ensures range { (result ≡ 3) → 4096 ≤ stripe }
+    ensures range_first { 4096 ≤ stripe → result ≡ 3 }
+    ensures statuses { (result ≡ 0) ⊎ (result ≡ 1) ⊎ (result ≡ 3) ⊎ (result ≡ 4) }
+    ensures unwritten { (result ≢ 0) → code.new ≡ code.old }
+{
+    let Some(stripe) = StripeNo::new(stripe) else {
+        return OUT_OF_RANGE;
+    };
+    let Some(book) = handle.take(alloc) else {
+        return IS_CLOSED;
+    };
+    let shown = book.code(stripe);
+    handle.put(book);
+    match shown {
+        Some(shown) => {
+            *code = number_of(shown);
+            DONE
+        }
+        None => UNKNOWN,
+    }
+}
+
+/// The number of a code.
+fn number_of(code: Code) -> u8
+    ensures { result ≡ code_told code }
+{
+    match code {
+        Code::Wide => 1,
+        Code::Narrow => 2,
     }
 }
 
