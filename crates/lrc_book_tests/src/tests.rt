@@ -2,6 +2,7 @@
 
 mod leases;
 mod limits;
+mod narrow;
 mod repair;
 mod steps;
 mod ticks;

@@ -1,3 +1,5 @@
+mod narrow;
+
 use lrc_code::{Class, Fault, FaultNo, Fragment, LossMask, NodeNo, SessionNo, StripeNo, UpgradeNo};
 use std::process::Abort;
 

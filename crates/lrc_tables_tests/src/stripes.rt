@@ -1,9 +1,16 @@
+ghost use Rattle.std.specs.Prelude.{IsTrue};
+ghost use Rattle.std.specs.List.{All};
+ghost use Rattle.lrc_code.specs.Codes.{has_fragment};
+ghost use Rattle.lrc_stripes.specs.Stored.{has_slot};
+ghost use Rattle.lrc_stripes.specs.Tables.{stored_in};
+
 mod beside;
 mod domains;
+mod narrow;
 mod plain_store;
 
 use crate::stores::{Plan, nodes};
-use lrc_code::{Fragment, LossMask, NodeNo, StripeNo, UpgradeNo};
+use lrc_code::{Code, Fragment, LossMask, NodeNo, StripeNo, UpgradeNo};
 use lrc_stripes::{Level, Seat, Stripes};
 use std::process::Abort;
 
@@ -62,6 +69,7 @@ fn set_home(
     seat: Seat,
 ) {
     assert!(rt; stripes.contains(stripe));
+    assert!(rt; has_fragment(stripes, stripe, fragment));
     assert!(rt; stripes.home(stripe, fragment).is_none());
     assert!(rt; stripes.has_slot(seat));
     assert!(rt; stripes.is_without_home(seat));
@@ -70,7 +78,54 @@ fn set_home(
 
 fn clear_home(rt: &impl Abort, stripes: &mut Stripes, stripe: StripeNo, fragment: Fragment) {
     assert!(rt; stripes.contains(stripe));
+    assert!(rt; has_fragment(stripes, stripe, fragment));
     stripes.clear_home(stripe, fragment);
+}
+
+/// Whether the code of a stripe that is there has the fragment.
+fn has_fragment(stripes: &Stripes, stripe: StripeNo, fragment: Fragment) -> bool
+    ensures { IsTrue result → IsTrue (has_fragment ((stored_in stripes.now).code stripe) fragment.value) }
+{
+    match stripes.code(stripe) {
+        Some(code) => fragment.get() < code.fragments(),
+        None => false,
+    }
+}
+
+/// Whether all of these are slots of nodes.
+fn are_slots(stripes: &Stripes, seats: &[Seat]) -> bool
+    ensures { IsTrue result → All (λ seat. IsTrue (has_slot (stored_in stripes.now).nodes seat)) seats.now }
+{
+    for seat in seats.iter() {
+        if !stripes.has_slot(*seat) {
+            return false;
+        }
+    }
+    true
+}
+
+/// Seats in a slot of the nodes from this one on.
+fn seats_from(number: u16, slot: u16) -> [Seat; 16] {
+    let mut seats = [seat(0, slot); 16];
+    for place in 0..16usize {
+        seats[place].node.value = number.saturating_add(place as u16);
+    }
+    seats
+}
+
+/// Adds a stripe of the code with its fragments on the first of these seats.
+fn add_seated(
+    rt: &impl Abort,
+    stripes: &mut Stripes,
+    code: Code,
+    stripe: StripeNo,
+    seats: &[Seat; 16],
+) {
+    let seats = &seats[..code.fragments() as usize];
+    assert!(rt; !stripes.contains(stripe));
+    assert!(rt; stripes.spare() >= 1);
+    assert!(rt; are_slots(stripes, seats));
+    stripes.add_with_homes(code, stripe, seats);
 }
 
 fn set_offline(rt: &impl Abort, stripes: &mut Stripes, number: u16, is_offline: bool) {

@@ -89,10 +89,11 @@ fn expect_history(rt: &impl Abort, book: &Book, rows: &[Row]) {
 }
 
 /// A command of each kind. All but the last would change the book that is filled below.
-fn each_kind() -> [Command; 17] {
+fn each_kind() -> [Command; 18] {
     let domain = UpgradeNo { value: 0 };
     [
         Command::Place(TWO),
+        Command::Place6(TWO),
         Command::Drop(ONE),
         Command::Lease(ONE, SIX),
         Command::Next,

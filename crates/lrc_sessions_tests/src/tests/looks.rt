@@ -120,6 +120,58 @@ fn look_around<N: Naming, R: Wait + Abort>(rt: &R, alloc: Global, parts: Parts)
     end(rt, manager, sessions, &ONE_EACH);
 }
 
+#[test]
+fn looks_tell_the_codes_apart(rt: HostRuntime) -> Result<(), Fail> {
+    let parts = parts(rt.alloc(), 2)?;
+    look_at_both_codes::<Brand, _>(&rt, rt.alloc(), parts);
+    Ok(())
+}
+
+/// One session places a narrow stripe and the other a wide one, and each says that a node with a fragment of both has failed.
+fn look_at_both_codes<N: Naming, R: Wait + Abort>(rt: &R, alloc: Global, parts: Parts)
+    requires topology { parts.topology ≡ N.topology }
+    requires limit { parts.limit ≡ N.limit }
+    requires count { parts.count ≡ N.count }
+    requires name { parts.name ≡ N.name }
+    requires shares { parts.shares ≡ N.parts }
+    requires log { (parts.log ≡ N.log) × (parts.start ≡ N.start) }
+{
+    let (manager, mut sessions) = open::<N, _>(rt, alloc, parts);
+    let mut second = take(rt, &mut sessions);
+    let mut first = take(rt, &mut sessions);
+    call(rt, &manager, &mut first, Command::Place6(ONE));
+    call(rt, &manager, &mut second, Command::Place(TWO));
+    call(rt, &manager, &mut first, fail(0));
+    call(rt, &manager, &mut second, fail(3));
+    meet(rt, &manager, &mut first, &mut second, 4);
+    expect_both_at_risk(rt, alloc, &mut first);
+    expect_both_at_risk(rt, alloc, &mut second);
+    put(rt, &mut sessions, first);
+    put(rt, &mut sessions, second);
+    let made = [(SessionNo { value: 1 }, 2), (SessionNo { value: 2 }, 2)];
+    end(rt, manager, sessions, &made);
+}
+
+fn fail(number: u16) -> Command {
+    Command::Fail(NodeNo { value: number })
+}
+
+/// The narrow stripe has lost a fragment of each local group, and the wide one a fragment of one group and a global parity, so that
+/// it withstands one loss less and is repaired first.
+fn expect_both_at_risk<N: Naming>(rt: &impl Abort, alloc: Global, session: &mut Session<N>) {
+    assert!(rt; level_of(rt, session, ONE) == (4, Some(Level::AtRisk(2))));
+    assert!(rt; level_of(rt, session, TWO) == (4, Some(Level::AtRisk(1))));
+    assert!(rt; load_of(rt, session, NodeNo { value: 1 }) == (4, Some(2)));
+    assert!(rt; load_of(rt, session, NodeNo { value: 9 }) == (4, Some(1)));
+    let wanted = [(TWO, Level::AtRisk(1)), (ONE, Level::AtRisk(2))];
+    match session.risk(alloc) {
+        Ok(seen) => {
+            assert!(rt; seen.front == 4 && seen.value.as_slice() == wanted.as_slice());
+        }
+        Err(_) => panic!(rt; "room and a view"),
+    }
+}
+
 /// A session sees so many entries, and this stripe whole.
 fn expect_whole<N: Naming>(
     rt: &impl Abort,

@@ -2,7 +2,7 @@
 
 use super::{close_run, expect_track, nodes, parts, run_all};
 use lrc_book::{Book, Command, Level, Mode, Record, Reply, Seat};
-use lrc_code::{Fragment, NodeNo, SessionNo, StripeNo, UpgradeNo};
+use lrc_code::{Code, Fragment, NodeNo, SessionNo, StripeNo, UpgradeNo};
 use lrc_sessions::{Closing, OpenGate, Receipt, Track};
 use std::alloc::Global;
 use std::marker::Brand;
@@ -84,7 +84,8 @@ fn command_on_stripes(kind: u64, number: u64) -> Command {
     };
     let epoch = (number / 128 % 3 + 1) as u32;
     match kind {
-        0 | 1 => Command::Place(stripe),
+        0 => Command::Place(stripe),
+        1 => Command::Place6(stripe),
         2 => Command::Tick,
         3 => Command::Drop(stripe),
         4 | 5 | 6 => Command::Lease(stripe, fragment),
@@ -134,6 +135,10 @@ fn expect_alike(rt: &impl Abort, book: &Book, fresh: &Book) {
     for number in 0..6 {
         let stripe = StripeNo { value: number };
         assert!(rt;
+            code(fresh, stripe) == code(book, stripe),
+            "of stripe {number}"
+        );
+        assert!(rt;
             homes(fresh, stripe) == homes(book, stripe),
             "of stripe {number}"
         );
@@ -151,6 +156,10 @@ fn expect_alike(rt: &impl Abort, book: &Book, fresh: &Book) {
 
 fn clock(book: &Book) -> u32 {
     book.clock()
+}
+
+fn code(book: &Book, stripe: StripeNo) -> Option<Code> {
+    book.code(stripe)
 }
 
 fn homes(book: &Book, stripe: StripeNo) -> Option<[Option<Seat>; 16]> {

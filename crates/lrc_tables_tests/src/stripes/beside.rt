@@ -1,13 +1,8 @@
 //! A run of calls of a store beside those of one that is searched from end to end.
 
-ghost use Rattle.std.specs.Prelude.{IsTrue};
-ghost use Rattle.std.specs.List.{All};
-ghost use Rattle.lrc_stripes.specs.Stored.{has_node, has_slot};
-ghost use Rattle.lrc_stripes.specs.Tables.{stored_in};
-
 use crate::stripes::plain_store::{PlainRow, PlainStore};
-use crate::stripes::{fragment_numbered, no_stripe, node, reserve, seat};
-use lrc_code::{Fragment, UpgradeNo};
+use crate::stripes::{are_slots, fragment_numbered, has_fragment, no_stripe, node, reserve, seat};
+use lrc_code::{Code, Fragment, UpgradeNo};
 use lrc_stripes::{Seat, Stripes};
 use std::process::Abort;
 
@@ -35,12 +30,15 @@ fn plain() -> Option<PlainStore> {
 fn tell_alike(stripes: &Stripes, plain: &PlainStore) -> bool {
     for row in plain.rows {
         let alike = if row.is_there {
-            stripes.missing(row.stripe) == Some(plain.missing(&row))
+            stripes.code(row.stripe) == Some(row.code)
+                && stripes.missing(row.stripe) == Some(plain.missing(&row))
                 && stripes.level(row.stripe) == Some(plain.level(&row))
                 && stripes.contains(row.stripe)
                 && stripes.needs(row.stripe) == Some(stripes.needs_there(row.stripe))
         } else {
-            stripes.missing(row.stripe).is_none() && stripes.level(row.stripe).is_none()
+            stripes.code(row.stripe).is_none()
+                && stripes.missing(row.stripe).is_none()
+                && stripes.level(row.stripe).is_none()
         };
         if !alike {
             return false;
@@ -111,7 +109,7 @@ fn lose_alike(stripes: &Stripes, plain: &PlainStore, domain: u8) -> bool {
         && stripes.would_lose_short(number) == plain.would_lose_short(domain as u16)
 }
 
-/// Gives a fragment a home, if it has none and no other has this one.
+/// Gives a fragment of the stripe's code a home, if it has none and no other has this one.
 fn set_home(
     stripes: &mut Stripes,
     plain: &mut PlainStore,
@@ -123,7 +121,10 @@ fn set_home(
         return;
     }
     let stripe = plain.rows[place].stripe;
-    if !stripes.contains(stripe) || !stripes.has_slot(seat) {
+    if !stripes.contains(stripe)
+        || !has_fragment(stripes, stripe, fragment)
+        || !stripes.has_slot(seat)
+    {
         return;
     }
     if stripes.home(stripe, fragment).is_none() && stripes.is_without_home(seat) {
@@ -132,20 +133,20 @@ fn set_home(
     }
 }
 
-/// Takes a fragment's home away.
+/// Takes the home of a fragment of the stripe's code away.
 fn clear_home(stripes: &mut Stripes, plain: &mut PlainStore, place: usize, fragment: Fragment) {
     if place >= 5 {
         return;
     }
     let stripe = plain.rows[place].stripe;
-    if stripes.contains(stripe) {
+    if stripes.contains(stripe) && has_fragment(stripes, stripe, fragment) {
         stripes.clear_home(stripe, fragment);
         plain.rows[place].homes[fragment.value as usize] = None;
     }
 }
 
-/// Takes a stripe out that is there, and adds one that is not.
-fn turn(stripes: &mut Stripes, plain: &mut PlainStore, place: usize) {
+/// Takes a stripe out that is there, and adds one that is not, of the code.
+fn turn(stripes: &mut Stripes, plain: &mut PlainStore, place: usize, code: Code) {
     if place >= 5 {
         return;
     }
@@ -155,42 +156,43 @@ fn turn(stripes: &mut Stripes, plain: &mut PlainStore, place: usize) {
         plain.rows[place].is_there = false;
         plain.rows[place].homes = [None; 16];
     } else if stripes.spare() >= 1 {
-        stripes.add(stripe);
+        match code {
+            Code::Wide => stripes.add(stripe),
+            Code::Narrow => stripes.add_narrow(stripe),
+        }
         plain.rows[place].is_there = true;
+        plain.rows[place].code = code;
         plain.rows[place].homes = [None; 16];
     }
 }
 
-/// Adds a stripe that is not there with its fragments on nodes from this one on.
-fn add_seated(stripes: &mut Stripes, plain: &mut PlainStore, place: usize, number: u16) {
+/// Adds a stripe of the code that is not there with its fragments on nodes from this one on.
+fn add_seated(
+    stripes: &mut Stripes,
+    plain: &mut PlainStore,
+    place: usize,
+    number: u16,
+    code: Code,
+) {
     if place >= 5 {
         return;
     }
     let stripe = plain.rows[place].stripe;
-    let mut seats = [seat(0, place as u16 % 4); 16];
+    let mut sixteen = [seat(0, place as u16 % 4); 16];
     for fragment in 0..16usize {
-        seats[fragment].node.value = (number % 20 + fragment as u16) % 20;
+        sixteen[fragment].node.value = (number % 20 + fragment as u16) % 20;
     }
-    if stripes.contains(stripe) || stripes.spare() == 0 || !are_slots(stripes, &seats) {
+    let seats = &sixteen[..code.fragments() as usize];
+    if stripes.contains(stripe) || stripes.spare() == 0 || !are_slots(stripes, seats) {
         return;
     }
-    stripes.add_with_homes(stripe, &seats);
+    stripes.add_with_homes(code, stripe, seats);
     plain.rows[place].is_there = true;
-    for fragment in 0..16usize {
+    plain.rows[place].code = code;
+    plain.rows[place].homes = [None; 16];
+    for fragment in 0..seats.len() {
         plain.rows[place].homes[fragment] = Some(seats[fragment]);
     }
-}
-
-/// Whether all of these are slots of nodes.
-fn are_slots(stripes: &Stripes, seats: &[Seat]) -> bool
-    ensures { IsTrue result → All (λ seat. IsTrue (has_slot (stored_in stripes.now).nodes seat)) seats.now }
-{
-    for seat in seats.iter() {
-        if !stripes.has_slot(*seat) {
-            return false;
-        }
-    }
-    true
 }
 
 /// Sets whether the two nodes of an upgrade domain are offline.
@@ -246,8 +248,9 @@ fn call(stripes: &mut Stripes, plain: &mut PlainStore, state: u32, fragment: Fra
         clear_home(stripes, plain, place, fragment);
     } else if kind < 27 {
         if is_rare || !plain_is_there(plain, place) {
-            turn(stripes, plain, place);
-            add_seated(stripes, plain, (place + 1) % 5, number);
+            let code = code_for(fragment);
+            turn(stripes, plain, place, code);
+            add_seated(stripes, plain, (place + 1) % 5, number, code);
         }
     } else if kind < 29 {
         set_offline(stripes, plain, number, is_rare);
@@ -255,6 +258,15 @@ fn call(stripes: &mut Stripes, plain: &mut PlainStore, state: u32, fragment: Fra
         set_domain_offline(stripes, plain, number % 10, is_rare);
     } else {
         set_draining(stripes, plain, number, is_rare);
+    }
+}
+
+/// Each code as often as the other, by a fragment that was drawn.
+fn code_for(fragment: Fragment) -> Code {
+    if fragment.get() < 8 {
+        Code::Narrow
+    } else {
+        Code::Wide
     }
 }
 

@@ -1,13 +1,14 @@
 //! A store that keeps homes alone, and is searched from end to end.
 
-use lrc_code::{Fragment, LossMask, NodeNo, StripeNo};
+use lrc_code::{Code, Fragment, LossMask, NodeNo, StripeNo};
 use lrc_stripes::{Level, Seat};
 
-/// A stripe, and the homes of its fragments while it is there.
+/// A stripe, and its code and the homes of its fragments while it is there.
 #[derive(Clone, Copy)]
 pub(crate) struct PlainRow {
     pub(crate) stripe: StripeNo,
     pub(crate) is_there: bool,
+    pub(crate) code: Code,
     pub(crate) homes: [Option<Seat>; 16],
 }
 
@@ -17,6 +18,7 @@ impl PlainRow {
         Some(PlainRow {
             stripe: StripeNo::new(number)?,
             is_there: false,
+            code: Code::Wide,
             homes: [None; 16],
         })
     }
@@ -25,10 +27,14 @@ impl PlainRow {
         self.homes[fragment.value as usize]
     }
 
+    fn has(&self, fragment: Fragment) -> bool {
+        fragment.get() < self.code.fragments()
+    }
+
     fn homeless(&self) -> LossMask {
         let mut mask = LossMask::from_bits(0);
         for fragment in Fragment::all() {
-            if self.home(fragment).is_none() {
+            if self.has(fragment) && self.home(fragment).is_none() {
                 mask = mask.with(fragment);
             }
         }
@@ -67,7 +73,7 @@ impl PlainStore {
                 Some(seat) => self.is_offline(seat.node),
                 None => true,
             };
-            if is_missing {
+            if row.has(fragment) && is_missing {
                 mask = mask.with(fragment);
             }
         }
@@ -75,12 +81,12 @@ impl PlainStore {
     }
 
     pub(crate) fn needs_lease(&self, row: &PlainRow) -> bool {
-        for home in row.homes {
-            let is_to_move = match home {
+        for fragment in Fragment::all() {
+            let is_to_move = match row.home(fragment) {
                 Some(seat) => self.is_draining(seat.node),
                 None => true,
             };
-            if is_to_move {
+            if row.has(fragment) && is_to_move {
                 return true;
             }
         }
@@ -89,10 +95,10 @@ impl PlainStore {
 
     pub(crate) fn level(&self, row: &PlainRow) -> Level {
         let missing = self.missing(row);
-        if !row.homeless().recoverable() {
+        if !row.homeless().recoverable_in(row.code) {
             return Level::Lost;
         }
-        match missing.margin() {
+        match missing.margin_in(row.code) {
             None => Level::Unavailable,
             Some(margin) => {
                 if missing.bits() == 0 {
@@ -105,7 +111,7 @@ impl PlainStore {
     }
 
     pub(crate) fn rank(&self, row: &PlainRow) -> u8 {
-        self.missing(row).margin().unwrap_or(4)
+        self.missing(row).margin_in(row.code).unwrap_or(4)
     }
 
     /// The first stripe that is recoverable, and not without the nodes of the domain.
@@ -130,8 +136,8 @@ impl PlainStore {
 
     fn is_lost_to(&self, row: &PlainRow, domain: u16) -> bool {
         row.is_there
-            && self.missing(row).recoverable()
-            && !self.missing_without(row, domain).recoverable()
+            && self.missing(row).recoverable_in(row.code)
+            && !self.missing_without(row, domain).recoverable_in(row.code)
     }
 
     /// Whether a fragment needs a lease, or two have homes on two nodes that are offline.

@@ -1,7 +1,7 @@
-//! Recoveries whose writer fails.
+//! Recoveries whose writer fails, and masks of narrow stripes.
 
 use super::fakes::{Dribble, Failure};
-use lrc_tool::{Plain, RunFault, Sink, Status, recover};
+use lrc_tool::{Plain, RunFault, Sink, Status, recover, recover_narrow};
 use std::alloc::Global;
 use std::io;
 
@@ -37,5 +37,33 @@ fn after_a_failed_write_a_prefix_of_the_line_is_written(rt: HostRuntime) {
                 );
             }
         }
+    }
+}
+
+/// Masks of a narrow stripe, what is told of them, and how that ends.
+const NARROW_MASKS: [(&str, &str, Status); 5] = [
+    ("0047", "A 4 B 0 G 0 not recoverable\n", Status::Done),
+    ("000f", "A 3 B 1 G 0 recoverable margin 0\n", Status::Done),
+    ("0009", "A 1 B 1 G 0 recoverable margin 2\n", Status::Done),
+    ("0300", "A 0 B 0 G 2 recoverable margin 1\n", Status::Done),
+    ("0400", "mask refused\n", Status::Refused),
+];
+
+/// Whether a mask of a narrow stripe is told so.
+fn is_told(alloc: Global, mask: &str, line: &str, status: Status) -> bool {
+    let mut sink = Plain::new(Dribble {
+        taken: Vec::new(alloc),
+        calls: 0,
+        fails_at: 0,
+        failure: Failure::NoByte,
+    });
+    let result = recover_narrow(alloc, mask, &mut sink);
+    result == Ok(status) && sink.inner.taken.as_slice() == line.as_bytes()
+}
+
+#[test]
+fn narrow_masks_are_told_by_their_own_code(rt: HostRuntime) {
+    for (mask, line, status) in NARROW_MASKS {
+        assert!(rt; is_told(rt.alloc(), mask, line, status), "{mask}");
     }
 }

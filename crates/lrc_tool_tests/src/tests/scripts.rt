@@ -6,9 +6,12 @@ use lrc_script::{Cause, ScriptError, parse_script};
 use std::alloc::Global;
 use std::test::Fail;
 
-const UNKNOWN_WORDS: [&str; 16] = [
+const UNKNOWN_WORDS: [&str; 19] = [
     " place 1",
     "Place 1",
+    "Place6 1",
+    "place61",
+    "place12 1",
     "DROP 1",
     "NEXT",
     "nexts",
@@ -25,8 +28,11 @@ const UNKNOWN_WORDS: [&str; 16] = [
     "\r",
 ];
 
-const WORD_COUNTS: [&str; 17] = [
+const WORD_COUNTS: [&str; 20] = [
     "place",
+    "place6",
+    "place6 1 2",
+    "place 6 1",
     "place 1 ",
     "place  1",
     "drop 1 2",
@@ -45,8 +51,10 @@ const WORD_COUNTS: [&str; 17] = [
     "upgraded",
 ];
 
-const NO_NUMBERS: [&str; 17] = [
+const NO_NUMBERS: [&str; 19] = [
     "place ",
+    "place6 ",
+    "place6 01",
     "place 00",
     "place 01",
     "drop -0",
@@ -65,8 +73,9 @@ const NO_NUMBERS: [&str; 17] = [
     "upgraded u1",
 ];
 
-const OUT_OF_RANGE: [&str; 13] = [
+const OUT_OF_RANGE: [&str; 14] = [
     "place 4096",
+    "place6 4096",
     "drop 18446744073709551617",
     "place 99999999999999999999999",
     "lease 4096 x",
@@ -177,6 +186,14 @@ fn lines_of_stripes_have_one_number(rt: HostRuntime) -> Result<(), Fail> {
         Command::Place(twelve),
     ];
     let text = b"# c\nplace 4095\n\ndrop 0\nplace 12";
+    assert!(rt; is_good(rt.alloc(), text, &commands));
+    let commands = [
+        Command::Place6(last),
+        Command::Place(zero),
+        Command::Place6(twelve),
+        Command::Place6(seven),
+    ];
+    let text = b"place6 4095\nplace 0\nplace6 12\nplace6 7";
     assert!(rt; is_good(rt.alloc(), text, &commands));
     Ok(())
 }
