@@ -23,9 +23,8 @@ static uint8_t kinds[MOST_ENTRIES];
 static size_t entries_count;
 static double called[KINDS][MOST_ROUNDS], own[KINDS][MOST_ROUNDS], more[KINDS][MOST_ROUNDS], replayed[KINDS][MOST_ROUNDS];
 
-// Book::call as it stands in the library, where bench/embed could make it visible. The result begins with 0 where a
-// reply follows.
-extern void bench_book_call(void *result, void *book, uint32_t session, const void *command) __attribute__((weak));
+// Book::add as it stands in the library, where bench/embed could make it visible. It returns 0 where it made the call.
+extern uint8_t bench_book_add(void *book, uint32_t session, const void *command) __attribute__((weak));
 // A command as the book has it: this library keeps the fields of all kinds so. Where another did not, the history that
 // is compared would be another.
 struct book_command {
@@ -134,22 +133,23 @@ static void replay_run(size_t from, size_t to) {
 }
 
 static void own_run(size_t from, size_t to) {
-    uint64_t result[32] = {0};
     uint8_t wrong = 0;
-    for (size_t i = from; i < to; i++) {
-        bench_book_call(result, handle.at, 1, &commands[i].read);
-        wrong |= *(uint8_t *)result;
-    }
+    for (size_t i = from; i < to; i++) wrong |= bench_book_add(handle.at, 1, &commands[i].read);
     WANT(wrong == 0);
 }
+
+// The book has `place6` right behind `place`, and counts from 0.
+static uint8_t book_kind(uint8_t kind) { return kind == LRC_PLACE ? 0 : kind == LRC_PLACE6 ? 1 : kind; }
+
+static bool names_stripe(uint8_t kind) { return kind < LRC_FAIL || kind == LRC_PLACE6; }
 
 static void read_all(void) {
     for (size_t i = 0; i < entries_count; i++) {
         const lrc_command *given = &entries[i].command;
         commands[i].given = *given;
-        commands[i].read = (struct book_command){.kind = (uint8_t)(given->kind - 1),
+        commands[i].read = (struct book_command){.kind = book_kind(given->kind),
                                                  .domain = given->domain,
-                                                 .number = given->kind < LRC_FAIL ? given->stripe : given->node,
+                                                 .number = names_stripe(given->kind) ? given->stripe : given->node,
                                                  .fragment = given->fragment,
                                                  .epoch = given->epoch};
     }
@@ -238,7 +238,7 @@ int main(int argc, char **argv) {
     // (so that the books of later rounds get memory that was touched)
     WANT(mallopt(M_MMAP_THRESHOLD, 1 << 30) && mallopt(M_TRIM_THRESHOLD, 1 << 30));
     make_all();
-    bool has_own = bench_book_call;
+    bool has_own = bench_book_add;
     read_all();
     for (unsigned round = 0; round < rounds; round++) {
         if (has_own) time_runs(own_run, own, round);

@@ -91,6 +91,12 @@ def fill(script):
         script.call(f"place {stripe}")
 
 
+def fill_both(script):
+    """Every other stripe is of the narrow code."""
+    for stripe in range(script.stripes):
+        script.call(f"{'place6' if stripe % 2 else 'place'} {stripe}")
+
+
 def fill_for_moves(script):
     """Three nodes of eight are gone meanwhile and join empty, so that there is room for all that two nodes of five hold,
     which are drained. But twenty nodes are there all the time, or a stripe would find none."""
@@ -239,7 +245,17 @@ def stuck(script):
 
 
 def mixed(script):
-    """All commands but `tick`, most of them such as do something."""
+    """All commands but `tick` and `place6`, most of them such as do something."""
+    mix(script, lambda: "place")
+
+
+def mixed6(script):
+    """As `mixed`, with stripes of both codes: one that was dropped is placed of either."""
+    mix(script, lambda: script.random.choice(["place", "place6"]))
+
+
+def mix(script, place_word):
+    """A stripe is placed by the word that the function tells."""
     pick, state = script.random, script.store
     for node in pick.sample(range(len(script.nodes)), 2):
         script.call(f"fail {node}")
@@ -251,16 +267,16 @@ def mixed(script):
         elif pick.random() < 0.5:
             script.call("next")
         else:
-            script.call(any_change(script))
+            script.call(any_change(script, place_word))
 
 
-def any_change(script):
+def any_change(script, place_word):
     """A command on a stripe, a node or a domain; nodes that are away come back before many of them are."""
     pick, state = script.random, script.store
     stripe, node = script.stripe(), script.node()
     if pick.random() < 0.6:
         number = f"{stripe} {pick.randrange(16)}" if pick.random() < 0.1 else None
-        return f"lease {number}" if number else f"drop {stripe}" if stripe in state.stripes else f"place {stripe}"
+        return f"lease {number}" if number else f"drop {stripe}" if stripe in state.stripes else f"{place_word()} {stripe}"
     if state.upgrading is not None:
         return f"upgraded {state.upgrading}"
     if len(state.gone) + len(state.down) + len(state.draining) > 4:
@@ -274,9 +290,9 @@ def any_change(script):
 
 KINDS = {
     kind.__name__: kind
-    for kind in (place, churn, repairs, leases, ticks, drains, flaps, upgrades, refused, comments, idle, stuck, mixed)
+    for kind in (place, churn, repairs, leases, ticks, drains, flaps, upgrades, refused, comments, idle, stuck, mixed, mixed6)
 }
-FILLS = {"ticks": fill_for_moves}
+FILLS = {"ticks": fill_for_moves, "mixed6": fill_both}
 
 
 def make(kind, nodes, stripes, seed, most_bytes, most_lines=None):

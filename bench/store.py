@@ -6,8 +6,6 @@ from collections import Counter, defaultdict, namedtuple
 
 Node = namedtuple("Node", "fault upgrade slots")
 
-CLASSES = [sum(1 << fragment for fragment in members) for members in ([0, 1, 2, 3, 4, 5, 12], [6, 7, 8, 9, 10, 11, 13], [14, 15])]
-CLASS_OF = [next(members for members in CLASSES if members >> fragment & 1) for fragment in range(16)]
 RANKS = 5
 TERM = 3  # how many ticks after its grant a lease ends
 
@@ -20,32 +18,42 @@ def members(mask):
         mask ^= lowest
 
 
-def weight(missing):
-    """How many fragments of these neither local group can rebuild alone."""
-    a, b, c = ((missing & of_class).bit_count() for of_class in CLASSES)
-    return max(0, a - 1) + max(0, b - 1) + c
+class Code:
+    """The fragments of its classes A, B and G; the class of each fragment; and the rank of each set of missing ones, which is
+    its margin, and 4 where it is not recoverable."""
+
+    def __init__(self, *classes):
+        self.classes = [sum(1 << fragment for fragment in of_class) for of_class in classes]
+        self.fragments = sum(map(len, classes))
+        self.class_of = [
+            next(of_class for of_class in self.classes if of_class >> fragment & 1) for fragment in range(self.fragments)
+        ]
+        self.ranks = [self.rank_of(missing) for missing in range(1 << self.fragments)]
+
+    def weight(self, missing):
+        """How many fragments of these neither local group can rebuild alone."""
+        a, b, c = ((missing & of_class).bit_count() for of_class in self.classes)
+        return max(0, a - 1) + max(0, b - 1) + c
+
+    def rank_of(self, missing):
+        weight = self.weight(missing)
+        if weight > 2:
+            return 4
+        local = missing & (self.classes[0] | self.classes[1])
+        return 2 - weight if local else 3 - missing.bit_count()
 
 
-def is_recoverable(missing):
-    return weight(missing) <= 2
-
-
-def rank(missing):
-    """The margin of a set of missing fragments, and 4 where it is not recoverable."""
-    if not is_recoverable(missing):
-        return 4
-    local = missing & (CLASSES[0] | CLASSES[1])
-    return 2 - weight(missing) if local else 3 - missing.bit_count()
-
-
-RANK = [rank(missing) for missing in range(1 << 16)]
+WIDE = Code([0, 1, 2, 3, 4, 5, 12], [6, 7, 8, 9, 10, 11, 13], [14, 15])
+NARROW = Code([0, 1, 2, 6], [3, 4, 5, 7], [8, 9])
 
 
 class Stripe:
-    """The nodes of its homes, and its fragments without a home, on nodes that are offline, on draining ones, and leased."""
+    """Its code and the nodes of its homes; and its fragments without a home, on nodes that are offline, on draining ones, and
+    leased."""
 
-    def __init__(self, homes):
-        self.homes = homes
+    def __init__(self, code):
+        self.code = code
+        self.homes = [None] * code.fragments
         self.homeless = self.offline = self.draining = self.leased = 0
         self.listed = None  # the rank under which it stands among the stripes with work
 
@@ -55,6 +63,12 @@ class Stripe:
     def open(self):
         """The fragments that need a lease and have none."""
         return (self.homeless | self.draining) & ~self.leased
+
+    def rank(self):
+        return self.code.ranks[self.missing()]
+
+    def is_recoverable(self):
+        return self.rank() < 4
 
 
 class Store:
@@ -124,11 +138,12 @@ class Store:
         """The node that the rules choose for a fragment of a stripe that is there."""
         number, fragment = key
         stripe, barred = self.stripes[number], 0
+        same_class = stripe.code.class_of[fragment]
         for other, home in enumerate(stripe.homes):
             if other != fragment and home is not None:
-                barred |= self.barred_by(home, CLASS_OF[fragment] >> other & 1)
+                barred |= self.barred_by(home, same_class >> other & 1)
         for other in members(stripe.leased & ~(1 << fragment)):
-            barred |= self.barred_by(self.leases[number, other][1], CLASS_OF[fragment] >> other & 1)
+            barred |= self.barred_by(self.leases[number, other][1], same_class >> other & 1)
         return self.choose(barred)
 
     # Stripes by rank.
@@ -136,7 +151,7 @@ class Store:
     def list_again(self, number):
         """Puts a stripe whose fragments have changed where it belongs."""
         stripe = self.stripes[number]
-        rank = RANK[stripe.missing()] if stripe.open() else None
+        rank = stripe.rank() if stripe.open() else None
         if rank != stripe.listed:
             self.strike(number)
             if rank is not None:
@@ -182,27 +197,30 @@ class Store:
 
     # Commands.
 
-    def place(self, number):
+    def place(self, number, code=WIDE):
         if number in self.stripes:
             return "refused 102"
-        homes, barred, in_class = [], 0, dict.fromkeys(CLASSES, 0)
-        for fragment in range(16):
-            node = self.choose(barred | in_class[CLASS_OF[fragment]])
+        homes, barred, in_class = [], 0, dict.fromkeys(code.classes, 0)
+        for fragment, of_class in enumerate(code.class_of):
+            node = self.choose(barred | in_class[of_class])
             if node is None:
                 return f"refused 103 {fragment}"
             homes.append(node)
             barred |= self.in_fault[self.nodes[node].fault]
-            in_class[CLASS_OF[fragment]] |= self.in_upgrade[self.nodes[node].upgrade]
-        self.stripes[number] = Stripe([None] * 16)
+            in_class[of_class] |= self.in_upgrade[self.nodes[node].upgrade]
+        self.stripes[number] = Stripe(code)
         for fragment, node in enumerate(homes):
             self.set_home((number, fragment), node)
             self.add_load(node, 1)
         return "placed"
 
+    def place6(self, number):
+        return self.place(number, NARROW)
+
     def drop(self, number):
         if number not in self.stripes:
             return "refused 101"
-        for fragment in range(16):
+        for fragment in range(self.stripes[number].code.fragments):
             self.end_lease((number, fragment))
             self.clear_home((number, fragment))
         self.strike(number)
@@ -220,8 +238,9 @@ class Store:
         if not stripe.open() & bit:
             return None, "refused 111"
         is_move = not stripe.missing() & bit
-        is_local = fragment < 14 and not CLASS_OF[fragment] & stripe.missing() & ~bit
-        if not is_move and not is_local and not is_recoverable(stripe.missing()):
+        of_class = stripe.code.class_of[fragment]
+        is_local = of_class != stripe.code.classes[2] and not of_class & stripe.missing() & ~bit
+        if not is_move and not is_local and not stripe.is_recoverable():
             return None, "refused 112"
         node = self.seat_beside(key)
         return node, f"refused 103 {fragment}"
@@ -384,7 +403,7 @@ class Store:
             for fragment, node in enumerate(stripe.homes):
                 if node is not None and self.nodes[node].upgrade == domain:
                     without |= 1 << fragment
-            if is_recoverable(stripe.missing()) and not is_recoverable(without):
+            if stripe.is_recoverable() and stripe.code.ranks[without] == 4:
                 return number
         return None
 

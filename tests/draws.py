@@ -5,10 +5,11 @@ from collections import namedtuple
 # of each that the store does not have.
 Range = namedtuple("Range", "stripes nodes domains")
 
-# How often a command is drawn, of a hundred.
+# How often a command is drawn, of a hundred. A narrow stripe nearly always finds its nodes and a wide one seldom, so with
+# more of `place6` there would be hardly a wide one.
 WEIGHTS = {
-    "place": 9, "drop": 3, "lease": 9, "next": 24, "done": 15, "abandon": 2, "revoke": 2, "tick": 10, "fail": 1, "join": 6,
-    "down": 3, "up": 4, "drain": 3, "undrain": 1, "retire": 2, "upgrade": 2, "upgraded": 4,
+    "place": 8, "place6": 1, "drop": 3, "lease": 9, "next": 24, "done": 15, "abandon": 2, "revoke": 2, "tick": 10, "fail": 1,
+    "join": 6, "down": 3, "up": 4, "drain": 3, "undrain": 1, "retire": 2, "upgrade": 2, "upgraded": 4,
 }
 
 
@@ -55,7 +56,7 @@ def fitting_nodes(store, word):
 
 def drawn_stripe(store, row, word, within):
     """Most often one that can be placed, or one to be given up."""
-    if word == "place":
+    if word in ("place", "place6"):
         fitting = [stripe for stripe in range(within.stripes) if stripe not in store.stripes]
     else:
         fitting = [stripe for stripe in sorted(store.stripes) if store.level(stripe) == "lost"]
@@ -67,6 +68,13 @@ def drawn_fragment(store, row):
     needy = [(stripe, fragment) for stripe in sorted(store.stripes) for fragment in range(16)
              if store.needs_lease((stripe, fragment))]
     return one_of(row, needy) if needy and not is_seldom(row) else None
+
+
+def drawn_lack(store, row):
+    """Now and then a fragment that the code of its stripe lacks, where there is such a stripe."""
+    lacking = [(stripe, fragment) for stripe in sorted(store.stripes) for fragment in range(16)
+               if fragment not in store.fragments(stripe)]
+    return one_of(row, lacking) if lacking and is_seldom(row) else None
 
 
 def drawn_report(store, row, session):
@@ -91,14 +99,15 @@ def drawn_call(store, row, within):
     stripe, fragment = next(row) % (within.stripes + 1), next(row) % 16
     if word in ("next", "tick"):
         return session, word
-    if word in ("place", "drop"):
+    if word in ("place", "place6", "drop"):
         return session, f"{word} {drawn_stripe(store, row, word, within)}"
     if word in ("lease", "revoke"):
         held = sorted(store.leases) if word == "revoke" and not is_seldom(row) else []
-        key = one_of(row, held) if held else drawn_fragment(store, row) or (stripe, fragment)
+        key = drawn_lack(store, row) or (one_of(row, held) if held else drawn_fragment(store, row) or (stripe, fragment))
         return session, "%s %d %d" % (word, *key)
     if word in ("done", "abandon"):
-        session, *rest = drawn_report(store, row, session)
+        lack = drawn_lack(store, row)
+        session, *rest = (session, *lack, 1) if lack else drawn_report(store, row, session)
         return session, "%s %d %d %d" % (word, *rest)
     if word == "upgraded" and store.upgrading is not None and not is_seldom(row):
         return session, f"{word} {store.upgrading}"

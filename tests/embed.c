@@ -66,11 +66,12 @@ typedef struct {
     lrc_homes homes[STRIPES];
     lrc_level levels[STRIPES];
     uint16_t missing[STRIPES];
+    uint8_t codes[STRIPES];
     lrc_lease leases[STRIPES][LRC_FRAGMENTS];
     uint32_t loads[NODES];
     lrc_mode modes[NODES];
     lrc_risk rows[STRIPES];
-    uint32_t statuses[3 + ENTRIES + STRIPES * (3 + LRC_FRAGMENTS) + NODES * 2];
+    uint32_t statuses[3 + ENTRIES + STRIPES * (4 + LRC_FRAGMENTS) + NODES * 2];
 } looks_of_book;
 
 static void look(looks_of_book *it) {
@@ -85,6 +86,7 @@ static void look(looks_of_book *it) {
         *status++ = lrc_embed_homes(&handle, stripe, &it->homes[stripe]);
         *status++ = lrc_embed_level(&handle, stripe, &it->levels[stripe]);
         *status++ = lrc_embed_missing(&handle, stripe, &it->missing[stripe]);
+        *status++ = lrc_embed_code(&handle, stripe, &it->codes[stripe]);
         for (uint8_t fragment = 0; fragment < LRC_FRAGMENTS; fragment++)
             *status++ = lrc_embed_lease(&handle, stripe, fragment, &it->leases[stripe][fragment]);
     }
@@ -196,6 +198,7 @@ static void closed(void) {
         lrc_homes homes;
         lrc_level level;
         uint16_t missing;
+        uint8_t code;
         lrc_lease lease;
         uint32_t load;
         lrc_mode mode;
@@ -211,6 +214,8 @@ static void closed(void) {
     WANT(lrc_embed_homes(&handle, 1, &told.homes) == LRC_IS_CLOSED);
     WANT(lrc_embed_level(&handle, 1, &told.level) == LRC_IS_CLOSED);
     WANT(lrc_embed_missing(&handle, 1, &told.missing) == LRC_IS_CLOSED);
+    WANT(lrc_embed_code(&handle, 1, &told.code) == LRC_IS_CLOSED);
+    WANT(lrc_embed_code(&handle, LRC_STRIPES, &told.code) == LRC_OUT_OF_RANGE);
     WANT(lrc_embed_lease(&handle, 1, 1, &told.lease) == LRC_IS_CLOSED);
     WANT(lrc_embed_load(&handle, 1, &told.load) == LRC_IS_CLOSED);
     WANT(lrc_embed_mode(&handle, 1, &told.mode) == LRC_IS_CLOSED);
@@ -225,9 +230,10 @@ static void closed(void) {
 static void ranges(void) {
     const lrc_command outside[] = {
         {.kind = 0},
-        {.kind = LRC_TICK + 1},
+        {.kind = LRC_PLACE6 + 1},
         {.kind = 255},
         {.kind = LRC_PLACE, .stripe = LRC_STRIPES},
+        {.kind = LRC_PLACE6, .stripe = LRC_STRIPES},
         {.kind = LRC_DROP, .stripe = 65535},
         {.kind = LRC_LEASE, .stripe = 1, .fragment = LRC_FRAGMENTS},
         {.kind = LRC_REPORT, .stripe = LRC_STRIPES, .fragment = 1},
@@ -376,6 +382,54 @@ static void looks(void) {
     WANT(status == LRC_DONE && count == 0);
 }
 
+static bool has_code(uint16_t stripe, uint8_t code) {
+    uint8_t told = 99;
+    return lrc_embed_code(&handle, stripe, &told) == LRC_DONE && told == code;
+}
+
+// The homes of a stripe are these seats, of so many fragments, and all else is 0.
+static bool has_homes(uint16_t stripe, lrc_seat seats[LRC_FRAGMENTS], unsigned fragments) {
+    lrc_homes told, homes = {0};
+    const lrc_seat none = {0};
+    memset(&told, 0xa5, sizeof told);
+    for (unsigned f = 0; f < fragments; f++) homes.homes[f] = (lrc_home){.seat = seats[f], .is_there = 1};
+    for (unsigned f = fragments; f < LRC_FRAGMENTS; f++) WANT(memcmp(&seats[f], &none, sizeof none) == 0);
+    return lrc_embed_homes(&handle, stripe, &told) == LRC_DONE && memcmp(&told, &homes, sizeof told) == 0;
+}
+
+// A narrow stripe beside a wide one: its seats, a repair from three sources, and what is asked of a fragment that it lacks.
+// Then its number is given to a wide stripe.
+static void narrow(void) {
+    static const uint8_t sources[6] = {0, 2, 6};
+    uint8_t code = 99;
+    uint16_t missing = 99;
+    lrc_lease lease = {.epoch = 99};
+    WANT(lrc_embed_code(&handle, LRC_STRIPES, &code) == LRC_OUT_OF_RANGE && code == 99);
+    WANT(lrc_embed_code(&handle, 3, &code) == LRC_UNKNOWN && code == 99);
+    lrc_reply reply = MAKE(1, .kind = LRC_PLACE6, .stripe = 3);
+    uint16_t node = reply.seats[1].node;
+    WANT(reply.kind == LRC_PLACED6 && has_homes(3, reply.seats, LRC_NARROW_FRAGMENTS));
+    WANT(has_code(3, LRC_NARROW) && has_code(1, LRC_WIDE));
+    WANT(is_refused(MAKE(1, .kind = LRC_PLACE6, .stripe = 3), LRC_STRIPE_EXISTS, 0));
+    WANT(is_refused(MAKE(1, .kind = LRC_PLACE, .stripe = 3), LRC_STRIPE_EXISTS, 0));
+    WANT(is_refused(MAKE(1, .kind = LRC_PLACE6, .stripe = 1), LRC_STRIPE_EXISTS, 0));
+    WANT(MAKE(1, .kind = LRC_FAIL, .node = node).kind == LRC_CHANGED);
+    WANT(lrc_embed_missing(&handle, 3, &missing) == LRC_DONE && missing == 1 << 1);
+    WANT(is_refused(MAKE(2, .kind = LRC_LEASE, .stripe = 3, .fragment = 12), LRC_NOT_NEEDED, 0));
+    reply = MAKE(2, .kind = LRC_LEASE, .stripe = 3, .fragment = 1);
+    WANT(reply.kind == LRC_GRANTED && reply.repair == LRC_LOCAL3);
+    WANT(reply.lease.epoch == 1 && memcmp(reply.sources, sources, sizeof sources) == 0);
+    WANT(is_refused(MAKE(2, .kind = LRC_REPORT, .stripe = 3, .fragment = 12, .epoch = 1), LRC_STALE, 0));
+    WANT(is_refused(MAKE(2, .kind = LRC_ABANDON, .stripe = 3, .fragment = 12, .epoch = 1), LRC_STALE, 0));
+    WANT(is_refused(MAKE(2, .kind = LRC_REVOKE, .stripe = 3, .fragment = 12), LRC_NO_LEASE, 0));
+    WANT(lrc_embed_lease(&handle, 3, 12, &lease) == LRC_UNKNOWN && lease.epoch == 99);
+    WANT(MAKE(2, .kind = LRC_REPORT, .stripe = 3, .fragment = 1, .epoch = 1).kind == LRC_ENDED);
+    WANT(MAKE(1, .kind = LRC_JOIN, .node = node).kind == LRC_CHANGED);
+    WANT(MAKE(1, .kind = LRC_DROP, .stripe = 3).kind == LRC_DROPPED);
+    reply = MAKE(1, .kind = LRC_PLACE, .stripe = 3);
+    WANT(reply.kind == LRC_PLACED && has_homes(3, reply.seats, LRC_FRAGMENTS) && has_code(3, LRC_WIDE));
+}
+
 // The replay is made again, on a new book, where memory was refused to it.
 static uint32_t replay(const lrc_entry *entries, size_t count, size_t *position) {
     for (int turn = 0; turn < 2; turn++) {
@@ -471,6 +525,7 @@ int main(int argc, char **argv) {
     upgrades();
     looks();
     WANT(MAKE(1, .kind = LRC_DROP, .stripe = 2).kind == LRC_DROPPED);
+    narrow();
     replays();
     if (argc > 1 && strcmp(argv[1], "full") == 0) fill();
     WANT(lrc_embed_close(&handle) == LRC_DONE);

@@ -7,7 +7,7 @@ import lrc_embed
 
 FIELDS = {
     "upgrade": ["domain"], "upgraded": ["domain"], "next": [], "tick": [], "lease": ["stripe", "fragment"],
-    "revoke": ["stripe", "fragment"], "place": ["stripe"], "drop": ["stripe"],
+    "revoke": ["stripe", "fragment"], "place": ["stripe"], "place6": ["stripe"], "drop": ["stripe"],
     "done": ["stripe", "fragment", "epoch"], "abandon": ["stripe", "fragment", "epoch"],
 }
 

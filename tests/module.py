@@ -1,19 +1,20 @@
 """What the Python module of examples/embed does beside the calls: it refuses numbers that a field would cut down, closes a
-book that is let go of, and replays a log in pieces, from entries and from bytes, also one from before leases had an end."""
+book that is let go of, and replays a log in pieces, from entries and from bytes, also one that an earlier library kept."""
 import ctypes
 import gc
 import struct
+from itertools import islice
 
 from library import command_of
-from lrc_embed import Book, Command, CommandKind, Entry, Fault, ModeKind, Status
+from lrc_embed import Book, Code, Command, CommandKind, Entry, Fault, ModeKind, Status
 
 TWENTY = "".join(f"[[node]]\nnumber = {i}\nfault = {i}\nupgrade = {i % 10}\nslots = 4\n" for i in range(20))
 SCRIPT = ("place 1", "place 2", "fail 3", "next", "lease 2 7", "done 1 3 1", "next", "upgrade 0", "upgraded 0")
 SIZE = ctypes.sizeof(Entry)
-# An entry as it was kept before leases had an end. What has a name since then was reserved, and 0.
-KEPT = struct.Struct("<B3x BBB5xIHH BBB6s3xI12x HBBHHI4x 32H")
+# An entry as each library of this version keeps it. What came to have a name later was reserved before, and 0.
+KEPT = struct.Struct("<B3x BBB5xIHH BBB6s3xIII4x HBBHHI4x 32H")
 # As the header has them; an index is a size_t.
-RANGES = {"session": (1, 8), "kind": (1, 17), "stripe": (0, 4095), "fragment": (0, 15), "node": (0, 65535),
+RANGES = {"session": (1, 8), "kind": (1, 18), "stripe": (0, 4095), "fragment": (0, 15), "node": (0, 65535),
           "domain": (0, 255), "epoch": (0, 4294967295), "index": (0, 18446744073709551615)}
 
 
@@ -29,7 +30,8 @@ def ways_of(book):
         "session": [lambda n: book.call(n, Command(CommandKind.NEXT)), lambda n: Entry(session=n),
                     lambda n: setattr(entry, "session", n)],
         "kind": [Command, lambda n: setattr(command, "kind", n)],
-        "stripe": [*made_of(CommandKind.PLACE, "stripe"), book.homes, book.level, book.missing, lambda n: book.lease(n, 0)],
+        "stripe": [*made_of(CommandKind.PLACE, "stripe"), book.homes, book.level, book.missing, book.code,
+                   lambda n: book.lease(n, 0)],
         "fragment": [*made_of(CommandKind.LEASE, "fragment"), lambda n: book.lease(0, n)],
         "node": [*made_of(CommandKind.FAIL, "node"), book.load, book.mode],
         "domain": [*made_of(CommandKind.UPGRADE, "domain")],
@@ -148,21 +150,59 @@ def test_pieces(count, library):
     count.check(f"the module: a changed entry in a piece: {told}", told == (Status.DIFFERENT, 3) and not book.handle.is_open)
 
 
-def log_kept_before():
-    """The bytes of `place 1`, `fail 3`, `lease 1 3` and `done 1 3 1`."""
-    no_lease, no_seats, seats = (0,) * 6, (0,) * 32, [number for node in (*range(12), 16, 12, 13, 14) for number in (node, 0)]
-    yield KEPT.pack(1, 1, 0, 0, 0, 1, 0, 1, 0, 0, b"", 0, *no_lease, *seats)
-    yield KEPT.pack(1, 8, 0, 0, 0, 0, 3, 6, 0, 0, b"", 0, *no_lease, *no_seats)
-    yield KEPT.pack(2, 3, 3, 0, 0, 1, 0, 3, 0, 1, bytes([0, 1, 2, 4, 5, 12]), 0, 1, 3, 2, 17, 0, 1, *no_seats)
-    yield KEPT.pack(2, 5, 3, 0, 1, 1, 0, 5, 0, 0, b"", 0, *no_lease, *no_seats)
+def kept(session, command, reply, lease=(0,) * 6, seats=()):
+    """The bytes of an entry whose seats are slot 0 of these nodes."""
+    numbers = [number for node in seats for number in (node, 0)]
+    return KEPT.pack(session, *command, *reply, *lease, *numbers, *[0] * (32 - len(numbers)))
+
+
+def log_before_ticks():
+    """`place 1`, `fail 3`, `lease 1 3` and `done 1 3 1`."""
+    yield kept(1, (1, 0, 0, 0, 1, 0), (1, 0, 0, b"", 0, 0, 0), seats=(*range(12), 16, 12, 13, 14))
+    yield kept(1, (8, 0, 0, 0, 0, 3), (6, 0, 0, b"", 0, 0, 0))
+    yield kept(2, (3, 3, 0, 0, 1, 0), (3, 0, 1, bytes([0, 1, 2, 4, 5, 12]), 0, 0, 0), lease=(1, 3, 2, 17, 0, 1))
+    yield kept(2, (5, 3, 0, 1, 1, 0), (5, 0, 0, b"", 0, 0, 0))
+
+
+def log_before_codes():
+    """`place 1`, `fail 3`, `lease 1 3`, and three times `tick`."""
+    yield from islice(log_before_ticks(), 3)
+    for clock, ended in ((1, 0), (2, 0), (3, 1)):
+        yield kept(3, (17, 0, 0, 0, 0, 0), (8, 0, 0, b"", 0, clock, ended))
+
+
+def log_of_codes():
+    """`place6 1`, `fail 1`, `lease 1 1`, `lease 1 12` and `done 1 1 1`."""
+    yield kept(1, (18, 0, 0, 0, 1, 0), (9, 0, 0, b"", 0, 0, 0), seats=range(10))
+    yield kept(1, (8, 0, 0, 0, 0, 1), (6, 0, 0, b"", 0, 0, 0))
+    yield kept(2, (3, 1, 0, 0, 1, 0), (3, 0, 4, bytes([0, 2, 6]), 0, 0, 0), lease=(1, 1, 2, 11, 0, 1))
+    yield kept(2, (3, 12, 0, 0, 1, 0), (7, 111, 0, b"", 0, 0, 0))
+    yield kept(2, (5, 1, 0, 1, 1, 0), (5, 0, 0, b"", 0, 0, 0))
+
+
+def unseen(library, log):
+    """Where one bit of a reply is changed, and the replay does not end at its entry."""
+    def ended(at):
+        changed = bytearray(log)
+        changed[at] ^= 1
+        return status_of(lambda: Book(library, TWENTY, changed))
+
+    replies = [at for at in range(len(log)) if at % SIZE >= Entry.reply.offset]
+    return [at for at in replies if ended(at) != (Status.DIFFERENT, at // SIZE)]
 
 
 def test_kept(count, library):
-    log = b"".join(log_kept_before())
-    told = status_of(lambda: Book(library, TWENTY, log))
-    count.check(f"the module: a log from before leases had an end: {told}", len(log) == 4 * SIZE and told[0] == Status.DONE)
-    with Book(library, TWENTY, log[:3 * SIZE]) as book:
-        count.check("the module: a lease of that log has its end", (book.lease(1, 3).expiry, book.clock()) == (3, 0))
+    for log_of, code in ((log_before_ticks, Code.WIDE), (log_before_codes, Code.WIDE), (log_of_codes, Code.NARROW)):
+        log, name = list(log_of()), log_of.__name__.replace("_", " ")
+        told = status_of(lambda: Book(library, TWENTY, log))
+        if count.check(f"the module: a {name}: {told}", told == (Status.DONE, None)):
+            count.check(f"the module: the entries of a {name}", replayed(library, log) == b"".join(log))
+            with Book(library, TWENTY, log) as book:
+                count.check(f"the module: the code of a stripe of a {name}", (book.code(1).value, book.code(2)) == (code, None))
+        wrong = unseen(library, b"".join(log))
+        count.check(f"the module: a {name} with a change at {wrong}", not wrong)
+    with Book(library, TWENTY, list(log_before_ticks())[:3]) as book:
+        count.check("the module: a lease of a log before ticks has its end", (book.lease(1, 3).expiry, book.clock()) == (3, 0))
 
 
 def test(count, library):

@@ -6,8 +6,12 @@ from collections import Counter, namedtuple
 from functools import cache
 from itertools import combinations
 
-CLASSES = {"A": frozenset([0, 1, 2, 3, 4, 5, 12]), "B": frozenset([6, 7, 8, 9, 10, 11, 13]), "G": frozenset([14, 15])}
-FRAGMENTS = range(16)
+# A code is what it is called, and the fragments of its three classes.
+Code = namedtuple("Code", "name a b g")
+
+WIDE = Code("wide", frozenset([0, 1, 2, 3, 4, 5, 12]), frozenset([6, 7, 8, 9, 10, 11, 13]), frozenset([14, 15]))
+NARROW = Code("narrow", frozenset([0, 1, 2, 6]), frozenset([3, 4, 5, 7]), frozenset([8, 9]))
+FRAGMENTS = range(16)  # what a command may name, whatever the code of its stripe
 TERM = 3  # how many ticks after its grant a lease ends
 
 Node = namedtuple("Node", "fault upgrade slots")
@@ -18,27 +22,32 @@ class Refused(Exception):
     """A command is refused, with its number and what it tells."""
 
 
-@cache
-def class_of(fragment):
-    return next(name for name, members in CLASSES.items() if fragment in members)
+def fragments_of(code):
+    """The fragments that a stripe of the code has, in rising order."""
+    return sorted(code.a | code.b | code.g)
+
+
+def class_of(code, fragment):
+    """All fragments of the class of this one."""
+    return next(members for members in (code.a, code.b, code.g) if fragment in members)
 
 
 @cache
-def is_recoverable(missing):
+def is_recoverable(code, missing):
     """At most two are left after at most one member of A and at most one of B are taken out."""
-    one_of_a = [None, *(missing & CLASSES["A"])]
-    one_of_b = [None, *(missing & CLASSES["B"])]
+    one_of_a = [None, *(missing & code.a)]
+    one_of_b = [None, *(missing & code.b)]
     return any(len(missing - {a, b}) <= 2 for a in one_of_a for b in one_of_b)
 
 
 @cache
-def margin(missing):
+def margin(code, missing):
     """How many more may be missing, whichever they are; None where the set is not recoverable."""
-    if not is_recoverable(missing):
+    if not is_recoverable(code, missing):
         return None
-    others = [fragment for fragment in FRAGMENTS if fragment not in missing]
+    others = [fragment for fragment in fragments_of(code) if fragment not in missing]
     more = 0
-    while more < len(others) and all(is_recoverable(missing | set(extra)) for extra in combinations(others, more + 1)):
+    while more < len(others) and all(is_recoverable(code, missing | set(extra)) for extra in combinations(others, more + 1)):
         more += 1
     return more
 
@@ -51,7 +60,7 @@ class Store:
         self.mode = dict.fromkeys(nodes, "active")
         self.down = set()
         self.upgrading = None
-        self.stripes = set()
+        self.stripes = {}  # stripe: its code
         self.homes = {}  # (stripe, fragment): (node, slot)
         self.leases = {}  # (stripe, fragment): Lease
         self.grants = Counter()  # (stripe, fragment): how many leases were granted
@@ -86,36 +95,47 @@ class Store:
     def load(self, node):
         return sum(seat[0] == node for _, seat in self.held())
 
+    def fragments(self, stripe):
+        """The fragments that the stripe has by its code."""
+        return fragments_of(self.stripes[stripe])
+
     def homeless(self, stripe):
-        return frozenset(fragment for fragment in FRAGMENTS if (stripe, fragment) not in self.homes)
+        return frozenset(fragment for fragment in self.fragments(stripe) if (stripe, fragment) not in self.homes)
 
     def missing(self, stripe):
         """The fragments without a home on a node that is online."""
-        homes = {fragment: self.homes.get((stripe, fragment)) for fragment in FRAGMENTS}
+        homes = {fragment: self.homes.get((stripe, fragment)) for fragment in self.fragments(stripe)}
         return frozenset(fragment for fragment, home in homes.items() if home is None or not self.is_online(home[0]))
 
+    def can_recover(self, stripe):
+        return is_recoverable(self.stripes[stripe], self.missing(stripe))
+
+    def margin(self, stripe):
+        """The margin of what the stripe misses, or None."""
+        return margin(self.stripes[stripe], self.missing(stripe))
+
     def rank(self, stripe):
-        left = margin(self.missing(stripe))
+        left = self.margin(stripe)
         return 4 if left is None else left
 
     def level(self, stripe):
         """The level of a stripe as the risk table writes it, or None where it is Whole."""
-        if not is_recoverable(self.homeless(stripe)):
+        if not is_recoverable(self.stripes[stripe], self.homeless(stripe)):
             return "lost"
-        missing = self.missing(stripe)
-        if not is_recoverable(missing):
+        if not self.can_recover(stripe):
             return "unavailable"
-        return "risk" if missing else None
+        return "risk" if self.missing(stripe) else None
 
     def is_lawful(self, key, node):
         """Whether a fragment may go to the node, beside the seats of the other fragments of its stripe."""
         stripe, fragment = key
+        same_class = class_of(self.stripes[stripe], fragment)
         for other, beside in self.nodes_of(stripe):
             if other == fragment:
                 continue
             if self.nodes[beside].fault == self.nodes[node].fault:
                 return False
-            if class_of(other) == class_of(fragment) and self.nodes[beside].upgrade == self.nodes[node].upgrade:
+            if other in same_class and self.nodes[beside].upgrade == self.nodes[node].upgrade:
                 return False
         return True
 
@@ -131,15 +151,20 @@ class Store:
         return node, min(free[node])
 
     def needs_lease(self, key):
+        """A fragment that the code lacks needs none."""
+        stripe, fragment = key
+        if fragment not in self.fragments(stripe):
+            return False
         return key not in self.homes or self.mode[self.homes[key][0]] == "draining"
 
     def kind(self, key):
         """The kind of a lease and its sources, as a reply tells them."""
         stripe, fragment = key
+        code = self.stripes[stripe]
         if key in self.homes and self.is_online(self.homes[key][0]):
             return "move"
-        others = CLASSES[class_of(fragment)] - {fragment}
-        if fragment in CLASSES["G"] or others & self.missing(stripe):
+        others = class_of(code, fragment) - {fragment}
+        if fragment in code.g or others & self.missing(stripe):
             return "global"
         return " ".join(["local", *map(str, sorted(others))])
 
@@ -163,22 +188,29 @@ class Store:
         self.homes = {key: home for key, home in self.homes.items() if kept_home(key, home)}
         self.leases = {key: lease for key, lease in self.leases.items() if kept_lease(key, lease)}
 
-    def do_place(self, session, stripe):
+    def place(self, stripe, code):
         if stripe in self.stripes:
             raise Refused(102)
+        self.stripes[stripe] = code
         try:
-            for fragment in FRAGMENTS:
+            for fragment in fragments_of(code):
                 self.homes[stripe, fragment] = self.choice((stripe, fragment))
         except Refused:
             self.forget(lambda key, _: key[0] != stripe, lambda key, _: True)
+            del self.stripes[stripe]
             raise
-        self.stripes.add(stripe)
-        seats = ["%d:%d" % self.homes[stripe, fragment] for fragment in FRAGMENTS]
+        seats = ["%d:%d" % self.homes[stripe, fragment] for fragment in fragments_of(code)]
         return " ".join(["placed", *seats])
+
+    def do_place(self, session, stripe):
+        return self.place(stripe, WIDE)
+
+    def do_place6(self, session, stripe):
+        return self.place(stripe, NARROW)
 
     def do_drop(self, session, stripe):
         self.known(stripe)
-        self.stripes.remove(stripe)
+        del self.stripes[stripe]
         self.forget(lambda key, _: key[0] != stripe, lambda key, _: key[0] != stripe)
         return "dropped"
 
@@ -190,7 +222,7 @@ class Store:
             raise Refused(110, self.leases[key].epoch)
         if not self.needs_lease(key):
             raise Refused(111)
-        if self.kind(key) == "global" and not is_recoverable(self.missing(stripe)):
+        if self.kind(key) == "global" and not self.can_recover(stripe):
             raise Refused(112)
         return self.choice(key)
 
@@ -312,10 +344,10 @@ class Store:
         self.known_domain(domain)
         if self.upgrading is not None:
             raise Refused(107, self.upgrading)
-        recoverable = [stripe for stripe in sorted(self.stripes) if is_recoverable(self.missing(stripe))]
+        recoverable = [stripe for stripe in sorted(self.stripes) if self.can_recover(stripe)]
         self.upgrading = domain
         for stripe in recoverable:
-            if not is_recoverable(self.missing(stripe)):
+            if not self.can_recover(stripe):
                 self.upgrading = None
                 raise Refused(109, stripe)
         return "changed"
@@ -333,7 +365,7 @@ class Store:
         for stripe in sorted(self.stripes, key=lambda stripe: (self.rank(stripe), stripe)):
             level, missing = self.level(stripe), self.missing(stripe)
             if level is not None:
-                left = margin(missing) if level == "risk" else "-"
+                left = self.margin(stripe) if level == "risk" else "-"
                 bits = sum(1 << fragment for fragment in missing)
                 yield f"{stripe},{level},{left},{bits:04x}"
 

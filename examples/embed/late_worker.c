@@ -27,16 +27,24 @@ static void open_book(lrc_handle *handle) {
     if (status != LRC_DONE) stop("open", status);
 }
 
+static void print_placed(const lrc_reply *reply, int fragments) {
+    printf("placed");
+    for (int f = 0; f < fragments; f++) printf(" %u:%u", reply->seats[f].node, reply->seats[f].slot);
+}
+
+static void print_local(const lrc_reply *reply, int sources) {
+    printf(" local");
+    for (int i = 0; i < sources; i++) printf(" %u", reply->sources[i]);
+}
+
 static void print_granted(const lrc_reply *reply) {
     const lrc_lease *lease = &reply->lease;
     printf("granted %u %u %u:%u epoch %u", lease->stripe, lease->fragment, lease->target.node, lease->target.slot,
            (unsigned)lease->epoch);
     if (reply->repair == LRC_GLOBAL) printf(" global");
     if (reply->repair == LRC_MOVE) printf(" move");
-    if (reply->repair == LRC_LOCAL) {
-        printf(" local");
-        for (int i = 0; i < 6; i++) printf(" %u", reply->sources[i]);
-    }
+    if (reply->repair == LRC_LOCAL) print_local(reply, 6);
+    if (reply->repair == LRC_LOCAL3) print_local(reply, 3);
 }
 
 static bool has_detail(uint8_t refusal) {
@@ -47,10 +55,8 @@ static bool has_detail(uint8_t refusal) {
 
 static void print_reply(const lrc_reply *reply) {
     switch (reply->kind) {
-    case LRC_PLACED:
-        printf("placed");
-        for (int f = 0; f < LRC_FRAGMENTS; f++) printf(" %u:%u", reply->seats[f].node, reply->seats[f].slot);
-        break;
+    case LRC_PLACED: print_placed(reply, LRC_FRAGMENTS); break;
+    case LRC_PLACED6: print_placed(reply, LRC_NARROW_FRAGMENTS); break;
     case LRC_DROPPED: printf("dropped"); break;
     case LRC_GRANTED: print_granted(reply); break;
     case LRC_IDLE: printf("idle"); break;
@@ -60,6 +66,7 @@ static void print_reply(const lrc_reply *reply) {
         printf("refused %u", reply->refusal);
         if (has_detail(reply->refusal)) printf(" %u", (unsigned)reply->detail);
         break;
+    case LRC_TICKED: printf("ticked %u %u", (unsigned)reply->clock, (unsigned)reply->ended); break;
     }
     printf("\n");
 }

@@ -5,7 +5,7 @@ from ctypes import c_bool, c_size_t, c_uint8, c_uint16, c_uint32, c_void_p
 from enum import IntEnum
 from operator import index as whole
 
-VERSION, STRIPES, FRAGMENTS, SESSIONS, HISTORY_LIMIT = 1, 4096, 16, 8, 1_000_000
+VERSION, STRIPES, FRAGMENTS, NARROW_FRAGMENTS, SESSIONS, HISTORY_LIMIT = 1, 4096, 16, 10, 8, 1_000_000
 
 
 class Status(IntEnum):
@@ -15,21 +15,25 @@ class Status(IntEnum):
 
 class CommandKind(IntEnum):
     PLACE, DROP, LEASE, NEXT, REPORT, ABANDON, REVOKE, FAIL = range(1, 9)
-    DOWN, UP, DRAIN, UNDRAIN, RETIRE, JOIN, UPGRADE, UPGRADED, TICK = range(9, 18)
+    DOWN, UP, DRAIN, UNDRAIN, RETIRE, JOIN, UPGRADE, UPGRADED, TICK, PLACE6 = range(9, 19)
 
 
 class ReplyKind(IntEnum):
-    PLACED, DROPPED, GRANTED, IDLE, ENDED, CHANGED, REFUSED, TICKED = range(1, 9)
+    PLACED, DROPPED, GRANTED, IDLE, ENDED, CHANGED, REFUSED, TICKED, PLACED6 = range(1, 10)
 
 
 class Repair(IntEnum):
-    LOCAL, GLOBAL, MOVE = range(1, 4)
+    LOCAL, GLOBAL, MOVE, LOCAL3 = range(1, 5)
 
 
 class Refusal(IntEnum):
     UNKNOWN_STRIPE, STRIPE_EXISTS, NO_LAWFUL_NODE, UNKNOWN_NODE, WRONG_MODE, UNKNOWN_DOMAIN = range(101, 107)
     UPGRADE_RUNNING, NOT_UPGRADING, WOULD_LOSE, ALREADY_LEASED, NOT_NEEDED, UNRECOVERABLE = range(107, 113)
     STALE, NOT_HOLDER, TARGET_OFFLINE, NO_LEASE, NOT_EMPTY = range(113, 118)
+
+
+class Code(IntEnum):
+    WIDE, NARROW = range(1, 3)
 
 
 class LevelKind(IntEnum):
@@ -43,6 +47,11 @@ class ModeKind(IntEnum):
 # The refusals that have a detail.
 DETAILED = {Refusal.NO_LAWFUL_NODE, Refusal.UPGRADE_RUNNING, Refusal.WOULD_LOSE, Refusal.ALREADY_LEASED,
             Refusal.NOT_HOLDER, Refusal.TARGET_OFFLINE, Refusal.NOT_EMPTY}
+
+
+# How many seats a reply tells, and how many sources a repair has.
+SEATS = {ReplyKind.PLACED: FRAGMENTS, ReplyKind.PLACED6: NARROW_FRAGMENTS}
+SOURCES = {Repair.LOCAL: 6, Repair.LOCAL3: 3}
 
 
 # The least and the greatest number of each name that is passed.
@@ -104,12 +113,12 @@ class Reply(ctypes.Structure):
     def __str__(self):
         """What `lrcman run` prints of the reply."""
         kind = ReplyKind(self.kind)
-        words = [kind.name.lower()]
-        if kind is ReplyKind.PLACED:
-            words += self.seats
+        words = [kind.name.lower().rstrip("6")]  # (the seats tell the code)
+        if kind in SEATS:
+            words += self.seats[:SEATS[kind]]
         elif kind is ReplyKind.GRANTED:
-            words += [self.lease, Repair(self.repair).name.lower()]
-            words += self.sources if self.repair == Repair.LOCAL else []
+            repair = Repair(self.repair)
+            words += [self.lease, repair.name.lower().rstrip("3"), *self.sources[:SOURCES.get(repair, 0)]]
         elif kind is ReplyKind.REFUSED:
             words += [self.refusal] + ([self.detail] if self.refusal in DETAILED else [])
         elif kind is ReplyKind.TICKED:
@@ -203,6 +212,9 @@ class Book:
 
     def missing(self, stripe):
         return self.told("missing", c_uint16(), c_uint16(within("stripe", stripe)))
+
+    def code(self, stripe):
+        return self.told("code", c_uint8(), c_uint16(within("stripe", stripe)))
 
     def lease(self, stripe, fragment):
         numbers = c_uint16(within("stripe", stripe)), c_uint8(within("fragment", fragment))
