@@ -73,6 +73,7 @@ impl Answer {
     }
 
     /// The reply that it tells.
+    #[inline(always)] // a reply then is made where it is wanted
     pub(crate) fn reply(&self) -> Reply
         ensures { result ≡ told self.now }
     {
@@ -101,6 +102,7 @@ fn put_first(kept: &mut [Seat; FRAGMENTS], seats: &[Seat; NARROW_FRAGMENTS])
 }
 
 /// The first ten of sixteen seats.
+#[inline(never)] // `Answer::reply` then is short, and part of each call
 fn first_ten(seats: &[Seat; FRAGMENTS]) -> [Seat; NARROW_FRAGMENTS]
     ensures { result ≡ take 10 seats.now }
 {

@@ -51,6 +51,7 @@ impl Record {
     }
 
     /// What the book answered.
+    #[inline(always)] // as that of its answer
     pub fn reply(&self) -> Reply
         ensures { result ≡ self.now.reply }
     {

@@ -191,6 +191,7 @@ fn write_local<const N: usize>(sources: &[Fragment; N], text: &mut [u8], end: us
 }
 
 /// Writes a space and from what is rebuilt so that they end at `end`, and answers where they start.
+#[inline(always)] // as part of the text of a grant it needs no bounds of its own
 fn write_kind(kind: &Kind, text: &mut [u8], end: usize) -> usize
     requires { (KIND_ROOM ≤ end) × (end ≤ length text.old) }
     ensures start { (end ≤ result + KIND_ROOM) × (result ≤ end) }

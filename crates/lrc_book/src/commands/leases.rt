@@ -60,6 +60,7 @@ impl Store {
 
     /// From what a fragment of a stripe that is there is rebuilt; `None` where it can't be. The fragment is one that the
     /// stripe's code has.
+    #[inline(always)] // a grant then goes through one kind in memory less
     pub(super) fn repair_kind(&self, stripe: StripeNo, fragment: Fragment) -> Option<Kind>
         requires { IsTrue ((stored_in self.now.stripes).stripes stripe) }
         ensures { (st : State) → IsOf st self.now → IsTrue (has_fragment (code_of st stripe) fragment.value)
@@ -227,6 +228,7 @@ impl Store {
 }
 
 /// How a fragment is rebuilt from its local group, where it can be, beside these missing fragments of its stripe.
+#[inline(always)] // as `Store::repair_kind`
 fn local_kind(code: Code, missing: LossMask, fragment: Fragment) -> Option<Kind>
     ensures { result ≡ (if is_local code (bits_set missing.bits) fragment then Some (repairs.local_kind code (others code fragment)) else None) }
 {
