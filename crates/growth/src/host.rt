@@ -1,8 +1,7 @@
 //! Where calls are tried: the marks round them, and what stands on both sides.
 
-use lrc_book::Command;
+use lrc_book::{Command, Level};
 use lrc_code::{NodeNo, SessionNo, StripeNo};
-use lrc_stripes::Level;
 use std::error::Error;
 use std::fmt::Debug;
 use std::sync::Wait;

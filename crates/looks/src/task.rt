@@ -3,10 +3,9 @@
 ghost use Rattle.std.specs.Prelude.{◌≡◌};
 
 use crate::moment::{Moment, Span};
-use lrc_book::{Book, Command, Reply};
+use lrc_book::{Book, Command, Level, Reply};
 use lrc_code::{SessionNo, StripeNo};
 use lrc_sessions::{Manager, Naming, Session};
-use lrc_stripes::Level;
 use std::rt::Clock;
 use std::sync::Wait;
 use std::time::CpuClock;

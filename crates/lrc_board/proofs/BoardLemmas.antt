@@ -2,9 +2,9 @@
 use Rattle.std.proofs.Common.{◌≡◌, ℕ, List, length, map, ap, ◌∙◌}
 use Rattle.logbook.specs.Pages.{Book}
 use Rattle.lrc_topology.specs.declared.NodeInfo.{NodeInfo}
-use Rattle.lrc_book.specs.States.{load}
-use Rattle.lrc_book.specs.Histories.{IsLegal, state_after}
-use Rattle.lrc_book.specs.Boards.{Loads, loads_of}
+use Rattle.lrc_rules.specs.States.{load}
+use Rattle.lrc_rules.specs.Histories.{IsLegal, state_after}
+use Rattle.lrc_rules.specs.Boards.{Loads, loads_of}
 use Rattle.lrc_book.specs.Books.{BookView, state_of}
 use Rattle.lrc_board.specs.declared.line.Line.{Line}
 use Rattle.lrc_board.specs.declared.touched.Touched.{Touched}

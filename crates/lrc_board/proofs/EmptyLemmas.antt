@@ -4,9 +4,9 @@ use Rattle.std.specs.List.{range_with_len}
 use Rattle.std.proofs.lemmas.Simd.{splat_is_map}
 use Rattle.std.proofs.lemmas.List.FromFn.{length-range_with_len}
 use Rattle.lrc_topology.specs.declared.NodeInfo.{NodeInfo}
-use Rattle.lrc_stripes.specs.Levels.{level_if}
-use Rattle.lrc_book.specs.States.{opening, level_shown}
-use Rattle.lrc_book.specs.Boards.{levels_by, levels_of, levels_after}
+use Rattle.lrc_terms.specs.Levels.{level_if}
+use Rattle.lrc_rules.specs.States.{opening, level_shown}
+use Rattle.lrc_rules.specs.Boards.{levels_by, levels_of, levels_after}
 
 none-shown : (nodes : List NodeInfo) (count : ℕ) → replicate count None ≡ levels_by count (level_shown nodes opening)
 unfolding level_if

@@ -12,12 +12,12 @@ use Rattle.lrc_code.specs.declared.numbers.NodeNo.{NodeNo}
 use Rattle.lrc_code.specs.Numbers.{same_stripe, same_node}
 use Rattle.lrc_code.proofs.NumbersLemmas.{equal_stripes, equal_nodes}
 use Rattle.lrc_topology.specs.declared.NodeInfo.{NodeInfo}
-use Rattle.lrc_stripes.specs.declared.level.Level.{Level}
-use Rattle.lrc_stripes.specs.Sets.{stripe_at}
-use Rattle.lrc_stripes.proofs.ListLemmas.{Contains-here, Contains-later, Contains-cons_cases}
-use Rattle.lrc_book.specs.States.{State, load, load_shown, level_shown}
-use Rattle.lrc_book.specs.Boards.{Levels, Loads, levels_by, levels_of, loads_by, loads_of}
-use Rattle.lrc_book.proofs.BoardLemmas.{shown_with, put-level-by}
+use Rattle.lrc_terms.specs.declared.level.Level.{Level}
+use Rattle.lrc_terms.specs.Stripes.{stripe_at}
+use Rattle.lrc_terms.proofs.ListLemmas.{Contains-here, Contains-later, Contains-cons_cases}
+use Rattle.lrc_rules.specs.States.{State, load, load_shown, level_shown}
+use Rattle.lrc_rules.specs.Boards.{Levels, Loads, levels_by, levels_of, loads_by, loads_of}
+use Rattle.lrc_rules.proofs.BoardLemmas.{shown_with, put-level-by}
 use Rattle.lrc_board.specs.declared.touched.Touched.{Touched}
 use Rattle.lrc_board.specs.declared.touched.Touched.TheVariants.{Nothing, Stripe, All}
 use Rattle.lrc_board.specs.Refreshed.{is_touched, LevelsStay, refreshed, row_shown}

@@ -1,11 +1,11 @@
 pub use Rattle.lrc_code.specs.Numbers
 pub use Rattle.lrc_topology.specs.Nodes
-pub use Rattle.lrc_stripes.specs.Levels
-pub use Rattle.lrc_book.specs.States
-pub use Rattle.lrc_book.specs.Urgency
-pub use Rattle.lrc_book.specs.Histories
-pub use Rattle.lrc_book.specs.Boards
-pub use Rattle.lrc_book.specs.Touching
+pub use Rattle.lrc_terms.specs.Levels
+pub use Rattle.lrc_rules.specs.States
+pub use Rattle.lrc_rules.specs.Urgency
+pub use Rattle.lrc_rules.specs.Histories
+pub use Rattle.lrc_rules.specs.Boards
+pub use Rattle.lrc_rules.specs.Touching
 pub use Rattle.lrc_book.specs.Books
 pub mod Lines
 pub mod Refreshed

@@ -3,9 +3,9 @@ use Rattle.std.specs.Prelude.{◌≡◌, ◌≢◌, ℕ, ◌==◌, cond, true, L
 use Rattle.std.proofs.Common.{lit≤}
 use mathlib.Core.List.{IsPrefix}
 use Rattle.logbook.specs.Pages.{Cell, cell, Step, View, Book, Named, may_make}
-use Rattle.lrc_book.specs.declared.entry.Entry.{Entry}
-use Rattle.lrc_book.specs.declared.command.Command.TheVariants.{Next}
-use Rattle.lrc_book.specs.declared.reply.Reply.TheVariants.{Idle}
+use Rattle.lrc_rules.specs.declared.entry.Entry.{Entry}
+use Rattle.lrc_rules.specs.declared.command.Command.TheVariants.{Next}
+use Rattle.lrc_rules.specs.declared.reply.Reply.TheVariants.{Idle}
 use Rattle.lrc_board.specs.declared.line.Line.{Line}
 
 -- what a step asks that writes no line

@@ -6,10 +6,10 @@ use Rattle.lrc_code.specs.declared.numbers.StripeNo.{StripeNo}
 use Rattle.lrc_code.specs.declared.numbers.NodeNo.{NodeNo}
 use Rattle.lrc_code.specs.Numbers.{same_stripe}
 use Rattle.lrc_topology.specs.declared.NodeInfo.{NodeInfo}
-use Rattle.lrc_book.specs.States.{State, load_shown, level_shown}
-use Rattle.lrc_book.specs.Histories.{state_after}
+use Rattle.lrc_rules.specs.States.{State, load_shown, level_shown}
+use Rattle.lrc_rules.specs.Histories.{state_after}
 use Rattle.lrc_book.specs.Books.{BookView, state_of}
-use Rattle.lrc_book.specs.Boards.{Levels, levels_of, put_level, loads_of}
+use Rattle.lrc_rules.specs.Boards.{Levels, levels_of, put_level, loads_of}
 use Rattle.lrc_board.specs.declared.line.Line.{Line}
 use Rattle.lrc_board.specs.declared.touched.Touched.{Touched}
 use Rattle.lrc_board.specs.declared.touched.Touched.TheVariants.{Nothing, Stripe, All}

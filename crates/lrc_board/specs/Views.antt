@@ -2,9 +2,9 @@
 use Rattle.std.specs.Prelude.{◌≡◌, ℕ, List, [], length}
 use Rattle.logbook.specs.Pages.{Book}
 use Rattle.lrc_topology.specs.declared.NodeInfo.{NodeInfo}
-use Rattle.lrc_book.specs.declared.entry.Entry.{Entry}
-use Rattle.lrc_book.specs.Histories.{IsLegal}
-use Rattle.lrc_book.specs.Boards.{Levels, Loads, levels_after, loads_after}
+use Rattle.lrc_rules.specs.declared.entry.Entry.{Entry}
+use Rattle.lrc_rules.specs.Histories.{IsLegal}
+use Rattle.lrc_rules.specs.Boards.{Levels, Loads, levels_after, loads_after}
 use Rattle.lrc_board.specs.declared.line.Line.{Line}
 use Rattle.lrc_board.specs.Lines.{written}
 

@@ -1,15 +1,14 @@
 ghost use Rattle.std.specs.Prelude.{◌≡◌, [], length, map, replicate, None, IfOk};
 ghost use Rattle.lrc_book.specs.Books.{state_of};
-ghost use Rattle.lrc_book.specs.Boards.{levels_of, levels_after, loads_of, loads_after, level_in, load_in};
+ghost use Rattle.lrc_rules.specs.Boards.{levels_of, levels_after, loads_of, loads_after, level_in, load_in};
 ghost use Rattle.lrc_board.specs.Views.{BoardView};
 ghost use Rattle.lrc_board.specs.Refreshed.{refreshed, row_shown, IsWhole, renewed};
 
 use crate::line::Front;
 use crate::touched::Touched;
 use left_right::Absorb;
-use lrc_book::Book;
+use lrc_book::{Book, Level};
 use lrc_code::{NodeNo, STRIPES, StripeNo};
-use lrc_stripes::Level;
 use lrc_topology::Topology;
 use std::alloc::{AllocError, Global};
 use std::marker::Model;

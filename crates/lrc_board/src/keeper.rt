@@ -2,7 +2,7 @@ ghost use Rattle.std.specs.Prelude.{◌≡◌, ◌↔◌, ◌<◌, [], ◌∷◌
 ghost use mathlib.Core.List.{IsPrefix};
 ghost use Rattle.lrc_code.specs.declared.fault.Fault.TheVariants as fault;
 ghost use Rattle.lrc_book.specs.Books.{FaultFits, world_of};
-ghost use Rattle.lrc_book.specs.Histories.{IsLegal, outcome_in};
+ghost use Rattle.lrc_rules.specs.Histories.{IsLegal, outcome_in};
 
 use crate::log::Log;
 use crate::naming::ViewNaming;

@@ -33,7 +33,7 @@ pub struct Log<N: ViewNaming> {
 impl<N: ViewNaming> Model for Log<N> {
     ghost use Rattle.std.specs.Prelude.{◌≡◌, List};
     ghost use Rattle.logbook.specs.Pages.{may_write};
-    ghost use Rattle.lrc_book.specs.declared.entry.Entry.{Entry};
+    ghost use Rattle.lrc_rules.specs.declared.entry.Entry.{Entry};
     ghost use Rattle.lrc_board.specs.Lines.{word_of, written, pen_after};
 
     ghost Value = { List Entry };

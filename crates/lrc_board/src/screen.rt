@@ -1,5 +1,5 @@
 ghost use Rattle.std.specs.Prelude.{◌≡◌, [], length, None, Some};
-ghost use Rattle.lrc_book.specs.Histories.{IsLegal, state_after};
+ghost use Rattle.lrc_rules.specs.Histories.{IsLegal, state_after};
 ghost use Rattle.lrc_board.specs.Lines.{written};
 ghost use Rattle.lrc_board.specs.Views.{IsBoard, empty_board};
 ghost use Rattle.lrc_board.specs.Refreshed.{LevelsStay, IsWhole, renewed};
@@ -23,7 +23,7 @@ pub(crate) struct Screen<N: ViewNaming> {
 impl<N: ViewNaming> Model for Screen<N> {
     ghost use Rattle.std.specs.Prelude.{List, [], IsSome, IfSome};
     ghost use Rattle.std.specs.Option.{option_map_or};
-    ghost use Rattle.lrc_book.specs.declared.entry.Entry.{Entry};
+    ghost use Rattle.lrc_rules.specs.declared.entry.Entry.{Entry};
     ghost use Rattle.lrc_board.specs.Views.{published};
     ghost use Rattle.lrc_board.specs.Refreshed.{AreBoards};
 

@@ -2,10 +2,10 @@ ghost use Rattle.std.specs.Prelude.{◌≡◌, IsFalse, List};
 ghost use Rattle.lrc_code.specs.declared.numbers.StripeNo.{StripeNo};
 ghost use Rattle.lrc_code.specs.declared.numbers.SessionNo.{SessionNo};
 ghost use Rattle.lrc_topology.specs.declared.NodeInfo.{NodeInfo};
-ghost use Rattle.lrc_book.specs.declared.entry.Entry.{Entry};
-ghost use Rattle.lrc_book.specs.States.{State};
-ghost use Rattle.lrc_book.specs.Steps.{step};
-ghost use Rattle.lrc_book.specs.Touching.{can_change_level};
+ghost use Rattle.lrc_rules.specs.declared.entry.Entry.{Entry};
+ghost use Rattle.lrc_rules.specs.States.{State};
+ghost use Rattle.lrc_rules.specs.Steps.{step};
+ghost use Rattle.lrc_rules.specs.Touching.{can_change_level};
 ghost use Rattle.lrc_board.specs.Refreshed.{is_touched, LevelsStay};
 
 use lrc_book::{Command, Reply};

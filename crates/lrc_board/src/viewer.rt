@@ -1,9 +1,9 @@
 ghost use Rattle.std.specs.Prelude.{◌≡◌, [], length, IfOk, IfErr, OnErr};
 ghost use mathlib.Core.List.{IsPrefix};
-ghost use Rattle.lrc_book.specs.Histories.{IsLegal, state_after};
+ghost use Rattle.lrc_rules.specs.Histories.{IsLegal, state_after};
 ghost use Rattle.lrc_topology.specs.Nodes.{AreNodes};
-ghost use Rattle.lrc_book.specs.States.{level_shown, load_shown};
-ghost use Rattle.lrc_book.specs.Urgency.{risk};
+ghost use Rattle.lrc_rules.specs.States.{level_shown, load_shown};
+ghost use Rattle.lrc_rules.specs.Urgency.{risk};
 ghost use Rattle.lrc_board.specs.Lines.{written};
 ghost use Rattle.lrc_board.specs.declared.error.LookError.TheVariants as error;
 
@@ -13,8 +13,8 @@ use crate::log::begins;
 use crate::naming::ViewNaming;
 use crate::question::{LevelOf, LoadOf, Question, RiskOf};
 use crate::rule::{BoardReader, Sees};
+use lrc_book::Level;
 use lrc_code::{NodeNo, StripeNo};
-use lrc_stripes::Level;
 use std::alloc::Global;
 use std::marker::Model;
 
@@ -37,8 +37,8 @@ pub struct Viewer<N: ViewNaming> {
 impl<N: ViewNaming> Model for Viewer<N> {
     ghost use Rattle.std.specs.Prelude.{◌≡◌, List, length, IsSome};
     ghost use Rattle.lrc_topology.specs.Nodes.{AreNodes};
-    ghost use Rattle.lrc_book.specs.declared.entry.Entry.{Entry};
-    ghost use Rattle.lrc_book.specs.Histories.{IsLegal};
+    ghost use Rattle.lrc_rules.specs.declared.entry.Entry.{Entry};
+    ghost use Rattle.lrc_rules.specs.Histories.{IsLegal};
     ghost use Rattle.lrc_board.specs.Lines.{written};
 
     ghost Value = { List Entry };

@@ -10,17 +10,17 @@ use Rattle.lrc_code.specs.declared.numbers.NodeNo.{NodeNo}
 use Rattle.lrc_code.specs.declared.numbers.Fragment.{Fragment}
 use Rattle.lrc_topology.specs.declared.seat.Seat.{Seat}
 use Rattle.lrc_topology.specs.declared.seat.Held.{Held}
-use Rattle.lrc_stripes.specs.Levels.{home_of}
-use Rattle.lrc_stripes.specs.Stored.{Stored, StripeFragment, AreHomesOn, AreHomesOnFrom, is_home_on, comes_before}
+use Rattle.lrc_terms.specs.Levels.{home_of}
+use Rattle.lrc_stripes.specs.Stored.{Stored, AreHomesOn, AreHomesOnFrom, is_home_on}
+use Rattle.lrc_terms.specs.Stripes.{StripeFragment, comes_before}
 use Rattle.lrc_stripes.specs.Tables.{stored_in}
 use Rattle.lrc_book.specs.declared.store.Store.{Store}
-use Rattle.lrc_book.specs.States.{State, is_home_of}
+use Rattle.lrc_rules.specs.States.{State, is_home_of}
 use Rattle.lrc_book.specs.Stores.{IsOf}
-use Rattle.lrc_book.proofs.MemberLemmas.{filter-member, Contains-cases, AllPairs-head}
-use Rattle.lrc_book.proofs.StoredLemmas.{found-home}
+use Rattle.lrc_rules.proofs.MemberLemmas.{filter-member, Contains-cases, AllPairs-head}
 use Rattle.lrc_book.proofs.FragmentLemmas.{bared}
-use Rattle.lrc_book.proofs.ClearLemmas.{home-only}
 use Rattle.lrc_book.proofs.EmptyLemmas.{home_is-parts}
+use Rattle.lrc_rules.proofs.LookUpLemmas.{home-only, found-home}
 
 -- no home on the node is of a stripe before this number
 abbrev pub IsAhead : Stored → NodeNo → ℕ → Type 0

@@ -2,15 +2,14 @@
 use Rattle.std.proofs.Common.{◌≡◌, ◌≢◌, false, take, refl}
 use Rattle.lrc_code.specs.declared.numbers.StripeNo.{StripeNo}
 use Rattle.lrc_code.specs.declared.numbers.Fragment.{Fragment}
-use Rattle.lrc_leases.specs.declared.lease.Lease.{Lease as LeaseRecord}
-use Rattle.lrc_book.specs.declared.kind.Kind.{Kind}
-use Rattle.lrc_book.specs.declared.command.Command.{Command}
-use Rattle.lrc_book.specs.declared.command.Command.TheVariants.{Place, Place6, Drop, Lease, Next, Done, Abandon, Revoke}
-use Rattle.lrc_book.specs.declared.command.Command.TheVariants.{Fail, Down, Up, Drain, Undrain, Retire, Join, Upgrade, Upgraded, Tick}
-use Rattle.lrc_book.specs.Changes.{grants_lease}
+use Rattle.lrc_terms.specs.declared.lease.Lease.{Lease as LeaseRecord}
+use Rattle.lrc_rules.specs.declared.kind.Kind.{Kind}
+use Rattle.lrc_rules.specs.declared.command.Command.{Command}
+use Rattle.lrc_rules.specs.declared.command.Command.TheVariants.{Lease, Next}
+use Rattle.lrc_rules.specs.Changes.{grants_lease}
 use Rattle.lrc_book.specs.declared.answer.Answer.{Answer}
 use Rattle.lrc_book.specs.declared.answer.Answer.TheVariants as answer
-use Rattle.lrc_book.specs.declared.reply.Reply.TheVariants as reply
+use Rattle.lrc_rules.specs.declared.reply.Reply.TheVariants as reply
 use Rattle.lrc_book.specs.Answers.{told}
 
 -- that a change was made is told by one answer alone
@@ -40,31 +39,9 @@ next-other (answer.Ticked clock ended) other = refl
 
 lease-other : (s : StripeNo) (f : Fragment) (a : Answer) → ((l : LeaseRecord) (k : Kind) → a ≢ answer.Granted l k) → grants_lease (Lease s f) (told a) ≡ false
 lease-other s f (answer.Granted l k) other = absurd (other l k refl)
-lease-other s f (answer.Placed seats) other = refl
-lease-other s f (answer.Placed6 seats) other = refl
-lease-other s f answer.Dropped other = refl
-lease-other s f answer.Idle other = refl
-lease-other s f answer.Ended other = refl
-lease-other s f answer.Changed other = refl
-lease-other s f (answer.Refused refusal) other = refl
-lease-other s f (answer.Ticked clock ended) other = refl
+lease-other s f _ other = refl
 
 pub other-answer : (c : Command) (a : Answer) → ((l : LeaseRecord) (k : Kind) → a ≢ answer.Granted l k) → grants_lease c (told a) ≡ false
 other-answer Next a other = next-other a other
 other-answer (Lease s f) a other = lease-other s f a other
-other-answer (Place s) a other = refl
-other-answer (Place6 s) a other = refl
-other-answer (Drop s) a other = refl
-other-answer (Done s f e) a other = refl
-other-answer (Abandon s f e) a other = refl
-other-answer (Revoke s f) a other = refl
-other-answer (Fail n) a other = refl
-other-answer (Down n) a other = refl
-other-answer (Up n) a other = refl
-other-answer (Drain n) a other = refl
-other-answer (Undrain n) a other = refl
-other-answer (Retire n) a other = refl
-other-answer (Join n) a other = refl
-other-answer (Upgrade u) a other = refl
-other-answer (Upgraded u) a other = refl
-other-answer Tick a other = refl
+other-answer _ a other = refl

@@ -1,5 +1,5 @@
 -- The domains that are barred for a fragment, filled seat by seat.
-use Rattle.std.proofs.Common.{◌≡◌, ◌≢◌, ℕ, ◌<◌, Bool, true, false, cond, eqb, ◌&&◌, ◌||◌, Option, Some, None, option_and_then, ◌↔◌, inl, inr, List, [], ◌∷◌, ◌++◌, map, length, take, get_or, refl, sym, ap, ap₂, ◌∙◌}
+use Rattle.std.proofs.Common.{[], ◌≡◌, ◌≢◌, ℕ, ◌<◌, Bool, true, false, cond, eqb, ◌&&◌, ◌||◌, Option, Some, None, option_and_then, ◌↔◌, inl, inr, List, ◌∷◌, ◌++◌, map, length, take, get_or, refl, sym, ap, ap₂, ◌∙◌}
 use Rattle.std.proofs.Math.Path.{fun_ext}
 use Rattle.std.specs.List.{All, Contains, list_any}
 use Rattle.std.specs.Option.{option_map_or}
@@ -19,17 +19,17 @@ use Rattle.lrc_topology.specs.declared.NodeInfo.{NodeInfo}
 use Rattle.lrc_topology.specs.declared.seat.Seat.{Seat}
 use Rattle.lrc_topology.specs.declared.seat.Held.{Held}
 use Rattle.lrc_slots.specs.Barred.{Barred, with_fault, with_upgrade, with_fault_of, with_upgrade_of}
-use Rattle.lrc_book.specs.States.{State, has_stripe, held_by, seats_of}
-use Rattle.lrc_book.specs.Changes.{held_at}
-use Rattle.lrc_book.specs.Goodness.{AreSeated}
+use Rattle.lrc_rules.specs.States.{State, has_stripe, held_by, seats_of}
+use Rattle.lrc_rules.specs.Changes.{held_at}
+use Rattle.lrc_rules.specs.Goodness.{AreSeated}
 use Rattle.lrc_book.specs.Ties.{with_homes, bars_fault, bars_upgrade, bars_in}
 use Rattle.lrc_book.specs.Stores.{with_held, with_seat}
 use Rattle.lrc_book.specs.Planning.{with_node}
-use Rattle.lrc_book.specs.Placement.{is_beside}
-use Rattle.lrc_book.proofs.MemberLemmas.{list_any-member, member-list_any}
-use Rattle.lrc_book.proofs.ChoiceLemmas.{same_stripe}
-use Rattle.lrc_book.proofs.SeatingLemmas.{fragments-distinct}
-use Rattle.lrc_book.proofs.SeatedLemmas.{not_there}
+use Rattle.lrc_rules.specs.Placement.{is_beside}
+use Rattle.lrc_rules.proofs.MemberLemmas.{list_any-member, member-list_any}
+use Rattle.lrc_rules.proofs.ChoiceLemmas.{same_stripe}
+use Rattle.lrc_rules.proofs.SeatingLemmas.{fragments-distinct}
+use Rattle.lrc_rules.proofs.SeatedLemmas.{not_there}
 use Rattle.lrc_book.proofs.TableLemmas.{pairs-before}
 
 pub or_none : (b : Bool) → b ≡ (b || false)

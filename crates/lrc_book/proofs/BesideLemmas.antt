@@ -1,5 +1,5 @@
 -- The seats of a stripe's fragments, gathered fragment by fragment: the home of each, and its lease's target.
-use Rattle.std.proofs.Common.{◌≡◌, ℕ, ◌+◌, ◌<◌, eqb, List, [], ◌∷◌, ◌++◌, map, length, take, get_or, Option, Some, None, option_map, refl, sym, ap, ◌∙◌, subst, inl, inr, append_assoc, append-nil}
+use Rattle.std.proofs.Common.{[], ◌≡◌, ℕ, ◌+◌, ◌<◌, eqb, List, ◌∷◌, ◌++◌, map, length, take, get_or, Option, Some, None, option_map, refl, sym, ap, ◌∙◌, subst, inl, inr, append_assoc, append-nil}
 use Rattle.std.specs.List.{Contains}
 use Rattle.std.proofs.lemmas.Bool.{eqb-true, and_parts}
 use Rattle.std.proofs.lemmas.List.{take_more}
@@ -13,19 +13,18 @@ use Rattle.lrc_code.proofs.NumbersLemmas.{equal_stripes, equal_fragments}
 use Rattle.lrc_topology.specs.declared.NodeInfo.{NodeInfo}
 use Rattle.lrc_topology.specs.declared.seat.Seat.{Seat}
 use Rattle.lrc_topology.specs.declared.seat.Held.{Held}
-use Rattle.lrc_stripes.specs.Levels.{home_of, homes_of}
-use Rattle.lrc_leases.specs.declared.lease.Lease.{Lease}
-use Rattle.lrc_leases.proofs.ListLemmas.{leases_in-own, leases_in-contains, contains-leases_in}
-use Rattle.lrc_book.specs.States.{State, held_by, lease_of}
-use Rattle.lrc_book.specs.Goodness.{AreSeated}
+use Rattle.lrc_terms.specs.Levels.{home_of, homes_of}
+use Rattle.lrc_terms.specs.declared.lease.Lease.{Lease}
+use Rattle.lrc_terms.proofs.LeaseLemmas.{leases_in-own, leases_in-contains, contains-leases_in}
+use Rattle.lrc_rules.specs.States.{State, held_by, lease_of}
+use Rattle.lrc_rules.specs.Goodness.{AreSeated}
 use Rattle.lrc_book.specs.Ties.{bars_in}
 use Rattle.lrc_book.specs.Stores.{with_seat}
-use Rattle.lrc_book.proofs.MemberLemmas.{Contains-here, Contains-cases, not-Contains-nil, map-member}
-use Rattle.lrc_book.proofs.TakenLemmas.{member-map}
-use Rattle.lrc_book.proofs.StoredLemmas.{found-home}
-use Rattle.lrc_book.proofs.ClearLemmas.{home-only}
+use Rattle.lrc_rules.proofs.MemberLemmas.{Contains-here, Contains-cases, not-Contains-nil, map-member}
+use Rattle.lrc_rules.proofs.TakenLemmas.{member-map}
 use Rattle.lrc_book.proofs.FragmentLemmas.{all-fragments}
 use Rattle.lrc_book.proofs.BarLemmas.{bars_in-push, bars_in-same}
+use Rattle.lrc_rules.proofs.LookUpLemmas.{home-only, found-home}
 
 -- a fragment's seat, if it has one
 abbrev pub held_if : StripeNo → Fragment → Option Seat → List Held

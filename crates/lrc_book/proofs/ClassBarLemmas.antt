@@ -1,5 +1,5 @@
 -- The domains that planned seats bar for the fragments of a class.
-use Rattle.std.proofs.Common.{◌≡◌, ◌≢◌, ℕ, ◌<◌, arith, length, get_or, set, Bool, true, false, ◌&&◌, ◌||◌, List, [], ◌∷◌, ◌++◌, Option, Some, None, inl, inr, refl, sym, ap, ap₂, subst, ◌∙◌}
+use Rattle.std.proofs.Common.{[], ◌≡◌, ◌≢◌, ℕ, ◌<◌, arith, length, get_or, set, Bool, true, false, ◌&&◌, ◌||◌, List, ◌∷◌, ◌++◌, Option, Some, None, inl, inr, refl, sym, ap, ap₂, subst, ◌∙◌}
 use Rattle.std.proofs.lemmas.Bool.{cases_Bool}
 use Rattle.std.proofs.lemmas.List.{length-set, get_or_default, get_or-set_same, get_or-set_other}
 use Rattle.std.specs.List.{All, list_any}
@@ -21,7 +21,7 @@ use Rattle.lrc_topology.specs.Nodes.{node_at}
 use Rattle.lrc_slots.specs.Barred.{Barred, no_bars, with_fault, with_upgrade, joined}
 use Rattle.lrc_slots.specs.BarredNodes.{AreBarredNodes}
 use Rattle.lrc_book.specs.declared.class_bars.ClassBars.{ClassBars}
-use Rattle.lrc_book.specs.Placement.{is_beside}
+use Rattle.lrc_rules.specs.Placement.{is_beside}
 use Rattle.lrc_book.specs.Ties.{bars_fault, bars_upgrade, bars_in}
 use Rattle.lrc_book.specs.Planning.{is_in_fault, is_in_upgrade, bars_for, fault_bars, upgrade_bars, AreBarsOf, place_of_class, upgrades_for}
 use Rattle.lrc_book.specs.Stores.{closed}

@@ -1,46 +1,43 @@
 -- A home that is cleared, and its seat given back.
-use Rattle.std.proofs.Common.{◌≡◌, ◌≢◌, ◌<◌, ◌≤◌, Bool, true, false, not, cond, ◌&&◌, nat_eq, eqb, List, [], ◌∷◌, map, filter, find, Option, Some, None, option_map, IsSome, refl, sym, ap, ◌∙◌, subst, inl, inr, arith}
-use Rattle.std.specs.List.{All, AllPairs, Contains, count_by}
+use Rattle.std.proofs.Common.{[], ◌≡◌, ◌≢◌, ◌<◌, ◌≤◌, Bool, true, false, not, cond, ◌&&◌, eqb, List, ◌∷◌, map, filter, find, Option, Some, None, option_map, refl, sym, ap, ◌∙◌, subst, inl, inr, arith}
+use Rattle.std.specs.List.{All, Contains, count_by}
 use Rattle.std.proofs.lemmas.Bool.{cases_Bool, eqb-true, eq-eqb, and_parts}
 use Rattle.std.proofs.lemmas.Option.{same_Some}
 use Rattle.std.proofs.lemmas.List.Elements.{All-contains, Contains-append_left}
 use Rattle.std.proofs.lemmas.List.Sums.{sum_by-cons}
 use Rattle.lrc_code.specs.declared.numbers.StripeNo.{StripeNo}
-use Rattle.lrc_code.specs.declared.numbers.NodeNo.{NodeNo}
 use Rattle.lrc_code.specs.declared.numbers.Fragment.{Fragment}
 use Rattle.lrc_code.specs.Codes.{has_fragment}
-use Rattle.lrc_code.proofs.NumbersLemmas.{equal_fragments}
 use Rattle.lrc_topology.specs.declared.NodeInfo.{NodeInfo}
 use Rattle.lrc_topology.specs.declared.seat.Seat.{Seat}
 use Rattle.lrc_topology.specs.declared.seat.Held.{Held}
-use Rattle.lrc_topology.specs.Nodes.{AreNodes, node_at}
-use Rattle.lrc_topology.specs.Seats.{load_of, is_taken}
-use Rattle.lrc_slots.specs.Slots.{Slots, with_free, load_at}
-use Rattle.lrc_stripes.specs.Levels.{home_of}
-use Rattle.lrc_stripes.specs.Stored.{Stored, StripeFragment, AreHomesOn, is_home_on}
-use Rattle.lrc_stripes.specs.Stored as stored
-use Rattle.lrc_book.specs.States.{State, has_stripe, code_of, held_by, seats_of, taken_seats}
-use Rattle.lrc_book.specs.Steps.{stands_on, without_upgrading}
-use Rattle.lrc_book.specs.Goodness.{AreSeated}
+use Rattle.lrc_topology.specs.Seats.{is_taken}
+use Rattle.lrc_slots.specs.Slots.{Slots, with_free}
+use Rattle.lrc_terms.specs.Levels.{home_of}
+use Rattle.lrc_stripes.specs.Stored.{Stored}
+use Rattle.lrc_rules.specs.States.{State, has_stripe, held_by, seats_of, taken_seats}
+use Rattle.lrc_rules.specs.Steps.{without_upgrading}
+use Rattle.lrc_rules.specs.Goodness.{AreSeated}
 use Rattle.lrc_book.specs.Ties.{table_of}
 use Rattle.lrc_book.proofs.ClosedLemmas.{settled-seated}
 use Rattle.lrc_book.proofs.ModesLemmas.{same-modes}
-use Rattle.lrc_book.proofs.MemberLemmas.{filter-member, member-filter, map-member, Contains-cases, not-Contains-nil, list_any-member, AllPairs-head, AllPairs-tail}
-use Rattle.lrc_book.proofs.NodeLemmas.{member-taken}
-use Rattle.lrc_book.proofs.ChoiceLemmas.{same_stripe}
-use Rattle.lrc_book.proofs.LeaseGoodLemmas.{homes-seated}
-use Rattle.lrc_book.proofs.TakenLemmas.{taken-cases, home-seat, target-seat, table-less, load-parts, count-held, load-falls}
-use Rattle.lrc_book.proofs.PairLemmas.{pairs-left, pairs-across, pairs-members}
-use Rattle.lrc_book.proofs.SeatingLemmas.{held-single}
-use Rattle.lrc_book.specs.Leases.{without_home}
-use Rattle.lrc_book.proofs.StoredLemmas.{is_of}
+use Rattle.lrc_rules.proofs.MemberLemmas.{filter-member, member-filter, map-member, Contains-cases, not-Contains-nil, list_any-member}
+use Rattle.lrc_rules.proofs.NodeLemmas.{member-taken}
+use Rattle.lrc_rules.proofs.LeaseGoodLemmas.{homes-seated}
+use Rattle.lrc_rules.proofs.TakenLemmas.{taken-cases, home-seat, target-seat}
+use Rattle.lrc_rules.proofs.PairLemmas.{pairs-left, pairs-across, pairs-members}
+use Rattle.lrc_rules.proofs.SeatingLemmas.{held-single}
+use Rattle.lrc_rules.specs.Leases.{without_home}
 use Rattle.lrc_book.specs.Stores.{IsOf, kept_table}
 use Rattle.lrc_book.specs.declared.store.Store.{Store}
-use Rattle.lrc_slots.specs.Tables as slots
 use Rattle.lrc_slots.specs.Tables.{slots_of}
-use Rattle.lrc_stripes.specs.Tables as tables
 use Rattle.lrc_stripes.specs.Tables.{stored_in}
-use Rattle.lrc_book.proofs.StoredLemmas.{found-home, stored-clear, own-spare}
+use Rattle.lrc_book.proofs.StoredLemmas.{stored-clear, own-spare}
+use Rattle.lrc_book.proofs.SlotTableLemmas.{table-less}
+use Rattle.lrc_rules.proofs.LookUpLemmas.{is_of, found-home, home-only, home-own}
+use Rattle.lrc_stripes.specs.Stored as stored
+use Rattle.lrc_slots.specs.Tables as slots
+use Rattle.lrc_stripes.specs.Tables as tables
 
 -- ---- lists
 
@@ -71,21 +68,6 @@ module _ {X : Type 0} (test kept : X → Bool) where
         ]
   ]
 
--- where each fragment has one home at most, each home is the one that is found
-pub home-only : (homes : List Held) → AllPairs (λ h g. h.stripe ≡ g.stripe → h.fragment ≢ g.fragment) homes → (h : Held) → Contains homes h → home_of homes h.stripe h.fragment.value ≡ Some h
-home-only [] single h here = absurd (not-Contains-nil h here)
-home-only (x ∷ xs) single h here = elim (Contains-cases x h xs here) [
-  | inl same ↦ subst (λ (g : Held). home_of (x ∷ xs) g.stripe g.fragment.value ≡ Some g) same (rw (eq-eqb x.stripe.value x.stripe.value refl, eq-eqb x.fragment.value x.fragment.value refl) refl)
-  | inr more ↦
-      let apart = All-contains (λ g. x.stripe ≡ g.stripe → x.fragment ≢ g.fragment) xs h (AllPairs-head (λ h g. h.stripe ≡ g.stripe → h.fragment ≢ g.fragment) x xs single) more in
-      elim (cases_Bool (is_of h.stripe h.fragment.value x)) [
-        | inl hit ↦
-            let parts = and_parts (eqb x.stripe.value h.stripe.value) (eqb x.fragment.value h.fragment.value) hit in
-            absurd (apart (same_stripe x.stripe h.stripe (eqb-true _ _ parts.0)) (equal_fragments x.fragment h.fragment (eqb-true _ _ parts.1)))
-        | inr miss ↦ rw miss (home-only xs (AllPairs-tail (λ h g. h.stripe ≡ g.stripe → h.fragment ≢ g.fragment) x xs single) h more)
-      ]
-]
-
 -- ---- one home cleared
 
 module _ (nodes : List NodeInfo) (st : State) (s : StripeNo) (f : Fragment) (h : Held) (good : AreSeated nodes st) (found : home_of st.homes s f.value ≡ Some h) where
@@ -113,14 +95,6 @@ module _ (nodes : List NodeInfo) (st : State) (s : StripeNo) (f : Fragment) (h :
       let parts = and_parts (eqb h.stripe.value s.value) (eqb h.fragment.value f.value) there-home.1 in
       list_any-member (λ (u : StripeNo). eqb s.value u.value) st.stripes h.stripe (All-contains (λ (g : Held). Contains st.stripes g.stripe) (seats_of st) h good.there (Contains-append_left st.homes (map held_by st.leases) h there-home.0))
       (eq-eqb s.value h.stripe.value (sym (eqb-true h.stripe.value s.value parts.0)))
-
-  -- its fragment is one of the stripe's code
-  pub home-own : has_fragment (code_of st s) f.value ≡ true
-  home-own =
-      let parts = and_parts (eqb h.stripe.value s.value) (eqb h.fragment.value f.value) there-home.1 in
-      subst (λ (g : Fragment). has_fragment (code_of st s) g.value ≡ true) (equal_fragments h.fragment f (eqb-true _ _ parts.1))
-      (subst (λ (r : StripeNo). has_fragment (code_of st r) h.fragment.value ≡ true) (same_stripe h.stripe s (eqb-true _ _ parts.0))
-      (All-contains (λ (g : Held). has_fragment (code_of st g.stripe) g.fragment.value ≡ true) (seats_of st) h good.within (Contains-append_left st.homes (map held_by st.leases) h there-home.0)))
 
   pub seat-there : is_taken (taken_seats st) h.seat.node h.seat.slot ≡ true
   seat-there = member-taken (taken_seats st) h.seat.node h.seat.slot (home-seat st h there-home.0)
@@ -159,21 +133,6 @@ module _ (nodes : List NodeInfo) (st : State) (s : StripeNo) (f : Fragment) (h :
   -- its seat given back
   pub clear-table : with_free (table_of nodes st) h.seat.node h.seat.slot ≡ table_of nodes cleared
   clear-table = table-less nodes st h.seat (taken_seats cleared) other-left left-seat
-
-  -- the load of its node falls
-  pub clear-load : AreNodes nodes → (n : NodeNo) → stands_on n h ≡ true → IsSome (node_at nodes n) → load_at (table_of nodes cleared) n < load_at (table_of nodes st) n
-  clear-load known n on some = load-falls nodes known st cleared good (homes-seated nodes st kept good) n some falls
-    where
-      falls : load_of (taken_seats cleared) n < load_of (taken_seats st) n
-      falls =
-          let before = load-parts st n in
-          let after = load-parts cleared n in
-          let all = count-held st.homes n in
-          let left = count-held (filter kept st.homes) n in
-          let fewer = count-falls (λ (g : Held). nat_eq g.seat.node.value n.value) kept st.homes h there-home.0 (eq-eqb h.seat.node.value n.value (sym (eqb-true n.value h.seat.node.value on))) (ap not there-home.1) in
-          omega (arith, before, after, all, left, fewer)
-
--- ---- a fragment's home among homes
 
 module _ (s : StripeNo) (f : Fragment) where
   -- the home that a fragment's seat is of

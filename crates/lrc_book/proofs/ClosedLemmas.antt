@@ -12,17 +12,17 @@ use Rattle.lrc_topology.specs.Seats.{free_slot}
 use Rattle.lrc_slots.specs.Slots.{least_free_at}
 use Rattle.lrc_slots.specs.Barred.{Barred}
 use Rattle.lrc_slots.specs.Next.{may_take, is_chosen_before, next_node}
-use Rattle.lrc_book.specs.States.{State, mode_of, is_active, is_gone, is_down, taken_seats}
-use Rattle.lrc_book.specs.Goodness.{AreSeated}
+use Rattle.lrc_rules.specs.States.{State, mode_of, is_active, is_gone, is_down, taken_seats}
+use Rattle.lrc_rules.specs.Goodness.{AreSeated}
 use Rattle.lrc_book.specs.Ties.{table_of, next_seat}
-use Rattle.lrc_book.specs.Steps.{without_upgrading}
+use Rattle.lrc_rules.specs.Steps.{without_upgrading}
 use Rattle.lrc_book.specs.Stores.{kept_table, closed}
-use Rattle.lrc_book.proofs.MemberLemmas.{All-members}
-use Rattle.lrc_book.proofs.NodeLemmas.{node_at-member}
+use Rattle.lrc_rules.proofs.MemberLemmas.{All-members}
+use Rattle.lrc_rules.proofs.NodeLemmas.{node_at-member}
 use Rattle.lrc_book.proofs.PlanLemmas.{filter-agree}
-use Rattle.lrc_book.proofs.SeatedLemmas.{upgrading-seated}
-use Rattle.lrc_book.proofs.StoredLemmas.{test-sym}
+use Rattle.lrc_rules.proofs.SeatedLemmas.{upgrading-seated}
 use Rattle.lrc_book.proofs.TieLemmas.{may_take-eligible}
+use Rattle.lrc_rules.proofs.LookUpLemmas.{test-sym}
 
 -- the stripes are seated also were no domain upgrading
 pub settled-seated : (nodes : List NodeInfo) (st : State) → AreSeated nodes st → AreSeated nodes (without_upgrading st)

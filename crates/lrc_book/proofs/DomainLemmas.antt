@@ -15,15 +15,16 @@ use Rattle.lrc_stripes.specs.Tables as tables
 use Rattle.lrc_stripes.specs.Tables.{stored_in}
 use Rattle.lrc_book.specs.declared.store.Store.{Store}
 use Rattle.lrc_book.specs.declared.modes.Modes.{Modes}
-use Rattle.lrc_book.specs.States.{State, mode_of, is_gone, is_down, is_online, online_at}
-use Rattle.lrc_book.specs.Steps.{with_upgrading, without_upgrading}
+use Rattle.lrc_rules.specs.States.{State, mode_of, is_gone, is_down, is_online, online_at}
+use Rattle.lrc_rules.specs.Steps.{with_upgrading, without_upgrading}
 use Rattle.lrc_book.specs.Stores.{IsOf, AreModesOf, stored_of, with_rest}
-use Rattle.lrc_book.proofs.SeatedLemmas.{upgrading-seated}
+use Rattle.lrc_rules.proofs.SeatedLemmas.{upgrading-seated}
 use Rattle.lrc_book.proofs.BarLemmas.{or_last}
-use Rattle.lrc_book.proofs.MemberLemmas.{list_any-All, list_any-member, filter-member, member-filter, All-members}
-use Rattle.lrc_book.proofs.NodeLemmas.{node_at-member, member-node_at}
-use Rattle.lrc_book.proofs.StoredLemmas.{own-spare, test-sym}
+use Rattle.lrc_rules.proofs.MemberLemmas.{list_any-All, list_any-member, filter-member, member-filter, All-members}
+use Rattle.lrc_rules.proofs.NodeLemmas.{node_at-member, member-node_at}
+use Rattle.lrc_book.proofs.StoredLemmas.{own-spare}
 use Rattle.lrc_book.proofs.UpgradeLemmas.{online-with}
+use Rattle.lrc_rules.proofs.LookUpLemmas.{test-sym}
 
 module _ (nodes : List NodeInfo) (known : AreNodes nodes) (u : UpgradeNo) where
   -- they are nodes of the store

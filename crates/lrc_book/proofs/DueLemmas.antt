@@ -1,23 +1,24 @@
 -- The leases that end at a clock, ended one after the other.
-use Rattle.std.proofs.Common.{◌≡◌, ℕ, ◌+◌, ◌≤◌, true, false, not, List, [], ◌∷◌, length, filter, Some, refl, sym, ap, ◌∙◌, subst, inl, inr, arith}
+use Rattle.std.proofs.Common.{[], ◌≡◌, ℕ, ◌+◌, ◌≤◌, true, false, not, List, ◌∷◌, length, filter, Some, sym, ap, ◌∙◌, subst, inl, inr, arith}
 use Rattle.std.specs.List.{All, Contains, count_by}
 use Rattle.std.proofs.lemmas.Bool.{cases_Bool}
 use Rattle.std.proofs.lemmas.List.Elements.{All-contains}
 use Rattle.std.proofs.lemmas.List.Sums.{length-filter}
-use Rattle.lrc_leases.specs.declared.lease.Lease.{Lease}
-use Rattle.lrc_leases.specs.Leased.{Leased, is_of, ends_at, leased_of, AreThose, AreOneEach}
+use Rattle.lrc_terms.specs.declared.lease.Lease.{Lease}
+use Rattle.lrc_terms.specs.Leased.{Leased, is_of, ends_at, leased_of, AreThose, AreOneEach}
 use Rattle.lrc_leases.specs.Tables.{leased_in}
-use Rattle.lrc_leases.proofs.ListLemmas.{contains-leases_in, leases_in-contains, one_each-filter}
+use Rattle.lrc_terms.proofs.LeaseLemmas.{contains-leases_in, leases_in-contains, one_each-filter}
 use Rattle.lrc_leases.proofs.RoomLemmas.{same-length}
-use Rattle.lrc_book.specs.States.{State, lease_of}
-use Rattle.lrc_book.specs.Leases.{without_lease, without_ending, tick_outcome}
-use Rattle.lrc_book.specs.declared.reply.Reply.TheVariants.{Ticked}
+use Rattle.lrc_rules.specs.States.{State, lease_of}
+use Rattle.lrc_rules.specs.Leases.{without_lease, without_ending, tick_outcome}
+use Rattle.lrc_rules.specs.declared.reply.Reply.TheVariants.{Ticked}
 use Rattle.lrc_book.specs.declared.store.Store.{Store}
 use Rattle.lrc_book.specs.Stores.{IsOf}
-use Rattle.lrc_book.proofs.MemberLemmas.{All-members, Contains-here, not-Contains-nil, filter-member, member-filter, count-none, none-count}
-use Rattle.lrc_book.proofs.EndLemmas.{there-lease, only-lease, lease-kept}
+use Rattle.lrc_rules.proofs.MemberLemmas.{All-members, Contains-here, not-Contains-nil, filter-member, member-filter, count-none, none-count}
+use Rattle.lrc_book.proofs.EndLemmas.{lease-kept}
 use Rattle.lrc_book.proofs.ClearLemmas.{count-falls}
 use Rattle.lrc_book.proofs.EmptyLemmas.{filter-skips, filter-whole, not-false}
+use Rattle.lrc_rules.proofs.LookUpLemmas.{there-lease, only-lease}
 
 -- the leases that end at the clock, ended as far as this: at most so many are left
 pub record IsDue (st : State) (clock left : ℕ) (k : Store) : Type 0 where
@@ -25,9 +26,6 @@ pub record IsDue (st : State) (clock left : ℕ) (k : Store) : Type 0 where
   pub kept : IsOf (record st { leases = live }) k
   pub rest : filter (λ l. not (ends_at clock l)) live ≡ filter (λ l. not (ends_at clock l)) st.leases
   pub few : count_by (ends_at clock) live ≤ left
-
-pub due-first : (st : State) (clock ended : ℕ) (k : Store) → IsOf st k → ended ≡ count_by (ends_at clock) st.leases → IsDue st clock ended k
-due-first st clock ended k kept told = record { live = st.leases; kept = kept; rest = refl; few = omega (arith, told) }
 
 module _ (st : State) (clock left : ℕ) (k : Store) (due : IsDue st clock left k) where
   abbrev pub now : State

@@ -1,5 +1,5 @@
 -- A node that is emptied: the leases on it end, and its homes are cleared with their fragments' leases, one after the other.
-use Rattle.std.proofs.Common.{◌≡◌, ℕ, ◌<◌, ◌&&◌, ◌||◌, arith, Bool, true, false, not, cond, nat_eq, eqb, List, [], ◌∷◌, filter, Option, Some, None, option_map, IsSome, refl, sym, ap, ◌∙◌, subst, inl, inr}
+use Rattle.std.proofs.Common.{[], ◌≡◌, ℕ, ◌<◌, ◌&&◌, ◌||◌, arith, Bool, true, false, not, cond, nat_eq, eqb, List, ◌∷◌, filter, Option, Some, None, option_map, IsSome, refl, sym, ap, ◌∙◌, subst, inl, inr}
 use Rattle.std.specs.List.{All, Contains, list_any}
 use Rattle.std.specs.Option.{option_map_or}
 use Rattle.std.proofs.lemmas.Bool.{cases_Bool, and_parts, and_right, false_from_ne_true, eqb-true, eq-eqb, not-true}
@@ -11,29 +11,32 @@ use Rattle.lrc_topology.specs.declared.seat.Seat.{Seat}
 use Rattle.lrc_topology.specs.declared.seat.Held.{Held}
 use Rattle.lrc_topology.specs.Nodes.{node_at}
 use Rattle.lrc_slots.specs.Slots.{Slots, load_at}
-use Rattle.lrc_stripes.specs.Levels.{home_of}
-use Rattle.lrc_stripes.specs.Stored.{Stored, StripeFragment, AreHomesOn, is_home_on}
-use Rattle.lrc_leases.specs.declared.lease.Lease.{Lease}
-use Rattle.lrc_leases.specs.Leased.{Leased, is_of, is_target_on, AreTargetsOn}
+use Rattle.lrc_terms.specs.Levels.{home_of}
+use Rattle.lrc_stripes.specs.Stored.{Stored, AreHomesOn, is_home_on}
+use Rattle.lrc_terms.specs.Stripes.{StripeFragment}
+use Rattle.lrc_terms.specs.declared.lease.Lease.{Lease}
+use Rattle.lrc_terms.specs.Leased.{Leased, is_of, is_target_on, AreTargetsOn}
 use Rattle.lrc_leases.specs.Tables.{leased_in}
-use Rattle.lrc_leases.proofs.ListLemmas.{is_of-parts, is_of-from, contains-leases_in}
-use Rattle.lrc_book.specs.States.{State, has_stripe, is_home_of, taken_seats, lease_of}
-use Rattle.lrc_book.specs.Steps.{stands_on, hangs_on, emptied}
-use Rattle.lrc_book.specs.Changes.{without_targets}
-use Rattle.lrc_book.specs.Goodness.{AreSeated}
+use Rattle.lrc_terms.proofs.LeaseLemmas.{is_of-parts, is_of-from, contains-leases_in}
+use Rattle.lrc_rules.specs.States.{State, has_stripe, is_home_of, taken_seats, lease_of}
+use Rattle.lrc_rules.specs.Steps.{stands_on, hangs_on, emptied}
+use Rattle.lrc_rules.specs.Changes.{without_targets}
+use Rattle.lrc_rules.specs.Goodness.{AreSeated}
 use Rattle.lrc_topology.specs.Seats.{load_of}
 use Rattle.lrc_book.specs.Ties.{table_of}
-use Rattle.lrc_book.proofs.MemberLemmas.{filter-member, list_any-All, list_any-member, All-members, Contains-here, Contains-later, not-Contains-nil}
+use Rattle.lrc_rules.proofs.MemberLemmas.{filter-member, list_any-All, list_any-member, All-members, Contains-here, Contains-later, not-Contains-nil}
 use Rattle.lrc_slots.specs.Tables.{slots_of}
 use Rattle.lrc_stripes.specs.Tables.{stored_in}
 use Rattle.lrc_book.specs.declared.store.Store.{Store}
-use Rattle.lrc_book.specs.Leases.{without_lease}
-use Rattle.lrc_book.proofs.StoredLemmas.{is_of as home_is, found-home}
+use Rattle.lrc_rules.specs.Leases.{without_lease}
 use Rattle.lrc_book.proofs.FragmentLemmas.{bared}
-use Rattle.lrc_book.proofs.EndLemmas.{there-lease, only-lease, lease-kept}
-use Rattle.lrc_book.proofs.TakenLemmas.{load-parts, count-held, count-targets, load-falls}
+use Rattle.lrc_book.proofs.EndLemmas.{lease-kept}
+use Rattle.lrc_rules.proofs.TakenLemmas.{load-parts, count-held, count-targets}
 use Rattle.lrc_book.specs.Stores.{IsOf}
-use Rattle.lrc_book.proofs.ClearLemmas.{count-fewer, count-falls, only, stripe-there, home-kept, home-only}
+use Rattle.lrc_book.proofs.ClearLemmas.{count-fewer, count-falls, only, stripe-there, home-kept}
+use Rattle.lrc_rules.proofs.LookUpLemmas.{is_of as home_is}
+use Rattle.lrc_rules.proofs.LookUpLemmas.{there-lease, only-lease, home-only, found-home}
+use Rattle.lrc_book.proofs.SlotTableLemmas.{load-falls}
 
 -- the leases whose target is on the node, ended as far as this
 pub record IsEnding (st : State) (n : NodeNo) (k : Store) : Type 0 where

@@ -1,52 +1,52 @@
 -- A lease that is granted, and one that ends.
-use Rattle.std.proofs.Common.{◌≡◌, ◌≢◌, ℕ, is_some, IsSomeAnd, lt-ltb, ◌-◌, ◌<◌, Bool, true, false, not, nat_lt, List, [], ◌∷◌, map, filter, find, Option, Some, None, IsSome, IsTrue, refl, sym, ap, ◌∙◌, subst, inl, inr}
+use Rattle.std.proofs.Common.{[], ◌≡◌, ◌≢◌, ℕ, is_some, IsSomeAnd, lt-ltb, ◌-◌, ◌<◌, Bool, true, false, not, nat_lt, List, ◌∷◌, map, filter, find, Option, Some, None, IsTrue, refl, sym, ap, ◌∙◌, subst, inl, inr}
 use Rattle.std.specs.List.{All, Contains}
 use Rattle.std.specs.Option.{option_map_or}
-use Rattle.std.proofs.lemmas.Bool.{cases_Bool, eqb-true}
-use Rattle.std.proofs.lemmas.List.Elements.{All-contains, Contains-append_left, Contains-append_right, Contains-push, Contains-push_cases}
+use Rattle.std.proofs.lemmas.Bool.{cases_Bool}
+use Rattle.std.proofs.lemmas.List.Elements.{All-contains, Contains-append_left, Contains-push, Contains-push_cases}
 use Rattle.lrc_code.specs.declared.numbers.StripeNo.{StripeNo}
 use Rattle.lrc_code.specs.declared.numbers.NodeNo.{NodeNo}
 use Rattle.lrc_code.specs.declared.numbers.Fragment.{Fragment}
-use Rattle.lrc_code.proofs.NumbersLemmas.{equal_fragments, equal_stripes}
-use Rattle.lrc_code.specs.Numbers.{same_stripe}
 use Rattle.lrc_code.specs.Codes.{has_fragment}
 use Rattle.lrc_topology.specs.declared.NodeInfo.{NodeInfo}
 use Rattle.lrc_topology.specs.declared.seat.Held.{Held}
 use Rattle.lrc_topology.specs.Nodes.{node_at}
 use Rattle.lrc_slots.specs.Slots.{Slots, with_taken, with_free}
-use Rattle.lrc_slots.specs.Tables as slot_tables
 use Rattle.lrc_slots.specs.Tables.{slots_of}
 use Rattle.lrc_stripes.specs.Stored.{Stored, has_slot, HasNoHome}
-use Rattle.lrc_stripes.specs.Stored as stored
-use Rattle.lrc_stripes.specs.Tables as tables
 use Rattle.lrc_stripes.specs.Tables.{stored_in}
-use Rattle.lrc_leases.specs.declared.lease.Lease.{Lease}
-use Rattle.lrc_leases.specs.Leased.{Leased, is_of, is_target_on, leased_of, leased_at, with_spare}
+use Rattle.lrc_terms.specs.declared.lease.Lease.{Lease}
+use Rattle.lrc_terms.specs.Leased.{Leased, is_of, leased_of, leased_at, with_spare}
 use Rattle.std.proofs.lemmas.Nat.Bits.{bit_at-zero}
 use Rattle.lrc_code.specs.Losses.{bits_set}
-use Rattle.lrc_leases.specs.Leased as leased
-use Rattle.lrc_leases.specs.Tables as lease_tables
 use Rattle.lrc_leases.specs.Tables.{leased_in}
-use Rattle.lrc_leases.proofs.ListLemmas.{find-some, is_of-parts, contains-leases_in, leased_of-less, leased_of-append}
+use Rattle.lrc_terms.proofs.LeaseLemmas.{leased_of-less, leased_of-append}
 use Rattle.lrc_book.specs.declared.store.Store.{Store}
-use Rattle.lrc_book.specs.States.{State, has_stripe, code_of, held_by, seats_of, taken_seats, lease_of}
-use Rattle.lrc_book.specs.Leases.{with_lease, without_lease, without_home, moved_in}
-use Rattle.lrc_book.specs.Goodness.{AreSeated, IsStanding}
+use Rattle.lrc_rules.specs.States.{State, held_by, taken_seats, lease_of}
+use Rattle.lrc_rules.specs.Leases.{with_lease, without_lease, without_home, moved_in}
+use Rattle.lrc_rules.specs.Goodness.{AreSeated, IsStanding}
 use Rattle.lrc_book.specs.Ties.{table_of}
 use Rattle.lrc_book.specs.Dropping.{unleased}
-use Rattle.lrc_book.specs.Steps.{without_upgrading}
+use Rattle.lrc_rules.specs.Steps.{without_upgrading}
 use Rattle.lrc_book.specs.Stores.{IsOf, IsGrant, kept_table}
 use Rattle.lrc_book.proofs.ClosedLemmas.{settled-seated}
 use Rattle.lrc_book.proofs.ModesLemmas.{same-modes}
-use Rattle.lrc_book.proofs.MemberLemmas.{map-member, filter-member, member-filter, member-list_any}
-use Rattle.lrc_book.proofs.NodeLemmas.{member-taken}
-use Rattle.lrc_book.proofs.PairLemmas.{pairs-across, pairs-right, pairs-members}
-use Rattle.lrc_book.proofs.SeatingLists.{pairs-unmap}
-use Rattle.lrc_book.proofs.SeatingLemmas.{held-single}
-use Rattle.lrc_book.proofs.LeaseGoodLemmas.{granted-seated, ended-seated, moved-seated}
-use Rattle.lrc_book.proofs.TakenLemmas.{taken-cases, home-seat, target-seat, taken-same, table-more, table-less}
+use Rattle.lrc_rules.proofs.MemberLemmas.{map-member, filter-member, member-filter}
+use Rattle.lrc_rules.proofs.NodeLemmas.{member-taken}
+use Rattle.lrc_rules.proofs.PairLemmas.{pairs-across, pairs-right, pairs-members}
+use Rattle.lrc_rules.proofs.SeatingLists.{pairs-unmap}
+use Rattle.lrc_rules.proofs.SeatingLemmas.{held-single}
+use Rattle.lrc_rules.proofs.LeaseGoodLemmas.{granted-seated, ended-seated, moved-seated}
+use Rattle.lrc_rules.proofs.TakenLemmas.{taken-cases, home-seat, target-seat, taken-same}
 use Rattle.lrc_book.proofs.StoredLemmas.{stored-put, stored-free, own-spare}
 use Rattle.lrc_book.proofs.PlacingLemmas.{chosen-here}
+use Rattle.lrc_book.proofs.SlotTableLemmas.{table-more, table-less}
+use Rattle.lrc_rules.proofs.LookUpLemmas.{lease-own, only-lease, stripe-there, there-lease}
+use Rattle.lrc_slots.specs.Tables as slot_tables
+use Rattle.lrc_stripes.specs.Stored as stored
+use Rattle.lrc_stripes.specs.Tables as tables
+use Rattle.lrc_terms.specs.Leased as leased
+use Rattle.lrc_leases.specs.Tables as lease_tables
 
 -- what is kept of leases with some room is so with its own
 pub own-room : (ls : List Lease) (t : Leased) (spare : ℕ) → t ≡ leased_of ls spare → t ≡ leased_of ls t.spare
@@ -58,44 +58,23 @@ module _ (nodes : List NodeInfo) (st : State) (s : StripeNo) (f : Fragment) (l :
   abbrev pub stays : Lease → Bool
   stays k = not (is_of s f.value k)
 
-  pub there-lease : Contains st.leases l × (is_of s f.value l ≡ true)
-  there-lease = find-some (is_of s f.value) st.leases l live
-
-  -- it is the only one of its fragment
-  pub only-lease : (k : Lease) → Contains st.leases k → is_of s f.value k ≡ true → k ≡ l
-  only-lease k here hit =
-      let parts = is_of-parts s f.value k hit in
-      let found = contains-leases_in st.leases k good.one_lease here in
-      let at : lease_of st s f ≡ Some k =
-      subst (λ (g : Fragment). lease_of st s g ≡ Some k) (equal_fragments k.fragment f parts.1) (subst (λ (r : StripeNo). lease_of st r k.fragment ≡ Some k) (equal_stripes k.stripe s parts.0) found) in
-      let same : Some k ≡ Some l = sym at ∙ live in cc
-
-  -- its fragment is one of the stripe's code
-  pub lease-own : has_fragment (code_of st s) f.value ≡ true
-  lease-own =
-      let parts = is_of-parts s f.value l there-lease.1 in
-      subst (λ (g : Fragment). has_fragment (code_of st s) g.value ≡ true) (equal_fragments l.fragment f parts.1)
-      (subst (λ (r : StripeNo). has_fragment (code_of st r) l.fragment.value ≡ true) (equal_stripes l.stripe s parts.0)
-      (All-contains (λ (h : Held). has_fragment (code_of st h.stripe) h.fragment.value ≡ true) (seats_of st) (held_by l) good.within
-      (Contains-append_right st.homes (map held_by st.leases) (held_by l) (map-member held_by st.leases l there-lease.0))))
-
   abbrev pub targets : List Held
   targets = map held_by st.leases
 
   left-other : (k : Lease) → stays k ≡ true → k ≢ l
-  left-other k keeps same = (let both : true ≡ false = sym keeps ∙ ap stays same ∙ ap not there-lease.1 in cc)
+  left-other k keeps same = (let both : true ≡ false = sym keeps ∙ ap stays same ∙ ap not (there-lease nodes st s f l live good).1 in cc)
 
   -- no home is on its target, and no other lease's target
   pub home-apart : (h : Held) → Contains st.homes h → h.seat ≢ l.target
   home-apart h here =
       All-contains (λ (y : Held). h.seat ≢ y.seat) targets (held_by l)
       (All-contains (λ (x : Held). All (λ (y : Held). x.seat ≢ y.seat) targets) st.homes h (pairs-across (λ (x y : Held). x.seat ≢ y.seat) st.homes targets (held-single nodes st good)) here)
-      (map-member held_by st.leases l there-lease.0)
+      (map-member held_by st.leases l (there-lease nodes st s f l live good).0)
 
   pub target-apart : (k : Lease) → Contains st.leases k → stays k ≡ true → k.target ≢ l.target
   target-apart k here keeps =
       pairs-members (λ (x y : Lease). x.target ≢ y.target) (λ x y r same. r (sym same)) st.leases k l
-      (pairs-unmap (λ (x y : Held). x.seat ≢ y.seat) held_by st.leases (pairs-right (λ (x y : Held). x.seat ≢ y.seat) st.homes targets (held-single nodes st good))) here there-lease.0 (left-other k keeps)
+      (pairs-unmap (λ (x y : Held). x.seat ≢ y.seat) held_by st.leases (pairs-right (λ (x y : Held). x.seat ≢ y.seat) st.homes targets (held-single nodes st good))) here (there-lease nodes st s f l live good).0 (left-other k keeps)
 
   abbrev pub ended : State
   ended = without_lease st s f
@@ -106,7 +85,7 @@ module _ (nodes : List NodeInfo) (st : State) (s : StripeNo) (f : Fragment) (l :
       (λ b here other. elim (taken-cases st b here) [
         | inl (h, at, e) ↦ subst (Contains (taken_seats ended)) e (home-seat ended h at)
         | inr (k, at, e) ↦ elim (cases_Bool (is_of s f.value k)) [
-          | inl hit ↦ absurd (other (sym e ∙ ap (λ (x : Lease). x.target) (only-lease k at hit)))
+          | inl hit ↦ absurd (other (sym e ∙ ap (λ (x : Lease). x.target) (only-lease nodes st s f l live good k at hit)))
           | inr miss ↦ subst (Contains (taken_seats ended)) e (target-seat ended k (member-filter stays st.leases k at (ap not miss)))
         ]
       ])
@@ -132,7 +111,7 @@ module _ (nodes : List NodeInfo) (st : State) (s : StripeNo) (f : Fragment) (l :
       (λ b here. elim (taken-cases homeless b here) [
         | inl (h, at, e) ↦ subst (Contains (taken_seats settled)) e (home-seat settled h (Contains-append_left homeless.homes (own ∷ []) h at))
         | inr (k, at, e) ↦ subst (Contains (taken_seats settled)) e (elim (cases_Bool (is_of s f.value k)) [
-          | inl hit ↦ subst (λ (x : Lease). Contains (taken_seats settled) x.target) (sym (only-lease k at hit)) (home-seat settled own (Contains-push homeless.homes own))
+          | inl hit ↦ subst (λ (x : Lease). Contains (taken_seats settled) x.target) (sym (only-lease nodes st s f l live good k at hit)) (home-seat settled own (Contains-push homeless.homes own))
           | inr miss ↦ target-seat settled k (member-filter stays st.leases k at (ap not miss))
         ])
       ])
@@ -140,7 +119,7 @@ module _ (nodes : List NodeInfo) (st : State) (s : StripeNo) (f : Fragment) (l :
         | inr (k, at, e) ↦ subst (Contains (taken_seats homeless)) e (target-seat homeless k (filter-member stays st.leases k at).0)
         | inl (h, at, e) ↦ subst (Contains (taken_seats homeless)) e (elim (Contains-push_cases homeless.homes own h at) [
           | inl old ↦ home-seat homeless h old
-          | inr new ↦ subst (λ (x : Held). Contains (taken_seats homeless) x.seat) new (target-seat homeless l there-lease.0)
+          | inr new ↦ subst (λ (x : Held). Contains (taken_seats homeless) x.seat) new (target-seat homeless l (there-lease nodes st s f l live good).0)
         ])
       ]))
 
@@ -150,17 +129,7 @@ module _ (nodes : List NodeInfo) (st : State) (s : StripeNo) (f : Fragment) (l :
 
   -- its target is a slot of a node
   pub target-slot : option_map_or (λ n. nat_lt l.target.slot n.slots) (node_at nodes l.target.node) false ≡ true
-  target-slot = standing-slot (node_at nodes l.target.node) _ (All-contains (IsStanding nodes st) (taken_seats st) l.target good.standing (target-seat st l there-lease.0))
-
-  known-node : (o : Option NodeInfo) (P : Type 0) → IsSomeAnd o (λ n. (l.target.slot < n.slots) × P) → IsSome o
-  known-node (Some n) P both = refl
-  known-node None P both = absurd both
-
-  -- which is one of the nodes
-  pub target-node : IsSome (node_at nodes l.target.node)
-  target-node = known-node (node_at nodes l.target.node) _ (All-contains (IsStanding nodes st) (taken_seats st) l.target good.standing (target-seat st l there-lease.0))
-
--- ---- what is kept when it ends
+  target-slot = standing-slot (node_at nodes l.target.node) _ (All-contains (IsStanding nodes st) (taken_seats st) l.target good.standing (target-seat st l (there-lease nodes st s f l live good).0))
 
 -- where there is no lease none is taken out
 none-out : (ls : List Lease) (s : StripeNo) (f : ℕ) → find (is_of s f) ls ≡ None → filter (λ l. not (is_of s f l)) ls ≡ ls
@@ -247,12 +216,6 @@ module _ (st : State) (k : Store) (kept : IsOf st k) (s : StripeNo) (f : Fragmen
 
 -- ---- what is kept when one is granted
 
--- a stripe that is there is one of the stripes
-pub stripe-member : (st : State) (s : StripeNo) → has_stripe st s ≡ true → Contains st.stripes s
-stripe-member st s there =
-    let m = member-list_any (same_stripe s) st.stripes there in
-    subst (Contains st.stripes) (sym (equal_stripes s m.0 (eqb-true s.value m.0.value m.2))) m.1
-
 module _ (st : State) (k : Store) (kept : IsOf st k) (l : Lease) (told : IsGrant k.topology st l) where
   abbrev pub next : State
   next = with_lease st l
@@ -276,7 +239,7 @@ module _ (st : State) (k : Store) (kept : IsOf st k) (l : Lease) (told : IsGrant
       → IsOf (with_lease st l) (record k { table = table; leases = leases })
   grant-kept table leases taken added = record {
     known = kept.known;
-    seated = granted-seated k.topology kept.known st l kept.seated (chosen-here st k kept l.stripe l.fragment l.target told.chosen_is) (stripe-member st l.stripe told.there) told.own told.new;
+    seated = granted-seated k.topology kept.known st l kept.seated (chosen-here st k kept l.stripe l.fragment l.target told.chosen_is) (stripe-there st l.stripe told.there) told.own told.new;
     table_is = taken ∙ ap (λ (t : Slots). with_taken t l.target.node (Some l.target.slot)) kept.table_is ∙ grant-table;
     stripes_is = kept.stripes_is;
     leases_is = own-room (with_lease st l).leases (leased_in leases) ((leased_in k.leases).spare - 1)

@@ -1,47 +1,44 @@
 -- A stripe whose leases end and whose homes are cleared, fragment by fragment.
-use Rattle.std.proofs.Common.{Some, None, ◌≢◌, fold, if◌then◌else◌, ◌||◌, ◌≡◌, ℕ, ◌+◌, ◌<◌, ◌≤◌, Bool, true, false, not, ◌&&◌, eqb, List, [], ◌∷◌, map, filter, length, take, get_or, zero-add, refl, sym, ap, ◌∙◌, subst, inl, inr, arith}
+use Rattle.std.proofs.Common.{[], Some, None, ◌≢◌, fold, if◌then◌else◌, ◌||◌, ◌≡◌, ℕ, ◌+◌, ◌<◌, ◌≤◌, Bool, true, false, not, ◌&&◌, eqb, List, ◌∷◌, map, filter, length, take, get_or, zero-add, refl, sym, ap, ◌∙◌, subst, inl, inr, arith}
 use Rattle.std.proofs.Math.Path.{fun_ext}
 use Rattle.std.specs.List.{Contains, list_any, range_with_len}
-use Rattle.std.proofs.lemmas.Bool.{cases_Bool, eqb-true, eq-eqb, ne_eqb, lt-ltb, ltb-true}
+use Rattle.std.proofs.lemmas.Bool.{cases_Bool, eqb-true, eq-eqb, ne_eqb}
 use Rattle.std.proofs.lemmas.List.{take_more, get_or-map}
 use Rattle.std.proofs.lemmas.List.FromFn.{get_or-range_with_len}
-use Rattle.lrc_code.specs.declared.codes.Code.{Code}
 use Rattle.lrc_code.specs.declared.codes.Code.TheVariants.{Wide}
 use Rattle.lrc_code.specs.declared.numbers.StripeNo.{StripeNo}
 use Rattle.lrc_code.specs.declared.numbers.Fragment.{Fragment}
-use Rattle.lrc_code.specs.Codes.{fragments, fragment_count, has_fragment}
+use Rattle.lrc_code.specs.Codes.{fragments}
 use Rattle.lrc_code.proofs.NumbersLemmas.{equal_fragments}
 use Rattle.lrc_topology.specs.declared.seat.Held.{Held}
-use Rattle.lrc_book.specs.Steps.{is_other, without_upgrading}
-use Rattle.lrc_book.specs.Goodness.{AreSeated}
+use Rattle.lrc_rules.specs.Steps.{is_other, without_upgrading, without_stripe}
+use Rattle.lrc_rules.specs.Goodness.{AreSeated}
 use Rattle.lrc_stripes.specs.Stored.{Stored}
 use Rattle.lrc_book.proofs.ClosedLemmas.{settled-seated}
 use Rattle.lrc_book.proofs.ModesLemmas.{same-modes}
-use Rattle.lrc_book.proofs.MemberLemmas.{list_any-All, All-members, list_any-member}
-use Rattle.lrc_book.proofs.SeatedLemmas.{without-seated}
-use Rattle.lrc_book.proofs.LeaseGoodLemmas.{homes-seated}
-use Rattle.lrc_book.proofs.StoredLemmas.{test-sym, stored-without, stored-clear}
+use Rattle.lrc_rules.proofs.MemberLemmas.{list_any-All, All-members, list_any-member}
+use Rattle.lrc_rules.proofs.SeatedLemmas.{without-seated}
+use Rattle.lrc_rules.proofs.LeaseGoodLemmas.{homes-seated}
+use Rattle.lrc_book.proofs.StoredLemmas.{stored-without, stored-clear}
 use Rattle.std.proofs.lemmas.List.Sums.{fold-append}
-use Rattle.lrc_stripes.specs.Tables as tables
 use Rattle.lrc_stripes.specs.Tables.{stored_in}
-use Rattle.lrc_stripes.specs.Stored as stored
 use Rattle.lrc_book.specs.declared.store.Store.{Store}
-use Rattle.lrc_leases.specs.declared.lease.Lease.{Lease}
-use Rattle.lrc_book.specs.States.{State, has_stripe, held_by, taken_seats}
-use Rattle.lrc_book.specs.Steps.{without_stripe}
-use Rattle.lrc_book.specs.Leases.{without_lease, without_home}
+use Rattle.lrc_terms.specs.declared.lease.Lease.{Lease}
+use Rattle.lrc_rules.specs.States.{State, has_stripe, held_by, taken_seats}
+use Rattle.lrc_rules.specs.Leases.{without_lease, without_home}
 use Rattle.lrc_book.specs.Dropping.{unleased, homeless}
 use Rattle.lrc_topology.specs.declared.NodeInfo.{NodeInfo}
 use Rattle.lrc_topology.specs.declared.seat.Seat.{Seat}
 use Rattle.lrc_topology.specs.Seats.{is_taken}
 use Rattle.lrc_slots.specs.Slots.{Slots, with_free}
-use Rattle.lrc_slots.specs.Tables as slots
 use Rattle.lrc_slots.specs.Tables.{slots_of}
-use Rattle.lrc_stripes.specs.Levels.{home_of, homes_of}
-use Rattle.lrc_stripes.proofs.MaskLemmas.{fragment-number_in, fragments-long}
+use Rattle.lrc_terms.specs.Levels.{home_of, homes_of}
 use Rattle.lrc_book.proofs.ClearLemmas.{home-at, none-at, seat-there, clear-table}
-use Rattle.lrc_book.proofs.StoredLemmas.{is_of}
 use Rattle.lrc_book.specs.Stores.{IsOf, kept_table}
+use Rattle.lrc_rules.proofs.LookUpLemmas.{test-sym, is_of}
+use Rattle.lrc_stripes.specs.Tables as tables
+use Rattle.lrc_stripes.specs.Stored as stored
+use Rattle.lrc_slots.specs.Tables as slots
 
 -- each fragment stands at its number
 pub fragment-at : (f : Fragment) → get_or (fragments Wide) f.value f ≡ f
@@ -54,28 +51,6 @@ fragment-at f =
 -- and so is one of the code's
 pub all-fragments : (f : Fragment) → Contains (fragments Wide) f
 all-fragments f = (f.value, f.in_range, fragment-at f)
-
--- a fragment that a code has is one of its list
-pub code-fragments : (code : Code) (f : Fragment) → has_fragment code f.value ≡ true → Contains (fragments code) f
-code-fragments code f own =
-    let within = ltb-true f.value (fragment_count code) own in
-    (f.value, omega (arith, within, fragments-long code), equal_fragments (get_or (fragments code) f.value f) f (fragment-number_in code f.value f within))
-
--- and only those are
-pub fragments-own : (code : Code) (f : Fragment) → Contains (fragments code) f → has_fragment code f.value ≡ true
-fragments-own code f (i, inside, is) =
-    let within : i < fragment_count code = omega (arith, inside, fragments-long code) in
-    let number : f.value ≡ i = ap (λ (g : Fragment). g.value) (sym is) ∙ fragment-number_in code i f within in
-    lt-ltb f.value (fragment_count code) (omega (arith, within, number))
-
--- they stand in rising order
-pub code-rising : (code : Code) (i j : ℕ) (d : Fragment) → i < j → j < length (fragments code)
-    → (get_or (fragments code) i d).value < (get_or (fragments code) j d).value
-code-rising code i j d below within =
-    let long = fragments-long code in
-    let low = fragment-number_in code i d (omega (arith, below, within, long)) in
-    let high = fragment-number_in code j d (omega (arith, within, long)) in
-    omega (arith, below, low, high)
 
 -- a fragment's lease ended, and its home cleared
 abbrev pub bared : State → StripeNo → Fragment → State

@@ -1,5 +1,5 @@
 -- The front, before which nothing is grantable, and what a grant leaves of it.
-use Rattle.std.proofs.Common.{◌≡◌, ◌≢◌, ℕ, inl, inr, true, not, List, [], ◌∷◌, ◌++◌, map, find, Option, Some, None, arith, refl, sym, ap, ◌∙◌, subst}
+use Rattle.std.proofs.Common.{[], ◌≡◌, ◌≢◌, ℕ, inl, inr, true, not, List, ◌∷◌, ◌++◌, map, find, Option, Some, None, arith, refl, sym, ap, ◌∙◌, subst}
 use Rattle.std.specs.List.{Contains}
 use Rattle.std.specs.Option.{option_or}
 use Rattle.std.proofs.lemmas.Bool.{cases_Bool, and_parts, and_from}
@@ -12,24 +12,26 @@ use Rattle.lrc_topology.specs.declared.NodeInfo.{NodeInfo}
 use Rattle.lrc_topology.specs.declared.seat.Seat.{Seat}
 use Rattle.lrc_topology.specs.declared.seat.Held.{Held}
 use Rattle.lrc_code.specs.Codes.{fragments}
-use Rattle.lrc_stripes.specs.Levels.{comes_first}
-use Rattle.lrc_stripes.specs.Stored.{StripeFragment, has_work, AreWork, AreWorkFrom}
-use Rattle.lrc_stripes.proofs.ListLemmas.{Contains-unmap}
-use Rattle.lrc_leases.specs.declared.lease.Lease.{Lease as LeaseRecord}
-use Rattle.lrc_leases.specs.Leased.{is_of}
-use Rattle.lrc_book.specs.States.{State, code_of, held_by, has_stripe, seats_of, taken_seats, lease_of, rank}
-use Rattle.lrc_book.specs.Choices.{IsApartFrom}
-use Rattle.lrc_book.specs.Repairs.{needs, kind}
-use Rattle.lrc_book.specs.Urgency.{is_grantable, all_fragments}
+use Rattle.lrc_terms.specs.Levels.{comes_first}
+use Rattle.lrc_stripes.specs.Stored.{has_work, AreWork, AreWorkFrom}
+use Rattle.lrc_terms.specs.Stripes.{StripeFragment}
+use Rattle.lrc_terms.proofs.ListLemmas.{Contains-unmap}
+use Rattle.lrc_terms.specs.declared.lease.Lease.{Lease as LeaseRecord}
+use Rattle.lrc_terms.specs.Leased.{is_of}
+use Rattle.lrc_rules.specs.States.{State, code_of, held_by, has_stripe, seats_of, taken_seats, lease_of, rank}
+use Rattle.lrc_rules.specs.Choices.{IsApartFrom}
+use Rattle.lrc_rules.specs.Repairs.{needs, kind}
+use Rattle.lrc_rules.specs.Urgency.{is_grantable, all_fragments}
 use Rattle.lrc_book.specs.Stores.{stored_of}
-use Rattle.lrc_book.specs.Granting.{IsGrantable, IsMoreUrgent, IsMostUrgent}
-use Rattle.lrc_book.specs.Leases.{with_lease}
+use Rattle.lrc_rules.specs.Granting.{IsGrantable, IsMoreUrgent, IsMostUrgent}
+use Rattle.lrc_rules.specs.Leases.{with_lease}
 use Rattle.lrc_book.specs.Repairing.{IsPast, IsFront, HaveGrantable}
-use Rattle.lrc_book.proofs.MemberLemmas.{All-members, map-member, member-filter, list_any-member}
-use Rattle.lrc_book.proofs.FragmentLemmas.{code-fragments}
-use Rattle.lrc_book.proofs.LeaseStepLemmas.{stripe-there}
-use Rattle.lrc_book.proofs.UrgencyLemmas.{fragments-from, needs-own, grantable-own, granted-works, has-work}
-use Rattle.lrc_book.proofs.MostUrgentLemmas.{stripe-words, grantable-words}
+use Rattle.lrc_rules.proofs.MemberLemmas.{All-members, map-member, member-filter, list_any-member}
+use Rattle.lrc_rules.proofs.UrgencyLemmas.{fragments-from, needs-own}
+use Rattle.lrc_rules.proofs.MostUrgentLemmas.{stripe-words, grantable-words}
+use Rattle.lrc_terms.proofs.CodeListLemmas.{code-fragments}
+use Rattle.lrc_book.proofs.WorkLemmas.{grantable-own, granted-works, has-work}
+use Rattle.lrc_rules.proofs.LookUpLemmas.{stripe-there}
 
 -- ---- with one more lease, what is grantable was so
 

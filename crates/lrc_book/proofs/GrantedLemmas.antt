@@ -1,22 +1,22 @@
 -- What is so of a step that grants a lease, by whichever command it was asked for.
-use Rattle.std.proofs.Common.{◌≡◌, ℕ, ◌<◌, inl, inr, List, [], ◌∷◌, ◌++◌, length, Option, sym, ap, ◌∙◌, subst}
+use Rattle.std.proofs.Common.{[], ◌≡◌, ℕ, ◌<◌, inl, inr, List, ◌∷◌, ◌++◌, length, Option, sym, ap, ◌∙◌, subst}
 use Rattle.lrc_code.specs.declared.numbers.StripeNo.{StripeNo}
 use Rattle.lrc_code.specs.declared.numbers.SessionNo.{SessionNo}
 use Rattle.lrc_topology.specs.declared.NodeInfo.{NodeInfo}
-use Rattle.lrc_leases.specs.declared.lease.Lease.{Lease as LeaseRecord}
-use Rattle.lrc_book.specs.declared.kind.Kind.{Kind}
-use Rattle.lrc_book.specs.declared.command.Command.{Command}
-use Rattle.lrc_book.specs.declared.reply.Reply.TheVariants.{Granted}
-use Rattle.lrc_book.specs.declared.entry.Entry.{Entry}
+use Rattle.lrc_terms.specs.declared.lease.Lease.{Lease as LeaseRecord}
+use Rattle.lrc_rules.specs.declared.kind.Kind.{Kind}
+use Rattle.lrc_rules.specs.declared.command.Command.{Command}
+use Rattle.lrc_rules.specs.declared.reply.Reply.TheVariants.{Granted}
+use Rattle.lrc_rules.specs.declared.entry.Entry.{Entry}
 use Rattle.lrc_book.specs.declared.store.Store.{Store}
-use Rattle.lrc_book.specs.States.{State}
-use Rattle.lrc_book.specs.Leases.{with_lease}
-use Rattle.lrc_book.specs.Changes.{changed_by}
-use Rattle.lrc_book.specs.Steps.{step}
-use Rattle.lrc_book.specs.Histories.{outcome_in, world_after, state_after}
+use Rattle.lrc_rules.specs.States.{State}
+use Rattle.lrc_rules.specs.Leases.{with_lease}
+use Rattle.lrc_rules.specs.Changes.{changed_by}
+use Rattle.lrc_rules.specs.Steps.{step}
+use Rattle.lrc_rules.specs.Histories.{outcome_in, world_after, state_after}
 use Rattle.lrc_book.specs.Stores.{IsOf, IsGrant, AreGrantsOf}
 use Rattle.lrc_book.specs.Repairing.{IsFront, IsKept}
-use Rattle.lrc_book.proofs.EarnedLemmas.{asked}
+use Rattle.lrc_rules.proofs.EarnedLemmas.{asked}
 use Rattle.lrc_book.proofs.LeaseToldLemmas.{lease-told, next-told}
 use Rattle.lrc_book.proofs.WorldLemmas.{kept_push}
 

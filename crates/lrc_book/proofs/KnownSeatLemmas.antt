@@ -10,16 +10,16 @@ use Rattle.lrc_topology.specs.Nodes.{node_at}
 use Rattle.lrc_slots.specs.Slots.{Slots}
 use Rattle.lrc_slots.specs.Tables.{slots_of}
 use Rattle.lrc_stripes.specs.Tables.{stored_in}
-use Rattle.lrc_leases.specs.declared.lease.Lease.{Lease}
+use Rattle.lrc_terms.specs.declared.lease.Lease.{Lease}
 use Rattle.lrc_leases.specs.Tables.{leased_in}
 use Rattle.lrc_book.specs.declared.store.Store.{Store}
-use Rattle.lrc_book.specs.States.{State, taken_seats}
-use Rattle.lrc_book.specs.Goodness.{IsStanding}
+use Rattle.lrc_rules.specs.States.{State, taken_seats}
+use Rattle.lrc_rules.specs.Goodness.{IsStanding}
 use Rattle.lrc_book.specs.Stores.{IsOf}
-use Rattle.lrc_book.proofs.StoredLemmas.{found-home}
 use Rattle.lrc_book.proofs.ClearLemmas.{home-kept}
-use Rattle.lrc_book.proofs.EndLemmas.{lease-kept, there-lease}
-use Rattle.lrc_book.proofs.TakenLemmas.{home-seat, target-seat}
+use Rattle.lrc_book.proofs.EndLemmas.{lease-kept}
+use Rattle.lrc_rules.proofs.TakenLemmas.{home-seat, target-seat}
+use Rattle.lrc_rules.proofs.LookUpLemmas.{there-lease, found-home}
 
 -- the slot table has the node of the seat
 abbrev pub IsKnown : Store → Seat → Type 0

@@ -1,5 +1,5 @@
 -- The last entry of a history, which is put in and then given another answer.
-use Rattle.std.proofs.Common.{◌≡◌, ℕ, ◌+◌, ◌++◌, ◌∷◌, [], List, length, take, slice_set, slice_index_or, ap, ◌∙◌, length-append, arith}
+use Rattle.std.proofs.Common.{[], ◌≡◌, ℕ, ◌+◌, ◌++◌, ◌∷◌, List, length, take, slice_set, slice_index_or, ap, ◌∙◌, length-append, arith}
 use Rattle.std.proofs.lemmas.List.{length-set}
 use Rattle.std.proofs.Math.Seq.{set-append_seam, take-append_seam, get_or-append_seam}
 

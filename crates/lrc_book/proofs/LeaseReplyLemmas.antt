@@ -5,17 +5,17 @@ use Rattle.lrc_code.specs.declared.numbers.StripeNo.{StripeNo}
 use Rattle.lrc_code.specs.declared.numbers.SessionNo.{SessionNo}
 use Rattle.lrc_code.specs.declared.numbers.Fragment.{Fragment}
 use Rattle.lrc_topology.specs.declared.NodeInfo.{NodeInfo}
-use Rattle.lrc_leases.specs.declared.lease.Lease.{Lease}
-use Rattle.lrc_book.specs.declared.entry.Entry.{Entry}
-use Rattle.lrc_book.specs.declared.kind.Kind.{Kind}
-use Rattle.lrc_book.specs.declared.reply.Reply.{Reply}
-use Rattle.lrc_book.specs.declared.reply.Reply.TheVariants.{Ended, Refused}
-use Rattle.lrc_book.specs.declared.refusal.Refusal.TheVariants as refusal
-use Rattle.lrc_book.specs.States.{State, has_stripe, lease_of, online_at}
-use Rattle.lrc_book.specs.Placement.{chosen}
-use Rattle.lrc_book.specs.Outcomes.{refuse_if}
-use Rattle.lrc_book.specs.Repairs.{needs, kind, is_beyond_repair}
-use Rattle.lrc_book.specs.Leases.{granted, lease_answer, lease_outcome, at_epoch, is_held_by, moved_in, done_answer, done_outcome}
+use Rattle.lrc_terms.specs.declared.lease.Lease.{Lease}
+use Rattle.lrc_rules.specs.declared.entry.Entry.{Entry}
+use Rattle.lrc_rules.specs.declared.kind.Kind.{Kind}
+use Rattle.lrc_rules.specs.declared.reply.Reply.{Reply}
+use Rattle.lrc_rules.specs.declared.reply.Reply.TheVariants.{Ended, Refused}
+use Rattle.lrc_rules.specs.declared.refusal.Refusal.TheVariants as refusal
+use Rattle.lrc_rules.specs.States.{State, has_stripe, lease_of, online_at}
+use Rattle.lrc_rules.specs.Placement.{chosen}
+use Rattle.lrc_rules.specs.Outcomes.{refuse_if}
+use Rattle.lrc_rules.specs.Repairs.{needs, kind, is_beyond_repair}
+use Rattle.lrc_rules.specs.Leases.{granted, lease_answer, lease_outcome, at_epoch, is_held_by, moved_in, done_answer, done_outcome}
 use Rattle.lrc_book.specs.Stores.{repair_of}
 
 -- ---- Lease

@@ -5,21 +5,21 @@ use Rattle.lrc_code.specs.declared.numbers.SessionNo.{SessionNo}
 use Rattle.lrc_code.specs.declared.numbers.Fragment.{Fragment}
 use Rattle.lrc_topology.specs.declared.NodeInfo.{NodeInfo}
 use Rattle.lrc_topology.specs.declared.seat.Seat.{Seat}
-use Rattle.lrc_leases.specs.declared.lease.Lease.{Lease}
-use Rattle.lrc_stripes.specs.Stored.{StripeFragment}
-use Rattle.lrc_book.specs.declared.entry.Entry.{Entry}
-use Rattle.lrc_book.specs.declared.kind.Kind.{Kind}
-use Rattle.lrc_book.specs.declared.reply.Reply.TheVariants.{Granted, Idle, Ended, Refused}
-use Rattle.lrc_book.specs.declared.refusal.Refusal.{Refusal}
-use Rattle.lrc_book.specs.declared.refusal.Refusal.TheVariants as refusal
-use Rattle.lrc_book.specs.States.{State, has_stripe, lease_of}
-use Rattle.lrc_book.specs.Placement.{chosen}
-use Rattle.lrc_book.specs.Outcomes.{refuse_if}
-use Rattle.lrc_book.specs.Urgency.{next_of}
-use Rattle.lrc_book.specs.Repairs.{needs, is_beyond_repair}
-use Rattle.lrc_book.specs.Leases.{new_lease, granted, lease_answer, lease_outcome, next_answer, next_outcome, at_epoch, done_answer, done_outcome}
+use Rattle.lrc_terms.specs.declared.lease.Lease.{Lease}
+use Rattle.lrc_terms.specs.Stripes.{StripeFragment}
+use Rattle.lrc_rules.specs.declared.entry.Entry.{Entry}
+use Rattle.lrc_rules.specs.declared.kind.Kind.{Kind}
+use Rattle.lrc_rules.specs.declared.reply.Reply.TheVariants.{Granted, Idle, Ended, Refused}
+use Rattle.lrc_rules.specs.declared.refusal.Refusal.{Refusal}
+use Rattle.lrc_rules.specs.declared.refusal.Refusal.TheVariants as refusal
+use Rattle.lrc_rules.specs.States.{State, has_stripe, lease_of}
+use Rattle.lrc_rules.specs.Placement.{chosen}
+use Rattle.lrc_rules.specs.Outcomes.{refuse_if}
+use Rattle.lrc_rules.specs.Urgency.{next_of}
+use Rattle.lrc_rules.specs.Repairs.{needs, is_beyond_repair}
+use Rattle.lrc_rules.specs.Leases.{new_lease, granted, lease_answer, lease_outcome, next_answer, next_outcome, at_epoch, done_answer, done_outcome}
 use Rattle.lrc_book.specs.Stores.{IsGrant}
-use Rattle.lrc_book.proofs.LeaseStepLemmas.{needs-own}
+use Rattle.lrc_rules.proofs.LeaseStepLemmas.{needs-own}
 
 same-lease : (a b : Lease) (k l : Kind) → Granted a k ≡ Granted b l → a ≡ b
 same-lease a b k l e = cc

@@ -1,11 +1,11 @@
 -- Lists of homes, read as lists of seats.
-use Rattle.std.proofs.Common.{◌≡◌, ℕ, ◌+◌, ◌<◌, List, [], ◌∷◌, ◌++◌, length, get_or, take, refl, ap, arith, length-take}
+use Rattle.std.proofs.Common.{[], ◌≡◌, ℕ, ◌+◌, ◌<◌, List, ◌∷◌, ◌++◌, length, get_or, take, refl, ap, arith, length-take}
 use Rattle.std.proofs.lemmas.List.{take_more}
 use Rattle.lrc_code.specs.declared.numbers.StripeNo.{StripeNo}
 use Rattle.lrc_code.specs.declared.numbers.Fragment.{Fragment}
 use Rattle.lrc_topology.specs.declared.seat.Seat.{Seat}
 use Rattle.lrc_topology.specs.declared.seat.Held.{Held}
-use Rattle.lrc_book.specs.Changes.{held_at}
+use Rattle.lrc_rules.specs.Changes.{held_at}
 
 abbrev home_at : StripeNo → Fragment → Seat → Held
 home_at s f seat = record { stripe = s; fragment = f; seat = seat }

@@ -1,10 +1,8 @@
 -- How the slot table and the stored stripes follow the mode of a node.
-use Rattle.std.proofs.Common.{◌≡◌, ◌≢◌, ap₂, map, ℕ, Bool, true, false, not, if◌then◌else◌, ◌&&◌, ◌||◌, eqb, List, [], ◌∷◌, ◌++◌, Option, Some, None, IsSome, refl, sym, ap, ◌∙◌, subst}
+use Rattle.std.proofs.Common.{◌≡◌, ◌≢◌, ap₂, map, ℕ, Bool, true, false, not, if◌then◌else◌, ◌&&◌, eqb, List, ◌++◌, Option, Some, None, IsSome, refl, sym, ap, ◌∙◌, subst}
 use Rattle.std.proofs.Math.Path.{fun_ext}
 use Rattle.std.specs.Option.{option_map_or}
 use Rattle.std.proofs.lemmas.Bool.{eqb-true, eqb-false, ne_eqb}
-use Rattle.std.proofs.lemmas.List.Folds.{list_any-append}
-use Rattle.std.proofs.lemmas.Map.Views.{any-filter_same}
 use Rattle.lrc_code.specs.declared.numbers.NodeNo.{NodeNo}
 use Rattle.lrc_code.specs.Numbers.{same_node}
 use Rattle.lrc_topology.specs.declared.NodeInfo.{NodeInfo}
@@ -12,43 +10,25 @@ use Rattle.lrc_topology.specs.Nodes.{node_at}
 use Rattle.lrc_topology.specs.declared.seat.Held.{Held}
 use Rattle.lrc_topology.specs.Seats.{is_taken}
 use Rattle.lrc_slots.specs.Slots.{Slots, with_eligible}
-use Rattle.lrc_slots.specs.Tables as slots
 use Rattle.lrc_slots.specs.Tables.{slots_of}
 use Rattle.lrc_stripes.specs.Stored.{Stored, with_offline, with_draining}
-use Rattle.lrc_stripes.specs.Tables as tables
 use Rattle.lrc_stripes.specs.Tables.{stored_in}
-use Rattle.lrc_leases.specs.declared.lease.Lease.{Lease}
-use Rattle.lrc_leases.specs.Leased.{leased_of}
+use Rattle.lrc_terms.specs.declared.lease.Lease.{Lease}
+use Rattle.lrc_terms.specs.Leased.{leased_of}
 use Rattle.lrc_leases.specs.Tables.{leased_in}
 use Rattle.lrc_book.specs.declared.store.Store.{Store}
 use Rattle.lrc_book.specs.declared.modes.Modes.{Modes}
-use Rattle.lrc_book.specs.Goodness.{AreSeated}
-use Rattle.lrc_book.specs.Stores.{IsOf, IsOfBut, StaysAsItWas, AreModesOf, kept_table}
-use Rattle.lrc_book.specs.States.{State, held_by, has_number, without_number, mode_of, is_active, is_draining, is_gone, is_down, is_online, takes_seats, online_at, drains_at}
-use Rattle.lrc_book.specs.Steps.{with_gone, with_down, without_down, with_draining as with_draining_node, without_draining, without_gone, without_upgrading}
-use Rattle.lrc_book.specs.declared.mode.Mode.{Mode}
-use Rattle.lrc_book.specs.declared.mode.Mode.TheVariants.{Active, Draining, Gone}
-use Rattle.lrc_book.specs.Stores.{stored_of}
-use Rattle.lrc_book.proofs.NodeLemmas.{member-node_at}
-use Rattle.lrc_book.proofs.StoredLemmas.{same_modes, same_lists, test-sym, own-spare}
-
--- ---- numbers
-
-module _ (numbers : List NodeNo) (n m : NodeNo) where
-  pub added-apart : eqb n.value m.value ≡ false → has_number (numbers ++ n ∷ []) m ≡ has_number numbers m
-  added-apart apart = list_any-append (λ (k : NodeNo). eqb m.value k.value) numbers (n ∷ []) ∙ rw (test-sym m.value n.value, apart) (or_false (has_number numbers m))
-    where
-      or_false : (b : Bool) → (b || false) ≡ b
-      or_false true = refl
-      or_false false = refl
-
-  pub left : (b : Bool) → eqb n.value m.value ≡ b → has_number (without_number numbers n) m ≡ (not b && has_number numbers m)
-  left b is =
-      any-filter_same (λ (k : NodeNo). eqb m.value k.value) (λ k. not (eqb n.value k.value)) (not b)
-      (λ k hit. ap (λ v. not (eqb n.value v)) (sym (eqb-true m.value k.value hit)) ∙ ap not is) numbers
-
-  pub left-apart : eqb n.value m.value ≡ false → has_number (without_number numbers n) m ≡ has_number numbers m
-  left-apart apart = left false apart
+use Rattle.lrc_rules.specs.Goodness.{AreSeated}
+use Rattle.lrc_book.specs.Stores.{IsOf, IsOfBut, StaysAsItWas, AreModesOf, kept_table, stored_of}
+use Rattle.lrc_rules.specs.States.{State, held_by, has_number, mode_of, is_active, is_draining, is_gone, is_down, is_online, takes_seats, online_at, drains_at}
+use Rattle.lrc_rules.specs.Steps.{with_gone, with_down, without_down, with_draining as with_draining_node, without_draining, without_gone, without_upgrading}
+use Rattle.lrc_rules.specs.declared.mode.Mode.{Mode}
+use Rattle.lrc_rules.specs.declared.mode.Mode.TheVariants.{Active, Draining, Gone}
+use Rattle.lrc_rules.proofs.NodeLemmas.{member-node_at}
+use Rattle.lrc_book.proofs.StoredLemmas.{same_modes, same_lists, own-spare}
+use Rattle.lrc_rules.proofs.ModeListLemmas.{added-apart, left-apart}
+use Rattle.lrc_slots.specs.Tables as slots
+use Rattle.lrc_stripes.specs.Tables as tables
 
 -- ---- a node whose mode was changed
 

@@ -1,5 +1,5 @@
 -- The domains of a stripe's homes side by side bar what its homes bar.
-use Rattle.std.proofs.Common.{◌≡◌, ℕ, ◌<◌, inl, inr, Bool, true, false, not, ◌&&◌, ◌||◌, nat_eq, nat_lt, eqb, List, [], ◌∷◌, ◌++◌, get_or, Option, Some, None, is_some, IsSome, bit_and, arith, refl, sym, ap, ap₂, ◌∙◌}
+use Rattle.std.proofs.Common.{[], ◌≡◌, ℕ, ◌<◌, inl, inr, Bool, true, false, not, ◌&&◌, ◌||◌, nat_eq, nat_lt, eqb, List, ◌∷◌, ◌++◌, get_or, Option, Some, None, is_some, IsSome, bit_and, arith, refl, sym, ap, ap₂, ◌∙◌}
 use Rattle.std.specs.List.{list_any}
 use Rattle.std.proofs.lemmas.Bool.{cases_Bool, cases_eq, eq-eqb, ne_eqb, lt-ltb}
 use Rattle.std.proofs.lemmas.List.Folds.{list_any-append, list_any_at, list_any_none}
@@ -16,7 +16,7 @@ use Rattle.lrc_topology.specs.Nodes.{node_at}
 use Rattle.lrc_topology.specs.declared.NodeInfo.{NodeInfo}
 use Rattle.lrc_topology.specs.declared.seat.Seat.{Seat}
 use Rattle.lrc_topology.specs.declared.seat.Held.{Held}
-use Rattle.lrc_stripes.proofs.LevelLemmas.{has_some-bits, has_some-none}
+use Rattle.lrc_terms.proofs.LevelLemmas.{has_some-bits, has_some-none}
 use Rattle.lrc_stripes.proofs.HomesLemmas.{both-bits}
 use Rattle.lrc_slots.specs.Barred.{joined}
 use Rattle.lrc_book.specs.Ties.{bars_fault, bars_upgrade, bars_in}
@@ -26,7 +26,7 @@ use Rattle.lrc_book.proofs.BarLemmas.{same_bars}
 use Rattle.lrc_book.proofs.BesideLemmas.{held_if, held_all}
 use Rattle.lrc_book.proofs.ClassBarLemmas.{closed-joined}
 use Rattle.lrc_book.proofs.FragmentLemmas.{fragment-at}
-use Rattle.lrc_book.proofs.StoredLemmas.{test-sym}
+use Rattle.lrc_rules.proofs.LookUpLemmas.{test-sym}
 
 -- ---- what two masks have in common
 

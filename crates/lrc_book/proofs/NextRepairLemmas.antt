@@ -12,23 +12,23 @@ use Rattle.lrc_code.specs.declared.numbers.Fragment.{Fragment}
 use Rattle.lrc_code.specs.Losses.{bits_set}
 use Rattle.lrc_topology.specs.declared.NodeInfo.{NodeInfo}
 use Rattle.lrc_topology.specs.declared.seat.Seat.{Seat}
-use Rattle.lrc_leases.specs.declared.lease.Lease.{Lease}
-use Rattle.lrc_leases.proofs.ListLemmas.{none-find}
-use Rattle.lrc_book.specs.declared.entry.Entry.{Entry}
-use Rattle.lrc_book.specs.declared.kind.Kind.{Kind}
+use Rattle.lrc_terms.specs.declared.lease.Lease.{Lease}
+use Rattle.lrc_terms.proofs.LeaseLemmas.{none-find}
+use Rattle.lrc_rules.specs.declared.entry.Entry.{Entry}
+use Rattle.lrc_rules.specs.declared.kind.Kind.{Kind}
 use Rattle.lrc_book.specs.declared.repair.Repair.{Repair}
-use Rattle.lrc_book.specs.declared.reply.Reply.TheVariants.{Granted}
-use Rattle.lrc_book.specs.States.{State, code_of, lease_of}
-use Rattle.lrc_book.specs.Placement.{chosen}
-use Rattle.lrc_book.specs.Repairs.{needs, kind, is_beyond_repair}
-use Rattle.lrc_book.specs.Leases.{new_lease, granted, lease_outcome}
-use Rattle.lrc_book.specs.Urgency.{is_grantable}
+use Rattle.lrc_rules.specs.declared.reply.Reply.TheVariants.{Granted}
+use Rattle.lrc_rules.specs.States.{State, code_of, lease_of}
+use Rattle.lrc_rules.specs.Placement.{chosen}
+use Rattle.lrc_rules.specs.Repairs.{needs, kind, is_beyond_repair}
+use Rattle.lrc_rules.specs.Leases.{new_lease, granted, lease_outcome}
+use Rattle.lrc_rules.specs.Urgency.{is_grantable}
 use Rattle.lrc_book.specs.Stores.{repair_of}
 use Rattle.lrc_book.specs.Repairing.{is_waiting, IsRepair}
 use Rattle.lrc_book.proofs.FragmentLemmas.{number-at}
-use Rattle.lrc_book.proofs.MostUrgentLemmas.{none-from}
+use Rattle.lrc_rules.proofs.MostUrgentLemmas.{none-from}
 use Rattle.lrc_book.proofs.LeaseReplyLemmas.{lost-by, able-by, lease-new}
-use Rattle.lrc_book.proofs.UrgencyLemmas.{needs-own}
+use Rattle.lrc_rules.proofs.UrgencyLemmas.{needs-own}
 
 -- ---- the fragments that wait: those that need a lease, but for those that have one
 
@@ -88,9 +88,6 @@ none-grantable nodes st s fs waiting none are =
 -- ---- the first of a list that passes a test
 
 module _ {X : Type 0} (test : X → Bool) (xs : List X) (i : ℕ) (d : X) (within : i < length xs) where
-  pub find-here : test (get_or xs i d) ≡ true → find test (drop i xs) ≡ Some (get_or xs i d)
-  find-here hit = rw (drop_more xs i d within, hit) refl
-
   pub find-later : test (get_or xs i d) ≡ false → find test (drop i xs) ≡ find test (drop (i + 1) xs)
   find-later miss = rw (drop_more xs i d within, miss) refl
 

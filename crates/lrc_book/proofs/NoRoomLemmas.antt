@@ -11,15 +11,15 @@ use Rattle.lrc_topology.specs.declared.seat.Seat.{Seat}
 use Rattle.lrc_slots.specs.Slots.{Slots, least_free, least_free_at}
 use Rattle.lrc_slots.specs.Barred.{Barred, no_bars}
 use Rattle.lrc_slots.specs.Next.{may_take, is_chosen_before, next_node, next_number}
-use Rattle.lrc_stripes.specs.Stored.{StripeFragment}
+use Rattle.lrc_terms.specs.Stripes.{StripeFragment}
 use Rattle.lrc_book.specs.declared.store.Store.{Store}
-use Rattle.lrc_book.specs.States.{State, lease_of, rank}
-use Rattle.lrc_book.specs.Placement.{chosen}
-use Rattle.lrc_book.specs.Repairs.{needs, is_beyond_repair}
-use Rattle.lrc_book.specs.Urgency.{is_grantable, is_repaired_before, all_fragments, next_of}
+use Rattle.lrc_rules.specs.States.{State, lease_of, rank}
+use Rattle.lrc_rules.specs.Placement.{chosen}
+use Rattle.lrc_rules.specs.Repairs.{needs, is_beyond_repair}
+use Rattle.lrc_rules.specs.Urgency.{is_grantable, is_repaired_before, all_fragments, next_of}
 use Rattle.lrc_book.specs.Ties.{table_of, bars_of}
 use Rattle.lrc_book.specs.Stores.{IsOf}
-use Rattle.lrc_book.proofs.MemberLemmas.{filter-member, member-filter, not-Contains-nil, no-member}
+use Rattle.lrc_rules.proofs.MemberLemmas.{filter-member, member-filter, not-Contains-nil, no-member}
 use Rattle.lrc_book.proofs.PlanLemmas.{table-chosen}
 
 -- ---- a node that takes a seat where domains are barred takes one where none is

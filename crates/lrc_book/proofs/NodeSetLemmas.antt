@@ -1,12 +1,13 @@
 -- Sets of nodes that are kept as truth values, and the lists of nodes that they stand for.
-use Rattle.std.proofs.Common.{◌≡◌, Bool, not, ◌&&◌, ◌||◌, List, [], ◌∷◌, ◌++◌, refl, sym, ap, ap₂, ◌∙◌}
+use Rattle.std.proofs.Common.{[], ◌≡◌, Bool, not, ◌&&◌, ◌||◌, List, ◌∷◌, ◌++◌, refl, sym, ap, ap₂, ◌∙◌}
 use Rattle.lrc_code.specs.declared.numbers.NodeNo.{NodeNo}
 use Rattle.lrc_code.specs.Numbers.{same_node}
-use Rattle.lrc_book.specs.States.{has_number, without_number}
+use Rattle.lrc_rules.specs.States.{has_number, without_number}
 use Rattle.lrc_book.specs.Stores.{has_member}
 use Rattle.lrc_book.proofs.BarLemmas.{or_last}
-use Rattle.lrc_book.proofs.StoredLemmas.{test-sym}
-use Rattle.lrc_book.proofs.ModeLemmas.{left, and-swap}
+use Rattle.lrc_book.proofs.ModeLemmas.{and-swap}
+use Rattle.lrc_rules.proofs.LookUpLemmas.{test-sym}
+use Rattle.lrc_rules.proofs.ModeListLemmas.{left}
 
 module _ (before after : List Bool) (numbers : List NodeNo) (node : NodeNo) (same : (n : NodeNo) → has_member before n ≡ has_number numbers n) where
   -- one more node

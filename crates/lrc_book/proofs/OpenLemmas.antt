@@ -16,14 +16,14 @@ use Rattle.lrc_slots.specs.Next.{next_node, may_take, is_chosen_before}
 use Rattle.lrc_slots.specs.Slots.{Slots, least_free_at}
 use Rattle.lrc_slots.specs.Tables as slot_tables
 use Rattle.lrc_slots.specs.Tables.{slots_of}
-use Rattle.lrc_book.specs.States.{State}
+use Rattle.lrc_rules.specs.States.{State}
 use Rattle.lrc_book.specs.Ties.{table_of, next_seat}
 use Rattle.lrc_book.specs.Stores.{kept_table, closed}
 use Rattle.lrc_book.specs.Planning.{fault_bars, upgrade_bars, bars_for, open_seat, row_seat}
 use Rattle.lrc_book.proofs.ClassBarLemmas.{joined-bars, closed-joined}
 use Rattle.lrc_book.proofs.ClosedLemmas.{closed-next}
-use Rattle.lrc_book.proofs.MemberLemmas.{filter-member}
-use Rattle.lrc_book.proofs.NodeLemmas.{node_at-member}
+use Rattle.lrc_rules.proofs.MemberLemmas.{filter-member}
+use Rattle.lrc_rules.proofs.NodeLemmas.{node_at-member}
 
 -- the seat of a node of this number
 abbrev slot_at : Slots → NodeNo → Option Seat

@@ -1,5 +1,5 @@
 -- What is kept at first is that of the opening state.
-use Rattle.std.proofs.Common.{◌≡◌, Bool, true, false, [], Option, Some, None, is_some, refl, ap, ◌∙◌}
+use Rattle.std.proofs.Common.{[], ◌≡◌, Bool, true, false, Option, Some, None, is_some, refl, ap, ◌∙◌}
 use Rattle.std.proofs.Math.Path.{fun_ext}
 use Rattle.std.specs.Option.{option_map_or}
 use Rattle.lrc_code.specs.declared.numbers.NodeNo.{NodeNo}
@@ -9,12 +9,12 @@ use Rattle.lrc_slots.specs.Slots.{all_free}
 use Rattle.lrc_slots.specs.Tables.{slots_of}
 use Rattle.lrc_stripes.specs.Stored as stored
 use Rattle.lrc_stripes.specs.Tables.{stored_in}
-use Rattle.lrc_leases.specs.Leased as leased
+use Rattle.lrc_terms.specs.Leased as leased
 use Rattle.lrc_leases.specs.Tables.{leased_in}
 use Rattle.lrc_book.specs.declared.store.Store.{Store}
-use Rattle.lrc_book.specs.States.{opening, mode_of, is_draining, takes_seats, is_online, online_at, drains_at}
+use Rattle.lrc_rules.specs.States.{opening, mode_of, is_draining, takes_seats, is_online, online_at, drains_at}
 use Rattle.lrc_book.specs.Stores.{IsOf, AreModesOf}
-use Rattle.lrc_book.proofs.StepSeatedLemmas.{opening-seated}
+use Rattle.lrc_rules.proofs.StepSeatedLemmas.{opening-seated}
 use Rattle.lrc_book.proofs.StoredLemmas.{same_modes, own-spare}
 use Rattle.lrc_book.proofs.EndLemmas.{own-room}
 

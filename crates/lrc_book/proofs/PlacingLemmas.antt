@@ -1,5 +1,5 @@
 -- A home that is given, and a stripe's fragments placed one after the other.
-use Rattle.std.proofs.Common.{◌≡◌, inl, inr, lt-ltb, ℕ, ◌+◌, ◌-◌, ◌<◌, ◌≤◌, true, false, nat_lt, List, [], ◌∷◌, ◌++◌, length, take, drop, get_or, Option, Some, IsSome, refl, sym, ap, ◌∙◌, subst, append_assoc, append-nil, arith}
+use Rattle.std.proofs.Common.{[], ◌≡◌, inl, inr, lt-ltb, ℕ, ◌+◌, ◌-◌, ◌<◌, ◌≤◌, true, false, nat_lt, List, ◌∷◌, ◌++◌, length, take, drop, get_or, Option, Some, IsSome, refl, sym, ap, ◌∙◌, subst, append_assoc, append-nil, arith}
 use Rattle.std.specs.Option.{option_map_or}
 use Rattle.std.specs.List.{All, Contains}
 use Rattle.std.proofs.lemmas.List.{drop_more, take_more, take_all}
@@ -20,25 +20,25 @@ use Rattle.lrc_stripes.specs.Stored.{Stored, has_slot}
 use Rattle.lrc_stripes.specs.Stored as stored
 use Rattle.lrc_stripes.specs.Tables as tables
 use Rattle.lrc_stripes.specs.Tables.{stored_in}
-use Rattle.lrc_book.specs.States.{State, has_stripe, taken_seats}
-use Rattle.lrc_book.specs.Placement.{chosen, with_home}
-use Rattle.lrc_book.specs.Steps.{with_stripe, without_upgrading}
-use Rattle.lrc_book.specs.Goodness.{AreSeated}
-use Rattle.lrc_book.specs.Changes.{held_at, with_placed}
-use Rattle.lrc_book.specs.Choices.{AreChosen, IsChoice}
+use Rattle.lrc_rules.specs.States.{State, has_stripe, taken_seats}
+use Rattle.lrc_rules.specs.Placement.{chosen, with_home}
+use Rattle.lrc_rules.specs.Steps.{with_stripe, without_upgrading}
+use Rattle.lrc_rules.specs.Goodness.{AreSeated}
+use Rattle.lrc_rules.specs.Changes.{held_at, with_placed}
+use Rattle.lrc_rules.specs.Choices.{AreChosen, IsChoice}
 use Rattle.lrc_book.specs.declared.store.Store.{Store}
 use Rattle.lrc_book.specs.Stores.{IsOf, kept_table}
 use Rattle.lrc_book.proofs.ModesLemmas.{same-modes}
-use Rattle.lrc_book.proofs.NodeLemmas.{node_at-member}
-use Rattle.lrc_book.proofs.ChoiceLemmas.{chosen-choice}
-use Rattle.lrc_book.proofs.SeatingLemmas.{IsPlacing, placing-some}
-use Rattle.lrc_book.proofs.SeatedLemmas.{stripe-placing}
-use Rattle.lrc_book.proofs.ToldLemmas.{ArePlaced}
+use Rattle.lrc_rules.proofs.NodeLemmas.{node_at-member}
+use Rattle.lrc_rules.proofs.ChoiceLemmas.{chosen-choice}
+use Rattle.lrc_rules.proofs.SeatingLemmas.{IsPlacing, placing-some}
+use Rattle.lrc_rules.proofs.SeatedLemmas.{stripe-placing}
+use Rattle.lrc_rules.proofs.ToldLemmas.{ArePlaced}
 use Rattle.lrc_book.proofs.ListLemmas.{held_at-more}
-use Rattle.lrc_book.proofs.TakenLemmas.{taken-cases, home-seat, target-seat, table-more}
+use Rattle.lrc_rules.proofs.TakenLemmas.{taken-cases, home-seat, target-seat}
 use Rattle.lrc_book.proofs.PlanLemmas.{chosen-first_free}
-use Rattle.lrc_book.proofs.StoredLemmas.{own-spare}
-use Rattle.lrc_book.proofs.PlacedHomesLemmas.{stored-placed}
+use Rattle.lrc_book.proofs.StoredLemmas.{own-spare, stored-placed}
+use Rattle.lrc_book.proofs.SlotTableLemmas.{table-more}
 
 -- ---- one home given
 

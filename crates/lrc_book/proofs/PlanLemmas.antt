@@ -1,5 +1,5 @@
 -- The seat that a table gives is the one that the rule chooses, also beside planned homes that the table does not have.
-use Rattle.std.proofs.Common.{arith, ◌↔◌, ◌≡◌, ◌≢◌, ℕ, ◌+◌, Bool, true, false, not, cond, ◌&&◌, ◌||◌, eqb, List, [], ◌∷◌, ◌++◌, map, filter, fold, Option, Some, None, is_some, option_map, option_and_then, zero-add, append-nil, refl, sym, ap, ◌∙◌, subst, inl, inr}
+use Rattle.std.proofs.Common.{[], arith, ◌↔◌, ◌≡◌, ◌≢◌, ℕ, ◌+◌, Bool, true, false, not, cond, ◌&&◌, ◌||◌, eqb, List, ◌∷◌, ◌++◌, map, filter, fold, Option, Some, None, is_some, option_map, option_and_then, zero-add, append-nil, refl, sym, ap, ◌∙◌, subst, inl, inr}
 use Rattle.std.proofs.Math.Path.{fun_ext}
 use Rattle.std.specs.List.{All, AllPairs, Contains, list_any, count_by, range_with_len}
 use Rattle.std.proofs.lemmas.Bool.{cases_Bool, eqb-true, eq-eqb, and_parts, or_parts, and_right, not-true}
@@ -19,19 +19,19 @@ use Rattle.lrc_topology.specs.Nodes.{AreNodes, node_at}
 use Rattle.lrc_topology.specs.Seats.{load_of, is_taken, first_slot, free_seat, is_preferred}
 use Rattle.lrc_slots.specs.Slots.{least_free, least_free_at}
 use Rattle.lrc_slots.specs.Next.{may_take, is_chosen_before, next_node}
-use Rattle.lrc_book.specs.States.{State, held_by, seats_of, taken_seats, takes_seats, is_eligible}
-use Rattle.lrc_book.specs.Placement.{bars, fits, chosen, chosen_node}
-use Rattle.lrc_book.specs.Goodness.{AreSeated}
-use Rattle.lrc_book.specs.Steps.{with_stripe}
+use Rattle.lrc_rules.specs.States.{State, held_by, seats_of, taken_seats, takes_seats, is_eligible}
+use Rattle.lrc_rules.specs.Placement.{bars, fits, chosen, chosen_node}
+use Rattle.lrc_rules.specs.Goodness.{AreSeated}
+use Rattle.lrc_rules.specs.Steps.{with_stripe}
 use Rattle.lrc_book.specs.Ties.{table_of, bars_of, bars_in, next_seat, with_homes}
-use Rattle.lrc_book.specs.Placement.{is_beside}
-use Rattle.lrc_book.proofs.MemberLemmas.{All-members, filter-member, map-member}
-use Rattle.lrc_book.proofs.TakenLemmas.{member-map, taken-same, taken-cases, home-seat, target-seat, load-parts}
+use Rattle.lrc_rules.specs.Placement.{is_beside}
+use Rattle.lrc_rules.proofs.MemberLemmas.{All-members, filter-member, map-member}
+use Rattle.lrc_rules.proofs.TakenLemmas.{member-map, taken-same, taken-cases, home-seat, target-seat, load-parts}
 use Rattle.lrc_code.proofs.OrderLemmas.{least-listed}
-use Rattle.lrc_book.proofs.NodeLemmas.{node_at-member, seat_on}
-use Rattle.lrc_book.proofs.ChoiceLemmas.{chosen-choice, choice-slot}
+use Rattle.lrc_rules.proofs.NodeLemmas.{node_at-member, seat_on}
+use Rattle.lrc_rules.proofs.ChoiceLemmas.{chosen-choice, choice-slot}
 use Rattle.lrc_book.proofs.BarLemmas.{bars_in-same}
-use Rattle.lrc_book.proofs.CodedLemmas.{code-own}
+use Rattle.lrc_rules.proofs.CodedLemmas.{code-own}
 use Rattle.lrc_book.proofs.TieLemmas.{HasSlot, standing-slots, load-seats, bars-domains, may_take-eligible}
 
 -- ---- lists

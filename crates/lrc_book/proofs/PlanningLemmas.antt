@@ -1,7 +1,7 @@
 -- The seats of a stripe planned one after the other.
-use Rattle.std.proofs.Common.{◌++◌, ◌∷◌, inl, inr, ◌≡◌, ◌≢◌, false, ℕ, ◌+◌, ◌<◌, ◌≤◌, true, List, [], length, get_or, set, take, drop, Option, Some, None, IsSome, arith, refl, subst, sym, ap, ap₂, ◌∙◌, append_assoc, append-nil, length-take}
+use Rattle.std.proofs.Common.{[], ◌++◌, ◌∷◌, inl, inr, ◌≡◌, ◌≢◌, false, ℕ, ◌+◌, ◌<◌, ◌≤◌, true, List, length, get_or, set, take, drop, Option, Some, None, IsSome, arith, refl, subst, sym, ap, ap₂, ◌∙◌, append_assoc, append-nil, length-take}
 use Rattle.std.specs.List.{All}
-use Rattle.std.proofs.lemmas.List.{drop_all, take_all, drop_more, take_more, take_more_set}
+use Rattle.std.proofs.lemmas.List.{drop_all, drop_more, take_more, take_more_set}
 use Rattle.lrc_code.specs.declared.codes.Class.{Class}
 use Rattle.lrc_code.specs.declared.codes.Code.{Code}
 use Rattle.lrc_code.specs.declared.codes.Code.TheVariants.{Wide, Narrow}
@@ -12,16 +12,16 @@ use Rattle.lrc_code.proofs.CodesLemmas.{known-class}
 use Rattle.lrc_topology.specs.declared.NodeInfo.{NodeInfo}
 use Rattle.lrc_topology.specs.declared.seat.Seat.{Seat}
 use Rattle.lrc_topology.specs.declared.seat.Held.{Held}
-use Rattle.lrc_stripes.proofs.MaskLemmas.{fragment-number_in, fragments-long}
-use Rattle.lrc_book.specs.Steps.{with_stripe}
-use Rattle.lrc_book.specs.Choices.{AreChosen, IsFirstWithout}
-use Rattle.lrc_book.specs.States.{State, has_stripe}
-use Rattle.lrc_book.specs.Placement.{chosen, with_home}
-use Rattle.lrc_book.specs.Changes.{held_at}
+use Rattle.lrc_terms.proofs.CodeListLemmas.{fragment-number_in, fragments-long}
+use Rattle.lrc_rules.specs.Steps.{with_stripe}
+use Rattle.lrc_rules.specs.Choices.{AreChosen, IsFirstWithout}
+use Rattle.lrc_rules.specs.States.{State, has_stripe}
+use Rattle.lrc_rules.specs.Placement.{chosen, with_home}
+use Rattle.lrc_rules.specs.Changes.{held_at}
 use Rattle.lrc_book.specs.Ties.{with_homes}
 use Rattle.lrc_book.specs.Planning.{AreBarsOf}
 use Rattle.lrc_book.specs.declared.class_bars.ClassBars.{ClassBars}
-use Rattle.lrc_book.specs.Placement.{is_beside}
+use Rattle.lrc_rules.specs.Placement.{is_beside}
 use Rattle.lrc_book.specs.declared.store.Store.{Store}
 use Rattle.lrc_book.specs.Stores.{IsOf}
 use Rattle.lrc_book.proofs.ListLemmas.{held_at-push}

@@ -15,11 +15,11 @@ use Rattle.lrc_code.specs.Losses.{FragmentSet, bits_set, bits_of, is_recoverable
 use Rattle.lrc_code.proofs.BitsLemmas.{bits_set-bits_of, bits_of-below}
 use Rattle.lrc_topology.specs.declared.NodeInfo.{NodeInfo}
 use Rattle.lrc_topology.specs.declared.seat.Seat.{Seat}
-use Rattle.lrc_stripes.specs.Levels.{homes_of, needs_in, missing_if, needs_if}
-use Rattle.lrc_book.specs.declared.kind.Kind.{Kind}
-use Rattle.lrc_book.specs.declared.kind.Kind.TheVariants.{Global, Move}
-use Rattle.lrc_book.specs.States.{State, has_stripe, code_of, online_at, drains_at, missing}
-use Rattle.lrc_book.specs.Repairs.{local_kind, kind, is_global, is_safe, is_at_home, needs}
+use Rattle.lrc_terms.specs.Levels.{homes_of, needs_in, missing_if, needs_if}
+use Rattle.lrc_rules.specs.declared.kind.Kind.{Kind}
+use Rattle.lrc_rules.specs.declared.kind.Kind.TheVariants.{Global, Move}
+use Rattle.lrc_rules.specs.States.{State, has_stripe, code_of, online_at, drains_at, missing}
+use Rattle.lrc_rules.specs.Repairs.{local_kind, kind, is_global, is_safe, is_at_home, needs}
 use Rattle.lrc_book.specs.Stores.{repair_of}
 
 -- the bits of the number are the members of a set of the code's fragments, also behind the last of these

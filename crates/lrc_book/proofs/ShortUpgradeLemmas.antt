@@ -1,5 +1,5 @@
 -- A stripe that an upgrade would lose is short: it needs a lease, or has homes on several nodes that are not online.
-use Rattle.std.proofs.Common.{◌≡◌, ◌≢◌, ◌⊎◌, ℕ, ◌+◌, ◌-◌, ◌≤◌, ◌<◌, inl, inr, Bool, true, false, not, ◌&&◌, ◌||◌, cond, List, [], ◌∷◌, map, Option, Some, None, option_map, IsFalse, IsSomeAnd, arith, refl, sym, ap, ◌∙◌, subst}
+use Rattle.std.proofs.Common.{[], ◌≡◌, ◌≢◌, ◌⊎◌, ℕ, ◌+◌, ◌-◌, ◌≤◌, ◌<◌, inl, inr, Bool, true, false, not, ◌&&◌, ◌||◌, cond, List, ◌∷◌, map, Option, Some, None, option_map, IsFalse, IsSomeAnd, arith, refl, sym, ap, ◌∙◌, subst}
 use Rattle.std.specs.List.{Contains, count_by}
 use Rattle.std.specs.Option.{option_map_or}
 use Rattle.std.proofs.lemmas.Bool.{cases_Bool, eqb-true, eq-eqb, ltb-false, le-leb, ltb-true, not-true, and_parts, and_from}
@@ -22,23 +22,23 @@ use Rattle.lrc_topology.specs.declared.NodeInfo.{NodeInfo}
 use Rattle.lrc_topology.specs.declared.seat.Seat.{Seat}
 use Rattle.lrc_topology.specs.declared.seat.Held.{Held}
 use Rattle.lrc_topology.specs.Nodes.{node_at}
-use Rattle.lrc_stripes.specs.Levels.{home_of, needs_in, has_some}
+use Rattle.lrc_terms.specs.Levels.{home_of, needs_in, has_some}
 use Rattle.lrc_stripes.specs.Stored.{is_home_on, has_work}
-use Rattle.lrc_stripes.specs.Upgrades as upgrades
 use Rattle.lrc_stripes.specs.Upgrades.{is_stripe_on, offline_count, IsFirstLostTo, IsFirstShortLostTo, is_short_lost_to}
-use Rattle.lrc_stripes.proofs.LevelLemmas.{has_some-false}
-use Rattle.lrc_book.specs.declared.mode.Mode.TheVariants.{Gone}
-use Rattle.lrc_book.specs.States.{State, has_stripe, code_of, held_by, seats_of, taken_seats, mode_of, online_at, drains_at, missing}
-use Rattle.lrc_book.specs.Repairs.{is_safe}
-use Rattle.lrc_book.specs.Goodness.{AreSeated, IsStanding}
-use Rattle.lrc_book.specs.Steps.{with_upgrading, is_lost_to}
+use Rattle.lrc_terms.proofs.LevelLemmas.{has_some-false}
+use Rattle.lrc_rules.specs.declared.mode.Mode.TheVariants.{Gone}
+use Rattle.lrc_rules.specs.States.{State, has_stripe, code_of, held_by, seats_of, taken_seats, mode_of, online_at, drains_at, missing}
+use Rattle.lrc_rules.specs.Repairs.{is_safe}
+use Rattle.lrc_rules.specs.Goodness.{AreSeated, IsStanding}
+use Rattle.lrc_rules.specs.Steps.{with_upgrading, is_lost_to}
 use Rattle.lrc_book.specs.Stores.{stored_of}
-use Rattle.lrc_book.proofs.MemberLemmas.{not-Contains-nil, Contains-cases, find-member, list_any-member, count-none, map-member}
-use Rattle.lrc_book.proofs.SeatingLemmas.{fragments-distinct}
+use Rattle.lrc_rules.proofs.MemberLemmas.{not-Contains-nil, Contains-cases, find-member, list_any-member, count-none, map-member}
+use Rattle.lrc_rules.proofs.SeatingLemmas.{fragments-distinct}
 use Rattle.lrc_book.proofs.FragmentLemmas.{all-fragments}
-use Rattle.lrc_book.proofs.StoredLemmas.{found-home}
-use Rattle.lrc_book.proofs.SafeUpgradeLemmas.{at_most_one, pairs-by, class-one, IsOn, nodes-apart, added, no_two}
+use Rattle.lrc_rules.proofs.SafeUpgradeLemmas.{at_most_one, pairs-by, class-one, IsOn, nodes-apart, added, no_two}
 use Rattle.lrc_book.proofs.UpgradeLemmas.{lost-as}
+use Rattle.lrc_rules.proofs.LookUpLemmas.{found-home}
+use Rattle.lrc_stripes.specs.Upgrades as upgrades
 
 -- ---- counting
 

@@ -9,10 +9,10 @@ use Rattle.lrc_slots.specs.Slots.{Slots, load_at, taken_count}
 use Rattle.lrc_slots.specs.Tables.{slots_of}
 use Rattle.lrc_book.specs.declared.store.Store.{Store}
 use Rattle.lrc_book.specs.Stores.{IsOf}
-use Rattle.lrc_book.specs.States.{State, taken_seats, load, load_shown}
-use Rattle.lrc_book.specs.Goodness.{AreSeated}
+use Rattle.lrc_rules.specs.States.{State, taken_seats, load, load_shown}
+use Rattle.lrc_rules.specs.Goodness.{AreSeated}
 use Rattle.lrc_book.specs.Ties.{table_of}
-use Rattle.lrc_book.proofs.NodeLemmas.{node_at-member, member-node_at}
+use Rattle.lrc_rules.proofs.NodeLemmas.{node_at-member, member-node_at}
 use Rattle.lrc_book.proofs.TieLemmas.{load-seats, standing-slots}
 
 -- the load of a node is the count of the table

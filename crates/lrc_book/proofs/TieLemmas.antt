@@ -1,5 +1,5 @@
 -- The slot table of a state: its loads, what is barred, and the seat that it gives beside planned homes.
-use Rattle.std.proofs.Common.{◌≡◌, ◌≢◌, ℕ, zero, suc, ◌+◌, ◌<◌, ◌≤◌, Bool, true, false, not, cond, ◌&&◌, ◌||◌, nat_eq, eqb, List, [], ◌∷◌, Option, Some, None, is_some, IsSomeAnd, arith, zero-add, refl, ap, ◌∙◌, subst, inl, inr}
+use Rattle.std.proofs.Common.{[], ◌≡◌, ◌≢◌, ℕ, zero, suc, ◌+◌, ◌<◌, ◌≤◌, Bool, true, false, not, cond, ◌&&◌, ◌||◌, nat_eq, eqb, List, ◌∷◌, Option, Some, None, is_some, IsSomeAnd, arith, zero-add, refl, ap, ◌∙◌, subst, inl, inr}
 use Rattle.std.specs.List.{All, AllPairs, list_any, count_by, range_with_len}
 use Rattle.std.specs.Option.{option_map_or}
 use Rattle.std.proofs.lemmas.Bool.{cases_Bool, cases_eq, eqb-true, eq-eqb, ne_eqb, false_from_ne_true}
@@ -16,13 +16,13 @@ use Rattle.lrc_topology.specs.Nodes.{node_at}
 use Rattle.lrc_topology.specs.Seats.{load_of, is_taken, free_slot}
 use Rattle.lrc_slots.specs.Barred.{Barred}
 use Rattle.lrc_slots.specs.Next.{may_take}
-use Rattle.lrc_book.specs.declared.mode.Mode.TheVariants.{Gone}
-use Rattle.lrc_book.specs.States.{State, code_of, taken_seats, mode_of, takes_seats, is_eligible}
-use Rattle.lrc_book.specs.Placement.{bars, is_beside}
-use Rattle.lrc_book.specs.Goodness.{IsStanding}
+use Rattle.lrc_rules.specs.declared.mode.Mode.TheVariants.{Gone}
+use Rattle.lrc_rules.specs.States.{State, code_of, taken_seats, mode_of, takes_seats, is_eligible}
+use Rattle.lrc_rules.specs.Placement.{bars, is_beside}
+use Rattle.lrc_rules.specs.Goodness.{IsStanding}
 use Rattle.lrc_book.specs.Ties.{table_of, bars_fault, bars_upgrade, bars_in}
-use Rattle.lrc_book.proofs.MemberLemmas.{AllPairs-head, AllPairs-tail}
-use Rattle.lrc_book.proofs.NodeLemmas.{taken-member, seat_on}
+use Rattle.lrc_rules.proofs.MemberLemmas.{AllPairs-head, AllPairs-tail}
+use Rattle.lrc_rules.proofs.NodeLemmas.{taken-member, seat_on}
 
 -- ---- loads: the seats on a node are as many as its taken slots
 

@@ -3,7 +3,7 @@ use Rattle.std.proofs.Common.{◌≡◌, ℕ, arith, Bool, true, false, not, ◌
 use Rattle.std.proofs.Math.Path.{fun_ext}
 use Rattle.std.specs.List.{Contains}
 use Rattle.std.specs.Option.{option_map_or, option_eq}
-use Rattle.std.proofs.lemmas.Bool.{cases_Bool, eqb-true, eq-eqb, and_parts, ltb-true, ltb-false}
+use Rattle.std.proofs.lemmas.Bool.{cases_Bool, eq-eqb, and_parts, ltb-true, ltb-false}
 use Rattle.std.proofs.lemmas.List.MinMax.{IsStrictWeakOrder-by_number}
 use Rattle.lrc_code.specs.declared.numbers.StripeNo.{StripeNo}
 use Rattle.lrc_code.specs.declared.numbers.NodeNo.{NodeNo}
@@ -14,20 +14,19 @@ use Rattle.lrc_code.specs.Order.{HasNoTies, least}
 use Rattle.lrc_code.proofs.OrderLemmas.{least-listed, least-only}
 use Rattle.lrc_topology.specs.declared.NodeInfo.{NodeInfo}
 use Rattle.lrc_topology.specs.Nodes.{node_at, has_domain}
-use Rattle.lrc_stripes.specs.Levels.{homes_of, missing_in}
-use Rattle.lrc_stripes.specs.Upgrades as upgrades
-use Rattle.lrc_stripes.specs.Upgrades.{is_in_domain, with_upgrade, IsFirstLostTo}
-use Rattle.lrc_book.specs.declared.reply.Reply.TheVariants.{Changed, Refused}
-use Rattle.lrc_book.specs.declared.refusal.Refusal.TheVariants as refusal
-use Rattle.lrc_book.specs.States.{State, has_stripe, code_of, mode_of, is_gone, is_down, is_online, online_at}
-use Rattle.lrc_book.specs.Repairs.{is_safe}
-use Rattle.lrc_book.specs.Outcomes.{Outcome, refuse_if}
-use Rattle.lrc_book.specs.Steps.{with_upgrading, without_upgrading, is_lost_to, would_lose, upgrade_answer, upgrade_outcome, is_the_domain, upgraded_outcome}
+use Rattle.lrc_terms.specs.Levels.{homes_of, missing_in}
+use Rattle.lrc_stripes.specs.Upgrades.{is_in_domain, IsFirstLostTo}
+use Rattle.lrc_rules.specs.declared.reply.Reply.TheVariants.{Changed, Refused}
+use Rattle.lrc_rules.specs.States.{State, has_stripe, code_of, mode_of, is_gone, is_down, is_online, online_at}
+use Rattle.lrc_rules.specs.Repairs.{is_safe}
+use Rattle.lrc_rules.specs.Outcomes.{Outcome}
+use Rattle.lrc_rules.specs.Steps.{with_upgrading, is_lost_to, would_lose, upgrade_answer, upgrade_outcome, is_the_domain, upgraded_outcome}
 use Rattle.lrc_book.specs.Stores.{stored_of}
-use Rattle.lrc_book.proofs.MemberLemmas.{filter-member, member-filter, list_any-member, All-members}
-use Rattle.lrc_book.proofs.EndLemmas.{stripe-member}
-use Rattle.lrc_book.proofs.StoredLemmas.{test-sym}
+use Rattle.lrc_rules.proofs.MemberLemmas.{filter-member, member-filter, list_any-member, All-members}
 use Rattle.lrc_code.proofs.NumbersLemmas.{equal_stripes}
+use Rattle.lrc_rules.proofs.LookUpLemmas.{test-sym, stripe-there}
+use Rattle.lrc_stripes.specs.Upgrades as upgrades
+use Rattle.lrc_rules.specs.declared.refusal.Refusal.TheVariants as refusal
 
 -- ---- the domain that is upgrading
 
@@ -37,35 +36,7 @@ pub the-domain : (eq : UpgradeNo → UpgradeNo → Bool) → ((a b : UpgradeNo) 
 the-domain eq is u None = refl
 the-domain eq is u (Some v) = is v u ∙ test-sym v.value u.value
 
--- ---- what is told
-
-upgrade-by : (st : State) (u : UpgradeNo) (unknown : Bool) (upgrading : Option UpgradeNo) (lost : Option StripeNo)
-    → (refuse_if unknown refusal.UnknownDomain st (upgrade_answer st u upgrading lost)).0 ≡ Changed → upgrading ≡ None
-upgrade-by st u true upgrading lost e = absurd (let never : Refused refusal.UnknownDomain ≡ Changed = e in cc)
-upgrade-by st u false (Some v) lost e = absurd (let never : Refused (refusal.UpgradeRunning v) ≡ Changed = e in cc)
-upgrade-by st u false None lost e = refl
-
-upgraded-by : (st : State) (u : UpgradeNo) (unknown : Bool) (upgrading : Option UpgradeNo)
-    → (refuse_if unknown refusal.UnknownDomain st (refuse_if (not (is_the_domain u upgrading)) refusal.NotUpgrading st
-    (Changed, without_upgrading st))).0 ≡ Changed → upgrading ≡ Some u
-upgraded-by st u true upgrading e = absurd (let never : Refused refusal.UnknownDomain ≡ Changed = e in cc)
-upgraded-by st u false None e = absurd (let never : Refused refusal.NotUpgrading ≡ Changed = e in cc)
-upgraded-by st u false (Some v) e = elim (cases_Bool (same_upgrade u v)) [
-  | inl hit ↦ ap Some (sym (ap (λ n. record { value = n }) (eqb-true u.value v.value hit)))
-  | inr miss ↦ absurd (let never : Refused refusal.NotUpgrading ≡ Changed = rw miss at e in cc)
-]
-
 module _ (nodes : List NodeInfo) (st : State) (u : UpgradeNo) where
-  -- an upgrade began: none was running
-  pub upgrade-told : (upgrade_outcome nodes st u).0 ≡ Changed → st.upgrading ≡ None
-  unfolding upgrade_outcome
-  upgrade-told e = upgrade-by st u (not (has_domain nodes u)) st.upgrading (would_lose nodes st u) e
-
-  -- one ended: it was running
-  pub upgraded-told : (upgraded_outcome nodes st u).0 ≡ Changed → st.upgrading ≡ Some u
-  unfolding upgraded_outcome
-  upgraded-told e = upgraded-by st u (not (has_domain nodes u)) st.upgrading e
-
   -- ---- the replies
 
   pub upgrade-unknown : has_domain nodes u ≡ false → (upgrade_outcome nodes st u).0 ≡ Refused refusal.UnknownDomain
@@ -143,7 +114,7 @@ module _ (nodes : List NodeInfo) (st : State) (u : UpgradeNo) where
       let parts = and_parts (has_stripe st s) (is_lost_to nodes st u s) (sym (lost-as none spare s) ∙ told.lost) in
       least-only (λ (s t : StripeNo). nat_lt s.value t.value) (IsStrictWeakOrder-by_number (λ (s : StripeNo). s.value)) s
       (filter (is_lost_to nodes st u) st.stripes) no-ties
-      (member-filter (is_lost_to nodes st u) st.stripes s (stripe-member st s parts.0) parts.1)
+      (member-filter (is_lost_to nodes st u) st.stripes s (stripe-there st s parts.0) parts.1)
       (All-members (λ (r : StripeNo). nat_lt r.value s.value ≡ false) (filter (is_lost_to nodes st u) st.stripes)
       (λ r here. not-before r (filter-member (is_lost_to nodes st u) st.stripes r here)))
     where

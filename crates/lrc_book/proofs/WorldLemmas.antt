@@ -1,16 +1,18 @@
 -- Worlds and legal histories, as entries are added.
-use Rattle.std.proofs.Common.{◌≡◌, ℕ, ◌<◌, List, [], ◌∷◌, ◌++◌, length, fold, Option, sym, ap, subst, ◌∙◌, length-append, arith}
-use Rattle.std.proofs.lemmas.List.Sums.{fold-append}
+use Rattle.std.proofs.Common.{[], ◌≡◌, ℕ, ◌<◌, List, ◌∷◌, ◌++◌, length, fold, Option, sym, ap, subst, ◌∙◌, length-append, arith}
+use Rattle.std.proofs.lemmas.List.Sums.{fold-append, count_by-le-length}
 use Rattle.lrc_code.specs.declared.numbers.StripeNo.{StripeNo}
 use Rattle.lrc_topology.specs.declared.NodeInfo.{NodeInfo}
-use Rattle.lrc_book.specs.declared.entry.Entry.{Entry}
-use Rattle.lrc_book.specs.States.{State}
-use Rattle.lrc_book.specs.Histories.{World, first_world, outcome_in, next_world, world_after, state_after, IsLegalFrom, IsLegal}
+use Rattle.lrc_rules.specs.declared.entry.Entry.{Entry}
+use Rattle.lrc_rules.specs.States.{State}
+use Rattle.lrc_rules.specs.Histories.{World, first_world, outcome_in, next_world, world_after, state_after, IsLegalFrom, IsLegal}
 use Rattle.lrc_book.specs.Repairing.{IsFront, IsKept}
 use Rattle.lrc_book.specs.declared.store.Store.{Store}
 use Rattle.lrc_book.specs.Stores.{IsOf, AreGrantsOf}
-use Rattle.lrc_book.specs.Changes.{changed_by}
-use Rattle.lrc_book.proofs.StepLemmas.{step-changed}
+use Rattle.lrc_rules.specs.Changes.{changed_by}
+use Rattle.lrc_rules.proofs.StepLemmas.{step-changed}
+use Rattle.lrc_rules.specs.Leases.{is_tick}
+use Rattle.lrc_rules.proofs.ClockLemmas.{ticks-counted}
 
 pub world_push : (nodes : List NodeInfo) (h : List Entry) (e : Entry) → world_after nodes (h ++ e ∷ []) ≡ next_world nodes (world_after nodes h) e
 world_push nodes h e = fold-append (next_world nodes) first_world h (e ∷ [])
@@ -55,3 +57,9 @@ kept_room k next counts front limit h same_h kept entries same rest =
       few = kept.few;
       limited = kept.limited;
     })
+
+-- the clock of a book with room can still be moved on
+pub clock-early : (store : Store) (counts : List ℕ) (front : Option StripeNo) (limit : ℕ) (h : List Entry) → IsKept store counts front limit h
+    → length h < limit → store.clock.value < 4294967292
+clock-early store counts front limit h kept room =
+    omega (arith, kept.store_is.clock_is, ticks-counted store.topology h, count_by-le-length (λ (e : Entry). is_tick e.command) h, room, kept.limited)

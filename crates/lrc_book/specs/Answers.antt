@@ -3,12 +3,12 @@ use Rattle.std.specs.Prelude.{Bool, true, false, take, Option, Some, None, is_so
 use Rattle.lrc_code.specs.declared.codes.Code.{Code}
 use Rattle.lrc_code.specs.declared.codes.Code.TheVariants.{Wide, Narrow}
 use Rattle.lrc_code.specs.declared.numbers.StripeNo.{StripeNo}
-use Rattle.lrc_book.specs.declared.command.Command.{Command}
-use Rattle.lrc_book.specs.declared.command.Command.TheVariants.{Place, Place6, Next, Done}
+use Rattle.lrc_rules.specs.declared.command.Command.{Command}
+use Rattle.lrc_rules.specs.declared.command.Command.TheVariants.{Place, Place6, Next, Done}
 use Rattle.lrc_book.specs.declared.answer.Answer.{Answer}
 use Rattle.lrc_book.specs.declared.answer.Answer.TheVariants as answer
-use Rattle.lrc_book.specs.declared.reply.Reply.{Reply}
-use Rattle.lrc_book.specs.declared.reply.Reply.TheVariants as reply
+use Rattle.lrc_rules.specs.declared.reply.Reply.{Reply}
+use Rattle.lrc_rules.specs.declared.reply.Reply.TheVariants as reply
 
 -- the reply that an answer tells
 abbrev pub told : Answer → Reply

@@ -3,9 +3,9 @@ use Rattle.std.specs.Prelude.{◌≡◌, ℕ, ◌<◌, Bool, List, length}
 use Rattle.lrc_code.specs.declared.fault.Fault.{Fault}
 use Rattle.lrc_code.specs.declared.fault.Fault.TheVariants.{OutOfMemory, HistoryFull}
 use Rattle.lrc_topology.specs.declared.NodeInfo.{NodeInfo}
-use Rattle.lrc_book.specs.declared.entry.Entry.{Entry}
-use Rattle.lrc_book.specs.States.{State}
-use Rattle.lrc_book.specs.Histories.{World, outcome_in, world_after, state_after}
+use Rattle.lrc_rules.specs.declared.entry.Entry.{Entry}
+use Rattle.lrc_rules.specs.States.{State}
+use Rattle.lrc_rules.specs.Histories.{World, outcome_in, world_after, state_after}
 
 -- a book over these nodes, with at most so many entries; `ready`: it has room for one more command of any kind
 pub record BookView : Type 0 where

@@ -3,8 +3,8 @@
 use Rattle.std.specs.Prelude.{List, fold}
 use Rattle.lrc_code.specs.declared.numbers.StripeNo.{StripeNo}
 use Rattle.lrc_code.specs.declared.numbers.Fragment.{Fragment}
-use Rattle.lrc_book.specs.States.{State}
-use Rattle.lrc_book.specs.Leases.{without_lease, without_home}
+use Rattle.lrc_rules.specs.States.{State}
+use Rattle.lrc_rules.specs.Leases.{without_lease, without_home}
 
 -- the leases of these fragments of a stripe ended, one after the other
 abbrev pub unleased : State → StripeNo → List Fragment → State

@@ -5,18 +5,18 @@ use Rattle.std.specs.List.{Contains, AllPairs}
 use Rattle.lrc_code.specs.declared.numbers.StripeNo.{StripeNo}
 use Rattle.lrc_code.specs.declared.numbers.Fragment.{Fragment}
 use Rattle.lrc_topology.specs.declared.NodeInfo.{NodeInfo}
-use Rattle.lrc_stripes.specs.Levels.{comes_first}
-use Rattle.lrc_stripes.specs.Stored.{StripeFragment}
+use Rattle.lrc_terms.specs.Levels.{comes_first}
+use Rattle.lrc_terms.specs.Stripes.{StripeFragment}
 use Rattle.lrc_book.specs.declared.repair.Repair.{Repair}
 use Rattle.lrc_book.specs.declared.store.Store.{Store}
-use Rattle.lrc_book.specs.States.{State, has_stripe, lease_of, rank}
-use Rattle.lrc_book.specs.Placement.{chosen}
-use Rattle.lrc_book.specs.Repairs.{needs}
-use Rattle.lrc_book.specs.Urgency.{is_grantable}
-use Rattle.lrc_book.specs.Granting.{IsGrantable}
+use Rattle.lrc_rules.specs.States.{State, has_stripe, lease_of, rank}
+use Rattle.lrc_rules.specs.Placement.{chosen}
+use Rattle.lrc_rules.specs.Repairs.{needs}
+use Rattle.lrc_rules.specs.Urgency.{is_grantable}
+use Rattle.lrc_rules.specs.Granting.{IsGrantable}
 use Rattle.lrc_book.specs.Stores.{IsOf, AreGrantsOf, repair_of}
-use Rattle.lrc_book.specs.declared.entry.Entry.{Entry}
-use Rattle.lrc_book.specs.Histories.{state_after, IsLegal}
+use Rattle.lrc_rules.specs.declared.entry.Entry.{Entry}
+use Rattle.lrc_rules.specs.Histories.{state_after, IsLegal}
 
 -- the fragment needs a lease, and has none
 abbrev pub is_waiting : List NodeInfo → State → StripeNo → Fragment → Bool

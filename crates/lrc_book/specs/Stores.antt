@@ -18,23 +18,23 @@ use Rattle.lrc_topology.specs.Nodes.{AreNodes, node_at}
 use Rattle.lrc_slots.specs.Barred.{Barred, with_upgrade}
 use Rattle.lrc_slots.specs.Slots.{Slots}
 use Rattle.lrc_slots.specs.Tables.{slots_of}
-use Rattle.lrc_stripes.specs.Levels.{homes_of}
+use Rattle.lrc_terms.specs.Levels.{homes_of}
 use Rattle.lrc_stripes.specs.Stored.{Stored}
 use Rattle.lrc_stripes.specs.Tables.{stored_in}
-use Rattle.lrc_leases.specs.declared.lease.Lease.{Lease}
-use Rattle.lrc_leases.specs.Leased.{leased_of}
+use Rattle.lrc_terms.specs.declared.lease.Lease.{Lease}
+use Rattle.lrc_terms.specs.Leased.{leased_of}
 use Rattle.lrc_leases.specs.Tables.{leased_in}
 use Rattle.lrc_leases.specs.Granted.{granted_in}
-use Rattle.lrc_book.specs.declared.entry.Entry.{Entry}
+use Rattle.lrc_rules.specs.declared.entry.Entry.{Entry}
 use Rattle.lrc_book.specs.declared.store.Store.{Store}
 use Rattle.lrc_book.specs.declared.modes.Modes.{Modes}
-use Rattle.lrc_book.specs.States.{State, has_stripe, lease_of, code_of, has_number, mode_of, is_draining, takes_seats, is_online, online_at, drains_at}
-use Rattle.lrc_book.specs.Placement.{chosen}
-use Rattle.lrc_book.specs.declared.kind.Kind.{Kind}
-use Rattle.lrc_book.specs.Repairs.{kind, is_beyond_repair}
-use Rattle.lrc_book.specs.Leases.{grants}
-use Rattle.lrc_book.specs.Goodness.{AreSeated}
-use Rattle.lrc_book.specs.Steps.{without_upgrading}
+use Rattle.lrc_rules.specs.States.{State, has_stripe, lease_of, code_of, has_number, mode_of, is_draining, takes_seats, is_online, online_at, drains_at}
+use Rattle.lrc_rules.specs.Placement.{chosen}
+use Rattle.lrc_rules.specs.declared.kind.Kind.{Kind}
+use Rattle.lrc_rules.specs.Repairs.{kind, is_beyond_repair}
+use Rattle.lrc_rules.specs.Leases.{grants}
+use Rattle.lrc_rules.specs.Goodness.{AreSeated}
+use Rattle.lrc_rules.specs.Steps.{without_upgrading}
 use Rattle.lrc_book.specs.Ties.{table_of, bars_fault, bars_upgrade}
 
 -- the stripes, codes, homes and the online and the draining nodes of the state, with room for so many more stripes

@@ -17,8 +17,8 @@ use Rattle.lrc_topology.specs.Seats.{is_taken}
 use Rattle.lrc_slots.specs.Slots.{Slots, least_free_at}
 use Rattle.lrc_slots.specs.Barred.{Barred}
 use Rattle.lrc_slots.specs.Next.{next_number}
-use Rattle.lrc_book.specs.States.{State, code_of, seats_of, taken_seats, takes_seats}
-use Rattle.lrc_book.specs.Placement.{is_beside}
+use Rattle.lrc_rules.specs.States.{State, code_of, seats_of, taken_seats, takes_seats}
+use Rattle.lrc_rules.specs.Placement.{is_beside}
 
 -- the nodes that take seats are eligible, and the seats of the state are taken
 abbrev pub table_of : List NodeInfo → State → Slots

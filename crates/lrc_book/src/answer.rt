@@ -1,11 +1,11 @@
 ghost use Rattle.std.specs.Prelude.{◌≡◌, false, take, IsSome};
 ghost use Rattle.lrc_code.specs.declared.numbers.StripeNo.{StripeNo};
 ghost use Rattle.lrc_code.specs.declared.numbers.Fragment.{Fragment};
-ghost use Rattle.lrc_book.specs.declared.command.Command.{Command};
-ghost use Rattle.lrc_book.specs.States.{State};
+ghost use Rattle.lrc_rules.specs.declared.command.Command.{Command};
+ghost use Rattle.lrc_rules.specs.States.{State};
 ghost use Rattle.lrc_book.specs.Answers.{told};
-ghost use Rattle.lrc_book.specs.Changes.{changed_by};
-ghost use Rattle.lrc_book.specs.Leases.{is_grant};
+ghost use Rattle.lrc_rules.specs.Changes.{changed_by};
+ghost use Rattle.lrc_rules.specs.Leases.{is_grant};
 
 use crate::{Kind, Lease, Refusal, Reply, Seat};
 use lrc_code::{FRAGMENTS, NARROW_FRAGMENTS, NodeNo};

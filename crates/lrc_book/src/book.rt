@@ -1,10 +1,11 @@
 ghost use Rattle.std.specs.Prelude.{◌≡◌, ◌↔◌, ◌<◌, ◌≤◌, ◌++◌, ◌∷◌, [], true, IfOk, OnOk, IfErr, OnErr, IsOk, IsErrOf, length};
 ghost use Rattle.lrc_code.specs.declared.fault.Fault.TheVariants as fault;
 ghost use Rattle.lrc_topology.specs.Nodes.{AreNodes};
-ghost use Rattle.lrc_book.specs.States.{code_shown, homes_shown, load_shown, level_shown, missing_shown, lease_of, mode_shown};
-ghost use Rattle.lrc_book.specs.Urgency.{risk};
-ghost use Rattle.lrc_book.specs.Histories.{outcome_in, IsLegal};
-ghost use Rattle.lrc_book.specs.Goodness.{IsGood};
+ghost use Rattle.lrc_rules.specs.States.{code_shown, homes_shown, load_shown, level_shown, missing_shown, lease_of, mode_shown};
+ghost use Rattle.lrc_rules.specs.Urgency.{risk};
+ghost use Rattle.lrc_rules.specs.Histories.{outcome_in, IsLegal};
+ghost use Rattle.lrc_rules.specs.Goodness.{IsGood};
+ghost use Rattle.lrc_rules.specs.Served.{IsServed};
 ghost use Rattle.lrc_book.specs.Books.{world_of, state_of, FaultFits};
 ghost use Rattle.lrc_book.specs.Stores.{IsOf};
 
@@ -102,6 +103,7 @@ impl Book {
         ensures limit { self.now.limit ≤ 1000000 }
         ensures nodes { AreNodes self.now.nodes }
         ensures good { IsGood self.now.nodes self.now.history (state_of self.now) }
+        ensures served { IsServed self.now.nodes self.now.history }
     {
         self.history.as_slice()
     }

@@ -1,5 +1,5 @@
 ghost use Rattle.std.specs.Prelude.{◌≡◌, ◌+◌, ◌<◌, ◌≤◌};
-ghost use Rattle.lrc_book.specs.Leases.{term};
+ghost use Rattle.lrc_rules.specs.Leases.{term};
 
 /// For how many ticks a lease is granted.
 const TERM: u32 = 3;

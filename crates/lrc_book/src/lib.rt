@@ -1,4 +1,5 @@
-//! The book of placements: commands, their replies, and the history of both.
+//! The book of placements: a store of slots, stripes and leases, and the history of what was asked and answered. What each command answers
+//! and changes is said by the rules of `lrc_rules`.
 #![tactic(auto)]
 
 mod answer;
@@ -6,32 +7,18 @@ mod book;
 mod choice;
 mod class_bars;
 mod clock;
-mod command;
 mod commands;
-mod entry;
-mod kind;
 pub mod laws;
-mod mode;
 mod modes;
 mod neighbours;
 mod node_set;
 mod plan;
 mod record;
-mod refusal;
 mod repair;
-mod reply;
 mod step;
 mod store;
 
 pub use book::{Book, HISTORY_LIMIT};
-pub use command::Command;
-pub use entry::Entry;
-pub use kind::Kind;
-pub use lrc_leases::Lease;
-pub use lrc_stripes::Level;
-pub use lrc_topology::{Held, Seat};
-pub use mode::Mode;
+pub use lrc_rules::{Command, Entry, Held, Kind, Lease, Level, Mode, Refusal, Reply, Seat};
 pub use plan::Plan;
 pub use record::Record;
-pub use refusal::Refusal;
-pub use reply::Reply;

@@ -1,6 +1,6 @@
 ghost use Rattle.std.specs.Prelude.{◌≡◌, IfOk};
-ghost use Rattle.lrc_book.specs.States.{State, opening, mode_of, is_down, is_online};
-ghost use Rattle.lrc_book.specs.Steps.{with_gone, without_gone, with_draining, without_draining, with_down, without_down, with_upgrading, without_upgrading};
+ghost use Rattle.lrc_rules.specs.States.{State, opening, mode_of, is_down, is_online};
+ghost use Rattle.lrc_rules.specs.Steps.{with_gone, without_gone, with_draining, without_draining, with_down, without_down, with_upgrading, without_upgrading};
 ghost use Rattle.lrc_book.specs.Stores.{AreModesOf};
 
 use crate::Mode;

@@ -15,7 +15,7 @@ pub struct Record {
 }
 
 impl Model for Record {
-    ghost use Rattle.lrc_book.specs.declared.entry.Entry.{Entry};
+    ghost use Rattle.lrc_rules.specs.declared.entry.Entry.{Entry};
 
     ghost Value = { Entry };
 

@@ -1,9 +1,9 @@
 ghost use Rattle.std.specs.Prelude.{◌≡◌, List};
-ghost use Rattle.lrc_book.specs.declared.entry.Entry.{Entry};
-ghost use Rattle.lrc_book.specs.declared.reply.Reply.TheVariants.{Granted};
+ghost use Rattle.lrc_rules.specs.declared.entry.Entry.{Entry};
+ghost use Rattle.lrc_rules.specs.declared.reply.Reply.TheVariants.{Granted};
 ghost use Rattle.lrc_book.specs.Answers.{told};
-ghost use Rattle.lrc_book.specs.Leases.{new_lease};
-ghost use Rattle.lrc_book.specs.States.{State};
+ghost use Rattle.lrc_rules.specs.Leases.{new_lease};
+ghost use Rattle.lrc_rules.specs.States.{State};
 ghost use Rattle.lrc_book.specs.Stores.{AreFew, AreGrantsOf};
 
 use crate::answer::Answer;

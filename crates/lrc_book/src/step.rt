@@ -3,13 +3,13 @@
 ghost use Rattle.std.specs.Prelude.{◌≡◌, ◌<◌, ◌+◌, ◌≤◌, ◌++◌, ◌∷◌, [], ℕ, true, false, IfOk, IfErr, OnOk, IsOk, IsSome, List, length, nat_le, is_some, vec_len, vec_capacity};
 ghost use Rattle.lrc_code.specs.declared.fault.Fault.TheVariants as fault;
 ghost use Rattle.lrc_code.specs.declared.numbers.SessionNo.{SessionNo};
-ghost use Rattle.lrc_book.specs.declared.entry.Entry.{Entry};
-ghost use Rattle.lrc_book.specs.States.{State};
-ghost use Rattle.lrc_book.specs.Steps.{step, place_outcome};
-ghost use Rattle.lrc_book.specs.Leases.{next_outcome, done_outcome};
-ghost use Rattle.lrc_book.specs.Histories.{world_after, state_after, outcome_in};
-ghost use Rattle.lrc_book.specs.Answers.{told, is_place, is_other};
-ghost use Rattle.lrc_book.specs.Changes.{IsAnswer, changed_by, grants_lease};
+ghost use Rattle.lrc_rules.specs.declared.entry.Entry.{Entry};
+ghost use Rattle.lrc_rules.specs.States.{State};
+ghost use Rattle.lrc_rules.specs.Steps.{step, place_outcome};
+ghost use Rattle.lrc_rules.specs.Leases.{next_outcome, done_outcome};
+ghost use Rattle.lrc_rules.specs.Histories.{world_after, state_after, outcome_in};
+ghost use Rattle.lrc_book.specs.Answers.{told, placing as placing_of, is_place, is_other};
+ghost use Rattle.lrc_rules.specs.Changes.{IsAnswer, changed_by, grants_lease};
 ghost use Rattle.lrc_book.specs.Books.{IsStep, world_of};
 ghost use Rattle.lrc_book.specs.Stores.{IsOf, IsTied, AreGrantsOf, AreFew, has_room};
 ghost use Rattle.lrc_book.specs.Repairing.{IsFront, HasFront, IsKept};
@@ -164,6 +164,32 @@ fn room_for_seats(alloc: Global) -> Result<Box<[Seat; FRAGMENTS]>, AllocError> {
     Ok(Box::new(alloc, [NO_SEAT; FRAGMENTS])?)
 }
 
+/// The stripe that the command places, and the code that it is to have.
+fn placing(command: &Command) -> Option<(Code, StripeNo)>
+    ensures { result ≡ placing_of command.now }
+{
+    match *command {
+        Command::Place(stripe) => Some((Code::Wide, stripe)),
+        Command::Place6(stripe) => Some((Code::Narrow, stripe)),
+        Command::Drop(_)
+        | Command::Lease(_, _)
+        | Command::Next
+        | Command::Done(_, _, _)
+        | Command::Abandon(_, _, _)
+        | Command::Revoke(_, _)
+        | Command::Fail(_)
+        | Command::Down(_)
+        | Command::Up(_)
+        | Command::Drain(_)
+        | Command::Undrain(_)
+        | Command::Retire(_)
+        | Command::Join(_)
+        | Command::Upgrade(_)
+        | Command::Upgraded(_)
+        | Command::Tick => None,
+    }
+}
+
 impl Store {
     /// The reply of the plain placement object after entries with so many grants.
     fn reply(
@@ -179,7 +205,7 @@ impl Store {
         ensures { (st : State) (past : List Entry) → IsOf st self.now → AreGrantsOf past counts.now → IsFront self.now.topology st front
             → result ≡ (step self.now.topology past st session command.now).0 }
     {
-        if let Some((code, stripe)) = command.placing() {
+        if let Some((code, stripe)) = placing(command) {
             return self.place_reply(code, stripe);
         }
         let mut made = Record::new(session, *command, Answer::Idle);

@@ -4,10 +4,10 @@ ghost use Rattle.lrc_slots.specs.Slots.{all_free};
 ghost use Rattle.lrc_slots.specs.Tables.{slots_of};
 ghost use Rattle.lrc_stripes.specs.Stored as stored;
 ghost use Rattle.lrc_stripes.specs.Tables.{stored_in};
-ghost use Rattle.lrc_leases.specs.Leased as leased;
+ghost use Rattle.lrc_terms.specs.Leased as leased;
 ghost use Rattle.lrc_leases.specs.Tables.{leased_in};
-ghost use Rattle.lrc_book.specs.States.{State, opening, code_of, online_at};
-ghost use Rattle.lrc_book.specs.Leases.{without_lease, without_home};
+ghost use Rattle.lrc_rules.specs.States.{State, opening, code_of, online_at};
+ghost use Rattle.lrc_rules.specs.Leases.{without_lease, without_home};
 ghost use Rattle.lrc_book.specs.Stores.{IsOf, IsOfBut, IsTied, AreModesOf, kept_table, has_room};
 
 use crate::Mode;

@@ -4,8 +4,8 @@ use Rattle.std.proofs.lemmas.List.{take_more}
 use Rattle.std.proofs.lemmas.Option.{slice_get-get_or}
 use Rattle.std.proofs.lemmas.List.Sums.{fold-append}
 use Rattle.lrc_topology.specs.declared.NodeInfo.{NodeInfo}
-use Rattle.lrc_book.specs.declared.entry.Entry.{Entry}
-use Rattle.lrc_book.specs.Histories.{World, first_world, outcome_in, next_world, world_after}
+use Rattle.lrc_rules.specs.declared.entry.Entry.{Entry}
+use Rattle.lrc_rules.specs.Histories.{World, first_world, outcome_in, next_world, world_after}
 use Rattle.lrc_book.specs.Books.{BookView, world_of}
 use Rattle.lrc_book.proofs.WorldLemmas.{legal_append}
 use Rattle.lrc_embed.specs.declared.entry.LrcEntry.{LrcEntry}

@@ -7,9 +7,9 @@ use Rattle.lrc_code.specs.declared.numbers.SessionNo.{SessionNo}
 use Rattle.lrc_topology.specs.declared.NodeInfo.{NodeInfo}
 use Rattle.lrc_topology.specs.declared.error.TopologyError.{TopologyError}
 use Rattle.lrc_topology.specs.Documents.{IsTopologyOf, IsRefusedBy}
-use Rattle.lrc_book.specs.declared.command.Command.{Command}
-use Rattle.lrc_book.specs.declared.entry.Entry.{Entry}
-use Rattle.lrc_book.specs.Histories.{outcome_in}
+use Rattle.lrc_rules.specs.declared.command.Command.{Command}
+use Rattle.lrc_rules.specs.declared.entry.Entry.{Entry}
+use Rattle.lrc_rules.specs.Histories.{outcome_in}
 use Rattle.lrc_book.specs.Books.{BookView, world_of}
 use Rattle.lrc_embed.specs.declared.command.LrcCommand.{LrcCommand}
 use Rattle.lrc_embed.specs.declared.reply.LrcReply.{LrcReply}

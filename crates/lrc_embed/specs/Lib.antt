@@ -1,7 +1,7 @@
 pub use Rattle.lrc_topology.specs.Documents
-pub use Rattle.lrc_book.specs.States
-pub use Rattle.lrc_book.specs.Urgency
-pub use Rattle.lrc_book.specs.Histories
+pub use Rattle.lrc_rules.specs.States
+pub use Rattle.lrc_rules.specs.Urgency
+pub use Rattle.lrc_rules.specs.Histories
 pub use Rattle.lrc_book.specs.Books
 pub mod Handles
 pub mod Commands

@@ -2,9 +2,9 @@
 use Rattle.std.specs.Prelude.{◌≡◌, ◌≢◌, ℕ, ◌⊎◌, false, List, [], ◌∷◌, ◌++◌, take, length, Some}
 use Rattle.std.specs.List.{slice_get}
 use Rattle.lrc_code.specs.declared.numbers.SessionNo.{SessionNo}
-use Rattle.lrc_book.specs.declared.command.Command.{Command}
-use Rattle.lrc_book.specs.declared.entry.Entry.{Entry}
-use Rattle.lrc_book.specs.Histories.{outcome_in, IsLegalFrom}
+use Rattle.lrc_rules.specs.declared.command.Command.{Command}
+use Rattle.lrc_rules.specs.declared.entry.Entry.{Entry}
+use Rattle.lrc_rules.specs.Histories.{outcome_in, IsLegalFrom}
 use Rattle.lrc_book.specs.Books.{BookView, world_of}
 use Rattle.lrc_embed.specs.declared.entry.LrcEntry.{LrcEntry}
 use Rattle.lrc_embed.specs.Commands.{IsCommand, is_command}

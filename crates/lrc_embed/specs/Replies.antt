@@ -1,14 +1,14 @@
 -- What a reply that crosses to C says of the book's own.
 use Rattle.std.specs.Prelude.{ℕ, List, ◌++◌, map, replicate}
 use Rattle.lrc_topology.specs.declared.seat.Seat.{Seat}
-use Rattle.lrc_leases.specs.declared.lease.Lease.{Lease}
-use Rattle.lrc_book.specs.declared.kind.Kind.{Kind}
-use Rattle.lrc_book.specs.declared.kind.Kind.TheVariants.{Local, Local3, Global, Move}
-use Rattle.lrc_book.specs.declared.reply.Reply.{Reply}
-use Rattle.lrc_book.specs.declared.reply.Reply.TheVariants.{Placed, Placed6, Dropped, Granted, Idle, Ended, Changed, Refused, Ticked}
-use Rattle.lrc_book.specs.declared.refusal.Refusal.{Refusal}
-use Rattle.lrc_book.specs.declared.refusal.Refusal.TheVariants as refusal
-use Rattle.lrc_book.specs.declared.entry.Entry.{Entry}
+use Rattle.lrc_terms.specs.declared.lease.Lease.{Lease}
+use Rattle.lrc_rules.specs.declared.kind.Kind.{Kind}
+use Rattle.lrc_rules.specs.declared.kind.Kind.TheVariants.{Local, Local3, Global, Move}
+use Rattle.lrc_rules.specs.declared.reply.Reply.{Reply}
+use Rattle.lrc_rules.specs.declared.reply.Reply.TheVariants.{Placed, Placed6, Dropped, Granted, Idle, Ended, Changed, Refused, Ticked}
+use Rattle.lrc_rules.specs.declared.refusal.Refusal.{Refusal}
+use Rattle.lrc_rules.specs.declared.refusal.Refusal.TheVariants as refusal
+use Rattle.lrc_rules.specs.declared.entry.Entry.{Entry}
 use Rattle.lrc_embed.specs.Commands.{command_told}
 use Rattle.lrc_embed.specs.declared.seat.LrcSeat.{LrcSeat}
 use Rattle.lrc_embed.specs.declared.lease.LrcLease.{LrcLease}

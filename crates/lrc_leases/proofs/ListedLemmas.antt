@@ -9,11 +9,11 @@ use Rattle.slab.specs.Slab.{Slab, get, Updates}
 use Rattle.slab.proofs.SlabLemmas.{Contains-cons, Contains-cons_cases}
 use Rattle.lrc_code.specs.declared.numbers.StripeNo.{StripeNo}
 use Rattle.lrc_code.specs.declared.numbers.Fragment.{Fragment}
-use Rattle.lrc_leases.specs.declared.lease.Lease.{Lease}
-use Rattle.lrc_leases.specs.Leased.{leased_of, Leased, AreOneEach, AreThose}
+use Rattle.lrc_terms.specs.declared.lease.Lease.{Lease}
+use Rattle.lrc_terms.specs.Leased.{leased_of, Leased, AreOneEach, AreThose}
 use Rattle.lrc_leases.specs.Chains.{ChainTable, chain_in, without, AreOnce}
 use Rattle.lrc_leases.specs.Kept.{leases_of, AreSingle, AreListed, if_passes, passing_at}
-use Rattle.lrc_leases.proofs.ListLemmas.{Contains-filter, filter-contains, is_of-from, is_of-own}
+use Rattle.lrc_terms.proofs.LeaseLemmas.{Contains-filter, filter-contains, is_of-from, is_of-own}
 use Rattle.lrc_leases.proofs.SlabLemmas.{found-at, at-found}
 use Rattle.lrc_leases.proofs.RoomLemmas.{few-one_each}
 

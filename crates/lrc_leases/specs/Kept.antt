@@ -6,8 +6,8 @@ use Rattle.slab.specs.Slab.{Slab, get, entries}
 use Rattle.lrc_code.specs.declared.numbers.StripeNo.{StripeNo}
 use Rattle.lrc_code.specs.declared.numbers.NodeNo.{NodeNo}
 use Rattle.lrc_code.specs.declared.losses.LossMask.{LossMask}
-use Rattle.lrc_leases.specs.declared.lease.Lease.{Lease}
-use Rattle.lrc_leases.specs.Leased.{is_of, leased_of}
+use Rattle.lrc_terms.specs.declared.lease.Lease.{Lease}
+use Rattle.lrc_terms.specs.Leased.{is_of, leased_of}
 use Rattle.lrc_leases.specs.Granted.{spot}
 use Rattle.lrc_leases.specs.Chains.{ChainTable, chain_in}
 use Rattle.lrc_leases.specs.Masks.{AreMasks}

@@ -1,7 +1,7 @@
 ghost use Rattle.std.specs.Prelude.{◌≡◌, ◌<◌, List, filter_map};
 ghost use Rattle.std.specs.Iterator.{YieldsFirst, item_count};
 ghost use Rattle.lrc_leases.specs.Kept.{clock_chain, passing_at};
-ghost use Rattle.lrc_leases.specs.Leased.{ends_at};
+ghost use Rattle.lrc_terms.specs.Leased.{ends_at};
 
 use crate::Lease;
 use crate::chains::CHAINS;
@@ -27,9 +27,9 @@ pub struct EndingAt<'a> {
 
 impl<'a> Model for EndingAt<'a> {
     ghost use Rattle.std.specs.Prelude.{List, filter_map};
-    ghost use Rattle.lrc_leases.specs.declared.lease.Lease.{Lease as OneLease};
+    ghost use Rattle.lrc_terms.specs.declared.lease.Lease.{Lease as OneLease};
     ghost use Rattle.lrc_leases.specs.Kept.{passing_at};
-    ghost use Rattle.lrc_leases.specs.Leased.{ends_at};
+    ghost use Rattle.lrc_terms.specs.Leased.{ends_at};
 
     ghost Value = { List OneLease };
 
@@ -50,7 +50,7 @@ impl<'a> EndingAt<'a> {
 }
 
 impl<'a> Iterator for EndingAt<'a> {
-    ghost use Rattle.lrc_leases.specs.declared.lease.Lease.{Lease as OneLease};
+    ghost use Rattle.lrc_terms.specs.declared.lease.Lease.{Lease as OneLease};
 
     type Item = Lease;
 

@@ -1,7 +1,7 @@
 ghost use Rattle.std.specs.Prelude.{◌≡◌, ◌≤◌, length, ℕ, IfOk, IfErr, IfSome, IfNone, OnErr, OnOk, IsOk, IsTrue, Some, None};
 ghost use Rattle.lrc_code.specs.declared.fault.Fault.TheVariants.{OutOfMemory};
 ghost use Rattle.lrc_code.specs.Losses.{bits_set};
-ghost use Rattle.lrc_leases.specs.Leased.{empty, with_lease, without_lease, with_spare, leased_at, ends_at, AreTargetsOn, AreThose};
+ghost use Rattle.lrc_terms.specs.Leased.{empty, with_lease, without_lease, with_spare, leased_at, ends_at, AreTargetsOn, AreThose};
 ghost use Rattle.lrc_leases.specs.Tables.{leased_in};
 
 use crate::arrays::write;

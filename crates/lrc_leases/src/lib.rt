@@ -5,8 +5,6 @@ mod arrays;
 mod chains;
 mod ending_at;
 mod grants;
-pub mod laws;
-mod lease;
 mod leases;
 mod link;
 mod masks;
@@ -17,6 +15,6 @@ mod walk;
 
 pub use ending_at::EndingAt;
 pub use grants::Grants;
-pub use lease::Lease;
 pub use leases::Leases;
+pub use lrc_terms::Lease;
 pub use targets_on::TargetsOn;

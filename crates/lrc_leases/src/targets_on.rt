@@ -1,7 +1,7 @@
 ghost use Rattle.std.specs.Prelude.{◌≡◌, ◌<◌, List, filter_map};
 ghost use Rattle.std.specs.Iterator.{YieldsFirst, item_count};
 ghost use Rattle.lrc_leases.specs.Kept.{node_chain, passing_at};
-ghost use Rattle.lrc_leases.specs.Leased.{is_target_on};
+ghost use Rattle.lrc_terms.specs.Leased.{is_target_on};
 
 use crate::Lease;
 use crate::chains::CHAINS;
@@ -28,9 +28,9 @@ pub struct TargetsOn<'a> {
 
 impl<'a> Model for TargetsOn<'a> {
     ghost use Rattle.std.specs.Prelude.{List, filter_map};
-    ghost use Rattle.lrc_leases.specs.declared.lease.Lease.{Lease as OneLease};
+    ghost use Rattle.lrc_terms.specs.declared.lease.Lease.{Lease as OneLease};
     ghost use Rattle.lrc_leases.specs.Kept.{passing_at};
-    ghost use Rattle.lrc_leases.specs.Leased.{is_target_on};
+    ghost use Rattle.lrc_terms.specs.Leased.{is_target_on};
 
     ghost Value = { List OneLease };
 
@@ -51,7 +51,7 @@ impl<'a> TargetsOn<'a> {
 }
 
 impl<'a> Iterator for TargetsOn<'a> {
-    ghost use Rattle.lrc_leases.specs.declared.lease.Lease.{Lease as OneLease};
+    ghost use Rattle.lrc_terms.specs.declared.lease.Lease.{Lease as OneLease};
 
     type Item = Lease;
 

@@ -6,7 +6,7 @@ use Rattle.std.proofs.lemmas.List.Elements.{All-nil, All-push, filter-append}
 use Rattle.std.proofs.lemmas.List.Splits.{length-slice_split}
 use Rattle.std.specs.Option.{option_map_or}
 use Rattle.lrc_script.specs.declared.bundle.ScriptText.{ScriptText}
-use Rattle.lrc_book.specs.declared.command.Command.{Command}
+use Rattle.lrc_rules.specs.declared.command.Command.{Command}
 use Rattle.lrc_script.specs.Scripts.{lines_of, is_passed_over, IsScript, or_else, cause_of, first_bad}
 use Rattle.lrc_script.proofs.ScriptLemmas.{cause_of-passed}
 use Rattle.lrc_script.proofs.TextLemmas.{joined_lines-of, topology_of-text}

@@ -4,7 +4,7 @@ use borrow.Author.Tests.{ltb-false}
 use Rattle.std.specs.Borrow.{Bor}
 use Rattle.std.proofs.lemmas.List.{map-append}
 use Rattle.std.proofs.lemmas.List.Elements.{All-push, All-nil, filter-append}
-use Rattle.lrc_book.specs.declared.command.Command.{Command}
+use Rattle.lrc_rules.specs.declared.command.Command.{Command}
 use Rattle.lrc_script.specs.declared.script.Cause.{Cause}
 use Rattle.lrc_script.specs.declared.script.Cause.TheVariants.{TooLong}
 use Rattle.lrc_script.specs.declared.script.ScriptError.{ScriptError}

@@ -2,7 +2,7 @@
 -- Texts, cut at the first of a byte or at their first parting line, and lines, read.
 use Rattle.std.specs.Prelude.{◌≡◌, ◌≢◌, ℕ, ◌+◌, ◌≤◌, ◌⊎◌, true, false, List, [], ◌∷◌, ◌++◌, length, All, Option, Some, None, option_map, option_to_list}
 use Rattle.std.specs.Borrow.{Bor}
-use Rattle.lrc_book.specs.declared.command.Command.{Command}
+use Rattle.lrc_rules.specs.declared.command.Command.{Command}
 use Rattle.lrc_script.specs.declared.script.ScriptError.{ScriptError}
 use Rattle.lrc_script.specs.Scripts.{lines_of, words_of, is_passed_over, command_line, IsInRange, cause_of, BadLine, IsFirstBad}
 use Rattle.lrc_script.specs.Bundles.{parts_of, ended_lines}

@@ -1,4 +1,4 @@
-pub use Rattle.lrc_book.specs.Histories
+pub use Rattle.lrc_rules.specs.Histories
 pub mod Scripts
 pub mod Bundles
 pub mod Cuts

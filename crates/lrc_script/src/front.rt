@@ -4,9 +4,9 @@ ghost use Rattle.std.specs.Prelude.{◌≡◌, ◌+◌, ◌<◌, ◌≤◌, ◌^
 ghost use Rattle.lrc_script.specs.Scripts.{command_line, IsInRange};
 
 use crate::script::{FRAGMENT_BOUND, STRIPE_BOUND};
-use lrc_book::Command;
 use lrc_code::{Fragment, NodeNo, StripeNo, UpgradeNo};
 use lrc_front::{number_behind, number_in_front};
+use lrc_rules::Command;
 
 /// The most bytes of a line with its end: those of `abandon`, a stripe, a fragment and an epoch.
 const LONGEST: usize = 27;

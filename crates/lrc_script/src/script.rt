@@ -7,9 +7,9 @@ ghost use Rattle.lrc_script.specs.declared.script.Cause.TheVariants as causes;
 
 use crate::cut::{cut_line, cut_word, is_word};
 use crate::front::command_in_front;
-use lrc_book::Command;
 use lrc_code::{FRAGMENTS, Fragment, NodeNo, STRIPES, StripeNo, UpgradeNo};
 use lrc_front::behind;
+use lrc_rules::Command;
 use std::alloc::{AllocError, AllocFailed, Global};
 use thiserror::Error;
 

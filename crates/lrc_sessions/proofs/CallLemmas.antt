@@ -5,10 +5,10 @@ use Rattle.std.proofs.lemmas.Bool.Decides.{nat_tests}
 use mathlib.Core.List.{IsPrefix}
 use Rattle.lrc_code.specs.declared.numbers.SessionNo.{SessionNo}
 use Rattle.lrc_topology.specs.declared.NodeInfo.{NodeInfo}
-use Rattle.lrc_book.specs.declared.command.Command.{Command}
-use Rattle.lrc_book.specs.declared.entry.Entry.{Entry}
-use Rattle.lrc_book.specs.Histories.{IsLegal}
-use Rattle.lrc_book.specs.Sessions.{is_of}
+use Rattle.lrc_rules.specs.declared.command.Command.{Command}
+use Rattle.lrc_rules.specs.declared.entry.Entry.{Entry}
+use Rattle.lrc_rules.specs.Histories.{IsLegal}
+use Rattle.lrc_rules.specs.Sessions.{is_of}
 use Rattle.lrc_board.specs.declared.receipt.Receipt.{Receipt}
 use Rattle.lrc_sessions.specs.Views.{SessionView}
 use Rattle.lrc_sessions.specs.Counts.{made_in}

@@ -5,7 +5,7 @@ use Rattle.std.proofs.lemmas.Bool.Decides.{nat_tests}
 use Rattle.std.proofs.lemmas.List.FromFn.{length-map-range_with_len}
 use Rattle.lrc_code.specs.declared.fault.Fault.{Fault}
 use Rattle.lrc_code.specs.declared.fault.Fault.TheVariants as fault
-use Rattle.lrc_book.specs.declared.command.Command.{Command}
+use Rattle.lrc_rules.specs.declared.command.Command.{Command}
 use Rattle.lrc_sessions.specs.declared.track.Track.{Track}
 use Rattle.lrc_sessions.specs.Views.{SessionView, fresh}
 use Rattle.lrc_sessions.specs.Counts.{times, AreAll}

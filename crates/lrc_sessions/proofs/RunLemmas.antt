@@ -6,7 +6,7 @@ use Rattle.std.proofs.lemmas.Bool.{cases_lt}
 use Rattle.lrc_board.specs.declared.receipt.Receipt.{Receipt}
 use Rattle.lrc_sessions.specs.declared.track.Stop.{Stop}
 use Rattle.lrc_sessions.specs.declared.track.Track.{Track}
-use Rattle.lrc_book.specs.declared.command.Command.{Command}
+use Rattle.lrc_rules.specs.declared.command.Command.{Command}
 use Rattle.lrc_sessions.specs.Views.{SessionView}
 use Rattle.lrc_sessions.specs.Runs.{IsRun, AreRun}
 use Rattle.lrc_sessions.specs.Rooms.{IsRoomFor, AreRoomFor}

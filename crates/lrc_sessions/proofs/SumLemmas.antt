@@ -4,8 +4,8 @@ use Rattle.std.proofs.lemmas.List.Sums.{sum_by-cons}
 use Rattle.std.proofs.lemmas.List.FromFn.{map-range_with_len_more}
 use Rattle.std.proofs.lemmas.List.Elements.{All-head, All-tail}
 use Rattle.std.proofs.lemmas.Bool.Decides.{nat_tests}
-use Rattle.lrc_book.specs.declared.entry.Entry.{Entry}
-use Rattle.lrc_book.specs.Sessions.{sessions, is_of}
+use Rattle.lrc_rules.specs.declared.entry.Entry.{Entry}
+use Rattle.lrc_rules.specs.Sessions.{sessions, is_of}
 use Rattle.lrc_sessions.specs.Views.{SessionView}
 use Rattle.lrc_sessions.specs.Counts.{times, made_of, made_in, counts_of, counts_in, total_made, AreAll}
 use Rattle.lrc_sessions.proofs.Counting.{only, all_at, none_made, total_push}

@@ -2,7 +2,7 @@
 use Rattle.std.specs.Prelude.{◌≡◌, ℕ, List, length, All}
 use mathlib.Core.List.{IsPrefix}
 use Rattle.lrc_topology.specs.declared.NodeInfo.{NodeInfo}
-use Rattle.lrc_book.specs.Histories.{IsLegal}
+use Rattle.lrc_rules.specs.Histories.{IsLegal}
 use Rattle.lrc_sessions.specs.Views.{SessionView}
 use Rattle.lrc_sessions.specs.Counts.{AreAll, counts_of, counts_in, total_made}
 use Rattle.lrc_sessions.specs.declared.closing.Closing.{Closing}

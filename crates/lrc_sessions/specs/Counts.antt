@@ -1,8 +1,8 @@
 -- Which sessions end a manager, and how many calls each has made.
 use Rattle.std.specs.Prelude.{◌≡◌, ℕ, ◌≤◌, ◌==◌, cond, nat_le, List, map, count_by, sum_by}
 use Rattle.lrc_code.specs.declared.numbers.SessionNo.{SessionNo}
-use Rattle.lrc_book.specs.declared.entry.Entry.{Entry}
-use Rattle.lrc_book.specs.Sessions.{sessions, is_of}
+use Rattle.lrc_rules.specs.declared.entry.Entry.{Entry}
+use Rattle.lrc_rules.specs.Sessions.{sessions, is_of}
 use Rattle.lrc_sessions.specs.Views.{SessionView}
 
 -- how many of the sessions have the number

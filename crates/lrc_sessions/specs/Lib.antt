@@ -1,11 +1,11 @@
 pub use Rattle.lrc_code.specs.Order
 pub use Rattle.lrc_topology.specs.Nodes
-pub use Rattle.lrc_book.specs.States
-pub use Rattle.lrc_book.specs.Outcomes
-pub use Rattle.lrc_book.specs.Steps
-pub use Rattle.lrc_book.specs.Histories
-pub use Rattle.lrc_book.specs.Sessions
-pub use Rattle.lrc_book.specs.Goodness
+pub use Rattle.lrc_rules.specs.States
+pub use Rattle.lrc_rules.specs.Outcomes
+pub use Rattle.lrc_rules.specs.Steps
+pub use Rattle.lrc_rules.specs.Histories
+pub use Rattle.lrc_rules.specs.Sessions
+pub use Rattle.lrc_rules.specs.Goodness
 pub use Rattle.lrc_book.specs.Books
 pub mod Views
 pub mod Counts

@@ -2,11 +2,11 @@
 use Rattle.std.specs.Prelude.{◌≡◌, ℕ, ◌≤◌, List, [], ◌∷◌, ◌++◌, length}
 use Rattle.lrc_code.specs.declared.numbers.SessionNo.{SessionNo}
 use Rattle.lrc_topology.specs.declared.NodeInfo.{NodeInfo}
-use Rattle.lrc_book.specs.declared.command.Command.{Command}
-use Rattle.lrc_book.specs.declared.entry.Entry.{Entry}
-use Rattle.lrc_book.specs.declared.reply.Reply.{Reply}
-use Rattle.lrc_book.specs.Histories.{outcome_in, world_after, state_after, IsLegal}
-use Rattle.lrc_book.specs.Goodness.{IsGood}
+use Rattle.lrc_rules.specs.declared.command.Command.{Command}
+use Rattle.lrc_rules.specs.declared.entry.Entry.{Entry}
+use Rattle.lrc_rules.specs.declared.reply.Reply.{Reply}
+use Rattle.lrc_rules.specs.Histories.{outcome_in, world_after, state_after, IsLegal}
+use Rattle.lrc_rules.specs.Goodness.{IsGood}
 use Rattle.lrc_book.specs.Books.{BookView}
 
 -- Whenever the lock is free: the book is one over these nodes and with this limit, its history is legal and leaves a good state, and has as many

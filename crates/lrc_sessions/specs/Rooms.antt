@@ -1,7 +1,7 @@
 -- Internal: no public clause reaches these definitions.
 -- The room of a run.
 use Rattle.std.specs.Prelude.{◌≡◌, ℕ, ◌<◌, ◌≤◌, List, [], length, slice_index_or, Vec, vec_capacity}
-use Rattle.lrc_book.specs.declared.command.Command.{Command}
+use Rattle.lrc_rules.specs.declared.command.Command.{Command}
 use Rattle.lrc_board.specs.declared.receipt.Receipt.{Receipt}
 
 -- an empty list of receipts with room for one of each call of the script

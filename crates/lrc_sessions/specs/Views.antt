@@ -2,8 +2,8 @@
 use Rattle.std.specs.Prelude.{ℕ, List, [], map}
 use Rattle.logbook.specs.Pages.{Book}
 use Rattle.lrc_topology.specs.declared.NodeInfo.{NodeInfo}
-use Rattle.lrc_book.specs.declared.entry.Entry.{Entry}
-use Rattle.lrc_book.specs.Sessions.{sessions}
+use Rattle.lrc_rules.specs.declared.entry.Entry.{Entry}
+use Rattle.lrc_rules.specs.Sessions.{sessions}
 
 -- parts over these nodes, with so many entries at most, for so many sessions, with a ledger of this name and so many shares, and this log, which begins with
 -- this pen

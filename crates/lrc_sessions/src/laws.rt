@@ -2,7 +2,7 @@
 
 ghost use Rattle.std.specs.Prelude.{◌≡◌, ℕ, ◌<◌, List, length, slice_index_or, Contains, Vec};
 ghost use Rattle.std.specs.Global.{Global};
-ghost use Rattle.lrc_book.specs.declared.command.Command.{Command};
+ghost use Rattle.lrc_rules.specs.declared.command.Command.{Command};
 ghost use mathlib.Core.List.{IsPrefix};
 ghost use Rattle.lrc_topology.specs.declared.NodeInfo.{NodeInfo};
 ghost use Rattle.lrc_board.specs.declared.receipt.Receipt.{Receipt};

@@ -1,6 +1,6 @@
 ghost use Rattle.std.specs.Prelude.{◌≡◌, ◌≢◌, ◌+◌, ◌≤◌, [], length, replicate, vec_capacity, IfOk, IfErr, OnOk};
 ghost use mathlib.Core.List.{IsPrefix};
-ghost use Rattle.lrc_book.specs.Histories.{IsLegal};
+ghost use Rattle.lrc_rules.specs.Histories.{IsLegal};
 ghost use Rattle.lrc_board.specs.declared.open_error.OpenError.TheVariants as error;
 ghost use Rattle.lrc_sessions.specs.Views.{ManagerView, SessionView, fresh};
 ghost use Rattle.lrc_sessions.specs.Calls.{IsCalled, IsLeft};

@@ -1,16 +1,16 @@
 ghost use Rattle.std.specs.Prelude.{◌≡◌, ◌≤◌, [], length, IfOk, IfErr, OnErr};
 ghost use mathlib.Core.List.{IsPrefix};
-ghost use Rattle.lrc_book.specs.Histories.{IsLegal, state_after};
-ghost use Rattle.lrc_book.specs.States.{level_shown, load_shown};
-ghost use Rattle.lrc_book.specs.Urgency.{risk};
+ghost use Rattle.lrc_rules.specs.Histories.{IsLegal, state_after};
+ghost use Rattle.lrc_rules.specs.States.{level_shown, load_shown};
+ghost use Rattle.lrc_rules.specs.Urgency.{risk};
 ghost use Rattle.lrc_board.specs.declared.error.LookError.TheVariants as error;
 ghost use Rattle.lrc_sessions.specs.Views.{SessionView};
 ghost use Rattle.lrc_sessions.specs.Counts.{made_in};
 
 use crate::naming::Naming;
 use lrc_board::{Keeper, LookError, Seen, Viewer};
+use lrc_book::Level;
 use lrc_code::{NodeNo, SessionNo, StripeNo};
-use lrc_stripes::Level;
 use std::alloc::Global;
 use std::marker::Model;
 use std::sync::ledger::Share;
@@ -27,7 +27,7 @@ pub struct Session<N: Naming> {
 
 impl<N: Naming> Model for Session<N> {
     ghost use Rattle.std.specs.Prelude.{◌≡◌, ◌≤◌};
-    ghost use Rattle.lrc_book.specs.Histories.{IsLegal};
+    ghost use Rattle.lrc_rules.specs.Histories.{IsLegal};
     ghost use Rattle.lrc_sessions.specs.Views.{SessionView};
     ghost use Rattle.lrc_sessions.specs.Counts.{made_in};
 

@@ -1,35 +1,17 @@
 -- Masks of fragments, built fragment by fragment.
-use Rattle.std.proofs.Common.{◌≡◌, ℕ, ◌+◌, ◌<◌, inl, inr, Bool, true, false, ◌&&◌, ◌||◌, eqb, ltb, List, get_or, refl, sym, ◌∙◌, arith, zero-add, zero, suc, ◌^◌, subst, ◌≤◌, [], ◌∷◌, length, map, cond, not, if◌then◌else◌, ap, min, max, ◌-◌, bit_or, bit_and, w16, Option, Some, None, is_some, is_none}
+use Rattle.std.proofs.Common.{◌≡◌, ℕ, ◌+◌, ◌<◌, inl, inr, Bool, true, false, ◌&&◌, ◌||◌, eqb, ltb, List, get_or, refl, sym, ◌∙◌, arith, zero, suc, ◌^◌, subst, ◌≤◌, [], ◌∷◌, length, map, cond, not, if◌then◌else◌, ap, min, max, ◌-◌, bit_or, bit_and, w16, Option, Some, None, is_some, is_none}
 use Rattle.std.specs.Int.{bit_at, bit_not}
 use Rattle.std.proofs.lemmas.Nat.Bits.{bit_at_or, bit_at_and, bit_at_not, bit_at-lt, bit_at_above, bit_at_ones, bit_at-zero}
 use Rattle.std.proofs.lemmas.Bool.{cases_eq, cases_lt, eq-eqb, ne_eqb, lt-ltb, le-ltb, ltb-true}
 use Rattle.std.proofs.lemmas.List.{get_or-map, length-map}
 use Rattle.std.proofs.lemmas.Simd.{mask_l-lt, bit_mask_l}
 use Rattle.std.specs.Simd.Lanes.{mask_l}
-use Rattle.std.proofs.lemmas.List.FromFn.{get_or-range_with_len}
 use Rattle.lrc_code.specs.declared.codes.Code.{Code}
-use Rattle.lrc_code.specs.declared.codes.Code.TheVariants.{Wide, Narrow}
+use Rattle.lrc_code.specs.declared.codes.Code.TheVariants.{Wide}
 use Rattle.lrc_code.specs.declared.numbers.Fragment.{Fragment}
 use Rattle.lrc_code.specs.Codes.{fragments, fragment_count, has_fragment}
 use Rattle.lrc_code.specs.Losses.{bits_set}
-
--- the fragments are numbered by their places
-pub fragment-number : (i : ℕ) (d : Fragment) → i < 16 → (get_or (fragments Wide) i d).value ≡ i
-fragment-number i d within = sym (get_or-map (λ (f : Fragment). f.value) (fragments Wide) i d 0 within) ∙ (get_or-range_with_len 0 16 i 0 within ∙ zero-add i)
-
--- the same of each code
-pub fragment-number_in : (code : Code) (i : ℕ) (d : Fragment) → i < fragment_count code → (get_or (fragments code) i d).value ≡ i
-fragment-number_in Wide i d within = fragment-number i d within
-fragment-number_in Narrow i d within = sym (get_or-map (λ (f : Fragment). f.value) (fragments Narrow) i d 0 within) ∙ (get_or-range_with_len 0 10 i 0 within ∙ zero-add i)
-
--- there are sixteen at most
-pub few-fragments : (code : Code) → fragment_count code ≤ 16
-few-fragments Wide = omega arith
-few-fragments Narrow = omega arith
-
-pub fragments-long : (code : Code) → length (fragments code) ≡ fragment_count code
-fragments-long Wide = refl
-fragments-long Narrow = refl
+use Rattle.lrc_terms.proofs.CodeListLemmas.{fragment-number, few-fragments}
 
 -- a fragment of the code has a number below sixteen
 pub has-low : (code : Code) (f : ℕ) → has_fragment code f ≡ true → f < 16

@@ -8,9 +8,9 @@ use Rattle.lrc_code.specs.declared.numbers.NodeNo.{NodeNo}
 use Rattle.lrc_code.specs.Codes.{has_fragment}
 use Rattle.lrc_code.specs.Losses.{FragmentSet, bits_set, bits_of}
 use Rattle.lrc_topology.specs.declared.seat.Seat.{Seat}
-use Rattle.lrc_stripes.specs.declared.level.Level.{Level}
+use Rattle.lrc_terms.specs.declared.level.Level.{Level}
 use Rattle.lrc_stripes.specs.declared.losses.Losses.{Losses}
-use Rattle.lrc_stripes.specs.Levels.{level_by, rank_by}
+use Rattle.lrc_terms.specs.Levels.{level_by, rank_by}
 use Rattle.lrc_stripes.specs.Rows.{sits_on, is_missing, is_to_move}
 use Rattle.lrc_stripes.specs.Sites.{Sited}
 

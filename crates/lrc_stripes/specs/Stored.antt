@@ -12,8 +12,9 @@ use Rattle.lrc_code.specs.Numbers.{same_stripe, same_node}
 use Rattle.lrc_topology.specs.declared.NodeInfo.{NodeInfo}
 use Rattle.lrc_topology.specs.declared.seat.Seat.{Seat}
 use Rattle.lrc_topology.specs.Nodes.{node_at}
-use Rattle.lrc_stripes.specs.declared.level.Level.{Level}
-use Rattle.lrc_stripes.specs.Levels.{Homes, missing_in, needs_in, homes_if, missing_if, needs_if, level_if, has_some, rank_by, comes_first, is_whole}
+use Rattle.lrc_terms.specs.declared.level.Level.{Level}
+use Rattle.lrc_terms.specs.Levels.{Homes, missing_in, needs_in, homes_if, missing_if, needs_if, level_if, has_some, rank_by, comes_first, is_whole}
+use Rattle.lrc_terms.specs.Stripes.{StripeFragment, StripeLevel, comes_before}
 
 -- The nodes in the order of the file, a test of the stripes that there are, the code of each, the homes of each one's fragments,
 -- a test of the nodes that are online and one of those that are draining, and for how many more stripes there is room. A stripe
@@ -122,10 +123,6 @@ pub record AreWorkFrom (t : Stored) (first : StripeNo) (stripes : List StripeNo)
   pub rising : AllPairs (λ r s. IsTrue (comes_first (rank_in t) r s)) stripes
   pub each : (s : StripeNo) → Contains stripes s ↔ IsTrue (has_work t s && not (comes_first (rank_in t) s first))
 
--- a stripe, and its level
-abbrev pub StripeLevel : Type 0
-StripeLevel = StripeNo × Level
-
 -- these are all stripes that are not whole, each with its level, in the order of repair
 pub record AreAtRisk (t : Stored) (rows : List StripeLevel) : Type 0 where
   pub rising : AllPairs (λ r s. IsTrue (comes_first (rank_in t) r.0 s.0)) rows
@@ -141,17 +138,9 @@ has_slot nodes seat = option_map_or (λ n. nat_lt seat.slot n.slots) (node_at no
 abbrev pub HasNoHome : Stored → Seat → Type 0
 HasNoHome t seat = (s : StripeNo) (f : ℕ) → t.homes s f ≢ Some seat
 
--- a stripe, and one of its fragments
-abbrev pub StripeFragment : Type 0
-StripeFragment = StripeNo × Fragment
-
 -- the fragment has its home on the node
 abbrev pub is_home_on : Stored → NodeNo → StripeFragment → Bool
 is_home_on t n p = option_map_or (λ seat. same_node n seat.node) (t.homes p.0 p.1.value) false
-
--- by the stripe's number, and within a stripe by the fragment's
-abbrev pub comes_before : StripeFragment → StripeFragment → Bool
-comes_before p q = nat_lt p.0.value q.0.value || (same_stripe p.0 q.0 && nat_lt p.1.value q.1.value)
 
 -- these are all fragments with a home on the node, in rising order
 pub record AreHomesOn (t : Stored) (n : NodeNo) (places : List StripeFragment) : Type 0 where

@@ -11,7 +11,7 @@ use Rattle.lrc_code.specs.Codes.{fragments}
 use Rattle.lrc_code.specs.Losses.{is_recoverable}
 use Rattle.lrc_topology.specs.declared.NodeInfo.{NodeInfo}
 use Rattle.lrc_topology.specs.Nodes.{node_at}
-use Rattle.lrc_stripes.specs.Levels.{missing_in}
+use Rattle.lrc_terms.specs.Levels.{missing_in}
 use Rattle.lrc_stripes.specs.Stored.{Stored, is_home_on, has_work}
 
 -- the node of this number is in the upgrade domain

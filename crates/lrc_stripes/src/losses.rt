@@ -1,4 +1,6 @@
 ghost use Rattle.std.specs.Prelude.{◌≡◌, ◌<◌, ◌≤◌, IfSome};
+ghost use Rattle.lrc_code.specs.Losses.{bits_set};
+ghost use Rattle.lrc_terms.specs.Levels.{level_by};
 ghost use Rattle.lrc_stripes.specs.Masks.{AreAll, IsPut, level_of, rank_of, work_rank, risk_rank};
 
 use crate::{Level, masks};
@@ -87,7 +89,7 @@ impl Losses {
     pub(crate) fn level(self) -> Level
         ensures { result ≡ level_of self }
     {
-        Level::of(self.code, self.homeless, self.missing)
+        level_with(self.code, self.homeless, self.missing)
     }
 
     /// The rank where the stripe has work.
@@ -120,5 +122,20 @@ impl Losses {
         ensures few { result ≤ 4 }
     {
         self.missing.margin_in(self.code).unwrap_or(4)
+    }
+}
+
+/// The level of a stripe of the code with these homeless and these missing fragments.
+fn level_with(code: Code, homeless: LossMask, missing: LossMask) -> Level
+    ensures { result ≡ level_by code (bits_set homeless.bits) (bits_set missing.bits) }
+{
+    if !homeless.recoverable_in(code) {
+        return Level::Lost;
+    }
+    match missing.margin_in(code) {
+        None => Level::Unavailable,
+        // with any loss it is less
+        Some(3) => Level::Whole,
+        Some(margin) => Level::AtRisk(margin),
     }
 }

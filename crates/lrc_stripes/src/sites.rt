@@ -7,7 +7,7 @@ ghost use Rattle.lrc_code.specs.declared.numbers.StripeNo.{StripeNo as AnyStripe
 ghost use Rattle.lrc_code.specs.declared.fault.Fault.TheVariants.{OutOfMemory};
 ghost use Rattle.lrc_topology.specs.declared.NodeInfo.{NodeInfo as AnyInfo};
 ghost use Rattle.lrc_topology.specs.Nodes.{node_at, nodes_in};
-ghost use Rattle.lrc_stripes.specs.Levels.{Homes as AnyHomes};
+ghost use Rattle.lrc_terms.specs.Levels.{Homes as AnyHomes};
 ghost use Rattle.lrc_stripes.specs.Domains.{AreDomainsOf};
 ghost use Rattle.lrc_stripes.specs.Stored.{has_node};
 ghost use Rattle.lrc_stripes.specs.Sets.{FindsNext, has};

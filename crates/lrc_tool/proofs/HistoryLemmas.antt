@@ -4,11 +4,11 @@ use Rattle.std.specs.Coded.{le_prop}
 use Rattle.std.proofs.lemmas.List.Elements.{All-head, All-tail}
 use Rattle.lrc_code.specs.declared.numbers.SessionNo.{SessionNo}
 use Rattle.lrc_topology.specs.declared.NodeInfo.{NodeInfo}
-use Rattle.lrc_book.specs.declared.command.Command.{Command}
-use Rattle.lrc_book.specs.declared.entry.Entry.{Entry}
-use Rattle.lrc_book.specs.declared.reply.Reply.{Reply}
-use Rattle.lrc_book.specs.Histories.{World, first_world, outcome_in, next_world, IsLegalFrom}
-use Rattle.lrc_book.specs.Sessions.{commands_of, commands_of_each}
+use Rattle.lrc_rules.specs.declared.command.Command.{Command}
+use Rattle.lrc_rules.specs.declared.entry.Entry.{Entry}
+use Rattle.lrc_rules.specs.declared.reply.Reply.{Reply}
+use Rattle.lrc_rules.specs.Histories.{World, first_world, outcome_in, next_world, IsLegalFrom}
+use Rattle.lrc_rules.specs.Sessions.{commands_of, commands_of_each}
 use Rattle.lrc_tool.specs.Texts.{output_text}
 use Rattle.lrc_tool.specs.Outputs.{IsPlayed}
 use Rattle.lrc_tool.proofs.SessionLemmas.{IsFirst, commands_alone}

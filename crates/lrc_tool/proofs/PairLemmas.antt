@@ -3,8 +3,8 @@ use Rattle.std.proofs.Common.{◌≡◌, ℕ, zero, suc, ◌+◌, ◌-◌, ◌*�
 use Rattle.std.proofs.lemmas.Bool.{cases_lt, lt-ltb, le-ltb}
 use Rattle.std.proofs.lemmas.Fmt.{decimal_digit, decimal_step}
 use Rattle.std.proofs.lemmas.List.{drop-drop, drop-append-le, take-append-drop}
-use Rattle.lrc_book.specs.declared.entry.Entry.{Entry}
-use Rattle.lrc_book.specs.declared.reply.Reply.{Reply}
+use Rattle.lrc_rules.specs.declared.entry.Entry.{Entry}
+use Rattle.lrc_rules.specs.declared.reply.Reply.{Reply}
 use Rattle.lrc_tool.specs.Texts.{reply_text, reply_line}
 use Rattle.lrc_tool.specs.Plays.{lines_from}
 use Rattle.lrc_tool.specs.declared.digits.TheConstants.{PAIRS, NUMERALS}

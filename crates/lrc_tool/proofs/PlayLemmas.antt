@@ -3,8 +3,8 @@ use Rattle.std.proofs.Common.{◌≡◌, ℕ, zero, suc, ◌+◌, ◌-◌, ◌�
 use Rattle.std.proofs.lemmas.List.{map-append, length-append, length-map, length-drop, take_at, take_all, take_more}
 use Rattle.std.proofs.lemmas.List.Elements.{All-append, All-push}
 use Rattle.lrc_code.specs.declared.numbers.SessionNo.{SessionNo}
-use Rattle.lrc_book.specs.declared.command.Command.{Command}
-use Rattle.lrc_book.specs.declared.entry.Entry.{Entry}
+use Rattle.lrc_rules.specs.declared.command.Command.{Command}
+use Rattle.lrc_rules.specs.declared.entry.Entry.{Entry}
 use Rattle.lrc_tool.specs.Plays.{AreMadeBehind, lines_from}
 use Rattle.lrc_tool.proofs.SessionLemmas.{IsFirst}
 

@@ -9,10 +9,10 @@ use Rattle.lrc_code.specs.declared.codes.Code.TheVariants.{Wide}
 use Rattle.lrc_code.specs.Codes.{fragments}
 use Rattle.lrc_code.specs.Losses.{margin_of}
 use Rattle.lrc_topology.specs.declared.NodeInfo.{NodeInfo}
-use Rattle.lrc_book.specs.declared.command.Command.{Command}
-use Rattle.lrc_book.specs.declared.command.Command.TheVariants as command
-use Rattle.lrc_book.specs.States.{missing}
-use Rattle.lrc_book.specs.Histories.{World, first_world, outcome_in, next_world}
+use Rattle.lrc_rules.specs.declared.command.Command.{Command}
+use Rattle.lrc_rules.specs.declared.command.Command.TheVariants as command
+use Rattle.lrc_rules.specs.States.{missing}
+use Rattle.lrc_rules.specs.Histories.{World, first_world, outcome_in, next_world}
 use Rattle.lrc_tool.specs.Texts.{replies_text}
 
 -- ---- commands

@@ -2,11 +2,11 @@
 use Rattle.std.proofs.Common.{◌≡◌, [], ◌∷◌, ◌++◌, refl, codes}
 use Rattle.std.specs.Fmt.{digits}
 use Rattle.lrc_book.specs.Levels.{rank_by}
-use Rattle.lrc_book.specs.Repairs.{kind}
-use Rattle.lrc_book.specs.Urgency.{next_of}
-use Rattle.lrc_book.specs.Placement.{chosen, placed}
-use Rattle.lrc_book.specs.Leases.{lease_outcome, next_outcome, done_outcome, abandon_outcome}
-use Rattle.lrc_book.specs.Steps.{place_outcome, drop_outcome, fail_outcome, down_outcome, up_outcome, drain_outcome, undrain_outcome, retire_outcome, join_outcome, upgrade_outcome, would_lose}
+use Rattle.lrc_rules.specs.Repairs.{kind}
+use Rattle.lrc_rules.specs.Urgency.{next_of}
+use Rattle.lrc_rules.specs.Placement.{chosen, placed}
+use Rattle.lrc_rules.specs.Leases.{lease_outcome, next_outcome, done_outcome, abandon_outcome}
+use Rattle.lrc_rules.specs.Steps.{place_outcome, drop_outcome, fail_outcome, down_outcome, up_outcome, drain_outcome, undrain_outcome, retire_outcome, join_outcome, upgrade_outcome, would_lose}
 use Rattle.lrc_tool.proofs.Rows.{place, remove, lease, next, done, abandon, fail, down, up, drain, undrain, retire, join, upgrade, ten_domains, single_slots, printed, one_placed}
 
 -- a drained node is retired once its home was moved away

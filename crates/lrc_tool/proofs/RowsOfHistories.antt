@@ -1,9 +1,9 @@
 -- The history that a script makes is legal, and the state after it is the one that was played.
 use Rattle.std.proofs.Common.{◌≡◌, List, [], ◌∷◌, refl}
-use Rattle.lrc_book.specs.declared.command.Command.{Command}
-use Rattle.lrc_book.specs.Placement.{chosen, placed}
-use Rattle.lrc_book.specs.Steps.{place_outcome, drop_outcome}
-use Rattle.lrc_book.specs.Histories.{IsLegal, state_after}
+use Rattle.lrc_rules.specs.declared.command.Command.{Command}
+use Rattle.lrc_rules.specs.Placement.{chosen, placed}
+use Rattle.lrc_rules.specs.Steps.{place_outcome, drop_outcome}
+use Rattle.lrc_rules.specs.Histories.{IsLegal, state_after}
 use Rattle.lrc_tool.proofs.Rows.{place, remove, ten_domains, played}
 
 abbrev script : List Command

@@ -1,10 +1,10 @@
 -- Which leases are refused, what a lease bars and how its fragment is rebuilt, computed from the definitions.
 use Rattle.std.proofs.Common.{◌≡◌, [], ◌∷◌, None, refl, codes}
 use Rattle.std.specs.Fmt.{digits}
-use Rattle.lrc_book.specs.Repairs.{kind}
-use Rattle.lrc_book.specs.Placement.{chosen, placed}
-use Rattle.lrc_book.specs.Leases.{lease_outcome, done_outcome, abandon_outcome, revoke_outcome}
-use Rattle.lrc_book.specs.Steps.{place_outcome, drop_outcome, fail_outcome, down_outcome}
+use Rattle.lrc_rules.specs.Repairs.{kind}
+use Rattle.lrc_rules.specs.Placement.{chosen, placed}
+use Rattle.lrc_rules.specs.Leases.{lease_outcome, done_outcome, abandon_outcome, revoke_outcome}
+use Rattle.lrc_rules.specs.Steps.{place_outcome, drop_outcome, fail_outcome, down_outcome}
 use Rattle.lrc_tool.proofs.Rows.{place, remove, lease, done, abandon, revoke, fail, down, ten_domains, single_slots, printed, missing_after, margin_after}
 
 -- ---- refusals

@@ -1,10 +1,10 @@
 -- What scripts of leases print, computed from the definitions.
 use Rattle.std.proofs.Common.{◌≡◌, [], ◌∷◌, Some, refl, codes}
 use Rattle.std.specs.Fmt.{digits}
-use Rattle.lrc_book.specs.Repairs.{kind}
-use Rattle.lrc_book.specs.Placement.{chosen, placed}
-use Rattle.lrc_book.specs.Leases.{lease_outcome, done_outcome, abandon_outcome, revoke_outcome}
-use Rattle.lrc_book.specs.Steps.{place_outcome, drop_outcome, fail_outcome, down_outcome, up_outcome}
+use Rattle.lrc_rules.specs.Repairs.{kind}
+use Rattle.lrc_rules.specs.Placement.{chosen, placed}
+use Rattle.lrc_rules.specs.Leases.{lease_outcome, done_outcome, abandon_outcome, revoke_outcome}
+use Rattle.lrc_rules.specs.Steps.{place_outcome, drop_outcome, fail_outcome, down_outcome, up_outcome}
 use Rattle.lrc_tool.proofs.Rows.{session, second, place, remove, lease, done, abandon, revoke, fail, down, up, ten_domains, printed, printed_by_two, missing_after, margin_after}
 
 -- ---- grants and reports

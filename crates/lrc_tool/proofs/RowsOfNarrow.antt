@@ -3,11 +3,11 @@ use Rattle.std.proofs.Common.{◌≡◌, [], ◌∷◌, map, refl, codes}
 use Rattle.std.specs.Fmt.{digits}
 use Rattle.lrc_code.specs.declared.codes.Code.TheVariants.{Narrow}
 use Rattle.lrc_book.specs.Levels.{level_by, rank_by}
-use Rattle.lrc_book.specs.Urgency.{risk}
-use Rattle.lrc_book.specs.Repairs.{kind}
-use Rattle.lrc_book.specs.Placement.{chosen, placed}
-use Rattle.lrc_book.specs.Leases.{lease_outcome, done_outcome, revoke_outcome}
-use Rattle.lrc_book.specs.Steps.{place_outcome, drop_outcome, fail_outcome}
+use Rattle.lrc_rules.specs.Urgency.{risk}
+use Rattle.lrc_rules.specs.Repairs.{kind}
+use Rattle.lrc_rules.specs.Placement.{chosen, placed}
+use Rattle.lrc_rules.specs.Leases.{lease_outcome, done_outcome, revoke_outcome}
+use Rattle.lrc_rules.specs.Steps.{place_outcome, drop_outcome, fail_outcome}
 use Rattle.lrc_tool.specs.declared.status.Status.TheVariants.{Done, Refused}
 use Rattle.lrc_tool.specs.Recoveries.{losses_line, recovery_text, recovery_status}
 use Rattle.lrc_tool.specs.Tables.{risk_line, risk_table}

@@ -1,8 +1,8 @@
 -- What scripts that change nodes print, computed from the definitions.
 use Rattle.std.proofs.Common.{◌≡◌, [], ◌∷◌, refl, codes}
 use Rattle.std.specs.Fmt.{digits}
-use Rattle.lrc_book.specs.Placement.{chosen, placed}
-use Rattle.lrc_book.specs.Steps.{place_outcome, drop_outcome, fail_outcome, down_outcome, up_outcome, join_outcome}
+use Rattle.lrc_rules.specs.Placement.{chosen, placed}
+use Rattle.lrc_rules.specs.Steps.{place_outcome, drop_outcome, fail_outcome, down_outcome, up_outcome, join_outcome}
 use Rattle.lrc_tool.proofs.Rows.{place, remove, fail, down, up, join, ten_domains, printed}
 
 -- a node that failed and joined again is empty, so it is the first to be chosen

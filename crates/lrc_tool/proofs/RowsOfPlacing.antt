@@ -1,9 +1,9 @@
 -- What scripts of placing and dropping print, computed from the definitions.
 use Rattle.std.proofs.Common.{◌≡◌, [], ◌∷◌, map, refl, codes}
 use Rattle.std.specs.Fmt.{digits}
-use Rattle.lrc_book.specs.States.{load}
-use Rattle.lrc_book.specs.Placement.{chosen, placed}
-use Rattle.lrc_book.specs.Steps.{place_outcome, drop_outcome}
+use Rattle.lrc_rules.specs.States.{load}
+use Rattle.lrc_rules.specs.Placement.{chosen, placed}
+use Rattle.lrc_rules.specs.Steps.{place_outcome, drop_outcome}
 use Rattle.lrc_tool.proofs.Rows.{node_number, place, remove, ten_domains, single_slots, six_domains, sixteen_nodes, twenty, played, printed}
 
 -- fragment 12 passes over nodes 12 to 15, whose upgrade domains its class uses

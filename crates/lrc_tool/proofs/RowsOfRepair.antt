@@ -2,11 +2,11 @@
 use Rattle.std.proofs.Common.{◌≡◌, [], ◌∷◌, ◌++◌, refl, codes}
 use Rattle.std.specs.Fmt.{digits}
 use Rattle.lrc_book.specs.Levels.{rank_by}
-use Rattle.lrc_book.specs.Repairs.{kind}
-use Rattle.lrc_book.specs.Urgency.{next_of}
-use Rattle.lrc_book.specs.Placement.{chosen, placed}
-use Rattle.lrc_book.specs.Leases.{lease_outcome, next_outcome, done_outcome, abandon_outcome, revoke_outcome}
-use Rattle.lrc_book.specs.Steps.{place_outcome, drop_outcome, fail_outcome, down_outcome, up_outcome, drain_outcome}
+use Rattle.lrc_rules.specs.Repairs.{kind}
+use Rattle.lrc_rules.specs.Urgency.{next_of}
+use Rattle.lrc_rules.specs.Placement.{chosen, placed}
+use Rattle.lrc_rules.specs.Leases.{lease_outcome, next_outcome, done_outcome, abandon_outcome, revoke_outcome}
+use Rattle.lrc_rules.specs.Steps.{place_outcome, drop_outcome, fail_outcome, down_outcome, up_outcome, drain_outcome}
 use Rattle.lrc_tool.proofs.Rows.{session, second, printed_by_two, place, remove, lease, next, done, abandon, revoke, fail, down, up, drain, ten_domains, printed, one_placed, two_placed}
 
 -- the stripe with the least margin comes first, and its fragments in rising order

@@ -3,12 +3,12 @@ use Rattle.std.proofs.Common.{◌≤◌, List, [], ◌∷◌, ◌++◌, lit≤, 
 use Rattle.std.specs.Fmt.{digits}
 use Rattle.std.proofs.lemmas.List.Elements.{All-nil, All-cons}
 use Rattle.lrc_code.specs.declared.numbers.SessionNo.{SessionNo}
-use Rattle.lrc_book.specs.declared.command.Command.{Command}
-use Rattle.lrc_book.specs.declared.entry.Entry.{Entry}
-use Rattle.lrc_book.specs.declared.reply.Reply.TheVariants.{Refused}
-use Rattle.lrc_book.specs.declared.refusal.Refusal.TheVariants.{UnknownStripe}
-use Rattle.lrc_book.specs.States.{opening}
-use Rattle.lrc_book.specs.Steps.{drop_outcome}
+use Rattle.lrc_rules.specs.declared.command.Command.{Command}
+use Rattle.lrc_rules.specs.declared.entry.Entry.{Entry}
+use Rattle.lrc_rules.specs.declared.reply.Reply.TheVariants.{Refused}
+use Rattle.lrc_rules.specs.declared.refusal.Refusal.TheVariants.{UnknownStripe}
+use Rattle.lrc_rules.specs.States.{opening}
+use Rattle.lrc_rules.specs.Steps.{drop_outcome}
 use Rattle.lrc_tool.specs.Tables.{tables_text}
 use Rattle.lrc_tool.specs.Outputs.{IsPlayed}
 use Rattle.lrc_tool.proofs.Rows.{session, second, remove, ten_domains}

@@ -3,12 +3,12 @@ use Rattle.std.proofs.Common.{◌≡◌, ℕ, List, [], ◌∷◌, ◌++◌, map
 use Rattle.std.specs.Fmt.{digits}
 use Rattle.lrc_topology.specs.declared.NodeInfo.{NodeInfo}
 use Rattle.lrc_book.specs.Levels.{level_by, rank_by}
-use Rattle.lrc_book.specs.declared.command.Command.{Command}
-use Rattle.lrc_book.specs.Urgency.{risk, next_of}
-use Rattle.lrc_book.specs.Repairs.{kind}
-use Rattle.lrc_book.specs.Placement.{chosen, placed}
-use Rattle.lrc_book.specs.Leases.{lease_outcome, next_outcome, done_outcome, tick_outcome}
-use Rattle.lrc_book.specs.Steps.{place_outcome, drop_outcome, fail_outcome, down_outcome, up_outcome, join_outcome, drain_outcome, undrain_outcome, retire_outcome, would_lose, upgrade_outcome, upgraded_outcome}
+use Rattle.lrc_rules.specs.declared.command.Command.{Command}
+use Rattle.lrc_rules.specs.Urgency.{risk, next_of}
+use Rattle.lrc_rules.specs.Repairs.{kind}
+use Rattle.lrc_rules.specs.Placement.{chosen, placed}
+use Rattle.lrc_rules.specs.Leases.{lease_outcome, next_outcome, done_outcome, tick_outcome}
+use Rattle.lrc_rules.specs.Steps.{place_outcome, drop_outcome, fail_outcome, down_outcome, up_outcome, join_outcome, drain_outcome, undrain_outcome, retire_outcome, would_lose, upgrade_outcome, upgraded_outcome}
 use Rattle.lrc_tool.specs.Tables.{mask_field, risk_line, risk_table, load_line, load_row, load_table}
 use Rattle.lrc_tool.specs.Texts.{output_text}
 use Rattle.lrc_tool.proofs.Rows.{node, place, remove, lease, next, done, fail, down, up, join, drain, undrain, retire, upgrade, upgraded, tick, ten_domains, played}

@@ -2,11 +2,11 @@
 use Rattle.std.proofs.Common.{◌≡◌, [], ◌∷◌, ◌++◌, refl, codes}
 use Rattle.std.specs.Fmt.{digits}
 use Rattle.lrc_book.specs.Levels.{rank_by}
-use Rattle.lrc_book.specs.Repairs.{kind}
-use Rattle.lrc_book.specs.Urgency.{next_of}
-use Rattle.lrc_book.specs.Placement.{chosen, placed}
-use Rattle.lrc_book.specs.Leases.{lease_outcome, next_outcome, done_outcome, tick_outcome}
-use Rattle.lrc_book.specs.Steps.{place_outcome, fail_outcome}
+use Rattle.lrc_rules.specs.Repairs.{kind}
+use Rattle.lrc_rules.specs.Urgency.{next_of}
+use Rattle.lrc_rules.specs.Placement.{chosen, placed}
+use Rattle.lrc_rules.specs.Leases.{lease_outcome, next_outcome, done_outcome, tick_outcome}
+use Rattle.lrc_rules.specs.Steps.{place_outcome, fail_outcome}
 use Rattle.lrc_tool.proofs.Rows.{place, lease, next, done, fail, tick, ten_domains, printed, one_placed}
 
 -- a lease ends at the third tick, what is then reported of it is stale, and the next lease has a term of its own

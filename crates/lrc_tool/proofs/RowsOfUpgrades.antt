@@ -1,10 +1,10 @@
 -- What scripts that upgrade domains print, computed from the definitions.
 use Rattle.std.proofs.Common.{◌≡◌, [], ◌∷◌, ◌++◌, refl, codes}
 use Rattle.std.specs.Fmt.{digits}
-use Rattle.lrc_book.specs.Repairs.{kind}
-use Rattle.lrc_book.specs.Placement.{chosen, placed}
-use Rattle.lrc_book.specs.Leases.{lease_outcome, done_outcome}
-use Rattle.lrc_book.specs.Steps.{place_outcome, fail_outcome, drain_outcome, undrain_outcome, join_outcome, upgrade_outcome, upgraded_outcome, would_lose}
+use Rattle.lrc_rules.specs.Repairs.{kind}
+use Rattle.lrc_rules.specs.Placement.{chosen, placed}
+use Rattle.lrc_rules.specs.Leases.{lease_outcome, done_outcome}
+use Rattle.lrc_rules.specs.Steps.{place_outcome, fail_outcome, drain_outcome, undrain_outcome, join_outcome, upgrade_outcome, upgraded_outcome, would_lose}
 use Rattle.lrc_tool.proofs.Rows.{place, lease, done, fail, drain, undrain, join, upgrade, upgraded, ten_domains, printed, one_placed, two_placed}
 
 -- one domain is upgraded at a time, where no stripe is lost by it

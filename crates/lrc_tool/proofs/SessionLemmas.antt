@@ -5,10 +5,10 @@ use borrow.Author.Tests.{eq-eqb}
 use Rattle.std.proofs.lemmas.List.Elements.{All-head, All-tail, All-drop, filter-append}
 use Rattle.std.proofs.lemmas.List.Concat.{flat_map-append}
 use Rattle.lrc_topology.specs.declared.NodeInfo.{NodeInfo}
-use Rattle.lrc_book.specs.declared.command.Command.{Command}
-use Rattle.lrc_book.specs.declared.entry.Entry.{Entry}
-use Rattle.lrc_book.specs.Histories.{IsLegal, state_after}
-use Rattle.lrc_book.specs.Sessions.{NumberedEntry, numbered_from, is_of, entries_of, commands_of}
+use Rattle.lrc_rules.specs.declared.command.Command.{Command}
+use Rattle.lrc_rules.specs.declared.entry.Entry.{Entry}
+use Rattle.lrc_rules.specs.Histories.{IsLegal, state_after}
+use Rattle.lrc_rules.specs.Sessions.{NumberedEntry, numbered_from, is_of, entries_of, commands_of}
 use Rattle.lrc_tool.specs.Texts.{reply_line, script_line, script_text}
 use Rattle.lrc_tool.specs.Tables.{tables_text}
 use Rattle.lrc_tool.specs.Outputs.{IsPlayed}

@@ -16,11 +16,11 @@ use Rattle.lrc_code.proofs.OrderLemmas.{each_listed, all_kept, all-put_before}
 use Rattle.lrc_topology.specs.declared.NodeInfo.{NodeInfo}
 use Rattle.lrc_topology.specs.Nodes.{AreNodes, node_at}
 use Rattle.lrc_book.specs.declared.Level.{Level}
-use Rattle.lrc_book.specs.States.{State, has_stripe, code_of, load, mode_of, is_online, level, rank, missing, missing_shown, code_shown, load_shown, mode_shown}
-use Rattle.lrc_book.specs.Urgency.{by_rank, risk}
+use Rattle.lrc_rules.specs.States.{State, has_stripe, code_of, load, mode_of, is_online, level, rank, missing, missing_shown, code_shown, load_shown, mode_shown}
+use Rattle.lrc_rules.specs.Urgency.{by_rank, risk}
 use Rattle.lrc_tool.specs.Tables.{risk_line, risk_row, risk_table, load_row, load_table}
-use Rattle.lrc_book.proofs.MemberLemmas.{list_any-member}
-use Rattle.lrc_book.proofs.NodeLemmas.{node_at-member}
+use Rattle.lrc_rules.proofs.MemberLemmas.{list_any-member}
+use Rattle.lrc_rules.proofs.NodeLemmas.{node_at-member}
 use Rattle.lrc_book.specs.Levels.{comes_first, is_whole, missing_if}
 
 all_weaker : {X : Type 0} (P Q : X → Type 0) → ((x : X) → P x → Q x) → (xs : List X) → AllByRecursion P xs → AllByRecursion Q xs

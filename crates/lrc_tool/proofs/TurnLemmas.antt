@@ -8,10 +8,10 @@ use Rattle.std.proofs.lemmas.List.{map-append}
 use Rattle.std.proofs.lemmas.List.Elements.{All-head, All-tail, All-nil, All-cons, All-append, filter-append}
 use Rattle.lrc_code.specs.declared.numbers.SessionNo.{SessionNo}
 use Rattle.lrc_topology.specs.declared.NodeInfo.{NodeInfo}
-use Rattle.lrc_book.specs.declared.command.Command.{Command}
-use Rattle.lrc_book.specs.declared.entry.Entry.{Entry}
-use Rattle.lrc_book.specs.Histories.{World, first_world, outcome_in, next_world, state_after, IsLegalFrom}
-use Rattle.lrc_book.specs.Sessions.{numbered_from, is_of, commands_of}
+use Rattle.lrc_rules.specs.declared.command.Command.{Command}
+use Rattle.lrc_rules.specs.declared.entry.Entry.{Entry}
+use Rattle.lrc_rules.specs.Histories.{World, first_world, outcome_in, next_world, state_after, IsLegalFrom}
+use Rattle.lrc_rules.specs.Sessions.{numbered_from, is_of, commands_of}
 use Rattle.lrc_tool.specs.Tables.{tables_text}
 use Rattle.lrc_tool.specs.Texts.{replies_text}
 use Rattle.lrc_tool.specs.Outputs.{IsPlayed}

@@ -5,7 +5,7 @@ use Rattle.std.specs.List.{AllZip}
 use Rattle.lrc_topology.specs.declared.NodeInfo.{NodeInfo}
 use Rattle.lrc_topology.specs.Documents.{IsTopologyOf}
 use Rattle.lrc_book.specs.declared.book.TheConstants.{HISTORY_LIMIT}
-use Rattle.lrc_book.specs.declared.command.Command.{Command}
+use Rattle.lrc_rules.specs.declared.command.Command.{Command}
 use Rattle.lrc_script.specs.declared.bundle.ScriptText.{ScriptText}
 use Rattle.lrc_script.specs.Scripts.{lines_of, IsScript, BadLine, or_else, first_bad}
 use Rattle.lrc_script.specs.Bundles.{scripts_of, topology_of}

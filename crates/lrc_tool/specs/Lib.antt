@@ -1,7 +1,7 @@
 pub use Rattle.lrc_topology.specs.Nodes
 pub use Rattle.lrc_topology.specs.Documents
-pub use Rattle.lrc_book.specs.Histories
-pub use Rattle.lrc_book.specs.Sessions
+pub use Rattle.lrc_rules.specs.Histories
+pub use Rattle.lrc_rules.specs.Sessions
 pub use Rattle.lrc_script.specs.Scripts
 pub use Rattle.lrc_script.specs.Bundles
 pub mod Limits

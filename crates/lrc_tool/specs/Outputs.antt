@@ -6,10 +6,10 @@ use Rattle.lrc_topology.specs.declared.NodeInfo.{NodeInfo}
 use Rattle.lrc_topology.specs.declared.error.TopologyError.{TopologyError}
 use Rattle.lrc_topology.specs.declared.error.TopologyError.TheVariants.{OutOfMemory}
 use Rattle.lrc_topology.specs.Documents.{IsTopologyOf, IsRefusedBy}
-use Rattle.lrc_book.specs.declared.command.Command.{Command}
-use Rattle.lrc_book.specs.declared.entry.Entry.{Entry}
-use Rattle.lrc_book.specs.Histories.{IsLegal}
-use Rattle.lrc_book.specs.Sessions.{commands_of_each}
+use Rattle.lrc_rules.specs.declared.command.Command.{Command}
+use Rattle.lrc_rules.specs.declared.entry.Entry.{Entry}
+use Rattle.lrc_rules.specs.Histories.{IsLegal}
+use Rattle.lrc_rules.specs.Sessions.{commands_of_each}
 use Rattle.lrc_tool.specs.declared.status.Status.{Status}
 use Rattle.lrc_tool.specs.declared.status.Status.TheVariants as ended
 use Rattle.lrc_script.specs.Scripts.{IsScript, BadLine, or_else, first_bad}

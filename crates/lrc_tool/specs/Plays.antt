@@ -3,10 +3,10 @@
 use Rattle.std.specs.Prelude.{◌≡◌, ℕ, ◌+◌, ◌≤◌, List, [], ◌∷◌, ◌++◌, length, map, flat_map, All}
 use Rattle.lrc_code.specs.declared.numbers.SessionNo.{SessionNo}
 use Rattle.lrc_topology.specs.declared.NodeInfo.{NodeInfo}
-use Rattle.lrc_book.specs.declared.command.Command.{Command}
-use Rattle.lrc_book.specs.declared.entry.Entry.{Entry}
-use Rattle.lrc_book.specs.Histories.{IsLegal}
-use Rattle.lrc_book.specs.Sessions.{commands_of_each}
+use Rattle.lrc_rules.specs.declared.command.Command.{Command}
+use Rattle.lrc_rules.specs.declared.entry.Entry.{Entry}
+use Rattle.lrc_rules.specs.Histories.{IsLegal}
+use Rattle.lrc_rules.specs.Sessions.{commands_of_each}
 use Rattle.lrc_board.specs.declared.receipt.Receipt.{Receipt}
 use Rattle.lrc_sessions.specs.declared.track.Track.{Track}
 use Rattle.lrc_tool.specs.Texts.{reply_line, script_line, replies_text}

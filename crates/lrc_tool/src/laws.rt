@@ -1,7 +1,7 @@
 //! Laws of the definitions, each the contract of a function that does nothing.
 
 ghost use Rattle.std.specs.Prelude.{◌≡◌, ◌≢◌, ◌↔◌, ◌≤◌, ℕ, List, length};
-ghost use Rattle.lrc_book.specs.declared.command.Command.{Command};
+ghost use Rattle.lrc_rules.specs.declared.command.Command.{Command};
 ghost use Rattle.lrc_script.specs.Scripts.{IsScript};
 ghost use Rattle.lrc_script.specs.Bundles.{Script, scripts_of};
 ghost use Rattle.lrc_tool.specs.declared.status.Status.{Status};

@@ -1,7 +1,7 @@
 //! The lines of replies, and those of refusals of input.
 
 ghost use Rattle.std.specs.Prelude.{◌≡◌, ◌+◌, ◌*◌, ◌^◌, ◌<◌, ◌≤◌, ◌∷◌, ◌++◌, length, drop, OnOk, string_bytes, codes, decimal, map};
-ghost use Rattle.lrc_book.specs.declared.reply.Reply.TheVariants.{Granted, Refused, Ticked};
+ghost use Rattle.lrc_rules.specs.declared.reply.Reply.TheVariants.{Granted, Refused, Ticked};
 ghost use Rattle.lrc_tool.specs.Plays.{lines_from};
 ghost use Rattle.lrc_tool.specs.Texts.{seat_text, spaced, lease_text, kind_text, reply_text, reply_line, script_line, topology_line, cause_number, bad_line_text};
 

@@ -1,17 +1,17 @@
 //! Commands of repair leases.
 
 ghost use Rattle.std.specs.Prelude.{◌≡◌, ◌++◌, ◌∷◌, [], true, if◌then◌else◌, List, Some, None, IsTrue, IsSome};
-ghost use Rattle.lrc_book.specs.declared.entry.Entry.{Entry};
+ghost use Rattle.lrc_rules.specs.declared.entry.Entry.{Entry};
 ghost use Rattle.lrc_code.specs.declared.numbers.Fragment.{Fragment};
 ghost use Rattle.lrc_code.specs.Codes.{has_fragment, others};
 ghost use Rattle.lrc_code.specs.Losses.{bits_set, is_local};
 ghost use Rattle.lrc_stripes.specs.Tables.{stored_in};
-ghost use Rattle.lrc_book.specs.States.{State, has_stripe, code_of, lease_of, online_at};
-ghost use Rattle.lrc_book.specs.Leases.{granted, lease_outcome, done_outcome, abandon_outcome, revoke_outcome, at_epoch, with_lease};
+ghost use Rattle.lrc_rules.specs.States.{State, has_stripe, code_of, lease_of, online_at};
+ghost use Rattle.lrc_rules.specs.Leases.{granted, lease_outcome, done_outcome, abandon_outcome, revoke_outcome, at_epoch, with_lease};
 ghost use Rattle.lrc_book.specs.Answers.{told};
-ghost use Rattle.lrc_book.specs.Repairs as repairs;
-ghost use Rattle.lrc_book.specs.Placement.{chosen};
-ghost use Rattle.lrc_book.specs.Changes.{with_done};
+ghost use Rattle.lrc_rules.specs.Repairs as repairs;
+ghost use Rattle.lrc_rules.specs.Placement.{chosen};
+ghost use Rattle.lrc_rules.specs.Changes.{with_done};
 ghost use Rattle.lrc_book.specs.Stores.{IsOf, IsTied, IsGrant, AreGrantsOf, AreFew, has_room, repair_of};
 
 use crate::answer::Answer;
@@ -124,7 +124,7 @@ impl Store {
         self.leases.add(*lease);
     }
 
-    #[tactic(auto, unfolding(crate::specs::Leases::done_outcome))]
+    #[tactic(auto, unfolding(lrc_rules::specs::Leases::done_outcome))]
     pub(crate) fn done_reply(
         &self,
         session: SessionNo,
@@ -189,7 +189,7 @@ impl Store {
         }
     }
 
-    #[tactic(auto, unfolding(crate::specs::Leases::abandon_outcome))]
+    #[tactic(auto, unfolding(lrc_rules::specs::Leases::abandon_outcome))]
     pub(crate) fn abandon_reply(
         &self,
         session: SessionNo,
@@ -213,7 +213,7 @@ impl Store {
         }
     }
 
-    #[tactic(auto, unfolding(crate::specs::Leases::revoke_outcome))]
+    #[tactic(auto, unfolding(lrc_rules::specs::Leases::revoke_outcome))]
     pub(crate) fn revoke_reply(&self, stripe: StripeNo, fragment: Fragment) -> Answer
         ensures { (st : State) → IsOf st self.now → told result ≡ (revoke_outcome st stripe fragment).0 }
     {

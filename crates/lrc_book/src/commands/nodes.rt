@@ -2,13 +2,13 @@
 
 ghost use Rattle.std.specs.Prelude.{◌≡◌, nat_lt, IsSome};
 ghost use Rattle.lrc_topology.specs.Nodes.{node_at};
-ghost use Rattle.lrc_book.specs.declared.reply.Reply.TheVariants.{Changed};
-ghost use Rattle.lrc_book.specs.States.{State, load};
-ghost use Rattle.lrc_book.specs.Steps.{node_outcome, fail_outcome, down_outcome, up_outcome, drain_outcome, undrain_outcome, retire_outcome, join_outcome, emptied, with_gone, with_down, without_down, with_draining, without_draining, without_gone};
+ghost use Rattle.lrc_rules.specs.declared.reply.Reply.TheVariants.{Changed};
+ghost use Rattle.lrc_rules.specs.States.{State, load};
+ghost use Rattle.lrc_rules.specs.Steps.{node_outcome, fail_outcome, down_outcome, up_outcome, drain_outcome, undrain_outcome, retire_outcome, join_outcome, emptied, with_gone, with_down, without_down, with_draining, without_draining, without_gone};
 ghost use Rattle.lrc_book.specs.Answers.{told};
-ghost use Rattle.lrc_book.specs.Outcomes.{refuse_if};
-ghost use Rattle.lrc_book.specs.declared.refusal.Refusal.TheVariants as refusal;
-ghost use Rattle.lrc_book.specs.Changes.{without_targets};
+ghost use Rattle.lrc_rules.specs.Outcomes.{refuse_if};
+ghost use Rattle.lrc_rules.specs.declared.refusal.Refusal.TheVariants as refusal;
+ghost use Rattle.lrc_rules.specs.Changes.{without_targets};
 ghost use Rattle.lrc_book.specs.Stores.{IsOf, IsTied};
 
 use crate::answer::Answer;

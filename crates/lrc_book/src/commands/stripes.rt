@@ -4,12 +4,12 @@ ghost use Rattle.std.specs.Prelude.{◌≡◌, true, false, take, OnOk, IfErr};
 ghost use Rattle.lrc_code.specs.declared.codes.Code.TheVariants.{Wide};
 ghost use Rattle.lrc_code.specs.Codes.{fragments, fragment_count};
 ghost use Rattle.lrc_slots.specs.Tables.{slots_of};
-ghost use Rattle.lrc_book.specs.declared.reply.Reply.TheVariants.{Dropped};
+ghost use Rattle.lrc_rules.specs.declared.reply.Reply.TheVariants.{Dropped};
 ghost use Rattle.lrc_book.specs.Answers.{told};
-ghost use Rattle.lrc_book.specs.States.{State, has_stripe};
-ghost use Rattle.lrc_book.specs.Choices.{AreChosen, IsFirstWithout};
-ghost use Rattle.lrc_book.specs.Steps.{with_stripe, placed_reply, place_outcome, drop_outcome, without_stripe};
-ghost use Rattle.lrc_book.specs.Changes.{with_placed};
+ghost use Rattle.lrc_rules.specs.States.{State, has_stripe};
+ghost use Rattle.lrc_rules.specs.Choices.{AreChosen, IsFirstWithout};
+ghost use Rattle.lrc_rules.specs.Steps.{with_stripe, placed_reply, place_outcome, drop_outcome, without_stripe};
+ghost use Rattle.lrc_rules.specs.Changes.{with_placed};
 ghost use Rattle.lrc_book.specs.Dropping.{unleased, homeless};
 ghost use Rattle.lrc_book.specs.Stores.{IsOf, kept_table, has_room};
 
@@ -88,7 +88,7 @@ impl Store {
         self.stripes.add_with_homes(code, stripe, seats);
     }
 
-    #[tactic(auto, unfolding(crate::specs::Steps::drop_outcome))]
+    #[tactic(auto, unfolding(lrc_rules::specs::Steps::drop_outcome))]
     pub(crate) fn drop_reply(&self, stripe: StripeNo) -> Answer
         ensures { (st : State) → IsOf st self.now → told result ≡ (drop_outcome st stripe).0 }
     {

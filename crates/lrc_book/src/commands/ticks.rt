@@ -1,9 +1,9 @@
 //! The command that moves the clock on.
 
 ghost use Rattle.std.specs.Prelude.{◌≡◌, ◌+◌, ◌<◌, count_by};
-ghost use Rattle.lrc_leases.specs.Leased.{ends_at};
-ghost use Rattle.lrc_book.specs.States.{State};
-ghost use Rattle.lrc_book.specs.Leases.{ticked, without_ending, tick_outcome};
+ghost use Rattle.lrc_terms.specs.Leased.{ends_at};
+ghost use Rattle.lrc_rules.specs.States.{State};
+ghost use Rattle.lrc_rules.specs.Leases.{ticked, without_ending, tick_outcome};
 ghost use Rattle.lrc_book.specs.Answers.{told};
 ghost use Rattle.lrc_book.specs.Stores.{IsOf, IsTied};
 

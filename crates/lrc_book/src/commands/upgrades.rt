@@ -4,10 +4,10 @@ ghost use Rattle.std.specs.Prelude.{◌≡◌, IsTrue};
 ghost use Rattle.std.specs.List.{All};
 ghost use Rattle.lrc_stripes.specs.Stored.{has_node};
 ghost use Rattle.lrc_stripes.specs.Tables.{stored_in};
-ghost use Rattle.lrc_book.specs.declared.reply.Reply.TheVariants.{Changed};
+ghost use Rattle.lrc_rules.specs.declared.reply.Reply.TheVariants.{Changed};
 ghost use Rattle.lrc_book.specs.Answers.{told};
-ghost use Rattle.lrc_book.specs.States.{State};
-ghost use Rattle.lrc_book.specs.Steps.{upgrade_outcome, upgraded_outcome, with_upgrading, without_upgrading};
+ghost use Rattle.lrc_rules.specs.States.{State};
+ghost use Rattle.lrc_rules.specs.Steps.{upgrade_outcome, upgraded_outcome, with_upgrading, without_upgrading};
 ghost use Rattle.lrc_book.specs.Stores.{IsOf, AreModesOf, with_rest};
 
 use crate::Refusal;

@@ -1,5 +1,5 @@
 ghost use Rattle.std.specs.Prelude.{◌≡◌, ◌≢◌, ◌↔◌, ◌⊎◌, ◌++◌, ◌∷◌, [], false, List, Some, None, length};
-ghost use Rattle.lrc_book.specs.declared.entry.Entry.{Entry};
+ghost use Rattle.lrc_rules.specs.declared.entry.Entry.{Entry};
 ghost use Rattle.lrc_embed.specs.Calls.{Of, kept, IsCall, IsStepOf, IsOutside};
 ghost use Rattle.lrc_embed.specs.Commands.{is_command};
 ghost use Rattle.lrc_embed.specs.Replies.{reply_told};

@@ -1,7 +1,7 @@
 ghost use Rattle.std.specs.Prelude.{◌≡◌, ◌≢◌, ◌≤◌, ◌<◌, ◌⊎◌, true, is_some, Some, None, option_map, length, map};
 ghost use Rattle.lrc_book.specs.Books.{state_of};
-ghost use Rattle.lrc_book.specs.States.{code_shown, homes_shown, level_shown, missing_shown, lease_of, load_shown, mode_shown};
-ghost use Rattle.lrc_book.specs.Urgency.{risk};
+ghost use Rattle.lrc_rules.specs.States.{code_shown, homes_shown, level_shown, missing_shown, lease_of, load_shown, mode_shown};
+ghost use Rattle.lrc_rules.specs.Urgency.{risk};
 ghost use Rattle.lrc_embed.specs.Calls.{Of, AtStripe, AtFragment, IsAtFront, node_no};
 ghost use Rattle.lrc_embed.specs.Replies.{lease_told};
 ghost use Rattle.lrc_embed.specs.Looks.{code_told, homes_told, level_told, risk_told, mode_told};

@@ -4,9 +4,8 @@ ghost use Rattle.std.specs.Prelude.{◌≡◌, [], IfOk};
 
 use super::{ONE, nodes};
 use lrc_board::{Keeper, NewLog, ViewNaming, Viewer};
-use lrc_book::{Book, Command};
+use lrc_book::{Book, Command, Level};
 use lrc_code::{NodeNo, SessionNo, StripeNo};
-use lrc_stripes::Level;
 use std::alloc::Global;
 use std::marker::Brand;
 use std::process::Abort;

@@ -3,10 +3,9 @@
 ghost use Rattle.std.specs.Prelude.{◌≡◌};
 
 use super::{ONE, ONE_EACH, TWO, call, end, expect_fronts, meet, open, parts, put, take};
-use lrc_book::Command;
+use lrc_book::{Command, Level};
 use lrc_code::{NodeNo, SessionNo, StripeNo};
 use lrc_sessions::{Manager, Naming, Parts, Session};
-use lrc_stripes::Level;
 use std::alloc::Global;
 use std::marker::Brand;
 use std::process::Abort;

@@ -2,7 +2,7 @@ use Rattle.std.proofs.Common.{◌<◌, ◌≤◌, ◌∙◌, ◌++◌, length, a
 use Rattle.std.proofs.lemmas.List.{get_or_default, take_all, drop_all}
 use Rattle.std.proofs.lemmas.List.Edits.{map_over_more}
 use Rattle.lrc_book.specs.Books.{state_of}
-use Rattle.lrc_book.specs.Boards.{Loads}
+use Rattle.lrc_rules.specs.Boards.{Loads}
 use Rattle.lrc_board.specs.Refreshed.{row_shown}
 use Rattle.lrc_board.proofs.RefreshLemmas.{rows-shown}
 use Rattle.lrc_board.proofs.board.refresh_loads.Goals as goal

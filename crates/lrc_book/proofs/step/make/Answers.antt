@@ -1,20 +1,20 @@
 use Rattle.std.proofs.Common.{◌≡◌, Some, None, refl, sym, ap, subst, ◌∙◌}
-use Rattle.lrc_book.specs.declared.command.Command.{Command}
-use Rattle.lrc_book.specs.declared.reply.Reply.TheVariants.{Granted}
-use Rattle.lrc_book.specs.States.{State}
-use Rattle.lrc_book.specs.Leases.{with_lease}
-use Rattle.lrc_book.specs.Steps.{step as step_of}
-use Rattle.lrc_book.specs.Histories.{world_after, state_after}
-use Rattle.lrc_book.specs.Changes.{changed_by}
+use Rattle.lrc_rules.specs.declared.command.Command.{Command}
+use Rattle.lrc_rules.specs.declared.reply.Reply.TheVariants.{Granted}
+use Rattle.lrc_rules.specs.States.{State}
+use Rattle.lrc_rules.specs.Leases.{with_lease}
+use Rattle.lrc_rules.specs.Steps.{step as step_of}
+use Rattle.lrc_rules.specs.Histories.{world_after, state_after}
+use Rattle.lrc_rules.specs.Changes.{changed_by}
 use Rattle.lrc_book.specs.Stores.{IsOf}
 use Rattle.lrc_book.specs.Repairing.{IsFront}
 use Rattle.lrc_book.specs.Answers.{told}
-use Rattle.lrc_book.specs.declared.entry.Entry.{Entry}
+use Rattle.lrc_rules.specs.declared.entry.Entry.{Entry}
 use Rattle.lrc_book.proofs.WorldLemmas.{kept_push}
 use Rattle.lrc_book.proofs.CountedLemmas.{counted-none}
 use Rattle.lrc_book.proofs.AnswerLemmas.{other-answer}
 use Rattle.lrc_book.proofs.GrantedLemmas.{granted-told, kept-granted}
-use Rattle.lrc_book.proofs.MostUrgentLemmas.{granted-urgent}
+use Rattle.lrc_rules.proofs.MostUrgentLemmas.{granted-urgent}
 use Rattle.lrc_book.proofs.FrontLemmas.{front-leased, front-granted}
 use Rattle.lrc_book.proofs.step.make.Goals as goal
 

@@ -1,5 +1,5 @@
 use Rattle.std.proofs.Common.{rules, ◌≡◌, None, Some, Err}
-use Rattle.lrc_book.specs.declared.command.Command.TheVariants.{Next}
+use Rattle.lrc_rules.specs.declared.command.Command.TheVariants.{Next}
 use Rattle.lrc_script.specs.Cuts.{IsLineRead}
 use Rattle.lrc_script.proofs.FrontLemmas.{IsLineRead-front}
 use Rattle.lrc_script.proofs.LineLemmas.{IsFirstBad-here, IsReadTo-next, IsScript-end, first_bad-end}

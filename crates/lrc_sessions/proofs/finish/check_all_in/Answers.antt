@@ -3,7 +3,7 @@ use Rattle.std.proofs.lemmas.List.{take_all}
 use Rattle.std.proofs.lemmas.List.Elements.{All-more}
 use mathlib.Core.List.{IsPrefix}
 use Rattle.lrc_book.specs.Books.{BookView}
-use Rattle.lrc_book.specs.declared.entry.Entry.{Entry}
+use Rattle.lrc_rules.specs.declared.entry.Entry.{Entry}
 use Rattle.lrc_sessions.specs.Views.{SessionView}
 use Rattle.lrc_sessions.specs.Counts.{made_in}
 use Rattle.lrc_sessions.proofs.finish.check_all_in.Goals as goal

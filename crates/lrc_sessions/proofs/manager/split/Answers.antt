@@ -1,6 +1,6 @@
 use Rattle.std.proofs.Common.{rules, List, All, [], ◌≡◌, ◌+◌, ap, ◌∙◌, sym, subst}
 use Rattle.std.proofs.lemmas.List.Elements.{All-take}
-use Rattle.lrc_book.specs.declared.entry.Entry.{Entry}
+use Rattle.lrc_rules.specs.declared.entry.Entry.{Entry}
 use Rattle.lrc_sessions.specs.Views.{fresh}
 use Rattle.lrc_sessions.proofs.Counting.{fresh_push}
 use Rattle.lrc_sessions.proofs.manager.split.Goals as goal

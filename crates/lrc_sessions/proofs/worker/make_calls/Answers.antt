@@ -1,6 +1,6 @@
 use Rattle.std.proofs.Common.{◌≡◌, ℕ, ◌+◌, ◌∷◌, [], List, length, length-append, get_or, ap, sym, ◌∙◌, subst, arith}
 use Rattle.std.proofs.lemmas.List.{get_or_default}
-use Rattle.lrc_book.specs.declared.command.Command.{Command}
+use Rattle.lrc_rules.specs.declared.command.Command.{Command}
 use Rattle.lrc_board.specs.declared.receipt.Receipt.{Receipt}
 use Rattle.lrc_sessions.specs.Runs.{AreStanding, Passes, HavePassed}
 use Rattle.lrc_sessions.proofs.StandingLemmas.{prefix_long, prefix_step, called_on, standing_push, passed_push, left_run}

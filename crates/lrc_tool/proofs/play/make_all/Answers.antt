@@ -1,6 +1,6 @@
 use Rattle.std.proofs.Common.{refl, ◌∙◌}
-use Rattle.lrc_book.specs.declared.entry.Entry.{Entry}
-use Rattle.lrc_book.specs.Histories.{outcome_in, world_after}
+use Rattle.lrc_rules.specs.declared.entry.Entry.{Entry}
+use Rattle.lrc_rules.specs.Histories.{outcome_in, world_after}
 use Rattle.lrc_tool.proofs.PlayLemmas.{none_made, one_more_made, all_made}
 use Rattle.lrc_tool.proofs.play.make_all.Goals as goal
 

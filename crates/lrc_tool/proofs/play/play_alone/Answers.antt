@@ -1,7 +1,7 @@
 use Rattle.std.proofs.Common.{rules, ◌≡◌, ◌+◌, ◌-◌, ◌≤◌, ℕ, List, length, take, drop, sym, ap, ◌∙◌, arith, subst}
 use Rattle.std.proofs.lemmas.List.{take_all}
 use Rattle.lrc_topology.specs.declared.NodeInfo.{NodeInfo}
-use Rattle.lrc_book.specs.Histories.{IsLegal}
+use Rattle.lrc_rules.specs.Histories.{IsLegal}
 use Rattle.lrc_tool.specs.Texts.{script_text}
 use Rattle.lrc_tool.specs.Plays.{AreMadeBehind}
 use Rattle.lrc_tool.proofs.SessionLemmas.{one_made, told_more}

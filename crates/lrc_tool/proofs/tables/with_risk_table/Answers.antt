@@ -1,7 +1,7 @@
 use Rattle.std.proofs.Common.{◌≡◌, List, ℕ, Some, IfOk, subst, refl, ◌∙◌, rules}
 use Rattle.lrc_book.specs.Books.{state_of}
-use Rattle.lrc_book.specs.States.{code_shown, missing_shown}
-use Rattle.lrc_book.specs.Urgency.{risk}
+use Rattle.lrc_rules.specs.States.{code_shown, missing_shown}
+use Rattle.lrc_rules.specs.Urgency.{risk}
 use Rattle.lrc_tool.proofs.TableLemmas.{code_at, missing_at, risks_more, risks_told}
 use Rattle.lrc_tool.proofs.tables.with_risk_table.Goals as goal
 

@@ -1,5 +1,5 @@
 use Rattle.std.proofs.Common.{List, refl, ap, sym, ◌∙◌, ◌++◌, ◌∷◌, []}
-use Rattle.lrc_book.specs.declared.entry.Entry.{Entry}
+use Rattle.lrc_rules.specs.declared.entry.Entry.{Entry}
 use Rattle.lrc_board.specs.declared.line.Line.{Line}
 use Rattle.lrc_board.proofs.WrittenLemmas.{add_moves, added}
 use Rattle.lrc_board.proofs.log.Log.add.Goals as goal

@@ -1,6 +1,6 @@
 use Rattle.std.proofs.Common.{rules, ◌≡◌, List, subst}
-use Rattle.lrc_book.specs.declared.entry.Entry.{Entry}
-use Rattle.lrc_book.specs.Histories.{state_after}
+use Rattle.lrc_rules.specs.declared.entry.Entry.{Entry}
+use Rattle.lrc_rules.specs.Histories.{state_after}
 use Rattle.lrc_board.specs.Lines.{written}
 use Rattle.lrc_board.specs.Views.{published}
 use Rattle.lrc_board.specs.Refreshed.{LevelsStay, AreBoards}

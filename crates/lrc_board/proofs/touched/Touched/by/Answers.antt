@@ -1,7 +1,7 @@
 use Rattle.std.proofs.Common.{sym, ap, ◌∙◌}
-use Rattle.lrc_book.specs.States.{State, level_shown}
-use Rattle.lrc_book.proofs.LawLemmas.{refused-keeps}
-use Rattle.lrc_book.proofs.TouchingLemmas.{level-keeps}
+use Rattle.lrc_rules.specs.States.{State, level_shown}
+use Rattle.lrc_rules.proofs.StepLemmas.{refused-keeps}
+use Rattle.lrc_rules.proofs.TouchingLemmas.{level-keeps}
 use Rattle.lrc_board.proofs.touched.Touched.by.Goals as goal
 
 pub returns-in-Refused : goal.returns-in-Refused

@@ -1,7 +1,7 @@
 use Rattle.std.proofs.Common.{rules}
-use Rattle.lrc_book.proofs.ClockLemmas.{clock-early}
 use Rattle.lrc_book.proofs.CountedLemmas.{few-grants}
 use Rattle.lrc_book.proofs.book.Book.commit.Goals as goal
+use Rattle.lrc_book.proofs.WorldLemmas.{clock-early}
 
 pub invariant_of-self : goal.invariant_of-self
 invariant_of-self c =

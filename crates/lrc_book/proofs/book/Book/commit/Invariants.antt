@@ -1,4 +1,4 @@
-use Rattle.lrc_book.specs.Histories.{state_after}
+use Rattle.lrc_rules.specs.Histories.{state_after}
 use Rattle.lrc_book.proofs.book.Book.commit.Given as goal
 
 abbrev pub ghost-make : goal.ghost-make

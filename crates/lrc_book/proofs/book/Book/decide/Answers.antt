@@ -1,8 +1,8 @@
 use Rattle.std.proofs.Common.{List, sym, ap, ◌∙◌, arith}
-use Rattle.lrc_book.specs.declared.entry.Entry.{Entry}
-use Rattle.lrc_book.specs.Histories.{world_after}
-use Rattle.lrc_book.specs.Steps.{step}
-use Rattle.lrc_book.proofs.GoodLemmas.{past-after}
+use Rattle.lrc_rules.specs.declared.entry.Entry.{Entry}
+use Rattle.lrc_rules.specs.Histories.{world_after}
+use Rattle.lrc_rules.specs.Steps.{step}
+use Rattle.lrc_rules.proofs.GoodLemmas.{past-after}
 use Rattle.lrc_book.proofs.CountedLemmas.{few-grants}
 use Rattle.lrc_book.proofs.book.Book.decide.Goals as goal
 

@@ -1,5 +1,5 @@
 use Rattle.std.proofs.Common.{ap, ◌∙◌}
-use Rattle.lrc_stripes.specs.Levels.{homes_if}
+use Rattle.lrc_terms.specs.Levels.{homes_if}
 use Rattle.lrc_stripes.specs.Stored.{Stored, homes_shown}
 use Rattle.lrc_book.proofs.book.Book.homes.Goals as goal
 

@@ -1,7 +1,7 @@
 use Rattle.std.proofs.Common.{List, Some, ap, sym, ◌∙◌}
 use Rattle.lrc_topology.specs.declared.NodeInfo.{NodeInfo}
 use Rattle.lrc_slots.specs.Slots.{Slots, load_at}
-use Rattle.lrc_book.specs.States.{load_shown}
+use Rattle.lrc_rules.specs.States.{load_shown}
 use Rattle.lrc_book.specs.Books.{state_of}
 use Rattle.lrc_book.proofs.ShownLemmas.{load-shown}
 use Rattle.lrc_book.proofs.book.Book.load.Goals as goal

@@ -1,16 +1,16 @@
-use Rattle.std.proofs.Common.{◌≡◌, ◌<◌, true, subst, nat_le, vec_len, vec_capacity, is_some, ◌+◌, ◌&&◌, List, ◌++◌, ◌∷◌, [], take, refl, sym, ap, ◌∙◌}
+use Rattle.std.proofs.Common.{[], ◌≡◌, ◌<◌, true, subst, nat_le, vec_len, vec_capacity, is_some, ◌+◌, ◌&&◌, List, ◌++◌, ◌∷◌, take, refl, sym, ap, ◌∙◌}
 use Rattle.std.proofs.lemmas.Bool.{and_parts}
-use Rattle.lrc_book.specs.declared.entry.Entry.{Entry}
-use Rattle.lrc_book.specs.declared.reply.Reply.{Reply}
+use Rattle.lrc_rules.specs.declared.entry.Entry.{Entry}
+use Rattle.lrc_rules.specs.declared.reply.Reply.{Reply}
 use Rattle.lrc_book.specs.declared.store.Store.{Store}
-use Rattle.lrc_book.specs.Histories.{world_after, state_after, outcome_in}
-use Rattle.lrc_book.specs.Steps.{step}
+use Rattle.lrc_rules.specs.Histories.{world_after, state_after, outcome_in}
+use Rattle.lrc_rules.specs.Steps.{step}
 use Rattle.lrc_book.specs.Stores.{IsOf, has_room}
-use Rattle.lrc_book.proofs.GoodLemmas.{past-after}
+use Rattle.lrc_rules.proofs.GoodLemmas.{past-after}
 use Rattle.lrc_book.proofs.CountedLemmas.{few-grants}
-use Rattle.lrc_book.proofs.ClockLemmas.{clock-early}
 use Rattle.lrc_book.proofs.LastLemmas.{length-before, last-pushed, set-last, before-last, last-set}
 use Rattle.lrc_book.proofs.book.Book.make_call.Goals as goal
+use Rattle.lrc_book.proofs.WorldLemmas.{clock-early}
 
 pub make-requires : goal.make-requires
 make-requires c =

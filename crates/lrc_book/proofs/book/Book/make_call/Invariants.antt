@@ -1,4 +1,4 @@
-use Rattle.lrc_book.specs.Histories.{state_after}
+use Rattle.lrc_rules.specs.Histories.{state_after}
 use Rattle.lrc_book.proofs.book.Book.make_call.Given as goal
 
 abbrev pub ghost-make : goal.ghost-make

@@ -1,7 +1,7 @@
 use Rattle.std.proofs.Common.{List, ap, ◌∙◌}
 use Rattle.lrc_topology.specs.declared.NodeInfo.{NodeInfo}
 use Rattle.lrc_stripes.specs.Stored.{Stored, missing_shown}
-use Rattle.lrc_book.specs.States as states
+use Rattle.lrc_rules.specs.States as states
 use Rattle.lrc_book.specs.Books.{state_of}
 use Rattle.lrc_book.proofs.book.Book.missing.Goals as goal
 

@@ -1,11 +1,12 @@
 use Rattle.std.proofs.Common.{List, ◌≡◌, ◌++◌, append-nil, sym, ap, ◌∙◌, subst}
 use Rattle.lrc_topology.specs.declared.NodeInfo.{NodeInfo}
 use Rattle.lrc_stripes.specs.Tables.{stored_in}
-use Rattle.lrc_stripes.specs.Stored.{Stored, StripeLevel, AreAtRisk}
-use Rattle.lrc_book.specs.Urgency.{risk}
+use Rattle.lrc_stripes.specs.Stored.{Stored, AreAtRisk}
+use Rattle.lrc_terms.specs.Stripes.{StripeLevel}
+use Rattle.lrc_rules.specs.Urgency.{risk}
 use Rattle.lrc_book.specs.Books.{state_of}
-use Rattle.lrc_book.proofs.UrgencyLemmas.{risk-is}
 use Rattle.lrc_book.proofs.book.Book.risk.Goals as goal
+use Rattle.lrc_book.proofs.WorkLemmas.{risk-is}
 
 pub returns-clause-value : goal.returns-clause-value
 returns-clause-value c =

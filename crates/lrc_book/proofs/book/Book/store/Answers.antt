@@ -1,7 +1,7 @@
 use Rattle.std.proofs.Common.{ap, sym, ◌∙◌, subst}
 use Rattle.lrc_book.specs.declared.store.Store.{Store}
 use Rattle.lrc_book.specs.Stores.{IsOf}
-use Rattle.lrc_book.specs.Histories.{state_after}
+use Rattle.lrc_rules.specs.Histories.{state_after}
 use Rattle.lrc_book.specs.Books.{BookView, state_of}
 use Rattle.lrc_book.proofs.book.Book.store.Goals as goal
 

@@ -5,8 +5,8 @@ use Rattle.lrc_code.specs.declared.codes.Code.TheVariants.{Wide, Narrow}
 use Rattle.lrc_code.specs.declared.numbers.Fragment.{Fragment}
 use Rattle.lrc_code.specs.Codes.{others}
 use Rattle.lrc_code.specs.Losses.{bits_set, is_local}
-use Rattle.lrc_book.specs.declared.kind.Kind.{Kind}
-use Rattle.lrc_book.specs.Repairs.{local_kind}
+use Rattle.lrc_rules.specs.declared.kind.Kind.{Kind}
+use Rattle.lrc_rules.specs.Repairs.{local_kind}
 use Rattle.lrc_book.proofs.commands.leases.local_kind.Goals as goal
 
 -- the sources that are found are those that the kind tells

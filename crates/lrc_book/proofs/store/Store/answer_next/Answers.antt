@@ -1,11 +1,12 @@
 use Rattle.std.proofs.Common.{◌≡◌, true, false, Option, sym, ap, subst, ◌∙◌}
-use Rattle.lrc_stripes.specs.Stored.{Stored, StripeFragment, has_work}
+use Rattle.lrc_stripes.specs.Stored.{Stored, has_work}
+use Rattle.lrc_terms.specs.Stripes.{StripeFragment}
 use Rattle.lrc_stripes.specs.Tables.{stored_in}
-use Rattle.lrc_book.specs.declared.entry.Entry.{Entry}
-use Rattle.lrc_book.specs.declared.reply.Reply.TheVariants.{Idle}
-use Rattle.lrc_book.specs.Leases.{next_answer, next_outcome}
-use Rattle.lrc_book.proofs.UrgencyLemmas.{idle-next}
+use Rattle.lrc_rules.specs.declared.entry.Entry.{Entry}
+use Rattle.lrc_rules.specs.declared.reply.Reply.TheVariants.{Idle}
+use Rattle.lrc_rules.specs.Leases.{next_answer, next_outcome}
 use Rattle.lrc_book.proofs.store.Store.answer_next.Goals as goal
+use Rattle.lrc_book.proofs.WorkLemmas.{idle-next}
 
 pub returns-then-not-has_work : goal.returns-then-not-has_work
 unfolding next_outcome

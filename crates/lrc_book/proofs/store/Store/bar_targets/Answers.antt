@@ -8,7 +8,7 @@ use Rattle.lrc_topology.specs.declared.seat.Held.{Held}
 use Rattle.lrc_slots.specs.Barred.{Barred}
 use Rattle.lrc_book.specs.Ties.{bars_in}
 use Rattle.lrc_book.specs.Stores.{with_seat}
-use Rattle.lrc_leases.specs.declared.lease.Lease.{Lease}
+use Rattle.lrc_terms.specs.declared.lease.Lease.{Lease}
 use Rattle.lrc_book.proofs.EndLemmas.{lease-kept, none-leased}
 use Rattle.lrc_book.proofs.BesideLemmas.{held_all, target_at, held_all-none, held_all-more, targets-all}
 use Rattle.lrc_book.proofs.KnownSeatLemmas.{IsKnown, target-known}

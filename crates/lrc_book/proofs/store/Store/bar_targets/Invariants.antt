@@ -4,7 +4,7 @@ use Rattle.lrc_code.specs.declared.codes.Code.TheVariants.{Wide}
 use Rattle.lrc_code.specs.Codes.{fragments}
 use Rattle.lrc_topology.specs.declared.seat.Held.{Held}
 use Rattle.lrc_slots.specs.Tables.{barred}
-use Rattle.lrc_book.specs.States.{State}
+use Rattle.lrc_rules.specs.States.{State}
 use Rattle.lrc_book.specs.Ties.{bars_in}
 use Rattle.lrc_book.specs.Stores.{IsOf, AreMates}
 use Rattle.lrc_book.proofs.BesideLemmas.{held_all, target_at}

@@ -1,4 +1,4 @@
-use Rattle.std.proofs.Common.{List, [], Option, sym, ap, ◌∙◌, subst}
+use Rattle.std.proofs.Common.{[], List, Option, sym, ap, ◌∙◌, subst}
 use Rattle.lrc_code.specs.declared.numbers.UpgradeNo.{UpgradeNo}
 use Rattle.lrc_topology.specs.declared.NodeInfo.{NodeInfo}
 use Rattle.lrc_slots.specs.Slots.{Slots}

@@ -1,7 +1,8 @@
 use Rattle.std.proofs.Common.{refl, ◌∙◌, subst, List, ap, arith}
-use Rattle.lrc_stripes.specs.Stored.{Stored, StripeFragment, AreHomesOn}
+use Rattle.lrc_stripes.specs.Stored.{Stored, AreHomesOn}
+use Rattle.lrc_terms.specs.Stripes.{StripeFragment}
 use Rattle.lrc_stripes.specs.Tables.{stored_in}
-use Rattle.lrc_book.specs.Leases.{without_lease}
+use Rattle.lrc_rules.specs.Leases.{without_lease}
 use Rattle.lrc_book.proofs.AheadLemmas.{homes-from, first-ahead, cleared-ahead}
 use Rattle.lrc_book.proofs.EmptyLemmas.{here, emptying-start, emptying-stripe, emptying-more, emptying-smaller, emptying-end, first-on}
 use Rattle.lrc_book.proofs.store.Store.clear_homes.Goals as goal

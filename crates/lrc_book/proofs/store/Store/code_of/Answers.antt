@@ -8,9 +8,9 @@ use Rattle.lrc_code.specs.declared.numbers.StripeNo.{StripeNo}
 use Rattle.lrc_code.specs.Numbers.{same_stripe}
 use Rattle.lrc_topology.specs.declared.NodeInfo.{NodeInfo}
 use Rattle.lrc_stripes.specs.Stored.{Stored}
-use Rattle.lrc_book.specs.States.{State, has_stripe, code_of}
-use Rattle.lrc_book.specs.Goodness.{AreSeated}
-use Rattle.lrc_book.proofs.MemberLemmas.{list_any-member, list_any-All}
+use Rattle.lrc_rules.specs.States.{State, has_stripe, code_of}
+use Rattle.lrc_rules.specs.Goodness.{AreSeated}
+use Rattle.lrc_rules.proofs.MemberLemmas.{list_any-member, list_any-All}
 use Rattle.lrc_book.proofs.store.Store.code_of.Goals as goal
 
 -- a stripe that is not there is not narrow

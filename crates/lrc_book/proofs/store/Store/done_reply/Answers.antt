@@ -1,6 +1,6 @@
 use Rattle.std.proofs.Common.{rules, ◌≡◌, true, false, sym, ap, ◌∙◌}
 use Rattle.lrc_stripes.specs.Stored.{Stored}
-use Rattle.lrc_book.specs.Leases.{is_held_by}
+use Rattle.lrc_rules.specs.Leases.{is_held_by}
 use Rattle.lrc_book.proofs.LeaseReplyLemmas.{done-held}
 use Rattle.lrc_book.proofs.store.Store.done_reply.Goals as goal
 

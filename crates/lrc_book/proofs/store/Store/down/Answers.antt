@@ -1,8 +1,8 @@
 use Rattle.std.proofs.Common.{refl}
-use Rattle.lrc_book.specs.Steps.{with_down}
-use Rattle.lrc_book.proofs.SeatedLemmas.{with_down-seated}
+use Rattle.lrc_rules.specs.Steps.{with_down}
+use Rattle.lrc_rules.proofs.SeatedLemmas.{with_down-seated}
 use Rattle.lrc_book.proofs.ModeLemmas.{behind-of, others-down}
-use Rattle.lrc_book.proofs.ToldLemmas.{down-told}
+use Rattle.lrc_rules.proofs.ToldLemmas.{down-told}
 use Rattle.lrc_book.proofs.store.Store.down.Goals as goal
 
 pub follow-requires : goal.follow-requires

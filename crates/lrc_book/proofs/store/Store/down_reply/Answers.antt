@@ -1,6 +1,6 @@
 use Rattle.std.proofs.Common.{◌≡◌, Bool, ◌||◌, sym, ap, ◌∙◌}
-use Rattle.lrc_book.specs.States.{mode_of, is_gone, is_down}
-use Rattle.lrc_book.specs.Steps.{node_outcome, down_outcome, with_down}
+use Rattle.lrc_rules.specs.States.{mode_of, is_gone, is_down}
+use Rattle.lrc_rules.specs.Steps.{node_outcome, down_outcome, with_down}
 use Rattle.lrc_book.proofs.ModesLemmas.{same-gone}
 use Rattle.lrc_book.proofs.store.Store.down_reply.Goals.{then-eq, else-eq}
 use Rattle.lrc_book.proofs.store.Store.down_reply.Goals as goal

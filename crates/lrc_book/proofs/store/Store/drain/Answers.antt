@@ -1,8 +1,8 @@
 use Rattle.std.proofs.Common.{refl}
-use Rattle.lrc_book.specs.Steps.{with_draining}
-use Rattle.lrc_book.proofs.SeatedLemmas.{with_draining-seated}
+use Rattle.lrc_rules.specs.Steps.{with_draining}
+use Rattle.lrc_rules.proofs.SeatedLemmas.{with_draining-seated}
 use Rattle.lrc_book.proofs.ModeLemmas.{behind-of, others-drain}
-use Rattle.lrc_book.proofs.ToldLemmas.{drain-told}
+use Rattle.lrc_rules.proofs.ToldLemmas.{drain-told}
 use Rattle.lrc_book.proofs.store.Store.drain.Goals as goal
 
 pub follow-requires : goal.follow-requires

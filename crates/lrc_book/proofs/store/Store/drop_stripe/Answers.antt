@@ -2,11 +2,11 @@ use Rattle.std.proofs.Common.{sym, subst, ap, ◌∙◌}
 use Rattle.lrc_stripes.specs.Stored.{Stored}
 use Rattle.lrc_stripes.specs.Stored as stored
 use Rattle.lrc_stripes.specs.Tables.{stored_in}
-use Rattle.lrc_book.specs.Steps.{without_stripe}
+use Rattle.lrc_rules.specs.Steps.{without_stripe}
 use Rattle.lrc_book.specs.Stores.{IsOf}
 use Rattle.lrc_book.specs.declared.store.Store.{Store}
 use Rattle.lrc_book.proofs.FragmentLemmas.{unleased-has, dropped-kept}
-use Rattle.lrc_book.proofs.ToldLemmas.{drop-told}
+use Rattle.lrc_rules.proofs.ToldLemmas.{drop-told}
 use Rattle.lrc_book.proofs.store.Store.drop_stripe.Goals as goal
 
 pub end_leases-requires : goal.end_leases-requires

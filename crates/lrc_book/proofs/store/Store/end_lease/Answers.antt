@@ -1,5 +1,5 @@
 use Rattle.std.proofs.Common.{sym, subst, ◌∙◌}
-use Rattle.lrc_book.specs.States.{State}
+use Rattle.lrc_rules.specs.States.{State}
 use Rattle.lrc_book.specs.Stores.{IsOf}
 use Rattle.lrc_book.proofs.EndLemmas.{lease-kept, not-leased, none-ended, end-taken, end-kept, end-none}
 use Rattle.lrc_book.proofs.store.Store.end_lease.Goals as goal

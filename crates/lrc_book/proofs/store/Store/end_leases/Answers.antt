@@ -3,7 +3,7 @@ use Rattle.std.proofs.lemmas.List.{take_all}
 use Rattle.lrc_code.specs.declared.codes.Code.TheVariants.{Wide}
 use Rattle.lrc_code.specs.declared.numbers.Fragment.{Fragment}
 use Rattle.lrc_code.specs.Codes.{fragments}
-use Rattle.lrc_book.specs.States.{State}
+use Rattle.lrc_rules.specs.States.{State}
 use Rattle.lrc_book.specs.Stores.{IsOf}
 use Rattle.lrc_book.specs.Dropping.{unleased}
 use Rattle.lrc_book.proofs.FragmentLemmas.{unleased-more}

@@ -1,6 +1,6 @@
 use Rattle.std.proofs.Common.{refl, ◌∙◌, subst, List}
-use Rattle.lrc_leases.specs.declared.lease.Lease.{Lease}
-use Rattle.lrc_leases.specs.Leased.{AreTargetsOn}
+use Rattle.lrc_terms.specs.declared.lease.Lease.{Lease}
+use Rattle.lrc_terms.specs.Leased.{AreTargetsOn}
 use Rattle.lrc_leases.specs.Tables.{leased_in}
 use Rattle.lrc_book.proofs.EmptyLemmas.{now, ending-more, ending-smaller, ending-end, first-target}
 use Rattle.lrc_book.proofs.store.Store.end_targets.Goals as goal

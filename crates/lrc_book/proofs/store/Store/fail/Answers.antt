@@ -1,5 +1,5 @@
-use Rattle.lrc_book.proofs.SeatedLemmas.{emptied-load}
-use Rattle.lrc_book.proofs.ToldLemmas.{fail-told}
+use Rattle.lrc_rules.proofs.SeatedLemmas.{emptied-load}
+use Rattle.lrc_rules.proofs.ToldLemmas.{fail-told}
 use Rattle.lrc_book.proofs.store.Store.fail.Goals as goal
 
 pub empty-requires : goal.empty-requires

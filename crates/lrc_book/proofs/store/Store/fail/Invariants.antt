@@ -1,4 +1,4 @@
-use Rattle.lrc_book.specs.Steps.{emptied}
+use Rattle.lrc_rules.specs.Steps.{emptied}
 use Rattle.lrc_book.proofs.store.Store.fail.Given as goal
 
 abbrev pub ghost-empty : goal.ghost-empty

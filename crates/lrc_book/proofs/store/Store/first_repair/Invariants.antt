@@ -1,8 +1,8 @@
 use Rattle.std.proofs.Common.{◌≡◌, drop, find}
 use Rattle.lrc_code.specs.declared.codes.Code.TheVariants.{Wide}
 use Rattle.lrc_code.specs.Codes.{fragments}
-use Rattle.lrc_book.specs.States.{State}
-use Rattle.lrc_book.specs.Urgency.{is_grantable}
+use Rattle.lrc_rules.specs.States.{State}
+use Rattle.lrc_rules.specs.Urgency.{is_grantable}
 use Rattle.lrc_book.specs.Stores.{IsOf}
 use Rattle.lrc_book.proofs.store.Store.first_repair.Given as goal
 

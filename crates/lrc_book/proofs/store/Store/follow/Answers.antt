@@ -1,5 +1,5 @@
 use Rattle.std.proofs.Common.{◌≡◌, Bool, ◌&&◌, not, sym, ap, ap₂, ◌∙◌}
-use Rattle.lrc_book.specs.States.{is_active, is_draining}
+use Rattle.lrc_rules.specs.States.{is_active, is_draining}
 use Rattle.lrc_book.proofs.ModesLemmas.{same-active, same-draining}
 use Rattle.lrc_book.proofs.ModeLemmas.{follows}
 use Rattle.lrc_book.proofs.store.Store.follow.Goals.{then-eq, else-eq}

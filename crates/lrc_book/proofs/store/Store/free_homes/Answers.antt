@@ -7,11 +7,11 @@ use Rattle.lrc_code.specs.Codes.{fragments}
 use Rattle.lrc_slots.specs.Slots.{Slots}
 use Rattle.lrc_slots.specs.Tables.{slots_of}
 use Rattle.lrc_topology.specs.declared.seat.Seat.{Seat}
-use Rattle.lrc_stripes.specs.Levels.{homes_of}
+use Rattle.lrc_terms.specs.Levels.{homes_of}
 use Rattle.lrc_stripes.specs.Stored.{Stored}
 use Rattle.lrc_stripes.specs.Tables.{stored_in}
 use Rattle.lrc_book.specs.declared.store.Store.{Store}
-use Rattle.lrc_book.specs.States.{State}
+use Rattle.lrc_rules.specs.States.{State}
 use Rattle.lrc_book.specs.Stores.{IsOf, kept_table}
 use Rattle.lrc_book.specs.Dropping.{homeless}
 use Rattle.lrc_book.proofs.FragmentLemmas.{IsFreed, freed-taken, freed-seat, freed-none}

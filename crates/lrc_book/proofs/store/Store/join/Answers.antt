@@ -1,8 +1,8 @@
 use Rattle.std.proofs.Common.{refl}
-use Rattle.lrc_book.specs.Steps.{without_gone}
-use Rattle.lrc_book.proofs.SeatedLemmas.{without_gone-seated}
+use Rattle.lrc_rules.specs.Steps.{without_gone}
+use Rattle.lrc_rules.proofs.SeatedLemmas.{without_gone-seated}
 use Rattle.lrc_book.proofs.ModeLemmas.{behind-of, others-joined}
-use Rattle.lrc_book.proofs.ToldLemmas.{join-told}
+use Rattle.lrc_rules.proofs.ToldLemmas.{join-told}
 use Rattle.lrc_book.proofs.store.Store.join.Goals as goal
 
 pub follow-requires : goal.follow-requires

@@ -1,7 +1,7 @@
 use Rattle.std.proofs.Common.{Bool, not, ap, ◌∙◌}
-use Rattle.lrc_book.specs.States.{is_gone}
+use Rattle.lrc_rules.specs.States.{is_gone}
 use Rattle.lrc_book.proofs.ModesLemmas.{same-gone}
-use Rattle.lrc_book.specs.Steps.{node_outcome, join_outcome, without_gone}
+use Rattle.lrc_rules.specs.Steps.{node_outcome, join_outcome, without_gone}
 use Rattle.lrc_book.proofs.store.Store.join_reply.Goals as goal
 
 pub returns : goal.returns

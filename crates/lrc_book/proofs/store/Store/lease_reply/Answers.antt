@@ -2,7 +2,7 @@ use Rattle.std.proofs.Common.{sym, ap, ◌∙◌}
 use Rattle.lrc_stripes.specs.Stored.{Stored}
 use Rattle.lrc_book.proofs.EndLemmas.{lease-kept}
 use Rattle.lrc_book.proofs.LeaseReplyLemmas.{lease-absent, lease-again, lease-unneeded, lease-lost, lease-new}
-use Rattle.lrc_book.proofs.UrgencyLemmas.{needs-own}
+use Rattle.lrc_rules.proofs.UrgencyLemmas.{needs-own}
 use Rattle.lrc_book.proofs.store.Store.lease_reply.Goals as goal
 
 pub returns-then-not-contains : goal.returns-then-not-contains

@@ -1,6 +1,6 @@
 use Rattle.std.proofs.Common.{refl}
-use Rattle.lrc_book.specs.Steps.{with_gone}
-use Rattle.lrc_book.proofs.SeatedLemmas.{with_gone-seated}
+use Rattle.lrc_rules.specs.Steps.{with_gone}
+use Rattle.lrc_rules.proofs.SeatedLemmas.{with_gone-seated}
 use Rattle.lrc_book.proofs.ModeLemmas.{behind-of, others-gone}
 use Rattle.lrc_book.proofs.store.Store.leave.Goals as goal
 

@@ -1,4 +1,4 @@
-use Rattle.lrc_book.specs.Steps.{with_gone}
+use Rattle.lrc_rules.specs.Steps.{with_gone}
 use Rattle.lrc_book.proofs.store.Store.leave.Given as goal
 
 abbrev pub ghost-follow : goal.ghost-follow

@@ -1,13 +1,13 @@
 use Rattle.std.proofs.Common.{sym, ap, ap₂, subst, ◌∙◌}
-use Rattle.lrc_book.specs.declared.command.Command.{Command}
+use Rattle.lrc_rules.specs.declared.command.Command.{Command}
 use Rattle.lrc_book.specs.declared.answer.Answer.{Answer}
 use Rattle.lrc_book.specs.Answers as answers
-use Rattle.lrc_book.specs.States.{State}
-use Rattle.lrc_book.specs.Steps.{step}
-use Rattle.lrc_book.specs.Changes.{changed_by}
+use Rattle.lrc_rules.specs.States.{State}
+use Rattle.lrc_rules.specs.Steps.{step}
+use Rattle.lrc_rules.specs.Changes.{changed_by}
 use Rattle.lrc_book.specs.Stores.{IsOf}
 use Rattle.lrc_book.proofs.LeaseToldLemmas.{done-told}
-use Rattle.lrc_book.proofs.ToldLemmas.{retire-told}
+use Rattle.lrc_rules.proofs.ToldLemmas.{retire-told}
 use Rattle.lrc_book.proofs.DueLemmas.{tick-told}
 use Rattle.lrc_book.proofs.store.Store.make_change.Goals as goal
 

@@ -1,16 +1,16 @@
 use Rattle.std.proofs.Common.{◌≡◌, true, false, Option, Some, None, IsTrue, sym, ap, subst, ◌∙◌}
 use Rattle.lrc_code.specs.Codes.{has_fragment}
-use Rattle.lrc_leases.specs.declared.lease.Lease.{Lease}
+use Rattle.lrc_terms.specs.declared.lease.Lease.{Lease}
 use Rattle.lrc_leases.specs.Tables.{leased_in}
-use Rattle.lrc_leases.specs.Leased as leased
-use Rattle.lrc_leases.specs.Leased.{with_spare}
+use Rattle.lrc_terms.specs.Leased as leased
+use Rattle.lrc_terms.specs.Leased.{with_spare}
 use Rattle.lrc_stripes.specs.Stored.{Stored, has_slot, HasNoHome}
 use Rattle.lrc_stripes.specs.Stored as stored
 use Rattle.lrc_stripes.specs.Tables.{stored_in}
 use Rattle.lrc_book.specs.declared.store.Store.{Store}
-use Rattle.lrc_book.specs.States.{lease_of}
-use Rattle.lrc_book.specs.Leases.{moved_in}
-use Rattle.lrc_book.specs.Changes.{with_done}
+use Rattle.lrc_rules.specs.States.{lease_of}
+use Rattle.lrc_rules.specs.Leases.{moved_in}
+use Rattle.lrc_rules.specs.Changes.{with_done}
 use Rattle.lrc_book.specs.Stores.{IsOf}
 use Rattle.lrc_book.proofs.EndLemmas.{lease-kept, move-own, move-slot, move-unused, move-kept}
 use Rattle.lrc_book.proofs.store.Store.move_in.Goals as goal

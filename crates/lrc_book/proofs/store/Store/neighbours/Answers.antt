@@ -1,4 +1,4 @@
-use Rattle.std.proofs.Common.{◌∙◌, ◌&&◌, Bool, not, eqb, List, Option, IfSome, IsSome, is_some, ap, subst, refl, []}
+use Rattle.std.proofs.Common.{[], ◌∙◌, ◌&&◌, Bool, not, eqb, List, Option, IfSome, IsSome, is_some, ap, subst, refl}
 use Rattle.lrc_code.specs.declared.codes.Code.TheVariants.{Wide}
 use Rattle.lrc_code.specs.declared.numbers.Fragment.{Fragment}
 use Rattle.lrc_code.specs.Codes.{fragments}

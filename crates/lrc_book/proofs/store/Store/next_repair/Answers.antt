@@ -2,14 +2,15 @@ use Rattle.std.proofs.Common.{IsTrue, suc, List, Option, find, option_map, sym, 
 use Rattle.std.specs.List.{All}
 use Rattle.std.specs.Option.{option_or}
 use Rattle.lrc_code.specs.declared.numbers.StripeNo.{StripeNo}
-use Rattle.lrc_stripes.specs.Stored.{StripeFragment}
+use Rattle.lrc_terms.specs.Stripes.{StripeFragment}
 use Rattle.lrc_stripes.specs.Tables.{stored_in}
 use Rattle.lrc_book.specs.declared.repair.Repair.{Repair}
-use Rattle.lrc_book.specs.Urgency.{is_grantable}
+use Rattle.lrc_rules.specs.Urgency.{is_grantable}
 use Rattle.lrc_book.specs.Repairing.{fragment_of, HaveGrantable}
-use Rattle.lrc_book.proofs.UrgencyLemmas.{fragments_in, grantable-turn, next-first}
+use Rattle.lrc_rules.proofs.UrgencyLemmas.{fragments_in}
 use Rattle.lrc_book.proofs.NoRoomLemmas.{no-next}
 use Rattle.lrc_book.proofs.store.Store.next_repair.Goals as goal
+use Rattle.lrc_book.proofs.WorkLemmas.{grantable-turn, next-first}
 
 pub returns-then-not-has_free_seat-clause-first : goal.returns-then-not-has_free_seat-clause-first
 returns-then-not-has_free_seat-clause-first c = λ st kept ahead. no-next st c.args.self.now kept (sym (c.has_free_seat.ensures st kept) ∙ c.if-not-has_free_seat.true)

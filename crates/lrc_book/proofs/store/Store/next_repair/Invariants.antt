@@ -1,11 +1,11 @@
 use Rattle.std.proofs.Common.{◌≡◌, find, IsTrue}
 use Rattle.std.specs.List.{All}
 use Rattle.lrc_stripes.specs.Tables.{stored_in}
-use Rattle.lrc_book.specs.States.{State}
-use Rattle.lrc_book.specs.Urgency.{is_grantable, next_of}
+use Rattle.lrc_rules.specs.States.{State}
+use Rattle.lrc_rules.specs.Urgency.{is_grantable, next_of}
 use Rattle.lrc_book.specs.Stores.{IsOf}
 use Rattle.lrc_book.specs.Repairing.{IsFront}
-use Rattle.lrc_book.proofs.UrgencyLemmas.{fragments_in}
+use Rattle.lrc_rules.proofs.UrgencyLemmas.{fragments_in}
 use Rattle.lrc_book.proofs.store.Store.next_repair.Given as goal
 
 -- the stripes that are left are there, and the first grantable fragment is one of theirs

@@ -1,7 +1,7 @@
 use Rattle.std.proofs.Common.{Option, option_map, sym, ap, ◌∙◌}
-use Rattle.lrc_stripes.specs.Stored.{StripeFragment}
+use Rattle.lrc_terms.specs.Stripes.{StripeFragment}
 use Rattle.lrc_book.specs.declared.repair.Repair.{Repair}
-use Rattle.lrc_book.specs.Leases.{next_answer, next_outcome}
+use Rattle.lrc_rules.specs.Leases.{next_answer, next_outcome}
 use Rattle.lrc_book.specs.Repairing.{fragment_of}
 use Rattle.lrc_book.proofs.NextRepairLemmas.{repair-granted}
 use Rattle.lrc_book.proofs.store.Store.next_reply.Goals as goal

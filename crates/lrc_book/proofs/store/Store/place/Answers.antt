@@ -10,14 +10,14 @@ use Rattle.lrc_slots.specs.Tables.{slots_of}
 use Rattle.lrc_stripes.specs.Stored as stored
 use Rattle.lrc_stripes.specs.Stored.{Stored, has_slot}
 use Rattle.lrc_stripes.specs.Tables.{stored_in}
-use Rattle.lrc_stripes.proofs.MaskLemmas.{fragments-long}
+use Rattle.lrc_terms.proofs.CodeListLemmas.{fragments-long}
 use Rattle.lrc_book.specs.declared.store.Store.{Store}
-use Rattle.lrc_book.specs.Steps.{with_stripe}
-use Rattle.lrc_book.specs.Changes.{with_placed}
+use Rattle.lrc_rules.specs.Steps.{with_stripe}
+use Rattle.lrc_rules.specs.Changes.{with_placed}
 use Rattle.lrc_book.specs.Stores.{IsOf}
-use Rattle.lrc_book.proofs.LawLemmas.{chosen-length}
+use Rattle.lrc_rules.proofs.LawLemmas.{chosen-length}
 use Rattle.lrc_book.proofs.PlacingLemmas.{taken-start, taken-known, taken-least, taken-more, placed-kept}
-use Rattle.lrc_book.proofs.ToldLemmas.{place-told}
+use Rattle.lrc_rules.proofs.ToldLemmas.{place-told}
 use Rattle.lrc_book.proofs.store.Store.place.Goals as goal
 
 -- what stands past the end of a list of seats

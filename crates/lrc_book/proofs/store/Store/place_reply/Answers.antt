@@ -4,11 +4,11 @@ use Rattle.lrc_code.specs.declared.codes.Code.{Code}
 use Rattle.lrc_code.specs.Codes.{fragment_count}
 use Rattle.lrc_topology.specs.declared.seat.Seat.{Seat}
 use Rattle.lrc_stripes.specs.Stored.{Stored}
-use Rattle.lrc_book.specs.declared.reply.Reply.TheVariants.{Placed, Placed6}
-use Rattle.lrc_book.specs.Outcomes.{Outcome}
-use Rattle.lrc_book.specs.Steps.{placed_reply}
-use Rattle.lrc_book.proofs.StepLemmas.{place-there}
-use Rattle.lrc_book.proofs.LawLemmas.{chosen-told, none-told}
+use Rattle.lrc_rules.specs.declared.reply.Reply.TheVariants.{Placed, Placed6}
+use Rattle.lrc_rules.specs.Outcomes.{Outcome}
+use Rattle.lrc_rules.specs.Steps.{placed_reply}
+use Rattle.lrc_rules.proofs.StepLemmas.{place-there}
+use Rattle.lrc_rules.proofs.LawLemmas.{chosen-told, none-told}
 use Rattle.lrc_book.proofs.store.Store.place_reply.Goals as goal
 
 pub returns-then-contains : goal.returns-then-contains

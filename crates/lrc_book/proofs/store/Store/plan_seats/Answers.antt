@@ -5,11 +5,11 @@ use Rattle.lrc_topology.specs.declared.seat.Seat.{Seat}
 use Rattle.lrc_topology.specs.declared.seat.Held.{Held}
 use Rattle.lrc_topology.specs.Nodes.{node_at}
 use Rattle.lrc_slots.specs.declared.open_node.OpenRow.{OpenRow}
-use Rattle.lrc_stripes.proofs.MaskLemmas.{fragments-long}
-use Rattle.lrc_book.specs.Steps.{with_stripe}
+use Rattle.lrc_terms.proofs.CodeListLemmas.{fragments-long}
+use Rattle.lrc_rules.specs.Steps.{with_stripe}
 use Rattle.lrc_book.specs.Ties.{with_homes}
 use Rattle.lrc_book.specs.Planning.{AreBarsOf, row_seat}
-use Rattle.lrc_book.specs.Choices.{AreChosen, IsFirstWithout}
+use Rattle.lrc_rules.specs.Choices.{AreChosen, IsFirstWithout}
 use Rattle.lrc_book.proofs.PlanningLemmas.{planned_to, chosen-end, chosen-none, chosen-more, none-more, planned-more, planned-chosen, code-items, fragment-class}
 use Rattle.lrc_book.proofs.store.Store.plan_seats.Goals as goal
 

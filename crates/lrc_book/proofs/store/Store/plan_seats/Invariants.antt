@@ -2,9 +2,9 @@ use Rattle.std.proofs.Common.{◌≡◌, ◌++◌, false, List, drop, take, leng
 use Rattle.lrc_code.specs.declared.numbers.Fragment.{Fragment}
 use Rattle.lrc_code.specs.Codes.{fragments}
 use Rattle.lrc_topology.specs.declared.seat.Seat.{Seat}
-use Rattle.lrc_book.specs.States.{State, has_stripe}
-use Rattle.lrc_book.specs.Steps.{with_stripe}
-use Rattle.lrc_book.specs.Choices.{AreChosen, IsFirstWithout}
+use Rattle.lrc_rules.specs.States.{State, has_stripe}
+use Rattle.lrc_rules.specs.Steps.{with_stripe}
+use Rattle.lrc_rules.specs.Choices.{AreChosen, IsFirstWithout}
 use Rattle.lrc_book.specs.Ties.{with_homes}
 use Rattle.lrc_book.specs.Stores.{IsOf}
 use Rattle.lrc_book.specs.Planning.{AreBarsOf}

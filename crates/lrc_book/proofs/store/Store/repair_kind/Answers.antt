@@ -3,7 +3,7 @@ use Rattle.lrc_code.specs.declared.codes.Code.{Code}
 use Rattle.lrc_code.specs.Codes.{others}
 use Rattle.lrc_code.specs.Losses.{bits_set, is_local, is_recoverable}
 use Rattle.lrc_stripes.specs.Stored.{Stored, missing_shown}
-use Rattle.lrc_book.specs.Repairs.{local_kind}
+use Rattle.lrc_rules.specs.Repairs.{local_kind}
 use Rattle.lrc_book.proofs.RepairLemmas.{mask-home, repair-move, repair-local, repair-whole, unmasked}
 use Rattle.lrc_book.proofs.store.Store.repair_kind.Goals as goal
 

@@ -2,7 +2,7 @@ use Rattle.std.proofs.Common.{[], ap, subst, ◌∙◌, map}
 use Rattle.lrc_slots.specs.Slots.{Slots}
 use Rattle.lrc_slots.specs.Barred.{Barred, joined}
 use Rattle.lrc_code.specs.declared.codes.Code.{Code}
-use Rattle.lrc_book.specs.States.{code_of, held_by}
+use Rattle.lrc_rules.specs.States.{code_of, held_by}
 use Rattle.lrc_book.specs.Ties.{bars_in, bars_of, next_seat}
 use Rattle.lrc_book.specs.Stores.{kept_table, closed, AreMates}
 use Rattle.lrc_book.specs.Neighbouring.{barred_by}

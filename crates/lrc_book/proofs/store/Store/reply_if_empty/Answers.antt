@@ -2,10 +2,10 @@ use Rattle.std.proofs.Common.{◌≡◌, ℕ, nat_lt, IsSome, refl, sym, ap, ◌
 use Rattle.std.proofs.lemmas.Bool.{lt-ltb}
 use Rattle.lrc_topology.specs.Nodes.{node_at}
 use Rattle.lrc_slots.specs.Slots.{Slots}
-use Rattle.lrc_book.specs.declared.reply.Reply.TheVariants.{Changed}
-use Rattle.lrc_book.specs.declared.refusal.Refusal.TheVariants as refusal
-use Rattle.lrc_book.specs.States.{load}
-use Rattle.lrc_book.specs.Outcomes.{refuse_if}
+use Rattle.lrc_rules.specs.declared.reply.Reply.TheVariants.{Changed}
+use Rattle.lrc_rules.specs.declared.refusal.Refusal.TheVariants as refusal
+use Rattle.lrc_rules.specs.States.{load}
+use Rattle.lrc_rules.specs.Outcomes.{refuse_if}
 use Rattle.lrc_book.proofs.ShownLemmas.{load-kept}
 use Rattle.lrc_book.proofs.store.Store.reply_if_empty.Goals as goal
 

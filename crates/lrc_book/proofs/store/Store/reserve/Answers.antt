@@ -2,8 +2,8 @@ use Rattle.std.proofs.Common.{ap, ◌∙◌}
 use Rattle.lrc_stripes.specs.Stored as stored
 use Rattle.lrc_stripes.specs.Stored.{Stored}
 use Rattle.lrc_stripes.specs.Tables.{stored_in}
-use Rattle.lrc_leases.specs.Leased as leased
-use Rattle.lrc_leases.specs.Leased.{Leased}
+use Rattle.lrc_terms.specs.Leased as leased
+use Rattle.lrc_terms.specs.Leased.{Leased}
 use Rattle.lrc_leases.specs.Tables.{leased_in}
 use Rattle.lrc_book.proofs.store.Store.reserve.Goals as goal
 

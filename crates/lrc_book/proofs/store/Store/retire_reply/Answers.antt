@@ -1,11 +1,11 @@
 use Rattle.std.proofs.Common.{◌≡◌, Bool, not, ap, ◌∙◌, sym}
 use Rattle.lrc_topology.specs.Nodes.{node_at}
-use Rattle.lrc_book.specs.States.{mode_of, is_draining}
+use Rattle.lrc_rules.specs.States.{mode_of, is_draining}
 use Rattle.lrc_book.specs.Answers as answers
-use Rattle.lrc_book.specs.Steps.{node_outcome, retire_outcome}
+use Rattle.lrc_rules.specs.Steps.{node_outcome, retire_outcome}
 use Rattle.lrc_book.proofs.AnswerLemmas.{changed-told}
 use Rattle.lrc_book.proofs.ModesLemmas.{same-draining}
-use Rattle.lrc_book.proofs.ToldLemmas.{node-by, retire-passes, retire-stops}
+use Rattle.lrc_rules.proofs.ToldLemmas.{node-by, retire-passes, retire-stops}
 use Rattle.lrc_book.proofs.store.Store.retire_reply.Goals as goal
 
 pub reply_if_empty-requires : goal.reply_if_empty-requires

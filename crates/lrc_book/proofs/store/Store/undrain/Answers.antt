@@ -1,8 +1,8 @@
 use Rattle.std.proofs.Common.{refl}
-use Rattle.lrc_book.specs.Steps.{without_draining}
-use Rattle.lrc_book.proofs.SeatedLemmas.{without_draining-seated}
+use Rattle.lrc_rules.specs.Steps.{without_draining}
+use Rattle.lrc_rules.proofs.SeatedLemmas.{without_draining-seated}
 use Rattle.lrc_book.proofs.ModeLemmas.{behind-of, others-undrain}
-use Rattle.lrc_book.proofs.ToldLemmas.{undrain-told}
+use Rattle.lrc_rules.proofs.ToldLemmas.{undrain-told}
 use Rattle.lrc_book.proofs.store.Store.undrain.Goals as goal
 
 pub follow-requires : goal.follow-requires

@@ -1,4 +1,4 @@
-use Rattle.lrc_book.specs.Steps.{without_draining}
+use Rattle.lrc_rules.specs.Steps.{without_draining}
 use Rattle.lrc_book.proofs.store.Store.undrain.Given as goal
 
 abbrev pub ghost-follow : goal.ghost-follow

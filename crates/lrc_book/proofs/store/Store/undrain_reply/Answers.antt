@@ -1,7 +1,7 @@
 use Rattle.std.proofs.Common.{Bool, not, ap, ◌∙◌}
-use Rattle.lrc_book.specs.States.{is_draining}
+use Rattle.lrc_rules.specs.States.{is_draining}
 use Rattle.lrc_book.proofs.ModesLemmas.{same-draining}
-use Rattle.lrc_book.specs.Steps.{node_outcome, undrain_outcome, without_draining}
+use Rattle.lrc_rules.specs.Steps.{node_outcome, undrain_outcome, without_draining}
 use Rattle.lrc_book.proofs.store.Store.undrain_reply.Goals as goal
 
 pub returns : goal.returns

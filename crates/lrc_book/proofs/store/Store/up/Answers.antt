@@ -1,8 +1,8 @@
 use Rattle.std.proofs.Common.{refl}
-use Rattle.lrc_book.specs.Steps.{without_down}
-use Rattle.lrc_book.proofs.SeatedLemmas.{without_down-seated}
+use Rattle.lrc_rules.specs.Steps.{without_down}
+use Rattle.lrc_rules.proofs.SeatedLemmas.{without_down-seated}
 use Rattle.lrc_book.proofs.ModeLemmas.{behind-of, others-up}
-use Rattle.lrc_book.proofs.ToldLemmas.{up-told}
+use Rattle.lrc_rules.proofs.ToldLemmas.{up-told}
 use Rattle.lrc_book.proofs.store.Store.up.Goals as goal
 
 pub follow-requires : goal.follow-requires

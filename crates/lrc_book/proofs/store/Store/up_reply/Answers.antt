@@ -1,5 +1,5 @@
 use Rattle.std.proofs.Common.{Bool, not, ap, ◌∙◌}
-use Rattle.lrc_book.specs.Steps.{node_outcome, up_outcome, without_down}
+use Rattle.lrc_rules.specs.Steps.{node_outcome, up_outcome, without_down}
 use Rattle.lrc_book.proofs.store.Store.up_reply.Goals as goal
 
 pub returns : goal.returns

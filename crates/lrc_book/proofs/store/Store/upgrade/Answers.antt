@@ -3,7 +3,7 @@ use Rattle.lrc_topology.specs.Nodes.{nodes_in}
 use Rattle.lrc_stripes.specs.Stored.{Stored, with_offline_all}
 use Rattle.lrc_stripes.specs.Tables.{stored_in}
 use Rattle.lrc_book.proofs.DomainLemmas.{domain-out, domain-kept}
-use Rattle.lrc_book.proofs.UpgradeLemmas.{upgrade-told}
+use Rattle.lrc_rules.proofs.ToldLemmas.{upgrade-told}
 use Rattle.lrc_book.proofs.store.Store.upgrade.Goals as goal
 
 pub returns-clause-kept : goal.returns-clause-kept

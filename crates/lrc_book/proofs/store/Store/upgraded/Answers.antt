@@ -4,11 +4,11 @@ use Rattle.lrc_topology.specs.declared.NodeInfo.{NodeInfo}
 use Rattle.lrc_topology.specs.Nodes.{nodes_in}
 use Rattle.lrc_stripes.specs.Stored.{Stored, has_node, with_offline_all}
 use Rattle.lrc_stripes.specs.Tables.{stored_in}
-use Rattle.lrc_book.specs.Steps.{without_upgrading}
+use Rattle.lrc_rules.specs.Steps.{without_upgrading}
 use Rattle.lrc_book.specs.Stores.{with_rest}
 use Rattle.lrc_book.proofs.DomainLemmas.{domain-there, domain-back, domain-kept}
-use Rattle.lrc_book.proofs.UpgradeLemmas.{upgraded-told}
 use Rattle.lrc_book.proofs.store.Store.upgraded.Goals as goal
+use Rattle.lrc_rules.proofs.ToldLemmas.{upgraded-told}
 
 pub keep_offline-requires : goal.keep_offline-requires
 keep_offline-requires g c = (

@@ -1,6 +1,6 @@
 use Rattle.std.proofs.Common.{refl, sym, ap, ◌∙◌}
 use Rattle.std.proofs.lemmas.Bool.{not-true, not-false}
-use Rattle.lrc_book.specs.Steps.{is_the_domain}
+use Rattle.lrc_rules.specs.Steps.{is_the_domain}
 use Rattle.lrc_book.proofs.UpgradeLemmas.{the-domain, upgraded-unknown, upgraded-other, upgraded-passed}
 use Rattle.lrc_book.proofs.store.Store.upgraded_reply.Goals as goal
 

@@ -1,8 +1,8 @@
 use Rattle.std.proofs.Common.{Bool, Option, false, if◌then◌else◌, is_some, ap, ap₂, ◌∙◌, arith}
 use Rattle.lrc_stripes.proofs.MaskLemmas.{put-out}
-use Rattle.lrc_leases.specs.declared.lease.Lease.{Lease}
-use Rattle.lrc_book.specs.States.{lease_of}
-use Rattle.lrc_book.specs.Repairs.{needs}
+use Rattle.lrc_terms.specs.declared.lease.Lease.{Lease}
+use Rattle.lrc_rules.specs.States.{lease_of}
+use Rattle.lrc_rules.specs.Repairs.{needs}
 use Rattle.lrc_book.proofs.EndLemmas.{lease-kept}
 use Rattle.lrc_book.proofs.NextRepairLemmas.{left-out}
 use Rattle.lrc_book.proofs.store.Store.waiting.Goals as goal

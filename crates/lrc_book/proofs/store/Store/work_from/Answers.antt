@@ -3,7 +3,7 @@ use Rattle.std.proofs.lemmas.Bool.{and_parts}
 use Rattle.lrc_stripes.specs.Stored.{Stored, has_work, AreWork, AreWorkFrom}
 use Rattle.lrc_stripes.specs.Tables.{stored_in}
 use Rattle.lrc_book.specs.Repairing.{IsFront}
-use Rattle.lrc_book.proofs.MemberLemmas.{All-members}
+use Rattle.lrc_rules.proofs.MemberLemmas.{All-members}
 use Rattle.lrc_book.proofs.FrontLemmas.{past-works, grantable-all, grantable-from}
 use Rattle.lrc_book.proofs.store.Store.work_from.Goals as goal
 

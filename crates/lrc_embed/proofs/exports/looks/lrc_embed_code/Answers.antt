@@ -1,6 +1,6 @@
 use Rattle.std.proofs.Common.{Some, option_map, ap, sym, ◌∙◌}
 use Rattle.lrc_book.specs.Books.{BookView, state_of}
-use Rattle.lrc_book.specs.States.{code_shown}
+use Rattle.lrc_rules.specs.States.{code_shown}
 use Rattle.lrc_embed.specs.Looks.{code_told}
 use Rattle.lrc_embed.proofs.OfLemmas.{of_some}
 use Rattle.lrc_embed.proofs.exports.looks.lrc_embed_code.Goals as goal

@@ -1,6 +1,6 @@
 use Rattle.std.proofs.Common.{Some, option_map, ap, sym, ◌∙◌}
 use Rattle.lrc_book.specs.Books.{BookView, state_of}
-use Rattle.lrc_book.specs.States.{mode_shown}
+use Rattle.lrc_rules.specs.States.{mode_shown}
 use Rattle.lrc_embed.specs.Calls.{node_no}
 use Rattle.lrc_embed.specs.Looks.{mode_told}
 use Rattle.lrc_embed.proofs.OfLemmas.{of_some}

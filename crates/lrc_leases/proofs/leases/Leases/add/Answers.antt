@@ -1,5 +1,5 @@
 use Rattle.std.proofs.Common.{◌≡◌, ◌-◌, None, arith, refl, sym, ◌∙◌, subst}
-use Rattle.lrc_leases.specs.Leased.{leases_in, leased_of, with_lease}
+use Rattle.lrc_terms.specs.Leased.{leases_in, leased_of, with_lease}
 use Rattle.lrc_leases.specs.Masks.{AreMasks}
 use Rattle.lrc_leases.proofs.MaskLemmas.{masks-with}
 use Rattle.lrc_leases.specs.Tables.{leased_in}

@@ -1,7 +1,7 @@
 use Rattle.std.proofs.Common.{◌%◌, filter_map, ap, ◌∙◌}
 use Rattle.std.proofs.lemmas.Bool.{eqb-true}
 use Rattle.lrc_leases.specs.Tables.{leased_in}
-use Rattle.lrc_leases.specs.Leased.{ends_at, leased_of, AreThose}
+use Rattle.lrc_terms.specs.Leased.{ends_at, leased_of, AreThose}
 use Rattle.lrc_leases.specs.Chains.{chain_in}
 use Rattle.lrc_leases.specs.Kept.{leases_of, clock_chain, end_chain, passing_at}
 use Rattle.lrc_leases.proofs.ListedLemmas.{are-those, those-few}

@@ -1,7 +1,7 @@
 use Rattle.std.proofs.Common.{◌≡◌, true, Option, arith, refl, sym, ◌∙◌, subst}
 use Rattle.lrc_leases.specs.Tables.{leased_in}
-use Rattle.lrc_leases.specs.declared.lease.Lease.{Lease}
-use Rattle.lrc_leases.specs.Leased.{leased_of, with_spare, without_lease}
+use Rattle.lrc_terms.specs.declared.lease.Lease.{Lease}
+use Rattle.lrc_terms.specs.Leased.{leased_of, with_spare, without_lease}
 use Rattle.lrc_leases.specs.Masks.{AreMasks}
 use Rattle.lrc_leases.specs.Kept.{leases_of, is_lease_of, target_chain, end_chain}
 use Rattle.lrc_leases.proofs.SlabLemmas.{at_key, under, single-remove, at-remove, below-remove, leased-remove}

@@ -1,7 +1,7 @@
 use Rattle.std.proofs.Common.{◌%◌, ap, ◌∙◌}
 use Rattle.std.proofs.lemmas.Bool.{eqb-true}
 use Rattle.lrc_leases.specs.Tables.{leased_in}
-use Rattle.lrc_leases.specs.Leased.{is_target_on}
+use Rattle.lrc_terms.specs.Leased.{is_target_on}
 use Rattle.lrc_leases.specs.Chains.{chain_in}
 use Rattle.lrc_leases.specs.Kept.{node_chain, target_chain}
 use Rattle.lrc_leases.proofs.ListedLemmas.{are-those}

@@ -1,8 +1,8 @@
 use Rattle.std.proofs.Common.{rules, ◌≡◌, List, All, length, ◌≤◌, subst, sym, ap, refl, ◌∙◌, true≢false, arith}
 use mathlib.Core.List.{IsPrefix}
 use Rattle.lrc_book.specs.Books.{BookView}
-use Rattle.lrc_book.specs.Histories.{IsLegal}
-use Rattle.lrc_book.specs.declared.entry.Entry.{Entry}
+use Rattle.lrc_rules.specs.Histories.{IsLegal}
+use Rattle.lrc_rules.specs.declared.entry.Entry.{Entry}
 use Rattle.lrc_sessions.specs.Views.{ManagerView, SessionView}
 use Rattle.lrc_sessions.specs.Counts.{AreAll, total_made, counts_of, counts_in, made_in}
 use Rattle.lrc_sessions.proofs.SumLemmas.{squeezed}

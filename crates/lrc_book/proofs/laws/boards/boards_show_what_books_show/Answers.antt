@@ -1,5 +1,0 @@
-use Rattle.lrc_book.proofs.BoardLemmas.{level-of, load-of}
-use Rattle.lrc_book.proofs.laws.boards.boards_show_what_books_show.Goals as goal
-
-pub returns : goal.returns
-returns c = record { levels = level-of; loads = load-of }

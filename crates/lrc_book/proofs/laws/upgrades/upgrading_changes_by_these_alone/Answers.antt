@@ -1,5 +1,0 @@
-use Rattle.lrc_book.proofs.OtherUpgradeLemmas.{upgrading-same}
-use Rattle.lrc_book.proofs.laws.upgrades.upgrading_changes_by_these_alone.Goals as goal
-
-pub returns : goal.returns
-returns c = upgrading-same

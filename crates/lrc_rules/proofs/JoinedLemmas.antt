@@ -1,0 +1,152 @@
+-- No node is both gone and draining, and what is true of a node that joins.
+use Rattle.std.proofs.Common.{[], ◌≡◌, ◌≢◌, ◌&&◌, inl, inr, Bool, true, false, not, eqb, List, ◌∷◌, fold, Option, Some, None, refl, sym, ap, ◌∙◌, subst}
+use Rattle.std.specs.List.{All}
+use Rattle.std.proofs.lemmas.Bool.{cases_Bool, eqb-true, eq-eqb}
+use Rattle.lrc_code.specs.declared.numbers.StripeNo.{StripeNo}
+use Rattle.lrc_code.specs.declared.numbers.NodeNo.{NodeNo}
+use Rattle.lrc_code.specs.declared.numbers.SessionNo.{SessionNo}
+use Rattle.lrc_code.specs.declared.numbers.Fragment.{Fragment}
+use Rattle.lrc_code.specs.Numbers.{same_node}
+use Rattle.lrc_code.proofs.NumbersLemmas.{equal_nodes}
+use Rattle.lrc_topology.specs.declared.NodeInfo.{NodeInfo}
+use Rattle.lrc_topology.specs.declared.seat.Seat.{Seat}
+use Rattle.lrc_topology.specs.Nodes.{AreNodes, node_at}
+use Rattle.lrc_terms.specs.declared.lease.Lease.{Lease as LeaseRecord}
+use Rattle.lrc_rules.specs.declared.mode.Mode.TheVariants.{Active, Draining}
+use Rattle.lrc_rules.specs.declared.command.Command.{Command}
+use Rattle.lrc_rules.specs.declared.command.Command.TheVariants.{Done, Fail, Drain, Undrain, Retire, Join}
+use Rattle.lrc_rules.specs.declared.reply.Reply.{Reply}
+use Rattle.lrc_rules.specs.declared.reply.Reply.TheVariants.{Idle, Ended, Changed}
+use Rattle.lrc_rules.specs.declared.entry.Entry.{Entry}
+use Rattle.lrc_rules.specs.States.{State, lease_of, has_number, mode_of, is_active, is_gone, is_down, taken_seats}
+use Rattle.lrc_rules.specs.Steps.{with_gone, with_draining, without_draining, without_gone, drain_outcome, join_outcome, step}
+use Rattle.lrc_rules.specs.Changes.{with_done, changed_by}
+use Rattle.lrc_rules.specs.Histories.{World, IsLegal, first_world, next_world, state_after}
+use Rattle.lrc_rules.specs.Goodness.{AreSeated}
+use Rattle.lrc_rules.proofs.MemberLemmas.{list_any-member, member-list_any, All-members}
+use Rattle.lrc_rules.proofs.StepLemmas.{step-changed}
+use Rattle.lrc_rules.proofs.ToldLemmas.{node-by}
+use Rattle.lrc_rules.proofs.SeatedLemmas.{seat-present, down-present}
+use Rattle.lrc_rules.proofs.GoodLemmas.{state_after-good}
+use Rattle.lrc_rules.proofs.NodeWordsLemmas.{gone-mode, active-mode, flips-false, active-there, gone-there, joined-here, left-by, join-is}
+use Rattle.lrc_rules.proofs.ModeListLemmas.{left-apart, added-apart, left}
+
+-- ---- no node is both gone and draining
+
+abbrev pub NoneBoth : State → Type 0
+NoneBoth st = (m : NodeNo) → has_number st.gone m ≡ true → has_number st.draining m ≡ false
+
+never-both : (b : Bool) → b ≡ true → b ≡ false → ⊥
+never-both b hit miss = (let both : true ≡ false = sym hit ∙ miss in cc)
+
+none-of-less : (b : Bool) → b ≡ false → (c : Bool) → (c && b) ≡ false
+none-of-less b miss true = miss
+none-of-less b miss false = refl
+
+part-of : (c b : Bool) → (c && b) ≡ true → b ≡ true
+part-of true b e = e
+part-of false b e = absurd (cc)
+
+module _ (st : State) (apart : NoneBoth st) where
+  done-apart : (r : StripeNo) (g : Fragment) (o : Option LeaseRecord) → NoneBoth (with_done st r g o)
+  done-apart r g None = apart
+  done-apart r g (Some l) = apart
+
+  gone-apart : (n : NodeNo) → NoneBoth (with_gone st n)
+  gone-apart n m gone = elim (cases_Bool (eqb n.value m.value)) [
+    | inl same ↦ left st.draining n m true same
+    | inr other ↦ left-apart st.draining n m other ∙ apart m (sym (added-apart st.gone n m other) ∙ gone)
+  ]
+
+  drained-apart : (n : NodeNo) → has_number st.gone n ≡ false → NoneBoth (with_draining st n)
+  drained-apart n here m gone = elim (cases_Bool (eqb n.value m.value)) [
+    | inl same ↦
+        let number : n ≡ m = equal_nodes n m (eqb-true n.value m.value same) in
+        absurd (never-both (has_number st.gone m) gone (ap (has_number st.gone) (sym number) ∙ here))
+    | inr other ↦ added-apart st.draining n m other ∙ apart m gone
+  ]
+
+  undrained-apart : (n : NodeNo) → NoneBoth (without_draining st n)
+  undrained-apart n m gone =
+      left st.draining n m (eqb n.value m.value) refl ∙ none-of-less (has_number st.draining m) (apart m gone) (not (eqb n.value m.value))
+
+  joined-apart : (n : NodeNo) → NoneBoth (without_gone st n)
+  joined-apart n m gone =
+      apart m (part-of (not (eqb n.value m.value)) (has_number st.gone m) (sym (left st.gone n m (eqb n.value m.value) refl) ∙ gone))
+
+  -- where a node that begins to drain is not gone
+  changed-apart : (c : Command) (r : Reply) → ((n : NodeNo) → c ≡ Drain n → r ≡ Changed → has_number st.gone n ≡ false) → NoneBoth (changed_by st c r)
+  changed-apart (Done s f e) Ended here = done-apart s f (lease_of st s f)
+  changed-apart (Fail n) Changed here = gone-apart n
+  changed-apart (Retire n) Changed here = gone-apart n
+  changed-apart (Drain n) Changed here = drained-apart n (here n refl refl)
+  changed-apart (Undrain n) Changed here = undrained-apart n
+  changed-apart (Join n) Changed here = joined-apart n
+  changed-apart _ Idle here = apart
+  changed-apart _ _ here = apart
+
+  module _ (nodes : List NodeInfo) (past : List Entry) (session : SessionNo) where
+    drained-here : (n : NodeNo) → (drain_outcome nodes st n).0 ≡ Changed → has_number st.gone n ≡ false
+    unfolding drain_outcome
+    drained-here n told =
+        active-there (has_number st.gone n) (has_number st.draining n)
+        (active-mode (mode_of st n) (flips-false (is_active (mode_of st n)) (node-by st _ (node_at nodes n) (not (is_active (mode_of st n))) told).1))
+
+    step-apart : (c : Command) → NoneBoth (step nodes past st session c).1
+    step-apart c =
+        subst NoneBoth (sym (step-changed nodes past st session c)) (changed-apart c (step nodes past st session c).0 (λ n is told.
+        drained-here n (subst (λ (d : Command). (step nodes past st session d).0 ≡ Changed) is told)))
+
+worlds-apart : (nodes : List NodeInfo) (w : World) (history : List Entry) → NoneBoth w.state → NoneBoth (fold (next_world nodes) w history).state
+worlds-apart nodes w [] apart = apart
+worlds-apart nodes w (e ∷ es) apart = worlds-apart nodes (next_world nodes w e) es (step-apart w.state apart nodes w.past e.session e.command)
+
+state_after-apart : (nodes : List NodeInfo) (history : List Entry) → NoneBoth (state_after nodes history)
+state_after-apart nodes history = worlds-apart nodes first_world history (λ m gone. refl)
+
+-- so each that is noted as draining is
+pub all-draining : (nodes : List NodeInfo) (history : List Entry)
+    → All (λ (n : NodeNo). mode_of (state_after nodes history) n ≡ Draining) (state_after nodes history).draining
+all-draining nodes history =
+    let st = state_after nodes history in
+    All-members (λ (n : NodeNo). mode_of st n ≡ Draining) st.draining (λ n here.
+    let noted : has_number st.draining n ≡ true = list_any-member (same_node n) st.draining n here (eq-eqb n.value n.value refl) in
+    let there : has_number st.gone n ≡ false = not-both st n (state_after-apart nodes history) noted (has_number st.gone n) refl in
+    rw (there, noted) refl)
+  where
+    not-both : (st : State) (n : NodeNo) → NoneBoth st → has_number st.draining n ≡ true → (b : Bool) → has_number st.gone n ≡ b → b ≡ false
+    not-both st n apart noted false is = refl
+    not-both st n apart noted true is = absurd (never-both (has_number st.draining n) noted (apart n is))
+
+-- ---- a node that joins
+
+-- the node is active and not down, with no seat on it
+pub record IsJoined (n : NodeNo) (next : State) : Type 0 where
+  pub active : mode_of next n ≡ Active
+  pub up : is_down next n ≡ false
+  pub none : All (λ (seat : Seat). seat.node ≢ n) (taken_seats next)
+
+module _ (nodes : List NodeInfo) (st : State) (n : NodeNo) (seated : AreSeated nodes st) (apart : NoneBoth st)
+    (gone : has_number st.gone n ≡ true) where
+  up-by : (b : Bool) → has_number st.down n ≡ b → b ≡ false
+  up-by false is = refl
+  up-by true is =
+      let m = member-list_any (same_node n) st.down is in
+      let number : n ≡ m.0 = equal_nodes n m.0 (eqb-true n.value m.0.value m.2) in
+      absurd (never-both (has_number st.gone n) gone (ap (has_number st.gone) number ∙ down-present nodes st n seated m.0 m.1))
+
+  joined-state : IsJoined n (without_gone st n)
+  joined-state = record {
+    active = joined-here st n (apart n gone);
+    up = up-by (has_number st.down n) refl;
+    none = All-members (λ (seat : Seat). seat.node ≢ n) (taken_seats st) (λ seat here same.
+        never-both (has_number st.gone n) gone (ap (has_number st.gone) (sym same) ∙ seat-present nodes st n seated seat here));
+  }
+
+pub joined-after : (nodes : List NodeInfo) (history : List Entry) (n : NodeNo) → AreNodes nodes → IsLegal nodes history
+    → (join_outcome nodes (state_after nodes history) n).0 ≡ Changed → IsJoined n (join_outcome nodes (state_after nodes history) n).1
+joined-after nodes history n known legal told =
+    let st = state_after nodes history in
+    left-by nodes st n (not (is_gone (mode_of st n))) (without_gone st n) (join_outcome nodes st n) (join-is nodes st n) (IsJoined n) (λ right.
+    joined-state nodes st n (state_after-good nodes known history legal).seated (state_after-apart nodes history)
+    (gone-there (has_number st.gone n) (has_number st.draining n) (gone-mode (mode_of st n) (flips-false (is_gone (mode_of st n)) right)))) told

@@ -1,0 +1,64 @@
+-- What a board shows of a state: the level of each stripe number, and the load of each node.
+use Rattle.std.specs.Prelude.{ℕ, List, map, find, get_or, slice_set, Option, None, option_map}
+use Rattle.std.specs.List.{range_with_len}
+use Rattle.lrc_code.specs.declared.numbers.StripeNo.{StripeNo}
+use Rattle.lrc_code.specs.declared.numbers.NodeNo.{NodeNo}
+use Rattle.lrc_code.specs.Numbers.{same_node}
+use Rattle.lrc_topology.specs.declared.NodeInfo.{NodeInfo}
+use Rattle.lrc_terms.specs.declared.level.Level.{Level}
+use Rattle.lrc_terms.specs.Stripes.{stripe_at}
+use Rattle.lrc_rules.specs.declared.entry.Entry.{Entry}
+use Rattle.lrc_rules.specs.States.{State, load, level_shown}
+use Rattle.lrc_rules.specs.Histories.{state_after}
+
+-- ---- levels
+
+-- a level for each stripe number, from 0 on; none where there is no such stripe
+abbrev pub Levels : Type 0
+Levels = List (Option Level)
+
+-- a stripe that changes, with its new level; none where it is there no longer
+abbrev pub LevelChange : Type 0
+LevelChange = StripeNo × Option Level
+
+-- the levels of so many stripe numbers
+abbrev pub levels_by : ℕ → (StripeNo → Option Level) → Levels
+levels_by count shown = map (λ k. shown (stripe_at k)) (range_with_len 0 count)
+
+-- the levels that are shown of a state, of all 4,096 stripe numbers
+unfoldable pub levels_of : List NodeInfo → State → Levels
+levels_of nodes st = levels_by 4096 (level_shown nodes st)
+
+-- those after a history
+abbrev pub levels_after : List NodeInfo → List Entry → Levels
+levels_after nodes history = levels_of nodes (state_after nodes history)
+
+-- the level of a stripe
+abbrev pub level_in : Levels → StripeNo → Option Level
+level_in levels s = get_or levels s.value None
+
+-- the levels with one that changes
+abbrev pub put_level : Levels → LevelChange → Levels
+put_level levels change = slice_set levels change.0.value change.1
+
+-- ---- loads
+
+-- the load of each node, beside its number
+abbrev pub Loads : Type 0
+Loads = List (NodeNo × ℕ)
+
+-- the loads of nodes, in the order of the file
+abbrev pub loads_by : List NodeInfo → (NodeNo → ℕ) → Loads
+loads_by nodes load = map (λ m. (m.number, load m.number)) nodes
+
+-- the loads of the nodes in a state
+abbrev pub loads_of : List NodeInfo → State → Loads
+loads_of nodes st = loads_by nodes (load st)
+
+-- those after a history
+abbrev pub loads_after : List NodeInfo → List Entry → Loads
+loads_after nodes history = loads_of nodes (state_after nodes history)
+
+-- the load of a node; none where the store has no such node
+abbrev pub load_in : Loads → NodeNo → Option ℕ
+load_in loads n = option_map (λ row. row.1) (find (λ row. same_node n row.0) loads)

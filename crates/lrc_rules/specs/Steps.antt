@@ -1,0 +1,217 @@
+-- What each command answers and changes.
+use Rattle.std.specs.Prelude.{Bool, false, not, ◌&&◌, ◌||◌, nat_lt, List, [], ◌∷◌, ◌++◌, drop, length, map, filter, Option, Some, None, is_none, Result, Ok, Err}
+use Rattle.std.specs.List.{list_any}
+use Rattle.std.specs.Option.{option_map_or}
+use Rattle.lrc_code.specs.declared.codes.Code.{Code}
+use Rattle.lrc_code.specs.declared.codes.Code.TheVariants.{Wide, Narrow}
+use Rattle.lrc_code.specs.declared.numbers.StripeNo.{StripeNo}
+use Rattle.lrc_code.specs.declared.numbers.NodeNo.{NodeNo}
+use Rattle.lrc_code.specs.declared.numbers.UpgradeNo.{UpgradeNo}
+use Rattle.lrc_code.specs.declared.numbers.SessionNo.{SessionNo}
+use Rattle.lrc_code.specs.declared.numbers.Fragment.{Fragment}
+use Rattle.lrc_code.specs.Numbers.{same_stripe, same_node, same_upgrade}
+use Rattle.lrc_code.specs.Order.{least}
+use Rattle.lrc_topology.specs.declared.NodeInfo.{NodeInfo}
+use Rattle.lrc_topology.specs.declared.seat.Seat.{Seat}
+use Rattle.lrc_topology.specs.declared.seat.Held.{Held}
+use Rattle.lrc_topology.specs.Nodes.{node_at, has_domain}
+use Rattle.lrc_rules.specs.declared.command.Command.{Command}
+use Rattle.lrc_rules.specs.declared.command.Command.TheVariants.{Place, Place6, Drop, Lease, Next, Done, Abandon, Revoke, Fail, Down, Up, Drain, Undrain, Retire, Join, Upgrade, Upgraded, Tick}
+use Rattle.lrc_rules.specs.declared.reply.Reply.{Reply}
+use Rattle.lrc_rules.specs.declared.reply.Reply.TheVariants.{Placed, Placed6, Dropped, Changed}
+use Rattle.lrc_rules.specs.declared.refusal.Refusal.TheVariants as refusal
+use Rattle.lrc_rules.specs.declared.entry.Entry.{Entry}
+use Rattle.lrc_terms.specs.declared.lease.Lease.{Lease as LeaseRecord}
+use Rattle.lrc_terms.specs.Leased.{is_target_on}
+use Rattle.lrc_rules.specs.States.{State, has_stripe, is_home_of, without_number, mode_of, is_active, is_draining, is_gone, is_down, load}
+use Rattle.lrc_rules.specs.Placement.{placed}
+use Rattle.lrc_rules.specs.Repairs.{is_safe}
+use Rattle.lrc_rules.specs.Outcomes.{Outcome, refused, refuse_if}
+use Rattle.lrc_rules.specs.Leases.{lease_outcome, next_outcome, done_outcome, abandon_outcome, revoke_outcome, tick_outcome}
+
+-- ---- stripes
+
+-- this is another stripe
+abbrev pub is_other : StripeNo → StripeNo → Bool
+is_other s t = not (same_stripe s t)
+
+-- the narrow stripes, where this one has this code
+abbrev pub with_code : Code → StripeNo → List StripeNo → List StripeNo
+with_code Wide s narrow = filter (is_other s) narrow
+with_code Narrow s narrow = narrow ++ s ∷ []
+
+-- the stripe added, with this code
+abbrev pub with_stripe : State → Code → StripeNo → State
+with_stripe st code s = record st { stripes = st.stripes ++ s ∷ []; narrow = with_code code s st.narrow }
+
+-- the reply to a stripe of this code placed on these seats
+abbrev pub placed_reply : Code → List Seat → Reply
+placed_reply Wide seats = Placed seats
+placed_reply Narrow seats = Placed6 seats
+
+-- the command that places a stripe of this code
+abbrev pub place_command : Code → StripeNo → Command
+place_command Wide s = Place s
+place_command Narrow s = Place6 s
+
+-- the homes that were added, or the fragment that found no seat
+abbrev pub place_answer : State → Code → Result State Fragment → Outcome
+place_answer st code (Ok done) = (placed_reply code (map (λ h. h.seat) (drop (length st.homes) done.homes)), done)
+place_answer st code (Err f) = refused (refusal.NoLawfulNode f) st
+
+-- Place and Place6: refused where the stripe is there, or for the first fragment of the code that finds no seat
+unfoldable pub place_outcome : List NodeInfo → State → Code → StripeNo → Outcome
+place_outcome nodes st code s = refuse_if (has_stripe st s) refusal.StripeExists st (place_answer st code (placed nodes (with_stripe st code s) s))
+
+-- the stripe, its code, its homes and its leases taken out
+abbrev pub without_stripe : State → StripeNo → State
+without_stripe st s =
+    record st {
+      stripes = filter (is_other s) st.stripes;
+      narrow = filter (is_other s) st.narrow;
+      homes = filter (λ h. is_other s h.stripe) st.homes;
+      leases = filter (λ l. is_other s l.stripe) st.leases;
+    }
+
+-- Drop: refused where there is no such stripe
+unfoldable pub drop_outcome : State → StripeNo → Outcome
+drop_outcome st s = refuse_if (not (has_stripe st s)) refusal.UnknownStripe st (Dropped, without_stripe st s)
+
+-- ---- nodes
+
+-- a command on a node: refused where the store has no such node, or the command is wrong for its mode; else the node is changed
+abbrev pub node_outcome : List NodeInfo → State → NodeNo → Bool → State → Outcome
+node_outcome nodes st n wrong changed =
+    refuse_if (is_none (node_at nodes n)) refusal.UnknownNode st
+    (refuse_if wrong refusal.WrongMode st
+    (Changed, changed))
+
+-- the seat is on the node
+abbrev pub stands_on : NodeNo → Held → Bool
+stands_on n h = same_node n h.seat.node
+
+-- the lease's target is on the node, or its fragment has its home there
+abbrev pub hangs_on : State → NodeNo → LeaseRecord → Bool
+hangs_on st n l = is_target_on n l || list_any (λ h. is_home_of l.stripe l.fragment h && stands_on n h) st.homes
+
+-- the homes on the node taken out, and the leases that hang on it
+abbrev pub emptied : State → NodeNo → State
+emptied st n = record st { homes = filter (λ h. not (stands_on n h)) st.homes; leases = filter (λ l. not (hangs_on st n l)) st.leases }
+
+-- the node is out of the store, neither draining nor down
+abbrev pub with_gone : State → NodeNo → State
+with_gone st n = record st { gone = st.gone ++ n ∷ []; draining = without_number st.draining n; down = without_number st.down n }
+
+-- the node is down
+abbrev pub with_down : State → NodeNo → State
+with_down st n = record st { down = st.down ++ n ∷ [] }
+
+-- the node is not down
+abbrev pub without_down : State → NodeNo → State
+without_down st n = record st { down = without_number st.down n }
+
+-- the node is draining
+abbrev pub with_draining : State → NodeNo → State
+with_draining st n = record st { draining = st.draining ++ n ∷ [] }
+
+-- the node is not draining
+abbrev pub without_draining : State → NodeNo → State
+without_draining st n = record st { draining = without_number st.draining n }
+
+-- the node is in the store again
+abbrev pub without_gone : State → NodeNo → State
+without_gone st n = record st { gone = without_number st.gone n }
+
+-- Fail: wrong for a node that is gone
+unfoldable pub fail_outcome : List NodeInfo → State → NodeNo → Outcome
+fail_outcome nodes st n = node_outcome nodes st n (is_gone (mode_of st n)) (with_gone (emptied st n) n)
+
+-- Down: wrong for a node that is gone, or down already
+unfoldable pub down_outcome : List NodeInfo → State → NodeNo → Outcome
+down_outcome nodes st n = node_outcome nodes st n (is_gone (mode_of st n) || is_down st n) (with_down st n)
+
+-- Up: wrong for a node that is not down
+unfoldable pub up_outcome : List NodeInfo → State → NodeNo → Outcome
+up_outcome nodes st n = node_outcome nodes st n (not (is_down st n)) (without_down st n)
+
+-- Join: wrong for a node that is not gone
+unfoldable pub join_outcome : List NodeInfo → State → NodeNo → Outcome
+join_outcome nodes st n = node_outcome nodes st n (not (is_gone (mode_of st n))) (without_gone st n)
+
+-- Drain: wrong for a node that is not active
+unfoldable pub drain_outcome : List NodeInfo → State → NodeNo → Outcome
+drain_outcome nodes st n = node_outcome nodes st n (not (is_active (mode_of st n))) (with_draining st n)
+
+-- Undrain: wrong for a node that is not draining
+unfoldable pub undrain_outcome : List NodeInfo → State → NodeNo → Outcome
+undrain_outcome nodes st n = node_outcome nodes st n (not (is_draining (mode_of st n))) (without_draining st n)
+
+-- Retire: wrong for a node that is not draining, and refused where seats are on it
+unfoldable pub retire_outcome : List NodeInfo → State → NodeNo → Outcome
+retire_outcome nodes st n =
+    refuse_if (is_none (node_at nodes n)) refusal.UnknownNode st
+    (refuse_if (not (is_draining (mode_of st n))) refusal.WrongMode st
+    (refuse_if (nat_lt 0 (load st n)) (refusal.NotEmpty (load st n)) st
+    (Changed, with_gone st n)))
+
+-- ---- upgrades
+
+-- the domain is upgrading
+abbrev pub with_upgrading : State → UpgradeNo → State
+with_upgrading st u = record st { upgrading = Some u }
+
+-- no domain is upgrading
+abbrev pub without_upgrading : State → State
+without_upgrading st = record st { upgrading = None }
+
+-- the stripe is recoverable, and would not be with the domain upgrading
+abbrev pub is_lost_to : List NodeInfo → State → UpgradeNo → StripeNo → Bool
+is_lost_to nodes st u s = is_safe nodes st s && not (is_safe nodes (with_upgrading st u) s)
+
+-- the least such stripe
+unfoldable pub would_lose : List NodeInfo → State → UpgradeNo → Option StripeNo
+would_lose nodes st u = least (λ s t. nat_lt s.value t.value) (filter (is_lost_to nodes st u) st.stripes)
+
+-- the answer where this domain is upgrading, or none, and this stripe would be lost, or none
+abbrev pub upgrade_answer : State → UpgradeNo → Option UpgradeNo → Option StripeNo → Outcome
+upgrade_answer st u (Some v) lost = refused (refusal.UpgradeRunning v) st
+upgrade_answer st u None (Some s) = refused (refusal.WouldLose s) st
+upgrade_answer st u None None = (Changed, with_upgrading st u)
+
+-- Upgrade: refused where no node is in the domain, where a domain is upgrading, or for the first stripe that it would lose
+unfoldable pub upgrade_outcome : List NodeInfo → State → UpgradeNo → Outcome
+upgrade_outcome nodes st u = refuse_if (not (has_domain nodes u)) refusal.UnknownDomain st (upgrade_answer st u st.upgrading (would_lose nodes st u))
+
+-- this domain is upgrading
+abbrev pub is_the_domain : UpgradeNo → Option UpgradeNo → Bool
+is_the_domain u upgrading = option_map_or (same_upgrade u) upgrading false
+
+-- Upgraded: refused where no node is in the domain, or it is not upgrading
+unfoldable pub upgraded_outcome : List NodeInfo → State → UpgradeNo → Outcome
+upgraded_outcome nodes st u =
+    refuse_if (not (has_domain nodes u)) refusal.UnknownDomain st
+    (refuse_if (not (is_the_domain u st.upgrading)) refusal.NotUpgrading st
+    (Changed, without_upgrading st))
+
+-- ---- the step
+
+-- what a session's command answers after these entries in this state, and the state that it leaves
+abbrev pub step : List NodeInfo → List Entry → State → SessionNo → Command → Outcome
+step nodes past st session (Place s) = place_outcome nodes st Wide s
+step nodes past st session (Place6 s) = place_outcome nodes st Narrow s
+step nodes past st session (Drop s) = drop_outcome st s
+step nodes past st session (Lease s f) = lease_outcome nodes past st session s f
+step nodes past st session Next = next_outcome nodes past st session
+step nodes past st session (Done s f e) = done_outcome nodes st session s f e
+step nodes past st session (Abandon s f e) = abandon_outcome st session s f e
+step nodes past st session (Revoke s f) = revoke_outcome st s f
+step nodes past st session (Fail n) = fail_outcome nodes st n
+step nodes past st session (Down n) = down_outcome nodes st n
+step nodes past st session (Up n) = up_outcome nodes st n
+step nodes past st session (Drain n) = drain_outcome nodes st n
+step nodes past st session (Undrain n) = undrain_outcome nodes st n
+step nodes past st session (Retire n) = retire_outcome nodes st n
+step nodes past st session (Join n) = join_outcome nodes st n
+step nodes past st session (Upgrade u) = upgrade_outcome nodes st u
+step nodes past st session (Upgraded u) = upgraded_outcome nodes st u
+step nodes past st session Tick = tick_outcome st

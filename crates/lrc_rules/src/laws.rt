@@ -1,0 +1,10 @@
+//! Laws of the definitions, each the contract of a function that does nothing.
+
+pub mod boards;
+pub mod histories;
+pub mod leases;
+pub mod nodes;
+pub mod placing;
+pub mod repair;
+pub mod states;
+pub mod upgrades;

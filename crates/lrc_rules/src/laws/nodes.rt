@@ -1,0 +1,159 @@
+//! Laws of the commands on nodes.
+
+ghost use Rattle.std.specs.Prelude.{◌≡◌, ◌≢◌, ◌↔◌, ◌⊎◌, ℕ, ◌≤◌, IsTrue, IsFalse, IsSome, List, All, Contains, Some, None};
+ghost use Rattle.lrc_topology.specs.declared.NodeInfo.{NodeInfo};
+ghost use Rattle.lrc_topology.specs.declared.seat.Seat.{Seat};
+ghost use Rattle.lrc_topology.specs.declared.seat.Held.{Held};
+ghost use Rattle.lrc_topology.specs.Nodes.{AreNodes, node_at};
+ghost use Rattle.lrc_code.specs.declared.numbers.SessionNo.{SessionNo};
+ghost use Rattle.lrc_code.specs.declared.numbers.NodeNo.{NodeNo};
+ghost use Rattle.lrc_rules.specs.declared.entry.Entry.{Entry};
+ghost use Rattle.lrc_rules.specs.declared.command.Command.{Command};
+ghost use Rattle.lrc_rules.specs.declared.command.Command.TheVariants.{Fail, Down, Up, Drain, Undrain, Retire, Join};
+ghost use Rattle.lrc_rules.specs.declared.reply.Reply.TheVariants.{Changed, Refused};
+ghost use Rattle.lrc_rules.specs.declared.refusal.Refusal.TheVariants as refusal;
+ghost use Rattle.lrc_rules.specs.declared.mode.Mode.TheVariants.{Active, Draining, Gone};
+ghost use Rattle.lrc_terms.specs.declared.lease.Lease.{Lease as LeaseRecord};
+ghost use Rattle.lrc_rules.specs.Endings.{IsOnNode};
+ghost use Rattle.lrc_rules.specs.Steps.{step};
+ghost use Rattle.lrc_rules.specs.States.{State, taken_seats, load, mode_of, is_down, online_at};
+ghost use Rattle.lrc_rules.specs.Histories.{IsLegal, outcome_in, world_after, state_after};
+
+/// A node is online exactly where it is one of the nodes, it is not gone and not down, and its domain is not upgrading.
+pub fn online_in_words()
+    ensures { (nodes : List NodeInfo) (st : State) (n : NodeNo)
+        → IsTrue (online_at nodes st n)
+        ↔ ((m : NodeInfo) × (node_at nodes n ≡ Some m) × (mode_of st n ≢ Gone) × IsFalse (is_down st n) × (st.upgrading ≢ Some m.upgrade)) }
+{}
+
+/// The mode of a node, and whether it is down, are as they were after every command but one on this node.
+pub fn modes_change_by_these_alone()
+    ensures mode { (nodes : List NodeInfo) (past : List Entry) (st : State) (session : SessionNo) (command : Command) (n : NodeNo)
+        → ¬ (IsOnNode n command) → mode_of (step nodes past st session command).1 n ≡ mode_of st n }
+    ensures down { (nodes : List NodeInfo) (past : List Entry) (st : State) (session : SessionNo) (command : Command) (n : NodeNo)
+        → ¬ (IsOnNode n command) → is_down (step nodes past st session command).1 n ≡ is_down st n }
+{}
+
+/// Each command on a node but Retire is done exactly where the store has the node and the command is right for it. It is
+/// refused as unknown exactly where the store has no such node, and else as of the wrong mode where it is not right. Fail
+/// leaves the node Gone, not down, and with no seat on it. Down leaves it down and Up not down, and both its mode as it
+/// was. Drain leaves it Draining and Undrain Active, and both whether it is down as it was. After a legal history Join
+/// leaves it Active, not down, and with no seat on it.
+#[tactic(auto, unfolding(crate::specs::Steps::fail_outcome, crate::specs::Steps::down_outcome, crate::specs::Steps::up_outcome, crate::specs::Steps::drain_outcome, crate::specs::Steps::undrain_outcome, crate::specs::Steps::join_outcome))]
+pub fn node_commands_in_words()
+    ensures fail { (nodes : List NodeInfo) (past : List Entry) (st : State) (session : SessionNo) (n : NodeNo)
+        → ((step nodes past st session (Fail n)).0 ≡ Changed) ↔ (IsSome (node_at nodes n) × (mode_of st n ≢ Gone)) }
+    ensures fail_unknown { (nodes : List NodeInfo) (past : List Entry) (st : State) (session : SessionNo) (n : NodeNo)
+        → ((step nodes past st session (Fail n)).0 ≡ Refused refusal.UnknownNode) ↔ (node_at nodes n ≡ None) }
+    ensures fail_wrong { (nodes : List NodeInfo) (past : List Entry) (st : State) (session : SessionNo) (n : NodeNo)
+        → ((step nodes past st session (Fail n)).0 ≡ Refused refusal.WrongMode) ↔ (IsSome (node_at nodes n) × (mode_of st n ≡ Gone)) }
+    ensures failed { (nodes : List NodeInfo) (past : List Entry) (st : State) (session : SessionNo) (n : NodeNo)
+        → (step nodes past st session (Fail n)).0 ≡ Changed
+        → (mode_of (step nodes past st session (Fail n)).1 n ≡ Gone)
+        × IsFalse (is_down (step nodes past st session (Fail n)).1 n)
+        × All (λ seat. seat.node ≢ n) (taken_seats (step nodes past st session (Fail n)).1) }
+    ensures down { (nodes : List NodeInfo) (past : List Entry) (st : State) (session : SessionNo) (n : NodeNo)
+        → ((step nodes past st session (Down n)).0 ≡ Changed) ↔ (IsSome (node_at nodes n) × (mode_of st n ≢ Gone) × IsFalse (is_down st n)) }
+    ensures down_unknown { (nodes : List NodeInfo) (past : List Entry) (st : State) (session : SessionNo) (n : NodeNo)
+        → ((step nodes past st session (Down n)).0 ≡ Refused refusal.UnknownNode) ↔ (node_at nodes n ≡ None) }
+    ensures down_wrong { (nodes : List NodeInfo) (past : List Entry) (st : State) (session : SessionNo) (n : NodeNo)
+        → ((step nodes past st session (Down n)).0 ≡ Refused refusal.WrongMode)
+        ↔ (IsSome (node_at nodes n) × ((mode_of st n ≡ Gone) ⊎ IsTrue (is_down st n))) }
+    ensures taken_down { (nodes : List NodeInfo) (past : List Entry) (st : State) (session : SessionNo) (n : NodeNo)
+        → (step nodes past st session (Down n)).0 ≡ Changed
+        → IsTrue (is_down (step nodes past st session (Down n)).1 n)
+        × (mode_of (step nodes past st session (Down n)).1 n ≡ mode_of st n) }
+    ensures up { (nodes : List NodeInfo) (past : List Entry) (st : State) (session : SessionNo) (n : NodeNo)
+        → ((step nodes past st session (Up n)).0 ≡ Changed) ↔ (IsSome (node_at nodes n) × IsTrue (is_down st n)) }
+    ensures up_unknown { (nodes : List NodeInfo) (past : List Entry) (st : State) (session : SessionNo) (n : NodeNo)
+        → ((step nodes past st session (Up n)).0 ≡ Refused refusal.UnknownNode) ↔ (node_at nodes n ≡ None) }
+    ensures up_wrong { (nodes : List NodeInfo) (past : List Entry) (st : State) (session : SessionNo) (n : NodeNo)
+        → ((step nodes past st session (Up n)).0 ≡ Refused refusal.WrongMode) ↔ (IsSome (node_at nodes n) × IsFalse (is_down st n)) }
+    ensures brought_up { (nodes : List NodeInfo) (past : List Entry) (st : State) (session : SessionNo) (n : NodeNo)
+        → (step nodes past st session (Up n)).0 ≡ Changed
+        → IsFalse (is_down (step nodes past st session (Up n)).1 n)
+        × (mode_of (step nodes past st session (Up n)).1 n ≡ mode_of st n) }
+    ensures drain { (nodes : List NodeInfo) (past : List Entry) (st : State) (session : SessionNo) (n : NodeNo)
+        → ((step nodes past st session (Drain n)).0 ≡ Changed) ↔ (IsSome (node_at nodes n) × (mode_of st n ≡ Active)) }
+    ensures drain_unknown { (nodes : List NodeInfo) (past : List Entry) (st : State) (session : SessionNo) (n : NodeNo)
+        → ((step nodes past st session (Drain n)).0 ≡ Refused refusal.UnknownNode) ↔ (node_at nodes n ≡ None) }
+    ensures drain_wrong { (nodes : List NodeInfo) (past : List Entry) (st : State) (session : SessionNo) (n : NodeNo)
+        → ((step nodes past st session (Drain n)).0 ≡ Refused refusal.WrongMode) ↔ (IsSome (node_at nodes n) × (mode_of st n ≢ Active)) }
+    ensures drained { (nodes : List NodeInfo) (past : List Entry) (st : State) (session : SessionNo) (n : NodeNo)
+        → (step nodes past st session (Drain n)).0 ≡ Changed
+        → (mode_of (step nodes past st session (Drain n)).1 n ≡ Draining)
+        × (is_down (step nodes past st session (Drain n)).1 n ≡ is_down st n) }
+    ensures undrain { (nodes : List NodeInfo) (past : List Entry) (st : State) (session : SessionNo) (n : NodeNo)
+        → ((step nodes past st session (Undrain n)).0 ≡ Changed) ↔ (IsSome (node_at nodes n) × (mode_of st n ≡ Draining)) }
+    ensures undrain_unknown { (nodes : List NodeInfo) (past : List Entry) (st : State) (session : SessionNo) (n : NodeNo)
+        → ((step nodes past st session (Undrain n)).0 ≡ Refused refusal.UnknownNode) ↔ (node_at nodes n ≡ None) }
+    ensures undrain_wrong { (nodes : List NodeInfo) (past : List Entry) (st : State) (session : SessionNo) (n : NodeNo)
+        → ((step nodes past st session (Undrain n)).0 ≡ Refused refusal.WrongMode) ↔ (IsSome (node_at nodes n) × (mode_of st n ≢ Draining)) }
+    ensures undrained { (nodes : List NodeInfo) (past : List Entry) (st : State) (session : SessionNo) (n : NodeNo)
+        → (step nodes past st session (Undrain n)).0 ≡ Changed
+        → (mode_of (step nodes past st session (Undrain n)).1 n ≡ Active)
+        × (is_down (step nodes past st session (Undrain n)).1 n ≡ is_down st n) }
+    ensures join { (nodes : List NodeInfo) (past : List Entry) (st : State) (session : SessionNo) (n : NodeNo)
+        → ((step nodes past st session (Join n)).0 ≡ Changed) ↔ (IsSome (node_at nodes n) × (mode_of st n ≡ Gone)) }
+    ensures join_unknown { (nodes : List NodeInfo) (past : List Entry) (st : State) (session : SessionNo) (n : NodeNo)
+        → ((step nodes past st session (Join n)).0 ≡ Refused refusal.UnknownNode) ↔ (node_at nodes n ≡ None) }
+    ensures join_wrong { (nodes : List NodeInfo) (past : List Entry) (st : State) (session : SessionNo) (n : NodeNo)
+        → ((step nodes past st session (Join n)).0 ≡ Refused refusal.WrongMode) ↔ (IsSome (node_at nodes n) × (mode_of st n ≢ Gone)) }
+    ensures joined { (nodes : List NodeInfo) (history : List Entry) (session : SessionNo) (n : NodeNo)
+        → AreNodes nodes → IsLegal nodes history → (outcome_in nodes (world_after nodes history) session (Join n)).0 ≡ Changed
+        → (mode_of (outcome_in nodes (world_after nodes history) session (Join n)).1 n ≡ Active)
+        × IsFalse (is_down (outcome_in nodes (world_after nodes history) session (Join n)).1 n)
+        × All (λ seat. seat.node ≢ n) (taken_seats (outcome_in nodes (world_after nodes history) session (Join n)).1) }
+{}
+
+/// Retire takes a node out of the store exactly where it is a draining one and no seat is on it. It is refused for its
+/// load exactly where it is a draining one and so many seats are on it, as unknown where the store has no such node, and as
+/// of the wrong mode where it has it and it is not draining. Where it is done, the node is Gone, not down, and no seat is
+/// on it.
+#[tactic(auto, unfolding(crate::specs::Steps::retire_outcome))]
+pub fn retired_nodes_are_empty()
+    ensures done { (nodes : List NodeInfo) (past : List Entry) (st : State) (session : SessionNo) (n : NodeNo)
+        → ((step nodes past st session (Retire n)).0 ≡ Changed)
+        ↔ (IsSome (node_at nodes n) × (mode_of st n ≡ Draining) × All (λ seat. seat.node ≢ n) (taken_seats st)) }
+    ensures empty { (nodes : List NodeInfo) (past : List Entry) (st : State) (session : SessionNo) (n : NodeNo)
+        → (step nodes past st session (Retire n)).0 ≡ Changed
+        → (mode_of (step nodes past st session (Retire n)).1 n ≡ Gone)
+        × All (λ seat. seat.node ≢ n) (taken_seats (step nodes past st session (Retire n)).1) }
+    ensures up { (nodes : List NodeInfo) (past : List Entry) (st : State) (session : SessionNo) (n : NodeNo)
+        → (step nodes past st session (Retire n)).0 ≡ Changed → IsFalse (is_down (step nodes past st session (Retire n)).1 n) }
+    ensures loaded { (nodes : List NodeInfo) (past : List Entry) (st : State) (session : SessionNo) (n : NodeNo) (k : ℕ)
+        → ((step nodes past st session (Retire n)).0 ≡ Refused (refusal.NotEmpty k))
+        ↔ (IsSome (node_at nodes n) × (mode_of st n ≡ Draining) × (load st n ≡ k) × (1 ≤ k)) }
+    ensures unknown { (nodes : List NodeInfo) (past : List Entry) (st : State) (session : SessionNo) (n : NodeNo)
+        → ((step nodes past st session (Retire n)).0 ≡ Refused refusal.UnknownNode) ↔ (node_at nodes n ≡ None) }
+    ensures wrong { (nodes : List NodeInfo) (past : List Entry) (st : State) (session : SessionNo) (n : NodeNo)
+        → ((step nodes past st session (Retire n)).0 ≡ Refused refusal.WrongMode) ↔ (IsSome (node_at nodes n) × (mode_of st n ≢ Draining)) }
+{}
+
+/// Where Fail is done, the homes that are left are those that were not on the node. The leases that are left are those
+/// whose target was not on it, and neither was a home of their fragment. No stripe is taken out.
+pub fn a_failed_node_is_emptied()
+    ensures homes { (nodes : List NodeInfo) (past : List Entry) (st : State) (session : SessionNo) (n : NodeNo) (h : Held)
+        → (step nodes past st session (Fail n)).0 ≡ Changed
+        → Contains (step nodes past st session (Fail n)).1.homes h ↔ (Contains st.homes h × (h.seat.node ≢ n)) }
+    ensures leases { (nodes : List NodeInfo) (past : List Entry) (st : State) (session : SessionNo) (n : NodeNo) (l : LeaseRecord)
+        → (step nodes past st session (Fail n)).0 ≡ Changed
+        → Contains (step nodes past st session (Fail n)).1.leases l ↔ (Contains st.leases l × (l.target.node ≢ n)
+        × ((h : Held) → Contains st.homes h → h.stripe ≡ l.stripe → h.fragment ≡ l.fragment → h.seat.node ≢ n)) }
+    ensures stripes { (nodes : List NodeInfo) (past : List Entry) (st : State) (session : SessionNo) (n : NodeNo)
+        → (step nodes past st session (Fail n)).1.stripes ≡ st.stripes }
+{}
+
+/// The nodes that are noted as draining are Draining after every history, so none of them is Gone.
+pub fn draining_nodes_are_not_gone()
+    ensures { (nodes : List NodeInfo) (history : List Entry)
+        → All (λ n. mode_of (state_after nodes history) n ≡ Draining) (state_after nodes history).draining }
+{}
+
+/// A seat that is held after a command was held before it, or is on a node that was Active and online. So a node that is
+/// gone, draining, down or in the domain that is upgrading gets no seat.
+pub fn seats_come_to_active_nodes_alone()
+    ensures { (nodes : List NodeInfo) (past : List Entry) (st : State) (session : SessionNo) (command : Command) (seat : Seat)
+        → AreNodes nodes → Contains (taken_seats (step nodes past st session command).1) seat
+        → Contains (taken_seats st) seat ⊎ ((mode_of st seat.node ≡ Active) × IsTrue (online_at nodes st seat.node)) }
+{}

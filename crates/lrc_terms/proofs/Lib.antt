@@ -1,0 +1,5 @@
+pub mod ListLemmas
+pub mod CodeListLemmas
+pub mod LevelLemmas
+pub mod NeedLemmas
+pub mod LeaseLemmas
