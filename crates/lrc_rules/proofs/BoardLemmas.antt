@@ -1,4 +1,4 @@
--- What a board shows of a state, and of one with a level that changes.
+-- What the published view shows of a state, and after a change of one level.
 use Rattle.std.proofs.Common.{[], ◌≡◌, ℕ, ◌<◌, ◌≤◌, if◌then◌else◌, List, ◌∷◌, length, get_or, set, Option, None, option_map, refl, sym, ap, ◌∙◌, inl, inr, arith}
 use Rattle.std.proofs.Math.Nat.{mod-eq_of_lt}
 use Rattle.std.proofs.lemmas.Bool.{cases_Bool, eqb-true, eqb-false}
@@ -24,12 +24,12 @@ own-number s = equal_stripes (stripe_at s.value) s (mod-eq_of_lt s.in_range)
 pub level-by : (count : ℕ) (shown : StripeNo → Option Level) (s : StripeNo) → s.value < count → level_in (levels_by count shown) s ≡ shown s
 level-by count shown s within = get_or-map-range_with_len (λ k. shown (stripe_at k)) 0 count s.value s.value None within (omega arith) ∙ ap shown (own-number s)
 
--- a board shows the level of each stripe
+-- the published view shows the level of each stripe
 pub level-of : (nodes : List NodeInfo) (st : State) (s : StripeNo) → level_in (levels_of nodes st) s ≡ level_shown nodes st s
 unfolding levels_of
 level-of nodes st s = level-by 4096 (level_shown nodes st) s s.in_range
 
--- what is shown of the stripes, but for the one that changes
+-- the shown levels, with one changed
 abbrev pub shown_with : LevelChange → (StripeNo → Option Level) → StripeNo → Option Level
 shown_with change shown s = if same_stripe change.0 s then change.1 else shown s
 
@@ -58,7 +58,7 @@ module _ (count : ℕ) (few : count ≤ 4096) (shown : StripeNo → Option Level
       (long ∙ sym (length-map-range_with_len (λ k. shown_with change shown (stripe_at k)) 0 count))
       (λ i within. put-at i (rw long at within))
 
--- one change puts one level
+-- writing a change changes one level
 pub level-put : (nodes : List NodeInfo) (st : State) (change : LevelChange) (s : StripeNo)
     → level_in (put_level (levels_of nodes st) change) s ≡ shown_with change (level_shown nodes st) s
 unfolding levels_of
@@ -75,6 +75,6 @@ load-by (m ∷ ms) loads n = elim (cases_Bool (same_node n m.number)) [
   | inr miss ↦ rw miss (load-by ms loads n)
 ]
 
--- a board shows the load of each node
+-- the published view shows the load of each node
 pub load-of : (nodes : List NodeInfo) (st : State) (n : NodeNo) → load_in (loads_of nodes st) n ≡ load_shown nodes st n
 load-of nodes st n = load-by nodes (load st) n

@@ -1,4 +1,4 @@
--- The rule's tests say what the choice in words says.
+-- The choice rule as a test and the choice rule in words agree.
 use Rattle.std.proofs.Common.{◌≡◌, ℕ, ◌<◌, true, false, not, ◌&&◌, eqb, List, filter, Option, Some, None, is_some, option_map, option_and_then, IfSome, arith, refl, sym, ap, ◌∙◌, subst, inl, inr}
 use Rattle.std.specs.List.{Contains, list_any}
 use Rattle.std.specs.Option.{option_map_or}
@@ -31,7 +31,7 @@ use Rattle.lrc_rules.proofs.NodeLemmas.{same_node, seat_on, taken-member, member
 
 -- ---- two nodes
 
--- nodes that do not clash are apart
+-- nodes that do not clash are apart, and apart nodes do not clash
 pub apart-clashes : (code : Code) (f : Fragment) (n : NodeInfo) (g : Fragment) (m : NodeInfo) → clashes code f n g m ≡ false → AreApart code f n g m
 apart-clashes code f n g m e =
     let parts = or_parts (eqb n.fault.value m.fault.value) (share_class code f g && eqb n.upgrade.value m.upgrade.value) e in
@@ -51,12 +51,12 @@ clashes-apart code f n g m apart =
       | inr other ↦ rw other refl
     ])
 
--- ---- a seat that bars a node, and one that does not
+-- ---- a held seat that rules out a node, and one that does not
 
 stripe_bound : (n : ℕ) → IsProp (n < 4096)
 stripe_bound n = le_prop
 
--- a stripe is its number
+-- a stripe is determined by its number
 pub same_stripe : (s t : StripeNo) → s.value ≡ t.value → s ≡ t
 same_stripe s t e =
     subst (λ n. (h : n < 4096) → s ≡ record { value = n; in_range = h }) e
@@ -127,7 +127,7 @@ words-eligible st n h =
     and_from (takes_seats st n) _ (and_from (is_active (mode_of st n.number)) _ (mode-active (mode_of st n.number) h.active) h.online)
     (all-taken st n (free_slot (taken_seats st) n) refl h.room)
 
--- ---- a node that fits
+-- ---- a node that the fragment may go to
 
 module _ (nodes : List NodeInfo) (st : State) (s : StripeNo) (f : Fragment) (n : NodeInfo) where
   pub fits-words : Contains nodes n → fits nodes st s f n ≡ true → IsFitting nodes st s f n
@@ -185,7 +185,7 @@ module _ (nodes : List NodeInfo) (st : State) (s : StripeNo) (f : Fragment) wher
   chosen-choice seat known e =
       option_and_then_some (free_seat (taken_seats st)) (chosen_node nodes st s f) seat e (λ n here there. on-slot seat n (free_slot (taken_seats st) n) known here refl there)
 
-  -- the node of a choice is the one that the rule finds
+  -- the node of a choice in words is the node that the rule finds
   same-choice : (seat : Seat) (choice : IsChoice nodes st s f seat) → AreNodes nodes → (n : NodeInfo) → chosen_node nodes st s f ≡ Some n
       → n ≡ choice.node
   same-choice seat choice known n e = elim (cases_eq n.number.value choice.node.number.value) [
@@ -207,7 +207,7 @@ module _ (nodes : List NodeInfo) (st : State) (s : StripeNo) (f : Fragment) wher
         | inr (inr above) ↦ absurd (choice.free.free (taken-member (taken_seats st) choice.node.number seat.slot (h.3 seat.slot (omega arith) above)))
       ])
 
-  -- the slot of a choice is the least free one of its node
+  -- the slot of a choice in words is the lowest free slot of its node
   pub choice-slot : (seat : Seat) (choice : IsChoice nodes st s f seat) → free_slot (taken_seats st) choice.node ≡ Some seat.slot
   choice-slot seat choice = least-slot seat choice (free_slot (taken_seats st) choice.node) refl
 

@@ -25,7 +25,7 @@ done-clock : (st : State) (s : StripeNo) (f : Fragment) (o : Option LeaseRecord)
 done-clock st s f None = refl
 done-clock st s f (Some l) = refl
 
--- no change but that of a tick moves the clock
+-- only a tick changes the clock
 changed-clock : (st : State) (c : Command) (r : Reply) → is_tick c ≡ false → (changed_by st c r).clock ≡ st.clock
 changed-clock st (Done s f e) Ended other = done-clock st s f (lease_of st s f)
 changed-clock st Tick r other = absurd (cc)
@@ -59,6 +59,6 @@ worlds-clock nodes w (e ∷ es) =
     let more = sum_by-cons (λ (x : Entry). cond (is_tick x.command) 1 0) e es in
     omega (arith, more, worlds-clock nodes (next_world nodes w e) es, step-clock nodes w.past w.state e.session e.command)
 
--- the clock after some entries is the number of ticks among them
+-- the clock after a history is the number of ticks in it
 pub ticks-counted : (nodes : List NodeInfo) (h : List Entry) → (state_after nodes h).clock ≡ ticks h
 ticks-counted nodes h = let counted = worlds-clock nodes first_world h in omega (arith, counted)

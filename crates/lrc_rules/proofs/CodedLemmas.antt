@@ -12,12 +12,11 @@ use Rattle.lrc_rules.specs.States.{State, code_of}
 use Rattle.lrc_rules.specs.Steps.{with_stripe, is_other, without_stripe}
 use Rattle.lrc_rules.proofs.LookUpLemmas.{test-sym}
 
--- the code of a stripe that is narrow, or is notuse Rattle.lrc_rules.proofs.LookUpLemmas.{test-sym}
-
+-- the code of a stripe in the list of narrow stripes, and of one that is not
 abbrev code_by : Bool → Code
 code_by is_narrow = if is_narrow then Narrow else Wide
 
--- of these stripes without one, each other is there that was
+-- removing one stripe from the list keeps the others
 pub narrow-left : (s r : StripeNo) (narrow : List StripeNo)
     → list_any (same_stripe r) (filter (is_other s) narrow) ≡ (not (eqb s.value r.value) && list_any (same_stripe r) narrow)
 narrow-left s r narrow =
@@ -34,14 +33,14 @@ narrow-by true false = refl
 narrow-by false true = refl
 narrow-by false false = refl
 
--- a stripe that is added has the code that it was added with, and every other the code that it had
+-- a new stripe has the code that it was added with; every other stripe keeps its code
 pub code-with : (st : State) (code : Code) (s r : StripeNo) → code_of (with_stripe st code s) r ≡ (if eqb s.value r.value then code else code_of st r)
 code-with st Wide s r = ap code_by (narrow-left s r st.narrow) ∙ wide-by (eqb s.value r.value) (list_any (same_stripe r) st.narrow)
 code-with st Narrow s r =
     ap code_by (list_any-append (same_stripe r) st.narrow (s ∷ []) ∙ ap (λ b. list_any (same_stripe r) st.narrow || (b || false)) (test-sym r.value s.value))
     ∙ narrow-by (eqb s.value r.value) (list_any (same_stripe r) st.narrow)
 
--- of a stripe that is taken out no code is left, and every other has the code that it had
+-- a stripe that is removed has no code left; every other stripe keeps its code
 pub code-without : (st : State) (s r : StripeNo) → code_of (without_stripe st s) r ≡ (if eqb s.value r.value then Wide else code_of st r)
 code-without st s r = ap code_by (narrow-left s r st.narrow) ∙ wide-by (eqb s.value r.value) (list_any (same_stripe r) st.narrow)
 

@@ -1,4 +1,4 @@
--- The code of a stripe changes by its placing and its drop alone.
+-- Only Place, Place6 and Drop of a stripe change its code.
 use Rattle.std.proofs.Common.{[], ◌≡◌, ◌≢◌, Bool, true, false, ◌||◌, if◌then◌else◌, eqb, inl, inr, List, ◌∷◌, Option, Some, None, refl, sym, ap, ap₂, ◌∙◌, subst}
 use Rattle.std.proofs.lemmas.Bool.{cases_Bool, eq-eqb, eqb-true, eqb-false, ne_eqb}
 use Rattle.std.proofs.lemmas.List.Elements.{Contains-push}
@@ -30,7 +30,7 @@ use Rattle.lrc_rules.proofs.ThereLemmas.{there-dropped}
 abbrev shown : Bool → Code → Option Code
 shown there code = if there then Some code else None
 
--- right after it was placed
+-- right after it is placed
 pub placed-code : (nodes : List NodeInfo) (past : List Entry) (st : State) (session : SessionNo) (code : Code) (s : StripeNo) (seats : List Seat)
     → (step nodes past st session (place_command code s)).0 ≡ placed_reply code seats
     → code_shown (step nodes past st session (place_command code s)).1 s ≡ Some code
@@ -74,7 +74,7 @@ module _ (st : State) (s : StripeNo) where
   changed-kept _ _ p q d = refl
 
 module _ (nodes : List NodeInfo) (past : List Entry) (st : State) (session : SessionNo) (s : StripeNo) where
-  -- by no command but its place, its place6 and its drop
+  -- every command except its Place, Place6 and Drop keeps its code
   pub other-code : (c : Command) → c ≢ Place s → c ≢ Place6 s → c ≢ Drop s → code_shown (step nodes past st session c).1 s ≡ code_shown st s
   other-code c p q d = ap (λ (next : State). code_shown next s) (step-changed nodes past st session c) ∙ changed-kept st s c (step nodes past st session c).0 p q d
 
@@ -87,11 +87,11 @@ module _ (nodes : List NodeInfo) (past : List Entry) (st : State) (session : Ses
   by-other : (c : Command) → c ≢ Place s → c ≢ Place6 s → c ≢ Drop s → Stays c
   by-other c p q d before after = same_shown st (step nodes past st session c).1 before after (other-code c p q d)
 
-  -- a stripe that is there is not placed anew
+  -- a stripe of the store is not placed again
   by-place : (code : Code) → has_stripe st s ≡ true → code_of (place_outcome nodes st code s).1 s ≡ code_of st s
   by-place code before = ap (λ (o : Outcome). code_of o.1 s) (place-there nodes st code s before)
 
-  -- and one that was dropped is not there
+  -- a stripe that was dropped is not in the store
   by-drop : has_stripe st s ≡ true → has_stripe (drop_outcome st s).1 s ≡ true → ⊥
   by-drop before after =
       let gone : has_stripe (without_stripe st s) s ≡ false = narrow-left s s st.stripes ∙ rw (eq-eqb s.value s.value refl) refl in

@@ -1,4 +1,4 @@
--- Upgrades change nothing but which domain is upgrading.
+-- Upgrades change only which domain is upgrading.
 use Rattle.std.proofs.Common.{◌≡◌, Bool, true, false, not, List, Option, Some, None, refl, ap}
 use Rattle.lrc_code.specs.declared.numbers.StripeNo.{StripeNo}
 use Rattle.lrc_code.specs.declared.numbers.NodeNo.{NodeNo}
@@ -14,7 +14,7 @@ use Rattle.lrc_rules.specs.Steps.{without_upgrading, would_lose, upgrade_answer,
 use Rattle.lrc_rules.proofs.OutcomeLemmas.{either-way}
 
 module _ (nodes : List NodeInfo) (st : State) (u : UpgradeNo) where
-  -- all but the domain is as it was
+  -- all but the upgrading domain is as it was
   abbrev Rests : State → Type 0
   Rests next = next ≡ record st { upgrading = next.upgrading }
 
@@ -37,7 +37,7 @@ module _ (nodes : List NodeInfo) (st : State) (u : UpgradeNo) where
   pub upgraded-down : (n : NodeNo) → is_down (upgraded_outcome nodes st u).1 n ≡ is_down st n
   upgraded-down n = ap (λ (next : State). is_down next n) upgraded-rests
 
-  -- where the upgrade is done, it is of this domain
+  -- after Upgrade this domain is upgrading
   answer-begins : (running : Option UpgradeNo) (lost : Option StripeNo) → (upgrade_answer st u running lost).0 ≡ Changed
       → (upgrade_answer st u running lost).1.upgrading ≡ Some u
   answer-begins (Some v) lost told = absurd (cc)

@@ -28,7 +28,7 @@ use Rattle.lrc_rules.proofs.GoodLemmas.{past-after}
 -- ---- only Lease and Next grant
 
 module _ (l : LeaseRecord) (k : Kind) where
-  -- the entry in which the holder asked by this command, and was granted the lease
+  -- the entry in which the holder asked by this command and got the lease
   abbrev grant_of : Command → Entry
   grant_of c = record { session = l.holder; command = c; reply = Granted l k }
 
@@ -45,7 +45,7 @@ module _ (l : LeaseRecord) (k : Kind) where
   unfolding next_outcome
   next-asked nodes past st session e = next-by nodes past st session (next_of nodes st) e
 
-  -- a lease is granted to the session that asks, by one of two commands
+  -- a lease is granted to the session that asks, by Lease or by Next
   pub asked : (nodes : List NodeInfo) (past : List Entry) (st : State) (session : SessionNo) (c : Command)
       → (step nodes past st session c).0 ≡ Granted l k → AsksFor l c × (session ≡ l.holder)
   asked nodes past st session (Lease s f) e =

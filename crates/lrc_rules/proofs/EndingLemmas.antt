@@ -1,4 +1,4 @@
--- A live lease outlasts the commands that cannot end it.
+-- A live lease stays live after each command that cannot end it.
 use Rattle.std.proofs.Common.{[], ◌+◌, ◌≡◌, ◌≢◌, inl, inr, Bool, true, not, List, ◌∷◌, filter, find, Option, Some, None, sym, ap, ◌∙◌, subst}
 use Rattle.std.specs.Option.{option_or}
 use Rattle.std.proofs.lemmas.Bool.{cases_Bool, ne_eqb}
@@ -24,7 +24,7 @@ use Rattle.lrc_rules.specs.Changes.{with_done, changed_by}
 use Rattle.lrc_rules.specs.Endings.{CanEnd}
 use Rattle.lrc_rules.proofs.StepLemmas.{step-changed}
 
--- what is found first is found first among those that are kept, if it is kept
+-- the first element that passes is also the first after a filter, if the filter keeps it
 pub find-filter : {X : Type 0} (p keep : X → Bool) (xs : List X) (x : X) → find p xs ≡ Some x → keep x ≡ true → find p (filter keep xs) ≡ Some x
 find-filter p keep [] x e kept = e
 find-filter {X} p keep (y ∷ ys) x e kept = elim (cases_Bool (p y)) [
@@ -81,7 +81,7 @@ module _ (st : State) (s : StripeNo) (f : Fragment) (l : LeaseRecord) (live : le
   changed-lasts _ Idle other = live
   changed-lasts _ _ other = live
 
-  -- a lease that is live is live after each command that cannot end it
+  -- a live lease stays live after each command that cannot end it
   pub lease-lasts-by : (nodes : List NodeInfo) (past : List Entry) (session : SessionNo) (c : Command) → ¬ (CanEnd st l c) → Lasts (step nodes past st session c).1
   lease-lasts-by nodes past session c other =
       subst Lasts (sym (step-changed nodes past st session c)) (changed-lasts c (step nodes past st session c).0 other)

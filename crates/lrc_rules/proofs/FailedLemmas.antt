@@ -1,4 +1,4 @@
--- What is left where a node failed.
+-- What is left after a node failed.
 use Rattle.std.proofs.Common.{◌≡◌, ◌≢◌, ◌↔◌, ◌&&◌, Bool, true, false, not, is_none, List, refl, sym, ap, ◌∙◌}
 use Rattle.std.specs.List.{Contains, list_any}
 use Rattle.std.proofs.lemmas.Bool.{not-true, and_parts, and_from, eqb-true, eqb-false, eq-eqb, ne_eqb}

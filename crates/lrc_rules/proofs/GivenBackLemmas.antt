@@ -1,4 +1,4 @@
--- Which answer to Abandon and to Revoke is told where, and what is left.
+-- When Abandon and Revoke get each reply, and what is left after them.
 use Rattle.std.proofs.Common.{◌≡◌, ◌≢◌, Bool, true, false, not, List, Option, Some, None, IsSome, is_none, ℕ, refl, sym, ap, ◌∙◌, subst}
 use Rattle.lrc_code.specs.declared.numbers.StripeNo.{StripeNo}
 use Rattle.lrc_code.specs.declared.numbers.SessionNo.{SessionNo}
@@ -19,10 +19,10 @@ use Rattle.lrc_rules.proofs.GrantingLemmas.{passed, stopped}
 use Rattle.lrc_rules.proofs.ReportedLemmas.{held-session, session-held, not-held, held-not, at-own, at-none}
 use Rattle.lrc_rules.proofs.MovedLemmas.{none-left}
 
--- ---- a lease that is given back
+-- ---- Abandon
 
 module _ (st : State) (session : SessionNo) (s : StripeNo) (f : Fragment) (e : ℕ) where
-  -- the session holds the live lease of the epoch
+  -- the session holds the live lease with this epoch
   abbrev pub IsHeld : Type 0
   IsHeld = (l : LeaseRecord) × IsReported st s f e l × (l.holder ≡ session)
 
@@ -32,7 +32,7 @@ module _ (st : State) (session : SessionNo) (s : StripeNo) (f : Fragment) (e : �
   abbrev pub IsOthers : SessionNo → Type 0
   IsOthers x = (l : LeaseRecord) × IsReported st s f e l × (l.holder ≡ x) × (x ≢ session)
 
-  -- what each answer says
+  -- what each reply to Abandon means
   abbrev pub Says : Reply → Type 0
   Says Ended = IsHeld
   Says (Refused refusal.UnknownStripe) = has_stripe st s ≡ false
@@ -60,11 +60,11 @@ module _ (st : State) (session : SessionNo) (s : StripeNo) (f : Fragment) (e : �
   unfolding abandon_outcome
   says = by-stripe (has_stripe st s) refl
 
-  -- what is told, is so
+  -- a reply is given only if what it means holds
   pub abandon-told : (r : Reply) → (abandon_outcome st session s f e).0 ≡ r → Says r
   abandon-told r told = subst Says told says
 
-  -- ---- what is so, is told
+  -- ---- and always if it holds
 
   answer-there : has_stripe st s ≡ true → (o : Option LeaseRecord) → at_epoch e (lease_of st s f) ≡ o
       → abandon_outcome st session s f e ≡ abandon_answer st session s f o
@@ -104,10 +104,10 @@ module _ (nodes : List NodeInfo) (st : State) (session : SessionNo) (s : StripeN
       subst (IsWithoutLease st s f)
       (sym (ap (λ (o : Outcome). o.1) (held-abandon st session s f e (abandon-told st session s f e Ended told)))) without-left
 
--- ---- a lease that is revoked
+-- ---- Revoke
 
 module _ (st : State) (s : StripeNo) (f : Fragment) where
-  -- what each answer says
+  -- what each reply to Revoke means
   abbrev pub SaysRevoke : Reply → Type 0
   SaysRevoke Ended = (has_stripe st s ≡ true) × IsSome (lease_of st s f)
   SaysRevoke (Refused refusal.UnknownStripe) = has_stripe st s ≡ false

@@ -29,7 +29,7 @@ use Rattle.lrc_rules.proofs.ClockLemmas.{tick-is, other-clock}
 abbrev AreCurrent : List Entry → List Lease → Type 0
 AreCurrent past leases = All (λ l. l.epoch ≡ grants past l.stripe l.fragment) leases
 
--- a live lease is of no fragment of which none was live
+-- if a fragment has no live lease, no live lease is of that fragment
 apart-from : (st : State) (s : StripeNo) (f : Fragment) (k : Lease) → lease_of st s f ≡ None → Contains st.leases k → is_of s f.value k ≡ false
 apart-from st s f k none here = find-none (is_of s f.value) st.leases k none here
 
@@ -41,7 +41,7 @@ turn-false k l miss = elim (cases_Bool (is_of k.stripe k.fragment.value l)) [
       let both : true ≡ false = sym (is_of-from l.stripe l.fragment.value k (sym parts.0) (sym parts.1)) ∙ miss in cc)
 ]
 
--- the epochs stay those of the last grants, with one more entry
+-- with one more entry, the epoch of each live lease is still that of the last grant
 current-push : (past : List Entry) (st : State) (e : Entry) (o : Outcome) → o.0 ≡ e.reply → Follows past st o → AreCurrent past st.leases
     → AreCurrent (past ++ e ∷ []) o.1.leases
 current-push past st e o told (inr none) current = All-members (λ l. l.epoch ≡ grants (past ++ e ∷ []) l.stripe l.fragment) o.1.leases (λ l here.
@@ -66,7 +66,7 @@ current-push past st e o told (inl grant) current = All-members (λ l. l.epoch �
 
 -- ---- the terms of leases
 
--- the clock has not come to the end of the lease, which is at most a term away
+-- the lease has not expired, and expires within a term
 abbrev IsRunning : ℕ → Lease → Type 0
 IsRunning clock l = (clock < l.expiry) × (l.expiry ≤ clock + term)
 
@@ -80,7 +80,7 @@ module _ (st : State) (running : (l : Lease) → Contains st.leases l → IsRunn
       let other : l.expiry ≢ st.clock + 1 = λ same. absurd (let off : not true ≡ true = rw (eq-eqb l.expiry (st.clock + 1) same) at both.1 in cc) in
       (omega (arith, was.0, other), omega (arith, was.1))
 
-  -- after a step that leaves the clock where it is
+  -- after a command that leaves the clock as it is
   still-running : (past : List Entry) (o : Outcome) → o.1.clock ≡ st.clock → Follows past st o → (l : Lease) → Contains o.1.leases l → IsRunning o.1.clock l
   still-running past o still (inr none) l here = rw still (running l (none.fewer l here))
   still-running past o still (inl grant) l here =
@@ -99,16 +99,16 @@ module _ (st : State) (running : (l : Lease) → Contains st.leases l → IsRunn
 
 -- ---- histories
 
--- the entries of a world are those that it began with, and those that followed
+-- the entries of a world are the ones that it started with, followed by the history
 past-from : (nodes : List NodeInfo) (w : World) (history : List Entry) → (fold (next_world nodes) w history).past ≡ w.past ++ history
 past-from nodes w [] = sym (append-nil w.past)
 past-from nodes w (e ∷ es) = past-from nodes (next_world nodes w e) es ∙ append_assoc w.past (e ∷ []) es
 
--- the world after a history has this very history
+-- the world after a history has exactly this history
 pub past-after : (nodes : List NodeInfo) (history : List Entry) → (world_after nodes history).past ≡ history
 past-after nodes history = past-from nodes first_world history
 
--- in this world all is good
+-- all is good in this world
 abbrev pub IsGoodIn : List NodeInfo → World → Type 0
 IsGoodIn nodes w = IsGood nodes w.past w.state
 
@@ -120,7 +120,7 @@ opening-good nodes = record {
   termed = All-nil (λ l. l.expiry ≤ 0 + term);
 }
 
--- An entry whose reply is the step's leaves all good,
+-- An entry with the reply that the rules give keeps all good,
 pub next-good : (nodes : List NodeInfo) → AreNodes nodes → (w : World) (e : Entry) → (outcome_in nodes w e.session e.command).0 ≡ e.reply
     → IsGoodIn nodes w → IsGoodIn nodes (next_world nodes w e)
 next-good nodes known w e told good =
@@ -136,7 +136,7 @@ next-good nodes known w e told good =
       termed = All-members (λ l. l.expiry ≤ next.clock + term) next.leases (λ l here. (runs l here).1);
     }
 
--- and so do legal entries.
+-- and so does a legal history.
 worlds-good : (nodes : List NodeInfo) → AreNodes nodes → (w : World) (history : List Entry) → IsLegalFrom nodes w history → IsGoodIn nodes w
     → IsGoodIn nodes (fold (next_world nodes) w history)
 worlds-good nodes known w [] legal good = good

@@ -1,4 +1,4 @@
--- Which answer to Lease is told where.
+-- When Lease gets each reply.
 use Rattle.std.proofs.Common.{◌≡◌, Bool, true, false, not, ◌&&◌, IsSomeAnd, List, Option, Some, None, refl, sym, ap, ◌∙◌, subst}
 use Rattle.lrc_code.specs.declared.numbers.StripeNo.{StripeNo}
 use Rattle.lrc_code.specs.declared.numbers.SessionNo.{SessionNo}
@@ -20,7 +20,7 @@ use Rattle.lrc_rules.specs.Outcomes.{Outcome, refuse_if}
 use Rattle.lrc_rules.specs.Leases.{new_lease, granted, lease_answer, lease_outcome}
 use Rattle.lrc_rules.specs.Granting.{IsOwed}
 
--- an outcome that does not refuse, and one that does
+-- the outcome if the condition holds, and if it does not
 pub passed : (met : Bool) (r : Refusal) (st : State) (other : Outcome) → met ≡ false → refuse_if met r st other ≡ other
 passed met r st other miss = rw miss refl
 
@@ -28,7 +28,7 @@ pub stopped : (met : Bool) (r : Refusal) (st : State) (other : Outcome) → met 
 stopped met r st other hit = rw hit refl
 
 module _ (nodes : List NodeInfo) (past : List Entry) (st : State) (session : SessionNo) (s : StripeNo) (f : Fragment) where
-  -- what each refusal says
+  -- what each refusal means
   abbrev pub SaysRefused : Refusal → Type 0
   SaysRefused refusal.UnknownStripe = has_stripe st s ≡ false
   SaysRefused (refusal.AlreadyLeased e) = (has_stripe st s ≡ true) × IsSomeAnd (lease_of st s f) (λ l. l.epoch ≡ e)
@@ -38,7 +38,7 @@ module _ (nodes : List NodeInfo) (past : List Entry) (st : State) (session : Ses
   SaysRefused (refusal.NoLawfulNode g) = (g ≡ f) × IsOwed nodes st s f × (chosen nodes st s f ≡ None)
   SaysRefused _ = ⊥
 
-  -- what each answer says
+  -- what each reply means
   abbrev pub Says : Reply → Type 0
   Says (Granted l k) =
       IsOwed nodes st s f × (chosen nodes st s f ≡ Some l.target) × (l ≡ new_lease past st session s f l.target) × (k ≡ kind nodes st s f)
@@ -80,11 +80,11 @@ module _ (nodes : List NodeInfo) (past : List Entry) (st : State) (session : Ses
   unfolding lease_outcome
   lease-says = by-stripe (has_stripe st s) refl
 
-  -- what is told, is so
+  -- a reply is given only if what it means holds
   pub lease-told : (r : Reply) → (lease_outcome nodes past st session s f).0 ≡ r → Says r
   lease-told r told = subst Says told lease-says
 
-  -- ---- what is so, is told
+  -- ---- and always if it holds
 
   answer-there : has_stripe st s ≡ true → lease_outcome nodes past st session s f ≡ lease_answer nodes past st session s f (lease_of st s f)
   unfolding lease_outcome

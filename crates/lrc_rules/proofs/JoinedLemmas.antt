@@ -1,4 +1,4 @@
--- No node is both gone and draining, and what is true of a node that joins.
+-- No node is both gone and draining, and what holds for a node that joins.
 use Rattle.std.proofs.Common.{[], ◌≡◌, ◌≢◌, ◌&&◌, inl, inr, Bool, true, false, not, eqb, List, ◌∷◌, fold, Option, Some, None, refl, sym, ap, ◌∙◌, subst}
 use Rattle.std.specs.List.{All}
 use Rattle.std.proofs.lemmas.Bool.{cases_Bool, eqb-true, eq-eqb}
@@ -74,7 +74,7 @@ module _ (st : State) (apart : NoneBoth st) where
   joined-apart n m gone =
       apart m (part-of (not (eqb n.value m.value)) (has_number st.gone m) (sym (left st.gone n m (eqb n.value m.value) refl) ∙ gone))
 
-  -- where a node that begins to drain is not gone
+  -- given that only a node that is not gone begins to drain
   changed-apart : (c : Command) (r : Reply) → ((n : NodeNo) → c ≡ Drain n → r ≡ Changed → has_number st.gone n ≡ false) → NoneBoth (changed_by st c r)
   changed-apart (Done s f e) Ended here = done-apart s f (lease_of st s f)
   changed-apart (Fail n) Changed here = gone-apart n
@@ -104,7 +104,7 @@ worlds-apart nodes w (e ∷ es) apart = worlds-apart nodes (next_world nodes w e
 state_after-apart : (nodes : List NodeInfo) (history : List Entry) → NoneBoth (state_after nodes history)
 state_after-apart nodes history = worlds-apart nodes first_world history (λ m gone. refl)
 
--- so each that is noted as draining is
+-- so each node in the list `draining` has the mode Draining
 pub all-draining : (nodes : List NodeInfo) (history : List Entry)
     → All (λ (n : NodeNo). mode_of (state_after nodes history) n ≡ Draining) (state_after nodes history).draining
 all-draining nodes history =
@@ -120,7 +120,7 @@ all-draining nodes history =
 
 -- ---- a node that joins
 
--- the node is active and not down, with no seat on it
+-- the node is active and not down, and has no held seat
 pub record IsJoined (n : NodeNo) (next : State) : Type 0 where
   pub active : mode_of next n ≡ Active
   pub up : is_down next n ≡ false

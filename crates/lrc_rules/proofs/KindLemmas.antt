@@ -1,4 +1,4 @@
--- From what a fragment is rebuilt, in words.
+-- How a fragment is rebuilt, in words.
 use Rattle.std.proofs.Common.{◌≡◌, ◌≢◌, ◌<◌, ◌↔◌, ℕ, get_or, Bool, true, false, if◌then◌else◌, nat_lt, IsTrue, IsSome, IsSomeAnd, Option, Some, None, List, refl, sym, ap, ap₂, ◌∙◌, subst, arith}
 use Rattle.std.specs.List.{AllPairs, Contains, list_any}
 use Rattle.std.specs.Option.{option_map_or}
@@ -28,12 +28,12 @@ use Rattle.lrc_rules.proofs.MemberLemmas.{All-members, filter-member, member-fil
 use Rattle.lrc_rules.proofs.RisingLemmas.{IsStrict, strict-same}
 use Rattle.lrc_terms.proofs.CodeListLemmas.{code-fragments, code-rising}
 
--- ---- rising lists
+-- ---- ascending lists
 
 abbrev pub IsRising : List Fragment → Type 0
 IsRising fs = AllPairs (λ f g. f.value < g.value) fs
 
--- one number below another
+-- the first fragment has the lower number
 abbrev is_lower : Fragment → Fragment → Bool
 is_lower f g = nat_lt f.value g.value
 
@@ -55,16 +55,16 @@ lower-order = record {
 rising-strict : (fs : List Fragment) → IsRising fs → IsStrict is_lower fs
 rising-strict fs rising = λ i j d below within. lt-ltb (get_or fs i d).value (get_or fs j d).value (rising i j d below within)
 
--- rising lists of the same members are one list
+-- ascending lists with the same members are equal
 rising-same : (fs gs : List Fragment) → IsRising fs → IsRising gs
     → ((h : Fragment) → Contains fs h → Contains gs h) → ((h : Fragment) → Contains gs h → Contains fs h) → fs ≡ gs
 rising-same fs gs up down =
     strict-same is_lower lower-order (λ f g h k. equal_fragments f g (lower-tie f.value g.value h k)) fs gs (rising-strict fs up)
     (rising-strict gs down)
 
--- ---- the others of a class
+-- ---- the other members of a class
 
--- a fragment that shares a class with another is one of the code's
+-- a fragment that shares a class with another is one of the code
 share-own : (code : Code) (f g : Fragment) → share_class code f g ≡ true → Contains (fragments code) g
 share-own code f g share =
     let class = (are_one_class-iff (class_of code f.value) (class_of code g.value)).0 share in
@@ -89,7 +89,7 @@ others-rising code f = AllPairs-filter (λ f g. f.value < g.value) (is_other cod
 
 -- ---- kinds
 
--- which code has told the kind, and from which fragments
+-- the code of a local kind, and its sources
 kind-given : (code : Code) (os sources : List Fragment) → local_kind code os ≡ Local sources → (code ≡ Wide) × (os ≡ sources)
 kind-given Wide os sources e = (refl, cc)
 kind-given Narrow os sources e = absurd (cc)
@@ -131,7 +131,7 @@ module _ (nodes : List NodeInfo) (st : State) (s : StripeNo) (f : Fragment) wher
   unfolding kind kind-by
   kind-is here near at_home in_group = ap₂ kind-by at_home in_group
 
-  -- the test that the fragment has a home that is online
+  -- the test of a home on an online node
   home-by : (o : Option Seat) → option_map_or (λ seat. online_at nodes st seat.node) o false ≡ true
       → IsSomeAnd o (λ seat. IsTrue (online_at nodes st seat.node))
   home-by (Some seat) e = e
@@ -149,7 +149,7 @@ module _ (nodes : List NodeInfo) (st : State) (s : StripeNo) (f : Fragment) wher
   not-home away true e = absurd (away (home-by (homes_of st.homes s f.value) e))
   not-home away false e = e
 
-  -- the test that no other of the class is missing
+  -- the test that no other member of the group is missing
   local-group : home ≡ false → local ≡ true → IsFromItsGroup nodes st s f around
   local-group away e =
       let parts = and_parts _ _ e in
@@ -195,7 +195,7 @@ module _ (nodes : List NodeInfo) (st : State) (s : StripeNo) (f : Fragment) wher
       let given = kind3-given own around sources told.0 in
       (given.0, subst (IsFromItsGroup nodes st s f) given.1 told.1)
 
-  -- a fragment that may be rebuilt from its group is
+  -- a fragment that can be rebuilt from its group is rebuilt so
   group-told : (sources : List Fragment) → IsFromItsGroup nodes st s f sources → kind nodes st s f ≡ local_kind own sources
   group-told sources from =
       kind-is false true (not-home from.away home refl) (group-local sources from) ∙ ap (local_kind own) (group-sources sources from)

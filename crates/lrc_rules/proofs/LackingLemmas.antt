@@ -1,4 +1,4 @@
--- A fragment that the code of a stripe lacks has no home, no lease, and needs none.
+-- A fragment that the code of a stripe lacks has no home and no lease, and needs none.
 use Rattle.std.proofs.Common.{◌≡◌, ◌≢◌, ℕ, ◌≤◌, Bool, true, false, ◌&&◌, List, Option, Some, None, refl, sym, ap, ◌∙◌, subst}
 use Rattle.std.specs.Option.{option_map_or}
 use Rattle.std.proofs.lemmas.Bool.{le-ltb}

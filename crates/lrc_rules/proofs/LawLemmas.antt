@@ -1,4 +1,4 @@
--- What the reply to a command says of the state before it, and of the one that it leaves.
+-- What the replies to Place and Place6 mean for the state before.
 use Rattle.std.proofs.Common.{[], inl, inr, ◌≡◌, ◌≢◌, Bool, true, false, List, ◌∷◌, ◌++◌, length, map, drop, fold, Option, Some, None, Result, Ok, Err, refl, sym, ap, ◌∙◌, append_assoc, append-nil, arith}
 use Rattle.std.specs.Option.{option_map_or}
 use Rattle.std.proofs.lemmas.List.Folds.{fold_stays}
@@ -21,14 +21,14 @@ use Rattle.lrc_rules.proofs.StepLemmas.{place-there, place-passed, placed-all, s
 use Rattle.lrc_rules.specs.Outcomes.{Outcome}
 use Rattle.lrc_rules.specs.Steps.{with_stripe, placed_reply, place_answer, place_outcome}
 
--- the reply to a stripe that is placed is no refusal
+-- the reply of a successful Place is not a refusal
 pub never-refused : (code : Code) (seats : List Seat) (r : Refusal) → placed_reply code seats ≢ Refused r
 never-refused Wide seats r e = cc
 never-refused Narrow seats r e = cc
 
 -- ---- seats chosen one after the other
 
--- there is a seat for each fragment
+-- there is one seat for each fragment
 pub chosen-length : (nodes : List NodeInfo) (st : State) (s : StripeNo) (fs : List Fragment) (seats : List Seat) → AreChosen nodes st s fs seats
     → length seats ≡ length fs
 chosen-length nodes st s [] [] all = refl
@@ -36,11 +36,11 @@ chosen-length nodes st s (f ∷ fs) (x ∷ xs) all = let rest = chosen-length no
 chosen-length nodes st s [] (x ∷ xs) all = absurd all
 chosen-length nodes st s (f ∷ fs) [] all = absurd all
 
--- what one more fragment gives, by what was chosen for it
+-- the placement after one more fragment, by the seat that is chosen for it
 abbrev turn : StripeNo → State → Fragment → Option Seat → Result State Fragment
 turn s st f o = option_map_or (λ seat. Ok (with_home st s f seat)) o (Err f)
 
--- with these seats the placement goes through
+-- with these seats the placement succeeds
 chosen-placed : (nodes : List NodeInfo) (s : StripeNo) (st : State) (fs : List Fragment) (seats : List Seat) → AreChosen nodes st s fs seats
     → fold (place_next nodes s) (Ok st) fs ≡ Ok (record st { homes = st.homes ++ held_at s fs seats })
 chosen-placed nodes s st [] [] all = ap (λ (hs : List Held). Ok (record st { homes = hs })) (sym (append-nil st.homes))
@@ -51,7 +51,7 @@ chosen-placed nodes s st (f ∷ fs) (x ∷ xs) all =
 chosen-placed nodes s st [] (x ∷ xs) all = absurd all
 chosen-placed nodes s st (f ∷ fs) [] all = absurd all
 
--- it stops at the first fragment that finds no seat
+-- it stops at the first fragment without a seat
 none-placed : (nodes : List NodeInfo) (s : StripeNo) (st : State) (fs : List Fragment) (f : Fragment) → IsFirstWithout nodes st s fs f
     → fold (place_next nodes s) (Ok st) fs ≡ Err f
 none-placed nodes s st [] f first = absurd first
@@ -85,7 +85,7 @@ module _ (nodes : List NodeInfo) (st : State) (code : Code) (s : StripeNo) where
   chosen-all : (seats : List Seat) → AreChosen nodes begun s (fragments code) seats → placed nodes begun s ≡ Ok (with_placed st code s seats)
   chosen-all seats all = placed-all nodes st code s ∙ chosen-placed nodes s begun (fragments code) seats all
 
-  -- seats that are chosen for a stripe that is absent are the reply
+  -- if the store lacks the stripe, the chosen seats are the reply
   pub chosen-told : (seats : List Seat) → has_stripe st s ≡ false → AreChosen nodes begun s (fragments code) seats
       → (place_outcome nodes st code s).0 ≡ placed_reply code seats
   chosen-told seats absent all =
@@ -98,7 +98,7 @@ module _ (nodes : List NodeInfo) (st : State) (code : Code) (s : StripeNo) where
   all-none : (f : Fragment) → placed nodes begun s ≡ Err f → IsFirstWithout nodes begun s (fragments code) f
   all-none f e = placed-none nodes s begun (fragments code) f (sym (placed-all nodes st code s) ∙ e)
 
-  -- and so is the first fragment that finds no seat
+  -- and so is the refusal for the first fragment without a seat
   pub none-told : (f : Fragment) → has_stripe st s ≡ false → IsFirstWithout nodes begun s (fragments code) f
       → (place_outcome nodes st code s).0 ≡ Refused (refusal.NoLawfulNode f)
   none-told f absent first = ap (λ (o : Outcome). o.0) (place-passed nodes st code s absent ∙ ap (place_answer st code) (none-all f first))

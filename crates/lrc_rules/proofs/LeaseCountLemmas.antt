@@ -1,4 +1,4 @@
--- Which leases a command leaves live, and how many it grants.
+-- Which leases are live after a command, and how many it grants.
 use Rattle.std.proofs.Common.{[], ◌≡◌, ◌⊎◌, ℕ, ◌+◌, inl, inr, Bool, true, false, not, cond, List, ◌∷◌, ◌++◌, filter, Option, Some, None, refl, sym, ap, ◌∙◌, subst, arith}
 use Rattle.std.specs.List.{Contains}
 use Rattle.std.proofs.lemmas.List.Sums.{sum_by-append, sum_by-cons}
@@ -32,7 +32,7 @@ use Rattle.lrc_rules.proofs.ReplyLemmas.{step-gets}
 
 -- ---- how many grants
 
--- one more entry is one more grant, or none
+-- one more entry adds one grant or none
 pub grants-push : (past : List Entry) (e : Entry) (s : StripeNo) (f : Fragment)
     → grants (past ++ e ∷ []) s f ≡ grants past s f + cond (is_grant s f e.reply) 1 0
 grants-push past e s f =
@@ -41,7 +41,7 @@ grants-push past e s f =
 
 -- ---- what is left of the leases
 
--- the reply grants a lease of a fragment that had none, and the lease is the last of those that are live
+-- the reply grants a lease of a fragment that had none, and the lease is the last of the live ones
 pub record IsGranted (past : List Entry) (st : State) (r : Reply) (next : State) : Type 0 where
   pub lease : LeaseRecord
   pub from : Kind
@@ -51,7 +51,7 @@ pub record IsGranted (past : List Entry) (st : State) (r : Reply) (next : State)
   pub epoch : lease.epoch ≡ grants past lease.stripe lease.fragment + 1
   pub expiry : lease.expiry ≡ st.clock + term
 
--- the reply grants none, and no lease is live that was not before
+-- the reply grants nothing, and each live lease was live before
 pub record GrantsNone (st : State) (r : Reply) (next : State) : Type 0 where
   pub none : (s : StripeNo) (f : Fragment) → is_grant s f r ≡ false
   pub fewer : (l : LeaseRecord) → Contains next.leases l → Contains st.leases l
@@ -86,7 +86,7 @@ module _ (nodes : List NodeInfo) (past : List Entry) (st : State) (session : Ses
   unfolding lease_outcome
   lease-follows = refused-follows past st (not (has_stripe st s)) refusal.UnknownStripe _ (leased-follows (lease_of st s f) refl)
 
--- the most urgent lease
+-- Next
 module _ (nodes : List NodeInfo) (past : List Entry) (st : State) (session : SessionNo) where
   next-by : (o : Option StripeFragment) → Follows past st (next_answer nodes past st session o)
   next-by (Some p) = lease-follows nodes past st session p.0 p.1
@@ -130,7 +130,7 @@ other-follows nodes past st session c other = inr (record {
       (subst (λ (next : State). Contains next.leases l) (step-changed nodes past st session c) here);
 })
 
--- Each command grants one lease, of a fragment that had none, or none; and all other live leases were there before.
+-- Each command grants at most one lease, of a fragment that had none; all other live leases were live before.
 pub step-follows : (nodes : List NodeInfo) (past : List Entry) (st : State) (session : SessionNo) (c : Command)
     → Follows past st (step nodes past st session c)
 step-follows nodes past st session (Lease s f) = lease-follows nodes past st session s f

@@ -1,4 +1,4 @@
--- Leases that are granted and that end leave the stripes seated.
+-- Granting and ending leases keeps the seats in order.
 use Rattle.std.proofs.Common.{[], ◌≡◌, ◌≢◌, IsTrue, Bool, true, false, not, List, ◌∷◌, map, filter, Some, None, refl, sym, ap, ◌∙◌, subst}
 use Rattle.std.specs.List.{Contains}
 use Rattle.std.proofs.lemmas.Bool.{not-true, not_from_true, eq-eqb}
@@ -23,7 +23,7 @@ use Rattle.lrc_rules.proofs.SeatingLists.{pairs-map}
 use Rattle.lrc_rules.proofs.PairLemmas.{All-kept, pairs-kept, beside-left_out}
 use Rattle.lrc_rules.proofs.SeatingLemmas.{HasNone, held_on, IsWithin, MayStand, KeepApart-turn, held-single, held-standing, inserted-seated, leased-seated, choice-stands}
 
--- some homes and some leases left out
+-- removing some homes and some leases
 pub kept-seated : (nodes : List NodeInfo) (st : State) (p : Held → Bool) (q : Lease → Bool) → AreSeated nodes st
     → AreSeated nodes (record st { homes = filter p st.homes; leases = filter q st.leases })
 kept-seated nodes st p q seated =
@@ -57,7 +57,7 @@ is_home_of-own s f h stripe fragment =
           (ap (λ (g : Fragment). g.value) fragment),
     ) refl
 
--- homes alone left out, and leases alone
+-- removing only homes, and removing only leases
 pub homes-seated : (nodes : List NodeInfo) (st : State) (p : Held → Bool) → AreSeated nodes st
     → AreSeated nodes (record st { homes = filter p st.homes })
 homes-seated nodes st p seated =
@@ -70,7 +70,7 @@ leases-seated nodes st q seated =
     subst (λ (hs : List Held). AreSeated nodes (record st { homes = hs; leases = filter q st.leases })) (filter-all st.homes)
     (kept-seated nodes st (λ h. true) q seated)
 
--- a lease granted on a chosen seat, for a fragment that has none
+-- granting a lease on the chosen seat, for a fragment without one
 pub granted-seated : (nodes : List NodeInfo) → AreNodes nodes → (st : State) (l : Lease) → AreSeated nodes st
     → IsChoice nodes st l.stripe l.fragment l.target → Contains st.stripes l.stripe → IsTrue (has_fragment (code_of st l.stripe) l.fragment.value)
     → lease_of st l.stripe l.fragment ≡ None → AreSeated nodes (with_lease st l)
@@ -78,7 +78,7 @@ granted-seated nodes known st l seated choice there own none =
     leased-seated nodes st seated l (choice-stands nodes known st l.stripe l.fragment l.target choice there own) none
 
 module _ (nodes : List NodeInfo) (st : State) (s : StripeNo) (f : Fragment) where
-  -- the lease of a fragment ended
+  -- ending the lease of a fragment
   pub ended-seated : AreSeated nodes st → AreSeated nodes (without_lease st s f)
   ended-seated seated = leases-seated nodes st (λ l. not (is_of s f.value l)) seated
 
@@ -103,7 +103,7 @@ module _ (nodes : List NodeInfo) (st : State) (s : StripeNo) (f : Fragment) wher
     among : Contains (seats_of st) (held_by l)
     among = Contains-append_right st.homes (map held_by st.leases) (held_by l) (map-member held_by st.leases l found.0)
 
-    -- with the lease taken out its target may stand as a home
+    -- after the lease is removed, its target can become a home
     target-stands : MayStand nodes cleared (held_by l)
     target-stands = record {
       standing = All-contains (λ h. IsStanding nodes st h.seat) (seats_of st) (held_by l) (held-standing nodes st seated) among;
@@ -121,7 +121,7 @@ module _ (nodes : List NodeInfo) (st : State) (s : StripeNo) (f : Fragment) wher
     left-none = All-members (λ h. h.stripe ≡ s → h.fragment ≢ f) (filter p st.homes) (λ h here stripe fragment.
         (let both : true ≡ false = sym (is_home_of-own s f h stripe fragment) ∙ not-true _ (filter-member p st.homes h here).1 in cc))
 
-    -- the target of the lease as its fragment's home
+    -- the target of the lease becomes its fragment's home
     pub moved-seated : AreSeated nodes (moved_in st s f l.target)
     moved-seated =
         inserted-seated nodes cleared (kept-seated nodes st p q seated) (held_on s f l.target)

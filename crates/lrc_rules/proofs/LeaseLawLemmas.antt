@@ -1,4 +1,4 @@
--- What a grant, and what a report of another epoch, does to the live leases.
+-- What a grant means for the live leases, and what Done and Abandon do with another epoch.
 use Rattle.std.proofs.Common.{◌≡◌, ◌≢◌, ℕ, inl, inr, Bool, true, false, not, ◌&&◌, if◌then◌else◌, nat_eq, List, Option, Some, None, refl, sym, ap, ◌∙◌, subst}
 use Rattle.std.proofs.lemmas.Bool.{cases_Bool, eqb-true, ne_eqb, and_parts}
 use Rattle.std.proofs.lemmas.List.Elements.{All-contains}
@@ -54,14 +54,14 @@ module _ (nodes : List NodeInfo) (past : List Entry) (st : State) (session : Ses
   none-live : at_epoch e (lease_of st s f) ≡ None
   none-live = none-at e (lease_of st s f) (λ l live same. other (sym same ∙ live-epoch nodes past st s f l good live))
 
-  -- a report of another epoch is refused
+  -- Done with another epoch is refused
   pub done-stale : done_outcome nodes st session s f e ≡ refused (if has_stripe st s then refusal.Stale else refusal.UnknownStripe) st
   unfolding done_outcome
   done-stale =
       ap (λ (o : Option LeaseRecord). refuse_if (not (has_stripe st s)) refusal.UnknownStripe st (done_answer nodes st session s f o)) none-live
       ∙ stale-by st (has_stripe st s)
 
-  -- and so is a lease of another epoch that is given back
+  -- and so is Abandon with another epoch
   pub abandon-stale : abandon_outcome st session s f e ≡ refused (if has_stripe st s then refusal.Stale else refusal.UnknownStripe) st
   unfolding abandon_outcome
   abandon-stale =
@@ -74,7 +74,7 @@ same_granted : (l m : LeaseRecord) (k j : Kind) → Granted l k ≡ Granted m j 
 same_granted l m k j e = (cc, cc)
 
 module _ (nodes : List NodeInfo) (past : List Entry) (st : State) (session : SessionNo) (s : StripeNo) (f : Fragment) (l : LeaseRecord) (k : Kind) where
-  -- the lease that was told is the new one, on the chosen seat, and is live
+  -- the lease in the reply is the new one, on the chosen seat, and is live
   pub record IsNew (o : Outcome) : Type 0 where
     pub live : lease_of o.1 s f ≡ Some l
     pub seat : chosen nodes st s f ≡ Some l.target
@@ -119,7 +119,7 @@ module _ (nodes : List NodeInfo) (past : List Entry) (st : State) (session : Ses
 
 -- ---- other leases
 
--- a lease of the one fragment is none of the other
+-- a lease of one fragment is not a lease of the other
 pub not-both : (s r : StripeNo) (f g : Fragment) → (r ≡ s → g ≢ f) → (same_stripe s r && nat_eq f.value g.value) ≡ false
 not-both s r f g apart = elim (cases_Bool (same_stripe s r && nat_eq f.value g.value)) [
   | inr other ↦ other

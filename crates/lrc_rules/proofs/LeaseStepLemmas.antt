@@ -1,4 +1,4 @@
--- The commands of repair leases leave the stripes seated.
+-- The commands on leases keep the seats in order.
 use Rattle.std.proofs.Common.{◌≡◌, ℕ, IsTrue, inl, inr, true, not, nat_eq, List, Option, Some, None, refl, subst}
 use Rattle.std.proofs.lemmas.Bool.{cases_Bool, eqb-true, and_parts}
 use Rattle.std.proofs.lemmas.Option.{same_Some}
@@ -24,7 +24,7 @@ use Rattle.lrc_rules.proofs.LeaseGoodLemmas.{granted-seated}
 use Rattle.lrc_rules.proofs.LookUpLemmas.{stripe-there}
 use Rattle.lrc_rules.specs.declared.refusal.Refusal.TheVariants as refusal
 
--- what has an epoch is there
+-- a lease that is found by epoch is the live lease, and has the epoch
 pub at_epoch-some : (e : ℕ) (o : Option Lease) (l : Lease) → at_epoch e o ≡ Some l → (o ≡ Some l) × (l.epoch ≡ e)
 at_epoch-some e None l is = absurd (let both : None ≡ Some l = is in cc)
 at_epoch-some e (Some k) l is = elim (cases_Bool (nat_eq k.epoch e)) [
@@ -32,7 +32,7 @@ at_epoch-some e (Some k) l is = elim (cases_Bool (nat_eq k.epoch e)) [
   | inr miss ↦ absurd (let both : None ≡ Some l = rw miss at is in cc)
 ]
 
--- what needs a lease is a fragment that the stripe's code has
+-- a fragment that needs a lease is one of the stripe's code
 pub needs-own : (nodes : List NodeInfo) (st : State) (s : StripeNo) (f : Fragment) → needs nodes st s f ≡ true → has_fragment (code_of st s) f.value ≡ true
 needs-own nodes st s f e = (and_parts (has_fragment (code_of st s) f.value) _ e).0
 
@@ -64,7 +64,7 @@ module _ (nodes : List NodeInfo) (known : AreNodes nodes) (past : List Entry) (s
   next-answered (Some p) seated = lease-seated nodes known past st session p.0 p.1 seated
   next-answered None seated = seated
 
-  -- the most urgent lease
+  -- Next
   pub next-seated : AreSeated nodes st → AreSeated nodes (next_outcome nodes past st session).1
   unfolding next_outcome
   next-seated seated = next-answered (next_of nodes st) seated

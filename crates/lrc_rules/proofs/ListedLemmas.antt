@@ -1,4 +1,4 @@
--- Which stripes the lists of work and of risk have, and in which order.
+-- Which stripes the work list and the risk list have, and in which order.
 use Rattle.std.proofs.Common.{◌≡◌, ◌≢◌, Bool, true, not, List, map, filter, get_or, refl, sym, ap, ◌∙◌, subst}
 use Rattle.std.specs.List.{AllPairs, Contains}
 use Rattle.std.proofs.lemmas.Bool.{eq-eqb}
@@ -39,7 +39,7 @@ whole-not Unavailable other = refl
 whole-not Lost other = refl
 
 module _ (nodes : List NodeInfo) (st : State) where
-  -- ---- stripes of one kind, by rank and number
+  -- ---- the stripes that pass a test, by rank and number
 
   listed : (test : StripeNo → Bool) (s : StripeNo) → Contains (by_rank nodes st (filter test st.stripes)) s
       → (has_stripe st s ≡ true) × (test s ≡ true)

@@ -1,4 +1,4 @@
--- A node on which a command neither gives nor takes a seat keeps its load.
+-- A node keeps its load if a command neither gives nor takes a seat on it.
 use Rattle.std.proofs.Common.{[], ◌≡◌, ap₂, ℕ, ◌+◌, cond, Bool, true, false, not, ◌&&◌, eqb, List, ◌∷◌, ◌++◌, map, filter, Option, Some, None, refl, sym, ap, ◌∙◌, subst, inl, inr, zero-add, arith}
 use Rattle.std.proofs.lemmas.List.{map-append}
 use Rattle.std.specs.List.{list_any}
@@ -35,16 +35,16 @@ use Rattle.lrc_rules.proofs.MemberLemmas.{find-member, list_any-member}
 use Rattle.lrc_rules.proofs.StepLemmas.{step-changed}
 use Rattle.lrc_rules.proofs.TakenLemmas.{load-parts}
 
--- a seat counts for the node that it is on
+-- the number of seats, 0 or 1, that a seat adds to the load of a node
 abbrev counts : NodeNo → Seat → ℕ
 counts n seat = cond (eqb seat.node.value n.value) 1 0
 
--- one seat more that is on another node
+-- one more seat on another node
 load-other : (n : NodeNo) (seat : Seat) (seats : List Seat) → same_node seat.node n ≡ false → load_of (seat ∷ seats) n ≡ load_of seats n
 load-other n seat seats other = sum_by-cons (counts n) seat seats ∙ (ap (λ (b : Bool). cond b 1 0 + load_of seats n) other ∙ zero-add (load_of seats n))
 
 module _ {X : Type 0} (seat : X → Seat) (n : NodeNo) where
-  -- seats that are taken out, none of which is on the node
+  -- removing seats, none of which is on the node
   load-unless : (bad : X → Bool) (xs : List X) → list_any (λ x. bad x && same_node (seat x).node n) xs ≡ false
       → load_of (map seat (filter (λ x. not (bad x)) xs)) n ≡ load_of (map seat xs) n
   load-unless bad [] none = refl
@@ -60,7 +60,7 @@ module _ {X : Type 0} (seat : X → Seat) (n : NodeNo) where
             rw goes (rest ∙ sym (load-other n (seat x) (map seat xs) other))
       ]
 
-  -- seats that are added, none of which is on the node
+  -- adding seats, none of which is on the node
   load-with : (xs ys : List X) → load_of (map seat ys) n ≡ 0 → load_of (map seat (xs ++ ys)) n ≡ load_of (map seat xs) n
   load-with xs ys none =
       ap (λ (seats : List Seat). load_of seats n) (map-append seat xs ys)
@@ -69,7 +69,7 @@ module _ {X : Type 0} (seat : X → Seat) (n : NodeNo) where
       add-zero : (k : ℕ) → k + 0 ≡ k
       add-zero k = omega arith
 
--- the seats of a stripe that is placed
+-- the seats of a new stripe
 held-none : (n : NodeNo) (s : StripeNo) (fs : List Fragment) (seats : List Seat) → list_any (λ seat. same_node seat.node n) seats ≡ false
     → load_of (map (λ (h : Held). h.seat) (held_at s fs seats)) n ≡ 0
 held-none n s [] [] none = refl
@@ -83,7 +83,7 @@ module _ (st : State) (n : NodeNo) where
   abbrev Keeps : State → Type 0
   Keeps next = load next n ≡ load st n
 
-  -- where the homes and the targets on the node are as many as they were
+  -- given that the homes and the targets on the node are as many as before
   by-parts : (next : State) → load_of (map (λ (h : Held). h.seat) next.homes) n ≡ load_of (map (λ (h : Held). h.seat) st.homes) n
       → load_of (map (λ (l : LeaseRecord). l.target) next.leases) n ≡ load_of (map (λ (l : LeaseRecord). l.target) st.leases) n → Keeps next
   by-parts next homes targets = load-parts next n ∙ ap₂ (λ (a b : ℕ). a + b) homes targets ∙ sym (load-parts st n)
@@ -144,7 +144,7 @@ module _ (st : State) (n : NodeNo) where
   changed-keeps _ Idle other = refl
   changed-keeps _ _ other = refl
 
--- a node whose load the command can't change keeps it
+-- a node keeps its load if the command cannot change it
 pub load-keeps : (nodes : List NodeInfo) (past : List Entry) (st : State) (session : SessionNo) (n : NodeNo) (c : Command)
     → can_change_load st n c (step nodes past st session c).0 ≡ false → load (step nodes past st session c).1 n ≡ load st n
 load-keeps nodes past st session n c other =

@@ -1,4 +1,4 @@
--- What is answered of a state, in words.
+-- What a read returns, in words.
 use Rattle.std.proofs.Common.{◌≡◌, ◌↔◌, ℕ, ◌<◌, ◌≤◌, Bool, true, false, if◌then◌else◌, eqb, List, length, map, get_or, Option, Some, None, option_map, IsSome, arith, refl, sym, ap, ap₂, ◌∙◌, subst, inl, inr}
 use Rattle.std.specs.Int.{bit_at}
 use Rattle.std.specs.Option.{option_map_or}
@@ -26,7 +26,7 @@ use Rattle.lrc_rules.specs.States.{State, has_stripe, code_of, load, mode_of, is
 use Rattle.lrc_rules.proofs.NodeLemmas.{member-node_at}
 use Rattle.lrc_rules.proofs.StateLemmas.{none-beyond}
 
--- ---- something where a test is met
+-- ---- a value if a test holds
 
 module _ {X : Type 0} (x : X) where
   pub if-some : (b : Bool) (y : X) → (if b then Some x else None) ≡ Some y → (b ≡ true) × (x ≡ y)
@@ -65,7 +65,7 @@ module _ (st : State) (s : StripeNo) where
 
 -- ---- missing fragments
 
--- the bits of the number of a set are the set's members, where the set has none beyond the fragments
+-- the bits of a mask are the members of its set, if the set has only fragments of the code
 mask-members : (code : Code) (m : FragmentSet) → ((f : ℕ) → fragment_count code ≤ f → m f ≡ false) → (f : ℕ) → bits_set (bits_of code m) f ≡ m f
 mask-members code m alone f = elim (cases_lt f (fragment_count code)) [
   | inl within ↦ bits_set-bits_of code m f within
@@ -84,7 +84,7 @@ same-bit a b few few' same = elim (cases_eq a 1) [
   ]
 ]
 
--- numbers with the same members are one
+-- masks with the same members are equal
 same-mask : (a b : ℕ) → ((f : ℕ) → bits_set a f ≡ bits_set b f) → a ≡ b
 same-mask a b same = same_from_bits a b (λ i. same-bit (bit_at a i) (bit_at b i) (bit_at-lt a i) (bit_at-lt b i) (same i))
 
@@ -125,7 +125,7 @@ module _ (st : State) (s : StripeNo) where
   abbrev all_homes : List (Option Seat)
   all_homes = map (λ (f : Fragment). homes_of st.homes s f.value) (fragments Wide)
 
-  -- the seat of a fragment stands at its number
+  -- the seat of a fragment is at the position of its number
   abbrev IsAt : List (Option Seat) → Fragment → Type 0
   IsAt seats f = get_or seats f.value None ≡ homes_of st.homes s f.value
 

@@ -1,4 +1,4 @@
--- What look-ups find: the home and the lease of a fragment.
+-- The home and the lease that are found for a fragment.
 use Rattle.std.proofs.Common.{◌≡◌, ◌≢◌, ℕ, Bool, true, false, not, if◌then◌else◌, ◌&&◌, nat_eq, eqb, List, [], ◌∷◌, map, filter, find, Option, Some, None, option_map, refl, sym, ap, ◌∙◌, subst, inl, inr}
 use Rattle.std.specs.List.{AllPairs, Contains}
 use Rattle.std.specs.Option.{option_or}
@@ -24,15 +24,15 @@ use Rattle.lrc_rules.specs.Steps.{is_other, without_stripe}
 use Rattle.lrc_rules.specs.Goodness.{AreSeated}
 use Rattle.lrc_rules.proofs.MemberLemmas.{find-member, map-member, Contains-cases, not-Contains-nil, list_any-member, member-list_any, AllPairs-head, AllPairs-tail}
 
--- a stripe that the test finds is one of the stripes
+-- a stripe that the test finds is in the list
 pub stripe-there : (st : State) (s : StripeNo) → has_stripe st s ≡ true → Contains st.stripes s
 stripe-there st s e =
     let m = member-list_any (same_stripe s) st.stripes e in subst (Contains st.stripes) (sym (equal_stripes s m.0 (eqb-true _ _ m.2))) m.1
 
--- ---- look-ups in lists that are filtered
+-- ---- searches in filtered lists
 
 module _ {X : Type 0} (test kept : X → Bool) where
-  -- a filter that keeps all that the look-up may find
+  -- a filter that keeps all that the search could find
   pub find-kept : ((x : X) → test x ≡ true → kept x ≡ true) → (xs : List X) → find test (filter kept xs) ≡ find test xs
   find-kept keeps [] = refl
   find-kept keeps (x ∷ xs) = elim (cases_Bool (kept x)) [
@@ -43,7 +43,7 @@ module _ {X : Type 0} (test kept : X → Bool) where
     ]
   ]
 
-  -- a filter that keeps nothing of it
+  -- a filter that keeps nothing that the search could find
   pub find-gone : ((x : X) → test x ≡ true → kept x ≡ false) → (xs : List X) → find test (filter kept xs) ≡ None
   find-gone drops [] = refl
   find-gone drops (x ∷ xs) = elim (cases_Bool (kept x)) [
@@ -62,18 +62,18 @@ test-sym a b = elim (cases_Bool (eqb a b)) [
 
 -- ---- homes
 
--- the home is of the fragment of this number
+-- the home is of this fragment
 abbrev pub is_of : StripeNo → ℕ → Held → Bool
 is_of s f h = nat_eq h.stripe.value s.value && nat_eq h.fragment.value f
 
 abbrev pub seat_in : Option Held → Option Seat
 seat_in o = option_map (λ h. h.seat) o
 
--- a fragment's look-up finds a home of it
+-- the home that is found for a fragment is one of its homes
 pub found-home : (st : State) (s : StripeNo) (f : ℕ) (h : Held) → home_of st.homes s f ≡ Some h → Contains st.homes h × (is_of s f h ≡ true)
 found-home st s f h e = let m = find-member (is_of s f) st.homes h e in (m.0, m.1)
 
--- where each fragment has one home at most, each home is the one that is found
+-- if each fragment has at most one home, each home is found
 pub home-only : (homes : List Held) → AllPairs (λ h g. h.stripe ≡ g.stripe → h.fragment ≢ g.fragment) homes → (h : Held) → Contains homes h → home_of homes h.stripe h.fragment.value ≡ Some h
 home-only [] single h here = absurd (not-Contains-nil h here)
 home-only (x ∷ xs) single h here = elim (Contains-cases x h xs here) [
@@ -98,7 +98,7 @@ module _ (nodes : List NodeInfo) (st : State) (s : StripeNo) (f : ℕ) (seated :
       let hit : has_stripe st s ≡ true = list_any-member (λ (u : StripeNo). eqb s.value u.value) st.stripes h.stripe there (eq-eqb s.value h.stripe.value same) in
       absurd (let both : true ≡ false = sym hit ∙ absent in cc)
 
-  -- a stripe that is not there has no homes
+  -- a stripe that the store lacks has no homes
   pub no_home : home_of st.homes s f ≡ None
   no_home = no_home-by (home_of st.homes s f) refl
 
@@ -113,10 +113,10 @@ home-own nodes st s f h good found =
     (All-contains (λ (g : Held). has_fragment (code_of st g.stripe) g.fragment.value ≡ true) (seats_of st) h good.within
     (Contains-append_left st.homes (map held_by st.leases) h there.0)))
 
--- ---- the homes that a change leaves
+-- ---- the homes after a change
 
 module _ (st : State) (s : StripeNo) where
-  -- a stripe taken out
+  -- after a stripe is removed
   pub homes-without : (r : StripeNo) (f : ℕ) → homes_of (without_stripe st s).homes r f ≡ (if same_stripe s r then None else homes_of st.homes r f)
   homes-without r f = elim (cases_Bool (eqb s.value r.value)) [
     | inl same ↦ rw same (ap seat_in (find-gone (is_of r f) (λ h. is_other s h.stripe) (λ h hit. at h hit ∙ rw same refl) st.homes))
@@ -125,7 +125,7 @@ module _ (st : State) (s : StripeNo) where
     at : (h : Held) → is_of r f h ≡ true → is_other s h.stripe ≡ not (eqb s.value r.value)
     at h hit = ap (λ v. not (eqb s.value v)) (eqb-true h.stripe.value r.value (and_parts (eqb h.stripe.value r.value) (eqb h.fragment.value f) hit).0)
 
-  -- a home given to a fragment that has none
+  -- after a fragment without a home gets one
   pub homes-with : (f : Fragment) (seat : Seat) → home_of st.homes s f.value ≡ None → (r : StripeNo) (g : ℕ)
       → homes_of (with_home st s f seat).homes r g ≡ (if same_stripe s r && nat_eq f.value g then Some seat else homes_of st.homes r g)
   homes-with f seat none r g =
@@ -145,7 +145,7 @@ module _ (st : State) (s : StripeNo) where
           rw (old, hit) refl
       go false miss = rw miss (or_held (home_of st.homes r g))
 
-  -- a fragment's home taken away
+  -- after a fragment loses its home
   pub homes-cleared : (f : Fragment) (r : StripeNo) (g : ℕ)
       → homes_of (without_home st s f).homes r g ≡ (if same_stripe s r && nat_eq f.value g then None else homes_of st.homes r g)
   homes-cleared f r g = elim (cases_Bool (eqb s.value r.value && eqb f.value g)) [
@@ -165,7 +165,7 @@ module _ (nodes : List NodeInfo) (st : State) (s : StripeNo) (f : Fragment) (l :
   pub there-lease : Contains st.leases l × (leased.is_of s f.value l ≡ true)
   there-lease = find-some (leased.is_of s f.value) st.leases l live
 
-  -- it is the only one of its fragment
+  -- it is the only lease of its fragment
   pub only-lease : (k : Lease) → Contains st.leases k → leased.is_of s f.value k ≡ true → k ≡ l
   only-lease k here hit =
       let parts = is_of-parts s f.value k hit in

@@ -1,4 +1,4 @@
--- Members of lists: what filters, searches and tests say of them.
+-- Members of lists, and what filters, searches and tests say about them.
 use Rattle.std.proofs.Common.{[], ◌≡◌, zero, suc, ℕ, Bool, true, false, cond, List, ◌∷◌, map, filter, find, Some, arith, refl, ap, subst, inl, inr, ◌⊎◌}
 use Rattle.std.specs.List.{All, AllPairs, Contains, list_any, count_by}
 use Rattle.std.proofs.lemmas.Bool.{cases_Bool, or_parts}
@@ -24,11 +24,11 @@ module _ {X : Type 0} where
   no-member [] none = refl
   no-member (x ∷ xs) none = absurd (none x (Contains-here x xs))
 
-  -- what is true of each member is true of all
+  -- what holds for each member holds for all
   pub All-members : (P : X → Type 0) (xs : List X) → ((x : X) → Contains xs x → P x) → All P xs
   All-members P xs h = All-weaker (Contains xs) P h xs (All-contains_itself xs)
 
-  -- a member stands first or later
+  -- a member is the first element or a later one
   pub Contains-cases : (x y : X) (xs : List X) → Contains (x ∷ xs) y → (x ≡ y) ⊎ Contains xs y
   Contains-cases x y xs (zero, within, e) = inl e
   Contains-cases x y xs (suc k, within, e) = inr (k, omega (arith, within), e)
@@ -65,7 +65,7 @@ module _ {X : Type 0} where
         let m = find-member test ys x f in (Contains-later y x ys m.0, m.1)
   ]
 
-  -- a test that some member passes, and one that none does
+  -- a test that some member passes, and a test that none passes
   pub list_any-member : (test : X → Bool) (xs : List X) (x : X) → Contains xs x → test x ≡ true → list_any test xs ≡ true
   list_any-member test [] x h pass = absurd (not-Contains-nil x h)
   list_any-member test (y ∷ ys) x h pass = elim (Contains-cases y x ys h) [
@@ -92,7 +92,7 @@ module _ {X : Type 0} where
   list_any-All test [] all = refl
   list_any-All test (x ∷ xs) all = rw (All-head (λ y. test y ≡ false) x xs all) (list_any-All test xs (All-tail (λ y. test y ≡ false) x xs all))
 
-  -- nothing is counted where no member passes
+  -- the count is 0 exactly if no member passes
   pub count-none : (test : X → Bool) (xs : List X) → count_by test xs ≡ 0 → All (λ x. test x ≡ false) xs
   count-none test [] none = All-nil (λ x. test x ≡ false)
   count-none test (x ∷ xs) none =
@@ -106,7 +106,7 @@ module _ {X : Type 0} where
       let own : ◌≡◌ {A = ℕ} (cond (test x) 1 0) 0 = rw (All-head (λ y. test y ≡ false) x xs all) refl in
       let rest = none-count test xs (All-tail (λ y. test y ≡ false) x xs all) in omega (arith, parts, own, rest)
 
-  -- pairs: the first element with each later one, and the later ones
+  -- pairs: the first element with each later one, and the later ones among themselves
   pub AllPairs-head : (R : X → X → Type 0) (x : X) (xs : List X) → AllPairs R (x ∷ xs) → All (R x) xs
   AllPairs-head R x xs h k d within = h 0 (suc k) d (omega arith) (omega arith)
 

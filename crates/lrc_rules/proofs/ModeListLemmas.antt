@@ -1,4 +1,4 @@
--- The lists of nodes that are gone, draining or down, with one node more and with one less.
+-- The lists of nodes that are gone, draining or down, after one node is added or removed.
 use Rattle.std.proofs.Common.{◌≡◌, ◌||◌, ◌&&◌, Bool, true, false, not, eqb, List, [], ◌∷◌, ◌++◌, refl, sym, ap, ◌∙◌}
 use Rattle.std.proofs.lemmas.Bool.{eqb-true}
 use Rattle.std.proofs.lemmas.List.Folds.{list_any-append}

@@ -1,4 +1,5 @@
--- What Next does: the lease of the first fragment in the order of repair that is owed one and may go to some node.
+-- What Next does: it grants the lease of the first fragment in the order of repair that is owed one and may go to
+-- some node.
 use Rattle.std.proofs.Common.{◌≡◌, ◌≢◌, ◌↔◌, inl, inr, Bool, true, false, not, ◌&&◌, IsTrue, List, filter, Option, Some, None, is_none, is_some, refl, sym, ap, ap₂, ◌∙◌, subst}
 use Rattle.std.specs.List.{Contains}
 use Rattle.std.specs.Option.{option_and_then}
@@ -123,7 +124,7 @@ module _ (nodes : List NodeInfo) (st : State) where
       (and_from (not (is_beyond_repair nodes st p.0 p.1)) _ (from-suffices (is_safe nodes st p.0) (kind nodes st p.0 p.1) so.owed.suffices)
       (ap (λ (o : Option Seat). is_some o) seat.1))))
 
-  -- ---- the first of them
+  -- ---- the first grantable fragment
 
   abbrev before : StripeFragment → StripeFragment → Bool
   before = is_repaired_before (rank nodes st)
@@ -174,7 +175,7 @@ module _ (nodes : List NodeInfo) (past : List Entry) (st : State) (session : Ses
   unfolding next_outcome
   next-is o is = ap (next_answer nodes past st session) is
 
-  -- Lease of a grantable fragment is answered with a lease
+  -- Lease of a grantable fragment is granted
   grantable-granted : (p : StripeFragment) → IsGrantable nodes st p
       → (l : LeaseRecord) × ((lease_outcome nodes past st session p.0 p.1).0 ≡ Granted l (kind nodes st p.0 p.1))
   grantable-granted p so =
@@ -182,7 +183,7 @@ module _ (nodes : List NodeInfo) (past : List Entry) (st : State) (session : Ses
       let l = new_lease past st session p.0 p.1 seat.0 in
       (l, tell-granted nodes past st session p.0 p.1 l (kind nodes st p.0 p.1) (so.owed, seat.1, refl, refl))
 
-  -- where a fragment is the most urgent, Next is Lease of it
+  -- if a fragment is the most urgent, Next does what Lease of it does
   pub urgent-leased : (s : StripeNo) (f : Fragment) → IsMostUrgent nodes st (s, f)
       → next_outcome nodes past st session ≡ lease_outcome nodes past st session s f
   urgent-leased s f most = next-is (Some (s, f)) (urgent-next nodes st (s, f) most)
@@ -199,7 +200,7 @@ module _ (nodes : List NodeInfo) (past : List Entry) (st : State) (session : Ses
       ap₂ (λ (s : StripeNo) (f : Fragment). (s, f)) (sym (ap (λ (x : LeaseRecord). x.stripe) own)) (sym (ap (λ (x : LeaseRecord). x.fragment) own)) in
       subst (IsMostUrgent nodes st) same (next-urgent nodes st p is)
 
-  -- what it grants is the most urgent
+  -- the lease that Next grants is of the most urgent fragment
   pub granted-urgent : (l : LeaseRecord) (k : Kind) → (next_outcome nodes past st session).0 ≡ Granted l k
       → IsMostUrgent nodes st (l.stripe, l.fragment)
   granted-urgent l k told = urgent-by l k (next_of nodes st) refl (sym (ap (λ (o : Outcome). o.0) (next-is (next_of nodes st) refl)) ∙ told)
@@ -215,7 +216,7 @@ module _ (nodes : List NodeInfo) (past : List Entry) (st : State) (session : Ses
   next-idle : (next_outcome nodes past st session).0 ≡ Idle → next_of nodes st ≡ None
   next-idle told = idle-by (next_of nodes st) refl (sym (ap (λ (o : Outcome). o.0) (next-is (next_of nodes st) refl)) ∙ told)
 
-  -- it is idle where nothing is grantable
+  -- Next is Idle only if no fragment is grantable
   pub idle-none : (next_outcome nodes past st session).0 ≡ Idle → (p : StripeFragment) → ¬ (IsGrantable nodes st p)
   idle-none told = none-next nodes st (next-idle told)
 
@@ -236,7 +237,7 @@ module _ (nodes : List NodeInfo) (past : List Entry) (st : State) (session : Ses
   never-by r (Some p) is e =
       let given = grantable-granted p (next-urgent nodes st p is).grantable in granted_not_refused given.0 (kind nodes st p.0 p.1) r (sym given.1 ∙ e)
 
-  -- it is never refused
+  -- Next is never refused
   pub never-refused : (r : Refusal) → (next_outcome nodes past st session).0 ≢ Refused r
   never-refused r told = never-by r (next_of nodes st) refl (sym (ap (λ (o : Outcome). o.0) (next-is (next_of nodes st) refl)) ∙ told)
 
@@ -246,7 +247,7 @@ module _ (nodes : List NodeInfo) (past : List Entry) (st : State) (session : Ses
   granted-if (Some p) is busy =
       let given = grantable-granted p (next-urgent nodes st p is).grantable in (given.0, kind nodes st p.0 p.1, given.1)
 
-  -- what is not idle is granted
+  -- Next grants a lease if it is not Idle
   pub busy-granted : (next_outcome nodes past st session).0 ≢ Idle
       → (l : LeaseRecord) × (k : Kind) × ((next_outcome nodes past st session).0 ≡ Granted l k)
   busy-granted busy =

@@ -1,4 +1,4 @@
--- What a report that is taken leaves.
+-- The state after an accepted Done.
 use Rattle.std.proofs.Common.{◌≡◌, ◌≢◌, true, false, ◌&&◌, nat_eq, Option, Some, None, List, ℕ, refl, sym, ap, ◌∙◌, subst}
 use Rattle.std.proofs.lemmas.Bool.{eq-eqb}
 use Rattle.std.proofs.lemmas.Option.{same_Some}
@@ -53,7 +53,7 @@ module _ (nodes : List NodeInfo) (st : State) (session : SessionNo) (s : StripeN
       ap (λ (o : Outcome). o.1) (done-ends nodes st session s f e says.0 says.1 says.2 says.3)
       ∙ ap (λ (m : LeaseRecord). moved_in st s f m.target) (same_Some says.0 l (sym says.1.live ∙ live))
 
-  -- the lease is gone, and its target is the fragment's home
+  -- the lease is over, and its target is the fragment's home
   pub moved-lease : lease_of (done_outcome nodes st session s f e).1 s f ≡ None
   moved-lease = ap (λ (x : State). lease_of x s f) moved ∙ none-left st s f
 

@@ -1,4 +1,4 @@
--- Which seats a command can take: those of nodes that are active and online.
+-- A command takes new seats only on nodes that are active and online.
 use Rattle.std.proofs.Common.{[], ◌+◌, ◌≡◌, ◌⊎◌, inl, inr, Bool, true, false, not, List, ◌∷◌, filter, Option, Some, None, refl, sym, ap, ◌∙◌, subst}
 use Rattle.std.specs.List.{Contains}
 use Rattle.std.specs.Option.{option_map_or}
@@ -74,14 +74,14 @@ held-seat s (f ∷ fs) (x ∷ xs) h here =
       | inr later ↦ Contains-later x h.seat xs (held-seat s fs xs h later)
     ]
 
--- ---- seats that a command leaves
+-- ---- the held seats after a command
 
 module _ (nodes : List NodeInfo) (st : State) where
-  -- the seat was taken before, or its node is active and online
+  -- the seat was held before, or its node is active and online
   abbrev Comes : Seat → Type 0
   Comes seat = Contains (taken_seats st) seat ⊎ MayCome nodes st seat
 
-  -- where each home and each target that is left is such a seat
+  -- given that each home and each target after it is such a seat
   each-comes : (next : State) → ((h : Held) → Contains next.homes h → Comes h.seat) → ((l : LeaseRecord) → Contains next.leases l → Comes l.target)
       → (seat : Seat) → Contains (taken_seats next) seat → Comes seat
   each-comes next home target seat here = elim (taken-cases next seat here) [
@@ -152,7 +152,7 @@ module _ (nodes : List NodeInfo) (st : State) where
   ticked-comes : (seat : Seat) → Contains (taken_seats (ticked st)) seat → Comes seat
   ticked-comes = each-comes (ticked st) old-home (left-target (λ (l : LeaseRecord). not (ends_at (st.clock + 1) l)))
 
--- ---- the step
+-- ---- every command
 
 module _ (nodes : List NodeInfo) (known : AreNodes nodes) (past : List Entry) (st : State) (session : SessionNo) where
   granted-may : (s : StripeNo) (f : Fragment) (l : LeaseRecord) (k : _) → (step nodes past st session (Lease s f)).0 ≡ Granted l k

@@ -1,4 +1,4 @@
--- Nodes with numbers of their own, and the slots and loads of one.
+-- Nodes with distinct numbers, and the slots and loads of one node.
 use Rattle.std.proofs.Common.{[], ◌≡◌, ◌≢◌, ℕ, zero, suc, ◌+◌, ◌<◌, ◌≤◌, Bool, true, false, ◌&&◌, nat_eq, eqb, List, ◌∷◌, Some, None, arith, refl, sym, ap, ap₂, ◌∙◌, subst, inl, inr}
 use Rattle.std.specs.List.{AllPairs, Contains}
 use Rattle.std.proofs.lemmas.Bool.{cases_Bool, cases_eq, eqb-true, eq-eqb, ne_eqb, and_parts}
@@ -11,7 +11,7 @@ use Rattle.lrc_topology.specs.Nodes.{AreNodes, node_at}
 use Rattle.lrc_topology.specs.Seats.{is_taken, first_slot}
 use Rattle.lrc_rules.proofs.MemberLemmas.{Contains-cases, not-Contains-nil, list_any-member, member-list_any, find-member, AllPairs-head, AllPairs-tail}
 
--- a node is the one that is found by its number
+-- each node is found by its number
 node_at-found : (nodes : List NodeInfo) → AllPairs (λ m n. m.number.value ≢ n.number.value) nodes → (n : NodeInfo) → Contains nodes n → node_at nodes n.number ≡ Some n
 node_at-found [] apart n h = absurd (not-Contains-nil n h)
 node_at-found (x ∷ xs) apart n h = elim (Contains-cases x n xs h) [
@@ -24,13 +24,13 @@ node_at-found (x ∷ xs) apart n h = elim (Contains-cases x n xs h) [
 pub node_at-member : (nodes : List NodeInfo) → AreNodes nodes → (n : NodeInfo) → Contains nodes n → node_at nodes n.number ≡ Some n
 node_at-member nodes known n h = node_at-found nodes known.distinct n h
 
--- what is found by a number is a node of it
+-- the node that is found by a number is in the list and has the number
 pub member-node_at : (nodes : List NodeInfo) (number : NodeNo) (n : NodeInfo) → node_at nodes number ≡ Some n → Contains nodes n × (number ≡ n.number)
 member-node_at nodes number n e =
     let m = find-member (λ (x : NodeInfo). nat_eq number.value x.number.value) nodes n e in
     (m.0, ap (λ (v : ℕ). record { value = v }) (eqb-true number.value n.number.value m.1))
 
--- nodes of one number are one node
+-- nodes with the same number are equal
 pub same_node : (nodes : List NodeInfo) → AreNodes nodes → (n m : NodeInfo) → Contains nodes n → Contains nodes m → n.number.value ≡ m.number.value → n ≡ m
 same_node nodes known n m here there same =
     let number : n.number ≡ m.number = ap (λ (v : ℕ). record { value = v }) same in
@@ -41,7 +41,7 @@ same_node nodes known n m here there same =
 abbrev pub seat_on : NodeNo → ℕ → Seat
 seat_on node slot = record { node = node; slot = slot }
 
--- a slot is taken where its seat is among the taken ones
+-- a slot is taken exactly if its seat is among the taken seats
 pub taken-member : (seats : List Seat) (n : NodeNo) (slot : ℕ) → is_taken seats n slot ≡ true → Contains seats (seat_on n slot)
 taken-member seats n slot e =
     let m = member-list_any (λ (seat : Seat). nat_eq seat.node.value n.value && nat_eq seat.slot slot) seats e in
@@ -53,7 +53,7 @@ pub member-taken : (seats : List Seat) (n : NodeNo) (slot : ℕ) → Contains se
 member-taken seats n slot h =
     list_any-member (λ (seat : Seat). nat_eq seat.node.value n.value && nat_eq seat.slot slot) seats (seat_on n slot) h (rw (eq-eqb n.value n.value refl, eq-eqb slot slot refl) refl)
 
--- what a search for a free slot finds, and what it passes over
+-- the slot that a search for a free slot finds, and the ones that it skips
 pub first_slot-found : (taken : ℕ → Bool) (slot left k : ℕ) → first_slot taken slot left ≡ Some k
     → (slot ≤ k) × (k < slot + left) × (taken k ≡ false) × ((j : ℕ) → slot ≤ j → j < k → taken j ≡ true)
 first_slot-found taken slot zero k e = absurd (cc)

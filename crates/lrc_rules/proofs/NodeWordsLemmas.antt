@@ -1,4 +1,4 @@
--- Which answer to a command on a node is told where, and what is true of the node then.
+-- When a command on a node gets each reply, and what holds for the node after it.
 use Rattle.std.proofs.Common.{◌≡◌, ◌≢◌, ◌||◌, Bool, true, false, not, if◌then◌else◌, List, Option, Some, None, IsSome, is_none, refl, sym, ap, ◌∙◌, subst}
 use Rattle.std.specs.List.{All}
 use Rattle.std.proofs.lemmas.Bool.{eq-eqb, eqb-false}
@@ -38,7 +38,7 @@ active-mode Active e = refl
 active-mode Gone e = absurd (cc)
 active-mode Draining e = absurd (cc)
 
--- a test that fails, and what it says where it holds
+-- a failed test, and a proposition that the test decides
 pub fails-not : (b : Bool) (X : Type 0) → (X → b ≡ true) → b ≡ false → ¬ X
 fails-not b X hit miss x = (let both : true ≡ false = sym (hit x) ∙ miss in cc)
 
@@ -62,11 +62,11 @@ pub is-none : (a b : Bool) → a ≡ false → b ≡ false → (a || b) ≡ fals
 is-none false b x y = y
 is-none true b x y = absurd (cc)
 
--- ---- where Down is right
+-- ---- when Down is allowed
 
 module _ (nodes : List NodeInfo) (st : State) (n : NodeNo) (wrong : Bool) (next : State) (o : Outcome)
     (is : o ≡ node_outcome nodes st n wrong next) where
-  -- what each answer says
+  -- what each reply means
   abbrev Says : Reply → Type 0
   Says Changed = IsSome (node_at nodes n) × (wrong ≡ false)
   Says (Refused refusal.UnknownNode) = node_at nodes n ≡ None
@@ -97,11 +97,11 @@ module _ (nodes : List NodeInfo) (st : State) (n : NodeNo) (wrong : Bool) (next 
   tell-changed : Says Changed → o ≡ (Changed, next)
   tell-changed so = answer-known so.0 ∙ passed wrong refusal.WrongMode st (Changed, next) so.1
 
-  -- where it is done, it leaves this state
+  -- if the command is done, the state after it is this one
   pub left-by : (P : State → Type 0) → (wrong ≡ false → P next) → o.0 ≡ Changed → P o.1
   left-by P so e = let says = told Changed e in subst P (sym (ap (λ (x : Outcome). x.1) (tell-changed says))) (so says.1)
 
--- ---- each command is one on a node
+-- ---- each command follows the pattern of commands on nodes
 
 module _ (nodes : List NodeInfo) (st : State) (n : NodeNo) where
   pub fail-is : fail_outcome nodes st n ≡ node_outcome nodes st n (is_gone (mode_of st n)) (with_gone (emptied st n) n)
@@ -120,9 +120,9 @@ module _ (nodes : List NodeInfo) (st : State) (n : NodeNo) where
   unfolding join_outcome
   join-is = refl
 
--- ---- what is true of the node then
+-- ---- what holds for the node after it
 
--- the mode by two tests
+-- the mode, by the two tests
 abbrev mode_by : Bool → Bool → Mode
 mode_by gone draining = if gone then Gone else (if draining then Draining else Active)
 
@@ -143,7 +143,7 @@ module _ (st : State) (n : NodeNo) where
   pub left-here : (numbers : List NodeNo) → has_number (without_number numbers n) n ≡ false
   left-here numbers = left numbers n n true (eq-eqb n.value n.value refl)
 
-  -- the node is out of the store, with no seat on it
+  -- the node is out of the store, and has no held seat
   pub record IsEmptied (next : State) : Type 0 where
     pub gone : mode_of next n ≡ Gone
     pub up : is_down next n ≡ false

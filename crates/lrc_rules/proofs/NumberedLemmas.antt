@@ -1,4 +1,5 @@
--- Entries of a session that stand in a history at places that rise: as many as the session made are all that it made.
+-- Entries of a session at ascending positions in a history: if they are as many as the session made, they are all of
+-- them.
 use Rattle.std.proofs.Common.{[], ◌≡◌, inl, inr, ℕ, suc, ◌+◌, ◌-◌, ◌≤◌, true, List, ◌∷◌, length, filter, slice_get, Some, sym, ap, ◌∙◌, subst, arith}
 use Rattle.std.proofs.Math.Nat.{eq-or-lt_of_le}
 use Rattle.std.proofs.lemmas.Bool.{cases_Bool}
@@ -10,11 +11,11 @@ abbrev numbered : ℕ → Entry → NumberedEntry
 numbered place e = record { place = place; entry = e }
 
 module _ (session : ℕ) where
-  -- the session's entries of a history whose first entry has this place
+  -- the session's entries in a history whose first entry has this position
   abbrev made_from : ℕ → List Entry → List NumberedEntry
   made_from first history = filter (λ n. is_of session n.entry) (numbered_from first history)
 
-  -- above the first entry they stand in the rest
+  -- positions after the first entry are positions in the rest
   above_first : (first least : ℕ) (e : Entry) (h : List Entry) (ns : List NumberedEntry) → first + 1 ≤ least → AreRising session first (e ∷ h) least ns
       → AreRising session (first + 1) h least ns
   above_first first least e h [] above rising = tt
@@ -23,7 +24,7 @@ module _ (session : ℕ) where
       let there : slice_get h (n.place - (first + 1)) ≡ Some n.entry = subst (λ k. slice_get (e ∷ h) k ≡ Some n.entry) less rising.1 in
       (rising.0, there, rising.2, above_first first (n.place + 1) e h ns (omega (arith, above, rising.0)) rising.3)
 
-  -- the session made no fewer
+  -- the session made at least as many
   no_more : (first least : ℕ) (h : List Entry) (ns : List NumberedEntry) → first ≤ least → AreRising session first h least ns → length ns ≤ length (made_from first h)
   no_more first least h [] within rising = omega arith
   no_more first least [] (n ∷ ns) within rising = absurd (cc)
@@ -44,7 +45,7 @@ module _ (session : ℕ) where
         ]
   ]
 
-  -- as many are all
+  -- if they are as many, they are all
   pub all_made : (first least : ℕ) (h : List Entry) (ns : List NumberedEntry) → first ≤ least → AreRising session first h least ns → length ns ≡ length (made_from first h)
       → ns ≡ made_from first h
   all_made first least h [] within rising many = sym (nil_from_length (made_from first h) (sym many))

@@ -1,4 +1,4 @@
--- Which nodes are online, which fragments need a lease, and which rank a level shows, in words.
+-- Which nodes are online, which fragments need a lease, and the rank of a level, in words.
 use Rattle.std.proofs.Common.{◌≡◌, ◌≢◌, ◌⊎◌, ◌<◌, inl, inr, ℕ, Bool, true, false, not, List, Option, Some, None, IsSome, refl, sym, ap, ◌∙◌, subst}
 use Rattle.std.specs.Option.{option_map_or}
 use Rattle.std.proofs.lemmas.Bool.{and_parts, and_from, eqb-true, eq-eqb}
@@ -26,7 +26,7 @@ use Rattle.lrc_rules.proofs.RetiredLemmas.{draining-mode, mode-draining}
 
 -- ---- domains
 
--- a domain is not upgrading exactly where the one that is, if one is, is another
+-- a domain is not upgrading exactly if no domain is, or another one
 module _ (d : UpgradeNo) where
   other-upgrading : (running : Option UpgradeNo) → option_map_or (λ u. same_upgrade u d) running false ≡ false → running ≢ Some d
   other-upgrading None miss is = absurd (cc)
@@ -42,7 +42,7 @@ module _ (d : UpgradeNo) where
 -- ---- nodes that are online
 
 module _ (nodes : List NodeInfo) (st : State) (n : NodeNo) where
-  -- what is true of a node that is online
+  -- what holds for an online node
   abbrev Is : NodeInfo → Type 0
   Is m = (node_at nodes n ≡ Some m) × (mode_of st n ≢ Gone) × (is_down st n ≡ false) × (st.upgrading ≢ Some m.upgrade)
 
@@ -78,7 +78,7 @@ module _ (nodes : List NodeInfo) (st : State) (n : NodeNo) where
 
 -- ---- fragments that need a lease
 
--- the node is one of the store, and it is draining
+-- the store has the node, and it is draining
 abbrev pub DrainsAt : List NodeInfo → State → NodeNo → Type 0
 DrainsAt nodes st n = IsSome (node_at nodes n) × (mode_of st n ≡ Draining)
 
@@ -102,7 +102,7 @@ module _ (nodes : List NodeInfo) (st : State) where
       by (Some m) is there =
           subst (λ (k : NodeNo). is_draining (mode_of st k) ≡ true) (member-node_at nodes n m is).1 (mode-draining (mode_of st n) so.1)
 
-  -- the fragment has no home, or one on a draining node
+  -- the fragment has no home, or a home on a draining node
   abbrev HasToMove : StripeNo → Fragment → Type 0
   HasToMove s f =
       (homes_of st.homes s f.value ≡ None) ⊎ ((seat : Seat) × (homes_of st.homes s f.value ≡ Some seat) × IsSome (node_at nodes seat.node)

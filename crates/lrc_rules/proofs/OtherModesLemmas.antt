@@ -1,4 +1,4 @@
--- A node that a command is not on is in the mode that it was in, and down if it was.
+-- A command on another node changes neither the mode of a node nor whether it is down.
 use Rattle.std.proofs.Common.{◌≡◌, ap₂, Bool, false, if◌then◌else◌, eqb, List, Option, Some, None, refl, sym, subst}
 use Rattle.std.proofs.lemmas.Bool.{ne_eqb}
 use Rattle.lrc_code.specs.declared.numbers.StripeNo.{StripeNo}
@@ -22,7 +22,7 @@ use Rattle.lrc_rules.proofs.StepLemmas.{step-changed}
 use Rattle.lrc_rules.proofs.ModeListLemmas.{added-apart, left-apart}
 
 module _ (st : State) (m : NodeNo) where
-  -- the node is noted in the same lists
+  -- the node is in the same lists as before
   pub record IsAsItWas (next : State) : Type 0 where
     pub gone : has_number next.gone m ≡ has_number st.gone m
     pub draining : has_number next.draining m ≡ has_number st.draining m

@@ -1,4 +1,4 @@
--- A command that neither begins nor ends an upgrade leaves the upgrading domain as it was.
+-- Only Upgrade and Upgraded change which domain is upgrading.
 use Rattle.std.proofs.Common.{◌≡◌, ◌≢◌, List, Option, Some, None, refl, sym, subst}
 use Rattle.lrc_code.specs.declared.numbers.StripeNo.{StripeNo}
 use Rattle.lrc_code.specs.declared.numbers.UpgradeNo.{UpgradeNo}
@@ -20,7 +20,7 @@ use Rattle.lrc_rules.proofs.StepLemmas.{step-changed}
 abbrev IsSame : State → State → Type 0
 IsSame st next = next.upgrading ≡ st.upgrading
 
--- the command neither begins nor ends an upgrade
+-- the command is neither Upgrade nor Upgraded
 abbrev IsOther : Command → Type 0
 IsOther c = ((u : UpgradeNo) → c ≢ Upgrade u) × ((u : UpgradeNo) → c ≢ Upgraded u)
 

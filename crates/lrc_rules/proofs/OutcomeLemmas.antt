@@ -1,4 +1,4 @@
--- What is true of an outcome that may refuse.
+-- Outcomes that can be refused.
 use Rattle.std.proofs.Common.{◌≡◌, ◌≢◌, Bool, true, false, not, refl}
 use Rattle.lrc_rules.specs.declared.reply.Reply.{Reply}
 use Rattle.lrc_rules.specs.declared.reply.Reply.TheVariants.{Refused}
@@ -10,12 +10,12 @@ pub from_not : (b : Bool) → not b ≡ false → b ≡ true
 from_not true e = refl
 from_not false e = absurd (let both : true ≡ false = e in cc)
 
--- what is true of the state before, and of the one that is left where it does not refuse
+-- what holds for the state before and for the other outcome holds for the state after
 pub either-way : (P : State → Type 0) (met : Bool) (r : Refusal) (st : State) (other : Outcome) → P st → (met ≡ false → P other.1) → P (refuse_if met r st other).1
 either-way P true r st other before after = before
 either-way P false r st other before after = after refl
 
--- what is true where another reply than a refusal is told
+-- if the reply is no refusal, what holds for the other outcome holds
 pub when-told : (told : Reply) → ((r : Refusal) → Refused r ≢ told) → (P : Outcome → Type 0) (met : Bool) (r : Refusal) (st : State) (other : Outcome)
     → (other.0 ≡ told → P other) → (refuse_if met r st other).0 ≡ told → P (refuse_if met r st other)
 when-told told never P true r st other next e = absurd (never r e)

@@ -1,4 +1,4 @@
--- Pairs of lists that are joined, filtered and added to.
+-- Pairs of elements in lists that are appended, filtered and extended.
 use Rattle.std.proofs.Common.{[], ◌≡◌, ◌≢◌, inl, inr, Bool, true, false, List, ◌∷◌, ◌++◌, map, filter, sym, ap, ◌∙◌, subst, arith}
 use Rattle.std.specs.List.{All, AllPairs, Contains}
 use Rattle.std.proofs.lemmas.List.Elements.{All-nil, All-cons, All-head, All-tail, All-append, All-push, All-weaker, All-map, All-filter, All-contains, Contains-append_left, Contains-append_right}
@@ -6,7 +6,7 @@ use Rattle.std.proofs.lemmas.List.Kept.{AllPairs-cons, AllPairs-filter}
 use Rattle.lrc_rules.proofs.MemberLemmas.{All-members, filter-member, Contains-cases, not-Contains-nil, AllPairs-head, AllPairs-tail}
 use Rattle.lrc_rules.proofs.SeatingLists.{All-unmap, pairs-map, pairs-unmap, pairs-push}
 
--- what holds of joined lists holds of each
+-- what holds for appended lists holds for each
 pub All-left : {X : Type 0} (P : X → Type 0) (xs ys : List X) → All P (xs ++ ys) → All P xs
 All-left P xs ys all = All-members P xs (λ x here. All-contains P (xs ++ ys) x all (Contains-append_left xs ys x here))
 
@@ -14,7 +14,7 @@ pub All-right : {X : Type 0} (P : X → Type 0) (xs ys : List X) → All P (xs +
 All-right P xs ys all = All-members P ys (λ y here. All-contains P (xs ++ ys) y all (Contains-append_right xs ys y here))
 
 module _ {X : Type 0} (R : X → X → Type 0) where
-  -- each of the first list with each of the second
+  -- each element of the first list with each of the second
   abbrev pub Across : List X → List X → Type 0
   Across xs ys = All (λ x. All (R x) ys) xs
 
@@ -37,7 +37,7 @@ module _ {X : Type 0} (R : X → X → Type 0) where
   pairs-across (x ∷ xs) ys pairs =
       All-cons (λ x. All (R x) ys) x xs (All-right (R x) xs ys (AllPairs-head R x (xs ++ ys) pairs)) (pairs-across xs ys (AllPairs-tail R x (xs ++ ys) pairs))
 
-  -- two different members, where the relation is the same both ways
+  -- two different members, if the relation is symmetric
   pub pairs-members : ((x y : X) → R x y → R y x) → (xs : List X) (x y : X) → AllPairs R xs → Contains xs x → Contains xs y → x ≢ y → R x y
   pairs-members turn [] x y pairs here there other = absurd (not-Contains-nil x here)
   pairs-members turn (z ∷ zs) x y pairs here there other = elim (Contains-cases z x zs here) [
@@ -51,13 +51,13 @@ module _ {X : Type 0} (R : X → X → Type 0) where
     ]
   ]
 
-  -- one more between two lists
+  -- one more element between two lists
   pub pairs-insert : ((x y : X) → R x y → R y x) → (xs zs : List X) (y : X) → AllPairs R (xs ++ zs) → All (λ x. R x y) (xs ++ zs) → AllPairs R ((xs ++ y ∷ []) ++ zs)
   pairs-insert turn xs zs y pairs all =
       pairs-join (xs ++ y ∷ []) zs (pairs-push R xs y (pairs-left xs zs pairs) (All-left (λ x. R x y) xs zs all)) (pairs-right xs zs pairs)
       (All-push (λ x. All (R x) zs) xs y (pairs-across xs zs pairs) (All-weaker (λ x. R x y) (R y) (λ x r. turn x y r) zs (All-right (λ x. R x y) xs zs all)))
 
--- a list behind which stand what another list's elements stand for, both filtered
+-- two lists, the second one mapped, both filtered
 module _ {X Y : Type 0} (f : Y → X) (p : X → Bool) (q : Y → Bool) (xs : List X) (ys : List Y) where
   abbrev pub kept_both : List X
   kept_both = filter p xs ++ map f (filter q ys)
@@ -79,7 +79,7 @@ module _ {X Y : Type 0} (f : Y → X) (p : X → Bool) (q : Y → Bool) (xs : Li
         (All-weaker (λ x. All (R x) (map f ys)) (λ x. All (R x) (map f (filter q ys)))
         (λ x all. All-map (R x) f (filter q ys) (All-filter q (λ y. R x (f y)) ys (All-unmap (R x) f ys all))) xs (pairs-across R xs (map f ys) pairs)))
 
-    -- all that is kept stands so to one that is not
+    -- each kept element is related to one that was removed
     pub beside-left_out : ((x y : X) → R x y → R y x) → (y : Y) → Contains ys y → q y ≡ false → All (λ x. R x (f y)) kept_both
     beside-left_out turn y here out =
         All-append (λ x. R x (f y)) (filter p xs) (map f (filter q ys))

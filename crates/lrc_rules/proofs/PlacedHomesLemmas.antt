@@ -1,4 +1,4 @@
--- The homes of a stripe that was placed, and of all others.
+-- The homes of a stripe that was placed, and of all other stripes.
 use Rattle.std.proofs.Common.{[], ◌≡◌, ◌≢◌, ◌≤◌, ℕ, zero, suc, ◌+◌, zero-add, Bool, true, false, ◌&&◌, ◌||◌, nat_eq, nat_le, if◌then◌else◌, List, ◌∷◌, ◌++◌, map, length, drop, replicate, get_or, Option, Some, None, Result, Ok, Err, refl, sym, ap, ap₂, ◌∙◌, subst, arith}
 use Rattle.std.specs.List.{All, AllPairs, list_all, slice_get}
 use Rattle.std.specs.Option.{option_or}
@@ -34,14 +34,14 @@ use Rattle.lrc_rules.proofs.LawLemmas.{chosen-length}
 use Rattle.lrc_rules.proofs.LookUpLemmas.{no_home, seat_in}
 use Rattle.lrc_rules.specs.declared.refusal.Refusal.TheVariants as refusal
 
--- ---- the homes that a placement adds
+-- ---- the homes that Place adds
 
 map-agree : {X Y : Type 0} (v w : X → Y) (xs : List X) → All (λ x. v x ≡ w x) xs → map v xs ≡ map w xs
 map-agree v w [] all = refl
 map-agree {X} {Y} v w (x ∷ xs) all =
     ap₂ (λ (y : Y) (ys : List Y). y ∷ ys) (All-head (λ x. v x ≡ w x) x xs all) (map-agree v w xs (All-tail (λ x. v x ≡ w x) x xs all))
 
--- another fragment's home is passed over
+-- another fragment's home is skipped
 passed-over : (s : StripeNo) (f g : Fragment) (seat : Seat) (homes : List Held) → f ≢ g
     → homes_of (record { stripe = s; fragment = f; seat = seat } ∷ homes) s g.value ≡ homes_of homes s g.value
 passed-over s f g seat homes other = rw (eq-eqb s.value s.value refl, ne_eqb f.value g.value (λ same. other (equal_fragments f g same))) refl
@@ -61,7 +61,7 @@ added-homes s (f ∷ fs) (x ∷ xs) distinct e =
     (All-weaker (λ g. f ≢ g) _ (λ g other. passed-over s f g x later other) fs (AllPairs-head (λ f g. f ≢ g) f fs distinct)) in
     ap₂ (λ (o : Option Seat) (os : List (Option Seat)). o ∷ os) own (rest ∙ added-homes s fs xs (AllPairs-tail (λ f g. f ≢ g) f fs distinct) more)
 
--- none of them is another stripe's
+-- none of them is of another stripe
 pub none-added : (s r : StripeNo) (fs : List Fragment) (seats : List Seat) (n : ℕ) → r ≢ s → home_of (held_at s fs seats) r n ≡ None
 none-added s r [] [] n other = refl
 none-added s r [] (x ∷ xs) n other = refl
@@ -79,14 +79,14 @@ before-none (Some h) p none = refl
 pub homes-append : (homes more : List Held) (s : StripeNo) (n : ℕ) → home_of (homes ++ more) s n ≡ option_or (home_of homes s n) (home_of more s n)
 homes-append homes more s n = find-append (λ (h : Held). same_stripe h.stripe s && nat_eq h.fragment.value n) homes more
 
--- ---- homes by their numbers
+-- ---- homes by fragment number
 
--- the fragments have the numbers from this one on
+-- the numbers of the fragments ascend from this one
 abbrev AreNumbered : ℕ → List Fragment → Type 0
 AreNumbered n [] = ⊤
 AreNumbered n (f ∷ fs) = (f.value ≡ n) × AreNumbered (n + 1) fs
 
--- so the home of a number stands at its place
+-- so the home of a fragment is at the position of its number
 pub numbered-homes : (s : StripeNo) (n : ℕ) (fs : List Fragment) (seats : List Seat) (i k : ℕ) → AreNumbered n fs → length seats ≡ length fs → k ≡ n + i
     → homes_of (held_at s fs seats) s k ≡ slice_get seats i
 numbered-homes s n [] [] i k numbered e at = refl
@@ -105,7 +105,7 @@ pub fragments-numbered : (code : Code) → AreNumbered 0 (fragments code)
 fragments-numbered Wide = (refl, (refl, (refl, (refl, (refl, (refl, (refl, (refl, (refl, (refl, (refl, (refl, (refl, (refl, (refl, (refl, tt))))))))))))))))
 fragments-numbered Narrow = (refl, (refl, (refl, (refl, (refl, (refl, (refl, (refl, (refl, (refl, tt))))))))))
 
--- ---- what is shown
+-- ---- what a read returns
 
 abbrev seats_by : List Held → StripeNo → List (Option Seat)
 seats_by homes s = map (λ (f : Fragment). homes_of homes s f.value) (fragments Wide)
@@ -113,19 +113,19 @@ seats_by homes s = map (λ (f : Fragment). homes_of homes s f.value) (fragments 
 abbrev shown : Bool → List (Option Seat) → Option (List (Option Seat))
 shown there seats = if there then Some seats else None
 
--- the seats of a stripe's fragments by the sixteen numbers, with none where its code has no such fragment
+-- the seats of a stripe's fragments by the sixteen numbers; none for a number that the code lacks
 abbrev pub shown_seats : Code → List Seat → List (Option Seat)
 shown_seats Wide seats = map (λ (seat : Seat). Some seat) seats
 shown_seats Narrow seats = map (λ (seat : Seat). Some seat) seats ++ replicate 6 None
 
--- the fragments that the narrow code lacks
+-- the fragments that the code Narrow lacks
 past-ten : (fs : List Fragment) → list_all (λ (f : Fragment). nat_le 10 f.value) fs ≡ true → All (λ f. 10 ≤ f.value) fs
 past-ten [] e = All-nil (λ (f : Fragment). 10 ≤ f.value)
 past-ten (f ∷ fs) e =
     let parts = and_parts (nat_le 10 f.value) (list_all (λ (g : Fragment). nat_le 10 g.value) fs) e in
     All-cons (λ (g : Fragment). 10 ≤ g.value) f fs (leb-true 10 f.value parts.0) (past-ten fs parts.1)
 
--- the homes that are added to a stripe are its seats
+-- the homes that are added for a stripe are its seats
 all-added : (code : Code) (s : StripeNo) (seats : List Seat) → length seats ≡ length (fragments code) → seats_by (held_at s (fragments code) seats) s ≡ shown_seats code seats
 all-added Wide s seats all = added-homes s (fragments Wide) seats (fragments-distinct Wide) all
 all-added Narrow s seats all =
@@ -182,7 +182,7 @@ module _ (nodes : List NodeInfo) (st : State) (code : Code) (s : StripeNo) where
   place-others r other =
       either-way (Shows r) (has_stripe st s) refusal.StripeExists st _ refl (λ absent. shows-by r (placed nodes (with_stripe st code s) s) refl other)
 
-  -- the seats that are told are the homes
+  -- the seats in the reply are the homes
   pub place-homes : (seats : List Seat) → AreSeated nodes st → (place_outcome nodes st code s).0 ≡ placed_reply code seats
       → homes_shown (place_outcome nodes st code s).1 s ≡ Some (shown_seats code seats)
   place-homes seats seated told =
@@ -191,7 +191,7 @@ module _ (nodes : List NodeInfo) (st : State) (code : Code) (s : StripeNo) where
       ∙ placed-homes seats seated parts.absent (chosen-length nodes (with_stripe st code s) s (fragments code) seats parts.chosen_are)
 
 module _ (nodes : List NodeInfo) (st : State) (s : StripeNo) (seats : List Seat) (seated : AreSeated nodes st) where
-  -- of either code in words
+  -- the same for each code, in words
   pub told-wide : (place_outcome nodes st Wide s).0 ≡ Placed seats
       → homes_shown (place_outcome nodes st Wide s).1 s ≡ Some (map (λ (seat : Seat). Some seat) seats)
   told-wide told = place-homes nodes st Wide s seats seated told
@@ -200,4 +200,4 @@ module _ (nodes : List NodeInfo) (st : State) (s : StripeNo) (seats : List Seat)
       → homes_shown (place_outcome nodes st Narrow s).1 s ≡ Some (map (λ (seat : Seat). Some seat) seats ++ replicate 6 None)
   told-narrow told = place-homes nodes st Narrow s seats seated told
 
--- ---- what is stored of a stripe that was placed
+-- ---- the homes of a stripe that was placed

@@ -117,7 +117,7 @@ module _ (nodes : List NodeInfo) (past : List Entry) (st : State) (session : Ses
       gets-if (Upgraded u) (not (has_domain nodes u)) refusal.UnknownDomain st _
       (gets-if (Upgraded u) (not (is_the_domain u st.upgrading)) refusal.NotUpgrading st (Changed, without_upgrading st) refl)
 
-  -- the reply of a step is of a kind that its command can get
+  -- the reply to a command is of a kind that it can get
   pub step-gets : (c : Command) → Gets c (step nodes past st session c)
   unfolding fail_outcome down_outcome up_outcome drain_outcome undrain_outcome join_outcome tick_outcome
   step-gets (Place s) = gets-place nodes st Wide s

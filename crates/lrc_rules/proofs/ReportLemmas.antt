@@ -1,4 +1,4 @@
--- Of the reports under one epoch of a fragment at most one is taken.
+-- At most one Done of each epoch of a fragment is accepted.
 use Rattle.std.proofs.Common.{[], ◌≡◌, ◌≢◌, ◌⊎◌, ℕ, ◌+◌, ◌≤◌, inl, inr, Bool, true, false, not, ◌&&◌, cond, List, ◌∷◌, ◌++◌, filter, fold, Option, Some, None, refl, sym, ap, ◌∙◌, subst, arith}
 use Rattle.std.specs.List.{Contains}
 use Rattle.std.proofs.lemmas.Bool.{cases_Bool, eqb-true, and_parts, not-true}
@@ -32,7 +32,7 @@ use Rattle.lrc_rules.proofs.LeaseCountLemmas.{Follows, grants-push, step-follows
 use Rattle.lrc_rules.proofs.GoodLemmas.{IsGoodIn, opening-good, next-good, past-after}
 use Rattle.lrc_rules.proofs.LeaseLawLemmas.{live-epoch}
 
--- ---- which reports are taken
+-- ---- which Done is accepted
 
 report-is : (s : StripeNo) (f : Fragment) (e : ℕ) (c : Command) → is_report s f e c ≡ true → c ≡ Done s f e
 report-is s f e (Done t g d) hit =
@@ -46,7 +46,7 @@ ended-is : (r : Reply) → is_ended r ≡ true → r ≡ Ended
 ended-is Ended hit = refl
 ended-is _ hit = absurd (cc)
 
--- a report that is taken is of a live lease of its epoch, and leaves the others
+-- an accepted Done had a live lease with its epoch, and keeps the other leases
 record IsTaken (st : State) (s : StripeNo) (f : Fragment) (e : ℕ) (next : State) : Type 0 where
   pub lease : LeaseRecord
   pub live : lease_of st s f ≡ Some lease
@@ -86,7 +86,7 @@ reports-push past x s f e =
     let one = λ (y : Entry). cond (is_taken_report s f e y) 1 0 in
     sum_by-append one past (x ∷ []) ∙ ap (λ (n : ℕ). reports_taken past s f e + n) (sum_by-cons one x [] ∙ omega arith)
 
--- one report was taken, the epoch was granted, and no live lease of the fragment has it
+-- one Done was accepted, the epoch was granted, and no live lease of the fragment has it
 record IsSpent (past : List Entry) (st : State) (s : StripeNo) (f : Fragment) (e : ℕ) : Type 0 where
   pub one : reports_taken past s f e ≡ 1
   pub granted : e ≤ grants past s f
@@ -166,7 +166,7 @@ module _ (s : StripeNo) (f : Fragment) (e : ℕ) where
   worlds-most nodes known w (x ∷ xs) legal good most =
       worlds-most nodes known (next_world nodes w x) xs legal.1 (next-good nodes known w x legal.0 good) (entry-most nodes w x good legal.0 most)
 
-  -- In a legal history at most one report of the epoch was taken.
+  -- In a legal history at most one Done of the epoch was accepted.
   pub one_report : (nodes : List NodeInfo) → AreNodes nodes → (history : List Entry) → IsLegal nodes history → reports_taken history s f e ≤ 1
   one_report nodes known history legal =
       subst (λ (past : List Entry). reports_taken past s f e ≤ 1) (past-after nodes history)

@@ -1,4 +1,4 @@
--- Which answer to Done and Abandon is told where.
+-- When Done and Abandon get each reply.
 use Rattle.std.proofs.Common.{◌≡◌, ◌≢◌, ◌≤◌, Bool, true, false, not, List, Option, Some, None, ℕ, refl, sym, ap, ◌∙◌, subst}
 use Rattle.std.specs.Coded.{le_prop}
 use Rattle.std.proofs.lemmas.Bool.{eqb-true, eq-eqb, ne_eqb}
@@ -95,7 +95,7 @@ module _ (nodes : List NodeInfo) (st : State) (session : SessionNo) (s : StripeN
   unfolding done_outcome
   done-says = done-stripe (has_stripe st s) refl
 
-  -- what is told of a report, is so
+  -- a reply to Done is given only if what it means holds
   pub done-told : (r : Reply) → (done_outcome nodes st session s f e).0 ≡ r → SaysDone r
   done-told r told = subst SaysDone told done-says
 
@@ -116,7 +116,7 @@ module _ (nodes : List NodeInfo) (st : State) (session : SessionNo) (s : StripeN
       done-there own.there (Some l) (reported-at l own)
       ∙ passed (not (is_held_by session l)) (refusal.NotHolder l.holder) st _ (ap not (session-held session l held))
 
-  -- and what is so, is told
+  -- and always if it holds
   pub done-ends : (l : LeaseRecord) → IsReported st s f e l → l.holder ≡ session → online_at nodes st l.target.node ≡ true
       → done_outcome nodes st session s f e ≡ (Ended, moved_in st s f l.target)
   done-ends l own held online =

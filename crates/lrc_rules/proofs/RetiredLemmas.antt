@@ -1,4 +1,4 @@
--- Which answer to Retire is told where, and what is left of the node.
+-- When Retire gets each reply, and what is left of the node.
 use Rattle.std.proofs.Common.{[], ◌≡◌, ◌≢◌, ℕ, ◌≤◌, Bool, true, false, not, nat_lt, List, ◌∷◌, ◌++◌, Option, Some, None, IsSome, is_none, refl, sym, ap, ◌∙◌, subst, arith}
 use Rattle.std.specs.List.{All}
 use Rattle.std.proofs.lemmas.Bool.{eq-eqb, eqb-false, ne_eqb, ltb-true, ltb-false}
@@ -21,7 +21,7 @@ use Rattle.lrc_rules.specs.Steps.{with_gone, retire_outcome}
 use Rattle.lrc_rules.proofs.MemberLemmas.{list_any-member, count-none, none-count}
 use Rattle.lrc_rules.proofs.GrantingLemmas.{passed}
 
--- ---- draining nodes and empty ones
+-- ---- draining nodes, and nodes without held seats
 
 pub draining-mode : (m : Mode) → is_draining m ≡ true → m ≡ Draining
 draining-mode Draining e = refl
@@ -48,14 +48,14 @@ none-load seats n none =
     (All-weaker (λ (seat : Seat). seat.node ≢ n) _
     (λ seat other. ne_eqb seat.node.value n.value (λ same. other (equal_nodes seat.node n same))) seats none)
 
--- ---- what is told
+-- ---- a reply is given only if what it means holds
 
 module _ (nodes : List NodeInfo) (st : State) (n : NodeNo) where
-  -- a node of the store that is draining
+  -- the store has the node, and it is draining
   abbrev Drains : Type 0
   Drains = IsSome (node_at nodes n) × (mode_of st n ≡ Draining)
 
-  -- what each answer says
+  -- what each reply means
   abbrev pub Says : Reply → Type 0
   Says Changed = IsSome (node_at nodes n) × (mode_of st n ≡ Draining) × (load st n ≡ 0)
   Says (Refused refusal.UnknownNode) = node_at nodes n ≡ None
@@ -91,11 +91,11 @@ module _ (nodes : List NodeInfo) (st : State) (n : NodeNo) where
   unfolding retire_outcome
   says = by-node (node_at nodes n) refl
 
-  -- what is told, is so
+  -- a reply is given only if what it means holds
   pub retire-told : (r : Reply) → (retire_outcome nodes st n).0 ≡ r → Says r
   retire-told r told = subst Says told says
 
-  -- ---- what is so, is told
+  -- ---- and always if it holds
 
   known-some : (o : Option NodeInfo) → IsSome o → is_none o ≡ false
   known-some (Some m) known = refl

@@ -1,4 +1,5 @@
--- An upgrade takes at most one fragment of each class of a whole stripe offline, and is refused for the first stripe that it would lose.
+-- An upgrade takes at most one fragment of each class of a whole stripe offline, and is refused for the first stripe
+-- that it would make unrecoverable.
 use Rattle.std.proofs.Common.{[], ◌≡◌, ◌≢◌, ℕ, ◌+◌, ◌-◌, ◌≤◌, ◌<◌, inl, inr, Bool, true, false, not, ◌&&◌, nat_lt, cond, List, ◌∷◌, map, filter, length, get_or, Option, Some, None, option_map, IfSome, IsTrue, arith, refl, sym, ap, ◌∙◌, subst}
 use Rattle.std.specs.List.{AllPairs, Contains, count_by}
 use Rattle.std.specs.Option.{option_map_or}
@@ -49,7 +50,7 @@ use Rattle.lrc_rules.specs.declared.refusal.Refusal.TheVariants as refusal
 
 -- ---- counting
 
--- a set that has no two of a list has one of it at most
+-- if no two elements of a list pass a test, at most one does
 pub at_most_one : {X : Type 0} (test : X → Bool) (xs : List X) → AllPairs (λ a b. test a ≡ true → test b ≡ true → ⊥) xs → count_by test xs ≤ 1
 at_most_one test [] pairs = omega arith
 at_most_one {X} test (x ∷ xs) pairs = elim (cases_Bool (test x)) [
@@ -75,7 +76,7 @@ count-numbers m (f ∷ fs) =
     sum_by-cons (λ (n : ℕ). cond (m n) 1 0) f.value (map (λ (g : Fragment). g.value) fs)
     ∙ ap (λ (n : ℕ). cond (m f.value) 1 0 + n) (count-numbers m fs) ∙ sym (sum_by-cons (λ (g : Fragment). cond (m g.value) 1 0) f fs)
 
--- pairs of different members, by their members
+-- pairs of distinct members
 pub pairs-by : {X : Type 0} (R : X → X → Type 0) (xs : List X) → AllPairs (λ a b. a ≢ b) xs → ((a b : X) → Contains xs a → Contains xs b → a ≢ b → R a b)
     → AllPairs R xs
 pairs-by R xs apart each i j d below within =
@@ -96,7 +97,7 @@ both-share code c f g here there =
     let two = (are_one_class-iff (class_of code g.value) (Some c)).0 there in
     (are_one_class-iff (class_of code f.value) (class_of code g.value)).1 (one.0, one.1, two.1 ∙ sym two.2 ∙ one.2)
 
--- so it has one of each class at most
+-- so it has at most one fragment of each class
 pub class-one : (code : Code) (m : FragmentSet) → HasNoTwo code m → (c : Class) → losses_in code c m ≤ 1
 class-one code m none c =
     let fs = filter (of_class code c) (fragments code) in
@@ -120,7 +121,7 @@ module _ (code : Code) (m : FragmentSet) (none : HasNoTwo code m) where
       two : (e : ℕ) → e ≤ 1 → e ≤ 2
       two e x = omega (arith, x)
 
-  -- and withstands one loss more
+  -- and the stripe survives one more loss
   margin-by : (some : Bool) → nat_lt 0 (losses_in code A m + losses_in code B m) ≡ some → (t : ℕ) × (1 ≤ t) × IsMargin code m t
   margin-by true is = (2 - excess code m, left (excess code m) excess-one, margin_lost code m recoverable-still (ltb-true _ _ is))
     where
@@ -142,7 +143,7 @@ module _ (code : Code) (m : FragmentSet) (none : HasNoTwo code m) where
   one-left : (t : ℕ) × (1 ≤ t) × IsMargin code m t
   one-left = margin-by (nat_lt 0 (losses_in code A m + losses_in code B m)) refl
 
--- ---- where the fragments of a stripe are
+-- ---- the nodes of a stripe's fragments
 
 module _ (nodes : List NodeInfo) (st : State) (s : StripeNo) (seated : AreSeated nodes st) where
   -- the fragment's home is on this node
@@ -167,7 +168,7 @@ module _ (nodes : List NodeInfo) (st : State) (s : StripeNo) (seated : AreSeated
   both-known P (Some x) None n m at there both = absurd (cc)
   both-known P None p n m at there both = absurd (cc)
 
-  -- those of different fragments are apart
+  -- the nodes of different fragments are apart
   pub nodes-apart : (f g : Fragment) → f ≢ g → (t : IsOn f.value) (v : IsOn g.value) → AreApart (code_of st s) f t.node g v.node
   nodes-apart f g other t v =
       let apart_homes : t.home.fragment ≢ v.home.fragment = λ same. other (sym (own_fragment f t) ∙ same ∙ own_fragment g v) in
@@ -224,11 +225,11 @@ module _ (nodes : List NodeInfo) (st : State) (u : UpgradeNo) (s : StripeNo) (se
       let parts = and_parts (has_fragment (code_of st s) f) _ hit in
       by-home f (home_of st.homes s f) refl (and_false _ _ parts.0 before) parts.1
 
-  -- the fragments that were not missing, and are then
+  -- the fragments that become missing by the upgrade
   abbrev pub added : FragmentSet
   added f = not (missing nodes st s f) && missing nodes then s f
 
-  -- of one class the domain takes one fragment at most
+  -- the upgrade takes at most one fragment of each class
   pub no_two : HasNoTwo (code_of st s) added
   no_two f g other class here there =
       let first = and_parts (not (missing nodes st s f.value)) (missing nodes then s f.value) here in
@@ -243,7 +244,7 @@ module _ (nodes : List NodeInfo) (st : State) (u : UpgradeNo) (s : StripeNo) (se
     none-missing : NoneMissing (code_of st s) (missing nodes st s)
     none-missing = ((law_whole (code_of st s) (homeless st s) (missing nodes st s)).0 whole).1
 
-    -- so each that is missing then was not
+    -- each fragment that is missing during the upgrade was not missing before
     none-before : (f : ℕ) → missing nodes then s f ≡ true → added f ≡ true
     none-before f hit =
         and_from _ _ (ap not (none-missing f (ltb-true f (fragment_count (code_of st s)) (and_parts (has_fragment (code_of st s) f) _ hit).0))) hit
@@ -257,7 +258,7 @@ module _ (nodes : List NodeInfo) (st : State) (u : UpgradeNo) (s : StripeNo) (se
     pub whole-margin : (t : ℕ) × (1 ≤ t) × IsMargin (code_of st s) (missing nodes then s) t
     whole-margin = one-left (code_of st s) (missing nodes then s) none_two
 
--- ---- which stripe would be lost
+-- ---- which stripe would become unrecoverable
 
 module _ (nodes : List NodeInfo) (st : State) (u : UpgradeNo) where
   lost-said : (s : StripeNo) → Contains (filter (is_lost_to nodes st u) st.stripes) s → WouldBeLost nodes st u s
@@ -289,7 +290,7 @@ module _ (nodes : List NodeInfo) (st : State) (u : UpgradeNo) where
   no_ties xs a b here there x y =
       equal_stripes a b (let most = ltb-false a.value b.value x in let least = ltb-false b.value a.value y in omega (arith, most, least))
 
-  -- the least of the stripes that would be lost
+  -- the lowest of the stripes that would become unrecoverable
   pub lost-words : (s : StripeNo) → would_lose nodes st u ≡ Some s
       → WouldBeLost nodes st u s × ((r : StripeNo) → WouldBeLost nodes st u r → s.value ≤ r.value)
   unfolding would_lose
@@ -319,10 +320,10 @@ module _ (nodes : List NodeInfo) (st : State) (u : UpgradeNo) where
   unfolding would_lose
   words-none none = let xs = filter (is_lost_to nodes st u) st.stripes in (least-none lower xs).1 (no-member xs (λ s here. none s (lost-said s here)))
 
--- ---- what is told
+-- ---- the replies
 
 module _ (nodes : List NodeInfo) (st : State) (u : UpgradeNo) where
-  -- what each answer says
+  -- what each reply means
   abbrev pub Says : Reply → Type 0
   Says Changed = (has_domain nodes u ≡ true) × (st.upgrading ≡ None) × (would_lose nodes st u ≡ None)
   Says (Refused refusal.UnknownDomain) = has_domain nodes u ≡ false
@@ -345,7 +346,7 @@ module _ (nodes : List NodeInfo) (st : State) (u : UpgradeNo) where
   unfolding upgrade_outcome
   says = by-domain (has_domain nodes u) refl
 
-  -- what is told, is so
+  -- a reply is given only if what it means holds
   pub upgrade-told : (r : Reply) → (upgrade_outcome nodes st u).0 ≡ r → Says r
   upgrade-told r told = subst Says told says
 
@@ -356,18 +357,18 @@ module _ (nodes : List NodeInfo) (st : State) (u : UpgradeNo) where
       passed (not (has_domain nodes u)) refusal.UnknownDomain st (upgrade_answer st u st.upgrading (would_lose nodes st u)) (ap not known)
       ∙ ap (λ (p : Option UpgradeNo). upgrade_answer st u p (would_lose nodes st u)) runs ∙ ap (upgrade_answer st u o) is
 
-  -- and what is so, is told
+  -- and always if it holds
   pub tell-lost : (s : StripeNo) → Says (Refused (refusal.WouldLose s)) → (upgrade_outcome nodes st u).0 ≡ Refused (refusal.WouldLose s)
   tell-lost s so = ap (λ (o : Outcome). o.0) (answer-known None (Some s) so.0 so.1 so.2)
 
   pub upgraded-to : Says Changed → upgrade_outcome nodes st u ≡ (Changed, with_upgrading st u)
   upgraded-to so = answer-known None None so.0 so.1 so.2
 
-  -- the state that an upgrade leaves
+  -- the state after an upgrade
   pub upgrade-after : (upgrade_outcome nodes st u).0 ≡ Changed → (upgrade_outcome nodes st u).1 ≡ with_upgrading st u
   upgrade-after told = ap (λ (o : Outcome). o.1) (upgraded-to (upgrade-told Changed told))
 
-  -- a stripe that was recoverable is so with the domain upgrading
+  -- a stripe that was recoverable is recoverable during the upgrade
   still-by : (s : StripeNo) → ((s : StripeNo) → ¬ (WouldBeLost nodes st u s)) → has_stripe st s ≡ true
       → IsRecoverable (code_of st s) (missing nodes st s)
       → (b : Bool) → is_safe nodes (with_upgrading st u) s ≡ b → IsRecoverable (code_of st s) (missing nodes (with_upgrading st u) s)
@@ -385,7 +386,7 @@ module _ (nodes : List NodeInfo) (st : State) (u : UpgradeNo) where
       subst (λ (next : State). IsRecoverable (code_of st s) (missing nodes next s)) (sym (upgrade-after told))
       (still-by s (none-words nodes st u (upgrade-told Changed told).2) there recoverable (is_safe nodes (with_upgrading st u) s) refl)
 
-  -- one that was whole is not told, and withstands one loss more
+  -- Upgrade is not refused for a whole stripe, which survives one more loss during the upgrade
   pub whole-safe : (s : StripeNo) → AreSeated nodes st → level nodes st s ≡ Whole → (upgrade_outcome nodes st u).0 ≢ Refused (refusal.WouldLose s)
   whole-safe s seated whole told =
       (lost-words nodes st u s (upgrade-told (Refused (refusal.WouldLose s)) told).2).0.lost (whole-recoverable nodes st u s seated whole)

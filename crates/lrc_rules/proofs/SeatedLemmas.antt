@@ -1,4 +1,4 @@
--- Each outcome leaves the stripes seated.
+-- Each command keeps the seats of the state in order (`AreSeated`).
 use Rattle.std.proofs.Common.{[], inl, inr, ℕ, ◌+◌, cond, zero-add, if◌then◌else◌, ◌≡◌, ◌≢◌, ◌<◌, Bool, true, false, not, eqb, List, ◌∷◌, ◌++◌, map, filter, Option, Some, None, Result, Ok, Err, IfSome, IsSomeAnd, IsTrue, fold, arith, refl, sym, ap, ◌∙◌, subst}
 use Rattle.std.specs.List.{All, Contains}
 use Rattle.std.proofs.lemmas.Bool.{cases_Bool, lt-ltb, ne_eqb, eq-eqb, eqb-false, not-true, or_parts}
@@ -37,14 +37,14 @@ use Rattle.lrc_rules.proofs.OutcomeLemmas.{either-way}
 
 -- ---- commands
 
--- a stripe that is not there is none of the stripes
+-- a stripe that the store lacks differs from each stripe of the store
 pub not_there : (st : State) (s : StripeNo) → has_stripe st s ≡ false → (t : StripeNo) → Contains st.stripes t → t ≢ s
 not_there st s e t here same =
     let hit = list_any-member (λ (u : StripeNo). eqb s.value u.value) st.stripes t here
     (eq-eqb s.value t.value (ap (λ (x : StripeNo). x.value) (sym same))) in
     let both : true ≡ false = sym hit ∙ e in cc
 
--- nor has it the number of one of them
+-- and so does its number
 other-stripe : (st : State) (s : StripeNo) → has_stripe st s ≡ false → (t : StripeNo) → Contains st.stripes t → eqb s.value t.value ≡ false
 other-stripe st s e t here =
     All-contains (λ (u : StripeNo). eqb s.value u.value ≡ false) st.stripes t (All-list_any (λ (u : StripeNo). eqb s.value u.value) st.stripes e) here
@@ -55,25 +55,25 @@ fragments-own code i d within =
     let low : i < fragment_count code = omega (arith, within, fragments-long code) in
     subst (λ n. has_fragment code n ≡ true) (sym (fragment-number_in code i d low)) (lt-ltb i (fragment_count code) low)
 
--- with one more stripe, of either code, the narrow stripes are there
+-- after a stripe is added, with either code, each narrow stripe is still a stripe of the store
 coded-with : (st : State) (code : Code) (s : StripeNo) → All (Contains st.stripes) st.narrow → All (Contains (st.stripes ++ s ∷ [])) (with_code code s st.narrow)
 coded-with st Wide s coded = All-filter (is_other s) (Contains (st.stripes ++ s ∷ [])) st.narrow
     (All-weaker (Contains st.stripes) (Contains (st.stripes ++ s ∷ [])) (Contains-append_left st.stripes (s ∷ [])) st.narrow coded)
 coded-with st Narrow s coded = All-push (Contains (st.stripes ++ s ∷ [])) st.narrow s
     (All-weaker (Contains st.stripes) (Contains (st.stripes ++ s ∷ [])) (Contains-append_left st.stripes (s ∷ [])) st.narrow coded) (Contains-push st.stripes s)
 
--- two seats that are apart by a code are so by one that is the same
+-- two held seats that are apart in one state are apart in a state with the same code of the stripe
 KeepApart-code : (nodes : List NodeInfo) (st st' : State) (h g : Held) → code_of st' h.stripe ≡ code_of st h.stripe → KeepApart nodes st h g → KeepApart nodes st' h g
 KeepApart-code nodes st st' h g same apart stripe fragment =
     subst (λ (c : Code). IfSome (node_at nodes h.seat.node) (λ n. IfSome (node_at nodes g.seat.node) (λ m. AreApart c h.fragment n g.fragment m)))
     (sym same) (apart stripe fragment)
 
--- and a seat of a fragment that the stripe's code has is so
+-- and so is a held seat of a fragment that the stripe's code has
 IsWithin-code : (st st' : State) (h : Held) → code_of st' h.stripe ≡ code_of st h.stripe → IsWithin st h → IsWithin st' h
 IsWithin-code st st' h same within = subst (λ (c : Code). IsTrue (has_fragment c h.fragment.value)) (sym same) within
 
 module _ (nodes : List NodeInfo) (known : AreNodes nodes) (st : State) (s : StripeNo) where
-  -- a stripe that was not there, with no homes yet
+  -- a new stripe, with no homes yet
   pub stripe-seated : (code : Code) → AreSeated nodes st → has_stripe st s ≡ false → AreSeated nodes (with_stripe st code s)
   stripe-seated code seated e =
       let same = λ (h : Held) (here : Contains st.stripes h.stripe). code-other st code s h.stripe (other-stripe st s e h.stripe here) in
@@ -127,7 +127,7 @@ module _ (nodes : List NodeInfo) (known : AreNodes nodes) (st : State) (s : Stri
       either-way (AreSeated nodes) (has_stripe st s) refusal.StripeExists st (place_answer st code (placed nodes (with_stripe st code s) s)) seated
       (λ e. answer-seated code (placed nodes (with_stripe st code s) s) seated e refl)
 
-  -- the stripe, its homes and its leases taken out
+  -- the stripe removed, with its homes and its leases
   pub without-seated : AreSeated nodes st → AreSeated nodes (without_stripe st s)
   without-seated seated =
       let p = λ (h : Held). is_other s h.stripe in
@@ -166,7 +166,7 @@ module _ (nodes : List NodeInfo) (known : AreNodes nodes) (st : State) (s : Stri
         reachable = seated.reachable;
       }
 
--- a node that the test of gone ones misses is not gone
+-- a node that is not in the list of gone nodes is not gone
 not_gone : (numbers draining : List NodeNo) (m : NodeNo) → has_number numbers m ≡ false
     → (if has_number numbers m then Gone else (if has_number draining m then Draining else Active)) ≢ Gone
 not_gone numbers draining m miss gone = other (has_number draining m) (rw miss at gone) where
@@ -177,7 +177,7 @@ not_gone numbers draining m miss gone = other (has_number draining m) (rw miss a
 gone-number : (st : State) (m : NodeNo) → mode_of st m ≢ Gone → has_number st.gone m ≡ false
 gone-number st m present = elim (cases_Bool (has_number st.gone m)) [ inl hit ↦ absurd (present (rw hit refl)) | inr miss ↦ miss ]
 
--- the same of the test of its mode
+-- the same for the test of its mode
 pub active-number : (st : State) (m : NodeNo) → is_gone (mode_of st m) ≡ false → has_number st.gone m ≡ false
 active-number st m e = elim (cases_Bool (has_number st.gone m)) [ inl hit ↦ (let both : true ≡ false = rw hit at e in cc) | inr miss ↦ miss ]
 
@@ -190,18 +190,18 @@ present-by : (o : Option NodeInfo) (slot : ℕ) (P : Type 0) → IsSomeAnd o (λ
 present-by (Some n) slot P standing = standing.1
 present-by None slot P standing = absurd standing
 
--- the node of a standing seat is not gone
+-- the node of such a seat is not gone
 pub standing-present : (nodes : List NodeInfo) (st : State) (seat : Seat) → IsStanding nodes st seat → mode_of st seat.node ≢ Gone
 standing-present nodes st seat standing = present-by (node_at nodes seat.node) seat.slot (mode_of st seat.node ≢ Gone) standing
 
--- a number that is not in a list is in no part of it
+-- a number that is not in a list is not in the list without another
 fewer-numbers : (numbers : List NodeNo) (n m : NodeNo) → has_number numbers m ≡ false → has_number (without_number numbers n) m ≡ false
 fewer-numbers numbers n m miss =
     list_any-All (λ (k : NodeNo). eqb m.value k.value) (without_number numbers n)
     (All-filter (λ (k : NodeNo). not (eqb n.value k.value)) (λ k. eqb m.value k.value ≡ false) numbers
     (All-list_any (λ (k : NodeNo). eqb m.value k.value) numbers miss))
 
--- a change of modes leaves the stripes seated, where no seat's node is gone afterwards, and no node that is down
+-- a change of modes keeps the seats in order, if afterwards neither a seat's node nor a node that is down is gone
 modes-seated : (nodes : List NodeInfo) (st : State) (gone draining down : List NodeNo) (upgrading : Option UpgradeNo) → AreSeated nodes st
     → ((seat : Seat) → Contains (taken_seats st) seat → has_number gone seat.node ≡ false)
     → ((m : NodeNo) → Contains down m → has_number gone m ≡ false)
@@ -225,20 +225,20 @@ modes-seated nodes st gone draining down upgrading seated present reachable =
     }
 
 module _ (nodes : List NodeInfo) (st : State) (n : NodeNo) where
-  -- a seat's node is not gone
+  -- the node of a held seat is not gone
   pub seat-present : AreSeated nodes st → (seat : Seat) → Contains (taken_seats st) seat → has_number st.gone seat.node ≡ false
   seat-present seated seat here =
       gone-number st seat.node (standing-present nodes st seat (All-contains (IsStanding nodes st) (taken_seats st) seat seated.standing here))
 
-  -- nor is a node that is down
+  -- and neither is a node that is down
   pub down-present : AreSeated nodes st → (m : NodeNo) → Contains st.down m → has_number st.gone m ≡ false
   down-present seated m here = gone-number st m (All-contains (λ k. mode_of st k ≢ Gone) st.down m seated.reachable here)
 
-  -- the numbers that are left of a list are others, and stood in it
+  -- a number in a list without another is in the list, and differs from the other
   left-number : (numbers : List NodeNo) (m : NodeNo) → Contains (without_number numbers n) m → Contains numbers m × (eqb n.value m.value ≡ false)
   left-number numbers m here = let parts = filter-member (λ (k : NodeNo). not (eqb n.value k.value)) numbers m here in (parts.0, not-true _ parts.1)
 
-  -- no seat that is left stands on the node
+  -- no held seat is left on the node
   pub emptied-apart : All (λ (seat : Seat). eqb n.value seat.node.value ≡ false) (taken_seats (emptied st n))
   emptied-apart =
       let p = λ (h : Held). not (stands_on n h) in
@@ -256,7 +256,7 @@ module _ (nodes : List NodeInfo) (st : State) (n : NodeNo) where
       let other : eqb m.value n.value ≡ false = ne_eqb m.value n.value (λ e. eqb-false n.value m.value apart (sym e)) in
       rw (list_any-append (λ (k : NodeNo). eqb m.value k.value) st.gone (n ∷ []), miss, other) refl
 
-  -- so none is on it
+  -- so its load is 0
   pub emptied-load : load (emptied st n) n ≡ 0
   emptied-load = none (taken_seats (emptied st n)) emptied-apart where
     none : (seats : List Seat) → All (λ (seat : Seat). eqb n.value seat.node.value ≡ false) seats → load_of seats n ≡ 0
@@ -267,7 +267,7 @@ module _ (nodes : List NodeInfo) (st : State) (n : NodeNo) where
         rw (sum_by-cons (λ (seat : Seat). cond (eqb seat.node.value n.value) 1 0) seat seats, away, zero-add)
         (none seats (All-tail (λ (seat : Seat). eqb n.value seat.node.value ≡ false) seat seats apart))
 
-  -- where no seat is on the node, each is on another
+  -- if the load is 0, each seat is on another node
   load-apart : (seats : List Seat) → load_of seats n ≡ 0 → All (λ (seat : Seat). eqb n.value seat.node.value ≡ false) seats
   load-apart [] none = All-nil (λ (seat : Seat). eqb n.value seat.node.value ≡ false)
   load-apart (seat ∷ seats) none =
@@ -281,11 +281,11 @@ module _ (nodes : List NodeInfo) (st : State) (n : NodeNo) where
             (ne_eqb n.value seat.node.value (λ e. eqb-false seat.node.value n.value miss (sym e))) (load-apart seats (omega (arith, left)))
       ]
 
-  -- the stripes stay seated where the homes on a node are taken out
+  -- removing the homes on a node keeps the seats in order
   pub emptied-seated : AreSeated nodes st → AreSeated nodes (emptied st n)
   emptied-seated seated = kept-seated nodes st (λ h. not (stands_on n h)) (λ l. not (hangs_on st n l)) seated
 
-  -- a node that is gone, on which no seat is
+  -- a node without held seats is gone
   pub with_gone-seated : AreSeated nodes st → load st n ≡ 0 → AreSeated nodes (with_gone st n)
   with_gone-seated seated none =
       modes-seated nodes st (st.gone ++ n ∷ []) (without_number st.draining n) (without_number st.down n) st.upgrading seated
@@ -293,7 +293,7 @@ module _ (nodes : List NodeInfo) (st : State) (n : NodeNo) where
       (load-apart (taken_seats st) none) here) (seat-present seated seat here))
       (λ m here. let parts = left-number st.down m here in other-number m parts.1 (down-present seated m parts.0))
 
-  -- a node that is down, and was not gone
+  -- a node that is not gone is down
   pub with_down-seated : AreSeated nodes st → is_gone (mode_of st n) ≡ false → AreSeated nodes (with_down st n)
   with_down-seated seated active =
       modes-seated nodes st st.gone st.draining (st.down ++ n ∷ []) st.upgrading seated (seat-present seated)
@@ -302,23 +302,23 @@ module _ (nodes : List NodeInfo) (st : State) (n : NodeNo) where
         | inr new ↦ subst (λ k. has_number st.gone k ≡ false) new (active-number st n active)
       ])
 
-  -- a node that is down no longer
+  -- a node is no longer down
   pub without_down-seated : AreSeated nodes st → AreSeated nodes (without_down st n)
   without_down-seated seated =
       modes-seated nodes st st.gone st.draining (without_number st.down n) st.upgrading seated (seat-present seated)
       (λ m here. down-present seated m (left-number st.down m here).0)
 
-  -- a node that is draining
+  -- a node is draining
   pub with_draining-seated : AreSeated nodes st → AreSeated nodes (with_draining st n)
   with_draining-seated seated = modes-seated nodes st st.gone (st.draining ++ n ∷ []) st.down st.upgrading seated (seat-present seated)
       (down-present seated)
 
-  -- a node that is draining no longer
+  -- a node is no longer draining
   pub without_draining-seated : AreSeated nodes st → AreSeated nodes (without_draining st n)
   without_draining-seated seated = modes-seated nodes st st.gone (without_number st.draining n) st.down st.upgrading seated (seat-present seated)
       (down-present seated)
 
-  -- a node that is gone no longer
+  -- a node is no longer gone
   pub without_gone-seated : AreSeated nodes st → AreSeated nodes (without_gone st n)
   without_gone-seated seated =
       modes-seated nodes st (without_number st.gone n) st.draining st.down st.upgrading seated
@@ -326,12 +326,12 @@ module _ (nodes : List NodeInfo) (st : State) (n : NodeNo) where
       (λ m here. fewer-numbers st.gone n m (down-present seated m here))
 
 module _ (nodes : List NodeInfo) (st : State) (n : NodeNo) where
-  -- a node that is gone, with the seats on it
+  -- a node is gone, with the seats on it
   pub with_gone-emptied : AreSeated nodes st → AreSeated nodes (with_gone (emptied st n) n)
   with_gone-emptied seated = with_gone-seated nodes (emptied st n) n (emptied-seated nodes st n seated) (emptied-load nodes st n)
 
 module _ (nodes : List NodeInfo) (st : State) where
-  -- an upgrade domain is upgrading, or none
+  -- an upgrade domain is upgrading, or none is
   pub upgrading-seated : (upgrading : Option UpgradeNo) → AreSeated nodes st → AreSeated nodes (record st { upgrading = upgrading })
   upgrading-seated upgrading seated =
       modes-seated nodes st st.gone st.draining st.down upgrading seated

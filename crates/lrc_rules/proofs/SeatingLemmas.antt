@@ -1,4 +1,5 @@
--- One home or lease more on a seat that is apart from the others, and a stripe's fragments placed one after the other, leave the stripes seated.
+-- A new home or lease on a seat that is apart from the others, and the placement of a stripe, keep the seats in
+-- order.
 use Rattle.std.proofs.Common.{[], ◌≡◌, ◌≢◌, ◌<◌, IsTrue, Bool, true, not, ◌&&◌, eqb, append_assoc, List, ◌∷◌, ◌++◌, map, fold, Option, Some, None, Ok, Err, IfSome, IsSomeAnd, arith, refl, sym, ap, ◌∙◌, subst}
 use Rattle.std.specs.List.{All, AllPairs, Contains, list_any}
 use Rattle.std.specs.Option.{option_map_or}
@@ -32,7 +33,7 @@ use Rattle.lrc_rules.proofs.SeatingLists.{All-unmap, All-both, pairs-map, pairs-
 use Rattle.lrc_rules.proofs.PairLemmas.{All-left, All-right, pairs-insert}
 use Rattle.lrc_rules.proofs.ChoiceLemmas.{chosen-choice}
 
--- none of the seats is one of this fragment of the stripe
+-- no held seat is of this fragment of the stripe
 abbrev pub HasNone : StripeNo → List Held → Fragment → Type 0
 HasNone s seats f = All (λ h. h.stripe ≡ s → h.fragment ≢ f) seats
 
@@ -41,11 +42,11 @@ HasNone s seats f = All (λ h. h.stripe ≡ s → h.fragment ≢ f) seats
 abbrev pub held_on : StripeNo → Fragment → Seat → Held
 held_on s f seat = record { stripe = s; fragment = f; seat = seat }
 
--- what holds of all seats holds of all homes
+-- what holds for all held seats holds for all homes
 pub homes-all : (P : Held → Type 0) (st : State) → All P (seats_of st) → All P st.homes
 homes-all P st all = All-left P st.homes (map held_by st.leases) all
 
--- and of all leases, by the seats that they hold
+-- and for all leases, as held seats
 pub leases-all : (P : Held → Type 0) (st : State) → All P (seats_of st) → All (λ l. P (held_by l)) st.leases
 leases-all P st all = All-unmap P held_by st.leases (All-right P st.homes (map held_by st.leases) all)
 
@@ -60,7 +61,7 @@ apart-turn code f g None (Some m) h = tt
 apart-turn code f g (Some n) None h = tt
 apart-turn code f g (Some n) (Some m) h = AreApart-turn code f g n m h
 
--- being apart is the same both ways
+-- being apart is symmetric
 pub KeepApart-turn : (nodes : List NodeInfo) (st : State) (h g : Held) → KeepApart nodes st h g → KeepApart nodes st g h
 KeepApart-turn nodes st h g apart stripe fragment =
     subst (λ (r : StripeNo). IfSome (node_at nodes g.seat.node) (λ n. IfSome (node_at nodes h.seat.node) (λ m. AreApart (code_of st r) g.fragment n h.fragment m)))
@@ -71,11 +72,11 @@ KeepApart-turn nodes st h g apart stripe fragment =
 other-turn : (h g : Held) → h.seat ≢ g.seat → g.seat ≢ h.seat
 other-turn h g other = λ e. other (sym e)
 
--- the seat is of a fragment that the stripe's code has
+-- the held seat is of a fragment that the stripe's code has
 abbrev pub IsWithin : State → Held → Type 0
 IsWithin st h = IsTrue (has_fragment (code_of st h.stripe) h.fragment.value)
 
--- a seat that may be added: it stands, and all others are others and apart from it
+-- a held seat that may be added: its node is not gone, the seat is free, and it is apart from the others
 pub record MayStand (nodes : List NodeInfo) (st : State) (y : Held) : Type 0 where
   pub standing : IsStanding nodes st y.seat
   pub others : All (λ h. h.seat ≢ y.seat) (seats_of st)
@@ -90,13 +91,13 @@ module _ (nodes : List NodeInfo) (st : State) (seated : AreSeated nodes st) wher
   pub held-standing : All (λ h. IsStanding nodes st h.seat) (seats_of st)
   held-standing = All-unmap (IsStanding nodes st) (λ (h : Held). h.seat) (seats_of st) seated.standing
 
-  -- what holds of all seats and of one more that is added before the targets
+  -- what holds for all held seats and for a new home
   All-inserted : (P : Held → Type 0) (y : Held) → All P (seats_of st) → P y → All P (seats_of (record st { homes = st.homes ++ y ∷ [] }))
   All-inserted P y all own =
       let targets = map held_by st.leases in
       All-append P (st.homes ++ y ∷ []) targets (All-push P st.homes y (All-left P st.homes targets all) own) (All-right P st.homes targets all)
 
-  -- one more home, of a fragment that had none
+  -- a new home of a fragment that had none
   pub inserted-seated : (y : Held) → MayStand nodes st y → HasNone y.stripe st.homes y.fragment
       → AreSeated nodes (record st { homes = st.homes ++ y ∷ [] })
   inserted-seated y may absent =
@@ -119,7 +120,7 @@ module _ (nodes : List NodeInfo) (st : State) (seated : AreSeated nodes st) wher
         reachable = seated.reachable;
       }
 
-  -- one more lease, of a fragment that had none
+  -- a new lease of a fragment that had none
   pub leased-seated : (l : Lease) → MayStand nodes st (held_by l) → lease_of st l.stripe l.fragment ≡ None → AreSeated nodes (with_lease st l)
   leased-seated l may none =
       let y = held_by l in
@@ -145,7 +146,7 @@ module _ (nodes : List NodeInfo) (st : State) (seated : AreSeated nodes st) wher
       }
 
 module _ (nodes : List NodeInfo) (known : AreNodes nodes) (st : State) (s : StripeNo) (f : Fragment) (seat : Seat) where
-  -- a seat that is chosen is none of those that are held
+  -- a chosen seat differs from each held seat
   pub choice-new : IsChoice nodes st s f seat → All (λ a. a ≢ seat) (taken_seats st)
   choice-new choice =
       All-members (λ a. a ≢ seat) (taken_seats st)
@@ -186,14 +187,14 @@ module _ (nodes : List NodeInfo) (known : AreNodes nodes) (st : State) (s : Stri
     within = own;
   }
 
-  -- a home on a chosen seat, for a fragment that has none
+  -- a home on a chosen seat, for a fragment without one
   pub home-seated : AreSeated nodes st → IsChoice nodes st s f seat → Contains st.stripes s → IsTrue (has_fragment (code_of st s) f.value) → HasNone s st.homes f
       → AreSeated nodes (with_home st s f seat)
   home-seated seated choice there own absent = inserted-seated nodes st seated (held_on s f seat) (choice-stands choice there own) absent
 
--- ---- placing
+-- ---- placement
 
--- what holds while the fragments of a stripe are placed: those that are left have no homes
+-- what holds while the fragments of a stripe are placed: the remaining ones have no homes
 pub record IsPlacing (nodes : List NodeInfo) (s : StripeNo) (st : State) (rest : List Fragment) : Type 0 where
   pub seated : AreSeated nodes st
   pub there : Contains st.stripes s
@@ -245,7 +246,7 @@ distinct-from (f ∷ fs) e =
     (All-list_any (λ (g : Fragment). eqb f.value g.value) fs (not-true _ parts.0)))
     (distinct-from fs parts.1)
 
--- no two of a stripe's fragments are one
+-- the fragments of a stripe are distinct
 pub fragments-distinct : (code : Code) → AllPairs (λ f g. f ≢ g) (fragments code)
 unfolding are_distinct
 fragments-distinct Wide = distinct-from (fragments Wide) refl

@@ -1,4 +1,4 @@
--- Lists whose elements are mapped, and one element more.
+-- Lists with mapped elements, and with one more element.
 use Rattle.std.proofs.Common.{[], get_or, List, ◌∷◌, ◌++◌, map, arith}
 use Rattle.std.specs.List.{All, AllPairs}
 use Rattle.std.proofs.lemmas.List.Elements.{All-nil, All-cons, All-head, All-tail, All-map}
@@ -26,7 +26,7 @@ module _ {X Y : Type 0} (R : Y → Y → Type 0) (f : X → Y) where
 pub pairs-push : {X : Type 0} (R : X → X → Type 0) (xs : List X) (y : X) → AllPairs R xs → All (λ x. R x y) xs → AllPairs R (xs ++ y ∷ [])
 pairs-push R xs y pairs all = all_pairs_push R xs y pairs all
 
--- pairs of elements that are carried over, where what each element has carries them
+-- a relation of all pairs carries over, if it does for elements with this property
 pub pairs-carried : {X : Type 0} (R S : X → X → Type 0) (P : X → Type 0) (xs : List X) → ((x y : X) → P x → R x y → S x y) → All P xs → AllPairs R xs → AllPairs S xs
 pairs-carried R S P xs carry all pairs i j d below within = carry (get_or xs i d) (get_or xs j d) (all i d (omega (arith, below, within))) (pairs i j d below within)
 

@@ -1,4 +1,4 @@
--- A legal history is all that is claimed of one.
+-- A legal history keeps every promise of `Served`.
 use Rattle.std.proofs.Common.{◌+◌, ◌<◌, ◌≤◌, List}
 use Rattle.lrc_topology.specs.declared.NodeInfo.{NodeInfo}
 use Rattle.lrc_topology.specs.Nodes.{AreNodes}

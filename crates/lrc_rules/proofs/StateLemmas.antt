@@ -1,4 +1,5 @@
--- Stripes, homes, leases, loads, and homeless and missing fragments, in the words of a state; and the state before the first entry.
+-- Stripes, homes, leases, loads, and homeless and missing fragments in terms of the state's lists; and the empty
+-- store.
 use Rattle.std.proofs.Common.{◌≡◌, ◌≢◌, ◌⊎◌, inl, inr, ℕ, ◌+◌, ◌<◌, ◌≤◌, Bool, true, false, not, eqb, List, Option, Some, None, option_map, is_none, IsSome, refl, sym, ap, ap₂, ◌∙◌, subst}
 use Rattle.std.specs.List.{AllPairs, Contains, count_by}
 use Rattle.std.specs.Option.{option_map_or}
@@ -40,7 +41,7 @@ module _ (st : State) (s : StripeNo) where
 
 -- ---- homes
 
--- the fragment's seat, as it is held
+-- the held seat of a fragment
 abbrev pub held_on : StripeNo → Fragment → Seat → Held
 held_on s f seat = record { stripe = s; fragment = f; seat = seat }
 
@@ -63,21 +64,21 @@ held-is s f h hit =
     (equal_fragments h.fragment f (eqb-true _ _ parts.1))
 
 module _ (homes : List Held) where
-  -- what is found is in the list
+  -- the home that is found is in the list
   pub found-home : (s : StripeNo) (f : Fragment) (seat : Seat) → homes_of homes s f.value ≡ Some seat → Contains homes (held_on s f seat)
   found-home s f seat is =
       let (h, found, same) = seat-of (home_of homes s f.value) seat is in
       let among = find-member (is_of s f.value) homes h found in
       subst (Contains homes) (held-is s f h among.1 ∙ ap (held_on s f) same) among.0
 
-  -- where none is found there is none
+  -- if no home is found, there is none
   pub none-home : (s : StripeNo) (f : Fragment) → homes_of homes s f.value ≡ None → IsHomeless homes s f
   none-home s f is seat among =
       let miss : is_of s f.value (held_on s f seat) ≡ false = find-none (is_of s f.value) homes (held_on s f seat) (none-of (home_of homes s f.value) is) among in
       let hit : is_of s f.value (held_on s f seat) ≡ true = and_from _ _ (eq-eqb s.value s.value refl) (eq-eqb f.value f.value refl) in
       let both : true ≡ false = sym hit ∙ miss in cc
 
-  -- and where there is none, none is found
+  -- and if there is none, none is found
   pub home-none : (s : StripeNo) (f : Fragment) → IsHomeless homes s f → homes_of homes s f.value ≡ None
   home-none s f none = by (homes_of homes s f.value) refl
     where
@@ -85,7 +86,7 @@ module _ (homes : List Held) where
       by None is = is
       by (Some seat) is = absurd (none seat (found-home s f seat is))
 
-  -- the one home of a fragment is found
+  -- the only home of a fragment is found
   pub home-found : AllPairs (λ h g. h.stripe ≡ g.stripe → h.fragment ≢ g.fragment) homes → (h : Held) → Contains homes h
       → homes_of homes h.stripe h.fragment.value ≡ Some h.seat
   home-found single h among = ap (λ (o : Option Held). option_map (λ g. g.seat) o) (home-only homes single h among)
@@ -93,7 +94,7 @@ module _ (homes : List Held) where
 -- ---- leases
 
 module _ (st : State) (s : StripeNo) (f : Fragment) where
-  -- the lease is a live one of the fragment
+  -- the lease is a live lease of the fragment
   abbrev pub IsLeaseOf : Lease → Type 0
   IsLeaseOf l = Contains st.leases l × (l.stripe ≡ s) × (l.fragment ≡ f)
 
@@ -101,20 +102,20 @@ module _ (st : State) (s : StripeNo) (f : Fragment) where
   abbrev pub IsUnleased : Type 0
   IsUnleased = (l : Lease) → Contains st.leases l → l.stripe ≡ s → l.fragment ≢ f
 
-  -- what is found is in the list
+  -- the lease that is found is in the list
   pub found-lease : (l : Lease) → lease_of st s f ≡ Some l → IsLeaseOf l
   found-lease l is =
       let own = leases_in-own st.leases s f.value l is in
       (leases_in-contains st.leases s f.value l is, own.0, equal_fragments l.fragment f own.1)
 
-  -- where none is found there is none
+  -- if no lease is found, there is none
   pub none-lease : lease_of st s f ≡ None → IsUnleased
   none-lease is l among stripe fragment =
       let miss : lease_is s f.value l ≡ false = find-none (lease_is s f.value) st.leases l is among in
       let hit = is_of-from s f.value l (ap (λ (r : StripeNo). r.value) stripe) (ap (λ (g : Fragment). g.value) fragment) in
       let both : true ≡ false = sym hit ∙ miss in cc
 
-  -- and where there is none, none is found
+  -- and if there is none, none is found
   pub lease-none : IsUnleased → lease_of st s f ≡ None
   lease-none none = by (lease_of st s f) refl
     where
@@ -122,7 +123,7 @@ module _ (st : State) (s : StripeNo) (f : Fragment) where
       by None is = is
       by (Some l) is = absurd (let own = found-lease l is in none l own.0 own.1 own.2)
 
-  -- the one lease of a fragment is found
+  -- the only lease of a fragment is found
   pub lease-found : AreOneEach st.leases → (l : Lease) → IsLeaseOf l → lease_of st s f ≡ Some l
   lease-found single l (among, stripe, fragment) =
       ap₂ (λ (r : StripeNo) (g : Fragment). leases_in st.leases r g.value) (sym stripe) (sym fragment)
@@ -130,7 +131,7 @@ module _ (st : State) (s : StripeNo) (f : Fragment) where
 
 -- ---- loads
 
--- the load of a node is its homes and the targets on it
+-- the load of a node is the number of homes and targets on it
 pub load-counts : (st : State) (n : NodeNo)
     → load st n ≡ count_by (λ h. same_node h.seat.node n) st.homes + count_by (λ (l : Lease). same_node l.target.node n) st.leases
 load-counts st n = load-parts st n ∙ ap₂ (λ (a b : ℕ). a + b) (count-held st.homes n) (count-targets st.leases n)
@@ -185,14 +186,14 @@ module _ (nodes : List NodeInfo) (st : State) (s : StripeNo) (f : Fragment) wher
       and_from _ _ (lt-ltb f.value (fragment_count (code_of st s)) within)
       (ap (λ (o : Option Seat). option_map_or (λ home. not (online_at nodes st home.node)) o true) is ∙ ap not away)
 
--- no number beyond the fragments is homeless or missing
+-- a number that is not a fragment of the code is neither homeless nor missing
 pub none-beyond : (nodes : List NodeInfo) (st : State) (s : StripeNo) (f : ℕ) → fragment_count (code_of st s) ≤ f
     → (homeless st s f ≡ false) × (missing nodes st s f ≡ false)
 none-beyond nodes st s f past =
     let none : has_fragment (code_of st s) f ≡ false = le-ltb f (fragment_count (code_of st s)) past in
     (and_left (has_fragment (code_of st s) f) _ none, and_left (has_fragment (code_of st s) f) _ none)
 
--- and where stripes are seated none has a home or a lease
+-- and if the seats are in order, it has neither a home nor a lease
 module _ (nodes : List NodeInfo) (st : State) (s : StripeNo) (f : Fragment) (seated : AreSeated nodes st) (past : fragment_count (code_of st s) ≤ f.value) where
   lacks : has_fragment (code_of st s) f.value ≡ false
   lacks = le-ltb f.value (fragment_count (code_of st s)) past

@@ -1,4 +1,4 @@
--- Which homes and which stripes outlast a command.
+-- Which homes and which stripes stay after a command.
 use Rattle.std.proofs.Common.{[], ◌≡◌, ◌≢◌, ◌&&◌, ◌||◌, inl, inr, Bool, true, not, nat_eq, List, ◌∷◌, ◌++◌, filter, find, Option, Some, None, option_map, refl, sym, ap, ◌∙◌, subst}
 use Rattle.std.specs.Option.{option_or}
 use Rattle.std.specs.List.{list_any}
@@ -92,7 +92,7 @@ module _ (st : State) (s : StripeNo) (f : Fragment) (seat : Seat) (own : homes_o
   changed-home nodes _ Idle other = own
   changed-home nodes _ _ other = own
 
-  -- a home stays where it is at each command that cannot move it
+  -- a home stays after each command that cannot remove it
   pub home-stays-by : (nodes : List NodeInfo) (past : List Entry) (session : SessionNo) (c : Command) → ¬ (CanMove s f seat c) → Stays (step nodes past st session c).1
   home-stays-by nodes past session c other =
       subst Stays (sym (step-changed nodes past st session c)) (changed-home nodes c (step nodes past st session c).0 other)
@@ -135,7 +135,7 @@ module _ (st : State) (s : StripeNo) (there : has_stripe st s ≡ true) where
   changed-there _ Idle other = there
   changed-there _ _ other = there
 
-  -- a stripe stays at each command but a drop of it
+  -- a stripe stays after each command except its Drop
   pub stripe-stays-by : (nodes : List NodeInfo) (past : List Entry) (session : SessionNo) (c : Command) → ¬ (IsDropOf s c) → IsThere (step nodes past st session c).1
   stripe-stays-by nodes past session c other =
       subst IsThere (sym (step-changed nodes past st session c)) (changed-there c (step nodes past st session c).0 other)

@@ -1,4 +1,4 @@
--- What a step answers and changes, case by case.
+-- The replies and the states after them, command by command.
 use Rattle.std.proofs.Common.{[], ◌≡◌, ℕ, Bool, true, false, not, nat_eq, nat_lt, if◌then◌else◌, ◌||◌, is_none, List, ◌∷◌, ◌++◌, length, map, drop, fold, Option, Some, None, Result, Ok, Err, refl, sym, ap, ◌∙◌, append_assoc, append-nil, arith}
 use Rattle.std.specs.Option.{option_map_or}
 use Rattle.std.proofs.lemmas.List.Folds.{fold_stays}
@@ -35,7 +35,7 @@ use Rattle.lrc_rules.specs.Choices.{AreChosen}
 use Rattle.lrc_rules.proofs.CodedLemmas.{code-own}
 use Rattle.lrc_rules.specs.Changes.{held_at, with_placed, with_done, changed_by}
 
--- what one more fragment gives, by what was chosen
+-- the placement after one more fragment, by the seat that is chosen
 abbrev turn : StripeNo → State → Fragment → Option Seat → Result State Fragment
 turn s st f o = option_map_or (λ seat. Ok (with_home st s f seat)) o (Err f)
 
@@ -51,7 +51,7 @@ drop-front : {X : Type 0} (xs ys : List X) → drop (length xs) (xs ++ ys) ≡ y
 drop-front [] ys = refl
 drop-front (x ∷ xs) ys = drop-front xs ys
 
--- the homes that were added stand on these seats
+-- the homes that were added are on these seats
 pub seats-added : (code : Code) (s : StripeNo) (homes : List Held) (seats : List Seat) → length seats ≡ length (fragments code)
     → map (λ h. h.seat) (drop (length homes) (homes ++ held_at s (fragments code) seats)) ≡ seats
 seats-added code s homes seats all = rw (drop-front homes (held_at s (fragments code) seats)) (seats-held_at s (fragments code) seats all)
@@ -69,9 +69,9 @@ module _ (nodes : List NodeInfo) (st : State) (code : Code) (s : StripeNo) where
   unfolding place_outcome
   place-there there = refused-if _ _ st _ there
 
--- ---- what a step changes
+-- ---- what a command changes
 
--- a placement adds homes of the fragments in their order, on the seats that are chosen for them
+-- a placement adds homes of the fragments in order, on the seats that are chosen for them
 pub record IsGrown (nodes : List NodeInfo) (s : StripeNo) (fs : List Fragment) (st done : State) : Type 0 where
   pub seats : List Seat
   pub all : length seats ≡ length fs
@@ -109,7 +109,7 @@ placing-grown nodes s [] st done e =
     record { seats = []; all = refl; chosen_are = tt; is = sym (same_ok st done e) ∙ ap (λ (hs : List Held). record st { homes = hs }) (sym (append-nil st.homes)) }
 placing-grown nodes s (f ∷ fs) st done e = grown-turn nodes s f fs st done (chosen nodes st s f) refl (λ next. placing-grown nodes s fs next done) e
 
--- what a command that places a stripe leaves, and what it leaves where it is refused
+-- the state after Place or Place6, and after its refusal
 placed-left : (st : State) (code : Code) (s : StripeNo) (seats : List Seat) → changed_by st (place_command code s) (placed_reply code seats) ≡ with_placed st code s seats
 placed-left st Wide s seats = refl
 placed-left st Narrow s seats = refl
@@ -153,13 +153,13 @@ place-changed nodes st code s false e =
     ap (λ (o : Outcome). o.1) o ∙ answer-changed nodes st code s (placed nodes (with_stripe st code s) s) (placed-grown nodes st code s)
     ∙ sym (ap (λ (o : Outcome). changed_by st (place_command code s) o.0) o)
 
--- the step of a command that places a stripe
+-- Place and Place6
 pub place-step : (nodes : List NodeInfo) (past : List Entry) (st : State) (session : SessionNo) (code : Code) (s : StripeNo)
     → step nodes past st session (place_command code s) ≡ place_outcome nodes st code s
 place-step nodes past st session Wide s = refl
 place-step nodes past st session Narrow s = refl
 
--- where it placed the stripe
+-- if the stripe was placed
 pub place-left : (nodes : List NodeInfo) (st : State) (code : Code) (s : StripeNo) (seats : List Seat) → (place_outcome nodes st code s).0 ≡ placed_reply code seats
     → (place_outcome nodes st code s).1 ≡ with_placed st code s seats
 place-left nodes st code s seats told = place-changed nodes st code s (has_stripe st s) refl ∙ ap (changed_by st (place_command code s)) told ∙ placed-left st code s seats
@@ -249,7 +249,7 @@ module _ (nodes : List NodeInfo) (past : List Entry) (st : State) (session : Ses
   IsToldBy : Command → Outcome → Type 0
   IsToldBy c o = o.1 ≡ changed_by st c o.0
 
-  -- the command is one that adds the lease that is granted, and changes nothing where none is
+  -- the command adds the lease that is granted, and changes nothing if none is
   record Grants (c : Command) : Type 0 where
     granting : (lease : LeaseRecord) (k : Kind) → changed_by st c (Granted lease k) ≡ with_lease st lease
     refusing : (r : Refusal) → changed_by st c (Refused r) ≡ st
@@ -358,7 +358,7 @@ tick-changed : (st : State) → (tick_outcome st).1 ≡ changed_by st Tick (tick
 unfolding tick_outcome
 tick-changed st = refl
 
--- the state that a step leaves is told by the command and the reply
+-- the command and the reply determine the state after it
 pub step-changed : (nodes : List NodeInfo) (past : List Entry) (st : State) (session : SessionNo) (c : Command)
     → (step nodes past st session c).1 ≡ changed_by st c (step nodes past st session c).0
 step-changed nodes past st session (Place s) = place-changed nodes st Wide s (has_stripe st s) refl

@@ -1,4 +1,4 @@
--- Each command leaves the stripes seated, from the opening state on.
+-- Each command keeps the seats in order, from the empty store on.
 use Rattle.std.proofs.Common.{◌≡◌, ◌≢◌, ◌+◌, ℕ, Bool, true, false, not, List, Option, Some, None, refl, sym, subst, arith}
 use Rattle.std.specs.List.{Contains}
 use Rattle.std.proofs.lemmas.List.Elements.{All-nil}
@@ -48,7 +48,7 @@ opening-seated nodes = record {
   reachable = All-nil (λ n. mode_of opening n ≢ Gone);
 }
 
--- what is seated stays so as the clock moves
+-- the seats stay in order as the clock advances
 pub clocked-seated : (nodes : List NodeInfo) (st : State) (clock : ℕ) → AreSeated nodes st → AreSeated nodes (record st { clock = clock })
 clocked-seated nodes st clock s = record {
   stripes = s.stripes;
@@ -68,7 +68,7 @@ module _ (nodes : List NodeInfo) (known : AreNodes nodes) (past : List Entry) (s
   done-seated s f None live = seated
   done-seated s f (Some l) live = moved-seated nodes st s f l live seated
 
-  -- what a command leaves that neither places a stripe nor asks for a lease
+  -- the state after a command that neither places a stripe nor asks for a lease
   changed-seated : (c : Command) (r : Reply) → (step nodes past st session c).0 ≡ r → is_placing c ≡ false → asks_for_lease c ≡ false
       → AreSeated nodes (changed_by st c r)
   changed-seated (Place s) r told other none = absurd (cc)
@@ -97,7 +97,7 @@ module _ (nodes : List NodeInfo) (known : AreNodes nodes) (past : List Entry) (s
   other-seated c other none =
       subst (AreSeated nodes) (sym (step-changed nodes past st session c)) (changed-seated c (step nodes past st session c).0 refl other none)
 
--- Each command leaves the stripes seated.
+-- Each command keeps the seats in order.
 pub step-seated : (nodes : List NodeInfo) → AreNodes nodes → (past : List Entry) (st : State) (session : SessionNo) (command : Command)
     → AreSeated nodes st → AreSeated nodes (step nodes past st session command).1
 step-seated nodes known past st session (Place s) seated = place-seated nodes known st s Wide seated

@@ -1,4 +1,4 @@
--- Which seats are taken, as homes and targets come and go.
+-- Which seats are held, as homes and targets are added and removed.
 use Rattle.std.proofs.Common.{[], ◌≡◌, ◌⊎◌, ◌+◌, true, false, cond, nat_eq, eqb, List, ◌∷◌, map, refl, sym, ap, ◌∙◌, inl, inr}
 use Rattle.std.proofs.Math.Path.{fun_ext}
 use Rattle.std.specs.List.{Contains, count_by}
@@ -17,7 +17,7 @@ use Rattle.lrc_rules.proofs.NodeLemmas.{member-taken, taken-member, seat_on}
 
 -- ---- lists
 
--- what stands in a list that is mapped stands for a member
+-- a member of a mapped list comes from a member
 pub member-map : {X Y : Type 0} (f : X → Y) (xs : List X) (y : Y) → Contains (map f xs) y → (x : X) × Contains xs x × (f x ≡ y)
 member-map f [] y h = absurd (not-Contains-nil y h)
 member-map f (x ∷ xs) y h = elim (Contains-cases (f x) y (map f xs) h) [
@@ -25,7 +25,7 @@ member-map f (x ∷ xs) y h = elim (Contains-cases (f x) y (map f xs) h) [
   | inr more ↦ let m = member-map f xs y more in (m.0, Contains-later x m.0 xs m.1, m.2)
 ]
 
--- lists with the same members have the same slots taken
+-- lists with the same members take the same slots
 pub taken-same : (xs ys : List Seat) → ((b : Seat) → Contains xs b → Contains ys b) → ((b : Seat) → Contains ys b → Contains xs b) → is_taken xs ≡ is_taken ys
 taken-same xs ys down up = fun_ext (λ n. fun_ext (λ k. elim (cases_Bool (is_taken ys n k)) [
   | inl hit ↦ member-taken xs n k (up (seat_on n k) (taken-member ys n k hit)) ∙ sym hit
@@ -42,7 +42,7 @@ home-seat st h here = map-member (λ (g : Held). g.seat) (seats_of st) h (Contai
 pub target-seat : (st : State) (l : Lease) → Contains st.leases l → Contains (taken_seats st) l.target
 target-seat st l here = map-member (λ (g : Held). g.seat) (seats_of st) (held_by l) (Contains-append_right st.homes (map held_by st.leases) (held_by l) (map-member held_by st.leases l here))
 
--- a seat that is taken is a home or a target
+-- a held seat is a home or a target
 pub taken-cases : (st : State) (b : Seat) → Contains (taken_seats st) b → ((h : Held) × Contains st.homes h × (h.seat ≡ b)) ⊎ ((l : Lease) × Contains st.leases l × (l.target ≡ b))
 taken-cases st b here =
     let m = member-map (λ (g : Held). g.seat) (seats_of st) b here in
@@ -63,7 +63,7 @@ count-targets [] n = refl
 count-targets (l ∷ ls) n =
     rw (sum_by-cons (λ (a : Seat). cond (eqb a.node.value n.value) 1 0) l.target (map (λ (l : Lease). l.target) ls), sum_by-cons (λ (m : Lease). cond (eqb m.target.node.value n.value) 1 0) l ls, count-targets ls n) refl
 
--- the load of a node, by homes and targets
+-- the load of a node, as homes plus targets
 pub load-parts : (st : State) (n : NodeNo) → load_of (taken_seats st) n ≡ load_of (map (λ h. h.seat) st.homes) n + load_of (map (λ (l : Lease). l.target) st.leases) n
 load-parts st n =
     ap (λ (seats : List Seat). load_of seats n) (map-append (λ (h : Held). h.seat) st.homes (map held_by st.leases))

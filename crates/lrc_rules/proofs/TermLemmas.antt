@@ -1,4 +1,4 @@
--- A lease lives for the ticks of its term.
+-- A lease is live for the ticks of its term.
 use Rattle.std.proofs.Common.{[], ◌≡◌, ◌≢◌, ◌↔◌, ◌⊎◌, ℕ, ◌+◌, ◌<◌, inl, inr, Bool, true, false, cond, List, ◌∷◌, ◌++◌, fold, Some, refl, sym, ap, ◌∙◌, subst, arith}
 use Rattle.std.specs.Prelude.{IsTrue}
 use Rattle.std.proofs.lemmas.Bool.{cases_Bool, eqb-true}
@@ -31,7 +31,7 @@ use Rattle.lrc_rules.proofs.GoodLemmas.{state_after-good}
 granted-same : (l m : LeaseRecord) (k j : Kind) → Granted l k ≡ Granted m j → l ≡ m
 granted-same l m k j e = cc
 
--- the lease that was told is live, and ends a term after
+-- the lease in the reply is live, and expires a term later
 pub record IsFresh (st : State) (l : LeaseRecord) (o : Outcome) : Type 0 where
   pub live : lease_of o.1 l.stripe l.fragment ≡ Some l
   pub expiry : l.expiry ≡ st.clock + term
@@ -52,13 +52,13 @@ pub granted-fresh : (nodes : List NodeInfo) (past : List Entry) (st : State) (se
     → (step nodes past st session c).0 ≡ Granted l k → IsFresh st l (step nodes past st session c)
 granted-fresh nodes past st session c l k told = fresh-by past st l k (step nodes past st session c) (step-follows nodes past st session c) told
 
--- ---- the entries after it
+-- ---- the entries after the grant
 
 module _ (nodes : List NodeInfo) (l : LeaseRecord) where
   abbrev IsLive : World → Type 0
   IsLive w = lease_of w.state l.stripe l.fragment ≡ Some l
 
-  -- an entry that cannot end it leaves it, if the clock does not come to its end
+  -- an entry that cannot end the lease keeps it, if the clock does not reach its expiry
   step-lives : (w : World) (e : Entry) → IsTrue (is_tick e.command) ⊎ (¬ (CanEnd w.state l e.command)) → (next_world nodes w e).state.clock < l.expiry → IsLive w
       → IsLive (next_world nodes w e)
   step-lives w e (inr other) before live = lease-lasts-by w.state l.stripe l.fragment l live nodes w.past e.session e.command other
@@ -77,7 +77,7 @@ module _ (nodes : List NodeInfo) (l : LeaseRecord) where
 
 -- ---- histories
 
--- the entry after some others has the step's reply
+-- an entry of a legal history has the reply that the rules give
 legal-at : (nodes : List NodeInfo) (w : World) (es : List Entry) (e : Entry) (fs : List Entry) → IsLegalFrom nodes w (es ++ e ∷ fs)
     → (outcome_in nodes (fold (next_world nodes) w es) e.session e.command).0 ≡ e.reply
 legal-at nodes w [] e fs legal = legal.0
@@ -111,7 +111,7 @@ module _ (nodes : List NodeInfo) (known : AreNodes nodes) (history : List Entry)
   ended : world_after nodes (history ++ e ∷ es) ≡ fold (next_world nodes) after es
   ended = fold-append (next_world nodes) first_world history (e ∷ es)
 
-  -- the end of the lease is as many ticks away as its term has more than the entries after it
+  -- the lease expires after its term less the ticks since the grant
   left : (state_after nodes (history ++ e ∷ es)).clock + term ≡ l.expiry + ticks es
   left =
       let there = ap (λ (w : World). w.state.clock) ended in

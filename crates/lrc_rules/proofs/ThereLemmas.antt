@@ -1,4 +1,4 @@
--- Which answers to Place, Place6 and Drop tell whether the stripe is there, and what is left where one was dropped.
+-- Which replies to Place, Place6 and Drop depend on whether the store has the stripe, and what is left after Drop.
 use Rattle.std.proofs.Common.{◌≡◌, ◌≢◌, ◌↔◌, true, not, List, filter, sym, ap, subst}
 use Rattle.std.specs.List.{Contains}
 use Rattle.std.proofs.lemmas.Bool.{not-true, eqb-false, ne_eqb}
@@ -29,7 +29,7 @@ module _ (st : State) (s : StripeNo) where
   test-other : (r : StripeNo) → is_other s r ≡ true → r ≢ s
   test-other r pass same = eqb-false s.value r.value (not-true (same_stripe s r) pass) (ap (λ (t : StripeNo). t.value) (sym same))
 
-  -- of things of a stripe those of the others are left
+  -- exactly the elements of other stripes are left
   others-left : {X : Type 0} (stripe_of : X → StripeNo) (xs : List X) (x : X)
       → Contains (filter (λ (y : X). is_other s (stripe_of y)) xs) x ↔ (Contains xs x × (stripe_of x ≢ s))
   others-left {X} stripe_of xs x = (

@@ -1,4 +1,4 @@
--- What a reply tells of the state that it was given in.
+-- What a reply means for the state before the command.
 use Rattle.std.proofs.Common.{◌≡◌, ◌≢◌, nat_lt, arith, Bool, true, false, not, ◌||◌, List, map, drop, length, Option, Some, None, IsSome, is_none, Result, Ok, Err, refl, sym, ap, ◌∙◌, subst, inl, inr}
 use Rattle.std.proofs.lemmas.Bool.{or_parts, ltb-false, cases_Bool, eqb-true}
 use Rattle.lrc_code.specs.declared.codes.Code.{Code}
@@ -23,7 +23,7 @@ use Rattle.lrc_code.specs.declared.numbers.UpgradeNo.{UpgradeNo}
 use Rattle.lrc_code.specs.Numbers.{same_upgrade}
 use Rattle.lrc_rules.specs.declared.refusal.Refusal.TheVariants as refusal
 
--- a stripe was placed: it was not there, and each of its seats was chosen
+-- a stripe was placed: the store lacked it, and each of its seats was chosen
 pub record ArePlaced (nodes : List NodeInfo) (st : State) (code : Code) (s : StripeNo) (seats : List Seat) : Type 0 where
   pub absent : has_stripe st s ≡ false
   pub chosen_are : AreChosen nodes (with_stripe st code s) s (fragments code) seats
@@ -56,7 +56,7 @@ drop-by : (st : State) (s : StripeNo) (there : Bool) → (refuse_if (not there) 
 drop-by st s true e = refl
 drop-by st s false e = absurd (let never : Refused refusal.UnknownStripe ≡ Dropped = e in cc)
 
--- a stripe was dropped: it was there
+-- a stripe was dropped: the store had it
 pub drop-told : (st : State) (s : StripeNo) → (drop_outcome st s).0 ≡ Dropped → has_stripe st s ≡ true
 unfolding drop_outcome
 drop-told st s e = drop-by st s (has_stripe st s) e
@@ -69,32 +69,32 @@ node-by st changed (Some n) true e = absurd (let never : Refused refusal.WrongMo
 node-by st changed (Some n) false e = (refl, refl)
 
 module _ (nodes : List NodeInfo) (st : State) (n : NodeNo) where
-  -- a node failed: it is known
+  -- a node failed: the store has it
   pub fail-told : (fail_outcome nodes st n).0 ≡ Changed → IsSome (node_at nodes n)
   unfolding fail_outcome
   fail-told e = (node-by st _ (node_at nodes n) (is_gone (mode_of st n)) e).0
 
-  -- one went down: it is known, and is not gone
+  -- a node went down: the store has it, and it was not gone
   pub down-told : (down_outcome nodes st n).0 ≡ Changed → IsSome (node_at nodes n) × (is_gone (mode_of st n) ≡ false)
   unfolding down_outcome
   down-told e = let h = node-by st _ (node_at nodes n) (is_gone (mode_of st n) || is_down st n) e in (h.0, (or_parts (is_gone (mode_of st n)) (is_down st n) h.1).0)
 
-  -- one came up: it is known
+  -- a node came up: the store has it
   pub up-told : (up_outcome nodes st n).0 ≡ Changed → IsSome (node_at nodes n)
   unfolding up_outcome
   up-told e = (node-by st _ (node_at nodes n) (not (is_down st n)) e).0
 
-  -- one joined: it is known
+  -- a node joined: the store has it
   pub join-told : (join_outcome nodes st n).0 ≡ Changed → IsSome (node_at nodes n)
   unfolding join_outcome
   join-told e = (node-by st _ (node_at nodes n) (not (is_gone (mode_of st n))) e).0
 
-  -- one drains: it is known
+  -- a node drains: the store has it
   pub drain-told : (drain_outcome nodes st n).0 ≡ Changed → IsSome (node_at nodes n)
   unfolding drain_outcome
   drain-told e = (node-by st _ (node_at nodes n) (not (is_active (mode_of st n))) e).0
 
-  -- one drains no longer: it is known
+  -- a node no longer drains: the store has it
   pub undrain-told : (undrain_outcome nodes st n).0 ≡ Changed → IsSome (node_at nodes n)
   unfolding undrain_outcome
   undrain-told e = (node-by st _ (node_at nodes n) (not (is_draining (mode_of st n))) e).0
@@ -120,7 +120,7 @@ module _ (nodes : List NodeInfo) (st : State) (n : NodeNo) where
   abbrev last : Outcome
   last = refuse_if (nat_lt 0 (load st n)) (refusal.NotEmpty (load st n)) st (Changed, with_gone st n)
 
-  -- where it drains, the seats on it decide
+  -- if the node is draining, its held seats decide
   pub retire-passes : (node_outcome nodes st n (not (is_draining (mode_of st n))) st).0 ≡ Changed
       → (retire_outcome nodes st n).0 ≡ (refuse_if (nat_lt 0 (load st n)) (refusal.NotEmpty (load st n)) st (Changed, st)).0
   unfolding retire_outcome
@@ -131,13 +131,13 @@ module _ (nodes : List NodeInfo) (st : State) (n : NodeNo) where
         either true = refl
         either false = refl
 
-  -- and else it is refused as any command on a node
+  -- otherwise Retire is refused as any command on a node
   pub retire-stops : (node_outcome nodes st n (not (is_draining (mode_of st n))) st).0 ≢ Changed
       → (retire_outcome nodes st n).0 ≡ (node_outcome nodes st n (not (is_draining (mode_of st n))) st).0
   unfolding retire_outcome
   retire-stops e = stops-by st st last (node_at nodes n) (not (is_draining (mode_of st n))) e
 
-  -- one retired: it is known, and no seat is on it
+  -- a node retired: the store has it, and its load was 0
   pub retire-told : (retire_outcome nodes st n).0 ≡ Changed → IsSome (node_at nodes n) × (load st n ≡ 0)
   unfolding retire_outcome
   retire-told e = told-by (node_at nodes n) (not (is_draining (mode_of st n))) e where
@@ -175,7 +175,7 @@ module _ (nodes : List NodeInfo) (st : State) (u : UpgradeNo) where
   unfolding upgrade_outcome
   upgrade-told e = upgrade-by st u (not (has_domain nodes u)) st.upgrading (would_lose nodes st u) e
 
-  -- one ended: it was running
+  -- an upgrade ended: it was running
   pub upgraded-told : (upgraded_outcome nodes st u).0 ≡ Changed → st.upgrading ≡ Some u
   unfolding upgraded_outcome
   upgraded-told e = upgraded-by st u (not (has_domain nodes u)) st.upgrading e

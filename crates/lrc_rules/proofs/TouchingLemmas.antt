@@ -1,4 +1,4 @@
--- A stripe that a command does not touch keeps its level.
+-- A stripe keeps its level if a command does not touch it.
 use Rattle.std.proofs.Common.{[], ◌≡◌, ◌≢◌, ap₂, ℕ, Bool, true, false, not, ◌&&◌, ◌||◌, if◌then◌else◌, eqb, List, ◌∷◌, filter, find, Option, Some, None, option_map, refl, sym, ap, ◌∙◌, subst, inl, inr}
 use Rattle.std.proofs.Math.Path.{fun_ext}
 use Rattle.std.specs.List.{Contains, list_any}
@@ -39,9 +39,9 @@ use Rattle.lrc_rules.proofs.StepLemmas.{step-changed}
 use Rattle.lrc_rules.proofs.LookUpLemmas.{is_of, found-home, find-kept, homes-without}
 use Rattle.lrc_rules.proofs.ToldLemmas.{upgraded-told, upgrade-told}
 
--- ---- look-ups and nodes
+-- ---- searches and nodes
 
--- a look-up finds the same where what is taken out is none of what it may find
+-- a search finds the same, if nothing that it could find is removed
 find-unless : {X : Type 0} (test wide bad : X → Bool) → ((x : X) → test x ≡ true → wide x ≡ true) → (xs : List X)
     → list_any (λ x. wide x && bad x) xs ≡ false → find test (filter (λ x. not (bad x)) xs) ≡ find test xs
 find-unless test wide bad within [] none = refl
@@ -64,7 +64,7 @@ gone-number st n = by (has_number st.gone n) (has_number st.draining n) where
   by false false = refl
 
 module _ (nodes : List NodeInfo) (was st : State) where
-  -- a node is online as it was where it is noted in the same lists, and its domain is upgrading as it was
+  -- a node is online as before, if it is in the same lists and its domain is upgrading as before
   online-alike : (n : NodeNo) → has_number st.gone n ≡ has_number was.gone n → has_number st.down n ≡ has_number was.down n
       → ((x : NodeInfo) → node_at nodes n ≡ Some x → is_upgrading st x ≡ is_upgrading was x) → online_at nodes st n ≡ online_at nodes was n
   online-alike n gone down upgrading = by (node_at nodes n) refl where
@@ -86,7 +86,7 @@ module _ (nodes : List NodeInfo) (was st : State) where
         let found = found-home was s f h e in
         ap not (online h found.0 (and_parts (eqb h.stripe.value s.value) (eqb h.fragment.value f) found.1).0)
 
-    -- a stripe's level is as it was where its homes are, and the nodes that they are on are online as they were
+    -- a stripe keeps its level, if it keeps its homes and their nodes are online as before
     level-alike : level_shown nodes st s ≡ level_shown nodes was s
     unfolding level_if
     level-alike =
@@ -102,7 +102,7 @@ module _ (nodes : List NodeInfo) (past : List Entry) (st : State) (session : Ses
   abbrev Keeps : State → Type 0
   Keeps next = level_shown nodes next s ≡ level_shown nodes st s
 
-  -- a home of the stripe is on no node that passes a test which none of its homes does
+  -- a stripe without a home on the nodes of a test has each home elsewhere
   elsewhere : (test : NodeNo → Bool) → has_home_on st s test ≡ false → (h : Held) → Contains st.homes h → same_stripe h.stripe s ≡ true
       → test h.seat.node ≡ false
   elsewhere test none h here is = elim (cases_Bool (test h.seat.node)) [
@@ -155,7 +155,7 @@ module _ (nodes : List NodeInfo) (past : List Entry) (st : State) (session : Ses
           let is : h.stripe.value ≡ s.value = eqb-true h.stripe.value s.value (and_parts (eqb h.stripe.value s.value) (eqb h.fragment.value g) hit).0 in
           rw (ne_eqb h.stripe.value r.value (λ e. eqb-false r.value s.value other (sym e ∙ is))) refl
 
-  -- a command on a node that no home of the stripe is on
+  -- a command on a node without a home of the stripe
   node-keeps : (n : NodeNo) (c : Command) (r : Reply) → has_home_on st s (same_node n) ≡ false
       → ((m : NodeNo) → same_node n m ≡ false → IsAsItWas st m (changed_by st c r))
       → (changed_by st c r).stripes ≡ st.stripes → (changed_by st c r).narrow ≡ st.narrow → (changed_by st c r).upgrading ≡ st.upgrading
@@ -170,7 +170,7 @@ module _ (nodes : List NodeInfo) (past : List Entry) (st : State) (session : Ses
   apart-from : (n m : NodeNo) → same_node n m ≡ false → ¬ (n ≡ m)
   apart-from n m other same = eqb-false n.value m.value other (ap (λ (k : NodeNo). k.value) same)
 
-  -- and one on a domain that none is in
+  -- and a command on a domain without a home of the stripe
   domain-keeps : (u : UpgradeNo) (running : Option UpgradeNo) → has_home_on st s (is_in_domain nodes u) ≡ false
       → ((x : NodeInfo) → same_upgrade u x.upgrade ≡ false → option_map_or (λ v. same_upgrade v x.upgrade) running false ≡ is_upgrading st x)
       → Keeps (record st { upgrading = running })
@@ -212,6 +212,6 @@ module _ (nodes : List NodeInfo) (past : List Entry) (st : State) (session : Ses
   changed-keeps _ Idle told other = refl
   changed-keeps _ _ told other = refl
 
-  -- a stripe whose level the command can't change keeps it
+  -- a stripe keeps its level, if the command cannot change it
   pub level-keeps : (c : Command) → can_change_level nodes st s c ≡ false → Keeps (step nodes past st session c).1
   level-keeps c other = subst Keeps (sym (step-changed nodes past st session c)) (changed-keeps c (step nodes past st session c).0 refl other)

@@ -1,4 +1,4 @@
--- The order of repair is an order, and the fragments of stripes in turn.
+-- The order of repair is a strict order; and the list of all fragments.
 use Rattle.std.proofs.Common.{[], ◌≡◌, ℕ, inl, inr, Bool, true, false, ◌&&◌, ◌||◌, nat_lt, nat_eq, List, ◌∷◌, map, flat_map, IsTrue, sym, ap, ap₂, subst, arith}
 use Rattle.std.proofs.lemmas.Bool.Decides.{nat_tests}
 use Rattle.std.specs.Cmp.{IsStrictWeakOrder}
@@ -97,9 +97,9 @@ module _ (ranks : StripeNo → ℕ) where
       let same = fragment-tie (ranks p.0) p.0.value p.1.value (ranks q.0) q.0.value q.1.value (linked p.0 q.0) h k in
       ap₂ (λ (s : StripeNo) (f : Fragment). (s, f)) (equal_stripes p.0 q.0 same.0) (equal_fragments p.1 q.1 same.1)
 
--- ---- the fragments of stripes in turn
+-- ---- the list of all fragments
 
--- those of one stripe
+-- the fragments of one stripe
 abbrev pub fragments_at : State → StripeNo → List StripeFragment
 fragments_at st s = map (λ f. (s, f)) (fragments (code_of st s))
 
@@ -130,6 +130,6 @@ fragments-from st (s ∷ stripes) p own here = elim (Contains-cases s p.0 stripe
   | inr later ↦ Contains-append_right (fragments_at st s) (fragments_in st stripes) p (fragments-from st stripes p own later)
 ]
 
--- what needs a lease is of the code
+-- a fragment that needs a lease is one of the code
 pub needs-own : (nodes : List NodeInfo) (st : State) (s : StripeNo) (f : Fragment) → needs nodes st s f ≡ true → IsOwn st (s, f)
 needs-own nodes st s f needed = (and_parts (has_fragment (code_of st s) f.value) _ needed).0

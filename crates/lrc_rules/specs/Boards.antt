@@ -1,4 +1,4 @@
--- What a board shows of a state: the level of each stripe number, and the load of each node.
+-- What the published view shows of a state: the level of each stripe, and the load of each node.
 use Rattle.std.specs.Prelude.{ℕ, List, map, find, get_or, slice_set, Option, None, option_map}
 use Rattle.std.specs.List.{range_with_len}
 use Rattle.lrc_code.specs.declared.numbers.StripeNo.{StripeNo}
@@ -13,23 +13,23 @@ use Rattle.lrc_rules.specs.Histories.{state_after}
 
 -- ---- levels
 
--- a level for each stripe number, from 0 on; none where there is no such stripe
+-- the level for each stripe number, in ascending order; none if the store has no such stripe
 abbrev pub Levels : Type 0
 Levels = List (Option Level)
 
--- a stripe that changes, with its new level; none where it is there no longer
+-- a stripe, and its new level; none if the stripe was dropped
 abbrev pub LevelChange : Type 0
 LevelChange = StripeNo × Option Level
 
--- the levels of so many stripe numbers
+-- the levels of the first `count` stripe numbers
 abbrev pub levels_by : ℕ → (StripeNo → Option Level) → Levels
 levels_by count shown = map (λ k. shown (stripe_at k)) (range_with_len 0 count)
 
--- the levels that are shown of a state, of all 4,096 stripe numbers
+-- the level of each of the 4,096 stripe numbers, in a state
 unfoldable pub levels_of : List NodeInfo → State → Levels
 levels_of nodes st = levels_by 4096 (level_shown nodes st)
 
--- those after a history
+-- the same after a history
 abbrev pub levels_after : List NodeInfo → List Entry → Levels
 levels_after nodes history = levels_of nodes (state_after nodes history)
 
@@ -37,17 +37,17 @@ levels_after nodes history = levels_of nodes (state_after nodes history)
 abbrev pub level_in : Levels → StripeNo → Option Level
 level_in levels s = get_or levels s.value None
 
--- the levels with one that changes
+-- the levels after one change
 abbrev pub put_level : Levels → LevelChange → Levels
 put_level levels change = slice_set levels change.0.value change.1
 
 -- ---- loads
 
--- the load of each node, beside its number
+-- the number and the load of each node
 abbrev pub Loads : Type 0
 Loads = List (NodeNo × ℕ)
 
--- the loads of nodes, in the order of the file
+-- the loads of the nodes, in file order
 abbrev pub loads_by : List NodeInfo → (NodeNo → ℕ) → Loads
 loads_by nodes load = map (λ m. (m.number, load m.number)) nodes
 
@@ -55,10 +55,10 @@ loads_by nodes load = map (λ m. (m.number, load m.number)) nodes
 abbrev pub loads_of : List NodeInfo → State → Loads
 loads_of nodes st = loads_by nodes (load st)
 
--- those after a history
+-- the same after a history
 abbrev pub loads_after : List NodeInfo → List Entry → Loads
 loads_after nodes history = loads_of nodes (state_after nodes history)
 
--- the load of a node; none where the store has no such node
+-- the load of a node; none if the store has no such node
 abbrev pub load_in : Loads → NodeNo → Option ℕ
 load_in loads n = option_map (λ row. row.1) (find (λ row. same_node n row.0) loads)

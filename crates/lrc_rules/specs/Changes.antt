@@ -1,5 +1,5 @@
 -- Internal: no public clause reaches these definitions.
--- What a call changes of the state, told by its command and its reply.
+-- The state change of a command, from the command and its reply.
 use Rattle.std.specs.Prelude.{◌≡◌, Bool, true, false, not, filter, List, [], ◌∷◌, ◌++◌, Option, Some, None}
 use Rattle.lrc_code.specs.declared.numbers.StripeNo.{StripeNo}
 use Rattle.lrc_code.specs.declared.numbers.Fragment.{Fragment}
@@ -22,25 +22,25 @@ use Rattle.lrc_rules.specs.declared.entry.Entry.{Entry}
 use Rattle.lrc_rules.specs.Leases.{with_lease, without_lease, moved_in, ticked}
 use Rattle.lrc_rules.specs.Steps.{step, with_stripe, without_stripe, emptied, with_gone, with_down, without_down, with_draining, without_draining, without_gone, with_upgrading, without_upgrading}
 
--- each of these fragments of a stripe on the seat at its place
+-- each fragment of a stripe on the seat at the same position
 abbrev pub held_at : StripeNo → List Fragment → List Seat → List Held
 held_at s (f ∷ fs) (seat ∷ seats) = record { stripe = s; fragment = f; seat = seat } ∷ held_at s fs seats
 held_at s _ _ = []
 
--- the stripe with this code, and its homes on these seats
+-- the state with a new stripe of this code, its fragments on these seats
 abbrev pub with_placed : State → Code → StripeNo → List Seat → State
 with_placed st code s seats = record (with_stripe st code s) { homes = st.homes ++ held_at s (fragments code) seats }
 
--- the state with the fragment's lease ended, and its target the fragment's home
+-- the state after an accepted Done: the lease is over, and its target is the fragment's home
 abbrev pub with_done : State → StripeNo → Fragment → Option LeaseRecord → State
 with_done st s f None = st
 with_done st s f (Some lease) = moved_in st s f lease.target
 
--- the leases whose target is on the node taken out
+-- without the leases whose target is on the node
 abbrev pub without_targets : State → NodeNo → State
 without_targets st n = record st { leases = filter (λ l. not (is_target_on n l)) st.leases }
 
--- the state that a command with this reply leaves
+-- the state after a command with this reply
 abbrev pub changed_by : State → Command → Reply → State
 changed_by st (Place s) (Placed seats) = with_placed st Wide s seats
 changed_by st (Place6 s) (Placed6 seats) = with_placed st Narrow s seats
@@ -62,7 +62,7 @@ changed_by st (Upgraded u) Changed = without_upgrading st
 changed_by st Tick (Ticked clock ended) = ticked st
 changed_by st _ _ = st
 
--- the reply is the one that a session's command gets in this state, after some entries
+-- a session's command gets this reply in this state, after some entries
 pub record IsAnswer (nodes : List NodeInfo) (st : State) (c : Command) (r : Reply) : Type 0 where
   pub past : List Entry
   pub session : SessionNo

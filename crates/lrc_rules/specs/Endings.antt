@@ -1,4 +1,5 @@
--- Which commands can end a live lease, a home or a stripe, or change the mode of a node, and what is left of a lease then.
+-- Which commands can end a live lease, remove a home or a stripe, or change the mode of a node, and what is left
+-- after a lease.
 use Rattle.std.specs.Prelude.{◌≡◌, ◌≢◌, ◌⊎◌, ◌+◌, IsTrue, List, [], ◌∷◌, None}
 use Rattle.lrc_code.specs.declared.numbers.StripeNo.{StripeNo}
 use Rattle.lrc_code.specs.declared.numbers.Fragment.{Fragment}
@@ -15,8 +16,8 @@ use Rattle.lrc_rules.specs.Leases.{is_tick}
 use Rattle.lrc_rules.specs.Histories.{World, next_world}
 use Rattle.lrc_rules.specs.Steps.{hangs_on}
 
--- the command reports, gives back or revokes the lease of this fragment, drops its stripe, fails a node on which the lease
--- hangs, or is the tick that comes to its end
+-- the command can end the lease: Done, Abandon or Revoke of its fragment, Drop of its stripe, Fail of the node of its
+-- target or of its fragment's home, or the Tick at which it expires
 abbrev pub CanEnd : State → LeaseRecord → Command → Type 0
 CanEnd st l (Done s f e) = (l.stripe ≡ s) × (l.fragment ≡ f)
 CanEnd st l (Abandon s f e) = (l.stripe ≡ s) × (l.fragment ≡ f)
@@ -26,12 +27,12 @@ CanEnd st l (Fail n) = IsTrue (hangs_on st n l)
 CanEnd st l Tick = IsTrue (ends_at (st.clock + 1) l)
 CanEnd st l _ = ⊥
 
--- from this world on no entry can end the lease, but for the ticks
+-- no entry from this world on can end the lease, apart from ticks
 abbrev pub IsLeftAlone : List NodeInfo → LeaseRecord → World → List Entry → Type 0
 IsLeftAlone nodes l w [] = Unit {0}
 IsLeftAlone nodes l w (e ∷ es) = (IsTrue (is_tick e.command) ⊎ (¬ (CanEnd w.state l e.command))) × IsLeftAlone nodes l (next_world nodes w e) es
 
--- the command reports this fragment, drops its stripe, or fails the node of its home on this seat
+-- the command can remove this home: Done of its fragment, Drop of its stripe, or Fail of its node
 abbrev pub CanMove : StripeNo → Fragment → Seat → Command → Type 0
 CanMove s f seat (Done r g e) = (s ≡ r) × (f ≡ g)
 CanMove s f seat (Drop r) = s ≡ r
@@ -43,7 +44,7 @@ abbrev pub IsDropOf : StripeNo → Command → Type 0
 IsDropOf s (Drop r) = s ≡ r
 IsDropOf s _ = ⊥
 
--- the command is one on this node
+-- the command is on this node
 abbrev pub IsOnNode : NodeNo → Command → Type 0
 IsOnNode n (Fail m) = m ≡ n
 IsOnNode n (Down m) = m ≡ n
@@ -54,7 +55,7 @@ IsOnNode n (Retire m) = m ≡ n
 IsOnNode n (Join m) = m ≡ n
 IsOnNode n _ = ⊥
 
--- The second state is the first one, but that the fragment has no live lease: all others have those that they had.
+-- The state `st` is the state `was` without the live lease of the fragment; all else is the same.
 pub record IsWithoutLease (was : State) (s : StripeNo) (f : Fragment) (st : State) : Type 0 where
   pub none : lease_of st s f ≡ None
   pub others : (r : StripeNo) (g : Fragment) → (r ≡ s → g ≢ f) → lease_of st r g ≡ lease_of was r g

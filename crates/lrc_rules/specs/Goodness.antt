@@ -12,19 +12,20 @@ use Rattle.lrc_rules.specs.States.{State, code_of, seats_of, taken_seats, mode_o
 use Rattle.lrc_rules.specs.Choices.{AreApart}
 use Rattle.lrc_rules.specs.Leases.{grants, term}
 
--- the seat is a slot of a node of the store that is not gone
+-- the seat is a slot of a node that is in the store and not gone
 abbrev pub IsStanding : List NodeInfo → State → Seat → Type 0
 IsStanding nodes st seat = IsSomeAnd (node_at nodes seat.node) (λ n. (seat.slot < n.slots) × (mode_of st seat.node ≢ Gone))
 
--- two seats, where they are of different fragments of one stripe, are on nodes apart
+-- two held seats of different fragments of one stripe are on nodes apart
 abbrev pub KeepApart : List NodeInfo → State → Held → Held → Type 0
 KeepApart nodes st h g =
     h.stripe ≡ g.stripe → h.fragment ≢ g.fragment
     → IfSome (node_at nodes h.seat.node) (λ n. IfSome (node_at nodes g.seat.node) (λ m. AreApart (code_of st h.stripe) h.fragment n g.fragment m))
 
--- Each stripe is there once, each seat is held once, by a home or as a target, and is a slot of a node that is not gone,
--- placements are lawful, each fragment has one home and one lease at most, narrow stripes are there, held seats are those of
--- stripes that are there and of fragments that their codes have, and no node that is down is gone.
+-- The seats of the state are in order: no stripe is listed twice, no seat is held twice, and each held seat is a slot
+-- of a node that is not gone. Placements are lawful, and each fragment has at most one home and one lease. Each
+-- narrow stripe is a stripe of the store. Each held seat is of such a stripe, and of a fragment that its code has. No
+-- node that is down is gone.
 pub record AreSeated (nodes : List NodeInfo) (st : State) : Type 0 where
   pub stripes : AllPairs (λ s t. s ≢ t) st.stripes
   pub single : AllPairs (λ a b. a ≢ b) (taken_seats st)
@@ -37,9 +38,8 @@ pub record AreSeated (nodes : List NodeInfo) (st : State) : Type 0 where
   pub within : All (λ h. IsTrue (has_fragment (code_of st h.stripe) h.fragment.value)) (seats_of st)
   pub reachable : All (λ n. mode_of st n ≢ Gone) st.down
 
--- What holds of a state after the entries that led to it: its stripes are seated, the epoch of each live lease is the
--- number of its fragment's grants, so the last that was granted, and the clock has not come to its end, which is at most
--- a term away.
+-- What holds of the state after a history: its seats are in order. Each live lease has the epoch of its fragment's
+-- last grant, has not expired, and expires within a term.
 pub record IsGood (nodes : List NodeInfo) (history : List Entry) (st : State) : Type 0 where
   pub seated : AreSeated nodes st
   pub current : All (λ l. l.epoch ≡ grants history l.stripe l.fragment) st.leases

@@ -1,4 +1,4 @@
--- Which fragments a lease is owed, for which of them a node is found, and which comes first.
+-- Which fragments are owed a lease, which of them can get one now, and which comes first.
 use Rattle.std.specs.Prelude.{◌≡◌, ◌≢◌, ◌⊎◌, ◌<◌, IsTrue, List, None}
 use Rattle.lrc_code.specs.declared.numbers.StripeNo.{StripeNo}
 use Rattle.lrc_code.specs.declared.numbers.Fragment.{Fragment}
@@ -12,33 +12,34 @@ use Rattle.lrc_rules.specs.States.{State, has_stripe, lease_of, rank}
 use Rattle.lrc_rules.specs.Choices.{IsFitting}
 use Rattle.lrc_rules.specs.Repairs.{needs, is_safe, kind}
 
--- The stripe is there, the fragment has no live lease and needs one, and if it can only be rebuilt from the whole stripe,
--- the stripe's missing fragments are recoverable.
+-- The fragment is owed a lease: the store has the stripe, the fragment has no live lease and needs one, and if it can
+-- only be rebuilt from the whole stripe, the stripe's missing fragments are recoverable.
 pub record IsOwed (nodes : List NodeInfo) (st : State) (s : StripeNo) (f : Fragment) : Type 0 where
   pub there : IsTrue (has_stripe st s)
   pub none : lease_of st s f ≡ None
   pub needed : IsTrue (needs nodes st s f)
   pub suffices : kind nodes st s f ≡ Global → IsTrue (is_safe nodes st s)
 
--- a lease of the fragment is owed, and there is a node that it may go to
+-- the fragment is owed a lease, and some node may take it
 pub record IsGrantable (nodes : List NodeInfo) (st : State) (p : StripeFragment) : Type 0 where
   pub owed : IsOwed nodes st p.0 p.1
   pub node : NodeInfo
   pub fitting : IsFitting nodes st p.0 p.1 node
 
--- the first stripe comes before the second in the order of repair: its rank is less, or the same and its number is less
+-- the first stripe is repaired before the second: it has the lower rank, or the same rank and the lower number
 abbrev pub IsMoreUrgent : List NodeInfo → State → StripeNo → StripeNo → Type 0
 IsMoreUrgent nodes st s t = (rank nodes st s < rank nodes st t) ⊎ ((rank nodes st s ≡ rank nodes st t) × (s.value < t.value))
 
--- the first fragment comes before the second in the order of repair: its stripe does, or they are of one stripe and its number is less
+-- the first fragment is repaired before the second: its stripe is, or they are of one stripe and it has the lower
+-- number
 abbrev pub IsRepairedBefore : List NodeInfo → State → StripeFragment → StripeFragment → Type 0
 IsRepairedBefore nodes st p q = IsMoreUrgent nodes st p.0 q.0 ⊎ ((p.0 ≡ q.0) × (p.1.value < q.1.value))
 
--- the fragment is grantable, and comes before every other that is
+-- the fragment is grantable, and is repaired before every other that is
 pub record IsMostUrgent (nodes : List NodeInfo) (st : State) (p : StripeFragment) : Type 0 where
   pub grantable : IsGrantable nodes st p
   pub first : (q : StripeFragment) → IsGrantable nodes st q → q ≢ p → IsRepairedBefore nodes st p q
 
--- the command asks for the lease of this fragment, or for that of the most urgent one
+-- the command asks for the lease of this fragment, or for that of the most urgent fragment
 abbrev pub AsksFor : LeaseRecord → Command → Type 0
 AsksFor l c = (c ≡ Lease l.stripe l.fragment) ⊎ (c ≡ Next)

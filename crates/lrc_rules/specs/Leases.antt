@@ -1,4 +1,4 @@
--- What the commands of repair leases answer and change.
+-- The replies to the commands on leases, and the states after them.
 use Rattle.std.specs.Prelude.{ℕ, ◌+◌, Bool, true, false, not, ◌&&◌, if◌then◌else◌, nat_eq, List, [], ◌∷◌, ◌++◌, filter, count_by, Option, Some, None, is_none}
 use Rattle.lrc_code.specs.declared.numbers.StripeNo.{StripeNo}
 use Rattle.lrc_code.specs.declared.numbers.SessionNo.{SessionNo}
@@ -28,15 +28,15 @@ abbrev pub is_grant : StripeNo → Fragment → Reply → Bool
 is_grant s f (Granted lease kind) = is_of s f.value lease
 is_grant s f _ = false
 
--- how many leases of the fragment were granted so far
+-- the number of leases granted for the fragment so far
 abbrev pub grants : List Entry → StripeNo → Fragment → ℕ
 grants past s f = count_by (λ e. is_grant s f e.reply) past
 
--- for how many ticks a lease is granted
+-- the number of ticks that a lease lasts
 abbrev pub term : ℕ
 term = 3
 
--- a lease of the session on this seat
+-- a new lease of the fragment for the session, with this seat as target
 abbrev pub new_lease : List Entry → State → SessionNo → StripeNo → Fragment → Seat → Lease
 new_lease past st session s f seat = record { stripe = s; fragment = f; holder = session; target = seat; epoch = grants past s f + 1; expiry = st.clock + term }
 
@@ -44,12 +44,13 @@ new_lease past st session s f seat = record { stripe = s; fragment = f; holder =
 abbrev pub with_lease : State → Lease → State
 with_lease st lease = record st { leases = st.leases ++ lease ∷ [] }
 
--- the lease on the chosen seat, if one is chosen
+-- grant the lease on the chosen seat; refuse if no seat is chosen
 abbrev pub granted : List NodeInfo → List Entry → State → SessionNo → StripeNo → Fragment → Option Seat → Outcome
 granted nodes past st session s f (Some seat) = (Granted (new_lease past st session s f seat) (kind nodes st s f), with_lease st (new_lease past st session s f seat))
 granted nodes past st session s f None = refused (refusal.NoLawfulNode f) st
 
--- the answer where the fragment has this live lease, or none
+-- the checks of Lease after the stripe is found: no live lease, a need for one, enough fragments to rebuild from, a
+-- seat
 abbrev pub lease_answer : List NodeInfo → List Entry → State → SessionNo → StripeNo → Fragment → Option Lease → Outcome
 lease_answer nodes past st session s f (Some lease) = refused (refusal.AlreadyLeased lease.epoch) st
 lease_answer nodes past st session s f None =
@@ -57,26 +58,26 @@ lease_answer nodes past st session s f None =
     (refuse_if (is_beyond_repair nodes st s f) refusal.Unrecoverable st
     (granted nodes past st session s f (chosen nodes st s f)))
 
--- Lease: refused where there is no such stripe
+-- Lease: refused if the store has no such stripe
 unfoldable pub lease_outcome : List NodeInfo → List Entry → State → SessionNo → StripeNo → Fragment → Outcome
 lease_outcome nodes past st session s f = refuse_if (not (has_stripe st s)) refusal.UnknownStripe st (lease_answer nodes past st session s f (lease_of st s f))
 
--- the lease of this fragment, or nothing to do
+-- Lease of this fragment, or Idle if there is none
 abbrev pub next_answer : List NodeInfo → List Entry → State → SessionNo → Option StripeFragment → Outcome
 next_answer nodes past st session (Some p) = lease_outcome nodes past st session p.0 p.1
 next_answer nodes past st session None = (Idle, st)
 
--- Next: the lease of the fragment that comes first in the order of repair, of those whose lease would be granted
+-- Next: Lease of the most urgent fragment whose lease would be granted
 unfoldable pub next_outcome : List NodeInfo → List Entry → State → SessionNo → Outcome
 next_outcome nodes past st session = next_answer nodes past st session (next_of nodes st)
 
--- ---- ends
+-- ---- the end of a lease
 
--- the lease of the fragment taken out
+-- without the lease of the fragment
 abbrev pub without_lease : State → StripeNo → Fragment → State
 without_lease st s f = record st { leases = filter (λ l. not (is_of s f.value l)) st.leases }
 
--- the home of the fragment taken out
+-- without the home of the fragment
 abbrev pub without_home : State → StripeNo → Fragment → State
 without_home st s f = record st { homes = filter (λ h. not (is_home_of s f h)) st.homes }
 
@@ -89,11 +90,11 @@ at_epoch e (Some lease) = if nat_eq lease.epoch e then Some lease else None
 abbrev pub is_held_by : SessionNo → Lease → Bool
 is_held_by session lease = nat_eq lease.holder.value session.value
 
--- the lease ended, with its target as the one home of its fragment
+-- the fragment has its only home on the target, and no lease
 abbrev pub moved_in : State → StripeNo → Fragment → Seat → State
 moved_in st s f target = with_home (without_home (without_lease st s f) s f) s f target
 
--- the answer where this is the live lease of the epoch, or there is none
+-- the checks of Done, given the live lease with the epoch: the session holds it, and its target is online
 abbrev pub done_answer : List NodeInfo → State → SessionNo → StripeNo → Fragment → Option Lease → Outcome
 done_answer nodes st session s f None = refused refusal.Stale st
 done_answer nodes st session s f (Some lease) =
@@ -101,22 +102,22 @@ done_answer nodes st session s f (Some lease) =
     (refuse_if (not (online_at nodes st lease.target.node)) (refusal.TargetOffline lease.target.node) st
     (Ended, moved_in st s f lease.target))
 
--- Done: the lease of the epoch ends, and its target is the fragment's home
+-- Done: ends the lease with this epoch; its target becomes the fragment's home
 unfoldable pub done_outcome : List NodeInfo → State → SessionNo → StripeNo → Fragment → ℕ → Outcome
 done_outcome nodes st session s f e =
     refuse_if (not (has_stripe st s)) refusal.UnknownStripe st (done_answer nodes st session s f (at_epoch e (lease_of st s f)))
 
--- the same where the lease is given back
+-- the check of Abandon, given the live lease with the epoch: the session holds it
 abbrev pub abandon_answer : State → SessionNo → StripeNo → Fragment → Option Lease → Outcome
 abandon_answer st session s f None = refused refusal.Stale st
 abandon_answer st session s f (Some lease) =
     refuse_if (not (is_held_by session lease)) (refusal.NotHolder lease.holder) st (Ended, without_lease st s f)
 
--- Abandon: the lease of the epoch ends
+-- Abandon: ends the lease with this epoch
 unfoldable pub abandon_outcome : State → SessionNo → StripeNo → Fragment → ℕ → Outcome
 abandon_outcome st session s f e = refuse_if (not (has_stripe st s)) refusal.UnknownStripe st (abandon_answer st session s f (at_epoch e (lease_of st s f)))
 
--- Revoke: the lease ends, whoever holds it
+-- Revoke: ends the lease, whoever holds it
 unfoldable pub revoke_outcome : State → StripeNo → Fragment → Outcome
 revoke_outcome st s f =
     refuse_if (not (has_stripe st s)) refusal.UnknownStripe st
@@ -125,39 +126,39 @@ revoke_outcome st s f =
 
 -- ---- the clock
 
--- the command moves the clock on
+-- the command is Tick
 abbrev pub is_tick : Command → Bool
 is_tick Tick = true
 is_tick _ = false
 
--- how many ticks the entries have
+-- the number of ticks so far
 abbrev pub ticks : List Entry → ℕ
 ticks past = count_by (λ e. is_tick e.command) past
 
--- the leases that end at a clock taken out
+-- without the leases that expire at this clock
 abbrev pub without_ending : State → ℕ → State
 without_ending st clock = record st { leases = filter (λ l. not (ends_at clock l)) st.leases }
 
--- one tick later: the leases that end then are taken out
+-- the state one tick later, without the leases that expire then
 abbrev pub ticked : State → State
 ticked st = record (without_ending st (st.clock + 1)) { clock = st.clock + 1 }
 
--- Tick: told are the new clock and how many leases ended; it is never refused
+-- Tick: replies with the new clock and the number of leases that ended; never refused
 unfoldable pub tick_outcome : State → Outcome
 tick_outcome st = (Ticked (st.clock + 1) (count_by (ends_at (st.clock + 1)) st.leases), ticked st)
 
--- ---- reports
+-- ---- accepted Done commands
 
--- the command is the report that the fragment was repaired under this epoch
+-- the command is Done of the fragment with this epoch
 abbrev pub is_report : StripeNo → Fragment → ℕ → Command → Bool
 is_report s f e (Done t g d) = same_stripe t s && same_fragment g f && nat_eq d e
 is_report s f e _ = false
 
--- the reply is that a lease ended
+-- the reply says that a lease ended
 abbrev pub is_ended : Reply → Bool
 is_ended Ended = true
 is_ended _ = false
 
--- how many such reports were taken so far
+-- the number of accepted Done commands for the fragment with this epoch, so far
 abbrev pub reports_taken : List Entry → StripeNo → Fragment → ℕ → ℕ
 reports_taken past s f e = count_by (λ x. is_report s f e x.command && is_ended x.reply) past

@@ -1,12 +1,13 @@
--- What is claimed of a history and of the state that it leaves: the sentence of the manager, a field a phrase.
+-- What the manager promises of a history and of the state after it: one sentence, with a field for each phrase.
 --
 -- "The history that the manager keeps is a history of one thread of the plain placement object: each session's calls stand in
 -- it once, in the session's order, with the replies they got, and no others; whenever the lock is free, slots, leases, loads,
 -- levels and repair order are those of the state after it, in which every placement is lawful, every lease single and current,
 -- and lost means unrecoverable."
 --
--- That a call adds its entry, and nothing else does, is said by the contracts of the calls (`Book::call`, clauses `entry` and
--- `err`). That what is read is of this state is said by those of the looks (`Book::homes`, `load`, `level`, `risk` and the others).
+-- That a call adds its entry and does nothing else is in the contracts of the calls (`Book::call`, clauses `entry`
+-- and `err`). That a read shows this state is in the contracts of the reads (`Book::homes`, `load`, `level`, `risk`
+-- and the others).
 use Rattle.std.specs.Prelude.{◌≡◌, ◌≢◌, ◌+◌, ◌<◌, ◌≤◌, ◌↔◌, List, All, AllPairs}
 use Rattle.lrc_code.specs.declared.numbers.StripeNo.{StripeNo}
 use Rattle.lrc_code.specs.Losses.{IsRecoverable}
@@ -19,23 +20,25 @@ use Rattle.lrc_rules.specs.Leases.{grants, term}
 use Rattle.lrc_rules.specs.Histories.{IsLegal, state_after}
 use Rattle.lrc_rules.specs.Goodness.{KeepApart}
 
--- what is claimed of a state after these entries
+-- what is promised of the state after these entries
 pub record IsSound (nodes : List NodeInfo) (history : List Entry) (st : State) : Type 0 where
-  -- "every placement is lawful": two homes or targets of different fragments of one stripe are on nodes of different fault
-  -- domains, and within a class of the stripe's code of different upgrade domains
+  -- "every placement is lawful": held seats of different fragments of one stripe are on nodes of different fault
+  -- domains, and of different upgrade domains if the fragments share a class
   pub lawful : AllPairs (KeepApart nodes st) (seats_of st)
-  -- "every lease single": a fragment has one live lease at most, and no slot is held twice, by a home or as a target
+  -- "every lease single": a fragment has at most one live lease, and no seat is held twice
   pub single : AreOneEach st.leases
   pub apart : AllPairs (λ a b. a ≢ b) (taken_seats st)
-  -- "and current": the epoch of a live lease is that of the last grant of its fragment, and its end is ahead, a term at most
+  -- "and current": a live lease has the epoch of its fragment's last grant, has not expired, and expires within a
+  -- term
   pub current : All (λ l. l.epoch ≡ grants history l.stripe l.fragment) st.leases
   pub running : All (λ l. (st.clock < l.expiry) × (l.expiry ≤ st.clock + term)) st.leases
   -- "lost means unrecoverable"
   pub lost : (s : StripeNo) → (level nodes st s ≡ Lost) ↔ (¬ (IsRecoverable (code_of st s) (homeless st s)))
 
--- what is claimed of a history
+-- what is promised of a history
 pub record IsServed (nodes : List NodeInfo) (history : List Entry) : Type 0 where
-  -- "a history of one thread of the plain placement object": each reply is that of the step, from an empty store on
+  -- "a history of one thread of the plain placement object": each reply is the one that the rules give, from the
+  -- empty store on
   pub legal : IsLegal nodes history
   -- "the state after it, in which .."
   pub sound : IsSound nodes history (state_after nodes history)

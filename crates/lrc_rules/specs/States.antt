@@ -1,4 +1,4 @@
--- The state of the store, and what is read of it.
+-- The state of the store, and what can be read from it.
 use Rattle.std.specs.Prelude.{ℕ, Bool, true, false, not, ◌&&◌, if◌then◌else◌, List, [], ◌++◌, map, filter, Option, Some, None, option_map, is_some}
 use Rattle.std.specs.List.{list_any}
 use Rattle.std.specs.Option.{option_map_or}
@@ -24,27 +24,35 @@ use Rattle.lrc_terms.specs.Leased.{leases_in}
 use Rattle.lrc_rules.specs.declared.mode.Mode.{Mode}
 use Rattle.lrc_rules.specs.declared.mode.Mode.TheVariants.{Active, Draining, Gone}
 
--- All lists stand in the order in which things happened. The narrow stripes are those of the code Narrow; all others are of
--- the code Wide. A node in none of the lists is active and not down. At most one upgrade domain is upgrading. The clock
--- counts the ticks.
+-- The state of the store. Each list is in the order in which its elements were added. A node in none of the lists is
+-- active and not down.
 pub record State : Type 0 where
+  -- the stripes of the store
   pub stripes : List StripeNo
+  -- those of the code Narrow; all others have the code Wide
   pub narrow : List StripeNo
+  -- the home of each fragment that has one
   pub homes : List Held
+  -- the live leases
   pub leases : List Lease
+  -- the nodes that are out of the store
   pub gone : List NodeNo
+  -- the nodes that keep their seats and get no more
   pub draining : List NodeNo
+  -- the nodes that cannot be reached
   pub down : List NodeNo
+  -- the upgrade domain whose nodes are offline for an upgrade, if there is one
   pub upgrading : Option UpgradeNo
+  -- the number of ticks so far
   pub clock : ℕ
 
--- an empty store, whose nodes are all active and not down, with no domain upgrading
+-- the empty store: no stripes, all nodes active and not down, no domain upgrading, the clock at 0
 abbrev pub opening : State
 opening = record { stripes = []; narrow = []; homes = []; leases = []; gone = []; draining = []; down = []; upgrading = None; clock = 0 }
 
 -- ---- stripes and seats
 
--- the stripe is there
+-- the store has the stripe
 abbrev pub has_stripe : State → StripeNo → Bool
 has_stripe st s = list_any (same_stripe s) st.stripes
 
@@ -52,23 +60,23 @@ has_stripe st s = list_any (same_stripe s) st.stripes
 abbrev pub code_of : State → StripeNo → Code
 code_of st s = if list_any (same_stripe s) st.narrow then Narrow else Wide
 
--- the seat that a lease holds for its fragment
+-- the target of a lease, as the held seat of its fragment
 abbrev pub held_by : Lease → Held
 held_by l = record { stripe = l.stripe; fragment = l.fragment; seat = l.target }
 
--- the homes of fragments, and the targets of live leases
+-- all held seats, with their fragments: the homes, and the targets of live leases
 abbrev pub seats_of : State → List Held
 seats_of st = st.homes ++ map held_by st.leases
 
--- the slots that are held
+-- the seats that are not free
 abbrev pub taken_seats : State → List Seat
 taken_seats st = map (λ h. h.seat) (seats_of st)
 
--- how many seats are on a node
+-- the load of a node: the number of held seats on it
 abbrev pub load : State → NodeNo → ℕ
 load st n = load_of (taken_seats st) n
 
--- the live lease of a fragment, if it has one
+-- the live lease of a fragment, if there is one
 abbrev pub lease_of : State → StripeNo → Fragment → Option Lease
 lease_of st s f = leases_in st.leases s f.value
 
@@ -78,15 +86,15 @@ is_home_of s f h = same_stripe h.stripe s && same_fragment h.fragment f
 
 -- ---- nodes
 
--- the node is one of these
+-- the node is in the list
 abbrev pub has_number : List NodeNo → NodeNo → Bool
 has_number numbers n = list_any (same_node n) numbers
 
--- these nodes without one
+-- the list without the node
 abbrev pub without_number : List NodeNo → NodeNo → List NodeNo
 without_number numbers n = filter (λ m. not (same_node n m)) numbers
 
--- a node is active, unless it is gone or draining
+-- the mode of a node: Active, unless it is gone or draining
 abbrev pub mode_of : State → NodeNo → Mode
 mode_of st n = if has_number st.gone n then Gone else (if has_number st.draining n then Draining else Active)
 
@@ -108,19 +116,19 @@ is_gone Active = false
 is_gone Draining = false
 is_gone Gone = true
 
--- the node was taken down, and did not come up since
+-- the node is down: a Down of it was not followed by an Up, Fail or Retire
 abbrev pub is_down : State → NodeNo → Bool
 is_down st n = has_number st.down n
 
--- the node is in the domain that is upgrading
+-- the node's upgrade domain is upgrading
 abbrev pub is_upgrading : State → NodeInfo → Bool
 is_upgrading st n = option_map_or (λ u. same_upgrade u n.upgrade) st.upgrading false
 
--- the node is in the store and can be reached: it is not down, and its domain is not upgrading
+-- the node is online: not gone, not down, and its upgrade domain is not upgrading
 abbrev pub is_online : State → NodeInfo → Bool
 is_online st n = not (is_gone (mode_of st n.number)) && (not (is_down st n.number) && not (is_upgrading st n))
 
--- the node is active and online
+-- the node takes seats: it is active and online
 abbrev pub takes_seats : State → NodeInfo → Bool
 takes_seats st n = is_active (mode_of st n.number) && is_online st n
 
@@ -142,11 +150,11 @@ drains_at nodes st n = option_map_or (λ m. is_draining (mode_of st m.number)) (
 abbrev pub homeless : State → StripeNo → FragmentSet
 homeless st s = homeless_in (code_of st s) (homes_of st.homes s)
 
--- those, and the ones whose home node is not online
+-- the fragments of a stripe without a home on an online node
 abbrev pub missing : List NodeInfo → State → StripeNo → FragmentSet
 missing nodes st s = missing_in (code_of st s) (online_at nodes st) (homes_of st.homes s)
 
--- the rank of a stripe, by its missing fragments
+-- the rank of a stripe in the order of repair, by its missing fragments; 0 is the most urgent
 abbrev pub rank : List NodeInfo → State → StripeNo → ℕ
 rank nodes st s = rank_by (code_of st s) (missing nodes st s)
 
@@ -154,28 +162,28 @@ rank nodes st s = rank_by (code_of st s) (missing nodes st s)
 abbrev pub level : List NodeInfo → State → StripeNo → Level
 level nodes st s = level_by (code_of st s) (homeless st s) (missing nodes st s)
 
--- ---- what is answered of a state
+-- ---- what a read returns; none if the store has no such stripe or node
 
--- the seats of a stripe's fragments by the sixteen numbers, rising, with no seat for a number that its code lacks; none where there is no such stripe
+-- the homes of a stripe by the sixteen fragment numbers, in ascending order; no seat for a fragment without a home
 abbrev pub homes_shown : State → StripeNo → Option (List (Option Seat))
 homes_shown st s = if has_stripe st s then Some (map (λ f. homes_of st.homes s f.value) (fragments Wide)) else None
 
--- the code of a stripe; none where there is no such stripe
+-- the code of a stripe
 abbrev pub code_shown : State → StripeNo → Option Code
 code_shown st s = if has_stripe st s then Some (code_of st s) else None
 
--- the load of a node; none where the store has no such node
+-- the load of a node
 abbrev pub load_shown : List NodeInfo → State → NodeNo → Option ℕ
 load_shown nodes st n = option_map (λ m. load st m.number) (node_at nodes n)
 
--- the level of a stripe; none where there is no such stripe
+-- the level of a stripe
 abbrev pub level_shown : List NodeInfo → State → StripeNo → Option Level
 level_shown nodes st s = level_if (has_stripe st s) (code_of st s) (online_at nodes st) (homes_of st.homes s)
 
--- the missing fragments of a stripe; none where there is no such stripe
+-- the missing fragments of a stripe, as a mask
 abbrev pub missing_shown : List NodeInfo → State → StripeNo → Option LossMask
 missing_shown nodes st s = missing_if (has_stripe st s) (code_of st s) (online_at nodes st) (homes_of st.homes s)
 
--- the mode of a node, and whether it is online; none where the store has no such node
+-- the mode of a node, and whether it is online
 abbrev pub mode_shown : List NodeInfo → State → NodeNo → Option (Mode × Bool)
 mode_shown nodes st n = option_map (λ m. (mode_of st m.number, is_online st m)) (node_at nodes n)

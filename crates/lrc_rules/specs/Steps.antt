@@ -1,4 +1,4 @@
--- What each command answers and changes.
+-- The reply to each command, and the state after it.
 use Rattle.std.specs.Prelude.{Bool, false, not, ◌&&◌, ◌||◌, nat_lt, List, [], ◌∷◌, ◌++◌, drop, length, map, filter, Option, Some, None, is_none, Result, Ok, Err}
 use Rattle.std.specs.List.{list_any}
 use Rattle.std.specs.Option.{option_map_or}
@@ -35,16 +35,16 @@ use Rattle.lrc_rules.specs.Leases.{lease_outcome, next_outcome, done_outcome, ab
 abbrev pub is_other : StripeNo → StripeNo → Bool
 is_other s t = not (same_stripe s t)
 
--- the narrow stripes, where this one has this code
+-- the list of narrow stripes, after this stripe gets this code
 abbrev pub with_code : Code → StripeNo → List StripeNo → List StripeNo
 with_code Wide s narrow = filter (is_other s) narrow
 with_code Narrow s narrow = narrow ++ s ∷ []
 
--- the stripe added, with this code
+-- one more stripe, with this code
 abbrev pub with_stripe : State → Code → StripeNo → State
 with_stripe st code s = record st { stripes = st.stripes ++ s ∷ []; narrow = with_code code s st.narrow }
 
--- the reply to a stripe of this code placed on these seats
+-- the reply that places a stripe of this code on these seats
 abbrev pub placed_reply : Code → List Seat → Reply
 placed_reply Wide seats = Placed seats
 placed_reply Narrow seats = Placed6 seats
@@ -54,16 +54,16 @@ abbrev pub place_command : Code → StripeNo → Command
 place_command Wide s = Place s
 place_command Narrow s = Place6 s
 
--- the homes that were added, or the fragment that found no seat
+-- reply with the homes that were added, or refuse for the fragment that found no seat
 abbrev pub place_answer : State → Code → Result State Fragment → Outcome
 place_answer st code (Ok done) = (placed_reply code (map (λ h. h.seat) (drop (length st.homes) done.homes)), done)
 place_answer st code (Err f) = refused (refusal.NoLawfulNode f) st
 
--- Place and Place6: refused where the stripe is there, or for the first fragment of the code that finds no seat
+-- Place and Place6: refused if the store has the stripe, or for the first fragment that finds no seat
 unfoldable pub place_outcome : List NodeInfo → State → Code → StripeNo → Outcome
 place_outcome nodes st code s = refuse_if (has_stripe st s) refusal.StripeExists st (place_answer st code (placed nodes (with_stripe st code s) s))
 
--- the stripe, its code, its homes and its leases taken out
+-- without the stripe, its code, its homes and its leases
 abbrev pub without_stripe : State → StripeNo → State
 without_stripe st s =
     record st {
@@ -73,32 +73,32 @@ without_stripe st s =
       leases = filter (λ l. is_other s l.stripe) st.leases;
     }
 
--- Drop: refused where there is no such stripe
+-- Drop: refused if the store has no such stripe
 unfoldable pub drop_outcome : State → StripeNo → Outcome
 drop_outcome st s = refuse_if (not (has_stripe st s)) refusal.UnknownStripe st (Dropped, without_stripe st s)
 
 -- ---- nodes
 
--- a command on a node: refused where the store has no such node, or the command is wrong for its mode; else the node is changed
+-- a command on a node: refused if the store has no such node, or if its mode or being down makes the command wrong
 abbrev pub node_outcome : List NodeInfo → State → NodeNo → Bool → State → Outcome
 node_outcome nodes st n wrong changed =
     refuse_if (is_none (node_at nodes n)) refusal.UnknownNode st
     (refuse_if wrong refusal.WrongMode st
     (Changed, changed))
 
--- the seat is on the node
+-- the held seat is on the node
 abbrev pub stands_on : NodeNo → Held → Bool
 stands_on n h = same_node n h.seat.node
 
--- the lease's target is on the node, or its fragment has its home there
+-- the target of the lease is on the node, or a home of its fragment is
 abbrev pub hangs_on : State → NodeNo → LeaseRecord → Bool
 hangs_on st n l = is_target_on n l || list_any (λ h. is_home_of l.stripe l.fragment h && stands_on n h) st.homes
 
--- the homes on the node taken out, and the leases that hang on it
+-- without the homes on the node, and without the leases that have their target or their fragment's home on it
 abbrev pub emptied : State → NodeNo → State
 emptied st n = record st { homes = filter (λ h. not (stands_on n h)) st.homes; leases = filter (λ l. not (hangs_on st n l)) st.leases }
 
--- the node is out of the store, neither draining nor down
+-- the node is out of the store, and neither draining nor down
 abbrev pub with_gone : State → NodeNo → State
 with_gone st n = record st { gone = st.gone ++ n ∷ []; draining = without_number st.draining n; down = without_number st.down n }
 
@@ -118,35 +118,35 @@ with_draining st n = record st { draining = st.draining ++ n ∷ [] }
 abbrev pub without_draining : State → NodeNo → State
 without_draining st n = record st { draining = without_number st.draining n }
 
--- the node is in the store again
+-- the node is back in the store
 abbrev pub without_gone : State → NodeNo → State
 without_gone st n = record st { gone = without_number st.gone n }
 
--- Fail: wrong for a node that is gone
+-- Fail: wrong if the node is gone
 unfoldable pub fail_outcome : List NodeInfo → State → NodeNo → Outcome
 fail_outcome nodes st n = node_outcome nodes st n (is_gone (mode_of st n)) (with_gone (emptied st n) n)
 
--- Down: wrong for a node that is gone, or down already
+-- Down: wrong if the node is gone, or is down already
 unfoldable pub down_outcome : List NodeInfo → State → NodeNo → Outcome
 down_outcome nodes st n = node_outcome nodes st n (is_gone (mode_of st n) || is_down st n) (with_down st n)
 
--- Up: wrong for a node that is not down
+-- Up: wrong if the node is not down
 unfoldable pub up_outcome : List NodeInfo → State → NodeNo → Outcome
 up_outcome nodes st n = node_outcome nodes st n (not (is_down st n)) (without_down st n)
 
--- Join: wrong for a node that is not gone
+-- Join: wrong if the node is not gone
 unfoldable pub join_outcome : List NodeInfo → State → NodeNo → Outcome
 join_outcome nodes st n = node_outcome nodes st n (not (is_gone (mode_of st n))) (without_gone st n)
 
--- Drain: wrong for a node that is not active
+-- Drain: wrong if the node is not active
 unfoldable pub drain_outcome : List NodeInfo → State → NodeNo → Outcome
 drain_outcome nodes st n = node_outcome nodes st n (not (is_active (mode_of st n))) (with_draining st n)
 
--- Undrain: wrong for a node that is not draining
+-- Undrain: wrong if the node is not draining
 unfoldable pub undrain_outcome : List NodeInfo → State → NodeNo → Outcome
 undrain_outcome nodes st n = node_outcome nodes st n (not (is_draining (mode_of st n))) (without_draining st n)
 
--- Retire: wrong for a node that is not draining, and refused where seats are on it
+-- Retire: wrong if the node is not draining, and refused if it has held seats
 unfoldable pub retire_outcome : List NodeInfo → State → NodeNo → Outcome
 retire_outcome nodes st n =
     refuse_if (is_none (node_at nodes n)) refusal.UnknownNode st
@@ -168,17 +168,18 @@ without_upgrading st = record st { upgrading = None }
 abbrev pub is_lost_to : List NodeInfo → State → UpgradeNo → StripeNo → Bool
 is_lost_to nodes st u s = is_safe nodes st s && not (is_safe nodes (with_upgrading st u) s)
 
--- the least such stripe
+-- the stripe with the lowest number of those that the upgrade would make unrecoverable
 unfoldable pub would_lose : List NodeInfo → State → UpgradeNo → Option StripeNo
 would_lose nodes st u = least (λ s t. nat_lt s.value t.value) (filter (is_lost_to nodes st u) st.stripes)
 
--- the answer where this domain is upgrading, or none, and this stripe would be lost, or none
+-- refuse if a domain is upgrading already, or if a stripe would be lost; otherwise upgrade the domain
 abbrev pub upgrade_answer : State → UpgradeNo → Option UpgradeNo → Option StripeNo → Outcome
 upgrade_answer st u (Some v) lost = refused (refusal.UpgradeRunning v) st
 upgrade_answer st u None (Some s) = refused (refusal.WouldLose s) st
 upgrade_answer st u None None = (Changed, with_upgrading st u)
 
--- Upgrade: refused where no node is in the domain, where a domain is upgrading, or for the first stripe that it would lose
+-- Upgrade: refused if the domain has no node, if a domain is upgrading, or for the lowest stripe that it would make
+-- unrecoverable
 unfoldable pub upgrade_outcome : List NodeInfo → State → UpgradeNo → Outcome
 upgrade_outcome nodes st u = refuse_if (not (has_domain nodes u)) refusal.UnknownDomain st (upgrade_answer st u st.upgrading (would_lose nodes st u))
 
@@ -186,7 +187,7 @@ upgrade_outcome nodes st u = refuse_if (not (has_domain nodes u)) refusal.Unknow
 abbrev pub is_the_domain : UpgradeNo → Option UpgradeNo → Bool
 is_the_domain u upgrading = option_map_or (same_upgrade u) upgrading false
 
--- Upgraded: refused where no node is in the domain, or it is not upgrading
+-- Upgraded: refused if the domain has no node, or is not upgrading
 unfoldable pub upgraded_outcome : List NodeInfo → State → UpgradeNo → Outcome
 upgraded_outcome nodes st u =
     refuse_if (not (has_domain nodes u)) refusal.UnknownDomain st
@@ -195,7 +196,7 @@ upgraded_outcome nodes st u =
 
 -- ---- the step
 
--- what a session's command answers after these entries in this state, and the state that it leaves
+-- the rules: the reply to a session's command in a state after these entries, and the state after the command
 abbrev pub step : List NodeInfo → List Entry → State → SessionNo → Command → Outcome
 step nodes past st session (Place s) = place_outcome nodes st Wide s
 step nodes past st session (Place6 s) = place_outcome nodes st Narrow s

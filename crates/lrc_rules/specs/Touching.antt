@@ -28,7 +28,8 @@ has_home_on st s test = list_any (λ h. same_stripe h.stripe s && test h.seat.no
 abbrev pub is_in_domain : List NodeInfo → UpgradeNo → NodeNo → Bool
 is_in_domain nodes u n = option_map_or (λ m. same_upgrade u m.upgrade) (node_at nodes n) false
 
--- the command places, drops or repairs the stripe, or is on a node or a domain that a home of the stripe is on
+-- the command can change the level of the stripe: it places, drops or repairs it, or is on a node or domain where the
+-- stripe has a home
 abbrev pub can_change_level : List NodeInfo → State → StripeNo → Command → Bool
 can_change_level nodes st s (Place r) = same_stripe r s
 can_change_level nodes st s (Place6 r) = same_stripe r s
@@ -49,11 +50,12 @@ can_change_level nodes st s _ = false
 abbrev pub has_home_there : State → NodeNo → (Held → Bool) → Bool
 has_home_there st n test = list_any (λ h. test h && same_node h.seat.node n) st.homes
 
--- the target of a lease that passes the test is on the node
+-- a live lease that passes the test has its target on the node
 abbrev pub has_target_there : State → NodeNo → (LeaseRecord → Bool) → Bool
 has_target_there st n test = list_any (λ l. test l && is_target_on n l) st.leases
 
--- the command that was answered so gives or takes a seat on the node, or moves a fragment to one
+-- the command with this reply can change the load of the node: it gives or takes a seat on it, or makes a target on
+-- it a home
 abbrev pub can_change_load : State → NodeNo → Command → Reply → Bool
 can_change_load st n (Place s) (Placed seats) = list_any (λ seat. same_node seat.node n) seats
 can_change_load st n (Place6 s) (Placed6 seats) = list_any (λ seat. same_node seat.node n) seats

@@ -1,4 +1,4 @@
--- The order of repair: which stripes have work, which are at risk, and which fragment's lease comes next.
+-- The order of repair: which stripes have work, which are at risk, and which fragment is leased next.
 use Rattle.std.specs.Prelude.{ℕ, Bool, not, ◌&&◌, ◌||◌, nat_lt, List, map, filter, flat_map, Option, is_none, is_some}
 use Rattle.std.specs.List.{list_any}
 use Rattle.lrc_code.specs.declared.numbers.StripeNo.{StripeNo}
@@ -15,19 +15,19 @@ use Rattle.lrc_rules.specs.Repairs.{needs, is_beyond_repair}
 
 -- ---- stripes
 
--- these stripes by rank, and by number
+-- the stripes sorted by rank, then by number
 abbrev pub by_rank : List NodeInfo → State → List StripeNo → List StripeNo
 by_rank nodes st stripes = in_order (comes_first (rank nodes st)) stripes
 
--- one of the stripe's fragments needs a lease
+-- a fragment of the stripe needs a lease
 abbrev pub has_work : List NodeInfo → State → StripeNo → Bool
 has_work nodes st s = list_any (needs nodes st s) (fragments (code_of st s))
 
--- the stripes with a fragment that needs a lease, in the order of repair
+-- the work list: the stripes with a fragment that needs a lease, in the order of repair
 unfoldable pub work : List NodeInfo → State → List StripeNo
 work nodes st = by_rank nodes st (filter (has_work nodes st) st.stripes)
 
--- the stripes that are not whole, with their levels, in the order of repair
+-- the risk list: the stripes that are not whole, with their levels, in the order of repair
 unfoldable pub risk : List NodeInfo → State → List (StripeNo × Level)
 risk nodes st = map (λ s. (s, level nodes st s)) (by_rank nodes st (filter (λ s. not (is_whole (level nodes st s))) st.stripes))
 
@@ -42,10 +42,10 @@ is_grantable nodes st p =
 abbrev pub all_fragments : State → List StripeFragment
 all_fragments st = flat_map (λ s. map (λ f. (s, f)) (fragments (code_of st s))) st.stripes
 
--- the order of repair: by rank, stripe and fragment
+-- the order of repair of fragments: by rank, stripe number and fragment number
 abbrev pub is_repaired_before : (StripeNo → ℕ) → StripeFragment → StripeFragment → Bool
 is_repaired_before rank p q = comes_first rank p.0 q.0 || (same_stripe p.0 q.0 && nat_lt p.1.value q.1.value)
 
--- the fragment that comes first in the order of repair, of those whose lease would be granted
+-- the most urgent fragment whose lease would be granted
 unfoldable pub next_of : List NodeInfo → State → Option StripeFragment
 next_of nodes st = least (is_repaired_before (rank nodes st)) (filter (is_grantable nodes st) (all_fragments st))

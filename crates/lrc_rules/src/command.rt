@@ -1,43 +1,46 @@
 use lrc_code::{Fragment, NodeNo, StripeNo, UpgradeNo};
 
-/// What a session asks of the book.
+/// What a session can ask for. A command that breaks a rule is refused and changes nothing.
 #[derive(Clone, Copy, Debug, PartialEq, Eq)]
 pub enum Command {
-    /// Gives each of the sixteen fragments of a new stripe of the code `Wide` a home.
+    /// Places a new stripe of the code `Wide`: each of its 16 fragments gets a home.
     Place(StripeNo),
-    /// Gives each of the ten fragments of a new stripe of the code `Narrow` a home.
+    /// Places a new stripe of the code `Narrow`: each of its 10 fragments gets a home.
     Place6(StripeNo),
-    /// Takes a stripe, its homes and its leases out.
+    /// Removes a stripe, with its homes and leases.
     Drop(StripeNo),
-    /// Asks for the lease of a fragment that has no home, or has it on a draining node: the leave to bring it onto the
-    /// seat that is chosen for it.
+    /// Asks for a lease of a fragment that has no home, or has its home on a draining node. The lease permits the
+    /// session to rebuild or copy the fragment onto a seat that the store chooses.
     Lease(StripeNo, Fragment),
-    /// Asks for the lease of the most urgent fragment, of those whose lease would be granted.
+    /// Asks for a lease of the most urgent fragment whose lease would be granted.
     Next,
-    /// Says that the fragment stands on the target of the session's lease of this epoch, which becomes its home.
+    /// Reports that the fragment is on the target of the session's lease with this epoch. The target becomes its
+    /// home.
     Done(StripeNo, Fragment, u32),
-    /// Gives the session's lease of this epoch back.
+    /// Gives the session's lease with this epoch back.
     Abandon(StripeNo, Fragment, u32),
     /// Ends the lease of a fragment, whoever holds it.
     Revoke(StripeNo, Fragment),
-    /// Takes a node out of the store, with the homes on it and the leases that hang on it; `Join` brings it back.
+    /// Removes a node from the store with the homes on it. Ends each lease with its target, or its fragment's home, on
+    /// the node. `Join` brings the node back.
     Fail(NodeNo),
-    /// Says that a node can't be reached for now. Its homes stay.
+    /// Reports that a node cannot be reached for now. Its homes stay.
     Down(NodeNo),
-    /// Says that a node that was down can be reached again.
+    /// Reports that a node that was down can be reached again.
     Up(NodeNo),
-    /// Takes no further seats on an active node, so that its homes can be moved away. It stays online.
+    /// Stops an active node from getting further seats, so that its homes can be moved away. This takes no node
+    /// offline.
     Drain(NodeNo),
     /// Makes a draining node active again. Live leases stay.
     Undrain(NodeNo),
-    /// Takes a draining node that no seat is on out of the store; `Join` brings it back.
+    /// Removes a draining node without held seats from the store. `Join` brings it back.
     Retire(NodeNo),
-    /// Takes a node that is gone into the store again, without homes.
+    /// Brings a node that is gone back into the store, without homes.
     Join(NodeNo),
-    /// Takes all nodes of an upgrade domain offline, where no stripe that is recoverable would cease to be.
+    /// Takes all nodes of an upgrade domain offline. Refused if a stripe would cease to be recoverable.
     Upgrade(UpgradeNo),
-    /// Says that the domain was upgraded, and its nodes can be reached again.
+    /// Reports that the upgrade of the domain is over and its nodes can be reached again.
     Upgraded(UpgradeNo),
-    /// Moves the clock on by one tick. It ends the leases whose `expiry` the clock comes to.
+    /// Advances the clock by one tick. Ends the leases whose `expiry` is the new clock.
     Tick,
 }

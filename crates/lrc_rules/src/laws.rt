@@ -1,4 +1,4 @@
-//! Laws of the definitions, each the contract of a function that does nothing.
+//! Laws of the definitions in `specs/`. Each law is the contract of a function that does nothing.
 
 pub mod boards;
 pub mod histories;

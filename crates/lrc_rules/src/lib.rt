@@ -1,15 +1,25 @@
-//! The rules of the placement object: what each command answers and what it changes, over plain lists. This is the one crate whose
-//! definitions must be believed; all else is proved to keep them. No table, no index, no memory and no lock is named here.
+//! The rules of the store: the reply to each command, and the state after it, over plain lists. These definitions are
+//! what a reader must check and believe. The other crates are proved to follow them. No table, index, memory or lock
+//! occurs here.
+//!
+//! Terms:
+//!
+//! - A *seat* is a slot of a node. The *home* of a fragment is the seat that holds it. A live lease keeps a second seat
+//!   for its fragment, the *target*. A seat is *held* if it is a home or a target. The *load* of a node is the number of
+//!   held seats on it.
+//! - A node is *offline* if it is down or its upgrade domain is upgrading. A node that is *gone* is out of the store.
+//! - A fragment is *homeless* if it has no home, and *missing* if it has no home on an online node.
+//! - The *level* of a stripe says how far it is from loss. Its *rank* orders repair: 0 is the most urgent.
 //!
 //! Read `specs/` in this order:
 //!
-//! 1. `Served`: the sentence of the manager, with a field for each of its phrases.
-//! 2. `States`: the state of the store, and what is read of it.
-//! 3. `Steps`, `Leases`, `Placement`, `Repairs` and `Urgency`: what each command answers and changes.
+//! 1. `Served`: what the manager promises, one field for each phrase.
+//! 2. `States`: the state of the store, and what can be read from it.
+//! 3. `Steps`, `Leases`, `Placement`, `Repairs` and `Urgency`: the reply to each command, and the state after it.
 //! 4. `Histories`: legal histories, and the state after one.
 //! 5. `Goodness`: what holds after each legal history.
 //!
-//! The functions of `laws` do nothing. Their contracts are theorems about these definitions, in the words of the field.
+//! The functions of `laws` do nothing. Their contracts are theorems about these definitions.
 #![tactic(auto)]
 
 mod command;

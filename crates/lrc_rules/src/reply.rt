@@ -3,7 +3,7 @@ use lrc_code::{FRAGMENTS, NARROW_FRAGMENTS};
 use lrc_terms::Lease;
 use lrc_topology::Seat;
 
-/// What the book answers to a command.
+/// The reply to a command.
 #[derive(Clone, Copy, Debug, PartialEq, Eq)]
 pub enum Reply {
     /// The homes of fragments 0 to 15 of a stripe of the code `Wide`.
@@ -11,15 +11,15 @@ pub enum Reply {
     /// The homes of fragments 0 to 9 of a stripe of the code `Narrow`.
     Placed6([Seat; NARROW_FRAGMENTS]),
     Dropped,
-    /// The new lease, and from what its fragment is rebuilt.
+    /// The new lease, and how its fragment is rebuilt.
     Granted(Lease, Kind),
-    /// No fragment can be leased.
+    /// No fragment needs a lease that could be granted.
     Idle,
     /// The lease was ended.
     Ended,
     /// The node or the upgrade domain was changed.
     Changed,
     Refused(Refusal),
-    /// The clock was moved on: what it is now, and how many leases ended by it, at most 65,536.
+    /// The new clock, and the number of leases that ended at it, at most 65,536.
     Ticked { clock: u32, ended: u32 },
 }

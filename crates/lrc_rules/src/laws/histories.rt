@@ -1,4 +1,4 @@
-//! Laws of histories: what a legal one leaves, and what outlasts a command.
+//! Laws of histories: what holds after a legal history, and what a command leaves alone.
 
 ghost use Rattle.std.specs.Prelude.{◌≡◌, ◌≢◌, ℕ, ◌≤◌, if◌then◌else◌, IsTrue, List, Contains, Some, length};
 ghost use Rattle.lrc_code.specs.declared.numbers.StripeNo.{StripeNo};
@@ -27,27 +27,27 @@ ghost use Rattle.lrc_rules.specs.Goodness.{IsGood};
 ghost use Rattle.lrc_rules.specs.Served.{IsServed};
 ghost use Rattle.lrc_rules.specs.Sessions.{NumberedEntry, entries_of, AreRising};
 
-/// After each legal history every placement is lawful, every seat is held once and is a slot of a node that is not gone,
-/// and each fragment has one home and one lease at most. The epoch of each live lease is the last that was granted, and
-/// the clock has not come to its end, which is at most three ticks away.
+/// After each legal history every placement is lawful, every seat is held at most once and is a slot of a node that
+/// is not gone, and each fragment has at most one home and one lease. Each live lease has the epoch of its fragment's
+/// last grant, has not expired, and expires within three ticks.
 pub fn legal_histories_leave_good_states()
     ensures { (nodes : List NodeInfo) (history : List Entry)
         → AreNodes nodes → IsLegal nodes history → IsGood nodes history (state_after nodes history) }
 {}
 
-/// A legal history is all that is claimed of one, phrase by phrase.
+/// Each legal history keeps every promise of the manager, phrase by phrase.
 pub fn legal_histories_are_served()
     ensures { (nodes : List NodeInfo) (history : List Entry) → AreNodes nodes → IsLegal nodes history → IsServed nodes history }
 {}
 
-/// A refused command leaves the state as it was, whatever the nodes, the entries before it and the state.
+/// A refused command leaves the state as it was, in every state.
 pub fn refused_commands_change_nothing()
     ensures { (nodes : List NodeInfo) (past : List Entry) (st : State) (session : SessionNo) (command : Command) (r : Refusal)
         → (step nodes past st session command).0 ≡ Refused r → (step nodes past st session command).1 ≡ st }
 {}
 
-/// After a legal history Done and Abandon with an epoch that is not the number of the fragment's grants are answered
-/// that it is stale, or where there is no such stripe that it is unknown, and change nothing.
+/// After a legal history Done and Abandon are refused if their epoch is not the number of the fragment's grants: with
+/// Stale, or with UnknownStripe if there is no such stripe. They change nothing then.
 pub fn stale_epochs_are_refused()
     ensures done { (nodes : List NodeInfo) (history : List Entry) (session : SessionNo) (s : StripeNo) (f : Fragment) (e : ℕ)
         → AreNodes nodes → IsLegal nodes history → e ≢ grants history s f
@@ -59,13 +59,13 @@ pub fn stale_epochs_are_refused()
         ≡ refused (if has_stripe (state_after nodes history) s then refusal.Stale else refusal.UnknownStripe) (state_after nodes history) }
 {}
 
-/// In a legal history at most one Done of each epoch of a fragment was answered that the lease ended.
+/// In a legal history at most one Done of each epoch of a fragment was accepted.
 pub fn one_done_a_grant()
     ensures { (nodes : List NodeInfo) (history : List Entry) (s : StripeNo) (f : Fragment) (e : ℕ)
         → AreNodes nodes → IsLegal nodes history → reports_taken history s f e ≤ 1 }
 {}
 
-/// After a legal history each live lease was granted in one of its entries, to the session that holds it, by Lease of
+/// After a legal history each live lease was granted in one of the entries, to the session that holds it, by Lease of
 /// its fragment or by Next.
 pub fn live_leases_were_granted()
     ensures { (nodes : List NodeInfo) (history : List Entry) (l : LeaseRecord)
@@ -73,16 +73,16 @@ pub fn live_leases_were_granted()
         → (c : Command) × (k : Kind) × AsksFor l c × Contains history (record { session = l.holder; command = c; reply = Granted l k }) }
 {}
 
-/// A live lease is there unchanged after every command, unless this is Done, Abandon or Revoke of its fragment, Drop of
-/// its stripe, Fail of the node of its target or of its fragment's home, or the Tick that comes to its end.
+/// A live lease stays unchanged after every command except these: Done, Abandon or Revoke of its fragment, Drop of
+/// its stripe, Fail of the node of its target or of its fragment's home, and the Tick at which it expires.
 pub fn leases_end_by_these_alone()
     ensures { (nodes : List NodeInfo) (past : List Entry) (st : State) (session : SessionNo)
         (command : Command) (s : StripeNo) (f : Fragment) (l : LeaseRecord)
         → lease_of st s f ≡ Some l → ¬ (CanEnd st l command) → lease_of (step nodes past st session command).1 s f ≡ Some l }
 {}
 
-/// A home is there unchanged after every command, unless this is Done of its fragment, Drop of its stripe, or Fail of the
-/// node that it is on.
+/// A home stays unchanged after every command except these: Done of its fragment, Drop of its stripe, and Fail of its
+/// node.
 pub fn homes_end_by_these_alone()
     ensures { (nodes : List NodeInfo) (past : List Entry) (st : State) (session : SessionNo)
         (command : Command) (s : StripeNo) (f : Fragment) (seat : Seat)
@@ -90,14 +90,14 @@ pub fn homes_end_by_these_alone()
         → homes_of (step nodes past st session command).1.homes s f.value ≡ Some seat }
 {}
 
-/// A stripe that is there is there after every command but its Drop.
+/// A stripe stays in the store after every command except its Drop.
 pub fn stripes_end_by_drop_alone()
     ensures { (nodes : List NodeInfo) (past : List Entry) (st : State) (session : SessionNo) (command : Command) (s : StripeNo)
         → IsTrue (has_stripe st s) → ¬ (IsDropOf s command) → IsTrue (has_stripe (step nodes past st session command).1 s) }
 {}
 
-/// Entries of a session that stand in a history at rising places, as many as the history has of the session, are all that it
-/// has of it, in order.
+/// A list of entries of one session, at ascending positions in a history, is the list of all its entries in order, if
+/// it has as many as the history has of the session.
 pub fn as_many_at_rising_places_are_all()
     ensures { (session : ℕ) (history : List Entry) (found : List NumberedEntry) → AreRising session 1 history 1 found
         → length found ≡ length (entries_of session history) → found ≡ entries_of session history }

@@ -1,4 +1,4 @@
-//! Laws of leases: which are granted, what they are, and how they end.
+//! Laws of leases: which are granted, what they hold, and how they end.
 
 ghost use Rattle.std.specs.Prelude.{◌≡◌, ◌≢◌, ◌↔◌, ◌⊎◌, ℕ, ◌+◌, ◌<◌, ◌≤◌, IsTrue, IsFalse, IsSome, IsSomeAnd, List, [], ◌∷◌, ◌++◌, Contains, count_by, nat_eq, Some, None};
 ghost use Rattle.lrc_code.specs.declared.codes.Code.TheVariants.{Wide, Narrow};
@@ -30,8 +30,8 @@ ghost use Rattle.lrc_rules.specs.Histories.{IsLegal, world_after, state_after};
 ghost use Rattle.lrc_rules.specs.Choices.{IsFitting, IsChoice};
 ghost use Rattle.lrc_rules.specs.Goodness.{AreSeated};
 
-/// Lease is answered with a lease exactly where the fragment is owed one and a seat is chosen for it: the lease is then
-/// the session's on this seat. Each refusal is told exactly where what it says is so, and none before it.
+/// Lease is granted exactly if the fragment is owed a lease and a seat is chosen for it. The session then holds the
+/// lease, with this seat as target. Each refusal comes exactly if its reason holds and no earlier one does.
 #[tactic(auto, unfolding(crate::specs::Leases::lease_outcome))]
 pub fn a_lease_is_granted_where_it_is_owed()
     ensures granted { (nodes : List NodeInfo) (past : List Entry) (st : State) (session : SessionNo)
@@ -55,9 +55,9 @@ pub fn a_lease_is_granted_where_it_is_owed()
         ↔ ((g ≡ f) × IsOwed nodes st s f × ((n : NodeInfo) → ¬ (IsFitting nodes st s f n))) }
 {}
 
-/// Right after a grant the live lease of the fragment is the one that was told. Its holder is the session that asked,
-/// its target the seat that is chosen for the fragment, its epoch one more than the grants before it, and its end the clock
-/// and three.
+/// Right after a grant the live lease of the fragment is the one in the reply. Its holder is the session that asked,
+/// its target the seat that is chosen for the fragment, its epoch one more than the number of grants before, and its
+/// expiry the clock plus 3.
 pub fn a_grant_is_the_lease()
     ensures live { (nodes : List NodeInfo) (past : List Entry) (st : State) (session : SessionNo)
         (s : StripeNo) (f : Fragment) (l : LeaseRecord) (k : Kind)
@@ -72,9 +72,10 @@ pub fn a_grant_is_the_lease()
         → AreNodes nodes → (step nodes past st session (Lease s f)).0 ≡ Granted l k → IsChoice nodes st s f l.target }
 {}
 
-/// A fragment is copied from its own home exactly where that is online. Else it is rebuilt from its local group exactly
-/// where it is of one and no other of its class is missing. The sources are then the others of its class, rising: six in
-/// a stripe of the code `Wide`, three in one of the code `Narrow`. Every other fragment is rebuilt from the whole stripe.
+/// A fragment is copied from its own home exactly if that home is online. Otherwise it is rebuilt from its local
+/// group exactly if it is in one and no other member is missing; the sources are then the other members in ascending
+/// order, six in a stripe of the code `Wide`, three in one of the code `Narrow`. Every other fragment is rebuilt from
+/// the whole stripe.
 pub fn kinds_in_words()
     ensures own { (nodes : List NodeInfo) (st : State) (s : StripeNo) (f : Fragment)
         → (kind nodes st s f ≡ Move) ↔ IsAtHome nodes st s f }
@@ -86,8 +87,8 @@ pub fn kinds_in_words()
         → (kind nodes st s f ≡ Global) ↔ ((¬ (IsAtHome nodes st s f)) × ((sources : List Fragment) → ¬ (IsFromItsGroup nodes st s f sources))) }
 {}
 
-/// In a state whose stripes are seated, what a session asks of a fragment that the code of a stripe that is there lacks is
-/// refused: it needs no lease, and it has none.
+/// In a state that meets `AreSeated`, commands on a fragment that the stripe's code lacks are refused: the fragment
+/// needs no lease, and has none.
 pub fn lacking_fragments_are_refused()
     ensures lease { (nodes : List NodeInfo) (past : List Entry) (st : State) (session : SessionNo) (s : StripeNo) (f : Fragment)
         → AreSeated nodes st → IsTrue (has_stripe st s) → fragment_count (code_of st s) ≤ f.value
@@ -115,8 +116,8 @@ pub fn others_keep_their_leases()
         → (r ≡ s → g ≢ f) → lease_of (step nodes past st session (Revoke s f)).1 r g ≡ lease_of st r g }
 {}
 
-/// Done ends the lease exactly where the session holds the live lease of the fragment, it has this epoch, and its
-/// target's node is online. Each refusal is told exactly where what it says is so, and none before it.
+/// Done ends the lease exactly if the session holds the live lease of the fragment, with this epoch, and the node of
+/// its target is online. Each refusal comes exactly if its reason holds and no earlier one does.
 #[tactic(auto, unfolding(crate::specs::Leases::done_outcome))]
 pub fn a_report_is_taken_from_the_holder_alone()
     ensures ended { (nodes : List NodeInfo) (past : List Entry) (st : State) (session : SessionNo) (s : StripeNo) (f : Fragment) (e : ℕ)
@@ -137,8 +138,8 @@ pub fn a_report_is_taken_from_the_holder_alone()
         ↔ ((l : LeaseRecord) × IsReported st s f e l × (l.holder ≡ session) × (l.target.node ≡ n) × IsFalse (online_at nodes st n)) }
 {}
 
-/// After a report that is taken the fragment has no live lease, and its home is the target of the lease that it had.
-/// Every other fragment has the home that it had.
+/// After an accepted Done the fragment has no live lease, and its home is the target of that lease. Every other
+/// fragment has the home that it had.
 pub fn a_report_moves_its_fragment()
     ensures moved { (nodes : List NodeInfo) (past : List Entry) (st : State) (session : SessionNo)
         (s : StripeNo) (f : Fragment) (e : ℕ) (l : LeaseRecord)
@@ -149,9 +150,9 @@ pub fn a_report_moves_its_fragment()
         → (r ≡ s → g ≢ f) → homes_of (step nodes past st session (Done s f e)).1.homes r g.value ≡ homes_of st.homes r g.value }
 {}
 
-/// Abandon ends the lease exactly where the session holds the live lease of the fragment and it has this epoch: then the
-/// fragment has none, and nothing else is changed. Each refusal is told exactly where what it says is so, and none before
-/// it.
+/// Abandon ends the lease exactly if the session holds the live lease of the fragment, with this epoch. The fragment
+/// then has no lease, and nothing else changes. Each refusal comes exactly if its reason holds and no earlier one
+/// does.
 #[tactic(auto, unfolding(crate::specs::Leases::abandon_outcome))]
 pub fn a_lease_is_given_back_by_its_holder_alone()
     ensures ended { (nodes : List NodeInfo) (past : List Entry) (st : State) (session : SessionNo) (s : StripeNo) (f : Fragment) (e : ℕ)
@@ -169,8 +170,8 @@ pub fn a_lease_is_given_back_by_its_holder_alone()
         → (step nodes past st session (Abandon s f e)).0 ≡ Ended → IsWithoutLease st s f (step nodes past st session (Abandon s f e)).1 }
 {}
 
-/// Revoke ends the lease exactly where the fragment has a live one, whoever holds it: then the fragment has none, and
-/// nothing else is changed. Each refusal is told exactly where what it says is so, and none before it.
+/// Revoke ends the lease exactly if the fragment has a live one, whoever holds it. The fragment then has no lease,
+/// and nothing else changes. Each refusal comes exactly if its reason holds and no earlier one does.
 #[tactic(auto, unfolding(crate::specs::Leases::revoke_outcome))]
 pub fn a_lease_is_revoked_whoever_holds_it()
     ensures ended { (nodes : List NodeInfo) (past : List Entry) (st : State) (session : SessionNo) (s : StripeNo) (f : Fragment)
@@ -183,9 +184,9 @@ pub fn a_lease_is_revoked_whoever_holds_it()
         → (step nodes past st session (Revoke s f)).0 ≡ Ended → IsWithoutLease st s f (step nodes past st session (Revoke s f)).1 }
 {}
 
-/// Tick is never refused. It moves the clock on by one, and tells the new clock and how many live leases have it as their
-/// end. These alone are ended: every other lease is live as before, the targets of those that ended are held no more, and
-/// nothing else is changed.
+/// Tick is never refused. It advances the clock by one. The reply has the new clock and the number of live leases
+/// that expire at it. Exactly these end: every other lease stays live, the targets of the ended leases are free, and
+/// nothing else changes.
 #[tactic(auto, unfolding(crate::specs::Leases::tick_outcome))]
 pub fn ticks_in_words()
     ensures told { (nodes : List NodeInfo) (past : List Entry) (st : State) (session : SessionNo)
@@ -199,9 +200,9 @@ pub fn ticks_in_words()
         → (step nodes past st session Tick).1 ≡ record st { leases = (step nodes past st session Tick).1.leases; clock = st.clock + 1 } }
 {}
 
-/// The clock is the number of ticks so far, and no command but Tick moves it. The end of a lease is the clock of its grant
-/// and three, by whichever command it was granted. If no other command ends it, it is live until the third tick after its
-/// grant, and no longer, whatever else comes between.
+/// The clock is the number of ticks so far, and only Tick changes it. A lease expires at the clock of its grant plus
+/// 3, whichever command granted it. If no other command ends it, it is live until the third tick after its grant, and
+/// no longer, whatever else happens in between.
 pub fn leases_last_three_ticks()
     ensures clock { (nodes : List NodeInfo) (history : List Entry) → (state_after nodes history).clock ≡ ticks history }
     ensures others { (nodes : List NodeInfo) (past : List Entry) (st : State) (session : SessionNo) (command : Command)

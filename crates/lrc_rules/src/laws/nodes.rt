@@ -19,14 +19,15 @@ ghost use Rattle.lrc_rules.specs.Steps.{step};
 ghost use Rattle.lrc_rules.specs.States.{State, taken_seats, load, mode_of, is_down, online_at};
 ghost use Rattle.lrc_rules.specs.Histories.{IsLegal, outcome_in, world_after, state_after};
 
-/// A node is online exactly where it is one of the nodes, it is not gone and not down, and its domain is not upgrading.
+/// A node is online exactly if the store has it, it is neither gone nor down, and its upgrade domain is not
+/// upgrading.
 pub fn online_in_words()
     ensures { (nodes : List NodeInfo) (st : State) (n : NodeNo)
         → IsTrue (online_at nodes st n)
         ↔ ((m : NodeInfo) × (node_at nodes n ≡ Some m) × (mode_of st n ≢ Gone) × IsFalse (is_down st n) × (st.upgrading ≢ Some m.upgrade)) }
 {}
 
-/// The mode of a node, and whether it is down, are as they were after every command but one on this node.
+/// Only a command on a node changes the node's mode, or whether it is down.
 pub fn modes_change_by_these_alone()
     ensures mode { (nodes : List NodeInfo) (past : List Entry) (st : State) (session : SessionNo) (command : Command) (n : NodeNo)
         → ¬ (IsOnNode n command) → mode_of (step nodes past st session command).1 n ≡ mode_of st n }
@@ -34,11 +35,11 @@ pub fn modes_change_by_these_alone()
         → ¬ (IsOnNode n command) → is_down (step nodes past st session command).1 n ≡ is_down st n }
 {}
 
-/// Each command on a node but Retire is done exactly where the store has the node and the command is right for it. It is
-/// refused as unknown exactly where the store has no such node, and else as of the wrong mode where it is not right. Fail
-/// leaves the node Gone, not down, and with no seat on it. Down leaves it down and Up not down, and both its mode as it
-/// was. Drain leaves it Draining and Undrain Active, and both whether it is down as it was. After a legal history Join
-/// leaves it Active, not down, and with no seat on it.
+/// Each command on a node except Retire is done exactly if the store has the node and its mode allows the command. It
+/// is refused with UnknownNode exactly if the store has no such node, and otherwise with WrongMode if the mode does
+/// not allow it. Fail leaves the node Gone, not down, without held seats. Down leaves it down and Up not down, both
+/// in its mode. Drain leaves it Draining and Undrain Active, down or not as it was. After a legal history Join leaves
+/// it Active, not down, without held seats.
 #[tactic(auto, unfolding(crate::specs::Steps::fail_outcome, crate::specs::Steps::down_outcome, crate::specs::Steps::up_outcome, crate::specs::Steps::drain_outcome, crate::specs::Steps::undrain_outcome, crate::specs::Steps::join_outcome))]
 pub fn node_commands_in_words()
     ensures fail { (nodes : List NodeInfo) (past : List Entry) (st : State) (session : SessionNo) (n : NodeNo)
@@ -106,10 +107,9 @@ pub fn node_commands_in_words()
         × All (λ seat. seat.node ≢ n) (taken_seats (outcome_in nodes (world_after nodes history) session (Join n)).1) }
 {}
 
-/// Retire takes a node out of the store exactly where it is a draining one and no seat is on it. It is refused for its
-/// load exactly where it is a draining one and so many seats are on it, as unknown where the store has no such node, and as
-/// of the wrong mode where it has it and it is not draining. Where it is done, the node is Gone, not down, and no seat is
-/// on it.
+/// Retire removes a node from the store exactly if the node is draining and has no held seat. It is refused with the
+/// node's load exactly if the node is draining and has held seats, with UnknownNode if the store has no such node,
+/// and with WrongMode if the node is not draining. After it the node is Gone, not down, and has no held seat.
 #[tactic(auto, unfolding(crate::specs::Steps::retire_outcome))]
 pub fn retired_nodes_are_empty()
     ensures done { (nodes : List NodeInfo) (past : List Entry) (st : State) (session : SessionNo) (n : NodeNo)
@@ -130,8 +130,8 @@ pub fn retired_nodes_are_empty()
         → ((step nodes past st session (Retire n)).0 ≡ Refused refusal.WrongMode) ↔ (IsSome (node_at nodes n) × (mode_of st n ≢ Draining)) }
 {}
 
-/// Where Fail is done, the homes that are left are those that were not on the node. The leases that are left are those
-/// whose target was not on it, and neither was a home of their fragment. No stripe is taken out.
+/// After Fail exactly these are left: the homes that were on other nodes, the leases with neither their target nor
+/// their fragment's home on the node, and all stripes.
 pub fn a_failed_node_is_emptied()
     ensures homes { (nodes : List NodeInfo) (past : List Entry) (st : State) (session : SessionNo) (n : NodeNo) (h : Held)
         → (step nodes past st session (Fail n)).0 ≡ Changed
@@ -144,14 +144,14 @@ pub fn a_failed_node_is_emptied()
         → (step nodes past st session (Fail n)).1.stripes ≡ st.stripes }
 {}
 
-/// The nodes that are noted as draining are Draining after every history, so none of them is Gone.
+/// After every history each node of the list `draining` has the mode Draining, so none of them is Gone.
 pub fn draining_nodes_are_not_gone()
     ensures { (nodes : List NodeInfo) (history : List Entry)
         → All (λ n. mode_of (state_after nodes history) n ≡ Draining) (state_after nodes history).draining }
 {}
 
-/// A seat that is held after a command was held before it, or is on a node that was Active and online. So a node that is
-/// gone, draining, down or in the domain that is upgrading gets no seat.
+/// Each seat that is held after a command was held before it, or is on a node that was Active and online. So a node
+/// that is gone, draining, down or upgrading gets no seat.
 pub fn seats_come_to_active_nodes_alone()
     ensures { (nodes : List NodeInfo) (past : List Entry) (st : State) (session : SessionNo) (command : Command) (seat : Seat)
         → AreNodes nodes → Contains (taken_seats (step nodes past st session command).1) seat

@@ -1,4 +1,5 @@
-//! Laws of placing: where a fragment may go, which seat is chosen for it, what a new stripe gets, and what is left of one.
+//! Laws of placement: which nodes a fragment may go to, which seat is chosen for it, what a new stripe gets, and what
+//! Drop leaves.
 
 ghost use Rattle.std.specs.Prelude.{◌≡◌, ◌≢◌, ◌↔◌, IsTrue, IsFalse, List, map, replicate, ◌++◌, All, Contains, Some, None};
 ghost use Rattle.lrc_code.specs.declared.codes.Code.{Code};
@@ -22,37 +23,39 @@ ghost use Rattle.lrc_rules.specs.Placement.{chosen};
 ghost use Rattle.lrc_rules.specs.Choices.{IsFitting, IsChoice, AreChosen, IsFirstWithout};
 ghost use Rattle.lrc_rules.specs.Goodness.{AreSeated};
 
-/// The chosen seat is the least free slot of the node that comes before every other node that the fragment may go to.
+/// The chosen seat is the lowest free slot of the node that the rule prefers to every other node that the fragment
+/// may go to.
 pub fn chosen_seats_come_first()
     ensures { (nodes : List NodeInfo) (st : State) (s : StripeNo) (f : Fragment) (seat : Seat)
         → AreNodes nodes → (chosen nodes st s f ≡ Some seat) ↔ IsChoice nodes st s f seat }
 {}
 
-/// No seat is chosen exactly where the fragment may go to no node.
+/// No seat is chosen exactly if the fragment may go to no node.
 pub fn none_is_chosen_where_no_node_fits()
     ensures { (nodes : List NodeInfo) (st : State) (s : StripeNo) (f : Fragment)
         → (chosen nodes st s f ≡ None) ↔ ((n : NodeInfo) → ¬ (IsFitting nodes st s f n)) }
 {}
 
-/// Place answers with seats exactly where the stripe is absent and these are the seats that are chosen for its
-/// sixteen fragments, one after the other, each beside those before it. Place6 does so for the ten of the code `Narrow`.
+/// Place replies with seats exactly if the store lacks the stripe and these are the seats that are chosen for its
+/// sixteen fragments, one after the other, each after the earlier ones are placed. Place6 does so for the ten
+/// fragments of the code `Narrow`.
 pub fn placed_seats_are_chosen_in_turn()
     ensures { (nodes : List NodeInfo) (past : List Entry) (st : State) (session : SessionNo) (code : Code) (s : StripeNo) (seats : List Seat)
         → ((step nodes past st session (place_command code s)).0 ≡ placed_reply code seats)
         ↔ (IsFalse (has_stripe st s) × AreChosen nodes (with_stripe st code s) s (fragments code) seats) }
 {}
 
-/// Place and Place6 find no lawful node for a fragment exactly where the stripe is absent and this is the first of its
-/// fragments for which no seat is chosen beside those before it.
+/// Place and Place6 are refused for a fragment exactly if the store lacks the stripe and this is the first fragment
+/// for which no seat is chosen, after the earlier ones are placed.
 pub fn the_first_fragment_without_a_seat_is_told()
     ensures { (nodes : List NodeInfo) (past : List Entry) (st : State) (session : SessionNo) (code : Code) (s : StripeNo) (f : Fragment)
         → ((step nodes past st session (place_command code s)).0 ≡ Refused (refusal.NoLawfulNode f))
         ↔ (IsFalse (has_stripe st s) × IsFirstWithout nodes (with_stripe st code s) s (fragments code) f) }
 {}
 
-/// In a state whose stripes are seated the seats that Place tells are the homes of the stripe's sixteen fragments, in their
-/// order; those that Place6 tells are the homes of its ten, and the other numbers have none. In every state, and whatever is
-/// answered, every other stripe has the homes that it had.
+/// In a state that meets `AreSeated`, the seats in the reply to Place are the homes of the stripe's sixteen
+/// fragments, in order. Those in the reply to Place6 are the homes of its ten, and the other numbers have none. In
+/// every state, whatever the reply, every other stripe has the homes that it had.
 pub fn placed_seats_are_the_homes()
     ensures told { (nodes : List NodeInfo) (past : List Entry) (st : State) (session : SessionNo) (s : StripeNo) (seats : List Seat)
         → AreSeated nodes st → (step nodes past st session (Place s)).0 ≡ Placed seats
@@ -64,15 +67,15 @@ pub fn placed_seats_are_the_homes()
         → r ≢ s → homes_shown (step nodes past st session (place_command code s)).1 r ≡ homes_shown st r }
 {}
 
-/// Place and Place6 are refused as of a stripe that is there exactly where the stripe is there, of either code.
+/// Place and Place6 are refused with StripeExists exactly if the store has the stripe, of either code.
 #[tactic(auto, unfolding(crate::specs::Steps::place_outcome))]
 pub fn a_stripe_is_placed_once()
     ensures { (nodes : List NodeInfo) (past : List Entry) (st : State) (session : SessionNo) (code : Code) (s : StripeNo)
         → ((step nodes past st session (place_command code s)).0 ≡ Refused refusal.StripeExists) ↔ IsTrue (has_stripe st s) }
 {}
 
-/// Right after Place a stripe has the code `Wide`, and right after Place6 the code `Narrow`, where they placed it. No command
-/// but these two and Drop of the stripe changes its code, and no command changes the code of a stripe that stays.
+/// Place gives a stripe the code `Wide`, and Place6 the code `Narrow`. Only these two and Drop of the stripe change
+/// its code, and no command changes the code of a stripe that stays.
 pub fn codes_stay()
     ensures placed { (nodes : List NodeInfo) (past : List Entry) (st : State) (session : SessionNo) (code : Code) (s : StripeNo) (seats : List Seat)
         → (step nodes past st session (place_command code s)).0 ≡ placed_reply code seats
@@ -84,9 +87,8 @@ pub fn codes_stay()
         → code_of (step nodes past st session c).1 s ≡ code_of st s }
 {}
 
-/// Drop takes a stripe out exactly where it is there, and is refused as of an unknown stripe exactly where it is not. Where
-/// it is done, the stripes, narrow stripes, homes and leases that are left are those that are of another stripe, and nothing
-/// else is changed.
+/// Drop removes a stripe exactly if the store has it, and otherwise is refused with UnknownStripe. Exactly the
+/// stripes, narrow stripes, homes and leases of other stripes are left, and nothing else changes.
 #[tactic(auto, unfolding(crate::specs::Steps::drop_outcome))]
 pub fn dropped_stripes_leave_nothing()
     ensures done { (nodes : List NodeInfo) (past : List Entry) (st : State) (session : SessionNo) (s : StripeNo)

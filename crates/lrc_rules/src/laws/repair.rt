@@ -1,4 +1,4 @@
-//! Laws of the order of repair: what needs a lease, and what comes first.
+//! Laws of repair: which fragments need a lease, and which comes first.
 
 ghost use Rattle.std.specs.Prelude.{◌≡◌, ◌≢◌, ◌↔◌, ◌⊎◌, ◌<◌, IsTrue, IsSome, List, AllPairs, Contains, Some, None};
 ghost use Rattle.lrc_code.specs.declared.numbers.StripeNo.{StripeNo};
@@ -26,8 +26,8 @@ ghost use Rattle.lrc_rules.specs.Steps.{step};
 ghost use Rattle.lrc_rules.specs.States.{State, has_stripe, code_of, mode_of, rank, level, level_shown};
 ghost use Rattle.lrc_rules.specs.Goodness.{AreSeated};
 
-/// A fragment needs a lease exactly where the stripe's code has it, and it has no home, or its home is on a draining node
-/// of the store.
+/// A fragment needs a lease exactly if the stripe's code has it, and it has no home or a home on a draining node of
+/// the store.
 pub fn needs_in_words()
     ensures { (nodes : List NodeInfo) (st : State) (s : StripeNo) (f : Fragment)
         → IsTrue (needs nodes st s f)
@@ -36,15 +36,16 @@ pub fn needs_in_words()
         ⊎ ((seat : Seat) × (homes_of st.homes s f.value ≡ Some seat) × IsSome (node_at nodes seat.node) × (mode_of st seat.node ≡ Draining)))) }
 {}
 
-/// The rank by which a stripe stands in the order of repair is the one that its level shows.
+/// The rank that orders repair is the rank of the stripe's level.
 pub fn levels_show_ranks()
     ensures level { (nodes : List NodeInfo) (st : State) (s : StripeNo) → rank nodes st s ≡ rank_at (level nodes st s) }
     ensures shown { (nodes : List NodeInfo) (st : State) (s : StripeNo) (l : Level)
         → level_shown nodes st s ≡ Some l → rank nodes st s ≡ rank_at l }
 {}
 
-/// Next does what Lease of the most urgent fragment does: of those that are owed a lease and may go to some node, the
-/// first by the rank of its stripe, the stripe's number and its own. What is not Idle is granted.
+/// Next does what Lease of the most urgent fragment does. That is the first fragment by the rank of its stripe, the
+/// stripe's number and its own number, of those that are owed a lease and may go to some node. Next grants that lease
+/// or is Idle.
 pub fn next_is_most_urgent()
     ensures told { (nodes : List NodeInfo) (past : List Entry) (st : State) (session : SessionNo) (l : LeaseRecord) (k : Kind)
         → (step nodes past st session Next).0 ≡ Granted l k → IsMostUrgent nodes st (l.stripe, l.fragment) }
@@ -57,7 +58,7 @@ pub fn next_is_most_urgent()
         → (step nodes past st session Next).0 ≢ Idle → (l : LeaseRecord) × (k : Kind) × ((step nodes past st session Next).0 ≡ Granted l k) }
 {}
 
-/// Next is idle exactly where no fragment is both owed a lease and may go to some node, and changes nothing then. It is
+/// Next is Idle exactly if no fragment is both owed a lease and may go to some node. It changes nothing then, and is
 /// never refused.
 pub fn idle_where_nothing_is_grantable()
     ensures idle { (nodes : List NodeInfo) (past : List Entry) (st : State) (session : SessionNo)
@@ -68,8 +69,8 @@ pub fn idle_where_nothing_is_grantable()
         → (step nodes past st session Next).0 ≢ Refused r }
 {}
 
-/// The risk list has each stripe that is not whole, with its level, and no other. In a state whose stripes are seated it
-/// has each once, by rank and by number.
+/// The risk list has exactly the stripes that are not whole, each with its level. In a state that meets `AreSeated`
+/// it has each of them once, sorted by rank and then by number.
 pub fn risk_lists_all()
     ensures each { (nodes : List NodeInfo) (st : State) (s : StripeNo) (l : Level)
         → Contains (risk nodes st) (s, l) ↔ (IsTrue (has_stripe st s) × (level nodes st s ≡ l) × (l ≢ Whole)) }
@@ -77,8 +78,8 @@ pub fn risk_lists_all()
         → AreSeated nodes st → AllPairs (λ a b. IsMoreUrgent nodes st a.0 b.0) (risk nodes st) }
 {}
 
-/// The work list has each stripe with a fragment that needs a lease, and no other. In a state whose stripes are seated it
-/// has each once, by rank and by number.
+/// The work list has exactly the stripes with a fragment that needs a lease. In a state that meets `AreSeated` it has
+/// each of them once, sorted by rank and then by number.
 pub fn work_lists_all()
     ensures each { (nodes : List NodeInfo) (st : State) (s : StripeNo)
         → Contains (work nodes st) s ↔ (IsTrue (has_stripe st s) × ((f : Fragment) × IsTrue (needs nodes st s f))) }

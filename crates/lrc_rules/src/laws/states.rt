@@ -1,5 +1,5 @@
-//! Laws of states: what the stripes, homes, leases, loads, missing fragments and levels are in the state's own words, and what
-//! is answered of them.
+//! Laws of states: what stripes, homes, leases, loads, missing fragments and levels mean in terms of the state's
+//! lists, and what a read returns.
 
 ghost use Rattle.std.specs.Prelude.{◌≡◌, ◌≢◌, ◌↔◌, ◌⊎◌, ℕ, ◌+◌, ◌<◌, ◌≤◌, Bool, IsTrue, IsFalse, IsSome, List, [], AllPairs, Contains, count_by, length, get_or, Option, Some, None};
 ghost use Rattle.lrc_code.specs.declared.codes.Code.{Code};
@@ -25,14 +25,14 @@ ghost use Rattle.lrc_rules.specs.States.{State, opening, has_stripe, code_of, lo
 ghost use Rattle.lrc_rules.specs.Goodness.{AreSeated};
 ghost use Rattle.lrc_rules.specs.Histories.{state_after};
 
-/// A stripe is there exactly where the state has it among its stripes.
+/// The store has a stripe exactly if the state lists it.
 pub fn stripes_in_words()
     ensures there { (st : State) (s : StripeNo) → IsTrue (has_stripe st s) ↔ Contains st.stripes s }
     ensures absent { (st : State) (s : StripeNo) → IsFalse (has_stripe st s) ↔ (¬ (Contains st.stripes s)) }
 {}
 
-/// The seat that is found for a fragment is that of a home of it in the list, and none is found exactly where the list has
-/// no home of it. Where the list has at most one home for each fragment, each of its homes is the one that is found.
+/// The home that is found for a fragment is one in the list, and none is found exactly if the list has no home of the
+/// fragment. If the list has at most one home per fragment, each of its homes is found.
 pub fn homes_are_found_by_their_fragment()
     ensures own { (homes : List Held) (s : StripeNo) (f : Fragment) (seat : Seat)
         → homes_of homes s f.value ≡ Some seat → Contains homes (record { stripe = s; fragment = f; seat = seat }) }
@@ -42,8 +42,8 @@ pub fn homes_are_found_by_their_fragment()
         → Contains homes h ↔ (homes_of homes h.stripe h.fragment.value ≡ Some h.seat) }
 {}
 
-/// The lease that is found for a fragment is a live one of it, and none is found exactly where no live lease is of it. Where
-/// the live leases are at most one for each fragment, each of them is the one that is found.
+/// The lease that is found for a fragment is a live lease of it, and none is found exactly if no live lease is. If
+/// there is at most one live lease per fragment, each of them is found.
 pub fn leases_are_found_by_their_fragment()
     ensures own { (st : State) (s : StripeNo) (f : Fragment) (l : LeaseRecord)
         → lease_of st s f ≡ Some l → Contains st.leases l × (l.stripe ≡ s) × (l.fragment ≡ f) }
@@ -53,16 +53,16 @@ pub fn leases_are_found_by_their_fragment()
         → (lease_of st s f ≡ Some l) ↔ (Contains st.leases l × (l.stripe ≡ s) × (l.fragment ≡ f)) }
 {}
 
-/// The load of a node is the number of homes on it and of live leases whose target is on it.
+/// The load of a node is the number of homes on it plus the number of live leases with a target on it.
 pub fn loads_in_words()
     ensures sum { (st : State) (n : NodeNo)
         → load st n ≡ count_by (λ h. same_node h.seat.node n) st.homes + count_by (λ l. same_node l.target.node n) st.leases }
 {}
 
-/// A fragment of the stripe's code is homeless exactly where the state has no home of it. It is missing exactly where that
-/// is so, or its home is on a node that is not online. In a state whose stripes are seated that home is the only one that
-/// the state has of it. No number but those of the code's fragments is homeless or missing, and in a state whose stripes are
-/// seated none has a home or a lease.
+/// A fragment of the stripe's code is homeless exactly if the state has no home of it. It is missing exactly if it is
+/// homeless or its home is on a node that is not online; in a state that meets `AreSeated` it has no other home. Only
+/// fragments of the code are homeless or missing, and in a state that meets `AreSeated` no other number has a home or
+/// a lease.
 pub fn missing_fragments_in_words()
     ensures homeless { (st : State) (s : StripeNo) (f : Fragment)
         → IsTrue (homeless st s f.value)
@@ -85,8 +85,9 @@ pub fn missing_fragments_in_words()
         → AreSeated nodes st → fragment_count (code_of st s) ≤ f.value → (homes_of st.homes s f.value ≡ None) × (lease_of st s f ≡ None) }
 {}
 
-/// A stripe is lost exactly where its homeless fragments are not recoverable. Else it is unavailable exactly where its
-/// missing ones are not; else at risk exactly where some are missing, with their margin; else whole.
+/// A stripe is Lost exactly if its homeless fragments are not recoverable. Otherwise it is Unavailable exactly if its
+/// missing fragments are not recoverable; otherwise AtRisk, with its margin, exactly if a fragment is missing;
+/// otherwise Whole.
 pub fn levels_in_words()
     ensures lost { (nodes : List NodeInfo) (st : State) (s : StripeNo)
         → (level nodes st s ≡ Lost) ↔ (¬ (IsRecoverable (code_of st s) (homeless st s))) }
@@ -102,9 +103,9 @@ pub fn levels_in_words()
         ↔ (IsRecoverable (code_of st s) (homeless st s) × NoneMissing (code_of st s) (missing nodes st s)) }
 {}
 
-/// What is answered of a stripe that is there is its level, its code, the mask of its missing fragments, and the seats of
-/// its fragments by the sixteen numbers; of any other stripe nothing is answered. What is answered of a node of the store is
-/// its mode, whether it is online, and its load; of any other number nothing is.
+/// A read of a stripe returns its level, its code, the mask of its missing fragments, or the seats of its fragments
+/// by the sixteen fragment numbers; nothing if the store has no such stripe. A read of a node returns its mode,
+/// whether it is online, and its load; nothing if the store has no such node.
 pub fn answers_in_words()
     ensures level { (nodes : List NodeInfo) (st : State) (s : StripeNo) (l : Level)
         → (level_shown nodes st s ≡ Some l) ↔ (IsTrue (has_stripe st s) × (level nodes st s ≡ l)) }
@@ -129,8 +130,8 @@ pub fn answers_in_words()
     ensures no_load { (nodes : List NodeInfo) (st : State) (n : NodeNo) → (load_shown nodes st n ≡ None) ↔ (node_at nodes n ≡ None) }
 {}
 
-/// Before the first entry there is no stripe, no home and no lease. No domain is upgrading, every node is Active and not
-/// down, and so every node of the store is online.
+/// Before the first entry there is no stripe, no home and no lease. No domain is upgrading, and every node is Active
+/// and not down, so every node of the store is online.
 pub fn a_new_store_is_empty()
     ensures first { (nodes : List NodeInfo) → state_after nodes [] ≡ opening }
     ensures stripes { (s : StripeNo) → ¬ (Contains opening.stripes s) }

@@ -19,11 +19,11 @@ ghost use Rattle.lrc_rules.specs.Steps.{step};
 ghost use Rattle.lrc_rules.specs.States.{State, is_down, has_stripe, code_of, missing, level};
 ghost use Rattle.lrc_rules.specs.Histories.{IsLegal, outcome_in, world_after, state_after};
 
-/// Upgrade is refused for a stripe exactly where a node is in the domain, no domain is upgrading, and the stripe is the
-/// least of those that are recoverable and would not be with the domain upgrading; it is done where there is none such.
-/// It is refused as unknown exactly where no node is in the domain, and else for the domain that is upgrading, if one is.
-/// After a legal history it is never refused for a stripe that is whole. Where it is done, each stripe that was
-/// recoverable still is, and each that was whole withstands at least one further loss.
+/// Upgrade is refused for a stripe exactly if the domain has a node, no domain is upgrading, and the stripe has the
+/// lowest number of those that are recoverable and would not be with the domain upgrading. It is done if there is no
+/// such stripe. It is refused with UnknownDomain exactly if the domain has no node, and otherwise for the domain that
+/// is upgrading, if there is one. After a legal history it is never refused for a stripe that is whole. After it each
+/// stripe that was recoverable still is, and each that was whole survives at least one further loss.
 #[tactic(auto, unfolding(crate::specs::Steps::upgrade_outcome))]
 pub fn upgrades_are_safe()
     ensures lost { (nodes : List NodeInfo) (past : List Entry) (st : State) (session : SessionNo) (u : UpgradeNo) (s : StripeNo)
@@ -51,8 +51,8 @@ pub fn upgrades_are_safe()
         × IsMargin (code_of (state_after nodes history) s) (missing nodes (outcome_in nodes (world_after nodes history) session (Upgrade u)).1 s) t }
 {}
 
-/// Upgraded is done exactly where a node is in the domain and it is upgrading: no domain is upgrading then. Each refusal
-/// is told exactly where what it says is so, and none before it.
+/// Upgraded is done exactly if the domain has a node and is upgrading. No domain is upgrading then. Each refusal
+/// comes exactly if its reason holds and no earlier one does.
 #[tactic(auto, unfolding(crate::specs::Steps::upgraded_outcome))]
 pub fn upgraded_in_words()
     ensures done { (nodes : List NodeInfo) (past : List Entry) (st : State) (session : SessionNo) (u : UpgradeNo)
@@ -66,8 +66,8 @@ pub fn upgraded_in_words()
         → (step nodes past st session (Upgraded u)).0 ≡ Changed → (step nodes past st session (Upgraded u)).1.upgrading ≡ None }
 {}
 
-/// Upgrade and Upgraded change nothing but which domain is upgrading: stripes, homes and leases stay, and so do the nodes
-/// that are gone, draining and down. Where Upgrade is done the domain is upgrading.
+/// Upgrade and Upgraded change only which domain is upgrading: stripes, homes and leases stay, and so do the nodes
+/// that are gone, draining and down. After Upgrade the domain is upgrading.
 pub fn upgrades_change_the_domain_alone()
     ensures upgrade { (nodes : List NodeInfo) (past : List Entry) (st : State) (session : SessionNo) (u : UpgradeNo)
         → (step nodes past st session (Upgrade u)).1 ≡ record st { upgrading = (step nodes past st session (Upgrade u)).1.upgrading } }
@@ -79,7 +79,7 @@ pub fn upgrades_change_the_domain_alone()
         → is_down (step nodes past st session (Upgraded u)).1 n ≡ is_down st n }
 {}
 
-/// Which domain is upgrading changes by Upgrade and Upgraded alone.
+/// Only Upgrade and Upgraded change which domain is upgrading.
 pub fn upgrading_changes_by_these_alone()
     ensures { (nodes : List NodeInfo) (past : List Entry) (st : State) (session : SessionNo) (command : Command)
         → ((u : UpgradeNo) → command ≢ Upgrade u) → ((u : UpgradeNo) → command ≢ Upgraded u)
