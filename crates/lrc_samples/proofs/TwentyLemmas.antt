@@ -1,4 +1,4 @@
--- What is read of the text of the twenty nodes.
+-- Reading the text of the twenty nodes.
 use Rattle.std.proofs.Common.{◌≡◌, ℕ, List, Result, Ok, Err, IfOk, IfErr, IsUtf8, unwrap_or, refl, sym, subst}
 use Rattle.toml.specs.Data.{Members, no_members}
 use Rattle.toml.specs.Parse.{parse_document}
@@ -18,7 +18,7 @@ is_twenty : IsUtf8 TWENTY_NODES.now → IsTopologyOf TWENTY_NODES.now twenty
 unfolding twenty document toml_on_literals
 is_twenty utf8 = record { document = document; read = record { utf8 = utf8; parsed = refl }; accepted = refl; listed = refl }
 
--- bytes that are those of the text
+-- given bytes that are those of the text
 module _ (bytes : List ℕ) (same : bytes ≡ TWENTY_NODES.now) (utf8 : IsUtf8 bytes) where
   reads_twenty : IsTopologyOf bytes twenty
   reads_twenty = subst (λ b. IsTopologyOf b twenty) (sym same) (is_twenty (subst IsUtf8 same utf8))

@@ -1,4 +1,4 @@
-//! A store that the tests of several crates stand on.
+//! A store that the tests of several crates use.
 #![tactic(auto)]
 
 ghost use Rattle.std.specs.Prelude.{◌≡◌, IfOk, IfErr};
@@ -33,7 +33,8 @@ node = [
 ]
 ";
 
-/// Twenty nodes with four slots, each in a fault domain of its own, in ten upgrade domains; an error is want of memory.
+/// Returns twenty nodes with four slots each, every one in its own fault domain, in ten upgrade domains. The only
+/// error is out of memory.
 pub fn twenty_nodes(alloc: Global) -> Result<Topology, TopologyError>
     ensures nodes { IfOk result (λ t. t ≡ twenty) }
     ensures err { IfErr result (λ e. e ≡ error.OutOfMemory) }

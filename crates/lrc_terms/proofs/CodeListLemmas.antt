@@ -1,4 +1,4 @@
--- The fragments of a code, in their list.
+-- The list of the fragments of a code.
 use Rattle.std.proofs.Common.{◌≡◌, ℕ, ◌<◌, true, length, get_or, arith, refl, sym, ◌∙◌, zero-add, ◌≤◌}
 use Rattle.std.specs.List.{Contains}
 use Rattle.std.proofs.lemmas.Bool.{ltb-true}
@@ -10,16 +10,16 @@ use Rattle.std.proofs.lemmas.List.{get_or-map}
 use Rattle.std.proofs.lemmas.List.FromFn.{get_or-range_with_len}
 use Rattle.lrc_code.specs.declared.codes.Code.TheVariants.{Wide, Narrow}
 
--- the fragments are numbered by their places
+-- the position of a fragment in the list is its number
 pub fragment-number : (i : ℕ) (d : Fragment) → i < 16 → (get_or (fragments Wide) i d).value ≡ i
 fragment-number i d within = sym (get_or-map (λ (f : Fragment). f.value) (fragments Wide) i d 0 within) ∙ (get_or-range_with_len 0 16 i 0 within ∙ zero-add i)
 
--- the same of each code
+-- the same for each code
 pub fragment-number_in : (code : Code) (i : ℕ) (d : Fragment) → i < fragment_count code → (get_or (fragments code) i d).value ≡ i
 fragment-number_in Wide i d within = fragment-number i d within
 fragment-number_in Narrow i d within = sym (get_or-map (λ (f : Fragment). f.value) (fragments Narrow) i d 0 within) ∙ (get_or-range_with_len 0 10 i 0 within ∙ zero-add i)
 
--- there are sixteen at most
+-- a code has at most sixteen fragments
 pub few-fragments : (code : Code) → fragment_count code ≤ 16
 few-fragments Wide = omega arith
 few-fragments Narrow = omega arith
@@ -28,13 +28,13 @@ pub fragments-long : (code : Code) → length (fragments code) ≡ fragment_coun
 fragments-long Wide = refl
 fragments-long Narrow = refl
 
--- a fragment that a code has is one of its list
+-- a fragment of the code is in its list
 pub code-fragments : (code : Code) (f : Fragment) → has_fragment code f.value ≡ true → Contains (fragments code) f
 code-fragments code f own =
     let within = ltb-true f.value (fragment_count code) own in
     (f.value, omega (arith, within, fragments-long code), equal_fragments (get_or (fragments code) f.value f) f (fragment-number_in code f.value f within))
 
--- they stand in rising order
+-- the numbers in the list ascend
 pub code-rising : (code : Code) (i j : ℕ) (d : Fragment) → i < j → j < length (fragments code)
     → (get_or (fragments code) i d).value < (get_or (fragments code) j d).value
 code-rising code i j d below within =

@@ -1,4 +1,4 @@
--- The leases of plain lists: what a look-up finds, and what one more lease and a filter change.
+-- Lists of leases: what a search finds, also after a lease is added and after a filter.
 use Rattle.std.proofs.Common.{◌≡◌, ◌≢◌, ℕ, ◌-◌, inl, inr, Bool, true, false, not, ◌&&◌, if◌then◌else◌, nat_eq, List, [], ◌∷◌, ◌++◌, get_or, filter, find, Option, Some, None, IsTrue, ◌↔◌, arith, refl, sym, ap, ◌∙◌, subst}
 use Rattle.std.proofs.Math.Path.{fun_ext}
 use Rattle.std.specs.List.{Contains}
@@ -17,9 +17,9 @@ use Rattle.lrc_code.proofs.NumbersLemmas.{equal_fragments, equal_stripes}
 use Rattle.lrc_terms.specs.declared.lease.Lease.{Lease}
 use Rattle.lrc_terms.specs.Leased.{LeaseMap, is_of, leases_in, leased_of, with_lease, without_lease, with_spare, AreOneEach}
 
--- ---- finding
+-- ---- searches
 
--- what is found passes, and is in the list
+-- what is found passes the test, and is in the list
 pub find-some : {X : Type 0} (p : X → Bool) (xs : List X) (x : X) → find p xs ≡ Some x → Contains xs x × (p x ≡ true)
 find-some p [] x found = absurd (cc)
 find-some p (y ∷ xs) x found = elim (cases_Bool (p y)) [
@@ -27,7 +27,7 @@ find-some p (y ∷ xs) x found = elim (cases_Bool (p y)) [
   | inr miss ↦ let rest = find-some p xs x (rw miss at found) in (Contains-later y x xs rest.0, rest.1)
 ]
 
--- where none is found, none passes
+-- if nothing is found, no element passes
 pub find-none : {X : Type 0} (p : X → Bool) (xs : List X) (x : X) → find p xs ≡ None → Contains xs x → p x ≡ false
 find-none p [] x none among = absurd (omega (arith, among.1))
 find-none p (y ∷ xs) x none among = elim (cases_Bool (p y)) [
@@ -38,12 +38,12 @@ find-none p (y ∷ xs) x none among = elim (cases_Bool (p y)) [
   ]
 ]
 
--- where none passes, none is found
+-- if no element passes, nothing is found
 pub none-find : {X : Type 0} (p : X → Bool) (xs : List X) → ((x : X) → Contains xs x → p x ≡ false) → find p xs ≡ None
 none-find p [] none = refl
 none-find p (y ∷ xs) none = rw (none y (0, omega arith, refl)) (none-find p xs (λ x among. none x (Contains-later y x xs among)))
 
--- the one that passes is found
+-- if only one element passes, it is found
 pub one-find : {X : Type 0} (p : X → Bool) (xs : List X) (x : X) → Contains xs x → p x ≡ true → ((y : X) → Contains xs y → p y ≡ true → y ≡ x) → find p xs ≡ Some x
 one-find p [] x among passes one = absurd (omega (arith, among.1))
 one-find p (y ∷ xs) x among passes one = elim (cases_Bool (p y)) [
@@ -54,7 +54,7 @@ one-find p (y ∷ xs) x among passes one = elim (cases_Bool (p y)) [
   ]
 ]
 
--- what a filter leaves was there and is kept
+-- an element that is left by a filter was in the list and is kept
 pub Contains-filter : {X : Type 0} (keep : X → Bool) (xs : List X) (x : X) → Contains (filter keep xs) x → Contains xs x × (keep x ≡ true)
 Contains-filter keep [] x among = absurd (omega (arith, among.1))
 Contains-filter keep (y ∷ xs) x among = elim (cases_Bool (keep y)) [
@@ -65,7 +65,7 @@ Contains-filter keep (y ∷ xs) x among = elim (cases_Bool (keep y)) [
   | inr gone ↦ let rest = Contains-filter keep xs x (rw gone at among) in (Contains-later y x xs rest.0, rest.1)
 ]
 
--- and it leaves what is kept
+-- and each kept element is left
 pub filter-contains : {X : Type 0} (keep : X → Bool) (xs : List X) (x : X) → Contains xs x → keep x ≡ true → Contains (filter keep xs) x
 filter-contains keep [] x among kept = absurd (omega (arith, among.1))
 filter-contains keep (y ∷ xs) x among kept = elim (Contains-cons_cases y x xs among) [
@@ -75,15 +75,15 @@ filter-contains keep (y ∷ xs) x among kept = elim (Contains-cons_cases y x xs 
       elim (cases_Bool (keep y)) [ inl hit ↦ rw hit (Contains-later y x (filter keep xs) rest) | inr miss ↦ rw miss rest ]
 ]
 
--- two answers that are the same values are one
+-- two options with the same values are equal
 pub same_answers : {X : Type 0} (o p : Option X) → ((x : X) → o ≡ Some x → p ≡ Some x) → ((x : X) → p ≡ Some x → o ≡ Some x) → o ≡ p
 same_answers None None there back = refl
 same_answers None (Some x) there back = back x refl
 same_answers (Some x) p there back = sym (there x refl)
 
--- ---- one more, and fewer
+-- ---- after an element is added, and after a filter
 
--- one more at the end is found where none was
+-- an element that is added at the end is found if nothing was found before
 one_more : {X : Type 0} (p : X → Bool) (xs : List X) (x : X) → (p x ≡ true → find p xs ≡ None) → find p (xs ++ x ∷ []) ≡ (if p x then Some x else find p xs)
 one_more p [] x none = refl
 one_more p (y ∷ xs) x none = elim (cases_Bool (p y)) [
@@ -94,7 +94,7 @@ one_more p (y ∷ xs) x none = elim (cases_Bool (p y)) [
   | inr miss ↦ rw miss (one_more p xs x (λ e. rw miss at (none e)))
 ]
 
--- a filter that takes all out that pass leaves none to be found
+-- a filter that removes all elements that pass leaves nothing to be found
 find-taken_out : {X : Type 0} (p keep : X → Bool) (xs : List X) → ((x : X) → p x ≡ true → keep x ≡ false) → find p (filter keep xs) ≡ None
 find-taken_out p keep [] out = refl
 find-taken_out p keep (y ∷ xs) out = elim (cases_Bool (keep y)) [
@@ -105,7 +105,7 @@ find-taken_out p keep (y ∷ xs) out = elim (cases_Bool (keep y)) [
   | inr gone ↦ rw gone (find-taken_out p keep xs out)
 ]
 
--- one that keeps all that pass changes nothing
+-- a filter that keeps all elements that pass changes nothing
 find-kept : {X : Type 0} (p keep : X → Bool) (xs : List X) → ((x : X) → p x ≡ true → keep x ≡ true) → find p (filter keep xs) ≡ find p xs
 find-kept p keep [] all = refl
 find-kept p keep (y ∷ xs) all = elim (cases_Bool (keep y)) [
@@ -115,7 +115,7 @@ find-kept p keep (y ∷ xs) all = elim (cases_Bool (keep y)) [
       rw (gone, miss) (find-kept p keep xs all)
 ]
 
--- where at most one passes, a filter keeps what is found or takes it out
+-- if at most one element passes, a filter keeps or removes what is found
 find-filter : {X : Type 0} (p keep : X → Bool) (xs : List X) → ((x y : X) → Contains xs x → Contains xs y → p x ≡ true → p y ≡ true → x ≡ y) → find p (filter keep xs) ≡ option_filter keep (find p xs)
 find-filter p keep [] one = refl
 find-filter p keep (y ∷ xs) one =
@@ -132,7 +132,7 @@ find-filter p keep (y ∷ xs) one =
       | inr miss ↦ elim (cases_Bool (keep y)) [ inl kept ↦ rw (kept, miss) rest | inr gone ↦ rw (gone, miss) rest ]
     ]
 
--- ---- leases of a fragment
+-- ---- the leases of a fragment
 
 pub is_of-parts : (s : StripeNo) (f : ℕ) (l : Lease) → is_of s f l ≡ true → (l.stripe.value ≡ s.value) × (l.fragment.value ≡ f)
 is_of-parts s f l e = let parts = and_parts _ _ e in (eqb-true _ _ parts.0, eqb-true _ _ parts.1)
@@ -144,26 +144,26 @@ is_of-from s f l e g = and_from _ _ (eq-eqb _ _ e) (eq-eqb _ _ g)
 pub is_of-own : (l : Lease) → is_of l.stripe l.fragment.value l ≡ true
 is_of-own l = is_of-from l.stripe l.fragment.value l refl refl
 
--- two leases of a fragment are of one
+-- two leases of one fragment: one is of the other's fragment
 pub is_of-both : (s : StripeNo) (f : ℕ) (k l : Lease) → is_of s f k ≡ true → is_of s f l ≡ true → is_of l.stripe l.fragment.value k ≡ true
 is_of-both s f k l a b =
     let x = is_of-parts s f k a in
     let y = is_of-parts s f l b in
     is_of-from l.stripe l.fragment.value k (x.0 ∙ sym y.0) (x.1 ∙ sym y.1)
 
--- a lease stands under its own stripe and fragment
+-- a lease that is found has the stripe and the fragment that were searched
 pub leases_in-own : (leases : List Lease) (s : StripeNo) (f : ℕ) (l : Lease) → leases_in leases s f ≡ Some l → (l.stripe ≡ s) × (l.fragment.value ≡ f)
 leases_in-own leases s f l found =
     let parts = is_of-parts s f l (find-some (is_of s f) leases l found).1 in
     (equal_stripes l.stripe s parts.0, parts.1)
 
--- what is found is in the list
+-- the lease that is found is in the list
 pub leases_in-contains : (leases : List Lease) (s : StripeNo) (f : ℕ) (l : Lease) → leases_in leases s f ≡ Some l → Contains leases l
 leases_in-contains leases s f l found = (find-some (is_of s f) leases l found).0
 
--- ---- at most one each
+-- ---- at most one lease per fragment
 
--- two of the list that are of one fragment are one
+-- two leases in the list with the same fragment are equal
 pub one_each-same : (leases : List Lease) (k l : Lease) → AreOneEach leases → Contains leases k → Contains leases l → k.stripe ≡ l.stripe → k.fragment ≡ l.fragment → k ≡ l
 one_each-same leases k l apart a b stripe fragment = elim (cases_order a.0 b.0) [
   | inl same ↦ sym a.2 ∙ get_or_default leases a.0 k l a.1 ∙ ap (λ n. get_or leases n l) same ∙ b.2
@@ -180,7 +180,7 @@ one_passes leases s f apart k l a b is_k is_l =
     let parts = is_of-parts l.stripe l.fragment.value k (is_of-both s f k l is_k is_l) in
     one_each-same leases k l apart a b (equal_stripes k.stripe l.stripe parts.0) (equal_fragments k.fragment l.fragment parts.1)
 
--- each of the list is found
+-- each lease of the list is found
 pub contains-leases_in : (leases : List Lease) (l : Lease) → AreOneEach leases → Contains leases l → leases_in leases l.stripe l.fragment.value ≡ Some l
 contains-leases_in leases l apart among =
     one-find (is_of l.stripe l.fragment.value) leases l among (is_of-own l) (λ k there is. one_passes leases l.stripe l.fragment.value apart k l there among is (is_of-own l))
@@ -199,7 +199,7 @@ one_each-filter keep leases apart = AllPairs-filter (λ (k m : Lease). k.stripe 
 
 -- ---- what is found after a change of the list
 
--- one more lease, of a fragment that had none
+-- after a lease is added for a fragment that had none
 pub leased_of-append : (leases : List Lease) (l : Lease) (spare : ℕ) → leases_in leases l.stripe l.fragment.value ≡ None → leased_of (leases ++ l ∷ []) (spare - 1) ≡ with_lease (leased_of leases spare) l
 leased_of-append leases l spare none =
     ap (λ (m : LeaseMap). record { leases = m; spare = spare - 1 }) (fun_ext (λ s. fun_ext (λ f. one_more (is_of s f) leases l (λ hit.
@@ -207,7 +207,7 @@ leased_of-append leases l spare none =
     let own : s ≡ l.stripe = equal_stripes s l.stripe (sym parts.0) in
     rw (own, ← parts.1) none))))
 
--- the lease of a fragment taken out
+-- after the lease of a fragment is removed
 pub leased_of-less : (leases : List Lease) (s : StripeNo) (f : Fragment) (spare : ℕ) → leased_of (filter (λ l. not (is_of s f.value l)) leases) spare ≡ without_lease (leased_of leases spare) s f
 leased_of-less leases s f spare = ap (λ (m : LeaseMap). record { leases = m; spare = spare }) (fun_ext (λ r. fun_ext (λ g. less r g)))
   where
@@ -229,7 +229,7 @@ leased_of-less leases s f spare = ap (λ (m : LeaseMap). record { leases = m; sp
           cc))))
     ]
 
--- the leases of a stripe taken out
+-- after the leases of a stripe are removed
 pub leases_in-less_stripe : (leases : List Lease) (s r : StripeNo) (g : ℕ) → leases_in (filter (λ l. not (same_stripe s l.stripe)) leases) r g ≡ (if same_stripe s r then None else leases_in leases r g)
 leases_in-less_stripe leases s r g = elim (cases_eq s.value r.value) [
   | inl same ↦ rw (eq-eqb _ _ same) (find-taken_out (is_of r g) (λ l. not (same_stripe s l.stripe)) leases (λ l hit.
@@ -238,7 +238,7 @@ leases_in-less_stripe leases s r g = elim (cases_eq s.value r.value) [
       not_from_false _ (ne_eqb s.value l.stripe.value (λ e. other (e ∙ (is_of-parts r g l hit).0)))))
 ]
 
--- the leases that a test does not keep taken out
+-- after the leases that fail a test are removed
 pub leases_in-filter : (keep : Lease → Bool) (leases : List Lease) (s : StripeNo) (f : ℕ) → AreOneEach leases → leases_in (filter keep leases) s f ≡ option_filter keep (leases_in leases s f)
 leases_in-filter keep leases s f apart = find-filter (is_of s f) keep leases (one_passes leases s f apart)
 
@@ -253,7 +253,7 @@ option_filter-some keep (Some y) x = elim (cases_Bool (keep y)) [
 pub leases_in-kept : (keep : Lease → Bool) (leases : List Lease) (s : StripeNo) (f : ℕ) (l : Lease) → AreOneEach leases → (leases_in (filter keep leases) s f ≡ Some l) ↔ ((leases_in leases s f ≡ Some l) × IsTrue (keep l))
 leases_in-kept keep leases s f l apart = rw (leases_in-filter keep leases s f apart) (option_filter-some keep (leases_in leases s f) l)
 
--- a fragment without a lease is as it was with its lease taken out
+-- removing the lease of a fragment without one changes nothing
 pub leased-without : (leases : List Lease) (s : StripeNo) (f : Fragment) (spare : ℕ) → leases_in leases s f.value ≡ None → leased_of leases spare ≡ with_spare (without_lease (leased_of leases spare) s f) spare
 leased-without leases s f spare none = ap (λ (m : LeaseMap). record { leases = m; spare = spare }) (fun_ext (λ r. fun_ext (λ g. same r g)))
   where

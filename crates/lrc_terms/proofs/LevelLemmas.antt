@@ -19,7 +19,7 @@ use Rattle.lrc_terms.specs.declared.level.Level.TheVariants.{Whole, AtRisk, Unav
 use Rattle.lrc_terms.specs.Levels.{Homes, homeless_in, missing_in, SomeMissing, NoneMissing, has_some, level_by, level_at, rank_by, rank_at}
 use Rattle.lrc_terms.proofs.CodeListLemmas.{fragment-number_in, few-fragments, fragments-long}
 
--- ---- whether a set has any fragment
+-- ---- whether a set has a fragment
 
 none_counted_at : {X : Type 0} (p : X → Bool) (x : X) (xs : List X) → p x ≡ false → ((i : ℕ) (d : X) → i < length xs → p (get_or xs i d) ≡ false) → (i : ℕ) (d : X) → i < length (x ∷ xs) → p (get_or (x ∷ xs) i d) ≡ false
 none_counted_at p x xs miss rest zero d within = miss
@@ -65,7 +65,7 @@ has_some-from code m (f, within, hit) = true_from_ne_false (has_some code m) (λ
 pub has_some-none : (code : Code) (m : FragmentSet) → NoneMissing code m → has_some code m ≡ false
 has_some-none code m none = false_from_ne_true (has_some code m) (λ some. let (f, within, hit) = has_some-true code m some in let e : true ≡ false = sym hit ∙ none f within in cc)
 
--- with none missing three more may be lost
+-- if no fragment is missing, three more can be lost
 none_losses : (code : Code) (m : FragmentSet) → NoneMissing code m → size_of code m ≡ 0
 none_losses code m none = let z = ltb-false 0 (size_of code m) (has_some-none code m none) in omega (arith, z)
 
@@ -80,7 +80,7 @@ none_margin code m t none margin =
     let same = IsMargin-unique code m t (3 - losses_in code G m) margin three in
     omega (arith, same, zero_size, parts)
 
--- ---- the level of two masks
+-- ---- the level of a homeless and a missing set
 
 zero_bit : (b i : ℕ) → bits_set b i ≡ false → bit_at b i ≡ bit_at 0 i
 zero_bit b i miss = let few = bit_at-lt b i in let apart = eqb-false _ _ miss in rw (bit_at-zero i) (let z : bit_at b i ≡ 0 = omega (arith, few, apart) in z)
@@ -92,7 +92,7 @@ pub has_some-bits : (b : ℕ) → b < 65536 → (b ≡ 0 → ⊥) → has_some W
 has_some-bits b few some =
     true_from_ne_false (has_some Wide (bits_set b)) (λ none. some (same_from_bits_below 16 b 0 few (omega arith) (λ i within. zero_bit b i (has_some-false Wide (bits_set b) none i within))))
 
--- a margin of 3 is that of no loss, and with none it is 3
+-- the margin is 3 only if no fragment is missing, and then it is 3
 pub margin-none : (code : Code) (m : FragmentSet) → margin_of code m ≡ Some 3 → has_some code m ≡ false
 margin-none code m is = false_from_ne_true (has_some code m) (λ some.
     let two = margin-two code m 3 (ltb-true 0 (size_of code m) some) ((by_margin code m 3).0 is) in absurd (omega (arith, two)))
@@ -110,7 +110,7 @@ module _ (code : Code) (homeless missing : FragmentSet) where
   unfolding level_by
   level_by-held margin some held is are = rw (held, is, are) refl
 
-  -- the four levels, each with when it comes
+  -- the four levels, and when each one applies
   abbrev LevelCases : Type 0
   LevelCases =
       ((is_recoverable code homeless ≡ false) × (level_by code homeless missing ≡ Lost))
@@ -175,7 +175,7 @@ module _ (code : Code) (homeless missing : FragmentSet) where
     )
   ]
 
-  -- a stripe that misses some withstands at most two more
+  -- a stripe with a missing fragment survives at most two more losses
   pub law_few : (u : ℕ) → level_by code homeless missing ≡ AtRisk u → u ≤ 2
   law_few u e =
       let at_risk = (law_at_risk u).0 e in
@@ -192,7 +192,7 @@ module _ (code : Code) (homeless missing : FragmentSet) where
     | inr (inr (inr (t, held, margin, none, is))) ↦ (λ e. (held_is held, has_some-false code missing none), λ both. is)
   ]
 
-  -- what a level shows is the rank of the missing fragments, where the homeless ones are among them
+  -- the rank of the level is the rank of the missing fragments, if the homeless fragments are among them
   pub law_rank : ((f : ℕ) → f < fragment_count code → IsTrue (homeless f) → IsTrue (missing f)) → rank_at (level_by code homeless missing) ≡ rank_by code missing
   unfolding rank_by
   law_rank part = elim cases_level [
@@ -204,7 +204,7 @@ module _ (code : Code) (homeless missing : FragmentSet) where
     | inr (inr (inr (t, held, margin, none, is))) ↦ rw (is, margin) (sym (none_margin code missing t (has_some-false code missing none) (margin_is t margin)))
   ]
 
--- a fragment without a home is missing
+-- a homeless fragment is missing
 pub homeless-missing : (code : Code) (online : NodeNo → Bool) (homes : Homes) (f : ℕ) → IsTrue (homeless_in code homes f) → IsTrue (missing_in code online homes f)
 homeless-missing code online homes f bare =
     let parts = and_parts (has_fragment code f) (is_none (homes f)) bare in

@@ -1,4 +1,4 @@
--- What needs a lease, and which stripe is repaired first, in words.
+-- Which fragments need a lease, and which stripe is repaired first, in words.
 use Rattle.std.proofs.Common.{◌≡◌, ℕ, ◌<◌, ◌↔◌, ◌⊎◌, inl, inr, Bool, true, Option, Some, None, IsTrue, refl}
 use Rattle.std.specs.Option.{option_map_or}
 use Rattle.std.proofs.lemmas.Bool.{eq-eqb, eqb-true, lt-ltb, ltb-true, and_parts, and_from, or_cases, or_left, or_right}

@@ -1,4 +1,4 @@
--- A stripe by its number, with one of its fragments, and with its level.
+-- Stripe numbers, and pairs of a stripe with a fragment or a level.
 use Rattle.std.specs.Prelude.{ℕ, ◌%◌, Bool, ◌&&◌, ◌||◌, nat_lt}
 use Rattle.lrc_code.specs.declared.numbers.StripeNo.{StripeNo}
 use Rattle.lrc_code.specs.declared.numbers.Fragment.{Fragment}
@@ -15,7 +15,7 @@ stripe_at k = record { value = k % 4096; in_range = mod_below k 4096 (lit< tt) }
 abbrev pub StripeFragment : Type 0
 StripeFragment = StripeNo × Fragment
 
--- by the stripe's number, and within a stripe by the fragment's
+-- the first pair comes before the second: by stripe number, then by fragment number
 abbrev pub comes_before : StripeFragment → StripeFragment → Bool
 comes_before p q = nat_lt p.0.value q.0.value || (same_stripe p.0 q.0 && nat_lt p.1.value q.1.value)
 

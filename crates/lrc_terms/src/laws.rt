@@ -1,4 +1,4 @@
-//! Laws of the definitions, each the contract of a function that does nothing.
+//! Laws of the definitions in `specs/`. Each law is the contract of a function that does nothing.
 
 ghost use Rattle.std.specs.Prelude.{◌≡◌, ℕ, ◌-◌, ◌↔◌, Bool, not, if◌then◌else◌, List, [], ◌∷◌, ◌++◌, filter, Some, None, IsTrue, Contains, ◌<◌, ◌≤◌};
 ghost use Rattle.lrc_code.specs.declared.numbers.StripeNo.{StripeNo};
@@ -13,16 +13,16 @@ ghost use Rattle.lrc_code.specs.Losses.{FragmentSet, IsRecoverable, IsMargin};
 ghost use Rattle.lrc_terms.specs.declared.level.Level.TheVariants.{Whole, AtRisk, Unavailable, Lost};
 ghost use Rattle.lrc_terms.specs.Levels.{Homes, homeless_in, missing_in, SomeMissing, NoneMissing, level_by, rank_by, rank_at};
 
-/// A lease that is found in a list is one of the list, of that fragment. Where the list has at most one for each
-/// fragment, each of its leases is found.
+/// The lease that is found for a fragment is one in the list. If the list has at most one lease per fragment, each of
+/// its leases is found.
 pub fn leases_are_found_by_their_fragment()
     ensures own { (leases : List Lease) (s : StripeNo) (f : ℕ) (l : Lease)
         → leases_in leases s f ≡ Some l → Contains leases l × (l.stripe ≡ s) × (l.fragment.value ≡ f) }
     ensures each { (leases : List Lease) (l : Lease) → AreOneEach leases → Contains leases l ↔ (leases_in leases l.stripe l.fragment.value ≡ Some l) }
 {}
 
-/// What one lease more at the end of a list changes, and what leases taken out of it change. At most one lease for
-/// each fragment stays so.
+/// What adding a lease to the end of a list changes, and what removing leases changes. A list keeps at most one lease
+/// per fragment.
 pub fn lists_change_as_leases_do()
     ensures added { (leases : List Lease) (l : Lease) (spare : ℕ)
         → leases_in leases l.stripe l.fragment.value ≡ None → leased_of (leases ++ l ∷ []) (spare - 1) ≡ with_lease (leased_of leases spare) l }
@@ -36,9 +36,9 @@ pub fn lists_change_as_leases_do()
     ensures fewer { (keep : Lease → Bool) (leases : List Lease) → AreOneEach leases → AreOneEach (filter keep leases) }
 {}
 
-/// A stripe is lost exactly where its homeless fragments are not recoverable. Else it is unavailable exactly where
-/// its missing ones are not; else at risk exactly where some are missing, with their margin, which is at most 2;
-/// else whole.
+/// A stripe is Lost exactly if its homeless fragments are not recoverable. Otherwise it is Unavailable exactly if its
+/// missing fragments are not recoverable; otherwise AtRisk, with its margin of at most 2, exactly if a fragment is
+/// missing; otherwise Whole.
 pub fn levels_in_words()
     ensures lost { (code : Code) (homeless missing : FragmentSet) → (level_by code homeless missing ≡ Lost) ↔ (¬ IsRecoverable code homeless) }
     ensures unavailable { (code : Code) (homeless missing : FragmentSet) → (level_by code homeless missing ≡ Unavailable) ↔ (IsRecoverable code homeless × (¬ IsRecoverable code missing)) }
@@ -47,7 +47,7 @@ pub fn levels_in_words()
     ensures whole { (code : Code) (homeless missing : FragmentSet) → (level_by code homeless missing ≡ Whole) ↔ (IsRecoverable code homeless × NoneMissing code missing) }
 {}
 
-/// The rank that a stripe's level shows is that of its missing fragments.
+/// The rank of a stripe's level is the rank of its missing fragments.
 pub fn levels_show_ranks()
     ensures sets { (code : Code) (homeless missing : FragmentSet) → ((f : ℕ) → f < fragment_count code → IsTrue (homeless f) → IsTrue (missing f)) → rank_at (level_by code homeless missing) ≡ rank_by code missing }
     ensures homes { (code : Code) (online : NodeNo → Bool) (homes : Homes) → rank_at (level_by code (homeless_in code homes) (missing_in code online homes)) ≡ rank_by code (missing_in code online homes) }

@@ -6,16 +6,17 @@ ghost use Rattle.lrc_terms.specs.Levels.{is_whole};
 pub enum Level {
     /// No fragment is missing.
     Whole,
-    /// Some fragments are missing, and the stripe withstands this many further losses, 0 to 2, whichever they are.
+    /// Some fragments are missing, and the stripe survives this many further losses, 0 to 2, whichever fragments are
+    /// lost.
     AtRisk(u8),
-    /// The missing fragments are not recoverable, but those without a home are.
+    /// The missing fragments are not recoverable, but the homeless ones are.
     Unavailable,
-    /// The fragments without a home are not recoverable.
+    /// The homeless fragments are not recoverable.
     Lost,
 }
 
 impl Level {
-    /// Whether no fragment is missing.
+    /// Reports whether no fragment is missing.
     pub fn is_whole(self) -> bool
         ensures { result ≡ is_whole self }
     {

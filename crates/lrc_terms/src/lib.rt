@@ -1,4 +1,4 @@
-//! Terms that the rules and the tables share: how far a stripe is from loss, and the lease of a fragment.
+//! Terms that the rules and the tables share: the level of a stripe, and the lease of a fragment.
 #![tactic(auto)]
 
 pub mod laws;

@@ -1,18 +1,18 @@
--- Entries of `node`, as the laws name them.
+-- Entries of `node`, as the laws use them.
 use Rattle.std.specs.Prelude.{ℕ, ℤ, pos, codes, List, [], ◌∷◌}
 use Rattle.toml.specs.Data.{Data, integer, table, Members, no_members, member}
 use Rattle.lrc_topology.specs.declared.NodeInfo.{NodeInfo}
 
--- a table with something at each of the four keys
+-- a table with a value at each of the four keys
 abbrev pub entry_with : Data → Data → Data → Data → Data
 entry_with number fault upgrade slots =
     table (member (codes "fault") fault (member (codes "number") number (member (codes "slots") slots (member (codes "upgrade") upgrade no_members))))
 
--- a table with a whole number at each of them
+-- a table with a whole number at each of the four keys
 abbrev pub entry : ℤ → ℤ → ℤ → ℤ → Data
 entry number fault upgrade slots = entry_with (integer number) (integer fault) (integer upgrade) (integer slots)
 
--- a table with something at other keys too
+-- a table with values at other keys too
 abbrev pub entry_beside : Data → ℤ → ℤ → ℤ → ℤ → Data
 entry_beside other number fault upgrade slots =
     table (member (codes "Number") other (member (codes "fault") (integer fault) (member (codes "number") (integer number)
@@ -22,7 +22,7 @@ entry_beside other number fault upgrade slots =
 abbrev pub entry_of : NodeInfo → Data
 entry_of n = entry (pos n.number.value) (pos n.fault.value) (pos n.upgrade.value) (pos n.slots)
 
--- the entry of some node of this number
+-- the entry of some node with this number
 abbrev pub numbered : ℕ → Data
 numbered number = entry (pos number) (pos 0) (pos 0) (pos 1)
 
