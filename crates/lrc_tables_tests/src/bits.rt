@@ -1,11 +1,11 @@
-//! Sets beside lists of truth values that hold the same numbers.
+//! Tests of sets against lists of truth values.
 
 ghost use Rattle.std.specs.Prelude.{◌≡◌, length};
 
 use lrc_bits::{BitSet, Members};
 use std::process::Abort;
 
-/// The first place that a plain search finds marked so.
+/// Returns the first position with this mark, by a plain search.
 fn first_marked(plain: &[bool; 128], wanted: bool) -> Option<usize> {
     for place in 0..128usize {
         if plain[place] == wanted {
@@ -15,8 +15,8 @@ fn first_marked(plain: &[bool; 128], wanted: bool) -> Option<usize> {
     None
 }
 
-/// Whether a set holds the numbers that a list marks, and finds the first present and absent ones where a plain
-/// search does.
+/// Reports whether a set has the numbers that a list marks, and finds the same first present and first absent number
+/// as a plain search.
 fn agree(set: &BitSet<2>, plain: &[bool; 128]) -> bool
     requires { length set.now ≡ 128 }
 {
@@ -31,7 +31,7 @@ fn agree(set: &BitSet<2>, plain: &[bool; 128]) -> bool
     same
 }
 
-/// The first number of a set from this one on.
+/// Expects this first number of a set from `from` on.
 fn expect_first<const W: usize>(
     rt: &impl Abort,
     set: &BitSet<W>,
@@ -41,17 +41,17 @@ fn expect_first<const W: usize>(
     assert!(rt; set.first_from(from) == want, "from {from}");
 }
 
-/// The first number of a set from this one on, in the same word.
+/// Expects this first number of a set from `from` on, in the same word.
 fn expect_near<const W: usize>(rt: &impl Abort, set: &BitSet<W>, from: usize, want: Option<usize>) {
     assert!(rt; set.first_near(from) == want, "from {from}");
 }
 
-/// The number that is taken out next.
+/// Expects that this number is removed next.
 fn expect_popped<const W: usize>(rt: &impl Abort, set: &mut BitSet<W>, want: Option<usize>) {
     assert!(rt; set.pop_first() == want);
 }
 
-/// The number that a walk gives next.
+/// Expects that an iterator returns this number next.
 fn expect_member(rt: &impl Abort, left: &mut Members, want: Option<usize>) {
     assert!(rt; left.next_member() == want);
 }

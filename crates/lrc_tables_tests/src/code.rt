@@ -62,7 +62,7 @@ fn fragments_share_their_group(rt: &impl Abort) {
     expect_shared(rt, 14, false);
 }
 
-/// Whether a fragment is of the group of fragment 0.
+/// If the end is a digit, it is read as a digit of the number.
 fn expect_shared(rt: &impl Abort, number: u8, want: bool) {
     let first = fragment_numbered(rt, 0);
     let other = fragment_numbered(rt, number);
@@ -117,7 +117,7 @@ fn losses_by_class_and_margins(rt: &impl Abort) {
     expect_losses(rt, 0xffff, [7, 7, 2], None);
 }
 
-/// The losses in the two groups and of the global parities, and how many more can be borne.
+/// Expects these losses in the two groups and of the global parities, and this margin.
 fn expect_losses(rt: &impl Abort, bits: u16, [a, b, g]: [u8; 3], margin: Option<u8>) {
     let mask = LossMask::from_bits(bits);
     assert!(rt; mask.class_losses(Class::A) == a, "A of {bits:04x}");

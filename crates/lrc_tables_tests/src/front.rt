@@ -1,7 +1,7 @@
 use lrc_front::{behind, number_behind, number_in_front};
 use std::process::Abort;
 
-/// What stands behind a word in front of a text.
+/// Expects this rest of a text after a word.
 fn expect_behind(rt: &impl Abort, text: &[u8], word: &[u8], want: Option<&[u8]>) {
     assert!(rt; behind(text, word) == want, "{text:?}");
 }
@@ -17,7 +17,7 @@ fn a_word_stands_in_front_or_not(rt: &impl Abort) {
 
 type Found<'a> = Option<(u64, &'a [u8])>;
 
-/// The number of at most so many digits below a bound that stands in front of an end, and what is behind it.
+/// Expects this number of at most `most` digits below a bound before `end`, and this rest after it.
 fn expect_number(rt: &impl Abort, text: &[u8], most: usize, bound: u64, end: u8, want: Found) {
     assert!(rt; most <= 10 && most < text.len());
     assert!(rt; number_in_front(text, most, bound, end) == want, "{text:?}");
@@ -62,13 +62,13 @@ fn only_zero_begins_with_a_zero(rt: &impl Abort) {
     expect_number(rt, b"007\nnext", 4, 4096, b'\n', None);
 }
 
-// Where the end is a digit, the walk takes it for one of the number's.
+// If the end is a digit, it is read as a digit of the number.
 fn an_end_that_is_a_digit_stands_behind_all_digits_alone(rt: &impl Abort) {
     expect_number(rt, b"1230", 3, 4096, b'0', Some((123, b"".as_slice())));
     expect_number(rt, b"120 ", 3, 4096, b'0', None);
 }
 
-/// The same of a number behind `place ` in front of a text.
+/// Expects the same for a number after `place `.
 fn expect_place(rt: &impl Abort, text: &[u8], most: usize, bound: u64, end: u8, want: Found) {
     assert!(rt; most <= 10 && text.len() >= 7);
     assert!(rt; most < text.len() - 6);

@@ -11,7 +11,7 @@ fn fragment_numbered(rt: &impl Abort, number: u8) -> Fragment {
     Fragment::new(number).expect(rt, "a fragment")
 }
 
-/// A lease of this fragment of stripe 1, with this slot of this node for its target. It ends at clock 3.
+/// A lease of this fragment of stripe 1, with this slot of this node as its target. It ends at clock 3.
 fn lease(rt: &impl Abort, fragment: u8, node: u16, slot: u16) -> Lease {
     Lease {
         stripe: stripe_numbered(rt, 1),
@@ -26,7 +26,7 @@ fn lease(rt: &impl Abort, fragment: u8, node: u16, slot: u16) -> Lease {
     }
 }
 
-/// A lease of this fragment that ends at a clock.
+/// A lease of this fragment that ends at this clock.
 fn lease_until(rt: &impl Abort, fragment: u8, clock: u32) -> Lease {
     Lease {
         expiry: clock,
@@ -44,13 +44,13 @@ fn add(rt: &impl Abort, leases: &mut Leases, lease: Lease) {
     leases.add(lease);
 }
 
-/// Takes a lease out, which is this one if there is any.
+/// Removes the lease of a fragment, and expects this one exactly if `is_there`.
 fn expect_removed(rt: &impl Abort, leases: &mut Leases, lease: Lease, is_there: bool) {
     let want = if is_there { Some(lease) } else { None };
     assert!(rt; leases.remove(lease.stripe, lease.fragment) == want);
 }
 
-/// The lease of a fragment is this one.
+/// Expects this lease for its fragment.
 fn expect_lease(rt: &impl Abort, leases: &Leases, lease: Lease) {
     assert!(rt; leases.lease(lease.stripe, lease.fragment) == Some(lease));
 }
@@ -104,7 +104,7 @@ fn targets_on_a_node_are_given_each_once(rt: &(impl AllocGlobal + Abort)) {
     expect_targets(rt, &leases, &[(9, 1)]);
 }
 
-/// The leases with targets on node 17 are so many, and each has a fragment and a slot of these.
+/// Expects exactly these leases with targets on node 17, by fragment and slot.
 fn expect_targets(rt: &impl Abort, leases: &Leases, wanted: &[(u8, u16)]) {
     for want in wanted {
         assert!(rt; is_target(leases, *want), "fragment {}", want.0);
@@ -172,7 +172,7 @@ fn a_lease_that_is_added_again_ends_at_its_new_end(rt: &(impl AllocGlobal + Abor
     expect_ending(rt, &leases, 6, &[0, 9]);
 }
 
-/// The leases that end at a clock are so many, and each is of one of these fragments.
+/// Expects that exactly the leases of these fragments end at this clock.
 fn expect_ending(rt: &impl Abort, leases: &Leases, clock: u32, wanted: &[u8]) {
     for fragment in wanted {
         assert!(rt;

@@ -1,4 +1,4 @@
-//! The tests of the crates below the book: numbers, losses, texts, nodes, sets, slots, stripes and leases.
+//! Tests of the crates below the book: numbers, losses, texts, nodes, sets, slots, stripes and leases.
 #![tactic(auto)]
 
 #[cfg(test)]

@@ -1,4 +1,4 @@
-//! A table of three nodes and its answers.
+//! Tests of a slot table with three nodes.
 
 mod bars;
 mod beside;
@@ -11,8 +11,8 @@ use lrc_slots::{SlotTable, Taken};
 use lrc_topology::NodeInfo;
 use std::process::Abort;
 
-/// Node 7 has two slots and is in fault domain 1 and upgrade domain 5, node 3 has one slot and is in 2 and 6, and
-/// node 5 has two slots and is in 1 and 6.
+/// Node 7 has two slots and is in fault domain 1 and upgrade domain 5. Node 3 has one slot and is in 2 and 6. Node 5
+/// has two slots and is in 1 and 6.
 const THREE: &str = "[[node]]\nnumber = 7\nfault = 1\nupgrade = 5\nslots = 2\n\
     [[node]]\nnumber = 3\nfault = 2\nupgrade = 6\nslots = 1\n\
     [[node]]\nnumber = 5\nfault = 1\nupgrade = 6\nslots = 2\n";
@@ -22,7 +22,7 @@ fn three(rt: &(impl AllocGlobal + Abort)) -> SlotTable {
     SlotTable::new(rt.alloc(), &topology).expect(rt, "memory")
 }
 
-/// Takes the slot that comes next where nothing is barred.
+/// Takes the next slot if no domain is barred.
 fn take_next(table: &mut SlotTable) -> Option<(u16, u16)> {
     let node = table.choose(&Taken::new())?;
     let slot = table.take(node)?;
@@ -33,7 +33,7 @@ fn expect_next(rt: &impl Abort, table: &mut SlotTable, want: Option<(u16, u16)>)
     assert!(rt; take_next(table) == want);
 }
 
-/// The node that is chosen beside these bars.
+/// Expects this choice with these barred domains.
 fn expect_choice(rt: &impl Abort, table: &SlotTable, bars: &Taken, want: Option<u16>) {
     let want = match want {
         Some(number) => Some(NodeNo { value: number }),
@@ -96,7 +96,7 @@ fn the_domains_of_a_node_are_barred_by_its_number(rt: &(impl AllocGlobal + Abort
     expect_choice(rt, &table, &bars, None);
 }
 
-/// Bars the fault domain of a node, and its upgrade domain where both are to be barred.
+/// Bars the fault domain of a node, and with `both` its upgrade domain too.
 fn bar(rt: &impl Abort, table: &SlotTable, bars: &mut Taken, number: u16, both: bool) {
     let node = NodeNo { value: number };
     assert!(rt; table.node(node).is_some());
@@ -118,14 +118,14 @@ fn the_least_free_slot_is_taken_again(rt: &(impl AllocGlobal + Abort)) {
     expect_slot(rt, &mut table, Some(0));
 }
 
-/// The slot of node 7 that is taken next.
+/// Takes a slot of node 7 and expects this one.
 fn expect_slot(rt: &impl Abort, table: &mut SlotTable, want: Option<u16>) {
     let node = NodeNo { value: 7 };
     assert!(rt; table.node(node).is_some());
     assert!(rt; table.take(node) == want);
 }
 
-/// The load of node 7, and its least free slot.
+/// Expects this load of node 7, and this lowest free slot.
 fn expect_load(rt: &impl Abort, table: &SlotTable, load: u32, free: Option<u16>) {
     let node = NodeNo { value: 7 };
     assert!(rt; table.node(node).is_some());

@@ -3,22 +3,22 @@
 use lrc_topology::Topology;
 use std::process::Abort;
 
-/// The nodes of a store, numbered from 0 on where it says nothing else.
+/// The nodes of a store, numbered from 0 unless it says otherwise.
 #[derive(Clone, Copy)]
 pub(crate) enum Plan {
-    /// One slot each, in one domain.
+    /// One slot each, all in one domain.
     Least,
-    /// Four slots each, in a fault domain each and ten upgrade domains in turn.
+    /// Four slots each, every node in its own fault domain, over ten upgrade domains in turn.
     Apart,
-    /// Four slots each, in one fault domain and ten upgrade domains in turn.
+    /// Four slots each, all in one fault domain, over ten upgrade domains in turn.
     InUpgrades,
-    /// 256 slots each; from the 512th on in another fault domain.
+    /// 256 slots each; from the 512th node on in another fault domain.
     Largest,
-    /// One to four slots, in 30 fault domains and ten upgrade domains, and not in the order of their numbers.
+    /// One to four slots, over 30 fault domains and ten upgrade domains, not in the order of their numbers.
     Mixed,
 }
 
-/// The number, the fault domain, the upgrade domain and the slots of a node.
+/// Returns the number, the fault domain, the upgrade domain and the slots of a node.
 fn entry(plan: Plan, place: u32) -> [u32; 4] {
     match plan {
         Plan::Least => [place, 0, 0, 1],
@@ -34,7 +34,7 @@ fn entry(plan: Plan, place: u32) -> [u32; 4] {
     }
 }
 
-/// A number for each place: no two below 1,009 are the same.
+/// Returns a number for each position below 1,009, no two the same.
 pub(crate) fn mixed_number(place: u32) -> u16 {
     (place % 1009 * 37 % 1009) as u16
 }
@@ -47,7 +47,7 @@ fn push_entry(rt: &impl Abort, text: &mut String, [number, fault, upgrade, slots
     .expect(rt, "memory");
 }
 
-/// The text of so many nodes.
+/// Returns the text of `count` nodes.
 pub(crate) fn text(rt: &(impl AllocGlobal + Abort), plan: Plan, count: u32) -> String {
     let mut text = String::new(rt.alloc());
     for place in 0..count {
@@ -56,7 +56,7 @@ pub(crate) fn text(rt: &(impl AllocGlobal + Abort), plan: Plan, count: u32) -> S
     text
 }
 
-/// The text of an entry of each number, the least that an entry can be.
+/// Returns the text of one entry for each number, as short as an entry can be.
 pub(crate) fn numbered(rt: &(impl AllocGlobal + Abort), numbers: &[u32]) -> String {
     let mut text = String::new(rt.alloc());
     for number in numbers {
@@ -69,7 +69,7 @@ pub(crate) fn read(rt: &(impl AllocGlobal + Abort), text: &str) -> Topology {
     Topology::read(rt.alloc(), text.as_bytes()).expect(rt, "a topology")
 }
 
-/// So many nodes.
+/// Returns `count` nodes.
 pub(crate) fn nodes(rt: &(impl AllocGlobal + Abort), plan: Plan, count: u32) -> Topology {
     let text = text(rt, plan, count);
     read(rt, &text)

@@ -14,7 +14,7 @@ use lrc_code::{Code, Fragment, LossMask, NodeNo, StripeNo, UpgradeNo};
 use lrc_stripes::{Level, Seat, Stripes};
 use std::process::Abort;
 
-/// No stripe yet over so many nodes, and room for so many.
+/// No stripe over `count` nodes, with memory for `room` stripes.
 fn no_stripe(rt: &(impl AllocGlobal + Abort), count: u32, room: u32) -> Stripes {
     let topology = nodes(rt, Plan::InUpgrades, count);
     let mut stripes = Stripes::new(rt.alloc(), &topology).expect(rt, "memory");
@@ -82,7 +82,7 @@ fn clear_home(rt: &impl Abort, stripes: &mut Stripes, stripe: StripeNo, fragment
     stripes.clear_home(stripe, fragment);
 }
 
-/// Whether the code of a stripe that is there has the fragment.
+/// Reports whether the code of a stripe of the store has the fragment.
 fn has_fragment(stripes: &Stripes, stripe: StripeNo, fragment: Fragment) -> bool
     ensures { IsTrue result → IsTrue (has_fragment ((stored_in stripes.now).code stripe) fragment.value) }
 {
@@ -92,7 +92,7 @@ fn has_fragment(stripes: &Stripes, stripe: StripeNo, fragment: Fragment) -> bool
     }
 }
 
-/// Whether all of these are slots of nodes.
+/// Reports whether all of these are slots of nodes.
 fn are_slots(stripes: &Stripes, seats: &[Seat]) -> bool
     ensures { IsTrue result → All (λ seat. IsTrue (has_slot (stored_in stripes.now).nodes seat)) seats.now }
 {
@@ -104,7 +104,7 @@ fn are_slots(stripes: &Stripes, seats: &[Seat]) -> bool
     true
 }
 
-/// Seats in a slot of the nodes from this one on.
+/// Returns one seat on each of the nodes from this one on, in the same slot.
 fn seats_from(number: u16, slot: u16) -> [Seat; 16] {
     let mut seats = [seat(0, slot); 16];
     for place in 0..16usize {
@@ -190,8 +190,8 @@ fn an_upgrade_loses_what_offline_nodes_hold_together(rt: &(impl AllocGlobal + Ab
     lose_to_upgrades(rt, &mut stripes, first, second)
 }
 
-/// Nodes 1, 2 and 3 hold three fragments of one group. Without them a stripe bears one loss in the other group and none in
-/// this one, of which each of the domains 0, 2, 4 and 5 holds a fourth.
+/// Nodes 1, 2 and 3 hold three fragments of one group. Without them a stripe survives one loss in the other group and
+/// none in this one. Each of the domains 0, 2, 4 and 5 has the node of a fourth fragment of this group.
 fn lose_to_upgrades(rt: &impl Abort, stripes: &mut Stripes, first: StripeNo, second: StripeNo) {
     let fifth = fragment_numbered(rt, 5);
     for domain in 0..10 {
@@ -213,7 +213,7 @@ fn lose_to_upgrades(rt: &impl Abort, stripes: &mut Stripes, first: StripeNo, sec
     expect_loss(rt, stripes, 0, None);
 }
 
-/// The stripe that the upgrade of a domain would lose.
+/// Expects this stripe as the one that the upgrade of a domain would make unrecoverable.
 fn expect_loss(rt: &impl Abort, stripes: &Stripes, domain: u8, want: Option<StripeNo>) {
     assert!(rt;
         stripes.would_lose(UpgradeNo { value: domain }) == want,
@@ -226,8 +226,8 @@ fn expect_short_loss(rt: &impl Abort, stripes: &Stripes, domain: u8, want: Strip
     assert!(rt; lost == Some(want), "domain {domain}");
 }
 
-/// Each stripe has fragment f on node f. The first misses none, the next two miss one and bear any two more, the last misses
-/// three of one group and bears none.
+/// Each stripe has fragment f on node f. The first misses none, the next two miss one and survive any two more, the
+/// last misses three of one group and survives none.
 fn work_and_risk_go_by_rank_and_then_by_number(rt: &(impl AllocGlobal + Abort)) {
     let mut stripes = no_stripe(rt, 20, 4);
     let named = [
@@ -246,7 +246,7 @@ fn work_and_risk_go_by_rank_and_then_by_number(rt: &(impl AllocGlobal + Abort)) 
     drain_and_lose(rt, &mut stripes, named);
 }
 
-/// A stripe misses these fragments, and is at this level.
+/// Expects these missing fragments of a stripe, and this level.
 fn assert_missing(rt: &impl Abort, stripes: &Stripes, stripe: StripeNo, bits: u16, level: Level) {
     assert!(rt;
         stripes.missing(stripe) == Some(LossMask::from_bits(bits)),
@@ -255,7 +255,7 @@ fn assert_missing(rt: &impl Abort, stripes: &Stripes, stripe: StripeNo, bits: u1
     assert!(rt; stripes.level(stripe) == Some(level), "{bits:04x}");
 }
 
-/// These fragments of a stripe need a lease.
+/// Expects that these fragments of a stripe need a lease.
 fn assert_needs(rt: &impl Abort, stripes: &Stripes, stripe: StripeNo, bits: u16) {
     assert!(rt;
         stripes.needs(stripe) == Some(LossMask::from_bits(bits)),
@@ -270,8 +270,9 @@ fn clear_homes(rt: &impl Abort, stripes: &mut Stripes, stripe: StripeNo, fragmen
     }
 }
 
-/// Each stripe has a fragment on node 15, which drains, and one on node 4, which goes offline: then the first misses one, the
-/// next two miss two and bear any one more, and what the last misses is not recoverable.
+/// Each stripe has a fragment on node 15, which drains, and one on node 4, which goes offline. Then the first stripe
+/// misses one, the next two miss two and survive any one more, and the missing fragments of the last are not
+/// recoverable.
 fn drain_and_lose(
     rt: &impl Abort,
     stripes: &mut Stripes,
@@ -322,7 +323,8 @@ fn assert_at_risk(rt: &impl Abort, stripes: &Stripes, expected: &[(StripeNo, Lev
     assert!(rt; at_risk.next().is_none());
 }
 
-/// Fragment f is on node f. Offline nodes have no part in it, and a fragment without a home needs one wherever it was.
+/// Fragment f is on node f. Offline nodes do not matter, and a fragment without a home needs a lease wherever its
+/// home was.
 fn homeless_and_draining_fragments_need_a_lease(rt: &(impl AllocGlobal + Abort)) {
     let stripe = stripe_numbered(rt, 6);
     let other = stripe_numbered(rt, 7);

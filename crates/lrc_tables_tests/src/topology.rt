@@ -1,4 +1,4 @@
-//! Texts and their answers.
+//! Tests of reading topologies.
 
 mod edits;
 mod nodes;
@@ -10,7 +10,7 @@ use std::process::Abort;
 
 type Answer = Result<usize, TopologyError>;
 
-/// What `read` answers: the number of nodes, or the error.
+/// Returns what `read` returns: the number of nodes, or the error.
 fn answer(alloc: Global, text: &[u8]) -> Answer {
     match Topology::read(alloc, text) {
         Ok(topology) => Ok(topology.len()),
@@ -18,19 +18,19 @@ fn answer(alloc: Global, text: &[u8]) -> Answer {
     }
 }
 
-/// A text has this answer.
+/// Expects this result for a text.
 fn expect(rt: &(impl AllocGlobal + Abort), text: &str, want: Answer) {
     assert_eq!(rt; answer(rt.alloc(), text.as_bytes()), want, "{text}");
 }
 
-/// Each of these texts has this answer.
+/// Expects this result for each of these texts.
 fn expect_each(rt: &(impl AllocGlobal + Abort), texts: &[&str], want: Answer) {
     for text in texts {
         expect(rt, text, want);
     }
 }
 
-/// An entry of these values, as they are written, has this answer by itself.
+/// Expects this result for one entry with these values, as they are written.
 fn expect_entry(
     rt: &(impl AllocGlobal + Abort),
     [number, fault, upgrade, slots]: [&str; 4],

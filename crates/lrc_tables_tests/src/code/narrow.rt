@@ -1,4 +1,4 @@
-//! The code of ten fragments: its classes, and what of its losses can be borne.
+//! Tests of the code with ten fragments: its classes, and which losses are recoverable.
 
 use crate::code::fragment_numbered;
 use lrc_code::{Class, Code, Fragment, LossMask};
@@ -50,7 +50,7 @@ fn expect_class_mask(rt: &impl Abort, class: Class, narrow: u16, wide: u16) {
     );
 }
 
-/// Whether a mask is one of ten fragments; each is one of sixteen.
+/// Expects whether a mask fits the code of ten fragments. Each mask fits the code of sixteen.
 fn expect_fit(rt: &impl Abort, bits: u16, want: bool) {
     assert!(rt;
         LossMask::from_bits(bits).fits(Code::Narrow) == want,
@@ -59,7 +59,7 @@ fn expect_fit(rt: &impl Abort, bits: u16, want: bool) {
     assert!(rt; LossMask::from_bits(bits).fits(Code::Wide), "{bits:04x}");
 }
 
-/// Of the sets of four, 180 of 210 are repaired.
+/// Of the 210 sets of four, 180 are recoverable.
 fn three_losses_are_always_repaired_and_five_never(rt: &impl Abort) {
     let mut recoverable = [0u32; 11];
     for bits in 0..1024u16 {
@@ -87,7 +87,7 @@ fn losses_by_class_and_margins(rt: &impl Abort) {
     expect_losses(rt, 0x03ff, [4, 4, 2], None);
 }
 
-/// The losses in the two groups and of the global parities, and how many more can be borne.
+/// Expects these losses in the two groups and of the global parities, and this margin.
 fn expect_losses(rt: &impl Abort, bits: u16, [a, b, g]: [u8; 3], margin: Option<u8>) {
     let mask = LossMask::from_bits(bits);
     let code = Code::Narrow;
@@ -124,7 +124,7 @@ fn sources_are_the_three_others_of_the_group(rt: &impl Abort) {
     }
 }
 
-/// A fragment of this group has the others as its sources, where none of them is lost.
+/// Expects the other members of the group as the sources of a fragment, if none of them is lost.
 fn expect_sources(rt: &impl Abort, group: &[u8; 4], place: usize) {
     if place >= 4 {
         return;

@@ -1,4 +1,4 @@
-//! The same barred domains, told in three ways.
+//! The same barred domains in three forms.
 
 use lrc_code::{FaultNo, UpgradeNo};
 use lrc_slots::{BarredNodes, SlotTable, Taken};

@@ -1,4 +1,4 @@
-//! Runs of calls of a table beside those of one that is searched from end to end.
+//! Runs of calls on a slot table and on a plain table that must agree after each call.
 
 ghost use Rattle.std.specs.Prelude.{◌≡◌, ◌≤◌};
 ghost use Rattle.lrc_slots.specs.Tables.{slots_of};
@@ -11,14 +11,14 @@ use lrc_slots::{OpenNode, SlotTable};
 use lrc_topology::Topology;
 use std::process::Abort;
 
-/// The number of the node at a place.
+/// Returns the number of the node at a position.
 fn number_at(place: u32) -> NodeNo {
     NodeNo {
         value: mixed_number(place),
     }
 }
 
-/// What comes after a number in a fixed order in which those below 65,537 all come up.
+/// Returns the next number of a fixed sequence that goes through all numbers below 65,537.
 fn after(state: u32) -> u32 {
     (state % 65537 * 75 + 74) % 65537
 }
@@ -49,7 +49,7 @@ fn bars_of(table: &SlotTable, state: u32) -> Bars {
     bars
 }
 
-/// Whether both choose the same node and slot, and know alike whether any node takes a seat.
+/// Reports whether both choose the same node and slot, and agree on whether any node gets a seat.
 fn choose_alike(table: &SlotTable, plain: &PlainTable, bars: &Bars) -> bool {
     let chosen = plain.choose(&bars.faults, &bars.upgrades);
     let open = plain.open(chosen);
@@ -60,7 +60,7 @@ fn choose_alike(table: &SlotTable, plain: &PlainTable, bars: &Bars) -> bool {
         && table.has_open_node() == plain.has_open_node()
 }
 
-/// The node outside the two sets of barred nodes, and its least free slot.
+/// Returns the node outside the two sets of barred nodes, and its lowest free slot.
 fn open_outside(table: &SlotTable, bars: &Bars) -> Option<OpenNode> {
     let row = table.row_outside(&bars.fault_nodes, &bars.upgrade_nodes)?;
     Some(OpenNode {
@@ -69,7 +69,7 @@ fn open_outside(table: &SlotTable, bars: &Bars) -> Option<OpenNode> {
     })
 }
 
-/// Whether both tell the same load and least free slot of a node.
+/// Reports whether both return the same load and lowest free slot of a node.
 fn tell_alike(topology: &Topology, table: &SlotTable, plain: &PlainTable, node: NodeNo) -> bool
     requires { (slots_of table.now).nodes ≡ topology.now }
 {
@@ -98,7 +98,7 @@ fn take(table: &mut SlotTable, plain: &mut PlainTable, bars: &Bars)
     }
 }
 
-/// Gives a slot of a node back, if it is taken.
+/// Frees a slot of a node, if it is taken.
 fn free(table: &mut SlotTable, plain: &mut PlainTable, node: NodeNo, slot: u16)
     ensures { (slots_of table.new).nodes ≡ (slots_of table.old).nodes }
 {
@@ -110,7 +110,7 @@ fn free(table: &mut SlotTable, plain: &mut PlainTable, node: NodeNo, slot: u16)
     }
 }
 
-/// Sets whether a node may be chosen.
+/// Sets whether a node is eligible.
 fn set_eligible(
     topology: &Topology,
     table: &mut SlotTable,
@@ -129,7 +129,8 @@ fn set_eligible(
     }
 }
 
-/// Makes one call of each; five of eight take a slot, two free one, and one sets whether a node is eligible.
+/// Makes one call of each table. Five of eight calls take a slot, two free one, and one sets whether a node is
+/// eligible.
 fn call(
     topology: &Topology,
     table: &mut SlotTable,
@@ -151,7 +152,7 @@ fn call(
     }
 }
 
-/// Makes 2,000 calls of each, and answers after how many of them both told the same.
+/// Makes 2,000 calls of each table, and returns after how many of them both agreed.
 fn calls_alike(
     topology: &Topology,
     table: &mut SlotTable,
@@ -175,7 +176,7 @@ fn calls_alike(
     alike
 }
 
-/// Each call tells the same over the first so many mixed nodes.
+/// Expects that both agree after each call, over the first `count` mixed nodes.
 fn expect_alike(rt: &(impl AllocGlobal + Abort), count: u32) {
     let topology = nodes(rt, Plan::Mixed, count);
     let mut table = SlotTable::new(rt.alloc(), &topology).expect(rt, "memory");

@@ -1,4 +1,4 @@
-//! A table without indexes, which is searched from end to end.
+//! A plain slot table without indexes, which searches all nodes for each question.
 
 use crate::slots::plain_node::PlainNode;
 use lrc_code::NodeNo;
@@ -33,7 +33,7 @@ impl PlainTable {
         self.nodes.iter_mut().find(|node| node.number() == number)
     }
 
-    /// A node and its least free slot.
+    /// Returns a node and its lowest free slot.
     pub(crate) fn open(&self, number: Option<NodeNo>) -> Option<OpenNode> {
         let node = self.node(number?)?;
         let slot = node.first_free()?;
@@ -43,7 +43,7 @@ impl PlainTable {
         })
     }
 
-    /// Whether some node takes a seat.
+    /// Reports whether some node gets a seat.
     pub(crate) fn has_open_node(&self) -> bool {
         for node in self.nodes.iter() {
             if node.is_open() {
@@ -53,7 +53,7 @@ impl PlainTable {
         false
     }
 
-    /// The node that is chosen where these domains are barred.
+    /// Returns the node that is chosen if these domains are barred.
     pub(crate) fn choose(&self, faults: &[bool; 256], upgrades: &[bool; 256]) -> Option<NodeNo> {
         let mut best: Option<&PlainNode> = None;
         for node in self.nodes.iter() {

@@ -1,4 +1,4 @@
-//! A run of calls of a store beside those of one that is searched from end to end.
+//! A run of calls on `Stripes` and on a plain store that must agree after each call.
 
 use crate::stripes::plain_store::{PlainRow, PlainStore};
 use crate::stripes::{are_slots, fragment_numbered, has_fragment, no_stripe, node, reserve, seat};
@@ -6,12 +6,12 @@ use lrc_code::{Code, Fragment, UpgradeNo};
 use lrc_stripes::{Seat, Stripes};
 use std::process::Abort;
 
-/// What comes after a number in a fixed order in which those below 65,537 all come up.
+/// Returns the next number of a fixed sequence that goes through all numbers below 65,537.
 fn after(state: u32) -> u32 {
     (state % 65537 * 75 + 74) % 65537
 }
 
-/// Five stripes that are not there, among them the first and the last, and two side by side.
+/// Five stripes that are not in the store, among them the first, the last and two neighbours.
 fn plain() -> Option<PlainStore> {
     Some(PlainStore {
         rows: [
@@ -26,7 +26,7 @@ fn plain() -> Option<PlainStore> {
     })
 }
 
-/// Whether both tell the same of each stripe.
+/// Reports whether both return the same for each stripe.
 fn tell_alike(stripes: &Stripes, plain: &PlainStore) -> bool {
     for row in plain.rows {
         let alike = if row.is_there {
@@ -47,7 +47,7 @@ fn tell_alike(stripes: &Stripes, plain: &PlainStore) -> bool {
     true
 }
 
-/// Whether both list the same stripes with work, in one order.
+/// Reports whether both list the same stripes with work, in the same order.
 fn work_alike(stripes: &Stripes, plain: &PlainStore) -> bool {
     let mut work = stripes.work();
     let mut some = false;
@@ -64,7 +64,7 @@ fn work_alike(stripes: &Stripes, plain: &PlainStore) -> bool {
     work.next().is_none() && stripes.has_work() == some
 }
 
-/// Whether both list the same stripes at risk with the same levels, in one order.
+/// Reports whether both list the same stripes at risk with the same levels, in the same order.
 fn risk_alike(stripes: &Stripes, plain: &PlainStore) -> bool {
     let mut at_risk = stripes.at_risk();
     for rank in 0..5u8 {
@@ -80,7 +80,7 @@ fn risk_alike(stripes: &Stripes, plain: &PlainStore) -> bool {
     at_risk.next().is_none()
 }
 
-/// Whether both list the same homes on a node, in one order.
+/// Reports whether both list the same homes on a node, in the same order.
 fn homes_alike(stripes: &Stripes, plain: &PlainStore, number: u16) -> bool {
     let mut homes = stripes.homes_on(node(number));
     for row in plain.rows {
@@ -102,14 +102,14 @@ fn is_on(home: Option<Seat>, number: u16) -> bool {
     }
 }
 
-/// Whether the upgrade of a domain would lose the same stripe to both, and the same short one.
+/// Reports whether both find the same stripe that the upgrade of a domain would make unrecoverable.
 fn lose_alike(stripes: &Stripes, plain: &PlainStore, domain: u8) -> bool {
     let number = UpgradeNo { value: domain };
     stripes.would_lose(number) == plain.would_lose(domain as u16)
         && stripes.would_lose_short(number) == plain.would_lose_short(domain as u16)
 }
 
-/// Gives a fragment of the stripe's code a home, if it has none and no other has this one.
+/// Gives a fragment of the stripe's code a home, if it has none and no other fragment has this one.
 fn set_home(
     stripes: &mut Stripes,
     plain: &mut PlainStore,
@@ -133,7 +133,7 @@ fn set_home(
     }
 }
 
-/// Takes the home of a fragment of the stripe's code away.
+/// Clears the home of a fragment of the stripe's code.
 fn clear_home(stripes: &mut Stripes, plain: &mut PlainStore, place: usize, fragment: Fragment) {
     if place >= 5 {
         return;
@@ -145,7 +145,7 @@ fn clear_home(stripes: &mut Stripes, plain: &mut PlainStore, place: usize, fragm
     }
 }
 
-/// Takes a stripe out that is there, and adds one that is not, of the code.
+/// Removes the stripe if the store has it, and otherwise adds it with this code.
 fn turn(stripes: &mut Stripes, plain: &mut PlainStore, place: usize, code: Code) {
     if place >= 5 {
         return;
@@ -166,7 +166,7 @@ fn turn(stripes: &mut Stripes, plain: &mut PlainStore, place: usize, code: Code)
     }
 }
 
-/// Adds a stripe of the code that is not there with its fragments on nodes from this one on.
+/// Adds a stripe of the code, with its fragments on the nodes from this one on.
 fn add_seated(
     stripes: &mut Stripes,
     plain: &mut PlainStore,
@@ -230,7 +230,7 @@ fn set_draining(stripes: &mut Stripes, plain: &mut PlainStore, number: u16, is_d
     }
 }
 
-/// Makes one call of each: most set a home, and few take a stripe out or a node offline.
+/// Makes one call of each store. Most calls set a home; few remove a stripe or take a node offline.
 fn call(stripes: &mut Stripes, plain: &mut PlainStore, state: u32, fragment: Fragment) {
     let place = (state % 5) as usize;
     let number = (state / 5 % 20) as u16;
@@ -261,7 +261,7 @@ fn call(stripes: &mut Stripes, plain: &mut PlainStore, state: u32, fragment: Fra
     }
 }
 
-/// Each code as often as the other, by a fragment that was drawn.
+/// Returns each code equally often, by a drawn fragment.
 fn code_for(fragment: Fragment) -> Code {
     if fragment.get() < 8 {
         Code::Narrow
@@ -277,7 +277,7 @@ fn plain_is_there(plain: &PlainStore, place: usize) -> bool {
     }
 }
 
-/// Makes 3,000 calls of each, and answers whether both told the same after each of them.
+/// Makes 3,000 calls of each store, and reports whether they agreed after each one.
 fn calls_alike(rt: &impl Abort, stripes: &mut Stripes, plain: &mut PlainStore) -> bool {
     let mut state = 1;
     let mut are_alike = true;

@@ -1,4 +1,4 @@
-//! The domains of the nodes of a stripe's homes.
+//! Tests of the domains where a stripe has homes.
 
 use crate::stores::read;
 use crate::stripes::{

@@ -1,4 +1,4 @@
-//! Stripes of ten fragments, alone and beside those of sixteen.
+//! Tests of stripes with ten fragments, alone and together with stripes of sixteen.
 
 use crate::stripes::{
     add, add_in_slot, add_seated, assert_at_risk, assert_missing, assert_needs, assert_work,
@@ -22,7 +22,7 @@ fn one_narrow_stripe(rt: &(impl AllocGlobal + Abort), stripe: StripeNo) -> Strip
     stripes
 }
 
-/// The fragments of a stripe that have a home.
+/// Returns the fragments of a stripe that have a home.
 fn homed(rt: &impl Abort, stripes: &Stripes, stripe: StripeNo) -> u16 {
     assert!(rt; stripes.contains(stripe));
     stripes.homed(stripe).bits()
@@ -45,7 +45,7 @@ fn ten_fragments_are_added_and_missed(rt: &(impl AllocGlobal + Abort)) {
     seat_the_last(rt, &mut stripes, stripe);
 }
 
-/// The stripe gets a home of its last fragment.
+/// Gives the last fragment of the stripe a home.
 fn seat_the_last(rt: &impl Abort, stripes: &mut Stripes, stripe: StripeNo) {
     let ninth = fragment_numbered(rt, 9);
     set_home(rt, stripes, stripe, ninth, seat(5, 2));
@@ -76,7 +76,7 @@ fn ten_homes() -> [Option<Seat>; 16] {
     homes
 }
 
-/// Fragments 0, 1, 2 and 6 are a group, and four of ten in both groups are repaired.
+/// Fragments 0, 1, 2 and 6 are a group. Four lost of ten are recoverable if both groups have a loss.
 fn levels_are_those_of_ten_fragments(rt: &(impl AllocGlobal + Abort)) {
     let stripe = stripe_numbered(rt, 4);
     let mut stripes = one_narrow_stripe(rt, stripe);
@@ -110,8 +110,8 @@ fn set_offline_all(rt: &impl Abort, stripes: &mut Stripes, numbers: &[u16], is_o
     }
 }
 
-/// Each stripe has fragment f on node f. Without fragments 0 and 3 the stripes of ten bear two more losses, since they are of
-/// two groups, and those of sixteen bear one, since they are of one.
+/// Each stripe has fragment f on node f. Without fragments 0 and 3 the stripes of ten survive two more losses, as
+/// these are of two groups, and those of sixteen survive one, as these are of one group.
 fn work_of_both_codes_goes_by_rank(rt: &(impl AllocGlobal + Abort)) {
     let mut stripes = no_stripe(rt, 20, 4);
     let named = [
@@ -152,8 +152,8 @@ fn expect_order(
     assert_work(rt, stripes, &[second, fifth, third, eighth]);
 }
 
-/// Nodes 0, 1 and 2 hold three fragments of one group, and each of ten domains the node of one fragment. The fourth of that
-/// group, 6, and the global parities, 8 and 9, are beyond what is borne then.
+/// Nodes 0, 1 and 2 hold three fragments of one group, and each of ten domains has the node of one fragment. A
+/// further loss of the fourth of that group, 6, or of a global parity, 8 or 9, is not recoverable then.
 fn an_upgrade_loses_a_stripe_of_ten(rt: &(impl AllocGlobal + Abort)) {
     let stripe = stripe_numbered(rt, 4);
     let mut stripes = one_narrow_stripe(rt, stripe);

@@ -1,9 +1,9 @@
-//! A store that keeps homes alone, and is searched from end to end.
+//! A plain store that holds only homes and searches them all for each question.
 
 use lrc_code::{Code, Fragment, LossMask, NodeNo, StripeNo};
 use lrc_stripes::{Level, Seat};
 
-/// A stripe, and its code and the homes of its fragments while it is there.
+/// A stripe number; its code and the homes of its fragments while the store has the stripe.
 #[derive(Clone, Copy)]
 pub(crate) struct PlainRow {
     pub(crate) stripe: StripeNo,
@@ -13,7 +13,7 @@ pub(crate) struct PlainRow {
 }
 
 impl PlainRow {
-    /// A stripe that is not there; `None` where there is no such number.
+    /// Returns the row of a stripe that the store lacks, or `None` if there is no such number.
     pub(crate) fn new(number: u16) -> Option<PlainRow> {
         Some(PlainRow {
             stripe: StripeNo::new(number)?,
@@ -42,10 +42,10 @@ impl PlainRow {
     }
 }
 
-/// Twenty nodes, in ten upgrade domains in turn, and five stripes.
+/// Twenty nodes, over ten upgrade domains in turn, and five stripes.
 #[derive(Clone, Copy)]
 pub(crate) struct PlainStore {
-    /// In rising number.
+    /// In ascending order of the stripe numbers.
     pub(crate) rows: [PlainRow; 5],
     pub(crate) offline: [bool; 20],
     pub(crate) draining: [bool; 20],
@@ -114,7 +114,7 @@ impl PlainStore {
         self.missing(row).margin_in(row.code).unwrap_or(4)
     }
 
-    /// The first stripe that is recoverable, and not without the nodes of the domain.
+    /// Returns the first stripe that is recoverable, and is not without the nodes of the domain.
     pub(crate) fn would_lose(&self, domain: u16) -> Option<StripeNo> {
         for row in self.rows {
             if self.is_lost_to(&row, domain) {
@@ -124,7 +124,7 @@ impl PlainStore {
         None
     }
 
-    /// The first of these that is short.
+    /// Returns the first of these stripes that needs a lease or has homes on two offline nodes.
     pub(crate) fn would_lose_short(&self, domain: u16) -> Option<StripeNo> {
         for row in self.rows {
             if self.is_short(&row) && self.is_lost_to(&row, domain) {
@@ -140,7 +140,7 @@ impl PlainStore {
             && !self.missing_without(row, domain).recoverable_in(row.code)
     }
 
-    /// Whether a fragment needs a lease, or two have homes on two nodes that are offline.
+    /// Reports whether a fragment needs a lease, or two have homes on two nodes that are offline.
     fn is_short(&self, row: &PlainRow) -> bool {
         let mut first = None;
         for home in row.homes {

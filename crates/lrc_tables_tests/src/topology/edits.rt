@@ -1,4 +1,4 @@
-//! Long texts, as they are and with a part written anew.
+//! Long texts, unchanged and with a part replaced.
 
 use super::{Answer, answer, expect};
 use crate::stores::{Plan, text};
@@ -6,19 +6,19 @@ use lrc_code::NodeNo;
 use lrc_topology::TopologyError;
 use std::process::Abort;
 
-/// The text with a part of it written anew, which stands there once.
+/// Returns the text with a part replaced that occurs once.
 fn edited(rt: &(impl AllocGlobal + Abort), text: &str, [old, new]: [&str; 2]) -> String {
     let (front, back) = text.split_once(old).expect(rt, "the part is there");
     format!(in rt.alloc(); "{front}{new}{back}").expect(rt, "memory")
 }
 
-/// The text so edited has this answer.
+/// Expects this result for the edited text.
 fn expect_edited(rt: &(impl AllocGlobal + Abort), text: &str, edit: [&str; 2], want: Answer) {
     let text = edited(rt, text, edit);
     expect(rt, &text, want);
 }
 
-/// The text edited first so and then so has the one answer and then the other.
+/// Expects these results after the first edit and after both.
 fn expect_twice_edited(
     rt: &(impl AllocGlobal + Abort),
     text: &str,
@@ -100,7 +100,7 @@ fn a_topology_may_be_cut_anywhere(rt: &(impl AllocGlobal + Abort)) {
     assert!(rt; answer(rt.alloc(), text.as_bytes()) == after_lines(100));
 }
 
-/// Reads each beginning of the text of the twenty nodes.
+/// Reads each prefix of the text of the twenty nodes.
 fn cut_anywhere(rt: &(impl AllocGlobal + Abort), text: &[u8]) {
     for (end, byte) in text.iter().enumerate() {
         expect_cut(rt, &text[..end], *byte);
@@ -114,7 +114,7 @@ fn expect_cut(rt: &(impl AllocGlobal + Abort), cut: &[u8], next: u8) {
     }
 }
 
-/// What is answered where the text is cut in front of this byte; `None` where it may be either.
+/// Returns the result for a text that is cut before this byte; `None` if it can be either.
 fn after_cut(cut: &[u8], next: u8) -> Option<Answer> {
     let lines = lines_in(cut);
     if cut.is_empty() || cut.ends_with(b"\n") {
@@ -138,7 +138,7 @@ fn lines_in(text: &[u8]) -> usize {
     lines
 }
 
-/// What is answered where the twenty nodes are cut after so many lines.
+/// Returns the result for the twenty nodes cut after `lines` lines.
 fn after_lines(lines: usize) -> Answer {
     if lines == 0 {
         Err(TopologyError::NoNodes)

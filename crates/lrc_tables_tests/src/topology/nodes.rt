@@ -1,4 +1,4 @@
-//! The nodes of texts that are taken, and how they are looked up.
+//! The nodes of texts that are accepted, and how they are found.
 
 use super::expect;
 use crate::stores::{Plan, nodes, numbered, read, text};
@@ -38,7 +38,7 @@ fn whole_numbers_are_taken_by_value(rt: &(impl AllocGlobal + Abort)) {
     );
 }
 
-/// A text has this node and no other.
+/// Expects this node and no other for a text.
 fn expect_alone(rt: &(impl AllocGlobal + Abort), text: &str, want: NodeInfo) {
     let topology = read(rt, text);
     expect_node(rt, &topology, want.number, Some(want));
@@ -116,7 +116,7 @@ fn a_form_that_is_not_plain_has_the_same_nodes(rt: &(impl AllocGlobal + Abort)) 
     expect_same(rt, &plain, "", "\n");
 }
 
-/// The nodes of a text are those of the same text with more in front and behind.
+/// Expects the same nodes for a text with more text before and after it.
 fn expect_same(rt: &(impl AllocGlobal + Abort), text: &str, front: &str, back: &str) {
     let other = format!(in rt.alloc(); "{front}{text}{back}").expect(rt, "memory");
     let nodes = read(rt, text);
@@ -139,7 +139,7 @@ fn nesting_is_limited(rt: &(impl AllocGlobal + Abort)) {
 
 const NODE: &str = "\n[[node]]\nnumber = 0\nfault = 0\nupgrade = 0\nslots = 1\n";
 
-/// A node behind an array in an array so often, and behind a key of so many parts.
+/// Reads a node after arrays nested `depth` deep, and after a key with `depth` parts.
 fn nest(rt: &(impl AllocGlobal + Abort), depth: u32, want: Result<usize, TopologyError>) {
     let mut text = String::new(rt.alloc());
     push(rt, &mut text, "x = ", 1);

@@ -1,4 +1,4 @@
-//! Texts that are refused, and what they are told.
+//! Texts that are refused, and their errors.
 
 use super::{answer, expect, expect_each, expect_entry};
 use crate::stores::numbered;
@@ -91,7 +91,7 @@ fn what_is_no_whole_number_is_a_bad_field(rt: &(impl AllocGlobal + Abort)) {
     }
 }
 
-/// This value is a bad field in each of the four places.
+/// Expects that this value is a bad field at each of the four keys.
 fn expect_bad_field(rt: &(impl AllocGlobal + Abort), value: &str) {
     let want = Err(TopologyError::BadField(0));
     expect_entry(rt, [value, "0", "0", "1"], want);
