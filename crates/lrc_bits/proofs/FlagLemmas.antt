@@ -1,4 +1,4 @@
--- The flags of words, read and written.
+-- Reading and writing the flags of words.
 use Rattle.std.proofs.Common.{below_more, bit_and, bit_or, subst, min, ◌-◌, ◌≡◌, ◌≢◌, ℕ, zero, suc, ◌+◌, ◌*◌, ◌/◌, ◌%◌, ◌^◌, ◌<◌, ◌≤◌, Bool, true, false, not, eqb, List, [], ◌∷◌, length, get_or, set, replicate, arith, refl, sym, ap, ◌∙◌, inl, inr, w64}
 use Rattle.std.proofs.Math.ListN.{length-set}
 use Rattle.std.proofs.lemmas.Bool.{cases_eq, cases_lt, eq-eqb, eqb-true, ne_eqb}
@@ -10,12 +10,12 @@ use Rattle.std.proofs.Math.Nat.{div-le_self}
 use Rattle.std.specs.Int.{bit_at, bit_not, trailing_zeros, trailing_ones}
 use Rattle.lrc_bits.specs.Flags.{flag, flags, IsFirstAbsent, IsFirstFrom}
 
--- there are 64 flags a word
+-- each word has 64 flags
 pub length-flags : (words : List ℕ) → length (flags words) ≡ 64 * length words
 unfolding flags
 length-flags words = length-map-range_with_len (flag words) 0 (64 * length words)
 
--- the flag of a place, which is none beyond the last
+-- the flag of a number; false after the last word
 pub get_or-flags : (words : List ℕ) (k : ℕ) → get_or (flags words) k false ≡ flag words k
 unfolding flags
 get_or-flags words k = elim (cases_lt k (64 * length words)) [
@@ -27,11 +27,11 @@ get_or-flags words k = elim (cases_lt k (64 * length words)) [
       get_or_past (flags words) k false long ∙ sym (ap (λ n. eqb n 1) (ap (λ w. bit_at w (k % 64)) none ∙ bit_at-zero (k % 64)))
 ]
 
--- the word of a place and its bit there
+-- two numbers in the same word have different bits
 split : (j k : ℕ) → j ≢ k → j / 64 ≡ k / 64 → j % 64 ≢ k % 64
 split j k differ same e = differ (omega (arith, same, e))
 
--- a word is written whose bits are as before but for one
+-- writing a word that differs only in one bit changes only that flag
 pub flags-set : (words : List ℕ) (k v : ℕ) (b : Bool) → k < 64 * length words → eqb (bit_at v (k % 64)) 1 ≡ b
     → ((i : ℕ) → i < 64 → i ≢ k % 64 → bit_at v i ≡ bit_at (get_or words (k / 64) 0) i) → flags (set words (k / 64) v) ≡ set (flags words) k b
 flags-set words k v b within here others =
@@ -56,33 +56,33 @@ flags-set words k v b within here others =
       ]
     ]))
 
--- ---- what a set of so many words says
+-- ---- words and flags of a set with `w` words
 
--- a place within the flags has a word
+-- a number within the flags has a word
 pub word-within : (words : List ℕ) (xs : List Bool) (k w : ℕ) → length words ≡ w → flags words ≡ xs → k < length xs → k / 64 < w
 word-within words xs k w long view within =
     let all : length xs ≡ 64 * length words = ap length (sym view) ∙ length-flags words in
     omega (arith, all, within, long)
 
--- a word whose first place is within the flags is one of so many
+-- a word whose first number is within the flags is one of the set's
 pub word-below : (words : List ℕ) (xs : List Bool) (i w : ℕ) → length words ≡ w → flags words ≡ xs → 64 * i < length xs → i < w
 word-below words xs i w long view within =
     let all : length xs ≡ 64 * length words = ap length (sym view) ∙ length-flags words in
     omega (arith, all, within, long)
 
--- a place within the flags is one of so many words
+-- a number within the flags is within the words
 pub place-within : (words : List ℕ) (xs : List Bool) (k : ℕ) → flags words ≡ xs → k < length xs → k < 64 * length words
 place-within words xs k view within =
     let all : length xs ≡ 64 * length words = ap length (sym view) ∙ length-flags words in
     omega (arith, all, within)
 
--- the test of a bit
+-- testing a bit reads its flag
 pub shifted-bit : (words : List ℕ) (xs : List Bool) (k : ℕ) → flags words ≡ xs
     → eqb (bit_and (get_or words (k / 64) 0 / 2 ^ (k % 64)) 1) 1 ≡ get_or xs k false
 shifted-bit words xs k view = ap (λ n. eqb n 1) (shr_and_one (get_or words (k / 64) 0) (k % 64))
     ∙ (sym (get_or-flags words k) ∙ ap (λ ys. get_or ys k false) view)
 
--- a bit is set
+-- setting a bit sets its flag
 pub flags-insert : (words : List ℕ) (xs : List Bool) (k : ℕ) → flags words ≡ xs → k < length xs
     → flags (set words (k / 64) (bit_or (get_or words (k / 64) 0) (1 * 2 ^ (k % 64) % 2 ^ 64))) ≡ set xs k true
 flags-insert words xs k view within =
@@ -92,7 +92,7 @@ flags-insert words xs k view within =
     (eq-eqb _ _ (bit_at_set_same w64 word (k % 64) small)) (λ i below other. bit_at_set_other w64 word (k % 64) small i other)
     ∙ ap (λ ys. set ys k true) view
 
--- a bit is cleared
+-- clearing a bit clears its flag
 pub flags-remove : (words : List ℕ) (xs : List Bool) (k : ℕ) → flags words ≡ xs → k < length xs
     → flags (set words (k / 64) (bit_and (get_or words (k / 64) 0) (bit_not w64 (1 * 2 ^ (k % 64) % 2 ^ 64)))) ≡ set xs k false
 flags-remove words xs k view within =
@@ -115,13 +115,13 @@ no_flags zero i = refl
 no_flags (suc n) zero = refl
 no_flags (suc n) (suc i) = no_flags n i
 
--- no bit is set
+-- words of 0 have no flag set
 pub flags-none : (w : ℕ) → flags (replicate w 0) ≡ replicate (64 * w) false
 flags-none w = ext_get_or false _ _ (length-flags (replicate w 0) ∙ (ap (λ n. 64 * n) (length-replicate w 0) ∙ sym (length-replicate (64 * w) false)))
     (λ j below. get_or-flags (replicate w 0) j
     ∙ (ap (λ n. eqb n 1) (ap (λ x. bit_at x (j % 64)) (no_words w (j / 64) 0) ∙ bit_at-zero (j % 64)) ∙ sym (no_flags (64 * w) j)))
 
--- ---- one word after another
+-- ---- word by word
 
 -- a flag is a bit of its word
 pub at_word : (words : List ℕ) (i t : ℕ) → t < 64 → flag words (i * 64 + t) ≡ eqb (bit_at (get_or words i 0) t) 1
@@ -130,11 +130,11 @@ at_word words i t small =
     let place : (i * 64 + t) % 64 ≡ t = omega (arith, small) in
     rw (word, place) refl
 
--- the flags of a set, read by their words
+-- a flag of a set, read from its words
 pub read : (words : List ℕ) (xs : List Bool) (k : ℕ) → flags words ≡ xs → get_or xs k false ≡ flag words k
 read words xs k view = ap (λ ys. get_or ys k false) (sym view) ∙ get_or-flags words k
 
--- the flags of one word alone
+-- the flags of one word, as a set of its own
 pub alone-word : (words : List ℕ) (xs : List Bool) (i k : ℕ) → flags words ≡ xs → k < 64
     → get_or (flags (get_or words i 0 ∷ [])) k false ≡ get_or xs (64 * i + k) false
 alone-word words xs i k view small =
@@ -144,7 +144,7 @@ alone-word words xs i k view small =
     get_or-flags (word ∷ []) k
     ∙ (ap (flag (word ∷ [])) (sym own) ∙ at_word (word ∷ []) 0 k small ∙ sym (read words xs (64 * i + k) view ∙ (ap (flag words) place ∙ at_word words i k small)))
 
--- the places of words below are those before the word's own, and its own up to the bit
+-- what holds for all earlier words, and for the bits of a word below `t`, holds for all numbers below that bit
 in_word : (P : ℕ → Type 0) (i t : ℕ) → t ≤ 64 → ((j : ℕ) → j < 64 * i → P j) → ((b : ℕ) → b < t → P (i * 64 + b)) → (j : ℕ)
     → j < i * 64 + t → P j
 in_word P i t small before here j below = elim (cases_lt j (64 * i)) [
@@ -154,14 +154,14 @@ in_word P i t small before here j below = elim (cases_lt j (64 * i)) [
       subst P same (here (j - i * 64) (omega (arith, high, below)))
 ]
 
--- one more word is full
+-- if one more word is full, one more word's flags are set
 pub full-more : (words : List ℕ) (i : ℕ) → ((j : ℕ) → j < 64 * i → flag words j ≡ true) → get_or words i 0 ≡ 2 ^ 64 - 1
     → (j : ℕ) → j < 64 * (i + 1) → flag words j ≡ true
 full-more words i all full j below =
     in_word (λ k. flag words k ≡ true) i 64 (omega arith) all
     (λ b small. at_word words i b small ∙ eq-eqb _ _ (ap (λ w. bit_at w b) full ∙ bit_at_ones 64 b small)) j (omega (arith, below))
 
--- the first place that is lacked lies in the first word that is not full
+-- the first absent number is in the first word that is not full
 pub found-absent : (words : List ℕ) (xs : List Bool) (i : ℕ) → flags words ≡ xs → i < length words
     → ((j : ℕ) → j < 64 * i → flag words j ≡ true)
     → get_or words i 0 + 1 < 2 ^ 64 → IsFirstAbsent xs (i * 64 + trailing_ones w64 (get_or words i 0))
@@ -179,14 +179,14 @@ found-absent words xs i view within all small =
           (λ b less. at_word words i b (omega (arith, less, low)) ∙ eq-eqb _ _ (h.2 b less)) j below;
     }
 
--- where all words are full, every number is there
+-- if all words are full, no number is absent
 pub found-none_absent : (words : List ℕ) (xs : List Bool) → flags words ≡ xs
     → ((j : ℕ) → j < 64 * length words → flag words j ≡ true) → (j : ℕ) → j < length xs → get_or xs j false ≡ true
 found-none_absent words xs view all j below = read words xs j view ∙ all j (place-within words xs j view below)
 
--- ---- the first place that one has and the other lacks
+-- ---- the first number that one set has and the other lacks
 
--- a bit that one word has and the other lacks
+-- a bit of `a` without `b` is a bit of `a` and not of `b`
 and_not-one : (a b t : ℕ) → b < 2 ^ 64 → t < 64 → bit_at (bit_and a (2 ^ 64 - 1 - b)) t ≡ 1 → (bit_at a t ≡ 1) × (bit_at b t ≡ 0)
 and_not-one a b t small within one =
     let both : bit_at (bit_and a (2 ^ 64 - 1 - b)) t ≡ min (bit_at a t) (bit_at (2 ^ 64 - 1 - b) t) = bit_at_and a (2 ^ 64 - 1 - b) t in
@@ -195,7 +195,7 @@ and_not-one a b t small within one =
     let q = bit_at-lt b t in
     (omega (arith, both, other, one, p, q), omega (arith, both, other, one, p, q))
 
--- where the bit is 0, the other word has what the one has
+-- if `a` without `b` lacks a bit that `a` has, then `b` has it
 and_not-zero : (a b t : ℕ) → b < 2 ^ 64 → t < 64 → bit_at (bit_and a (2 ^ 64 - 1 - b)) t ≡ 0 → bit_at a t ≡ 1 → bit_at b t ≡ 1
 and_not-zero a b t small within none has =
     let both : bit_at (bit_and a (2 ^ 64 - 1 - b)) t ≡ min (bit_at a t) (bit_at (2 ^ 64 - 1 - b) t) = bit_at_and a (2 ^ 64 - 1 - b) t in
@@ -211,28 +211,28 @@ is_one words i t small hit = eqb-true _ 1 (sym (at_word words i t small) ∙ hit
 is_flag : (words : List ℕ) (i t : ℕ) → t < 64 → bit_at (get_or words i 0) t ≡ 1 → flag words (i * 64 + t) ≡ true
 is_flag words i t small one = at_word words i t small ∙ eq-eqb _ 1 one
 
--- the places of a word are those of its bits
+-- the numbers of a word are its bits
 at_bit : (P : ℕ → Type 0) (i t : ℕ) → ((b : ℕ) → b < t → P (i * 64 + b)) → (j : ℕ) → j / 64 ≡ i → j < i * 64 + t → P j
 at_bit P i t here j near below =
     let same : i * 64 + j % 64 ≡ j = omega (arith, near) in
     subst P same (here (j % 64) (omega (arith, near, below)))
 
 module _ (words others : List ℕ) (i : ℕ) (fits : get_or others i 0 < 2 ^ 64) where
-  -- what the word has below the bit, the other word has too
+  -- if `words` without `others` has no bit below `t`, the other word has each such bit that the word has
   bit_too : (t : ℕ) → t ≤ 64 → ((b : ℕ) → b < t → bit_at (bit_and (get_or words i 0) (2 ^ 64 - 1 - get_or others i 0)) b ≡ 0)
       → (b : ℕ) → b < t → flag words (i * 64 + b) ≡ true → flag others (i * 64 + b) ≡ true
   bit_too t small none b less hit =
       let low : b < 64 = omega (arith, less, small) in
       is_flag others i b low (and_not-zero (get_or words i 0) (get_or others i 0) b fits low (none b less) (is_one words i b low hit))
 
-  -- a word with nothing outside the other has no place outside it
+  -- if the word has no bit outside the other, it has no number outside it
   pub none-of_word : bit_and (get_or words i 0) (2 ^ 64 - 1 - get_or others i 0) ≡ 0 → (j : ℕ) → j / 64 ≡ i
       → flag words j ≡ true → flag others j ≡ true
   none-of_word empty j near =
       at_bit (λ k. flag words k ≡ true → flag others k ≡ true) i 64
       (bit_too 64 (omega arith) (λ b less. ap (λ w. bit_at w b) empty ∙ bit_at-zero b)) j near (omega (arith, near))
 
-  -- the first bit outside the other is the word's first place outside it
+  -- the first bit outside the other word is the first number outside it
   pub first-of_word : (t : ℕ) → t < 64 → bit_at (bit_and (get_or words i 0) (2 ^ 64 - 1 - get_or others i 0)) t ≡ 1
       → ((b : ℕ) → b < t → bit_at (bit_and (get_or words i 0) (2 ^ 64 - 1 - get_or others i 0)) b ≡ 0)
       → ((flag words (i * 64 + t) ≡ true) × (flag others (i * 64 + t) ≡ false))
@@ -243,18 +243,18 @@ module _ (words others : List ℕ) (i : ℕ) (fits : get_or others i 0 < 2 ^ 64)
         at_bit (λ k. flag words k ≡ true → flag others k ≡ true) i t (bit_too t (omega (arith, low)) none),
       )
 
--- ---- the first place from one on
+-- ---- the first number from one on
 
 -- a bit that is 0 is a flag that is not set
 is_off : (words : List ℕ) (i t : ℕ) → t < 64 → bit_at (get_or words i 0) t ≡ 0 → flag words (i * 64 + t) ≡ false
 is_off words i t small none = at_word words i t small ∙ ap (λ n. eqb n 1) none
 
--- the bits of a word that is shifted
+-- the bits of a shifted word
 shifted : (w s b : ℕ) → bit_at (w / 2 ^ s) b ≡ bit_at w (s + b)
 shifted w s b = ap (λ x. x % 2) (shr-shr w s b)
 
 module _ (words : List ℕ) (from : ℕ) where
-  -- none from the place on up to a bit of its word
+  -- if the shifted word has no bit below `t`, no number from `from` up to that bit is in the set
   off_in_word : (t : ℕ) → from % 64 + t ≤ 64 → ((b : ℕ) → b < t → bit_at (get_or words (from / 64) 0 / 2 ^ (from % 64)) b ≡ 0)
       → (j : ℕ) → from ≤ j → j < from + t → flag words j ≡ false
   off_in_word t small none j low high =
@@ -266,12 +266,12 @@ module _ (words : List ℕ) (from : ℕ) where
       let same : from / 64 * 64 + (s + b) ≡ j = omega (arith, low) in
       subst (λ k. flag words k ≡ false) same (is_off words (from / 64) (s + b) inside bit)
 
-  -- the rest of the first word has no bit
+  -- if the rest of the first word has no bit, none of its numbers from `from` on is in the set
   pub off-start : get_or words (from / 64) 0 / 2 ^ (from % 64) ≡ 0 → (j : ℕ) → from ≤ j → j < 64 * (from / 64 + 1) → flag words j ≡ false
   off-start empty j low high =
       off_in_word (64 - from % 64) (omega arith) (λ b less. ap (λ w. bit_at w b) empty ∙ bit_at-zero b) j low (omega (arith, high))
 
-  -- the first bit of the rest of the first word lies in it
+  -- the first bit of the rest of the first word is in that word
   start-inside : get_or words (from / 64) 0 < 2 ^ 64 → get_or words (from / 64) 0 / 2 ^ (from % 64) ≢ 0
       → get_or words (from / 64) 0 / 2 ^ (from % 64) < 2 ^ 64 → from % 64 + trailing_zeros w64 (get_or words (from / 64) 0 / 2 ^ (from % 64)) < 64
   start-inside fits some small =
@@ -285,13 +285,13 @@ module _ (words : List ℕ) (from : ℕ) where
         | inr more ↦ absurd (let none : bit_at w (s + t) ≡ 0 = bit_at_above w 64 (s + t) fits more in omega (arith, none, bit))
       ]
 
-  -- so it stands in one word with the place
+  -- so it is in the same word as `from`
   pub start-near : get_or words (from / 64) 0 < 2 ^ 64 → get_or words (from / 64) 0 / 2 ^ (from % 64) ≢ 0
       → get_or words (from / 64) 0 / 2 ^ (from % 64) < 2 ^ 64
       → (from + trailing_zeros w64 (get_or words (from / 64) 0 / 2 ^ (from % 64))) / 64 ≡ from / 64
   start-near fits some small = let inside = start-inside fits some small in omega (arith, inside)
 
-  -- one more word has no bit
+  -- one more word without a bit
   pub off-more : (i : ℕ) → ((j : ℕ) → from ≤ j → j < 64 * i → flag words j ≡ false) → get_or words i 0 ≡ 0 → (j : ℕ) → from ≤ j
       → j < 64 * (i + 1) → flag words j ≡ false
   off-more i before empty j low high =
@@ -299,7 +299,7 @@ module _ (words : List ℕ) (from : ℕ) where
       (λ b small later. is_off words i b small (ap (λ w. bit_at w b) empty ∙ bit_at-zero b)) j (omega (arith, high)) low
 
   module _ (xs : List Bool) (view : flags words ≡ xs) where
-    -- the first bit of the rest of the first word is the first place
+    -- the first bit of the rest of the first word is the first number from `from` on
     pub found-start : get_or words (from / 64) 0 < 2 ^ 64 → from / 64 < length words → get_or words (from / 64) 0 / 2 ^ (from % 64) ≢ 0
         → get_or words (from / 64) 0 / 2 ^ (from % 64) < 2 ^ 64
         → IsFirstFrom xs from (from + trailing_zeros w64 (get_or words (from / 64) 0 / 2 ^ (from % 64)))
@@ -319,11 +319,11 @@ module _ (words : List ℕ) (from : ℕ) where
           first = λ j low high. read words xs j view ∙ off_in_word t (omega (arith, inside)) h.2 j low high;
         }
 
-    -- where the rest of the first word has no bit, there is no place in it
+    -- if the rest of the first word has no bit, it has no number from `from` on
     pub start-none : get_or words (from / 64) 0 / 2 ^ (from % 64) ≡ 0 → (j : ℕ) → from ≤ j → j / 64 ≡ from / 64 → get_or xs j false ≡ false
     start-none empty j low near = read words xs j view ∙ off-start empty j low (omega (arith, near))
 
-    -- the first bit of a later word is the first place
+    -- the first bit of a later word is the first number from `from` on
     pub found-later : (i : ℕ) → i < length words → from ≤ i * 64 → ((j : ℕ) → from ≤ j → j < 64 * i → flag words j ≡ false)
         → get_or words i 0 ≢ 0 → get_or words i 0 < 2 ^ 64
         → IsFirstFrom xs from (i * 64 + trailing_zeros w64 (get_or words i 0))
@@ -342,7 +342,7 @@ module _ (words : List ℕ) (from : ℕ) where
               (λ b less later. is_off words i b (omega (arith, less, low)) (h.2 b less)) j below above;
         }
 
-    -- where no word has a bit, there is no place
+    -- if no word has a bit, there is no number
     pub found-none_from : ((j : ℕ) → from ≤ j → j < 64 * length words → flag words j ≡ false) → (j : ℕ) → from ≤ j
         → get_or xs j false ≡ false
     found-none_from all j above = elim (cases_lt j (64 * length words)) [
@@ -355,7 +355,7 @@ module _ (words : List ℕ) (from : ℕ) where
 
 -- ---- the numbers of one word
 
--- a test for 0
+-- the test for 0
 pub is_zero : (w : ℕ) → not (eqb w 0) ≡ false → w ≡ 0
 is_zero w miss = elim (cases_eq w 0) [
   | inl none ↦ none
@@ -375,19 +375,19 @@ module _ (words : List ℕ) (xs : List Bool) (view : flags words ≡ xs) (i : �
       let low : t < 64 = h.0 in
       (i * 64 + t, omega (arith, low), read words xs (i * 64 + t) view ∙ is_flag words i t low h.1)
 
-  -- the word 0 has none
+  -- the word 0 has no number
   pub near-none : get_or words i 0 ≡ 0 → (k : ℕ) → k / 64 ≡ i → get_or xs k false ≡ false
   near-none empty k here = read words xs k view
       ∙ ap (λ n. eqb n 1) (ap (λ j. bit_at (get_or words j 0) (k % 64)) here ∙ (ap (λ w. bit_at w (k % 64)) empty ∙ bit_at-zero (k % 64)))
 
-  -- nor has a word beyond the last
+  -- there is no number after the last word
   pub near-past : length words ≤ i → (k : ℕ) → k / 64 ≡ i → get_or xs k false ≡ false
   near-past past k here =
       let long : length xs ≡ 64 * length words = ap length (sym view) ∙ length-flags words in
       let beyond : length xs ≤ k = omega (arith, long, past, here) in
       get_or_past xs k false beyond
 
-  -- a word that has a number is one of the set's, and not 0
+  -- a word with a number is one of the set's words, and is not 0
   pub word-filled : (k : ℕ) × (k / 64 ≡ i) × (get_or xs k false ≡ true) → (i < length words) × (get_or words i 0 ≢ 0)
   word-filled (k, here, hit) = (within, λ empty. absurd (let clash : true ≡ false = sym hit ∙ near-none empty k here in cc)) where
     within : i < length words
@@ -396,7 +396,7 @@ module _ (words : List ℕ) (xs : List Bool) (view : flags words ≡ xs) (i : �
       | inr more ↦ absurd (let clash : true ≡ false = sym hit ∙ near-past more k here in cc)
     ]
 
-  -- its first number
+  -- the first number of a word
   pub found-in_word : i < length words → get_or words i 0 ≢ 0 → get_or words i 0 < 2 ^ 64
       → IsFirstFrom xs (64 * i) (i * 64 + trailing_zeros w64 (get_or words i 0)) × ((i * 64 + trailing_zeros w64 (get_or words i 0)) / 64 ≡ i)
   found-in_word within some small =
@@ -404,10 +404,10 @@ module _ (words : List ℕ) (xs : List Bool) (view : flags words ≡ xs) (i : �
       let low : trailing_zeros w64 (get_or words i 0) < 64 = h.0 in
       (found-later words (64 * i) xs view i within (omega arith) (λ j high less. absurd (omega (arith, high, less))) some small, omega (arith, low))
 
--- a word that is shifted right stays a word
+-- a word that is shifted right is still a word
 pub shifted-small : (w s : ℕ) → w < 2 ^ 64 → w / 2 ^ s < 2 ^ 64
 shifted-small w s small = omega (arith, div-le_self w (2 ^ s))
 
--- what holds below a number and at it holds below the next
+-- what holds below a number and for it holds below the next
 pub up_to : (P : ℕ → Type 0) (i : ℕ) → ((j : ℕ) → j < i → P j) → P i → (j : ℕ) → j < i + 1 → P j
 up_to P i before here = below_more P i before here

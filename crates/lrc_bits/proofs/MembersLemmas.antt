@@ -1,4 +1,4 @@
--- What a walk over the numbers of a set has left.
+-- The numbers that an iterator over a set has left.
 use Rattle.std.proofs.Common.{bit_and, ◌≡◌, ◌≢◌, ℕ, ◌+◌, ◌*◌, ◌/◌, ◌%◌, ◌^◌, ◌<◌, false, nat_lt, nat_eq, if◌then◌else◌, List, length, get_or, set, arith, refl, sym, ap, ◌∙◌, inl, inr, w64}
 use Rattle.std.proofs.Math.ListN.{length-set}
 use Rattle.std.proofs.lemmas.Bool.{cases_eq, cases_lt, eq-eqb, ne_eqb, lt-ltb, le-ltb}
@@ -10,32 +10,32 @@ use Rattle.lrc_bits.specs.Flags.{flags, words_left, IsFirstFrom}
 use Rattle.lrc_bits.proofs.FlagLemmas.{length-flags, found-later, flags-remove}
 use Rattle.lrc_bits.proofs.UnionLemmas.{flags-empty}
 
--- the word of a place
+-- the word at `j` of what is left
 abbrev word_left : List ℕ → ℕ → ℕ → ℕ → ℕ
-word_left words place rest j = if nat_lt j place then 0 else if nat_eq j place then rest else get_or words j 0
+word_left words index rest j = if nat_lt j index then 0 else if nat_eq j index then rest else get_or words j 0
 
-module _ (words : List ℕ) (place rest : ℕ) where
-  pub length-left : length (words_left words place rest) ≡ length words
+module _ (words : List ℕ) (index rest : ℕ) where
+  pub length-left : length (words_left words index rest) ≡ length words
   unfolding words_left
-  length-left = length-map-range_with_len (word_left words place rest) 0 (length words)
+  length-left = length-map-range_with_len (word_left words index rest) 0 (length words)
 
-  get_or-left : (j : ℕ) → j < length words → get_or (words_left words place rest) j 0 ≡ word_left words place rest j
+  get_or-left : (j : ℕ) → j < length words → get_or (words_left words index rest) j 0 ≡ word_left words index rest j
   unfolding words_left
-  get_or-left j within = get_or-map-range_with_len (word_left words place rest) 0 (length words) j j 0 within (omega arith)
+  get_or-left j within = get_or-map-range_with_len (word_left words index rest) 0 (length words) j j 0 within (omega arith)
 
-  -- words that are passed are 0
-  passed : (j : ℕ) → j < length words → j < place → get_or (words_left words place rest) j 0 ≡ 0
-  passed j within low = get_or-left j within ∙ rw (lt-ltb j place low) refl
+  -- the words before `index` are 0
+  passed : (j : ℕ) → j < length words → j < index → get_or (words_left words index rest) j 0 ≡ 0
+  passed j within low = get_or-left j within ∙ rw (lt-ltb j index low) refl
 
-  -- the word that is read
-  here : place < length words → get_or (words_left words place rest) place 0 ≡ rest
-  here within = get_or-left place within ∙ rw (le-ltb place place (omega arith), eq-eqb place place refl) refl
+  -- the word at `index` is the rest
+  here : index < length words → get_or (words_left words index rest) index 0 ≡ rest
+  here within = get_or-left index within ∙ rw (le-ltb index index (omega arith), eq-eqb index index refl) refl
 
-  -- the words behind it
-  behind : (j : ℕ) → j < length words → place < j → get_or (words_left words place rest) j 0 ≡ get_or words j 0
-  behind j within high = get_or-left j within ∙ rw (le-ltb j place (omega (arith, high)), ne_eqb j place (λ same. absurd (omega (arith, high, same)))) refl
+  -- the words after `index` are unchanged
+  behind : (j : ℕ) → j < length words → index < j → get_or (words_left words index rest) j 0 ≡ get_or words j 0
+  behind j within high = get_or-left j within ∙ rw (le-ltb j index (omega (arith, high)), ne_eqb j index (λ same. absurd (omega (arith, high, same)))) refl
 
--- at first all words are left
+-- at the start all words are left
 pub left-first : (words : List ℕ) → 0 < length words → words_left words 0 (get_or words 0 0) ≡ words
 left-first words some = ext_get_or 0 _ _ (length-left words 0 (get_or words 0 0)) (λ j below.
     let within : j < length words = rw (length-left words 0 (get_or words 0 0)) at below in
@@ -44,70 +44,70 @@ left-first words some = ext_get_or 0 _ _ (length-left words 0 (get_or words 0 0)
       | inr later ↦ behind words 0 (get_or words 0 0) j within (omega (arith, later))
     ])
 
--- a word of which nothing is left is passed
-pub left-next : (words : List ℕ) (place : ℕ) → place + 1 < length words
-    → words_left words (place + 1) (get_or words (place + 1) 0) ≡ words_left words place 0
-left-next words place more =
-    let next : ℕ = get_or words (place + 1) 0 in
-    ext_get_or 0 _ _ (length-left words (place + 1) next ∙ sym (length-left words place 0)) (λ j below.
-    let within : j < length words = rw (length-left words (place + 1) next) at below in
-    elim (cases_lt j place) [
-      | inl low ↦ passed words (place + 1) next j within (omega (arith, low)) ∙ sym (passed words place 0 j within low)
-      | inr high ↦ elim (cases_eq j place) [
-        | inl same ↦ rw same (passed words (place + 1) next place (omega (arith, more)) (omega arith) ∙ sym (here words place 0 (omega (arith, more))))
-        | inr past ↦ elim (cases_eq j (place + 1)) [
-          | inl after ↦ rw after (here words (place + 1) next more ∙ sym (behind words place 0 (place + 1) more (omega arith)))
+-- a word with nothing left can be skipped
+pub left-next : (words : List ℕ) (index : ℕ) → index + 1 < length words
+    → words_left words (index + 1) (get_or words (index + 1) 0) ≡ words_left words index 0
+left-next words index more =
+    let next : ℕ = get_or words (index + 1) 0 in
+    ext_get_or 0 _ _ (length-left words (index + 1) next ∙ sym (length-left words index 0)) (λ j below.
+    let within : j < length words = rw (length-left words (index + 1) next) at below in
+    elim (cases_lt j index) [
+      | inl low ↦ passed words (index + 1) next j within (omega (arith, low)) ∙ sym (passed words index 0 j within low)
+      | inr high ↦ elim (cases_eq j index) [
+        | inl same ↦ rw same (passed words (index + 1) next index (omega (arith, more)) (omega arith) ∙ sym (here words index 0 (omega (arith, more))))
+        | inr past ↦ elim (cases_eq j (index + 1)) [
+          | inl after ↦ rw after (here words (index + 1) next more ∙ sym (behind words index 0 (index + 1) more (omega arith)))
           | inr far ↦
-              behind words (place + 1) next j within (omega (arith, high, past, far))
-              ∙ sym (behind words place 0 j within (omega (arith, high, past)))
+              behind words (index + 1) next j within (omega (arith, high, past, far))
+              ∙ sym (behind words index 0 j within (omega (arith, high, past)))
         ]
       ]
     ])
 
-module _ (words : List ℕ) (place rest : ℕ) (within : place < length words) where
+module _ (words : List ℕ) (index rest : ℕ) (within : index < length words) where
   -- the lowest bit that is left is the first number
-  pub left-found : rest ≢ 0 → rest < 2 ^ 64 → IsFirstFrom (flags (words_left words place rest)) 0 (place * 64 + trailing_zeros w64 rest)
+  pub left-found : rest ≢ 0 → rest < 2 ^ 64 → IsFirstFrom (flags (words_left words index rest)) 0 (index * 64 + trailing_zeros w64 rest)
   left-found some small =
-      let all = words_left words place rest in
-      let word = here words place rest within in
-      rw word at (found-later all 0 (flags all) refl place (rw (length-left words place rest) within) (omega arith)
-      (λ j low below. let less : j / 64 < place = omega (arith, below) in
-      ap (λ w. nat_eq (bit_at w (j % 64)) 1) (passed words place rest (j / 64) (omega (arith, less, within)) less)
+      let all = words_left words index rest in
+      let word = here words index rest within in
+      rw word at (found-later all 0 (flags all) refl index (rw (length-left words index rest) within) (omega arith)
+      (λ j low below. let less : j / 64 < index = omega (arith, below) in
+      ap (λ w. nat_eq (bit_at w (j % 64)) 1) (passed words index rest (j / 64) (omega (arith, less, within)) less)
       ∙ ap (λ n. nat_eq n 1) (bit_at-zero (j % 64)))
       (rw word some) (rw word small))
 
-  -- what is left of the word is written in its place
-  left-changed : (new : ℕ) → words_left words place new ≡ set (words_left words place rest) place new
+  -- writing the rest changes only the word at `index`
+  left-changed : (new : ℕ) → words_left words index new ≡ set (words_left words index rest) index new
   left-changed new =
-      let all = words_left words place rest in
-      let inside : place < length all = rw (length-left words place rest) within in
-      ext_get_or 0 _ _ (length-left words place new ∙ sym (length-set all place new ∙ length-left words place rest)) (λ j below.
-      let less : j < length words = rw (length-left words place new) at below in
-      elim (cases_eq j place) [
-        | inl own ↦ rw own (here words place new within ∙ sym (get_or-set_same all place new 0 inside))
-        | inr other ↦ (elim (cases_lt j place) [
-          | inl low ↦ passed words place new j less low ∙ sym (passed words place rest j less low)
-          | inr high ↦ behind words place new j less (omega (arith, high, other)) ∙ sym (behind words place rest j less (omega (arith, high, other)))
-        ]) ∙ sym (get_or-set_other all place j new 0 other)
+      let all = words_left words index rest in
+      let inside : index < length all = rw (length-left words index rest) within in
+      ext_get_or 0 _ _ (length-left words index new ∙ sym (length-set all index new ∙ length-left words index rest)) (λ j below.
+      let less : j < length words = rw (length-left words index new) at below in
+      elim (cases_eq j index) [
+        | inl own ↦ rw own (here words index new within ∙ sym (get_or-set_same all index new 0 inside))
+        | inr other ↦ (elim (cases_lt j index) [
+          | inl low ↦ passed words index new j less low ∙ sym (passed words index rest j less low)
+          | inr high ↦ behind words index new j less (omega (arith, high, other)) ∙ sym (behind words index rest j less (omega (arith, high, other)))
+        ]) ∙ sym (get_or-set_other all index j new 0 other)
       ])
 
-  -- and is taken with its bit
+  -- clearing the bit removes that number
   pub left-taken : (t : ℕ) → t < 64
-      → flags (words_left words place (bit_and rest (bit_not w64 (1 * 2 ^ t % 2 ^ 64)))) ≡ set (flags (words_left words place rest)) (place * 64 + t) false
+      → flags (words_left words index (bit_and rest (bit_not w64 (1 * 2 ^ t % 2 ^ 64)))) ≡ set (flags (words_left words index rest)) (index * 64 + t) false
   left-taken t small =
-      let word : (place * 64 + t) / 64 ≡ place = omega (arith, small) in
-      let bit : (place * 64 + t) % 64 ≡ t = omega (arith, small) in
-      let all = words_left words place rest in
+      let word : (index * 64 + t) / 64 ≡ index = omega (arith, small) in
+      let bit : (index * 64 + t) % 64 ≡ t = omega (arith, small) in
+      let all = words_left words index rest in
       let new = bit_and rest (bit_not w64 (1 * 2 ^ t % 2 ^ 64)) in
-      let long : length (flags all) ≡ 64 * length words = length-flags all ∙ ap (λ n. 64 * n) (length-left words place rest) in
-      let removed = flags-remove all (flags all) (place * 64 + t) refl (omega (arith, small, within, long)) in
-      ap flags (left-changed new) ∙ rw (word, bit, here words place rest within) at removed
+      let long : length (flags all) ≡ 64 * length words = length-flags all ∙ ap (λ n. 64 * n) (length-left words index rest) in
+      let removed = flags-remove all (flags all) (index * 64 + t) refl (omega (arith, small, within, long)) in
+      ap flags (left-changed new) ∙ rw (word, bit, here words index rest within) at removed
 
--- where nothing is left of the last word, no number is left
-pub left-none : (words : List ℕ) (place : ℕ) → place + 1 ≡ length words → (k : ℕ) → get_or (flags (words_left words place 0)) k false ≡ false
-left-none words place last = flags-empty (words_left words place 0) (flags (words_left words place 0)) refl (λ j below.
-    let within : j < length words = rw (length-left words place 0) at below in
-    elim (cases_lt j place) [
-      | inl low ↦ passed words place 0 j within low
-      | inr high ↦ (let same : j ≡ place = omega (arith, high, within, last) in rw same (here words place 0 (omega (arith, last))))
+-- if nothing is left of the last word, no number is left
+pub left-none : (words : List ℕ) (index : ℕ) → index + 1 ≡ length words → (k : ℕ) → get_or (flags (words_left words index 0)) k false ≡ false
+left-none words index last = flags-empty (words_left words index 0) (flags (words_left words index 0)) refl (λ j below.
+    let within : j < length words = rw (length-left words index 0) at below in
+    elim (cases_lt j index) [
+      | inl low ↦ passed words index 0 j within low
+      | inr high ↦ (let same : j ≡ index = omega (arith, high, within, last) in rw same (here words index 0 (omega (arith, last))))
     ])

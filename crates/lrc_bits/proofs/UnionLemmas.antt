@@ -1,4 +1,4 @@
--- Unions of words, what two words have in common, and sets of nothing.
+-- Unions, intersections and differences of words, and empty sets.
 use Rattle.std.proofs.Common.{bit_and, bit_or, ◌≡◌, ℕ, zero, suc, ◌+◌, ◌-◌, ◌*◌, ◌/◌, ◌%◌, ◌^◌, ◌<◌, ◌≤◌, Bool, true, false, not, ◌||◌, ◌&&◌, eqb, List, length, get_or, arith, refl, sym, ap, ◌∙◌, inl, inr, w64}
 use Rattle.std.proofs.lemmas.Bool.{cases_eq, cases_lt, eq-eqb, ne_eqb}
 use Rattle.std.proofs.lemmas.List.{get_or_past}
@@ -8,7 +8,7 @@ use Rattle.std.specs.Int.{bit_at}
 use Rattle.lrc_bits.specs.Flags.{flags}
 use Rattle.lrc_bits.proofs.FlagLemmas.{at_word, read}
 
--- a flag of two words joined is a flag of one
+-- a flag of the union of two words is a flag of one of them
 pub or_flag : (a b t : ℕ) → eqb (bit_at (bit_or a b) t) 1 ≡ (eqb (bit_at a t) 1 || eqb (bit_at b t) 1)
 or_flag a b t =
     let both = bit_at_or a b t in
@@ -22,21 +22,12 @@ or_flag a b t =
           rw (other, zero) refl
     ]
 
--- words that are joined one by one hold what either held
-pub flags-union : (new old others : List ℕ) (xs ys zs : List Bool) → flags new ≡ xs → flags old ≡ ys → flags others ≡ zs
-    → length new ≡ length old → length others ≡ length old
-    → ((j : ℕ) → j < length old → get_or new j 0 ≡ bit_or (get_or old j 0) (get_or others j 0)) → (k : ℕ) → get_or xs k false
-    ≡ (get_or ys k false || get_or zs k false)
-flags-union new old others xs ys zs a b c same also each k =
-    rw (read new xs k a, read old ys k b, read others zs k c) (elim (cases_lt (k / 64) (length old)) [
-      | inl within ↦ rw (each (k / 64) within) (or_flag (get_or old (k / 64) 0) (get_or others (k / 64) 0) (k % 64))
-      | inr past ↦
-          let p : length new ≤ k / 64 = omega (arith, past, same) in
-          let q : length others ≤ k / 64 = omega (arith, past, also) in
-          rw (get_or_past new (k / 64) 0 p, get_or_past old (k / 64) 0 past, get_or_past others (k / 64) 0 q, bit_at-zero (k % 64)) refl
-    ])
+-- a truth value and itself
+pub and-same : (b : Bool) → (b && b) ≡ b
+and-same true = refl
+and-same false = refl
 
--- a flag that two words have in common is a flag of both
+-- a flag of the intersection of two words is a flag of both
 and_flag : (a b t : ℕ) → eqb (bit_at (bit_and a b) t) 1 ≡ (eqb (bit_at a t) 1 && eqb (bit_at b t) 1)
 and_flag a b t =
     let both = bit_at_and a b t in
@@ -49,7 +40,7 @@ and_flag a b t =
           rw (zero, ne_eqb (bit_at a t) 1 none) refl
     ]
 
--- words to which those of two others in common are joined one by one hold what they held, and what both others hold
+-- words to which the intersections of two others are added have their own numbers and those that both others have
 pub flags-common : (new old ones others : List ℕ) (xs ys us vs : List Bool) → flags new ≡ xs → flags old ≡ ys → flags ones ≡ us → flags others ≡ vs
     → length new ≡ length old → length ones ≡ length old
     → ((j : ℕ) → j < length old → get_or new j 0 ≡ bit_or (get_or old j 0) (bit_and (get_or ones j 0) (get_or others j 0))) → (k : ℕ)
@@ -65,7 +56,7 @@ flags-common new old ones others xs ys us vs a b c d same also each k =
           rw (get_or_past new (k / 64) 0 p, get_or_past old (k / 64) 0 past, get_or_past ones (k / 64) 0 q, bit_at-zero (k % 64)) refl
     ])
 
--- a flag that the one word has and the other lacks is a flag of the one alone
+-- a flag of `a` without `b` is a flag of `a` and not of `b`
 and_not_flag : (a b t : ℕ) → b < 2 ^ 64 → t < 64 → eqb (bit_at (bit_and a (2 ^ 64 - 1 - b)) t) 1 ≡ (eqb (bit_at a t) 1 && not (eqb (bit_at b t) 1))
 and_not_flag a b t small within =
     let both = bit_at_and a (2 ^ 64 - 1 - b) t in
@@ -88,7 +79,7 @@ and_not_flag a b t small within =
       and-true true = refl
       and-true false = refl
 
--- words from which those of another are taken one by one hold what they held and the other does not
+-- words from which others are removed one by one have their own numbers without the others'
 pub flags-difference : (new old others : List ℕ) (xs ys zs : List Bool) → flags new ≡ xs → flags old ≡ ys → flags others ≡ zs
     → length new ≡ length old → ((j : ℕ) → j < length old → get_or others j 0 < 2 ^ 64)
     → ((j : ℕ) → j < length old → get_or new j 0 ≡ bit_and (get_or old j 0) (2 ^ 64 - 1 - get_or others j 0)) → (k : ℕ)
@@ -101,7 +92,7 @@ flags-difference new old others xs ys zs a b c same fits each k =
           rw (get_or_past new (k / 64) 0 p, get_or_past old (k / 64) 0 past, bit_at-zero (k % 64)) refl
     ])
 
--- words joined are 0 where both are
+-- if a union is 0, both words are 0
 pub or-zero : (a b : ℕ) → a < 2 ^ 64 → b < 2 ^ 64 → bit_or a b ≡ 0 → (a ≡ 0) × (b ≡ 0)
 or-zero a b small also none = (
   same_from_bits_below 64 a 0 small (omega arith) (λ i within. let e = part i in e.0 ∙ sym (bit_at-zero i)),
@@ -111,11 +102,11 @@ or-zero a b small also none = (
   part i = let both = bit_at_or a b i in let zero : bit_at (bit_or a b) i ≡ 0 = ap (λ w. bit_at w i) none ∙ bit_at-zero i in
       (omega (arith, both, zero), omega (arith, both, zero))
 
--- and where both are 0, they are 0 joined
+-- and if both are 0, the union is 0
 pub or-both_zero : (a b : ℕ) → a ≡ 0 → b ≡ 0 → bit_or a b ≡ 0
 or-both_zero a b p q = rw (p, q) refl
 
--- where all words are 0, no flag is set
+-- if all words are 0, no flag is set
 pub flags-empty : (words : List ℕ) (xs : List Bool) → flags words ≡ xs → ((j : ℕ) → j < length words → get_or words j 0 ≡ 0)
     → (k : ℕ) → get_or xs k false ≡ false
 flags-empty words xs view none k = read words xs k view ∙ (elim (cases_lt (k / 64) (length words)) [
@@ -129,7 +120,7 @@ bit_off zero small off = refl
 bit_off (suc zero) small off = absurd (cc)
 bit_off (suc (suc n)) small off = absurd (omega (arith, small))
 
--- where no flag is set, each word is 0
+-- if no flag is set, each word is 0
 pub empty-flags : (words : List ℕ) (xs : List Bool) → flags words ≡ xs → ((k : ℕ) → get_or xs k false ≡ false) → (j : ℕ)
     → get_or words j 0 < 2 ^ 64 → get_or words j 0 ≡ 0
 empty-flags words xs view none j small =
@@ -137,6 +128,6 @@ empty-flags words xs view none j small =
     (λ i within. bit_off _ (bit_at-lt (get_or words j 0) i)
     (sym (at_word words j i within) ∙ (sym (read words xs (j * 64 + i) view) ∙ none (j * 64 + i))) ∙ sym (bit_at-zero i))
 
--- words joined stay a word
+-- the union of two words is a word
 pub or-small : (a b : ℕ) → a < 2 ^ 64 → b < 2 ^ 64 → bit_or a b < 2 ^ 64
 or-small a b small also = or_lt 64 a b small also

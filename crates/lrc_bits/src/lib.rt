@@ -1,4 +1,4 @@
-//! Sets of small numbers as bits, seen as lists of truth values.
+//! Sets of small numbers, stored as bits. Contracts see a set as a list of truth values, one for each number.
 #![tactic(auto)]
 
 mod bit_set;

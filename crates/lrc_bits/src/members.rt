@@ -3,12 +3,13 @@ ghost use Rattle.lrc_bits.specs.Flags.{FindsFrom, flags};
 
 use std::marker::Model;
 
-/// A walk over the numbers of a set, in rising order: those that it has left.
+/// An iterator over the numbers of a set, in ascending order. Contracts see it as the set of the numbers that are
+/// left.
 #[derive(Drop)]
 pub struct Members<'a> {
     words: &'a [u64],
-    /// Where the word stands that is being read.
-    place: usize,
+    /// The index of the word that is being read.
+    index: usize,
     /// The bits of this word that are left.
     rest: u64,
 }
@@ -19,15 +20,15 @@ impl<'a> Model for Members<'a> {
 
     ghost Value = { List Bool };
 
-    ghost view = { λ m. flags (words_left m.words.now m.place m.rest) };
+    ghost view = { λ m. flags (words_left m.words.now m.index m.rest) };
 
     ghost use Rattle.std.specs.Prelude.{◌<◌, ◌≤◌, ◌*◌, ◌^◌, length};
 
-    ghost invariant = { λ m. record { few : 64 * length m.words.now ≤ 2 ^ 32; within : m.place < length m.words.now } };
+    ghost invariant = { λ m. record { few : 64 * length m.words.now ≤ 2 ^ 32; within : m.index < length m.words.now } };
 }
 
 impl<'a> Members<'a> {
-    /// All numbers of the set that these words are.
+    /// Returns an iterator over the set with these words.
     pub(crate) fn new(words: &'a [u64]) -> Members<'a>
         requires few { 64 * length words.now ≤ 2 ^ 32 }
         requires some { 1 ≤ length words.now }
@@ -35,28 +36,28 @@ impl<'a> Members<'a> {
     {
         Members {
             words,
-            place: 0,
+            index: 0,
             rest: words[0],
         }
     }
 
-    /// Takes the first number that is left.
-    #[inline(always)] // in a loop the word that is being read then stays in a register
+    /// Returns the smallest number that is left, and removes it from the iterator.
+    #[inline(always)] // keeps the word that is being read in a register
     pub fn next_member(&mut self) -> Option<usize>
         ensures first { FindsFrom self.old 0 result }
         ensures left { IfSome result (λ k. self.new ≡ slice_set self.old k false) }
         ensures none { IfNone result (self.new ≡ self.old) }
     {
         let words = self.words;
-        let mut place = self.place;
+        let mut index = self.index;
         let mut rest = self.rest;
         while rest == 0 {
-            place += 1;
-            rest = *words.get(place)?;
+            index += 1;
+            rest = *words.get(index)?;
         }
         let bit = rest.trailing_zeros() as usize;
-        self.place = place;
+        self.index = index;
         self.rest = rest & !(1 << bit);
-        Some(place * 64 + bit)
+        Some(index * 64 + bit)
     }
 }

@@ -1,17 +1,6 @@
-use Rattle.std.proofs.Common.{arith, refl, ap, length}
-use Rattle.lrc_bits.proofs.FlagLemmas.{length-flags}
-use Rattle.lrc_bits.proofs.UnionLemmas.{flags-union}
+use Rattle.std.proofs.Common.{false, ◌||◌, get_or, ap, ◌∙◌}
+use Rattle.lrc_bits.proofs.UnionLemmas.{and-same}
 use Rattle.lrc_bits.proofs.bit_set.BitSet.insert_all.Goals as goal
 
-pub returns-clause-same : goal.returns-clause-same
-returns-clause-same g c =
-    let new = length-flags c.loop-i.self-inside.words in
-    let old = length-flags c.self.inside.words in
-    let view = ap length c.self.view_is in
-    omega (arith, new, old, view, c.loop-i.invariant.long)
-
 pub returns-clause-either : goal.returns-clause-either
-returns-clause-either g c =
-    flags-union c.loop-i.self-inside.words c.self.inside.words c.other.inside.words _ c.args.self.now c.args.other.now refl
-    c.self.view_is c.other.view_is c.loop-i.invariant.long (omega arith)
-    (λ j below. c.loop-i.invariant.done j (omega arith))
+returns-clause-either g c = λ k. c.insert_common.ensures.both k ∙ ap (λ b. get_or c.args.self.now k false || b) (and-same (get_or c.args.other.now k false))

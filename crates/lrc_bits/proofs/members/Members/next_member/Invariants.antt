@@ -4,9 +4,9 @@ use Rattle.lrc_bits.proofs.members.Members.next_member.Given as goal
 
 abbrev pub invariant-loop-rest : goal.invariant-loop-rest
 invariant-loop-rest l = record {
-  within : l.place < length l.self-inside.words.now;
-  same : words_left l.self-inside.words.now l.place l.rest ≡ words_left l.self-inside.words.now l.self-inside.place l.self-inside.rest;
+  within : l.index < length l.self-inside.words.now;
+  same : words_left l.self-inside.words.now l.index l.rest ≡ words_left l.self-inside.words.now l.self-inside.index l.self-inside.rest;
 }
 
 abbrev pub decreases-loop-rest : goal.decreases-loop-rest
-decreases-loop-rest l = length l.self-inside.words.now - l.place
+decreases-loop-rest l = length l.self-inside.words.now - l.index
