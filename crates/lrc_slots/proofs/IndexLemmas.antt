@@ -1,4 +1,4 @@
--- The least rank of the least load is that of the row that is chosen.
+-- The first ordinal, by load and then by ordinal, is that of the row that is chosen.
 use Rattle.std.proofs.Common.{◌≡◌, ◌≢◌, ℕ, zero, suc, ◌<◌, ◌≤◌, ◌⊎◌, ◌↔◌, cond, set, Bool, true, false, not, ◌&&◌, ◌||◌, eqb, ltb, List, [], ◌∷◌, length, get_or, map, filter, Some, None, is_some, arith, refl, sym, ap, ◌∙◌, inl, inr}
 use Rattle.std.proofs.lemmas.Bool.{cases_Bool, cases_eq, cases_lt, and_parts, and_from, not-true, not_from_false, eq-eqb, ne_eqb, eqb-true}
 use Rattle.std.proofs.lemmas.Bool.Decides.{nat_tests}
@@ -18,18 +18,18 @@ use Rattle.lrc_slots.specs.Slots.{least_free, taken_count}
 use Rattle.lrc_slots.specs.Barred.{Barred}
 use Rattle.lrc_slots.specs.Tables.{Row, Table, Bars, barred, row_at}
 use Rattle.lrc_slots.specs.Rows.{alone, is_open, precedes}
-use Rattle.lrc_slots.specs.Indexes.{listed, is_listed, is_in_fault, is_in_upgrade, ranks_of, AreRanks, AreIndexed, Shows, IsJoined, IsLeastOutside}
+use Rattle.lrc_slots.specs.Indexes.{listed, is_listed, is_in_fault, is_in_upgrade, ordinals_of, AreOrdinals, AreIndexed, Shows, IsJoined, IsLeastOutside}
 use Rattle.lrc_slots.proofs.MarkLemmas.{or-true}
 use Rattle.lrc_slots.proofs.LeastLemmas.{filter-none}
 use Rattle.lrc_code.proofs.NumbersLemmas.{equal_nodes}
 use Rattle.lrc_slots.proofs.ChoiceLemmas.{rows-found}
 use Rattle.lrc_topology.proofs.SeatLemmas.{lighter-order}
 
--- load and number put rows in order
+-- load and number order the rows
 precedes-order : IsStrictWeakOrder precedes
 precedes-order = lighter-order (λ r. taken_count (alone r) r.node) (λ r. r.node.number)
 
--- an element that passes is of what is left
+-- an element that passes is in the filtered list
 contains-filter : {X : Type 0} (test : X → Bool) (xs : List X) (k : ℕ) (d : X) → k < length xs → test (get_or xs k d) ≡ true
     → Contains (filter test xs) (get_or xs k d)
 contains-filter test [] k d within hit = absurd (omega (arith, within))
@@ -41,7 +41,7 @@ contains-filter test (x ∷ xs) (suc k) d within hit =
       | inr lost ↦ rw lost rest
     ]
 
--- what is true of each that passes is true of each that is left
+-- what holds for each element that passes holds for the filtered list
 pub all-left : {X : Type 0} (test : X → Bool) (P : X → Type 0) (xs : List X) → AllByRecursion (λ x. test x ≡ true → P x) xs
     → AllByRecursion P (filter test xs)
 all-left test P [] all = tt
@@ -50,11 +50,11 @@ all-left test P (x ∷ xs) all = elim (cases_Bool (test x)) [
   | inr miss ↦ rw miss (all-left test P xs all.1)
 ]
 
--- of two that tie the numbers are the same
+-- if two keys tie, the numbers are equal
 same_keys : (a m b n : ℕ) → (ltb a b || (eqb a b && ltb m n)) ≡ false → (ltb b a || (eqb b a && ltb n m)) ≡ false → m ≡ n
 same_keys a m b n h k = grind (arith, nat_tests)
 
--- what comes after by load and number is not chosen before
+-- a later key does not come before an earlier one
 later_key : (a m b n : ℕ) → (a < b) ⊎ ((a ≡ b) × (m ≤ n)) → (ltb b a || (eqb b a && ltb n m)) ≡ false
 later_key a m b n (inl less) = grind (arith, nat_tests)
 later_key a m b n (inr same) = let e = same.0 in let f = same.1 in grind (arith, nat_tests)
@@ -71,22 +71,22 @@ module _ (rows : Table) (known : AreNodes (map (λ r. r.node) rows)) where
       let number = same_keys (taken_count (alone a) a.node) a.node.number.value (taken_count (alone b) b.node) b.node.number.value one other in
       same_Some a b (sym at_a ∙ (ap (row_at rows) (equal_nodes a.node.number b.node.number number) ∙ at_b))
 
-  module _ {ranks at : List ℕ} (h : AreRanks rows ranks at) {loads : List (List Bool)} (s : Shows rows ranks at is_listed loads)
+  module _ {ordinals at : List ℕ} (h : AreOrdinals rows ordinals at) {loads : List (List Bool)} (s : Shows rows ordinals at is_listed loads)
       (b : Barred) (mask : ℕ → Bool)
-      (m : (i : ℕ) (d : Row) → i < length rows → mask (get_or ranks i 0)
+      (m : (i : ℕ) (d : Row) → i < length rows → mask (get_or ordinals i 0)
       ≡ (b.faults (get_or rows i d).node.fault || b.upgrades (get_or rows i d).node.upgrade)) where
-    -- a row that may take a seat stands under its load, outside the mask
+    -- a row that may take a seat is listed with its load, outside the mask
     open-listed : (i : ℕ) (d : Row) → i < length rows → is_open b (get_or rows i d) ≡ true
-        → (listed loads (taken_count (alone (get_or rows i d)) (get_or rows i d).node) (get_or ranks i 0) ≡ true) × (mask
-        (get_or ranks i 0) ≡ false)
+        → (listed loads (taken_count (alone (get_or rows i d)) (get_or rows i d).node) (get_or ordinals i 0) ≡ true) × (mask
+        (get_or ordinals i 0) ≡ false)
     open-listed i d within hit =
         let r = get_or rows i d in
         let parts = and_parts (r.eligible && is_some (least_free (alone r) r.node)) (not (b.faults r.node.fault || b.upgrades r.node.upgrade)) hit in
         (s.shown i (taken_count (alone r) r.node) d within ∙ and_from _ _ parts.0 (eq-eqb _ _ refl), m i d within ∙ not-true _ parts.1)
 
-    -- a row that stands under a load outside the mask may take a seat, and has that load
-    listed-open : (i load : ℕ) (d : Row) → i < length rows → listed loads load (get_or ranks i 0) ≡ true
-        → mask (get_or ranks i 0) ≡ false
+    -- a row that is listed with a load, outside the mask, may take a seat and has that load
+    listed-open : (i load : ℕ) (d : Row) → i < length rows → listed loads load (get_or ordinals i 0) ≡ true
+        → mask (get_or ordinals i 0) ≡ false
         → (is_open b (get_or rows i d) ≡ true) × (taken_count (alone (get_or rows i d)) (get_or rows i d).node ≡ load)
     listed-open i load d within hit free =
         let r = get_or rows i d in
@@ -95,16 +95,16 @@ module _ (rows : Table) (known : AreNodes (map (λ r. r.node) rows)) where
         let bars : (b.faults r.node.fault || b.upgrades r.node.upgrade) ≡ false = sym (m i d within) ∙ free in
         (and_from _ _ parts.0 (not_from_false _ bars), eqb-true _ _ parts.1)
 
-    -- the order of ranks is that of numbers
-    ordered : (i load rank : ℕ) (d : Row) (j : ℕ) (e : Row) → i < length rows → j < length rows → get_or ranks i 0 ≡ rank
+    -- ordinals have the order of node numbers
+    ordered : (i load ordinal : ℕ) (d : Row) (j : ℕ) (e : Row) → i < length rows → j < length rows → get_or ordinals i 0 ≡ ordinal
         → taken_count (alone (get_or rows i d)) (get_or rows i d).node ≡ load
         → (load < taken_count (alone (get_or rows j e)) (get_or rows j e).node) ⊎
-        ((load ≡ taken_count (alone (get_or rows j e)) (get_or rows j e).node) × (rank ≤ get_or ranks j 0))
+        ((load ≡ taken_count (alone (get_or rows j e)) (get_or rows j e).node) × (ordinal ≤ get_or ordinals j 0))
         → (taken_count (alone (get_or rows i d)) (get_or rows i d).node < taken_count (alone (get_or rows j e)) (get_or rows j e).node)
         ⊎ ((taken_count (alone (get_or rows i d)) (get_or rows i d).node ≡ taken_count (alone (get_or rows j e))
         (get_or rows j e).node) × ((get_or rows i d).node.number.value ≤ (get_or rows j e).node.number.value))
-    ordered i load rank d j e in_i in_j same counted (inl less) = inl (rw counted less)
-    ordered i load rank d j e in_i in_j same counted (inr tie) = inr (
+    ordered i load ordinal d j e in_i in_j same counted (inl less) = inl (rw counted less)
+    ordered i load ordinal d j e in_i in_j same counted (inr tie) = inr (
       counted ∙ tie.0,
       elim (cases_lt (get_or rows j e).node.number.value (get_or rows i d).node.number.value) [
         | inl lower ↦ absurd (
@@ -116,26 +116,26 @@ module _ (rows : Table) (known : AreNodes (map (λ r. r.node) rows)) where
       ],
     )
 
-    -- the row of the rank that is found is chosen before all others
-    pub chosen-row : (load rank : ℕ) (d : Row) → IsLeastOutside loads mask load rank
-        → least precedes (filter (is_open b) rows) ≡ Some (get_or rows (get_or at rank 0) d)
-    chosen-row load rank d found =
-        let i : ℕ = get_or at rank 0 in
-        let own = s.known load rank found.here in
-        let same : get_or ranks i 0 ≡ rank = own.1 in
+    -- the row of the ordinal that is found precedes all others
+    pub chosen-row : (load ordinal : ℕ) (d : Row) → IsLeastOutside loads mask load ordinal
+        → least precedes (filter (is_open b) rows) ≡ Some (get_or rows (get_or at ordinal 0) d)
+    chosen-row load ordinal d found =
+        let i : ℕ = get_or at ordinal 0 in
+        let own = s.known load ordinal found.here in
+        let same : get_or ordinals i 0 ≡ ordinal = own.1 in
         let x = get_or rows i d in
         let seat = listed-open i load d own.0 (rw same found.here) (rw same found.free) in
         let after : All (λ y. is_open b y ≡ true → precedes y x ≡ false) rows = λ j e within hit.
         let y = get_or rows j e in
         let there = open-listed j e within hit in
-        let order = found.first (taken_count (alone y) y.node) (get_or ranks j 0) there.0 there.1 in
+        let order = found.first (taken_count (alone y) y.node) (get_or ordinals j 0) there.0 there.1 in
         later_key (taken_count (alone x) x.node) x.node.number.value (taken_count (alone y) y.node) y.node.number.value
-        (ordered i load rank d j e own.0 within same seat.1 order) in
+        (ordered i load ordinal d j e own.0 within same seat.1 order) in
         least-only precedes precedes-order x (filter (is_open b) rows) (no_ties (is_open b)) (contains-filter (is_open b) rows i d own.0 seat.0)
         (All-from_recursion _ (filter (is_open b) rows) (all-left (is_open b) (λ y. precedes y x ≡ false) rows (recursion_from_All _ rows after)))
 
-    -- where every rank is in the mask, no row may take a seat
-    pub none-open : ((load rank : ℕ) → listed loads load rank ≡ true → mask rank ≡ true)
+    -- if every listed ordinal is in the mask, no row may take a seat
+    pub none-open : ((load ordinal : ℕ) → listed loads load ordinal ≡ true → mask ordinal ≡ true)
         → least precedes (filter (is_open b) rows) ≡ None
     none-open all = ap (least precedes)
         (filter-none (is_open b) rows (recursion_from_All (λ y. is_open b y ≡ false) rows
@@ -144,13 +144,13 @@ module _ (rows : Table) (known : AreNodes (map (λ r. r.node) rows)) where
           | inr miss ↦ miss
         ])))
 
-    -- where a rank outside the mask stands under a load, some row may take a seat
-    pub some-open : (load rank : ℕ) (d : Row) → listed loads load rank ≡ true → mask rank ≡ false
+    -- if an ordinal outside the mask is listed, some row may take a seat
+    pub some-open : (load ordinal : ℕ) (d : Row) → listed loads load ordinal ≡ true → mask ordinal ≡ false
         → ¬ (least precedes (filter (is_open b) rows) ≡ None)
-    some-open load rank d hit free none =
-        let i : ℕ = get_or at rank 0 in
-        let own = s.known load rank hit in
-        let same : get_or ranks i 0 ≡ rank = own.1 in
+    some-open load ordinal d hit free none =
+        let i : ℕ = get_or at ordinal 0 in
+        let own = s.known load ordinal hit in
+        let same : get_or ordinals i 0 ≡ ordinal = own.1 in
         let seat = listed-open i load d own.0 (rw same hit) (rw same free) in
         let left = contains-filter (is_open b) rows i d own.0 seat.0 in
         let empty = (least-none precedes (filter (is_open b) rows)).0 none in
@@ -165,19 +165,19 @@ same_false : (b : Bool) → (b ≡ true → ⊥) → b ≡ false
 same_false true refuted = absurd (refuted refl)
 same_false false refuted = refl
 
-module _ {rows : Table} {ranks at : List ℕ} {faults upgrades : List (List Bool)} (f : Shows rows ranks at is_in_fault faults)
-    (u : Shows rows ranks at is_in_upgrade upgrades) (bars : Bars) (mask : List Bool)
+module _ {rows : Table} {ordinals at : List ℕ} {faults upgrades : List (List Bool)} (f : Shows rows ordinals at is_in_fault faults)
+    (u : Shows rows ordinals at is_in_upgrade upgrades) (bars : Bars) (mask : List Bool)
     (joined : (r : ℕ) → (get_or mask r false ≡ true) ↔ (IsJoined bars.faults faults r ⊎ IsJoined bars.upgrades upgrades r)) where
-  -- the joined ranks are those of the rows in barred domains
+  -- the union has exactly the ordinals of the rows in barred domains
   pub mask-bars : (i : ℕ) (d : Row) → i < length rows
-      → get_or mask (get_or ranks i 0) false
+      → get_or mask (get_or ordinals i 0) false
       ≡ ((barred bars).faults (get_or rows i d).node.fault || (barred bars).upgrades (get_or rows i d).node.upgrade)
   unfolding barred
   mask-bars i d within =
       let x = get_or rows i d in
-      let rank : ℕ = get_or ranks i 0 in
-      elim (cases_Bool (get_or mask rank false)) [
-        | inl hit ↦ rw hit (elim ((joined rank).0 hit) [
+      let ordinal : ℕ = get_or ordinals i 0 in
+      elim (cases_Bool (get_or mask ordinal false)) [
+        | inl hit ↦ rw hit (elim ((joined ordinal).0 hit) [
           | inl by_fault ↦
               let same = eqb-true _ _ (sym (f.shown i by_fault.0 d within) ∙ by_fault.2) in
               let named : get_or bars.faults x.node.fault.value false ≡ true = rw same by_fault.1 in
@@ -189,18 +189,18 @@ module _ {rows : Table} {ranks at : List ℕ} {faults upgrades : List (List Bool
         ])
         | inr miss ↦
             let none_fault = same_false (get_or bars.faults x.node.fault.value false) (λ hit.
-            let clash : true ≡ false = sym ((joined rank).1
+            let clash : true ≡ false = sym ((joined ordinal).1
             (inl (x.node.fault.value, hit, f.shown i x.node.fault.value d within ∙ eq-eqb _ _ refl))) ∙ miss in cc) in
             let none_upgrade = same_false (get_or bars.upgrades x.node.upgrade.value false) (λ hit.
-            let clash : true ≡ false = sym ((joined rank).1
+            let clash : true ≡ false = sym ((joined ordinal).1
             (inr (x.node.upgrade.value, hit, u.shown i x.node.upgrade.value d within ∙ eq-eqb _ _ refl))) ∙ miss in cc) in
             rw (miss, none_fault, none_upgrade) refl
       ]
 
--- ---- a row is replaced by another of the same node
+-- ---- replacing a row by another of the same node
 
-module _ {rows : Table} {numbers : List NodeNo} {ranks at : List ℕ} {loads faults upgrades : List (List Bool)}
-    (h : AreIndexed rows numbers ranks at loads faults upgrades) where
+module _ {rows : Table} {numbers : List NodeNo} {ordinals at : List ℕ} {loads faults upgrades : List (List Bool)}
+    (h : AreIndexed rows numbers ordinals at loads faults upgrades) where
   module _ (i : ℕ) (y : Row) (d : Row) (within : i < length rows) (stays : y.node ≡ (get_or rows i d).node) where
     -- each row keeps its node
     node-kept : (j : ℕ) (e : Row) → j < length rows → (get_or (set rows i y) j e).node ≡ (get_or rows j e).node
@@ -214,14 +214,14 @@ module _ {rows : Table} {numbers : List NodeNo} {ranks at : List ℕ} {loads fau
     nodes-kept : map (λ x. x.node) (set rows i y) ≡ map (λ x. x.node) rows
     nodes-kept = map-set_same (λ (x : Row). x.node) rows i y d stays
 
-    -- their numbers stay
+    -- the node numbers stay
     numbers-kept : map (λ x. x.node.number) (set rows i y) ≡ map (λ x. x.node.number) rows
     numbers-kept = map-set_same (λ (x : Row). x.node.number) rows i y d (ap (λ (n : NodeInfo). n.number) stays)
 
-    -- what the sets show of nodes alone stays
+    -- sets that depend only on nodes stay
     domains-kept : (test : Row → ℕ → Bool) (sets : List (List Bool))
-        → ((r s : Row) (k : ℕ) → r.node ≡ s.node → test r k ≡ test s k) → Shows rows ranks at test sets
-        → Shows (set rows i y) ranks at test sets
+        → ((r s : Row) (k : ℕ) → r.node ≡ s.node → test r k ≡ test s k) → Shows rows ordinals at test sets
+        → Shows (set rows i y) ordinals at test sets
     domains-kept test sets by_node s = record {
       shown = λ j k e in_j.
           let inside : j < length rows = rw length-set at in_j in
@@ -229,43 +229,43 @@ module _ {rows : Table} {numbers : List NodeNo} {ranks at : List ℕ} {loads fau
       known = λ k r hit. let own = s.known k r hit in (rw (length-set rows i y) own.0, own.1);
     }
 
-    -- the ranks stay
-    ranks-kept : AreRanks (set rows i y) ranks at
-    ranks-kept =
+    -- the ordinals stay
+    ordinals-kept : AreOrdinals (set rows i y) ordinals at
+    ordinals-kept =
         let same = length-set rows i y in
         record {
-          ranked = h.ranked.ranked ∙ sym same;
-          counted = h.ranked.counted ∙ ap ranks_of (sym nodes-kept);
-          placed = h.ranked.placed;
-          low = λ j in_j. h.ranked.low j (rw same at in_j);
-          back = λ j in_j. h.ranked.back j (rw same at in_j);
+          complete = h.by_ordinal.complete ∙ sym same;
+          counted = h.by_ordinal.counted ∙ ap ordinals_of (sym nodes-kept);
+          long = h.by_ordinal.long;
+          low = λ j in_j. h.by_ordinal.low j (rw same at in_j);
+          back = λ j in_j. h.by_ordinal.back j (rw same at in_j);
           rising = λ j k e in_j in_k less.
               let one : j < length rows = rw same at in_j in
               let other : k < length rows = rw same at in_k in
               let less_old : (get_or rows j e).node.number.value
               < (get_or rows k e).node.number.value = rw (← node-kept j e one, ← node-kept k e other) less in
-              h.ranked.rising j k e one other less_old;
+              h.by_ordinal.rising j k e one other less_old;
         }
 
-    -- its rank is put under the new load
+    -- the ordinal is listed with the new load
     loads-kept : (new : List (List Bool))
-        → ((k r : ℕ) → listed new k r ≡ cond (eqb (get_or ranks i 0) r) (is_listed y k) (listed loads k r))
-        → Shows (set rows i y) ranks at is_listed new
+        → ((k r : ℕ) → listed new k r ≡ cond (eqb (get_or ordinals i 0) r) (is_listed y k) (listed loads k r))
+        → Shows (set rows i y) ordinals at is_listed new
     loads-kept new moved = record {
       shown = λ j k e in_j.
           let inside : j < length rows = rw length-set at in_j in
           elim (cases_eq j i) [
-            | inl same ↦ rw same (moved k (get_or ranks i 0) ∙ rw (eq-eqb (get_or ranks i 0) (get_or ranks i 0) refl)
+            | inl same ↦ rw same (moved k (get_or ordinals i 0) ∙ rw (eq-eqb (get_or ordinals i 0) (get_or ordinals i 0) refl)
                 (ap (λ x. is_listed x k) (sym (get_or-set_same rows i y e within))))
             | inr other ↦
-                let apart : get_or ranks i 0 ≢ get_or ranks j 0 = λ e. other
-                (sym (h.ranked.back j inside) ∙ (ap (λ r. get_or at r 0) (sym e) ∙ h.ranked.back i within)) in
-                moved k (get_or ranks j 0) ∙ rw (ne_eqb _ _ apart)
+                let apart : get_or ordinals i 0 ≢ get_or ordinals j 0 = λ e. other
+                (sym (h.by_ordinal.back j inside) ∙ (ap (λ r. get_or at r 0) (sym e) ∙ h.by_ordinal.back i within)) in
+                moved k (get_or ordinals j 0) ∙ rw (ne_eqb _ _ apart)
                 (h.by_load.shown j k e inside ∙ ap (λ x. is_listed x k) (sym (get_or-set_other rows i j y e other)))
           ];
-      known = λ k r hit. elim (cases_eq (get_or ranks i 0) r) [
+      known = λ k r hit. elim (cases_eq (get_or ordinals i 0) r) [
         | inl same ↦
-            let back : get_or at r 0 ≡ i = ap (λ q. get_or at q 0) (sym same) ∙ h.ranked.back i within in
+            let back : get_or at r 0 ≡ i = ap (λ q. get_or at q 0) (sym same) ∙ h.by_ordinal.back i within in
             (rw (length-set rows i y, back) within, rw back same)
         | inr other ↦
             let was : listed loads k r ≡ true = sym (moved k r ∙ rw (ne_eqb _ _ other) refl) ∙ hit in
@@ -274,14 +274,14 @@ module _ {rows : Table} {numbers : List NodeNo} {ranks at : List ℕ} {loads fau
       ];
     }
 
-    -- the row is replaced, and its rank stands under the new load
+    -- the row is replaced, and its ordinal is listed with the new load
     pub indexed-set : (new : List (List Bool))
-        → ((k r : ℕ) → listed new k r ≡ cond (eqb (get_or ranks i 0) r) (is_listed y k) (listed loads k r))
-        → AreIndexed (set rows i y) numbers ranks at new faults upgrades
+        → ((k r : ℕ) → listed new k r ≡ cond (eqb (get_or ordinals i 0) r) (is_listed y k) (listed loads k r))
+        → AreIndexed (set rows i y) numbers ordinals at new faults upgrades
     indexed-set new moved = record {
       nodes = rw nodes-kept h.nodes;
       numbered = h.numbered ∙ sym numbers-kept;
-      ranked = ranks-kept;
+      by_ordinal = ordinals-kept;
       by_load = loads-kept new moved;
       by_fault = domains-kept is_in_fault faults (λ r s k e. ap (λ (n : NodeInfo). eqb n.fault.value k) e) h.by_fault;
       by_upgrade = domains-kept is_in_upgrade upgrades (λ r s k e. ap (λ (n : NodeInfo). eqb n.upgrade.value k) e) h.by_upgrade;

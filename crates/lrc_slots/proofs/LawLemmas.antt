@@ -1,4 +1,4 @@
--- What the definitions mean: the least free slot, and the node that takes the next seat.
+-- What the definitions mean: the lowest free slot, and the node that gets the next seat.
 use Rattle.std.proofs.Common.{◌≡◌, ℕ, ◌<◌, ◌↔◌, true, false, not, ◌&&◌, ◌||◌, List, filter, Option, Some, None, is_some, arith, refl, sym, ap, ◌∙◌, inl, inr, IsTrue}
 use Rattle.std.proofs.lemmas.Bool.{cases_Bool, cases_eq, and_parts, and_from, or_parts, or_from, not-true, not_from_false, false_from_ne_true}
 use Rattle.std.proofs.lemmas.List.Elements.{All-contains, Contains-get_or, All-from_recursion, recursion_from_All}
@@ -18,7 +18,7 @@ use Rattle.lrc_code.proofs.NumbersLemmas.{equal_nodes}
 use Rattle.lrc_code.proofs.OrderLemmas.{all_kept, each_listed, least-all, least-none, least-first}
 use Rattle.lrc_slots.proofs.NodeLemmas.{all_found}
 
--- ---- the least free slot
+-- ---- the lowest free slot
 
 pub least_free-some : (t : Slots) (n : NodeInfo) (k : ℕ) → (least_free t n ≡ Some k) ↔ IsLeastFree t n k
 least_free-some t n k = (

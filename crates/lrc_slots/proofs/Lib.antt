@@ -14,4 +14,4 @@ pub mod SetupLemmas
 pub mod BarredNodesLemmas
 pub mod WalkLemmas
 pub mod WriteLemmas
-pub mod RankWordLemmas
+pub mod OrdinalWordLemmas

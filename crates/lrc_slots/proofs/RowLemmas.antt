@@ -1,4 +1,4 @@
--- One row kept as marks and a count.
+-- One row, stored as marks and a count.
 use Rattle.std.proofs.Common.{◌≡◌, ◌≢◌, ℕ, zero, suc, ◌+◌, ◌-◌, ◌<◌, ◌≤◌, Bool, true, false, ◌&&◌, eqb, is_some, cond, zero-add, length-take-le, ◌∷◌, List, length, get_or, set, take, replicate, Option, Some, None, IsSome, arith, refl, sym, ap, ◌∙◌, inl, inr}
 use Rattle.std.proofs.Math.ListN.{length-set}
 use Rattle.std.proofs.lemmas.Bool.{cases_lt}
@@ -16,11 +16,11 @@ use Rattle.lrc_slots.specs.Indexes.{is_listed}
 use Rattle.lrc_slots.proofs.CountLemmas.{first_slot-is, first_slot-all, first_slot-found, first_slot-none, count-one}
 use Rattle.lrc_slots.proofs.MarkLemmas.{get_or-replicate_same}
 
--- the first places of a list that is long enough
+-- the list is long enough for the node's slots
 pub taken-length : (node : NodeInfo) (load : ℕ) (marks : List Bool) → AreMarks node load marks → length (take node.slots marks) ≡ node.slots
 taken-length node load marks h = length-take-le node.slots marks (omega (arith, h.few, h.all))
 
--- a mark of a slot is read from the marks
+-- the mark of a slot is read from the marks
 pub marked-within : (n k : ℕ) (marks : List Bool) → k < n → get_or (take n marks) k false ≡ get_or marks k false
 marked-within n k marks within = get_or-take n marks k false within
 
@@ -32,7 +32,7 @@ least_free-found node eligible marks k h within =
     (marked-within node.slots k marks within ∙ h.lacks)
     (λ j low less. marked-within node.slots j marks (omega (arith, less, within)) ∙ h.first j less)
 
--- an absent mark past the last slot is no free slot
+-- an absent mark after the last slot is no free slot
 pub least_free-past : (node : NodeInfo) (eligible : Bool) (marks : List Bool) (k : ℕ) → IsFirstAbsent marks k → node.slots ≤ k
     → least_free (alone (row_of node eligible marks)) node ≡ None
 least_free-past node eligible marks k h past =
@@ -40,7 +40,7 @@ least_free-past node eligible marks k h past =
     (λ j low less. let within : j < node.slots = omega (arith, less) in marked-within node.slots j marks within ∙ h.first j
     (omega (arith, within, past)))
 
--- where all marks are there, no slot is free
+-- if no mark is absent, no slot is free
 pub least_free-none : (node : NodeInfo) (eligible : Bool) (load : ℕ) (marks : List Bool) → AreMarks node load marks
     → ((j : ℕ) → j < length marks → get_or marks j false ≡ true)
     → least_free (alone (row_of node eligible marks)) node ≡ None
@@ -49,32 +49,32 @@ least_free-none node eligible load marks h all =
     (λ j low less. let within : j < node.slots = omega (arith, less) in marked-within node.slots j marks within ∙ all j
     (omega (arith, within, h.few, h.all)))
 
--- ---- where a slot is free
+-- ---- given a free slot
 
 module _ (node : NodeInfo) (eligible : Bool) (load : ℕ) (marks : List Bool) (h : AreMarks node load marks)
     (room : IsSome (least_free (alone (row_of node eligible marks)) node)) where
-  -- a mark is absent
+  -- some mark is absent
   pub absent-found : (o : Option ℕ) → FindsAbsent marks o → IsSome o
   absent-found None all = absurd (let none = rw (least_free-none node eligible load marks h all) at room in cc)
   absent-found (Some k) first = refl
 
-  -- and the first one is the least free slot
+  -- and the first absent mark is the lowest free slot
   pub absent-least : (k : ℕ) → IsFirstAbsent marks k → least_free (alone (row_of node eligible marks)) node ≡ Some k
   absent-least k first = elim (cases_lt k node.slots) [
     | inl within ↦ least_free-found node eligible marks k first within
     | inr past ↦ absurd (let none = rw (least_free-past node eligible marks k first past) at room in cc)
   ]
 
--- a least free slot is one of the node, and free
+-- the lowest free slot is one of the node, and is free
 pub free-found : (node : NodeInfo) (load : ℕ) (marks : List Bool) → AreMarks node load marks → (eligible : Bool) (k : ℕ)
     → least_free (alone (row_of node eligible marks)) node ≡ Some k → (k < node.slots) × (get_or (take node.slots marks) k false ≡ false)
 free-found node load marks h eligible k e =
     let found = first_slot-found (is_marked (row_of node eligible marks)) 0 node.slots k e in
     (omega (arith, found.1), found.2)
 
--- ---- a write
+-- ---- writing a mark
 
--- a mark is set, and no other changes
+-- one mark is written, the others stay
 module _ (node : NodeInfo) (load : ℕ) (marks : List Bool) (k : ℕ) (h : AreMarks node load marks) (within : k < node.slots) where
   -- the slot is one of the node
   inside : k < length (take node.slots marks)
@@ -89,7 +89,7 @@ module _ (node : NodeInfo) (load : ℕ) (marks : List Bool) (k : ℕ) (h : AreMa
   written-other b j other = ap (λ xs. get_or xs j false) (take-set-lt node.slots marks k b within) ∙ get_or-set_other
       (take node.slots marks) k j b false other
 
-  -- a slot is taken that was free
+  -- a free slot is taken
   pub marks-taken : get_or (take node.slots marks) k false ≡ false → AreMarks node (load + 1) (set marks k true)
   marks-taken miss =
       let more = count-one (λ j. get_or (take node.slots marks) j false)
@@ -97,7 +97,7 @@ module _ (node : NodeInfo) (load : ℕ) (marks : List Bool) (k : ℕ) (h : AreMa
       (written-here true) (written-other true) in
       record { few = h.few; all = length-set marks k true ∙ h.all; counted = omega (arith, more, h.counted) }
 
-  -- a slot is free that was taken
+  -- a taken slot is freed
   pub marks-freed : get_or (take node.slots marks) k false ≡ true → (0 < load) × AreMarks node (load - 1) (set marks k false)
   marks-freed hit =
       let less = count-one (λ j. get_or (take node.slots (set marks k false)) j false)
@@ -105,7 +105,7 @@ module _ (node : NodeInfo) (load : ℕ) (marks : List Bool) (k : ℕ) (h : AreMa
       (λ j other. sym (written-other false j other)) in
       (omega (arith, less, h.counted), record { few = h.few; all = length-set marks k false ∙ h.all; counted = omega (arith, less, h.counted) })
 
-  -- a row whose mark is written is the row with that slot written
+  -- writing a mark writes the slot of the row
   pub row-written : (eligible b : Bool)
       → row_of node eligible (set marks k b) ≡ record (row_of node eligible marks) { taken = set (take node.slots marks) k b }
   row-written eligible b = ap (λ xs. record { node = node; eligible = eligible; taken = xs }) (take-set-lt node.slots marks k b within)
@@ -119,23 +119,23 @@ load-most node load marks h =
 
 -- ---- a new row
 
--- the first of many marks that are not there
+-- the first of many absent marks
 front : (n m : ℕ) → n ≤ m → take n (replicate m false) ≡ replicate n false
 front zero m few = refl
 front (suc n) zero few = absurd (omega (arith, few))
 front (suc n) (suc m) few = ap (λ xs. false ∷ xs) (front n m (omega (arith, few)))
 
--- marks that are not there make a row with all slots free
+-- absent marks make a row with all slots free
 pub row-fresh : (node : NodeInfo) → node.slots ≤ 256 → row_of node true (replicate 256 false) ≡ fresh_row node
 row-fresh node few = ap (λ xs. record { node = node; eligible = true; taken = xs }) (front node.slots 256 few)
 
--- where none passes, none is counted
+-- if none passes, the count is 0
 none_counted : (t : ℕ → Bool) (a n : ℕ) → ((j : ℕ) → t j ≡ false) → count_by t (range_with_len a n) ≡ 0
 none_counted t a zero none = refl
 none_counted t a (suc n) none = rw (sum_by-cons (λ j. cond (t j) 1 0) a (range_with_len (a + 1) n), none a)
     (zero-add _ ∙ none_counted t (a + 1) n none)
 
--- of marks that are not there none is taken
+-- of absent marks none is taken
 pub marks-fresh : (node : NodeInfo) → node.slots ≤ 256 → AreMarks node 0 (replicate 256 false)
 marks-fresh node few = record {
   few = few;
@@ -144,9 +144,9 @@ marks-fresh node few = record {
       (λ j. ap (λ xs. get_or xs j false) (front node.slots 256 few) ∙ get_or-replicate_same node.slots j false));
 }
 
--- ---- under which load a row stands
+-- ---- the load that a row is listed with
 
--- where all pass, all are counted
+-- if all pass, all are counted
 all_counted : (t : ℕ → Bool) (a n : ℕ) → ((j : ℕ) → a ≤ j → j < a + n → t j ≡ true) → count_by t (range_with_len a n) ≡ n
 all_counted t a zero all = refl
 all_counted t a (suc n) all =
@@ -154,11 +154,11 @@ all_counted t a (suc n) all =
     rw (sum_by-cons (λ j. cond (t j) 1 0) a (range_with_len (a + 1) n), all a (omega arith) (omega arith)) (omega (arith, rest))
 
 module _ (node : NodeInfo) (load : ℕ) (marks : List Bool) (h : AreMarks node load marks) where
-  -- a slot is taken
+  -- the slot is taken
   mark : ℕ → Bool
   mark k = get_or (take node.slots marks) k false
 
-  -- where a slot is free, fewer are taken than there are
+  -- if a slot is free, fewer slots are taken than there are
   room-below : (k : ℕ) → k < node.slots → get_or (take node.slots marks) k false ≡ false → load < node.slots
   room-below k within miss =
       let one = marks-taken node load marks k h within miss in
@@ -192,7 +192,7 @@ module _ (node : NodeInfo) (load : ℕ) (marks : List Bool) (h : AreMarks node l
     | inr full ↦ absurd (let clash : false ≡ true = sym (full-none eligible full) ∙ some in cc)
   ]
 
-  -- and stands under its load where it is eligible
+  -- and is listed with its load if it is eligible
   pub listed-known : (eligible : Bool) → is_some (least_free (alone (row_of node eligible marks)) node) ≡ true
       → (k : ℕ) → (eligible && eqb load k) ≡ is_listed (row_of node eligible marks) k
   listed-known eligible some k = rw (some, ← h.counted) (also eligible (eqb load k)) where
@@ -200,11 +200,11 @@ module _ (node : NodeInfo) (load : ℕ) (marks : List Bool) (h : AreMarks node l
     also true b = refl
     also false b = refl
 
-  -- an eligible row with room stands under its load
+  -- an eligible row with room is listed with its load
   pub listed-room : load < node.slots → (k : ℕ) → eqb load k ≡ is_listed (row_of node true marks) k
   listed-room room k = rw (room-some true room, ← h.counted) refl
 
-  -- a full row stands under no load
+  -- a full row is not listed
   pub listed-full : (eligible : Bool) → node.slots ≤ load → (k : ℕ) → false ≡ is_listed (row_of node eligible marks) k
   listed-full eligible full k = rw (full-none eligible full) (off eligible (eqb (taken_count (alone (row_of node eligible marks)) node) k)) where
     off : (a b : Bool) → false ≡ (a && false && b)

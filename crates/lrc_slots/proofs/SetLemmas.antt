@@ -1,25 +1,25 @@
--- Sets of ranks by load.
+-- Sets of ordinals by key.
 use Rattle.std.proofs.Common.{◌≡◌, ◌≢◌, ℕ, zero, suc, add-one, ◌+◌, ◌<◌, Bool, true, false, not, ◌&&◌, ◌||◌, eqb, cond, List, [], ◌∷◌, ◌++◌, length, get_or, set, replicate, Option, Some, None, is_some, arith, refl, sym, ap, ◌∙◌, inl, inr}
 use Rattle.std.proofs.lemmas.Bool.{cases_Bool, cases_eq, eq-eqb, ne_eqb}
 use Rattle.std.proofs.lemmas.List.{length-replicate, get_or-set_same, get_or-set_other}
 use Rattle.std.specs.List.{All}
 use Rattle.lrc_bits.specs.Flags.{FindsFrom}
-use Rattle.lrc_slots.specs.Indexes.{listed, AreSets, is_entry}
+use Rattle.lrc_slots.specs.Indexes.{listed, AreSets, same_key}
 use Rattle.lrc_slots.proofs.MarkLemmas.{get_or-replicate_same, or-false, and-true}
 
--- ---- no rank at all
+-- ---- empty sets
 
--- in copies of a set without a rank it stands under no number
+-- copies of a set without an ordinal list it under no key
 sets_at : (n l : ℕ) (set : List Bool) (r : ℕ) → get_or set r false ≡ false → listed (replicate n set) l r ≡ false
 sets_at zero l set r none = refl
 sets_at (suc n) zero set r none = none
 sets_at (suc n) (suc l) set r none = sets_at n l set r none
 
--- in new sets no rank stands under a number
+-- new sets list no ordinal
 pub none-listed : (n l r : ℕ) → listed (replicate n (replicate 512 false)) l r ≡ false
 none-listed n l r = sets_at n l (replicate 512 false) r (get_or-replicate_same 512 r false)
 
--- what holds of an element holds of each copy
+-- what holds for an element holds for each copy
 at : {X : Type 0} (P : X → Type 0) (n : ℕ) (x : X) → P x → (k : ℕ) (d : X) → k < n → P (get_or (replicate n x) k d)
 at P zero x p k d within = absurd (omega (arith, within))
 at P (suc n) x p zero d within = p
@@ -29,30 +29,30 @@ at P (suc n) x p (suc k) d within = at P n x p k d (omega (arith, within))
 all_same : {X : Type 0} (P : X → Type 0) (n : ℕ) (x : X) → P x → All P (replicate n x)
 all_same P n x p = λ k d within. at P n x p k d (rw (length-replicate n x) at within)
 
--- new sets mark no number
+-- new sets mark no key
 pub sets-none : AreSets (replicate 256 (replicate 512 false)) (replicate 256 false)
 sets-none = record {
   loads = length-replicate 256 (replicate 512 false);
-  ranks = all_same (λ xs. length xs ≡ 512) 256 (replicate 512 false) (length-replicate 512 false);
+  ordinals = all_same (λ xs. length xs ≡ 512) 256 (replicate 512 false) (length-replicate 512 false);
   marks = length-replicate 256 false;
   covered = λ l r hit. absurd (let clash : true ≡ false = sym hit ∙ none-listed 256 l r in cc);
   filled = λ l hit. absurd (let clash : true ≡ false = sym hit ∙ get_or-replicate_same 256 l false in cc);
 }
 
--- ---- the numbers that are marked
+-- ---- the keys that are marked
 
--- a set with a rank is put in the place of another, and its number is marked
-pub filled-set : (sets : List (List Bool)) (used : List Bool) (number rank : ℕ) (set_there : List Bool) → number < length sets
-    → get_or set_there rank false ≡ true → ((l : ℕ) → get_or used l false ≡ true → (r : ℕ) × (listed sets l r ≡ true))
+-- adding an ordinal to a set marks its key
+pub filled-set : (sets : List (List Bool)) (used : List Bool) (number ordinal : ℕ) (set_there : List Bool) → number < length sets
+    → get_or set_there ordinal false ≡ true → ((l : ℕ) → get_or used l false ≡ true → (r : ℕ) × (listed sets l r ≡ true))
     → (l : ℕ) → get_or (set used number true) l false ≡ true → (r : ℕ) × (listed (set sets number set_there) l r ≡ true)
-filled-set sets used number rank set_there within has filled l hit = elim (cases_eq l number) [
-  | inl same ↦ (rank, rw (same, get_or-set_same sets number set_there [] within) has)
+filled-set sets used number ordinal set_there within has filled l hit = elim (cases_eq l number) [
+  | inl same ↦ (ordinal, rw (same, get_or-set_same sets number set_there [] within) has)
   | inr other ↦
       let old = filled l (sym (get_or-set_other used number l true false other) ∙ hit) in
       (old.0, rw (get_or-set_other sets number l set_there [] other) old.1)
 ]
 
--- a rank stands under the first number that is marked
+-- the first marked key has an ordinal
 pub some-listed : (sets : List (List Bool)) (used : List Bool) → ((l : ℕ) → get_or used l false ≡ true → (r : ℕ) × (listed sets l r ≡ true))
     → (o : Option ℕ) → FindsFrom used 0 o → is_some o ≡ true → (l r : ℕ) × (listed sets l r ≡ true)
 some-listed sets used filled None first some = absurd (cc)
@@ -65,60 +65,60 @@ sets-more n set = rw add-one (more n set) where
   more zero set = refl
   more (suc n) set = ap (λ xs. set ∷ xs) (more n set)
 
--- ---- a rank moved from one number to another
+-- ---- moving an ordinal from one key to another
 
--- what is there and taken out is gone
+-- what is removed is gone
 gone : (b : Bool) → (b && not (b && true)) ≡ false
 gone true = refl
 gone false = refl
 
--- what is there stays
+-- what is not removed stays
 here : (b : Bool) → (b && true) ≡ b
 here true = refl
 here false = refl
 
-module _ (number rank : ℕ) (old : ℕ → ℕ → Bool) where
-  -- another rank is not the entry
-  elsewhere : (k r : ℕ) → rank ≢ r → is_entry number rank k r ≡ false
-  elsewhere k r differ = rw (ne_eqb rank r differ) (off (eqb number k)) where
+module _ (number ordinal : ℕ) (old : ℕ → ℕ → Bool) where
+  -- another ordinal has another key pair
+  elsewhere : (k r : ℕ) → ordinal ≢ r → same_key number ordinal k r ≡ false
+  elsewhere k r differ = rw (ne_eqb ordinal r differ) (off (eqb number k)) where
     off : (b : Bool) → (b && false) ≡ false
     off true = refl
     off false = refl
 
-  -- the rank is taken from under its number
-  pub unlisted : ((k : ℕ) → old k rank ≡ eqb number k) → (k r : ℕ)
-      → (old k r && not (is_entry number rank k r)) ≡ cond (eqb rank r) false (old k r)
-  unlisted shown k r = elim (cases_eq rank r) [
-    | inl same ↦ rw (← same, shown k, eq-eqb rank rank refl) (gone (eqb number k))
-    | inr differ ↦ rw (elsewhere k r differ, ne_eqb rank r differ) (and-true (old k r))
+  -- the ordinal is removed from its key
+  pub unlisted : ((k : ℕ) → old k ordinal ≡ eqb number k) → (k r : ℕ)
+      → (old k r && not (same_key number ordinal k r)) ≡ cond (eqb ordinal r) false (old k r)
+  unlisted shown k r = elim (cases_eq ordinal r) [
+    | inl same ↦ rw (← same, shown k, eq-eqb ordinal ordinal refl) (gone (eqb number k))
+    | inr differ ↦ rw (elsewhere k r differ, ne_eqb ordinal r differ) (and-true (old k r))
   ]
 
-  -- the rank is put under a number
-  pub enlisted : ((k : ℕ) → old k rank ≡ false) → (k r : ℕ)
-      → (old k r || is_entry number rank k r) ≡ cond (eqb rank r) (eqb number k) (old k r)
-  enlisted none k r = elim (cases_eq rank r) [
-    | inl same ↦ rw (← same, none k, eq-eqb rank rank refl) (here (eqb number k))
-    | inr differ ↦ rw (elsewhere k r differ, ne_eqb rank r differ) (or-false (old k r))
+  -- the ordinal is added to a key
+  pub enlisted : ((k : ℕ) → old k ordinal ≡ false) → (k r : ℕ)
+      → (old k r || same_key number ordinal k r) ≡ cond (eqb ordinal r) (eqb number k) (old k r)
+  enlisted none k r = elim (cases_eq ordinal r) [
+    | inl same ↦ rw (← same, none k, eq-eqb ordinal ordinal refl) (here (eqb number k))
+    | inr differ ↦ rw (elsewhere k r differ, ne_eqb ordinal r differ) (or-false (old k r))
   ]
 
--- a rank under no number is under none after
-pub unlisted-none : (rank : ℕ) (old : ℕ → ℕ → Bool) → ((k : ℕ) → old k rank ≡ false) → (k r : ℕ)
-    → old k r ≡ cond (eqb rank r) false (old k r)
-unlisted-none rank old none k r = elim (cases_eq rank r) [
-  | inl same ↦ rw (eq-eqb rank r same, ← same) (none k)
-  | inr differ ↦ rw (ne_eqb rank r differ) refl
+-- removing nothing keeps an unlisted ordinal unlisted
+pub unlisted-none : (ordinal : ℕ) (old : ℕ → ℕ → Bool) → ((k : ℕ) → old k ordinal ≡ false) → (k r : ℕ)
+    → old k r ≡ cond (eqb ordinal r) false (old k r)
+unlisted-none ordinal old none k r = elim (cases_eq ordinal r) [
+  | inl same ↦ rw (eq-eqb ordinal r same, ← same) (none k)
+  | inr differ ↦ rw (ne_eqb ordinal r differ) refl
 ]
 
--- taken from under one load, and put under another
-pub moved-twice : (rank : ℕ) (old mid new entry : ℕ → ℕ → Bool) → ((k r : ℕ) → mid k r ≡ cond (eqb rank r) false (old k r))
-    → ((k r : ℕ) → new k r ≡ cond (eqb rank r) (entry k r) (mid k r))
-    → (k r : ℕ) → new k r ≡ cond (eqb rank r) (entry k r) (old k r)
-moved-twice rank old mid new entry first second k r = elim (cases_Bool (eqb rank r)) [
+-- removed from one load, and added to another
+pub moved-twice : (ordinal : ℕ) (old mid new listing : ℕ → ℕ → Bool) → ((k r : ℕ) → mid k r ≡ cond (eqb ordinal r) false (old k r))
+    → ((k r : ℕ) → new k r ≡ cond (eqb ordinal r) (listing k r) (mid k r))
+    → (k r : ℕ) → new k r ≡ cond (eqb ordinal r) (listing k r) (old k r)
+moved-twice ordinal old mid new listing first second k r = elim (cases_Bool (eqb ordinal r)) [
   | inl same ↦ rw (second k r, same) refl
   | inr other ↦ rw (second k r, first k r, other) refl
 ]
 
--- the rank that was taken out is under no number
-pub unlisted-rank : (rank : ℕ) (old new : ℕ → ℕ → Bool) → ((k r : ℕ) → new k r ≡ cond (eqb rank r) false (old k r)) → (k : ℕ)
-    → new k rank ≡ false
-unlisted-rank rank old new moved k = moved k rank ∙ rw (eq-eqb rank rank refl) refl
+-- an ordinal that was removed is not listed
+pub unlisted-ordinal : (ordinal : ℕ) (old new : ℕ → ℕ → Bool) → ((k r : ℕ) → new k r ≡ cond (eqb ordinal r) false (old k r)) → (k : ℕ)
+    → new k ordinal ≡ false
+unlisted-ordinal ordinal old new moved k = moved k ordinal ∙ rw (eq-eqb ordinal ordinal refl) refl

@@ -1,4 +1,4 @@
--- What the rows of a table stand for, and what a write to one row changes.
+-- What the rows of a table mean, and what a write to one row changes.
 use Rattle.std.proofs.Common.{◌≡◌, ℕ, ◌<◌, ◌≤◌, Bool, true, false, cond, eqb, List, [], ◌∷◌, ◌++◌, map, length, get_or, set, Option, Some, None, IsSome, option_map, refl, sym, ap, ◌∙◌, inl, inr}
 use Rattle.std.proofs.Math.Path.{fun_ext}
 use Rattle.std.proofs.Math.Seq.{map-set_same}
@@ -14,7 +14,7 @@ use Rattle.lrc_topology.specs.Nodes.{node_at, IsInRange}
 use Rattle.lrc_topology.specs.Seats.{first_slot}
 use Rattle.lrc_slots.specs.Slots.{Slots, all_free, least_free, least_free_at, taken_count, load_at, with_taken, with_free, with_eligible}
 use Rattle.lrc_slots.specs.Tables.{Row, Table, is_of, row_at, is_marked, slots_of}
-use Rattle.lrc_slots.specs.Rows.{place_of, fresh_row, alone}
+use Rattle.lrc_slots.specs.Rows.{position_of, fresh_row, alone}
 use Rattle.lrc_code.proofs.NumbersLemmas.{equal_nodes}
 use Rattle.lrc_slots.proofs.MarkLemmas.{get_or-set_true, or-false, and-true, get_or-set_false, get_or-replicate_same}
 
@@ -27,7 +27,7 @@ slots_of-nodes rows = refl
 
 -- ---- finding a row
 
--- the nodes have the node where the rows have its row
+-- the nodes have a node exactly if the rows have its row
 pub node_at-rows : (rows : Table) (n : NodeNo) → node_at (map (λ r. r.node) rows) n ≡ option_map (λ r. r.node) (row_at rows n)
 node_at-rows [] n = refl
 node_at-rows (r ∷ rows) n = elim (cases_Bool (is_of n r)) [
@@ -35,27 +35,27 @@ node_at-rows (r ∷ rows) n = elim (cases_Bool (is_of n r)) [
   | inr miss ↦ rw miss (node_at-rows rows n)
 ]
 
--- a row that is there stands at its place
-pub place_of-row : (rows : Table) (n : NodeNo) (r : Row) → row_at rows n ≡ Some r → place_of rows n ≡ Some (position_or_len (is_of n) rows)
-place_of-row rows n r found =
+-- a row that is found is at the position of its node
+pub position_of-row : (rows : Table) (n : NodeNo) (r : Row) → row_at rows n ≡ Some r → position_of rows n ≡ Some (position_or_len (is_of n) rows)
+position_of-row rows n r found =
     let within = slice_get_within rows (position_or_len (is_of n) rows) r (sym (find_at (is_of n) rows) ∙ found) in
     rw (lt-ltb _ _ within) refl
 
-pub row-place_of : (rows : Table) (n : NodeNo) (i : ℕ) → place_of rows n ≡ Some i → (i ≡ position_or_len (is_of n) rows) × (i < length rows)
-row-place_of rows n i place = elim (cases_lt (position_or_len (is_of n) rows) (length rows)) [
+pub row-position_of : (rows : Table) (n : NodeNo) (i : ℕ) → position_of rows n ≡ Some i → (i ≡ position_or_len (is_of n) rows) × (i < length rows)
+row-position_of rows n i is_at = elim (cases_lt (position_or_len (is_of n) rows) (length rows)) [
   | inl within ↦
-      let same : position_or_len (is_of n) rows ≡ i = same_Some _ _ (rw (lt-ltb _ _ within) at place) in
+      let same : position_or_len (is_of n) rows ≡ i = same_Some _ _ (rw (lt-ltb _ _ within) at is_at) in
       (sym same, rw (← same) within)
-  | inr past ↦ absurd (let none : None ≡ Some i = rw (le-ltb _ _ past) at place in cc)
+  | inr past ↦ absurd (let none : None ≡ Some i = rw (le-ltb _ _ past) at is_at in cc)
 ]
 
--- the row that stands at the place of a node is that of the node
-pub row_at-place : (rows : Table) (n : NodeNo) (i : ℕ) (r : Row) → place_of rows n ≡ Some i → r ≡ get_or rows i r → row_at rows n ≡ Some r
-row_at-place rows n i r place here =
-    let at_i = row-place_of rows n i place in
+-- the row at the position of a node is the node's
+pub row_at-position : (rows : Table) (n : NodeNo) (i : ℕ) (r : Row) → position_of rows n ≡ Some i → r ≡ get_or rows i r → row_at rows n ≡ Some r
+row_at-position rows n i r is_at here =
+    let at_i = row-position_of rows n i is_at in
     find_at (is_of n) rows ∙ rw (← at_i.0) (slice_get_read rows (length rows) i r refl at_i.1 here)
 
--- a row that is found by a number is of the node with that number
+-- a row that is found by a number belongs to the node with that number
 pub row-number : (rows : Table) (n : NodeNo) (r : Row) → row_at rows n ≡ Some r → n ≡ r.node.number
 row-number [] n r found = absurd (cc)
 row-number (x ∷ xs) n r found = elim (cases_Bool (is_of n x)) [
@@ -65,8 +65,8 @@ row-number (x ∷ xs) n r found = elim (cases_Bool (is_of n x)) [
   | inr miss ↦ row-number xs n r (rw miss at found)
 ]
 
--- a node that has no place has no row
-pub row_at-absent : (rows : Table) (n : NodeNo) → place_of rows n ≡ None → row_at rows n ≡ None
+-- a node without a position has no row
+pub row_at-absent : (rows : Table) (n : NodeNo) → position_of rows n ≡ None → row_at rows n ≡ None
 row_at-absent rows n none = elim (cases_lt (position_or_len (is_of n) rows) (length rows)) [
   | inl within ↦ absurd (let some : Some (position_or_len (is_of n) rows) ≡ None = rw (lt-ltb _ _ within) at none in cc)
   | inr past ↦ find_at (is_of n) rows ∙ slice_get_past rows _ past
@@ -74,17 +74,17 @@ row_at-absent rows n none = elim (cases_lt (position_or_len (is_of n) rows) (len
 
 -- ---- a write to one row
 
-module _ (rows : Table) (n : NodeNo) (r : Row) (i : ℕ) (found : row_at rows n ≡ Some r) (place : place_of rows n ≡ Some i) where
+module _ (rows : Table) (n : NodeNo) (r : Row) (i : ℕ) (found : row_at rows n ≡ Some r) (is_at : position_of rows n ≡ Some i) where
   pub row-here : (d : Row) → get_or rows i d ≡ r
-  row-here d = rw (row-place_of rows n i place).0 (get_or_from_slice_get rows _ r d (sym (find_at (is_of n) rows) ∙ found))
+  row-here d = rw (row-position_of rows n i is_at).0 (get_or_from_slice_get rows _ r d (sym (find_at (is_of n) rows) ∙ found))
 
-  -- the rows that are found after one is put in the place of another of the same node
+  -- the rows that are found after one is replaced by another of the same node
   pub row_at-set : (y : Row) → y.node ≡ r.node → (m : NodeNo)
       → row_at (set rows i y) m ≡ cond (eqb n.value m.value) (Some y) (row_at rows m)
   row_at-set y stays m =
       let number : y.node.number.value ≡ n.value = ap (λ (x : NodeInfo). x.number.value) stays ∙ ap (λ (m : NodeNo). m.value)
       (sym (row-number rows n r found)) in
-      let at_i = row-place_of rows n i place in
+      let at_i = row-position_of rows n i is_at in
       elim (cases_eq n.value m.value) [
         | inl e ↦ rw (eq-eqb _ _ e, ← equal_nodes n m e) (find-set (is_of n) rows i y at_i.0 at_i.1 (eq-eqb _ _ (sym number)))
         | inr other ↦
@@ -111,7 +111,7 @@ module _ (rows : Table) (n : NodeNo) (r : Row) (i : ℕ) (found : row_at rows n 
     | inr other ↦ rw (ne_eqb _ _ other) refl
   ])))
 
-  -- a slot is marked as taken
+  -- a slot is taken
   pub slots_of-taken : (slot : ℕ) → slot < length r.taken
       → slots_of (set rows i (record r { taken = set r.taken slot true })) ≡ with_taken (slots_of rows) n (Some slot)
   unfolding slots_of
@@ -123,7 +123,7 @@ module _ (rows : Table) (n : NodeNo) (r : Row) (i : ℕ) (found : row_at rows n 
         | inr other ↦ rw (ne_eqb _ _ other) (sym (or-false _))
       ]))))
 
-  -- a slot is marked as free
+  -- a slot is freed
   pub slots_of-free : (slot : ℕ) → slot < length r.taken
       → slots_of (set rows i (record r { taken = set r.taken slot false })) ≡ with_free (slots_of rows) n slot
   unfolding slots_of
@@ -160,12 +160,12 @@ known-row_at : (o : Option Row) (k : ℕ) → option_map_or (λ r. is_marked r k
 known-row_at (Some r) k hit = refl
 known-row_at None k hit = absurd (cc)
 
--- the node of a taken slot is one of the table
+-- the node of a taken slot is in the table
 pub known-taken : (rows : Table) (n : NodeNo) (k : ℕ) → (slots_of rows).taken n k ≡ true → IsSome (node_at (slots_of rows).nodes n)
 unfolding slots_of
 known-taken rows n k hit = rw (node_at-rows rows n) (known-row_at (row_at rows n) k hit)
 
--- a row by itself has the marks that the table shows of its node
+-- a row alone has the marks that the table shows for its node
 pub taken-alone : (rows : Table) (n : NodeNo) (r : Row) → row_at rows n ≡ Some r → (slots_of rows).taken n ≡ is_marked r
 unfolding slots_of
 taken-alone rows n r found = ap (λ (o : Option Row). λ k. option_map_or (λ x. is_marked x k) o false) found
@@ -179,7 +179,7 @@ taken-within rows n k r found hit = elim (cases_lt k (length r.taken)) [
       ∙ (ap (λ (taken : ℕ → Bool). taken k) (sym (taken-alone rows n r found)) ∙ hit) in cc)
 ]
 
--- no slot of a node that has no row is taken
+-- a node without a row has no taken slot
 pub taken-absent : (rows : Table) (n : NodeNo) (k : ℕ) → row_at rows n ≡ None → (slots_of rows).taken n k ≡ false
 unfolding slots_of
 taken-absent rows n k none = ap (λ (o : Option Row). option_map_or (λ x. is_marked x k) o false) none
@@ -192,7 +192,7 @@ pub node-alone : (rows : Table) (n : NodeNo) (r : Row) → row_at rows n ≡ Som
 unfolding slots_of
 node-alone rows n r found = node_at-rows rows n ∙ ap (option_map (λ x. x.node)) found
 
--- at a number that has no row there is no node
+-- a number without a row has no node
 pub node-absent : (rows : Table) (n : NodeNo) → row_at rows n ≡ None → node_at (slots_of rows).nodes n ≡ None
 unfolding slots_of
 node-absent rows n none = node_at-rows rows n ∙ ap (option_map (λ x. x.node)) none
@@ -246,7 +246,7 @@ slots_of-fresh nodes = same_slots _ _ (nodes-fresh nodes)
     (fun_ext (λ n. rw (row_at-fresh nodes n) (eligible-fresh (node_at nodes n))))
     (fun_ext (λ n. fun_ext (λ k. rw (row_at-fresh nodes n) (taken-fresh (node_at nodes n) k))))
 
--- all nodes have got their row
+-- all nodes have their row
 pub fresh-all : (rows : Table) (rest nodes : List NodeInfo) → rows ++ map fresh_row rest ≡ map fresh_row nodes → rest ≡ []
     → rows ≡ map fresh_row nodes
 fresh-all rows rest nodes so_far done = sym (append-nil rows) ∙ (rw done at so_far)

@@ -7,4 +7,4 @@ pub mod Next
 pub mod Tables
 pub mod Rows
 pub mod Indexes
-pub mod RankWords
+pub mod OrdinalWords

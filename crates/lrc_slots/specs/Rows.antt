@@ -1,5 +1,5 @@
 -- Internal: no public clause reaches these definitions.
--- The rows of a table: where one stands, and what one says by itself.
+-- The rows of a table, and what one row says by itself.
 use Rattle.std.specs.Prelude.{◌≡◌, ℕ, ◌≤◌, Bool, true, false, List, [], ◌∷◌, length, take, get_or, replicate, count_by, Option}
 use Rattle.std.specs.List.{position, range_with_len}
 use Rattle.lrc_code.specs.declared.numbers.NodeNo.{NodeNo}
@@ -10,32 +10,32 @@ use Rattle.lrc_slots.specs.Barred.{Barred}
 use Rattle.lrc_slots.specs.Next.{may_take}
 use Rattle.lrc_slots.specs.Tables.{Row, Table, is_of, is_marked}
 
--- where the row of a node stands
-abbrev pub place_of : Table → NodeNo → Option ℕ
-place_of rows n = position (is_of n) rows
+-- the position of a node's row
+abbrev pub position_of : Table → NodeNo → Option ℕ
+position_of rows n = position (is_of n) rows
 
--- a node whose first slots are marked so
+-- the row of a node, whose slots are the first of these marks
 abbrev pub row_of : NodeInfo → Bool → List Bool → Row
 row_of node eligible marks = record { node = node; eligible = eligible; taken = take node.slots marks }
 
--- marks of a node's slots, of which so many are taken; nothing is said of marks beyond the last slot
+-- marks of a node's slots, `load` of them taken; marks after the last slot do not count
 pub record AreMarks (node : NodeInfo) (load : ℕ) (marks : List Bool) : Type 0 where
   pub few : node.slots ≤ 256
   pub all : length marks ≡ 256
   pub counted : load ≡ count_by (λ k. get_or (take node.slots marks) k false) (range_with_len 0 node.slots)
 
--- a node that is eligible, with all slots free
+-- the row of an eligible node with all slots free
 abbrev pub fresh_row : NodeInfo → Row
 fresh_row node = record { node = node; eligible = true; taken = replicate node.slots false }
 
--- the slots that one row stands for
+-- one row as a table of its own
 abbrev pub alone : Row → Slots
 alone r = record { nodes = r.node ∷ []; eligible = λ n. r.eligible; taken = λ n k. is_marked r k }
 
--- a row may take a seat
+-- the row's node may take a seat
 abbrev pub is_open : Barred → Row → Bool
 is_open b r = may_take (alone r) b r.node
 
--- the node of the first row is chosen before that of the second
+-- the node of the first row is preferred to that of the second
 abbrev pub precedes : Row → Row → Bool
 precedes r s = is_lighter (taken_count (alone r) r.node) r.node.number (taken_count (alone s) s.node) s.node.number

@@ -1,4 +1,4 @@
--- What contracts see of a slot table and of barred domains: lists, and what these stand for.
+-- A slot table and a set of barred domains, as contracts see them, and what they mean.
 use Rattle.std.specs.Prelude.{ℕ, Bool, true, false, List, map, find, get_or, Option}
 use Rattle.std.specs.Option.{option_map_or}
 use Rattle.lrc_code.specs.declared.numbers.NodeNo.{NodeNo}
@@ -7,17 +7,17 @@ use Rattle.lrc_topology.specs.declared.NodeInfo.{NodeInfo}
 use Rattle.lrc_slots.specs.Slots.{Slots}
 use Rattle.lrc_slots.specs.Barred.{Barred}
 
--- a node of a table, whether it is set eligible, and for each of its slots in turn whether it is taken
+-- a node of a table, whether it is eligible, and for each of its slots whether it is taken
 pub record Row : Type 0 where
   pub node : NodeInfo
   pub eligible : Bool
   pub taken : List Bool
 
--- a table: its nodes in turn
+-- a table: one row for each node
 abbrev pub Table : Type 0
 Table = List Row
 
--- for each number of a domain in turn whether it is barred
+-- for each fault domain and each upgrade domain whether it is barred
 pub record Bars : Type 0 where
   pub faults : List Bool
   pub upgrades : List Bool
@@ -30,11 +30,11 @@ is_of n r = same_node n r.node.number
 abbrev pub row_at : Table → NodeNo → Option Row
 row_at rows n = find (is_of n) rows
 
--- a slot of a row is taken; none is beyond the last
+-- a slot of a row is taken; no slot after the last is
 abbrev pub is_marked : Row → ℕ → Bool
 is_marked r k = get_or r.taken k false
 
--- The slots that a table stands for. At a number that is no node's, nothing is taken, and the test of eligible nodes is met.
+-- What a table means. For a number that is not a node's, no slot is taken, and the test of eligible nodes holds.
 unfoldable pub slots_of : Table → Slots
 slots_of rows = record {
   nodes = map (λ r. r.node) rows;
@@ -42,6 +42,6 @@ slots_of rows = record {
   taken = λ n k. option_map_or (λ r. is_marked r k) (row_at rows n) false;
 }
 
--- the domains that the lists stand for
+-- the domains that the lists bar
 unfoldable pub barred : Bars → Barred
 barred b = record { faults = λ d. get_or b.faults d.value false; upgrades = λ d. get_or b.upgrades d.value false }

@@ -6,11 +6,11 @@ ghost use Rattle.lrc_slots.specs.BarredNodes.{AreBarredNodes};
 use lrc_bits::BitSet;
 use std::marker::Model;
 
-/// The nodes of a table that are in barred domains: filled by `SlotTable::bar_fault_in` and `bar_upgrade_in`, and kept
-/// over several choices.
+/// The nodes of a table that are in barred domains. `SlotTable::bar_fault_in` and `bar_upgrade_in` add to it; one
+/// value serves several choices.
 #[derive(Drop)]
 pub struct BarredNodes {
-    ranks: BitSet<8>,
+    ordinals: BitSet<8>,
 }
 
 impl Model for BarredNodes {
@@ -18,41 +18,41 @@ impl Model for BarredNodes {
 
     ghost Value = { List Bool };
 
-    ghost view = { λ b. b.ranks };
+    ghost view = { λ b. b.ordinals };
 
-    ghost invariant = { λ b. length b.ranks ≡ 512 };
+    ghost invariant = { λ b. length b.ordinals ≡ 512 };
 }
 
 impl BarredNodes {
-    /// Bars no node.
+    /// Returns a set without nodes: no domain is barred.
     pub fn new() -> BarredNodes
         ensures { (nodes : List NodeInfo) → AreBarredNodes nodes no_bars result }
     {
         BarredNodes {
-            ranks: BitSet::new(),
+            ordinals: BitSet::new(),
         }
     }
 
-    /// The nodes of these ranks.
-    pub(crate) fn of_ranks(ranks: BitSet<8>) -> BarredNodes
-        requires { length ranks ≡ 512 }
-        ensures { result ≡ ranks }
+    /// Returns the set of the nodes with these ordinals.
+    pub(crate) fn of_ordinals(ordinals: BitSet<8>) -> BarredNodes
+        requires { length ordinals ≡ 512 }
+        ensures { result ≡ ordinals }
     {
-        BarredNodes { ranks }
+        BarredNodes { ordinals }
     }
 
-    /// Bars the nodes of these ranks too.
+    /// Bars the nodes with these ordinals too.
     #[inline(always)]
-    pub(crate) fn bar(&mut self, ranks: &BitSet<8>)
-        ensures { (r : ℕ) → get_or self.new r false ≡ (get_or self.old r false || get_or ranks.now r false) }
+    pub(crate) fn bar(&mut self, ordinals: &BitSet<8>)
+        ensures { (r : ℕ) → get_or self.new r false ≡ (get_or self.old r false || get_or ordinals.now r false) }
     {
-        self.ranks.insert_all(ranks);
+        self.ordinals.insert_all(ordinals);
     }
 
-    /// The ranks of the barred nodes.
-    pub(crate) fn ranks(&self) -> &BitSet<8>
+    /// Returns the ordinals of the barred nodes.
+    pub(crate) fn ordinals(&self) -> &BitSet<8>
         ensures { result.now ≡ self.now }
     {
-        &self.ranks
+        &self.ordinals
     }
 }

@@ -1,16 +1,16 @@
-//! Which slots of the nodes are taken, and the node that takes the next seat. Only `SlotTable::new` takes memory.
+//! Which slots of the nodes are taken, and which node gets the next seat. Only `SlotTable::new` allocates.
 #![tactic(auto)]
 
 mod barred_nodes;
 mod barring;
-mod entry;
 pub mod laws;
+mod listing;
+mod load_key;
 mod node_slots;
 mod open_node;
-mod rank_set;
-mod rank_sets;
+mod ordinal_set;
+mod ordinal_sets;
 mod setup;
-mod spot;
 mod table;
 mod taken;
 mod walk;

@@ -1,6 +1,6 @@
-/// Where a node stands among those that take seats: under its load, if it takes one.
+/// Whether a node is listed as one that takes seats, and its load.
 #[derive(Clone, Copy)]
-pub(crate) struct Entry {
+pub(crate) struct Listing {
     pub(crate) load: u16,
     pub(crate) is_open: bool,
 }

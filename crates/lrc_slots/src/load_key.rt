@@ -1,22 +1,23 @@
 ghost use Rattle.std.specs.Prelude.{◌≡◌, ◌+◌, ◌<◌};
 
-/// A rank under a load. Spots stand in the order of loads, and under one load in that of ranks.
+/// The order in which nodes are chosen: by load, then by ordinal. The ordinal of a node is the number of nodes with a
+/// lower number.
 #[derive(Clone, Copy)]
-pub(crate) struct Spot {
+pub(crate) struct LoadKey {
     pub(crate) load: usize,
-    pub(crate) rank: usize,
+    pub(crate) ordinal: usize,
 }
 
-impl Spot {
-    /// The spot right behind this one.
-    pub(crate) fn next(self) -> Spot
-        requires { self.rank < 512 }
+impl LoadKey {
+    /// Returns the next key with the same load.
+    pub(crate) fn next(self) -> LoadKey
+        requires { self.ordinal < 512 }
         ensures load { result.load ≡ self.load }
-        ensures rank { result.rank ≡ self.rank + 1 }
+        ensures ordinal { result.ordinal ≡ self.ordinal + 1 }
     {
-        Spot {
+        LoadKey {
             load: self.load,
-            rank: self.rank + 1,
+            ordinal: self.ordinal + 1,
         }
     }
 }

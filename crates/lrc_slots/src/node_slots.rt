@@ -1,17 +1,17 @@
 ghost use Rattle.std.specs.Prelude.{◌≡◌, ℕ, ◌≤◌, ◌<◌, length, true, false, IsTrue, IsSome, IfSome, Some, slice_set};
-ghost use Rattle.lrc_slots.specs.Indexes.{is_entry_of, is_listed};
+ghost use Rattle.lrc_slots.specs.Indexes.{is_listing_of, is_listed};
 ghost use Rattle.lrc_slots.specs.Slots.{least_free, taken_count};
 ghost use Rattle.lrc_slots.specs.Tables.{is_marked};
 ghost use Rattle.lrc_slots.specs.Rows.{fresh_row, alone};
 
-use crate::entry::Entry;
+use crate::listing::Listing;
 use crate::{OpenNode, OpenRow};
 use lrc_bits::BitSet;
 use lrc_code::NodeNo;
 use lrc_topology::NodeInfo;
 use std::marker::Model;
 
-/// A node of the table, whether it is eligible, its taken slots and their number.
+/// A node of the table: whether it is eligible, which of its slots are taken, and how many.
 #[derive(Drop)]
 pub(crate) struct NodeSlots {
     node: NodeInfo,
@@ -32,7 +32,7 @@ impl Model for NodeSlots {
 }
 
 impl NodeSlots {
-    /// Eligible, with every slot free.
+    /// Returns an eligible node with all slots free. `node.slots` is at most 256.
     pub(crate) fn new(node: NodeInfo) -> NodeSlots
         requires { node.slots ≤ 256 }
         ensures { result ≡ fresh_row node }
@@ -45,18 +45,21 @@ impl NodeSlots {
         }
     }
 
+    /// Returns the number of the node.
     pub(crate) fn number(&self) -> NodeNo
         ensures { result ≡ self.now.node.number }
     {
         self.node.number
     }
 
+    /// Returns the node.
     pub(crate) fn node(&self) -> &NodeInfo
         ensures { result.now ≡ self.now.node }
     {
         &self.node
     }
 
+    /// Reports whether the slot is taken. Returns `false` after the last slot.
     pub(crate) fn is_taken(&self, slot: u16) -> bool
         ensures value { result ≡ is_marked self.now slot }
         ensures within { IsTrue result → slot < self.now.node.slots }
@@ -68,7 +71,7 @@ impl NodeSlots {
         }
     }
 
-    /// The least free slot.
+    /// Returns the lowest free slot, or `None` if all are taken.
     pub(crate) fn first_free(&self) -> Option<u16>
         ensures value { result ≡ least_free (alone self.now) self.now.node }
         ensures within { IfSome result (λ k. k < length self.now.taken) }
@@ -86,7 +89,7 @@ impl NodeSlots {
         }
     }
 
-    /// The node and its least free slot, where it has one.
+    /// Returns the node and its lowest free slot. The node must have one.
     pub(crate) fn open(&self) -> OpenNode
         requires { IsSome (least_free (alone self.now) self.now.node) }
         ensures node { result.node ≡ self.now.node }
@@ -98,7 +101,7 @@ impl NodeSlots {
         }
     }
 
-    /// The same, and the node is told where it stands.
+    /// Returns a reference to the node, and its lowest free slot. The node must have one.
     pub(crate) fn open_row(&self) -> OpenRow<'_>
         requires { IsSome (least_free (alone self.now) self.now.node) }
         ensures node { result.node.now ≡ self.now.node }
@@ -110,7 +113,7 @@ impl NodeSlots {
         }
     }
 
-    /// The least free slot of a node that has one.
+    /// Returns the lowest free slot. The node must have one.
     fn known_free(&self) -> u16
         requires { IsSome (least_free (alone self.now) self.now.node) }
         ensures { least_free (alone self.now) self.now.node ≡ Some result }
@@ -118,7 +121,7 @@ impl NodeSlots {
         self.marks.first_absent().unwrap() as u16
     }
 
-    /// The number of taken slots.
+    /// Returns the number of taken slots, at most 256.
     pub(crate) fn load(&self) -> u32
         ensures value { result ≡ taken_count (alone self.now) self.now.node }
         ensures few { result ≤ self.now.node.slots }
@@ -126,33 +129,33 @@ impl NodeSlots {
         self.load as u32
     }
 
-    /// The load, and whether the node is eligible and has a free slot.
+    /// Returns the load, and whether the node takes seats: it is eligible and has a free slot.
     #[inline(always)]
-    pub(crate) fn entry(&self) -> Entry
-        ensures value { (k : ℕ) → is_entry_of result k ≡ is_listed self.now k }
+    pub(crate) fn listing(&self) -> Listing
+        ensures value { (k : ℕ) → is_listing_of result k ≡ is_listed self.now k }
         ensures few { IsTrue result.is_open → result.load < 256 }
     {
-        Entry {
+        Listing {
             load: self.load,
             is_open: self.eligible && self.load < self.node.slots,
         }
     }
 
-    /// The same where the node has a free slot.
+    /// Returns the same as `listing`, for a node with a free slot; this saves the test for one.
     #[inline(always)]
-    pub(crate) fn entry_with_room(&self) -> Entry
+    pub(crate) fn listing_with_room(&self) -> Listing
         requires { IsSome (least_free (alone self.now) self.now.node) }
-        ensures value { (k : ℕ) → is_entry_of result k ≡ is_listed self.now k }
+        ensures value { (k : ℕ) → is_listing_of result k ≡ is_listed self.now k }
         ensures few { IsTrue result.is_open → result.load < 256 }
     {
         let load = self.load;
-        Entry {
+        Listing {
             load,
             is_open: self.eligible,
         }
     }
 
-    /// Takes the least free slot.
+    /// Takes the slot, which must be the lowest free one.
     pub(crate) fn take(&mut self, slot: u16)
         requires { least_free (alone self.old) self.old.node ≡ Some slot }
         ensures within { slot < length self.old.taken }
@@ -162,7 +165,7 @@ impl NodeSlots {
         self.load += 1;
     }
 
-    /// Frees a taken slot.
+    /// Frees the slot, which must be taken.
     pub(crate) fn free(&mut self, slot: u16)
         requires within { slot < length self.old.taken }
         requires taken { is_marked self.old slot ≡ true }
@@ -173,6 +176,7 @@ impl NodeSlots {
         self.load -= 1;
     }
 
+    /// Sets whether the node is eligible for new seats.
     pub(crate) fn set_eligible(&mut self, eligible: bool)
         ensures { self.new ≡ record self.old { eligible = eligible } }
     {

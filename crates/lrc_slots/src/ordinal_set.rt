@@ -1,140 +1,140 @@
 ghost use Rattle.std.specs.Prelude.{◌≡◌, ℕ, ◌+◌, ◌*◌, ◌/◌, ◌<◌, true, false, length, get_or, replicate, IsTrue, IsFalse, slice_set};
 ghost use Rattle.lrc_bits.specs.Flags.{FindsFrom, IsFirstFrom};
-ghost use Rattle.lrc_slots.specs.RankWords.{FindsOutsideBoth};
+ghost use Rattle.lrc_slots.specs.OrdinalWords.{FindsOutsideBoth};
 
 use lrc_bits::BitSet;
 use std::marker::Model;
 
-/// Ranks of nodes, and which words of the set have one.
+/// A set of nodes, by ordinal, with an index of its words: a search skips the empty ones.
 #[derive(Drop)]
-pub(crate) struct RankSet {
-    ranks: BitSet<8>,
-    /// The words with a rank.
+pub(crate) struct OrdinalSet {
+    ordinals: BitSet<8>,
+    /// The words that have an ordinal.
     words: BitSet<1>,
 }
 
-impl Model for RankSet {
+impl Model for OrdinalSet {
     ghost use Rattle.std.specs.Prelude.{List, Bool};
-    ghost use Rattle.lrc_slots.specs.RankWords.{AreRankWords};
+    ghost use Rattle.lrc_slots.specs.OrdinalWords.{AreOrdinalWords};
 
     ghost Value = { List Bool };
 
-    ghost view = { λ s. s.ranks };
+    ghost view = { λ s. s.ordinals };
 
-    ghost invariant = { λ s. AreRankWords s.ranks s.words };
+    ghost invariant = { λ s. AreOrdinalWords s.ordinals s.words };
 }
 
-impl RankSet {
-    /// No rank.
-    pub(crate) fn new() -> RankSet
+impl OrdinalSet {
+    /// Returns the empty set.
+    pub(crate) fn new() -> OrdinalSet
         ensures { result ≡ replicate 512 false }
     {
-        RankSet {
-            ranks: BitSet::new(),
+        OrdinalSet {
+            ordinals: BitSet::new(),
             words: BitSet::new(),
         }
     }
 
-    /// Whether a rank that stands in one word with this one is of the set.
+    /// Reports whether the set has an ordinal in the same word as this one.
     #[inline(always)]
-    pub(crate) fn has_near(&self, rank: usize) -> bool
-        requires { rank < 512 }
-        ensures some { IsTrue result → (k : ℕ) × (k / 64 ≡ rank / 64) × (get_or self.now k false ≡ true) }
-        ensures none { IsFalse result → (k : ℕ) → k / 64 ≡ rank / 64 → get_or self.now k false ≡ false }
+    pub(crate) fn has_near(&self, ordinal: usize) -> bool
+        requires { ordinal < 512 }
+        ensures some { IsTrue result → (k : ℕ) × (k / 64 ≡ ordinal / 64) × (get_or self.now k false ≡ true) }
+        ensures none { IsFalse result → (k : ℕ) → k / 64 ≡ ordinal / 64 → get_or self.now k false ≡ false }
     {
-        self.ranks.has_near(rank)
+        self.ordinals.has_near(ordinal)
     }
 
-    /// Puts a rank into the set.
+    /// Adds an ordinal.
     #[inline(always)]
-    pub(crate) fn insert(&mut self, rank: usize)
-        requires { rank < 512 }
-        ensures { self.new ≡ slice_set self.old rank true }
+    pub(crate) fn insert(&mut self, ordinal: usize)
+        requires { ordinal < 512 }
+        ensures { self.new ≡ slice_set self.old ordinal true }
     {
-        if !self.ranks.has_near(rank) {
-            self.words.insert(rank / 64);
+        if !self.ordinals.has_near(ordinal) {
+            self.words.insert(ordinal / 64);
         }
-        self.ranks.insert(rank);
+        self.ordinals.insert(ordinal);
     }
 
-    /// Takes a rank out of the set, and answers whether no rank is left.
+    /// Removes an ordinal, and reports whether the set is empty then.
     #[inline(always)]
-    pub(crate) fn remove(&mut self, rank: usize) -> bool
-        requires { rank < 512 }
-        ensures removed { self.new ≡ slice_set self.old rank false }
+    pub(crate) fn remove(&mut self, ordinal: usize) -> bool
+        requires { ordinal < 512 }
+        ensures removed { self.new ≡ slice_set self.old ordinal false }
         ensures some { IsFalse result → (r : ℕ) × (get_or self.new r false ≡ true) }
         ensures none { IsTrue result → (r : ℕ) → get_or self.new r false ≡ false }
     {
-        self.ranks.remove(rank);
-        if self.ranks.has_near(rank) {
+        self.ordinals.remove(ordinal);
+        if self.ordinals.has_near(ordinal) {
             return false;
         }
-        self.words.remove(rank / 64);
+        self.words.remove(ordinal / 64);
         self.words.first().is_none()
     }
 
-    /// The least rank of a set that has one.
+    /// Returns the lowest ordinal. The set must have one.
     #[inline(always)]
     pub(crate) fn first(&self) -> usize
         requires { (r : ℕ) × (get_or self.now r false ≡ true) }
         ensures { IsFirstFrom self.now 0 result }
     {
         let word = self.words.first_of_word(0);
-        self.ranks.first_of_word(word)
+        self.ordinals.first_of_word(word)
     }
 
-    /// The first rank from this one on.
+    /// Returns the lowest ordinal from `from` on.
     #[inline(always)]
     pub(crate) fn first_from(&self, from: usize) -> Option<usize>
         ensures { FindsFrom self.now from result }
     {
-        if let Some(rank) = self.ranks.first_near(from) {
-            return Some(rank);
+        if let Some(ordinal) = self.ordinals.first_near(from) {
+            return Some(ordinal);
         }
         let word = self.words.first_from(from / 64 + 1)?;
-        Some(self.ranks.first_of_word(word))
+        Some(self.ordinals.first_of_word(word))
     }
 
-    /// The least rank that is in neither mask. Words without a rank are passed over.
+    /// Returns the lowest ordinal that is in neither mask. Skips words without an ordinal.
     #[inline(always)]
     pub(crate) fn first_outside_both(&self, mask: &BitSet<8>, other: &BitSet<8>) -> Option<usize>
         ensures { FindsOutsideBoth self.now mask.now other.now result }
     {
         let mut left = self.words.copy();
         while let Some(word) = left.pop_first() {
-            if let Some(rank) = self.ranks.first_of_word_outside_both(word, mask, other) {
-                return Some(rank);
+            if let Some(ordinal) = self.ordinals.first_of_word_outside_both(word, mask, other) {
+                return Some(ordinal);
             }
         }
         None
     }
 
-    /// A set of the words with a rank.
+    /// Returns the set of the words that have an ordinal.
     #[inline(always)]
     pub(crate) fn words(&self) -> BitSet<1>
         ensures long { length result ≡ 64 }
         ensures low { (word : ℕ) → get_or result word false ≡ true → word < 8 }
-        ensures covered { (rank : ℕ) → get_or self.now rank false ≡ true → get_or result (rank / 64) false ≡ true }
+        ensures covered { (ordinal : ℕ) → get_or self.now ordinal false ≡ true → get_or result (ordinal / 64) false ≡ true }
     {
         self.words.copy()
     }
 
-    /// The ranks of one word, told from the word's first.
+    /// Returns the ordinals of one word, counted from the start of the word.
     #[inline(always)]
     pub(crate) fn of_word(&self, word: usize) -> BitSet<1>
         requires { word < 8 }
         ensures long { length result ≡ 64 }
         ensures same { (k : ℕ) → k < 64 → get_or result k false ≡ get_or self.now (64 * word + k) false }
     {
-        self.ranks.of_word(word)
+        self.ordinals.of_word(word)
     }
 
-    /// The ranks as a set.
+    /// Returns the ordinals as a plain set.
     #[inline(always)]
-    pub(crate) fn ranks(&self) -> &BitSet<8>
+    pub(crate) fn ordinals(&self) -> &BitSet<8>
         ensures long { length result.now ≡ 512 }
         ensures same { result.now ≡ self.now }
     {
-        &self.ranks
+        &self.ordinals
     }
 }

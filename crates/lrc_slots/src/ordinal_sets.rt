@@ -1,23 +1,24 @@
 ghost use Rattle.std.specs.Prelude.{◌≡◌, ℕ, ◌+◌, ◌<◌, ◌≤◌, ◌||◌, ◌&&◌, ◌⊎◌, if◌then◌else◌, nat_eq, not, true, false, length, get_or, IfOk, IfSome, IsTrue, IsFalse};
-ghost use Rattle.lrc_slots.specs.Indexes.{listed, is_entry, is_entry_of, IsFrom, FindsFirst, FindsLeast, is_of_set, is_of_either};
+ghost use Rattle.lrc_slots.specs.Indexes.{listed, same_key, is_listing_of, IsFrom, FindsFirst, FindsLeast, is_of_either};
 
-use crate::entry::Entry;
-use crate::rank_set::RankSet;
-use crate::spot::Spot;
+use crate::listing::Listing;
+use crate::load_key::LoadKey;
+use crate::ordinal_set::OrdinalSet;
 use lrc_bits::{BitSet, Members};
 use std::alloc::{AllocError, Global};
 use std::marker::Model;
 
-/// The ranks of nodes by a number of theirs, as their load or their fault domain.
+/// Sets of nodes, one for each value of a key below 256: the load, the fault domain or the upgrade domain. A node is
+/// stored as its ordinal.
 #[derive(Drop)]
-pub(crate) struct RankSets {
-    /// For each number below 256 the ranks of its nodes.
-    sets: Vec<RankSet>,
-    /// The numbers whose set is not empty.
+pub(crate) struct OrdinalSets {
+    /// The set of each key.
+    sets: Vec<OrdinalSet>,
+    /// The keys with a set that is not empty.
     used: BitSet<4>,
 }
 
-impl Model for RankSets {
+impl Model for OrdinalSets {
     ghost use Rattle.std.specs.Prelude.{List, Bool};
     ghost use Rattle.lrc_slots.specs.Indexes.{AreSets};
 
@@ -28,51 +29,51 @@ impl Model for RankSets {
     ghost invariant = { λ s. AreSets s.sets.items s.used };
 }
 
-impl RankSets {
-    /// No node under any load.
-    pub(crate) fn new(alloc: Global) -> Result<RankSets, AllocError>
+impl OrdinalSets {
+    /// Returns empty sets.
+    pub(crate) fn new(alloc: Global) -> Result<OrdinalSets, AllocError>
         ensures { IfOk result (λ s. (l r : ℕ) → listed s l r ≡ false) }
     {
         let mut sets = Vec::with_capacity(alloc, 256)?;
         for _ in 0..256usize {
-            sets.push(RankSet::new())?;
+            sets.push(OrdinalSet::new())?;
         }
-        Ok(RankSets {
+        Ok(OrdinalSets {
             sets,
             used: BitSet::new(),
         })
     }
 
-    /// Puts a node under a load.
+    /// Adds a node to the set of a load.
     #[inline(always)]
-    pub(crate) fn insert(&mut self, load: usize, rank: usize)
+    pub(crate) fn insert(&mut self, load: usize, ordinal: usize)
         requires load { load < 256 }
-        requires rank { rank < 512 }
-        ensures { (l r : ℕ) → listed self.new l r ≡ (listed self.old l r || is_entry load rank l r) }
+        requires ordinal { ordinal < 512 }
+        ensures { (l r : ℕ) → listed self.new l r ≡ (listed self.old l r || same_key load ordinal l r) }
     {
         let set = &mut self.sets[load];
-        let is_used = set.has_near(rank);
-        set.insert(rank);
+        let is_used = set.has_near(ordinal);
+        set.insert(ordinal);
         if !is_used {
             self.used.insert(load);
         }
     }
 
-    /// Takes a node from under a load.
+    /// Removes a node from the set of a load.
     #[inline(always)]
-    pub(crate) fn remove(&mut self, load: usize, rank: usize)
+    pub(crate) fn remove(&mut self, load: usize, ordinal: usize)
         requires load { load < 256 }
-        requires rank { rank < 512 }
-        ensures { (l r : ℕ) → listed self.new l r ≡ (listed self.old l r && not (is_entry load rank l r)) }
+        requires ordinal { ordinal < 512 }
+        ensures { (l r : ℕ) → listed self.new l r ≡ (listed self.old l r && not (same_key load ordinal l r)) }
     {
         let set = &mut self.sets[load];
-        let is_empty = set.remove(rank);
+        let is_empty = set.remove(ordinal);
         if is_empty {
             self.used.remove(load);
         }
     }
 
-    /// Whether there is a node under some load.
+    /// Reports whether any set has a node.
     pub(crate) fn has_any(&self) -> bool
         ensures some { IsTrue result → (l r : ℕ) × (listed self.now l r ≡ true) }
         ensures none { IsFalse result → (l r : ℕ) → listed self.now l r ≡ false }
@@ -80,28 +81,21 @@ impl RankSets {
         self.used.first().is_some()
     }
 
-    /// The least rank of the least load that is not in the mask.
-    pub(crate) fn first_outside(&self, mask: &BitSet<8>) -> Option<usize>
-        ensures { FindsLeast self.now (is_of_set mask.now) result }
-    {
-        self.first_outside_both(mask, mask)
-    }
-
-    /// The least rank of the least load that is in neither mask.
+    /// Returns the first ordinal, by load and then by ordinal, that is in neither mask.
     #[inline(always)]
     pub(crate) fn first_outside_both(&self, mask: &BitSet<8>, other: &BitSet<8>) -> Option<usize>
         ensures { FindsLeast self.now (is_of_either mask.now other.now) result }
     {
         let least = self.used.first()?;
         let set = &self.sets[least];
-        if let Some(rank) = set.first_outside_both(mask, other) {
-            return Some(rank);
+        if let Some(ordinal) = set.first_outside_both(mask, other) {
+            return Some(ordinal);
         }
         self.first_above_outside_both(least, mask, other)
     }
 
-    /// The same where the ranks of this load and of those below it are all in the masks.
-    #[inline(never)] // the search of the least load finds one nearly always
+    /// Returns the same, given that every ordinal with a load up to `least` is in a mask.
+    #[inline(never)] // rarely called: the search of the least load nearly always finds one
     fn first_above_outside_both(
         &self,
         least: usize,
@@ -115,45 +109,45 @@ impl RankSets {
         let mut from = least + 1;
         while let Some(load) = self.used.first_from(from) {
             let set = &self.sets[load];
-            if let Some(rank) = set.first_outside_both(mask, other) {
-                return Some(rank);
+            if let Some(ordinal) = set.first_outside_both(mask, other) {
+                return Some(ordinal);
             }
             from = load + 1;
         }
         None
     }
 
-    /// The first rank from this spot on.
-    pub(crate) fn first_from(&self, from: Spot) -> Option<Spot>
+    /// Returns the first listed key from `from` on.
+    pub(crate) fn first_from(&self, from: LoadKey) -> Option<LoadKey>
         requires { from.load < 256 }
         ensures first { FindsFirst self.now from result }
         ensures within { IfSome result (λ s. s.load < 256) }
-        ensures onward { IfSome result (λ s. IsFrom from.load from.rank s.load s.rank) }
+        ensures onward { IfSome result (λ s. IsFrom from.load from.ordinal s.load s.ordinal) }
     {
         let set = &self.sets[from.load];
-        if let Some(rank) = set.first_from(from.rank) {
-            return Some(Spot {
+        if let Some(ordinal) = set.first_from(from.ordinal) {
+            return Some(LoadKey {
                 load: from.load,
-                rank,
+                ordinal,
             });
         }
         self.first_above(from.load)
     }
 
-    /// The first rank under a load above this one.
+    /// Returns the first listed key with a load above `least`.
     #[inline(always)]
-    fn first_above(&self, least: usize) -> Option<Spot>
+    fn first_above(&self, least: usize) -> Option<LoadKey>
         requires { least < 256 }
-        ensures first { FindsFirst self.now (record { load = least + 1; rank = 0 }) result }
+        ensures first { FindsFirst self.now (record { load = least + 1; ordinal = 0 }) result }
         ensures within { IfSome result (λ s. s.load < 256) }
         ensures onward { IfSome result (λ s. least < s.load) }
     {
         let load = self.used.first_from(least + 1)?;
-        let rank = self.sets[load].first();
-        Some(Spot { load, rank })
+        let ordinal = self.sets[load].first();
+        Some(LoadKey { load, ordinal })
     }
 
-    /// A walk over the numbers with a rank.
+    /// Returns an iterator over the keys with a node.
     pub(crate) fn used(&self) -> Members<'_>
         ensures long { length result ≡ 256 }
         ensures covered { (l r : ℕ) → listed self.now l r ≡ true → get_or result l false ≡ true }
@@ -161,63 +155,63 @@ impl RankSets {
         self.used.members()
     }
 
-    /// The ranks under a number, and which words of the set have one.
-    pub(crate) fn under(&self, number: usize) -> &RankSet
+    /// Returns the set of a key.
+    pub(crate) fn under(&self, number: usize) -> &OrdinalSet
         requires { number < 256 }
         ensures { (r : ℕ) → get_or result.now r false ≡ listed self.now number r }
     {
         &self.sets[number]
     }
 
-    /// The ranks under a number.
-    pub(crate) fn ranks_of(&self, number: usize) -> &BitSet<8>
+    /// Returns the ordinals of a key as a plain set.
+    pub(crate) fn ordinals_of(&self, number: usize) -> &BitSet<8>
         requires { number < 256 }
         ensures long { length result.now ≡ 512 }
         ensures members { (r : ℕ) → get_or result.now r false ≡ listed self.now number r }
     {
-        self.sets[number].ranks()
+        self.sets[number].ordinals()
     }
 
-    /// Takes a rank from under the one load, if it stands there, and puts it under the other, if it is to.
+    /// Moves a node from the load that it was listed with, if it was listed, to its new load, if it takes seats.
     #[inline(always)]
-    pub(crate) fn relist(&mut self, rank: usize, before: Entry, after: Entry)
-        requires rank { rank < 512 }
+    pub(crate) fn relist(&mut self, ordinal: usize, before: Listing, after: Listing)
+        requires ordinal { ordinal < 512 }
         requires before { IsTrue before.is_open → before.load < 256 }
         requires after { IsTrue after.is_open → after.load < 256 }
-        requires shown { (k : ℕ) → listed self.old k rank ≡ is_entry_of before k }
-        ensures { (k r : ℕ) → listed self.new k r ≡ (if nat_eq rank r then is_entry_of after k else listed self.old k r) }
+        requires shown { (k : ℕ) → listed self.old k ordinal ≡ is_listing_of before k }
+        ensures { (k r : ℕ) → listed self.new k r ≡ (if nat_eq ordinal r then is_listing_of after k else listed self.old k r) }
     {
-        self.unlist(rank, before);
-        self.enlist(rank, after);
+        self.unlist(ordinal, before);
+        self.enlist(ordinal, after);
     }
 
-    /// Takes a rank from under its load, if it stands there.
+    /// Removes a node from the set of its load, if it is listed.
     #[inline(always)]
-    fn unlist(&mut self, rank: usize, entry: Entry)
-        requires rank { rank < 512 }
-        requires few { IsTrue entry.is_open → entry.load < 256 }
-        requires shown { (k : ℕ) → listed self.old k rank ≡ is_entry_of entry k }
-        ensures { (k r : ℕ) → listed self.new k r ≡ (if nat_eq rank r then false else listed self.old k r) }
+    fn unlist(&mut self, ordinal: usize, listing: Listing)
+        requires ordinal { ordinal < 512 }
+        requires few { IsTrue listing.is_open → listing.load < 256 }
+        requires shown { (k : ℕ) → listed self.old k ordinal ≡ is_listing_of listing k }
+        ensures { (k r : ℕ) → listed self.new k r ≡ (if nat_eq ordinal r then false else listed self.old k r) }
     {
-        if entry.is_open {
-            self.remove(entry.load as usize, rank);
+        if listing.is_open {
+            self.remove(listing.load as usize, ordinal);
         }
     }
 
-    /// Puts a rank that stands nowhere under a load, if it is to.
+    /// Adds a node that is not listed to the set of its load, if it takes seats.
     #[inline(always)]
-    fn enlist(&mut self, rank: usize, entry: Entry)
-        requires rank { rank < 512 }
-        requires few { IsTrue entry.is_open → entry.load < 256 }
-        requires none { (k : ℕ) → listed self.old k rank ≡ false }
-        ensures { (k r : ℕ) → listed self.new k r ≡ (if nat_eq rank r then is_entry_of entry k else listed self.old k r) }
+    fn enlist(&mut self, ordinal: usize, listing: Listing)
+        requires ordinal { ordinal < 512 }
+        requires few { IsTrue listing.is_open → listing.load < 256 }
+        requires none { (k : ℕ) → listed self.old k ordinal ≡ false }
+        ensures { (k r : ℕ) → listed self.new k r ≡ (if nat_eq ordinal r then is_listing_of listing k else listed self.old k r) }
     {
-        if entry.is_open {
-            self.insert(entry.load as usize, rank);
+        if listing.is_open {
+            self.insert(listing.load as usize, ordinal);
         }
     }
 
-    /// Puts the ranks of all named numbers into a mask.
+    /// Adds the nodes of all these keys to a mask.
     pub(crate) fn join(&self, named: &BitSet<4>, mask: &mut BitSet<8>)
         requires { length named.now ≡ 256 }
         ensures same { length mask.new ≡ length mask.old }
@@ -228,7 +222,7 @@ impl RankSets {
     {
         let mut from = 0;
         while let Some(number) = named.first_from(from) {
-            mask.insert_all(self.sets[number].ranks());
+            mask.insert_all(self.sets[number].ordinals());
             from = number + 1;
         }
     }

@@ -7,35 +7,35 @@ ghost use Rattle.lrc_slots.specs.Next.{next_node, next_number};
 ghost use Rattle.lrc_slots.specs.Tables.{row_at, slots_of, barred};
 ghost use Rattle.lrc_slots.specs.Barred.{Barred, no_bars, joined, with_fault, with_upgrade, with_fault_of, with_upgrade_of};
 ghost use Rattle.lrc_slots.specs.BarredNodes.{AreBarredNodes};
-ghost use Rattle.lrc_slots.specs.Rows.{fresh_row, place_of, alone, is_open, precedes};
+ghost use Rattle.lrc_slots.specs.Rows.{fresh_row, position_of, alone, is_open, precedes};
 
 use crate::node_slots::NodeSlots;
-use crate::rank_sets::RankSets;
+use crate::ordinal_sets::OrdinalSets;
 use crate::{BarredNodes, Barring, OpenNode, OpenRow, Taken, setup};
 use lrc_code::{Fault, FaultNo, NodeNo, UpgradeNo};
 use lrc_topology::{NodeIndex, NodeInfo, Topology};
 use std::alloc::{AllocError, Global};
 use std::marker::Model;
 
-/// The taken slots of the nodes of a topology, and which of the nodes are eligible.
+/// The nodes of a topology, which of their slots are taken, and which nodes are eligible for new seats.
 ///
-/// Calls on a node ask for one of that topology; `SlotTable::node` is the test.
+/// A call on a node needs a node of that topology; `SlotTable::node` is the test.
 #[derive(Drop)]
 pub struct SlotTable {
-    /// In the order of the file.
+    /// One row for each node, in file order.
     pub(crate) rows: Vec<NodeSlots>,
-    /// Where the row of each node stands.
+    /// Finds the row of a node by its number.
     index: NodeIndex,
-    /// For each row its node's rank: how many nodes have a lower number.
-    ranks: Vec<u16>,
-    /// For each rank the place of the row.
+    /// The ordinal of each row's node: the number of nodes with a lower number.
+    ordinals: Vec<u16>,
+    /// The position of the row with each ordinal.
     pub(crate) order: Vec<u16>,
-    /// The ranks of the nodes that are eligible and have a free slot, by load.
-    pub(crate) by_load: RankSets,
-    /// The ranks of all nodes, by fault domain.
-    pub(crate) by_fault: RankSets,
-    /// The ranks of all nodes, by upgrade domain.
-    pub(crate) by_upgrade: RankSets,
+    /// The nodes that take seats, by load: those that are eligible and have a free slot.
+    pub(crate) by_load: OrdinalSets,
+    /// All nodes, by fault domain.
+    pub(crate) by_fault: OrdinalSets,
+    /// All nodes, by upgrade domain.
+    pub(crate) by_upgrade: OrdinalSets,
 }
 
 impl Model for SlotTable {
@@ -46,11 +46,11 @@ impl Model for SlotTable {
 
     ghost view = { λ t. t.rows.items };
 
-    ghost invariant = { λ t. AreIndexed t.rows.items t.index t.ranks.items t.order.items t.by_load t.by_fault t.by_upgrade };
+    ghost invariant = { λ t. AreIndexed t.rows.items t.index t.ordinals.items t.order.items t.by_load t.by_fault t.by_upgrade };
 }
 
 impl SlotTable {
-    /// Every node of the topology eligible and every slot free.
+    /// Makes the table of a topology, with every node eligible and every slot free.
     ///
     /// # Errors
     ///
@@ -67,7 +67,7 @@ impl SlotTable {
         Ok(SlotTable::of_rows(alloc, rows, index)?)
     }
 
-    /// The table of these rows, and where they stand.
+    /// Makes the table of these rows and builds its indexes.
     fn of_rows(
         alloc: Global,
         rows: Vec<NodeSlots>,
@@ -78,19 +78,19 @@ impl SlotTable {
         requires fresh { All (λ r. r ≡ fresh_row r.node) rows.items }
         ensures { IfOk result (λ t. t ≡ rows.items) }
     {
-        let ranks = setup::ranks(alloc, &rows)?;
+        let ordinals = setup::ordinals(alloc, &rows)?;
         let mut order = setup::zeros(alloc, 512)?;
-        setup::set_order(&mut order, &ranks);
+        setup::set_order(&mut order, &ordinals);
         let loads = setup::zeros(alloc, rows.len())?;
         let faults = setup::faults(alloc, &rows)?;
         let upgrades = setup::upgrades(alloc, &rows)?;
-        let by_load = setup::sets_by(alloc, &loads, &ranks)?;
-        let by_fault = setup::sets_by(alloc, &faults, &ranks)?;
-        let by_upgrade = setup::sets_by(alloc, &upgrades, &ranks)?;
+        let by_load = setup::sets_by(alloc, &loads, &ordinals)?;
+        let by_fault = setup::sets_by(alloc, &faults, &ordinals)?;
+        let by_upgrade = setup::sets_by(alloc, &upgrades, &ordinals)?;
         Ok(SlotTable {
             rows,
             index,
-            ranks,
+            ordinals,
             order,
             by_load,
             by_fault,
@@ -98,7 +98,7 @@ impl SlotTable {
         })
     }
 
-    /// The node of a number; `None` where there is none.
+    /// Returns the node of a number, or `None` if there is none.
     pub fn node(&self, number: NodeNo) -> Option<NodeInfo>
         ensures { result ≡ node_at (slots_of self.now).nodes number }
     {
@@ -106,16 +106,16 @@ impl SlotTable {
         Some(*row.node())
     }
 
-    /// The least free slot of a node; `None` where all are taken.
+    /// Returns the lowest free slot of a node, or `None` if all are taken.
     pub fn first_free(&self, node: NodeNo) -> Option<u16>
         requires { IsSome (node_at (slots_of self.now).nodes node) }
         ensures { result ≡ least_free_at (slots_of self.now) node }
     {
-        let row = &self.rows[self.place(node)];
+        let row = &self.rows[self.known_position(node)];
         row.first_free()
     }
 
-    /// Takes the least free slot of a node, and answers it; `None`, with no change, where all are taken.
+    /// Takes and returns the lowest free slot of a node. Returns `None`, with no change, if all are taken.
     pub fn take(&mut self, node: NodeNo) -> Option<u16>
         requires { IsSome (node_at (slots_of self.old).nodes node) }
         ensures slot { result ≡ least_free_at (slots_of self.old) node }
@@ -126,63 +126,63 @@ impl SlotTable {
         Some(slot)
     }
 
-    /// Takes the least free slot of a node; `first_free` tells which one it is.
+    /// Takes the lowest free slot of a node, which the caller got from `first_free`.
     #[inline(always)]
     pub fn take_slot(&mut self, node: NodeNo, slot: u16)
         requires known { IsSome (node_at (slots_of self.old).nodes node) }
         requires least { least_free_at (slots_of self.old) node ≡ Some slot }
         ensures { slots_of self.new ≡ with_taken (slots_of self.old) node (Some slot) }
     {
-        let place = self.place(node);
-        let row = &mut self.rows[place];
-        let lighter = row.entry_with_room();
+        let position = self.known_position(node);
+        let row = &mut self.rows[position];
+        let lighter = row.listing_with_room();
         row.take(slot);
-        let heavier = row.entry();
-        let rank = self.ranks[place] as usize;
-        self.by_load.relist(rank, lighter, heavier);
+        let heavier = row.listing();
+        let ordinal = self.ordinals[position] as usize;
+        self.by_load.relist(ordinal, lighter, heavier);
     }
 
-    /// Gives a slot back that is taken; `is_taken` is the test.
+    /// Frees a slot of a node, which must be taken; `is_taken` is the test.
     #[inline(always)]
     pub fn free(&mut self, node: NodeNo, slot: u16)
         requires { IsTrue ((slots_of self.old).taken node slot) }
         ensures { slots_of self.new ≡ with_free (slots_of self.old) node slot }
     {
-        let place = self.place(node);
-        let row = &mut self.rows[place];
-        let heavier = row.entry();
+        let position = self.known_position(node);
+        let row = &mut self.rows[position];
+        let heavier = row.listing();
         row.free(slot);
-        let lighter = row.entry_with_room();
-        let rank = self.ranks[place] as usize;
-        self.by_load.relist(rank, heavier, lighter);
+        let lighter = row.listing_with_room();
+        let ordinal = self.ordinals[position] as usize;
+        self.by_load.relist(ordinal, heavier, lighter);
     }
 
-    /// The number of taken slots of a node, at most 256.
+    /// Returns the number of taken slots of a node, at most 256.
     pub fn load(&self, node: NodeNo) -> u32
         requires { IsSome (node_at (slots_of self.now).nodes node) }
         ensures value { result ≡ load_at (slots_of self.now) node }
         ensures few { result ≤ 256 }
     {
-        let row = &self.rows[self.place(node)];
+        let row = &self.rows[self.known_position(node)];
         row.load()
     }
 
-    /// Sets whether a node may be chosen.
+    /// Sets whether a node is eligible for new seats.
     pub fn set_eligible(&mut self, node: NodeNo, eligible: bool)
         requires { IsSome (node_at (slots_of self.old).nodes node) }
         ensures { slots_of self.new ≡ with_eligible (slots_of self.old) node eligible }
     {
-        let place = self.place(node);
-        let row = &mut self.rows[place];
-        let before = row.entry();
+        let position = self.known_position(node);
+        let row = &mut self.rows[position];
+        let before = row.listing();
         row.set_eligible(eligible);
-        let after = row.entry();
-        let rank = self.ranks[place] as usize;
-        self.by_load.relist(rank, before, after);
+        let after = row.listing();
+        let ordinal = self.ordinals[position] as usize;
+        self.by_load.relist(ordinal, before, after);
     }
 
-    /// Whether a slot of a node is taken; `false` beyond the node's last slot, and for a node that is not of the
-    /// topology.
+    /// Reports whether a slot of a node is taken. Returns `false` after the node's last slot, and for a node that is
+    /// not in the topology.
     pub fn is_taken(&self, node: NodeNo, slot: u16) -> bool
         ensures value { result ≡ (slots_of self.now).taken node slot }
         ensures within { IsTrue result → IsSomeAnd (node_at (slots_of self.now).nodes node) (λ n. slot < n.slots) }
@@ -193,8 +193,9 @@ impl SlotTable {
         }
     }
 
-    /// The node with the least load, and of these the one with the least number, that is eligible, has a free slot
-    /// and is in no barred domain; `None` where there is no such node.
+    /// Returns the node that gets the next seat: the one with the least load of those that are eligible, have a free
+    /// slot and are in no barred domain; among equal loads, the one with the lowest number. Returns `None` if there
+    /// is no such node.
     pub fn choose(&self, bars: &Taken) -> Option<NodeNo>
         ensures node { result ≡ next_number (slots_of self.now) (barred bars.now) }
         ensures known { IfSome result (λ n. IsSome (node_at (slots_of self.now).nodes n)) }
@@ -203,7 +204,7 @@ impl SlotTable {
         Some(row.number())
     }
 
-    /// Bars the fault domain of a node.
+    /// Adds the fault domain of a node to the barred domains.
     pub fn bar_fault_of(&self, bars: &mut Taken, node: NodeNo)
         requires { IsSome (node_at (slots_of self.now).nodes node) }
         ensures { barred bars.new ≡ with_fault_of (slots_of self.now).nodes (barred bars.old) node }
@@ -212,7 +213,7 @@ impl SlotTable {
         bars.bar_fault(known.fault);
     }
 
-    /// Bars the fault domain and the upgrade domain of a node.
+    /// Adds the fault domain and the upgrade domain of a node to the barred domains.
     pub fn bar_domains_of(&self, bars: &mut Taken, node: NodeNo)
         requires { IsSome (node_at (slots_of self.now).nodes node) }
         ensures { barred bars.new ≡ with_upgrade_of (slots_of self.now).nodes (with_fault_of (slots_of self.now).nodes (barred bars.old) node) node }
@@ -222,23 +223,23 @@ impl SlotTable {
         bars.bar_upgrade(known.upgrade);
     }
 
-    /// Bars the nodes of a fault domain too.
+    /// Adds the nodes of a fault domain to the barred nodes.
     pub fn bar_fault_in(&self, barred_nodes: &mut BarredNodes, domain: FaultNo)
         ensures { (b : Barred) → AreBarredNodes (slots_of self.now).nodes b barred_nodes.old
             → AreBarredNodes (slots_of self.now).nodes (with_fault b domain) barred_nodes.new }
     {
-        barred_nodes.bar(self.by_fault.ranks_of(domain.value as usize));
+        barred_nodes.bar(self.by_fault.ordinals_of(domain.value as usize));
     }
 
-    /// Bars the nodes of an upgrade domain too.
+    /// Adds the nodes of an upgrade domain to the barred nodes.
     pub fn bar_upgrade_in(&self, barred_nodes: &mut BarredNodes, domain: UpgradeNo)
         ensures { (b : Barred) → AreBarredNodes (slots_of self.now).nodes b barred_nodes.old
             → AreBarredNodes (slots_of self.now).nodes (with_upgrade b domain) barred_nodes.new }
     {
-        barred_nodes.bar(self.by_upgrade.ranks_of(domain.value as usize));
+        barred_nodes.bar(self.by_upgrade.ordinals_of(domain.value as usize));
     }
 
-    /// The node that `choose` answers, and its least free slot.
+    /// Returns the node that `choose` returns, and its lowest free slot.
     pub fn open_beside(&self, bars: &Taken) -> Option<OpenNode>
         ensures node { option_map (λ o. o.node) result ≡ next_node (slots_of self.now) (barred bars.now) }
         ensures slot { IfSome result (λ o. least_free_at (slots_of self.now) o.node.number ≡ Some o.slot) }
@@ -247,8 +248,8 @@ impl SlotTable {
         Some(row.open())
     }
 
-    /// The node that `choose` would answer where these domains are barred, and its least free slot. Each node is asked
-    /// about by itself.
+    /// Returns the node that `choose` returns for the domains that `bars` tests, and its lowest free slot. Tests
+    /// nodes one by one.
     pub fn open_beside_each<B: Barring>(&self, bars: &B) -> Option<OpenNode>
         ensures node { option_map (λ o. o.node) result ≡ next_node (slots_of self.now) (B.barred bars.now) }
         ensures slot { IfSome result (λ o. least_free_at (slots_of self.now) o.node.number ≡ Some o.slot) }
@@ -257,8 +258,7 @@ impl SlotTable {
         Some(row.open())
     }
 
-    /// The node that `choose` would answer where the domains of both sets are barred, where the table keeps it, and its least
-    /// free slot.
+    /// Returns the node that `choose` returns if the domains behind both sets are barred, and its lowest free slot.
     pub fn row_outside(&self, barred_nodes: &BarredNodes, more: &BarredNodes) -> Option<OpenRow<'_>>
         ensures node { (b c : Barred) → AreBarredNodes (slots_of self.now).nodes b barred_nodes.now → AreBarredNodes (slots_of self.now).nodes c more.now
             → option_map (λ o. o.node.now) result ≡ next_node (slots_of self.now) (joined b c) }
@@ -268,15 +268,15 @@ impl SlotTable {
         Some(row.open_row())
     }
 
-    /// Whether some node takes a seat, where no domain is barred.
+    /// Reports whether some node gets a seat if no domain is barred.
     pub fn has_open_node(&self) -> bool
         ensures { result ≡ is_some (next_number (slots_of self.now) no_bars) }
     {
         self.by_load.has_any()
     }
 
-    /// The row that is chosen before all others that may take a seat where the nodes of both are barred.
-    fn first_outside_both(
+    /// Returns the row of the node that gets the next seat if the nodes of both sets are barred.
+    pub(crate) fn first_outside_both(
         &self,
         barred_nodes: &BarredNodes,
         more: &BarredNodes,
@@ -287,55 +287,42 @@ impl SlotTable {
         ensures room { IfSome result (λ r. IsSome (least_free (alone r.now) r.now.node)) }
         ensures nodes { AreNodes (map (λ r. r.node) self.now) }
     {
-        let rank = self
+        let ordinal = self
             .by_load
-            .first_outside_both(barred_nodes.ranks(), more.ranks())?;
-        let place = self.order[rank] as usize;
-        Some(&self.rows[place])
+            .first_outside_both(barred_nodes.ordinals(), more.ordinals())?;
+        let position = self.order[ordinal] as usize;
+        Some(&self.rows[position])
     }
 
-    /// The same outside these nodes.
-    pub(crate) fn first_open(&self, barred_nodes: &BarredNodes) -> Option<&NodeSlots>
-        ensures row { (b : Barred) → AreBarredNodes (map (λ r. r.node) self.now) b barred_nodes.now
-            → option_copied result ≡ least precedes (filter (is_open b) self.now) }
-        ensures known { IfSome result (λ r. Contains self.now r.now) }
-        ensures room { IfSome result (λ r. IsSome (least_free (alone r.now) r.now.node)) }
-        ensures nodes { AreNodes (map (λ r. r.node) self.now) }
-    {
-        let rank = self.by_load.first_outside(barred_nodes.ranks())?;
-        let place = self.order[rank] as usize;
-        Some(&self.rows[place])
-    }
-
-    /// The row of a node; `None` for a node that is not of the topology.
+    /// Returns the row of a node, or `None` if the node is not in the topology.
     fn row_of(&self, node: NodeNo) -> Option<&NodeSlots>
         ensures { option_copied result ≡ row_at self.now node }
     {
-        let place = self.position(node)?;
-        Some(&self.rows[place])
+        let position = self.position(node)?;
+        Some(&self.rows[position])
     }
 
-    /// Where the row of a node stands; `None` for a node that is not of the topology.
+    /// Returns the position of a node's row, or `None` if the node is not in the topology.
     fn position(&self, node: NodeNo) -> Option<usize>
-        ensures { result ≡ place_of self.now node }
+        ensures { result ≡ position_of self.now node }
     {
         self.index.place(node)
     }
 
-    /// The same for a node of the topology.
-    fn place(&self, node: NodeNo) -> usize
+    /// Returns the position of the row of a node of the topology.
+    fn known_position(&self, node: NodeNo) -> usize
         requires { IsSome (node_at (slots_of self.now).nodes node) }
-        ensures value { place_of self.now node ≡ Some result }
+        ensures value { position_of self.now node ≡ Some result }
         ensures within { result < length self.now }
     {
         self.index.place_of(node)
     }
 
-    /// The row of a node of the topology.
+    /// Returns the row of a node of the topology.
     fn known_row(&self, node: NodeNo) -> &NodeSlots
         requires { IsSome (node_at (slots_of self.now).nodes node) }
         ensures { row_at self.now node ≡ Some result.now }
     {
-        &self.rows[self.place(node)]
+        &self.rows[self.known_position(node)]
     }
 }

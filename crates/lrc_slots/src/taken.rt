@@ -3,14 +3,14 @@ ghost use Rattle.lrc_slots.specs.Indexes.{IsJoined};
 ghost use Rattle.lrc_slots.specs.Barred.{no_bars, with_fault, with_upgrade};
 ghost use Rattle.lrc_slots.specs.Tables.{barred};
 
-use crate::rank_sets::RankSets;
+use crate::ordinal_sets::OrdinalSets;
 use crate::{BarredNodes, Barring};
 use lrc_bits::BitSet;
 use lrc_code::{FaultNo, UpgradeNo};
 use lrc_topology::NodeInfo;
 use std::marker::Model;
 
-/// The domains that a stripe has taken: no node of them is chosen.
+/// The barred domains: none of their nodes is chosen.
 #[derive(Drop)]
 pub struct Taken {
     faults: BitSet<4>,
@@ -30,7 +30,7 @@ impl Model for Taken {
 }
 
 impl Taken {
-    /// Bars no domain.
+    /// Returns a value that bars no domain.
     pub fn new() -> Taken
         ensures { barred result ≡ no_bars }
     {
@@ -40,28 +40,28 @@ impl Taken {
         }
     }
 
-    /// Bars the nodes of a fault domain too.
+    /// Bars a fault domain too.
     pub fn bar_fault(&mut self, domain: FaultNo)
         ensures { barred self.new ≡ with_fault (barred self.old) domain }
     {
         self.faults.insert(domain.value as usize);
     }
 
-    /// Bars the nodes of an upgrade domain too.
+    /// Bars an upgrade domain too.
     pub fn bar_upgrade(&mut self, domain: UpgradeNo)
         ensures { barred self.new ≡ with_upgrade (barred self.old) domain }
     {
         self.upgrades.insert(domain.value as usize);
     }
 
-    /// The nodes of barred domains.
-    pub(crate) fn nodes(&self, by_fault: &RankSets, by_upgrade: &RankSets) -> BarredNodes
+    /// Returns the nodes of the barred domains.
+    pub(crate) fn nodes(&self, by_fault: &OrdinalSets, by_upgrade: &OrdinalSets) -> BarredNodes
         ensures { (r : ℕ) → (get_or result r false ≡ true) ↔ (IsJoined self.now.faults by_fault.now r ⊎ IsJoined self.now.upgrades by_upgrade.now r) }
     {
-        let mut ranks = BitSet::new();
-        by_fault.join(&self.faults, &mut ranks);
-        by_upgrade.join(&self.upgrades, &mut ranks);
-        BarredNodes::of_ranks(ranks)
+        let mut ordinals = BitSet::new();
+        by_fault.join(&self.faults, &mut ordinals);
+        by_upgrade.join(&self.upgrades, &mut ordinals);
+        BarredNodes::of_ordinals(ordinals)
     }
 }
 

@@ -1,4 +1,4 @@
-//! The row that is chosen, found by looking at one row after the other.
+//! Finds the row of the node that gets the next seat, by testing one row after the other.
 
 ghost use Rattle.std.specs.Prelude.{◌≡◌, ℕ, ◌<◌, true, length, get_or, IsSome, IfSome, map, filter, option_copied, Contains};
 ghost use Rattle.lrc_code.specs.Order.{least};
@@ -8,112 +8,115 @@ ghost use Rattle.lrc_slots.specs.Tables.{barred};
 ghost use Rattle.lrc_slots.specs.Rows.{alone, is_open, precedes};
 ghost use Rattle.lrc_slots.specs.Indexes.{listed, is_barred_at, FindsLeast, FindsOpen, IsOf, IsOfWord, AreOfRows};
 
+use crate::load_key::LoadKey;
 use crate::node_slots::NodeSlots;
-use crate::rank_set::RankSet;
-use crate::rank_sets::RankSets;
-use crate::spot::Spot;
+use crate::ordinal_set::OrdinalSet;
+use crate::ordinal_sets::OrdinalSets;
 use crate::{Barring, SlotTable, Taken};
 
-/// How many rows are looked at one by one, before the nodes of barred domains are joined.
+/// The number of rows to test one by one, before the set of all barred nodes is built.
 const WALKED: u32 = 32;
 
 impl SlotTable {
-    /// The row that is chosen before all others that may take a seat. Where few domains are barred, one of the first
-    /// rows is not; behind those the nodes of barred domains are joined.
+    /// Returns the row of the node that gets the next seat. If few domains are barred, one of the first rows is free;
+    /// after `WALKED` rows it builds the set of all barred nodes.
     pub(crate) fn first_beside(&self, taken: &Taken) -> Option<&NodeSlots>
         ensures row { option_copied result ≡ least precedes (filter (is_open (barred taken.now)) self.now) }
         ensures known { IfSome result (λ r. Contains self.now r.now) }
         ensures room { IfSome result (λ r. IsSome (least_free (alone r.now) r.now.node)) }
         ensures nodes { AreNodes (map (λ r. r.node) self.now) }
     {
-        let mut from = Spot { load: 0, rank: 0 };
+        let mut from = LoadKey {
+            load: 0,
+            ordinal: 0,
+        };
         for _ in 0..WALKED {
-            let spot = self.by_load.first_from(from)?;
-            let place = self.order[spot.rank] as usize;
-            let row = &self.rows[place];
+            let key = self.by_load.first_from(from)?;
+            let position = self.order[key.ordinal] as usize;
+            let row = &self.rows[position];
             if !taken.bars(row.node()) {
                 return Some(row);
             }
-            from = spot.next();
+            from = key.next();
         }
         let barred_nodes = taken.nodes(&self.by_fault, &self.by_upgrade);
-        self.first_open(&barred_nodes)
+        self.first_outside_both(&barred_nodes, &barred_nodes)
     }
 
-    /// The same, with each row looked at by itself.
+    /// Returns the row of the node that gets the next seat, by testing every row.
     pub(crate) fn first_beside_each<B: Barring>(&self, bars: &B) -> Option<&NodeSlots>
         ensures row { option_copied result ≡ least precedes (filter (is_open (B.barred bars.now)) self.now) }
         ensures known { IfSome result (λ r. Contains self.now r.now) }
         ensures room { IfSome result (λ r. IsSome (least_free (alone r.now) r.now.node)) }
         ensures nodes { AreNodes (map (λ r. r.node) self.now) }
     {
-        let rank = first_rank(&self.by_load, &self.rows, &self.order, bars)?;
-        let place = self.order[rank] as usize;
-        Some(&self.rows[place])
+        let ordinal = first_ordinal(&self.by_load, &self.rows, &self.order, bars)?;
+        let position = self.order[ordinal] as usize;
+        Some(&self.rows[position])
     }
 }
 
-/// The least rank of the least load whose node is not barred.
+/// Returns the first ordinal, by load and then by ordinal, whose node is not barred.
 #[inline(always)]
-fn first_rank<B: Barring>(
-    by_load: &RankSets,
+fn first_ordinal<B: Barring>(
+    by_load: &OrdinalSets,
     rows: &[NodeSlots],
     order: &[u16],
     bars: &B,
 ) -> Option<usize>
-    requires { (load rank : ℕ) → listed by_load.now load rank ≡ true → (rank < length order.now) × (get_or order.now rank 0 < length rows.now) }
+    requires { (load ordinal : ℕ) → listed by_load.now load ordinal ≡ true → (ordinal < length order.now) × (get_or order.now ordinal 0 < length rows.now) }
     ensures { FindsLeast by_load.now (is_barred_at rows.now order.now (B.barred bars.now)) result }
 {
     let mut loads = by_load.used();
     while let Some(load) = loads.next_member() {
-        let ranks = by_load.under(load);
-        if let Some(rank) = first_of_load(ranks, rows, order, bars) {
-            return Some(rank);
+        let ordinals = by_load.under(load);
+        if let Some(ordinal) = first_of_load(ordinals, rows, order, bars) {
+            return Some(ordinal);
         }
     }
     None
 }
 
-/// The least of the ranks under one load whose node is not barred.
+/// Returns the lowest ordinal with this load whose node is not barred.
 #[inline(always)]
 fn first_of_load<B: Barring>(
-    ranks: &RankSet,
+    ordinals: &OrdinalSet,
     rows: &[NodeSlots],
     order: &[u16],
     bars: &B,
 ) -> Option<usize>
-    requires { AreOfRows rows.now order.now ranks.now }
-    ensures { FindsOpen (IsOf ranks.now) (is_barred_at rows.now order.now (B.barred bars.now)) result }
+    requires { AreOfRows rows.now order.now ordinals.now }
+    ensures { FindsOpen (IsOf ordinals.now) (is_barred_at rows.now order.now (B.barred bars.now)) result }
 {
-    let mut words = ranks.words();
+    let mut words = ordinals.words();
     while let Some(word) = words.pop_first() {
-        if let Some(rank) = first_of_word(ranks, word, rows, order, bars) {
-            return Some(rank);
+        if let Some(ordinal) = first_of_word(ordinals, word, rows, order, bars) {
+            return Some(ordinal);
         }
     }
     None
 }
 
-/// The same, of the 64 ranks of one word.
+/// Returns the lowest ordinal in one word whose node is not barred.
 #[inline(always)]
 fn first_of_word<B: Barring>(
-    ranks: &RankSet,
+    ordinals: &OrdinalSet,
     word: usize,
     rows: &[NodeSlots],
     order: &[u16],
     bars: &B,
 ) -> Option<usize>
     requires word { word < 8 }
-    requires rows { AreOfRows rows.now order.now ranks.now }
-    ensures { FindsOpen (IsOfWord ranks.now word) (is_barred_at rows.now order.now (B.barred bars.now)) result }
+    requires rows { AreOfRows rows.now order.now ordinals.now }
+    ensures { FindsOpen (IsOfWord ordinals.now word) (is_barred_at rows.now order.now (B.barred bars.now)) result }
 {
-    let mut left = ranks.of_word(word);
+    let mut left = ordinals.of_word(word);
     while let Some(bit) = left.pop_first() {
-        let rank = 64 * word + bit;
-        let place = order[rank] as usize;
-        let row = &rows[place];
+        let ordinal = 64 * word + bit;
+        let position = order[ordinal] as usize;
+        let row = &rows[position];
         if !bars.bars(row.node()) {
-            return Some(rank);
+            return Some(ordinal);
         }
     }
     None

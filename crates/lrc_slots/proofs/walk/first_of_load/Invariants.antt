@@ -7,7 +7,7 @@ abbrev pub invariant-loop-word : goal.invariant-loop-word
 invariant-loop-word g l = record {
   long : length l.words ≡ 64;
   low : (w : ℕ) → get_or l.words w false ≡ true → w < 8;
-  passed : (r : ℕ) → get_or l.ranks r false ≡ true → get_or l.words (r / 64) false ≡ false
+  passed : (r : ℕ) → get_or l.ordinals r false ≡ true → get_or l.words (r / 64) false ≡ false
       → is_barred_at l.rows l.order (g.B.Barring.barred l.bars) r ≡ true;
 }
 

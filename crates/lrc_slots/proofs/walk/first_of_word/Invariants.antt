@@ -6,8 +6,8 @@ use Rattle.lrc_slots.proofs.walk.first_of_word.Given as goal
 abbrev pub invariant-loop-bit : goal.invariant-loop-bit
 invariant-loop-bit g l = record {
   long : length l.left ≡ 64;
-  own : (k : ℕ) → get_or l.left k false ≡ true → get_or l.ranks (64 * l.word + k) false ≡ true;
-  passed : (r : ℕ) → r / 64 ≡ l.word → get_or l.ranks r false ≡ true → get_or l.left (r % 64) false ≡ false
+  own : (k : ℕ) → get_or l.left k false ≡ true → get_or l.ordinals (64 * l.word + k) false ≡ true;
+  passed : (r : ℕ) → r / 64 ≡ l.word → get_or l.ordinals r false ≡ true → get_or l.left (r % 64) false ≡ false
       → is_barred_at l.rows l.order (g.B.Barring.barred l.bars) r ≡ true;
 }
 

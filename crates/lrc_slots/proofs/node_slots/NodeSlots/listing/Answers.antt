@@ -1,7 +1,7 @@
 use Rattle.std.proofs.Common.{true, inl, inr}
 use Rattle.std.proofs.lemmas.Bool.{cases_lt, lt-ltb, le-ltb}
 use Rattle.lrc_slots.proofs.RowLemmas.{listed-room, listed-full}
-use Rattle.lrc_slots.proofs.node_slots.NodeSlots.entry.Goals as goal
+use Rattle.lrc_slots.proofs.node_slots.NodeSlots.listing.Goals as goal
 
 pub returns-then-self-clause-value : goal.returns-then-self-clause-value
 returns-then-self-clause-value c =

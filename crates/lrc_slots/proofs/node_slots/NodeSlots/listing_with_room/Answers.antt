@@ -1,6 +1,6 @@
 use Rattle.std.proofs.Common.{arith}
 use Rattle.lrc_slots.proofs.RowLemmas.{room-known, listed-known}
-use Rattle.lrc_slots.proofs.node_slots.NodeSlots.entry_with_room.Goals as goal
+use Rattle.lrc_slots.proofs.node_slots.NodeSlots.listing_with_room.Goals as goal
 
 pub returns-clause-value : goal.returns-clause-value
 returns-clause-value c =

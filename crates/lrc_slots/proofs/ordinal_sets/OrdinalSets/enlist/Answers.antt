@@ -1,10 +1,10 @@
 use Rattle.lrc_slots.specs.Indexes.{listed}
 use Rattle.lrc_slots.proofs.SetLemmas.{enlisted, unlisted-none}
-use Rattle.lrc_slots.proofs.rank_sets.RankSets.enlist.Goals as goal
+use Rattle.lrc_slots.proofs.ordinal_sets.OrdinalSets.enlist.Goals as goal
 
-pub returns-then-entry : goal.returns-then-entry
-returns-then-entry c = λ k r. rw (c.insert.ensures k r, c.if-entry.true)
-    (enlisted c.args.entry.load c.args.rank (listed c.args.self.now) c.requires.none k r)
+pub returns-then-listing : goal.returns-then-listing
+returns-then-listing c = λ k r. rw (c.insert.ensures k r, c.if-listing.true)
+    (enlisted c.args.listing.load c.args.ordinal (listed c.args.self.now) c.requires.none k r)
 
-pub returns-else-entry : goal.returns-else-entry
-returns-else-entry c = λ k r. rw c.if-entry.false (unlisted-none c.args.rank (listed c.args.self.now) c.requires.none k r)
+pub returns-else-listing : goal.returns-else-listing
+returns-else-listing c = λ k r. rw c.if-listing.false (unlisted-none c.args.ordinal (listed c.args.self.now) c.requires.none k r)

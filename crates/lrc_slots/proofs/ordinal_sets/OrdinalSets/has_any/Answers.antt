@@ -1,6 +1,6 @@
 use Rattle.std.proofs.Common.{sym, ◌∙◌}
 use Rattle.lrc_slots.proofs.SetLemmas.{some-listed}
-use Rattle.lrc_slots.proofs.rank_sets.RankSets.has_any.Goals as goal
+use Rattle.lrc_slots.proofs.ordinal_sets.OrdinalSets.has_any.Goals as goal
 
 pub returns-clause-some : goal.returns-clause-some
 returns-clause-some c = λ any.

@@ -1,6 +1,6 @@
 use Rattle.std.proofs.Common.{◌≡◌, ℕ, ◌<◌, ◌≤◌, ◌-◌, ◌⊎◌, true, false, get_or, length}
 use Rattle.lrc_slots.specs.Indexes.{listed}
-use Rattle.lrc_slots.proofs.rank_sets.RankSets.join.Given as goal
+use Rattle.lrc_slots.proofs.ordinal_sets.OrdinalSets.join.Given as goal
 
 abbrev pub invariant-loop-number : goal.invariant-loop-number
 invariant-loop-number l = record {

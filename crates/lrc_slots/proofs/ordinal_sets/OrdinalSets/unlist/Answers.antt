@@ -1,10 +1,10 @@
 use Rattle.lrc_slots.specs.Indexes.{listed}
 use Rattle.lrc_slots.proofs.SetLemmas.{unlisted, unlisted-none}
-use Rattle.lrc_slots.proofs.rank_sets.RankSets.unlist.Goals as goal
+use Rattle.lrc_slots.proofs.ordinal_sets.OrdinalSets.unlist.Goals as goal
 
-pub returns-then-entry : goal.returns-then-entry
-returns-then-entry c = λ k r. rw (c.remove.ensures k r)
-    (unlisted c.args.entry.load c.args.rank (listed c.args.self.now) (λ j. rw c.if-entry.true at (c.requires.shown j)) k r)
+pub returns-then-listing : goal.returns-then-listing
+returns-then-listing c = λ k r. rw (c.remove.ensures k r)
+    (unlisted c.args.listing.load c.args.ordinal (listed c.args.self.now) (λ j. rw c.if-listing.true at (c.requires.shown j)) k r)
 
-pub returns-else-entry : goal.returns-else-entry
-returns-else-entry c = λ k r. unlisted-none c.args.rank (listed c.args.self.now) (λ j. rw c.if-entry.false at (c.requires.shown j)) k r
+pub returns-else-listing : goal.returns-else-listing
+returns-else-listing c = λ k r. unlisted-none c.args.ordinal (listed c.args.self.now) (λ j. rw c.if-listing.false at (c.requires.shown j)) k r

@@ -8,5 +8,5 @@ returns c = λ b all.
     let h = c.self.invariant in
     let known = rw (← c.self.view_is, slots_of-nodes s.rows.items) at all in
     rw (← c.self.view_is, slots_of-nodes s.rows.items)
-    (barred-fault h.ranked b c.args.barred_nodes.now c.bar.new.self c.ranks_of.result.now known c.bar.ensures c.args.domain
-    h.by_fault c.ranks_of.ensures.members)
+    (barred-fault h.by_ordinal b c.args.barred_nodes.now c.bar.new.self c.ordinals_of.result.now known c.bar.ensures c.args.domain
+    h.by_fault c.ordinals_of.ensures.members)

@@ -6,6 +6,6 @@ use Rattle.lrc_slots.proofs.table.SlotTable.first_beside.Given as goal
 abbrev pub invariant-loop : goal.invariant-loop
 invariant-loop l = record {
   within : l.from.load < 256;
-  passed : (load rank : ℕ) → listed l.self-inside.by_load load rank ≡ true
-      → is_barred_at l.self-inside.rows.items l.self-inside.order.items (barred l.taken) rank ≡ false → IsFrom l.from.load l.from.rank load rank;
+  passed : (load ordinal : ℕ) → listed l.self-inside.by_load load ordinal ≡ true
+      → is_barred_at l.self-inside.rows.items l.self-inside.order.items (barred l.taken) ordinal ≡ false → IsFrom l.from.load l.from.ordinal load ordinal;
 }

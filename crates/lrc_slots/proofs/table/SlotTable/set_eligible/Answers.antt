@@ -1,28 +1,28 @@
 use Rattle.std.proofs.Common.{ap}
 use Rattle.lrc_slots.specs.Tables.{Row}
-use Rattle.lrc_slots.proofs.WriteLemmas.{eligible-written, rank-low, rank-shown, row-replaced}
+use Rattle.lrc_slots.proofs.WriteLemmas.{eligible-written, ordinal-low, ordinal-shown, row-replaced}
 use Rattle.lrc_slots.proofs.table.SlotTable.set_eligible.Goals as goal
 
-pub relist-requires-clause-rank : goal.relist-requires-clause-rank
-relist-requires-clause-rank c =
-    rank-low c.self.view_is c.args.node c.place-place.result c.place-place.ensures.value c.index_mut-row.result.now
+pub relist-requires-clause-ordinal : goal.relist-requires-clause-ordinal
+relist-requires-clause-ordinal c =
+    ordinal-low c.self.view_is c.args.node c.known_position-position.result c.known_position-position.ensures.value c.index_mut-row.result.now
     c.index_mut-row.ensures.value c.self.invariant c.index.result.now c.index.ensures
 
 pub relist-requires-clause-shown : goal.relist-requires-clause-shown
 relist-requires-clause-shown c =
-    rank-shown c.self.view_is c.args.node c.place-place.result c.place-place.ensures.value c.index_mut-row.result.now
+    ordinal-shown c.self.view_is c.args.node c.known_position-position.result c.known_position-position.ensures.value c.index_mut-row.result.now
     c.index_mut-row.ensures.value c.self.invariant c.index.result.now c.index.ensures
-    c.entry-before.result c.entry-before.ensures.value
+    c.listing-before.result c.listing-before.ensures.value
 
 pub invariant_of-self : goal.invariant_of-self
 invariant_of-self c =
-    row-replaced c.self.view_is c.args.node c.place-place.result c.place-place.ensures.value c.index_mut-row.result.now
+    row-replaced c.self.view_is c.args.node c.known_position-position.result c.known_position-position.ensures.value c.index_mut-row.result.now
     c.index_mut-row.ensures.value c.self.invariant c.index.result.now c.index.ensures
-    c.set_eligible.new.self c.relist.new.self c.entry-after.result (ap (λ (r : Row). r.node) c.set_eligible.ensures)
-    c.relist.ensures c.entry-after.ensures.value
+    c.set_eligible.new.self c.relist.new.self c.listing-after.result (ap (λ (r : Row). r.node) c.set_eligible.ensures)
+    c.relist.ensures c.listing-after.ensures.value
 
 pub returns : goal.returns
 returns c =
     rw c.set_eligible.ensures
-    (eligible-written c.self.view_is c.args.node c.place-place.result c.place-place.ensures.value c.index_mut-row.result.now
+    (eligible-written c.self.view_is c.args.node c.known_position-position.result c.known_position-position.ensures.value c.index_mut-row.result.now
     c.index_mut-row.ensures.value c.args.eligible)
