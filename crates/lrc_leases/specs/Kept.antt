@@ -1,5 +1,5 @@
 -- Internal: no public clause reaches these definitions.
--- The leases as they are kept: in a slab, where the lease of a fragment stands under one key.
+-- The stored form of the leases: a slab with one key for each lease.
 use Rattle.std.specs.Prelude.{◌≡◌, ◌+◌, ◌%◌, ◌^◌, ◌≤◌, ◌<◌, ℕ, zero, suc, Bool, if◌then◌else◌, nat_lt, List, length, map, get_or, Option, Some, None, false, IsTrue, IsFalse}
 use Rattle.std.specs.List.{Contains}
 use Rattle.slab.specs.Slab.{Slab, get, entries}
@@ -21,30 +21,30 @@ abbrev pub is_lease_of : StripeNo → ℕ → Option Lease → Bool
 is_lease_of s f None = false
 is_lease_of s f (Some l) = is_of s f l
 
--- a lease of the fragment stands under the key
+-- the lease with the key is one of the fragment
 abbrev pub HasAt : Slab Lease → ℕ → StripeNo → ℕ → Type 0
 HasAt slab key s f = IsTrue (is_lease_of s f (get slab key))
 
--- under some key it does
+-- some lease is one of the fragment
 abbrev pub HasOne : Slab Lease → StripeNo → ℕ → Type 0
 HasOne slab s f = (key : ℕ) × HasAt slab key s f
 
--- under no key does a lease of the fragment stand
+-- no lease is one of the fragment
 abbrev pub HasNone : Slab Lease → StripeNo → ℕ → Type 0
 HasNone slab s f = (key : ℕ) (l : Lease) → get slab key ≡ Some l → IsFalse (is_of s f l)
 
--- leases of one fragment stand under one key
+-- leases of the same fragment have the same key
 abbrev pub AreSingle : Slab Lease → Type 0
 AreSingle slab =
     (i j : ℕ) (k l : Lease) → get slab i ≡ Some k → get slab j ≡ Some l → IsTrue (is_of l.stripe l.fragment.value k) → i ≡ j
 
--- a key as sixteen bits show it: the keys from 65,535 on are alike
-abbrev pub near : ℕ → ℕ
-near key = if nat_lt key 65535 then key else 65535
+-- a key in sixteen bits; 65,535 for every larger key
+abbrev pub capped_key : ℕ → ℕ
+capped_key key = if nat_lt key 65535 then key else 65535
 
--- the key of each lease stands at its fragment's place
+-- the list has the key of each lease at the number of its fragment
 abbrev pub AreAt : Slab Lease → List ℕ → Type 0
-AreAt slab keys = (key : ℕ) (l : Lease) → get slab key ≡ Some l → (spot l.stripe l.fragment < length keys) × (get_or keys (spot l.stripe l.fragment) 0 ≡ near key)
+AreAt slab keys = (key : ℕ) (l : Lease) → get slab key ≡ Some l → (spot l.stripe l.fragment < length keys) × (get_or keys (spot l.stripe l.fragment) 0 ≡ capped_key key)
 
 -- the keys of leases are below a bound
 abbrev pub AreBelow : ℕ → Slab Lease → Type 0
@@ -68,7 +68,7 @@ clock_chain clock = clock % 512
 abbrev pub end_chain : Lease → ℕ
 end_chain l = clock_chain l.expiry
 
--- each lease is in its own chain, and no others are in any; the number of a lease there is its key and one
+-- each lease is in its own chain, and no others are in any; a lease has the number key + 1 there
 pub record AreListed (chain : Lease → ℕ) (slab : Slab Lease) (chains : ChainTable) : Type 0 where
   pub listed : (key : ℕ) (l : Lease) → get slab key ≡ Some l → Contains (chain_in chains (chain l)) (key + 1)
   pub live : (d k : ℕ) → Contains (chain_in chains d) k
@@ -84,8 +84,8 @@ abbrev pub passing_at : (Lease → Bool) → Slab Lease → ℕ → Option Lease
 passing_at test slab zero = None
 passing_at test slab (suc key) = if_passes test (get slab key)
 
--- what is kept: one lease for each fragment at most, found by its place, by the node of its target and by its end and marked in its stripe's mask, with
--- room for a lease of each fragment and for the number of each key
+-- the invariant: each fragment has one lease at most, which is found by its fragment, by the node of its target and by its end, and is in the mask of its
+-- stripe; there is room for a lease of each fragment and for the number of each key
 pub record IsKept (slab : Slab Lease) (keys : List ℕ) (places : ℕ) (targets ends : ChainTable) (masks : List LossMask) (spare : ℕ) : Type 0 where
   pub single : AreSingle slab
   pub at : AreAt slab keys

@@ -37,7 +37,7 @@ impl<'a> Model for EndingAt<'a> {
 }
 
 impl<'a> EndingAt<'a> {
-    /// Those of the leases with these numbers.
+    /// The leases with these numbers that end at the clock.
     pub(crate) fn new(slab: &'a Slab<Lease>, numbers: Walk<'a>, clock: u32) -> EndingAt<'a>
         ensures { result ≡ filter_map (passing_at (ends_at clock) slab.now) numbers.entry }
     {

@@ -8,7 +8,7 @@ use crate::arrays::write;
 use crate::chains::Chains;
 use crate::ending_at::clock_chain;
 use crate::masks::Masks;
-use crate::search::{key_of, near};
+use crate::search::{capped_key, key_of};
 use crate::spot::{SPOTS, spot_of};
 use crate::targets_on::node_chain;
 use crate::{EndingAt, Lease, TargetsOn};
@@ -21,13 +21,13 @@ use std::marker::Model;
 #[derive(Drop)]
 pub struct Leases {
     slab: Slab<Lease>,
-    /// The key of each fragment's lease, as `near` shows it; what stands for a fragment without a lease means nothing.
+    /// The key of each fragment's lease in sixteen bits, as `capped_key` makes it; any value for a fragment without a lease.
     keys: Vec<u16>,
-    /// The leases by the node of their target. The number of a lease there is its key and one.
+    /// The leases by the node of their target. A lease has the number `key + 1` there.
     targets: Chains,
-    /// The leases by their end, numbered in the same way.
+    /// The leases by their end, with the same numbers.
     ends: Chains,
-    /// The fragments that have a lease. They are few bytes, and tell first whether there is one.
+    /// The fragments that have a lease. A small table, which is read first.
     masks: Masks,
     spare: u32,
 }
@@ -46,7 +46,7 @@ impl Model for Leases {
 
 #[tactic(auto, unfolding(crate::specs::Tables::leased_in))]
 impl Leases {
-    /// No leases and no room for any. All memory is taken here, for a lease of each fragment.
+    /// No leases and no room for any. Allocates for a lease of each fragment, so that no later call allocates.
     ///
     /// # Errors
     ///
@@ -56,7 +56,7 @@ impl Leases {
         ensures err { IfErr result (λ e. e ≡ OutOfMemory) }
     {
         let slab = Slab::with_capacity(alloc, SPOTS)?;
-        // In chains the number of a lease is its key and one.
+        // the chains number the leases from 1 on
         let bound = slab.capacity().checked_add(1).ok_or(Fault::OutOfMemory)?;
         Ok(Leases {
             slab,
@@ -68,11 +68,11 @@ impl Leases {
         })
     }
 
-    /// Makes room for so many more leases. Nothing else changes. This takes no memory today: `new` took all of it.
+    /// Makes room for `count` more leases. Nothing else changes. Today this allocates nothing: `new` allocates for all leases.
     ///
     /// # Errors
     ///
-    /// None today. A table that grows would answer `Fault::OutOfMemory`.
+    /// None today. A table that grows would return `Fault::OutOfMemory`.
     pub fn reserve(&mut self, count: u32) -> Result<(), Fault>
         ensures room { OnOk result (count ≤ (leased_in self.new).spare) }
         ensures no_less { (leased_in self.old).spare ≤ (leased_in self.new).spare }
@@ -85,7 +85,7 @@ impl Leases {
         Ok(())
     }
 
-    /// For how many more leases there is room.
+    /// The number of leases for which there is room.
     pub fn spare(&self) -> u32
         ensures { result ≡ (leased_in self.now).spare }
     {
@@ -111,7 +111,7 @@ impl Leases {
         self.masks.mask(stripe)
     }
 
-    /// Adds the lease of a fragment that has none, in room that there is for it.
+    /// Adds the lease of a fragment that has none. There must be room for it.
     pub fn add(&mut self, lease: Lease)
         requires absent { (leased_in self.old).leases lease.stripe lease.fragment.value ≡ None }
         requires room { 1 ≤ (leased_in self.old).spare }
@@ -119,14 +119,14 @@ impl Leases {
     {
         let spot = spot_of(lease.stripe, lease.fragment);
         let key = self.slab.insert_reserved(lease);
-        write(&mut self.keys, spot, near(key), 0);
+        write(&mut self.keys, spot, capped_key(key), 0);
         self.targets.add(node_chain(lease.target.node), key + 1);
         self.ends.add(clock_chain(lease.expiry), key + 1);
         self.masks.add(lease.stripe, lease.fragment);
         self.spare -= 1;
     }
 
-    /// Takes the lease of a fragment of a stripe out, and answers it. Where there is none nothing changes.
+    /// Removes the lease of a fragment and returns it. Nothing changes if there is none.
     pub fn remove(&mut self, stripe: StripeNo, fragment: Fragment) -> Option<Lease>
         ensures value { result ≡ (leased_in self.old).leases stripe fragment.value }
         ensures lease { leased_in self.new ≡ with_spare (without_lease (leased_in self.old) stripe fragment) (leased_in self.new).spare }
@@ -139,7 +139,7 @@ impl Leases {
         Some(self.take(stripe, fragment))
     }
 
-    /// Takes the lease of a fragment that has one out. It is called and not spread out, so that `remove` is short.
+    /// Removes the lease of a fragment that has one. Not inlined, so that `remove` stays short.
     #[inline(never)]
     fn take(&mut self, stripe: StripeNo, fragment: Fragment) -> Lease
         requires { IsTrue (leased_at (leased_in self.old) stripe fragment.value) }
@@ -155,15 +155,15 @@ impl Leases {
         lease
     }
 
-    /// The leases whose target is on a node, in no order of their own.
+    /// The leases whose target is on a node, in no particular order.
     pub fn targets_on(&self, node: NodeNo) -> TargetsOn<'_>
         ensures { AreTargetsOn (leased_in self.now) node result }
     {
         TargetsOn::new(&self.slab, self.targets.walk(node_chain(node)), node)
     }
 
-    /// The leases that end at a clock, in no order of their own. The walk is over these, and over those whose end is a
-    /// multiple of 512 away.
+    /// The leases that end at a clock, in no particular order. The cost is that of these leases and of those whose ends are
+    /// a multiple of 512 away.
     pub fn ending_at(&self, clock: u32) -> EndingAt<'_>
         ensures those { AreThose (ends_at clock) (leased_in self.now) result }
         ensures few { length result ≤ 65536 }

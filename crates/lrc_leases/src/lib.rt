@@ -1,4 +1,4 @@
-//! The live repair leases of a store: who may rebuild or move which fragment, and onto which seat.
+//! The live repair leases of a store. A lease lets one session rebuild or move a fragment to a seat.
 #![tactic(auto)]
 
 mod arrays;

@@ -38,7 +38,7 @@ impl<'a> Model for TargetsOn<'a> {
 }
 
 impl<'a> TargetsOn<'a> {
-    /// Those of the leases with these numbers.
+    /// The leases with these numbers whose target is on the node.
     pub(crate) fn new(slab: &'a Slab<Lease>, numbers: Walk<'a>, node: NodeNo) -> TargetsOn<'a>
         ensures { result ≡ filter_map (passing_at (is_target_on node) slab.now) numbers.entry }
     {

@@ -40,7 +40,7 @@ invariant_of-self c =
           c.self.inside.keys.items c.write.new.values.items c.self.invariant.at
           (omega (arith, c.write.ensures.there, c.write.new.values.ok.0, c.spot_of-spot.ensures.value))
           (omega (arith, c.write.ensures.no_shorter, c.write.new.values.ok.0, c.self.inside.keys.ok.0))
-          (λ i. c.write.ensures.value i ∙ rw (c.spot_of-spot.ensures.value, c.near.ensures) refl);
+          (λ i. c.write.ensures.value i ∙ rw (c.spot_of-spot.ensures.value, c.capped_key.ensures) refl);
       long = omega (arith, c.write.ensures.capacity, c.self.invariant.long);
       targets_are = listed-insert target_chain c.self.inside.slab insert.new.self insert.result c.args.lease insert.ensures.updates insert.ensures.was_vacant
           c.self.inside.targets c.add.new.self c.self.invariant.targets_are (λ d. c.add.ensures.numbers d ∙ rw c.node_chain.ensures.value refl);
