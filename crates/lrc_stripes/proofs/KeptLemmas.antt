@@ -17,11 +17,11 @@ use Rattle.lrc_topology.specs.declared.seat.Seat.{Seat}
 use Rattle.lrc_stripes.specs.declared.losses.Losses.{Losses}
 use Rattle.lrc_stripes.specs.declared.row.Row.{Row}
 use Rattle.lrc_stripes.specs.Rows.{sits_on, is_missing, is_to_move}
-use Rattle.lrc_stripes.specs.Sites.{Sited, first_sites}
+use Rattle.lrc_stripes.specs.NodeStates.{NodeStates, first_states}
 use Rattle.lrc_stripes.specs.Masks.{AreAll, AreWith, AreLosses, AreKept, renewed, IsFull, IsPut, IsMaskOf}
 use Rattle.lrc_stripes.specs.Tables.{row_code}
 use Rattle.lrc_stripes.specs.Kept.{IsKept, is_row_on}
-use Rattle.lrc_stripes.proofs.SitedLemmas.{or-false}
+use Rattle.lrc_stripes.proofs.NodeStateLemmas.{or-false}
 use Rattle.lrc_stripes.proofs.MaskLemmas.{has-low}
 use Rattle.lrc_stripes.proofs.FreshLemmas.{loosened, renewed-exact}
 
@@ -69,19 +69,19 @@ losses-bare code online draining homes l none all = record {
   needs = mask-bare code (is_to_move draining) refl homes none l.needs all.needs;
 }
 
-pub losses-with : (code : Code) (sites : Sited) (homes : List (Option Seat)) (f : ℕ) (home : Option Seat) (before after : Losses) → has_fragment code f ≡ true → length homes ≡ 16
-    → AreLosses code sites.online sites.draining homes before → AreWith sites f home before after → AreLosses code sites.online sites.draining (set homes f home) after
-losses-with code sites homes f home before after within long are with = record {
+pub losses-with : (code : Code) (states : NodeStates) (homes : List (Option Seat)) (f : ℕ) (home : Option Seat) (before after : Losses) → has_fragment code f ≡ true → length homes ≡ 16
+    → AreLosses code states.online states.draining homes before → AreWith states f home before after → AreLosses code states.online states.draining (set homes f home) after
+losses-with code states homes f home before after within long are with = record {
   within = λ g lacks. get_or-set_other homes f g home None (λ same. let clash : true ≡ false = sym within ∙ (ap (has_fragment code) (sym same) ∙ lacks) in cc) ∙ are.within g lacks;
   homeless = mask-set code is_none homes f home before.homeless after.homeless within long are.homeless with.homeless;
-  missing = mask-set code (is_missing sites.online) homes f home before.missing after.missing within long are.missing with.missing;
-  needs = mask-set code (is_to_move sites.draining) homes f home before.needs after.needs within long are.needs with.needs;
+  missing = mask-set code (is_missing states.online) homes f home before.missing after.missing within long are.missing with.missing;
+  needs = mask-set code (is_to_move states.draining) homes f home before.needs after.needs within long are.needs with.needs;
 }
 
 -- a fragment with a home is one of the stripe's code, by a mask of those that have one
-pub homed-within : (sites : Sited) (rows : StripeNo → Option Row) → IsKept sites rows → (s : StripeNo) (mask : LossMask) → is_some (rows s) ≡ true
+pub homed-within : (states : NodeStates) (rows : StripeNo → Option Row) → IsKept states rows → (s : StripeNo) (mask : LossMask) → is_some (rows s) ≡ true
     → ((r : Row) → rows s ≡ Some r → (f : ℕ) → bits_set mask.bits f ≡ is_some (get_or r.homes f None)) → (f : ℕ) → bits_set mask.bits f ≡ true → has_fragment (row_code (rows s)) f ≡ true
-homed-within sites rows kept s mask there told f hit = by (rows s) refl there where
+homed-within states rows kept s mask there told f hit = by (rows s) refl there where
   by : (o : Option Row) → rows s ≡ o → is_some o ≡ true → has_fragment (row_code o) f ≡ true
   by None at there = absurd (let clash : false ≡ true = there in cc)
   by (Some r) at there = elim (cases_Bool (has_fragment r.losses.code f)) [
@@ -93,16 +93,16 @@ homed-within sites rows kept s mask there told f hit = by (rows s) refl there wh
 
 -- ---- one row changed
 
-module _ (sites : Sited) (rows : StripeNo → Option Row) (kept : IsKept sites rows) (stripe : StripeNo) where
+module _ (states : NodeStates) (rows : StripeNo → Option Row) (kept : IsKept states rows) (stripe : StripeNo) where
   -- a stripe of this number is this one
   alike : (s : StripeNo) → same_stripe stripe s ≡ true → stripe ≡ s
   alike s same = equal_stripes stripe s (eqb-true _ _ same)
 
   pub kept-put : (o : Option Row) (on : NodeNo → StripeNo → Bool) (after : StripeNo → Option Row) → after ≡ (λ s. if same_stripe stripe s then o else rows s)
-      → ((r : Row) → o ≡ Some r → AreKept sites.online sites.draining r.homes r.losses)
-      → ((n : NodeNo) (s : StripeNo) → on n s ≡ (if same_stripe stripe s then is_row_on n o else sites.on n s))
-      → IsKept (record sites { on = on }) after
-  kept-put o on after is losses listed = subst (λ (a : StripeNo → Option Row). IsKept (record sites { on = on }) a) (sym is) (record {
+      → ((r : Row) → o ≡ Some r → AreKept states.online states.draining r.homes r.losses)
+      → ((n : NodeNo) (s : StripeNo) → on n s ≡ (if same_stripe stripe s then is_row_on n o else states.on n s))
+      → IsKept (record states { on = on }) after
+  kept-put o on after is losses listed = subst (λ (a : StripeNo → Option Row). IsKept (record states { on = on }) a) (sym is) (record {
     losses = λ s r e. elim (cases_Bool (same_stripe stripe s)) [
       | inl same ↦ losses r (rw same at e)
       | inr other ↦ kept.losses s r (rw other at e)
@@ -113,7 +113,7 @@ module _ (sites : Sited) (rows : StripeNo → Option Row) (kept : IsKept sites r
     ]);
   })
 
-  own-on : (n : NodeNo) (s : StripeNo) → same_stripe stripe s ≡ true → sites.on n s ≡ is_row_on n (rows stripe)
+  own-on : (n : NodeNo) (s : StripeNo) → same_stripe stripe s ≡ true → states.on n s ≡ is_row_on n (rows stripe)
   own-on n s same = kept.listed n s ∙ ap (λ (t : StripeNo). is_row_on n (rows t)) (sym (alike s same))
 
   any-bare : (n : NodeNo) (k : ℕ) → list_any (sits_on n) (replicate k None) ≡ false
@@ -126,37 +126,37 @@ module _ (sites : Sited) (rows : StripeNo → Option Row) (kept : IsKept sites r
 
   -- a row without homes
   pub kept-add : (r : Row) (after : StripeNo → Option Row) → is_some (rows stripe) ≡ false → r.homes ≡ replicate 16 None → AreAll r.losses.code r.losses
-      → after ≡ (λ s. if same_stripe stripe s then Some r else rows s) → IsKept sites after
-  kept-add r after absent none all is = kept-put (Some r) sites.on after is
-      (λ q e. subst (λ (x : Row). AreKept sites.online sites.draining x.homes x.losses) (same_Some r q e)
-      (loosened sites.online sites.draining r.homes r.losses (losses-bare r.losses.code sites.online sites.draining r.homes r.losses none all)))
+      → after ≡ (λ s. if same_stripe stripe s then Some r else rows s) → IsKept states after
+  kept-add r after absent none all is = kept-put (Some r) states.on after is
+      (λ q e. subst (λ (x : Row). AreKept states.online states.draining x.homes x.losses) (same_Some r q e)
+      (loosened states.online states.draining r.homes r.losses (losses-bare r.losses.code states.online states.draining r.homes r.losses none all)))
       (λ n s. elim (cases_Bool (same_stripe stripe s)) [
         | inl same ↦ rw same (own-on n s same ∙ no-row n (rows stripe) absent ∙ sym (ap (list_any (sits_on n)) none ∙ any-bare n 16))
         | inr other ↦ rw other refl
       ])
 
-  -- a row with homes, on whose nodes the stripe stands now
-  pub kept-enter : (homes : List (Option Seat)) (r : Row) (after : StripeNo → Option Row) → is_some (rows stripe) ≡ false → r.homes ≡ homes → AreLosses r.losses.code sites.online sites.draining homes r.losses
-      → after ≡ (λ s. if same_stripe stripe s then Some r else rows s) → IsKept (record sites { on = λ n s. (same_stripe stripe s && list_any (sits_on n) homes) || sites.on n s }) after
-  kept-enter homes r after absent own are is = kept-put (Some r) (λ n s. (same_stripe stripe s && list_any (sits_on n) homes) || sites.on n s) after is
-      (λ q e. subst (λ (x : Row). AreKept sites.online sites.draining x.homes x.losses) (same_Some r q e)
-      (loosened sites.online sites.draining r.homes r.losses (subst (λ (hs : List (Option Seat)). AreLosses r.losses.code sites.online sites.draining hs r.losses) (sym own) are)))
+  -- a row with homes, on whose nodes the stripe is now
+  pub kept-enter : (homes : List (Option Seat)) (r : Row) (after : StripeNo → Option Row) → is_some (rows stripe) ≡ false → r.homes ≡ homes → AreLosses r.losses.code states.online states.draining homes r.losses
+      → after ≡ (λ s. if same_stripe stripe s then Some r else rows s) → IsKept (record states { on = λ n s. (same_stripe stripe s && list_any (sits_on n) homes) || states.on n s }) after
+  kept-enter homes r after absent own are is = kept-put (Some r) (λ n s. (same_stripe stripe s && list_any (sits_on n) homes) || states.on n s) after is
+      (λ q e. subst (λ (x : Row). AreKept states.online states.draining x.homes x.losses) (same_Some r q e)
+      (loosened states.online states.draining r.homes r.losses (subst (λ (hs : List (Option Seat)). AreLosses r.losses.code states.online states.draining hs r.losses) (sym own) are)))
       (λ n s. elim (cases_Bool (same_stripe stripe s)) [
         | inl same ↦ rw (same, own-on n s same ∙ no-row n (rows stripe) absent) (or-false (list_any (sits_on n) homes) ∙ ap (list_any (sits_on n)) (sym own))
         | inr other ↦ rw other refl
       ])
 
   module _ (r : Row) (found : rows stripe ≡ Some r) where
-    here-on : (n : NodeNo) (s : StripeNo) → same_stripe stripe s ≡ true → sites.on n s ≡ list_any (sits_on n) r.homes
+    here-on : (n : NodeNo) (s : StripeNo) → same_stripe stripe s ≡ true → states.on n s ≡ list_any (sits_on n) r.homes
     here-on n s same = own-on n s same ∙ ap (is_row_on n) found
 
-    here-losses : AreKept sites.online sites.draining r.homes r.losses
+    here-losses : AreKept states.online states.draining r.homes r.losses
     here-losses = kept.losses stripe r found
 
     -- no row
     pub kept-remove : (after : StripeNo → Option Row) → after ≡ (λ s. if same_stripe stripe s then None else rows s)
-        → IsKept (record sites { on = λ n s. not (same_stripe stripe s && list_any (sits_on n) r.homes) && sites.on n s }) after
-    kept-remove after is = kept-put None (λ n s. not (same_stripe stripe s && list_any (sits_on n) r.homes) && sites.on n s) after is
+        → IsKept (record states { on = λ n s. not (same_stripe stripe s && list_any (sits_on n) r.homes) && states.on n s }) after
+    kept-remove after is = kept-put None (λ n s. not (same_stripe stripe s && list_any (sits_on n) r.homes) && states.on n s) after is
         (λ q e. absurd (let f : None ≡ Some q = e in cc))
         (λ n s. elim (cases_Bool (same_stripe stripe s)) [
           | inl same ↦ rw (same, here-on n s same) (gone (list_any (sits_on n) r.homes))
@@ -180,25 +180,25 @@ module _ (sites : Sited) (rows : StripeNo → Option Row) (kept : IsKept sites r
       many : f < length r.homes
       many = let all = r.sixteen in let few = has-low r.losses.code f low in omega (arith, few, all)
 
-      rehomed : (home : Option Seat) (before : Losses) → before.code ≡ r.losses.code → AreLosses r.losses.code sites.online sites.draining r.homes before → q.homes ≡ set r.homes f home → AreWith sites f home before q.losses
-          → (x : Row) → Some q ≡ Some x → AreKept sites.online sites.draining x.homes x.losses
+      rehomed : (home : Option Seat) (before : Losses) → before.code ≡ r.losses.code → AreLosses r.losses.code states.online states.draining r.homes before → q.homes ≡ set r.homes f home → AreWith states f home before q.losses
+          → (x : Row) → Some q ≡ Some x → AreKept states.online states.draining x.homes x.losses
       rehomed home before coded are homes with x e =
-          subst (λ (y : Row). AreKept sites.online sites.draining y.homes y.losses) (same_Some q x e)
-          (loosened sites.online sites.draining q.homes q.losses
-          (subst (λ (hs : List (Option Seat)). AreLosses q.losses.code sites.online sites.draining hs q.losses) (sym homes)
-          (subst (λ (code : Code). AreLosses code sites.online sites.draining (set r.homes f home) q.losses) (sym (with.code ∙ coded))
-          (losses-with r.losses.code sites r.homes f home before q.losses low r.sixteen are with))))
+          subst (λ (y : Row). AreKept states.online states.draining y.homes y.losses) (same_Some q x e)
+          (loosened states.online states.draining q.homes q.losses
+          (subst (λ (hs : List (Option Seat)). AreLosses q.losses.code states.online states.draining hs q.losses) (sym homes)
+          (subst (λ (code : Code). AreLosses code states.online states.draining (set r.homes f home) q.losses) (sym (with.code ∙ coded))
+          (losses-with r.losses.code states r.homes f home before q.losses low r.sixteen are with))))
 
       -- another home, or none
-      pub kept-rehome : (home : Option Seat) (after : StripeNo → Option Row) → q.homes ≡ set r.homes f home → AreWith sites f home (renewed sites.online r.homes r.losses) q.losses
+      pub kept-rehome : (home : Option Seat) (after : StripeNo → Option Row) → q.homes ≡ set r.homes f home → AreWith states f home (renewed states.online r.homes r.losses) q.losses
           → after ≡ (λ s. if same_stripe stripe s then Some q else rows s)
-          → IsKept (record sites {
+          → IsKept (record states {
             on = λ n s. not (same_stripe stripe s && (sits_on n (get_or r.homes f None) && not (is_row_on n (after stripe))))
-                && ((same_stripe stripe s && sits_on n home) || sites.on n s);
+                && ((same_stripe stripe s && sits_on n home) || states.on n s);
           }) after
       kept-rehome home after homes with is = kept-put (Some q)
-          (λ n s. not (same_stripe stripe s && (sits_on n (get_or r.homes f None) && not (is_row_on n (after stripe)))) && ((same_stripe stripe s && sits_on n home) || sites.on n s)) after is
-          (rehomed home (renewed sites.online r.homes r.losses) refl (renewed-exact sites.online sites.draining r.homes r.losses here-losses) homes with)
+          (λ n s. not (same_stripe stripe s && (sits_on n (get_or r.homes f None) && not (is_row_on n (after stripe)))) && ((same_stripe stripe s && sits_on n home) || states.on n s)) after is
+          (rehomed home (renewed states.online r.homes r.losses) refl (renewed-exact states.online states.draining r.homes r.losses here-losses) homes with)
           (λ n s. elim (cases_Bool (same_stripe stripe s)) [
             | inl same ↦
                 rw (same, here-on n s same)
@@ -221,9 +221,9 @@ module _ (sites : Sited) (rows : StripeNo → Option Row) (kept : IsKept sites r
 
 -- ---- at first
 
-pub kept-first : (nodes : List NodeInfo) (z : Sited) (rows : StripeNo → Option Row) → z ≡ first_sites nodes → rows ≡ (λ s. None) → IsKept z rows
+pub kept-first : (nodes : List NodeInfo) (z : NodeStates) (rows : StripeNo → Option Row) → z ≡ first_states nodes → rows ≡ (λ s. None) → IsKept z rows
 kept-first nodes z rows at none =
-    subst (λ (y : Sited). IsKept y rows) (sym at) (subst (λ (a : StripeNo → Option Row). IsKept (first_sites nodes) a) (sym none) (record {
+    subst (λ (y : NodeStates). IsKept y rows) (sym at) (subst (λ (a : StripeNo → Option Row). IsKept (first_states nodes) a) (sym none) (record {
       losses = λ s r e. absurd (let f : None ≡ Some r = e in cc);
       listed = λ n s. refl;
     }))

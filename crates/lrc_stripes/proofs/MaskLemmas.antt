@@ -45,7 +45,7 @@ module _ (m : ℕ → Bool) (i : ℕ) where
   pub mask-next_false : (bits : ℕ) → m i ≡ false → ((f : ℕ) → bits_set bits f ≡ (ltb f i && m f)) → (f : ℕ) → bits_set bits f ≡ (ltb f (i + 1) && m f)
   mask-next_false bits miss before f = before f ∙ below-next_false f miss
 
--- of an answer of `is_none`
+-- the cases of `is_none`
 pub is_none-answer : {X : Type 0} (o : Option X) (b : Bool) → is_some o ≡ not b → is_none o ≡ b
 is_none-answer None true e = refl
 is_none-answer None false e = absurd (cc)

@@ -1,4 +1,4 @@
--- A stripe that is added with homes: the nodes that it stands on, its masks, and what it is in the store.
+-- A stripe that is added with homes: its nodes, its masks, and the store with it.
 use Rattle.std.proofs.Common.{◌≡◌, ℕ, ◌+◌, ◌<◌, Bool, true, false, not, ◌&&◌, ◌||◌, eqb, ltb, List, length, get_or, Option, Some, None, arith, refl, sym, ap, ◌∙◌}
 use Rattle.std.proofs.Math.Path.{fun_ext}
 use Rattle.std.proofs.lemmas.Bool.{ltb-true, ltb-false, le-ltb}
@@ -13,10 +13,10 @@ use Rattle.lrc_topology.specs.declared.seat.Seat.{Seat}
 use Rattle.lrc_code.specs.declared.losses.LossMask.{LossMask}
 use Rattle.lrc_stripes.specs.Rows.{seated_homes, is_missing, is_to_move}
 use Rattle.lrc_stripes.specs.Masks.{IsMaskOf, AreWithin}
-use Rattle.lrc_stripes.specs.Sites.{Sited}
+use Rattle.lrc_stripes.specs.NodeStates.{NodeStates}
 use Rattle.lrc_stripes.proofs.HomesLemmas.{seated-there, seated-past}
 use Rattle.lrc_stripes.proofs.MaskLemmas.{mask-next_true, mask-next_false}
-use Rattle.lrc_stripes.proofs.SitedLemmas.{same-turned}
+use Rattle.lrc_stripes.proofs.NodeStateLemmas.{same-turned}
 
 and-true : (b : Bool) → b ≡ (b && true)
 and-true true = refl
@@ -68,7 +68,7 @@ pub mask-next : (m : ℕ → Bool) (i bits next : ℕ) (b : Bool) → m i ≡ b 
 mask-next m i bits next true hit before after f = mask-next_true m i bits next i refl hit before (λ g. after g ∙ ap (λ b. b || bits_set bits g) (sym (and-true (eqb g i)))) f
 mask-next m i bits next false miss before after f = after f ∙ ap (λ b. b || bits_set bits f) (and-false (eqb f i)) ∙ mask-next_false m i bits miss before f
 
--- ---- the nodes that the stripe stands on
+-- ---- the nodes of the stripe
 
 -- on the homes so far, and one more
 entered-more_at : (own here before on : Bool) → ((here && own) || ((own && before) || on)) ≡ ((own && (before || here)) || on)
@@ -79,19 +79,19 @@ entered-more_at true false false on = refl
 entered-more_at false true before on = refl
 entered-more_at false false before on = refl
 
-module _ (first : Sited) (stripe : StripeNo) where
+module _ (first : NodeStates) (stripe : StripeNo) where
   -- the nodes where the stripe is on those that the test names
-  abbrev pub entered : (NodeNo → Bool) → Sited
+  abbrev pub entered : (NodeNo → Bool) → NodeStates
   entered test = record first { on = λ n s. (same_stripe stripe s && test n) || first.on n s }
 
   pub entered-none : first ≡ entered (λ n. false)
   entered-none = ap (λ (o : NodeNo → StripeNo → Bool). record first { on = o }) (fun_ext (λ n. fun_ext (λ s. ap (λ b. b || first.on n s) (sym (and-false (same_stripe stripe s))))))
 
   -- with one more home
-  pub entered-more : (now : Sited) (before after : NodeNo → Bool) (seat : Seat) → now ≡ entered before → ((n : NodeNo) → after n ≡ (before n || same_node n seat.node))
+  pub entered-more : (now : NodeStates) (before after : NodeNo → Bool) (seat : Seat) → now ≡ entered before → ((n : NodeNo) → after n ≡ (before n || same_node n seat.node))
       → record now { on = λ n s. (same_node seat.node n && same_stripe stripe s) || now.on n s } ≡ entered after
   entered-more now before after seat is more =
-      ap (λ (z : Sited). record z { on = λ n s. (same_node seat.node n && same_stripe stripe s) || z.on n s }) is
+      ap (λ (z : NodeStates). record z { on = λ n s. (same_node seat.node n && same_stripe stripe s) || z.on n s }) is
       ∙ ap (λ (o : NodeNo → StripeNo → Bool). record first { on = o }) (fun_ext (λ n. fun_ext (λ s.
       rw (more n, same-turned seat.node.value n.value) (entered-more_at (same_stripe stripe s) (same_node n seat.node) (before n) (first.on n s)))))
 

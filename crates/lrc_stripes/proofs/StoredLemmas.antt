@@ -1,4 +1,4 @@
--- What a change of a row changes in what the rows stand for.
+-- The change of the stored stripes by a change of a row.
 use Rattle.std.proofs.Common.{◌≡◌, ℕ, zero, suc, ◌-◌, inl, inr, Bool, true, false, not, ◌&&◌, ◌||◌, if◌then◌else◌, nat_eq, nat_lt, List, [], ◌∷◌, ◌++◌, length, map, get_or, set, replicate, Option, Some, None, IfSome, is_some, refl, sym, ap, ap₂, ◌∙◌}
 use mathlib.Core.Bool.{beq}
 use Rattle.std.proofs.Math.Path.{fun_ext}
@@ -18,13 +18,13 @@ use Rattle.lrc_topology.specs.declared.seat.Seat.{Seat}
 use Rattle.lrc_topology.specs.Nodes.{node_at}
 use Rattle.lrc_stripes.specs.declared.row.Row.{Row}
 use Rattle.lrc_stripes.specs.Stored.{Stored, has_node, has_slot, empty, with_stripe, with_homes, without_stripe, with_home, with_offline, with_draining, with_spare}
-use Rattle.lrc_stripes.specs.Sites.{Sited, first_sites}
+use Rattle.lrc_stripes.specs.NodeStates.{NodeStates, first_states}
 use Rattle.lrc_stripes.specs.Rows.{seated_homes}
 use Rattle.lrc_stripes.specs.Tables.{row_homes, row_code}
 use Rattle.lrc_stripes.proofs.KeptLemmas.{replicated}
 
--- what nodes and rows stand for
-abbrev pub stored_by : Sited → (StripeNo → Option Row) → ℕ → Stored
+-- the stored stripes that nodes and rows represent
+abbrev pub stored_by : NodeStates → (StripeNo → Option Row) → ℕ → Stored
 stored_by z rows spare = record {
   nodes = z.nodes;
   stripes = λ s. is_some (rows s);
@@ -37,8 +37,8 @@ stored_by z rows spare = record {
 
 -- ---- at first
 
-pub stored-first : (nodes : List NodeInfo) (z : Sited) (rows : StripeNo → Option Row) → z ≡ first_sites nodes → rows ≡ (λ s. None) → stored_by z rows 0 ≡ empty nodes
-stored-first nodes z rows at none = ap₂ (λ (y : Sited) (a : StripeNo → Option Row). stored_by y a 0) at none
+pub stored-first : (nodes : List NodeInfo) (z : NodeStates) (rows : StripeNo → Option Row) → z ≡ first_states nodes → rows ≡ (λ s. None) → stored_by z rows 0 ≡ empty nodes
+stored-first nodes z rows at none = ap₂ (λ (y : NodeStates) (a : StripeNo → Option Row). stored_by y a 0) at none
 
 -- ---- one row changed
 
@@ -62,7 +62,7 @@ homes-chosen : (b : Bool) (o p : Option Row) (f : ℕ) → row_homes o f ≡ Non
 homes-chosen true o p f e = e
 homes-chosen false o p f e = refl
 
-module _ (z : Sited) (rows after : StripeNo → Option Row) (s : StripeNo) where
+module _ (z : NodeStates) (rows after : StripeNo → Option Row) (s : StripeNo) where
   abbrev before : ℕ → Stored
   before spare = stored_by z rows spare
 

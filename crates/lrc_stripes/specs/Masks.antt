@@ -12,7 +12,7 @@ use Rattle.lrc_terms.specs.declared.level.Level.{Level}
 use Rattle.lrc_stripes.specs.declared.losses.Losses.{Losses}
 use Rattle.lrc_terms.specs.Levels.{level_by, rank_by}
 use Rattle.lrc_stripes.specs.Rows.{sits_on, is_missing, is_to_move}
-use Rattle.lrc_stripes.specs.Sites.{Sited}
+use Rattle.lrc_stripes.specs.NodeStates.{NodeStates}
 
 -- ---- masks
 
@@ -26,18 +26,18 @@ pub record AreAll (code : Code) (l : Losses) : Type 0 where
   pub missing : IsFull code l.missing
   pub needs : IsFull code l.needs
 
--- the mask has this of one fragment, and of the others what the former mask has
+-- one fragment is in the mask or not, as given, and the others as before
 abbrev pub IsPut : ℕ → Bool → LossMask → LossMask → Type 0
 IsPut f is_in before after = (g : ℕ) → bits_set after.bits g ≡ (if nat_eq g f then is_in else bits_set before.bits g)
 
 -- the masks where one fragment has this home
-pub record AreWith (sites : Sited) (f : ℕ) (home : Option Seat) (before after : Losses) : Type 0 where
+pub record AreWith (states : NodeStates) (f : ℕ) (home : Option Seat) (before after : Losses) : Type 0 where
   pub code : after.code ≡ before.code
   pub homeless : IsPut f (is_none home) before.homeless after.homeless
-  pub missing : IsPut f (is_missing sites.online home) before.missing after.missing
-  pub needs : IsPut f (is_to_move sites.draining home) before.needs after.needs
+  pub missing : IsPut f (is_missing states.online home) before.missing after.missing
+  pub needs : IsPut f (is_to_move states.draining home) before.needs after.needs
 
--- the mask has the fragments with a home on the node or not, as told, and of the others what the former mask has
+-- the fragments with a home on the node are in the mask or not, as given, and the others as before
 abbrev pub IsPutOn : NodeNo → Bool → List (Option Seat) → LossMask → LossMask → Type 0
 IsPutOn n are_in homes before after =
     (g : ℕ) → bits_set after.bits g ≡ (if nat_lt g 16 && sits_on n (get_or homes g None) then are_in else bits_set before.bits g)
@@ -57,7 +57,7 @@ pub record AreLosses (code : Code) (online draining : NodeNo → Bool) (homes : 
   pub missing : IsMaskOf code (is_missing online) homes l.missing
   pub needs : IsMaskOf code (is_to_move draining) homes l.needs
 
--- the masks that are kept beside the homes: that of the missing ones where a fragment needs a lease, and the others
+-- the stored masks: that of the missing fragments is exact if a fragment needs a lease, and the others always
 pub record AreKept (online draining : NodeNo → Bool) (homes : List (Option Seat)) (l : Losses) : Type 0 where
   pub within : AreWithin l.code homes
   pub homeless : IsMaskOf l.code is_none homes l.homeless
@@ -68,13 +68,13 @@ pub record AreKept (online draining : NodeNo → Bool) (homes : List (Option Sea
 abbrev pub missing_of : Code → (NodeNo → Bool) → List (Option Seat) → FragmentSet
 missing_of code online homes f = has_fragment code f && is_missing online (get_or homes f None)
 
--- the masks, where that of the missing ones is as the homes are
+-- the masks, with that of the missing fragments recomputed from the homes
 abbrev pub renewed : (NodeNo → Bool) → List (Option Seat) → Losses → Losses
 renewed online homes l = record l { missing = record { bits = bits_of l.code (missing_of l.code online homes) } }
 
 -- ---- ranks
 
--- how far a stripe with these masks is from loss
+-- the level of a stripe with these masks
 unfoldable pub level_of : Losses → Level
 level_of l = level_by l.code (bits_set l.homeless.bits) (bits_set l.missing.bits)
 
@@ -82,11 +82,11 @@ level_of l = level_by l.code (bits_set l.homeless.bits) (bits_set l.missing.bits
 abbrev pub rank_of : Losses → ℕ
 rank_of l = rank_by l.code (bits_set l.missing.bits)
 
--- its rank, where it has work
+-- its rank, if it has work
 abbrev pub work_rank : Losses → Option ℕ
 work_rank l = if nat_eq l.needs.bits 0 then None else Some (rank_of l)
 
--- its rank, where a fragment is missing
+-- its rank, if a fragment is missing
 abbrev pub risk_rank : Losses → Option ℕ
 risk_rank l = if nat_eq l.missing.bits 0 then None else Some (rank_of l)
 

@@ -1,4 +1,4 @@
--- What a store of stripes is: which stripes there are, the homes of their fragments, and the nodes that are online or draining.
+-- The stripes of a store: those that exist, the homes of their fragments, and the nodes that are online or draining.
 use Rattle.std.specs.Prelude.{◌≡◌, ◌≢◌, ℕ, ◌-◌, ◌≤◌, Bool, false, not, ◌&&◌, ◌||◌, if◌then◌else◌, nat_lt, nat_eq, List, Option, Some, None, is_some, IsTrue, IsFalse, ◌↔◌}
 use Rattle.std.specs.List.{Contains, AllPairs, list_any, slice_get}
 use Rattle.std.specs.Option.{option_map_or}
@@ -16,9 +16,9 @@ use Rattle.lrc_terms.specs.declared.level.Level.{Level}
 use Rattle.lrc_terms.specs.Levels.{Homes, missing_in, needs_in, homes_if, missing_if, needs_if, level_if, has_some, rank_by, comes_first, is_whole}
 use Rattle.lrc_terms.specs.Stripes.{StripeFragment, StripeLevel, comes_before}
 
--- The nodes in the order of the file, a test of the stripes that there are, the code of each, the homes of each one's fragments,
--- a test of the nodes that are online and one of those that are draining, and for how many more stripes there is room. A stripe
--- that is not there counts as Wide.
+-- The nodes in the order of the file; the stripes that exist, their codes and the homes of their fragments; the nodes that are
+-- online and those that are draining; and the number of stripes for which there is room. A stripe that does not exist counts as
+-- Wide.
 pub record Stored : Type 0 where
   pub nodes : List NodeInfo
   pub stripes : StripeNo → Bool
@@ -81,25 +81,25 @@ with_offline_all t nodes b = record t { online = λ m. if list_any (λ n. same_n
 abbrev pub with_draining : Stored → NodeNo → Bool → Stored
 with_draining t n b = record t { draining = λ m. if same_node n m then b else t.draining m }
 
--- there is room for so many more stripes
+-- there is room for this number of stripes
 abbrev pub with_spare : Stored → ℕ → Stored
 with_spare t spare = record t { spare = spare }
 
--- ---- what is shown of one stripe
+-- ---- queries of one stripe
 
--- the homes of a stripe by the sixteen numbers of fragments, rising; none where there is no such stripe
+-- the homes of a stripe, by fragment number from 0 to 15; none for a stripe that does not exist
 abbrev pub homes_shown : Stored → StripeNo → Option (List (Option Seat))
 homes_shown t s = homes_if (t.stripes s) (t.homes s)
 
--- the missing fragments of a stripe; none where there is no such stripe
+-- the missing fragments of a stripe; none for a stripe that does not exist
 abbrev pub missing_shown : Stored → StripeNo → Option LossMask
 missing_shown t s = missing_if (t.stripes s) (t.code s) t.online (t.homes s)
 
--- the fragments of a stripe that need a lease; none where there is no such stripe
+-- the fragments of a stripe that need a lease; none for a stripe that does not exist
 abbrev pub needs_shown : Stored → StripeNo → Option LossMask
 needs_shown t s = needs_if (t.stripes s) (t.code s) t.draining (t.homes s)
 
--- the level of a stripe; none where there is no such stripe
+-- the level of a stripe; none for a stripe that does not exist
 abbrev pub level_shown : Stored → StripeNo → Option Level
 level_shown t s = level_if (t.stripes s) (t.code s) t.online (t.homes s)
 
@@ -109,7 +109,7 @@ level_shown t s = level_if (t.stripes s) (t.code s) t.online (t.homes s)
 abbrev pub rank_in : Stored → StripeNo → ℕ
 rank_in t s = rank_by (t.code s) (missing_in (t.code s) t.online (t.homes s))
 
--- the stripe is there, and one of its fragments needs a lease
+-- the stripe exists, and one of its fragments needs a lease
 abbrev pub has_work : Stored → StripeNo → Bool
 has_work t s = t.stripes s && has_some (t.code s) (needs_in (t.code s) t.draining (t.homes s))
 

@@ -26,15 +26,15 @@ with_upgrade t u = record t { online = λ n. t.online n && not (is_in_domain t.n
 abbrev pub is_safe : Stored → StripeNo → Bool
 is_safe t s = is_recoverable (t.code s) (missing_in (t.code s) t.online (t.homes s))
 
--- the stripe is there, is recoverable now, and would not be with the nodes of the domain offline
+-- the stripe exists, is recoverable now, and would not be with the nodes of the domain offline
 unfoldable pub is_lost_to : Stored → UpgradeNo → StripeNo → Bool
 is_lost_to t u s = t.stripes s && (is_safe t s && not (is_safe (with_upgrade t u) s))
 
--- one of the fragments, by their sixteen numbers, has its home on the node
+-- a fragment of the stripe has its home on the node
 abbrev pub is_stripe_on : Stored → NodeNo → StripeNo → Bool
 is_stripe_on t n s = list_any (λ f. is_home_on t n (s, f)) (fragments Wide)
 
--- how many nodes that are not online have a home of the stripe
+-- the number of nodes that are not online and have a home of the stripe
 abbrev pub offline_count : Stored → StripeNo → ℕ
 offline_count t s = count_by (λ n. not (t.online n.number) && is_stripe_on t n.number s) t.nodes
 

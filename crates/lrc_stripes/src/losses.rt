@@ -6,7 +6,7 @@ ghost use Rattle.lrc_stripes.specs.Masks.{AreAll, IsPut, level_of, rank_of, work
 use crate::{Level, masks};
 use lrc_code::{Code, Fragment, LossMask};
 
-/// The code of a stripe, and which of its fragments have no home, which are missing, and which need a lease.
+/// The code of a stripe, and its fragments that have no home, that are missing, and that need a lease.
 #[derive(Clone, Copy)]
 pub(crate) struct Losses {
     pub(crate) code: Code,
@@ -16,7 +16,7 @@ pub(crate) struct Losses {
 }
 
 impl Losses {
-    /// Those of a stripe of the code none of whose fragments has a home: all fragments of the code.
+    /// The losses of a stripe of the code without homes: every fragment of the code is in each mask.
     pub(crate) fn all(code: Code) -> Losses
         ensures code { result.code ≡ code }
         ensures all { AreAll code result }
@@ -30,7 +30,7 @@ impl Losses {
         }
     }
 
-    /// Those of a stripe of the code whose fragments have homes on nodes that are online and not draining: none.
+    /// The losses of a stripe of the code with all homes on online nodes that do not drain: each mask is empty.
     pub(crate) fn none(code: Code) -> Losses
         ensures code { result.code ≡ code }
         ensures homeless { result.homeless.bits ≡ 0 }
@@ -46,7 +46,7 @@ impl Losses {
         }
     }
 
-    /// The same, where a fragment has no home, is missing, and needs a lease, each as told.
+    /// The losses after one fragment is set in each mask or cleared.
     pub(crate) fn put(
         self,
         fragment: Fragment,
@@ -84,7 +84,7 @@ impl Losses {
         self.needs
     }
 
-    /// How far the stripe is from loss.
+    /// The level of the stripe.
     #[tactic(auto, unfolding(crate::specs::Masks::level_of))]
     pub(crate) fn level(self) -> Level
         ensures { result ≡ level_of self }
@@ -92,7 +92,7 @@ impl Losses {
         level_with(self.code, self.homeless, self.missing)
     }
 
-    /// The rank where the stripe has work.
+    /// The rank; `None` without work.
     pub(crate) fn work_rank(self) -> Option<u8>
         ensures value { result ≡ work_rank self }
         ensures few { IfSome result (λ k. k ≤ 4) }
@@ -104,7 +104,7 @@ impl Losses {
         }
     }
 
-    /// The rank where a fragment of the stripe is missing.
+    /// The rank; `None` if no fragment is missing.
     pub(crate) fn risk_rank(self) -> Option<u8>
         ensures value { result ≡ risk_rank self }
         ensures few { IfSome result (λ k. k ≤ 4) }
@@ -116,7 +116,7 @@ impl Losses {
         }
     }
 
-    /// The margin of the missing fragments, 0 to 3, and 4 where they are not recoverable.
+    /// The margin, 0 to 3; 4 if the missing fragments are not recoverable.
     fn rank(self) -> u8
         ensures value { result ≡ rank_of self }
         ensures few { result ≤ 4 }
@@ -125,7 +125,7 @@ impl Losses {
     }
 }
 
-/// The level of a stripe of the code with these homeless and these missing fragments.
+/// The level of a stripe of the code with these homeless and missing fragments.
 fn level_with(code: Code, homeless: LossMask, missing: LossMask) -> Level
     ensures { result ≡ level_by code (bits_set homeless.bits) (bits_set missing.bits) }
 {
@@ -134,7 +134,7 @@ fn level_with(code: Code, homeless: LossMask, missing: LossMask) -> Level
     }
     match missing.margin_in(code) {
         None => Level::Unavailable,
-        // with any loss it is less
+        // any loss makes the margin smaller
         Some(3) => Level::Whole,
         Some(margin) => Level::AtRisk(margin),
     }

@@ -3,17 +3,17 @@ ghost use Rattle.std.specs.List.{list_any};
 ghost use Rattle.lrc_code.specs.Codes.{fragment_count};
 ghost use Rattle.lrc_code.specs.Losses.{bits_set};
 ghost use Rattle.lrc_stripes.specs.Rows.{seated_homes, sits_on, is_on_seat};
-ghost use Rattle.lrc_stripes.specs.Sites.{sited};
+ghost use Rattle.lrc_stripes.specs.NodeStates.{states_in};
 ghost use Rattle.lrc_stripes.specs.Masks.{AreAll, AreKept, renewed};
 ghost use Rattle.lrc_code.specs.declared.numbers.NodeNo.{NodeNo as AnyNode};
 
 use crate::homes::Homes;
 use crate::losses::Losses;
-use crate::sites::Sites;
+use crate::node_table::NodeTable;
 use crate::{Seat, masks};
 use lrc_code::{Code, LossMask, StripeNo};
 
-/// The homes of a stripe's fragments, and what follows from them.
+/// The homes of the fragments of a stripe, and the masks that follow from them.
 #[derive(Drop)]
 pub(crate) struct Row {
     pub(crate) losses: Losses,
@@ -22,7 +22,7 @@ pub(crate) struct Row {
 }
 
 impl Row {
-    /// None of the fragments of a stripe of the code has a home.
+    /// The row of a stripe of the code without homes.
     pub(crate) fn new(code: Code) -> Row
         ensures code { result.losses.code ≡ code }
         ensures homes { result.homes ≡ replicate 16 None }
@@ -34,7 +34,7 @@ impl Row {
         }
     }
 
-    /// The fragments of a stripe of the code have homes on these seats, and the stripe has these losses.
+    /// The row of a stripe of the code with homes on these seats and with these losses.
     pub(crate) fn seated(code: Code, seats: &[Seat], losses: Losses) -> Row
         requires { length seats.now ≡ fragment_count code }
         ensures homes { result.homes ≡ seated_homes seats.now }
@@ -46,62 +46,61 @@ impl Row {
         }
     }
 
-    /// Its losses, where the mask of the missing fragments is as its homes are.
-    pub(crate) fn losses_now(&self, sites: &Sites) -> Losses
-        ensures { result ≡ renewed (sited sites.now).online self.now.homes self.now.losses }
+    /// The losses, with the mask of the missing fragments recomputed from the homes.
+    pub(crate) fn losses_now(&self, node_table: &NodeTable) -> Losses
+        ensures { result ≡ renewed (states_in node_table.now).online self.now.homes self.now.losses }
     {
         let mut losses = self.losses;
-        losses.missing = masks::missing_of(self.losses.code, &self.homes, sites);
+        losses.missing = masks::missing_of(self.losses.code, &self.homes, node_table);
         losses
     }
 
-    /// The same of a row whose masks are those that are kept: where it has work, they are so already. The stripe is
-    /// among those of the nodes with a home of it.
-    pub(crate) fn losses_kept(&self, sites: &Sites, stripe: StripeNo) -> Losses
-        requires kept { AreKept (sited sites.now).online (sited sites.now).draining self.now.homes self.now.losses }
-        requires stands { (n : AnyNode) → list_any (sits_on n) self.now.homes ≡ true → (sited sites.now).on n stripe ≡ true }
-        ensures { result ≡ renewed (sited sites.now).online self.now.homes self.now.losses }
+    /// The same for a row in the table. The stored mask is exact if the row has work; otherwise it may be out of date.
+    pub(crate) fn losses_kept(&self, node_table: &NodeTable, stripe: StripeNo) -> Losses
+        requires kept { AreKept (states_in node_table.now).online (states_in node_table.now).draining self.now.homes self.now.losses }
+        requires stands { (n : AnyNode) → list_any (sits_on n) self.now.homes ≡ true → (states_in node_table.now).on n stripe ≡ true }
+        ensures { result ≡ renewed (states_in node_table.now).online self.now.homes self.now.losses }
     {
         if self.losses.needs.bits == 0 {
-            return self.losses_idle(sites, stripe);
+            return self.losses_idle(node_table, stripe);
         }
         let mut losses = self.losses;
         losses.missing = self.losses.missing();
         losses
     }
 
-    /// The same of a row without work: none is missing where no node with a home of it is offline.
-    #[inline(never)] // a row with work is looked at no further
-    fn losses_idle(&self, sites: &Sites, stripe: StripeNo) -> Losses
-        requires kept { AreKept (sited sites.now).online (sited sites.now).draining self.now.homes self.now.losses }
-        requires stands { (n : AnyNode) → list_any (sits_on n) self.now.homes ≡ true → (sited sites.now).on n stripe ≡ true }
+    /// The same for a row without work: no fragment is missing if no node with a home of the stripe is offline.
+    #[inline(never)] // the path of a row with work stays short
+    fn losses_idle(&self, node_table: &NodeTable, stripe: StripeNo) -> Losses
+        requires kept { AreKept (states_in node_table.now).online (states_in node_table.now).draining self.now.homes self.now.losses }
+        requires stands { (n : AnyNode) → list_any (sits_on n) self.now.homes ≡ true → (states_in node_table.now).on n stripe ≡ true }
         requires idle { self.now.losses.needs.bits ≡ 0 }
-        ensures { result ≡ renewed (sited sites.now).online self.now.homes self.now.losses }
+        ensures { result ≡ renewed (states_in node_table.now).online self.now.homes self.now.losses }
     {
-        if sites.is_clear(stripe) {
+        if node_table.is_clear(stripe) {
             let mut losses = self.losses;
             losses.missing = LossMask::from_bits(0);
             return losses;
         }
-        self.losses_now(sites)
+        self.losses_now(node_table)
     }
 
-    /// Its losses as its homes are, where these fragments need a lease or not, as told.
+    /// The exact losses, after these fragments are set to need a lease or not.
     pub(crate) fn with_needs(
         &self,
-        sites: &Sites,
+        node_table: &NodeTable,
         stripe: StripeNo,
         fragments: LossMask,
         are_to_move: bool,
     ) -> Losses
-        requires kept { AreKept (sited sites.now).online (sited sites.now).draining self.now.homes self.now.losses }
-        requires stands { (n : AnyNode) → list_any (sits_on n) self.now.homes ≡ true → (sited sites.now).on n stripe ≡ true }
+        requires kept { AreKept (states_in node_table.now).online (states_in node_table.now).draining self.now.homes self.now.losses }
+        requires stands { (n : AnyNode) → list_any (sits_on n) self.now.homes ≡ true → (states_in node_table.now).on n stripe ≡ true }
         ensures code { result.code ≡ self.now.losses.code }
         ensures homeless { result.homeless ≡ self.now.losses.homeless }
-        ensures missing { result.missing ≡ (renewed (sited sites.now).online self.now.homes self.now.losses).missing }
+        ensures missing { result.missing ≡ (renewed (states_in node_table.now).online self.now.homes self.now.losses).missing }
         ensures needs { (f : ℕ) → bits_set result.needs.bits f ≡ (if bits_set fragments.bits f then are_to_move else bits_set self.now.losses.needs.bits f) }
     {
-        let mut losses = self.losses_kept(sites, stripe);
+        let mut losses = self.losses_kept(node_table, stripe);
         losses.needs = masks::put(losses.needs, fragments, are_to_move);
         losses
     }

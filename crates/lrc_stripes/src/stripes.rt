@@ -9,23 +9,23 @@ ghost use Rattle.lrc_topology.specs.declared.NodeInfo.{NodeInfo as AnyInfo};
 ghost use Rattle.lrc_stripes.specs.Stored.{empty, with_stripe, with_homes, without_stripe, with_home, with_offline, with_offline_all, with_draining, with_spare, has_node, has_slot, HasNoHome};
 ghost use Rattle.lrc_stripes.specs.Tables.{stored_in};
 
-mod answers;
+mod queries;
 
+use crate::node_table::NodeTable;
 use crate::row::Row;
 use crate::rows::Rows;
-use crate::sites::Sites;
 use crate::{HomeDomains, Seat};
 use lrc_code::{Code, Fault, Fragment, NodeNo, STRIPES, StripeNo, UpgradeNo};
 use lrc_topology::{NodeInfo, Topology};
 use std::alloc::Global;
 use std::marker::Model;
 
-/// The stripes of a store with their codes, the homes of their fragments, and the nodes that are offline or draining.
+/// The stripes of a store with their codes and homes, and the nodes that are offline or draining.
 #[derive(Drop)]
 pub struct Stripes {
-    sites: Sites,
+    node_table: NodeTable,
     rows: Rows,
-    /// By the stripe's number; any where it is not there.
+    /// By stripe number; any value for a stripe that does not exist.
     domains: Vec<HomeDomains>,
     spare: u32,
 }
@@ -33,20 +33,20 @@ pub struct Stripes {
 impl Model for Stripes {
     ghost use Rattle.lrc_stripes.specs.Tables.{Table};
     ghost use Rattle.lrc_stripes.specs.Tables.{rows_in, row_homes};
-    ghost use Rattle.lrc_stripes.specs.Sites.{sited};
+    ghost use Rattle.lrc_stripes.specs.NodeStates.{states_in};
     ghost use Rattle.lrc_stripes.specs.Kept.{IsKept};
-    ghost use Rattle.lrc_stripes.specs.Noted.{AreDomainsKept};
+    ghost use Rattle.lrc_stripes.specs.HomeArrays.{AreDomainsKept};
 
     ghost Value = { Table };
 
-    ghost view = { λ t. record { sites = t.sites.list; rows = t.rows; spare = t.spare } };
+    ghost view = { λ t. record { node_table = t.node_table.list; rows = t.rows; spare = t.spare } };
 
-    ghost invariant = { λ t. record { kept : IsKept (sited t.sites) (rows_in t.rows); noted : AreDomainsKept (sited t.sites).nodes (λ s. row_homes (rows_in t.rows s)) t.domains.items } };
+    ghost invariant = { λ t. record { kept : IsKept (states_in t.node_table) (rows_in t.rows); domains : AreDomainsKept (states_in t.node_table).nodes (λ s. row_homes (rows_in t.rows s)) t.domains.items } };
 }
 
 #[tactic(auto, unfolding(crate::specs::Tables::stored_in))]
 impl Stripes {
-    /// No stripes and no room for any, and every node of the topology online and none draining.
+    /// No stripes and no room for any. Every node of the topology is online, and none is draining.
     ///
     /// # Errors
     ///
@@ -56,18 +56,18 @@ impl Stripes {
         ensures err { IfErr result (λ e. e ≡ OutOfMemory) }
     {
         Ok(Stripes {
-            sites: Sites::new(alloc, topology)?,
+            node_table: NodeTable::new(alloc, topology)?,
             rows: Rows::new(alloc)?,
             domains: HomeDomains::of_none(alloc, STRIPES)?,
             spare: 0,
         })
     }
 
-    /// Makes room for so many more stripes and their homes. Nothing else changes. This takes no memory today: `new` took all of it.
+    /// Makes room for `count` more stripes. Nothing else changes. Today this allocates nothing: `new` allocates for all stripes.
     ///
     /// # Errors
     ///
-    /// None today. A table that grows would answer `Fault::OutOfMemory`.
+    /// None today. A table that grows would return `Fault::OutOfMemory`.
     pub fn reserve(&mut self, count: u32) -> Result<(), Fault>
         ensures room { OnOk result (count ≤ (stored_in self.new).spare) }
         ensures no_less { (stored_in self.old).spare ≤ (stored_in self.new).spare }
@@ -80,7 +80,7 @@ impl Stripes {
         Ok(())
     }
 
-    /// Adds a stripe of the code `Wide`, none of whose fragments has a home, in room that there is for it.
+    /// Adds a stripe of the code `Wide` without homes. There must be room for it.
     pub fn add(&mut self, stripe: StripeNo)
         requires absent { IsFalse ((stored_in self.old).stripes stripe) }
         requires room { 1 ≤ (stored_in self.old).spare }
@@ -90,7 +90,7 @@ impl Stripes {
         self.spare -= 1;
     }
 
-    /// Adds a stripe of the code `Narrow`, none of whose fragments has a home, in room that there is for it.
+    /// Adds a stripe of the code `Narrow` without homes. There must be room for it.
     pub fn add_narrow(&mut self, stripe: StripeNo)
         requires absent { IsFalse ((stored_in self.old).stripes stripe) }
         requires room { 1 ≤ (stored_in self.old).spare }
@@ -100,8 +100,7 @@ impl Stripes {
         self.spare -= 1;
     }
 
-    /// Adds a stripe of the code whose fragments have these homes, in rising order of the fragments, in room that there is
-    /// for it.
+    /// Adds a stripe of the code with these homes, in rising order of the fragments. There must be room for it.
     pub fn add_with_homes(&mut self, code: Code, stripe: StripeNo, seats: &[Seat])
         requires absent { IsFalse ((stored_in self.old).stripes stripe) }
         requires room { 1 ≤ (stored_in self.old).spare }
@@ -110,25 +109,25 @@ impl Stripes {
         ensures { stored_in self.new ≡ with_homes (stored_in self.old) code stripe seats.now }
     {
         let domains = &mut self.domains[stripe.value as usize];
-        let losses = self.sites.enter(code, stripe, seats, domains);
+        let losses = self.node_table.enter(code, stripe, seats, domains);
         let row = Row::seated(code, seats, losses);
         self.rows.add(stripe, row);
         self.spare -= 1;
     }
 
-    /// Takes a stripe out, with the homes of its fragments.
+    /// Removes a stripe and its homes.
     pub fn remove(&mut self, stripe: StripeNo)
         requires { IsTrue ((stored_in self.old).stripes stripe) }
         ensures stripe { stored_in self.new ≡ with_spare (without_stripe (stored_in self.old) stripe) (stored_in self.new).spare }
         ensures spare { (stored_in self.old).spare ≤ (stored_in self.new).spare }
     {
         if let Some(row) = self.rows.get(stripe) {
-            self.sites.leave(stripe, row);
+            self.node_table.leave(stripe, row);
             self.rows.remove(stripe);
         }
     }
 
-    /// Gives a fragment of the stripe's code that has no home one on a seat that is no other's home.
+    /// Sets the home of a fragment that has none. No other fragment has its home on the seat.
     pub fn set_home(&mut self, stripe: StripeNo, fragment: Fragment, seat: Seat)
         requires stripe { IsTrue ((stored_in self.old).stripes stripe) }
         requires code { IsTrue (has_fragment ((stored_in self.old).code stripe) fragment.value) }
@@ -140,8 +139,7 @@ impl Stripes {
         self.rehome(stripe, fragment, Some(seat));
     }
 
-    /// Gives a fragment of the stripe's code a home on a seat that is no other's home, in place of the one that it has, if it
-    /// has one.
+    /// Sets the home of a fragment, whether it has one or not. No fragment has its home on the seat.
     pub fn put_home(&mut self, stripe: StripeNo, fragment: Fragment, seat: Seat)
         requires stripe { IsTrue ((stored_in self.old).stripes stripe) }
         requires code { IsTrue (has_fragment ((stored_in self.old).code stripe) fragment.value) }
@@ -152,7 +150,7 @@ impl Stripes {
         self.rehome(stripe, fragment, Some(seat));
     }
 
-    /// Takes the home of a fragment of the stripe's code away, if it has one.
+    /// Clears the home of a fragment, whether it has one or not.
     pub fn clear_home(&mut self, stripe: StripeNo, fragment: Fragment)
         requires stripe { IsTrue ((stored_in self.old).stripes stripe) }
         requires code { IsTrue (has_fragment ((stored_in self.old).code stripe) fragment.value) }
@@ -161,8 +159,8 @@ impl Stripes {
         self.rehome(stripe, fragment, None);
     }
 
-    /// Gives a fragment of the stripe's code this home or none, in place of the one that it has, if it has one.
-    #[inline(always)] // a call with a home takes one way through it, and a call without another
+    /// Sets the home of a fragment, or clears it.
+    #[inline(always)] // each caller then keeps only its own branch
     fn rehome(&mut self, stripe: StripeNo, fragment: Fragment, home: Option<Seat>)
         requires there { IsTrue ((stored_in self.old).stripes stripe) }
         requires code { IsTrue (has_fragment ((stored_in self.old).code stripe) fragment.value) }
@@ -171,11 +169,11 @@ impl Stripes {
     {
         if let Some(row) = self.rows.get(stripe) {
             let former = row.homes.home(fragment);
-            let kept = row.losses_kept(&self.sites, stripe);
+            let kept = row.losses_kept(&self.node_table, stripe);
             let domains = &mut self.domains[stripe.value as usize];
-            let losses = self.sites.seat(stripe, fragment, home, kept, domains);
+            let losses = self.node_table.seat(stripe, fragment, home, kept, domains);
             self.rows.set_home(stripe, fragment, home, losses);
-            self.sites.unseat(stripe, former, &self.rows);
+            self.node_table.unseat(stripe, former, &self.rows);
         }
     }
 
@@ -184,10 +182,10 @@ impl Stripes {
         requires { IsTrue (has_node (stored_in self.old).nodes node) }
         ensures { stored_in self.new ≡ with_offline (stored_in self.old) node is_offline }
     {
-        if self.sites.is_online(node) == is_offline {
-            self.sites.set_offline(node, is_offline);
+        if self.node_table.is_online(node) == is_offline {
+            self.node_table.set_offline(node, is_offline);
             if self.rows.has_work() {
-                self.rows.renew_missing(&self.sites, node, is_offline);
+                self.rows.renew_missing(&self.node_table, node, is_offline);
             }
         }
     }
@@ -197,27 +195,27 @@ impl Stripes {
         ensures { stored_in self.new ≡ with_offline_all (stored_in self.old) (nodes_in (stored_in self.old).nodes domain) is_offline }
     {
         if self.rows.has_work() {
-            for place in 0..self.node_count() {
-                self.set_offline_at(place, domain, is_offline);
+            for position in 0..self.node_count() {
+                self.set_offline_at(position, domain, is_offline);
             }
         } else {
-            self.sites.set_offline_in(domain, is_offline);
+            self.node_table.set_offline_in(domain, is_offline);
         }
     }
 
-    /// How many nodes there are.
+    /// The number of nodes.
     fn node_count(&self) -> usize
         ensures { result ≡ length (stored_in self.now).nodes }
     {
-        self.sites.len()
+        self.node_table.len()
     }
 
-    /// Sets whether the node at a place in the order of the file is offline, if it is in the upgrade domain.
-    fn set_offline_at(&mut self, place: usize, domain: UpgradeNo, is_offline: bool)
-        requires { place < length (stored_in self.old).nodes }
-        ensures { (d : AnyInfo) → stored_in self.new ≡ (if same_upgrade (get_or (stored_in self.old).nodes place d).upgrade domain then with_offline (stored_in self.old) (get_or (stored_in self.old).nodes place d).number is_offline else stored_in self.old) }
+    /// Sets whether the node at a position in the list is offline, if it is in the upgrade domain.
+    fn set_offline_at(&mut self, position: usize, domain: UpgradeNo, is_offline: bool)
+        requires { position < length (stored_in self.old).nodes }
+        ensures { (d : AnyInfo) → stored_in self.new ≡ (if same_upgrade (get_or (stored_in self.old).nodes position d).upgrade domain then with_offline (stored_in self.old) (get_or (stored_in self.old).nodes position d).number is_offline else stored_in self.old) }
     {
-        let node = self.sites.node_at(place);
+        let node = self.node_table.node_at(position);
         if node.upgrade == domain {
             self.set_offline(node.number, is_offline);
         }
@@ -228,9 +226,9 @@ impl Stripes {
         requires { IsTrue (has_node (stored_in self.old).nodes node) }
         ensures { stored_in self.new ≡ with_draining (stored_in self.old) node is_draining }
     {
-        if self.sites.is_draining(node) != is_draining {
-            self.rows.renew_needs(&self.sites, node, is_draining);
-            self.sites.set_draining(node, is_draining);
+        if self.node_table.is_draining(node) != is_draining {
+            self.rows.renew_needs(&self.node_table, node, is_draining);
+            self.node_table.set_draining(node, is_draining);
         }
     }
 }

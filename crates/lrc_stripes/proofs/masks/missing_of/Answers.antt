@@ -5,7 +5,7 @@ use Rattle.lrc_code.specs.Codes.{fragment_count, has_fragment}
 use Rattle.lrc_code.specs.Losses.{bits_set, bits_of}
 use Rattle.std.proofs.lemmas.Bool.{lt-ltb, le-ltb, ltb-true}
 use Rattle.lrc_code.proofs.BitsLemmas.{bits_of-bits_set, fits-within}
-use Rattle.lrc_stripes.specs.Sites.{sited}
+use Rattle.lrc_stripes.specs.NodeStates.{states_in}
 use Rattle.lrc_stripes.specs.Rows.{is_missing}
 use Rattle.lrc_stripes.proofs.MaskLemmas.{has-low, item-number, mask-next_true, mask-next_false}
 use Rattle.lrc_stripes.proofs.HomesLemmas.{both-bits}
@@ -15,9 +15,9 @@ use Rattle.lrc_stripes.proofs.masks.missing_of.Goals.{then-is_missing, else-is_m
 pub loop-fragment-preserved : goal.loop-fragment-preserved
 loop-fragment-preserved c =
     let i = c.loop-fragment.fragment-index in
-    let m : ℕ → Bool = λ f. is_missing (sited c.args.sites.now).online (get_or c.args.homes.now f None) in
+    let m : ℕ → Bool = λ f. is_missing (states_in c.args.node_table.now).online (get_or c.args.homes.now f None) in
     let number = item-number c.all-fragment-items.result i c.fragment-item.result c.all-fragment-items.ensures c.loop-fragment-test.true in
-    let online = (sited c.args.sites.now).online in
+    let online = (states_in c.args.node_table.now).online in
     let here : m i ≡ c.is_missing.result = ap m (sym number) ∙ (sym (ap (is_missing online) c.home.ensures) ∙ sym c.is_missing.ensures) in
     elim c.if-is_missing.branch [
       | then-is_missing w ↦
@@ -40,7 +40,7 @@ pub returns : goal.returns
 returns c =
     let code = c.args.code in
     let homes = c.args.homes.now in
-    let online = (sited c.args.sites.now).online in
+    let online = (states_in c.args.node_table.now).online in
     let m : ℕ → Bool = λ f. is_missing online (get_or homes f None) in
     let mask = c.loop-fragment.mask in
     let all : c.loop-fragment.fragment-index ≡ 16 = omega arith in

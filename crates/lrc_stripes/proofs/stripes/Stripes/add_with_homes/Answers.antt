@@ -8,25 +8,25 @@ use Rattle.lrc_stripes.specs.Kept.{IsKept}
 use Rattle.lrc_stripes.specs.Rows.{seated_homes}
 use Rattle.lrc_stripes.specs.Masks.{AreLosses}
 use Rattle.lrc_stripes.specs.Domains.{AreDomainsOf}
-use Rattle.lrc_stripes.specs.Noted.{AreDomainsKept}
+use Rattle.lrc_stripes.specs.HomeArrays.{AreDomainsKept}
 use Rattle.lrc_stripes.proofs.DomainLemmas.{domains-put}
 use Rattle.lrc_stripes.specs.Stored.{has_slot}
-use Rattle.lrc_stripes.specs.Sites.{Sited, sited}
+use Rattle.lrc_stripes.specs.NodeStates.{NodeStates, states_in}
 use Rattle.lrc_stripes.specs.Tables.{stored_in, rows_in, row_homes}
 use Rattle.lrc_stripes.proofs.KeptLemmas.{kept-enter}
 use Rattle.lrc_stripes.proofs.StoredLemmas.{stored_by, stored-seated, slot-known}
 use Rattle.lrc_stripes.proofs.stripes.Stripes.add_with_homes.Goals as goal
 
 pub enter-losses-requires : goal.enter-losses-requires
-unfolding stored_in sited
+unfolding stored_in states_in
 enter-losses-requires c =
-    let slots : All (λ (seat : Seat). IsTrue (has_slot (sited c.self.inside.sites).nodes seat)) c.args.seats.now = rw (← c.self.view_is) at c.requires.slots in
-    record { length = c.requires.length; nodes = λ k d below. slot-known (node_at (sited c.self.inside.sites).nodes (get_or c.args.seats.now k d).node) (get_or c.args.seats.now k d).slot (slots k d below) }
+    let slots : All (λ (seat : Seat). IsTrue (has_slot (states_in c.self.inside.node_table).nodes seat)) c.args.seats.now = rw (← c.self.view_is) at c.requires.slots in
+    record { length = c.requires.length; nodes = λ k d below. slot-known (node_at (states_in c.self.inside.node_table).nodes (get_or c.args.seats.now k d).node) (get_or c.args.seats.now k d).slot (slots k d below) }
 
 pub invariant_of-self : goal.invariant_of-self
 unfolding stored_in
 invariant_of-self c =
-    let z = sited c.self.inside.sites in
+    let z = states_in c.self.inside.node_table in
     let homes = seated_homes c.args.seats.now in
     let e = c.enter-losses.ensures.losses in
     let absent : is_some (rows_in c.self.inside.rows c.args.stripe) ≡ false = rw (← c.self.view_is) at c.requires.absent in
@@ -36,16 +36,16 @@ invariant_of-self c =
     (subst (λ (l : Losses). AreLosses c.args.code z.online z.draining homes l) (sym c.seated-row.ensures.losses) (record { within = e.within; homeless = e.homeless; missing = e.missing; needs = e.needs })) in
     let put = c.enter-losses.new.domains in
     record {
-      kept = subst (λ (y : Sited). IsKept y (rows_in c.add.new.self)) (sym c.enter-losses.ensures.on)
+      kept = subst (λ (y : NodeStates). IsKept y (rows_in c.add.new.self)) (sym c.enter-losses.ensures.on)
           (kept-enter z (rows_in c.self.inside.rows) c.self.invariant.kept c.args.stripe homes c.seated-row.result (rows_in c.add.new.self) absent c.seated-row.ensures.homes are c.add.ensures);
-      noted = subst (λ (y : Sited). AreDomainsKept y.nodes (λ s. row_homes (rows_in c.add.new.self s)) (set c.self.inside.domains.items c.args.stripe.value put)) (sym c.enter-losses.ensures.on)
+      domains = subst (λ (y : NodeStates). AreDomainsKept y.nodes (λ s. row_homes (rows_in c.add.new.self s)) (set c.self.inside.domains.items c.args.stripe.value put)) (sym c.enter-losses.ensures.on)
           (domains-put z.nodes c.self.inside.domains.items (rows_in c.self.inside.rows) (rows_in c.add.new.self) c.args.stripe c.seated-row.result put c.add.ensures
-          (subst (λ (hs : List (Option Seat)). AreDomainsOf z.nodes (λ f. get_or hs f None) put) (sym c.seated-row.ensures.homes) c.enter-losses.ensures.domains) c.self.invariant.noted);
+          (subst (λ (hs : List (Option Seat)). AreDomainsOf z.nodes (λ f. get_or hs f None) put) (sym c.seated-row.ensures.homes) c.enter-losses.ensures.domains) c.self.invariant.domains);
     }
 
 pub returns : goal.returns
-unfolding stored_in sited
+unfolding stored_in states_in
 returns c =
-    rw (← c.self.view_is) (ap (λ (z : Sited). stored_by z (rows_in c.add.new.self) (c.self.inside.spare - 1)) c.enter-losses.ensures.on
-    ∙ stored-seated (sited c.self.inside.sites) (rows_in c.self.inside.rows) (rows_in c.add.new.self) c.args.stripe c.args.code c.seated-row.result c.args.seats.now c.self.inside.spare
+    rw (← c.self.view_is) (ap (λ (z : NodeStates). stored_by z (rows_in c.add.new.self) (c.self.inside.spare - 1)) c.enter-losses.ensures.on
+    ∙ stored-seated (states_in c.self.inside.node_table) (rows_in c.self.inside.rows) (rows_in c.add.new.self) c.args.stripe c.args.code c.seated-row.result c.args.seats.now c.self.inside.spare
     (ap (λ (l : Losses). l.code) c.seated-row.ensures.losses ∙ c.enter-losses.ensures.code) c.seated-row.ensures.homes c.add.ensures)

@@ -1,0 +1,368 @@
+ghost use Rattle.std.specs.Prelude.{◌≡◌, if◌then◌else◌, nat_eq, ◌&&◌, ◌||◌, not, true, false, None, Some, is_some, IfOk, IfErr, IfSome, IfNone, IsTrue, ◌<◌, length, get_or, slice_set};
+ghost use Rattle.std.specs.List.{All, list_any};
+ghost use Rattle.lrc_code.specs.Codes.{fragment_count};
+ghost use Rattle.lrc_code.specs.Numbers.{same_stripe, same_node, same_upgrade};
+ghost use Rattle.lrc_code.specs.declared.numbers.NodeNo.{NodeNo as AnyNode};
+ghost use Rattle.lrc_code.specs.declared.numbers.StripeNo.{StripeNo as AnyStripe};
+ghost use Rattle.lrc_code.specs.declared.fault.Fault.TheVariants.{OutOfMemory};
+ghost use Rattle.lrc_topology.specs.declared.NodeInfo.{NodeInfo as AnyInfo};
+ghost use Rattle.lrc_topology.specs.Nodes.{node_at, nodes_in};
+ghost use Rattle.lrc_terms.specs.Levels.{Homes as AnyHomes};
+ghost use Rattle.lrc_stripes.specs.Domains.{AreDomainsOf};
+ghost use Rattle.lrc_stripes.specs.Stored.{has_node};
+ghost use Rattle.lrc_stripes.specs.Sets.{FindsNext, has};
+ghost use Rattle.lrc_stripes.specs.Rows.{seated_homes, sits_on};
+ghost use Rattle.lrc_stripes.specs.NodeStates.{states_in, first_states, IsPositionOf};
+ghost use Rattle.lrc_stripes.specs.Tables.{rows_in};
+ghost use Rattle.lrc_stripes.specs.Kept.{is_row_on};
+ghost use Rattle.lrc_stripes.specs.Masks.{AreLosses, AreWith};
+
+mod offline;
+
+use crate::losses::Losses;
+use crate::node_state::NodeState;
+use crate::row::Row;
+use crate::rows::Rows;
+use crate::stripe_set::StripeSet;
+use crate::{HomeDomains, Seat, domains, masks};
+use lrc_bits::BitSet;
+use lrc_code::{Code, Fault, Fragment, LossMask, NodeNo, StripeNo, UpgradeNo};
+use lrc_topology::{NodeIndex, NodeInfo, Topology};
+use std::alloc::Global;
+use std::marker::Model;
+
+/// The nodes of a store, those that are offline or draining, and the stripes with a home on each.
+#[derive(Drop)]
+pub(crate) struct NodeTable {
+    /// In the order of the topology file.
+    nodes: Vec<NodeInfo>,
+    /// The stripes with a home on each node, in the same order.
+    stripes: Vec<StripeSet>,
+    /// The position of each node in these lists.
+    positions: NodeIndex,
+    /// The positions of the offline nodes.
+    offline: BitSet<8>,
+    /// The positions of the draining nodes.
+    draining: BitSet<8>,
+    /// For each upgrade domain, the positions of its nodes.
+    domains: Vec<BitSet<8>>,
+}
+
+impl Model for NodeTable {
+    ghost use Rattle.lrc_stripes.specs.NodeStates.{NodeLists, AreNodes, states_from};
+
+    ghost Value = { NodeLists };
+
+    ghost view = { λ t. record { list = states_from 0 t.nodes.items t.offline t.draining; stripes = t.stripes.items } };
+
+    ghost invariant = { λ t. AreNodes t.nodes.items t.stripes.items t.positions t.offline t.draining t.domains.items };
+}
+
+impl NodeTable {
+    /// The nodes of the topology. All are online, none is draining, and there are no stripes.
+    pub(crate) fn new(alloc: Global, topology: &Topology) -> Result<NodeTable, Fault>
+        ensures value { IfOk result (λ t. states_in t ≡ first_states topology.now) }
+        ensures err { IfErr result (λ e. e ≡ OutOfMemory) }
+    {
+        let mut nodes = Vec::with_capacity(alloc, topology.len())?;
+        let mut stripes = Vec::with_capacity(alloc, topology.len())?;
+        for node in topology.nodes() {
+            nodes.push(*node)?;
+            stripes.push(StripeSet::new())?;
+        }
+        let domains = domains::positions_by_upgrade(alloc, &nodes)?;
+        Ok(NodeTable {
+            nodes,
+            stripes,
+            positions: NodeIndex::new(alloc, topology)?,
+            offline: BitSet::new(),
+            draining: BitSet::new(),
+            domains,
+        })
+    }
+
+    /// The node with a number, if there is one.
+    pub(crate) fn node(&self, number: NodeNo) -> Option<NodeInfo>
+        ensures { result ≡ node_at (states_in self.now).nodes number }
+    {
+        let position = self.position(number)?;
+        Some(self.nodes[position])
+    }
+
+    /// The number of nodes.
+    pub(crate) fn len(&self) -> usize
+        ensures { result ≡ length (states_in self.now).nodes }
+    {
+        self.nodes.len()
+    }
+
+    /// The node at a position in the list.
+    pub(crate) fn node_at(&self, position: usize) -> NodeInfo
+        requires { position < length (states_in self.now).nodes }
+        ensures { (d : AnyInfo) → result ≡ get_or (states_in self.now).nodes position d }
+    {
+        self.nodes[position]
+    }
+
+    /// Whether the node with a number is online; `false` if there is none.
+    pub(crate) fn is_online(&self, number: NodeNo) -> bool
+        ensures { result ≡ (states_in self.now).online number }
+    {
+        match self.position(number) {
+            Some(position) => !self.offline.contains(position),
+            None => false,
+        }
+    }
+
+    /// Whether the node with a number is draining; `false` if there is none.
+    pub(crate) fn is_draining(&self, number: NodeNo) -> bool
+        ensures { result ≡ (states_in self.now).draining number }
+    {
+        match self.position(number) {
+            Some(position) => self.draining.contains(position),
+            None => false,
+        }
+    }
+
+    /// Sets whether a node is offline.
+    pub(crate) fn set_offline(&mut self, number: NodeNo, is_offline: bool)
+        requires { IsTrue (has_node (states_in self.old).nodes number) }
+        ensures { states_in self.new ≡ record (states_in self.old) { online = λ n. if same_node number n then not is_offline else (states_in self.old).online n } }
+    {
+        let position = self.position_of(number);
+        mark(&mut self.offline, position, is_offline);
+    }
+
+    /// Sets whether the nodes of an upgrade domain are offline.
+    pub(crate) fn set_offline_in(&mut self, domain: UpgradeNo, is_offline: bool)
+        ensures { states_in self.new ≡ record (states_in self.old) { online = λ m. if list_any (λ n. same_node n.number m) (nodes_in (states_in self.old).nodes domain) then not is_offline else (states_in self.old).online m } }
+    {
+        let positions = &self.domains[domain.value as usize];
+        if is_offline {
+            self.offline.insert_all(positions);
+        } else {
+            self.offline.remove_all(positions);
+        }
+    }
+
+    /// Sets whether a node is draining.
+    pub(crate) fn set_draining(&mut self, number: NodeNo, is_draining: bool)
+        requires { IsTrue (has_node (states_in self.old).nodes number) }
+        ensures { states_in self.new ≡ record (states_in self.old) { draining = λ n. if same_node number n then is_draining else (states_in self.old).draining n } }
+    {
+        let position = self.position_of(number);
+        mark(&mut self.draining, position, is_draining);
+    }
+
+    /// Adds a stripe of the code with homes on these seats, and stores their domains. Returns the losses of the stripe.
+    pub(crate) fn enter(
+        &mut self,
+        code: Code,
+        stripe: StripeNo,
+        seats: &[Seat],
+        domains: &mut HomeDomains,
+    ) -> Losses
+        requires length { length seats.now ≡ fragment_count code }
+        requires nodes { All (λ seat. IsTrue (has_node (states_in self.old).nodes seat.node)) seats.now }
+        ensures on { states_in self.new ≡ record (states_in self.old) { on = λ n s. (same_stripe stripe s && list_any (sits_on n) (seated_homes seats.now)) || (states_in self.old).on n s } }
+        ensures code { result.code ≡ code }
+        ensures losses { AreLosses code (states_in self.old).online (states_in self.old).draining (seated_homes seats.now) result }
+        ensures domains { AreDomainsOf (states_in self.old).nodes (λ f. get_or (seated_homes seats.now) f None) domains.new }
+    {
+        for number in 0..code.fragments() {
+            let fragment = Fragment { value: number };
+            let seat = seats[number as usize];
+            self.enter_one(stripe, fragment, seat.node, domains);
+        }
+        self.losses_of(code, seats)
+    }
+
+    /// The losses of a stripe of the code with homes on these seats: none if no node is offline or draining.
+    fn losses_of(&self, code: Code, seats: &[Seat]) -> Losses
+        requires length { length seats.now ≡ fragment_count code }
+        requires nodes { All (λ seat. IsTrue (has_node (states_in self.now).nodes seat.node)) seats.now }
+        ensures code { result.code ≡ code }
+        ensures losses { AreLosses code (states_in self.now).online (states_in self.now).draining (seated_homes seats.now) result }
+    {
+        if self.are_plain() {
+            return Losses::none(code);
+        }
+        self.losses_on(code, seats)
+    }
+
+    /// Whether no node is offline or draining.
+    fn are_plain(&self) -> bool
+        ensures { result ≡ true → (n : AnyNode) → IsTrue (has_node (states_in self.now).nodes n) → ((states_in self.now).online n ≡ true) × ((states_in self.now).draining n ≡ false) }
+    {
+        self.offline.is_empty() && self.draining.is_empty()
+    }
+
+    /// The same, one fragment at a time.
+    #[inline(never)] // with all nodes online and none draining it is not called
+    fn losses_on(&self, code: Code, seats: &[Seat]) -> Losses
+        requires { length seats.now ≡ fragment_count code }
+        ensures code { result.code ≡ code }
+        ensures losses { AreLosses code (states_in self.now).online (states_in self.now).draining (seated_homes seats.now) result }
+    {
+        let mut losses = Losses::none(code);
+        for number in 0..code.fragments() {
+            let fragment = Fragment { value: number };
+            let node = seats[number as usize].node;
+            losses.missing = masks::with_where(losses.missing, fragment, !self.is_online(node));
+            losses.needs = masks::with_where(losses.needs, fragment, self.is_draining(node));
+        }
+        losses
+    }
+
+    /// Adds a stripe to the node of a fragment's home, and stores the domains of that node. Returns the node.
+    fn enter_one(
+        &mut self,
+        stripe: StripeNo,
+        fragment: Fragment,
+        number: NodeNo,
+        domains: &mut HomeDomains,
+    ) -> NodeState
+        requires { IsTrue (has_node (states_in self.old).nodes number) }
+        ensures on { states_in self.new ≡ record (states_in self.old) { on = λ n s. (same_node number n && same_stripe stripe s) || (states_in self.old).on n s } }
+        ensures node { Some result.node ≡ node_at (states_in self.old).nodes number }
+        ensures online { not result.is_offline ≡ (states_in self.old).online number }
+        ensures draining { result.is_draining ≡ (states_in self.old).draining number }
+        ensures faults { domains.new.faults ≡ slice_set domains.old.faults fragment.value result.node.fault.value }
+        ensures upgrades { domains.new.upgrades ≡ slice_set domains.old.upgrades fragment.value result.node.upgrade.value }
+    {
+        let position = self.position_of(number);
+        let set = &mut self.stripes[position];
+        set.insert(stripe);
+        let node = &self.nodes[position];
+        domains.put(fragment, node);
+        NodeState {
+            node: *node,
+            is_offline: self.offline.contains(position),
+            is_draining: self.draining.contains(position),
+        }
+    }
+
+    /// Removes a stripe from a node.
+    fn remove(&mut self, number: NodeNo, stripe: StripeNo)
+        ensures { states_in self.new ≡ record (states_in self.old) { on = λ n s. not (same_node number n && same_stripe stripe s) && (states_in self.old).on n s } }
+    {
+        if let Some(position) = self.position(number) {
+            let set = &mut self.stripes[position];
+            set.remove(stripe);
+        }
+    }
+
+    /// Removes a stripe from the nodes of all its homes.
+    pub(crate) fn leave(&mut self, stripe: StripeNo, row: &Row)
+        ensures { states_in self.new ≡ record (states_in self.old) { on = λ n s. not (same_stripe stripe s && list_any (sits_on n) row.now.homes) && (states_in self.old).on n s } }
+    {
+        for fragment in Fragment::all() {
+            if let Some(seat) = row.homes.home(fragment) {
+                self.remove(seat.node, stripe);
+            }
+        }
+    }
+
+    /// Removes an existing stripe from the node of a former home, unless its row has another home there.
+    pub(crate) fn unseat(&mut self, stripe: StripeNo, former: Option<Seat>, rows: &Rows)
+        requires { IsTrue (is_some (rows_in rows.now stripe)) }
+        ensures { states_in self.new ≡ record (states_in self.old) { on = λ n s. not (same_stripe stripe s && (sits_on n former && not (is_row_on n (rows_in rows.now stripe)))) && (states_in self.old).on n s } }
+    {
+        if let Some(seat) = former {
+            if !rows.is_on(stripe, seat.node) {
+                self.remove(seat.node, stripe);
+            }
+        }
+    }
+
+    /// Adds a stripe to the node of a fragment's new home, if it has one, and stores the domains of that node. Returns the
+    /// losses of the stripe with this home.
+    pub(crate) fn seat(
+        &mut self,
+        stripe: StripeNo,
+        fragment: Fragment,
+        home: Option<Seat>,
+        losses: Losses,
+        domains: &mut HomeDomains,
+    ) -> Losses
+        requires { IfSome home (λ seat. IsTrue (has_node (states_in self.old).nodes seat.node)) }
+        ensures on { states_in self.new ≡ record (states_in self.old) { on = λ n s. (same_stripe stripe s && sits_on n home) || (states_in self.old).on n s } }
+        ensures losses { AreWith (states_in self.old) fragment.value home losses result }
+        ensures domains { (homes : AnyHomes) → AreDomainsOf (states_in self.old).nodes homes domains.old → AreDomainsOf (states_in self.old).nodes (λ g. if nat_eq fragment.value g then home else homes g) domains.new }
+    {
+        match home {
+            Some(seat) => {
+                let state = self.enter_one(stripe, fragment, seat.node, domains);
+                losses.put(fragment, false, state.is_offline, state.is_draining)
+            }
+            None => losses.put(fragment, true, true, true),
+        }
+    }
+
+    /// The stripes with a home on the node; `None` if there is no such node.
+    pub(crate) fn stripes_on(&self, number: NodeNo) -> Option<&StripeSet>
+        ensures set { IfSome result (λ set. has set.now ≡ (states_in self.now).on number) }
+        ensures none { IfNone result ((s : AnyStripe) → (states_in self.now).on number s ≡ false) }
+    {
+        let position = self.position(number)?;
+        Some(&self.stripes[position])
+    }
+
+    /// The first stripe from this number on with a home on the node.
+    pub(crate) fn first_on(&self, number: NodeNo, from: usize) -> Option<StripeNo>
+        ensures { FindsNext ((states_in self.now).on number) from result }
+    {
+        let position = self.position(number)?;
+        self.stripes[position].first_from(from)
+    }
+
+    /// The stripes with a home on a node of the upgrade domain.
+    pub(crate) fn stripes_in(&self, domain: UpgradeNo) -> StripeSet
+        ensures { has result ≡ λ s. list_any (λ n. same_upgrade n.upgrade domain && (states_in self.now).on n.number s) (states_in self.now).nodes }
+    {
+        let mut found = StripeSet::new();
+        for position in 0..self.nodes.len() {
+            let node = self.nodes[position];
+            if node.upgrade == domain {
+                self.join(node.number, &mut found);
+            }
+        }
+        found
+    }
+
+    /// Adds the stripes with a home on the node to a set.
+    fn join(&self, number: NodeNo, set: &mut StripeSet)
+        ensures { has set.new ≡ λ s. has set.old s || (states_in self.now).on number s }
+    {
+        if let Some(position) = self.position(number) {
+            set.insert_all(&self.stripes[position]);
+        }
+    }
+
+    /// The position of the node with a number, if there is one.
+    fn position(&self, number: NodeNo) -> Option<usize>
+        ensures { IsPositionOf self.now number result }
+    {
+        self.positions.place(number)
+    }
+
+    /// The position of the node with a number that exists.
+    fn position_of(&self, number: NodeNo) -> usize
+        requires { IsTrue (has_node (states_in self.now).nodes number) }
+        ensures { IsPositionOf self.now number (Some result) }
+    {
+        self.positions.place_of(number)
+    }
+}
+
+/// Adds a number to a set or removes it.
+fn mark(set: &mut BitSet<8>, number: usize, is_in: bool)
+    requires { number < length set.old }
+    ensures { set.new ≡ slice_set set.old number is_in }
+{
+    if is_in {
+        set.insert(number);
+    } else {
+        set.remove(number);
+    }
+}

@@ -1,0 +1,202 @@
+//! The queries. They change nothing.
+
+ghost use Rattle.std.specs.Prelude.{◌≡◌, ℕ, if◌then◌else◌, None, is_some, ◌<◌, ◌↔◌, IsTrue, IsFalse, IfSome, IfNone, Some};
+ghost use Rattle.lrc_code.specs.declared.numbers.StripeNo.{StripeNo as AnyStripe};
+ghost use Rattle.lrc_stripes.specs.Stored.{homes_shown, missing_shown, needs_shown, level_shown, has_node, has_slot, HasNoHome, AreHomesOn, AreHomesOnFrom, has_work, AreWork, AreWorkFrom, AreAtRisk};
+ghost use Rattle.lrc_stripes.specs.Domains.{AreDomainsOf};
+ghost use Rattle.lrc_code.specs.Codes.{has_fragment};
+ghost use Rattle.lrc_code.specs.Losses.{bits_set};
+ghost use Rattle.lrc_stripes.specs.Tables.{stored_in};
+ghost use Rattle.lrc_stripes.specs.Upgrades.{is_lost_to, is_short_lost_to, IsFirstLostTo, IsFirstShortLostTo};
+
+use crate::stripes::Stripes;
+use crate::{AtRisk, HomeDomains, HomesOn, Level, Seat, Work, upgrades};
+use lrc_code::{Code, FRAGMENTS, Fragment, LossMask, NodeNo, StripeNo, UpgradeNo};
+
+#[tactic(auto, unfolding(crate::specs::Tables::stored_in))]
+impl Stripes {
+    /// The number of stripes for which there is room.
+    pub fn spare(&self) -> u32
+        ensures { result ≡ (stored_in self.now).spare }
+    {
+        self.spare
+    }
+
+    /// Whether the stripe exists.
+    pub fn contains(&self, stripe: StripeNo) -> bool
+        ensures { result ≡ (stored_in self.now).stripes stripe }
+    {
+        self.rows.contains(stripe)
+    }
+
+    /// The home of a fragment of a stripe, if it has one; a fragment that the stripe's code lacks has none.
+    pub fn home(&self, stripe: StripeNo, fragment: Fragment) -> Option<Seat>
+        requires { IsTrue ((stored_in self.now).stripes stripe) }
+        ensures { result ≡ (stored_in self.now).homes stripe fragment.value }
+    {
+        let row = self.rows.get(stripe)?;
+        row.homes.home(fragment)
+    }
+
+    /// The homes of a stripe, by fragment number from 0 to 15; no home for a number that the stripe's code lacks. `None` for
+    /// a stripe that does not exist.
+    pub fn homes(&self, stripe: StripeNo) -> Option<[Option<Seat>; FRAGMENTS]>
+        ensures { result ≡ homes_shown (stored_in self.now) stripe }
+    {
+        let row = self.rows.get(stripe)?;
+        Some(row.homes.all())
+    }
+
+    /// The fragments of a stripe that have a home; each is one of the stripe's code.
+    pub fn homed(&self, stripe: StripeNo) -> LossMask
+        requires { IsTrue ((stored_in self.now).stripes stripe) }
+        ensures few { result.bits < 65536 }
+        ensures homed { (f : ℕ) → bits_set result.bits f ≡ is_some ((stored_in self.now).homes stripe f) }
+        ensures within { (f : ℕ) → IsTrue (bits_set result.bits f) → IsTrue (has_fragment ((stored_in self.now).code stripe) f) }
+    {
+        self.rows.homed(stripe)
+    }
+
+    /// The domains of the nodes of a stripe's homes.
+    pub fn domains(&self, stripe: StripeNo) -> &HomeDomains
+        requires { IsTrue ((stored_in self.now).stripes stripe) }
+        ensures { AreDomainsOf (stored_in self.now).nodes ((stored_in self.now).homes stripe) result.now }
+    {
+        &self.domains[stripe.value as usize]
+    }
+
+    /// The missing fragments of a stripe: those without a home on an online node. `None` for a stripe that does not exist.
+    pub fn missing(&self, stripe: StripeNo) -> Option<LossMask>
+        ensures { result ≡ missing_shown (stored_in self.now) stripe }
+    {
+        let row = self.rows.get(stripe)?;
+        Some(row.losses_kept(&self.node_table, stripe).missing())
+    }
+
+    /// The fragments of a stripe that need a lease: those without a home or with one on a draining node. `None` for a stripe
+    /// that does not exist.
+    pub fn needs(&self, stripe: StripeNo) -> Option<LossMask>
+        ensures { result ≡ needs_shown (stored_in self.now) stripe }
+    {
+        let row = self.rows.get(stripe)?;
+        Some(row.losses.needs())
+    }
+
+    /// The fragments of an existing stripe that need a lease.
+    pub fn needs_there(&self, stripe: StripeNo) -> LossMask
+        requires { IsTrue ((stored_in self.now).stripes stripe) }
+        ensures { Some result ≡ needs_shown (stored_in self.now) stripe }
+    {
+        self.rows.needs(stripe)
+    }
+
+    /// The level of a stripe; `None` for a stripe that does not exist.
+    pub fn level(&self, stripe: StripeNo) -> Option<Level>
+        ensures { result ≡ level_shown (stored_in self.now) stripe }
+    {
+        let row = self.rows.get(stripe)?;
+        Some(row.losses_kept(&self.node_table, stripe).level())
+    }
+
+    /// The lowest-numbered stripe that is recoverable now, and would not be with the nodes of this upgrade domain offline;
+    /// `None` without such a stripe.
+    pub fn would_lose(&self, domain: UpgradeNo) -> Option<StripeNo>
+        ensures found { IfSome result (IsFirstLostTo (stored_in self.now) domain) }
+        ensures none { IfNone result ((s : StripeNo) → IsFalse (is_lost_to (stored_in self.now) domain s)) }
+    {
+        upgrades::first_lost(&self.node_table, &self.rows, domain)
+    }
+
+    /// The lowest-numbered short stripe that is recoverable now, and would not be with the nodes of this upgrade domain
+    /// offline; `None` without such a stripe. A stripe is short if one of its fragments needs a lease, or if it has homes on
+    /// several offline nodes. If the homes of each stripe are in different fault domains, and those of each class in
+    /// different upgrade domains, an upgrade can make no other stripe unrecoverable.
+    pub fn would_lose_short(&self, domain: UpgradeNo) -> Option<StripeNo>
+        ensures found { IfSome result (IsFirstShortLostTo (stored_in self.now) domain) }
+        ensures none { IfNone result ((s : StripeNo) → IsFalse (is_short_lost_to (stored_in self.now) domain s)) }
+    {
+        upgrades::first_short(&self.node_table, &self.rows, domain)
+    }
+
+    /// The fragments with a home on a node, in rising order of stripe and fragment.
+    pub fn homes_on(&self, node: NodeNo) -> HomesOn<'_>
+        ensures { AreHomesOn (stored_in self.now) node result }
+    {
+        HomesOn::new(&self.node_table, &self.rows, node, 0)
+    }
+
+    /// The fragments with a home on a node, of the stripes from this number on, in rising order of stripe and fragment.
+    pub fn homes_on_from(&self, node: NodeNo, first: StripeNo) -> HomesOn<'_>
+        ensures { AreHomesOnFrom (stored_in self.now) node first result }
+    {
+        HomesOn::new(&self.node_table, &self.rows, node, first.value as usize)
+    }
+
+    /// The code of a stripe; `None` for a stripe that does not exist.
+    pub fn code(&self, stripe: StripeNo) -> Option<Code>
+        ensures { result ≡ (if (stored_in self.now).stripes stripe then Some ((stored_in self.now).code stripe) else None) }
+    {
+        let row = self.rows.get(stripe)?;
+        Some(row.losses.code)
+    }
+
+    /// Whether a fragment of any stripe needs a lease.
+    pub fn has_work(&self) -> bool
+        ensures { IsTrue result ↔ ((s : AnyStripe) × IsTrue (has_work (stored_in self.now) s)) }
+    {
+        self.rows.has_work()
+    }
+
+    /// The stripes with a fragment that needs a lease, in the order of repair: by rank, and then by number.
+    pub fn work(&self) -> Work<'_>
+        ensures { AreWork (stored_in self.now) result }
+    {
+        self.rows.work()
+    }
+
+    /// The stripes with a fragment that needs a lease, in the order of repair, from this stripe on, which is one of them.
+    pub fn work_from(&self, first: StripeNo) -> Work<'_>
+        requires { IsTrue (has_work (stored_in self.now) first) }
+        ensures { AreWorkFrom (stored_in self.now) first result }
+    {
+        self.rows.work_from(first)
+    }
+
+    /// The stripes that are not whole and their levels, in the order of repair: by rank, and then by number.
+    pub fn at_risk(&self) -> AtRisk<'_>
+        ensures { AreAtRisk (stored_in self.now) result }
+    {
+        AtRisk::new(&self.node_table, &self.rows)
+    }
+
+    /// Whether the store has a node of this number.
+    pub fn has_node(&self, node: NodeNo) -> bool
+        ensures { result ≡ has_node (stored_in self.now).nodes node }
+    {
+        self.node_table.node(node).is_some()
+    }
+
+    /// Whether the seat exists: its node does, and has the slot.
+    pub fn has_slot(&self, seat: Seat) -> bool
+        ensures { result ≡ has_slot (stored_in self.now).nodes seat }
+    {
+        match self.node_table.node(seat.node) {
+            Some(node) => seat.slot < node.slots,
+            None => false,
+        }
+    }
+
+    /// Whether no fragment has its home on the seat.
+    pub fn is_without_home(&self, seat: Seat) -> bool
+        ensures { IsTrue result ↔ HasNoHome (stored_in self.now) seat }
+    {
+        let mut from = 0;
+        while let Some(stripe) = self.node_table.first_on(seat.node, from) {
+            if self.rows.holds(stripe, seat) {
+                return false;
+            }
+            from = stripe.value as usize + 1;
+        }
+        true
+    }
+}
