@@ -1,6 +1,8 @@
 -- The repair that the next lease is granted for.
-use Rattle.std.proofs.Common.{◌≡◌, ℕ, zero, suc, ◌+◌, ◌-◌, ◌<◌, ◌≤◌, Bool, true, false, not, ◌&&◌, if◌then◌else◌, List, take, drop, get_or, length, find, Option, Some, None, is_none, is_some, refl, sym, ap, ap₂, ◌∙◌, arith, w16, lit<}
+use Rattle.std.proofs.Common.{◌≡◌, ℕ, zero, suc, ◌+◌, ◌-◌, ◌<◌, ◌≤◌, Bool, true, false, not, ◌&&◌, if◌then◌else◌, List, take, drop, get_or, length, find, Option, Some, None, is_none, is_some, Ok, Err, refl, sym, ap, ap₂, subst, ◌∙◌, arith, w16, lit<}
+use Rattle.std.specs.Result.{is_ok, result_ok}
 use Rattle.std.proofs.lemmas.Bool.{and_parts}
+use Rattle.std.proofs.lemmas.Option.{same_Some}
 use Rattle.std.proofs.lemmas.List.{drop_more, take_all, length-drop}
 use Rattle.std.proofs.lemmas.Nat.Bits.{bit_at-zero, bit_at-trailing_zeros}
 use Rattle.std.specs.Int.{trailing_zeros}
@@ -17,17 +19,18 @@ use Rattle.lrc_terms.proofs.LeaseLemmas.{none-find}
 use Rattle.lrc_rules.specs.declared.entry.Entry.{Entry}
 use Rattle.lrc_rules.specs.declared.kind.Kind.{Kind}
 use Rattle.lrc_book.specs.declared.repair.Repair.{Repair}
+use Rattle.lrc_rules.specs.declared.refusal.Refusal.TheVariants as refusal
 use Rattle.lrc_rules.specs.declared.reply.Reply.TheVariants.{Granted}
-use Rattle.lrc_rules.specs.States.{State, code_of, lease_of}
+use Rattle.lrc_terms.specs.Stripes.{StripeFragment}
+use Rattle.lrc_rules.specs.States.{State, has_stripe, code_of, lease_of}
 use Rattle.lrc_rules.specs.Placement.{chosen}
 use Rattle.lrc_rules.specs.Repairs.{needs, kind, is_beyond_repair}
-use Rattle.lrc_rules.specs.Leases.{new_lease, granted, lease_outcome}
+use Rattle.lrc_rules.specs.Leases.{new_lease, lease_outcome}
 use Rattle.lrc_rules.specs.Urgency.{is_grantable}
-use Rattle.lrc_book.specs.Stores.{repair_of}
-use Rattle.lrc_book.specs.Repairing.{is_waiting, IsRepair}
+use Rattle.lrc_book.specs.Repairing.{is_waiting, repair_by, repair_or_refusal, fragment_of, IsRepair}
 use Rattle.lrc_book.proofs.FragmentLemmas.{number-at}
 use Rattle.lrc_rules.proofs.MostUrgentLemmas.{none-from}
-use Rattle.lrc_book.proofs.LeaseReplyLemmas.{lost-by, able-by, lease-new}
+use Rattle.lrc_book.proofs.LeaseReplyLemmas.{answer-by, lease-decided}
 use Rattle.lrc_rules.proofs.UrgencyLemmas.{needs-own}
 
 -- ---- the fragments that wait: those that need a lease, but for those that have one
@@ -61,21 +64,33 @@ module _ (nodes : List NodeInfo) (st : State) (s : StripeNo) (f : Fragment) wher
   pub not-waiting : is_waiting nodes st s f ≡ false → false ≡ is_grantable nodes st (s, f)
   not-waiting waits = sym (grantable-is false (is_beyond_repair nodes st s f) (chosen nodes st s f) waits refl refl)
 
-  pub beyond-repair : is_waiting nodes st s f ≡ true → repair_of nodes st s f ≡ None → false ≡ is_grantable nodes st (s, f)
-  beyond-repair waits lost =
-      sym (grantable-is true true (chosen nodes st s f) waits (lost-by (is_beyond_repair nodes st s f) (kind nodes st s f) lost) refl)
+  found-by : (k : Kind) (beyond : Bool) (seat : Option Seat) → is_ok (repair_by s f (if beyond then None else Some k) seat) ≡ (not beyond && is_some seat)
+  found-by k true seat = refl
+  found-by k false None = refl
+  found-by k false (Some seat) = refl
 
-  pub without-seat : (k : Kind) → is_waiting nodes st s f ≡ true → repair_of nodes st s f ≡ Some k → chosen nodes st s f ≡ None
-      → false ≡ is_grantable nodes st (s, f)
-  without-seat k waits able none =
-      let parts = able-by (is_beyond_repair nodes st s f) (kind nodes st s f) k able in
-      sym (grantable-is true false None waits parts.0 none)
+  -- a lease of a fragment that waits would be granted where its repair is found
+  pub waiting-found : is_waiting nodes st s f ≡ true → is_ok (repair_or_refusal nodes st s f) ≡ is_grantable nodes st (s, f)
+  waiting-found waits =
+      found-by (kind nodes st s f) (is_beyond_repair nodes st s f) (chosen nodes st s f)
+      ∙ sym (grantable-is true (is_beyond_repair nodes st s f) (chosen nodes st s f) waits refl refl)
 
-  pub with-seat : (k : Kind) (seat : Seat) → is_waiting nodes st s f ≡ true → repair_of nodes st s f ≡ Some k → chosen nodes st s f ≡ Some seat
-      → true ≡ is_grantable nodes st (s, f)
-  with-seat k seat waits able found =
-      let parts = able-by (is_beyond_repair nodes st s f) (kind nodes st s f) k able in
-      sym (grantable-is true false (Some seat) waits parts.0 found)
+-- a repair that is found is one of the fragment
+pub found-own : (s : StripeNo) (f : Fragment) (kind : Option Kind) (seat : Option Seat) (r : Repair) → repair_by s f kind seat ≡ Ok r → fragment_of r ≡ (s, f)
+found-own s f None seat r is = absurd (let never : Err refusal.Unrecoverable ≡ Ok r = is in cc)
+found-own s f (Some kind) None r is = absurd (let never : Err (refusal.NoLawfulNode f) ≡ Ok r = is in cc)
+found-own s f (Some kind) (Some seat) r is =
+    let found : Repair = record { stripe = s; fragment = f; kind = kind; target = seat } in
+    ap fragment_of (sym (same_Some found r (ap result_ok is)))
+
+-- the repair that is found of a fragment that waits is one for which its lease would be granted
+pub found-repair : (nodes : List NodeInfo) (st : State) (p : StripeFragment) (r : Repair) → fragment_of r ≡ p → has_stripe st p.0 ≡ true
+    → is_waiting nodes st p.0 p.1 ≡ true → repair_or_refusal nodes st p.0 p.1 ≡ Ok r → IsRepair nodes st r
+found-repair nodes st p r same there waits found = record {
+  there = subst (λ (q : StripeFragment). has_stripe st q.0 ≡ true) (sym same) there;
+  waiting = subst (λ (q : StripeFragment). is_waiting nodes st q.0 q.1 ≡ true) (sym same) waits;
+  found = subst (λ (q : StripeFragment). repair_or_refusal nodes st q.0 q.1 ≡ Ok r) (sym same) found;
+}
 
 -- none would be, where no fragment waits
 pub none-grantable : (nodes : List NodeInfo) (st : State) (s : StripeNo) (fs : List Fragment) (waiting : ℕ) → waiting ≡ 0
@@ -123,7 +138,5 @@ pub repair-granted : (nodes : List NodeInfo) (past : List Entry) (st : State) (s
     → (lease_outcome nodes past st session r.stripe r.fragment).0 ≡ Granted (new_lease past st session r.stripe r.fragment r.target) r.kind
 repair-granted nodes past st session r is =
     let waits = and_parts (needs nodes st r.stripe r.fragment) (is_none (lease_of st r.stripe r.fragment)) is.waiting in
-    let new = lease-new nodes past st session r.stripe r.fragment is.there (none-from (lease_of st r.stripe r.fragment) waits.1) r.kind waits.0 is.kind_is in
-    new.0
-    ∙ ap (λ (o : Option Seat). (granted nodes past st session r.stripe r.fragment o).0) is.target_is
-    ∙ ap (λ (k : Kind). Granted (new_lease past st session r.stripe r.fragment r.target) k) (sym new.1)
+    lease-decided nodes past st session r.stripe r.fragment is.there (none-from (lease_of st r.stripe r.fragment) waits.1) waits.0
+    ∙ ap (answer-by nodes past st session r.stripe r.fragment) is.found

@@ -14,6 +14,7 @@ pub mod Stores
 pub mod Neighbouring
 pub mod Planning
 pub mod Repairing
+pub mod Reports
 pub mod Books
 pub mod Dropping
 pub mod Answers

@@ -1,14 +1,18 @@
 -- Internal: no public clause reaches these definitions.
 -- The repair that a lease would be granted for.
-use Rattle.std.specs.Prelude.{◌≡◌, ℕ, ◌≤◌, length, Bool, true, ◌&&◌, List, Option, Some, is_none, IfSome, IsTrue, IsFalse}
+use Rattle.std.specs.Prelude.{◌≡◌, ℕ, ◌≤◌, length, Bool, true, ◌&&◌, List, Option, Some, None, is_none, IfSome, IsTrue, IsFalse, Result, Ok, Err}
 use Rattle.std.specs.List.{Contains, AllPairs}
 use Rattle.lrc_code.specs.declared.numbers.StripeNo.{StripeNo}
 use Rattle.lrc_code.specs.declared.numbers.Fragment.{Fragment}
 use Rattle.lrc_topology.specs.declared.NodeInfo.{NodeInfo}
+use Rattle.lrc_topology.specs.declared.seat.Seat.{Seat}
 use Rattle.lrc_terms.specs.Levels.{comes_first}
 use Rattle.lrc_terms.specs.Stripes.{StripeFragment}
 use Rattle.lrc_book.specs.declared.repair.Repair.{Repair}
 use Rattle.lrc_book.specs.declared.store.Store.{Store}
+use Rattle.lrc_rules.specs.declared.kind.Kind.{Kind}
+use Rattle.lrc_rules.specs.declared.refusal.Refusal.{Refusal}
+use Rattle.lrc_rules.specs.declared.refusal.Refusal.TheVariants as refusal
 use Rattle.lrc_rules.specs.States.{State, has_stripe, lease_of, rank}
 use Rattle.lrc_rules.specs.Placement.{chosen}
 use Rattle.lrc_rules.specs.Repairs.{needs}
@@ -51,12 +55,21 @@ pub record HaveGrantable (nodes : List NodeInfo) (st : State) (stripes : List St
 abbrev pub fragment_of : Repair → StripeFragment
 fragment_of r = (r.stripe, r.fragment)
 
--- a lease of the fragment would be granted, of this kind and on this seat
+-- the repair of a fragment, from what it is rebuilt and on the seat, or why its lease is refused
+abbrev pub repair_by : StripeNo → Fragment → Option Kind → Option Seat → Result Repair Refusal
+repair_by s f None seat = Err refusal.Unrecoverable
+repair_by s f (Some kind) None = Err (refusal.NoLawfulNode f)
+repair_by s f (Some kind) (Some seat) = Ok (record { stripe = s; fragment = f; kind = kind; target = seat })
+
+-- the repair of a fragment that needs a lease and has none, or why its lease is refused
+abbrev pub repair_or_refusal : List NodeInfo → State → StripeNo → Fragment → Result Repair Refusal
+repair_or_refusal nodes st s f = repair_by s f (repair_of nodes st s f) (chosen nodes st s f)
+
+-- a lease of the fragment would be granted for this repair
 pub record IsRepair (nodes : List NodeInfo) (st : State) (r : Repair) : Type 0 where
   pub there : has_stripe st r.stripe ≡ true
   pub waiting : is_waiting nodes st r.stripe r.fragment ≡ true
-  pub kind_is : repair_of nodes st r.stripe r.fragment ≡ Some r.kind
-  pub target_is : chosen nodes st r.stripe r.fragment ≡ Some r.target
+  pub found : repair_or_refusal nodes st r.stripe r.fragment ≡ Ok r
 
 -- ---- a book
 

@@ -1,15 +1,24 @@
-ghost use Rattle.std.specs.Prelude.{◌≡◌, List};
+//! The repair that a lease is granted for.
+
+ghost use Rattle.std.specs.Prelude.{◌≡◌, if◌then◌else◌, List, Some, None, IsTrue};
+ghost use Rattle.lrc_code.specs.declared.numbers.Fragment.{Fragment};
+ghost use Rattle.lrc_code.specs.Codes.{has_fragment, others};
+ghost use Rattle.lrc_code.specs.Losses.{bits_set, is_local};
+ghost use Rattle.lrc_stripes.specs.Tables.{stored_in};
 ghost use Rattle.lrc_rules.specs.declared.entry.Entry.{Entry};
 ghost use Rattle.lrc_rules.specs.declared.reply.Reply.TheVariants.{Granted};
 ghost use Rattle.lrc_book.specs.Answers.{told};
 ghost use Rattle.lrc_rules.specs.Leases.{new_lease};
-ghost use Rattle.lrc_rules.specs.States.{State};
-ghost use Rattle.lrc_book.specs.Stores.{AreFew, AreGrantsOf};
+ghost use Rattle.lrc_rules.specs.Repairs as repairs;
+ghost use Rattle.lrc_rules.specs.States.{State, code_of};
+ghost use Rattle.lrc_book.specs.Repairing.{repair_or_refusal};
+ghost use Rattle.lrc_book.specs.Stores.{IsOf, IsTied, AreFew, AreGrantsOf, repair_of};
 
 use crate::answer::Answer;
 use crate::clock::Clock;
-use crate::{Kind, Lease, Seat};
-use lrc_code::{Fragment, SessionNo, StripeNo};
+use crate::store::Store;
+use crate::{Kind, Lease, Refusal, Seat};
+use lrc_code::{Code, Fragment, LossMask, SessionNo, StripeNo};
 use lrc_leases::Grants;
 
 /// What a lease is granted for: a fragment, from what it is rebuilt, and the seat that it is to have.
@@ -37,5 +46,72 @@ impl Repair {
             expiry: clock.end_of_term(),
         };
         Answer::Granted(lease, self.kind)
+    }
+}
+
+impl Store {
+    /// The repair of a fragment that needs a lease and has none; or why its lease is refused. The stripe is there, and its
+    /// code has the fragment.
+    pub(crate) fn repair(&self, stripe: StripeNo, fragment: Fragment) -> Result<Repair, Refusal>
+        requires tied { IsTied self.now }
+        requires there { IsTrue ((stored_in self.now.stripes).stripes stripe) }
+        ensures { (st : State) → IsOf st self.now → IsTrue (has_fragment (code_of st stripe) fragment.value)
+            → result ≡ repair_or_refusal self.now.topology st stripe fragment }
+    {
+        match self.repair_kind(stripe, fragment) {
+            None => Err(Refusal::Unrecoverable),
+            Some(kind) => match self.repair_seat(stripe, fragment) {
+                None => Err(Refusal::NoLawfulNode(fragment)),
+                Some(target) => Ok(Repair {
+                    stripe,
+                    fragment,
+                    kind,
+                    target,
+                }),
+            },
+        }
+    }
+
+    /// The fragments of a stripe that is there that need a lease.
+    pub(crate) fn needs(&self, stripe: StripeNo) -> LossMask
+        requires { IsTrue ((stored_in self.now.stripes).stripes stripe) }
+        ensures { (st : State) (f : Fragment) → IsOf st self.now
+            → bits_set result.bits f.value ≡ repairs.needs self.now.topology st stripe f }
+    {
+        self.stripes.needs_there(stripe)
+    }
+
+    /// From what a fragment of a stripe that is there is rebuilt; `None` where it can't be. The fragment is one that the
+    /// stripe's code has.
+    #[inline(always)] // a grant then goes through one kind in memory less
+    fn repair_kind(&self, stripe: StripeNo, fragment: Fragment) -> Option<Kind>
+        requires { IsTrue ((stored_in self.now.stripes).stripes stripe) }
+        ensures { (st : State) → IsOf st self.now → IsTrue (has_fragment (code_of st stripe) fragment.value)
+            → result ≡ repair_of self.now.topology st stripe fragment }
+    {
+        let missing = self.stripes.missing(stripe)?;
+        if !missing.contains(fragment) {
+            return Some(Kind::Move);
+        }
+        let code = self.code_of(stripe);
+        if let Some(kind) = local_kind(code, missing, fragment) {
+            return Some(kind);
+        }
+        if missing.recoverable_in(code) {
+            Some(Kind::Global)
+        } else {
+            None
+        }
+    }
+}
+
+/// How a fragment is rebuilt from its local group, where it can be, beside these missing fragments of its stripe.
+#[inline(always)] // as `Store::repair_kind`
+fn local_kind(code: Code, missing: LossMask, fragment: Fragment) -> Option<Kind>
+    ensures { result ≡ (if is_local code (bits_set missing.bits) fragment then Some (repairs.local_kind code (others code fragment)) else None) }
+{
+    match code {
+        Code::Wide => Some(Kind::Local(missing.local_sources(fragment)?)),
+        Code::Narrow => Some(Kind::Local3(missing.narrow_sources(fragment)?)),
     }
 }

@@ -77,11 +77,11 @@ impl Store {
         self.stripes.spare() > 0 && self.leases.spare() > 0
     }
 
-    /// Whether a node is one of the store's, and can be reached.
+    /// Whether a node is one of the store's and online.
     pub(crate) fn is_online(&self, node: NodeNo) -> bool
-        ensures { (st : State) → AreModesOf st self.now.modes → result ≡ online_at self.now.topology st node }
+        ensures { (st : State) → AreModesOf st self.now.modes → result ≡ online_at (slots_of self.now.table).nodes st node }
     {
-        match self.topology.node(node) {
+        match self.table.node(node) {
             Some(info) => self.modes.is_online(&info),
             None => false,
         }

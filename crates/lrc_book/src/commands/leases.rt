@@ -1,24 +1,19 @@
 //! Commands of repair leases.
 
-ghost use Rattle.std.specs.Prelude.{◌≡◌, ◌++◌, ◌∷◌, [], true, if◌then◌else◌, List, Some, None, IsTrue, IsSome};
+ghost use Rattle.std.specs.Prelude.{◌≡◌, ◌++◌, ◌∷◌, [], true, List, IsSome};
 ghost use Rattle.lrc_rules.specs.declared.entry.Entry.{Entry};
 ghost use Rattle.lrc_code.specs.declared.numbers.Fragment.{Fragment};
-ghost use Rattle.lrc_code.specs.Codes.{has_fragment, others};
-ghost use Rattle.lrc_code.specs.Losses.{bits_set, is_local};
-ghost use Rattle.lrc_stripes.specs.Tables.{stored_in};
-ghost use Rattle.lrc_rules.specs.States.{State, has_stripe, code_of, lease_of, online_at};
-ghost use Rattle.lrc_rules.specs.Leases.{granted, lease_outcome, done_outcome, abandon_outcome, revoke_outcome, at_epoch, with_lease};
+ghost use Rattle.lrc_rules.specs.States.{State, has_stripe, lease_of};
+ghost use Rattle.lrc_rules.specs.Leases.{lease_outcome, done_outcome, abandon_outcome, revoke_outcome, at_epoch, with_lease};
 ghost use Rattle.lrc_book.specs.Answers.{told};
-ghost use Rattle.lrc_rules.specs.Repairs as repairs;
-ghost use Rattle.lrc_rules.specs.Placement.{chosen};
 ghost use Rattle.lrc_rules.specs.Changes.{with_done};
-ghost use Rattle.lrc_book.specs.Stores.{IsOf, IsTied, IsGrant, AreGrantsOf, AreFew, has_room, repair_of};
+ghost use Rattle.lrc_book.specs.Reports.{reported};
+ghost use Rattle.lrc_book.specs.Stores.{IsOf, IsTied, IsGrant, AreGrantsOf, AreFew, has_room};
 
 use crate::answer::Answer;
-use crate::repair::Repair;
 use crate::store::Store;
-use crate::{Kind, Lease, Refusal};
-use lrc_code::{Code, Fragment, LossMask, NodeNo, SessionNo, StripeNo};
+use crate::{Lease, Refusal};
+use lrc_code::{Fragment, SessionNo, StripeNo};
 use lrc_leases::Grants;
 
 impl Store {
@@ -43,70 +38,9 @@ impl Store {
         if !self.needs(stripe).contains(fragment) {
             return Answer::Refused(Refusal::NotNeeded);
         }
-        match self.repair_kind(stripe, fragment) {
-            Some(kind) => self.grant_reply(counts, session, stripe, fragment, kind),
-            None => Answer::Refused(Refusal::Unrecoverable),
-        }
-    }
-
-    /// The fragments of a stripe that is there that need a lease.
-    pub(super) fn needs(&self, stripe: StripeNo) -> LossMask
-        requires { IsTrue ((stored_in self.now.stripes).stripes stripe) }
-        ensures { (st : State) (f : Fragment) → IsOf st self.now
-            → bits_set result.bits f.value ≡ repairs.needs self.now.topology st stripe f }
-    {
-        self.stripes.needs_there(stripe)
-    }
-
-    /// From what a fragment of a stripe that is there is rebuilt; `None` where it can't be. The fragment is one that the
-    /// stripe's code has.
-    #[inline(always)] // a grant then goes through one kind in memory less
-    pub(super) fn repair_kind(&self, stripe: StripeNo, fragment: Fragment) -> Option<Kind>
-        requires { IsTrue ((stored_in self.now.stripes).stripes stripe) }
-        ensures { (st : State) → IsOf st self.now → IsTrue (has_fragment (code_of st stripe) fragment.value)
-            → result ≡ repair_of self.now.topology st stripe fragment }
-    {
-        let missing = self.stripes.missing(stripe)?;
-        if !missing.contains(fragment) {
-            return Some(Kind::Move);
-        }
-        let code = self.code_of(stripe);
-        if let Some(kind) = local_kind(code, missing, fragment) {
-            return Some(kind);
-        }
-        if missing.recoverable_in(code) {
-            Some(Kind::Global)
-        } else {
-            None
-        }
-    }
-
-    /// The reply to a session that may rebuild the fragment, if the choice rule finds a seat for it.
-    fn grant_reply(
-        &self,
-        counts: &Grants,
-        session: SessionNo,
-        stripe: StripeNo,
-        fragment: Fragment,
-        kind: Kind,
-    ) -> Answer
-        requires tied { IsTied self.now }
-        requires few { AreFew counts.now }
-        requires there { IsTrue ((stored_in self.now.stripes).stripes stripe) }
-        ensures { (st : State) (past : List Entry) → IsOf st self.now → AreGrantsOf past counts.now → kind ≡ repairs.kind self.now.topology st stripe fragment
-            → told result ≡ (granted self.now.topology past st session stripe fragment (chosen self.now.topology st stripe fragment)).0 }
-    {
-        match self.repair_seat(stripe, fragment) {
-            Some(target) => {
-                let repair = Repair {
-                    stripe,
-                    fragment,
-                    kind,
-                    target,
-                };
-                repair.granted_to(session, counts, self.clock)
-            }
-            None => Answer::Refused(Refusal::NoLawfulNode(fragment)),
+        match self.repair(stripe, fragment) {
+            Ok(repair) => repair.granted_to(session, counts, self.clock),
+            Err(refusal) => Answer::Refused(refusal),
         }
     }
 
@@ -124,7 +58,6 @@ impl Store {
         self.leases.add(*lease);
     }
 
-    #[tactic(auto, unfolding(lrc_rules::specs::Leases::done_outcome))]
     pub(crate) fn done_reply(
         &self,
         session: SessionNo,
@@ -134,16 +67,10 @@ impl Store {
     ) -> Answer
         ensures { (st : State) → IsOf st self.now → told result ≡ (done_outcome self.now.topology st session stripe fragment epoch).0 }
     {
-        if !self.stripes.contains(stripe) {
-            return Answer::Refused(Refusal::UnknownStripe);
-        }
-        match self.lease_at(stripe, fragment, epoch) {
-            None => Answer::Refused(Refusal::Stale),
-            Some(lease) => {
-                if lease.holder != session {
-                    return Answer::Refused(Refusal::NotHolder(lease.holder));
-                }
-                if !self.is_reachable(lease.target.node) {
+        match self.reported_lease(session, stripe, fragment, epoch) {
+            Err(refusal) => Answer::Refused(refusal),
+            Ok(lease) => {
+                if !self.is_online(lease.target.node) {
                     return Answer::Refused(Refusal::TargetOffline(lease.target.node));
                 }
                 Answer::Ended
@@ -151,13 +78,27 @@ impl Store {
         }
     }
 
-    /// Whether a node is one of the store's and online.
-    fn is_reachable(&self, node: NodeNo) -> bool
-        ensures { (st : State) → IsOf st self.now → result ≡ online_at self.now.topology st node }
+    /// The live lease that a session reports on by its epoch; or why the report is refused.
+    fn reported_lease(
+        &self,
+        session: SessionNo,
+        stripe: StripeNo,
+        fragment: Fragment,
+        epoch: u32,
+    ) -> Result<Lease, Refusal>
+        ensures { (st : State) → IsOf st self.now → result ≡ reported st session stripe fragment epoch }
     {
-        match self.table.node(node) {
-            Some(info) => self.modes.is_online(&info),
-            None => false,
+        if !self.stripes.contains(stripe) {
+            return Err(Refusal::UnknownStripe);
+        }
+        match self.lease_at(stripe, fragment, epoch) {
+            None => Err(Refusal::Stale),
+            Some(lease) => {
+                if lease.holder != session {
+                    return Err(Refusal::NotHolder(lease.holder));
+                }
+                Ok(lease)
+            }
         }
     }
 
@@ -189,7 +130,6 @@ impl Store {
         }
     }
 
-    #[tactic(auto, unfolding(lrc_rules::specs::Leases::abandon_outcome))]
     pub(crate) fn abandon_reply(
         &self,
         session: SessionNo,
@@ -199,17 +139,9 @@ impl Store {
     ) -> Answer
         ensures { (st : State) → IsOf st self.now → told result ≡ (abandon_outcome st session stripe fragment epoch).0 }
     {
-        if !self.stripes.contains(stripe) {
-            return Answer::Refused(Refusal::UnknownStripe);
-        }
-        match self.lease_at(stripe, fragment, epoch) {
-            None => Answer::Refused(Refusal::Stale),
-            Some(lease) => {
-                if lease.holder != session {
-                    return Answer::Refused(Refusal::NotHolder(lease.holder));
-                }
-                Answer::Ended
-            }
+        match self.reported_lease(session, stripe, fragment, epoch) {
+            Err(refusal) => Answer::Refused(refusal),
+            Ok(_) => Answer::Ended,
         }
     }
 
@@ -224,17 +156,6 @@ impl Store {
             return Answer::Refused(Refusal::NoLease);
         }
         Answer::Ended
-    }
-}
-
-/// How a fragment is rebuilt from its local group, where it can be, beside these missing fragments of its stripe.
-#[inline(always)] // as `Store::repair_kind`
-fn local_kind(code: Code, missing: LossMask, fragment: Fragment) -> Option<Kind>
-    ensures { result ≡ (if is_local code (bits_set missing.bits) fragment then Some (repairs.local_kind code (others code fragment)) else None) }
-{
-    match code {
-        Code::Wide => Some(Kind::Local(missing.local_sources(fragment)?)),
-        Code::Narrow => Some(Kind::Local3(missing.narrow_sources(fragment)?)),
     }
 }
 

@@ -83,7 +83,7 @@ impl Store {
         let all = Fragment::all();
         let first = waiting.bits().trailing_zeros() as usize;
         for fragment in all[first..].iter() {
-            if let Some(repair) = self.repair(waiting, stripe, *fragment) {
+            if let Some(repair) = self.waiting_repair(waiting, stripe, *fragment) {
                 return Some(repair);
             }
         }
@@ -92,7 +92,12 @@ impl Store {
 
     /// The repair of a fragment of a stripe that is there and whose waiting fragments are these, if its lease would be
     /// granted.
-    fn repair(&self, waiting: LossMask, stripe: StripeNo, fragment: Fragment) -> Option<Repair>
+    fn waiting_repair(
+        &self,
+        waiting: LossMask,
+        stripe: StripeNo,
+        fragment: Fragment,
+    ) -> Option<Repair>
         requires tied { IsTied self.now }
         requires there { IsTrue ((stored_in self.now.stripes).stripes stripe) }
         requires waiting { (st : State) → IsOf st self.now → bits_set waiting.bits fragment.value ≡ is_waiting self.now.topology st stripe fragment }
@@ -103,14 +108,10 @@ impl Store {
         if !waiting.contains(fragment) {
             return None;
         }
-        let kind = self.repair_kind(stripe, fragment)?;
-        let target = self.repair_seat(stripe, fragment)?;
-        Some(Repair {
-            stripe,
-            fragment,
-            kind,
-            target,
-        })
+        match self.repair(stripe, fragment) {
+            Ok(repair) => Some(repair),
+            Err(_) => None,
+        }
     }
 
     /// The fragments of a stripe that is there that need a lease and have none.

@@ -1,5 +1,6 @@
 use Rattle.std.proofs.Common.{◌≡◌, Bool, ◌&&◌, not, sym, ap, ap₂, ◌∙◌}
-use Rattle.lrc_rules.specs.States.{is_active, is_draining}
+use Rattle.lrc_slots.specs.Slots.{Slots}
+use Rattle.lrc_rules.specs.States.{is_active, is_draining, online_at}
 use Rattle.lrc_book.proofs.ModesLemmas.{same-active, same-draining}
 use Rattle.lrc_book.proofs.ModeLemmas.{follows}
 use Rattle.lrc_book.proofs.store.Store.follow.Goals.{then-eq, else-eq}
@@ -15,7 +16,7 @@ returns-clause-kept g c =
       | else-eq w ↦ w.set_eligible-is ∙ w.if-eq.false ∙ sym (ap (λ (b : Bool). b && not c.is_down-is_down.result) (sym active ∙ w.if-eq.false))
     ] in
     follows c.args.node c.requires.0 g.st c.args.self.now behind c.is_online-is_online.result c.if-eq.set_eligible c.eq-2.result
-    (c.is_online-is_online.ensures g.st behind.modes_are)
+    (c.is_online-is_online.ensures g.st behind.modes_are ∙ ap (λ (t : Slots). online_at t.nodes g.st c.args.node) behind.table_is)
     (takes ∙ ap₂ (λ (x y : Bool). x && not y) (ap is_active (c.mode-mode.ensures g.st behind.modes_are)) (c.is_down-is_down.ensures g.st behind.modes_are))
     (c.eq-2.ensures ∙ same-draining mode
     ∙ ap is_draining (c.mode-mode.ensures g.st behind.modes_are)) c.set_eligible.new.self c.set_offline.new.self c.set_draining.new.self

@@ -7,7 +7,7 @@ use Rattle.lrc_code.specs.Codes.{others}
 use Rattle.lrc_code.specs.Losses.{bits_set, is_local}
 use Rattle.lrc_rules.specs.declared.kind.Kind.{Kind}
 use Rattle.lrc_rules.specs.Repairs.{local_kind}
-use Rattle.lrc_book.proofs.commands.leases.local_kind.Goals as goal
+use Rattle.lrc_book.proofs.repair.local_kind.Goals as goal
 
 -- the sources that are found are those that the kind tells
 some-told : (told : List Fragment → Kind) (near : Bool) (os found : List Fragment) → Some found ≡ (if near then Some os else None)
