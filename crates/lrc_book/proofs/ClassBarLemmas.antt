@@ -23,7 +23,7 @@ use Rattle.lrc_slots.specs.BarredNodes.{AreBarredNodes}
 use Rattle.lrc_book.specs.declared.class_bars.ClassBars.{ClassBars}
 use Rattle.lrc_rules.specs.Placement.{is_beside}
 use Rattle.lrc_book.specs.Ties.{bars_fault, bars_upgrade, bars_in}
-use Rattle.lrc_book.specs.Planning.{is_in_fault, is_in_upgrade, bars_for, fault_bars, upgrade_bars, AreBarsOf, place_of_class, upgrades_for}
+use Rattle.lrc_book.specs.Planning.{is_in_fault, is_in_upgrade, bars_for, fault_bars, upgrade_bars, AreBarsOf, index_of_class, upgrades_for}
 use Rattle.lrc_book.specs.Stores.{closed}
 use Rattle.lrc_book.proofs.BarLemmas.{or_none, or_last, same_bars}
 
@@ -69,22 +69,22 @@ joined-bars nodes code c seats = same_bars (joined (fault_bars nodes seats) (upg
 -- ---- the places of classes
 
 -- each has one of three
-has_place : (us : List (List Bool)) (c : Class) → length us ≡ 3 → place_of_class c < length us
-has_place us A three = omega (arith, three)
-has_place us B three = omega (arith, three)
-has_place us G three = omega (arith, three)
+has_index : (us : List (List Bool)) (c : Class) → length us ≡ 3 → index_of_class c < length us
+has_index us A three = omega (arith, three)
+has_index us B three = omega (arith, three)
+has_index us G three = omega (arith, three)
 
 -- of its own
-places-apart : (c d : Class) → same_class c d ≡ false → place_of_class d ≢ place_of_class c
-places-apart A A is = absurd (let never : true ≡ false = is in cc)
-places-apart A B is = λ e. absurd (cc)
-places-apart A G is = λ e. absurd (cc)
-places-apart B A is = λ e. absurd (cc)
-places-apart B B is = absurd (let never : true ≡ false = is in cc)
-places-apart B G is = λ e. absurd (cc)
-places-apart G A is = λ e. absurd (cc)
-places-apart G B is = λ e. absurd (cc)
-places-apart G G is = absurd (let never : true ≡ false = is in cc)
+indexes-apart : (c d : Class) → same_class c d ≡ false → index_of_class d ≢ index_of_class c
+indexes-apart A A is = absurd (let never : true ≡ false = is in cc)
+indexes-apart A B is = λ e. absurd (cc)
+indexes-apart A G is = λ e. absurd (cc)
+indexes-apart B A is = λ e. absurd (cc)
+indexes-apart B B is = absurd (let never : true ≡ false = is in cc)
+indexes-apart B G is = λ e. absurd (cc)
+indexes-apart G A is = λ e. absurd (cc)
+indexes-apart G B is = λ e. absurd (cc)
+indexes-apart G G is = absurd (let never : true ≡ false = is in cc)
 
 -- ---- one seat more
 
@@ -116,30 +116,30 @@ module _ (nodes : List NodeInfo) (code : Code) (xs : List Held) (h : Held) (n : 
   -- its node's fault domain is barred for all, and its upgrade domain for its class
   bars-push : (upgrading : Option UpgradeNo) (old : ClassBars) (faults mine d : List Bool) → AreBarsOf nodes code upgrading xs old
       → ((b : Barred) → AreBarredNodes nodes b old.faults → AreBarredNodes nodes (with_fault b n.fault) faults)
-      → ((b : Barred) → AreBarredNodes nodes b (get_or old.upgrades (place_of_class own) d) → AreBarredNodes nodes (with_upgrade b n.upgrade) mine)
-      → AreBarsOf nodes code upgrading (xs ++ h ∷ []) (record { faults = faults; upgrades = set old.upgrades (place_of_class own) mine })
+      → ((b : Barred) → AreBarredNodes nodes b (get_or old.upgrades (index_of_class own) d) → AreBarredNodes nodes (with_upgrade b n.upgrade) mine)
+      → AreBarsOf nodes code upgrading (xs ++ h ∷ []) (record { faults = faults; upgrades = set old.upgrades (index_of_class own) mine })
   bars-push upgrading old faults mine d are to_faults to_mine = record {
     faults = subst (λ (b : Barred). AreBarredNodes nodes b faults) (closed-fault upgrading (fault_bars nodes xs) n.fault ∙ ap (closed upgrading) fault-push)
         (to_faults (closed upgrading (fault_bars nodes xs)) are.faults);
     upgrades = λ c. elim (cases_Bool (same_class own c)) [
       | inl is ↦ subst (λ (d : Class). AreBarredNodes nodes (upgrade_bars nodes code d (xs ++ h ∷ [])) (now d)) ((same_class-iff own c).0 is)
           (subst (AreBarredNodes nodes (upgrade_bars nodes code own (xs ++ h ∷ [])))
-          (sym (get_or-set_same old.upgrades (place_of_class own) mine [] (has_place old.upgrades own are.classes)))
+          (sym (get_or-set_same old.upgrades (index_of_class own) mine [] (has_index old.upgrades own are.classes)))
           (subst (λ (b : Barred). AreBarredNodes nodes b mine) (own-push own ((same_class-iff own own).1 refl))
           (to_mine (upgrade_bars nodes code own xs) (subst (AreBarredNodes nodes (upgrade_bars nodes code own xs))
-          (get_or_default old.upgrades (place_of_class own) [] d (has_place old.upgrades own are.classes)) (are.upgrades own)))))
+          (get_or_default old.upgrades (index_of_class own) [] d (has_index old.upgrades own are.classes)) (are.upgrades own)))))
       | inr is ↦ subst (AreBarredNodes nodes (upgrade_bars nodes code c (xs ++ h ∷ [])))
-          (sym (get_or-set_other old.upgrades (place_of_class own) (place_of_class c) mine [] (places-apart own c is)))
+          (sym (get_or-set_other old.upgrades (index_of_class own) (index_of_class c) mine [] (indexes-apart own c is)))
           (subst (λ (b : Barred). AreBarredNodes nodes b (upgrades_for old c)) (other-push c is) (are.upgrades c))
     ];
-    classes = length-set old.upgrades (place_of_class own) mine ∙ are.classes;
+    classes = length-set old.upgrades (index_of_class own) mine ∙ are.classes;
   }
     where
       now : Class → List Bool
-      now d = get_or (set old.upgrades (place_of_class own) mine) (place_of_class d) []
+      now d = get_or (set old.upgrades (index_of_class own) mine) (index_of_class d) []
 
   -- the same for a place that is the class's
-  pub bars-push-at : (k : ℕ) → k ≡ place_of_class own → (upgrading : Option UpgradeNo) (old : ClassBars) (faults mine d : List Bool) → AreBarsOf nodes code upgrading xs old
+  pub bars-push-at : (k : ℕ) → k ≡ index_of_class own → (upgrading : Option UpgradeNo) (old : ClassBars) (faults mine d : List Bool) → AreBarsOf nodes code upgrading xs old
       → ((b : Barred) → AreBarredNodes nodes b old.faults → AreBarredNodes nodes (with_fault b n.fault) faults)
       → ((b : Barred) → AreBarredNodes nodes b (get_or old.upgrades k d) → AreBarredNodes nodes (with_upgrade b n.upgrade) mine)
       → AreBarsOf nodes code upgrading (xs ++ h ∷ []) (record { faults = faults; upgrades = set old.upgrades k mine })

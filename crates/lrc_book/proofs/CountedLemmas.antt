@@ -14,9 +14,9 @@ use Rattle.lrc_rules.proofs.LeaseCountLemmas.{grants-push}
 pub grants-low : (past : List Entry) (s : StripeNo) (f : Fragment) → grants past s f ≤ length past
 grants-low past s f = count_by-le-length (λ (e : Entry). is_grant s f e.reply) past
 
-pub few-grants : (store : Store) (counts : List ℕ) (front : Option StripeNo) (limit : ℕ) (history : List Entry) → IsKept store counts front limit history
+pub few-grants : (store : Store) (counts : List ℕ) (cursor : Option StripeNo) (limit : ℕ) (history : List Entry) → IsKept store counts cursor limit history
     → length history < limit → AreFew counts
-few-grants store counts front limit history kept room = λ s f.
+few-grants store counts cursor limit history kept room = λ s f.
     let low = grants-low history s f in
     let same = kept.counted s f in
     omega (arith, low, same, room, kept.limited)

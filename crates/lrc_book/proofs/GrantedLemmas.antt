@@ -15,7 +15,7 @@ use Rattle.lrc_rules.specs.Changes.{changed_by}
 use Rattle.lrc_rules.specs.Steps.{step}
 use Rattle.lrc_rules.specs.Histories.{outcome_in, world_after, state_after}
 use Rattle.lrc_book.specs.Stores.{IsOf, IsGrant, AreGrantsOf}
-use Rattle.lrc_book.specs.Repairing.{IsFront, IsKept}
+use Rattle.lrc_book.specs.Repairing.{IsRepairCursor, IsKept}
 use Rattle.lrc_rules.proofs.EarnedLemmas.{asked}
 use Rattle.lrc_book.proofs.LeaseToldLemmas.{lease-told, next-told}
 use Rattle.lrc_book.proofs.WorldLemmas.{kept_push}
@@ -33,14 +33,14 @@ module _ (nodes : List NodeInfo) (past : List Entry) (st : State) (session : Ses
     | inr is ↦ ap (λ (d : Command). changed_by was d (Granted l k)) is
   ]
 
--- a grant that is made and recorded keeps what is kept, where the new front is one of the state with the lease
-pub kept-granted : (k next : Store) (counts counts_next : List ℕ) (front front_next : Option StripeNo) (limit : ℕ) (h : List Entry) (e : Entry) (l : LeaseRecord) (kind : Kind)
-    → e.reply ≡ Granted l kind → IsKept k counts front limit h → length h < limit → (outcome_in k.topology (world_after k.topology h) e.session e.command).0 ≡ e.reply
+-- a grant that is made and recorded keeps what is kept, where the new cursor is one of the state with the lease
+pub kept-granted : (k next : Store) (counts counts_next : List ℕ) (cursor cursor_next : Option StripeNo) (limit : ℕ) (h : List Entry) (e : Entry) (l : LeaseRecord) (kind : Kind)
+    → e.reply ≡ Granted l kind → IsKept k counts cursor limit h → length h < limit → (outcome_in k.topology (world_after k.topology h) e.session e.command).0 ≡ e.reply
     → next.topology ≡ k.topology → IsOf (with_lease (state_after k.topology h) l) next → AreGrantsOf (h ++ e ∷ []) counts_next
-    → IsFront k.topology (with_lease (state_after k.topology h) l) front_next → IsKept next counts_next front_next limit (h ++ e ∷ [])
-kept-granted k next counts counts_next front front_next limit h e l kind reply kept room told same now counted ahead =
+    → IsRepairCursor k.topology (with_lease (state_after k.topology h) l) cursor_next → IsKept next counts_next cursor_next limit (h ++ e ∷ [])
+kept-granted k next counts counts_next cursor cursor_next limit h e l kind reply kept room told same now counted ahead =
     let w = world_after k.topology h in
     let change : changed_by w.state e.command e.reply ≡ with_lease w.state l =
     ap (changed_by w.state e.command) reply ∙ granted-change k.topology w.past w.state e.session e.command l kind (told ∙ reply) w.state in
-    kept_push k next counts counts_next front front_next limit h e kept room told same
-    (subst (λ (st : State). IsOf st next) (sym change) now) counted (subst (λ (st : State). IsFront k.topology st front_next) (sym change) ahead)
+    kept_push k next counts counts_next cursor cursor_next limit h e kept room told same
+    (subst (λ (st : State). IsOf st next) (sym change) now) counted (subst (λ (st : State). IsRepairCursor k.topology st cursor_next) (sym change) ahead)

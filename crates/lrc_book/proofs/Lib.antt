@@ -32,7 +32,7 @@ pub mod OpeningLemmas
 pub mod CountedLemmas
 pub mod NoRoomLemmas
 pub mod NextRepairLemmas
-pub mod FrontLemmas
+pub mod CursorLemmas
 pub mod ClosedLemmas
 pub mod AnswerLemmas
 pub mod AheadLemmas

@@ -74,34 +74,34 @@ or-nothing : (b : Bool) → b ≡ (b || false)
 or-nothing true = refl
 or-nothing false = refl
 
-module _ (nodes : List NodeInfo) (code : Code) (s : StripeNo) (f : Fragment) (homes : Fragment → Option Seat) (faults upgrades : List ℕ) (others mates : ℕ)
+module _ (nodes : List NodeInfo) (code : Code) (s : StripeNo) (f : Fragment) (homes : Fragment → Option Seat) (faults upgrades : List ℕ) (others members : ℕ)
     (others_are : (g : Fragment) → bits_set others g.value ≡ (not (eqb g.value f.value) && is_some (homes g)))
-    (mates_are : (g : Fragment) → bits_set mates g.value ≡ (bits_set others g.value && share_class code f g))
+    (members_are : (g : Fragment) → bits_set members g.value ≡ (bits_set others g.value && share_class code f g))
     (known : (g : Fragment) (seat : Seat) → homes g ≡ Some seat → IsSome (node_at nodes seat.node))
     (domains : (g : Fragment) (seat : Seat) (n : NodeInfo) → homes g ≡ Some seat → node_at nodes seat.node ≡ Some n
     → (get_or faults g.value 0 ≡ n.fault.value) × (get_or upgrades g.value 0 ≡ n.upgrade.value)) where
   -- a home on a node bars its domains
   on-node : (g : Fragment) (seat : Seat) → homes g ≡ Some seat → (m : Option NodeInfo) → node_at nodes seat.node ≡ m → (one : Bool) → eqb g.value f.value ≡ one
       → ((d : FaultNo) → stands_in faults others d.value g ≡ list_any (bars_fault nodes s f d) (held_if s g (Some seat)))
-      × ((d : UpgradeNo) → stands_in upgrades mates d.value g ≡ list_any (bars_upgrade nodes code s f d) (held_if s g (Some seat)))
+      × ((d : UpgradeNo) → stands_in upgrades members d.value g ≡ list_any (bars_upgrade nodes code s f d) (held_if s g (Some seat)))
   on-node g seat home None gone one own = absurd (let there = known g seat home in let clash : false ≡ true = ap (λ (o : Option NodeInfo). is_some o) (sym gone) ∙ there in cc)
   on-node g seat home (Some n) found true own = (
     λ d. rw (others_are g, home, own, found, eq-eqb s.value s.value refl) refl,
-    λ d. rw (mates_are g, others_are g, home, own, found, eq-eqb s.value s.value refl) refl,
+    λ d. rw (members_are g, others_are g, home, own, found, eq-eqb s.value s.value refl) refl,
   )
   on-node g seat home (Some n) found false own = (
     λ d. rw (others_are g, home, own, found, eq-eqb s.value s.value refl)
         (ap (λ (k : ℕ). nat_eq k d.value) (domains g seat n home found).0 ∙ test-sym n.fault.value d.value ∙ or-nothing (nat_eq d.value n.fault.value)),
-    λ d. rw (mates_are g, others_are g, home, own, found, eq-eqb s.value s.value refl)
+    λ d. rw (members_are g, others_are g, home, own, found, eq-eqb s.value s.value refl)
         (ap (λ (b : Bool). share_class code f g && b) (ap (λ (k : ℕ). nat_eq k d.value) (domains g seat n home found).1 ∙ test-sym n.upgrade.value d.value)
         ∙ or-nothing (share_class code f g && nat_eq d.value n.upgrade.value)),
   )
 
   one-bars : (g : Fragment) (o : Option Seat) → homes g ≡ o
       → ((d : FaultNo) → stands_in faults others d.value g ≡ list_any (bars_fault nodes s f d) (held_if s g o))
-      × ((d : UpgradeNo) → stands_in upgrades mates d.value g ≡ list_any (bars_upgrade nodes code s f d) (held_if s g o))
+      × ((d : UpgradeNo) → stands_in upgrades members d.value g ≡ list_any (bars_upgrade nodes code s f d) (held_if s g o))
   one-bars g (Some seat) home = on-node g seat home (node_at nodes seat.node) refl (eqb g.value f.value) refl
-  one-bars g None none = (λ d. ap (λ b. b && nat_eq (get_or faults g.value 0) d.value) off, λ d. ap (λ b. b && nat_eq (get_or upgrades g.value 0) d.value) (mates_are g ∙ ap (λ b. b && share_class code f g) off))
+  one-bars g None none = (λ d. ap (λ b. b && nat_eq (get_or faults g.value 0) d.value) off, λ d. ap (λ b. b && nat_eq (get_or upgrades g.value 0) d.value) (members_are g ∙ ap (λ b. b && share_class code f g) off))
     where
       and-none : (b : Bool) → (b && false) ≡ false
       and-none true = refl
@@ -111,12 +111,12 @@ module _ (nodes : List NodeInfo) (code : Code) (s : StripeNo) (f : Fragment) (ho
       off = others_are g ∙ ap (λ (o : Option Seat). not (eqb g.value f.value) && is_some o) none ∙ and-none (not (eqb g.value f.value))
 
   -- the domains side by side bar what the homes of the other fragments bar
-  pub homes-bar : (fs : List Fragment) → homes_bar faults upgrades others mates fs ≡ bars_in nodes code s f (held_all s homes fs)
+  pub homes-bar : (fs : List Fragment) → homes_bar faults upgrades others members fs ≡ bars_in nodes code s f (held_all s homes fs)
   homes-bar [] = refl
   homes-bar (g ∷ gs) =
       let one = one-bars g (homes g) refl in
       let rest = homes-bar gs in
-      same_bars (homes_bar faults upgrades others mates (g ∷ gs)) (bars_in nodes code s f (held_all s homes (g ∷ gs)))
+      same_bars (homes_bar faults upgrades others members (g ∷ gs)) (bars_in nodes code s f (held_all s homes (g ∷ gs)))
       (λ d. ap₂ (λ (b c : Bool). b || c) (one.0 d) (ap (λ b. b.faults d) rest) ∙ sym (list_any-append (bars_fault nodes s f d) (held_if s g (homes g)) (held_all s homes gs)))
       (λ d. ap₂ (λ (b c : Bool). b || c) (one.1 d) (ap (λ b. b.upgrades d) rest) ∙ sym (list_any-append (bars_upgrade nodes code s f d) (held_if s g (homes g)) (held_all s homes gs)))
 
@@ -149,5 +149,5 @@ homes-beside nodes code s f upgrading homes targets =
     (λ d. or-turn (list_any (bars_upgrade nodes code s f d) targets) (list_any (bars_upgrade nodes code s f d) homes) ∙ sym (list_any-append (bars_upgrade nodes code s f d) homes targets)))
 
 -- the other fragments of the stripe with a home, and those of them that are of the fragment's class
-pub mates-both : (others class both : ℕ) (g : ℕ) (shares : Bool) → both ≡ bit_and others class → bits_set class g ≡ shares → bits_set both g ≡ (bits_set others g && shares)
-mates-both others class both g shares is are = both-bits others class both g is ∙ ap (λ b. bits_set others g && b) are
+pub members-both : (others class both : ℕ) (g : ℕ) (shares : Bool) → both ≡ bit_and others class → bits_set class g ≡ shares → bits_set both g ≡ (bits_set others g && shares)
+members-both others class both g shares is are = both-bits others class both g is ∙ ap (λ b. bits_set others g && b) are

@@ -6,7 +6,7 @@ use Rattle.lrc_topology.specs.declared.NodeInfo.{NodeInfo}
 use Rattle.lrc_rules.specs.declared.entry.Entry.{Entry}
 use Rattle.lrc_rules.specs.States.{State}
 use Rattle.lrc_rules.specs.Histories.{World, first_world, outcome_in, next_world, world_after, state_after, IsLegalFrom, IsLegal}
-use Rattle.lrc_book.specs.Repairing.{IsFront, IsKept}
+use Rattle.lrc_book.specs.Repairing.{IsRepairCursor, IsKept}
 use Rattle.lrc_book.specs.declared.store.Store.{Store}
 use Rattle.lrc_book.specs.Stores.{IsOf, AreGrantsOf}
 use Rattle.lrc_rules.specs.Changes.{changed_by}
@@ -30,15 +30,15 @@ state_push nodes h e is =
     ap (λ (w : World). w.state) (world_push nodes h e) ∙ step-changed nodes (world_after nodes h).past (state_after nodes h) e.session e.command ∙ ap (changed_by (state_after nodes h) e.command) is
 
 -- a step that is made and recorded keeps what is kept
-pub kept_push : (k next : Store) (counts counts_next : List ℕ) (front front_next : Option StripeNo) (limit : ℕ) (h : List Entry) (e : Entry)
-    → IsKept k counts front limit h → length h < limit → (outcome_in k.topology (world_after k.topology h) e.session e.command).0 ≡ e.reply
+pub kept_push : (k next : Store) (counts counts_next : List ℕ) (cursor cursor_next : Option StripeNo) (limit : ℕ) (h : List Entry) (e : Entry)
+    → IsKept k counts cursor limit h → length h < limit → (outcome_in k.topology (world_after k.topology h) e.session e.command).0 ≡ e.reply
     → next.topology ≡ k.topology → IsOf (changed_by (state_after k.topology h) e.command e.reply) next → AreGrantsOf (h ++ e ∷ []) counts_next
-    → IsFront k.topology (changed_by (state_after k.topology h) e.command e.reply) front_next → IsKept next counts_next front_next limit (h ++ e ∷ [])
-kept_push k next counts counts_next front front_next limit h e kept room is same now counted ahead = record {
+    → IsRepairCursor k.topology (changed_by (state_after k.topology h) e.command e.reply) cursor_next → IsKept next counts_next cursor_next limit (h ++ e ∷ [])
+kept_push k next counts counts_next cursor cursor_next limit h e kept room is same now counted ahead = record {
   counted = counted;
-  ahead =
-      subst (λ ns. IsFront ns (state_after ns (h ++ e ∷ [])) front_next) (sym same)
-      (subst (λ (st : State). IsFront k.topology st front_next) (sym (state_push k.topology h e is)) ahead);
+  cursor_is =
+      subst (λ ns. IsRepairCursor ns (state_after ns (h ++ e ∷ [])) cursor_next) (sym same)
+      (subst (λ (st : State). IsRepairCursor k.topology st cursor_next) (sym (state_push k.topology h e is)) ahead);
   store_is = subst (λ ns. IsOf (state_after ns (h ++ e ∷ [])) next) (sym same) (subst (λ (st : State). IsOf st next) (sym (state_push k.topology h e is)) now);
   legal = subst (λ ns. IsLegal ns (h ++ e ∷ [])) (sym same) (legal_push k.topology h e kept.legal is);
   few = rw (length-append h (e ∷ [])) (omega (arith, room));
@@ -46,11 +46,11 @@ kept_push k next counts counts_next front front_next limit h e kept room is same
 }
 
 -- and so does more room
-pub kept_room : (k next : Store) (counts : List ℕ) (front : Option StripeNo) (limit : ℕ) (h same_h : List Entry) → IsKept k counts front limit h
-    → same_h ≡ h → next.topology ≡ k.topology → ((st : State) → IsOf st k → IsOf st next) → IsKept next counts front limit same_h
-kept_room k next counts front limit h same_h kept entries same rest =
-    subst (λ (xs : List Entry). IsKept next counts front limit xs) (sym entries) (record {
-      ahead = subst (λ ns. IsFront ns (state_after ns h) front) (sym same) kept.ahead;
+pub kept_room : (k next : Store) (counts : List ℕ) (cursor : Option StripeNo) (limit : ℕ) (h same_h : List Entry) → IsKept k counts cursor limit h
+    → same_h ≡ h → next.topology ≡ k.topology → ((st : State) → IsOf st k → IsOf st next) → IsKept next counts cursor limit same_h
+kept_room k next counts cursor limit h same_h kept entries same rest =
+    subst (λ (xs : List Entry). IsKept next counts cursor limit xs) (sym entries) (record {
+      cursor_is = subst (λ ns. IsRepairCursor ns (state_after ns h) cursor) (sym same) kept.cursor_is;
       store_is = subst (λ ns. IsOf (state_after ns h) next) (sym same) (rest (state_after k.topology h) kept.store_is);
       counted = kept.counted;
       legal = subst (λ ns. IsLegal ns h) (sym same) kept.legal;
@@ -59,7 +59,7 @@ kept_room k next counts front limit h same_h kept entries same rest =
     })
 
 -- the clock of a book with room can still be moved on
-pub clock-early : (store : Store) (counts : List ℕ) (front : Option StripeNo) (limit : ℕ) (h : List Entry) → IsKept store counts front limit h
+pub clock-early : (store : Store) (counts : List ℕ) (cursor : Option StripeNo) (limit : ℕ) (h : List Entry) → IsKept store counts cursor limit h
     → length h < limit → store.clock.value < 4294967292
-clock-early store counts front limit h kept room =
+clock-early store counts cursor limit h kept room =
     omega (arith, kept.store_is.clock_is, ticks-counted store.topology h, count_by-le-length (λ (e : Entry). is_tick e.command) h, room, kept.limited)

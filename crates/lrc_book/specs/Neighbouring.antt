@@ -14,11 +14,11 @@ use Rattle.lrc_book.specs.declared.neighbours.Neighbours.{Neighbours}
 abbrev pub stands_in : List ℕ → ℕ → ℕ → Fragment → Bool
 stands_in domains bits number f = bits_set bits f.value && nat_eq (get_or domains f.value 0) number
 
--- the domains that the homes of fragments bar: the fault domains of these others, and the upgrade domains of these mates
+-- the domains that the homes of fragments bar: the fault domains of these others, and the upgrade domains of these members
 abbrev pub homes_bar : List ℕ → List ℕ → ℕ → ℕ → List Fragment → Barred
-homes_bar faults upgrades others mates fs =
-    record { faults = λ d. list_any (stands_in faults others d.value) fs; upgrades = λ d. list_any (stands_in upgrades mates d.value) fs }
+homes_bar faults upgrades others members fs =
+    record { faults = λ d. list_any (stands_in faults others d.value) fs; upgrades = λ d. list_any (stands_in upgrades members d.value) fs }
 
 -- the domains that are barred beside the homes, with all that is barred besides
 abbrev pub barred_by : Neighbours → Barred
-barred_by n = joined (barred n.more.now) (homes_bar n.homes.now.faults n.homes.now.upgrades n.others.bits n.mates.bits (fragments Wide))
+barred_by n = joined (barred n.more.now) (homes_bar n.homes.now.faults n.homes.now.upgrades n.others.bits n.members.bits (fragments Wide))

@@ -22,14 +22,14 @@ use Rattle.lrc_book.specs.declared.class_bars.ClassBars.{ClassBars}
 use Rattle.lrc_book.specs.Stores.{closed}
 
 -- where the nodes stand that are barred for the fragments of a class
-abbrev pub place_of_class : Class → ℕ
-place_of_class A = 0
-place_of_class B = 1
-place_of_class G = 2
+abbrev pub index_of_class : Class → ℕ
+index_of_class A = 0
+index_of_class B = 1
+index_of_class G = 2
 
 -- the nodes whose upgrade domains are barred for the fragments of a class, as truth values by rank
 abbrev pub upgrades_for : ClassBars → Class → List Bool
-upgrades_for b c = get_or b.upgrades (place_of_class c) []
+upgrades_for b c = get_or b.upgrades (index_of_class c) []
 
 -- what is barred, with the fault domain of one more node, and its upgrade domain where the classes are one
 abbrev pub with_node : Bool → Barred → NodeInfo → Barred

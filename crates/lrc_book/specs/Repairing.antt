@@ -26,22 +26,22 @@ use Rattle.lrc_rules.specs.Histories.{state_after, IsLegal}
 abbrev pub is_waiting : List NodeInfo → State → StripeNo → Fragment → Bool
 is_waiting nodes st s f = needs nodes st s f && is_none (lease_of st s f)
 
--- ---- the front, before which nothing is grantable
+-- ---- the cursor, before which nothing is grantable
 
 -- The stripe has work, and no grantable fragment is of a stripe that comes before it in the order of repair.
-pub record IsPast (nodes : List NodeInfo) (st : State) (front : StripeNo) : Type 0 where
-  pub there : IsTrue (has_stripe st front)
+pub record IsPast (nodes : List NodeInfo) (st : State) (cursor : StripeNo) : Type 0 where
+  pub there : IsTrue (has_stripe st cursor)
   pub fragment : Fragment
-  pub needed : IsTrue (needs nodes st front fragment)
-  pub first : (p : StripeFragment) → IsGrantable nodes st p → IsFalse (comes_first (rank nodes st) p.0 front)
+  pub needed : IsTrue (needs nodes st cursor fragment)
+  pub first : (p : StripeFragment) → IsGrantable nodes st p → IsFalse (comes_first (rank nodes st) p.0 cursor)
 
--- a front of the state; where there is none, nothing is known
-abbrev pub IsFront : List NodeInfo → State → Option StripeNo → Type 0
-IsFront nodes st front = IfSome front (IsPast nodes st)
+-- a cursor of the state; where there is none, nothing is known
+abbrev pub IsRepairCursor : List NodeInfo → State → Option StripeNo → Type 0
+IsRepairCursor nodes st cursor = IfSome cursor (IsPast nodes st)
 
--- the store is that of a state with this front
-abbrev pub HasFront : Store → Option StripeNo → Type 0
-HasFront s front = (st : State) × IsOf st s × IsFront s.topology st front
+-- the store is that of a state with this cursor
+abbrev pub HasRepairCursor : Store → Option StripeNo → Type 0
+HasRepairCursor s cursor = (st : State) × IsOf st s × IsRepairCursor s.topology st cursor
 
 -- the stripes are there, stand in the order of repair, and are all that have a grantable fragment
 pub record HaveGrantable (nodes : List NodeInfo) (st : State) (stripes : List StripeNo) : Type 0 where
@@ -73,11 +73,11 @@ pub record IsRepair (nodes : List NodeInfo) (st : State) (r : Repair) : Type 0 w
 
 -- ---- a book
 
--- What a book keeps is the store of the state after its history, the counts of its grants, and a front; it is legal and not longer than the limit.
-pub record IsKept (store : Store) (counts : List ℕ) (front : Option StripeNo) (limit : ℕ) (history : List Entry) : Type 0 where
+-- What a book keeps is the store of the state after its history, the counts of its grants, and a cursor; it is legal and not longer than the limit.
+pub record IsKept (store : Store) (counts : List ℕ) (cursor : Option StripeNo) (limit : ℕ) (history : List Entry) : Type 0 where
   pub store_is : IsOf (state_after store.topology history) store
   pub counted : AreGrantsOf history counts
-  pub ahead : IsFront store.topology (state_after store.topology history) front
+  pub cursor_is : IsRepairCursor store.topology (state_after store.topology history) cursor
   pub legal : IsLegal store.topology history
   pub few : length history ≤ limit
   pub limited : limit ≤ 1000000

@@ -131,8 +131,8 @@ with_held nodes code s f b h =
     record { faults = λ d. b.faults d || bars_fault nodes s f d h; upgrades = λ d. b.upgrades d || bars_upgrade nodes code s f d h }
 
 -- the mask has the fragments that share the fragment's class
-abbrev pub AreMates : Code → Fragment → LossMask → Type 0
-AreMates code f mates = (g : Fragment) → bits_set mates.bits g.value ≡ share_class code f g
+abbrev pub AreClassMembers : Code → Fragment → LossMask → Type 0
+AreClassMembers code f members = (g : Fragment) → bits_set members.bits g.value ≡ share_class code f g
 
 -- the same with a seat of another fragment of the stripe, if it has one
 abbrev pub with_seat : List NodeInfo → Code → StripeNo → Fragment → Barred → Fragment → Option Seat → Barred

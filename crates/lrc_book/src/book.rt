@@ -28,7 +28,7 @@ pub struct Book {
     pub(crate) store: Box<Store>,
     pub(crate) grants: Grants,
     /// A stripe with work before which nothing is grantable, if one is known: a search for the next repair begins there.
-    pub(crate) front: Option<StripeNo>,
+    pub(crate) repair_cursor: Option<StripeNo>,
     pub(crate) history: Vec<Record>,
     /// Room for the seats of the next stripe that is placed.
     pub(crate) seats: Option<Box<[Seat; FRAGMENTS]>>,
@@ -50,7 +50,7 @@ impl Model for Book {
       ready = nat_le (vec_len b.history + 1) (vec_capacity b.history) && (has_room b.store.value && is_some b.seats);
     } };
 
-    ghost invariant = { λ b. IsKept b.store.value b.grants b.front b.limit b.history.items };
+    ghost invariant = { λ b. IsKept b.store.value b.grants b.repair_cursor b.limit b.history.items };
 }
 
 impl Book {
@@ -80,7 +80,7 @@ impl Book {
         Ok(Book {
             store: Box::new(alloc, store)?,
             grants: Grants::new(alloc)?,
-            front: None,
+            repair_cursor: None,
             history: Vec::new(alloc),
             seats: None,
             limit: limit as usize,

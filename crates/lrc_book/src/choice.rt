@@ -19,7 +19,7 @@ ghost use Rattle.lrc_rules.specs.States.{State, has_stripe, held_by};
 ghost use Rattle.lrc_rules.specs.Placement.{chosen, is_beside};
 ghost use Rattle.lrc_rules.specs.Steps.{with_stripe};
 ghost use Rattle.lrc_book.specs.Ties.{table_of, bars_in, next_seat, with_homes};
-ghost use Rattle.lrc_book.specs.Stores.{IsOf, IsTied, closed, with_seat, AreMates};
+ghost use Rattle.lrc_book.specs.Stores.{IsOf, IsTied, closed, with_seat, AreClassMembers};
 ghost use Rattle.lrc_book.specs.Planning.{AreBarsOf, row_seat};
 ghost use Rattle.lrc_book.specs.Neighbouring.{barred_by};
 
@@ -81,11 +81,11 @@ impl Store {
         requires there { IsTrue ((stored_in self.now.stripes).stripes stripe) }
         ensures { (st : State) → IsOf st self.now → result ≡ chosen self.now.topology st stripe fragment }
     {
-        let mates = mates_of(self.code_of(stripe), fragment);
+        let members = class_members(self.code_of(stripe), fragment);
         let mut more = Taken::new();
-        self.bar_targets(&mut more, stripe, fragment, mates);
+        self.bar_targets(&mut more, stripe, fragment, members);
         self.bar_upgrading(&mut more);
-        self.next_beside(&self.neighbours(stripe, fragment, mates, &more))
+        self.next_beside(&self.neighbours(stripe, fragment, members, &more))
     }
 
     /// Bars the upgrading domain too, if there is one.
@@ -108,32 +108,32 @@ impl Store {
         })
     }
 
-    /// The homes of a stripe's other fragments as the neighbours of a fragment with these mates, and what is barred besides.
+    /// The homes of a stripe's other fragments as the neighbours of a fragment with these members, and what is barred besides.
     fn neighbours<'a>(
         &'a self,
         stripe: StripeNo,
         fragment: Fragment,
-        mates: LossMask,
+        members: LossMask,
         more: &'a Taken,
     ) -> Neighbours<'a>
         requires { IsTrue ((stored_in self.now.stripes).stripes stripe) }
-        ensures { (st : State) (code : AnyCode) → IsOf st self.now → AreMates code fragment mates
+        ensures { (st : State) (code : AnyCode) → IsOf st self.now → AreClassMembers code fragment members
             → barred_by result ≡ joined (barred more.now) (bars_in self.now.topology code stripe fragment st.homes) }
     {
         let others = self.stripes.homed(stripe).without(fragment);
-        let mates = LossMask::from_bits(others.bits & mates.bits);
+        let members = LossMask::from_bits(others.bits & members.bits);
         Neighbours {
             homes: self.stripes.domains(stripe),
             others,
-            mates,
+            members,
             more,
         }
     }
 
-    /// Bars the domains of the targets of the leases of a stripe's other fragments for a fragment with these mates.
-    fn bar_targets(&self, bars: &mut Taken, stripe: StripeNo, fragment: Fragment, mates: LossMask)
+    /// Bars the domains of the targets of the leases of a stripe's other fragments for a fragment with these members.
+    fn bar_targets(&self, bars: &mut Taken, stripe: StripeNo, fragment: Fragment, members: LossMask)
         requires { IsTied self.now }
-        ensures { (st : State) (code : AnyCode) (seats : List Held) → IsOf st self.now → AreMates code fragment mates
+        ensures { (st : State) (code : AnyCode) (seats : List Held) → IsOf st self.now → AreClassMembers code fragment members
             → barred bars.old ≡ bars_in self.now.topology code stripe fragment seats
             → barred bars.new ≡ bars_in self.now.topology code stripe fragment (seats ++ map held_by st.leases) }
     {
@@ -143,7 +143,7 @@ impl Store {
         }
         for other in Fragment::all().iter() {
             let target = self.target(leased, stripe, *other);
-            self.bar_seat(bars, fragment, mates, *other, target);
+            self.bar_seat(bars, fragment, members, *other, target);
         }
     }
 
@@ -159,25 +159,25 @@ impl Store {
         Some(lease.target)
     }
 
-    /// Bars the domains of a seat of the stripe for a fragment with these mates, if it is one of another: its fault domain,
+    /// Bars the domains of a seat of the stripe for a fragment with these members, if it is one of another: its fault domain,
     /// and its upgrade domain where the other fragment is a mate. Its node is one of the store's.
     fn bar_seat(
         &self,
         bars: &mut Taken,
         fragment: Fragment,
-        mates: LossMask,
+        members: LossMask,
         other: Fragment,
         seat: Option<Seat>,
     )
         requires known { IfSome seat (λ s. IsSome (node_at (slots_of self.now.table).nodes s.node)) }
-        ensures { (st : State) (code : AnyCode) (stripe : StripeNo) → IsOf st self.now → AreMates code fragment mates
+        ensures { (st : State) (code : AnyCode) (stripe : StripeNo) → IsOf st self.now → AreClassMembers code fragment members
             → barred bars.new ≡ with_seat self.now.topology code stripe fragment (barred bars.old) other seat }
     {
         if other == fragment {
             return;
         }
         if let Some(seat) = seat {
-            if mates.contains(other) {
+            if members.contains(other) {
                 self.table.bar_domains_of(bars, seat.node);
             } else {
                 self.table.bar_fault_of(bars, seat.node);
@@ -187,8 +187,8 @@ impl Store {
 }
 
 /// The fragments of a fragment's class in a code, itself among them; none where the code has no such fragment.
-fn mates_of(code: Code, fragment: Fragment) -> LossMask
-    ensures { AreMates code fragment result }
+fn class_members(code: Code, fragment: Fragment) -> LossMask
+    ensures { AreClassMembers code fragment result }
 {
     match fragment.class_in(code) {
         Some(class) => LossMask::of_class(code, class),

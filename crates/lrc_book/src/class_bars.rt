@@ -6,7 +6,7 @@ ghost use Rattle.lrc_topology.specs.declared.NodeInfo.{NodeInfo};
 ghost use Rattle.lrc_topology.specs.declared.seat.Held.{Held};
 ghost use Rattle.lrc_topology.specs.Nodes.{node_at};
 ghost use Rattle.lrc_slots.specs.Tables.{slots_of};
-ghost use Rattle.lrc_book.specs.Planning.{AreBarsOf, place_of_class, upgrades_for};
+ghost use Rattle.lrc_book.specs.Planning.{AreBarsOf, index_of_class, upgrades_for};
 
 use lrc_code::Class;
 use lrc_slots::{BarredNodes, SlotTable};
@@ -35,7 +35,7 @@ impl ClassBars {
     pub(crate) fn of(&self, class: Class) -> &BarredNodes
         ensures { result.now ≡ upgrades_for self.now class }
     {
-        &self.upgrades[place_of(class)]
+        &self.upgrades[index_of(class)]
     }
 
     /// Bars the fault domain of the node that a seat of a fragment is on for all fragments, and its upgrade domain for
@@ -46,14 +46,14 @@ impl ClassBars {
             → AreBarsOf (slots_of table.now).nodes code upgrading seats self.old → AreBarsOf (slots_of table.now).nodes code upgrading (seats ++ h ∷ []) self.new }
     {
         table.bar_fault_in(&mut self.faults, node.fault);
-        let of_class = &mut self.upgrades[place_of(class)];
+        let of_class = &mut self.upgrades[index_of(class)];
         table.bar_upgrade_in(of_class, node.upgrade);
     }
 }
 
 /// Where the nodes stand that are barred for the fragments of a class.
-fn place_of(class: Class) -> usize
-    ensures value { result ≡ place_of_class class }
+fn index_of(class: Class) -> usize
+    ensures value { result ≡ index_of_class class }
     ensures few { result < 3 }
 {
     class as usize

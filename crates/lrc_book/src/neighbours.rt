@@ -18,7 +18,7 @@ pub(crate) struct Neighbours<'a> {
     /// The other fragments that have a home.
     pub(crate) others: LossMask,
     /// Those of them that are of its class.
-    pub(crate) mates: LossMask,
+    pub(crate) members: LossMask,
     pub(crate) more: &'a Taken,
 }
 
@@ -26,10 +26,10 @@ impl<'a> Neighbours<'a> {
     /// Whether the node is in a domain that one of the homes bars.
     fn are_near(&self, node: &NodeInfo) -> bool
         ensures { result ≡ (list_any (stands_in self.now.homes.now.faults self.now.others.bits node.now.fault.value) (fragments Wide)
-            || list_any (stands_in self.now.homes.now.upgrades self.now.mates.bits node.now.upgrade.value) (fragments Wide)) }
+            || list_any (stands_in self.now.homes.now.upgrades self.now.members.bits node.now.upgrade.value) (fragments Wide)) }
     {
         meet(self.homes.in_fault(node.fault), self.others)
-            || meet(self.homes.in_upgrade(node.upgrade), self.mates)
+            || meet(self.homes.in_upgrade(node.upgrade), self.members)
     }
 }
 

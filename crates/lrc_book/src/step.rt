@@ -12,7 +12,7 @@ ghost use Rattle.lrc_book.specs.Answers.{told, placing as placing_of, is_place, 
 ghost use Rattle.lrc_rules.specs.Changes.{IsAnswer, changed_by, grants_lease};
 ghost use Rattle.lrc_book.specs.Books.{IsStep, world_of};
 ghost use Rattle.lrc_book.specs.Stores.{IsOf, IsTied, AreGrantsOf, AreFew, has_room};
-ghost use Rattle.lrc_book.specs.Repairing.{IsFront, HasFront, IsKept};
+ghost use Rattle.lrc_book.specs.Repairing.{IsRepairCursor, HasRepairCursor, IsKept};
 
 use crate::answer::{Answer, NO_SEAT};
 use crate::commands::leases::count_grant;
@@ -40,7 +40,7 @@ impl Book {
         }
         let reply = self
             .store
-            .reply(&self.grants, self.front, session, &command);
+            .reply(&self.grants, self.repair_cursor, session, &command);
         Ok(Plan {
             entry: Entry {
                 session,
@@ -82,11 +82,11 @@ impl Book {
             .push_reserved(Record::new(session, command, Answer::Idle));
         let made = &mut self.history[place];
         let store = &mut *self.store;
-        store.answer(&self.grants, self.front, &mut self.seats, made);
+        store.answer(&self.grants, self.repair_cursor, &mut self.seats, made);
         make(
             store,
             &mut self.grants,
-            &mut self.front,
+            &mut self.repair_cursor,
             &self.history[..place],
             &self.history[place],
         );
@@ -112,7 +112,7 @@ impl Book {
         make(
             store,
             &mut self.grants,
-            &mut self.front,
+            &mut self.repair_cursor,
             &self.history,
             &made,
         );
@@ -126,7 +126,7 @@ impl Book {
 fn make(
     store: &mut Store,
     grants: &mut Grants,
-    front: &mut Option<StripeNo>,
+    cursor: &mut Option<StripeNo>,
     past: &[Record],
     made: &Record,
 )
@@ -138,8 +138,8 @@ fn make(
     requires step { (outcome_in store.old.topology (world_after store.old.topology past.now) made.now.session made.now.command).0 ≡ made.now.reply }
     requires early { store.old.clock.value < 4294967292 }
     ensures nodes { store.new.topology ≡ store.old.topology }
-    ensures kept { (limit : ℕ) → IsKept store.old grants.old front.old limit past.now → length past.now < limit
-        → IsKept store.new grants.new front.new limit (past.now ++ made.now ∷ []) }
+    ensures kept { (limit : ℕ) → IsKept store.old grants.old cursor.old limit past.now → length past.now < limit
+        → IsKept store.new grants.new cursor.new limit (past.now ++ made.now ∷ []) }
 {
     if !made.answer.changes() {
         return;
@@ -149,12 +149,12 @@ fn make(
         Answer::Granted(lease, _) => {
             store.grant(lease);
             if let Command::Next = made.command {
-                *front = Some(lease.stripe);
+                *cursor = Some(lease.stripe);
             }
         }
         _ => {
             store.make_change(&made.command, &made.answer);
-            *front = None;
+            *cursor = None;
         }
     }
 }
@@ -195,21 +195,21 @@ impl Store {
     fn reply(
         &self,
         counts: &Grants,
-        front: Option<StripeNo>,
+        cursor: Option<StripeNo>,
         session: SessionNo,
         command: &Command,
     ) -> Reply
         requires tied { IsTied self.now }
         requires few { AreFew counts.now }
-        requires front { HasFront self.now front }
-        ensures { (st : State) (past : List Entry) → IsOf st self.now → AreGrantsOf past counts.now → IsFront self.now.topology st front
+        requires cursor { HasRepairCursor self.now cursor }
+        ensures { (st : State) (past : List Entry) → IsOf st self.now → AreGrantsOf past counts.now → IsRepairCursor self.now.topology st cursor
             → result ≡ (step self.now.topology past st session command.now).0 }
     {
         if let Some((code, stripe)) = placing(command) {
             return self.place_reply(code, stripe);
         }
         let mut made = Record::new(session, *command, Answer::Idle);
-        self.answer(counts, front, &mut None, &mut made);
+        self.answer(counts, cursor, &mut None, &mut made);
         made.reply()
     }
 
@@ -217,21 +217,21 @@ impl Store {
     pub(crate) fn answer(
         &self,
         counts: &Grants,
-        front: Option<StripeNo>,
+        cursor: Option<StripeNo>,
         room: &mut Option<Box<[Seat; FRAGMENTS]>>,
         made: &mut Record,
     )
         requires tied { IsTied self.now }
         requires few { AreFew counts.now }
-        requires front { HasFront self.now front }
+        requires cursor { HasRepairCursor self.now cursor }
         requires room { is_place made.old.command ≡ true → IsSome room.old }
-        ensures { (st : State) (past : List Entry) → IsOf st self.now → AreGrantsOf past counts.now → IsFront self.now.topology st front
+        ensures { (st : State) (past : List Entry) → IsOf st self.now → AreGrantsOf past counts.now → IsRepairCursor self.now.topology st cursor
             → made.new ≡ record made.old { reply = (step self.now.topology past st made.old.session made.old.command).0 } }
     {
         match made.command {
             Command::Place(stripe) => self.answer_place(Code::Wide, stripe, room, made),
             Command::Place6(stripe) => self.answer_place(Code::Narrow, stripe, room, made),
-            Command::Next => self.answer_next(counts, front, made),
+            Command::Next => self.answer_next(counts, cursor, made),
             Command::Done(stripe, fragment, epoch) => {
                 self.answer_done(stripe, fragment, epoch, made)
             }
@@ -255,28 +255,28 @@ impl Store {
     }
 
     /// Gives the record of a command that asks for the most urgent repair its answer.
-    fn answer_next(&self, counts: &Grants, front: Option<StripeNo>, made: &mut Record)
+    fn answer_next(&self, counts: &Grants, cursor: Option<StripeNo>, made: &mut Record)
         requires few { AreFew counts.now }
-        requires front { HasFront self.now front }
-        ensures { (st : State) (past : List Entry) → IsOf st self.now → AreGrantsOf past counts.now → IsFront self.now.topology st front
+        requires cursor { HasRepairCursor self.now cursor }
+        ensures { (st : State) (past : List Entry) → IsOf st self.now → AreGrantsOf past counts.now → IsRepairCursor self.now.topology st cursor
             → made.new ≡ record made.old { reply = (next_outcome self.now.topology past st made.old.session).0 } }
     {
         if !self.stripes.has_work() {
             made.answer = Answer::Idle;
             return;
         }
-        self.answer_next_of_work(counts, front, made);
+        self.answer_next_of_work(counts, cursor, made);
     }
 
     /// The same where some stripe has work.
     #[inline(never)] // as `answer_other`
-    fn answer_next_of_work(&self, counts: &Grants, front: Option<StripeNo>, made: &mut Record)
+    fn answer_next_of_work(&self, counts: &Grants, cursor: Option<StripeNo>, made: &mut Record)
         requires few { AreFew counts.now }
-        requires front { HasFront self.now front }
-        ensures { (st : State) (past : List Entry) → IsOf st self.now → AreGrantsOf past counts.now → IsFront self.now.topology st front
+        requires cursor { HasRepairCursor self.now cursor }
+        ensures { (st : State) (past : List Entry) → IsOf st self.now → AreGrantsOf past counts.now → IsRepairCursor self.now.topology st cursor
             → made.new ≡ record made.old { reply = (next_outcome self.now.topology past st made.old.session).0 } }
     {
-        made.answer = self.next_reply(counts, front, made.session);
+        made.answer = self.next_reply(counts, cursor, made.session);
     }
 
     /// Gives the record of a command that reports a repair its answer.

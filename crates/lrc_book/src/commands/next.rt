@@ -12,7 +12,7 @@ ghost use Rattle.lrc_rules.specs.Urgency.{is_grantable, next_of};
 ghost use Rattle.lrc_rules.specs.Leases.{next_outcome};
 ghost use Rattle.lrc_book.specs.Answers.{told};
 ghost use Rattle.lrc_book.specs.Stores.{IsOf, IsTied, AreGrantsOf, AreFew};
-ghost use Rattle.lrc_book.specs.Repairing.{is_waiting, fragment_of, IsRepair, IsFront, HasFront, HaveGrantable};
+ghost use Rattle.lrc_book.specs.Repairing.{is_waiting, fragment_of, IsRepair, IsRepairCursor, HasRepairCursor, HaveGrantable};
 
 use crate::answer::Answer;
 use crate::repair::Repair;
@@ -25,30 +25,30 @@ impl Store {
     pub(crate) fn next_reply(
         &self,
         counts: &Grants,
-        front: Option<StripeNo>,
+        cursor: Option<StripeNo>,
         session: SessionNo,
     ) -> Answer
         requires few { AreFew counts.now }
-        requires front { HasFront self.now front }
-        ensures { (st : State) (past : List Entry) → IsOf st self.now → AreGrantsOf past counts.now → IsFront self.now.topology st front
+        requires cursor { HasRepairCursor self.now cursor }
+        ensures { (st : State) (past : List Entry) → IsOf st self.now → AreGrantsOf past counts.now → IsRepairCursor self.now.topology st cursor
             → told result ≡ (next_outcome self.now.topology past st session).0 }
     {
-        match self.next_repair(front) {
+        match self.next_repair(cursor) {
             Some(repair) => repair.granted_to(session, counts, self.clock),
             None => Answer::Idle,
         }
     }
 
     /// The repair of the fragment that comes first in the order of repair, of those whose lease would be granted.
-    fn next_repair(&self, front: Option<StripeNo>) -> Option<Repair>
-        requires { HasFront self.now front }
-        ensures first { (st : State) → IsOf st self.now → IsFront self.now.topology st front → option_map fragment_of result ≡ next_of self.now.topology st }
+    fn next_repair(&self, cursor: Option<StripeNo>) -> Option<Repair>
+        requires { HasRepairCursor self.now cursor }
+        ensures first { (st : State) → IsOf st self.now → IsRepairCursor self.now.topology st cursor → option_map fragment_of result ≡ next_of self.now.topology st }
         ensures repair { IfSome result (λ r. (st : State) → IsOf st self.now → IsRepair self.now.topology st r) }
     {
         if !self.has_free_seat() {
             return None;
         }
-        for stripe in self.work_from(front) {
+        for stripe in self.work_from(cursor) {
             if let Some(repair) = self.first_repair(stripe) {
                 return Some(repair);
             }
@@ -56,13 +56,13 @@ impl Store {
         None
     }
 
-    /// The stripes with work that don't come before the front, in the order of repair; all of them where there is none.
-    fn work_from(&self, front: Option<StripeNo>) -> Work<'_>
-        requires { HasFront self.now front }
+    /// The stripes with work that don't come before the cursor, in the order of repair; all of them where there is none.
+    fn work_from(&self, cursor: Option<StripeNo>) -> Work<'_>
+        requires { HasRepairCursor self.now cursor }
         ensures there { All (λ s. IsTrue ((stored_in self.now.stripes).stripes s)) result }
-        ensures all { (st : State) → IsOf st self.now → IsFront self.now.topology st front → HaveGrantable self.now.topology st result }
+        ensures all { (st : State) → IsOf st self.now → IsRepairCursor self.now.topology st cursor → HaveGrantable self.now.topology st result }
     {
-        match front {
+        match cursor {
             Some(first) => self.stripes.work_from(first),
             None => self.stripes.work(),
         }

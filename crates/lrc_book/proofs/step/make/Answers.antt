@@ -7,7 +7,7 @@ use Rattle.lrc_rules.specs.Steps.{step as step_of}
 use Rattle.lrc_rules.specs.Histories.{world_after, state_after}
 use Rattle.lrc_rules.specs.Changes.{changed_by}
 use Rattle.lrc_book.specs.Stores.{IsOf}
-use Rattle.lrc_book.specs.Repairing.{IsFront}
+use Rattle.lrc_book.specs.Repairing.{IsRepairCursor}
 use Rattle.lrc_book.specs.Answers.{told}
 use Rattle.lrc_rules.specs.declared.entry.Entry.{Entry}
 use Rattle.lrc_book.proofs.WorldLemmas.{kept_push}
@@ -15,7 +15,7 @@ use Rattle.lrc_book.proofs.CountedLemmas.{counted-none}
 use Rattle.lrc_book.proofs.AnswerLemmas.{other-answer}
 use Rattle.lrc_book.proofs.GrantedLemmas.{granted-told, kept-granted}
 use Rattle.lrc_rules.proofs.MostUrgentLemmas.{granted-urgent}
-use Rattle.lrc_book.proofs.FrontLemmas.{front-leased, front-granted}
+use Rattle.lrc_book.proofs.CursorLemmas.{cursor-leased, cursor-granted}
 use Rattle.lrc_book.proofs.step.make.Goals as goal
 
 pub grant-requires : goal.grant-requires
@@ -61,10 +61,10 @@ returns-then-not-changes-clause-kept g c = λ limit was below.
     let same : changed_by (state_after nodes past) e.command e.reply ≡ state_after nodes past =
     c.changes.ensures.same c.if-not-changes.true (state_after nodes past) e.command in
     rw (← c.made.view_is)
-    (kept_push c.args.store.now c.args.store.now c.args.grants.now c.args.grants.now c.args.front.now c.args.front.now limit past e was below step
+    (kept_push c.args.store.now c.args.store.now c.args.grants.now c.args.grants.now c.args.cursor.now c.args.cursor.now limit past e was below step
     refl (subst (λ (st : State). IsOf st c.args.store.now) (sym same) was.store_is)
     (counted-none past e c.args.grants.now was.counted (c.changes.ensures.none c.if-not-changes.true))
-    (subst (λ (st : State). IsFront nodes st c.args.front.now) (sym same) was.ahead))
+    (subst (λ (st : State). IsRepairCursor nodes st c.args.cursor.now) (sym same) was.cursor_is))
 
 pub returns-in-Next-clause-kept : goal.returns-in-Next-clause-kept
 returns-in-Next-clause-kept g c = λ limit was below.
@@ -79,10 +79,10 @@ returns-in-Next-clause-kept g c = λ limit was below.
     let most = granted-urgent nodes w.past w.state made.session l k
     (subst (λ (command : Command). (step_of nodes w.past w.state made.session command).0 ≡ Granted l k) c.in-Next.is (step ∙ ap told c.in-Granted.is)) in
     rw (← c.made.view_is)
-    (kept-granted c.args.store.now c.grant.new.self c.args.grants.now c.count_grant.new.counts c.args.front.now (Some l.stripe) limit past e l k
+    (kept-granted c.args.store.now c.grant.new.self c.args.grants.now c.count_grant.new.counts c.args.cursor.now (Some l.stripe) limit past e l k
     (ap told c.in-Granted.is) was below step c.grant.ensures.nodes
     (subst (λ (st : State). IsOf (with_lease st l) c.grant.new.self) (sym c.requires.0) c.grant.ensures.kept) (c.count_grant.ensures past e refl was.counted)
-    (front-granted nodes w.state l (l.stripe, l.fragment) most))
+    (cursor-granted nodes w.state l (l.stripe, l.fragment) most))
 
 pub returns-in_default-command : goal.returns-in_default-command
 returns-in_default-command g c = record {
@@ -91,13 +91,13 @@ returns-in_default-command g c = record {
       let past = c.args.past.now in
       let made = c.made.inside in
       let l = c.in-Granted.lease in
-      let front = c.args.front.now in
+      let cursor = c.args.cursor.now in
       let e : Entry = record { session = made.session; command = made.command; reply = told made.answer } in
       rw (← c.made.view_is)
-      (kept-granted c.args.store.now c.grant.new.self c.args.grants.now c.count_grant.new.counts front front limit past e l c.in-Granted.field-1
+      (kept-granted c.args.store.now c.grant.new.self c.args.grants.now c.count_grant.new.counts cursor cursor limit past e l c.in-Granted.field-1
       (ap told c.in-Granted.is) was below (rw (← c.made.view_is) at c.requires.1.1.1.1.0) c.grant.ensures.nodes
       (subst (λ (st : State). IsOf (with_lease st l) c.grant.new.self) (sym c.requires.0) c.grant.ensures.kept) (c.count_grant.ensures past e refl was.counted)
-      (front-leased c.args.store.now.topology (state_after c.args.store.now.topology past) l front was.ahead));
+      (cursor-leased c.args.store.now.topology (state_after c.args.store.now.topology past) l cursor was.cursor_is));
 }
 
 pub returns-in_default-clause-kept : goal.returns-in_default-clause-kept
@@ -108,6 +108,6 @@ returns-in_default-clause-kept g c = λ limit was below.
     let e : Entry = record { session = made.session; command = made.command; reply = told made.answer } in
     let step = rw (← c.made.view_is) at c.requires.1.1.1.1.0 in
     rw (← c.made.view_is)
-    (kept_push c.args.store.now c.make_change.new.self c.args.grants.now c.count_grant.new.counts c.args.front.now None limit past e was below step
+    (kept_push c.args.store.now c.make_change.new.self c.args.grants.now c.count_grant.new.counts c.args.cursor.now None limit past e was below step
     c.make_change.ensures.nodes (subst (λ (st : State). IsOf (changed_by st e.command e.reply) c.make_change.new.self) (sym c.requires.0) c.make_change.ensures.kept)
     (c.count_grant.ensures past e refl was.counted) tt)

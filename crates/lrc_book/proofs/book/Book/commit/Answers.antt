@@ -13,12 +13,12 @@ pub make-requires : goal.make-requires
 make-requires c =
     let b = c.self.inside in
     let below = rw (← c.self.view_is) at c.requires.room in
-    let early = clock-early b.store.value b.grants b.front b.limit b.history.items c.self.invariant below in (
+    let early = clock-early b.store.value b.grants b.repair_cursor b.limit b.history.items c.self.invariant below in (
       search rules,
       (
         search rules,
         (
-          few-grants b.store.value b.grants b.front b.limit b.history.items c.self.invariant below,
+          few-grants b.store.value b.grants b.repair_cursor b.limit b.history.items c.self.invariant below,
           (search rules, (search rules, rw c.deref_mut-store.ensures.value early)),
         ),
       ),

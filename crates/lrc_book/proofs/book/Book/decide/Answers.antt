@@ -10,7 +10,7 @@ pub returns-clause-step : goal.returns-clause-step
 returns-clause-step c =
     let b = c.self.inside in
     let w = world_after b.store.value.topology b.history.items in
-    let told = (rw c.deref.ensures at c.reply-reply.ensures) w.state b.history.items c.self.invariant.store_is c.self.invariant.counted c.self.invariant.ahead in
+    let told = (rw c.deref.ensures at c.reply-reply.ensures) w.state b.history.items c.self.invariant.store_is c.self.invariant.counted c.self.invariant.cursor_is in
     rw (← c.self.view_is)
     (sym (told ∙ ap (λ (past : List Entry). (step b.store.value.topology past w.state c.args.session c.args.command).0) (sym (past-after b.store.value.topology b.history.items))))
 
@@ -19,4 +19,4 @@ returns-clause-room c =
     rw (← c.self.view_is) (omega (arith, c.self.invariant.few, c.len.ensures))
 
 pub reply-reply-requires-clause-few : goal.reply-reply-requires-clause-few
-reply-reply-requires-clause-few c = few-grants c.self.inside.store.value c.self.inside.grants c.self.inside.front c.self.inside.limit c.self.inside.history.items c.self.invariant (omega (arith, c.self.invariant.few, c.len.ensures, c.if-len-self.false))
+reply-reply-requires-clause-few c = few-grants c.self.inside.store.value c.self.inside.grants c.self.inside.repair_cursor c.self.inside.limit c.self.inside.history.items c.self.invariant (omega (arith, c.self.invariant.few, c.len.ensures, c.if-len-self.false))

@@ -27,7 +27,7 @@ make-requires c =
     let below = rw (← c.self.view_is) at c.requires.room in
     let ready = and_parts (nat_le (vec_len b.history + 1) (vec_capacity b.history)) (has_room b.store.value && is_some b.seats) (rw (← c.self.view_is) at c.requires.ready) in
     let found = c.index_mut-made.ensures.value ∙ last-pushed h entries first n at pushed c.index_mut-made.result.now ∙ c.new.ensures in
-    let told = (rw c.deref_mut-store.ensures.value at c.answer.ensures) w.state h c.self.invariant.store_is c.self.invariant.counted c.self.invariant.ahead
+    let told = (rw c.deref_mut-store.ensures.value at c.answer.ensures) w.state h c.self.invariant.store_is c.self.invariant.counted c.self.invariant.cursor_is
     ∙ ap (λ (e : Entry). record e { reply = (step nodes h w.state e.session e.command).0 }) found in
     let past = ap (take n) c.deref.ensures.value ∙ before-last h entries first n at pushed made in
     let last = c.index.ensures ∙ last-set h entries first n at pushed made c.index.result.now ∙ told in
@@ -37,14 +37,14 @@ make-requires c =
       (
         rw past (subst (λ (k : Store). IsOf (state_after k.topology h) k) kept c.self.invariant.store_is),
         (
-          few-grants b.store.value b.grants b.front b.limit h c.self.invariant below,
+          few-grants b.store.value b.grants b.repair_cursor b.limit h c.self.invariant below,
           (
             subst (λ (k : Store). has_room k ≡ true) kept (and_parts (has_room b.store.value) (is_some b.seats) ready.1).0,
             (
               rw (past, last)
                   (subst (λ (k : Store). (outcome_in k.topology (world_after k.topology h) c.args.session c.args.command).0
                   ≡ (step nodes h w.state c.args.session c.args.command).0) kept answered),
-              subst (λ (k : Store). k.clock.value < 4294967292) kept (clock-early b.store.value b.grants b.front b.limit h c.self.invariant below),
+              subst (λ (k : Store). k.clock.value < 4294967292) kept (clock-early b.store.value b.grants b.repair_cursor b.limit h c.self.invariant below),
             ),
           ),
         ),
@@ -79,7 +79,7 @@ returns-clause-history c =
     let made = c.answer.new.made in
     let at = length-before h entries c.deref.result.now first made n (vec_len b.history) pushed c.deref.ensures.value (c.deref.ensures.len ∙ c.push_reserved.ensures.len) c.len-place.ensures in
     let found = c.index_mut-made.ensures.value ∙ last-pushed h entries first n at pushed c.index_mut-made.result.now ∙ c.new.ensures in
-    let told = (rw c.deref_mut-store.ensures.value at c.answer.ensures) w.state h c.self.invariant.store_is c.self.invariant.counted c.self.invariant.ahead
+    let told = (rw c.deref_mut-store.ensures.value at c.answer.ensures) w.state h c.self.invariant.store_is c.self.invariant.counted c.self.invariant.cursor_is
     ∙ ap (λ (e : Entry). record e { reply = (step nodes h w.state e.session e.command).0 }) found in
     rw (← c.self.view_is)
     (set-last h entries first n at pushed made

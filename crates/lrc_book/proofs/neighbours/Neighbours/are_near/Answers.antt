@@ -10,5 +10,5 @@ returns-else-meet c =
     let homes = c.args.self.now.homes.now in
     let node = c.args.node.now in
     c.meet-else-meet.ensures homes.upgrades node.upgrade.value c.in_upgrade.ensures.on
-    ∙ ap (λ (b : Bool). b || list_any (stands_in homes.upgrades c.args.self.now.mates.bits node.upgrade.value) (fragments Wide))
+    ∙ ap (λ (b : Bool). b || list_any (stands_in homes.upgrades c.args.self.now.members.bits node.upgrade.value) (fragments Wide))
     (sym c.if-meet.false ∙ c.meet.ensures homes.faults node.fault.value c.in_fault.ensures.on)

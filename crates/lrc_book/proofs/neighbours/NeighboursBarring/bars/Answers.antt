@@ -15,7 +15,7 @@ returns-then-are_near c =
     c.if-are_near.true
     ∙ ap (λ (b : Bool). b || (more.faults node.fault || more.upgrades node.upgrade)) (sym c.if-are_near.true ∙ c.are_near.ensures)
     ∙ near-or-more (list_any (stands_in n.homes.now.faults n.others.bits node.fault.value) (fragments Wide))
-    (list_any (stands_in n.homes.now.upgrades n.mates.bits node.upgrade.value) (fragments Wide)) (more.faults node.fault) (more.upgrades node.upgrade)
+    (list_any (stands_in n.homes.now.upgrades n.members.bits node.upgrade.value) (fragments Wide)) (more.faults node.fault) (more.upgrades node.upgrade)
 
 pub returns-else-are_near : goal.returns-else-are_near
 returns-else-are_near c =
@@ -25,4 +25,4 @@ returns-else-are_near c =
     c.bars.ensures
     ∙ ap (λ (b : Bool). b || (more.faults node.fault || more.upgrades node.upgrade)) (sym c.if-are_near.false ∙ c.are_near.ensures)
     ∙ near-or-more (list_any (stands_in n.homes.now.faults n.others.bits node.fault.value) (fragments Wide))
-    (list_any (stands_in n.homes.now.upgrades n.mates.bits node.upgrade.value) (fragments Wide)) (more.faults node.fault) (more.upgrades node.upgrade)
+    (list_any (stands_in n.homes.now.upgrades n.members.bits node.upgrade.value) (fragments Wide)) (more.faults node.fault) (more.upgrades node.upgrade)

@@ -16,11 +16,11 @@ pub bar_fault_of-requires : goal.bar_fault_of-requires
 bar_fault_of-requires c = subst (λ (o : Option Seat). IfSome o (IsKnown c.args.self.now)) c.in-Some.is c.requires.known
 
 pub returns-then-eq : goal.returns-then-eq
-returns-then-eq c = λ st code stripe kept mates.
+returns-then-eq c = λ st code stripe kept members.
     seat-own c.args.self.now.topology code stripe c.args.fragment c.args.other (barred c.args.bars.now) c.args.seat (sym c.eq.ensures ∙ c.if-eq.true)
 
 pub returns-then-contains : goal.returns-then-contains
-returns-then-contains c = λ st code stripe kept mates.
+returns-then-contains c = λ st code stripe kept members.
     let nodes = c.args.self.now.topology in
     let seat = c.in-Some.seat in
     let before = barred c.args.bars.now in
@@ -28,11 +28,11 @@ returns-then-contains c = λ st code stripe kept mates.
     c.bar_domains_of.ensures
     ∙ ap (λ (ns : List NodeInfo). with_upgrade_of ns (with_fault_of ns before seat.node) seat.node) same
     ∙ seat-domains nodes code stripe c.args.fragment c.args.other before seat (sym c.eq.ensures ∙ c.if-eq.false) true
-    (sym c.if-contains.true ∙ c.contains.ensures ∙ mates c.args.other)
+    (sym c.if-contains.true ∙ c.contains.ensures ∙ members c.args.other)
     ∙ ap (λ (o : Option Seat). with_seat nodes code stripe c.args.fragment before c.args.other o) (sym c.in-Some.is)
 
 pub returns-else-contains : goal.returns-else-contains
-returns-else-contains c = λ st code stripe kept mates.
+returns-else-contains c = λ st code stripe kept members.
     let nodes = c.args.self.now.topology in
     let seat = c.in-Some.seat in
     let before = barred c.args.bars.now in
@@ -40,5 +40,5 @@ returns-else-contains c = λ st code stripe kept mates.
     c.bar_fault_of.ensures
     ∙ ap (λ (ns : List NodeInfo). with_fault_of ns before seat.node) same
     ∙ seat-domains nodes code stripe c.args.fragment c.args.other before seat (sym c.eq.ensures ∙ c.if-eq.false) false
-    (sym c.if-contains.false ∙ c.contains.ensures ∙ mates c.args.other)
+    (sym c.if-contains.false ∙ c.contains.ensures ∙ members c.args.other)
     ∙ ap (λ (o : Option Seat). with_seat nodes code stripe c.args.fragment before c.args.other o) (sym c.in-Some.is)

@@ -15,7 +15,7 @@ use Rattle.lrc_book.proofs.KnownSeatLemmas.{IsKnown, target-known}
 use Rattle.lrc_book.proofs.store.Store.bar_targets.Goals as goal
 
 pub returns-then-bits-eq0 : goal.returns-then-bits-eq0
-returns-then-bits-eq0 c = λ st code seats kept mates are.
+returns-then-bits-eq0 c = λ st code seats kept members are.
     let s = c.args.stripe in
     let nodes = c.args.self.now.topology in
     let none = none-leased st c.args.self.now kept s c.leased-leased.result.bits (sym c.bits.ensures ∙ c.if-bits-eq0.true) c.leased-leased.ensures in
@@ -35,7 +35,7 @@ bar_seat-requires c =
 
 pub loop-other-init : goal.loop-other-init
 loop-other-init c = record {
-  barred_are = λ st code seats kept mates are.
+  barred_are = λ st code seats kept members are.
       are ∙ ap (bars_in c.args.self.now.topology code c.args.stripe c.args.fragment) (sym (append-nil seats));
   all = c.all.ensures;
 }
@@ -48,20 +48,20 @@ loop-other-preserved c =
     let nodes = c.args.self.now.topology in
     let long : length c.all.result ≡ 16 = rw c.loop-other.invariant.all refl in
     let other = get_or c.all.result i c.other-item.result in record {
-      barred_are = λ st code seats kept mates are.
-          c.bar_seat.ensures st code s kept mates
-          ∙ ap₂ (λ (b : Barred) (o : Option Seat). with_seat nodes code s f b other o) (c.loop-other.invariant.barred_are st code seats kept mates are)
+      barred_are = λ st code seats kept members are.
+          c.bar_seat.ensures st code s kept members
+          ∙ ap₂ (λ (b : Barred) (o : Option Seat). with_seat nodes code s f b other o) (c.loop-other.invariant.barred_are st code seats kept members are)
           (c.target-target.ensures ∙ ap (option_map (λ (l : Lease). l.target)) (lease-kept st c.args.self.now kept s other))
           ∙ held_all-more s (target_at st s) nodes code f seats c.all.result i c.other-item.result (omega (arith, long));
       all = c.loop-other.invariant.all;
     }
 
 pub returns : goal.returns
-returns c = λ st code seats kept mates are.
+returns c = λ st code seats kept members are.
     let i = c.loop-other.other-index in
     let s = c.args.stripe in
     let nodes = c.args.self.now.topology in
     let whole : take i c.all.result ≡ fragments Wide = ap (take i) c.loop-other.invariant.all ∙ take_all i (fragments Wide) (omega arith) in
-    c.loop-other.invariant.barred_are st code seats kept mates are
+    c.loop-other.invariant.barred_are st code seats kept members are
     ∙ ap (λ (fs : List Fragment). bars_in nodes code s c.args.fragment (seats ++ held_all s (target_at st s) fs)) whole
     ∙ targets-all nodes st s kept.seated code c.args.fragment seats

@@ -11,11 +11,11 @@ use Rattle.lrc_slots.specs.Tables.{barred}
 use Rattle.lrc_stripes.specs.Stored.{Stored}
 use Rattle.lrc_book.proofs.BesideLemmas.{home_at, homes-all}
 use Rattle.lrc_book.proofs.KnownSeatLemmas.{IsKnown, home-known}
-use Rattle.lrc_book.proofs.NeighbourLemmas.{homes-bar, mates-both}
+use Rattle.lrc_book.proofs.NeighbourLemmas.{homes-bar, members-both}
 use Rattle.lrc_book.proofs.store.Store.neighbours.Goals as goal
 
 pub returns : goal.returns
-returns c = λ st code kept mates.
+returns c = λ st code kept members.
     let k = c.args.self.now in
     let s = c.args.stripe in
     let f = c.args.fragment in
@@ -24,9 +24,9 @@ returns c = λ st code kept mates.
     let same = ap (λ (t : Slots). t.nodes) kept.table_is in
     let domains = c.domains.result.now in
     ap (joined (barred c.args.more.now))
-    (homes-bar nodes code s f (home_at st s) domains.faults domains.upgrades c.without-others.result.bits c.from_bits-mates.result.bits
+    (homes-bar nodes code s f (home_at st s) domains.faults domains.upgrades c.without-others.result.bits c.from_bits-members.result.bits
     (λ g. c.without-others.ensures g.value ∙ ap (λ (b : Bool). not (eqb g.value f.value) && b) (c.homed.ensures.homed g.value ∙ ap (λ (o : Option Seat). is_some o) (home g)))
-    (λ g. mates-both c.without-others.result.bits c.args.mates.bits c.from_bits-mates.result.bits g.value _ c.from_bits-mates.ensures (mates g))
+    (λ g. members-both c.without-others.result.bits c.args.members.bits c.from_bits-members.result.bits g.value _ c.from_bits-members.ensures (members g))
     (λ g seat is. subst (λ (ns : List NodeInfo). IsSome (node_at ns seat.node)) same
     (subst (λ (o : Option Seat). IfSome o (IsKnown k)) (home g ∙ is) (home-known st k kept s g _ refl)))
     (λ g seat n is found. c.domains.ensures g.value seat n (home g ∙ is) (ap (λ (t : Stored). node_at t.nodes seat.node) kept.stripes_is ∙ found))

@@ -1,4 +1,4 @@
--- The front, before which nothing is grantable, and what a grant leaves of it.
+-- The cursor, before which nothing is grantable, and what a grant leaves of it.
 use Rattle.std.proofs.Common.{[], ◌≡◌, ◌≢◌, ℕ, inl, inr, true, not, List, ◌∷◌, ◌++◌, map, find, Option, Some, None, arith, refl, sym, ap, ◌∙◌, subst}
 use Rattle.std.specs.List.{Contains}
 use Rattle.std.specs.Option.{option_or}
@@ -25,7 +25,7 @@ use Rattle.lrc_rules.specs.Urgency.{is_grantable, all_fragments}
 use Rattle.lrc_book.specs.Stores.{stored_of}
 use Rattle.lrc_rules.specs.Granting.{IsGrantable, IsMoreUrgent, IsMostUrgent}
 use Rattle.lrc_rules.specs.Leases.{with_lease}
-use Rattle.lrc_book.specs.Repairing.{IsPast, IsFront, HaveGrantable}
+use Rattle.lrc_book.specs.Repairing.{IsPast, IsRepairCursor, HaveGrantable}
 use Rattle.lrc_rules.proofs.MemberLemmas.{All-members, map-member, member-filter, list_any-member}
 use Rattle.lrc_rules.proofs.UrgencyLemmas.{fragments-from, needs-own}
 use Rattle.lrc_rules.proofs.MostUrgentLemmas.{stripe-words, grantable-words}
@@ -86,9 +86,9 @@ module _ (nodes : List NodeInfo) (st : State) (l : LeaseRecord) where
             };
       }
 
-  pub front-leased : (front : Option StripeNo) → IsFront nodes st front → IsFront nodes next front
-  front-leased None is = tt
-  front-leased (Some s) is = record { there = is.there; fragment = is.fragment; needed = is.needed; first = λ p so. is.first p (still-grantable p so) }
+  pub cursor-leased : (cursor : Option StripeNo) → IsRepairCursor nodes st cursor → IsRepairCursor nodes next cursor
+  cursor-leased None is = tt
+  cursor-leased (Some s) is = record { there = is.there; fragment = is.fragment; needed = is.needed; first = λ p so. is.first p (still-grantable p so) }
 
   urgent-once : (s t : StripeNo) → IsMoreUrgent nodes st s t → IsMoreUrgent nodes st t s → ⊥
   urgent-once s t (inl less) (inl more) = omega (arith, less, more)
@@ -105,8 +105,8 @@ module _ (nodes : List NodeInfo) (st : State) (l : LeaseRecord) where
       ]
 
   -- the stripe of the most urgent fragment, which has a lease now
-  pub front-granted : (p : StripeFragment) → IsMostUrgent nodes st p → IsPast nodes next p.0
-  front-granted p most = record {
+  pub cursor-granted : (p : StripeFragment) → IsMostUrgent nodes st p → IsPast nodes next p.0
+  cursor-granted p most = record {
     there = most.grantable.owed.there;
     fragment = p.1;
     needed = most.grantable.owed.needed;
