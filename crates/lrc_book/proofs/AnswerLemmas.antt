@@ -1,30 +1,23 @@
--- Answers and the replies that they tell.
-use Rattle.std.proofs.Common.{◌≡◌, ◌≢◌, false, take, refl}
+-- Commands and answers that are none of some.
+use Rattle.std.proofs.Common.{◌≡◌, ◌≢◌, false, refl}
 use Rattle.lrc_code.specs.declared.numbers.StripeNo.{StripeNo}
 use Rattle.lrc_code.specs.declared.numbers.Fragment.{Fragment}
 use Rattle.lrc_terms.specs.declared.lease.Lease.{Lease as LeaseRecord}
 use Rattle.lrc_rules.specs.declared.kind.Kind.{Kind}
 use Rattle.lrc_rules.specs.declared.command.Command.{Command}
-use Rattle.lrc_rules.specs.declared.command.Command.TheVariants.{Lease, Next}
+use Rattle.lrc_rules.specs.declared.command.Command.TheVariants.{Place, Place6, Lease, Next}
 use Rattle.lrc_rules.specs.Changes.{grants_lease}
 use Rattle.lrc_book.specs.declared.answer.Answer.{Answer}
 use Rattle.lrc_book.specs.declared.answer.Answer.TheVariants as answer
-use Rattle.lrc_rules.specs.declared.reply.Reply.TheVariants as reply
-use Rattle.lrc_book.specs.Answers.{told}
+use Rattle.lrc_book.specs.Answers.{told, is_place}
 
--- that a change was made is told by one answer alone
-pub changed-told : (a : Answer) → told a ≡ reply.Changed → a ≡ answer.Changed
-changed-told answer.Changed e = refl
-changed-told (answer.Placed seats) e = absurd (let never : reply.Placed seats.value ≡ reply.Changed = e in cc)
-changed-told (answer.Placed6 seats) e = absurd (let never : reply.Placed6 (take 10 seats.value) ≡ reply.Changed = e in cc)
-changed-told answer.Dropped e = absurd (let never : reply.Dropped ≡ reply.Changed = e in cc)
-changed-told (answer.Granted lease kind) e = absurd (let never : reply.Granted lease kind ≡ reply.Changed = e in cc)
-changed-told answer.Idle e = absurd (let never : reply.Idle ≡ reply.Changed = e in cc)
-changed-told answer.Ended e = absurd (let never : reply.Ended ≡ reply.Changed = e in cc)
-changed-told (answer.Ticked clock ended) e = absurd (let never : reply.Ticked clock ended ≡ reply.Changed = e in cc)
-changed-told (answer.Refused refusal) e = absurd (let never : reply.Refused refusal ≡ reply.Changed = e in cc)
+-- a command that is neither of the two that place a stripe
+pub not-place : (c : Command) → ((s : StripeNo) → c ≢ Place s) → ((s : StripeNo) → c ≢ Place6 s) → is_place c ≡ false
+not-place (Place s) wide narrow = absurd (wide s refl)
+not-place (Place6 s) wide narrow = absurd (narrow s refl)
+not-place _ wide narrow = refl
 
--- ---- what grants no lease
+-- ---- answers that grant no lease
 
 next-other : (a : Answer) → ((l : LeaseRecord) (k : Kind) → a ≢ answer.Granted l k) → grants_lease Next (told a) ≡ false
 next-other (answer.Granted l k) other = absurd (other l k refl)

@@ -13,6 +13,7 @@ pub mod FragmentLemmas
 pub mod StoredLemmas
 pub mod ModesLemmas
 pub mod ModeLemmas
+pub mod NodeCommandLemmas
 pub mod NodeSetLemmas
 pub mod DomainLemmas
 pub mod UpgradeLemmas

@@ -7,7 +7,7 @@ use Rattle.lrc_rules.specs.declared.entry.Entry.{Entry}
 use Rattle.lrc_rules.specs.States.{State}
 use Rattle.lrc_rules.specs.Histories.{World, outcome_in, world_after, state_after}
 
--- a book over these nodes, with at most so many entries; `ready`: it has room for one more command of any kind
+-- a book over these nodes, with at most `limit` entries; `ready`: it has room for one more command of any kind
 pub record BookView : Type 0 where
   pub nodes : List NodeInfo
   pub limit : ℕ

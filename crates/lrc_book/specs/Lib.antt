@@ -15,6 +15,7 @@ pub mod Neighbouring
 pub mod Planning
 pub mod Repairing
 pub mod Reports
+pub mod NodeCommands
 pub mod Books
 pub mod Dropping
 pub mod Answers

@@ -21,13 +21,13 @@ use Rattle.lrc_slots.specs.declared.open_node.OpenRow.{OpenRow}
 use Rattle.lrc_book.specs.declared.class_bars.ClassBars.{ClassBars}
 use Rattle.lrc_book.specs.Stores.{closed}
 
--- where the nodes stand that are barred for the fragments of a class
+-- the index of the nodes that are barred for the fragments of a class
 abbrev pub index_of_class : Class → ℕ
 index_of_class A = 0
 index_of_class B = 1
 index_of_class G = 2
 
--- the nodes whose upgrade domains are barred for the fragments of a class, as truth values by rank
+-- the nodes whose upgrade domains are barred for the fragments of a class, as truth values by index
 abbrev pub upgrades_for : ClassBars → Class → List Bool
 upgrades_for b c = get_or b.upgrades (index_of_class c) []
 
@@ -68,6 +68,6 @@ pub record AreBarsOf (nodes : List NodeInfo) (code : Code) (upgrading : Option U
 abbrev pub open_seat : OpenNode → Seat
 open_seat o = record { node = o.node.number; slot = o.slot }
 
--- the same where the node is told by where the table keeps it
+-- the same where the node is lent by the table
 abbrev pub row_seat : OpenRow → Seat
 row_seat o = record { node = o.node.now.number; slot = o.slot }

@@ -26,7 +26,7 @@ use Rattle.lrc_rules.specs.Histories.{state_after, IsLegal}
 abbrev pub is_waiting : List NodeInfo → State → StripeNo → Fragment → Bool
 is_waiting nodes st s f = needs nodes st s f && is_none (lease_of st s f)
 
--- ---- the cursor, before which nothing is grantable
+-- ---- the repair cursor, before which nothing is grantable
 
 -- The stripe has work, and no grantable fragment is of a stripe that comes before it in the order of repair.
 pub record IsPast (nodes : List NodeInfo) (st : State) (cursor : StripeNo) : Type 0 where
@@ -35,15 +35,15 @@ pub record IsPast (nodes : List NodeInfo) (st : State) (cursor : StripeNo) : Typ
   pub needed : IsTrue (needs nodes st cursor fragment)
   pub first : (p : StripeFragment) → IsGrantable nodes st p → IsFalse (comes_first (rank nodes st) p.0 cursor)
 
--- a cursor of the state; where there is none, nothing is known
+-- the repair cursor of the state; where there is none, nothing is known
 abbrev pub IsRepairCursor : List NodeInfo → State → Option StripeNo → Type 0
 IsRepairCursor nodes st cursor = IfSome cursor (IsPast nodes st)
 
--- the store is that of a state with this cursor
+-- the store is that of a state with this repair cursor
 abbrev pub HasRepairCursor : Store → Option StripeNo → Type 0
 HasRepairCursor s cursor = (st : State) × IsOf st s × IsRepairCursor s.topology st cursor
 
--- the stripes are there, stand in the order of repair, and are all that have a grantable fragment
+-- the stripes are there, are in the order of repair, and are all that have a grantable fragment
 pub record HaveGrantable (nodes : List NodeInfo) (st : State) (stripes : List StripeNo) : Type 0 where
   pub there : (s : StripeNo) → Contains stripes s → Contains st.stripes s
   pub rising : AllPairs (λ r s. IsTrue (comes_first (rank nodes st) r s)) stripes
@@ -51,11 +51,11 @@ pub record HaveGrantable (nodes : List NodeInfo) (st : State) (stripes : List St
 
 -- ---- a repair
 
--- what is repaired
+-- the fragment that is repaired
 abbrev pub fragment_of : Repair → StripeFragment
 fragment_of r = (r.stripe, r.fragment)
 
--- the repair of a fragment, from what it is rebuilt and on the seat, or why its lease is refused
+-- the repair of a fragment of this kind on this seat, or why its lease is refused
 abbrev pub repair_by : StripeNo → Fragment → Option Kind → Option Seat → Result Repair Refusal
 repair_by s f None seat = Err refusal.Unrecoverable
 repair_by s f (Some kind) None = Err (refusal.NoLawfulNode f)
@@ -73,7 +73,7 @@ pub record IsRepair (nodes : List NodeInfo) (st : State) (r : Repair) : Type 0 w
 
 -- ---- a book
 
--- What a book keeps is the store of the state after its history, the counts of its grants, and a cursor; it is legal and not longer than the limit.
+-- What a book keeps is the store of the state after its history, the counts of its grants, and a repair cursor; it is legal and not longer than the limit.
 pub record IsKept (store : Store) (counts : List ℕ) (cursor : Option StripeNo) (limit : ℕ) (history : List Entry) : Type 0 where
   pub store_is : IsOf (state_after store.topology history) store
   pub counted : AreGrantsOf history counts

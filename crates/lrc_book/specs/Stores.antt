@@ -37,7 +37,7 @@ use Rattle.lrc_rules.specs.Goodness.{AreSeated}
 use Rattle.lrc_rules.specs.Steps.{without_upgrading}
 use Rattle.lrc_book.specs.Ties.{table_of, bars_fault, bars_upgrade}
 
--- the stripes, codes, homes and the online and the draining nodes of the state, with room for so many more stripes
+-- the stripes, codes, homes and the online and the draining nodes of the state, with room for `spare` more stripes
 abbrev pub stored_of : List NodeInfo → State → ℕ → Stored
 stored_of nodes st spare =
     record {
@@ -121,7 +121,7 @@ pub record IsGrant (nodes : List NodeInfo) (st : State) (lease : Lease) : Type 0
   pub new : lease_of st lease.stripe lease.fragment ≡ None
   pub chosen_is : chosen nodes st lease.stripe lease.fragment ≡ Some lease.target
 
--- from what a fragment is rebuilt, if it can be
+-- how a fragment is rebuilt, if it can be
 abbrev pub repair_of : List NodeInfo → State → StripeNo → Fragment → Option Kind
 repair_of nodes st s f = if is_beyond_repair nodes st s f then None else Some (kind nodes st s f)
 

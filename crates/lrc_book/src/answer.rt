@@ -10,17 +10,17 @@ ghost use Rattle.lrc_rules.specs.Leases.{is_grant};
 use crate::{Kind, Lease, Refusal, Reply, Seat};
 use lrc_code::{FRAGMENTS, NARROW_FRAGMENTS, NodeNo};
 
-/// What stands where no seat was chosen yet.
+/// A seat that is to be overwritten.
 pub(crate) const NO_SEAT: Seat = Seat {
     node: NodeNo { value: 0 },
     slot: 0,
 };
 
-/// A reply as the history keeps it: the seats of a new stripe stand apart, so that an entry is small.
+/// A reply as the history keeps it: the seats of a new stripe are in a box, so that an entry is small.
 #[derive(Drop)]
 pub(crate) enum Answer {
     Placed(Box<[Seat; FRAGMENTS]>),
-    /// The first ten are those of the stripe.
+    /// The seats of the stripe are the first ten.
     Placed6(Box<[Seat; FRAGMENTS]>),
     Dropped,
     Granted(Lease, Kind),
@@ -32,7 +32,7 @@ pub(crate) enum Answer {
 }
 
 impl Answer {
-    /// The answer that tells this reply. Its seats, if it has some, stand in the room that there is for them.
+    /// The answer that stands for a reply. The seats of a reply are put into the box `room`.
     pub(crate) fn of(reply: &Reply, room: &mut Option<Box<[Seat; FRAGMENTS]>>) -> Answer
         requires { IsSome room.old }
         ensures { told result ≡ reply.now }
@@ -61,7 +61,7 @@ impl Answer {
         }
     }
 
-    /// Whether the store may change by it.
+    /// Whether the store may change after it.
     pub(crate) fn changes(&self) -> bool
         ensures same { result ≡ false → (st : State) (command : Command) → changed_by st command (told self.now) ≡ st }
         ensures none { result ≡ false → (s : StripeNo) (f : Fragment) → is_grant s f (told self.now) ≡ false }
@@ -72,8 +72,8 @@ impl Answer {
         }
     }
 
-    /// The reply that it tells.
-    #[inline(always)] // a reply then is made where it is wanted
+    /// The reply that it stands for.
+    #[inline(always)] // so that the reply is built in its final location
     pub(crate) fn reply(&self) -> Reply
         ensures { result ≡ told self.now }
     {
@@ -94,7 +94,7 @@ impl Answer {
     }
 }
 
-/// Puts ten seats in the place of the first of sixteen.
+/// Overwrites the first ten of sixteen seats.
 fn put_first(kept: &mut [Seat; FRAGMENTS], seats: &[Seat; NARROW_FRAGMENTS])
     ensures { take 10 kept.new ≡ seats.now }
 {
@@ -102,7 +102,7 @@ fn put_first(kept: &mut [Seat; FRAGMENTS], seats: &[Seat; NARROW_FRAGMENTS])
 }
 
 /// The first ten of sixteen seats.
-#[inline(never)] // `Answer::reply` then is short, and part of each call
+#[inline(never)] // so that `Answer::reply` is short enough to be inlined
 fn first_ten(seats: &[Seat; FRAGMENTS]) -> [Seat; NARROW_FRAGMENTS]
     ensures { result ≡ take 10 seats.now }
 {

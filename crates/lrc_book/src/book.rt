@@ -20,14 +20,14 @@ use std::marker::Model;
 /// The most entries of a history.
 pub const HISTORY_LIMIT: u32 = 1_000_000;
 
-/// The stripes of a store, the seats of their fragments, the live leases and the modes of the nodes, with all that was asked and
-/// answered.
+/// The stripes of a store, the seats of their fragments, the live leases and the modes of the nodes, with the history of
+/// commands and replies.
 #[derive(Drop)]
 pub struct Book {
-    /// In a box of its own, so that letting a book go is one call wherever it is done.
+    /// In a box, so that dropping a book is one call wherever it happens.
     pub(crate) store: Box<Store>,
     pub(crate) grants: Grants,
-    /// A stripe with work before which nothing is grantable, if one is known: a search for the next repair begins there.
+    /// A stripe with work before which nothing is grantable, if one is known: the search for the next repair begins there.
     pub(crate) repair_cursor: Option<StripeNo>,
     pub(crate) history: Vec<Record>,
     /// Room for the seats of the next stripe that is placed.
@@ -66,7 +66,7 @@ impl Book {
         Book::with_limit(alloc, topology, HISTORY_LIMIT)
     }
 
-    /// A book over the nodes of a store, with an empty history of at most so many entries, which are 1,000,000 at most.
+    /// A book over the nodes of a store, with an empty history of at most `limit` entries, which is 1,000,000 at most.
     ///
     /// # Errors
     ///
@@ -87,7 +87,7 @@ impl Book {
         })
     }
 
-    /// What the book keeps of its state.
+    /// The store of the book.
     fn store(&self) -> &Store
         ensures nodes { result.now.topology ≡ self.now.nodes }
         ensures kept { IsOf (state_of self.now) result.now }
@@ -108,7 +108,7 @@ impl Book {
         self.history.as_slice()
     }
 
-    /// The nodes that the book is made over.
+    /// The nodes of the book.
     pub fn topology(&self) -> &Topology
         ensures { result.now ≡ self.now.nodes }
     {
@@ -179,7 +179,7 @@ impl Book {
         self.store().leases.lease(stripe, fragment)
     }
 
-    /// How many ticks there were, at most 1,000,000. A live lease ends when the clock comes to its `expiry`.
+    /// The number of ticks so far, at most 1,000,000. A live lease ends when the clock comes to its `expiry`.
     pub fn clock(&self) -> u32
         ensures { result ≡ (state_of self.now).clock }
     {
@@ -216,7 +216,7 @@ impl Book {
         Ok(last.reply())
     }
 
-    /// The same, where the reply is read from the entry that it adds.
+    /// The same, but the reply is only in the entry that it adds.
     ///
     /// # Errors
     ///

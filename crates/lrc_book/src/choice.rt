@@ -1,4 +1,4 @@
-//! The choice of a seat, read off the slot table and the seats of the stripe's other fragments.
+//! The choice of a seat, from the slot table and the seats of the stripe's other fragments.
 
 ghost use Rattle.std.specs.Prelude.{◌≡◌, ◌++◌, ◌∷◌, [], true, false, IsTrue, IfSome, IsSome, List, Some, None, map, option_map, is_some};
 ghost use Rattle.std.specs.List.{All};
@@ -108,7 +108,8 @@ impl Store {
         })
     }
 
-    /// The homes of a stripe's other fragments as the neighbours of a fragment with these members, and what is barred besides.
+    /// The homes of a stripe's other fragments as the neighbours of a fragment whose class has these members, and what else is
+    /// barred.
     fn neighbours<'a>(
         &'a self,
         stripe: StripeNo,
@@ -130,7 +131,7 @@ impl Store {
         }
     }
 
-    /// Bars the domains of the targets of the leases of a stripe's other fragments for a fragment with these members.
+    /// Bars the domains of the targets of the leases of a stripe's other fragments for a fragment whose class has these members.
     fn bar_targets(&self, bars: &mut Taken, stripe: StripeNo, fragment: Fragment, members: LossMask)
         requires { IsTied self.now }
         ensures { (st : State) (code : AnyCode) (seats : List Held) → IsOf st self.now → AreClassMembers code fragment members
@@ -147,7 +148,7 @@ impl Store {
         }
     }
 
-    /// The target of a fragment's lease, if it has one; these are the leased fragments of its stripe.
+    /// The target of a fragment's lease, if it has one. `leased` are the leased fragments of its stripe.
     fn target(&self, leased: LossMask, stripe: StripeNo, fragment: Fragment) -> Option<Seat>
         requires { bits_set leased.bits fragment.value ≡ leased_at (leased_in self.now.leases) stripe fragment.value }
         ensures { result ≡ option_map (λ l. l.target) ((leased_in self.now.leases).leases stripe fragment.value) }
@@ -159,8 +160,8 @@ impl Store {
         Some(lease.target)
     }
 
-    /// Bars the domains of a seat of the stripe for a fragment with these members, if it is one of another: its fault domain,
-    /// and its upgrade domain where the other fragment is a mate. Its node is one of the store's.
+    /// Bars the domains of a seat of another fragment of the stripe for a fragment whose class has these members: its fault
+    /// domain, and its upgrade domain if the other fragment is of the class. The node is one of the store's.
     fn bar_seat(
         &self,
         bars: &mut Taken,

@@ -51,7 +51,7 @@ impl ClassBars {
     }
 }
 
-/// Where the nodes stand that are barred for the fragments of a class.
+/// The index in `ClassBars::upgrades` of the nodes that are barred for a class.
 fn index_of(class: Class) -> usize
     ensures value { result ≡ index_of_class class }
     ensures few { result < 3 }

@@ -1,10 +1,10 @@
 ghost use Rattle.std.specs.Prelude.{◌≡◌, ◌+◌, ◌<◌, ◌≤◌};
 ghost use Rattle.lrc_rules.specs.Leases.{term};
 
-/// For how many ticks a lease is granted.
+/// The number of ticks that a lease lasts.
 const TERM: u32 = 3;
 
-/// How many ticks there were. It is at most 4,294,967,292, so that the end of a lease that is granted now is a `u32`.
+/// The number of ticks so far. It is at most 4,294,967,292, so that the end of a lease that is granted now is a `u32`.
 #[derive(Clone, Copy)]
 pub(crate) struct Clock {
     pub(crate) value: u32,
@@ -40,7 +40,7 @@ impl Clock {
         self.value + TERM
     }
 
-    /// Moves on by one tick.
+    /// Counts one tick.
     pub(crate) fn advance(&mut self)
         requires { self.old.value < 4294967292 }
         ensures { self.new.value ≡ self.old.value + 1 }

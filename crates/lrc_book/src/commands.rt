@@ -1,4 +1,4 @@
-//! The commands: of each the reply, and beside it the change that follows.
+//! The commands: the reply and the change of each.
 
 pub(crate) mod leases;
 mod next;

@@ -1,5 +1,5 @@
-//! The book of placements: a store of slots, stripes and leases, and the history of what was asked and answered. What each command answers
-//! and changes is said by the rules of `lrc_rules`.
+//! The book of placements: a store of slots, stripes and leases, and the history of commands and replies. `lrc_rules` defines
+//! what each command returns and changes.
 #![tactic(auto)]
 
 mod answer;

@@ -1,6 +1,7 @@
 ghost use Rattle.std.specs.Prelude.{◌≡◌, IfOk};
 ghost use Rattle.lrc_rules.specs.States.{State, opening, mode_of, is_down, is_online};
-ghost use Rattle.lrc_rules.specs.Steps.{with_gone, without_gone, with_draining, without_draining, with_down, without_down, with_upgrading, without_upgrading};
+ghost use Rattle.lrc_rules.specs.Steps.{with_gone, with_upgrading, without_upgrading};
+ghost use Rattle.lrc_book.specs.NodeCommands.{is_wrong_on, with_mode};
 ghost use Rattle.lrc_book.specs.Stores.{AreModesOf};
 
 use crate::Mode;
@@ -8,6 +9,18 @@ use crate::node_set::NodeSet;
 use lrc_code::{NodeNo, UpgradeNo};
 use lrc_topology::NodeInfo;
 use std::alloc::{AllocError, Global};
+
+/// A command on a node.
+#[derive(Clone, Copy)]
+pub(crate) enum NodeCommand {
+    Fail,
+    Down,
+    Up,
+    Drain,
+    Undrain,
+    Retire,
+    Join,
+}
 
 /// The modes of the nodes, which of them are down, and which upgrade domain is upgrading.
 #[derive(Drop)]
@@ -59,8 +72,38 @@ impl Modes {
             && self.upgrading != Some(node.upgrade)
     }
 
-    /// Notes that a node is out of the store.
-    pub(crate) fn leave(&mut self, node: NodeNo)
+    /// Whether a command is wrong for the mode of a node.
+    pub(crate) fn forbid(&self, command: NodeCommand, node: NodeNo) -> bool
+        ensures { (st : State) → AreModesOf st self.now → result ≡ is_wrong_on command st node }
+    {
+        match command {
+            NodeCommand::Fail => self.mode(node) == Mode::Gone,
+            NodeCommand::Down => self.mode(node) == Mode::Gone || self.is_down(node),
+            NodeCommand::Up => !self.is_down(node),
+            NodeCommand::Drain => self.mode(node) != Mode::Active,
+            NodeCommand::Undrain => self.mode(node) != Mode::Draining,
+            NodeCommand::Retire => self.mode(node) != Mode::Draining,
+            NodeCommand::Join => self.mode(node) != Mode::Gone,
+        }
+    }
+
+    /// Changes the mode of a node by a command.
+    pub(crate) fn change(&mut self, command: NodeCommand, node: NodeNo)
+        ensures { (st : State) → AreModesOf st self.old → AreModesOf (with_mode command st node) self.new }
+    {
+        match command {
+            NodeCommand::Fail => self.leave(node),
+            NodeCommand::Retire => self.leave(node),
+            NodeCommand::Down => self.down.insert(node),
+            NodeCommand::Up => self.down.remove(node),
+            NodeCommand::Drain => self.draining.insert(node),
+            NodeCommand::Undrain => self.draining.remove(node),
+            NodeCommand::Join => self.gone.remove(node),
+        }
+    }
+
+    /// Records that a node is out of the store.
+    fn leave(&mut self, node: NodeNo)
         ensures { (st : State) → AreModesOf st self.old → AreModesOf (with_gone st node) self.new }
     {
         self.gone.insert(node);
@@ -68,49 +111,14 @@ impl Modes {
         self.down.remove(node);
     }
 
-    /// Notes that a node that was gone is in the store again.
-    pub(crate) fn join(&mut self, node: NodeNo)
-        ensures { (st : State) → AreModesOf st self.old → AreModesOf (without_gone st node) self.new }
-    {
-        self.gone.remove(node);
-    }
-
-    /// Notes that an active node is draining.
-    pub(crate) fn drain(&mut self, node: NodeNo)
-        ensures { (st : State) → AreModesOf st self.old → AreModesOf (with_draining st node) self.new }
-    {
-        self.draining.insert(node);
-    }
-
-    /// Notes that a draining node is active again.
-    pub(crate) fn undrain(&mut self, node: NodeNo)
-        ensures { (st : State) → AreModesOf st self.old → AreModesOf (without_draining st node) self.new }
-    {
-        self.draining.remove(node);
-    }
-
-    /// Notes that a node can't be reached for now.
-    pub(crate) fn down(&mut self, node: NodeNo)
-        ensures { (st : State) → AreModesOf st self.old → AreModesOf (with_down st node) self.new }
-    {
-        self.down.insert(node);
-    }
-
-    /// Notes that a node that was down can be reached again.
-    pub(crate) fn up(&mut self, node: NodeNo)
-        ensures { (st : State) → AreModesOf st self.old → AreModesOf (without_down st node) self.new }
-    {
-        self.down.remove(node);
-    }
-
-    /// Notes that a domain is upgrading.
+    /// Records that a domain is upgrading.
     pub(crate) fn upgrade(&mut self, domain: UpgradeNo)
         ensures { (st : State) → AreModesOf st self.old → AreModesOf (with_upgrading st domain) self.new }
     {
         self.upgrading = Some(domain);
     }
 
-    /// Notes that no domain is upgrading.
+    /// Records that no domain is upgrading.
     pub(crate) fn upgraded(&mut self)
         ensures { (st : State) → AreModesOf st self.old → AreModesOf (without_upgrading st) self.new }
     {

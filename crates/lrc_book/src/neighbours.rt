@@ -10,7 +10,7 @@ use lrc_slots::{Barring, Taken};
 use lrc_stripes::HomeDomains;
 use lrc_topology::NodeInfo;
 
-/// The homes that a fragment is to stand beside, and what else keeps nodes from being chosen for it.
+/// The homes of the other fragments of a stripe, and what else bars nodes for a fragment.
 #[derive(Drop)]
 pub(crate) struct Neighbours<'a> {
     /// The domains of the homes of its stripe.

@@ -7,10 +7,10 @@ use lrc_code::NodeNo;
 use std::alloc::{AllocError, Global};
 use std::marker::Model;
 
-/// A set of nodes, told by their numbers without a search.
+/// A set of nodes, with a truth value for each number of a node.
 #[derive(Drop)]
 pub(crate) struct NodeSet {
-    /// For each number that a node can have, whether it is of the set.
+    /// For each number of a node, whether the set contains it.
     members: Vec<bool>,
 }
 
@@ -34,21 +34,21 @@ impl NodeSet {
         })
     }
 
-    /// Whether a node is of the set.
+    /// Whether the set contains a node.
     pub(crate) fn contains(&self, node: NodeNo) -> bool
         ensures { result ≡ has_member self.now node }
     {
         self.members[usize::from(node.value)]
     }
 
-    /// Puts a node into the set.
+    /// Adds a node to the set.
     pub(crate) fn insert(&mut self, node: NodeNo)
         ensures { (n : NodeNo) → has_member self.new n ≡ (has_member self.old n || same_node node n) }
     {
         self.members[usize::from(node.value)] = true;
     }
 
-    /// Takes a node out of the set.
+    /// Removes a node from the set.
     pub(crate) fn remove(&mut self, node: NodeNo)
         ensures { (n : NodeNo) → has_member self.new n ≡ (has_member self.old n && not (same_node node n)) }
     {
@@ -56,7 +56,7 @@ impl NodeSet {
     }
 }
 
-/// So many numbers that are not of the set. It stands by itself so that no proof goes through so long a list.
+/// `count` falses. It is a function of its own, so that no proof unfolds a list of 65,536 elements.
 fn none(alloc: Global, count: usize) -> Result<Vec<bool>, AllocError>
     ensures long { IfOk result (λ v. length v.items ≡ count) }
     ensures none { IfOk result (λ v. (k : ℕ) → get_or v.items k false ≡ false) }

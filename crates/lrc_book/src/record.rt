@@ -6,7 +6,7 @@ use crate::{Command, Entry, Reply};
 use lrc_code::SessionNo;
 use std::marker::Model;
 
-/// An entry as the history keeps it, where the seats of a reply take room only in those that have some.
+/// An entry as the history keeps it: seats take memory only in the entries that have some.
 #[derive(Drop)]
 pub struct Record {
     pub(crate) session: SessionNo,
@@ -25,7 +25,7 @@ impl Model for Record {
 }
 
 impl Record {
-    /// The entry of a command that was answered so.
+    /// The entry of a command and its answer.
     pub(crate) fn new(session: SessionNo, command: Command, answer: Answer) -> Record
         ensures { result ≡ record { session = session; command = command; reply = told answer } }
     {
@@ -36,22 +36,22 @@ impl Record {
         }
     }
 
-    /// Who gave the command.
+    /// The session that gave the command.
     pub fn session(&self) -> SessionNo
         ensures { result ≡ self.now.session }
     {
         self.session
     }
 
-    /// What was asked.
+    /// The command.
     pub fn command(&self) -> Command
         ensures { result ≡ self.now.command }
     {
         self.command
     }
 
-    /// What the book answered.
-    #[inline(always)] // as that of its answer
+    /// The reply to the command.
+    #[inline(always)] // as `Answer::reply`
     pub fn reply(&self) -> Reply
         ensures { result ≡ self.now.reply }
     {

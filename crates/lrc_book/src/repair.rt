@@ -21,7 +21,7 @@ use crate::{Kind, Lease, Refusal, Seat};
 use lrc_code::{Code, Fragment, LossMask, SessionNo, StripeNo};
 use lrc_leases::Grants;
 
-/// What a lease is granted for: a fragment, from what it is rebuilt, and the seat that it is to have.
+/// What a lease is granted for: a fragment, how it is rebuilt, and the seat that it is to have.
 #[derive(Clone, Copy)]
 pub(crate) struct Repair {
     pub(crate) stripe: StripeNo,
@@ -81,9 +81,8 @@ impl Store {
         self.stripes.needs_there(stripe)
     }
 
-    /// From what a fragment of a stripe that is there is rebuilt; `None` where it can't be. The fragment is one that the
-    /// stripe's code has.
-    #[inline(always)] // a grant then goes through one kind in memory less
+    /// How a fragment of a stripe that is there is rebuilt; `None` if it can't be. The stripe's code has the fragment.
+    #[inline(always)] // so that a grant copies its kind once less
     fn repair_kind(&self, stripe: StripeNo, fragment: Fragment) -> Option<Kind>
         requires { IsTrue ((stored_in self.now.stripes).stripes stripe) }
         ensures { (st : State) → IsOf st self.now → IsTrue (has_fragment (code_of st stripe) fragment.value)
@@ -105,7 +104,7 @@ impl Store {
     }
 }
 
-/// How a fragment is rebuilt from its local group, where it can be, beside these missing fragments of its stripe.
+/// How a fragment is rebuilt from its local group; `None` if it can't be with these fragments of its stripe missing.
 #[inline(always)] // as `Store::repair_kind`
 fn local_kind(code: Code, missing: LossMask, fragment: Fragment) -> Option<Kind>
     ensures { result ≡ (if is_local code (bits_set missing.bits) fragment then Some (repairs.local_kind code (others code fragment)) else None) }

@@ -1,14 +1,13 @@
-//! A step of the placement object: decided over what stands, prepared by making room, and committed, which can't fail.
+//! A step of the placement object: decided over the state that is kept, prepared by making room, and committed, which can't fail.
 
 ghost use Rattle.std.specs.Prelude.{◌≡◌, ◌<◌, ◌+◌, ◌≤◌, ◌++◌, ◌∷◌, [], ℕ, true, false, IfOk, IfErr, OnOk, IsOk, IsSome, List, length, nat_le, is_some, vec_len, vec_capacity};
 ghost use Rattle.lrc_code.specs.declared.fault.Fault.TheVariants as fault;
 ghost use Rattle.lrc_code.specs.declared.numbers.SessionNo.{SessionNo};
 ghost use Rattle.lrc_rules.specs.declared.entry.Entry.{Entry};
 ghost use Rattle.lrc_rules.specs.States.{State};
-ghost use Rattle.lrc_rules.specs.Steps.{step, place_outcome};
-ghost use Rattle.lrc_rules.specs.Leases.{next_outcome, done_outcome};
+ghost use Rattle.lrc_rules.specs.Steps.{step};
 ghost use Rattle.lrc_rules.specs.Histories.{world_after, state_after, outcome_in};
-ghost use Rattle.lrc_book.specs.Answers.{told, placing as placing_of, is_place, is_other};
+ghost use Rattle.lrc_book.specs.Answers.{told, is_place};
 ghost use Rattle.lrc_rules.specs.Changes.{IsAnswer, changed_by, grants_lease};
 ghost use Rattle.lrc_book.specs.Books.{IsStep, world_of};
 ghost use Rattle.lrc_book.specs.Stores.{IsOf, IsTied, AreGrantsOf, AreFew, has_room};
@@ -16,15 +15,16 @@ ghost use Rattle.lrc_book.specs.Repairing.{IsRepairCursor, HasRepairCursor, IsKe
 
 use crate::answer::{Answer, NO_SEAT};
 use crate::commands::leases::count_grant;
+use crate::modes::NodeCommand;
 use crate::plan::Plan;
 use crate::store::Store;
 use crate::{Book, Command, Entry, Record, Reply, Seat};
-use lrc_code::{Code, FRAGMENTS, Fault, Fragment, NARROW_FRAGMENTS, SessionNo, StripeNo};
+use lrc_code::{Code, FRAGMENTS, Fault, NARROW_FRAGMENTS, SessionNo, StripeNo};
 use lrc_leases::Grants;
 use std::alloc::{AllocError, Global};
 
 impl Book {
-    /// The entry that a call would add. Nothing changes.
+    /// Returns the entry that a call would add. Nothing changes.
     ///
     /// # Errors
     ///
@@ -77,18 +77,18 @@ impl Book {
         ensures same { (self.new.nodes ≡ self.old.nodes) × (self.new.limit ≡ self.old.limit) }
         ensures history { self.new.history ≡ self.old.history ++ record { session = session; command = command; reply = (outcome_in self.old.nodes (world_of self.old) session command).0 } ∷ [] }
     {
-        let place = self.history.len();
+        let index = self.history.len();
         self.history
             .push_reserved(Record::new(session, command, Answer::Idle));
-        let made = &mut self.history[place];
+        let made = &mut self.history[index];
         let store = &mut *self.store;
         store.answer(&self.grants, self.repair_cursor, &mut self.seats, made);
         make(
             store,
             &mut self.grants,
             &mut self.repair_cursor,
-            &self.history[..place],
-            &self.history[place],
+            &self.history[..index],
+            &self.history[index],
         );
     }
 
@@ -122,7 +122,7 @@ impl Book {
 }
 
 /// Makes the step that is to be the next of the history after these entries, in a book that has room for it.
-#[inline(always)] // it is a look at the answer where nothing changes
+#[inline(always)] // a step that changes nothing then makes no call here
 fn make(
     store: &mut Store,
     grants: &mut Grants,
@@ -164,34 +164,8 @@ fn room_for_seats(alloc: Global) -> Result<Box<[Seat; FRAGMENTS]>, AllocError> {
     Ok(Box::new(alloc, [NO_SEAT; FRAGMENTS])?)
 }
 
-/// The stripe that the command places, and the code that it is to have.
-fn placing(command: &Command) -> Option<(Code, StripeNo)>
-    ensures { result ≡ placing_of command.now }
-{
-    match *command {
-        Command::Place(stripe) => Some((Code::Wide, stripe)),
-        Command::Place6(stripe) => Some((Code::Narrow, stripe)),
-        Command::Drop(_)
-        | Command::Lease(_, _)
-        | Command::Next
-        | Command::Done(_, _, _)
-        | Command::Abandon(_, _, _)
-        | Command::Revoke(_, _)
-        | Command::Fail(_)
-        | Command::Down(_)
-        | Command::Up(_)
-        | Command::Drain(_)
-        | Command::Undrain(_)
-        | Command::Retire(_)
-        | Command::Join(_)
-        | Command::Upgrade(_)
-        | Command::Upgraded(_)
-        | Command::Tick => None,
-    }
-}
-
 impl Store {
-    /// The reply of the plain placement object after entries with so many grants.
+    /// The reply of the plain placement object after entries with these grants.
     fn reply(
         &self,
         counts: &Grants,
@@ -205,15 +179,16 @@ impl Store {
         ensures { (st : State) (past : List Entry) → IsOf st self.now → AreGrantsOf past counts.now → IsRepairCursor self.now.topology st cursor
             → result ≡ (step self.now.topology past st session command.now).0 }
     {
-        if let Some((code, stripe)) = placing(command) {
-            return self.place_reply(code, stripe);
+        match *command {
+            Command::Place(stripe) => self.place_reply(Code::Wide, stripe),
+            Command::Place6(stripe) => self.place_reply(Code::Narrow, stripe),
+            _ => self
+                .answer_to(counts, cursor, &mut None, session, command)
+                .reply(),
         }
-        let mut made = Record::new(session, *command, Answer::Idle);
-        self.answer(counts, cursor, &mut None, &mut made);
-        made.reply()
     }
 
-    /// Gives the record of a command its answer, in room that there is for the seats of a new stripe.
+    /// Gives the record of a command its answer. The seats of a new stripe are put into the box `room`.
     pub(crate) fn answer(
         &self,
         counts: &Grants,
@@ -228,112 +203,55 @@ impl Store {
         ensures { (st : State) (past : List Entry) → IsOf st self.now → AreGrantsOf past counts.now → IsRepairCursor self.now.topology st cursor
             → made.new ≡ record made.old { reply = (step self.now.topology past st made.old.session made.old.command).0 } }
     {
-        match made.command {
-            Command::Place(stripe) => self.answer_place(Code::Wide, stripe, room, made),
-            Command::Place6(stripe) => self.answer_place(Code::Narrow, stripe, room, made),
-            Command::Next => self.answer_next(counts, cursor, made),
-            Command::Done(stripe, fragment, epoch) => {
-                self.answer_done(stripe, fragment, epoch, made)
-            }
-            _ => self.answer_other(counts, made),
-        }
+        made.answer = self.answer_to(counts, cursor, room, made.session, &made.command);
     }
 
-    /// Gives the record of a command that places a stripe its answer.
-    #[inline(never)] // as `answer_other`
-    fn answer_place(
+    /// The answer to a command. Each reply is a call that is not inlined, so that a step saves fewer registers.
+    fn answer_to(
         &self,
-        code: Code,
-        stripe: StripeNo,
+        counts: &Grants,
+        cursor: Option<StripeNo>,
         room: &mut Option<Box<[Seat; FRAGMENTS]>>,
-        made: &mut Record,
-    )
-        requires room { IsSome room.old }
-        ensures { (st : State) → IsOf st self.now → made.new ≡ record made.old { reply = (place_outcome self.now.topology st code stripe).0 } }
-    {
-        made.answer = Answer::of(&self.place_reply(code, stripe), room);
-    }
-
-    /// Gives the record of a command that asks for the most urgent repair its answer.
-    fn answer_next(&self, counts: &Grants, cursor: Option<StripeNo>, made: &mut Record)
-        requires few { AreFew counts.now }
-        requires cursor { HasRepairCursor self.now cursor }
-        ensures { (st : State) (past : List Entry) → IsOf st self.now → AreGrantsOf past counts.now → IsRepairCursor self.now.topology st cursor
-            → made.new ≡ record made.old { reply = (next_outcome self.now.topology past st made.old.session).0 } }
-    {
-        if !self.stripes.has_work() {
-            made.answer = Answer::Idle;
-            return;
-        }
-        self.answer_next_of_work(counts, cursor, made);
-    }
-
-    /// The same where some stripe has work.
-    #[inline(never)] // as `answer_other`
-    fn answer_next_of_work(&self, counts: &Grants, cursor: Option<StripeNo>, made: &mut Record)
-        requires few { AreFew counts.now }
-        requires cursor { HasRepairCursor self.now cursor }
-        ensures { (st : State) (past : List Entry) → IsOf st self.now → AreGrantsOf past counts.now → IsRepairCursor self.now.topology st cursor
-            → made.new ≡ record made.old { reply = (next_outcome self.now.topology past st made.old.session).0 } }
-    {
-        made.answer = self.next_reply(counts, cursor, made.session);
-    }
-
-    /// Gives the record of a command that reports a repair its answer.
-    #[inline(never)] // as `answer_other`
-    fn answer_done(&self, stripe: StripeNo, fragment: Fragment, epoch: u32, made: &mut Record)
-        ensures { (st : State) → IsOf st self.now
-            → made.new ≡ record made.old { reply = (done_outcome self.now.topology st made.old.session stripe fragment epoch).0 } }
-    {
-        made.answer = self.done_reply(made.session, stripe, fragment, epoch);
-    }
-
-    /// Gives the record of any other command its answer.
-    #[inline(never)] // a step then saves fewer registers, and what is answered is written where it stays
-    fn answer_other(&self, counts: &Grants, made: &mut Record)
+        session: SessionNo,
+        command: &Command,
+    ) -> Answer
         requires tied { IsTied self.now }
         requires few { AreFew counts.now }
-        requires other { is_other made.old.command ≡ true }
-        ensures { (st : State) (past : List Entry) → IsOf st self.now → AreGrantsOf past counts.now
-            → made.new ≡ record made.old { reply = (step self.now.topology past st made.old.session made.old.command).0 } }
-    {
-        made.answer = self.other_reply(counts, made.session, &made.command);
-    }
-
-    /// The reply to a command that neither places a stripe, nor asks for the most urgent repair, nor reports one.
-    fn other_reply(&self, counts: &Grants, session: SessionNo, command: &Command) -> Answer
-        requires tied { IsTied self.now }
-        requires few { AreFew counts.now }
-        requires other { is_other command.now ≡ true }
-        ensures { (st : State) (past : List Entry) → IsOf st self.now → AreGrantsOf past counts.now
+        requires cursor { HasRepairCursor self.now cursor }
+        requires room { is_place command.now ≡ true → IsSome room.old }
+        ensures { (st : State) (past : List Entry) → IsOf st self.now → AreGrantsOf past counts.now → IsRepairCursor self.now.topology st cursor
             → told result ≡ (step self.now.topology past st session command.now).0 }
     {
         match *command {
-            Command::Place(_) | Command::Place6(_) | Command::Next | Command::Done(_, _, _) =>
-                unreachable!(),
+            Command::Place(stripe) => self.place_answer(Code::Wide, stripe, room),
+            Command::Place6(stripe) => self.place_answer(Code::Narrow, stripe, room),
             Command::Drop(stripe) => self.drop_reply(stripe),
             Command::Lease(stripe, fragment) => {
                 self.lease_reply(counts, session, stripe, fragment)
+            }
+            Command::Next => self.next_reply(counts, cursor, session),
+            Command::Done(stripe, fragment, epoch) => {
+                self.done_reply(session, stripe, fragment, epoch)
             }
             Command::Abandon(stripe, fragment, epoch) => {
                 self.abandon_reply(session, stripe, fragment, epoch)
             }
             Command::Revoke(stripe, fragment) => self.revoke_reply(stripe, fragment),
-            Command::Fail(node) => self.fail_reply(node),
-            Command::Down(node) => self.down_reply(node),
-            Command::Up(node) => self.up_reply(node),
-            Command::Drain(node) => self.drain_reply(node),
-            Command::Undrain(node) => self.undrain_reply(node),
-            Command::Retire(node) => self.retire_reply(node),
-            Command::Join(node) => self.join_reply(node),
+            Command::Fail(node) => self.node_reply(NodeCommand::Fail, node),
+            Command::Down(node) => self.node_reply(NodeCommand::Down, node),
+            Command::Up(node) => self.node_reply(NodeCommand::Up, node),
+            Command::Drain(node) => self.node_reply(NodeCommand::Drain, node),
+            Command::Undrain(node) => self.node_reply(NodeCommand::Undrain, node),
+            Command::Retire(node) => self.node_reply(NodeCommand::Retire, node),
+            Command::Join(node) => self.node_reply(NodeCommand::Join, node),
             Command::Upgrade(domain) => self.upgrade_reply(domain),
             Command::Upgraded(domain) => self.upgraded_reply(domain),
             Command::Tick => self.tick_reply(),
         }
     }
 
-    /// Makes the change of a command that was answered so, but not by a grant. Room was made before, so nothing here fails.
-    #[inline(never)] // as `answer_other`
+    /// Makes the change of a command after any answer but a grant. There is room for it, so nothing fails.
+    #[inline(never)] // a step that changes nothing then saves fewer registers
     fn make_change(&mut self, command: &Command, answer: &Answer)
         ghost st: { State }
         requires kept { IsOf st self.old }
@@ -357,13 +275,16 @@ impl Store {
                 self.end_lease(stripe, fragment)
             }
             (Command::Revoke(stripe, fragment), Answer::Ended) => self.end_lease(stripe, fragment),
-            (Command::Fail(node), Answer::Changed) => self.fail(node),
-            (Command::Down(node), Answer::Changed) => self.down(node),
-            (Command::Up(node), Answer::Changed) => self.up(node),
-            (Command::Drain(node), Answer::Changed) => self.drain(node),
-            (Command::Undrain(node), Answer::Changed) => self.undrain(node),
-            (Command::Retire(node), Answer::Changed) => self.leave(node),
-            (Command::Join(node), Answer::Changed) => self.join(node),
+            (Command::Fail(node), Answer::Changed) => self.change_node(NodeCommand::Fail, node),
+            (Command::Down(node), Answer::Changed) => self.change_node(NodeCommand::Down, node),
+            (Command::Up(node), Answer::Changed) => self.change_node(NodeCommand::Up, node),
+            (Command::Drain(node), Answer::Changed) => self.change_node(NodeCommand::Drain, node),
+            (Command::Undrain(node), Answer::Changed) => self.change_node(
+                NodeCommand::Undrain,
+                node,
+            ),
+            (Command::Retire(node), Answer::Changed) => self.change_node(NodeCommand::Retire, node),
+            (Command::Join(node), Answer::Changed) => self.change_node(NodeCommand::Join, node),
             (Command::Upgrade(domain), Answer::Changed) => self.upgrade(domain),
             (Command::Upgraded(domain), Answer::Changed) => self.upgraded(domain),
             (Command::Tick, Answer::Ticked { clock: _, ended }) => self.tick(*ended),

@@ -20,11 +20,11 @@ use lrc_stripes::Stripes;
 use lrc_topology::Topology;
 use std::alloc::Global;
 
-/// For how many more stripes and leases room is made at once, so that it is seldom made.
+/// The number of stripes and leases that memory is reserved for at once, so that it is seldom reserved.
 const MORE: u32 = 16;
 
-/// What a book keeps of its state: the taken slots, the homes of fragments, the live leases, the modes of
-/// nodes, and the clock.
+/// The state of a book: the taken slots, the homes of fragments, the live leases, the modes of nodes, and the
+/// clock.
 #[derive(Drop)]
 pub(crate) struct Store {
     pub(crate) topology: Topology,
@@ -136,12 +136,11 @@ impl Store {
         }
     }
 
-    /// Lets the slot table and the stripes follow the mode of a node, which was changed.
+    /// Makes the slot table and the stripes follow the mode of a node after it was changed.
     pub(crate) fn follow(&mut self, node: NodeNo)
-        ghost st: { State }
-        requires { (was : State) × IsOfBut node was st self.old }
+        requires { (was st : State) × IsOfBut node was st self.old }
         ensures nodes { self.new.topology ≡ self.old.topology }
-        ensures kept { IsOf st self.new }
+        ensures kept { (was st : State) → IsOfBut node was st self.old → IsOf st self.new }
     {
         let is_online = self.is_online(node);
         let mode = self.modes.mode(node);

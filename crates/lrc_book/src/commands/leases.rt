@@ -17,6 +17,7 @@ use lrc_code::{Fragment, SessionNo, StripeNo};
 use lrc_leases::Grants;
 
 impl Store {
+    #[inline(never)]
     pub(crate) fn lease_reply(
         &self,
         counts: &Grants,
@@ -58,6 +59,7 @@ impl Store {
         self.leases.add(*lease);
     }
 
+    #[inline(never)]
     pub(crate) fn done_reply(
         &self,
         session: SessionNo,
@@ -114,8 +116,7 @@ impl Store {
         }
     }
 
-    /// Ends the lease of a fragment: the seat of its home, if it has one, is given back, and the target, whose slot stays
-    /// taken, becomes its home.
+    /// Ends the lease of a fragment. The seat of its home, if it has one, is freed, and the target becomes its home.
     pub(crate) fn move_in(&mut self, stripe: StripeNo, fragment: Fragment)
         ghost st: { State }
         requires kept { IsOf st self.old }
@@ -130,6 +131,7 @@ impl Store {
         }
     }
 
+    #[inline(never)]
     pub(crate) fn abandon_reply(
         &self,
         session: SessionNo,
@@ -146,6 +148,7 @@ impl Store {
     }
 
     #[tactic(auto, unfolding(lrc_rules::specs::Leases::revoke_outcome))]
+    #[inline(never)]
     pub(crate) fn revoke_reply(&self, stripe: StripeNo, fragment: Fragment) -> Answer
         ensures { (st : State) → IsOf st self.now → told result ≡ (revoke_outcome st stripe fragment).0 }
     {
@@ -160,7 +163,7 @@ impl Store {
 }
 
 /// Counts the grant, if the answer is one.
-#[inline(always)] // it is a look at the answer where nothing is granted
+#[inline(always)] // a step that grants nothing then makes no call here
 pub(crate) fn count_grant(counts: &mut Grants, answer: &Answer)
     requires { AreFew counts.old }
     ensures { (past : List Entry) (e : Entry) → e.reply ≡ told answer.now → AreGrantsOf past counts.old → AreGrantsOf (past ++ e ∷ []) counts.new }

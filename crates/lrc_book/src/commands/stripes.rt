@@ -1,6 +1,6 @@
 //! Commands on stripes.
 
-ghost use Rattle.std.specs.Prelude.{◌≡◌, true, false, take, OnOk, IfErr};
+ghost use Rattle.std.specs.Prelude.{◌≡◌, true, false, take, IsSome, OnOk, IfErr};
 ghost use Rattle.lrc_code.specs.declared.codes.Code.TheVariants.{Wide};
 ghost use Rattle.lrc_code.specs.Codes.{fragments, fragment_count};
 ghost use Rattle.lrc_slots.specs.Tables.{slots_of};
@@ -40,8 +40,22 @@ impl Store {
         }
     }
 
-    /// Gives the seats that the rule chooses for the fragments of a new stripe of the code, one after the other, as the
-    /// first of these; or the first fragment that finds none.
+    /// The same as the history keeps it, with its seats in the box `room`.
+    #[inline(never)]
+    pub(crate) fn place_answer(
+        &self,
+        code: Code,
+        stripe: StripeNo,
+        room: &mut Option<Box<[Seat; FRAGMENTS]>>,
+    ) -> Answer
+        requires { IsSome room.old }
+        ensures { (st : State) → IsOf st self.now → told result ≡ (place_outcome self.now.topology st code stripe).0 }
+    {
+        Answer::of(&self.place_reply(code, stripe), room)
+    }
+
+    /// Puts the seats that the rule chooses for the fragments of a new stripe of the code, one after the other, into the
+    /// first of `seats`; or returns the first fragment that finds none.
     fn plan_seats(
         &self,
         code: Code,
@@ -89,6 +103,7 @@ impl Store {
     }
 
     #[tactic(auto, unfolding(lrc_rules::specs::Steps::drop_outcome))]
+    #[inline(never)]
     pub(crate) fn drop_reply(&self, stripe: StripeNo) -> Answer
         ensures { (st : State) → IsOf st self.now → told result ≡ (drop_outcome st stripe).0 }
     {
@@ -99,7 +114,7 @@ impl Store {
         }
     }
 
-    /// Takes a stripe out, and gives the seats of its homes and of its leases back.
+    /// Removes a stripe, and frees the seats of its homes and of its leases.
     pub(crate) fn drop_stripe(&mut self, stripe: StripeNo)
         ghost st: { State }
         requires kept { IsOf st self.old }
@@ -112,7 +127,7 @@ impl Store {
         self.stripes.remove(stripe);
     }
 
-    /// Ends the leases of a stripe's fragments, and gives their targets back.
+    /// Ends the leases of a stripe's fragments, and frees their targets.
     fn end_leases(&mut self, stripe: StripeNo)
         ghost st: { State }
         requires { IsOf st self.old }
@@ -127,7 +142,7 @@ impl Store {
         }
     }
 
-    /// Gives the seats of a stripe's homes back, and leaves the stripe to be taken out with them.
+    /// Frees the seats of a stripe's homes. The stripe and its homes are removed after it.
     fn free_homes(&mut self, stripe: StripeNo)
         ghost st: { State }
         requires kept { IsOf st self.old }

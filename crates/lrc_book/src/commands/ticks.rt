@@ -1,4 +1,4 @@
-//! The command that moves the clock on.
+//! The command that counts a tick of the clock.
 
 ghost use Rattle.std.specs.Prelude.{◌≡◌, ◌+◌, ◌<◌, count_by};
 ghost use Rattle.lrc_terms.specs.Leased.{ends_at};
@@ -11,7 +11,8 @@ use crate::answer::Answer;
 use crate::store::Store;
 
 impl Store {
-    /// The number of ticks after the next one, and how many leases end by it.
+    /// Reports the number of ticks with the next one, and of the leases that end at it.
+    #[inline(never)]
     pub(crate) fn tick_reply(&self) -> Answer
         requires { IsTied self.now }
         ensures { (st : State) → IsOf st self.now → told result ≡ (tick_outcome st).0 }
@@ -24,7 +25,7 @@ impl Store {
         Answer::Ticked { clock, ended }
     }
 
-    /// Ends the leases that end at the next tick, of which there are `ended`, and moves the clock on.
+    /// Ends the leases that end at the next tick, of which there are `ended`, and counts the tick.
     pub(crate) fn tick(&mut self, ended: u32)
         ghost st: { State }
         requires kept { IsOf st self.old }
@@ -37,7 +38,7 @@ impl Store {
         self.clock.advance();
     }
 
-    /// Ends the leases that end at the next tick, of which there are `ended`, and gives their targets back.
+    /// Ends the leases that end at the next tick, of which there are `ended`, and frees their targets.
     fn end_due(&mut self, ended: u32)
         ghost st: { State }
         requires kept { IsOf st self.old }

@@ -19,6 +19,7 @@ use lrc_stripes::Stripes;
 use lrc_topology::NodeInfo;
 
 impl Store {
+    #[inline(never)]
     pub(crate) fn upgrade_reply(&self, domain: UpgradeNo) -> Answer
         ensures { (st : State) → IsOf st self.now → told result ≡ (upgrade_outcome self.now.topology st domain).0 }
     {
@@ -46,6 +47,7 @@ impl Store {
         self.stripes.set_offline_in(domain, true);
     }
 
+    #[inline(never)]
     pub(crate) fn upgraded_reply(&self, domain: UpgradeNo) -> Answer
         ensures { (st : State) → IsOf st self.now → told result ≡ (upgraded_outcome self.now.topology st domain).0 }
     {

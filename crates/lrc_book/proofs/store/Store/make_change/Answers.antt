@@ -7,18 +7,8 @@ use Rattle.lrc_rules.specs.Steps.{step}
 use Rattle.lrc_rules.specs.Changes.{changed_by}
 use Rattle.lrc_book.specs.Stores.{IsOf}
 use Rattle.lrc_book.proofs.LeaseToldLemmas.{done-told}
-use Rattle.lrc_rules.proofs.ToldLemmas.{retire-told}
 use Rattle.lrc_book.proofs.DueLemmas.{tick-told}
 use Rattle.lrc_book.proofs.store.Store.make_change.Goals as goal
-
-pub leave-requires : goal.leave-requires
-leave-requires g c =
-    let nodes = c.args.self.now.topology in
-    let told = c.requires.1.1.0 in
-    let node = c.in-Retire-Changed.node in
-    let e = sym (ap (λ (command : Command). (step nodes told.past g.st told.session command).0) c.in-Retire-Changed.is-0) ∙ told.told
-    ∙ ap answers.told c.in-Retire-Changed.is-1 in
-    (c.requires.0, retire-told nodes g.st node e)
 
 pub move_in-requires : goal.move_in-requires
 move_in-requires g c =
