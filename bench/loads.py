@@ -1,17 +1,18 @@
 """Bundles of one script each, made by a fixed rule from a seed: a kind of load for each way to use a store.
 
 Every bundle fills its store first: `place` of each stripe, and what else its kind needs once. Then its kind goes on until
-the bundle has as many bytes, or as many lines behind those, as it may have. Each command comes with how its reply begins,
+the bundle has as many bytes, or as many more lines, as it may have. Each command comes with the beginning of its reply,
 by `store.Store`."""
 import random
 import string
 
-import store
+from store import Store
+from harness import topology_of
+from rules import FRAGMENTS, MOST_SLOTS, MOST_STRIPES, Node
 
-MOST_BYTES = 4194304
-FAULTS, UPGRADES, SLOTS = 32, 16, 256
-STRIPES = 4096
-LIVE = 40000  # the leases of `ticks` that are live at once, where there are so many stripes
+FAULTS, UPGRADES = 32, 16
+LIVE = 40000  # the leases of `ticks` that are live at once, where there are as many stripes as there can be
+SESSION = 1  # of every call
 
 
 class Full(Exception):
@@ -19,26 +20,20 @@ class Full(Exception):
 
 
 class Script:
-    """The lines so far, how each command of them is answered, and the store behind them."""
+    """The lines so far, the beginning of the reply to each command, and the store after them."""
 
     def __init__(self, nodes, stripes, seed, most_bytes):
-        self.nodes = [store.Node(number % FAULTS, (number // FAULTS + number) % UPGRADES, SLOTS) for number in range(nodes)]
-        self.store = store.Store(self.nodes)
+        self.nodes = {number: Node(number % FAULTS, (number // FAULTS + number) % UPGRADES, MOST_SLOTS) for number in range(nodes)}
+        self.store = Store(self.nodes)
         self.stripes = stripes
         self.random = random.Random(seed)
         self.lines, self.replies = [], []
-        self.bytes_left = most_bytes - len(self.topology()) - len("%%\n")
+        self.head = topology_of(self.nodes) + "%%\n"
+        self.bytes_left = most_bytes - len(self.head)
         self.lines_left = None  # as many as the bytes allow
 
-    def topology(self):
-        tables = (
-            f"[[node]]\nnumber = {number}\nfault = {node.fault}\nupgrade = {node.upgrade}\nslots = {node.slots}\n"
-            for number, node in enumerate(self.nodes)
-        )
-        return "".join(tables)
-
     def bundle(self):
-        return self.topology() + "%%\n" + "".join(line + "\n" for line in self.lines)
+        return self.head + "".join(line + "\n" for line in self.lines)
 
     def add(self, line):
         """Adds a line, and no reply: one that is no command is passed over."""
@@ -50,12 +45,12 @@ class Script:
         self.lines.append(line)
 
     def say(self, line, reply):
-        """Adds a command that is answered so."""
+        """Adds a command with the beginning of its reply."""
         self.add(line)
         self.replies.append(reply)
 
     def say_all(self, *calls):
-        """Adds commands that are answered so, all of them or none."""
+        """Adds commands with the beginnings of their replies, all of them or none."""
         needed = sum(len(line) + 1 for line, _ in calls)
         if needed > self.bytes_left or self.lines_left is not None and len(calls) > self.lines_left:
             raise Full
@@ -63,13 +58,13 @@ class Script:
             self.say(line, reply)
 
     def call(self, line):
-        """Adds a command, and answers how its reply begins."""
-        reply = self.store.call(line)
+        """Adds a command, and returns its reply."""
+        reply = self.store.call(SESSION, line)
         self.say(line, reply)
         return reply
 
     def lease_next(self):
-        """Asks for the next lease, and answers its stripe and fragment with its epoch, or None."""
+        """Asks for the next lease, and returns its stripe, fragment and epoch, or None."""
         words = self.call("next").split(" ")
         if words[0] != "granted":
             return None
@@ -154,7 +149,7 @@ def leases(script):
 def ticks(script):
     """Fragments on nodes that drain are leased, and nothing is reported: before each tick a third of as many as are live at
     once, so that each tick from the third on ends a third."""
-    third = LIVE * script.stripes // STRIPES // 3 + 1
+    third = LIVE * script.stripes // MOST_STRIPES // 3 + 1
     while True:
         for _ in range(third):
             if not script.lease_next():
@@ -193,7 +188,7 @@ def upgrades(script):
     end, or the table would list each stripe with a home there."""
     script.call(f"down {script.node()}")
     while True:
-        for domain in script.store.domains:
+        for domain in sorted(script.store.in_upgrade):
             # A stripe misses one fragment at most, and at most one of each class more: it stays recoverable.
             script.say_all((f"upgrade {domain}", "changed"), (f"upgraded {domain}", "changed"))
 
@@ -202,7 +197,7 @@ def refused(script):
     """Every command is refused."""
     pick = script.random
     while True:
-        stripe, fragment = script.stripe(), pick.randrange(16)
+        stripe, fragment = script.stripe(), pick.choice(FRAGMENTS)
         script.call(
             pick.choice(
                 [
@@ -263,7 +258,7 @@ def mix(script, place_word):
         lease = pick.choice(list(state.leases)) if state.leases and pick.random() < 0.6 else None
         if lease:
             word = pick.choices(["done", "abandon", "revoke"], [12, 1, 1])[0]
-            script.call(" ".join(map(str, [word, *lease, *([state.leases[lease][0]] if word != "revoke" else [])])))
+            script.call(" ".join(map(str, [word, *lease, *([state.leases[lease].epoch] if word != "revoke" else [])])))
         elif pick.random() < 0.5:
             script.call("next")
         else:
@@ -275,16 +270,17 @@ def any_change(script, place_word):
     pick, state = script.random, script.store
     stripe, node = script.stripe(), script.node()
     if pick.random() < 0.6:
-        number = f"{stripe} {pick.randrange(16)}" if pick.random() < 0.1 else None
+        number = f"{stripe} {pick.choice(FRAGMENTS)}" if pick.random() < 0.1 else None
         return f"lease {number}" if number else f"drop {stripe}" if stripe in state.stripes else f"{place_word()} {stripe}"
     if state.upgrading is not None:
         return f"upgraded {state.upgrading}"
-    if len(state.gone) + len(state.down) + len(state.draining) > 4:
-        sets = {"join": state.gone, "up": state.down, "undrain": state.draining, "retire": state.draining}
+    gone, draining = state.nodes_in("gone"), state.nodes_in("draining")
+    if len(gone) + len(state.down) + len(draining) > 4:
+        sets = {"join": gone, "up": state.down, "undrain": draining, "retire": draining}
         word = pick.choice([word for word in sets if sets[word]])
         return f"{word} {pick.choice(sorted(sets[word]))}"
     if pick.random() < 0.02:
-        return f"upgrade {pick.choice(state.domains)}"
+        return f"upgrade {pick.choice(sorted(state.in_upgrade))}"
     return f"{pick.choices(['fail', 'down', 'drain'], [1, 4, 1])[0]} {node}"
 
 

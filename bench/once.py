@@ -39,4 +39,5 @@ def main(seconds, times, *files):
     print(*(sum(each) / len(runs) for each in spent), max(memory), status)
 
 
-main(*sys.argv[1:])
+if __name__ == "__main__":
+    main(*sys.argv[1:])

@@ -1,435 +1,201 @@
-"""Follows what a store does with commands, by docs/RULES.md, so that bundles can be made of commands that do something.
+"""The store of the rules (tests/rules.py) with indexes, so that bundles for large stores take seconds to make.
 
-It knows which node holds which fragment, and not in which slot. Sets of nodes, of stripes and of fragments are whole
-numbers with a bit for each member. Each command is a method that answers how its reply begins."""
-from collections import Counter, defaultdict, namedtuple
+No rule stands here: a method answers a question of the rules from an index, or makes a change and updates the indexes."""
+from collections import defaultdict
 
-Node = namedtuple("Node", "fault upgrade slots")
-
-RANKS = 5
-TERM = 3  # how many ticks after its grant a lease ends
+import common  # (so that the modules of tests are found)
+import rules
+from rules import least, members
 
 
-def members(mask):
-    """The members of a set, in rising order."""
-    while mask:
-        lowest = mask & -mask
-        yield lowest.bit_length() - 1
-        mask ^= lowest
+class Fragments:
+    """Of the fragments of a stripe: those that are missing, those that are open, and the nodes of homes and targets."""
+
+    __slots__ = "missing", "open", "nodes", "rank"
+
+    def __init__(self):
+        self.missing = self.open = 0
+        self.nodes = set()
+        self.rank = None  # the rank under which the stripe is listed
 
 
-class Code:
-    """The fragments of its classes A, B and G; the class of each fragment; and the rank of each set of missing ones, which is
-    its margin, and 4 where it is not recoverable."""
-
-    def __init__(self, *classes):
-        self.classes = [sum(1 << fragment for fragment in of_class) for of_class in classes]
-        self.fragments = sum(map(len, classes))
-        self.class_of = [
-            next(of_class for of_class in self.classes if of_class >> fragment & 1) for fragment in range(self.fragments)
-        ]
-        self.ranks = [self.rank_of(missing) for missing in range(1 << self.fragments)]
-
-    def weight(self, missing):
-        """How many fragments of these neither local group can rebuild alone."""
-        a, b, c = ((missing & of_class).bit_count() for of_class in self.classes)
-        return max(0, a - 1) + max(0, b - 1) + c
-
-    def rank_of(self, missing):
-        weight = self.weight(missing)
-        if weight > 2:
-            return 4
-        local = missing & (self.classes[0] | self.classes[1])
-        return 2 - weight if local else 3 - missing.bit_count()
-
-
-WIDE = Code([0, 1, 2, 3, 4, 5, 12], [6, 7, 8, 9, 10, 11, 13], [14, 15])
-NARROW = Code([0, 1, 2, 6], [3, 4, 5, 7], [8, 9])
-
-
-class Stripe:
-    """Its code and the nodes of its homes; and its fragments without a home, on nodes that are offline, on draining ones, and
-    leased."""
-
-    def __init__(self, code):
-        self.code = code
-        self.homes = [None] * code.fragments
-        self.homeless = self.offline = self.draining = self.leased = 0
-        self.listed = None  # the rank under which it stands among the stripes with work
-
-    def missing(self):
-        return self.homeless | self.offline
-
-    def open(self):
-        """The fragments that need a lease and have none."""
-        return (self.homeless | self.draining) & ~self.leased
-
-    def rank(self):
-        return self.code.ranks[self.missing()]
-
-    def is_recoverable(self):
-        return self.rank() < 4
-
-
-class Store:
-    """A store of nodes numbered from 0, without stripes."""
-
+class Store(rules.Store):
     def __init__(self, nodes):
-        self.nodes = nodes
-        self.stripes = {}
-        self.leases = {}  # (stripe, fragment): (epoch, node, clock at its end)
-        self.ending = defaultdict(set)  # clock: the leases that end then
-        self.grants = Counter()
-        self.clock = 0
-        self.homes_on = [set() for _ in nodes]
-        self.targets_on = [set() for _ in nodes]
-        self.gone, self.down, self.draining, self.upgrading = set(), set(), set(), None
-        self.domains = sorted({node.upgrade for node in nodes})
-        self.in_fault, self.in_upgrade = Counter(), Counter()
-        self.load = [0] * len(nodes)
-        self.open_at = Counter()  # load: the nodes that take a fragment
-        self.loads = 0  # the loads that such a node has
-        self.work = [0] * RANKS  # rank: the stripes with an open fragment
-        self.passed = 0  # the stripes of which nothing can be granted, until something else than a grant comes
-        for number, node in enumerate(nodes):
-            self.in_fault[node.fault] |= 1 << number
-            self.in_upgrade[node.upgrade] |= 1 << number
-            self.enlist(number)
+        super().__init__(nodes)
+        self.in_mode = {"active": set(nodes), "draining": set(), "gone": set()}
+        self.online = set(nodes)
+        self.slots = dict.fromkeys(nodes, 0)  # node: the set of its slots in use
+        self.eligible = defaultdict(int)  # load: the set of eligible nodes
+        self.loads = 0  # the set of loads that an eligible node has
+        self.listed = dict.fromkeys(nodes)  # node: the load under which it is listed as eligible
+        self.home_keys, self.target_keys = ({node: set() for node in nodes} for _ in range(2))
+        self.of_stripe = {}  # stripe: Fragments
+        self.work = [0] * rules.RANKS  # rank: the set of stripes with an open fragment
+        self.stale = defaultdict(int)  # stripe: the set of fragments that may have become missing or open, or are so no longer
+        self.passed = 0  # the stripes of which `next` can grant nothing, until there is a change that is no grant
+        self.ends = defaultdict(set)  # clock: the leases that end then
+        for node in nodes:
+            self.list_node(node)
 
-    # Nodes by load.
+    # Nodes.
 
-    def is_online(self, number):
-        return number not in self.gone and number not in self.down and self.nodes[number].upgrade != self.upgrading
+    def nodes_in(self, mode):
+        return self.in_mode[mode]
 
-    def is_open(self, number):
-        has_room = self.load[number] < self.nodes[number].slots
-        return has_room and number not in self.draining and self.is_online(number)
+    def is_online(self, node):
+        return node in self.online
 
-    def enlist(self, number):
-        if self.is_open(number):
-            self.open_at[self.load[number]] |= 1 << number
-            self.loads |= 1 << self.load[number]
+    def load(self, node):
+        return self.slots[node].bit_count()
 
-    def unlist(self, number):
-        load = self.load[number]
-        self.open_at[load] &= ~(1 << number)
-        if not self.open_at[load]:
-            self.loads &= ~(1 << load)
+    def free_slot(self, node):
+        return least(~self.slots[node])
 
-    def add_load(self, number, more):
-        self.unlist(number)
-        self.load[number] += more
-        self.enlist(number)
+    def eligible_by_load(self):
+        return map(self.eligible.__getitem__, members(self.loads))
 
-    def choose(self, barred):
-        """The node of the least load and number that is not barred."""
-        for load in members(self.loads):
-            fitting = self.open_at[load] & ~barred
-            if fitting:
-                return (fitting & -fitting).bit_length() - 1
-        return None
+    def homes_on(self, node):
+        return list(self.home_keys[node])
 
-    def barred_by(self, number, same_class):
-        """The nodes in the fault domain of a node, with those in its upgrade domain for a fragment of the same class."""
-        node = self.nodes[number]
-        return self.in_fault[node.fault] | (self.in_upgrade[node.upgrade] if same_class else 0)
+    def targets_on(self, node):
+        return list(self.target_keys[node])
 
-    def seat_beside(self, key):
-        """The node that the rules choose for a fragment of a stripe that is there."""
-        number, fragment = key
-        stripe, barred = self.stripes[number], 0
-        same_class = stripe.code.class_of[fragment]
-        for other, home in enumerate(stripe.homes):
-            if other != fragment and home is not None:
-                barred |= self.barred_by(home, same_class >> other & 1)
-        for other in members(stripe.leased & ~(1 << fragment)):
-            barred |= self.barred_by(self.leases[number, other][1], same_class >> other & 1)
-        return self.choose(barred)
+    def list_node(self, node):
+        """Lists a node under its load if it is eligible, and nowhere else."""
+        load, listed = self.slots[node].bit_count(), self.listed[node]
+        load = load if self.is_eligible(node, load) else None
+        if load != listed:
+            if listed is not None:
+                self.eligible[listed] ^= 1 << node
+                if not self.eligible[listed]:
+                    self.loads ^= 1 << listed
+            if load is not None:
+                self.eligible[load] |= 1 << node
+                self.loads |= 1 << load
+            self.listed[node] = load
 
-    # Stripes by rank.
+    def turn(self, node):
+        """Updates the indexes for a node whose mode has changed."""
+        (self.online.add if super().is_online(node) else self.online.discard)(node)
+        self.list_node(node)
+        for stripe, fragment in self.home_keys[node]:
+            self.stale[stripe] |= 1 << fragment
+        self.passed = 0
 
-    def list_again(self, number):
-        """Puts a stripe whose fragments have changed where it belongs."""
-        stripe = self.stripes[number]
-        rank = stripe.rank() if stripe.open() else None
-        if rank != stripe.listed:
-            self.strike(number)
-            if rank is not None:
-                self.work[rank] |= 1 << number
-            stripe.listed = rank
+    def set_mode(self, node, mode, is_down):
+        self.in_mode[self.mode[node]].remove(node)
+        super().set_mode(node, mode, is_down)
+        self.in_mode[mode].add(node)
+        self.turn(node)
 
-    def strike(self, number):
-        stripe = self.stripes[number]
-        if stripe.listed is not None:
-            self.work[stripe.listed] &= ~(1 << number)
+    def set_upgrading(self, domain):
+        changed = [known for known in (self.upgrading, domain) if known is not None]
+        super().set_upgrading(domain)
+        for known in changed:
+            for node in members(self.in_upgrade[known]):
+                self.turn(node)
 
-    def set_home(self, key, node):
-        number, fragment = key
-        stripe = self.stripes[number]
-        stripe.homes[fragment] = node
-        stripe.homeless &= ~(1 << fragment)
-        self.homes_on[node].add(key)
+    # Stripes.
+
+    def missing(self, stripe):
+        if self.stale:
+            self.update()
+        return self.of_stripe[stripe].missing
+
+    def open(self, stripe):
+        if self.stale:
+            self.update()
+        return self.of_stripe[stripe].open
+
+    def nodes_of(self, stripe):
+        return self.of_stripe[stripe].nodes
+
+    def with_work(self):
+        self.update()
+        for stripes in self.work:
+            for stripe in members(stripes & ~self.passed):
+                yield stripe
+                # (the caller goes on where nothing could be granted)
+                self.passed |= 1 << stripe
+
+    def update(self):
+        """Updates what is stored of the stripes with stale fragments."""
+        stale, self.stale = self.stale, defaultdict(int)
+        for stripe, fragments in stale.items():
+            of_stripe = self.of_stripe[stripe]
+            missing, is_open = of_stripe.missing & ~fragments, of_stripe.open & ~fragments
+            while fragments:
+                bit = fragments & -fragments
+                key = stripe, bit.bit_length() - 1
+                if self.is_missing(key):
+                    missing |= bit
+                if self.is_open(key):
+                    is_open |= bit
+                fragments ^= bit
+            of_stripe.missing, of_stripe.open = missing, is_open
+            rank = rules.rank_of(self.stripes[stripe], missing) if is_open else None
+            if rank != of_stripe.rank:
+                self.list_stripe(stripe, rank)
+
+    def list_stripe(self, stripe, rank):
+        """Lists a stripe under a rank, or nowhere."""
+        of_stripe = self.of_stripe[stripe]
+        if of_stripe.rank is not None:
+            self.work[of_stripe.rank] ^= 1 << stripe
+        if rank is not None:
+            self.work[rank] ^= 1 << stripe
+        of_stripe.rank = rank
+
+    def add_stripe(self, stripe, code):
+        super().add_stripe(stripe, code)
+        self.of_stripe[stripe] = Fragments()
+
+    def remove_stripe(self, stripe):
+        super().remove_stripe(stripe)
+        self.list_stripe(stripe, None)
+        del self.of_stripe[stripe]
+        self.stale.pop(stripe, None)
+
+    # Homes and leases.
+
+    def hold(self, key, seat, keys_on):
+        (stripe, fragment), (node, slot) = key, seat
+        keys_on[node].add(key)
+        self.of_stripe[stripe].nodes.add((fragment, node))
+        self.stale[stripe] |= 1 << fragment
+        self.slots[node] |= 1 << slot
+        self.list_node(node)
+
+    def release(self, key, seat, keys_on):
+        (stripe, fragment), (node, slot) = key, seat
+        keys_on[node].remove(key)
+        self.of_stripe[stripe].nodes.remove((fragment, node))
+        self.stale[stripe] |= 1 << fragment
+        self.slots[node] ^= 1 << slot
+        self.list_node(node)
+        self.passed = 0
+
+    def set_home(self, key, seat):
+        super().set_home(key, seat)
+        self.hold(key, seat, self.home_keys)
 
     def clear_home(self, key):
-        number, fragment = key
-        stripe = self.stripes[number]
-        node = stripe.homes[fragment]
-        if node is not None:
-            stripe.homes[fragment] = None
-            stripe.homeless |= 1 << fragment
-            stripe.offline &= ~(1 << fragment)
-            stripe.draining &= ~(1 << fragment)
-            self.homes_on[node].discard(key)
-            self.add_load(node, -1)
+        if key in self.homes:
+            seat = self.homes[key]
+            super().clear_home(key)
+            self.release(key, seat, self.home_keys)
+
+    def set_lease(self, key, lease):
+        super().set_lease(key, lease)
+        self.ends[lease.expiry].add(key)
+        self.hold(key, lease.target, self.target_keys)
 
     def end_lease(self, key):
-        """Ends the lease of a fragment, and gives its target back."""
         if key in self.leases:
-            self.add_load(self.forget_lease(key), -1)
+            lease = self.leases[key]
+            super().end_lease(key)
+            self.ends[lease.expiry].discard(key)
+            self.release(key, lease.target, self.target_keys)
 
-    def forget_lease(self, key):
-        """Ends the lease of a fragment, and answers the node of its target, which stays held."""
-        _, node, end = self.leases.pop(key)
-        self.ending[end].discard(key)
-        self.targets_on[node].discard(key)
-        self.stripes[key[0]].leased &= ~(1 << key[1])
-        return node
-
-    # Commands.
-
-    def place(self, number, code=WIDE):
-        if number in self.stripes:
-            return "refused 102"
-        homes, barred, in_class = [], 0, dict.fromkeys(code.classes, 0)
-        for fragment, of_class in enumerate(code.class_of):
-            node = self.choose(barred | in_class[of_class])
-            if node is None:
-                return f"refused 103 {fragment}"
-            homes.append(node)
-            barred |= self.in_fault[self.nodes[node].fault]
-            in_class[of_class] |= self.in_upgrade[self.nodes[node].upgrade]
-        self.stripes[number] = Stripe(code)
-        for fragment, node in enumerate(homes):
-            self.set_home((number, fragment), node)
-            self.add_load(node, 1)
-        return "placed"
-
-    def place6(self, number):
-        return self.place(number, NARROW)
-
-    def drop(self, number):
-        if number not in self.stripes:
-            return "refused 101"
-        for fragment in range(self.stripes[number].code.fragments):
-            self.end_lease((number, fragment))
-            self.clear_home((number, fragment))
-        self.strike(number)
-        del self.stripes[number]
-        return "dropped"
-
-    def target_of(self, key):
-        """The node of the lease that a fragment would get, or how it is refused."""
-        number, fragment = key
-        if number not in self.stripes:
-            return None, "refused 101"
-        stripe, bit = self.stripes[number], 1 << fragment
-        if stripe.leased & bit:
-            return None, f"refused 110 {self.leases[key][0]}"
-        if not stripe.open() & bit:
-            return None, "refused 111"
-        is_move = not stripe.missing() & bit
-        of_class = stripe.code.class_of[fragment]
-        is_local = of_class != stripe.code.classes[2] and not of_class & stripe.missing() & ~bit
-        if not is_move and not is_local and not stripe.is_recoverable():
-            return None, "refused 112"
-        node = self.seat_beside(key)
-        return node, f"refused 103 {fragment}"
-
-    def lease(self, number, fragment):
-        key = number, fragment
-        node, refused = self.target_of(key)
-        return refused if node is None else self.grant(key, node)
-
-    def grant(self, key, node):
-        self.grants[key] += 1
-        self.leases[key] = self.grants[key], node, self.clock + TERM
-        self.ending[self.clock + TERM].add(key)
-        self.targets_on[node].add(key)
-        self.add_load(node, 1)
-        self.stripes[key[0]].leased |= 1 << key[1]
-        self.list_again(key[0])
-        return "granted %d %d" % key
-
-    def next(self):
-        for stripes in self.work:
-            for number in members(stripes & ~self.passed):
-                for fragment in members(self.stripes[number].open()):
-                    node, _ = self.target_of((number, fragment))
-                    if node is not None:
-                        return self.grant((number, fragment), node)
-                self.passed |= 1 << number
-        return "idle"
-
-    def refused_report(self, key, epoch):
-        if key[0] not in self.stripes:
-            return "refused 101"
-        return "refused 113" if key not in self.leases or self.leases[key][0] != epoch else None
-
-    def done(self, number, fragment, epoch):
-        key = number, fragment
-        refused = self.refused_report(key, epoch)
-        if refused:
-            return refused
-        if not self.is_online(self.leases[key][1]):
-            return f"refused 115 {self.leases[key][1]}"
-        self.clear_home(key)
-        node = self.forget_lease(key)
-        self.set_home(key, node)
-        if node in self.draining:
-            self.stripes[number].draining |= 1 << fragment
-        self.list_again(number)
-        return "ended"
-
-    def abandon(self, number, fragment, epoch):
-        return self.refused_report((number, fragment), epoch) or self.revoke(number, fragment)
-
-    def revoke(self, number, fragment):
-        if number not in self.stripes:
-            return "refused 101"
-        if (number, fragment) not in self.leases:
-            return "refused 116"
-        self.end_lease((number, fragment))
-        self.list_again(number)
-        return "ended"
-
-    def tick(self):
-        self.clock += 1
-        ended = list(self.ending[self.clock])
-        for key in ended:
-            self.end_lease(key)
-            self.list_again(key[0])
-            self.passed = 0
-        del self.ending[self.clock]
-        return f"ticked {self.clock} {len(ended)}"
-
-    def turn(self, number):
-        """Lets the stripes with a home on a node follow its modes, and the choice of nodes too."""
-        self.unlist(number)
-        self.enlist(number)
-        offline, draining = not self.is_online(number), number in self.draining
-        for key in self.homes_on[number]:
-            stripe, bit = self.stripes[key[0]], 1 << key[1]
-            stripe.offline = stripe.offline | bit if offline else stripe.offline & ~bit
-            stripe.draining = stripe.draining | bit if draining else stripe.draining & ~bit
-            self.list_again(key[0])
-        return "changed"
-
-    def refused_node(self, number, fits):
-        if number >= len(self.nodes):
-            return "refused 104"
-        return None if fits else "refused 105"
-
-    def fail(self, number):
-        refused = self.refused_node(number, number not in self.gone)
-        if refused:
-            return refused
-        changed = self.homes_on[number] | self.targets_on[number]
-        for key in list(self.targets_on[number]):
-            self.end_lease(key)
-        for key in list(self.homes_on[number]):
-            self.end_lease(key)
-            self.clear_home(key)
-        for stripe, _ in changed:
-            self.list_again(stripe)
-        return self.leave(number)
-
-    def leave(self, number):
-        self.gone.add(number)
-        self.down.discard(number)
-        self.draining.discard(number)
-        return self.turn(number)
-
-    def join(self, number):
-        refused = self.refused_node(number, number in self.gone)
-        if refused:
-            return refused
-        self.gone.remove(number)
-        return self.turn(number)
-
-    def go_down(self, number):
-        refused = self.refused_node(number, number not in self.gone and number not in self.down)
-        if refused:
-            return refused
-        self.down.add(number)
-        return self.turn(number)
-
-    def come_up(self, number):
-        refused = self.refused_node(number, number in self.down)
-        if refused:
-            return refused
-        self.down.remove(number)
-        return self.turn(number)
-
-    def drain(self, number):
-        refused = self.refused_node(number, number not in self.gone and number not in self.draining)
-        if refused:
-            return refused
-        self.draining.add(number)
-        return self.turn(number)
-
-    def undrain(self, number):
-        refused = self.refused_node(number, number in self.draining)
-        if refused:
-            return refused
-        self.draining.remove(number)
-        return self.turn(number)
-
-    def retire(self, number):
-        refused = self.refused_node(number, number in self.draining)
-        if refused:
-            return refused
-        return f"refused 117 {self.load[number]}" if self.load[number] else self.leave(number)
-
-    def turn_domain(self, domain):
-        for number in members(self.in_upgrade[domain]):
-            self.turn(number)
-        return "changed"
-
-    def lost_to(self, domain):
-        """The least stripe that the upgrade of a domain would make unrecoverable."""
-        for number in sorted(self.stripes):
-            stripe = self.stripes[number]
-            without = stripe.missing()
-            for fragment, node in enumerate(stripe.homes):
-                if node is not None and self.nodes[node].upgrade == domain:
-                    without |= 1 << fragment
-            if stripe.is_recoverable() and stripe.code.ranks[without] == 4:
-                return number
-        return None
-
-    def upgrade(self, domain):
-        if domain not in self.domains:
-            return "refused 106"
-        if self.upgrading is not None:
-            return f"refused 107 {self.upgrading}"
-        lost = self.lost_to(domain)
-        if lost is not None:
-            return f"refused 109 {lost}"
-        self.upgrading = domain
-        return self.turn_domain(domain)
-
-    def upgraded(self, domain):
-        if domain not in self.domains:
-            return "refused 106"
-        if self.upgrading != domain:
-            return "refused 108"
-        self.upgrading = None
-        return self.turn_domain(domain)
-
-    def call(self, line):
-        """How the reply to the command of a line begins."""
-        word, *numbers = line.split(" ")
-        if word not in ("lease", "next", "tick"):
-            self.passed = 0
-        method = {"down": self.go_down, "up": self.come_up}.get(word) or getattr(self, word)
-        return method(*map(int, numbers))
+    def ending(self):
+        return list(self.ends.pop(self.clock, ()))

@@ -1,6 +1,8 @@
 """Numbers and calls that are drawn by a fixed rule, so that a run can be made again."""
 from collections import namedtuple
 
+from rules import FRAGMENTS, PLACES
+
 # What is drawn from: stripe numbers 0 to `stripes`, of which the last is never placed; nodes and upgrade domains, with one
 # of each that the store does not have.
 Range = namedtuple("Range", "stripes nodes domains")
@@ -44,19 +46,15 @@ def drawn_node(row, fitting, all_nodes):
 
 
 def fitting_nodes(store, word):
-    """The nodes whose mode lets the command act."""
-    fits = {
-        "up": lambda node: node in store.down,
-        "join": lambda node: store.mode[node] == "gone",
-        "undrain": lambda node: store.mode[node] == "draining",
-        "retire": lambda node: store.mode[node] == "draining" and store.load(node) == 0,
-    }.get(word)
-    return [node for node in store.nodes if fits(node)] if fits else []
+    """The nodes whose mode allows the command, where few do: a node most often comes back."""
+    if word not in ("up", "join", "undrain", "retire"):
+        return []
+    return [node for node in store.nodes if store.allows(word, node) and (word != "retire" or store.load(node) == 0)]
 
 
 def drawn_stripe(store, row, word, within):
     """Most often one that can be placed, or one to be given up."""
-    if word in ("place", "place6"):
+    if word in PLACES:
         fitting = [stripe for stripe in range(within.stripes) if stripe not in store.stripes]
     else:
         fitting = [stripe for stripe in sorted(store.stripes) if store.level(stripe) == "lost"]
@@ -65,14 +63,14 @@ def drawn_stripe(store, row, word, within):
 
 def drawn_fragment(store, row):
     """Most often one that needs a lease, where there is one."""
-    needy = [(stripe, fragment) for stripe in sorted(store.stripes) for fragment in range(16)
+    needy = [(stripe, fragment) for stripe in sorted(store.stripes) for fragment in FRAGMENTS
              if store.needs_lease((stripe, fragment))]
     return one_of(row, needy) if needy and not is_seldom(row) else None
 
 
 def drawn_lack(store, row):
     """Now and then a fragment that the code of its stripe lacks, where there is such a stripe."""
-    lacking = [(stripe, fragment) for stripe in sorted(store.stripes) for fragment in range(16)
+    lacking = [(stripe, fragment) for stripe in sorted(store.stripes) for fragment in FRAGMENTS
                if fragment not in store.fragments(stripe)]
     return one_of(row, lacking) if lacking and is_seldom(row) else None
 
@@ -99,7 +97,7 @@ def drawn_call(store, row, within):
     stripe, fragment = next(row) % (within.stripes + 1), next(row) % 16
     if word in ("next", "tick"):
         return session, word
-    if word in ("place", "place6", "drop"):
+    if word in PLACES or word == "drop":
         return session, f"{word} {drawn_stripe(store, row, word, within)}"
     if word in ("lease", "revoke"):
         held = sorted(store.leases) if word == "revoke" and not is_seldom(row) else []

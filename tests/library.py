@@ -2,7 +2,9 @@
 import os
 import sys
 
-sys.path[:0] = [os.path.join(os.path.dirname(os.path.abspath(__file__)), "..", "examples", "embed")]
+from harness import EXAMPLES
+
+sys.path.append(os.path.join(EXAMPLES, "embed"))
 import lrc_embed
 
 FIELDS = {
@@ -17,6 +19,11 @@ def command_of(line):
     word, *numbers = line.split(" ")
     kind = lrc_embed.CommandKind["REPORT" if word == "done" else word.upper()]
     return lrc_embed.Command(kind, **dict(zip(FIELDS.get(word, ["node"]), map(int, numbers), strict=True)))
+
+
+def code_word(code):
+    """The name of a code that a look at a stripe tells."""
+    return lrc_embed.Code(code.value).name.lower()
 
 
 def level_words(level):

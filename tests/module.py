@@ -5,10 +5,11 @@ import gc
 import struct
 from itertools import islice
 
+from harness import nodes_in_order, topology_of
 from library import command_of
 from lrc_embed import Book, Code, Command, CommandKind, Entry, Fault, ModeKind, Status
 
-TWENTY = "".join(f"[[node]]\nnumber = {i}\nfault = {i}\nupgrade = {i % 10}\nslots = 4\n" for i in range(20))
+TWENTY = topology_of(nodes_in_order(20, 4))
 SCRIPT = ("place 1", "place 2", "fail 3", "next", "lease 2 7", "done 1 3 1", "next", "upgrade 0", "upgraded 0")
 SIZE = ctypes.sizeof(Entry)
 # An entry as each library of this version keeps it. What came to have a name later was reserved before, and 0.

@@ -1,75 +1,124 @@
-"""The rules of the stripe manager, written down once more after docs/RULES.md: plain, slow, and no part of the program.
+"""The rules of the stripe manager, written once more after docs/RULES.md: plain, and no part of the program.
 
-A `Store` takes a call after the other and answers the text of each reply. Everything is asked of the homes and leases
-that there are; nothing is kept beside them but the counts of grants and of ticks."""
+A `Store` takes one command after the other and returns the text of each reply. Each command is a method, and asks the
+questions above it, which search all homes and leases: nothing is stored beside them but the counts of grants and of ticks.
+bench/store.py answers the same questions from indexes. A set of nodes, stripes or fragments is a whole number with a bit
+for each member."""
 from collections import Counter, namedtuple
 from functools import cache
-from itertools import combinations
 
-# A code is what it is called, and the fragments of its three classes.
-Code = namedtuple("Code", "name a b g")
-
-WIDE = Code("wide", frozenset([0, 1, 2, 3, 4, 5, 12]), frozenset([6, 7, 8, 9, 10, 11, 13]), frozenset([14, 15]))
-NARROW = Code("narrow", frozenset([0, 1, 2, 6]), frozenset([3, 4, 5, 7]), frozenset([8, 9]))
 FRAGMENTS = range(16)  # what a command may name, whatever the code of its stripe
-TERM = 3  # how many ticks after its grant a lease ends
+MOST_STRIPES, MOST_SLOTS, MOST_BYTES = 4096, 256, 4_194_304
+TERM = 3  # a lease ends this many ticks after its grant
+RANKS = 5  # the margins from 0 to 3, and 4 for a stripe that is not recoverable
+RISK_HEADER, LOAD_HEADER = "stripe,level,margin,missing", "node,mode,online,load,slots"
 
 Node = namedtuple("Node", "fault upgrade slots")
 Lease = namedtuple("Lease", "holder target epoch expiry")
 
 
 class Refused(Exception):
-    """A command is refused, with its number and what it tells."""
+    """A command is refused, with the number of the refusal and its detail."""
 
 
-def fragments_of(code):
-    """The fragments that a stripe of the code has, in rising order."""
-    return sorted(code.a | code.b | code.g)
+# Sets.
 
 
-def class_of(code, fragment):
-    """All fragments of the class of this one."""
-    return next(members for members in (code.a, code.b, code.g) if fragment in members)
+def set_of(numbers):
+    return sum(1 << number for number in numbers)
+
+
+def least(numbers):
+    return (numbers & -numbers).bit_length() - 1
+
+
+def members(numbers):
+    """The members of a set, in rising order."""
+    while numbers:
+        yield (numbers & -numbers).bit_length() - 1
+        numbers &= numbers - 1
+
+
+# The two codes.
+
+
+class Code:
+    """The name of a code, the sets of fragments of its classes A, B and G, and the class of each fragment."""
+
+    def __init__(self, name, *classes):
+        self.name, self.classes = name, classes
+        self.all = sum(classes)
+        self.fragments = list(members(self.all))
+        self.class_of = {fragment: of_class for of_class in classes for fragment in members(of_class)}
+
+
+WIDE = Code("wide", set_of([0, 1, 2, 3, 4, 5, 12]), set_of([6, 7, 8, 9, 10, 11, 13]), set_of([14, 15]))
+NARROW = Code("narrow", set_of([0, 1, 2, 6]), set_of([3, 4, 5, 7]), set_of([8, 9]))
+PLACES = {"place": WIDE, "place6": NARROW}
 
 
 @cache
 def is_recoverable(code, missing):
     """At most two are left after at most one member of A and at most one of B are taken out."""
-    one_of_a = [None, *(missing & code.a)]
-    one_of_b = [None, *(missing & code.b)]
-    return any(len(missing - {a, b}) <= 2 for a in one_of_a for b in one_of_b)
+    left = missing.bit_count()
+    for of_class in code.classes[:2]:
+        left -= 1 if missing & of_class else 0
+    return left <= 2
 
 
 @cache
 def margin(code, missing):
-    """How many more may be missing, whichever they are; None where the set is not recoverable."""
+    """The number of further fragments that may be missing, whichever they are; None where the set is not recoverable."""
     if not is_recoverable(code, missing):
         return None
-    others = [fragment for fragment in fragments_of(code) if fragment not in missing]
-    more = 0
-    while more < len(others) and all(is_recoverable(code, missing | set(extra)) for extra in combinations(others, more + 1)):
-        more += 1
-    return more
+    margins = [margin(code, missing | 1 << fragment) for fragment in members(code.all & ~missing)]
+    return 0 if None in margins else 1 + min(margins)
+
+
+@cache
+def rank_of(code, missing):
+    left = margin(code, missing)
+    return RANKS - 1 if left is None else left
+
+
+@cache
+def local_repair(code, fragment):
+    """The kind of a local repair of a fragment, with its sources: the other members of its group."""
+    return " ".join(["local", *map(str, members(code.class_of[fragment] & ~(1 << fragment)))])
 
 
 class Store:
-    """Nodes by their numbers, in the order of the file, and what is held on them."""
+    """The nodes by their numbers, in the order of the file, and the stripes, homes and leases on them."""
 
     def __init__(self, nodes):
         self.nodes = nodes
+        in_fault, self.in_upgrade = Counter(), Counter()  # domain: the set of its nodes
+        for number, node in nodes.items():
+            in_fault[node.fault] |= 1 << number
+            self.in_upgrade[node.upgrade] |= 1 << number
+        # node: the set of nodes that a seat there bars for a fragment of another class, and for one of the same class
+        self.bars = {number: (in_fault[node.fault], in_fault[node.fault] | self.in_upgrade[node.upgrade])
+                     for number, node in nodes.items()}
         self.mode = dict.fromkeys(nodes, "active")
         self.down = set()
         self.upgrading = None
         self.stripes = {}  # stripe: its code
         self.homes = {}  # (stripe, fragment): (node, slot)
         self.leases = {}  # (stripe, fragment): Lease
-        self.grants = Counter()  # (stripe, fragment): how many leases were granted
-        self.clock = 0  # how many ticks there were
+        self.grants = Counter()  # (stripe, fragment): the number of leases that were granted
+        self.clock = 0  # the number of ticks
 
-    # What is asked of a store.
+    # Nodes.
+
+    def nodes_in(self, mode):
+        return [node for node in self.nodes if self.mode[node] == mode]
 
     def is_online(self, node):
         return self.mode[node] != "gone" and node not in self.down and self.nodes[node].upgrade != self.upgrading
+
+    def is_eligible(self, node, load):
+        """Whether a node with this load takes a fragment."""
+        return load < self.nodes[node].slots and self.mode[node] == "active" and self.is_online(node)
 
     def held(self):
         """Each seat that is held, with its stripe and fragment: the homes and the targets."""
@@ -77,130 +126,177 @@ class Store:
         for key, lease in self.leases.items():
             yield key, lease.target
 
-    def nodes_of(self, stripe):
-        """The nodes on which a stripe holds a seat, each with the fragment."""
-        for fragment in FRAGMENTS:
-            if (stripe, fragment) in self.homes:
-                yield fragment, self.homes[stripe, fragment][0]
-            if (stripe, fragment) in self.leases:
-                yield fragment, self.leases[stripe, fragment].target[0]
-
     def slots_in_use(self):
         """The slots that are held, of each node."""
-        slots = {node: set() for node in self.nodes}
+        slots = {node: [] for node in self.nodes}
         for _, (node, slot) in self.held():
-            slots[node].add(slot)
+            slots[node].append(slot)
         return slots
 
     def load(self, node):
-        return sum(seat[0] == node for _, seat in self.held())
+        return len(self.slots_in_use()[node])
+
+    def free_slot(self, node):
+        """The least free slot of a node."""
+        return min(set(range(self.nodes[node].slots)) - set(self.slots_in_use()[node]))
+
+    def eligible_by_load(self):
+        """The eligible nodes: a set for each load, in rising order of the loads."""
+        by_load = Counter()
+        for node, slots in self.slots_in_use().items():
+            if self.is_eligible(node, len(slots)):
+                by_load[len(slots)] |= 1 << node
+        return [by_load[load] for load in sorted(by_load)]
+
+    def homes_on(self, node):
+        return [key for key, home in self.homes.items() if home[0] == node]
+
+    def targets_on(self, node):
+        return [key for key, lease in self.leases.items() if lease.target[0] == node]
+
+    # Fragments and stripes.
 
     def fragments(self, stripe):
-        """The fragments that the stripe has by its code."""
-        return fragments_of(self.stripes[stripe])
+        """The fragments that a stripe has by its code."""
+        return self.stripes[stripe].fragments
+
+    def is_missing(self, key):
+        home = self.homes.get(key)
+        return home is None or not self.is_online(home[0])
+
+    def needs_lease(self, key):
+        """Whether a fragment of a stripe is to be repaired or moved. One that the code lacks is not."""
+        home = self.homes.get(key)
+        if home is None:
+            return key[1] in self.stripes[key[0]].class_of
+        return self.mode[home[0]] == "draining"
+
+    def is_open(self, key):
+        return self.needs_lease(key) and key not in self.leases
 
     def homeless(self, stripe):
-        return frozenset(fragment for fragment in self.fragments(stripe) if (stripe, fragment) not in self.homes)
+        return set_of(fragment for fragment in self.fragments(stripe) if (stripe, fragment) not in self.homes)
 
     def missing(self, stripe):
-        """The fragments without a home on a node that is online."""
-        homes = {fragment: self.homes.get((stripe, fragment)) for fragment in self.fragments(stripe)}
-        return frozenset(fragment for fragment, home in homes.items() if home is None or not self.is_online(home[0]))
+        return set_of(fragment for fragment in self.fragments(stripe) if self.is_missing((stripe, fragment)))
+
+    def open(self, stripe):
+        """The set of fragments that need a lease and have none."""
+        return set_of(fragment for fragment in self.fragments(stripe) if self.is_open((stripe, fragment)))
 
     def can_recover(self, stripe):
         return is_recoverable(self.stripes[stripe], self.missing(stripe))
 
     def margin(self, stripe):
-        """The margin of what the stripe misses, or None."""
         return margin(self.stripes[stripe], self.missing(stripe))
 
     def rank(self, stripe):
-        left = self.margin(stripe)
-        return 4 if left is None else left
+        return rank_of(self.stripes[stripe], self.missing(stripe))
 
     def level(self, stripe):
-        """The level of a stripe as the risk table writes it, or None where it is Whole."""
+        """The level of a stripe as the risk table writes it; None where it is Whole."""
         if not is_recoverable(self.stripes[stripe], self.homeless(stripe)):
             return "lost"
         if not self.can_recover(stripe):
             return "unavailable"
         return "risk" if self.missing(stripe) else None
 
-    def is_lawful(self, key, node):
-        """Whether a fragment may go to the node, beside the seats of the other fragments of its stripe."""
+    def in_order(self):
+        """The stripes in the order of repair."""
+        return sorted(self.stripes, key=lambda stripe: (self.rank(stripe), stripe))
+
+    def with_work(self):
+        """The stripes with a fragment that needs a lease and has none, in the order of repair."""
+        return (stripe for stripe in self.in_order() if self.open(stripe))
+
+    # The choice of a seat.
+
+    def nodes_of(self, stripe):
+        """Each fragment of a stripe that has a home or a target, with the node."""
+        for fragment in self.fragments(stripe):
+            key = stripe, fragment
+            if key in self.homes:
+                yield fragment, self.homes[key][0]
+            if key in self.leases:
+                yield fragment, self.leases[key].target[0]
+
+    def barred(self, key):
+        """The set of nodes on which a fragment would not be lawful beside the other fragments of its stripe."""
         stripe, fragment = key
-        same_class = class_of(self.stripes[stripe], fragment)
-        for other, beside in self.nodes_of(stripe):
-            if other == fragment:
-                continue
-            if self.nodes[beside].fault == self.nodes[node].fault:
-                return False
-            if other in same_class and self.nodes[beside].upgrade == self.nodes[node].upgrade:
-                return False
-        return True
+        same_class, barred = self.stripes[stripe].class_of[fragment], 0
+        for other, node in self.nodes_of(stripe):
+            if other != fragment:
+                barred |= self.bars[node][same_class >> other & 1]
+        return barred
 
     def choice(self, key):
-        """The seat for a fragment, or Refused."""
-        in_use = self.slots_in_use()
-        free = {number: set(range(node.slots)) - in_use[number] for number, node in self.nodes.items()}
-        eligible = [node for node in self.nodes if self.mode[node] == "active" and self.is_online(node) and free[node]]
-        fitting = [node for node in eligible if self.is_lawful(key, node)]
-        if not fitting:
-            raise Refused(103, key[1])
-        node = min(fitting, key=lambda node: (len(in_use[node]), node))
-        return node, min(free[node])
+        """The seat for a fragment: the least slot of the node with the least load and number. Or it is refused."""
+        barred = self.barred(key)
+        for nodes in self.eligible_by_load():
+            if fitting := nodes & ~barred:
+                node = least(fitting)
+                return node, self.free_slot(node)
+        raise Refused(103, key[1])
 
-    def needs_lease(self, key):
-        """A fragment that the code lacks needs none."""
-        stripe, fragment = key
-        if fragment not in self.fragments(stripe):
-            return False
-        return key not in self.homes or self.mode[self.homes[key][0]] == "draining"
+    # The changes, of which each command makes one or more.
 
-    def kind(self, key):
-        """The kind of a lease and its sources, as a reply tells them."""
-        stripe, fragment = key
-        code = self.stripes[stripe]
-        if key in self.homes and self.is_online(self.homes[key][0]):
-            return "move"
-        others = class_of(code, fragment) - {fragment}
-        if fragment in code.g or others & self.missing(stripe):
-            return "global"
-        return " ".join(["local", *map(str, sorted(others))])
+    def add_stripe(self, stripe, code):
+        self.stripes[stripe] = code
 
-    # The commands, each a method of its name; it answers a reply or is Refused, and changes nothing then.
+    def remove_stripe(self, stripe):
+        """A stripe goes with its homes and leases."""
+        for fragment in self.fragments(stripe):
+            self.clear_home((stripe, fragment))
+            self.end_lease((stripe, fragment))
+        del self.stripes[stripe]
+
+    def set_home(self, key, seat):
+        self.homes[key] = seat
+
+    def clear_home(self, key):
+        self.homes.pop(key, None)
+
+    def set_lease(self, key, lease):
+        self.grants[key] += 1
+        self.leases[key] = lease
+
+    def end_lease(self, key):
+        self.leases.pop(key, None)
+
+    def set_mode(self, node, mode, is_down):
+        self.mode[node] = mode
+        (self.down.add if is_down else self.down.discard)(node)
+
+    def set_upgrading(self, domain):
+        self.upgrading = domain
+
+    # The commands, each a method of its name. It returns a reply, or raises Refused and changes nothing.
 
     def call(self, session, line):
         """The reply to the command of a line."""
         word, *numbers = line.split(" ")
         try:
-            reply = getattr(self, "do_" + word)(session, *map(int, numbers))
+            return getattr(self, "do_" + word)(session, *map(int, numbers))
         except Refused as refused:
             return " ".join(map(str, ["refused", *refused.args]))
-        return reply
 
-    def known(self, stripe):
+    def expect_stripe(self, stripe):
         if stripe not in self.stripes:
             raise Refused(101)
-
-    def forget(self, kept_home, kept_lease):
-        """Keeps these homes and these leases alone."""
-        self.homes = {key: home for key, home in self.homes.items() if kept_home(key, home)}
-        self.leases = {key: lease for key, lease in self.leases.items() if kept_lease(key, lease)}
 
     def place(self, stripe, code):
         if stripe in self.stripes:
             raise Refused(102)
-        self.stripes[stripe] = code
+        self.add_stripe(stripe, code)
+        seats = []
         try:
-            for fragment in fragments_of(code):
-                self.homes[stripe, fragment] = self.choice((stripe, fragment))
+            for fragment in code.fragments:
+                seats.append(self.choice((stripe, fragment)))
+                self.set_home((stripe, fragment), seats[-1])
         except Refused:
-            self.forget(lambda key, _: key[0] != stripe, lambda key, _: True)
-            del self.stripes[stripe]
+            self.remove_stripe(stripe)
             raise
-        seats = ["%d:%d" % self.homes[stripe, fragment] for fragment in fragments_of(code)]
-        return " ".join(["placed", *seats])
+        return " ".join(["placed", *("%d:%d" % seat for seat in seats)])
 
     def do_place(self, session, stripe):
         return self.place(stripe, WIDE)
@@ -209,47 +305,56 @@ class Store:
         return self.place(stripe, NARROW)
 
     def do_drop(self, session, stripe):
-        self.known(stripe)
-        del self.stripes[stripe]
-        self.forget(lambda key, _: key[0] != stripe, lambda key, _: key[0] != stripe)
+        self.expect_stripe(stripe)
+        self.remove_stripe(stripe)
         return "dropped"
 
-    def owed(self, key):
-        """The target of the lease that would be granted for a fragment, or Refused."""
-        stripe, fragment = key
-        self.known(stripe)
+    def lease_for(self, key):
+        """The target and the kind of the lease that a fragment may get. Or it is refused."""
+        stripe = key[0]
+        self.expect_stripe(stripe)
         if key in self.leases:
             raise Refused(110, self.leases[key].epoch)
         if not self.needs_lease(key):
             raise Refused(111)
-        if self.kind(key) == "global" and not self.can_recover(stripe):
+        kind = self.kind(key)
+        if kind == "global" and not self.can_recover(stripe):
             raise Refused(112)
-        return self.choice(key)
+        return self.choice(key), kind
 
-    def is_owed(self, key):
-        try:
-            self.owed(key)
-        except Refused:
-            return False
-        return True
+    def kind(self, key):
+        """The kind of a lease, with its sources, as a reply tells them."""
+        stripe, fragment = key
+        code, missing = self.stripes[stripe], self.missing(stripe)
+        if not missing >> fragment & 1:
+            return "move"
+        of_class = code.class_of[fragment]
+        if of_class == code.classes[2] or of_class & missing & ~(1 << fragment):
+            return "global"
+        return local_repair(code, fragment)
+
+    def grant(self, session, key, target, kind):
+        lease = Lease(session, target, self.grants[key] + 1, self.clock + TERM)
+        self.set_lease(key, lease)
+        return "granted %d %d %d:%d epoch %d %s" % (*key, *target, lease.epoch, kind)
 
     def do_lease(self, session, *key):
-        target, kind = self.owed(key), self.kind(key)
-        self.grants[key] += 1
-        self.leases[key] = Lease(session, target, self.grants[key], self.clock + TERM)
-        return "granted %d %d %d:%d epoch %d %s" % (*key, *target, self.grants[key], kind)
+        return self.grant(session, key, *self.lease_for(key))
 
     def do_next(self, session):
-        by_need = sorted(self.stripes, key=lambda stripe: (self.rank(stripe), stripe))
-        for stripe in by_need:
-            for fragment in FRAGMENTS:
-                if self.is_owed((stripe, fragment)):
-                    return self.do_lease(session, stripe, fragment)
+        """The first lease that `lease` would grant."""
+        for stripe in self.with_work():
+            for fragment in members(self.open(stripe)):
+                try:
+                    target, kind = self.lease_for((stripe, fragment))
+                except Refused:
+                    continue
+                return self.grant(session, (stripe, fragment), target, kind)
         return "idle"
 
     def own_lease(self, session, key, epoch):
-        """The live lease of a fragment, which has this epoch and is held by this session, or Refused."""
-        self.known(key[0])
+        """The live lease of a fragment, which has this epoch and this holder. Or it is refused."""
+        self.expect_stripe(key[0])
         lease = self.leases.get(key)
         if lease is None or lease.epoch != epoch:
             raise Refused(113)
@@ -259,117 +364,136 @@ class Store:
 
     def do_done(self, session, stripe, fragment, epoch):
         key = stripe, fragment
-        lease = self.own_lease(session, key, epoch)
-        if not self.is_online(lease.target[0]):
-            raise Refused(115, lease.target[0])
-        self.homes[key] = lease.target
-        del self.leases[key]
+        target = self.own_lease(session, key, epoch).target
+        if not self.is_online(target[0]):
+            raise Refused(115, target[0])
+        self.end_lease(key)
+        self.clear_home(key)
+        self.set_home(key, target)
         return "ended"
 
     def do_abandon(self, session, stripe, fragment, epoch):
         self.own_lease(session, (stripe, fragment), epoch)
-        del self.leases[stripe, fragment]
+        self.end_lease((stripe, fragment))
         return "ended"
 
     def do_revoke(self, session, *key):
-        self.known(key[0])
+        self.expect_stripe(key[0])
         if key not in self.leases:
             raise Refused(116)
-        del self.leases[key]
+        self.end_lease(key)
         return "ended"
+
+    def ending(self):
+        """The leases that end now."""
+        return [key for key, lease in self.leases.items() if lease.expiry == self.clock]
 
     def do_tick(self, session):
         self.clock += 1
-        live = len(self.leases)
-        self.forget(lambda key, _: True, lambda key, lease: lease.expiry != self.clock)
-        return f"ticked {self.clock} {live - len(self.leases)}"
+        ending = self.ending()
+        for key in ending:
+            self.end_lease(key)
+        return f"ticked {self.clock} {len(ending)}"
 
-    def expect(self, node, fits):
-        """The node is one of the topology, and its mode allows the command."""
+    # Whether the mode of a node allows a command: its mode, and whether it is down.
+    ALLOWS = {
+        "fail": lambda mode, is_down: mode != "gone",
+        "down": lambda mode, is_down: mode != "gone" and not is_down,
+        "up": lambda mode, is_down: is_down,
+        "drain": lambda mode, is_down: mode == "active",
+        "undrain": lambda mode, is_down: mode == "draining",
+        "retire": lambda mode, is_down: mode == "draining",
+        "join": lambda mode, is_down: mode == "gone",
+    }
+
+    def allows(self, word, node):
+        return self.ALLOWS[word](self.mode[node], node in self.down)
+
+    def expect_node(self, word, node):
         if node not in self.nodes:
             raise Refused(104)
-        if not fits(self.mode[node], node in self.down):
+        if not self.allows(word, node):
             raise Refused(105)
 
-    def turn(self, node, mode):
-        """The node is in this mode, and not down."""
-        self.mode[node] = mode
-        self.down.discard(node)
+    def do_fail(self, session, node):
+        self.expect_node("fail", node)
+        for key in self.targets_on(node):
+            self.end_lease(key)
+        for key in self.homes_on(node):
+            self.end_lease(key)
+            self.clear_home(key)
+        self.set_mode(node, "gone", False)
         return "changed"
 
-    def do_fail(self, session, node):
-        self.expect(node, lambda mode, down: mode != "gone")
-        was_on = {key for key, home in self.homes.items() if home[0] == node}
-        self.forget(
-            lambda key, _: key not in was_on,
-            lambda key, lease: key not in was_on and lease.target[0] != node,
-        )
-        return self.turn(node, "gone")
-
     def do_down(self, session, node):
-        self.expect(node, lambda mode, down: mode != "gone" and not down)
-        self.down.add(node)
+        self.expect_node("down", node)
+        self.set_mode(node, self.mode[node], True)
         return "changed"
 
     def do_up(self, session, node):
-        self.expect(node, lambda mode, down: down)
-        self.down.remove(node)
+        self.expect_node("up", node)
+        self.set_mode(node, self.mode[node], False)
         return "changed"
 
     def do_drain(self, session, node):
-        self.expect(node, lambda mode, down: mode == "active")
-        self.mode[node] = "draining"
+        self.expect_node("drain", node)
+        self.set_mode(node, "draining", node in self.down)
         return "changed"
 
     def do_undrain(self, session, node):
-        self.expect(node, lambda mode, down: mode == "draining")
-        self.mode[node] = "active"
+        self.expect_node("undrain", node)
+        self.set_mode(node, "active", node in self.down)
         return "changed"
 
     def do_retire(self, session, node):
-        self.expect(node, lambda mode, down: mode == "draining")
+        self.expect_node("retire", node)
         if self.load(node):
             raise Refused(117, self.load(node))
-        return self.turn(node, "gone")
+        self.set_mode(node, "gone", False)
+        return "changed"
 
     def do_join(self, session, node):
-        self.expect(node, lambda mode, down: mode == "gone")
-        return self.turn(node, "active")
+        self.expect_node("join", node)
+        self.set_mode(node, "active", False)
+        return "changed"
 
-    def known_domain(self, domain):
-        if all(node.upgrade != domain for node in self.nodes.values()):
+    def expect_domain(self, domain):
+        if domain not in self.in_upgrade:
             raise Refused(106)
 
     def do_upgrade(self, session, domain):
-        self.known_domain(domain)
+        self.expect_domain(domain)
         if self.upgrading is not None:
             raise Refused(107, self.upgrading)
         recoverable = [stripe for stripe in sorted(self.stripes) if self.can_recover(stripe)]
-        self.upgrading = domain
-        for stripe in recoverable:
-            if not self.can_recover(stripe):
-                self.upgrading = None
-                raise Refused(109, stripe)
+        self.set_upgrading(domain)
+        lost = next((stripe for stripe in recoverable if not self.can_recover(stripe)), None)
+        if lost is not None:
+            self.set_upgrading(None)
+            raise Refused(109, lost)
         return "changed"
 
     def do_upgraded(self, session, domain):
-        self.known_domain(domain)
+        self.expect_domain(domain)
         if self.upgrading != domain:
             raise Refused(108)
-        self.upgrading = None
+        self.set_upgrading(None)
         return "changed"
 
     # The tables.
 
     def risk_rows(self):
-        for stripe in sorted(self.stripes, key=lambda stripe: (self.rank(stripe), stripe)):
-            level, missing = self.level(stripe), self.missing(stripe)
+        for stripe in self.in_order():
+            level = self.level(stripe)
             if level is not None:
                 left = self.margin(stripe) if level == "risk" else "-"
-                bits = sum(1 << fragment for fragment in missing)
-                yield f"{stripe},{level},{left},{bits:04x}"
+                yield f"{stripe},{level},{left},{self.missing(stripe):04x}"
 
     def load_rows(self):
-        for number, node in self.nodes.items():
+        for (number, node), slots in zip(self.nodes.items(), self.slots_in_use().values()):
             online = "yes" if self.is_online(number) else "no"
-            yield f"{number},{self.mode[number]},{online},{self.load(number)},{node.slots}"
+            yield f"{number},{self.mode[number]},{online},{len(slots)},{node.slots}"
+
+    def tables(self):
+        """The lines of an output after its replies."""
+        return ["risk", RISK_HEADER, *self.risk_rows(), "load", LOAD_HEADER, *self.load_rows()]
