@@ -250,7 +250,7 @@ def mixed6(script):
 
 
 def mix(script, place_word):
-    """A stripe is placed by the word that the function tells."""
+    """As `mixed`; a stripe is placed by the command that the function returns."""
     pick, state = script.random, script.store
     for node in pick.sample(range(len(script.nodes)), 2):
         script.call(f"fail {node}")
@@ -292,7 +292,7 @@ FILLS = {"ticks": fill_for_moves, "mixed6": fill_both}
 
 
 def make(kind, nodes, stripes, seed, most_bytes, most_lines=None):
-    """The script of a kind; with at most so many lines behind those that fill the store, where that is given."""
+    """The script of a kind, with at most this number of lines after those that fill the store, if one is given."""
     script = Script(nodes, stripes, f"{seed} {kind} {nodes} {stripes}", most_bytes)
     try:
         FILLS.get(kind, fill)(script)

@@ -1,4 +1,4 @@
-"""Runs PROGRAM run < SOURCE > SINK so many TIMES, one after the other, or until it fails. Prints the means of its wall, user
+"""Runs PROGRAM run < SOURCE > SINK several TIMES, one after the other, or until it fails. Prints the means of its wall, user
 and system time in seconds, its greatest peak memory in KiB, and its last exit status. A run that takes more than SECONDS
 of user and system time is ended by a signal.
 

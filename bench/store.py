@@ -2,6 +2,7 @@
 
 No rule stands here: a method answers a question of the rules from an index, or makes a change and updates the indexes."""
 from collections import defaultdict
+from itertools import chain
 
 import common  # (so that the modules of tests are found)
 import rules
@@ -11,11 +12,11 @@ from rules import least, members
 class Fragments:
     """Of the fragments of a stripe: those that are missing, those that are open, and the nodes of homes and targets."""
 
-    __slots__ = "missing", "open", "nodes", "rank"
+    __slots__ = "missing", "open", "homes", "targets", "rank"
 
     def __init__(self):
         self.missing = self.open = 0
-        self.nodes = set()
+        self.homes, self.targets = {}, {}  # fragment: node
         self.rank = None  # the rank under which the stripe is listed
 
 
@@ -108,7 +109,8 @@ class Store(rules.Store):
         return self.of_stripe[stripe].open
 
     def nodes_of(self, stripe):
-        return self.of_stripe[stripe].nodes
+        of_stripe = self.of_stripe[stripe]
+        return chain(of_stripe.homes.items(), of_stripe.targets.items())
 
     def with_work(self):
         self.update()
@@ -158,18 +160,18 @@ class Store(rules.Store):
 
     # Homes and leases.
 
-    def hold(self, key, seat, keys_on):
+    def hold(self, key, seat, keys_on, nodes):
         (stripe, fragment), (node, slot) = key, seat
         keys_on[node].add(key)
-        self.of_stripe[stripe].nodes.add((fragment, node))
+        nodes[fragment] = node
         self.stale[stripe] |= 1 << fragment
         self.slots[node] |= 1 << slot
         self.list_node(node)
 
-    def release(self, key, seat, keys_on):
+    def release(self, key, seat, keys_on, nodes):
         (stripe, fragment), (node, slot) = key, seat
         keys_on[node].remove(key)
-        self.of_stripe[stripe].nodes.remove((fragment, node))
+        del nodes[fragment]
         self.stale[stripe] |= 1 << fragment
         self.slots[node] ^= 1 << slot
         self.list_node(node)
@@ -177,25 +179,25 @@ class Store(rules.Store):
 
     def set_home(self, key, seat):
         super().set_home(key, seat)
-        self.hold(key, seat, self.home_keys)
+        self.hold(key, seat, self.home_keys, self.of_stripe[key[0]].homes)
 
     def clear_home(self, key):
         if key in self.homes:
             seat = self.homes[key]
             super().clear_home(key)
-            self.release(key, seat, self.home_keys)
+            self.release(key, seat, self.home_keys, self.of_stripe[key[0]].homes)
 
     def set_lease(self, key, lease):
         super().set_lease(key, lease)
         self.ends[lease.expiry].add(key)
-        self.hold(key, lease.target, self.target_keys)
+        self.hold(key, lease.target, self.target_keys, self.of_stripe[key[0]].targets)
 
     def end_lease(self, key):
         if key in self.leases:
             lease = self.leases[key]
             super().end_lease(key)
             self.ends[lease.expiry].discard(key)
-            self.release(key, lease.target, self.target_keys)
+            self.release(key, lease.target, self.target_keys, self.of_stripe[key[0]].targets)
 
     def ending(self):
         return list(self.ends.pop(self.clock, ()))

@@ -1,4 +1,4 @@
-"""What a book of the library tells, as texts that the plain model of tests/rules.py has too."""
+"""Commands for a book of the library, and what it reports, as the texts of the model in tests/rules.py."""
 import os
 import sys
 
@@ -15,14 +15,14 @@ FIELDS = {
 
 
 def command_of(line):
-    """The struct of a script's line."""
+    """The struct of a command, from a line of a script."""
     word, *numbers = line.split(" ")
     kind = lrc_embed.CommandKind["REPORT" if word == "done" else word.upper()]
     return lrc_embed.Command(kind, **dict(zip(FIELDS.get(word, ["node"]), map(int, numbers), strict=True)))
 
 
 def code_word(code):
-    """The name of a code that a look at a stripe tells."""
+    """The name of a code that a book reports."""
     return lrc_embed.Code(code.value).name.lower()
 
 

@@ -1,5 +1,5 @@
 """What the Python module of examples/embed does beside the calls: it refuses numbers that a field would cut down, closes a
-book that is let go of, and replays a log in pieces, from entries and from bytes, also one that an earlier library kept."""
+book that is no longer used, and replays a log in pieces, from entries and from bytes, also one of an earlier library."""
 import ctypes
 import gc
 import struct
@@ -12,7 +12,7 @@ from lrc_embed import Book, Code, Command, CommandKind, Entry, Fault, ModeKind, 
 TWENTY = topology_of(nodes_in_order(20, 4))
 SCRIPT = ("place 1", "place 2", "fail 3", "next", "lease 2 7", "done 1 3 1", "next", "upgrade 0", "upgraded 0")
 SIZE = ctypes.sizeof(Entry)
-# An entry as each library of this version keeps it. What came to have a name later was reserved before, and 0.
+# An entry as each library of this version stores it. What got a name later was reserved before, and 0.
 KEPT = struct.Struct("<B3x BBB5xIHH BBB6s3xIII4x HBBHHI4x 32H")
 # As the header has them; an index is a size_t.
 RANGES = {"session": (1, 8), "kind": (1, 18), "stripe": (0, 4095), "fragment": (0, 15), "node": (0, 65535),
@@ -20,7 +20,7 @@ RANGES = {"session": (1, 8), "kind": (1, 18), "stripe": (0, 4095), "fragment": (
 
 
 def ways_of(book):
-    """Each way by which a number comes in."""
+    """Each call that takes a number of this name."""
     command, entry = Command(CommandKind.NEXT), Entry(session=1)
 
     def made_of(kind, name):
@@ -42,7 +42,7 @@ def ways_of(book):
 
 
 def answer(way, number):
-    """What a way says of a number: the text of a ValueError, or None."""
+    """What a call raises for a number: the text of a ValueError, or None."""
     try:
         way(number)
     except ValueError as error:
@@ -77,17 +77,17 @@ def test_numbers(count, library):
 
 
 def opened(library, **how):
-    """The handle of a book that was let go of."""
+    """The handle of a book that is no longer used."""
     return Book(library, TWENTY, **how).handle
 
 
 def test_dropped(count, library):
     handle = opened(library)
     gc.collect()
-    count.check("the module: a book that is let go of is closed", not handle.is_open)
+    count.check("the module: a book that is no longer used is closed", not handle.is_open)
     with Book(library, TWENTY) as book:
         count.check("the module: a book is open in its `with`", book.handle.is_open)
-    count.check("the module: a book is closed behind its `with`", not book.handle.is_open)
+    count.check("the module: a book is closed after its `with`", not book.handle.is_open)
     book.close()
     for name, call in (("a look", book.count), ("a replay", lambda: book.replay(b""))):
         status = status_of(call)[0]
@@ -107,7 +107,7 @@ def status_of(call):
 
 
 def log_of(library):
-    """The bytes of the entries of a script, as a store keeps them."""
+    """The bytes of the entries of a script."""
     kept = []
     with Book(library, TWENTY) as book:
         for session, line in enumerate(SCRIPT[:8], 1):

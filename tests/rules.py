@@ -291,8 +291,9 @@ class Store:
         seats = []
         try:
             for fragment in code.fragments:
-                seats.append(self.choice((stripe, fragment)))
-                self.set_home((stripe, fragment), seats[-1])
+                key = stripe, fragment
+                seats.append(self.choice(key))
+                self.set_home(key, seats[-1])
         except Refused:
             self.remove_stripe(stripe)
             raise
@@ -323,7 +324,7 @@ class Store:
         return self.choice(key), kind
 
     def kind(self, key):
-        """The kind of a lease, with its sources, as a reply tells them."""
+        """The kind of a lease, with its sources, as a reply writes them."""
         stripe, fragment = key
         code, missing = self.stripes[stripe], self.missing(stripe)
         if not missing >> fragment & 1:
