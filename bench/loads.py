@@ -23,7 +23,8 @@ class Script:
     """The lines so far, the beginning of the reply to each command, and the store after them."""
 
     def __init__(self, nodes, stripes, seed, most_bytes):
-        self.nodes = {number: Node(number % FAULTS, (number // FAULTS + number) % UPGRADES, MOST_SLOTS) for number in range(nodes)}
+        self.nodes = {number: Node(number % FAULTS, (number // FAULTS + number) % UPGRADES, MOST_SLOTS)
+                      for number in range(nodes)}
         self.store = Store(self.nodes)
         self.stripes = stripes
         self.random = random.Random(seed)

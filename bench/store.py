@@ -10,7 +10,7 @@ from rules import least, members
 
 
 class Fragments:
-    """Of the fragments of a stripe: those that are missing, those that are open, and the nodes of homes and targets."""
+    """The sets of missing and of open fragments of a stripe, and the nodes of its homes and targets."""
 
     __slots__ = "missing", "open", "homes", "targets", "rank"
 
@@ -21,6 +21,8 @@ class Fragments:
 
 
 class Store(rules.Store):
+    """The store of the rules, in which a command takes about as long on a large store as on a small one."""
+
     def __init__(self, nodes):
         super().__init__(nodes)
         self.in_mode = {"active": set(nodes), "draining": set(), "gone": set()}
@@ -32,8 +34,8 @@ class Store(rules.Store):
         self.home_keys, self.target_keys = ({node: set() for node in nodes} for _ in range(2))
         self.of_stripe = {}  # stripe: Fragments
         self.work = [0] * rules.RANKS  # rank: the set of stripes with an open fragment
-        self.stale = defaultdict(int)  # stripe: the set of fragments that may have become missing or open, or are so no longer
-        self.passed = 0  # the stripes of which `next` can grant nothing, until there is a change that is no grant
+        self.stale = defaultdict(int)  # stripe: the set of fragments of which the two sets may be out of date
+        self.skipped = 0  # the set of stripes that `next` can grant nothing of, until a change that is no grant
         self.ends = defaultdict(set)  # clock: the leases that end then
         for node in nodes:
             self.list_node(node)
@@ -75,37 +77,37 @@ class Store(rules.Store):
                 self.loads |= 1 << load
             self.listed[node] = load
 
-    def turn(self, node):
+    def update_node(self, node):
         """Updates the indexes for a node whose mode has changed."""
         (self.online.add if super().is_online(node) else self.online.discard)(node)
         self.list_node(node)
         for stripe, fragment in self.home_keys[node]:
             self.stale[stripe] |= 1 << fragment
-        self.passed = 0
+        self.skipped = 0
 
     def set_mode(self, node, mode, is_down):
         self.in_mode[self.mode[node]].remove(node)
         super().set_mode(node, mode, is_down)
         self.in_mode[mode].add(node)
-        self.turn(node)
+        self.update_node(node)
 
     def set_upgrading(self, domain):
         changed = [known for known in (self.upgrading, domain) if known is not None]
         super().set_upgrading(domain)
         for known in changed:
             for node in members(self.in_upgrade[known]):
-                self.turn(node)
+                self.update_node(node)
 
     # Stripes.
 
     def missing(self, stripe):
         if self.stale:
-            self.update()
+            self.update_stripes()
         return self.of_stripe[stripe].missing
 
-    def open(self, stripe):
+    def open_fragments(self, stripe):
         if self.stale:
-            self.update()
+            self.update_stripes()
         return self.of_stripe[stripe].open
 
     def nodes_of(self, stripe):
@@ -113,14 +115,14 @@ class Store(rules.Store):
         return chain(of_stripe.homes.items(), of_stripe.targets.items())
 
     def with_work(self):
-        self.update()
+        self.update_stripes()
         for stripes in self.work:
-            for stripe in members(stripes & ~self.passed):
+            for stripe in members(stripes & ~self.skipped):
                 yield stripe
-                # (the caller goes on where nothing could be granted)
-                self.passed |= 1 << stripe
+                # (the caller asks for more only where nothing of this stripe could be granted)
+                self.skipped |= 1 << stripe
 
-    def update(self):
+    def update_stripes(self):
         """Updates what is stored of the stripes with stale fragments."""
         stale, self.stale = self.stale, defaultdict(int)
         for stripe, fragments in stale.items():
@@ -175,7 +177,7 @@ class Store(rules.Store):
         self.stale[stripe] |= 1 << fragment
         self.slots[node] ^= 1 << slot
         self.list_node(node)
-        self.passed = 0
+        self.skipped = 0
 
     def set_home(self, key, seat):
         super().set_home(key, seat)

@@ -136,9 +136,11 @@ def test_pieces(count, library):
     entries = [Entry.from_buffer_copy(log, at) for at in range(0, len(log), SIZE)]
     view = memoryview(log)
     for cut in range(0, len(log) + 1, SIZE):
-        count.check(f"the module: a replay of bytes in two pieces, cut at {cut}", replayed(library, view[:cut], view[cut:]) == log)
+        pieces = view[:cut], view[cut:]
+        count.check(f"the module: a replay of bytes in two pieces, cut at {cut}", replayed(library, *pieces) == log)
     count.check("the module: a replay entry by entry", replayed(library, *([entry] for entry in entries)) == log)
-    count.check("the module: a replay of bytes and of entries", replayed(library, bytearray(log[:SIZE]), tuple(entries[1:])) == log)
+    pieces = bytearray(log[:SIZE]), tuple(entries[1:])
+    count.check("the module: a replay of bytes and of entries", replayed(library, *pieces) == log)
     count.check("the module: a replay of an array", replayed(library, (Entry * len(entries))(*entries)) == log)
     for how in (log, entries):
         with Book(library, TWENTY, how) as book:

@@ -180,7 +180,7 @@ class Store:
     def missing(self, stripe):
         return set_of(fragment for fragment in self.fragments(stripe) if self.is_missing((stripe, fragment)))
 
-    def open(self, stripe):
+    def open_fragments(self, stripe):
         """The set of fragments that need a lease and have none."""
         return set_of(fragment for fragment in self.fragments(stripe) if self.is_open((stripe, fragment)))
 
@@ -207,7 +207,7 @@ class Store:
 
     def with_work(self):
         """The stripes with a fragment that needs a lease and has none, in the order of repair."""
-        return (stripe for stripe in self.in_order() if self.open(stripe))
+        return (stripe for stripe in self.in_order() if self.open_fragments(stripe))
 
     # The choice of a seat.
 
@@ -345,7 +345,7 @@ class Store:
     def do_next(self, session):
         """The first lease that `lease` would grant."""
         for stripe in self.with_work():
-            for fragment in members(self.open(stripe)):
+            for fragment in members(self.open_fragments(stripe)):
                 try:
                     target, kind = self.lease_for((stripe, fragment))
                 except Refused:
