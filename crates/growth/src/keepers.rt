@@ -17,7 +17,7 @@ pub(crate) fn open_once(rt: &impl Host) -> Result<bool, Stop> {
 
 fn open_over<N: ViewNaming, R: Host>(rt: &R, book: Book, log: NewLog) -> Result<bool, Stop>
     requires book { (book.history ≡ []) × (book.nodes ≡ N.topology) × (book.limit ≡ N.limit) }
-    requires log { (log.front.book ≡ N.log) × (log.pen.nib.key ≡ N.start) }
+    requires log { (log.prefix.book ≡ N.log) × (log.permit.nib.key ≡ N.start) }
 {
     begin(rt);
     match Keeper::<N>::open(rt.alloc(), rt, book, log, 2) {
@@ -42,7 +42,7 @@ fn try_over<N: ViewNaming, R: Host>(
     trial: &Trial,
 ) -> Result<(), Stop>
     requires book { (book.history ≡ []) × (book.nodes ≡ N.topology) × (book.limit ≡ N.limit) }
-    requires log { (log.front.book ≡ N.log) × (log.pen.nib.key ≡ N.start) }
+    requires log { (log.prefix.book ≡ N.log) × (log.permit.nib.key ≡ N.start) }
 {
     let (mut keeper, viewers) = Keeper::<N>::open(rt.alloc(), rt, book, log, 1)?;
     let told = try_on(rt, &mut keeper, viewers, trial);

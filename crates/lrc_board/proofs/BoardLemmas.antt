@@ -1,4 +1,4 @@
--- A board that takes in a book after one more step.
+-- The update of a board from a book after one more step.
 use Rattle.std.proofs.Common.{◌≡◌, ℕ, List, length, map, ap, ◌∙◌}
 use Rattle.logbook.specs.Pages.{Book}
 use Rattle.lrc_topology.specs.declared.NodeInfo.{NodeInfo}
@@ -7,7 +7,7 @@ use Rattle.lrc_rules.specs.Histories.{IsLegal, state_after}
 use Rattle.lrc_rules.specs.Boards.{Loads, loads_of}
 use Rattle.lrc_book.specs.Books.{BookView, state_of}
 use Rattle.lrc_board.specs.declared.line.Line.{Line}
-use Rattle.lrc_board.specs.declared.touched.Touched.{Touched}
+use Rattle.lrc_board.specs.declared.changed_levels.ChangedLevels.{ChangedLevels}
 use Rattle.lrc_board.specs.Lines.{written}
 use Rattle.lrc_board.specs.Views.{BoardView, IsBoard, published}
 use Rattle.lrc_board.specs.Refreshed.{LevelsStay, AreBoards, IsWhole, refreshed, renewed}
@@ -20,17 +20,17 @@ board-whole book start nodes x is =
       ap (λ (rows : Loads). map (λ row. row.0) rows) is.shows.1 ∙ loads-whole nodes (load st),
     )
 
-pub board-renewed : (book : Book) (start : ℕ) (nodes : List NodeInfo) (last now : Touched) (shown spare : BoardView)
+pub board-renewed : (book : Book) (start : ℕ) (nodes : List NodeInfo) (last now : ChangedLevels) (shown spare : BoardView)
     (b : BookView) (count : ℕ) (lines : List Line)
     → AreBoards book start nodes last shown spare → b.nodes ≡ nodes → b.history ≡ written start lines
     → count ≡ length (written start lines) → IsLegal nodes (written start lines)
     → LevelsStay nodes now (state_after nodes (published start shown)) (state_after nodes (written start lines))
     → IsBoard book start nodes (renewed spare b last now count lines)
-board-renewed book start nodes last now shown spare b count lines are same told counted legal stay =
+board-renewed book start nodes last now shown spare b count lines are same written_is counted legal stay =
     let first = state_after nodes (published start spare) in
     let second = state_after nodes (published start shown) in
     let third = state_after nodes (written start lines) in
-    let is : state_of b ≡ third = λ i. state_after (same i) (told i) in
+    let is : state_of b ≡ third = λ i. state_after (same i) (written_is i) in
     record {
       named = are.spare_is.named;
       count_is = counted;

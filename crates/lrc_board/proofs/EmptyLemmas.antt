@@ -1,4 +1,4 @@
--- What a board shows of an empty store.
+-- The levels of an empty store.
 use Rattle.std.proofs.Common.{◌≡◌, ℕ, List, [], replicate, None}
 use Rattle.std.specs.List.{range_with_len}
 use Rattle.std.proofs.lemmas.Simd.{splat_is_map}

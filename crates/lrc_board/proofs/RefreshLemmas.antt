@@ -1,4 +1,4 @@
--- What a board takes in from a book.
+-- The levels and loads that a board copies from a book.
 use Rattle.std.specs.Prelude.{unwrap_or}
 use Rattle.std.proofs.Common.{◌≡◌, ℕ, ◌+◌, ◌-◌, ◌<◌, if◌then◌else◌, List, [], ◌∷◌, ◌++◌, length, map, drop, set, Option, Some, None, refl, sym, ap, ap₂, ◌∙◌, inl, inr, arith, append_assoc, length-set}
 use Rattle.std.proofs.Math.Path.{fun_ext}
@@ -18,9 +18,9 @@ use Rattle.lrc_terms.proofs.ListLemmas.{Contains-here, Contains-later, Contains-
 use Rattle.lrc_rules.specs.States.{State, load, load_shown, level_shown}
 use Rattle.lrc_rules.specs.Boards.{Levels, Loads, levels_by, levels_of, loads_by, loads_of}
 use Rattle.lrc_rules.proofs.BoardLemmas.{shown_with, put-level-by}
-use Rattle.lrc_board.specs.declared.touched.Touched.{Touched}
-use Rattle.lrc_board.specs.declared.touched.Touched.TheVariants.{Nothing, Stripe, All}
-use Rattle.lrc_board.specs.Refreshed.{is_touched, LevelsStay, refreshed, row_shown}
+use Rattle.lrc_board.specs.declared.changed_levels.ChangedLevels.{ChangedLevels}
+use Rattle.lrc_board.specs.declared.changed_levels.ChangedLevels.TheVariants.{Nothing, Stripe, All}
+use Rattle.lrc_board.specs.Refreshed.{is_changed, LevelsStay, refreshed, row_shown}
 
 -- ---- levels
 
@@ -28,18 +28,18 @@ pub levels-long : (nodes : List NodeInfo) (st : State) → length (levels_of nod
 unfolding levels_of
 levels-long nodes st = length-map-range_with_len (λ k. level_shown nodes st (stripe_at k)) 0 4096
 
-pub refreshed-long : (nodes : List NodeInfo) (st : State) (touched : Touched) (levels : Levels)
-    → length levels ≡ 4096 → length (refreshed nodes st touched levels) ≡ 4096
+pub refreshed-long : (nodes : List NodeInfo) (st : State) (changed : ChangedLevels) (levels : Levels)
+    → length levels ≡ 4096 → length (refreshed nodes st changed levels) ≡ 4096
 refreshed-long nodes st Nothing levels long = long
 refreshed-long nodes st (Stripe r) levels long = length-set levels r.value (level_shown nodes st r) ∙ long
 refreshed-long nodes st All levels long = levels-long nodes st
 
--- what is shown of the stripes, anew of those that may have changed
-abbrev anew : Touched → (StripeNo → Option Level) → (StripeNo → Option Level) → StripeNo → Option Level
-anew touched now was s = if is_touched touched s then now s else was s
+-- the new levels of the stripes that may have changed, and the old levels of the others
+abbrev anew : ChangedLevels → (StripeNo → Option Level) → (StripeNo → Option Level) → StripeNo → Option Level
+anew changed now was s = if is_changed changed s then now s else was s
 
-refreshed-by : (nodes : List NodeInfo) (st : State) (touched : Touched) (was : StripeNo → Option Level)
-    → refreshed nodes st touched (levels_by 4096 was) ≡ levels_by 4096 (anew touched (level_shown nodes st) was)
+refreshed-by : (nodes : List NodeInfo) (st : State) (changed : ChangedLevels) (was : StripeNo → Option Level)
+    → refreshed nodes st changed (levels_by 4096 was) ≡ levels_by 4096 (anew changed (level_shown nodes st) was)
 unfolding levels_of
 refreshed-by nodes st Nothing was = refl
 refreshed-by nodes st (Stripe r) was =
@@ -51,8 +51,8 @@ refreshed-by nodes st (Stripe r) was =
       ]
 refreshed-by nodes st All was = refl
 
--- a board that lacks two steps, and takes in anew what each of them may have changed, has the levels of the last state
-pub twice-refreshed : (nodes : List NodeInfo) (first second third : State) (last now : Touched)
+-- a board that lacks two steps has the levels of the last state after it copies what each of them may have changed
+pub twice-refreshed : (nodes : List NodeInfo) (first second third : State) (last now : ChangedLevels)
     → LevelsStay nodes last first second → LevelsStay nodes now second third
     → refreshed nodes third now (refreshed nodes third last (levels_of nodes first)) ≡ levels_of nodes third
 unfolding levels_of
@@ -62,15 +62,15 @@ twice-refreshed nodes first second third last now a b =
     ap (refreshed nodes third now) (refreshed-by nodes third last (level_shown nodes first))
     ∙ refreshed-by nodes third now once ∙ ap (levels_by 4096) (fun_ext own) where
       own : (s : StripeNo) → anew now (level_shown nodes third) (anew last (level_shown nodes third) (level_shown nodes first)) s ≡ level_shown nodes third s
-      own s = elim (cases_Bool (is_touched now s)) [
+      own s = elim (cases_Bool (is_changed now s)) [
         | inl hit ↦ rw hit refl
-        | inr miss ↦ rw miss (elim (cases_Bool (is_touched last s)) [
+        | inr miss ↦ rw miss (elim (cases_Bool (is_changed last s)) [
           | inl hit ↦ rw hit refl
           | inr out ↦ rw out (a s out ∙ b s miss)
         ])
       ]
 
--- the levels below a number as the state shows them, and the others as they were
+-- the new levels of the stripes below a number, and the old levels of the others
 abbrev pub levels_upto : List NodeInfo → State → ℕ → Levels → Levels
 levels_upto nodes st k levels = map (λ j. level_shown nodes st (stripe_at j)) (range_with_len 0 k) ++ drop k levels
 
@@ -80,14 +80,14 @@ pub upto-put : (nodes : List NodeInfo) (st : State) (k : ℕ) (levels : Levels) 
 upto-put nodes st k levels s within long is =
     let f : ℕ → Option Level = λ j. level_shown nodes st (stripe_at j) in
     let v : Option Level = level_shown nodes st s in
-    let front : Levels = map f (range_with_len 0 k) in
+    let prefix : Levels = map f (range_with_len 0 k) in
     let own : v ≡ f k = ap (level_shown nodes st) (sym (equal_stripes (stripe_at k) s (mod-eq_of_lt within ∙ sym is))) in
     let at : k < length levels = omega (arith, within, long) in
     let zero : k - k ≡ 0 = omega arith in
-    set-append_right front (drop k levels) k k v (length-map-range_with_len f 0 k) (omega arith)
-    ∙ ap₂ (λ (xs : Levels) (i : ℕ). front ++ set xs i v) (drop_more levels k None at) zero
-    ∙ sym (append_assoc front (v ∷ []) (drop (k + 1) levels))
-    ∙ ap (λ (xs : Levels). xs ++ drop (k + 1) levels) (ap (λ (o : Option Level). front ++ o ∷ []) own ∙ sym (map-range_with_len_more f 0 k k (omega arith)))
+    set-append_right prefix (drop k levels) k k v (length-map-range_with_len f 0 k) (omega arith)
+    ∙ ap₂ (λ (xs : Levels) (i : ℕ). prefix ++ set xs i v) (drop_more levels k None at) zero
+    ∙ sym (append_assoc prefix (v ∷ []) (drop (k + 1) levels))
+    ∙ ap (λ (xs : Levels). xs ++ drop (k + 1) levels) (ap (λ (o : Option Level). prefix ++ o ∷ []) own ∙ sym (map-range_with_len_more f 0 k k (omega arith)))
 
 pub upto-all : (nodes : List NodeInfo) (st : State) (levels : Levels) → length levels ≡ 4096 → levels_upto nodes st 4096 levels ≡ levels_of nodes st
 unfolding levels_of
@@ -121,7 +121,7 @@ module _ (nodes : List NodeInfo) (st : State) where
       ∙ ap (λ (o : Option ℕ). (m.number, unwrap_or o 0)) (load-found nodes st m (among m (Contains-here m ms))))
       (rows-of rs ms (λ x here. among x (Contains-later m x ms here)) others)
 
--- rows of the nodes take the nodes' loads
+-- the rows of all nodes, with their loads in a state
 pub rows-shown : (nodes : List NodeInfo) (st : State) (rows : Loads)
     → map (λ row. row.0) rows ≡ map (λ m. m.number) nodes → map (row_shown nodes st) rows ≡ loads_of nodes st
 rows-shown nodes st rows same = rows-of nodes st rows nodes (λ m here. here) same

@@ -1,4 +1,4 @@
--- What contracts see of boards, and which board is that of its entries.
+-- The model of a board, and when a board is the board of its entries.
 use Rattle.std.specs.Prelude.{◌≡◌, ℕ, List, [], length}
 use Rattle.logbook.specs.Pages.{Book}
 use Rattle.lrc_topology.specs.declared.NodeInfo.{NodeInfo}
@@ -8,7 +8,7 @@ use Rattle.lrc_rules.specs.Boards.{Levels, Loads, levels_after, loads_after}
 use Rattle.lrc_board.specs.declared.line.Line.{Line}
 use Rattle.lrc_board.specs.Lines.{written}
 
--- a level for each stripe number, a load for each node, how many entries led there, and the log in which these stand, up to them
+-- a level for each stripe number, a load for each node, the number of entries that they follow from, and the log up to these entries
 pub record BoardView : Type 0 where
   pub levels : Levels
   pub loads : Loads
@@ -16,7 +16,7 @@ pub record BoardView : Type 0 where
   pub book : Book
   pub lines : List Line
 
--- the entries that led to a board, where the log begins with this pen
+-- the entries that a board follows from, if the log begins with this permit
 abbrev pub published : ℕ → BoardView → List Entry
 published start x = written start x.lines
 
@@ -24,7 +24,7 @@ published start x = written start x.lines
 abbrev pub AreAfter : List NodeInfo → List Entry → Levels → Loads → Type 0
 AreAfter nodes history levels loads = (levels ≡ levels_after nodes history) × (loads ≡ loads_after nodes history)
 
--- The board is that of its entries, which are legal and stand in this log.
+-- The board is the board of its entries, which are legal and are in this log.
 pub record IsBoard (book : Book) (start : ℕ) (nodes : List NodeInfo) (x : BoardView) : Type 0 where
   pub named : x.book ≡ book
   pub count_is : x.count ≡ length (published start x)

@@ -4,22 +4,23 @@ ghost use Rattle.lrc_code.specs.declared.fault.Fault.TheVariants as fault;
 ghost use Rattle.lrc_book.specs.Books.{FaultFits, world_of};
 ghost use Rattle.lrc_rules.specs.Histories.{IsLegal, outcome_in};
 
+use crate::changed_levels::ChangedLevels;
 use crate::log::Log;
 use crate::naming::ViewNaming;
+use crate::publisher::Publisher;
 use crate::receipt::Receipt;
-use crate::screen::Screen;
-use crate::touched::Touched;
 use crate::viewer::Viewer;
 use lrc_book::{Book, Command};
 use lrc_code::{Fault, SessionNo};
 use std::marker::Model;
 use std::sync::Wait;
 
-/// A book, the log of its entries and what lookers see of it. Contracts see the book. It is not `Drop`: `into_book` ends it.
+/// The writer of the published view: a book, the log of its entries, and the publisher of its boards. Its model is the book. It is
+/// not `Drop`; `into_book` ends it.
 pub struct Keeper<N: ViewNaming> {
     book: Book,
     log: Log<N>,
-    screen: Screen<N>,
+    publisher: Publisher<N>,
 }
 
 impl<N: ViewNaming> Model for Keeper<N> {
@@ -30,22 +31,26 @@ impl<N: ViewNaming> Model for Keeper<N> {
 
     ghost view = { λ k. k.book };
 
-    // the log is the history, entry for entry, and so is what is published
-    ghost invariant = { λ k. (k.book.nodes ≡ N.topology) × (k.book.limit ≡ N.limit) × (k.log ≡ k.book.history) × (k.screen ≡ k.book.history) };
+    // the log has the entries of the history, and so has the published board
+    ghost invariant = { λ k. (k.book.nodes ≡ N.topology) × (k.book.limit ≡ N.limit) × (k.log ≡ k.book.history) × (k.publisher ≡ k.book.history) };
 }
 
 impl<N: ViewNaming> Keeper<N> {
-    /// A keeper of a book without entries.
-    pub(crate) fn new(book: Book, log: Log<N>, screen: Screen<N>) -> Keeper<N>
+    /// Makes the keeper of a book without entries.
+    pub(crate) fn new(book: Book, log: Log<N>, publisher: Publisher<N>) -> Keeper<N>
         requires book { (book.history ≡ []) × (book.nodes ≡ N.topology) × (book.limit ≡ N.limit) }
         requires log { log ≡ [] }
-        requires screen { screen ≡ [] }
+        requires publisher { publisher ≡ [] }
         ensures { result ≡ book }
     {
-        Keeper { book, log, screen }
+        Keeper {
+            book,
+            log,
+            publisher,
+        }
     }
 
-    /// The book as it is now.
+    /// Returns the book.
     pub fn book(&self) -> &Book
         ensures value { result.now ≡ self.now }
         ensures named { (self.now.nodes ≡ N.topology) × (self.now.limit ≡ N.limit) }
@@ -53,12 +58,12 @@ impl<N: ViewNaming> Keeper<N> {
         &self.book
     }
 
-    /// Makes one step of the placement object, adds its entry and publishes it. It waits until no reader is left in the copy
-    /// that was shown before the last call. A `Fault` changes nothing.
+    /// Makes one step of the placement object, adds its entry to the history and publishes it. It waits until no viewer reads
+    /// the copy that was published before the last call. A `Fault` changes nothing.
     ///
     /// # Errors
     ///
-    /// `Fault::HistoryFull` where the history has as many entries as its limit; else only `Fault::OutOfMemory`.
+    /// `Fault::HistoryFull` if the history has as many entries as its limit; otherwise only `Fault::OutOfMemory`.
     pub fn apply<R: Wait>(
         &mut self,
         rt: &R,
@@ -79,22 +84,22 @@ impl<N: ViewNaming> Keeper<N> {
         self.log.add(plan.entry);
         let reply = self.book.commit(plan);
         let place = self.book.history().len() as u64;
-        let touched = Touched::by(command, &reply);
-        self.screen
-            .publish(rt, &self.book, touched, place, &self.log.front());
+        let changed = ChangedLevels::by(command, &reply);
+        self.publisher
+            .publish(rt, &self.book, changed, place, &self.log.prefix());
         Ok(Receipt { place, reply })
     }
 
-    /// What the viewer has seen begins the history.
+    /// Proves that the entries that the viewer has seen are a prefix of the history.
     pub fn covers(&mut self, viewer: &Viewer<N>)
         ensures same { self.new ≡ self.old }
         ensures covers { IsPrefix viewer.now self.old.history }
     {
         viewer.count();
-        self.log.covers(&viewer.front);
+        self.log.covers(&viewer.seen);
     }
 
-    /// The viewer has then seen all that was applied.
+    /// Moves the viewer to the end of the history.
     pub fn show(&mut self, viewer: &mut Viewer<N>)
         ensures same { self.new ≡ self.old }
         ensures legal { IsLegal N.topology viewer.new }
@@ -103,19 +108,19 @@ impl<N: ViewNaming> Keeper<N> {
     {
         self.covers(viewer);
         let count = self.book.history().len() as u64;
-        viewer.see(count, &self.log.front());
+        viewer.see(count, &self.log.prefix());
     }
 
-    /// Ends what lookers see. It waits for those that are looking; they see nothing from then on.
+    /// Ends the published view and returns the book. It waits for looks that have begun; later looks return `NoView`.
     pub fn into_book<R: Wait>(self, rt: &R) -> Book
         ensures { result ≡ self }
     {
         let Keeper {
             book,
             log: _,
-            screen,
+            publisher,
         } = self;
-        screen.end(rt);
+        publisher.end(rt);
         book
     }
 }

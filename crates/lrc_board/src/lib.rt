@@ -1,8 +1,9 @@
-//! The published view of a book: a log of its entries with one pen, which nobody else can write in, and a board of levels
-//! and loads for lookers.
+//! The published view of a book: a log of its entries, which only its keeper can append to, and two boards of levels and loads,
+//! which viewers read without a lock.
 #![tactic(auto)]
 
 mod board;
+mod changed_levels;
 mod error;
 mod keeper;
 mod line;
@@ -10,21 +11,20 @@ mod log;
 mod naming;
 mod open;
 mod open_error;
+mod publisher;
 mod question;
 mod receipt;
 mod rule;
-mod screen;
 mod steps;
-mod touched;
 mod viewer;
 
 pub use board::{Board, NoOperation};
 pub use error::LookError;
 pub use keeper::Keeper;
-pub use line::{Front, Law, Line};
+pub use line::{Line, LogPrefix, LogRule};
 pub use log::{Log, NewLog, begins};
 pub use naming::ViewNaming;
 pub use open_error::OpenError;
 pub use receipt::Receipt;
-pub use rule::Published;
+pub use rule::ViewRule;
 pub use viewer::{Seen, Viewer};

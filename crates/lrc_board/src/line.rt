@@ -1,17 +1,18 @@
 use logbook::{Rule, Seen};
 use lrc_book::Entry;
 
-/// A line of a log: an entry, the pen that wrote it, and the pen that writes the next one. No value of it is made.
+/// A line of a log: an entry, the number of the permit that wrote it, and that of the permit for the next line. It is ghost data:
+/// no value of it is made.
 pub struct Line {
     pub entry: Entry,
     pub by: u64,
     pub next: u64,
 }
 
-/// The rule of a log: a pen writes one line.
-pub struct Law;
+/// The rule of a log: each permit writes one line.
+pub struct LogRule;
 
-impl Rule<Line, u64> for Law {
+impl Rule<Line, u64> for LogRule {
     ghost use Rattle.std.specs.Prelude.{[]};
     ghost use base.Fml.{ftrue};
     ghost use Rattle.lrc_board.specs.Lines.{IsKept};
@@ -29,5 +30,5 @@ impl Rule<Line, u64> for Law {
     ghost moves = { λ ask before after answer. Unit {0} };
 }
 
-/// A beginning of a log that was seen. It has no bytes.
-pub type Front = Seen<Line, u64, Law>;
+/// A prefix of the log that was seen. It has no bytes.
+pub type LogPrefix = Seen<Line, u64, LogRule>;

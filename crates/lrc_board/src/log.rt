@@ -3,30 +3,30 @@ ghost use mathlib.Core.List.{IsPrefix};
 ghost use Rattle.logbook.specs.Pages.{may_write};
 ghost use Rattle.lrc_board.specs.Lines.{word_of, written};
 
-use crate::line::{Front, Law, Line};
+use crate::line::{Line, LogPrefix, LogRule};
 use crate::naming::ViewNaming;
-use crate::steps::{Add, Coming, Look, Nothing, Take};
-use logbook::{Offer, Pen, Start, Word};
+use crate::steps::{AppendLine, CheckUnused, MakePermit, NextLine, NoGain};
+use logbook::{Offer, Pen as Permit, Start, Word};
 use lrc_book::Entry;
 use std::marker::{Model, PhantomData};
 
-/// A log without lines, which has no naming yet.
+/// A log without lines, before it has a naming.
 #[derive(Drop)]
 pub struct NewLog {
-    word: Word<Line, u64, Law>,
-    pub pen: Pen,
-    pub front: Front,
-    ghost one_book: { (word ≡ word_of front.book) × (pen.book ≡ front.book) },
-    ghost may: { pen.nib.right ≡ may_write },
-    ghost empty: { front.log ≡ [] },
+    word: Word<Line, u64, LogRule>,
+    pub permit: Permit,
+    pub prefix: LogPrefix,
+    ghost one_book: { (word ≡ word_of prefix.book) × (permit.book ≡ prefix.book) },
+    ghost may: { permit.nib.right ≡ may_write },
+    ghost empty: { prefix.log ≡ [] },
 }
 
-/// A log, for the one who writes it: it has seen every line, and has the pen of the next one. Contracts see its entries.
+/// A log, as its only writer holds it: the prefix that has all lines, and the permit for the next one. Its model is the entries.
 #[derive(Drop)]
 pub struct Log<N: ViewNaming> {
-    word: Word<Line, u64, Law>,
-    pen: Pen,
-    front: Front,
+    word: Word<Line, u64, LogRule>,
+    permit: Permit,
+    prefix: LogPrefix,
     of: PhantomData<N>,
 }
 
@@ -34,97 +34,113 @@ impl<N: ViewNaming> Model for Log<N> {
     ghost use Rattle.std.specs.Prelude.{◌≡◌, List};
     ghost use Rattle.logbook.specs.Pages.{may_write};
     ghost use Rattle.lrc_rules.specs.declared.entry.Entry.{Entry};
-    ghost use Rattle.lrc_board.specs.Lines.{word_of, written, pen_after};
+    ghost use Rattle.lrc_board.specs.Lines.{word_of, written, permit_after};
 
     ghost Value = { List Entry };
 
-    ghost view = { λ l. written N.start l.front.log };
+    ghost view = { λ l. written N.start l.prefix.log };
 
-    ghost invariant = { λ l. (l.front.book ≡ N.log) × (l.word ≡ word_of N.log) × (l.pen.book ≡ N.log)
-        × (l.pen.nib.right ≡ may_write) × (pen_after N.start l.front.log ≡ l.pen.nib.key) };
+    ghost invariant = { λ l. (l.prefix.book ≡ N.log) × (l.word ≡ word_of N.log) × (l.permit.book ≡ N.log)
+        × (l.permit.nib.right ≡ may_write) × (permit_after N.start l.prefix.log ≡ l.permit.nib.key) };
 }
 
-/// A pen that has written nothing.
-fn new_pen(word: &Word<Line, u64, Law>, front: &Front) -> Pen
-    requires { word.now ≡ word_of front.now.book }
-    ensures { (result.book ≡ front.now.book) × (result.nib.right ≡ may_write) }
+/// Makes a permit, the right to write one line.
+fn new_permit(word: &Word<Line, u64, LogRule>, prefix: &LogPrefix) -> Permit
+    requires { word.now ≡ word_of prefix.now.book }
+    ensures { (result.book ≡ prefix.now.book) × (result.nib.right ≡ may_write) }
 {
-    let mut seen = front.again();
-    let mut pen = seen.no_pen();
-    let mut offer: Offer<Line, u64, Law, Nothing> = seen.plain::<Nothing, (), Look>(&());
-    word.compare_exchange::<Take, Nothing>(0, 0, &mut seen, &mut offer, &mut pen);
-    Word::<Line, u64, Law>::tracked(0, &mut pen);
-    pen
+    let mut seen = prefix.again();
+    let mut permit = seen.no_pen();
+    let mut offer: Offer<Line, u64, LogRule, NoGain> = seen.plain::<NoGain, (), CheckUnused>(&());
+    word.compare_exchange::<MakePermit, NoGain>(0, 0, &mut seen, &mut offer, &mut permit);
+    Word::<Line, u64, LogRule>::tracked(0, &mut permit);
+    permit
 }
 
-/// Of two beginnings of one log, the entries of one begin those of the other, if they are no more.
-pub fn begins(one: &Front, other: &Front)
+/// Proves that of two prefixes of one log the shorter one's entries are a prefix of the other's.
+pub fn begins(one: &LogPrefix, other: &LogPrefix)
     requires { one.now.book ≡ other.now.book }
-    ensures { (pen : ℕ) → length (written pen one.now.log) ≤ length (written pen other.now.log)
-        → IsPrefix (written pen one.now.log) (written pen other.now.log) }
+    ensures { (permit : ℕ) → length (written permit one.now.log) ≤ length (written permit other.now.log)
+        → IsPrefix (written permit one.now.log) (written permit other.now.log) }
 {
     let mut both = one.again();
     both.learn(other);
 }
 
 impl NewLog {
-    /// A log that is no other.
+    /// Makes a new log.
     pub fn new() -> NewLog {
-        let (front, mut first, _second) = Front::open(Start::alone(), 0, 0);
+        let (prefix, mut first, _second) = LogPrefix::open(Start::alone(), 0, 0);
         let word = Word::tracked(0, &mut first);
-        let pen = new_pen(&word, &front);
-        NewLog { word, pen, front }
+        let permit = new_permit(&word, &prefix);
+        NewLog {
+            word,
+            permit,
+            prefix,
+        }
     }
 
-    /// The log by its naming.
+    /// Gives the log its naming.
     pub fn named<N: ViewNaming>(self) -> Log<N>
-        requires { (self.front.book ≡ N.log) × (self.pen.nib.key ≡ N.start) }
+        requires { (self.prefix.book ≡ N.log) × (self.permit.nib.key ≡ N.start) }
         ensures { result ≡ [] }
     {
-        let NewLog { word, pen, front } = self;
+        let NewLog {
+            word,
+            permit,
+            prefix,
+        } = self;
         Log {
             word,
-            pen,
-            front,
+            permit,
+            prefix,
             of: PhantomData,
         }
     }
 }
 
 impl<N: ViewNaming> Log<N> {
-    /// What was seen of the log, which is all of it.
-    pub fn front(&self) -> Front
+    /// Returns the prefix that has all lines.
+    pub fn prefix(&self) -> LogPrefix
         ensures { (result.book ≡ N.log) × (written N.start result.log ≡ self.now) }
     {
-        self.front.again()
+        self.prefix.again()
     }
 
-    /// Whatever anybody has seen of the log begins it.
-    pub fn covers(&mut self, seen: &Front)
+    /// Proves that any prefix that was seen has entries that are a prefix of this log's.
+    pub fn covers(&mut self, seen: &LogPrefix)
         requires { seen.now.book ≡ N.log }
         ensures same { self.new ≡ self.old }
         ensures covers { IsPrefix (written N.start seen.now.log) self.old }
     {
-        let mut both = self.front.again();
+        let mut both = self.prefix.again();
         both.learn(seen);
-        let mut offer: Offer<Line, u64, Law, Nothing> = both.plain::<Nothing, (), Look>(&());
+        let mut offer: Offer<Line, u64, LogRule, NoGain> = both.plain::<NoGain, (), CheckUnused>(
+            &(),
+        );
         self.word
-            .compare_exchange::<Look, Nothing>(0, 0, &mut both, &mut offer, &mut self.pen);
+            .compare_exchange::<CheckUnused, NoGain>(0, 0, &mut both, &mut offer, &mut self.permit);
     }
 
-    /// Writes an entry. Nobody else can have written in the meantime, so it cannot fail.
+    /// Appends an entry. The log has only one permit at a time, so no other writer can have appended, and it cannot fail.
     pub fn add(&mut self, entry: Entry)
         ensures { self.new ≡ self.old ++ entry ∷ [] }
     {
-        let coming = Coming {
+        let next_line = NextLine {
             entry,
-            next: new_pen(&self.word, &self.front),
+            next: new_permit(&self.word, &self.prefix),
         };
-        let mut offer: Offer<Line, u64, Law, Nothing> = self
-            .front
-            .plain::<Nothing, Coming, Add>(&coming);
+        let mut offer: Offer<Line, u64, LogRule, NoGain> = self
+            .prefix
+            .plain::<NoGain, NextLine, AppendLine>(&next_line);
         self.word
-            .compare_exchange::<Add, Nothing>(0, 0, &mut self.front, &mut offer, &mut self.pen);
-        self.pen = coming.next;
+            .compare_exchange::<AppendLine, NoGain>(
+                0,
+                0,
+                &mut self.prefix,
+                &mut offer,
+                &mut self.permit,
+            );
+        self.permit = next_line.next;
     }
 }

@@ -4,19 +4,19 @@ ghost use Rattle.lrc_topology.specs.declared.NodeInfo.{NodeInfo};
 
 use std::marker::Brand;
 
-/// What tells one published view from every other: its log, and the nodes and the limit of its book. What is of one naming is never of
-/// another.
+/// A brand of a published view: keepers and viewers with different brands cannot be mixed. It names the log, and the nodes and the
+/// limit of the book.
 pub trait ViewNaming {
     // the log
     ghost log: { Book };
 
-    // the pen of the log's first line
+    // the permit that writes the log's first line
     ghost start: { ℕ };
 
     // the nodes of the store
     ghost topology: { List NodeInfo };
 
-    // the most entries of a history, up to 1,000,000
+    // the most entries that the history can have, up to 1,000,000
     ghost limit: { ℕ };
 }
 

@@ -1,12 +1,12 @@
 use std::alloc::AllocError;
 use thiserror::Error;
 
-/// Why a book was not opened for lookers or sessions, by its number.
+/// Why opening a keeper or a manager failed, by its number.
 #[derive(Clone, Copy, Debug, PartialEq, Eq, Error)]
 pub enum OpenError {
     #[error("out of memory")]
     OutOfMemory = 1,
-    /// The library refused a reader.
+    /// `left_right` returned no reader.
     #[error("there is no reader")]
     NoReader = 2,
     #[error("a manager has 1 to 8 sessions")]

@@ -1,6 +1,6 @@
 use lrc_book::Reply;
 
-/// What one has of a call that was made.
+/// The result of a call: its place in the history and its reply.
 #[derive(Clone, Copy, Debug, PartialEq, Eq)]
 pub struct Receipt {
     /// The place of the call in the history, counted from 1.

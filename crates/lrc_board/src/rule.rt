@@ -5,12 +5,12 @@ use left_right::reader::Reader;
 use left_right::writer::Writer;
 use std::marker::PhantomData;
 
-/// The rule of the published view: the board is that of its entries. The ends know nothing of their own.
-pub struct Published<N: ViewNaming> {
+/// The rule of `left_right` for the published view: each board that a viewer can see is the board of its entries.
+pub struct ViewRule<N: ViewNaming> {
     of: PhantomData<N>,
 }
 
-impl<N: ViewNaming> Protocol<Board, ()> for Published<N> {
+impl<N: ViewNaming> Protocol<Board, ()> for ViewRule<N> {
     ghost use Rattle.lrc_board.specs.Views.{IsBoard};
 
     ghost holds = { λ x _. IsBoard N.log N.start N.topology x };
@@ -18,7 +18,7 @@ impl<N: ViewNaming> Protocol<Board, ()> for Published<N> {
     ghost first = { tt };
 }
 
-/// A step that sees or shows a board of its entries.
+/// The outcome of a step that reads or publishes a board: it is the board of its entries.
 pub(crate) struct Sees<N: ViewNaming> {
     of: PhantomData<N>,
 }
@@ -29,8 +29,8 @@ impl<N: ViewNaming> Outcome<Board, ()> for Sees<N> {
     ghost then = { λ _ _ y _. IsBoard N.log N.start N.topology y };
 }
 
-/// What a viewer reads by.
-pub(crate) type BoardReader<N> = Reader<Board, (), Published<N>>;
+/// The reader of a viewer.
+pub(crate) type BoardReader<N> = Reader<Board, (), ViewRule<N>>;
 
-/// What a screen writes by.
-pub(crate) type BoardWriter<N> = Writer<Board, NoOperation, (), Published<N>>;
+/// The writer of a publisher.
+pub(crate) type BoardWriter<N> = Writer<Board, NoOperation, (), ViewRule<N>>;

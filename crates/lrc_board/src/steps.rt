@@ -1,35 +1,35 @@
 use crate::line::Line;
-use logbook::{Gain, Pen, Plain, Play};
+use logbook::{Gain, Pen as Permit, Plain, Play};
 use lrc_book::Entry;
 
-/// The steps trade nothing with their callers.
-pub(crate) struct Nothing;
+/// The gain of a step whose caller trades nothing.
+pub(crate) struct NoGain;
 
-impl Gain<Line, u64> for Nothing {
+impl Gain<Line, u64> for NoGain {
     ghost use base.Fml.{ftrue};
 
     ghost after = { λ names about answer. ftrue };
 }
 
-/// A step that makes a new pen.
-pub(crate) struct Take;
+/// The step that makes a new permit.
+pub(crate) struct MakePermit;
 
-impl Play<Line, u64> for Take {
-    ghost use Rattle.lrc_board.specs.Lines.{Takes};
+impl Play<Line, u64> for MakePermit {
+    ghost use Rattle.lrc_board.specs.Lines.{MakesPermit};
 
-    ghost then = { Takes };
+    ghost then = { MakesPermit };
 }
 
-/// A step that finds a pen unused.
-pub(crate) struct Look;
+/// The step that finds that a permit has written nothing.
+pub(crate) struct CheckUnused;
 
-impl Play<Line, u64> for Look {
-    ghost use Rattle.lrc_board.specs.Lines.{Looks};
+impl Play<Line, u64> for CheckUnused {
+    ghost use Rattle.lrc_board.specs.Lines.{FindsUnused};
 
-    ghost then = { Looks };
+    ghost then = { FindsUnused };
 }
 
-impl Plain<(), Line, u64> for Look {
+impl Plain<(), Line, u64> for CheckUnused {
     ghost use Rattle.std.specs.Prelude.{None};
     ghost use Rattle.lrc_board.specs.Lines.{no_line};
 
@@ -38,23 +38,23 @@ impl Plain<(), Line, u64> for Look {
     ghost state = { λ _. None };
 }
 
-/// A step that writes a line.
-pub(crate) struct Add;
+/// The step that appends a line.
+pub(crate) struct AppendLine;
 
-impl Play<Line, u64> for Add {
-    ghost use Rattle.lrc_board.specs.Lines.{Adds};
+impl Play<Line, u64> for AppendLine {
+    ghost use Rattle.lrc_board.specs.Lines.{AppendsLine};
 
-    ghost then = { Adds };
+    ghost then = { AppendsLine };
 }
 
-/// What the next line says: an entry, and the pen of the line after it.
+/// The line to append: its entry, and the permit for the line after it.
 #[derive(Drop)]
-pub(crate) struct Coming {
+pub(crate) struct NextLine {
     pub(crate) entry: Entry,
-    pub(crate) next: Pen,
+    pub(crate) next: Permit,
 }
 
-impl Plain<Coming, Line, u64> for Add {
+impl Plain<NextLine, Line, u64> for AppendLine {
     ghost use Rattle.std.specs.Prelude.{None};
 
     ghost ask = { λ c. record { entry = c.entry; by = 0; next = c.next.nib.key } };

@@ -8,7 +8,7 @@ ghost use Rattle.lrc_board.specs.Lines.{written};
 ghost use Rattle.lrc_board.specs.declared.error.LookError.TheVariants as error;
 
 use crate::error::LookError;
-use crate::line::Front;
+use crate::line::LogPrefix;
 use crate::log::begins;
 use crate::naming::ViewNaming;
 use crate::question::{LevelOf, LoadOf, Question, RiskOf};
@@ -18,20 +18,20 @@ use lrc_code::{NodeNo, StripeNo};
 use std::alloc::Global;
 use std::marker::Model;
 
-/// What a look found, and how many entries had been made then.
+/// The result of a look: the value, and `front`, the number of entries that it follows from.
 #[derive(Drop)]
 pub struct Seen<T> {
     pub front: u64,
     pub value: T,
 }
 
-/// One who looks at the published view, without a lock, and what it has seen of the history. Contracts see these entries.
+/// A reader of the published view, which takes no lock. Its model is the entries that it has seen.
 #[derive(Drop)]
 pub struct Viewer<N: ViewNaming> {
-    /// Away only within a call.
+    /// `None` only within a call.
     reader: Option<BoardReader<N>>,
     count: u64,
-    pub(crate) front: Front,
+    pub(crate) seen: LogPrefix,
 }
 
 impl<N: ViewNaming> Model for Viewer<N> {
@@ -43,27 +43,27 @@ impl<N: ViewNaming> Model for Viewer<N> {
 
     ghost Value = { List Entry };
 
-    ghost view = { λ v. written N.start v.front.log };
+    ghost view = { λ v. written N.start v.seen.log };
 
-    ghost invariant = { λ v. IsSome v.reader × (v.front.book ≡ N.log) × (v.count ≡ length (written N.start v.front.log))
-        × AreNodes N.topology × IsLegal N.topology (written N.start v.front.log) };
+    ghost invariant = { λ v. IsSome v.reader × (v.seen.book ≡ N.log) × (v.count ≡ length (written N.start v.seen.log))
+        × AreNodes N.topology × IsLegal N.topology (written N.start v.seen.log) };
 }
 
 impl<N: ViewNaming> Viewer<N> {
-    /// A viewer that has seen nothing.
-    pub(crate) fn new(reader: BoardReader<N>, front: Front) -> Viewer<N>
-        requires front { (front.book ≡ N.log) × (front.log ≡ []) }
+    /// Makes a viewer that has seen no entry.
+    pub(crate) fn new(reader: BoardReader<N>, seen: LogPrefix) -> Viewer<N>
+        requires seen { (seen.book ≡ N.log) × (seen.log ≡ []) }
         requires nodes { AreNodes N.topology }
         ensures { result ≡ [] }
     {
         Viewer {
             reader: Some(reader),
             count: 0,
-            front,
+            seen,
         }
     }
 
-    /// How many entries were seen.
+    /// Returns the number of entries that were seen.
     pub fn count(&self) -> u64
         ensures count { result ≡ length self.now }
         ensures legal { IsLegal N.topology self.now }
@@ -71,18 +71,18 @@ impl<N: ViewNaming> Viewer<N> {
         self.count
     }
 
-    /// Sees as much as this.
-    pub(crate) fn see(&mut self, count: u64, front: &Front)
-        requires log { front.now.book ≡ N.log }
-        requires count { count ≡ length (written N.start front.now.log) }
-        requires legal { IsLegal N.topology (written N.start front.now.log) }
-        ensures { self.new ≡ written N.start front.now.log }
+    /// Moves the viewer to this log prefix, which has `count` entries.
+    pub(crate) fn see(&mut self, count: u64, prefix: &LogPrefix)
+        requires log { prefix.now.book ≡ N.log }
+        requires count { count ≡ length (written N.start prefix.now.log) }
+        requires legal { IsLegal N.topology (written N.start prefix.now.log) }
+        ensures { self.new ≡ written N.start prefix.now.log }
     {
         self.count = count;
-        self.front = front.again();
+        self.seen = prefix.again();
     }
 
-    /// One look, with what it asks.
+    /// Makes one look. It never moves the viewer back to fewer entries.
     fn look<Q: Question>(&mut self, question: Q) -> Result<Seen<Q::Answer>, LookError>
         ensures later { IsPrefix self.old self.new }
         ensures legal { IsLegal N.topology self.new }
@@ -96,14 +96,14 @@ impl<N: ViewNaming> Viewer<N> {
             Ok(reading) => {
                 let value = question.ask(reading.get());
                 let count = reading.get().count();
-                let front = reading.get().front();
+                let seen = reading.get().prefix();
                 self.reader = Some(reading.leave());
                 if count < self.count {
                     return Err(LookError::NoView);
                 }
-                begins(&self.front, &front);
+                begins(&self.seen, &seen);
                 self.count = count;
-                self.front = front;
+                self.seen = seen;
                 Ok(Seen {
                     front: count,
                     value,
@@ -116,7 +116,7 @@ impl<N: ViewNaming> Viewer<N> {
         }
     }
 
-    /// The level of a stripe, as it was published; `None` where there was no such stripe.
+    /// Returns the published level of a stripe, or `None` if there was no such stripe.
     ///
     /// # Errors
     ///
@@ -132,7 +132,7 @@ impl<N: ViewNaming> Viewer<N> {
         self.look(LevelOf { stripe })
     }
 
-    /// The number of seats on a node, as it was published; `None` where the store has no such node.
+    /// Returns the published number of seats on a node, or `None` if the store has no such node.
     ///
     /// # Errors
     ///
@@ -148,12 +148,11 @@ impl<N: ViewNaming> Viewer<N> {
         self.look(LoadOf { node })
     }
 
-    /// The stripes that are not whole, with their levels, in the order of repair, as they were published. It takes room for
-    /// 4,096 rows before it looks.
+    /// Returns the published stripes at risk with their levels, in the order of repair. It allocates 4,096 rows before it looks.
     ///
     /// # Errors
     ///
-    /// `LookError::OutOfMemory` where the room is refused, and else only `LookError::NoView`.
+    /// `LookError::OutOfMemory` if the allocation fails; otherwise only `LookError::NoView`.
     pub fn risk(&mut self, alloc: Global) -> Result<Seen<Vec<(StripeNo, Level)>>, LookError>
         ensures later { IsPrefix self.old self.new }
         ensures legal { IsLegal N.topology self.new }
@@ -162,7 +161,9 @@ impl<N: ViewNaming> Viewer<N> {
         ensures same { OnErr result (self.new ≡ self.old) }
     {
         self.count();
-        let question = RiskOf::new(alloc)?;
+        let Ok(question) = RiskOf::new(alloc) else {
+            return Err(LookError::OutOfMemory);
+        };
         self.look(question)
     }
 }

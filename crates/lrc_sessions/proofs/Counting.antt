@@ -27,7 +27,7 @@ none_made_step : (k : ℕ) (s : SessionView) (ss : List SessionView) → (times 
 none_made_step k s ss more true is h = absurd (let h' = rw is at h in omega arith)
 none_made_step k s ss more false is h = rw is (let h' = rw is at h in let m = more (omega arith) in omega arith)
 
--- where no session has the number, no call was made under it
+-- if no session has the number, no call was made under it
 pub none_made : (k : ℕ) (ss : List SessionView) → times k ss ≡ 0 → made_of k ss ≡ 0
 none_made k [] h = refl
 none_made k (s ∷ ss) h =
@@ -37,10 +37,10 @@ none_made k (s ∷ ss) h =
 pub counts_more : (b : ℕ) (ss : List SessionView) → counts_of (b + 1) ss ≡ counts_of b ss ++ (b + 1, made_of (b + 1) ss) ∷ []
 counts_more b ss = map-range_with_len_more (λ k. (k, made_of k ss)) 1 b (b + 1) (omega arith)
 
-fresh_more : (b : ℕ) → fresh (b + 1) ≡ fresh b ++ record { number = b + 1; made = 0; front = [] } ∷ []
-fresh_more b = map-range_with_len_more (λ (k : ℕ). record { number = k; made = 0; front = [] }) 1 b (b + 1) (omega arith)
+fresh_more : (b : ℕ) → fresh (b + 1) ≡ fresh b ++ record { number = b + 1; made = 0; seen = [] } ∷ []
+fresh_more b = map-range_with_len_more (λ (k : ℕ). record { number = k; made = 0; seen = [] }) 1 b (b + 1) (omega arith)
 
-pub fresh_push : (b : ℕ) (ss : List SessionView) (s : SessionView) → ss ≡ fresh b → s ≡ record { number = b + 1; made = 0; front = [] } → ss ++ s ∷ [] ≡ fresh (b + 1)
+pub fresh_push : (b : ℕ) (ss : List SessionView) (s : SessionView) → ss ≡ fresh b → s ≡ record { number = b + 1; made = 0; seen = [] } → ss ++ s ∷ [] ≡ fresh (b + 1)
 fresh_push b ss s so_far next = (λ i. so_far i ++ next i ∷ []) ∙ sym (fresh_more b)
 
 pub total_push : (cs : List (ℕ × ℕ)) (c : ℕ × ℕ) → total_made (cs ++ c ∷ []) ≡ total_made cs + c.1

@@ -1,4 +1,4 @@
--- Sessions that were opened are all sessions of their manager, and so they are once they ran scripts.
+-- The sessions that were opened are all sessions of their manager, and still are after they ran scripts.
 use Rattle.std.proofs.Common.{◌≡◌, ℕ, zero, suc, ◌+◌, ◌<◌, ◌≤◌, ◌==◌, nat_le, List, [], ◌∷◌, length, get_or, Vec, Global, Result, Ok, Err, IfOk, IfErr, refl, sym, ap, subst, ◌∙◌, arith}
 use Rattle.std.proofs.lemmas.List.Sums.{sum_by-append, sum_by-cons}
 use Rattle.std.proofs.lemmas.Bool.Decides.{nat_tests}
@@ -13,7 +13,7 @@ use Rattle.lrc_sessions.specs.Runs.{AreRun}
 use Rattle.lrc_sessions.proofs.Counting.{only, fresh_push}
 use Rattle.lrc_sessions.proofs.RunLemmas.{some_of}
 
--- the numbers alone say how often each stands
+-- only the numbers matter for how often each is there
 same_times : (k : ℕ) (ss ts : List SessionView) → length ss ≡ length ts
     → ((i : ℕ) (s t : SessionView) → i < length ss → (get_or ss i s).number ≡ (get_or ts i t).number) → times k ss ≡ times k ts
 same_times k [] [] len same = refl
@@ -26,7 +26,7 @@ same_times k (s ∷ ss) (t ∷ ts) len same =
     ∙ ap (λ n. only (t.number == k) 1 + n) more ∙ sym (sum_by-cons (λ (x : SessionView). only (x.number == k) 1) t ts)
 
 abbrev last : ℕ → SessionView
-last b = record { number = b + 1; made = 0; front = [] }
+last b = record { number = b + 1; made = 0; seen = [] }
 
 none_below : (k : ℕ) → 1 ≤ k → 0 ≡ only (nat_le k 0) 1
 none_below k low = grind (arith, nat_tests)
@@ -44,11 +44,11 @@ fresh_times : (k b : ℕ) → 1 ≤ k → times k (fresh b) ≡ only (nat_le k b
 fresh_times k zero low = none_below k low
 fresh_times k (suc b) low = let next : b + 1 ≡ suc b = omega arith in subst (λ n. times k (fresh n) ≡ only (nat_le k n) 1) next (fresh_next k b low (fresh_times k b low))
 
--- sessions that were just opened are all
+-- the sessions that were just opened are all
 pub all_fresh : (count : ℕ) → AreAll count (fresh count)
 all_fresh count k low high = fresh_times k count low
 
--- and sessions that are all still are once they ran scripts
+-- sessions that are all still are after they ran scripts
 pub all_ran : {Z : Type 0} (count limit : ℕ) (may_stop : Type 0) (passes : ℕ → ℕ → Type 0) (scripts : List (Vec Command Z)) (before after : List SessionView) (tracks : List Track)
     → AreAll count before → length before ≡ length scripts → AreRun limit may_stop passes scripts before after tracks → AreAll count after
 all_ran count limit may_stop passes scripts before after tracks all len ran k low high =
@@ -59,9 +59,9 @@ all_ran count limit may_stop passes scripts before after tracks all len ran k lo
     ∙ all k low high
 
 pub length_fresh : (count : ℕ) → length (fresh count) ≡ count
-length_fresh count = length-map-range_with_len (λ (k : ℕ). record { number = k; made = 0; front = [] }) 1 count
+length_fresh count = length-map-range_with_len (λ (k : ℕ). record { number = k; made = 0; seen = [] }) 1 count
 
--- whether they ran them or had no room to
+-- the same if the run had no memory
 pub all_left : {Z : Type 0} (count limit : ℕ) (may_stop : Type 0) (passes : ℕ → ℕ → Type 0) (scripts : List (Vec Command Z)) (before after : Vec SessionView Global)
     (ran : Result (Vec Track Global) Fault)
     → before.items ≡ fresh count → length before.items ≡ length scripts

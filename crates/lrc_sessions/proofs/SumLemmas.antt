@@ -1,4 +1,4 @@
--- No count is above what the history has of its session, and together they are the whole history: so each count is just that.
+-- No session counts more calls than the history has entries of it, and the sum is the length of the history: so each count is exact.
 use Rattle.std.proofs.Common.{◌≡◌, ℕ, zero, suc, ◌+◌, ◌<◌, ◌≤◌, ◌==◌, Bool, true, false, nat_eq, List, [], ◌∷◌, ◌++◌, length, map, All, refl, sym, ap, ◌∙◌, subst, arith}
 use Rattle.std.proofs.lemmas.List.Sums.{sum_by-cons}
 use Rattle.std.proofs.lemmas.List.FromFn.{map-range_with_len_more}
@@ -32,7 +32,7 @@ total_listed f zero = refl
 total_listed f (suc n) =
     ap total_made (listed-more f n) ∙ total_push (listed f n) (suc n, f (suc n)) ∙ ap (λ t. t + f (suc n)) (total_listed f n)
 
--- ---- entries of several sessions are no more than all
+-- ---- the entries of several sessions are at most all entries
 
 abbrev hit : ℕ → ℕ → ℕ
 hit s k = only (nat_eq s k) 1
@@ -75,7 +75,7 @@ sum_in n [] = let z = sum_nil n in omega arith
 sum_in n (e ∷ h) =
     let c = sum_cons n e h in let o = (at_most_once n e.session.value).once in let more = sum_in n h in omega arith
 
--- ---- numbers that are each at most others, and together as much, are those
+-- ---- if each number is at most another, and their sums are equal, they are equal
 
 sum_below : (f g : ℕ → ℕ) (n : ℕ) → ((k : ℕ) → 1 ≤ k → k ≤ n → f k ≤ g k) → sum_to f n ≤ sum_to g n
 sum_below f g zero each = omega arith
@@ -85,11 +85,11 @@ sum_below f g (suc n) each =
 squeeze : (f g : ℕ → ℕ) (n : ℕ) → ((k : ℕ) → 1 ≤ k → k ≤ n → f k ≤ g k) → sum_to g n ≤ sum_to f n → listed f n ≡ listed g n
 squeeze f g zero each le = refl
 squeeze f g (suc n) each le =
-    let front : (k : ℕ) → 1 ≤ k → k ≤ n → f k ≤ g k = λ k low high. each k low (omega arith) in
-    let below = sum_below f g n front in
+    let lower : (k : ℕ) → 1 ≤ k → k ≤ n → f k ≤ g k = λ k low high. each k low (omega arith) in
+    let below = sum_below f g n lower in
     let last = each (suc n) (omega arith) (omega arith) in
     let same : f (suc n) ≡ g (suc n) = omega arith in
-    let more = squeeze f g n front (omega arith) in
+    let more = squeeze f g n lower (omega arith) in
     listed-more f n ∙ (λ i. more i ++ (suc n, same i) ∷ []) ∙ sym (listed-more g n)
 
 -- ---- the calls of one session
@@ -111,7 +111,7 @@ made_below k (s ∷ ss) h all one =
     (λ is. subst (λ (j : ℕ). s.made ≤ made_in j h) is (All-head P s ss all)) (s.number == k) refl (sym count ∙ one) in
     omega arith
 
--- each session made as many calls as the history has of it
+-- each session made as many calls as the history has entries of it
 pub squeezed : (count : ℕ) (ss : List SessionView) (h : List Entry) → AreAll count ss → count ≤ 8 → All (λ s. s.made ≤ made_in s.number h) ss
     → length h ≡ total_made (counts_of count ss) → counts_of count ss ≡ counts_in count h
 squeezed count ss h all few made total =

@@ -1,4 +1,4 @@
--- Which sessions end a manager, and how many calls each has made.
+-- Which sessions are all sessions of a manager, and the number of calls of each.
 use Rattle.std.specs.Prelude.{◌≡◌, ℕ, ◌≤◌, ◌==◌, cond, nat_le, List, map, count_by, sum_by}
 use Rattle.lrc_code.specs.declared.numbers.SessionNo.{SessionNo}
 use Rattle.lrc_rules.specs.declared.entry.Entry.{Entry}
@@ -9,7 +9,7 @@ use Rattle.lrc_sessions.specs.Views.{SessionView}
 abbrev pub times : ℕ → List SessionView → ℕ
 times k ss = count_by (λ (s : SessionView). s.number == k) ss
 
--- of the numbers that a session can have, the sessions have 1 to count, each once, and no other
+-- the sessions have the numbers 1 to count, each once, and no other number from 1 to 8
 abbrev pub AreAll : ℕ → List SessionView → Type 0
 AreAll count ss = (k : ℕ) → 1 ≤ k → k ≤ 8 → times k ss ≡ cond (nat_le k count) 1 0
 
@@ -17,7 +17,7 @@ AreAll count ss = (k : ℕ) → 1 ≤ k → k ≤ 8 → times k ss ≡ cond (nat
 abbrev pub made_of : ℕ → List SessionView → ℕ
 made_of k ss = sum_by (λ (s : SessionView). cond (s.number == k) s.made 0) ss
 
--- each number from 1 to count, and how many calls were made under it
+-- each number from 1 to count, and how many calls its sessions made
 abbrev pub counts_of : ℕ → List SessionView → List (ℕ × ℕ)
 counts_of count ss = map (λ k. (k, made_of k ss)) (sessions count)
 
@@ -29,10 +29,10 @@ made_in k history = count_by (is_of k) history
 abbrev pub counts_in : ℕ → List Entry → List (ℕ × ℕ)
 counts_in count history = map (λ k. (k, made_in k history)) (sessions count)
 
--- how many calls these are together
+-- the sum of the numbers of calls
 abbrev pub total_made : List (ℕ × ℕ) → ℕ
 total_made counts = sum_by (λ (c : ℕ × ℕ). c.1) counts
 
--- a session's number with its count, as contracts see them
+-- the model of a session's number with its number of calls
 abbrev pub shown : SessionNo × ℕ → ℕ × ℕ
 shown c = (c.0.value, c.1)

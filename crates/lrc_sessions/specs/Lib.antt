@@ -14,4 +14,4 @@ pub mod Locked
 pub mod Calls
 pub mod Closing
 pub mod Runs
-pub mod Rooms
+pub mod Buffers

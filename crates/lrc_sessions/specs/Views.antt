@@ -1,12 +1,12 @@
--- What contracts see of parts, sessions and managers.
+-- The models of parts, managers and sessions.
 use Rattle.std.specs.Prelude.{ℕ, List, [], map}
 use Rattle.logbook.specs.Pages.{Book}
 use Rattle.lrc_topology.specs.declared.NodeInfo.{NodeInfo}
 use Rattle.lrc_rules.specs.declared.entry.Entry.{Entry}
 use Rattle.lrc_rules.specs.Sessions.{sessions}
 
--- parts over these nodes, with so many entries at most, for so many sessions, with a ledger of this name and so many shares, and this log, which begins with
--- this pen
+-- The parts of a manager: the nodes, the limit of the history, the number of sessions, the name and the number of shares of the ledger,
+-- the log, and the permit for its first line.
 pub record PartsView : Type 0 where
   pub topology : List NodeInfo
   pub limit : ℕ
@@ -16,16 +16,16 @@ pub record PartsView : Type 0 where
   pub log : Book
   pub start : ℕ
 
--- a manager of so many sessions
+-- a manager, with its number of sessions
 pub record ManagerView : Type 0 where
   pub count : ℕ
 
--- a session with this number, so many of whose calls were made; its front is the history that it has seen
+-- a session, with its number, its number of calls, and the entries that it has seen
 pub record SessionView : Type 0 where
   pub number : ℕ
   pub made : ℕ
-  pub front : List Entry
+  pub seen : List Entry
 
--- the sessions from 1 to count, in order, none of which has made a call or seen an entry
+-- the sessions 1 to count, in order, before any has made a call or seen an entry
 abbrev pub fresh : ℕ → List SessionView
-fresh count = map (λ k. record { number = k; made = 0; front = [] }) (sessions count)
+fresh count = map (λ k. record { number = k; made = 0; seen = [] }) (sessions count)

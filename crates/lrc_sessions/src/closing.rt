@@ -5,7 +5,7 @@ use lrc_book::Book;
 use lrc_code::SessionNo;
 use std::marker::Model;
 
-/// How many calls each session made, by rising number.
+/// The number of calls of each session, by rising session number.
 #[derive(Drop)]
 pub struct Counts {
     pub(crate) items: Vec<(SessionNo, u64)>,
@@ -21,7 +21,7 @@ impl Model for Counts {
 }
 
 impl Counts {
-    /// The number of each session, and the count of its calls that were made.
+    /// Returns the number of each session and of its calls.
     pub fn as_slice(&self) -> &[(SessionNo, u64)]
         ensures { map shown result.now ≡ self.now }
     {
@@ -29,7 +29,7 @@ impl Counts {
     }
 }
 
-/// What is left of a manager.
+/// What a manager returns at its end: its book, and the number of calls of each session.
 #[derive(Drop)]
 pub struct Closing {
     pub book: Book,

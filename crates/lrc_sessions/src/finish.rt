@@ -13,19 +13,19 @@ use lrc_code::SessionNo;
 use std::sync::Wait;
 use std::sync::ledger::Share;
 
-/// Why a manager was not ended, by its number.
+/// Why a manager could not end, by its number.
 pub enum FinishError<N: Naming> {
-    /// 1: some sessions are out. What came in goes back.
+    /// 1: the sessions are not all sessions of the manager. It returns the manager and the sessions.
     SessionsOut(Manager<N>, Vec<Session<N>>),
 }
 
 impl<N: Naming> Manager<N> {
-    /// Ends the manager, once all its sessions come back, in any order. It takes no memory, and waits until no look is left.
+    /// Ends the manager, given all its sessions in any order. It allocates nothing, and waits for looks that have begun.
     ///
     /// # Errors
     ///
-    /// `FinishError::SessionsOut` where the sessions that come in are not those of the numbers from 1 to the manager's count, each
-    /// once; it hands back the manager and the sessions unchanged.
+    /// `FinishError::SessionsOut` if the sessions do not have the numbers from 1 to the manager's count, each once. It returns the
+    /// manager and the sessions unchanged.
     pub fn finish<R: Wait>(
         self,
         rt: &R,
@@ -37,9 +37,9 @@ impl<N: Naming> Manager<N> {
         if !are_all(sessions.as_slice(), self.count()) {
             return Err(FinishError::SessionsOut(self, sessions));
         }
-        let Manager { desk, count, made } = self;
-        let (mut keeper, mut tally, mut all) = desk.into_inner().into_parts();
-        check_all_in(&mut keeper, sessions.as_slice());
+        let Manager { state, count, made } = self;
+        let (mut keeper, mut tally, mut all) = state.into_inner().into_parts();
+        check_all_seen(&mut keeper, sessions.as_slice());
         let made = join_all(&mut all, sessions, count, made);
         tally.audit(&mut all);
         let book = keeper.into_book(rt);
@@ -47,7 +47,7 @@ impl<N: Naming> Manager<N> {
     }
 }
 
-/// How many of the sessions have the number.
+/// Returns how many of the sessions have the number.
 fn times_of<N: Naming>(sessions: &[Session<N>], number: u8) -> usize
     ensures { result ≡ times number sessions.now }
 {
@@ -60,7 +60,7 @@ fn times_of<N: Naming>(sessions: &[Session<N>], number: u8) -> usize
     found
 }
 
-/// Whether the sessions have the numbers 1 to count, each once.
+/// Returns whether the sessions have the numbers from 1 to `count`, each once.
 fn are_all<N: Naming>(sessions: &[Session<N>], count: u8) -> bool
     ensures { IsTrue result ↔ AreAll count sessions.now }
 {
@@ -72,19 +72,19 @@ fn are_all<N: Naming>(sessions: &[Session<N>], count: u8) -> bool
     true
 }
 
-/// What each session has seen begins the keeper's history, which has an entry for each of its calls.
-fn check_all_in<N: Naming>(keeper: &mut Keeper<N>, sessions: &[Session<N>])
+/// Proves for each session that what it has seen is a prefix of the history, which has an entry for each of its calls.
+fn check_all_seen<N: Naming>(keeper: &mut Keeper<N>, sessions: &[Session<N>])
     ensures same { keeper.new ≡ keeper.old }
-    ensures begin { All (λ s. IsPrefix s.front keeper.old.history) sessions.now }
+    ensures begin { All (λ s. IsPrefix s.seen keeper.old.history) sessions.now }
     ensures made { All (λ s. s.made ≤ made_in s.number keeper.old.history) sessions.now }
 {
     for session in sessions {
-        session.check_in(keeper);
+        session.check_seen(keeper);
     }
 }
 
-/// Where the first session with the number stands.
-fn place_of<N: Naming>(sessions: &[Session<N>], number: u8) -> usize
+/// Returns the index of the first session with the number.
+fn index_of<N: Naming>(sessions: &[Session<N>], number: u8) -> usize
     requires { 0 < times number sessions.now }
     ensures within { result < length sessions.now }
     ensures found { (d : SessionView) → (slice_index_or sessions.now result d).number ≡ number }
@@ -97,18 +97,18 @@ fn place_of<N: Naming>(sessions: &[Session<N>], number: u8) -> usize
     unreachable!()
 }
 
-/// Takes out a session with the number.
+/// Removes a session with the number and returns it.
 fn take_out<N: Naming>(sessions: &mut Vec<Session<N>>, number: u8) -> Session<N>
     requires { 0 < times number sessions.old.items }
     ensures number { result.number ≡ number }
     ensures times { (k : ℕ) → times k sessions.new.items + cond (number == k) 1 0 ≡ times k sessions.old.items }
     ensures made { (k : ℕ) → made_of k sessions.new.items + cond (number == k) result.made 0 ≡ made_of k sessions.old.items }
 {
-    let at = place_of(sessions.as_slice(), number);
+    let at = index_of(sessions.as_slice(), number);
     sessions.remove(at)
 }
 
-/// Joins the shares of the sessions 1 to count to this one, and lists their counts.
+/// Merges the shares of the sessions 1 to `count` into `all`, and lists their numbers of calls.
 fn join_all<N: Naming>(
     all: &mut Share<N>,
     mut sessions: Vec<Session<N>>,

@@ -2,32 +2,32 @@ ghost use Rattle.std.specs.Prelude.{ℕ, IfOk, IfErr};
 
 use lrc_code::SessionNo;
 
-/// A gate stops a script.
+/// The error by which a gate stops a script.
 #[derive(Clone, Copy, Debug, PartialEq, Eq)]
 pub struct GateError;
 
-/// What is asked around each call of a run. The calls of a session are counted from 1 in each run.
+/// A hook that a run calls before and after each call of a session. In each run the calls of a session are counted from 1.
 pub trait Gate {
-    // Whether it may stop a script.
+    // whether the gate may stop a script
     ghost may_stop: { Type 0 };
 
-    // What is known of a session's call of this count that it let through.
+    // what is known of call `n` of a session after `before` returned Ok
     ghost lets: { ℕ → ℕ → Type 0 };
 
-    // What is known of a session's call of this count that it was told of.
+    // what is known of call `n` of a session after `after` returned
     ghost tells: { ℕ → ℕ → Type 0 };
 
-    /// Asked ahead of a session's call `n`; an error stops its script, and the call is not made.
+    /// Runs before call `n` of a session. An error stops the session's script, and the call is not made.
     fn before(&self, session: SessionNo, n: u64) -> Result<(), GateError>
         ensures through { IfOk result (λ _. lets session.value n) }
         ensures stopped { IfErr result (λ _. may_stop) };
 
-    /// Told of a session's call `n` that was made.
+    /// Runs after call `n` of a session was made.
     fn after(&self, session: SessionNo, n: u64)
         ensures { tells session.value n };
 }
 
-/// The gate that lets each call through and holds none.
+/// The gate that neither stops nor delays a call.
 #[derive(Clone, Copy, Debug)]
 pub struct OpenGate;
 

@@ -1,4 +1,4 @@
-//! Laws of the definitions, each the contract of a function that does nothing.
+//! Laws of the definitions. Each law is the contract of a function that does nothing.
 
 ghost use Rattle.std.specs.Prelude.{◌≡◌, ℕ, ◌<◌, List, length, slice_index_or, Contains, Vec};
 ghost use Rattle.std.specs.Global.{Global};
@@ -16,22 +16,22 @@ ghost use Rattle.lrc_sessions.specs.Runs.{Passes, StandsAt, AreRun};
 
 use crate::gate::Gate;
 
-/// The sessions that a manager is opened with are all that end it, and if sessions are, they still are once each has run a script.
+/// The sessions that `open` returns are all sessions of the manager. All sessions of a manager still are after each ran a script.
 pub fn opened_sessions_are_all<G: Gate>()
     ensures opened { (count : ℕ) → AreAll count (fresh count) }
     ensures ran { (count limit : ℕ) (scripts : List (Vec Command Global)) (before after : List SessionView) (tracks : List Track)
         → AreAll count before → length before ≡ length scripts → AreRun limit G.may_stop (Passes G.lets G.tells) scripts before after tracks → AreAll count after }
 {}
 
-/// Each receipt stands in the history that the end of the manager gives back: at the place that it tells, with the number of its
-/// session, its command and its reply. So does each receipt of a run, with the command of its script.
+/// The history that `finish` returns has the call of each receipt: at the receipt's place, with the session's number, the command and
+/// the reply. The same holds for each receipt of a run, with the command of its script.
 pub fn receipts_stand_in_the_history<G: Gate>()
     ensures call { (nodes : List NodeInfo) (count limit : ℕ) (sessions : List SessionView) (closing : ClosingRecord) (before after last : SessionView) (command : Command) (r : Receipt)
-        → IsCalled nodes before command r after → IsPrefix after.front last.front → Contains sessions last → Closes nodes limit count sessions closing
+        → IsCalled nodes before command r after → IsPrefix after.seen last.seen → Contains sessions last → Closes nodes limit count sessions closing
         → StandsAt before.number command r closing.book.history }
     ensures run { (nodes : List NodeInfo) (count limit : ℕ) (scripts : List (Vec Command Global)) (before after sessions : List SessionView) (tracks : List Track) (closing : ClosingRecord)
         (i j : ℕ) (s : Vec Command Global) (b a last : SessionView) (t : Track) (r : Receipt) (command : Command)
         → AreRun limit G.may_stop (Passes G.lets G.tells) scripts before after tracks → i < length scripts → j < length (slice_index_or tracks i t).receipts
-        → IsPrefix (slice_index_or after i a).front last.front → Contains sessions last → Closes nodes limit count sessions closing
+        → IsPrefix (slice_index_or after i a).seen last.seen → Contains sessions last → Closes nodes limit count sessions closing
         → StandsAt (slice_index_or before i b).number (slice_index_or (slice_index_or scripts i s).items j command) (slice_index_or (slice_index_or tracks i t).receipts j r) closing.book.history }
 {}

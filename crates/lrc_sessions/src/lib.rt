@@ -1,16 +1,16 @@
-//! Sessions on threads: a published book behind one lock, and for each session the count of its calls and what it has seen.
+//! Sessions on threads: a published book guarded by one lock, and for each session the number of its calls and what it has seen.
 #![tactic(auto)]
 
 mod closing;
-mod desk;
 mod finish;
 mod gate;
 pub mod laws;
+mod locked_state;
 mod manager;
 mod naming;
 mod parts;
-mod room;
 mod run;
+mod run_buffers;
 mod session;
 mod track;
 mod worker;

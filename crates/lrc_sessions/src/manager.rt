@@ -5,7 +5,7 @@ ghost use Rattle.lrc_board.specs.declared.open_error.OpenError.TheVariants as er
 ghost use Rattle.lrc_sessions.specs.Views.{ManagerView, SessionView, fresh};
 ghost use Rattle.lrc_sessions.specs.Calls.{IsCalled, IsLeft};
 
-use crate::desk::Desk;
+use crate::locked_state::LockedState;
 use crate::naming::Naming;
 use crate::parts::Parts;
 use crate::session::Session;
@@ -17,9 +17,9 @@ use std::marker::Model;
 use std::sync::ledger::Share;
 use std::sync::{Mutex, MutexGuard, Wait};
 
-/// A published book behind one lock, for 1 to 8 sessions. Only `finish` ends it.
+/// A published book guarded by one lock, for 1 to 8 sessions. Only `finish` ends it.
 pub struct Manager<N: Naming> {
-    pub(crate) desk: Mutex<Desk<N>>,
+    pub(crate) state: Mutex<LockedState<N>>,
     pub(crate) count: u8,
     pub(crate) made: Vec<(SessionNo, u64)>,
 }
@@ -37,19 +37,18 @@ impl<N: Naming> Model for Manager<N> {
 }
 
 impl<N: Naming> Manager<N> {
-    /// A manager with a new book, and its sessions: they have the numbers from 1 to the count of the parts, in order. It takes no
-    /// lock. It waits, as `Keeper::open` does, for viewers to leave a board that no caller has seen yet, so there are none to
-    /// wait for.
+    /// Opens a manager with a new book, and its sessions, which have the numbers from 1 to the count of the parts, in order. It
+    /// takes no lock. It takes the runtime for `Keeper::open`, which has no viewer to wait for.
     ///
     /// # Errors
     ///
-    /// `OpenError::OutOfMemory`, or `OpenError::NoReader` where the library refuses a session its reader.
+    /// `OpenError::OutOfMemory`, or `OpenError::NoReader` if `left_right` returns no reader for a session.
     pub fn open<R: Wait>(
         alloc: Global,
         rt: &R,
         parts: Parts,
     ) -> Result<(Manager<N>, Vec<Session<N>>), OpenError>
-        // N names these parts.
+        // N names these parts
         requires topology { parts.topology ≡ N.topology }
         requires limit { parts.limit ≡ N.limit }
         requires count { parts.count ≡ N.count }
@@ -70,27 +69,26 @@ impl<N: Naming> Manager<N> {
         let (tally, mut rest) = tally.open::<N>();
         let sessions = split(&mut rest, viewers, count, sessions);
         let manager = Manager {
-            desk: Mutex::new(Desk::new(keeper, tally, rest)),
+            state: Mutex::new(LockedState::new(keeper, tally, rest)),
             count,
             made,
         };
         Ok((manager, sessions))
     }
 
-    /// How many sessions the manager was opened with.
+    /// Returns the number of sessions that the manager was opened with.
     pub(crate) fn count(&self) -> u8
         ensures { result ≡ self.now.count }
     {
         self.count
     }
 
-    /// Makes one call of a session, while no other session makes one, and publishes it. It waits for the lock, and until no look
-    /// is left that began before the last call. A `Fault` changes nothing, but that a session that meets a full history has then
-    /// seen all of it.
+    /// Makes one call of a session under the lock, and publishes it. It waits for the lock, and for looks that began before the
+    /// last call. A `Fault` changes nothing, except that after `HistoryFull` the session has seen the whole history.
     ///
     /// # Errors
     ///
-    /// `Fault::HistoryFull` where the history has as many entries as its limit; else only `Fault::OutOfMemory`.
+    /// `Fault::HistoryFull` if the history has as many entries as its limit; otherwise only `Fault::OutOfMemory`.
     pub fn call<R: Wait>(
         &self,
         rt: &R,
@@ -101,29 +99,29 @@ impl<N: Naming> Manager<N> {
         ensures place { IfOk result (λ r. (session.new.made ≤ r.place) × (r.place ≤ N.limit)) }
         ensures err { IfErr result (λ f. IsLeft N.topology N.limit session.old f session.new) }
     {
-        let mut desk = self.desk.lock(rt);
-        let called = desk.call(rt, session, command);
-        MutexGuard::unlock(desk);
+        let mut state = self.state.lock(rt);
+        let called = state.call(rt, session, command);
+        MutexGuard::unlock(state);
         called
     }
 
-    /// Both sessions have then seen the whole history. It waits for the lock.
+    /// Moves both sessions to the end of the history. It waits for the lock.
     pub fn meet<R: Wait>(&self, rt: &R, one: &mut Session<N>, other: &mut Session<N>)
         ensures one { (one.new.number ≡ one.old.number) × (one.new.made ≡ one.old.made) }
         ensures other { (other.new.number ≡ other.old.number) × (other.new.made ≡ other.old.made) }
-        ensures later { IsPrefix one.old.front one.new.front × IsPrefix other.old.front other.new.front }
-        ensures both { one.new.front ≡ other.new.front }
-        ensures legal { IsLegal N.topology one.new.front }
+        ensures later { IsPrefix one.old.seen one.new.seen × IsPrefix other.old.seen other.new.seen }
+        ensures both { one.new.seen ≡ other.new.seen }
+        ensures legal { IsLegal N.topology one.new.seen }
     {
-        let mut desk = self.desk.lock(rt);
-        desk.show(one);
-        desk.show(other);
-        MutexGuard::unlock(desk);
+        let mut state = self.state.lock(rt);
+        state.show(one);
+        state.show(other);
+        MutexGuard::unlock(state);
         one.front();
     }
 }
 
-/// Room for so many sessions, and for the counts of their calls at the end.
+/// Allocates room for `count` sessions, and for their numbers of calls at the end.
 fn room_for<N: Naming>(
     alloc: Global,
     count: u8,
@@ -136,7 +134,7 @@ fn room_for<N: Naming>(
     Ok((made, sessions))
 }
 
-/// A session for each number from 1 to the count, each with one part of the share and a viewer of its own.
+/// Makes the sessions 1 to `count`, each with one part of the share and a viewer of its own.
 fn split<N: Naming>(
     rest: &mut Share<N>,
     mut viewers: Vec<Viewer<N>>,

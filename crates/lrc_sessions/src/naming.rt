@@ -4,13 +4,13 @@ use lrc_board::ViewNaming;
 use std::marker::Brand;
 use std::sync::ledger::Ledger;
 
-/// What tells one manager from every other: the published view of its book, with the nodes, how many sessions it has, and the
-/// ledger that its sessions' calls are counted in. A session or a manager of one naming is never of another.
+/// A brand of a manager: sessions and managers with different brands cannot be mixed. It names the published view of the book, the
+/// number of sessions, and the ledger that counts their calls.
 ///
-/// The view's `limit` is the most entries of the book's history, up to 1,000,000. A history that has as many takes no command: a
-/// call is then answered by `Fault::HistoryFull`.
+/// The view's `limit` is the most entries that the history can have, up to 1,000,000. A history at its limit takes no command: a call
+/// then returns `Fault::HistoryFull`.
 pub trait Naming: Ledger + ViewNaming {
-    // how many sessions there are
+    // the number of sessions
     ghost count: { ℕ };
 }
 

@@ -9,8 +9,8 @@ use std::alloc::Global;
 use std::marker::Model;
 use std::sync::ledger::Blank;
 
-/// What a manager is made of before it has a naming: a new book, a log without lines, a new ledger of eight parts, and how many
-/// sessions there will be.
+/// The parts of a manager before it has a naming: a new book, a log without lines, a new ledger of eight shares, and the number of
+/// sessions.
 #[derive(Drop)]
 pub struct Parts {
     pub(crate) book: Book,
@@ -31,8 +31,8 @@ impl Model for Parts {
       count = p.count;
       name = p.tally.name;
       shares = p.tally.parts;
-      log = p.log.front.book;
-      start = p.log.pen.nib.key;
+      log = p.log.prefix.book;
+      start = p.log.permit.nib.key;
     } };
 
     ghost invariant = { λ p. (p.book.history ≡ []) × (p.book.limit ≤ 1000000) × (p.tally.parts ≡ 8)
@@ -40,11 +40,11 @@ impl Model for Parts {
 }
 
 impl Parts {
-    /// Parts for a manager of so many sessions over these nodes, with a history of at most 1,000,000 entries.
+    /// Makes the parts of a manager of `count` sessions over these nodes, with a history of at most 1,000,000 entries.
     ///
     /// # Errors
     ///
-    /// `OpenError::BadCount` where the count is not 1 to 8, before all else; else only `OpenError::OutOfMemory`.
+    /// `OpenError::BadCount` if the count is not 1 to 8, which is checked first; otherwise only `OpenError::OutOfMemory`.
     pub fn new(alloc: Global, topology: Topology, count: u8) -> Result<Parts, OpenError>
         ensures ok { IfOk result (λ p. (p.topology ≡ topology) × (p.limit ≡ 1000000) × (p.count ≡ count) × (1 ≤ count) × (count ≤ 8)) }
         ensures err { IfErr result (OpenFits count) }
@@ -52,12 +52,12 @@ impl Parts {
         Parts::with_limit(alloc, topology, count, HISTORY_LIMIT)
     }
 
-    /// Parts for a manager of so many sessions over these nodes, with a history of at most so many entries, which are 1,000,000
-    /// at most.
+    /// Makes the parts of a manager of `count` sessions over these nodes, with a history of at most `limit` entries. The limit is
+    /// at most 1,000,000.
     ///
     /// # Errors
     ///
-    /// `OpenError::BadCount` where the count is not 1 to 8, before all else; else only `OpenError::OutOfMemory`.
+    /// `OpenError::BadCount` if the count is not 1 to 8, which is checked first; otherwise only `OpenError::OutOfMemory`.
     pub fn with_limit(
         alloc: Global,
         topology: Topology,

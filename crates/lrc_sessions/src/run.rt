@@ -1,12 +1,12 @@
 ghost use Rattle.std.specs.Prelude.{◌≡◌, ℕ, ◌<◌, ◌≤◌, [], length, vec_capacity, slice_index_or, IfOk, IfErr};
 ghost use Rattle.lrc_code.specs.declared.fault.Fault.TheVariants as fault;
-ghost use Rattle.lrc_sessions.specs.Rooms.{AreRoomFor};
+ghost use Rattle.lrc_sessions.specs.Buffers.{HaveRoomFor};
 ghost use Rattle.lrc_sessions.specs.Runs.{Passes, IsRun, AreRun};
 
 use crate::gate::Gate;
 use crate::manager::Manager;
 use crate::naming::Naming;
-use crate::room::{Room, unseat};
+use crate::run_buffers::{RunBuffers, collect_results};
 use crate::session::Session;
 use crate::track::Track;
 use crate::worker::Worker;
@@ -17,8 +17,8 @@ use std::sync::Wait;
 use std::thread;
 use std::thread::Threads;
 
-/// Runs each script by the session at its place, each in a thread of its own where the system gives one, and gives the sessions
-/// back in their order. A script is stopped by the first of its calls that answers a `Fault`, or by the gate.
+/// Runs script `i` by session `i`, each on a thread of its own if the system starts one, and returns the sessions in their order. A
+/// script stops at its first call that returns a `Fault`, or where the gate stops it.
 ///
 /// # Errors
 ///
@@ -35,37 +35,37 @@ pub fn run_sessions<N: Naming + Send + Sync, R: Threads + Wait + Sync, G: Gate +
     ensures ok { IfOk result.1 (λ tracks. AreRun N.limit G.may_stop (Passes G.lets G.tells) scripts.now sessions.items result.0.items tracks.items) }
     ensures err { IfErr result.1 (λ e. (e ≡ fault.OutOfMemory) × (result.0 ≡ sessions)) }
 {
-    match Room::new(alloc, scripts) {
-        Ok(room) => {
-            let tracks = run_in(rt, manager, &mut sessions, room, scripts, gate);
+    match RunBuffers::new(alloc, scripts) {
+        Ok(buffers) => {
+            let tracks = run_in(rt, manager, &mut sessions, buffers, scripts, gate);
             (sessions, Ok(tracks))
         }
         Err(fault) => (sessions, Err(fault)),
     }
 }
 
-/// Runs each script by the session at its place, in room that was taken for them.
+/// Runs script `i` by session `i`, in memory that was allocated before.
 fn run_in<N: Naming + Send + Sync, R: Threads + Wait + Sync, G: Gate + Sync>(
     rt: &R,
     manager: &Manager<N>,
     sessions: &mut Vec<Session<N>>,
-    room: Room<N>,
+    buffers: RunBuffers<N>,
     scripts: &[Vec<Command>],
     gate: &G,
 ) -> Vec<Track>
     requires sessions { (length sessions.old.items ≡ length scripts.now) × (length scripts.now ≤ vec_capacity sessions.old) }
-    requires receipts { AreRoomFor scripts.now room.receipts.items }
-    requires workers { (room.workers.items ≡ []) × (length scripts.now ≤ vec_capacity room.workers) }
-    requires tracks { (room.tracks.items ≡ []) × (length scripts.now ≤ vec_capacity room.tracks) }
+    requires receipts { HaveRoomFor scripts.now buffers.receipts.items }
+    requires workers { (buffers.workers.items ≡ []) × (length scripts.now ≤ vec_capacity buffers.workers) }
+    requires tracks { (buffers.tracks.items ≡ []) × (length scripts.now ≤ vec_capacity buffers.tracks) }
     ensures { AreRun N.limit G.may_stop (Passes G.lets G.tells) scripts.now sessions.old.items sessions.new.items result.items }
 {
-    let (mut workers, mut tracks) = room.seat(sessions);
+    let (mut workers, mut tracks) = buffers.assign_sessions(sessions);
     run_workers(rt, manager, &mut workers, scripts, gate);
-    unseat(workers, sessions, &mut tracks);
+    collect_results(workers, sessions, &mut tracks);
     tracks
 }
 
-/// Runs each worker on its script, each in a thread of its own where the system gives one.
+/// Runs each worker on its script, each on a thread of its own if the system starts one.
 fn run_workers<N: Naming + Send + Sync, R: Threads + Wait + Sync, G: Gate + Sync>(
     rt: &R,
     manager: &Manager<N>,

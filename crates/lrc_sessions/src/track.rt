@@ -4,12 +4,12 @@ use lrc_board::Receipt;
 use lrc_code::Fault;
 use std::marker::Model;
 
-/// Why a script was stopped before its end.
+/// Why a script stopped before its end.
 #[derive(Clone, Copy, Debug, PartialEq, Eq)]
 pub enum Stop {
-    /// Its next call answered this.
+    /// Its next call returned this fault.
     Fault(Fault),
-    /// The gate did not let its next call through.
+    /// The gate stopped it before its next call.
     Gate,
 }
 
@@ -29,7 +29,7 @@ impl Model for Receipts {
 }
 
 impl Receipts {
-    /// The receipts, in the order of the calls.
+    /// Returns the receipts, in the order of the calls.
     pub fn as_slice(&self) -> &[Receipt]
         ensures { result.now ≡ self.now }
     {
@@ -37,7 +37,7 @@ impl Receipts {
     }
 }
 
-/// What became of a script: the receipts of its first calls, of all of them where it was not stopped.
+/// The result of a script: the receipts of the calls that were made, and why it stopped. If nothing stopped it, it made all calls.
 #[derive(Drop)]
 pub struct Track {
     pub receipts: Receipts,

@@ -10,7 +10,7 @@ use lrc_board::Receipt;
 use lrc_book::Command;
 use std::sync::Wait;
 
-/// A session at its script.
+/// A session that runs a script, with the receipts so far.
 #[derive(Drop)]
 pub(crate) struct Worker<N: Naming> {
     pub(crate) session: Session<N>,
@@ -19,7 +19,7 @@ pub(crate) struct Worker<N: Naming> {
 }
 
 impl<N: Naming> Worker<N> {
-    /// Makes the calls of a script, until something stops it.
+    /// Makes the calls of a script, until a fault or the gate stops it.
     pub(crate) fn run<R: Wait, G: Gate>(
         &mut self,
         rt: &R,
@@ -40,7 +40,7 @@ impl<N: Naming> Worker<N> {
     }
 }
 
-/// Makes the calls of a script, until one stops it.
+/// Makes the calls of a script, and returns why it stopped before its end.
 fn make_calls<N: Naming, R: Wait, G: Gate>(
     rt: &R,
     manager: &Manager<N>,

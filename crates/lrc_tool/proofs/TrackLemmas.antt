@@ -271,7 +271,7 @@ stopped_by None f is = absurd (cc)
 
 module _ {Z : Type 0} (limit : ℕ) (scripts : List (Vec Command Z)) (after : List SessionView) (tracks : List Track) (ran : AreRun limit ⊥ open_passes scripts (fresh (length scripts)) after tracks) where
   abbrev first_view : ℕ → SessionView
-  first_view k = record { number = k; made = 0; front = [] }
+  first_view k = record { number = k; made = 0; seen = [] }
 
   run_at : (i : ℕ) (s : Vec Command Z) (a : SessionView) (t : Track) → i < length scripts
       → IsRun limit ⊥ open_passes (get_or scripts i s).items (first_view (1 + i)) (get_or after i a) (get_or tracks i t).receipts (get_or tracks i t).stopped
@@ -298,7 +298,7 @@ module _ {Z : Type 0} (limit : ℕ) (scripts : List (Vec Command Z)) (after : Li
       let most = (run_at i v (first_view 1) t low).2 in
       omega (arith, made_for i v t low, most)
 
-  module _ (history : List Entry) (seen : All (λ s. IsPrefix s.front history) after) where
+  module _ (history : List Entry) (seen : All (λ s. IsPrefix s.seen history) after) where
     told_at : first_fault tracks ≡ None → counts_of (length scripts) after ≡ counts_in (length scripts) history → (i : ℕ) (s : Vec Command Z) (t : Track) → i < length scripts
         → IsTold (1 + i) history (get_or scripts i s).items (get_or tracks i t).receipts
     told_at unstopped counts i s t low =
@@ -306,7 +306,7 @@ module _ {Z : Type 0} (limit : ℕ) (scripts : List (Vec Command Z)) (after : Li
         let run = run_at i s a t low in
         let there : i < length after = omega (arith, low, ran.0) in
         let long = whole (get_or scripts i s).items (length (get_or tracks i t).receipts) (get_or tracks i t).stopped (none_at tracks i t unstopped (omega (arith, low, ran.1))) run.3 in
-        let standing = standing_on (1 + i) 0 (get_or scripts i s).items (get_or tracks i t).receipts (get_or after i a).front history (seen i a there) run.5 in
+        let standing = standing_on (1 + i) 0 (get_or scripts i s).items (get_or tracks i t).receipts (get_or after i a).seen history (seen i a there) run.5 in
         told (1 + i) history (get_or scripts i s).items (get_or tracks i t).receipts long standing (sym (made_for i s t low) ∙ same_count (length scripts) i after history counts low)
 
     -- a script that a full history stopped has a command left, so all of them have more than the history has entries
@@ -315,8 +315,8 @@ module _ {Z : Type 0} (limit : ℕ) (scripts : List (Vec Command Z)) (after : Li
         let within : i < length scripts = omega (arith, low, ran.1) in
         let a = first_view 1 in
         let at = stopped_by (get_or tracks i t).stopped book.HistoryFull full in
-        let seen_whole : length (get_or after i a).front ≡ limit = subst (StopIsSeen limit (get_or after i a).front) at (run_at i (some_of scripts i within) a t within).6 in
-        let long = prefix_long (get_or after i a).front history (seen i a (omega (arith, within, ran.0))) in
+        let seen_whole : length (get_or after i a).seen ≡ limit = subst (StopIsSeen limit (get_or after i a).seen) at (run_at i (some_of scripts i within) a t within).6 in
+        let long = prefix_long (get_or after i a).seen history (seen i a (omega (arith, within, ran.0))) in
         let left : (v : Vec Command Z) → made_of (1 + i) after < length (get_or scripts i v).items =
         λ v. let less = subst (StopFits ⊥ (get_or scripts i v).items (length (get_or tracks i t).receipts)) at (run_at i v a t within).3 in omega (arith, made_for i v t within, less) in
         let less = counted_less (λ k. made_of k after) 1 i scripts no_more within left in

@@ -28,7 +28,7 @@ fn a_viewer_sees_what_it_was_shown(rt: HostRuntime) -> Result<(), Fail> {
 /// Of two viewers one is shown two calls, and the other nothing.
 fn watch<N: ViewNaming, R: Wait + Abort>(rt: &R, alloc: Global, book: Book, log: NewLog)
     requires book { (book.history ≡ []) × (book.nodes ≡ N.topology) × (book.limit ≡ N.limit) }
-    requires log { (log.front.book ≡ N.log) × (log.pen.nib.key ≡ N.start) }
+    requires log { (log.prefix.book ≡ N.log) × (log.permit.nib.key ≡ N.start) }
 {
     let Ok((mut keeper, mut viewers)) = Keeper::<N>::open(alloc, rt, book, log, 2) else {
         panic!(rt; "a keeper and its viewers")

@@ -7,8 +7,8 @@ use Rattle.lrc_board.proofs.WrittenLemmas.{written_prefix}
 use Rattle.lrc_board.proofs.log.begins.Goals as goal
 
 pub returns : goal.returns
-returns c pen less =
+returns c permit less =
     let both : List Line = c.learn.new.self.log in
     let this = subst (λ (l : List Line). IsPrefix l both) (ap (λ s. s.log) c.again-both.ensures) c.learn.ensures.2 in
-    prefix_shorter (written pen c.args.one.now.log) (written pen c.args.other.now.log) (written pen both)
-    (written_prefix pen c.args.one.now.log both this) (written_prefix pen c.args.other.now.log both c.learn.ensures.3) less
+    prefix_shorter (written permit c.args.one.now.log) (written permit c.args.other.now.log) (written permit both)
+    (written_prefix permit c.args.one.now.log both this) (written_prefix permit c.args.other.now.log both c.learn.ensures.3) less

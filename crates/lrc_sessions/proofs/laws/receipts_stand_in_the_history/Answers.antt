@@ -8,14 +8,14 @@ use Rattle.lrc_sessions.proofs.laws.receipts_stand_in_the_history.Goals as goal
 pub returns-clause-call : goal.returns-clause-call
 returns-clause-call g c = λ nodes count limit sessions closing before after last command r called seen among closes.
     let h = closing.book.history in
-    let whole = All-contains (λ (s : SessionView). IsPrefix s.front h) sessions last closes.7 among in
-    stands_on before.number command r after.front h (prefix_step after.front last.front h seen whole) (stands_now nodes before.number command command before after r called refl refl)
+    let whole = All-contains (λ (s : SessionView). IsPrefix s.seen h) sessions last closes.7 among in
+    stands_on before.number command r after.seen h (prefix_step after.seen last.seen h seen whole) (stands_now nodes before.number command command before after r called refl refl)
 
 pub returns-clause-run : goal.returns-clause-run
 returns-clause-run g c = λ nodes count limit scripts before after sessions tracks closing i j s b a last t r command ran low within seen among closes.
     let h = closing.book.history in
-    let whole = All-contains (λ (s : SessionView). IsPrefix s.front h) sessions last closes.7 among in
+    let whole = All-contains (λ (s : SessionView). IsPrefix s.seen h) sessions last closes.7 among in
     let run = ran.2 i s b a t low in
     let now = slice_index_or after i a in
-    stands_on (slice_index_or before i b).number (slice_index_or (slice_index_or scripts i s).items j command) (slice_index_or (slice_index_or tracks i t).receipts j r) now.front h
-    (prefix_step now.front last.front h seen whole) (run.5.stand j r command within)
+    stands_on (slice_index_or before i b).number (slice_index_or (slice_index_or scripts i s).items j command) (slice_index_or (slice_index_or tracks i t).receipts j r) now.seen h
+    (prefix_step now.seen last.seen h seen whole) (run.5.stand j r command within)

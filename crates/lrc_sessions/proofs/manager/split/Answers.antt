@@ -10,8 +10,8 @@ loop-before-preserved g c =
     let b = c.loop-before.before in
     let v = c.loop-before.invariant in
     let n : c.unwrap-number.result.value ≡ b + 1 = search rules in
-    let r : c.new-in-loop-before.result ≡ record { number = b + 1; made = 0; front = [] } =
-    c.new-in-loop-before.ensures ∙ ap (λ k. record { number = k; made = 0; front = [] }) n in
+    let r : c.new-in-loop-before.result ≡ record { number = b + 1; made = 0; seen = [] } =
+    c.new-in-loop-before.ensures ∙ ap (λ k. record { number = k; made = 0; seen = [] }) n in
     record {
       sessions_is = subst (λ ss. ss ≡ fresh (b + 1)) (sym c.push_reserved.ensures.items) (fresh_push b c.loop-before.sessions.items c.new-in-loop-before.result v.sessions_is r);
       len_is = search rules;

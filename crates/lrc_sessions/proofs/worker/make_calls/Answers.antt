@@ -29,10 +29,10 @@ loop-command-preserved g c =
     let command = c.command-item.result in
     let i = c.loop-command.command-index in
     let on = called_on nodes command before after r m in
-    let start = prefix_long first.front before.front v.later in
+    let start = prefix_long first.seen before.seen v.later in
     let next : (d : Command) → command ≡ get_or script (length rs) d =
     λ d. c.command-item.is ∙ get_or_default script i command d (omega arith) ∙ ap (λ (k : ℕ). get_or script k d) (sym v.len_is) in
-    let stand = standing_push nodes first.number (length first.front) script command rs before after r v.stand start m v.number_is next in
+    let stand = standing_push nodes first.number (length first.seen) script command rs before after r v.stand start m v.number_is next in
     let passes = Passes g.G.Gate.lets g.G.Gate.tells in
     let count : c.loop-command.n + 1 ≡ length rs + 1 = omega arith in
     let through = subst (λ (k : ℕ). g.G.Gate.lets first.number k) count (subst (λ (k : ℕ). g.G.Gate.lets k (c.loop-command.n + 1)) (c.number.ensures ∙ v.number_is) (let_through (g.G.Gate.lets c.number.result.value (c.loop-command.n + 1)) c.before-in-loop-command.result (sym c.is_err.ensures.value ∙ c.if-is_err.false) c.before-in-loop-command.ensures.through)) in
@@ -44,7 +44,7 @@ loop-command-preserved g c =
       made_is = (let d = m.made in omega arith);
       len_is = omega arith;
       room = rw c.push_reserved.ensures.capacity v.room;
-      later = prefix_step first.front before.front after.front v.later on;
-      stand = subst (λ (l : List Receipt). AreStanding first.number (length first.front) script l after.front) (sym all) stand;
+      later = prefix_step first.seen before.seen after.seen v.later on;
+      stand = subst (λ (l : List Receipt). AreStanding first.number (length first.seen) script l after.seen) (sym all) stand;
       passed = subst (λ (l : List Receipt). HavePassed passes first.number (length l)) (sym all) told;
     }

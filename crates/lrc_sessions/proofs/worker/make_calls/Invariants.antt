@@ -10,7 +10,7 @@ invariant-loop-command g l = record {
   made_is : l.session.made ≡ l.initial.session.made + length l.receipts.items;
   len_is : length l.receipts.items ≡ l.command-index;
   room : length l.script ≤ vec_capacity l.receipts;
-  later : IsPrefix l.initial.session.front l.session.front;
-  stand : AreStanding l.initial.session.number (length l.initial.session.front) l.script l.receipts.items l.session.front;
+  later : IsPrefix l.initial.session.seen l.session.seen;
+  stand : AreStanding l.initial.session.number (length l.initial.session.seen) l.script l.receipts.items l.session.seen;
   passed : HavePassed (Passes g.G.Gate.lets g.G.Gate.tells) l.initial.session.number (length l.receipts.items);
 }

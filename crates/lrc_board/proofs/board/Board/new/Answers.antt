@@ -7,6 +7,6 @@ returns c = λ i. record {
   levels = (c.in_ok-no_levels.ensures ∙ none-after c.args.topology.now) i;
   loads = c.in_ok-no_loads.ensures i;
   count = 0;
-  book = c.args.front.book;
-  lines = c.args.front.log;
+  book = c.args.prefix.book;
+  lines = c.args.prefix.log;
 }

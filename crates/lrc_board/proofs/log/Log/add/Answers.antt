@@ -1,7 +1,6 @@
-use Rattle.std.proofs.Common.{List, refl, ap, sym, ◌∙◌, ◌++◌, ◌∷◌, []}
+use Rattle.std.proofs.Common.{List, ap, sym, ◌∙◌, ◌++◌, ◌∷◌, []}
 use Rattle.lrc_rules.specs.declared.entry.Entry.{Entry}
-use Rattle.lrc_board.specs.declared.line.Line.{Line}
-use Rattle.lrc_board.proofs.WrittenLemmas.{add_moves, added}
+use Rattle.lrc_board.proofs.WrittenLemmas.{append_moves, asked_added}
 use Rattle.lrc_board.proofs.log.Log.add.Goals as goal
 
 pub compare_exchange-requires : goal.compare_exchange-requires
@@ -14,7 +13,7 @@ compare_exchange-requires g c =
       i.0 ∙ book,
       i.2 ∙ book,
       offer.0,
-      rw (ap (λ w. w.key) i.1, offer.3) (add_moves log.front.log log.pen.nib c.plain-offer.result.ask i.3),
+      rw (ap (λ w. w.key) i.1, offer.3) (append_moves log.prefix.log log.permit.nib c.plain-offer.result.ask i.3),
     )
 
 pub invariant_of-self : goal.invariant_of-self
@@ -22,19 +21,15 @@ invariant_of-self g c =
     let log = c.self.inside in
     let i = c.self.invariant in
     let then = c.compare_exchange.ensures.7 in
-    let asked = c.plain-offer.ensures.1 in
-    let line : Line = record { entry = c.args.entry; by = log.pen.nib.key; next = c.new_pen.result.nib.key } in
-    let new = then.3 ∙ (λ k. then.0 ++ record { entry = (asked k).entry; by = log.pen.nib.key; next = (asked k).next } ∷ []) in
-    let done = added g.N.ViewNaming.start log.pen.nib.key log.front.log then.0 c.compare_exchange.new.seen.log line i.4 then.1 then.2 refl new in
-    (c.compare_exchange.ensures.0 ∙ i.0, i.1, c.new_pen.ensures.0 ∙ i.0, c.new_pen.ensures.1, done.0)
+    let done = asked_added g.N.ViewNaming.start log.permit.nib.key log.prefix.log then.0 c.compare_exchange.new.seen.log c.plain-offer.result.ask
+    c.args.entry c.new_permit.result.nib.key i.4 then.1 then.2 c.plain-offer.ensures.1 then.3 in
+    (c.compare_exchange.ensures.0 ∙ i.0, i.1, c.new_permit.ensures.0 ∙ i.0, c.new_permit.ensures.1, done.0)
 
 pub returns : goal.returns
 returns g c =
     let log = c.self.inside in
     let i = c.self.invariant in
     let then = c.compare_exchange.ensures.7 in
-    let asked = c.plain-offer.ensures.1 in
-    let line : Line = record { entry = c.args.entry; by = log.pen.nib.key; next = c.new_pen.result.nib.key } in
-    let new = then.3 ∙ (λ k. then.0 ++ record { entry = (asked k).entry; by = log.pen.nib.key; next = (asked k).next } ∷ []) in
-    let done = added g.N.ViewNaming.start log.pen.nib.key log.front.log then.0 c.compare_exchange.new.seen.log line i.4 then.1 then.2 refl new in
+    let done = asked_added g.N.ViewNaming.start log.permit.nib.key log.prefix.log then.0 c.compare_exchange.new.seen.log c.plain-offer.result.ask
+    c.args.entry c.new_permit.result.nib.key i.4 then.1 then.2 c.plain-offer.ensures.1 then.3 in
     done.1 ∙ ap (λ (l : List Entry). l ++ c.args.entry ∷ []) c.self.view_is

@@ -20,11 +20,11 @@ returns g c =
     let joined = c.join_all-made.ensures in
     let made = c.join_all-made.result in
     let book : BookView = c.into_book-book.result in
-    let out : book ≡ c.into_parts-keeper.result.0 = c.into_book-book.ensures ∙ c.check_all_in.ensures.same in
+    let out : book ≡ c.into_parts-keeper.result.0 = c.into_book-book.ensures ∙ c.check_all_seen.ensures.same in
     let whole = c.audit.ensures.whole (joined.parts ∙ sym c.self.invariant.1) in
     let counted : length h ≡ total_made made = parts.locked.4 ∙ (sym whole ∙ joined.amount) in
-    let begin = subst (λ (l : List SessionView). All (λ s. IsPrefix s.front h) l) c.as_slice-2.ensures.value c.check_all_in.ensures.begin in
-    let below = subst (λ (l : List SessionView). All (λ s. s.made ≤ made_in s.number h) l) c.as_slice-2.ensures.value c.check_all_in.ensures.made in
+    let begin = subst (λ (l : List SessionView). All (λ s. IsPrefix s.seen h) l) c.as_slice-2.ensures.value c.check_all_seen.ensures.begin in
+    let below = subst (λ (l : List SessionView). All (λ s. s.made ≤ made_in s.number h) l) c.as_slice-2.ensures.value c.check_all_seen.ensures.made in
     let few : count ≤ 8 = omega (arith, parts.rest.0, c.self.invariant.0) in
     let same = joined.made ∙ squeezed count ss h (subst (λ k. AreAll k ss) (sym n) all) few below (counted ∙ ap total_made joined.made) in (
       all,
@@ -34,7 +34,7 @@ returns g c =
       subst (λ k. made ≡ counts_of k ss) n joined.made,
       ap (λ (b : BookView). length b.history) out ∙ counted,
       subst (λ k. made ≡ counts_in k book.history) n (same ∙ ap (λ (b : BookView). counts_in count b.history) (sym out)),
-      subst (λ (b : BookView). All (λ s. IsPrefix s.front b.history) ss) (sym out) begin,
+      subst (λ (b : BookView). All (λ s. IsPrefix s.seen b.history) ss) (sym out) begin,
     )
 
 pub returns-then-not-are_all : goal.returns-then-not-are_all
