@@ -65,15 +65,17 @@ class Store(rules.Store):
 
     def list_node(self, node):
         """Lists a node under its load if it is eligible, and nowhere else."""
-        load, listed = self.slots[node].bit_count(), self.listed[node]
-        load = load if self.is_eligible(node, load) else None
+        load, listed, bit = self.slots[node].bit_count(), self.listed[node], 1 << node
+        if not self.is_eligible(node, load):
+            load = None
         if load != listed:
+            eligible = self.eligible
             if listed is not None:
-                self.eligible[listed] ^= 1 << node
-                if not self.eligible[listed]:
+                eligible[listed] ^= bit
+                if not eligible[listed]:
                     self.loads ^= 1 << listed
             if load is not None:
-                self.eligible[load] |= 1 << node
+                eligible[load] |= bit
                 self.loads |= 1 << load
             self.listed[node] = load
 

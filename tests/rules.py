@@ -223,10 +223,10 @@ class Store:
     def barred(self, key):
         """The set of nodes on which a fragment would not be lawful beside the other fragments of its stripe."""
         stripe, fragment = key
-        same_class, barred = self.stripes[stripe].class_of[fragment], 0
+        same_class, bars, barred = self.stripes[stripe].class_of[fragment], self.bars, 0
         for other, node in self.nodes_of(stripe):
             if other != fragment:
-                barred |= self.bars[node][same_class >> other & 1]
+                barred |= bars[node][same_class >> other & 1]
         return barred
 
     def choice(self, key):
