@@ -1,5 +1,6 @@
 // Each function of lrc_embed.h with each of its statuses, from C. tests/embed builds and runs it, also where memory is
-// refused: a call that memory was refused to has changed nothing that the book tells, and is made again.
+// refused: a call that memory was refused to has changed nothing that the book tells, and is made again. Before each call a
+// peek reports its reply, requests no memory, and changes nothing that the book tells.
 // Usage: embed [full], with `full` also until the history is full. It prints how many requests for memory there were. With
 // REFUSE=N in the environment the Nth of them is refused, from 1, and with REFUSE_FROM=N the Nth and all later ones.
 #include "lrc_embed.h"
@@ -151,12 +152,22 @@ static void open_twenty(void) {
     WANT(open_text(text, &detail) == LRC_DONE && detail == 99);
 }
 
-static lrc_reply make(uint8_t session, lrc_command command) {
+static lrc_reply peek(uint8_t session, lrc_command command) {
     lrc_reply reply;
+    unsigned long requested = requests;
+    memset(&reply, 0xa5, sizeof reply);
+    look(&before);
+    WANT(lrc_embed_peek(&handle, session, &command, &reply) == LRC_DONE);
+    WANT(requests == requested && is_as_before());
+    return reply;
+}
+
+static lrc_reply make(uint8_t session, lrc_command command) {
+    lrc_reply reply, peeked = peek(session, command);
     uint32_t status;
     memset(&reply, 0xa5, sizeof reply);
     STATUS(status, lrc_embed_call(&handle, session, &command, &reply));
-    WANT(status == LRC_DONE);
+    WANT(status == LRC_DONE && memcmp(&peeked, &reply, sizeof reply) == 0);
     return reply;
 }
 
@@ -210,6 +221,8 @@ static void closed(void) {
     size_t number = 99;
     WANT(lrc_embed_call(&handle, 1, &command, &told.reply) == LRC_IS_CLOSED);
     WANT(lrc_embed_call(&handle, 9, &command, &told.reply) == LRC_OUT_OF_RANGE);
+    WANT(lrc_embed_peek(&handle, 1, &command, &told.reply) == LRC_IS_CLOSED);
+    WANT(lrc_embed_peek(&handle, 9, &command, &told.reply) == LRC_OUT_OF_RANGE);
     WANT(lrc_embed_replay(&handle, &told.entry, 1, &number) == LRC_IS_CLOSED);
     WANT(lrc_embed_homes(&handle, 1, &told.homes) == LRC_IS_CLOSED);
     WANT(lrc_embed_level(&handle, 1, &told.level) == LRC_IS_CLOSED);
@@ -241,11 +254,15 @@ static void ranges(void) {
         {.kind = LRC_REVOKE, .stripe = LRC_STRIPES, .fragment = LRC_FRAGMENTS},
     };
     lrc_reply reply = {.kind = 99};
-    for (size_t i = 0; i < sizeof outside / sizeof *outside; i++)
+    for (size_t i = 0; i < sizeof outside / sizeof *outside; i++) {
         WANT(lrc_embed_call(&handle, 1, &outside[i], &reply) == LRC_OUT_OF_RANGE);
+        WANT(lrc_embed_peek(&handle, 1, &outside[i], &reply) == LRC_OUT_OF_RANGE);
+    }
     const lrc_command next = {.kind = LRC_NEXT, .stripe = 65535, .fragment = 255, .node = 65535};
     WANT(lrc_embed_call(&handle, 0, &next, &reply) == LRC_OUT_OF_RANGE);
     WANT(lrc_embed_call(&handle, LRC_SESSIONS + 1, &next, &reply) == LRC_OUT_OF_RANGE);
+    WANT(lrc_embed_peek(&handle, 0, &next, &reply) == LRC_OUT_OF_RANGE);
+    WANT(lrc_embed_peek(&handle, LRC_SESSIONS + 1, &next, &reply) == LRC_OUT_OF_RANGE);
     WANT(reply.kind == 99 && count_of() == 0);
     WANT(make(LRC_SESSIONS, next).kind == LRC_IDLE);
     WANT(is_refused(MAKE(1, .kind = LRC_LEASE, .stripe = LRC_STRIPES - 1, .fragment = LRC_FRAGMENTS - 1),
@@ -490,15 +507,21 @@ static void fill(void) {
     size_t position = 99;
     WANT(lrc_embed_close(&handle) == LRC_DONE);
     open_twenty();
-    for (size_t i = 0; i < LRC_HISTORY_LIMIT; i++)
+    for (size_t i = 0; i < LRC_HISTORY_LIMIT - 1; i++)
         WANT(lrc_embed_call(&handle, 1, &command, &reply) == LRC_DONE);
+    reply.kind = 99;
+    WANT(lrc_embed_peek(&handle, 1, &command, &reply) == LRC_DONE && is_refused(reply, LRC_WRONG_MODE, 0));
+    WANT(count_of() == LRC_HISTORY_LIMIT - 1);
+    WANT(lrc_embed_call(&handle, 1, &command, &reply) == LRC_DONE);
     WANT(is_refused(reply, LRC_WRONG_MODE, 0) && count_of() == LRC_HISTORY_LIMIT);
     reply.kind = 99;
     WANT(lrc_embed_call(&handle, 1, &command, &reply) == LRC_FULL && reply.kind == 99);
+    WANT(lrc_embed_peek(&handle, 1, &command, &reply) == LRC_FULL && reply.kind == 99);
     WANT(count_of() == LRC_HISTORY_LIMIT);
     const lrc_command tick = {.kind = LRC_TICK};
     uint32_t clock = 99;
     WANT(lrc_embed_call(&handle, 1, &tick, &reply) == LRC_FULL && reply.kind == 99);
+    WANT(lrc_embed_peek(&handle, 1, &tick, &reply) == LRC_FULL && reply.kind == 99);
     WANT(lrc_embed_clock(&handle, &clock) == LRC_DONE && clock == 0);
     WANT(lrc_embed_replay(&handle, &entry, 1, &position) == LRC_FULL && position == 0);
     WANT(lrc_embed_count(&handle, &position) == LRC_IS_CLOSED);

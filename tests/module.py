@@ -29,7 +29,7 @@ def ways_of(book):
 
     return {
         "session": [lambda n: book.call(n, Command(CommandKind.NEXT)), lambda n: Entry(session=n),
-                    lambda n: setattr(entry, "session", n)],
+                    lambda n: setattr(entry, "session", n), lambda n: book.peek(n, Command(CommandKind.NEXT))],
         "kind": [Command, lambda n: setattr(command, "kind", n)],
         "stripe": [*made_of(CommandKind.PLACE, "stripe"), book.homes, book.level, book.missing, book.code,
                    lambda n: book.lease(n, 0)],
@@ -89,7 +89,8 @@ def test_dropped(count, library):
         count.check("the module: a book is open in its `with`", book.handle.is_open)
     count.check("the module: a book is closed after its `with`", not book.handle.is_open)
     book.close()
-    for name, call in (("a look", book.count), ("a replay", lambda: book.replay(b""))):
+    peek = lambda: book.peek(1, Command(CommandKind.NEXT))
+    for name, call in (("a look", book.count), ("a peek", peek), ("a replay", lambda: book.replay(b""))):
         status = status_of(call)[0]
         count.check(f"the module: {name} at a closed book: {status}", status == Status.IS_CLOSED)
     book = Book(library, TWENTY)
@@ -111,7 +112,9 @@ def log_of(library):
     kept = []
     with Book(library, TWENTY) as book:
         for session, line in enumerate(SCRIPT[:8], 1):
-            reply = book.call(session, command_of(line))
+            peeked, reply = book.peek(session, command_of(line)), book.call(session, command_of(line))
+            if bytes(peeked) != bytes(reply):
+                return None
             kept.append(bytes(book.entry(book.count() - 1)))
             if kept[-1] != bytes(Entry(session=session, command=command_of(line), reply=reply)):
                 return None

@@ -98,12 +98,18 @@ int main(void) {
         printf("%zu ", i + 1);
         print_reply(&log[i].reply);
     }
+
+    // nothing is left to repair, and a worker that asks by a peek adds no entry
+    const lrc_command next = {.kind = LRC_NEXT};
+    lrc_reply reply = {0};
+    uint32_t status = lrc_embed_peek(&handle, 1, &next, &reply);
+    if (status != LRC_DONE || reply.kind != LRC_IDLE) stop("peek", status);
     lrc_embed_close(&handle);
 
     // the program starts again
     open_book(&handle);
     size_t position = 0, count = 0;
-    uint32_t status = lrc_embed_replay(&handle, log, COUNT, &position);
+    status = lrc_embed_replay(&handle, log, COUNT, &position);
     if (status != LRC_DONE) stop("replay", status);
     status = lrc_embed_count(&handle, &count);
     if (status != LRC_DONE) stop("count", status);

@@ -44,6 +44,12 @@ class Book {
         done("call", lrc_embed_call(&handle, session, &command, &reply));
         return reply;
     }
+    // The reply that a call would get now.
+    lrc_reply peek(std::uint8_t session, const lrc_command &command) {
+        lrc_reply reply{};
+        done("peek", lrc_embed_peek(&handle, session, &command, &reply));
+        return reply;
+    }
     std::size_t count() {
         std::size_t count = 0;
         done("count", lrc_embed_count(&handle, &count));
@@ -134,6 +140,10 @@ int main() {
         auto reply = book.call(1, command);
         std::printf("%zu %s\n", book.count(), text_of(reply).c_str());
     }
+    // nothing is left to repair, and a worker that asks by a peek adds no entry
+    lrc_command next{};
+    next.kind = LRC_NEXT;
+    if (book.peek(1, next).kind != LRC_IDLE) return 1;
     std::vector<lrc_entry> log;
     for (std::size_t i = 0; i < book.count(); i++) log.push_back(book.entry(i));
 

@@ -6,7 +6,7 @@ import ctypes
 import sys
 
 sys.dont_write_bytecode = True
-from lrc_embed import Book, Command, CommandKind, Entry, Fault
+from lrc_embed import Book, Command, CommandKind, Entry, Fault, ReplyKind
 
 
 def main(library):
@@ -28,6 +28,9 @@ def main(library):
             # A store writes the bytes of the entry to its own log before it acts on the reply.
             log.append(bytes(book.entry(book.count() - 1)))
             print(book.count(), reply)
+        # Nothing is left to repair, and a worker that asks by a peek adds no entry.
+        assert book.peek(1, Command(CommandKind.NEXT)).kind == ReplyKind.IDLE
+        assert book.count() == len(log)
 
     # The program starts again; a long log is read and replayed in pieces.
     with Book(library, nodes) as book:

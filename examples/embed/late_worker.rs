@@ -5,6 +5,7 @@ use std::fmt::{self, Display, Formatter};
 const VERSION: u32 = 1;
 const DONE: u32 = 0;
 const DIFFERENT: u32 = 8;
+const IDLE: u8 = 4;
 const STRIPES: usize = 4096;
 
 #[repr(C)]
@@ -18,6 +19,7 @@ struct Handle {
 enum Kind {
     Place = 1,
     Lease = 3,
+    Next = 4,
     Report = 5,
     Revoke = 7,
     Fail = 8,
@@ -98,6 +100,7 @@ unsafe extern "C" {
     safe fn lrc_embed_version() -> u32;
     fn lrc_embed_open(handle: &mut Handle, text: *const u8, length: usize, detail: &mut usize) -> u32;
     fn lrc_embed_call(handle: &mut Handle, session: u8, command: &Command, reply: &mut Reply) -> u32;
+    fn lrc_embed_peek(handle: &mut Handle, session: u8, command: &Command, reply: &mut Reply) -> u32;
     fn lrc_embed_replay(handle: &mut Handle, entries: *const Entry, count: usize, position: &mut usize) -> u32;
     fn lrc_embed_risk(handle: &mut Handle, rows: *mut Risk, length: usize, count: &mut usize) -> u32;
     fn lrc_embed_count(handle: &mut Handle, count: &mut usize) -> u32;
@@ -143,6 +146,13 @@ impl Book {
         let mut reply = Reply::default();
         // SAFETY: the library made the handle, and any numbers will do.
         done(unsafe { lrc_embed_call(&mut self.0, session, command, &mut reply) }, 0).map(|()| reply)
+    }
+
+    /// The reply that a call would get now.
+    fn peek(&mut self, session: u8, command: &Command) -> Result<Reply, Fault> {
+        let mut reply = Reply::default();
+        // SAFETY: as above.
+        done(unsafe { lrc_embed_peek(&mut self.0, session, command, &mut reply) }, 0).map(|()| reply)
     }
 
     fn count(&mut self) -> Result<usize, Fault> {
@@ -224,6 +234,9 @@ fn main() -> Result<(), Fault> {
         let reply = book.call(1, command)?;
         println!("{} {reply}", book.count()?);
     }
+    // nothing is left to repair, and a worker that asks by a peek adds no entry
+    let next = Command { kind: Kind::Next as u8, ..Command::default() };
+    assert_eq!(book.peek(1, &next)?.kind, IDLE);
     let mut log = (0..book.count()?).map(|i| book.entry(i)).collect::<Result<Vec<Entry>, Fault>>()?;
 
     // a book may go to another thread

@@ -204,6 +204,10 @@ class Book:
     def call(self, session, command):
         return self.told("call", Reply(), c_uint8(within("session", session)), ctypes.byref(command))
 
+    def peek(self, session, command):
+        """The reply that a call would get now. The book stays as it is."""
+        return self.told("peek", Reply(), c_uint8(within("session", session)), ctypes.byref(command))
+
     def homes(self, stripe):
         return self.told("homes", Homes(), c_uint16(within("stripe", stripe)))
 

@@ -250,6 +250,11 @@ uint32_t lrc_embed_open(lrc_handle *handle, const uint8_t *text, size_t length, 
 // it, take it from lrc_embed_entry, at the count less 1: the command that was passed may differ from it in bytes.
 uint32_t lrc_embed_call(lrc_handle *handle, uint8_t session, const lrc_command *command, lrc_reply *reply);
 
+// The reply that lrc_embed_call would get now, without an entry: nothing changes, and no memory is requested. DONE, also
+// where the reply is that it would be refused; IS_CLOSED, OUT_OF_RANGE or FULL, as from the call. A worker asks for work
+// by it, and calls only where the reply is LRC_GRANTED. A reply holds until the next call that returns DONE.
+uint32_t lrc_embed_peek(lrc_handle *handle, uint8_t session, const lrc_command *command, lrc_reply *reply);
+
 // Makes the commands of `count` entries that were kept, after the history that the book has, and compares each reply. After
 // DONE the history has these entries more. With any other status the handle is closed and the book is freed, and, but for
 // IS_CLOSED, `position` is that of the entry where it ended, from 0: DIFFERENT, its reply is not what the book answers;

@@ -35,10 +35,19 @@ IsNew text b = IsTopologyOf text b.nodes × (b.limit ≡ 1000000) × (b.history 
 abbrev pub IsRefused : List ℕ → ℕ → ℕ → Type 0
 IsRefused text status detail = (e : TopologyError) × IsRefusedBy text e × (topology_told e ≡ (status, detail))
 
--- the reply is what the step answers after the book's history, and the history grew by this entry alone
+-- the reply is that of the step after the book's history
+abbrev pub IsReplyOf : BookView → SessionNo → Command → LrcReply → Type 0
+IsReplyOf b session command reply = reply ≡ reply_told (outcome_in b.nodes (world_of b) session command).0
+
+-- the same, of the command that C wrote
+abbrev pub IsPeek : ℕ → LrcCommand → LrcReply → BookView → Type 0
+IsPeek number c reply b =
+    (session : SessionNo) × (command : Command) × (session.value ≡ number) × IsCommand c command × IsReplyOf b session command reply
+
+-- the reply is that of the step after the book's history, and the history grew by this entry alone
 abbrev pub IsStepOf : BookView → SessionNo → Command → LrcReply → BookView → Type 0
 IsStepOf b session command reply after =
-    (reply ≡ reply_told (outcome_in b.nodes (world_of b) session command).0)
+    IsReplyOf b session command reply
     × (after.history ≡ b.history ++ record { session = session; command = command; reply = (outcome_in b.nodes (world_of b) session command).0 } ∷ [])
     × (after.nodes ≡ b.nodes) × (after.limit ≡ b.limit)
 

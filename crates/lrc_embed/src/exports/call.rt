@@ -1,6 +1,6 @@
 ghost use Rattle.std.specs.Prelude.{◌≡◌, ◌≢◌, ◌↔◌, ◌⊎◌, ◌++◌, ◌∷◌, [], false, List, Some, None, length};
 ghost use Rattle.lrc_rules.specs.declared.entry.Entry.{Entry};
-ghost use Rattle.lrc_embed.specs.Calls.{Of, kept, IsCall, IsStepOf, IsOutside};
+ghost use Rattle.lrc_embed.specs.Calls.{Of, kept, IsCall, IsStepOf, IsPeek, IsReplyOf, IsOutside};
 ghost use Rattle.lrc_embed.specs.Commands.{is_command};
 ghost use Rattle.lrc_embed.specs.Replies.{reply_told};
 
@@ -41,6 +41,56 @@ pub extern "C" fn lrc_embed_call(
     let status = step(&mut book, session, command, reply);
     handle.put(book);
     status
+}
+
+/// Writes the reply that a call would get now. The book stays as it is, and no memory is requested.
+#[unsafe(no_mangle)]
+pub extern "C" fn lrc_embed_peek(
+    alloc: Global,
+    handle: &mut LrcHandle,
+    session: u8,
+    command: &LrcCommand,
+    reply: &mut LrcReply,
+) -> u32
+    ensures done { (result ≡ 0) → Of handle.old.owned.book (IsPeek session command.now reply.new) }
+    ensures same { handle.new.owned.book ≡ handle.old.owned.book }
+    ensures full { (result ≢ 1) → (result ≢ 3) → Of handle.old.owned.book (λ b. (result ≡ 5) ↔ (length b.history ≡ b.limit)) }
+    ensures closed { (result ≡ 1) → handle.old.owned.book ≡ None }
+    ensures range { (result ≡ 3) → IsOutside session ⊎ (is_command command.now ≡ false) }
+    // A closed handle returns this too.
+    ensures range_first { IsOutside session ⊎ (is_command command.now ≡ false) → result ≡ 3 }
+    // Not 6: a peek requests no memory.
+    ensures statuses { (result ≡ 0) ⊎ (result ≡ 1) ⊎ (result ≡ 3) ⊎ (result ≡ 5) }
+    ensures unwritten { (result ≢ 0) → reply.new ≡ reply.old }
+{
+    let Some(asker) = SessionNo::new(session) else {
+        return OUT_OF_RANGE;
+    };
+    let Some(command) = command.read() else {
+        return OUT_OF_RANGE;
+    };
+    let Some(book) = handle.take(alloc) else {
+        return IS_CLOSED;
+    };
+    let status = decide(&book, asker, command, reply);
+    handle.put(book);
+    status
+}
+
+/// Writes the reply that a call would get.
+fn decide(book: &Book, session: SessionNo, command: Command, reply: &mut LrcReply) -> u32
+    ensures done { (result ≡ 0) → IsReplyOf book.now session command reply.new }
+    ensures full { (result ≡ 5) ↔ (length book.now.history ≡ book.now.limit) }
+    ensures statuses { (result ≡ 0) ⊎ (result ≡ 5) }
+    ensures unwritten { (result ≢ 0) → reply.new ≡ reply.old }
+{
+    match book.decide(session, command) {
+        Ok(plan) => {
+            reply.tell(&plan.entry.reply);
+            DONE
+        }
+        Err(_) => FULL,
+    }
 }
 
 /// Makes one step, and tells its reply.
