@@ -1,4 +1,5 @@
 pub mod FilledLemmas
+pub mod LookLemmas
 pub mod OfLemmas
 pub mod ReplayLemmas
 pub mod Rows

@@ -1,5 +1,5 @@
 -- What a call and a look answer of the book of a handle.
-use Rattle.std.specs.Prelude.{◌≡◌, ℕ, List, [], ◌∷◌, ◌++◌, drop, length, Option, Some, None, option_map, ◌⊎◌, ◌≤◌}
+use Rattle.std.specs.Prelude.{◌≡◌, ◌≢◌, ℕ, List, [], ◌∷◌, ◌++◌, drop, length, Option, Some, None, option_map, ◌⊎◌, ◌≤◌}
 use Rattle.lrc_code.specs.declared.numbers.StripeNo.{StripeNo}
 use Rattle.lrc_code.specs.declared.numbers.Fragment.{Fragment}
 use Rattle.lrc_code.specs.declared.numbers.NodeNo.{NodeNo}
@@ -63,6 +63,22 @@ AtStripe number P = (s : StripeNo) × (s.value ≡ number) × P s
 -- the stripe and the fragment of these numbers, which are in their ranges
 abbrev pub AtFragment : ℕ → ℕ → (StripeNo → Fragment → Type 0) → Type 0
 AtFragment number fragment P = (s : StripeNo) × (f : Fragment) × (s.value ≡ number) × (f.value ≡ fragment) × P s f
+
+-- A look changes nothing. With status 0 the book shows this value, with 4 it shows none; else nothing is written.
+pub record IsLook {T : Type 0} (Outside : Type 0) (Shows : BookView → Option T → Type 0) (book book_after : Option BookView) (status : ℕ) (before after : T) : Type 0 where
+  pub same : book_after ≡ book
+  pub done : (status ≡ 0) → Of book (λ b. Shows b (Some after))
+  pub unknown : (status ≡ 4) → Of book (λ b. Shows b None)
+  pub closed : (status ≡ 1) → book ≡ None
+  pub range : (status ≡ 3) → Outside
+  -- A closed handle returns this too.
+  pub range_first : Outside → status ≡ 3
+  pub statuses : (status ≡ 0) ⊎ (status ≡ 1) ⊎ (status ≡ 3) ⊎ (status ≡ 4)
+  pub unwritten : (status ≢ 0) → after ≡ before
+
+-- a look at the stripe of a number
+abbrev pub IsStripeLook : {T : Type 0} → ℕ → (BookView → StripeNo → Option T) → Option BookView → Option BookView → ℕ → T → T → Type 0
+IsStripeLook number shown = IsLook (4096 ≤ number) (λ b found. AtStripe number (λ s. shown b s ≡ found))
 
 -- the rows are so many, and stand before what stood behind as many others
 abbrev pub IsAtFront : List LrcRisk → ℕ → List LrcRisk → List LrcRisk → Type 0

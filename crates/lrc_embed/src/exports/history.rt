@@ -1,8 +1,9 @@
-ghost use Rattle.std.specs.Prelude.{◌≡◌, ◌≢◌, ◌⊎◌, Some, None, option_map, length, slice_get};
-ghost use Rattle.lrc_embed.specs.Calls.{Of};
+ghost use Rattle.std.specs.Prelude.{◌≡◌, ◌≢◌, ◌⊎◌, None, option_map, length, slice_get};
+ghost use Rattle.lrc_embed.specs.Calls.{Of, IsLook};
 ghost use Rattle.lrc_embed.specs.Replies.{entry_told};
 
-use crate::status::{DONE, IS_CLOSED, UNKNOWN};
+use crate::exports::looks::look;
+use crate::status::{DONE, IS_CLOSED};
 use crate::{LrcEntry, LrcHandle};
 use lrc_book::{Book, Entry};
 use std::alloc::Global;
@@ -32,25 +33,9 @@ pub extern "C" fn lrc_embed_entry(
     index: usize,
     entry: &mut LrcEntry,
 ) -> u32
-    ensures same { handle.new.owned.book ≡ handle.old.owned.book }
-    ensures told { (result ≡ 0) → Of handle.old.owned.book (λ b. option_map entry_told (slice_get b.history index) ≡ Some entry.new) }
-    ensures unknown { (result ≡ 4) → Of handle.old.owned.book (λ b. slice_get b.history index ≡ None) }
-    ensures closed { (result ≡ 1) → handle.old.owned.book ≡ None }
-    ensures statuses { (result ≡ 0) ⊎ (result ≡ 1) ⊎ (result ≡ 4) }
-    ensures unwritten { (result ≢ 0) → entry.new ≡ entry.old }
+    ensures { IsLook ⊥ (λ b found. option_map entry_told (slice_get b.history index) ≡ found) handle.old.owned.book handle.new.owned.book result entry.old entry.new }
 {
-    let Some(book) = handle.take(alloc) else {
-        return IS_CLOSED;
-    };
-    let shown = entry_at(&book, index);
-    handle.put(book);
-    match shown {
-        Some(shown) => {
-            *entry = LrcEntry::of(&shown);
-            DONE
-        }
-        None => UNKNOWN,
-    }
+    look(alloc, handle, entry, |book| Some(LrcEntry::of(&entry_at(book, index)?)))
 }
 
 /// The entry of a book's history at an index, if there is one.

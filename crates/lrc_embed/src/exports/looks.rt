@@ -1,16 +1,41 @@
-ghost use Rattle.std.specs.Prelude.{◌≡◌, ◌≢◌, ◌≤◌, ◌<◌, ◌⊎◌, true, is_some, Some, None, option_map, length, map};
+ghost use Rattle.std.specs.Prelude.{◌≡◌, ◌≢◌, ◌≤◌, ◌<◌, ◌⊎◌, true, is_some, None, option_map, length, map};
+ghost use Rattle.std.specs.Fn.{FnOnceReturnsAt};
 ghost use Rattle.lrc_book.specs.Books.{state_of};
 ghost use Rattle.lrc_rules.specs.States.{code_shown, homes_shown, level_shown, missing_shown, lease_of, load_shown, mode_shown};
 ghost use Rattle.lrc_rules.specs.Urgency.{risk};
-ghost use Rattle.lrc_embed.specs.Calls.{Of, AtStripe, AtFragment, IsAtFront, node_no};
+ghost use Rattle.lrc_embed.specs.Calls.{Of, AtFragment, IsLook, IsStripeLook, IsAtFront, node_no};
 ghost use Rattle.lrc_embed.specs.Replies.{lease_told};
 ghost use Rattle.lrc_embed.specs.Looks.{code_told, homes_told, level_told, risk_told, mode_told};
 
 use crate::status::{DONE, IS_CLOSED, OUT_OF_MEMORY, OUT_OF_RANGE, SHORT, UNKNOWN};
 use crate::{LrcHandle, LrcHomes, LrcLease, LrcLevel, LrcMode, LrcRisk};
-use lrc_book::Level;
+use lrc_book::{Book, Level};
 use lrc_code::{Code, Fragment, NodeNo, StripeNo};
 use std::alloc::Global;
+
+/// Writes what is found in the book of an open handle, if something is.
+pub(super) fn look<T: Copy, F: FnOnce(&Book) -> Option<T>>(
+    alloc: Global,
+    handle: &mut LrcHandle,
+    to: &mut T,
+    find: F,
+) -> u32
+    requires callable { F.IsAlwaysCallable find }
+    ensures { IsLook ⊥ (FnOnceReturnsAt F.FnOnce find) handle.old.owned.book handle.new.owned.book result to.old to.new }
+{
+    let Some(book) = handle.take(alloc) else {
+        return IS_CLOSED;
+    };
+    let found = find(&book);
+    handle.put(book);
+    match found {
+        Some(found) => {
+            *to = found;
+            DONE
+        }
+        None => UNKNOWN,
+    }
+}
 
 /// The home of each of the sixteen fragments; a narrow stripe has none from 10 on.
 #[unsafe(no_mangle)]
@@ -20,30 +45,12 @@ pub extern "C" fn lrc_embed_homes(
     stripe: u16,
     homes: &mut LrcHomes,
 ) -> u32
-    ensures same { handle.new.owned.book ≡ handle.old.owned.book }
-    ensures told { (result ≡ 0) → Of handle.old.owned.book (λ b. AtStripe stripe (λ s. option_map homes_told (homes_shown (state_of b) s) ≡ Some homes.new)) }
-    ensures unknown { (result ≡ 4) → Of handle.old.owned.book (λ b. AtStripe stripe (λ s. homes_shown (state_of b) s ≡ None)) }
-    ensures closed { (result ≡ 1) → handle.old.owned.book ≡ None }
-    ensures range { (result ≡ 3) → 4096 ≤ stripe }
-    ensures range_first { 4096 ≤ stripe → result ≡ 3 }
-    ensures statuses { (result ≡ 0) ⊎ (result ≡ 1) ⊎ (result ≡ 3) ⊎ (result ≡ 4) }
-    ensures unwritten { (result ≢ 0) → homes.new ≡ homes.old }
+    ensures { IsStripeLook stripe (λ b s. option_map homes_told (homes_shown (state_of b) s)) handle.old.owned.book handle.new.owned.book result homes.old homes.new }
 {
     let Some(stripe) = StripeNo::new(stripe) else {
         return OUT_OF_RANGE;
     };
-    let Some(book) = handle.take(alloc) else {
-        return IS_CLOSED;
-    };
-    let shown = book.homes(stripe);
-    handle.put(book);
-    match shown {
-        Some(shown) => {
-            *homes = LrcHomes::of(&shown);
-            DONE
-        }
-        None => UNKNOWN,
-    }
+    look(alloc, handle, homes, |book| Some(LrcHomes::of(&book.homes(stripe)?)))
 }
 
 /// How far a stripe is from loss.
@@ -54,30 +61,12 @@ pub extern "C" fn lrc_embed_level(
     stripe: u16,
     level: &mut LrcLevel,
 ) -> u32
-    ensures same { handle.new.owned.book ≡ handle.old.owned.book }
-    ensures told { (result ≡ 0) → Of handle.old.owned.book (λ b. AtStripe stripe (λ s. option_map level_told (level_shown b.nodes (state_of b) s) ≡ Some level.new)) }
-    ensures unknown { (result ≡ 4) → Of handle.old.owned.book (λ b. AtStripe stripe (λ s. level_shown b.nodes (state_of b) s ≡ None)) }
-    ensures closed { (result ≡ 1) → handle.old.owned.book ≡ None }
-    ensures range { (result ≡ 3) → 4096 ≤ stripe }
-    ensures range_first { 4096 ≤ stripe → result ≡ 3 }
-    ensures statuses { (result ≡ 0) ⊎ (result ≡ 1) ⊎ (result ≡ 3) ⊎ (result ≡ 4) }
-    ensures unwritten { (result ≢ 0) → level.new ≡ level.old }
+    ensures { IsStripeLook stripe (λ b s. option_map level_told (level_shown b.nodes (state_of b) s)) handle.old.owned.book handle.new.owned.book result level.old level.new }
 {
     let Some(stripe) = StripeNo::new(stripe) else {
         return OUT_OF_RANGE;
     };
-    let Some(book) = handle.take(alloc) else {
-        return IS_CLOSED;
-    };
-    let shown = book.level(stripe);
-    handle.put(book);
-    match shown {
-        Some(shown) => {
-            *level = LrcLevel::of(shown);
-            DONE
-        }
-        None => UNKNOWN,
-    }
+    look(alloc, handle, level, |book| Some(LrcLevel::of(book.level(stripe)?)))
 }
 
 /// The missing fragments of a stripe; fragment f is bit f.
@@ -88,30 +77,12 @@ pub extern "C" fn lrc_embed_missing(
     stripe: u16,
     missing: &mut u16,
 ) -> u32
-    ensures same { handle.new.owned.book ≡ handle.old.owned.book }
-    ensures told { (result ≡ 0) → Of handle.old.owned.book (λ b. AtStripe stripe (λ s. missing_shown b.nodes (state_of b) s ≡ Some (record { bits = missing.new }))) }
-    ensures unknown { (result ≡ 4) → Of handle.old.owned.book (λ b. AtStripe stripe (λ s. missing_shown b.nodes (state_of b) s ≡ None)) }
-    ensures closed { (result ≡ 1) → handle.old.owned.book ≡ None }
-    ensures range { (result ≡ 3) → 4096 ≤ stripe }
-    ensures range_first { 4096 ≤ stripe → result ≡ 3 }
-    ensures statuses { (result ≡ 0) ⊎ (result ≡ 1) ⊎ (result ≡ 3) ⊎ (result ≡ 4) }
-    ensures unwritten { (result ≢ 0) → missing.new ≡ missing.old }
+    ensures { IsStripeLook stripe (λ b s. option_map (λ m. m.bits) (missing_shown b.nodes (state_of b) s)) handle.old.owned.book handle.new.owned.book result missing.old missing.new }
 {
     let Some(stripe) = StripeNo::new(stripe) else {
         return OUT_OF_RANGE;
     };
-    let Some(book) = handle.take(alloc) else {
-        return IS_CLOSED;
-    };
-    let shown = book.missing(stripe);
-    handle.put(book);
-    match shown {
-        Some(shown) => {
-            *missing = shown.bits;
-            DONE
-        }
-        None => UNKNOWN,
-    }
+    look(alloc, handle, missing, |book| Some(book.missing(stripe)?.bits))
 }
 
 /// The code of a stripe: 1 is wide, 2 narrow.
@@ -122,30 +93,12 @@ pub extern "C" fn lrc_embed_code(
     stripe: u16,
     code: &mut u8,
 ) -> u32
-    ensures same { handle.new.owned.book ≡ handle.old.owned.book }
-    ensures told { (result ≡ 0) → Of handle.old.owned.book (λ b. AtStripe stripe (λ s. option_map code_told (code_shown (state_of b) s) ≡ Some code.new)) }
-    ensures unknown { (result ≡ 4) → Of handle.old.owned.book (λ b. AtStripe stripe (λ s. code_shown (state_of b) s ≡ None)) }
-    ensures closed { (result ≡ 1) → handle.old.owned.book ≡ None }
-    ensures range { (result ≡ 3) → 4096 ≤ stripe }
-    ensures range_first { 4096 ≤ stripe → result ≡ 3 }
-    ensures statuses { (result ≡ 0) ⊎ (result ≡ 1) ⊎ (result ≡ 3) ⊎ (result ≡ 4) }
-    ensures unwritten { (result ≢ 0) → code.new ≡ code.old }
+    ensures { IsStripeLook stripe (λ b s. option_map code_told (code_shown (state_of b) s)) handle.old.owned.book handle.new.owned.book result code.old code.new }
 {
     let Some(stripe) = StripeNo::new(stripe) else {
         return OUT_OF_RANGE;
     };
-    let Some(book) = handle.take(alloc) else {
-        return IS_CLOSED;
-    };
-    let shown = book.code(stripe);
-    handle.put(book);
-    match shown {
-        Some(shown) => {
-            *code = number_of(shown);
-            DONE
-        }
-        None => UNKNOWN,
-    }
+    look(alloc, handle, code, |book| Some(number_of(book.code(stripe)?)))
 }
 
 /// The number of a code.
@@ -167,14 +120,7 @@ pub extern "C" fn lrc_embed_lease(
     fragment: u8,
     lease: &mut LrcLease,
 ) -> u32
-    ensures same { handle.new.owned.book ≡ handle.old.owned.book }
-    ensures told { (result ≡ 0) → Of handle.old.owned.book (λ b. AtFragment stripe fragment (λ s f. option_map lease_told (lease_of (state_of b) s f) ≡ Some lease.new)) }
-    ensures unknown { (result ≡ 4) → Of handle.old.owned.book (λ b. AtFragment stripe fragment (λ s f. lease_of (state_of b) s f ≡ None)) }
-    ensures closed { (result ≡ 1) → handle.old.owned.book ≡ None }
-    ensures range { (result ≡ 3) → (4096 ≤ stripe) ⊎ (16 ≤ fragment) }
-    ensures range_first { (4096 ≤ stripe) ⊎ (16 ≤ fragment) → result ≡ 3 }
-    ensures statuses { (result ≡ 0) ⊎ (result ≡ 1) ⊎ (result ≡ 3) ⊎ (result ≡ 4) }
-    ensures unwritten { (result ≢ 0) → lease.new ≡ lease.old }
+    ensures { IsLook ((4096 ≤ stripe) ⊎ (16 ≤ fragment)) (λ b found. AtFragment stripe fragment (λ s f. option_map lease_told (lease_of (state_of b) s f) ≡ found)) handle.old.owned.book handle.new.owned.book result lease.old lease.new }
 {
     let Some(stripe) = StripeNo::new(stripe) else {
         return OUT_OF_RANGE;
@@ -182,18 +128,7 @@ pub extern "C" fn lrc_embed_lease(
     let Some(fragment) = Fragment::new(fragment) else {
         return OUT_OF_RANGE;
     };
-    let Some(book) = handle.take(alloc) else {
-        return IS_CLOSED;
-    };
-    let shown = book.lease(stripe, fragment);
-    handle.put(book);
-    match shown {
-        Some(shown) => {
-            *lease = LrcLease::of(&shown);
-            DONE
-        }
-        None => UNKNOWN,
-    }
+    look(alloc, handle, lease, |book| Some(LrcLease::of(&book.lease(stripe, fragment)?)))
 }
 
 /// The number of seats on a node.
@@ -204,25 +139,9 @@ pub extern "C" fn lrc_embed_load(
     node: u16,
     load: &mut u32,
 ) -> u32
-    ensures same { handle.new.owned.book ≡ handle.old.owned.book }
-    ensures told { (result ≡ 0) → Of handle.old.owned.book (λ b. load_shown b.nodes (state_of b) (node_no node) ≡ Some load.new) }
-    ensures unknown { (result ≡ 4) → Of handle.old.owned.book (λ b. load_shown b.nodes (state_of b) (node_no node) ≡ None) }
-    ensures closed { (result ≡ 1) → handle.old.owned.book ≡ None }
-    ensures statuses { (result ≡ 0) ⊎ (result ≡ 1) ⊎ (result ≡ 4) }
-    ensures unwritten { (result ≢ 0) → load.new ≡ load.old }
+    ensures { IsLook ⊥ (λ b found. load_shown b.nodes (state_of b) (node_no node) ≡ found) handle.old.owned.book handle.new.owned.book result load.old load.new }
 {
-    let Some(book) = handle.take(alloc) else {
-        return IS_CLOSED;
-    };
-    let shown = book.load(NodeNo { value: node });
-    handle.put(book);
-    match shown {
-        Some(shown) => {
-            *load = shown;
-            DONE
-        }
-        None => UNKNOWN,
-    }
+    look(alloc, handle, load, |book| book.load(NodeNo { value: node }))
 }
 
 /// The mode of a node, and whether it is online.
@@ -233,25 +152,9 @@ pub extern "C" fn lrc_embed_mode(
     node: u16,
     mode: &mut LrcMode,
 ) -> u32
-    ensures same { handle.new.owned.book ≡ handle.old.owned.book }
-    ensures told { (result ≡ 0) → Of handle.old.owned.book (λ b. option_map mode_told (mode_shown b.nodes (state_of b) (node_no node)) ≡ Some mode.new) }
-    ensures unknown { (result ≡ 4) → Of handle.old.owned.book (λ b. mode_shown b.nodes (state_of b) (node_no node) ≡ None) }
-    ensures closed { (result ≡ 1) → handle.old.owned.book ≡ None }
-    ensures statuses { (result ≡ 0) ⊎ (result ≡ 1) ⊎ (result ≡ 4) }
-    ensures unwritten { (result ≢ 0) → mode.new ≡ mode.old }
+    ensures { IsLook ⊥ (λ b found. option_map mode_told (mode_shown b.nodes (state_of b) (node_no node)) ≡ found) handle.old.owned.book handle.new.owned.book result mode.old mode.new }
 {
-    let Some(book) = handle.take(alloc) else {
-        return IS_CLOSED;
-    };
-    let shown = book.mode(NodeNo { value: node });
-    handle.put(book);
-    match shown {
-        Some(shown) => {
-            *mode = LrcMode::of(shown);
-            DONE
-        }
-        None => UNKNOWN,
-    }
+    look(alloc, handle, mode, |book| Some(LrcMode::of(book.mode(NodeNo { value: node })?)))
 }
 
 /// How many ticks there were. A live lease ends when the clock comes to its expiry.

@@ -1,21 +1,7 @@
-use Rattle.std.proofs.Common.{Some, option_map, ap, sym, ◌∙◌}
-use Rattle.lrc_book.specs.Books.{BookView, state_of}
-use Rattle.lrc_rules.specs.States.{code_shown}
-use Rattle.lrc_embed.specs.Looks.{code_told}
-use Rattle.lrc_embed.proofs.OfLemmas.{of_some}
+use Rattle.std.proofs.Common.{◌≤◌, rules, arith}
+use Rattle.lrc_embed.proofs.LookLemmas.{look_by}
 use Rattle.lrc_embed.proofs.exports.looks.lrc_embed_code.Goals as goal
 
-pub returns-in-Some-shown-clause-told : goal.returns-in-Some-shown-clause-told
-returns-in-Some-shown-clause-told c = λ _. of_some _ c.in-Some-take.ensures.book (
-  c.in-Some.stripe,
-  c.in-Some.ensures.value,
-  ap (λ (b : BookView). option_map code_told (code_shown (state_of b) c.in-Some.stripe)) (sym c.deref.ensures)
-      ∙ ap (option_map code_told) (sym c.code-shown.ensures ∙ c.in-Some-shown.is) ∙ ap Some (sym c.number_of.ensures),
-)
-
-pub returns-in-None-clause-unknown : goal.returns-in-None-clause-unknown
-returns-in-None-clause-unknown c = λ _. of_some _ c.in-Some-take.ensures.book (
-  c.in-Some.stripe,
-  c.in-Some.ensures.value,
-  ap (λ (b : BookView). code_shown (state_of b) c.in-Some.stripe) (sym c.deref.ensures) ∙ sym c.code-shown.ensures ∙ c.in-None.is,
-)
+pub returns : goal.returns
+returns c = look_by (λ (out : 4096 ≤ c.args.stripe). omega (arith, out, c.in-Some.stripe.in_range, c.in-Some.ensures.value))
+    (λ b found is. (c.in-Some.stripe, c.in-Some.ensures.value, search rules)) c.look.ensures
