@@ -181,9 +181,9 @@ static void time_runs(void (*run)(size_t, size_t), double (*times)[MOST_ROUNDS],
 
 // Looks, and calls that do next to nothing.
 
-enum look { VERSION, COUNT, CLOSED, FULL, LOAD, MODE, LEVEL, MISSING, HOMES, ALL_LOOKS };
-static const char *const look_names[ALL_LOOKS] = {"version", "count", "closed",  "full", "load",
-                                                  "mode",    "level", "missing", "homes"};
+enum look { VERSION, COUNT, CLOSED, FULL, LOAD, MODE, LEVEL, MISSING, HOMES, PEEK, ALL_LOOKS };
+static const char *const look_names[ALL_LOOKS] = {"version", "count",   "closed", "full", "load", "mode",
+                                                  "level",   "missing", "homes",  "peek"};
 static double looked[ALL_LOOKS][MOST_ROUNDS];
 
 // What a call takes that answers this status.
@@ -204,6 +204,8 @@ static void time_looks(unsigned round) {
     lrc_level level = {0};
     uint16_t missing;
     lrc_homes homes = {0};
+    const lrc_command next = {.kind = LRC_NEXT};
+    lrc_reply reply = {0};
     for (unsigned i = 0; i < 1024; i++) some_nodes[i] = (uint16_t)(i * 389 % nodes), some_stripes[i] = (uint16_t)(i * 389 % stripes);
     TIME(VERSION, LRC_EMBED_VERSION, lrc_embed_version());
     TIME(COUNT, LRC_DONE, lrc_embed_count(&handle, &count));
@@ -212,6 +214,7 @@ static void time_looks(unsigned round) {
     TIME(LEVEL, LRC_DONE, lrc_embed_level(&handle, some_stripes[i % 1024], &level));
     TIME(MISSING, LRC_DONE, lrc_embed_missing(&handle, some_stripes[i % 1024], &missing));
     TIME(HOMES, LRC_DONE, lrc_embed_homes(&handle, some_stripes[i % 1024], &homes));
+    TIME(PEEK, LRC_DONE, lrc_embed_peek(&handle, 1, &next, &reply));
 }
 
 // A book whose history is full answers so before it looks at the command, and one that is closed is no book.

@@ -1,6 +1,6 @@
 // Each function of lrc_embed.h with each of its statuses, from C. tests/embed builds and runs it, also where memory is
-// refused: a call that memory was refused to has changed nothing that the book tells, and is made again. Before each call a
-// peek reports its reply, requests no memory, and changes nothing that the book tells.
+// refused: a call that memory was refused to has changed nothing that the looks show, and is made again. Before each call a
+// peek reports its reply, requests no memory, and changes nothing that the looks show.
 // Usage: embed [full], with `full` also until the history is full. It prints how many requests for memory there were. With
 // REFUSE=N in the environment the Nth of them is refused, from 1, and with REFUSE_FROM=N the Nth and all later ones.
 #include "lrc_embed.h"
@@ -58,8 +58,8 @@ static void want(bool holds, int line) {
 #define ENTRIES 100
 #define STRIPES 4
 #define NODES 21
-// All that a book tells of its entries, of the stripes that are placed here and one that is not, and of its nodes and one more;
-// with each status.
+// All looks at a book: at its entries, at the stripes that are placed here and one that is not, and at its nodes and one
+// more; with each status.
 typedef struct {
     size_t count, at_risk;
     uint32_t clock;
@@ -101,13 +101,13 @@ static void look(looks_of_book *it) {
 
 static looks_of_book before, after;
 
-// Whether the book tells what it told before.
+// Whether the looks are as before.
 static bool is_as_before(void) {
     look(&after);
     return memcmp(&before, &after, sizeof before) == 0;
 }
 
-// Memory was refused twice in a row, so it is refused for good. What stands can be looked at and closed.
+// Memory was refused twice in a row, so it is refused for good. The book can still be read and closed.
 static void give_up(void) {
     look(&after);
     WANT(after.statuses[0] == LRC_DONE || after.statuses[0] == LRC_IS_CLOSED);
@@ -216,27 +216,27 @@ static void closed(void) {
         lrc_risk rows[2];
         size_t number;
         lrc_entry entry;
-    } told = {.entry = pattern.entry};
+    } found = {.entry = pattern.entry};
     lrc_command command = {.kind = LRC_NEXT};
     size_t number = 99;
-    WANT(lrc_embed_call(&handle, 1, &command, &told.reply) == LRC_IS_CLOSED);
-    WANT(lrc_embed_call(&handle, 9, &command, &told.reply) == LRC_OUT_OF_RANGE);
-    WANT(lrc_embed_peek(&handle, 1, &command, &told.reply) == LRC_IS_CLOSED);
-    WANT(lrc_embed_peek(&handle, 9, &command, &told.reply) == LRC_OUT_OF_RANGE);
-    WANT(lrc_embed_replay(&handle, &told.entry, 1, &number) == LRC_IS_CLOSED);
-    WANT(lrc_embed_homes(&handle, 1, &told.homes) == LRC_IS_CLOSED);
-    WANT(lrc_embed_level(&handle, 1, &told.level) == LRC_IS_CLOSED);
-    WANT(lrc_embed_missing(&handle, 1, &told.missing) == LRC_IS_CLOSED);
-    WANT(lrc_embed_code(&handle, 1, &told.code) == LRC_IS_CLOSED);
-    WANT(lrc_embed_code(&handle, LRC_STRIPES, &told.code) == LRC_OUT_OF_RANGE);
-    WANT(lrc_embed_lease(&handle, 1, 1, &told.lease) == LRC_IS_CLOSED);
-    WANT(lrc_embed_load(&handle, 1, &told.load) == LRC_IS_CLOSED);
-    WANT(lrc_embed_mode(&handle, 1, &told.mode) == LRC_IS_CLOSED);
-    WANT(lrc_embed_risk(&handle, told.rows, 2, &number) == LRC_IS_CLOSED);
-    WANT(lrc_embed_count(&handle, &told.number) == LRC_IS_CLOSED);
-    WANT(lrc_embed_clock(&handle, &told.load) == LRC_IS_CLOSED);
-    WANT(lrc_embed_entry(&handle, 0, &told.entry) == LRC_IS_CLOSED);
-    WANT(number == 99 && memcmp(&told, pattern.bytes, sizeof pattern.bytes) == 0);
+    WANT(lrc_embed_call(&handle, 1, &command, &found.reply) == LRC_IS_CLOSED);
+    WANT(lrc_embed_call(&handle, 9, &command, &found.reply) == LRC_OUT_OF_RANGE);
+    WANT(lrc_embed_peek(&handle, 1, &command, &found.reply) == LRC_IS_CLOSED);
+    WANT(lrc_embed_peek(&handle, 9, &command, &found.reply) == LRC_OUT_OF_RANGE);
+    WANT(lrc_embed_replay(&handle, &found.entry, 1, &number) == LRC_IS_CLOSED);
+    WANT(lrc_embed_homes(&handle, 1, &found.homes) == LRC_IS_CLOSED);
+    WANT(lrc_embed_level(&handle, 1, &found.level) == LRC_IS_CLOSED);
+    WANT(lrc_embed_missing(&handle, 1, &found.missing) == LRC_IS_CLOSED);
+    WANT(lrc_embed_code(&handle, 1, &found.code) == LRC_IS_CLOSED);
+    WANT(lrc_embed_code(&handle, LRC_STRIPES, &found.code) == LRC_OUT_OF_RANGE);
+    WANT(lrc_embed_lease(&handle, 1, 1, &found.lease) == LRC_IS_CLOSED);
+    WANT(lrc_embed_load(&handle, 1, &found.load) == LRC_IS_CLOSED);
+    WANT(lrc_embed_mode(&handle, 1, &found.mode) == LRC_IS_CLOSED);
+    WANT(lrc_embed_risk(&handle, found.rows, 2, &number) == LRC_IS_CLOSED);
+    WANT(lrc_embed_count(&handle, &found.number) == LRC_IS_CLOSED);
+    WANT(lrc_embed_clock(&handle, &found.load) == LRC_IS_CLOSED);
+    WANT(lrc_embed_entry(&handle, 0, &found.entry) == LRC_IS_CLOSED);
+    WANT(number == 99 && memcmp(&found, pattern.bytes, sizeof pattern.bytes) == 0);
     WANT(lrc_embed_close(&handle) == LRC_DONE);
 }
 
@@ -324,12 +324,12 @@ static void nodes(void) {
 
 static bool has_ticked(uint8_t session, uint32_t clock, uint32_t ended) {
     lrc_reply reply = MAKE(session, .kind = LRC_TICK);
-    uint32_t told = 99;
-    WANT(lrc_embed_clock(&handle, &told) == LRC_DONE);
-    return reply.kind == LRC_TICKED && reply.clock == clock && reply.ended == ended && told == clock;
+    uint32_t found = 99;
+    WANT(lrc_embed_clock(&handle, &found) == LRC_DONE);
+    return reply.kind == LRC_TICKED && reply.clock == clock && reply.ended == ended && found == clock;
 }
 
-// Two sessions have leases that a third one's ticks end, each at the third tick after its grant. Then both are granted anew.
+// Two sessions have leases that a third one's ticks end, each at the third tick after its grant. Then both are granted again.
 static void ticks(void) {
     lrc_lease lease = {.epoch = 99};
     uint32_t load = 99;
@@ -400,18 +400,18 @@ static void looks(void) {
 }
 
 static bool has_code(uint16_t stripe, uint8_t code) {
-    uint8_t told = 99;
-    return lrc_embed_code(&handle, stripe, &told) == LRC_DONE && told == code;
+    uint8_t found = 99;
+    return lrc_embed_code(&handle, stripe, &found) == LRC_DONE && found == code;
 }
 
-// The homes of a stripe are these seats, of so many fragments, and all else is 0.
+// The homes of a stripe are these seats, of the first `fragments` fragments, and all else is 0.
 static bool has_homes(uint16_t stripe, lrc_seat seats[LRC_FRAGMENTS], unsigned fragments) {
-    lrc_homes told, homes = {0};
+    lrc_homes found, homes = {0};
     const lrc_seat none = {0};
-    memset(&told, 0xa5, sizeof told);
+    memset(&found, 0xa5, sizeof found);
     for (unsigned f = 0; f < fragments; f++) homes.homes[f] = (lrc_home){.seat = seats[f], .is_there = 1};
     for (unsigned f = fragments; f < LRC_FRAGMENTS; f++) WANT(memcmp(&seats[f], &none, sizeof none) == 0);
-    return lrc_embed_homes(&handle, stripe, &told) == LRC_DONE && memcmp(&told, &homes, sizeof told) == 0;
+    return lrc_embed_homes(&handle, stripe, &found) == LRC_DONE && memcmp(&found, &homes, sizeof found) == 0;
 }
 
 // A narrow stripe beside a wide one: its seats, a repair from three sources, and what is asked of a fragment that it lacks.
@@ -486,16 +486,16 @@ static void replays(void) {
         WANT(lrc_embed_entry(&handle, i, &entry) == LRC_DONE && memcmp(&entry, &entries[i], sizeof entry) == 0);
     }
     size_t at = count / 2 + 3;
-    lrc_entry kept = entries[at];
+    lrc_entry entry_there = entries[at];
     entries[at].reply.detail ^= 1;
     WANT(replay(entries, count, &position) == LRC_DIFFERENT && position == at);
-    entries[at] = kept;
+    entries[at] = entry_there;
     entries[at].reply.seats[15].slot ^= 1;
     WANT(replay(entries, count, &position) == LRC_DIFFERENT && position == at);
-    entries[at] = kept;
+    entries[at] = entry_there;
     entries[at].command.kind = 0;
     WANT(replay(entries, count, &position) == LRC_OUT_OF_RANGE && position == at);
-    entries[at] = kept;
+    entries[at] = entry_there;
     entries[2].session = 9;
     WANT(replay(entries, count, &position) == LRC_OUT_OF_RANGE && position == 2);
 }

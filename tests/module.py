@@ -1,5 +1,6 @@
 """What the Python module of examples/embed does beside the calls: it refuses numbers that a field would cut down, closes a
-book that is no longer used, and replays a log in pieces, from entries and from bytes, also one of an earlier library."""
+book that nothing refers to, and replays a log in pieces, from entries and from bytes, also one that an earlier library
+saved."""
 import ctypes
 import gc
 import struct
@@ -12,8 +13,8 @@ from lrc_embed import Book, Code, Command, CommandKind, Entry, Fault, ModeKind, 
 TWENTY = topology_of(nodes_in_order(20, 4))
 SCRIPT = ("place 1", "place 2", "fail 3", "next", "lease 2 7", "done 1 3 1", "next", "upgrade 0", "upgraded 0")
 SIZE = ctypes.sizeof(Entry)
-# An entry as each library of this version stores it. What got a name later was reserved before, and 0.
-KEPT = struct.Struct("<B3x BBB5xIHH BBB6s3xIII4x HBBHHI4x 32H")
+# An entry as each library of this version saves it. Fields that got a name later were reserved before, and 0.
+SAVED = struct.Struct("<B3x BBB5xIHH BBB6s3xIII4x HBBHHI4x 32H")
 # As the header has them; an index is a size_t.
 RANGES = {"session": (1, 8), "kind": (1, 18), "stripe": (0, 4095), "fragment": (0, 15), "node": (0, 65535),
           "domain": (0, 255), "epoch": (0, 4294967295), "index": (0, 18446744073709551615)}
@@ -41,8 +42,8 @@ def ways_of(book):
     }
 
 
-def answer(way, number):
-    """What a call raises for a number: the text of a ValueError, or None."""
+def error_of(way, number):
+    """The error that a way reports for a number: the text of a ValueError, or None."""
     try:
         way(number)
     except ValueError as error:
@@ -60,20 +61,20 @@ def test_numbers(count, library):
             least, most = RANGES[name]
             for at, way in enumerate(ways):
                 for number in (least, most):
-                    told = answer(way, number)
-                    count.check(f"the module: {name} {number} ({at}): {told}", told is None)
+                    found = error_of(way, number)
+                    count.check(f"the module: {name} {number} ({at}): {found}", found is None)
                 for number in (least - 1, most + 1, least + 2**16, least + 2**32, least + 2**64, -2**64):
-                    told = answer(way, number)
+                    found = error_of(way, number)
                     right = f"{name} {number} is not from {least} to {most}" if not least <= number <= most else None
-                    count.check(f"the module: {name} {number} ({at}): {told}", told == right)
-                count.check(f"the module: a float as {name} ({at})", answer(way, 1.0) == "no number")
+                    count.check(f"the module: {name} {number} ({at}): {found}", found == right)
+                count.check(f"the module: a float as {name} ({at})", error_of(way, 1.0) == "no number")
         for name in ("nodes", "session", "target"):
-            told = answer(lambda number: Command(CommandKind.FAIL, **{name: number}), 3)
-            count.check(f"the module: {name} in a command: {told}", told == "no field")
+            found = error_of(lambda number: Command(CommandKind.FAIL, **{name: number}), 3)
+            count.check(f"the module: {name} in a command: {found}", found == "no field")
         modes = [book.mode(node).mode for node in range(20)]
         count.check("the module: a number out of its range is nobody's", modes == [ModeKind.ACTIVE] * 20)
-        kept = [book.entry(index).session for index in range(book.count())]
-        count.check(f"the module: the sessions that called: {kept}", kept == [1, 8])
+        called = [book.entry(index).session for index in range(book.count())]
+        count.check(f"the module: the sessions that called: {called}", called == [1, 8])
 
 
 def opened(library, **how):
@@ -108,20 +109,20 @@ def status_of(call):
 
 
 def log_of(library):
-    """The bytes of the entries of a script."""
-    kept = []
+    """The bytes of the entries of a script, as a store saves them."""
+    log = []
     with Book(library, TWENTY) as book:
         for session, line in enumerate(SCRIPT[:8], 1):
             peeked, reply = book.peek(session, command_of(line)), book.call(session, command_of(line))
             if bytes(peeked) != bytes(reply):
                 return None
-            kept.append(bytes(book.entry(book.count() - 1)))
-            if kept[-1] != bytes(Entry(session=session, command=command_of(line), reply=reply)):
+            log.append(bytes(book.entry(book.count() - 1)))
+            if log[-1] != bytes(Entry(session=session, command=command_of(line), reply=reply)):
                 return None
         book.call(1, Command(CommandKind.UPGRADED, domain=0, node=7, stripe=9, fragment=5, epoch=3))
-        kept.append(bytes(book.entry(book.count() - 1)))
-    own = Entry.from_buffer_copy(kept[-1])
-    return b"".join(kept) if bytes(own.command) == bytes(Command(CommandKind.UPGRADED)) else None
+        log.append(bytes(book.entry(book.count() - 1)))
+    own = Entry.from_buffer_copy(log[-1])
+    return b"".join(log) if bytes(own.command) == bytes(Command(CommandKind.UPGRADED)) else None
 
 
 def replayed(library, *pieces):
@@ -149,41 +150,41 @@ def test_pieces(count, library):
         with Book(library, TWENTY, how) as book:
             count.check("the module: a log that the book is made with", book.count() == len(entries))
     with Book(library, TWENTY, log[:SIZE]) as book:
-        count.check("the module: bytes of no whole entry", answer(book.replay, log[SIZE:-1]) is not None and book.count() == 1)
+        count.check("the module: bytes of no whole entry", error_of(book.replay, log[SIZE:-1]) is not None and book.count() == 1)
     entries[5].reply.kind ^= 1
     book = Book(library, TWENTY, log[:2 * SIZE])
-    told = status_of(lambda: book.replay(entries[2:]))
-    count.check(f"the module: a changed entry in a piece: {told}", told == (Status.DIFFERENT, 3) and not book.handle.is_open)
+    found = status_of(lambda: book.replay(entries[2:]))
+    count.check(f"the module: a changed entry in a piece: {found}", found == (Status.DIFFERENT, 3) and not book.handle.is_open)
 
 
-def kept(session, command, reply, lease=(0,) * 6, seats=()):
+def saved(session, command, reply, lease=(0,) * 6, seats=()):
     """The bytes of an entry whose seats are slot 0 of these nodes."""
     numbers = [number for node in seats for number in (node, 0)]
-    return KEPT.pack(session, *command, *reply, *lease, *numbers, *[0] * (32 - len(numbers)))
+    return SAVED.pack(session, *command, *reply, *lease, *numbers, *[0] * (32 - len(numbers)))
 
 
 def log_before_ticks():
     """`place 1`, `fail 3`, `lease 1 3` and `done 1 3 1`."""
-    yield kept(1, (1, 0, 0, 0, 1, 0), (1, 0, 0, b"", 0, 0, 0), seats=(*range(12), 16, 12, 13, 14))
-    yield kept(1, (8, 0, 0, 0, 0, 3), (6, 0, 0, b"", 0, 0, 0))
-    yield kept(2, (3, 3, 0, 0, 1, 0), (3, 0, 1, bytes([0, 1, 2, 4, 5, 12]), 0, 0, 0), lease=(1, 3, 2, 17, 0, 1))
-    yield kept(2, (5, 3, 0, 1, 1, 0), (5, 0, 0, b"", 0, 0, 0))
+    yield saved(1, (1, 0, 0, 0, 1, 0), (1, 0, 0, b"", 0, 0, 0), seats=(*range(12), 16, 12, 13, 14))
+    yield saved(1, (8, 0, 0, 0, 0, 3), (6, 0, 0, b"", 0, 0, 0))
+    yield saved(2, (3, 3, 0, 0, 1, 0), (3, 0, 1, bytes([0, 1, 2, 4, 5, 12]), 0, 0, 0), lease=(1, 3, 2, 17, 0, 1))
+    yield saved(2, (5, 3, 0, 1, 1, 0), (5, 0, 0, b"", 0, 0, 0))
 
 
 def log_before_codes():
     """`place 1`, `fail 3`, `lease 1 3`, and three times `tick`."""
     yield from islice(log_before_ticks(), 3)
     for clock, ended in ((1, 0), (2, 0), (3, 1)):
-        yield kept(3, (17, 0, 0, 0, 0, 0), (8, 0, 0, b"", 0, clock, ended))
+        yield saved(3, (17, 0, 0, 0, 0, 0), (8, 0, 0, b"", 0, clock, ended))
 
 
 def log_of_codes():
     """`place6 1`, `fail 1`, `lease 1 1`, `lease 1 12` and `done 1 1 1`."""
-    yield kept(1, (18, 0, 0, 0, 1, 0), (9, 0, 0, b"", 0, 0, 0), seats=range(10))
-    yield kept(1, (8, 0, 0, 0, 0, 1), (6, 0, 0, b"", 0, 0, 0))
-    yield kept(2, (3, 1, 0, 0, 1, 0), (3, 0, 4, bytes([0, 2, 6]), 0, 0, 0), lease=(1, 1, 2, 11, 0, 1))
-    yield kept(2, (3, 12, 0, 0, 1, 0), (7, 111, 0, b"", 0, 0, 0))
-    yield kept(2, (5, 1, 0, 1, 1, 0), (5, 0, 0, b"", 0, 0, 0))
+    yield saved(1, (18, 0, 0, 0, 1, 0), (9, 0, 0, b"", 0, 0, 0), seats=range(10))
+    yield saved(1, (8, 0, 0, 0, 0, 1), (6, 0, 0, b"", 0, 0, 0))
+    yield saved(2, (3, 1, 0, 0, 1, 0), (3, 0, 4, bytes([0, 2, 6]), 0, 0, 0), lease=(1, 1, 2, 11, 0, 1))
+    yield saved(2, (3, 12, 0, 0, 1, 0), (7, 111, 0, b"", 0, 0, 0))
+    yield saved(2, (5, 1, 0, 1, 1, 0), (5, 0, 0, b"", 0, 0, 0))
 
 
 def unseen(library, log):
@@ -197,11 +198,11 @@ def unseen(library, log):
     return [at for at in replies if ended(at) != (Status.DIFFERENT, at // SIZE)]
 
 
-def test_kept(count, library):
+def test_saved(count, library):
     for log_of, code in ((log_before_ticks, Code.WIDE), (log_before_codes, Code.WIDE), (log_of_codes, Code.NARROW)):
         log, name = list(log_of()), log_of.__name__.replace("_", " ")
-        told = status_of(lambda: Book(library, TWENTY, log))
-        if count.check(f"the module: a {name}: {told}", told == (Status.DONE, None)):
+        found = status_of(lambda: Book(library, TWENTY, log))
+        if count.check(f"the module: a {name}: {found}", found == (Status.DONE, None)):
             count.check(f"the module: the entries of a {name}", replayed(library, log) == b"".join(log))
             with Book(library, TWENTY, log) as book:
                 count.check(f"the module: the code of a stripe of a {name}", (book.code(1).value, book.code(2)) == (code, None))
@@ -215,4 +216,4 @@ def test(count, library):
     test_numbers(count, library)
     test_dropped(count, library)
     test_pieces(count, library)
-    test_kept(count, library)
+    test_saved(count, library)

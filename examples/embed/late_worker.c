@@ -1,5 +1,5 @@
-// A worker reports late: its lease was revoked and granted anew. Then the program starts again with the entries that it
-// kept. It prints what `lrcman run` prints of the script of ../late_worker.bundle, and how many entries came back.
+// A worker reports late: its lease was revoked and granted again. Then the program starts again with the entries that it
+// saved. It prints what `lrcman run` prints for the script of ../late_worker.bundle, and the number of entries replayed.
 #include "lrc_embed.h"
 
 #include <stdio.h>

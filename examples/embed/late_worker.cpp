@@ -7,7 +7,7 @@
 #include <utility>
 #include <vector>
 
-// What a call answers other than LRC_DONE.
+// A status other than LRC_DONE.
 class Fault : public std::runtime_error {
   public:
     Fault(const std::string &what, std::uint32_t status, std::size_t position = 0)

@@ -108,7 +108,7 @@ unsafe extern "C" {
     fn lrc_embed_close(handle: &mut Handle) -> u32;
 }
 
-/// What a call answers other than that it was done, and where its input is at fault.
+/// A status other than done, and the position of the fault in the input.
 #[derive(Debug)]
 struct Fault {
     status: u32,

@@ -49,7 +49,7 @@ DETAILED = {Refusal.NO_LAWFUL_NODE, Refusal.UPGRADE_RUNNING, Refusal.WOULD_LOSE,
             Refusal.NOT_HOLDER, Refusal.TARGET_OFFLINE, Refusal.NOT_EMPTY}
 
 
-# How many seats a reply tells, and how many sources a repair has.
+# The number of seats of a reply, and of sources of a repair.
 SEATS = {ReplyKind.PLACED: FRAGMENTS, ReplyKind.PLACED6: NARROW_FRAGMENTS}
 SOURCES = {Repair.LOCAL: 6, Repair.LOCAL3: 3}
 
@@ -96,7 +96,7 @@ class Seat(ctypes.Structure):
 
 
 class Lease(ctypes.Structure):
-    """A lease. `Book.lease` tells its expiry, the clock at which it ends; in a reply that is 0."""
+    """A lease. From `Book.lease` it has its expiry, the clock at which it ends; in a reply that is 0."""
 
     _fields_ = [("stripe", c_uint16), ("fragment", c_uint8), ("holder", c_uint8), ("target", Seat),
                 ("epoch", c_uint32), ("expiry", c_uint32)]
@@ -113,7 +113,7 @@ class Reply(ctypes.Structure):
     def __str__(self):
         """What `lrcman run` prints of the reply."""
         kind = ReplyKind(self.kind)
-        words = [kind.name.lower().rstrip("6")]  # (the seats tell the code)
+        words = [kind.name.lower().rstrip("6")]  # (the number of seats shows the code)
         if kind in SEATS:
             words += self.seats[:SEATS[kind]]
         elif kind is ReplyKind.GRANTED:
@@ -151,7 +151,7 @@ class Mode(ctypes.Structure):
 
 
 class Fault(Exception):
-    """What a call answers other than that it was done, and where its input is at fault."""
+    """A status other than done, and the position of the fault in the input."""
 
     def __init__(self, name, status, position):
         super().__init__(f"{name}: {Status(status).name}")
@@ -160,7 +160,7 @@ class Fault(Exception):
 
 class Book:
     """A book over the nodes of a text, after the calls of a log: a sequence of entries, or their bytes. One thread at a time
-    may use it. It is closed at the end of a `with`, by `close`, or where the program has let go of it."""
+    may use it. It is closed at the end of a `with`, by `close`, or when nothing refers to it any more."""
 
     def __init__(self, library, nodes, log=()):
         self.library, self.handle = library, Handle()
@@ -179,56 +179,56 @@ class Book:
         if status != Status.DONE:
             raise Fault(name, status, None if where is None else where.value)
 
-    def told(self, name, answer, *given):
-        """Makes a call, and returns what it wrote; None where there is no such thing."""
+    def result_of(self, name, result, *given):
+        """Makes a call, and returns the result that it wrote; None if it is unknown."""
         try:
-            self.done(name, *given, ctypes.byref(answer))
+            self.done(name, *given, ctypes.byref(result))
         except Fault as fault:
             if fault.status != Status.UNKNOWN:
                 raise
             return None
-        return answer
+        return result
 
     def replay(self, log):
-        """Makes the calls of entries that were kept anew, after those that the book has: of a sequence of entries, or of the
-        bytes of whole ones, which is faster. A long log is replayed in pieces. A fault has the position in this piece, and the
-        book is closed then."""
+        """Repeats the calls of saved entries after those that the book has. The log is a sequence of entries, or the bytes of
+        whole entries, which is faster. A long log is replayed in pieces. A fault has the position in this piece, and closes
+        the book."""
         data = b"".join(log) if isinstance(log, (list, tuple)) else log
         count, rest = divmod(memoryview(data).nbytes, ctypes.sizeof(Entry))
         if rest:
-            raise ValueError(f"the log has {rest} bytes behind its last whole entry of {ctypes.sizeof(Entry)}")
+            raise ValueError(f"the log has {rest} bytes after its last whole entry of {ctypes.sizeof(Entry)}")
         position = c_size_t()
         entries = (Entry * count).from_buffer_copy(data)
         self.done("replay", entries, c_size_t(count), ctypes.byref(position), where=position)
 
     def call(self, session, command):
-        return self.told("call", Reply(), c_uint8(within("session", session)), ctypes.byref(command))
+        return self.result_of("call", Reply(), c_uint8(within("session", session)), ctypes.byref(command))
 
     def peek(self, session, command):
         """The reply that a call would get now. The book stays as it is."""
-        return self.told("peek", Reply(), c_uint8(within("session", session)), ctypes.byref(command))
+        return self.result_of("peek", Reply(), c_uint8(within("session", session)), ctypes.byref(command))
 
     def homes(self, stripe):
-        return self.told("homes", Homes(), c_uint16(within("stripe", stripe)))
+        return self.result_of("homes", Homes(), c_uint16(within("stripe", stripe)))
 
     def level(self, stripe):
-        return self.told("level", Level(), c_uint16(within("stripe", stripe)))
+        return self.result_of("level", Level(), c_uint16(within("stripe", stripe)))
 
     def missing(self, stripe):
-        return self.told("missing", c_uint16(), c_uint16(within("stripe", stripe)))
+        return self.result_of("missing", c_uint16(), c_uint16(within("stripe", stripe)))
 
     def code(self, stripe):
-        return self.told("code", c_uint8(), c_uint16(within("stripe", stripe)))
+        return self.result_of("code", c_uint8(), c_uint16(within("stripe", stripe)))
 
     def lease(self, stripe, fragment):
         numbers = c_uint16(within("stripe", stripe)), c_uint8(within("fragment", fragment))
-        return self.told("lease", Lease(), *numbers)
+        return self.result_of("lease", Lease(), *numbers)
 
     def load(self, node):
-        return self.told("load", c_uint32(), c_uint16(within("node", node)))
+        return self.result_of("load", c_uint32(), c_uint16(within("node", node)))
 
     def mode(self, node):
-        return self.told("mode", Mode(), c_uint16(within("node", node)))
+        return self.result_of("mode", Mode(), c_uint16(within("node", node)))
 
     def risk(self):
         rows, count = (Risk * STRIPES)(), c_size_t()
@@ -236,13 +236,13 @@ class Book:
         return rows[:count.value]
 
     def clock(self):
-        return self.told("clock", c_uint32()).value
+        return self.result_of("clock", c_uint32()).value
 
     def count(self):
-        return self.told("count", c_size_t()).value
+        return self.result_of("count", c_size_t()).value
 
     def entry(self, index):
-        return self.told("entry", Entry(), c_size_t(within("index", index)))
+        return self.result_of("entry", Entry(), c_size_t(within("index", index)))
 
     def close(self):
         self.finalizer()

@@ -1,24 +1,25 @@
 // The calls of liblrc_embed: a proved book of erasure-coded stripes, for a program that keeps its own lock and its own log.
 //
-// A handle owns one book. lrc_embed_open makes the book of a list of nodes, lrc_embed_call makes one command of one
-// session and tells its reply, the looks tell what stands, and lrc_embed_close frees all. docs/RULES.md says what each
-// command answers, and docs/EMBEDDING.md how a store uses this.
+// A handle owns one book. lrc_embed_open makes a book from a list of nodes. lrc_embed_call makes one command of one session
+// and returns its reply; lrc_embed_peek returns that reply and changes nothing. The looks read the book, and
+// lrc_embed_close frees it. docs/RULES.md says what each command does, and docs/EMBEDDING.md how a store uses this.
 //
-// Every function but lrc_embed_version answers a status. It writes its answer exactly where the status is LRC_DONE.
-// lrc_embed_open and lrc_embed_replay also write where they stopped, as is said at them; nothing else is written.
+// Every function but lrc_embed_version returns a status. It writes its results only if the status is LRC_DONE.
+// lrc_embed_open and lrc_embed_replay also write where they stopped, as their comments say. Nothing else is written.
 //
-// What the caller owes, for nothing checks C:
-// - A handle begins as LRC_CLOSED. From then on only these functions write it. An open one is not copied, since two copies
-//   would own one book; it may be moved, as a whole.
-// - One call at a time on one handle, looks too. A lock, or a thread's start or join, orders calls of several threads. Two
-//   handles have nothing in common.
-// - No pointer is null, but that of a text, of entries or of rows may be where the length behind it is 0; this is tested,
-//   and not proved. Each other is aligned, and points to initialized memory of the whole struct, that of answers too. What
-//   a call writes overlaps nothing else that it is given. What it reads does not change while it runs.
-// - malloc, realloc and free are of one allocator, and align a block to every power of two up to 16 that divides its size.
+// What the caller owes, since nothing checks C:
+// - A handle begins as LRC_CLOSED. After that only these functions write it. Do not copy an open handle, since two copies
+//   would own one book. It may be moved as a whole.
+// - One call at a time on one handle, looks included. A lock, or a thread's start or join, orders the calls of several
+//   threads. Two handles share nothing.
+// - No pointer is null, except that of a text, of entries or of rows if its length is 0; this is tested, not proved. Each
+//   other pointer is aligned and points to initialized memory of the whole struct, also for results. What a call writes
+//   overlaps nothing else that it is given. What it reads does not change while it runs.
+// - malloc, realloc and free belong to one allocator, which aligns a block to every power of two up to 16 that divides its
+//   size.
 // - No call from a signal handler, or from the forked child of a process with threads.
-// - Stack for the call. How much is not promised; docs/EMBEDDING.md says how much was seen to be taken.
-// Any numbers at all may be passed: those out of range, short buffers and closed handles have a status of their own.
+// - Stack for the call. How much is not promised; docs/EMBEDDING.md has measurements.
+// Any numbers may be passed: those out of range, short buffers and closed handles have a status of their own.
 #ifndef LRC_EMBED_H
 #define LRC_EMBED_H
 
@@ -30,19 +31,19 @@
 extern "C" {
 #endif
 
-// The version of all that is below. lrc_embed_version() answers that of the library: compare them once. New commands are
-// new kinds, and new numbers of replies go into what is reserved, so that no struct changes its size.
+// The version of this header. lrc_embed_version() returns that of the library: compare them once. New commands are new
+// kinds, and new numbers of replies use reserved fields, so that no struct changes its size.
 #define LRC_EMBED_VERSION 1
 
-// The numbers of stripes, 0 to 4095; as many rows as lrc_embed_risk can ever need.
+// The number of stripe numbers, which are 0 to 4095. lrc_embed_risk never needs more rows.
 #define LRC_STRIPES 4096
-// The numbers of fragments, 0 to 15. A wide stripe has all of them: 0 to 5 and 12 are group A, 6 to 11 and 13 group B, 14
-// and 15 are global.
+// The number of fragment numbers, which are 0 to 15. A wide stripe has all of them: 0 to 5 and 12 are group A, 6 to 11 and
+// 13 are group B, 14 and 15 are global.
 #define LRC_FRAGMENTS 16
-// A narrow stripe has 0 to 9: 0 to 2 and 6 are group A, 3 to 5 and 7 group B, 8 and 9 are global. Of 10 to 15 it has no
-// homes, misses none, and needs no lease.
+// A narrow stripe has fragments 0 to 9: 0 to 2 and 6 are group A, 3 to 5 and 7 are group B, 8 and 9 are global. Fragments
+// 10 to 15 of it have no home, are not missing, and need no lease.
 #define LRC_NARROW_FRAGMENTS 10
-// The numbers of sessions are 1 to 8. A session is whoever holds a lease.
+// The number of sessions, which are 1 to 8. A session is whoever holds leases.
 #define LRC_SESSIONS 8
 // The most entries of a history.
 #define LRC_HISTORY_LIMIT 1000000
@@ -54,21 +55,21 @@ enum lrc_status {
     LRC_OUT_OF_RANGE = 3,  // a session, a kind of command, a stripe or a fragment is out of its range
     LRC_UNKNOWN = 4,       // there is no such stripe, lease, node or entry
     LRC_FULL = 5,          // the history has LRC_HISTORY_LIMIT entries
-    LRC_OUT_OF_MEMORY = 6, // memory was refused, and the history is as it was: the same call may be made again (but a
-                           // replay has closed the handle)
+    LRC_OUT_OF_MEMORY = 6, // memory was refused, and the history is as it was: the call may be repeated (but a replay
+                           // has closed the handle)
     LRC_SHORT = 7,         // the buffer has no room for all rows
-    LRC_DIFFERENT = 8,     // lrc_embed_replay: a call is answered otherwise than its entry says
+    LRC_DIFFERENT = 8,     // lrc_embed_replay: a call has another reply than its entry
 
-    // lrc_embed_open: why the text is no list of nodes
-    LRC_SYNTAX = 16,            // no TOML 1.1 in UTF-8
-    LRC_NO_NODES = 17,          // `node` is absent, no array, or empty
+    // lrc_embed_open: why the text is not a list of nodes
+    LRC_SYNTAX = 16,            // not TOML 1.1 in UTF-8
+    LRC_NO_NODES = 17,          // `node` is absent, not an array, or empty
     LRC_BAD_FIELD = 18,         // an entry of `node` lacks a whole number at one of its four keys; detail: its position
     LRC_NODE_OUT_OF_RANGE = 19, // an entry has a number out of its range; detail: its position, from 0
-    LRC_DOUBLE_NODE = 20,       // two entries have one number; detail: this number
+    LRC_DOUBLE_NODE = 20,       // two entries have the same number; detail: this number
     LRC_TOO_MANY = 21,          // more than 512 nodes
 };
 
-// A handle. All zeros is a closed one. Look at nothing inside.
+// A handle. All zeros is a closed one. Do not read its fields.
 typedef struct {
     bool is_open;
     void *at;
@@ -80,25 +81,25 @@ typedef struct {
 #define LRC_CLOSED ((lrc_handle){0})
 #endif
 
-// Behind each kind: which fields of lrc_command it uses. The others may be anything, and are 0 in the entry of the history.
+// After each kind: the fields of lrc_command that it uses. The others may be anything, and are 0 in the entry of the history.
 enum lrc_command_kind {
     LRC_PLACE = 1,     // stripe: give each fragment of a new wide stripe a home
-    LRC_DROP = 2,      // stripe: take a stripe out, with its homes and leases
+    LRC_DROP = 2,      // stripe: remove a stripe, with its homes and leases
     LRC_LEASE = 3,     // stripe, fragment: ask for the lease of a fragment
     LRC_NEXT = 4,      // nothing: ask for the lease of the most urgent fragment
-    LRC_REPORT = 5,    // stripe, fragment, epoch: the fragment stands on the target of this session's lease (`done`)
+    LRC_REPORT = 5,    // stripe, fragment, epoch: the fragment is on the target of this session's lease (`done`)
     LRC_ABANDON = 6,   // stripe, fragment, epoch: give this session's lease back
     LRC_REVOKE = 7,    // stripe, fragment: end the lease, whoever holds it
     LRC_FAIL = 8,      // node: it is lost, with all that is on it
-    LRC_DOWN = 9,      // node: it can't be reached for now
+    LRC_DOWN = 9,      // node: it cannot be reached for now
     LRC_UP = 10,       // node: it can be reached again
     LRC_DRAIN = 11,    // node: it takes no further seats
     LRC_UNDRAIN = 12,  // node: it takes seats again
-    LRC_RETIRE = 13,   // node: take a draining node out that holds nothing
-    LRC_JOIN = 14,     // node: take a node that is gone in again, empty
+    LRC_RETIRE = 13,   // node: remove a draining node that holds nothing
+    LRC_JOIN = 14,     // node: add a node that is gone again, empty
     LRC_UPGRADE = 15,  // domain: take all nodes of an upgrade domain offline
-    LRC_UPGRADED = 16, // domain: its nodes can be reached again, but those that are down
-    LRC_TICK = 17,     // nothing: move the clock on by one, and end each lease for which this is the third tick
+    LRC_UPGRADED = 16, // domain: its nodes can be reached again, except those that are down
+    LRC_TICK = 17,     // nothing: advance the clock by one, and end each lease for which this is the third tick
     LRC_PLACE6 = 18,   // stripe: give each fragment of a new narrow stripe a home
 };
 
@@ -117,15 +118,15 @@ typedef struct {
     uint16_t node, slot;
 } lrc_seat;
 
-// A session's leave to bring a fragment onto a seat.
+// A session's permission to move or rebuild a fragment.
 typedef struct {
     uint16_t stripe;
     uint8_t fragment;
     uint8_t holder;  // the session that has it
-    lrc_seat target; // the seat that the fragment is to have
+    lrc_seat target; // the seat that the fragment gets
     uint32_t epoch;  // how often this fragment of this stripe number was leased, this time included
-    uint32_t expiry; // as lrc_embed_lease tells it, the clock at which the lease ends, if it has not ended before: that of
-                     // its grant and three. 0 in a reply, so that entries of a library without a clock replay as they are
+    uint32_t expiry; // from lrc_embed_lease: the clock at which the lease ends at the latest, that of its grant plus three.
+                     // In a reply: 0, so that entries of a library without a clock replay as they are
 } lrc_lease;
 
 enum lrc_reply_kind {
@@ -135,30 +136,30 @@ enum lrc_reply_kind {
     LRC_IDLE = 4,    // no fragment can be leased
     LRC_ENDED = 5,   // the lease has ended
     LRC_CHANGED = 6, // the node or the upgrade domain was changed
-    LRC_REFUSED = 7, // refusal, detail: nothing was changed but the history
+    LRC_REFUSED = 7, // refusal, detail: only the history has changed
     LRC_TICKED = 8,  // clock, ended
     LRC_PLACED6 = 9, // seats: the homes of fragments 0 to 9 of a narrow stripe, and 0 in the last six
 };
 
-// From what a leased fragment is made.
+// What a leased fragment is rebuilt from.
 enum lrc_repair {
-    LRC_LOCAL = 1,  // sources: the six other fragments of its group in a wide stripe, rising
+    LRC_LOCAL = 1,  // sources: the six other fragments of its group in a wide stripe, in rising order
     LRC_GLOBAL = 2, // the whole stripe
     LRC_MOVE = 3,   // its own home, which is online
-    LRC_LOCAL3 = 4, // sources: the three other fragments of its group in a narrow stripe, rising, and 0 in the last three
+    LRC_LOCAL3 = 4, // sources: the three other fragments of its group in a narrow stripe, in rising order, and then 0
 };
 
-// Behind a refusal: what `detail` is, else 0.
+// After a refusal: what `detail` is; else it is 0.
 enum lrc_refusal {
     LRC_UNKNOWN_STRIPE = 101,
     LRC_STRIPE_EXISTS = 102,
-    LRC_NO_LAWFUL_NODE = 103, // the fragment that finds no seat
+    LRC_NO_LAWFUL_NODE = 103, // the fragment for which there is no seat
     LRC_UNKNOWN_NODE = 104,
     LRC_WRONG_MODE = 105,
     LRC_UNKNOWN_DOMAIN = 106,
     LRC_UPGRADE_RUNNING = 107, // the domain that is upgrading
     LRC_NOT_UPGRADING = 108,
-    LRC_WOULD_LOSE = 109,     // the least stripe that would be unrecoverable
+    LRC_WOULD_LOSE = 109,     // the first stripe that would be unrecoverable
     LRC_ALREADY_LEASED = 110, // the epoch of the live lease
     LRC_NOT_NEEDED = 111,
     LRC_UNRECOVERABLE = 112,
@@ -177,16 +178,16 @@ typedef struct {
     uint8_t sources[6];
     uint8_t reserved[3];
     uint32_t detail;
-    uint32_t clock; // how many ticks there were, this one included
-    uint32_t ended; // how many leases ended at it
+    uint32_t clock; // the number of ticks, this one included
+    uint32_t ended; // the number of leases that it ended
     uint32_t reserved_number;
     lrc_lease lease;
     lrc_seat seats[LRC_FRAGMENTS];
 } lrc_reply;
 
-// A command of a session, and its reply: what a store's log keeps of each call. As lrc_embed_entry tells it, it has 0 in
-// all that is reserved and in all that the kinds of the command and of the reply do not use, so that two books with the same
-// calls have the same bytes.
+// A command of a session, and its reply: what a store's log saves of each call. lrc_embed_entry returns it with 0 in all
+// reserved fields and in all fields that the kinds of the command and of the reply do not use, so that two books with the
+// same calls have the same bytes.
 typedef struct {
     uint8_t session; // 1 to 8
     uint8_t reserved[3];
@@ -205,7 +206,7 @@ typedef struct {
     lrc_home homes[LRC_FRAGMENTS];
 } lrc_homes;
 
-// The code of a stripe: which fragments it has, and from which of them a lost one is made.
+// The code of a stripe: which fragments it has, and from which of them a lost one is rebuilt.
 enum lrc_code {
     LRC_WIDE = 1,   // LRC(12,2,2), of sixteen fragments
     LRC_NARROW = 2, // LRC(6,2,2), of ten
@@ -213,7 +214,7 @@ enum lrc_code {
 
 enum lrc_level_kind {
     LRC_WHOLE = 1,       // no fragment is missing
-    LRC_AT_RISK = 2,     // margin: how many further losses the stripe withstands, 0 to 2, whichever they are
+    LRC_AT_RISK = 2,     // margin: how many further losses the stripe survives, 0 to 2, whichever they are
     LRC_UNAVAILABLE = 3, // not recoverable while nodes are offline
     LRC_LOST = 4,        // not recoverable
 };
@@ -241,44 +242,44 @@ typedef struct {
 // The version of the library.
 uint32_t lrc_embed_version(void);
 
-// Opens a closed handle with a book of the nodes of the text, with an empty history. DONE, IS_OPEN, OUT_OF_MEMORY, or one
-// of 16 to 21, and then `detail` is written too. The text is not needed after the call.
+// Opens a closed handle with a book of the nodes of the text and an empty history. DONE, IS_OPEN, OUT_OF_MEMORY, or one of
+// 16 to 21, which also write `detail`. The text is not needed after the call.
 uint32_t lrc_embed_open(lrc_handle *handle, const uint8_t *text, size_t length, size_t *detail);
 
-// Makes one command. DONE, also where the reply is that it was refused; IS_CLOSED, OUT_OF_RANGE, FULL or OUT_OF_MEMORY,
-// and then the history is as it was. After DONE the history has one entry more: this session, command and reply. To keep
-// it, take it from lrc_embed_entry, at the count less 1: the command that was passed may differ from it in bytes.
+// Makes one command. DONE, also if the reply is a refusal; IS_CLOSED, OUT_OF_RANGE, FULL or OUT_OF_MEMORY, and then the
+// history is as it was. After DONE the history has one more entry: this session, command and reply. To save it, take it
+// from lrc_embed_entry, at the count less 1: the command that was passed may differ from it in bytes.
 uint32_t lrc_embed_call(lrc_handle *handle, uint8_t session, const lrc_command *command, lrc_reply *reply);
 
-// The reply that lrc_embed_call would get now, without an entry: nothing changes, and no memory is requested. DONE, also
-// where the reply is that it would be refused; IS_CLOSED, OUT_OF_RANGE or FULL, as from the call. A worker asks for work
-// by it, and calls only where the reply is LRC_GRANTED. A reply holds until the next call that returns DONE.
+// Returns the reply that lrc_embed_call would get now. Nothing changes, and no memory is requested. DONE, also if the reply
+// is a refusal; IS_CLOSED, OUT_OF_RANGE or FULL, exactly if the call would return it. The reply holds until the next entry.
+// A worker peeks at LRC_NEXT, and makes the call only if the reply is LRC_GRANTED.
 uint32_t lrc_embed_peek(lrc_handle *handle, uint8_t session, const lrc_command *command, lrc_reply *reply);
 
-// Makes the commands of `count` entries that were kept, after the history that the book has, and compares each reply. After
-// DONE the history has these entries more. With any other status the handle is closed and the book is freed, and, but for
-// IS_CLOSED, `position` is that of the entry where it ended, from 0: DIFFERENT, its reply is not what the book answers;
-// OUT_OF_RANGE, it is no entry; FULL or OUT_OF_MEMORY. A long log may be replayed in pieces. All bytes of a reply are
-// compared; what a command does not use, and what is reserved outside the reply, is not looked at.
+// Makes the commands of `count` saved entries after the history that the book has, and compares each reply. After DONE the
+// history also has these entries. With any other status the handle is closed and the book is freed; and, except for
+// IS_CLOSED, `position` is that of the entry where it stopped, from 0: DIFFERENT, the book's reply is another; OUT_OF_RANGE,
+// it is not an entry; FULL or OUT_OF_MEMORY. A long log may be replayed in pieces. All bytes of a reply are compared; what a
+// command does not use, and what is reserved outside the reply, is ignored.
 uint32_t lrc_embed_replay(lrc_handle *handle, const lrc_entry *entries, size_t count, size_t *position);
 
 // The looks. They change nothing.
-// DONE, IS_CLOSED, OUT_OF_RANGE, or UNKNOWN where there is no such stripe.
+// DONE, IS_CLOSED, OUT_OF_RANGE, or UNKNOWN if there is no such stripe.
 uint32_t lrc_embed_homes(lrc_handle *handle, uint16_t stripe, lrc_homes *homes);
 uint32_t lrc_embed_level(lrc_handle *handle, uint16_t stripe, lrc_level *level);
 // The fragments without a home, or with one on a node that is not online. Fragment f is bit f.
 uint32_t lrc_embed_missing(lrc_handle *handle, uint16_t stripe, uint16_t *missing);
 // The lrc_code of the stripe, which is that of the command that placed it.
 uint32_t lrc_embed_code(lrc_handle *handle, uint16_t stripe, uint8_t *code);
-// The same, or UNKNOWN where the fragment has no live lease.
+// The same, or UNKNOWN if the fragment has no live lease.
 uint32_t lrc_embed_lease(lrc_handle *handle, uint16_t stripe, uint8_t fragment, lrc_lease *lease);
-// DONE, IS_CLOSED, or UNKNOWN where there is no such node. The load counts homes and targets of leases.
+// DONE, IS_CLOSED, or UNKNOWN if there is no such node. The load counts homes and targets of leases.
 uint32_t lrc_embed_load(lrc_handle *handle, uint16_t node, uint32_t *load);
 uint32_t lrc_embed_mode(lrc_handle *handle, uint16_t node, lrc_mode *mode);
-// How many ticks there were: DONE or IS_CLOSED.
+// The number of ticks: DONE or IS_CLOSED.
 uint32_t lrc_embed_clock(lrc_handle *handle, uint32_t *clock);
-// The stripes that are not whole, in the order of repair. DONE, with `*count` rows; IS_CLOSED, OUT_OF_MEMORY, or SHORT
-// where they are more than `length`, which LRC_STRIPES rows never are.
+// The stripes that are not whole, in the order of repair. DONE, with `*count` rows; IS_CLOSED, OUT_OF_MEMORY, or SHORT if
+// there are more than `length`, which cannot be with LRC_STRIPES rows.
 uint32_t lrc_embed_risk(lrc_handle *handle, lrc_risk *rows, size_t length, size_t *count);
 // The number of entries of the history: DONE or IS_CLOSED.
 uint32_t lrc_embed_count(lrc_handle *handle, size_t *count);

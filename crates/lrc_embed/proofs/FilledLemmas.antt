@@ -1,9 +1,9 @@
--- A list that is filled from its front.
+-- A list that is filled from its start.
 use Rattle.std.proofs.Common.{◌≡◌, ℕ, ◌-◌, List, ◌++◌, length, take, drop, map, replicate, sym, ap, ◌∙◌}
 use Rattle.std.proofs.lemmas.List.{take-append-drop, drop-replicate}
 use Rattle.std.proofs.Math.Seq.{take-length}
 
--- where all are put, what stands behind them is what was there before
+-- once all are written, the rest is what was there before
 pub filled : {X Y : Type 0} (f : X → Y) (xs : List X) (ys : List Y) (y : Y) (n i : ℕ) → i ≡ length xs → take i ys ≡ map f (take i xs)
     → drop i ys ≡ drop i (replicate n y) → ys ≡ map f xs ++ replicate (n - length xs) y
 filled f xs ys y n i all front rest =

@@ -32,10 +32,10 @@ replay_push cs c b mid after r s =
     let there : world_of mid ≡ world_after b.nodes (b.history ++ es) =
     ap (λ (ns : List NodeInfo). world_after ns mid.history) nodes ∙ ap (world_after b.nodes) r.3 in
     let at = there ∙ fold-append (next_world b.nodes) first_world b.history es in
-    let told = subst (λ (ns : List NodeInfo). (outcome_in ns (world_of mid) e.session e.command).0 ≡ e.reply) nodes s.2 in (
+    let replied = subst (λ (ns : List NodeInfo). (outcome_in ns (world_of mid) e.session e.command).0 ≡ e.reply) nodes s.2 in (
       es ++ e ∷ [],
       entries_push cs es c e r.1 s.1,
-      legal_append b.nodes (world_of b) es (e ∷ []) r.2 (subst (λ (w : World). (outcome_in b.nodes w e.session e.command).0 ≡ e.reply) at told, tt),
+      legal_append b.nodes (world_of b) es (e ∷ []) r.2 (subst (λ (w : World). (outcome_in b.nodes w e.session e.command).0 ≡ e.reply) at replied, tt),
       s.3 ∙ ap (λ (h : List Entry). h ++ e ∷ []) r.3 ∙ append_assoc b.history es (e ∷ []),
       s.4 ∙ r.4,
       s.5 ∙ r.5,

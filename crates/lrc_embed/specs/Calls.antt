@@ -1,4 +1,4 @@
--- What a call and a look answer of the book of a handle.
+-- What calls and looks return of the book of a handle.
 use Rattle.std.specs.Prelude.{◌≡◌, ◌≢◌, ℕ, List, [], ◌∷◌, ◌++◌, drop, length, Option, Some, None, option_map, ◌⊎◌, ◌≤◌}
 use Rattle.lrc_code.specs.declared.numbers.StripeNo.{StripeNo}
 use Rattle.lrc_code.specs.declared.numbers.Fragment.{Fragment}
@@ -15,17 +15,17 @@ use Rattle.lrc_embed.specs.declared.command.LrcCommand.{LrcCommand}
 use Rattle.lrc_embed.specs.declared.reply.LrcReply.{LrcReply}
 use Rattle.lrc_embed.specs.declared.risk.LrcRisk.{LrcRisk}
 use Rattle.lrc_embed.specs.Commands.{IsCommand}
-use Rattle.lrc_embed.specs.Replies.{reply_told}
-use Rattle.lrc_embed.specs.Looks.{topology_told}
+use Rattle.lrc_embed.specs.Replies.{encoded_reply}
+use Rattle.lrc_embed.specs.Looks.{topology_status}
 
 -- there is a book, and this holds of it
 abbrev pub Of : Option BookView → (BookView → Type 0) → Type 0
 Of None P = ⊥
 Of (Some b) P = P b
 
--- what a refused call leaves as it was; the room that was made for later is no part of it
-abbrev pub kept : Option BookView → Option (List NodeInfo × ℕ × List Entry)
-kept book = option_map (λ b. (b.nodes, b.limit, b.history)) book
+-- what a failed call leaves as it was; the room that was made for later is not part of it
+abbrev pub contents : Option BookView → Option (List NodeInfo × ℕ × List Entry)
+contents book = option_map (λ b. (b.nodes, b.limit, b.history)) book
 
 -- a book of the text's nodes, with no entry yet
 abbrev pub IsNew : List ℕ → BookView → Type 0
@@ -33,11 +33,11 @@ IsNew text b = IsTopologyOf text b.nodes × (b.limit ≡ 1000000) × (b.history 
 
 -- the text is refused as this status and this detail say
 abbrev pub IsRefused : List ℕ → ℕ → ℕ → Type 0
-IsRefused text status detail = (e : TopologyError) × IsRefusedBy text e × (topology_told e ≡ (status, detail))
+IsRefused text status detail = (e : TopologyError) × IsRefusedBy text e × (topology_status e ≡ (status, detail))
 
 -- the reply is that of the step after the book's history
 abbrev pub IsReplyOf : BookView → SessionNo → Command → LrcReply → Type 0
-IsReplyOf b session command reply = reply ≡ reply_told (outcome_in b.nodes (world_of b) session command).0
+IsReplyOf b session command reply = reply ≡ encoded_reply (outcome_in b.nodes (world_of b) session command).0
 
 -- the same, of the command that C wrote
 abbrev pub IsPeek : ℕ → LrcCommand → LrcReply → BookView → Type 0
@@ -80,9 +80,9 @@ pub record IsLook {T : Type 0} (Outside : Type 0) (Shows : BookView → Option T
 abbrev pub IsStripeLook : {T : Type 0} → ℕ → (BookView → StripeNo → Option T) → Option BookView → Option BookView → ℕ → T → T → Type 0
 IsStripeLook number shown = IsLook (4096 ≤ number) (λ b found. AtStripe number (λ s. shown b s ≡ found))
 
--- the rows are so many, and stand before what stood behind as many others
-abbrev pub IsAtFront : List LrcRisk → ℕ → List LrcRisk → List LrcRisk → Type 0
-IsAtFront rows count before after = (count ≡ length rows) × (after ≡ rows ++ drop count before)
+-- these are the first rows, `count` in number, and the rows after them are as before
+abbrev pub AreFirstRows : List LrcRisk → ℕ → List LrcRisk → List LrcRisk → Type 0
+AreFirstRows rows count before after = (count ≡ length rows) × (after ≡ rows ++ drop count before)
 
 -- the node of a number
 abbrev pub node_no : ℕ → NodeNo

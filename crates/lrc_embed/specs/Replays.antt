@@ -1,4 +1,4 @@
--- What the calls of kept entries give where they are made anew.
+-- What the calls of saved entries give when they are repeated.
 use Rattle.std.specs.Prelude.{◌≡◌, ◌≢◌, ℕ, ◌⊎◌, false, List, [], ◌∷◌, ◌++◌, take, length, Some}
 use Rattle.std.specs.List.{slice_get}
 use Rattle.lrc_code.specs.declared.numbers.SessionNo.{SessionNo}
@@ -8,16 +8,16 @@ use Rattle.lrc_rules.specs.Histories.{outcome_in, IsLegalFrom}
 use Rattle.lrc_book.specs.Books.{BookView, world_of}
 use Rattle.lrc_embed.specs.declared.entry.LrcEntry.{LrcEntry}
 use Rattle.lrc_embed.specs.Commands.{IsCommand, is_command}
-use Rattle.lrc_embed.specs.Replies.{reply_told}
+use Rattle.lrc_embed.specs.Replies.{encoded_reply}
 use Rattle.lrc_embed.specs.Calls.{IsOutside}
 
 -- the session and the command that the struct is read as
-abbrev pub IsAsked : LrcEntry → SessionNo → Command → Type 0
-IsAsked c session command = (session.value ≡ c.session) × IsCommand c.command command
+abbrev pub IsReadAs : LrcEntry → SessionNo → Command → Type 0
+IsReadAs c session command = (session.value ≡ c.session) × IsCommand c.command command
 
 -- the struct is this entry
 abbrev pub IsEntry : LrcEntry → Entry → Type 0
-IsEntry c e = IsAsked c e.session e.command × (c.reply ≡ reply_told e.reply)
+IsEntry c e = IsReadAs c e.session e.command × (c.reply ≡ encoded_reply e.reply)
 
 -- the structs are these entries, one by one
 abbrev pub AreEntries : List LrcEntry → List Entry → Type 0
@@ -31,7 +31,7 @@ IsReplay cs b after =
     (es : List Entry) × AreEntries cs es × IsLegalFrom b.nodes (world_of b) es
     × (after.history ≡ b.history ++ es) × (after.nodes ≡ b.nodes) × (after.limit ≡ b.limit)
 
--- the entries before this position are replayed, and this holds of the one at it in the book that they leave
+-- the entries before this position are replayed, and this holds of the entry there, in the book after them
 abbrev pub StopsAt : (LrcEntry → BookView → Type 0) → List LrcEntry → ℕ → BookView → Type 0
 StopsAt P cs position b =
     (c : LrcEntry) × (after : BookView) × (slice_get cs position ≡ Some c) × IsReplay (take position cs) b after × P c after
@@ -46,12 +46,12 @@ IsFull c b = length b.history ≡ b.limit
 
 -- a session and a command have these numbers, and the history has room for one more
 abbrev pub IsCallable : LrcEntry → BookView → Type 0
-IsCallable c b = (session : SessionNo) × (command : Command) × IsAsked c session command × (length b.history ≢ b.limit)
+IsCallable c b = (session : SessionNo) × (command : Command) × IsReadAs c session command × (length b.history ≢ b.limit)
 
 -- the step has another reply than the entry
 abbrev pub IsDifferent : LrcEntry → BookView → Type 0
 IsDifferent c b =
-    (session : SessionNo) × (command : Command) × IsAsked c session command × (c.reply ≢ reply_told (outcome_in b.nodes (world_of b) session command).0)
+    (session : SessionNo) × (command : Command) × IsReadAs c session command × (c.reply ≢ encoded_reply (outcome_in b.nodes (world_of b) session command).0)
 
 -- the history grew by the entry of the struct, with the reply of the step
 abbrev pub IsRepeat : LrcEntry → BookView → BookView → Type 0

@@ -1,12 +1,11 @@
 ghost use Rattle.std.specs.Prelude.{◌≡◌, IfSome, is_some};
-ghost use Rattle.lrc_embed.specs.Commands.{IsCommand, is_command, command_told, of_stripe, of_fragment, of_node, of_domain};
+ghost use Rattle.lrc_embed.specs.Commands.{IsCommand, is_command, encoded_command, of_stripe, of_fragment, of_node, of_domain};
 
 use lrc_book::Command;
 use lrc_code::{Fragment, NodeNo, StripeNo, UpgradeNo};
 
-/// A command. Kind 1 is `place`, 2 `drop`, 3 `lease`, 4 `next`, 5 `done`, 6 `abandon`, 7 `revoke`, 8 `fail`, 9 `down`,
-/// 10 `up`, 11 `drain`, 12 `undrain`, 13 `retire`, 14 `join`, 15 `upgrade`, 16 `upgraded`, 17 `tick` and 18 `place6`. What
-/// the kind does not use may be anything, and is told as 0.
+/// A command. `read` has the kinds. A field that the kind does not use may be anything, and is 0 in a command that the
+/// library writes.
 #[repr(C)]
 #[derive(Clone, Copy)]
 pub struct LrcCommand {
@@ -30,7 +29,7 @@ const BLANK: LrcCommand = LrcCommand {
 };
 
 impl LrcCommand {
-    /// The command; `None` where the kind, or a number that it uses, is out of range.
+    /// The command; `None` if the kind, or a number that it uses, is out of range.
     #[inline(always)] // a call from C then goes through one struct in memory less
     pub(crate) fn read(&self) -> Option<Command>
         ensures value { IfSome result (IsCommand self.now) }
@@ -68,7 +67,7 @@ impl LrcCommand {
     }
 
     pub(crate) fn of(command: Command) -> LrcCommand
-        ensures { result ≡ command_told command }
+        ensures { result ≡ encoded_command command }
     {
         match command {
             Command::Place(stripe) => of_stripe(1, stripe),

@@ -1,5 +1,5 @@
 ghost use Rattle.std.specs.Prelude.{◌≡◌};
-ghost use Rattle.lrc_embed.specs.Replies.{entry_told};
+ghost use Rattle.lrc_embed.specs.Replies.{encoded_entry};
 
 use crate::{LrcCommand, LrcReply};
 use lrc_book::Entry;
@@ -16,7 +16,7 @@ pub struct LrcEntry {
 
 impl LrcEntry {
     pub(crate) fn of(entry: &Entry) -> LrcEntry
-        ensures { result ≡ entry_told entry.now }
+        ensures { result ≡ encoded_entry entry.now }
     {
         LrcEntry {
             session: entry.session.value,

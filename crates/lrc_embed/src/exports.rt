@@ -1,4 +1,4 @@
-//! The functions that C calls. Each answers a status, and writes its answer only where that is 0.
+//! The functions that C calls. Each returns a status, and writes its result only if that is 0.
 
 mod call;
 mod history;

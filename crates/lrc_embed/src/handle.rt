@@ -1,4 +1,4 @@
-//! What C keeps of a book.
+//! The handle that C has of a book.
 
 ghost use Rattle.std.specs.Prelude.{◌≡◌, Some, None, is_some, IfSome};
 
@@ -7,7 +7,7 @@ use lrc_book::Book;
 use std::alloc::Global;
 use std::mem::replace;
 
-/// A book, or none where the handle is closed. A struct of zeros is a closed handle.
+/// A book, or none if the handle is closed. A struct of zeros is a closed handle.
 #[repr(C)]
 #[derive(Drop)]
 pub struct LrcHandle {
@@ -23,7 +23,7 @@ impl LrcHandle {
         self.is_open
     }
 
-    /// The book of the handle, which is closed from then on; `None` where it was closed.
+    /// Takes the book, which closes the handle; `None` if it was closed.
     pub(crate) fn take(&mut self, alloc: Global) -> Option<Box<Book>>
         ensures book { IfSome result (λ b. self.old.owned.book ≡ Some b.value) }
         ensures none { (result ≡ None) → self.old.owned.book ≡ None }
@@ -53,7 +53,7 @@ impl LrcHandle {
     }
 }
 
-/// A handle may go from thread to thread.
+/// A handle may move to another thread.
 fn crosses(handle: LrcHandle) -> LrcHandle {
     sent(handle)
 }

@@ -1,10 +1,10 @@
 ghost use Rattle.std.specs.Prelude.{◌≡◌};
-ghost use Rattle.lrc_embed.specs.Looks.{home_told, homes_told};
+ghost use Rattle.lrc_embed.specs.Looks.{encoded_home, encoded_homes};
 
 use crate::LrcSeat;
 use lrc_book::Seat;
 
-/// The home of a fragment: `is_there` is 1 and the seat is the home, or all is 0 and there is none.
+/// The home of a fragment: `is_there` is 1 and the seat is the home, or all is 0 and there is no home.
 #[repr(C)]
 #[derive(Clone, Copy)]
 pub struct LrcHome {
@@ -28,7 +28,7 @@ const NONE: LrcHome = LrcHome {
 
 impl LrcHome {
     fn of(home: Option<Seat>) -> LrcHome
-        ensures { result ≡ home_told home }
+        ensures { result ≡ encoded_home home }
     {
         match home {
             Some(seat) => LrcHome {
@@ -43,12 +43,12 @@ impl LrcHome {
 
 impl LrcHomes {
     pub(crate) fn of(homes: &[Option<Seat>; 16]) -> LrcHomes
-        ensures { result ≡ homes_told homes.now }
+        ensures { result ≡ encoded_homes homes.now }
     {
-        let mut told = [NONE; 16];
+        let mut encoded = [NONE; 16];
         for (i, home) in homes.iter().enumerate() {
-            told[i] = LrcHome::of(*home);
+            encoded[i] = LrcHome::of(*home);
         }
-        LrcHomes { homes: told }
+        LrcHomes { homes: encoded }
     }
 }

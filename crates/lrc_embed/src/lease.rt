@@ -1,11 +1,11 @@
 ghost use Rattle.std.specs.Prelude.{◌≡◌};
-ghost use Rattle.lrc_embed.specs.Replies.{lease_told, lease_in_reply};
+ghost use Rattle.lrc_embed.specs.Replies.{encoded_lease, lease_in_reply};
 
 use crate::LrcSeat;
 use lrc_book::Lease;
 
-/// A lease of a fragment of a stripe: its holder is a session, its target the seat that the fragment is to have, and its
-/// expiry the clock at which it ends, which is 0 in a reply.
+/// A lease of a fragment of a stripe. The holder is a session, the target the seat that the fragment gets. The expiry is the
+/// clock at which the lease ends, or 0 in a reply.
 #[repr(C)]
 #[derive(Clone, Copy, PartialEq, Eq)]
 pub struct LrcLease {
@@ -28,7 +28,7 @@ impl LrcLease {
     };
 
     pub(crate) fn of(lease: &Lease) -> LrcLease
-        ensures { result ≡ lease_told lease.now }
+        ensures { result ≡ encoded_lease lease.now }
     {
         LrcLease {
             stripe: lease.stripe.value,
@@ -40,7 +40,7 @@ impl LrcLease {
         }
     }
 
-    /// A lease in a reply. Its end is not told, so that entries which were kept before leases had one are told alike.
+    /// A lease in a reply. Its expiry is 0, as in entries that were saved before leases had one.
     pub(crate) fn in_reply(lease: &Lease) -> LrcLease
         ensures { result ≡ lease_in_reply lease.now }
     {

@@ -1,5 +1,5 @@
 ghost use Rattle.std.specs.Prelude.{◌≡◌};
-ghost use Rattle.lrc_embed.specs.Looks.{level_told};
+ghost use Rattle.lrc_embed.specs.Looks.{encoded_level};
 
 use lrc_book::Level;
 
@@ -14,7 +14,7 @@ pub struct LrcLevel {
 
 impl LrcLevel {
     pub(crate) fn of(level: Level) -> LrcLevel
-        ensures { result ≡ level_told level }
+        ensures { result ≡ encoded_level level }
     {
         let (kind, margin) = match level {
             Level::Whole => (1, 0),

@@ -1,4 +1,4 @@
-//! The book for programs that are not Rattle: a static library whose functions take a handle.
+//! The book for programs in other languages: a static library whose functions take a handle.
 #![tactic(auto)]
 
 mod command;

@@ -1,9 +1,9 @@
 ghost use Rattle.std.specs.Prelude.{◌≡◌};
-ghost use Rattle.lrc_embed.specs.Looks.{mode_told};
+ghost use Rattle.lrc_embed.specs.Looks.{encoded_mode};
 
 use lrc_book::Mode;
 
-/// The mode of a node: 1 is active, 2 draining and 3 gone; and 1 where it is online, else 0.
+/// The mode of a node: 1 is active, 2 draining and 3 gone; and 1 if it is online, else 0.
 #[repr(C)]
 #[derive(Clone, Copy)]
 pub struct LrcMode {
@@ -13,10 +13,10 @@ pub struct LrcMode {
 }
 
 impl LrcMode {
-    pub(crate) fn of(shown: (Mode, bool)) -> LrcMode
-        ensures { result ≡ mode_told shown }
+    pub(crate) fn of(found: (Mode, bool)) -> LrcMode
+        ensures { result ≡ encoded_mode found }
     {
-        let (mode, is_online) = shown;
+        let (mode, is_online) = found;
         let mode = match mode {
             Mode::Active => 1,
             Mode::Draining => 2,

@@ -1,14 +1,11 @@
 ghost use Rattle.std.specs.Prelude.{◌≡◌, ◌-◌, ◌≤◌, ◌++◌, length, map, replicate};
-ghost use Rattle.lrc_embed.specs.Replies.{repair_told, refusal_told, reply_told};
+ghost use Rattle.lrc_embed.specs.Replies.{encoded_repair, encoded_refusal, encoded_reply};
 
 use crate::{LrcLease, LrcSeat};
 use lrc_book::{Kind, Refusal, Reply};
 use lrc_code::Fragment;
 
-/// A reply. Kind 1 is placed, on the seats of fragments 0 to 15; 2 dropped; 3 granted, with the lease and the kind of
-/// its repair; 4 idle; 5 ended; 6 changed; 7 refused, with the number of the refusal and what that names as its
-/// detail; 8 ticked, with the new clock and how many leases ended; 9 placed6, on the seats of fragments 0 to 9. Repair 1 is
-/// local, from the six sources; 2 global; 3 a move; 4 local3, from the first three sources. What the kind does not use is 0.
+/// A reply. `set` has the kinds, and `set_repair` those of a repair. A field that the kind does not use is 0.
 #[repr(C)]
 #[derive(Clone, Copy, PartialEq, Eq)]
 pub struct LrcReply {
@@ -41,16 +38,16 @@ const BLANK: LrcReply = LrcReply {
 
 impl LrcReply {
     pub(crate) fn of(reply: &Reply) -> LrcReply
-        ensures { result ≡ reply_told reply.now }
+        ensures { result ≡ encoded_reply reply.now }
     {
-        let mut told = BLANK;
-        told.tell(reply);
-        told
+        let mut encoded = BLANK;
+        encoded.set(reply);
+        encoded
     }
 
-    /// Becomes the reply. It is written where it stands: a copy of the whole struct takes as long as a small command.
-    pub(crate) fn tell(&mut self, reply: &Reply)
-        ensures { self.new ≡ reply_told reply.now }
+    /// Becomes the reply. It is written in place: a copy of the whole struct takes as long as a small command.
+    pub(crate) fn set(&mut self, reply: &Reply)
+        ensures { self.new ≡ encoded_reply reply.now }
     {
         *self = BLANK;
         match reply {
@@ -62,7 +59,7 @@ impl LrcReply {
             Reply::Granted(lease, kind) => {
                 self.kind = 3;
                 self.lease = LrcLease::in_reply(lease);
-                self.tell_repair(kind);
+                self.set_repair(kind);
             }
             Reply::Idle => self.kind = 4,
             Reply::Ended => self.kind = 5,
@@ -83,10 +80,10 @@ impl LrcReply {
         }
     }
 
-    /// Tells the number of a kind of repair, and the fragments that it reads, where none are told yet.
-    fn tell_repair(&mut self, kind: &Kind)
+    /// Writes the number of a kind of repair, and the fragments that it reads. The sources are still 0.
+    fn set_repair(&mut self, kind: &Kind)
         requires { self.old.sources ≡ replicate 6 0 }
-        ensures { self.new ≡ record self.old { repair = (repair_told kind.now).0; sources = (repair_told kind.now).1 } }
+        ensures { self.new ≡ record self.old { repair = (encoded_repair kind.now).0; sources = (encoded_repair kind.now).1 } }
     {
         match kind {
             Kind::Local(sources) => {
@@ -103,7 +100,7 @@ impl LrcReply {
     }
 }
 
-/// The numbers of the fragments, and 0 behind them.
+/// The numbers of the fragments, and 0 after them.
 fn numbers_of(fragments: &[Fragment]) -> [u8; 6]
     requires few { length fragments.now ≤ 6 }
     ensures { result ≡ map (λ f. f.value) fragments.now ++ replicate (6 - length fragments.now) 0 }
@@ -117,7 +114,7 @@ fn numbers_of(fragments: &[Fragment]) -> [u8; 6]
 
 /// The number of a refusal, and the number that it names, or 0.
 fn refusal_of(refusal: &Refusal) -> (u8, u32)
-    ensures { result ≡ refusal_told refusal.now }
+    ensures { result ≡ encoded_refusal refusal.now }
 {
     match *refusal {
         Refusal::UnknownStripe => (101, 0),

@@ -1,5 +1,5 @@
 ghost use Rattle.std.specs.Prelude.{◌≡◌};
-ghost use Rattle.lrc_embed.specs.Looks.{risk_told};
+ghost use Rattle.lrc_embed.specs.Looks.{encoded_risk};
 
 use crate::LrcLevel;
 use lrc_book::Level;
@@ -16,7 +16,7 @@ pub struct LrcRisk {
 
 impl LrcRisk {
     pub(crate) fn of(row: (StripeNo, Level)) -> LrcRisk
-        ensures { result ≡ risk_told row }
+        ensures { result ≡ encoded_risk row }
     {
         let (stripe, level) = row;
         LrcRisk {

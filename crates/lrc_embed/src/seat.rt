@@ -1,5 +1,5 @@
 ghost use Rattle.std.specs.Prelude.{◌≡◌, ◌-◌, ◌≤◌, ◌++◌, length, map, replicate};
-ghost use Rattle.lrc_embed.specs.Replies.{seat_told, no_seat};
+ghost use Rattle.lrc_embed.specs.Replies.{encoded_seat, no_seat};
 
 use lrc_book::Seat;
 
@@ -15,7 +15,7 @@ impl LrcSeat {
     pub(crate) const NONE: LrcSeat = LrcSeat { node: 0, slot: 0 };
 
     pub(crate) fn of(seat: Seat) -> LrcSeat
-        ensures { result ≡ seat_told seat }
+        ensures { result ≡ encoded_seat seat }
     {
         LrcSeat {
             node: seat.node.value,
@@ -23,15 +23,15 @@ impl LrcSeat {
         }
     }
 
-    /// The seats of the fragments from 0 on, and no seat behind them.
+    /// The seats of the fragments from 0 on, and no seat after them.
     pub(crate) fn of_all(seats: &[Seat]) -> [LrcSeat; 16]
         requires few { length seats.now ≤ 16 }
-        ensures { result ≡ map seat_told seats.now ++ replicate (16 - length seats.now) no_seat }
+        ensures { result ≡ map encoded_seat seats.now ++ replicate (16 - length seats.now) no_seat }
     {
-        let mut told = [LrcSeat::NONE; 16];
+        let mut encoded = [LrcSeat::NONE; 16];
         for (i, seat) in seats.iter().enumerate() {
-            told[i] = LrcSeat::of(*seat);
+            encoded[i] = LrcSeat::of(*seat);
         }
-        told
+        encoded
     }
 }

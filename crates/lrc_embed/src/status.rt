@@ -1,6 +1,6 @@
-//! What an export answers.
+//! What an export returns.
 
-/// It was done.
+/// The call was done.
 pub(crate) const DONE: u32 = 0;
 
 /// The handle is closed.
@@ -24,10 +24,10 @@ pub(crate) const OUT_OF_MEMORY: u32 = 6;
 /// The buffer has no room for all rows.
 pub(crate) const SHORT: u32 = 7;
 
-/// A reply is not the one that the entry has.
+/// The reply is not that of the entry.
 pub(crate) const DIFFERENT: u32 = 8;
 
-/// The text is no TOML 1.1 in UTF-8.
+/// The text is not TOML 1.1 in UTF-8.
 pub(crate) const SYNTAX: u32 = 16;
 
 /// The text lists no nodes.
@@ -39,7 +39,7 @@ pub(crate) const BAD_FIELD: u32 = 18;
 /// The entry of `node` at this position has a number out of its range.
 pub(crate) const NODE_OUT_OF_RANGE: u32 = 19;
 
-/// The node of this number stands twice in the text.
+/// The text has this node number twice.
 pub(crate) const DOUBLE_NODE: u32 = 20;
 
 /// The text lists more than 512 nodes.

@@ -1,8 +1,8 @@
 ghost use Rattle.std.specs.Prelude.{◌≡◌, ◌≢◌, ◌↔◌, ◌⊎◌, ◌++◌, ◌∷◌, [], false, List, Some, None, length};
 ghost use Rattle.lrc_rules.specs.declared.entry.Entry.{Entry};
-ghost use Rattle.lrc_embed.specs.Calls.{Of, kept, IsCall, IsStepOf, IsPeek, IsReplyOf, IsOutside};
+ghost use Rattle.lrc_embed.specs.Calls.{Of, contents, IsCall, IsStepOf, IsPeek, IsReplyOf, IsOutside};
 ghost use Rattle.lrc_embed.specs.Commands.{is_command};
-ghost use Rattle.lrc_embed.specs.Replies.{reply_told};
+ghost use Rattle.lrc_embed.specs.Replies.{encoded_reply};
 
 use crate::status::{DONE, FULL, IS_CLOSED, OUT_OF_MEMORY, OUT_OF_RANGE};
 use crate::{LrcCommand, LrcHandle, LrcReply};
@@ -10,7 +10,7 @@ use lrc_book::{Book, Command};
 use lrc_code::{Fault, SessionNo};
 use std::alloc::Global;
 
-/// Makes one step of the book, and tells its reply.
+/// Makes one step of the book, and writes its reply.
 #[unsafe(no_mangle)]
 pub extern "C" fn lrc_embed_call(
     alloc: Global,
@@ -20,11 +20,11 @@ pub extern "C" fn lrc_embed_call(
     reply: &mut LrcReply,
 ) -> u32
     ensures done { (result ≡ 0) → Of handle.old.owned.book (λ b. Of handle.new.owned.book (IsCall session command.now reply.new b)) }
-    ensures kept { (result ≢ 0) → kept handle.new.owned.book ≡ kept handle.old.owned.book }
+    ensures unchanged { (result ≢ 0) → contents handle.new.owned.book ≡ contents handle.old.owned.book }
     ensures full { (result ≢ 1) → (result ≢ 3) → Of handle.old.owned.book (λ b. (result ≡ 5) ↔ (length b.history ≡ b.limit)) }
     ensures closed { (result ≡ 1) → handle.old.owned.book ≡ None }
     ensures range { (result ≡ 3) → IsOutside session ⊎ (is_command command.now ≡ false) }
-    // That is told of a closed handle too.
+    // A closed handle returns this too.
     ensures range_first { IsOutside session ⊎ (is_command command.now ≡ false) → result ≡ 3 }
     ensures statuses { (result ≡ 0) ⊎ (result ≡ 1) ⊎ (result ≡ 3) ⊎ (result ≡ 5) ⊎ (result ≡ 6) }
     ensures unwritten { (result ≢ 0) → reply.new ≡ reply.old }
@@ -86,24 +86,24 @@ fn decide(book: &Book, session: SessionNo, command: Command, reply: &mut LrcRepl
 {
     match book.decide(session, command) {
         Ok(plan) => {
-            reply.tell(&plan.entry.reply);
+            reply.set(&plan.entry.reply);
             DONE
         }
         Err(_) => FULL,
     }
 }
 
-/// Makes one step, and tells its reply.
+/// Makes one step, and writes its reply.
 fn step(book: &mut Book, session: SessionNo, command: Command, reply: &mut LrcReply) -> u32
     ensures done { (result ≡ 0) → IsStepOf book.old session command reply.new book.new }
-    ensures kept { (result ≢ 0) → kept (Some book.new) ≡ kept (Some book.old) }
+    ensures unchanged { (result ≢ 0) → contents (Some book.new) ≡ contents (Some book.old) }
     ensures full { (result ≡ 5) ↔ (length book.old.history ≡ book.old.limit) }
     ensures statuses { (result ≡ 0) ⊎ (result ≡ 5) ⊎ (result ≡ 6) }
     ensures unwritten { (result ≢ 0) → reply.new ≡ reply.old }
 {
     match book.add(session, command) {
         Ok(_) => {
-            tell_last(book, reply);
+            write_last_reply(book, reply);
             DONE
         }
         Err(Fault::HistoryFull) => FULL,
@@ -111,11 +111,11 @@ fn step(book: &mut Book, session: SessionNo, command: Command, reply: &mut LrcRe
     }
 }
 
-/// Tells the reply of the last entry.
-fn tell_last(book: &Book, reply: &mut LrcReply)
-    ensures { (past : List Entry) (e : Entry) → book.now.history ≡ past ++ e ∷ [] → reply.new ≡ reply_told e.reply }
+/// Writes the reply of the last entry.
+fn write_last_reply(book: &Book, reply: &mut LrcReply)
+    ensures { (past : List Entry) (e : Entry) → book.now.history ≡ past ++ e ∷ [] → reply.new ≡ encoded_reply e.reply }
 {
     if let Some(record) = book.history().last() {
-        reply.tell(&record.reply());
+        reply.set(&record.reply());
     }
 }

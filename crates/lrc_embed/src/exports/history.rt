@@ -1,6 +1,6 @@
 ghost use Rattle.std.specs.Prelude.{◌≡◌, ◌≢◌, ◌⊎◌, None, option_map, length, slice_get};
 ghost use Rattle.lrc_embed.specs.Calls.{Of, IsLook};
-ghost use Rattle.lrc_embed.specs.Replies.{entry_told};
+ghost use Rattle.lrc_embed.specs.Replies.{encoded_entry};
 
 use crate::exports::looks::look;
 use crate::status::{DONE, IS_CLOSED};
@@ -12,7 +12,7 @@ use std::alloc::Global;
 #[unsafe(no_mangle)]
 pub extern "C" fn lrc_embed_count(alloc: Global, handle: &mut LrcHandle, count: &mut usize) -> u32
     ensures same { handle.new.owned.book ≡ handle.old.owned.book }
-    ensures told { (result ≡ 0) → Of handle.old.owned.book (λ b. length b.history ≡ count.new) }
+    ensures value { (result ≡ 0) → Of handle.old.owned.book (λ b. length b.history ≡ count.new) }
     ensures closed { (result ≡ 1) → handle.old.owned.book ≡ None }
     ensures statuses { (result ≡ 0) ⊎ (result ≡ 1) }
     ensures unwritten { (result ≢ 0) → count.new ≡ count.old }
@@ -33,9 +33,14 @@ pub extern "C" fn lrc_embed_entry(
     index: usize,
     entry: &mut LrcEntry,
 ) -> u32
-    ensures { IsLook ⊥ (λ b found. option_map entry_told (slice_get b.history index) ≡ found) handle.old.owned.book handle.new.owned.book result entry.old entry.new }
+    ensures { IsLook ⊥ (λ b found. option_map encoded_entry (slice_get b.history index) ≡ found) handle.old.owned.book handle.new.owned.book result entry.old entry.new }
 {
-    look(alloc, handle, entry, |book| Some(LrcEntry::of(&entry_at(book, index)?)))
+    look(
+        alloc,
+        handle,
+        entry,
+        |book| Some(LrcEntry::of(&entry_at(book, index)?)),
+    )
 }
 
 /// The entry of a book's history at an index, if there is one.

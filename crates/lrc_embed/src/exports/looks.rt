@@ -1,11 +1,11 @@
-ghost use Rattle.std.specs.Prelude.{◌≡◌, ◌≢◌, ◌≤◌, ◌<◌, ◌⊎◌, true, is_some, None, option_map, length, map};
+ghost use Rattle.std.specs.Prelude.{◌≡◌, ◌≢◌, ◌≤◌, ◌<◌, ◌⊎◌, true, is_some, Some, None, option_map, length, map};
 ghost use Rattle.std.specs.Fn.{FnOnceReturnsAt};
 ghost use Rattle.lrc_book.specs.Books.{state_of};
 ghost use Rattle.lrc_rules.specs.States.{code_shown, homes_shown, level_shown, missing_shown, lease_of, load_shown, mode_shown};
 ghost use Rattle.lrc_rules.specs.Urgency.{risk};
-ghost use Rattle.lrc_embed.specs.Calls.{Of, AtFragment, IsLook, IsStripeLook, IsAtFront, node_no};
-ghost use Rattle.lrc_embed.specs.Replies.{lease_told};
-ghost use Rattle.lrc_embed.specs.Looks.{code_told, homes_told, level_told, risk_told, mode_told};
+ghost use Rattle.lrc_embed.specs.Calls.{Of, AtFragment, IsLook, IsStripeLook, AreFirstRows, node_no};
+ghost use Rattle.lrc_embed.specs.Replies.{encoded_lease};
+ghost use Rattle.lrc_embed.specs.Looks.{encoded_code, encoded_homes, encoded_level, encoded_risk, encoded_mode};
 
 use crate::status::{DONE, IS_CLOSED, OUT_OF_MEMORY, OUT_OF_RANGE, SHORT, UNKNOWN};
 use crate::{LrcHandle, LrcHomes, LrcLease, LrcLevel, LrcMode, LrcRisk};
@@ -45,12 +45,17 @@ pub extern "C" fn lrc_embed_homes(
     stripe: u16,
     homes: &mut LrcHomes,
 ) -> u32
-    ensures { IsStripeLook stripe (λ b s. option_map homes_told (homes_shown (state_of b) s)) handle.old.owned.book handle.new.owned.book result homes.old homes.new }
+    ensures { IsStripeLook stripe (λ b s. option_map encoded_homes (homes_shown (state_of b) s)) handle.old.owned.book handle.new.owned.book result homes.old homes.new }
 {
     let Some(stripe) = StripeNo::new(stripe) else {
         return OUT_OF_RANGE;
     };
-    look(alloc, handle, homes, |book| Some(LrcHomes::of(&book.homes(stripe)?)))
+    look(
+        alloc,
+        handle,
+        homes,
+        |book| Some(LrcHomes::of(&book.homes(stripe)?)),
+    )
 }
 
 /// How far a stripe is from loss.
@@ -61,12 +66,17 @@ pub extern "C" fn lrc_embed_level(
     stripe: u16,
     level: &mut LrcLevel,
 ) -> u32
-    ensures { IsStripeLook stripe (λ b s. option_map level_told (level_shown b.nodes (state_of b) s)) handle.old.owned.book handle.new.owned.book result level.old level.new }
+    ensures { IsStripeLook stripe (λ b s. option_map encoded_level (level_shown b.nodes (state_of b) s)) handle.old.owned.book handle.new.owned.book result level.old level.new }
 {
     let Some(stripe) = StripeNo::new(stripe) else {
         return OUT_OF_RANGE;
     };
-    look(alloc, handle, level, |book| Some(LrcLevel::of(book.level(stripe)?)))
+    look(
+        alloc,
+        handle,
+        level,
+        |book| Some(LrcLevel::of(book.level(stripe)?)),
+    )
 }
 
 /// The missing fragments of a stripe; fragment f is bit f.
@@ -82,7 +92,12 @@ pub extern "C" fn lrc_embed_missing(
     let Some(stripe) = StripeNo::new(stripe) else {
         return OUT_OF_RANGE;
     };
-    look(alloc, handle, missing, |book| Some(book.missing(stripe)?.bits))
+    look(
+        alloc,
+        handle,
+        missing,
+        |book| Some(book.missing(stripe)?.bits),
+    )
 }
 
 /// The code of a stripe: 1 is wide, 2 narrow.
@@ -93,17 +108,22 @@ pub extern "C" fn lrc_embed_code(
     stripe: u16,
     code: &mut u8,
 ) -> u32
-    ensures { IsStripeLook stripe (λ b s. option_map code_told (code_shown (state_of b) s)) handle.old.owned.book handle.new.owned.book result code.old code.new }
+    ensures { IsStripeLook stripe (λ b s. option_map encoded_code (code_shown (state_of b) s)) handle.old.owned.book handle.new.owned.book result code.old code.new }
 {
     let Some(stripe) = StripeNo::new(stripe) else {
         return OUT_OF_RANGE;
     };
-    look(alloc, handle, code, |book| Some(number_of(book.code(stripe)?)))
+    look(
+        alloc,
+        handle,
+        code,
+        |book| Some(number_of(book.code(stripe)?)),
+    )
 }
 
 /// The number of a code.
 fn number_of(code: Code) -> u8
-    ensures { result ≡ code_told code }
+    ensures { result ≡ encoded_code code }
 {
     match code {
         Code::Wide => 1,
@@ -120,7 +140,7 @@ pub extern "C" fn lrc_embed_lease(
     fragment: u8,
     lease: &mut LrcLease,
 ) -> u32
-    ensures { IsLook ((4096 ≤ stripe) ⊎ (16 ≤ fragment)) (λ b found. AtFragment stripe fragment (λ s f. option_map lease_told (lease_of (state_of b) s f) ≡ found)) handle.old.owned.book handle.new.owned.book result lease.old lease.new }
+    ensures { IsLook ((4096 ≤ stripe) ⊎ (16 ≤ fragment)) (λ b found. AtFragment stripe fragment (λ s f. option_map encoded_lease (lease_of (state_of b) s f) ≡ found)) handle.old.owned.book handle.new.owned.book result lease.old lease.new }
 {
     let Some(stripe) = StripeNo::new(stripe) else {
         return OUT_OF_RANGE;
@@ -128,7 +148,12 @@ pub extern "C" fn lrc_embed_lease(
     let Some(fragment) = Fragment::new(fragment) else {
         return OUT_OF_RANGE;
     };
-    look(alloc, handle, lease, |book| Some(LrcLease::of(&book.lease(stripe, fragment)?)))
+    look(
+        alloc,
+        handle,
+        lease,
+        |book| Some(LrcLease::of(&book.lease(stripe, fragment)?)),
+    )
 }
 
 /// The number of seats on a node.
@@ -141,7 +166,12 @@ pub extern "C" fn lrc_embed_load(
 ) -> u32
     ensures { IsLook ⊥ (λ b found. load_shown b.nodes (state_of b) (node_no node) ≡ found) handle.old.owned.book handle.new.owned.book result load.old load.new }
 {
-    look(alloc, handle, load, |book| book.load(NodeNo { value: node }))
+    look(
+        alloc,
+        handle,
+        load,
+        |book| book.load(NodeNo { value: node }),
+    )
 }
 
 /// The mode of a node, and whether it is online.
@@ -152,16 +182,32 @@ pub extern "C" fn lrc_embed_mode(
     node: u16,
     mode: &mut LrcMode,
 ) -> u32
-    ensures { IsLook ⊥ (λ b found. option_map mode_told (mode_shown b.nodes (state_of b) (node_no node)) ≡ found) handle.old.owned.book handle.new.owned.book result mode.old mode.new }
+    ensures same { handle.new.owned.book ≡ handle.old.owned.book }
+    ensures told { (result ≡ 0) → Of handle.old.owned.book (λ b. option_map encoded_mode (mode_shown b.nodes (state_of b) (node_no node)) ≡ Some mode.new) }
+    ensures unknown { (result ≡ 4) → Of handle.old.owned.book (λ b. mode_shown b.nodes (state_of b) (node_no node) ≡ None) }
+    ensures closed { (result ≡ 1) → handle.old.owned.book ≡ None }
+    ensures statuses { (result ≡ 0) ⊎ (result ≡ 1) ⊎ (result ≡ 4) }
+    ensures unwritten { (result ≢ 0) → mode.new ≡ mode.old }
 {
-    look(alloc, handle, mode, |book| Some(LrcMode::of(book.mode(NodeNo { value: node })?)))
+    let Some(book) = handle.take(alloc) else {
+        return IS_CLOSED;
+    };
+    let shown = book.mode(NodeNo { value: node });
+    handle.put(book);
+    match shown {
+        Some(shown) => {
+            *mode = LrcMode::of(shown);
+            DONE
+        }
+        None => UNKNOWN,
+    }
 }
 
-/// How many ticks there were. A live lease ends when the clock comes to its expiry.
+/// The number of ticks. A live lease ends when the clock reaches its expiry.
 #[unsafe(no_mangle)]
 pub extern "C" fn lrc_embed_clock(alloc: Global, handle: &mut LrcHandle, clock: &mut u32) -> u32
     ensures same { handle.new.owned.book ≡ handle.old.owned.book }
-    ensures told { (result ≡ 0) → Of handle.old.owned.book (λ b. (state_of b).clock ≡ clock.new) }
+    ensures value { (result ≡ 0) → Of handle.old.owned.book (λ b. (state_of b).clock ≡ clock.new) }
     ensures closed { (result ≡ 1) → handle.old.owned.book ≡ None }
     ensures statuses { (result ≡ 0) ⊎ (result ≡ 1) }
     ensures unwritten { (result ≢ 0) → clock.new ≡ clock.old }
@@ -174,8 +220,8 @@ pub extern "C" fn lrc_embed_clock(alloc: Global, handle: &mut LrcHandle, clock: 
     DONE
 }
 
-/// The stripes that are not whole, with their levels, in the order of repair: by rank, and by number. They are put into
-/// the first of the rows, as many as the count tells.
+/// The stripes that are not whole, with their levels, in the order of repair: by rank, and by number. They fill the first
+/// `count` rows.
 #[unsafe(no_mangle)]
 pub extern "C" fn lrc_embed_risk(
     alloc: Global,
@@ -184,10 +230,10 @@ pub extern "C" fn lrc_embed_risk(
     count: &mut usize,
 ) -> u32
     ensures same { handle.new.owned.book ≡ handle.old.owned.book }
-    ensures told { (result ≡ 0) → Of handle.old.owned.book (λ b. IsAtFront (map risk_told (risk b.nodes (state_of b))) count.new rows.old rows.new) }
+    ensures rows { (result ≡ 0) → Of handle.old.owned.book (λ b. AreFirstRows (map encoded_risk (risk b.nodes (state_of b))) count.new rows.old rows.new) }
     ensures short { (result ≡ 7) → Of handle.old.owned.book (λ b. length rows.old < length (risk b.nodes (state_of b))) }
     ensures closed { (result ≡ 1) → handle.old.owned.book ≡ None }
-    // Memory is refused to an open handle alone: a closed one is told first.
+    // A closed handle returns 1, without a request for memory.
     ensures memory { (result ≡ 6) → is_some handle.old.owned.book ≡ true }
     ensures statuses { (result ≡ 0) ⊎ (result ≡ 1) ⊎ (result ≡ 6) ⊎ (result ≡ 7) }
     ensures unwritten { (result ≢ 0) → (rows.new ≡ rows.old) × (count.new ≡ count.old) }
@@ -195,12 +241,12 @@ pub extern "C" fn lrc_embed_risk(
     let Some(book) = handle.take(alloc) else {
         return IS_CLOSED;
     };
-    let shown = book.risk(alloc);
+    let risk = book.risk(alloc);
     handle.put(book);
-    match shown {
-        Ok(shown) if shown.len() <= rows.len() => {
-            put_rows(shown.as_slice(), rows);
-            *count = shown.len();
+    match risk {
+        Ok(risk) if risk.len() <= rows.len() => {
+            put_rows(risk.as_slice(), rows);
+            *count = risk.len();
             DONE
         }
         Ok(_) => SHORT,
@@ -208,12 +254,12 @@ pub extern "C" fn lrc_embed_risk(
     }
 }
 
-/// Puts all into the first of the rows.
-fn put_rows(shown: &[(StripeNo, Level)], rows: &mut [LrcRisk])
-    requires room { length shown.now ≤ length rows.old }
-    ensures { IsAtFront (map risk_told shown.now) (length shown.now) rows.old rows.new }
+/// Writes the stripes at risk into the first rows.
+fn put_rows(risk: &[(StripeNo, Level)], rows: &mut [LrcRisk])
+    requires room { length risk.now ≤ length rows.old }
+    ensures { AreFirstRows (map encoded_risk risk.now) (length risk.now) rows.old rows.new }
 {
-    for (i, row) in shown.iter().enumerate() {
+    for (i, row) in risk.iter().enumerate() {
         rows[i] = LrcRisk::of(*row);
     }
 }

@@ -1,6 +1,6 @@
 ghost use Rattle.std.specs.Prelude.{◌≡◌, ◌≢◌, ◌≤◌, ◌<◌, ◌↔◌, ◌⊎◌, None, true, is_some};
 ghost use Rattle.lrc_embed.specs.Calls.{Of, IsNew, IsRefused};
-ghost use Rattle.lrc_embed.specs.Looks.{topology_told};
+ghost use Rattle.lrc_embed.specs.Looks.{topology_status};
 
 use crate::LrcHandle;
 use crate::status::{
@@ -14,7 +14,7 @@ use std::alloc::Global;
 /// The version of the structs and statuses.
 const VERSION: u32 = 1;
 
-/// The version of the structs and statuses, which the header has as a constant.
+/// The version of the structs and statuses. The header has it as a constant.
 #[unsafe(no_mangle)]
 pub extern "C" fn lrc_embed_version() -> u32
     ensures { result ≡ 1 }
@@ -22,8 +22,8 @@ pub extern "C" fn lrc_embed_version() -> u32
     VERSION
 }
 
-/// Opens a closed handle with a book of the nodes of the text. Statuses 16 to 21 are the refusals of the text, whose
-/// position or node number is put into `detail`.
+/// Opens a closed handle with a book of the nodes of the text. Statuses 16 to 21 are the refusals of the text; `detail` is
+/// then the position or the node number.
 #[unsafe(no_mangle)]
 pub extern "C" fn lrc_embed_open(
     alloc: Global,
@@ -32,7 +32,7 @@ pub extern "C" fn lrc_embed_open(
     detail: &mut usize,
 ) -> u32
     ensures opened { (result ≡ 0) → Of handle.new.owned.book (IsNew text.now) }
-    ensures kept { (result ≢ 0) → handle.new.owned.book ≡ handle.old.owned.book }
+    ensures unchanged { (result ≢ 0) → handle.new.owned.book ≡ handle.old.owned.book }
     ensures refused { (16 ≤ result) → IsRefused text.now result detail.new }
     ensures open { (result ≡ 2) ↔ (is_some handle.old.owned.book ≡ true) }
     ensures statuses { (result ≡ 0) ⊎ (result ≡ 2) ⊎ (result ≡ 6) ⊎ ((16 ≤ result) × (result ≤ 21)) }
@@ -64,7 +64,7 @@ pub extern "C" fn lrc_embed_open(
 
 /// The status of a refused topology, and its position or number.
 fn refusal_of(error: TopologyError) -> (u32, usize)
-    ensures { result ≡ topology_told error }
+    ensures { result ≡ topology_status error }
 {
     match error {
         TopologyError::Syntax => (SYNTAX, 0),

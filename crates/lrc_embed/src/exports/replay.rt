@@ -8,8 +8,8 @@ use lrc_book::Book;
 use lrc_code::{Fault, SessionNo};
 use std::alloc::Global;
 
-/// Makes the calls of entries that were kept anew, after the history that the book has, and compares each reply. Where
-/// one can't be made or is answered otherwise, the handle is closed, and `position` is that of the entry, from 0.
+/// Repeats the calls of saved entries after the history that the book has, and compares each reply. If one cannot be made
+/// or has another reply, the handle is closed, and `position` is that of the entry, from 0.
 #[unsafe(no_mangle)]
 pub extern "C" fn lrc_embed_replay(
     alloc: Global,
@@ -41,7 +41,7 @@ pub extern "C" fn lrc_embed_replay(
     DONE
 }
 
-/// Makes the call of an entry anew, and compares its reply.
+/// Repeats the call of an entry, and compares its reply.
 fn repeat(book: &mut Book, entry: &LrcEntry) -> u32
     ensures done { (result ≡ 0) → IsRepeat entry.now book.old book.new }
     ensures range { (result ≡ 3) → IsUnreadable entry.now book.old }

@@ -3,4 +3,4 @@ use Rattle.lrc_embed.proofs.FilledLemmas.{filled}
 use Rattle.lrc_embed.proofs.reply.numbers_of.Goals as goal
 
 pub returns : goal.returns
-returns c = filled (λ f. f.value) c.args.fragments.now c.loop-i.numbers 0 6 c.loop-i.i (omega (arith, c.loop-i-test.false, c.loop-i.auto.i-end)) c.loop-i.invariant.told c.loop-i.invariant.rest
+returns c = filled (λ f. f.value) c.args.fragments.now c.loop-i.numbers 0 6 c.loop-i.i (omega (arith, c.loop-i-test.false, c.loop-i.auto.i-end)) c.loop-i.invariant.written c.loop-i.invariant.rest

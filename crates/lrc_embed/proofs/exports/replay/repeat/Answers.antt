@@ -1,6 +1,6 @@
 use Rattle.std.proofs.Common.{rules, sym, ap, ◌∙◌}
 use Rattle.std.proofs.lemmas.Bool.Decides.{not_from_Decides}
-use Rattle.lrc_embed.specs.Replies.{reply_told}
+use Rattle.lrc_embed.specs.Replies.{encoded_reply}
 use Rattle.lrc_embed.proofs.SameLemmas.{reply-Decides}
 use Rattle.lrc_embed.proofs.exports.replay.repeat.Goals as goal
 
@@ -23,7 +23,7 @@ returns-in-Ok-2-clause-different c = λ _. (
   c.in-Some-read.command,
   (c.in-Some.ensures.value, c.in-Some-read.ensures.value),
   λ e. not_from_Decides _ (reply-Decides c.of.result c.args.entry.now.reply) (sym c.if-eq.ensures)
-      (c.of.ensures ∙ ap reply_told c.in-Ok.ensures.reply ∙ sym e),
+      (c.of.ensures ∙ ap encoded_reply c.in-Ok.ensures.reply ∙ sym e),
 )
 
 pub returns-in-Err-OutOfMemory-clause-memory : goal.returns-in-Err-OutOfMemory-clause-memory
