@@ -1,5 +1,5 @@
 -- A look whose numbers are in range, from a look without numbers.
-use Rattle.std.proofs.Common.{◌≡◌, ℕ, Option, Some, None}
+use Rattle.std.proofs.Common.{ℕ, Option, Some, None}
 use Rattle.lrc_book.specs.Books.{BookView}
 use Rattle.lrc_embed.specs.Calls.{Of, IsLook}
 
