@@ -10,7 +10,7 @@ use Rattle.lrc_script.specs.Bundles.{Script, scripts_of, topology_of}
 use Rattle.lrc_tool.specs.declared.status.Status.{Status}
 use Rattle.lrc_tool.specs.declared.status.Status.TheVariants as ended
 use Rattle.lrc_tool.specs.Limits.{script_limit}
-use Rattle.lrc_tool.specs.Texts.{topology_line, bad_line_text}
+use Rattle.lrc_tool.specs.Refusals.{topology_line, bad_line_text}
 use Rattle.lrc_tool.specs.Outputs.{early_refusal, Reads, first_bad_of, Answer, IsAnsweredOver, IsAnsweredAfter, IsAnsweredUnless, IsAnswered, AreCommandsOf, IsPlayed, ArePrinted, IsOutput}
 use Rattle.lrc_tool.specs.Checks.{counted_line, AreCounted, IsCheck}
 use Rattle.lrc_tool.proofs.CommandLemmas.{as_many_lists, same_lists, some_lists}

@@ -9,7 +9,7 @@ use Rattle.lrc_rules.specs.declared.entry.Entry.{Entry}
 use Rattle.lrc_rules.specs.declared.reply.Reply.{Reply}
 use Rattle.lrc_rules.specs.Histories.{World, first_world, outcome_in, next_world, IsLegalFrom}
 use Rattle.lrc_rules.specs.Sessions.{commands_of, commands_of_each}
-use Rattle.lrc_tool.specs.Texts.{output_text}
+use Rattle.lrc_text.specs.Texts.{output_text}
 use Rattle.lrc_tool.specs.Outputs.{IsPlayed}
 use Rattle.lrc_tool.proofs.SessionLemmas.{IsFirst, commands_alone}
 

@@ -21,7 +21,7 @@ use Rattle.lrc_script.proofs.SizeLemmas.{few_in_bundle}
 use Rattle.lrc_tool.specs.declared.status.Status.{Status}
 use Rattle.lrc_tool.specs.declared.status.Status.TheVariants as ended
 use Rattle.lrc_tool.specs.Limits.{bundle_limit, script_limit}
-use Rattle.lrc_tool.specs.Texts.{bad_line_text}
+use Rattle.lrc_tool.specs.Refusals.{bad_line_text}
 use Rattle.lrc_tool.specs.Outputs.{early_refusal, first_bad_of, AreCommandsOf, Answer, IsAnsweredUnless, IsAnsweredOver, IsAnswered, RunsSeveral}
 use Rattle.lrc_tool.proofs.CommandLemmas.{as_many_lists}
 use Rattle.lrc_tool.specs.Judged.{lists_of, first_bad_in, AreParsed, NoAnswer, IsRefusal, IsAccepted}

@@ -5,7 +5,8 @@ use Rattle.std.proofs.lemmas.List.Elements.{All-append, All-push}
 use Rattle.lrc_code.specs.declared.numbers.SessionNo.{SessionNo}
 use Rattle.lrc_rules.specs.declared.command.Command.{Command}
 use Rattle.lrc_rules.specs.declared.entry.Entry.{Entry}
-use Rattle.lrc_tool.specs.Plays.{AreMadeBehind, lines_from}
+use Rattle.lrc_text.specs.Texts.{lines_from}
+use Rattle.lrc_tool.specs.Plays.{AreMadeBehind}
 use Rattle.lrc_tool.proofs.SessionLemmas.{IsFirst}
 
 -- ---- commands behind a history

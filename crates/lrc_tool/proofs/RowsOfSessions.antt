@@ -9,9 +9,9 @@ use Rattle.lrc_rules.specs.declared.reply.Reply.TheVariants.{Refused}
 use Rattle.lrc_rules.specs.declared.refusal.Refusal.TheVariants.{UnknownStripe}
 use Rattle.lrc_rules.specs.States.{opening}
 use Rattle.lrc_rules.specs.Steps.{drop_outcome}
-use Rattle.lrc_tool.specs.Tables.{tables_text}
+use Rattle.lrc_text.specs.Tables.{tables_text}
 use Rattle.lrc_tool.specs.Outputs.{IsPlayed}
-use Rattle.lrc_tool.proofs.Rows.{session, second, remove, ten_domains}
+use Rattle.lrc_text.proofs.Rows.{session, second, remove, ten_domains}
 
 -- a stripe that is not there is dropped
 abbrev refused_to : SessionNo → Command → Entry

@@ -9,10 +9,10 @@ use Rattle.lrc_rules.specs.declared.command.Command.{Command}
 use Rattle.lrc_rules.specs.declared.entry.Entry.{Entry}
 use Rattle.lrc_rules.specs.Histories.{IsLegal, state_after}
 use Rattle.lrc_rules.specs.Sessions.{NumberedEntry, numbered_from, is_of, entries_of, commands_of}
-use Rattle.lrc_tool.specs.Texts.{reply_line, script_line, script_text}
-use Rattle.lrc_tool.specs.Tables.{tables_text}
+use Rattle.lrc_text.specs.Texts.{reply_line, lines_from, script_line, script_text}
+use Rattle.lrc_text.specs.Tables.{tables_text}
 use Rattle.lrc_tool.specs.Outputs.{IsPlayed}
-use Rattle.lrc_tool.specs.Plays.{AreMade, lines_from}
+use Rattle.lrc_tool.specs.Plays.{AreMade}
 
 -- the entry is of session 1
 abbrev pub IsFirst : Entry → Type 0

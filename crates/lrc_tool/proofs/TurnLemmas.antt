@@ -12,8 +12,8 @@ use Rattle.lrc_rules.specs.declared.command.Command.{Command}
 use Rattle.lrc_rules.specs.declared.entry.Entry.{Entry}
 use Rattle.lrc_rules.specs.Histories.{World, first_world, outcome_in, next_world, state_after, IsLegalFrom}
 use Rattle.lrc_rules.specs.Sessions.{numbered_from, is_of, commands_of}
-use Rattle.lrc_tool.specs.Tables.{tables_text}
-use Rattle.lrc_tool.specs.Texts.{replies_text}
+use Rattle.lrc_text.specs.Tables.{tables_text}
+use Rattle.lrc_text.specs.Texts.{replies_text}
 use Rattle.lrc_tool.specs.Outputs.{IsPlayed}
 use Rattle.lrc_tool.specs.Plays.{AreMade}
 use Rattle.lrc_tool.proofs.SessionLemmas.{played_with_tables}

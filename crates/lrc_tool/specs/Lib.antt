@@ -4,10 +4,11 @@ pub use Rattle.lrc_rules.specs.Histories
 pub use Rattle.lrc_rules.specs.Sessions
 pub use Rattle.lrc_script.specs.Scripts
 pub use Rattle.lrc_script.specs.Bundles
+pub use Rattle.lrc_text.specs.Texts
+pub use Rattle.lrc_text.specs.Tables
+pub use Rattle.lrc_text.specs.Masks
 pub mod Limits
-pub mod Tables
-pub mod Texts
-pub mod Writers
+pub mod Refusals
 pub mod Streams
 pub mod Reads
 pub mod Faults

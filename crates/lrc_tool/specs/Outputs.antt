@@ -15,7 +15,8 @@ use Rattle.lrc_tool.specs.declared.status.Status.TheVariants as ended
 use Rattle.lrc_script.specs.Scripts.{IsScript, BadLine, or_else, first_bad}
 use Rattle.lrc_script.specs.Bundles.{Script, scripts_of, topology_of}
 use Rattle.lrc_tool.specs.Limits.{bundle_limit, script_limit}
-use Rattle.lrc_tool.specs.Texts.{output_text, topology_line, bad_line_text}
+use Rattle.lrc_text.specs.Texts.{output_text}
+use Rattle.lrc_tool.specs.Refusals.{topology_line, bad_line_text}
 
 -- ---- checks
 

@@ -9,7 +9,7 @@ use Rattle.lrc_rules.specs.Histories.{IsLegal}
 use Rattle.lrc_rules.specs.Sessions.{commands_of_each}
 use Rattle.lrc_board.specs.declared.receipt.Receipt.{Receipt}
 use Rattle.lrc_sessions.specs.declared.track.Track.{Track}
-use Rattle.lrc_tool.specs.Texts.{reply_line, script_line, replies_text}
+use Rattle.lrc_text.specs.Texts.{reply_line, script_line, replies_text}
 
 -- the sessions made the commands of their scripts, in order, and no others, in this legal history, of whose replies this is printed
 pub record AreMade (nodes : List NodeInfo) (scripts : List (List Command)) (history : List Entry) (text : List ℕ) : Type 0 where
@@ -24,11 +24,6 @@ pub record AreMadeBehind (before : List Entry) (session : SessionNo) (commands :
   pub behind : after ≡ before ++ added
   pub made : map (λ e. e.command) added ≡ commands
   pub alone : All (λ e. e.session ≡ session) added
-
--- what is printed of entries, of which the first has this place in the history
-abbrev pub lines_from : ℕ → List Entry → List ℕ
-lines_from place [] = []
-lines_from place (e ∷ es) = reply_line place e.reply ++ lines_from (place + 1) es
 
 -- what is printed of the receipts of a script's calls
 abbrev pub receipts_text : List Receipt → List ℕ

@@ -1,8 +1,7 @@
-//! The texts of the tool, and the functions of its program.
+//! The functions of the program: running, checking and recovering, from bytes to bytes.
 #![tactic(auto)]
 
 mod checking;
-mod digits;
 mod judging;
 pub mod laws;
 mod limits;
@@ -12,9 +11,6 @@ mod program;
 mod recovery;
 mod status;
 mod streams;
-mod table;
-mod tables;
-mod texts;
 mod together;
 
 pub use checking::check;

@@ -1,14 +1,13 @@
-ghost use Rattle.std.specs.Prelude.{◌≡◌, IfOk, IfErr};
-ghost use Rattle.lrc_tool.specs.Texts.{topology_line, bad_line_text};
+ghost use Rattle.std.specs.Prelude.{◌≡◌, ◌++◌, string_bytes, IfOk, IfErr, OnOk};
+ghost use Rattle.lrc_tool.specs.Refusals.{topology_line, cause_number, bad_line_text};
 ghost use Rattle.lrc_tool.specs.declared.status.Status.TheVariants as ended;
 ghost use Rattle.lrc_tool.specs.declared.streams.RunFault.TheVariants as fault;
 
 use crate::status::Status;
 use crate::streams::RunFault;
-use crate::texts::{push_bad_line, push_topology_line};
 use lrc_script::Cause;
 use lrc_topology::TopologyError;
-use std::alloc::Global;
+use std::alloc::{AllocError, Global};
 
 /// What a call writes, and how it ends.
 #[derive(Drop)]
@@ -59,4 +58,30 @@ pub(crate) fn refused(alloc: Global, line: &str) -> Result<Output, RunFault>
         text: text.into_bytes(),
         status,
     })
+}
+
+/// Adds the line for a refused topology; none for want of memory, which is no refusal.
+fn push_topology_line(out: &mut String, error: TopologyError) -> Result<(), AllocError>
+    ensures { OnOk result (string_bytes out.new ≡ string_bytes out.old ++ topology_line error) }
+{
+    match error {
+        TopologyError::Syntax => out.push_str("topology 1\n"),
+        TopologyError::NoNodes => out.push_str("topology 2\n"),
+        TopologyError::BadField(position) => write!(out, "topology 3 {position}\n"),
+        TopologyError::OutOfRange(position) => write!(out, "topology 4 {position}\n"),
+        TopologyError::DoubleNode(node) => {
+            let number = node.value;
+            write!(out, "topology 5 {number}\n")
+        }
+        TopologyError::TooMany => out.push_str("topology 6\n"),
+        TopologyError::OutOfMemory => Ok(()),
+    }
+}
+
+/// Adds the line for a bad line of a script.
+fn push_bad_line(out: &mut String, line: u64, cause: Cause) -> Result<(), AllocError>
+    ensures { OnOk result (string_bytes out.new ≡ string_bytes out.old ++ bad_line_text (record { line = line; cause = cause })) }
+{
+    let number = cause as u8;
+    write!(out, "line {line} cause {number}\n")
 }

@@ -5,10 +5,9 @@ ghost use Rattle.lrc_tool.specs.Outputs.{IsPlayed};
 ghost use Rattle.lrc_tool.specs.declared.streams.RunFault.TheVariants as fault;
 
 use crate::streams::RunFault;
-use crate::tables::with_tables;
-use crate::texts::{push_lines, push_script_line};
 use lrc_book::{Book, Command, HISTORY_LIMIT};
 use lrc_code::SessionNo;
+use lrc_text::{push_lines, push_script_line, with_tables};
 use lrc_topology::Topology;
 use std::alloc::Global;
 
@@ -33,7 +32,8 @@ pub(crate) fn play(
 {
     let mut book = Book::new(alloc, topology)?;
     let replies = play_scripts(&mut book, scripts, room)?;
-    with_tables(alloc, replies, &book)
+    let whole = with_tables(alloc, replies, &book)?;
+    Ok(whole)
 }
 
 /// Makes the commands of the only script, if there is one, and answers what is printed of the replies.

@@ -1,17 +1,19 @@
 //! What the code repairs of a set of losses, from the word in to the bytes out.
 
-ghost use Rattle.std.specs.Prelude.{◌≡◌, ◌≢◌, ◌||◌, ◌⊎◌, ◌++◌, true, OnOk, IfOk, IfErr, IsErrOf, string_bytes};
+ghost use Rattle.std.specs.Prelude.{◌≡◌, ◌≢◌, ◌||◌, ◌⊎◌, true, OnOk, IfOk, IfErr, IsErrOf};
 ghost use Rattle.std.specs.Io.KnownBytes.{Appends, Keeps};
 ghost use Rattle.lrc_code.specs.declared.codes.Code.TheVariants.{Wide, Narrow};
 ghost use Rattle.lrc_tool.specs.Streams.{is_write_fault, AppendsPart};
-ghost use Rattle.lrc_tool.specs.Recoveries.{is_mask, mask_of, counts_text, margin_text, losses_line, recovery_text, recovery_status};
+ghost use Rattle.lrc_text.specs.Masks.{recovery_text};
+ghost use Rattle.lrc_tool.specs.Recoveries.{recovery_status};
 ghost use Rattle.lrc_tool.specs.declared.streams.RunFault.TheVariants as fault;
 
 use crate::output::Output;
 use crate::status::Status;
 use crate::streams::{RunFault, Sink, write_all};
-use lrc_code::{Class, Code, LossMask};
-use std::alloc::{AllocError, Global};
+use lrc_code::Code;
+use lrc_text::{parse_mask, push_mask_line};
+use std::alloc::Global;
 
 /// Tells of a mask of a stripe of the code `Wide`, a word of four hexadecimal digits in either case with fragment f as
 /// bit f, how many fragments of each class are lost and how many further losses are withstood, or that the losses are
@@ -90,66 +92,15 @@ fn recovery_of(alloc: Global, code: Code, word: &str) -> Result<Output, RunFault
     ensures status { IfOk result (λ o. o.status ≡ recovery_status code word.now) }
     ensures err { IfErr result (λ e. e ≡ fault.OutOfMemory) }
 {
+    let mask = parse_mask(code, word);
     let mut text = String::new(alloc);
-    let status = match parse_mask(code, word) {
-        Some(bits) => {
-            push_losses(&mut text, code, LossMask::from_bits(bits))?;
-            Status::Done
-        }
-        None => {
-            text.push_str("mask refused\n")?;
-            Status::Refused
-        }
+    push_mask_line(&mut text, code, mask)?;
+    let status = match mask {
+        Some(_) => Status::Done,
+        None => Status::Refused,
     };
     Ok(Output {
         text: text.into_bytes(),
         status,
     })
-}
-
-/// The number that a word of exactly four hexadecimal digits writes, where its bits are of fragments of the code.
-fn parse_mask(code: Code, word: &str) -> Option<u16>
-    ensures { result ≡ mask_of code word.now }
-{
-    if !is_mask(word.as_bytes()) {
-        return None;
-    }
-    let bits = u16::from_str_radix(word, 16).ok()?;
-    if LossMask::from_bits(bits).fits(code) {
-        Some(bits)
-    } else {
-        None
-    }
-}
-
-fn is_mask(word: &[u8]) -> bool
-    ensures { result ≡ is_mask word.now }
-{
-    word.len() == 4 && word.iter().all(|byte| byte.is_ascii_hexdigit())
-}
-
-/// Adds the line for these losses of a stripe of the code.
-fn push_losses(out: &mut String, code: Code, losses: LossMask) -> Result<(), AllocError>
-    ensures { OnOk result (string_bytes out.new ≡ string_bytes out.old ++ losses_line code losses.bits) }
-{
-    let a = losses.class_losses_in(code, Class::A);
-    let b = losses.class_losses_in(code, Class::B);
-    let g = losses.class_losses_in(code, Class::G);
-    push_counts(out, a, b, g)?;
-    push_margin(out, losses.margin_in(code))
-}
-
-fn push_counts(out: &mut String, a: u8, b: u8, g: u8) -> Result<(), AllocError>
-    ensures { OnOk result (string_bytes out.new ≡ string_bytes out.old ++ counts_text a b g) }
-{
-    write!(out, "A {a} B {b} G {g}")
-}
-
-fn push_margin(out: &mut String, margin: Option<u8>) -> Result<(), AllocError>
-    ensures { OnOk result (string_bytes out.new ≡ string_bytes out.old ++ margin_text margin) }
-{
-    match margin {
-        Some(margin) => write!(out, " recoverable margin {margin}\n"),
-        None => out.push_str(" not recoverable\n"),
-    }
 }

@@ -9,13 +9,12 @@ ghost use Rattle.lrc_tool.specs.Outputs.{IsPlayed};
 ghost use Rattle.lrc_tool.specs.declared.streams.RunFault.TheVariants as fault;
 
 use crate::streams::RunFault;
-use crate::tables::with_tables;
-use crate::texts::{push_reply_line, push_script_line};
 use lrc_book::{Book, Command};
 use lrc_code::SessionNo;
 use lrc_sessions::{
     FinishError, Manager, Naming, OpenError, OpenGate, Parts, Receipt, Stop, Track, run_sessions,
 };
+use lrc_text::{push_reply_line, push_script_line, with_tables};
 use lrc_topology::Topology;
 use std::alloc::{AllocError, Global};
 use std::marker::Brand;
@@ -47,7 +46,8 @@ pub(crate) fn play_together<T: Threads + Wait + Sync>(
     };
     let played = run_each::<Brand, _>(rt, alloc, parts, scripts)?;
     let text = print_tracks(alloc, played.tracks.as_slice())?;
-    with_tables(alloc, text, &played.book)
+    let whole = with_tables(alloc, text, &played.book)?;
+    Ok(whole)
 }
 
 /// Runs each script by a session of its own, and ends their manager.

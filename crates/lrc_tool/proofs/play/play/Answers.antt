@@ -1,5 +1,4 @@
 use Rattle.std.proofs.Common.{List, subst, ◌∙◌}
-use Rattle.std.proofs.lemmas.Result.{IfOk-weaker}
 use Rattle.lrc_topology.specs.declared.NodeInfo.{NodeInfo}
 use Rattle.lrc_tool.specs.Judged.{lists_of}
 use Rattle.lrc_tool.specs.Plays.{AreMade}
@@ -13,6 +12,4 @@ returns-clause-played c =
     let text = c.in_ok-replies.replies.items in
     let same = c.in_ok-book.ensures.value.0 in
     let made = subst (λ (ns : List NodeInfo). AreMade ns lists book.history text) same c.in_ok-replies.ensures.made in
-    IfOk-weaker c.with_tables.result _ _
-    (λ v is. played_with_tables c.args.topology book.nodes lists book.history text v.items made (c.in_ok-replies.ensures.nodes ∙ same) is)
-    c.with_tables.ensures.text
+    played_with_tables c.args.topology book.nodes lists book.history text c.in_ok-whole.whole.items made (c.in_ok-replies.ensures.nodes ∙ same) c.in_ok-whole.ensures.text

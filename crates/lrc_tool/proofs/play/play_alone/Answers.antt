@@ -2,7 +2,7 @@ use Rattle.std.proofs.Common.{rules, ◌≡◌, ◌+◌, ◌-◌, ◌≤◌, ℕ
 use Rattle.std.proofs.lemmas.List.{take_all}
 use Rattle.lrc_topology.specs.declared.NodeInfo.{NodeInfo}
 use Rattle.lrc_rules.specs.Histories.{IsLegal}
-use Rattle.lrc_tool.specs.Texts.{script_text}
+use Rattle.lrc_text.specs.Texts.{script_text}
 use Rattle.lrc_tool.specs.Plays.{AreMadeBehind}
 use Rattle.lrc_tool.proofs.SessionLemmas.{one_made, told_more}
 use Rattle.lrc_tool.proofs.PlayLemmas.{made_more, alone_more, long, begun, tail_told}

@@ -1,6 +1,6 @@
 use Rattle.std.proofs.Common.{◌≡◌, ◌-◌, ◌≤◌, All, length, map, take}
 use Rattle.lrc_rules.specs.Histories.{IsLegal}
-use Rattle.lrc_tool.specs.Texts.{script_text}
+use Rattle.lrc_text.specs.Texts.{script_text}
 use Rattle.lrc_tool.proofs.SessionLemmas.{IsFirst}
 use Rattle.lrc_tool.proofs.play.play_alone.Given as goal
 

@@ -1,5 +1,4 @@
-use Rattle.std.proofs.Common.{◌≡◌, ℕ, List, inl, ap, subst, sym, ◌∙◌}
-use Rattle.std.proofs.lemmas.Result.{IfOk-weaker, IfErr-weaker}
+use Rattle.std.proofs.Common.{◌≡◌, ℕ, List, ap, subst, sym, ◌∙◌}
 use Rattle.lrc_topology.specs.declared.NodeInfo.{NodeInfo}
 use Rattle.lrc_tool.specs.Judged.{lists_of}
 use Rattle.lrc_tool.specs.Plays.{AreMade, tracks_text}
@@ -17,9 +16,4 @@ returns-clause-played g c =
     let printed : text ≡ tracks_text 1 tracks = c.in_ok-text.ensures.text ∙ ap (tracks_text 1) c.as_slice.ensures.value in
     let on_nodes = subst (λ (ns : List NodeInfo). AreMade ns lists book.history (tracks_text 1 tracks)) same c.in_ok-played.ensures.made in
     let made = subst (λ (t : List ℕ). AreMade nodes lists book.history t) (sym printed) on_nodes in
-    IfOk-weaker c.with_tables.result _ _
-    (λ v is. played_with_tables nodes book.nodes lists book.history text v.items made (c.in_ok-played.ensures.nodes ∙ same) is)
-    c.with_tables.ensures.text
-
-pub returns-clause-err : goal.returns-clause-err
-returns-clause-err g c = IfErr-weaker c.with_tables.result _ _ (λ e is. inl is) c.with_tables.ensures.err
+    played_with_tables nodes book.nodes lists book.history text c.in_ok-whole.whole.items made (c.in_ok-played.ensures.nodes ∙ same) c.in_ok-whole.ensures.text

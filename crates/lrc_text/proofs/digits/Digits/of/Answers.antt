@@ -1,0 +1,6 @@
+use Rattle.std.proofs.Common.{arith}
+use Rattle.std.proofs.lemmas.Fmt.{length-decimal-le}
+use Rattle.lrc_text.proofs.digits.Digits.of.Goals as goal
+
+pub write_digits-start-requires : goal.write_digits-start-requires
+write_digits-start-requires c = (length-decimal-le 8 c.args.number (omega arith) c.requires (omega (arith, c.requires)), omega arith)

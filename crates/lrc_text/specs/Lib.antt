@@ -1,0 +1,11 @@
+pub use Rattle.lrc_code.specs.Losses
+pub use Rattle.lrc_topology.specs.Nodes
+pub use Rattle.lrc_rules.specs.States
+pub use Rattle.lrc_rules.specs.Urgency
+pub use Rattle.lrc_rules.specs.Histories
+pub use Rattle.lrc_rules.specs.Sessions
+pub use Rattle.lrc_book.specs.Books
+pub mod Tables
+pub mod Texts
+pub mod Masks
+pub mod Writers

@@ -1,0 +1,12 @@
+//! The texts of replies, of tables and of masks of losses.
+#![tactic(auto)]
+
+mod digits;
+mod masks;
+mod table;
+mod tables;
+mod texts;
+
+pub use masks::{parse_mask, push_mask_line};
+pub use tables::with_tables;
+pub use texts::{LINE_ROOM, push_lines, push_reply_line, push_script_line};
