@@ -217,7 +217,7 @@ fn write_detail(words: &[u8; 13], number: u32, text: &mut [u8], end: usize) -> u
 }
 
 /// Writes a refusal, a space before it and the end of the line behind it, so that it ends at `end`, and answers where it starts.
-#[inline(always)] // as `write_line`
+#[inline(always)] // as `write_reply`
 fn write_refusal(refusal: &Refusal, text: &mut [u8], end: usize) -> usize
     requires { (DETAIL_ROOM ≤ end) × (end ≤ length text.old) }
     ensures start { (end ≤ result + DETAIL_ROOM) × (result ≤ end) }
@@ -255,7 +255,8 @@ fn write_refusal(refusal: &Refusal, text: &mut [u8], end: usize) -> usize
 }
 
 /// Writes a space, a word, the seats of a stripe of either code, and the end of the line, so that they end at `end`, and
-/// answers where they start.
+/// returns where they start.
+#[inline(never)] // the loop over lines then has few instructions
 fn write_placed<const N: usize>(seats: &[Seat; N], text: &mut [u8], end: usize) -> usize
     requires few { N ≤ 16 }
     requires room { (REPLY_ROOM ≤ end) × (end ≤ length text.old) }
@@ -267,7 +268,7 @@ fn write_placed<const N: usize>(seats: &[Seat; N], text: &mut [u8], end: usize) 
     write_words(b" placed", text, first)
 }
 
-#[inline(always)] // as `write_line`
+#[inline(never)] // as `write_placed`
 fn write_granted(lease: &Lease, kind: &Kind, text: &mut [u8], end: usize) -> usize
     requires { (GRANTED_ROOM ≤ end) × (end ≤ length text.old) }
     ensures start { (end ≤ result + GRANTED_ROOM) × (result ≤ end) }
@@ -291,34 +292,34 @@ fn write_ticked(clock: u32, ended: u32, text: &mut [u8], end: usize) -> usize
     write_words(b" ticked ", text, first)
 }
 
-/// Writes a reply, a space before it and the end of the line behind it, so that it ends at `end`, and answers where it starts.
-#[inline(always)] // as `write_line`
-fn write_reply(reply: &Reply, text: &mut [u8], end: usize) -> usize
+/// Writes a reply, a space before it and the end of the line after it, so that it ends at `end`, and returns where it starts.
+#[inline(always)] // a reply is then not built whole, since only parts of it are written
+fn write_reply(reply: Reply, text: &mut [u8], end: usize) -> usize
     requires { (REPLY_ROOM ≤ end) × (end ≤ length text.old) }
     ensures start { (end ≤ result + REPLY_ROOM) × (result ≤ end) }
-    ensures written { drop result text.new ≡ (codes " " ++ (reply_text reply.now ++ codes "\n")) ++ drop end text.old }
+    ensures written { drop result text.new ≡ (codes " " ++ (reply_text reply ++ codes "\n")) ++ drop end text.old }
 {
     match reply {
-        Reply::Placed(seats) => write_placed(seats, text, end),
-        Reply::Placed6(seats) => write_placed(seats, text, end),
+        Reply::Placed(seats) => write_placed(&seats, text, end),
+        Reply::Placed6(seats) => write_placed(&seats, text, end),
         Reply::Dropped => write_words(b" dropped\n", text, end),
-        Reply::Granted(lease, kind) => write_granted(lease, kind, text, end),
+        Reply::Granted(lease, kind) => write_granted(&lease, &kind, text, end),
         Reply::Idle => write_words(b" idle\n", text, end),
         Reply::Ended => write_words(b" ended\n", text, end),
         Reply::Changed => write_words(b" changed\n", text, end),
-        Reply::Refused(refusal) => write_refusal(refusal, text, end),
-        Reply::Ticked { clock, ended } => write_ticked(*clock, *ended, text, end),
+        Reply::Refused(refusal) => write_refusal(&refusal, text, end),
+        Reply::Ticked { clock, ended } => write_ticked(clock, ended, text, end),
     }
 }
 
 // ---- lines
 
 /// Writes the line of a reply, whose call has this place in the history, so that it ends at `end`, and answers where it starts.
-#[inline(always)] // a reply is then not built to be told
-fn write_line(place: usize, reply: &Reply, text: &mut [u8], end: usize) -> usize
+#[inline(always)] // as `write_reply`
+fn write_line(place: usize, reply: Reply, text: &mut [u8], end: usize) -> usize
     requires { (LINE_ROOM ≤ end) × (end ≤ length text.old) }
     ensures start { (end ≤ result + LINE_ROOM) × (result ≤ end) }
-    ensures written { drop result text.new ≡ reply_line place reply.now ++ drop end text.old }
+    ensures written { drop result text.new ≡ reply_line place reply ++ drop end text.old }
 {
     let start = write_reply(reply, text, end);
     itoa::write_digits(place as u64, text, start)
@@ -329,61 +330,8 @@ pub fn push_reply_line(out: &mut Vec<u8>, place: usize, reply: &Reply) -> Result
     ensures { OnOk result (out.new.items ≡ out.old.items ++ reply_line place reply.now) }
 {
     let mut text = [0u8; LINE_ROOM];
-    let start = write_line(place, reply, &mut text, LINE_ROOM);
+    let start = write_line(place, *reply, &mut text, LINE_ROOM);
     out.extend_from_slice(&text[start..])
-}
-
-/// Writes the line of an entry's reply, where the entry has this place in the history, so that it ends at `end`, and answers where
-/// it starts.
-fn write_record(place: usize, entry: &Record, text: &mut [u8], end: usize) -> usize
-    requires { (LINE_ROOM ≤ end) × (end ≤ length text.old) }
-    ensures start { (end ≤ result + LINE_ROOM) × (result ≤ end) }
-    ensures written { drop result text.new ≡ reply_line place entry.now.reply ++ drop end text.old }
-{
-    write_line(place, &entry.reply(), text, end)
-}
-
-/// Writes the reply of an entry as `write_reply` does.
-#[inline(never)]
-fn write_long_told(entry: &Record, text: &mut [u8], end: usize) -> usize
-    requires { (REPLY_ROOM ≤ end) × (end ≤ length text.old) }
-    ensures start { (end ≤ result + REPLY_ROOM) × (result ≤ end) }
-    ensures written { drop result text.new ≡ (codes " " ++ (reply_text entry.now.reply ++ codes "\n")) ++ drop end text.old }
-{
-    write_reply(&entry.reply(), text, end)
-}
-
-/// The same, where a grant is not built whole to be told.
-#[inline(never)]
-fn write_granted_told(entry: &Record, text: &mut [u8], end: usize) -> usize
-    requires { (REPLY_ROOM ≤ end) × (end ≤ length text.old) }
-    ensures start { (end ≤ result + REPLY_ROOM) × (result ≤ end) }
-    ensures written { drop result text.new ≡ (codes " " ++ (reply_text entry.now.reply ++ codes "\n")) ++ drop end text.old }
-{
-    match entry.reply() {
-        Reply::Granted(lease, kind) => write_granted(&lease, &kind, text, end),
-        _ => write_long_told(entry, text, end),
-    }
-}
-
-/// The same, where a reply that is a word or a refusal is not built to be told either.
-#[inline(always)]
-fn write_told(entry: &Record, text: &mut [u8], end: usize) -> usize
-    requires { (REPLY_ROOM ≤ end) × (end ≤ length text.old) }
-    ensures start { (end ≤ result + REPLY_ROOM) × (result ≤ end) }
-    ensures written { drop result text.new ≡ (codes " " ++ (reply_text entry.now.reply ++ codes "\n")) ++ drop end text.old }
-{
-    match entry.reply() {
-        Reply::Placed(_) => write_long_told(entry, text, end),
-        Reply::Placed6(_) => write_long_told(entry, text, end),
-        Reply::Dropped => write_words(b" dropped\n", text, end),
-        Reply::Granted(_, _) => write_granted_told(entry, text, end),
-        Reply::Idle => write_words(b" idle\n", text, end),
-        Reply::Ended => write_words(b" ended\n", text, end),
-        Reply::Changed => write_words(b" changed\n", text, end),
-        Reply::Refused(refusal) => write_refusal(&refusal, text, end),
-        Reply::Ticked { clock, ended } => write_ticked(clock, ended, text, end),
-    }
 }
 
 /// Writes the lines of entries whose places are so many hundreds and the numbers from `rest` on, so that they end at `end`, and
@@ -406,7 +354,7 @@ fn write_hundred(
     let mut at = end;
     while left > 0 {
         left -= 1;
-        let start = write_told(&records[left], text, at);
+        let start = write_reply(records[left].reply(), text, at);
         at = digits.write_with(rest + left, text, start);
     }
     at
@@ -426,7 +374,7 @@ fn write_lines(records: &[Record], first: usize, text: &mut [u8], end: usize) ->
         let last = first + left - 1;
         if last < 100 || last >= LONG_PLACE {
             left -= 1;
-            at = write_record(last, &records[left], text, at);
+            at = write_line(last, records[left].reply(), text, at);
         } else {
             let many = left.min(last % 100 + 1);
             let same = &records[left - many..left];

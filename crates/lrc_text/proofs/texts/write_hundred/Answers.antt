@@ -1,6 +1,7 @@
-use Rattle.std.proofs.Common.{arith, ◌≡◌, ◌+◌, ◌-◌, ◌*◌, ◌∷◌, ◌++◌, drop, sym, ap, ◌∙◌}
+use Rattle.std.proofs.Common.{arith, ◌≡◌, ◌+◌, ◌-◌, ◌*◌, ◌∷◌, ◌++◌, drop, codes, sym, ap, ◌∙◌}
 use Rattle.std.proofs.lemmas.List.{drop_more}
-use Rattle.lrc_text.specs.Texts.{lines_from}
+use Rattle.lrc_rules.specs.declared.reply.Reply.{Reply}
+use Rattle.lrc_text.specs.Texts.{reply_text, lines_from}
 use Rattle.lrc_text.proofs.PairLemmas.{told_with}
 use Rattle.lrc_text.proofs.texts.write_hundred.Goals as goal
 
@@ -17,7 +18,8 @@ loop-left-preserved c =
     let split : drop left records ≡ entry ∷ drop (left + 1) records =
     drop_more records left entry (omega (arith, before.left, back)) ∙ ap (λ e. e ∷ drop (left + 1) records) (sym c.index-records-left.is) in
     let later = before.written ∙ ap (λ k. lines_from k (drop c.loop-left.left records) ++ behind) next ∙ ap (λ k. lines_from (place + 1) (drop k records) ++ behind) (sym back) in
-    let told = c.write_told-start in
+    let told = c.write_reply-start in
+    let written = told.ensures.written ∙ ap (λ (r : Reply). (codes " " ++ (reply_text r ++ codes "\n")) ++ drop c.loop-left.at c.loop-left.text) c.reply.ensures in
     let line = c.write_with-at in
     let digits = c.of-digits.ensures in
     let least = c.requires in
@@ -29,6 +31,6 @@ loop-left-preserved c =
       written =
           told_with c.args.hundreds (c.args.rest + left) line.result told.result c.loop-left.at line.new.text told.new.text c.loop-left.text
           (drop c.of-digits.result.start c.of-digits.result.room) behind entry (drop (left + 1) records) digits.text least.hundreds.0
-          (omega (arith, least.hundreds.1, least.rest, before.left, back)) (omega (arith, least.rest, before.left, back)) line.ensures.written told.ensures.written later
+          (omega (arith, least.hundreds.1, least.rest, before.left, back)) (omega (arith, least.rest, before.left, back)) line.ensures.written written later
           ∙ ap (λ rs. lines_from place rs ++ behind) (sym split);
     }
