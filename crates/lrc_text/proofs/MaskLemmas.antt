@@ -64,7 +64,7 @@ four (a ∷ b ∷ c ∷ d ∷ []) r long hex parses =
     let of_d = and_parts _ _ of_c.1 in
     four_digits a b c d r (digit a of_a.0) (digit b of_b.0) (digit c of_c.0) (digit d of_d.0) parses
 
--- the number of such a word is what the word is read as
+-- such a word is read as its number
 pub mask_read : {E : Type 0} (word : List ℕ) (r : Result ℕ E) → is_mask word ≡ true → ParsesUnsigned 16 16 word r → result_ok r ≡ Some (digits_value 16 word)
 mask_read word r mask parses =
     let both = and_parts (nat_eq (length word) 4) (list_all is_ascii_hexdigit word) mask in

@@ -1,4 +1,4 @@
--- Numbers of at most three digits, two digits of a place, the digits before them, and the lines of places that share those.
+-- Numbers of at most three digits, the last two digits of a number, the digits before them, and lines whose numbers share those.
 use Rattle.std.proofs.Common.{◌≡◌, ℕ, zero, suc, ◌+◌, ◌-◌, ◌*◌, ◌/◌, ◌%◌, ◌^◌, ◌<◌, ◌≤◌, nat_lt, if◌then◌else◌, inl, inr, List, [], ◌∷◌, ◌++◌, get_or, take, drop, length, length-take, length-drop, codes, decimal, refl, sym, ap, ◌∙◌, arith, append_assoc}
 use Rattle.std.proofs.lemmas.Bool.{cases_lt, lt-ltb, le-ltb}
 use Rattle.std.proofs.lemmas.Fmt.{decimal_digit, decimal_step}
@@ -20,7 +20,7 @@ numeral n = digit_count n ∷ (48 + n / 100) ∷ (48 + n / 10 % 10) ∷ (48 + n 
 
 -- ---- tables
 
--- what is told of this number, and of so many from it on
+-- `f` of the `n` numbers from `p` on
 texts_from : (ℕ → List ℕ) → ℕ → ℕ → List (List ℕ)
 texts_from f p zero = []
 texts_from f p (suc n) = f p ∷ texts_from f (p + 1) n
@@ -93,7 +93,7 @@ count_within n count d small is =
       ]
     ]
 
--- a numeral behind the bytes that are not its own
+-- the digits of a numeral without the bytes before them
 kept_digits :
     (n r end zeros : ℕ) (u text d : List ℕ) → n < 1000 → decimal n ≡ drop zeros (numeral n) → zeros ≤ 4
     → drop r u ≡ get_or NUMERALS n d ++ drop end text → drop (r + zeros) u ≡ decimal n ++ drop end text
@@ -123,7 +123,7 @@ short_written n r end count u text d small room is outer =
       ]
     ]
 
--- the digits of a number with two behind them
+-- the digits of a number and two more after them
 pub decimal_pair : (n p : ℕ) → 0 < n → n * 100 + p < 2 ^ 64 → p < 100 → decimal (n * 100 + p) ≡ decimal n ++ pair p
 decimal_pair n p some small two =
     let m = n * 100 + p in
@@ -132,7 +132,7 @@ decimal_pair n p some small two =
     let c : m % 10 ≡ p % 10 = omega arith in
     rw (decimal_step m (omega arith) small, decimal_step (m / 10) (omega arith) (omega arith), append_assoc, a, b, c) refl
 
--- digits and two more behind them, in a room of which the digits are the end
+-- digits at the end of their room, and two more after them
 pub written_with :
     (t u text room : List ℕ) (r last end p start : ℕ) (d : List ℕ) → p < 100 → start ≤ length room → drop last t ≡ get_or PAIRS p d ++ drop end text
     → drop r u ≡ room ++ drop last t → drop (r + start) u ≡ drop start room ++ ((48 + p / 10) ∷ (48 + p % 10) ∷ drop end text)
@@ -146,7 +146,7 @@ line_parts : (place : ℕ) (reply : Reply) → reply_line place reply ≡ decima
 line_parts place reply =
     append_assoc (decimal place ++ codes " ") (reply_text reply) (codes "\n") ∙ append_assoc (decimal place) (codes " ") (reply_text reply ++ codes "\n")
 
--- a reply behind the digits of its place, and the lines behind it
+-- a reply after the digits of its number, and the lines after it
 pub told_with :
     (n p r s at : ℕ) (u t old digits behind : List ℕ) (entry : Entry) (later : List Entry) → digits ≡ decimal n → 0 < n → n * 100 + p < 2 ^ 64 → p < 100
     → drop r u ≡ digits ++ ((48 + p / 10) ∷ (48 + p % 10) ∷ drop s t)
@@ -172,7 +172,7 @@ lines_from-append k (x ∷ xs) ys =
     ap (λ l. reply_line k x.reply ++ l) (lines_from-append (k + 1) xs ys ∙ ap (λ n. lines_from (k + 1) xs ++ lines_from n ys) e)
     ∙ sym (append_assoc (reply_line k x.reply) (lines_from (k + 1) xs) (lines_from (k + length (x ∷ xs)) ys))
 
--- so many of the entries before those that are told
+-- the length of a part of the entries
 pub part_long : (records : List Entry) (few left : ℕ) → few ≤ left → left ≤ length records → length (take (left - few) (drop few records)) ≡ left - few
 part_long records few left below within = omega (arith, length-take (left - few) (drop few records), length-drop few records, below, within)
 

@@ -1,4 +1,4 @@
--- Scripts on small stores, and what the definitions answer to them.
+-- Scripts on small stores, and what the definitions print of them.
 use Rattle.std.proofs.Common.{ℕ, ◌%◌, List, [], ◌∷◌, ◌++◌, map, filter, fold, Option, lit<, codes}
 use Rattle.std.proofs.lemmas.Nat.{mod_below}
 use Rattle.lrc_code.specs.declared.numbers.StripeNo.{StripeNo}

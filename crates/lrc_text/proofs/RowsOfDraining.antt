@@ -37,7 +37,7 @@ one_refusal_after_another :
 unfolding place_outcome drop_outcome lease_outcome fail_outcome up_outcome drain_outcome undrain_outcome join_outcome upgrade_outcome would_lose kind placed chosen digits
 one_refusal_after_another = refl
 
--- a live lease is told before that its fragment needs none
+-- a live lease is reported before that its fragment needs none
 leased_before_not_needed :
     printed ten_domains (place 1 ∷ drain 0 ∷ lease 1 0 ∷ undrain 0 ∷ lease 1 0 ∷ next ∷ abandon 1 0 1 ∷ lease 1 0 ∷ [])
     ≡ one_placed ++ codes "2 changed\n3 granted 1 0 17:0 epoch 1 move\n4 changed\n5 refused 110 1\n6 idle\n7 ended\n8 refused 111\n"

@@ -38,7 +38,7 @@ unrecoverable_before_no_node :
 unfolding place_outcome drop_outcome lease_outcome done_outcome abandon_outcome revoke_outcome fail_outcome down_outcome kind placed chosen digits
 unrecoverable_before_no_node = refl
 
--- a live lease is told first
+-- a live lease is reported first
 leased_before_unrecoverable :
     printed ten_domains (place 1 ∷ fail 3 ∷ lease 1 3 ∷ fail 0 ∷ fail 1 ∷ fail 2 ∷ lease 1 3 ∷ lease 1 0 ∷ [])
     ≡ codes "script 1\n1 placed 0:0 1:0 2:0 3:0 4:0 5:0 6:0 7:0 8:0 9:0 10:0 11:0 16:0 12:0 13:0 14:0\n2 changed\n3 granted 1 3 17:0 epoch 1 local 0 1 2 4 5 12\n4 changed\n5 changed\n6 changed\n7 refused 110 1\n8 refused 112\n"

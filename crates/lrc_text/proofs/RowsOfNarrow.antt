@@ -1,4 +1,4 @@
--- What scripts with stripes of the code Narrow print, and what is told of its losses, computed from the definitions.
+-- What scripts with stripes of the code Narrow print, and the lines of its losses, computed from the definitions.
 use Rattle.std.proofs.Common.{◌≡◌, [], ◌∷◌, map, refl, codes}
 use Rattle.std.specs.Fmt.{digits}
 use Rattle.lrc_code.specs.declared.codes.Code.TheVariants.{Narrow}

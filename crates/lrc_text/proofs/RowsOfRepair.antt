@@ -44,7 +44,7 @@ lost_comes_last :
 unfolding place_outcome lease_outcome next_outcome fail_outcome next_of kind placed chosen digits rank_by
 lost_comes_last = refl
 
--- a whole stripe with a draining home comes behind those at risk
+-- a whole stripe with a draining home comes after those at risk
 at_risk_before_moves :
     printed ten_domains (place 1 ∷ place 2 ∷ drain 16 ∷ fail 17 ∷ next ∷ next ∷ next ∷ [])
     ≡ two_placed ++ codes "3 changed\n4 changed\n5 granted 2 1 13:1 epoch 1 local 0 2 3 4 5 12\n6 granted 1 12 18:1 epoch 1 move\n7 idle\n"

@@ -1,4 +1,4 @@
--- The tables behind the replies of scripts, computed from the definitions.
+-- The tables after the replies of scripts, computed from the definitions.
 use Rattle.std.proofs.Common.{◌≡◌, ℕ, List, [], ◌∷◌, ◌++◌, map, refl, codes}
 use Rattle.std.specs.Fmt.{digits}
 use Rattle.lrc_topology.specs.declared.NodeInfo.{NodeInfo}

@@ -35,21 +35,21 @@ joined_offline :
 unfolding place_outcome fail_outcome join_outcome upgrade_outcome would_lose placed chosen digits
 joined_offline = refl
 
--- a domain is known by nodes that are gone, and an unknown one is told first
+-- a domain is known by nodes that are gone, and an unknown one is refused first
 domains_of_gone_nodes :
     printed ten_domains (fail 0 ∷ fail 10 ∷ upgrade 0 ∷ upgrade 0 ∷ upgrade 10 ∷ upgraded 1 ∷ upgraded 10 ∷ upgraded 0 ∷ upgraded 0 ∷ [])
     ≡ codes "script 1\n1 changed\n2 changed\n3 changed\n4 refused 107 0\n5 refused 106\n6 refused 108\n7 refused 106\n8 changed\n9 refused 108\n"
 unfolding fail_outcome upgrade_outcome upgraded_outcome would_lose chosen digits
 domains_of_gone_nodes = refl
 
--- a running upgrade is told before a stripe that would be lost, and a lease saves none
+-- a running upgrade is reported before a stripe that would be lost, and a lease saves none
 running_before_lost :
     printed ten_domains (place 1 ∷ fail 1 ∷ fail 2 ∷ fail 3 ∷ lease 1 1 ∷ upgrade 5 ∷ upgrade 7 ∷ upgrade 5 ∷ upgraded 5 ∷ upgraded 7 ∷ [])
     ≡ one_placed ++ codes "2 changed\n3 changed\n4 changed\n5 granted 1 1 17:0 epoch 1 global\n6 refused 109 1\n7 changed\n8 refused 107 7\n9 refused 108\n10 changed\n"
 unfolding place_outcome lease_outcome fail_outcome upgrade_outcome upgraded_outcome would_lose kind placed chosen digits
 running_before_lost = refl
 
--- the least stripe that would be lost is told, of those that are not lost already
+-- the least stripe that would be lost is reported, of those that are not lost already
 the_least_stripe_lost :
     printed ten_domains (place 9 ∷ place 1 ∷ fail 0 ∷ fail 1 ∷ fail 2 ∷ fail 12 ∷ upgrade 5 ∷ fail 17 ∷ upgrade 5 ∷ fail 16 ∷ upgrade 5 ∷ [])
     ≡ two_placed ++ codes "3 changed\n4 changed\n5 changed\n6 changed\n7 refused 109 1\n8 changed\n9 refused 109 9\n10 changed\n11 changed\n"

@@ -1,4 +1,4 @@
--- What the tables tell is what the book answers.
+-- The tables show what the book returns.
 use Rattle.std.proofs.Common.{◌≡◌, ℕ, ◌+◌, ◌<◌, ◌≤◌, Bool, true, not, List, [], ◌∷◌, ◌++◌, length, get_or, take, codes, map, filter, fold, flat_map, Some, append_assoc, append-nil, refl, sym, ap, subst, ◌∙◌}
 use Rattle.std.specs.List.{AllByRecursion, Contains, list_any}
 use Rattle.std.proofs.lemmas.Bool.{eq-eqb}
@@ -73,7 +73,7 @@ missing_told nodes st s there = rw there refl
 -- ---- whole tables
 
 module _ (nodes : List NodeInfo) (st : State) where
-  -- the rows, behind the name of the table and its header
+  -- the rows, after the name of the table and its header
   pub loads_told : (kept its : List NodeInfo) (done header behind items text : List ℕ)
       → done ++ flat_map (load_row st) its ≡ header ++ flat_map (load_row st) kept → its ≡ []
       → header ≡ behind ++ codes "node,mode,online,load,slots\n" → behind ≡ items → items ≡ text ++ codes "load\n" → kept ≡ nodes → done ≡ text ++ load_table nodes st
@@ -103,11 +103,11 @@ module _ (nodes : List NodeInfo) (st : State) where
         let each = subst (λ (rs : List (StripeNo × Level)). AllByRecursion P rs) (sym all) (each_there nodes st) in
         subst P (sym here) (All-from_recursion P rows each i row within)
 
-    -- the stripe of a row is there, so that its missing fragments are told
+    -- the stripe of a row is there, so that the book returns its missing fragments
     pub missing_at : missing_shown nodes st row.0 ≡ Some (record { bits = bits_of (code_of st row.0) (missing nodes st row.0) })
     missing_at = missing_told nodes st row.0 row_there
 
-    -- its code is told too
+    -- and its code
     pub code_at : code_shown st row.0 ≡ Some (code_of st row.0)
     code_at = rw row_there refl
 

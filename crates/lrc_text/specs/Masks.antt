@@ -1,4 +1,4 @@
--- Masks of losses, and what is told of them.
+-- Masks of losses, and their lines.
 use Rattle.std.specs.Prelude.{ℕ, Bool, ◌&&◌, if◌then◌else◌, nat_eq, List, ◌++◌, length, codes, decimal, Option, Some, None}
 use Rattle.std.specs.List.{list_all}
 use Rattle.std.specs.Char.{is_ascii_hexdigit}
@@ -13,17 +13,17 @@ use Rattle.lrc_code.specs.Losses.{losses_in, margin_of, bits_set, fits}
 abbrev pub is_mask : List ℕ → Bool
 is_mask word = nat_eq (length word) 4 && list_all is_ascii_hexdigit word
 
--- the number that such a word writes, where its bits are of fragments of the code; fragment f is lost where bit f is set
+-- the number that such a word is, if only bits of fragments of the code are set; bit f is set where fragment f is lost
 abbrev pub mask_of : Code → List ℕ → Option ℕ
 mask_of code word = if is_mask word && fits code (digits_value 16 word) then Some (digits_value 16 word) else None
 
--- ---- what is told
+-- ---- lines
 
 -- the losses of each class
 abbrev pub counts_text : ℕ → ℕ → ℕ → List ℕ
 counts_text a b g = codes "A " ++ decimal a ++ codes " B " ++ decimal b ++ codes " G " ++ decimal g
 
--- the margin of recoverable losses; the others have none
+-- the margin of recoverable losses; other losses have none
 abbrev pub margin_text : Option ℕ → List ℕ
 margin_text (Some margin) = codes " recoverable margin " ++ decimal margin ++ codes "\n"
 margin_text None = codes " not recoverable\n"

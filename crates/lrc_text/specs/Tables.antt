@@ -28,7 +28,7 @@ level_text (AtRisk margin) = codes "risk"
 level_text Unavailable = codes "unavailable"
 level_text Lost = codes "lost"
 
--- how many further losses are withstood; a dash where the losses are not recoverable
+-- how many more losses can be recovered; a dash where these can't
 abbrev pub margin_field : Option ℕ → List ℕ
 margin_field (Some margin) = decimal margin
 margin_field None = codes "-"
@@ -63,7 +63,7 @@ abbrev pub online_text : Bool → List ℕ
 online_text true = codes "yes"
 online_text false = codes "no"
 
--- the row of a node with this mode, which is online or not, and with so many seats on it
+-- the row of a node with this mode and number of seats on it, online or not
 unfoldable pub load_line : NodeInfo → Mode → Bool → ℕ → List ℕ
 load_line node mode online seats =
     row_line (decimal node.number.value ∷ mode_text mode ∷ online_text online ∷ decimal seats ∷ decimal node.slots ∷ [])

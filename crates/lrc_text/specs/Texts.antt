@@ -28,7 +28,7 @@ spaced words = flat_map (λ word. codes " " ++ word) words
 abbrev pub lease_text : Lease → List ℕ
 lease_text lease = decimal lease.stripe.value ++ codes " " ++ decimal lease.fragment.value ++ codes " " ++ seat_text lease.target ++ codes " epoch " ++ decimal lease.epoch
 
--- from what a leased fragment is rebuilt
+-- how a leased fragment is rebuilt
 abbrev pub kind_text : Kind → List ℕ
 kind_text (Local sources) = codes "local" ++ spaced (map (λ f. decimal f.value) sources)
 kind_text (Local3 sources) = codes "local" ++ spaced (map (λ f. decimal f.value) sources)
@@ -67,14 +67,14 @@ reply_text Changed = codes "changed"
 reply_text (Refused refusal) = codes "refused " ++ refusal_text refusal
 reply_text (Ticked clock ended) = codes "ticked " ++ decimal clock ++ codes " " ++ decimal ended
 
--- a reply's line: the place of its call in the history, and its text
+-- a reply's line: the number of its call in the history, counted from 1, and its text
 abbrev pub reply_line : ℕ → Reply → List ℕ
-reply_line place reply = decimal place ++ codes " " ++ reply_text reply ++ codes "\n"
+reply_line number reply = decimal number ++ codes " " ++ reply_text reply ++ codes "\n"
 
--- the lines of entries, of which the first has this place in the history
+-- the lines of entries, of which the first has this number
 abbrev pub lines_from : ℕ → List Entry → List ℕ
-lines_from place [] = []
-lines_from place (e ∷ es) = reply_line place e.reply ++ lines_from (place + 1) es
+lines_from number [] = []
+lines_from number (e ∷ es) = reply_line number e.reply ++ lines_from (number + 1) es
 
 -- the line before a script's replies
 abbrev pub script_line : ℕ → List ℕ
@@ -84,10 +84,10 @@ script_line script = codes "script " ++ decimal script ++ codes "\n"
 abbrev pub script_text : List Entry → ℕ → List ℕ
 script_text history script = script_line script ++ flat_map (λ e. reply_line e.place e.entry.reply) (entries_of script history)
 
--- what is printed of so many scripts, where this is the history that they made
+-- what is printed of `count` scripts that made this history
 abbrev pub replies_text : ℕ → List Entry → List ℕ
 replies_text count history = flat_map (script_text history) (sessions count)
 
--- the same, and behind it what is printed of the state in which the history leaves these nodes
+-- the same, and then the tables of the state of these nodes after the history
 abbrev pub output_text : List NodeInfo → ℕ → List Entry → List ℕ
 output_text nodes count history = replies_text count history ++ tables_text nodes (state_after nodes history)

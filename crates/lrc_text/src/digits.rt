@@ -1,4 +1,4 @@
-//! Numbers of few digits, and digits that the places of many lines share.
+//! Digits of small numbers, and digits that the numbers of many lines share.
 
 ghost use Rattle.std.specs.Prelude.{◌≡◌, ◌+◌, ◌/◌, ◌%◌, ◌^◌, ◌<◌, ◌≤◌, ◌∷◌, ◌++◌, length, drop, decimal};
 
@@ -17,7 +17,7 @@ static PAIRS: [[u8; 2]; 100] = [
     *b"96", *b"97", *b"98", *b"99",
 ];
 
-// The ten numbers that have each of these first digits, behind how many digits they have.
+// For each `count hundreds tens`: the count and the three digits of the ten numbers with these hundreds and tens.
 macro_rules! of_each_ten {
     ($($count:literal $hundreds:literal $tens:literal),*) => {
         [$(
@@ -27,7 +27,7 @@ macro_rules! of_each_ten {
     };
 }
 
-/// How many digits each number below 1,000 has, and behind that its last three, zeros before the others.
+/// For each number below 1,000: its count of digits, then its three digits with leading zeros.
 static NUMERALS: [[u8; 4]; 1000] = of_each_ten!(
     1 b'0' b'0', 2 b'0' b'1', 2 b'0' b'2', 2 b'0' b'3', 2 b'0' b'4', 2 b'0' b'5', 2 b'0' b'6', 2 b'0' b'7', 2 b'0' b'8', 2 b'0' b'9',
     3 b'1' b'0', 3 b'1' b'1', 3 b'1' b'2', 3 b'1' b'3', 3 b'1' b'4', 3 b'1' b'5', 3 b'1' b'6', 3 b'1' b'7', 3 b'1' b'8', 3 b'1' b'9',
@@ -41,9 +41,9 @@ static NUMERALS: [[u8; 4]; 1000] = of_each_ten!(
     3 b'9' b'0', 3 b'9' b'1', 3 b'9' b'2', 3 b'9' b'3', 3 b'9' b'4', 3 b'9' b'5', 3 b'9' b'6', 3 b'9' b'7', 3 b'9' b'8', 3 b'9' b'9'
 );
 
-/// Writes a number below 1,000 so that it ends at `end`, and answers where it starts. What stands before it is written over.
+/// Writes a number below 1,000 so that it ends at `end`, and returns where it starts. It may overwrite the bytes before that.
 #[inline(always)]
-pub(crate) fn write_short(number: u16, text: &mut [u8], end: usize) -> usize
+pub(crate) fn write_below_1000(number: u16, text: &mut [u8], end: usize) -> usize
     requires number { number < 1000 }
     requires room { (4 ≤ end) × (end ≤ length text.old) }
     ensures start { (result < end) × (end ≤ result + 3) }
@@ -57,7 +57,7 @@ pub(crate) fn write_short(number: u16, text: &mut [u8], end: usize) -> usize
 /// Room for the digits of a number below 100,000,000.
 const ROOM: usize = 8;
 
-/// The digits of a number at the end of the room for them, and where they start.
+/// The digits of a number: the end of `room`, from `start`.
 #[derive(Clone, Copy)]
 pub(crate) struct Digits {
     pub room: [u8; 8],
@@ -76,8 +76,8 @@ impl Digits {
         Digits { room, start }
     }
 
-    /// Writes these digits and two more behind them so that they end at `end`, and answers where they start. What stands before
-    /// them is written over.
+    /// Writes these digits and two more after them so that they end at `end`, and returns where they start. It may overwrite the
+    /// bytes before that.
     #[inline(always)]
     pub(crate) fn write_with(self, pair: usize, text: &mut [u8], end: usize) -> usize
         requires pair { pair < 100 }

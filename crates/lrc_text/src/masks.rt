@@ -1,4 +1,4 @@
-//! Masks of losses, and the line for one.
+//! Masks of losses: reading one, and its line.
 
 ghost use Rattle.std.specs.Prelude.{◌≡◌, ◌++◌, OnOk, string_bytes};
 ghost use Rattle.lrc_text.specs.Masks.{is_mask, mask_of, counts_text, margin_text, losses_line, mask_text};
@@ -6,7 +6,7 @@ ghost use Rattle.lrc_text.specs.Masks.{is_mask, mask_of, counts_text, margin_tex
 use lrc_code::{Class, Code, LossMask};
 use std::alloc::AllocError;
 
-/// The number that a word of exactly four hexadecimal digits writes, where its bits are of fragments of the code.
+/// Reads a mask: exactly four hexadecimal digits, in which only bits of fragments of the code are set.
 pub fn parse_mask(code: Code, word: &str) -> Option<u16>
     ensures { result ≡ mask_of code word.now }
 {
@@ -27,7 +27,7 @@ fn is_mask(word: &[u8]) -> bool
     word.len() == 4 && word.iter().all(|byte| byte.is_ascii_hexdigit())
 }
 
-/// Adds the line for a mask of a stripe of the code, or for a word that is none.
+/// Adds the line of a mask of a stripe of the code, or of a word that is no mask.
 pub fn push_mask_line(out: &mut String, code: Code, mask: Option<u16>) -> Result<(), AllocError>
     ensures { OnOk result (string_bytes out.new ≡ string_bytes out.old ++ mask_text code mask) }
 {
@@ -37,7 +37,7 @@ pub fn push_mask_line(out: &mut String, code: Code, mask: Option<u16>) -> Result
     }
 }
 
-/// Adds the line for these losses of a stripe of the code.
+/// Adds the line of these losses of a stripe of the code.
 fn push_losses(out: &mut String, code: Code, losses: LossMask) -> Result<(), AllocError>
     ensures { OnOk result (string_bytes out.new ≡ string_bytes out.old ++ losses_line code losses.bits) }
 {

@@ -1,4 +1,4 @@
-//! Rows of a table behind a text, with commas between their fields.
+//! Tables after a text: rows of fields with commas between them.
 
 ghost use Rattle.std.specs.Prelude.{◌≡◌, ◌++◌, map, IfOk, IfErr, OnOk};
 ghost use Rattle.csv.specs.Writing.{default_writer, row_text};
@@ -11,15 +11,15 @@ use lrc_code::Fault;
 /// A text to which rows are added.
 pub(crate) type Table = Writer<Vec<u8>>;
 
-/// No row yet behind this text.
-pub(crate) fn table_behind(text: Vec<u8>) -> Table
+/// Begins a table after this text.
+pub(crate) fn begin_table(text: Vec<u8>) -> Table
     ensures text { text_in result ≡ text.items }
     ensures between { IsBetweenRows result }
 {
     WriterBuilder::new().from_writer(text)
 }
 
-/// Adds a row of these fields, as many as the first row has.
+/// Adds a row of these fields. All rows of a table have the same number of fields.
 pub(crate) fn push_row(table: &mut Table, fields: &[&[u8]]) -> Result<(), Fault>
     requires { IsBetweenRows table.old }
     ensures row { OnOk result (text_in table.new ≡ text_in table.old ++ row_text default_writer (map (λ f. f.now) fields.now)) }
@@ -32,8 +32,8 @@ pub(crate) fn push_row(table: &mut Table, fields: &[&[u8]]) -> Result<(), Fault>
     }
 }
 
-/// The text with all rows.
-pub(crate) fn text_of_table(table: Table) -> Result<Vec<u8>, Fault>
+/// Ends a table, and returns the text with its rows.
+pub(crate) fn end_table(table: Table) -> Result<Vec<u8>, Fault>
     ensures text { IfOk result (λ v. v.items ≡ text_in table) }
     ensures err { IfErr result (λ e. e ≡ fault.OutOfMemory) }
 {

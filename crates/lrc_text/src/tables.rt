@@ -7,13 +7,13 @@ ghost use Rattle.lrc_book.specs.Books.{state_of};
 ghost use Rattle.lrc_text.specs.Tables.{level_text, margin_field, mask_field, risk_line, risk_table, mode_text, online_text, load_line, load_table, tables_text};
 ghost use Rattle.lrc_text.specs.Writers.{text_in, IsBetweenRows};
 
-use crate::table::{Table, push_row, table_behind, text_of_table};
+use crate::table::{Table, begin_table, end_table, push_row};
 use lrc_book::{Book, Level, Mode};
 use lrc_code::{Code, Fault, LossMask, StripeNo};
 use lrc_topology::NodeInfo;
 use std::alloc::{AllocError, Global};
 
-/// The text, and the tables behind it.
+/// Adds both tables of a book to a text.
 pub fn with_tables(alloc: Global, text: Vec<u8>, book: &Book) -> Result<Vec<u8>, Fault>
     ensures text { IfOk result (λ v. v.items ≡ text.items ++ tables_text book.now.nodes (state_of book.now)) }
     ensures err { IfErr result (λ e. e ≡ fault.OutOfMemory) }
@@ -28,14 +28,14 @@ fn with_risk_table(alloc: Global, mut text: Vec<u8>, book: &Book) -> Result<Vec<
 {
     let rows = book.risk(alloc)?;
     text.extend_from_slice(b"risk\n")?;
-    let mut table = table_behind(text);
+    let mut table = begin_table(text);
     push_risk_header(&mut table)?;
     for (stripe, level) in rows.as_slice() {
         let code = book.code(*stripe).unwrap();
         let missing = book.missing(*stripe).unwrap();
         push_risk_row(alloc, &mut table, *stripe, *level, code, missing)?;
     }
-    text_of_table(table)
+    end_table(table)
 }
 
 fn with_load_table(mut text: Vec<u8>, book: &Book) -> Result<Vec<u8>, Fault>
@@ -43,14 +43,14 @@ fn with_load_table(mut text: Vec<u8>, book: &Book) -> Result<Vec<u8>, Fault>
     ensures err { IfErr result (λ e. e ≡ fault.OutOfMemory) }
 {
     text.extend_from_slice(b"load\n")?;
-    let mut table = table_behind(text);
+    let mut table = begin_table(text);
     push_load_header(&mut table)?;
     for node in book.topology().nodes() {
         let (mode, online) = book.mode(node.number).unwrap();
         let load = book.load(node.number).unwrap();
         push_load_row(&mut table, node, mode, online, load)?;
     }
-    text_of_table(table)
+    end_table(table)
 }
 
 // ---- words
@@ -91,7 +91,7 @@ fn margin_word(alloc: Global, margin: Option<u8>) -> Result<String, AllocError>
     }
 }
 
-/// Four hexadecimal digits.
+/// The number in four hexadecimal digits.
 fn mask_word(alloc: Global, bits: u16) -> Result<String, AllocError>
     ensures { IfOk result (λ word. string_bytes word ≡ mask_field bits) }
 {
@@ -131,7 +131,7 @@ fn push_load_header(table: &mut Table) -> Result<(), Fault>
     push_row(table, fields.as_slice())
 }
 
-/// Adds the row of a stripe of this level and code that misses these fragments.
+/// Adds the row of a stripe with this level and code, and these missing fragments.
 fn push_risk_row(
     alloc: Global,
     table: &mut Table,

@@ -1,10 +1,13 @@
 //! The lines of replies.
+//!
+//! A line is written from its last byte to its first. Each function `write_*` writes a text so that it ends at `end`, and
+//! returns where it starts. It may overwrite the bytes before that.
 
 ghost use Rattle.std.specs.Prelude.{◌≡◌, ◌+◌, ◌*◌, ◌^◌, ◌<◌, ◌≤◌, ◌∷◌, ◌++◌, length, drop, OnOk, codes, decimal, map};
 ghost use Rattle.lrc_rules.specs.declared.reply.Reply.TheVariants.{Granted, Refused, Ticked};
 ghost use Rattle.lrc_text.specs.Texts.{seat_text, spaced, lease_text, kind_text, reply_text, reply_line, lines_from, script_line};
 
-use crate::digits::{Digits, write_short};
+use crate::digits::{Digits, write_below_1000};
 use lrc_book::{Kind, Lease, Record, Refusal, Reply, Seat};
 use lrc_code::{Fragment, SessionNo};
 use std::alloc::AllocError;
@@ -30,7 +33,7 @@ const TARGET_ROOM: usize = 24;
 /// Room for a target, a word and an epoch.
 const LEASE_ROOM: usize = 41;
 
-/// Room for a word, a lease, from what is rebuilt, and the end of a line.
+/// Room for a word, a lease, the kind of its repair, and the end of a line.
 const GRANTED_ROOM: usize = 92;
 
 /// Room for a word, two numbers, and the end of a line.
@@ -39,11 +42,11 @@ const TICKED_ROOM: usize = 30;
 /// Room for the longest reply: a word, the sixteen seats of a stripe, and the end of a line.
 const REPLY_ROOM: usize = 200;
 
-/// Room for a line: a place, which is a number of at most twenty digits, and a reply.
+/// Room for a line: a number of at most twenty digits, and a reply.
 pub const LINE_ROOM: usize = 220;
 
-/// The places from this one on have more digits than `Digits` keeps.
-const LONG_PLACE: usize = 10_000_000_000;
+/// The least number whose hundreds have more digits than `Digits` holds.
+const LONG_NUMBER: usize = 10_000_000_000;
 
 /// Adds a number in decimal digits.
 fn push_number(out: &mut Vec<u8>, number: u64) -> Result<(), AllocError>
@@ -53,9 +56,9 @@ fn push_number(out: &mut Vec<u8>, number: u64) -> Result<(), AllocError>
     out.extend_from_slice(digits.format(number).as_bytes())
 }
 
-// ---- pieces, written from the last to the first
+// ---- parts of replies
 
-/// Writes words over a text that has as many bytes. All are stored at once, since their number is known where this is called.
+/// Overwrites a text with words of the same length, in one store where the caller knows that length.
 #[inline(always)]
 fn put_words<const N: usize>(words: &[u8; N], text: &mut [u8])
     requires { length text.old ≡ N }
@@ -64,7 +67,7 @@ fn put_words<const N: usize>(words: &[u8; N], text: &mut [u8])
     *text.as_mut_array().unwrap() = *words;
 }
 
-/// Writes words so that they end at `end`, and answers where they start.
+/// Writes words.
 #[inline(always)]
 pub(crate) fn write_words<const N: usize>(words: &[u8; N], text: &mut [u8], end: usize) -> usize
     requires { (N ≤ end) × (end ≤ length text.old) }
@@ -76,44 +79,44 @@ pub(crate) fn write_words<const N: usize>(words: &[u8; N], text: &mut [u8], end:
     start
 }
 
-/// Writes a number so that it ends at `end`, and answers where it starts.
+/// Writes a number of 32 bits.
 #[inline]
-fn write_number(number: u32, text: &mut [u8], end: usize) -> usize
+fn write_u32(number: u32, text: &mut [u8], end: usize) -> usize
     requires { (NUMBER_ROOM ≤ end) × (end ≤ length text.old) }
     ensures start { (end ≤ result + NUMBER_ROOM) × (result ≤ end) }
     ensures written { drop result text.new ≡ decimal number ++ drop end text.old }
 {
     if number < 1000 {
-        return write_short(number as u16, text, end);
+        return write_below_1000(number as u16, text, end);
     }
     itoa::write_digits(u64::from(number), text, end)
 }
 
-/// Writes a number of 16 bits so that it ends at `end`, and answers where it starts. Most have at most three digits.
+/// Writes a number of 16 bits. Most have at most three digits.
 #[inline(always)]
-fn write_small(number: u16, text: &mut [u8], end: usize) -> usize
+fn write_u16(number: u16, text: &mut [u8], end: usize) -> usize
     requires { (5 ≤ end) × (end ≤ length text.old) }
     ensures start { (end ≤ result + 5) × (result ≤ end) }
     ensures written { drop result text.new ≡ decimal number ++ drop end text.old }
 {
     if number < 1000 {
-        return write_short(number, text, end);
+        return write_below_1000(number, text, end);
     }
     itoa::write_digits(u64::from(number), text, end)
 }
 
-/// Writes a mark and a number behind it so that they end at `end`, and answers where they start.
+/// Writes a mark and a number.
 fn write_marked(mark: u8, number: u16, text: &mut [u8], end: usize) -> usize
     requires { (6 ≤ end) × (end ≤ length text.old) }
     ensures start { (end ≤ result + 6) × (result < end) }
     ensures written { drop result text.new ≡ mark ∷ (decimal number ++ drop end text.old) }
 {
-    let digits = write_small(number, text, end);
+    let digits = write_u16(number, text, end);
     text[digits - 1] = mark;
     digits - 1
 }
 
-/// Writes a space and a seat behind it so that they end at `end`, and answers where they start.
+/// Writes a space and a seat.
 #[inline(always)]
 fn write_seat(seat: &Seat, text: &mut [u8], end: usize) -> usize
     requires { (SEAT_ROOM ≤ end) × (end ≤ length text.old) }
@@ -124,7 +127,7 @@ fn write_seat(seat: &Seat, text: &mut [u8], end: usize) -> usize
     write_marked(b' ', seat.node.value, text, slot)
 }
 
-/// Writes seats so that they end at `end`, and answers where they start.
+/// Writes seats, a space before each.
 fn write_seats(seats: &[Seat], text: &mut [u8], end: usize) -> usize
     requires { (SEAT_ROOM * length seats.now ≤ end) × (end ≤ length text.old) }
     ensures start { (end ≤ result + SEAT_ROOM * length seats.now) × (result ≤ end) }
@@ -139,7 +142,7 @@ fn write_seats(seats: &[Seat], text: &mut [u8], end: usize) -> usize
     at
 }
 
-/// Writes a space, the stripe and the fragment of a lease, and its target, so that they end at `end`, and answers where they start.
+/// Writes the stripe, the fragment and the target of a lease, a space before each.
 fn write_target(lease: &Lease, text: &mut [u8], end: usize) -> usize
     requires { (TARGET_ROOM ≤ end) × (end ≤ length text.old) }
     ensures start { (end ≤ result + TARGET_ROOM) × (result ≤ end) }
@@ -150,18 +153,18 @@ fn write_target(lease: &Lease, text: &mut [u8], end: usize) -> usize
     write_marked(b' ', lease.stripe.value, text, fragment)
 }
 
-/// Writes a space and a lease so that they end at `end`, and answers where they start.
+/// Writes a space and a lease.
 fn write_lease(lease: &Lease, text: &mut [u8], end: usize) -> usize
     requires { (LEASE_ROOM ≤ end) × (end ≤ length text.old) }
     ensures start { (end ≤ result + LEASE_ROOM) × (result ≤ end) }
     ensures written { drop result text.new ≡ (codes " " ++ lease_text lease.now) ++ drop end text.old }
 {
-    let epoch = write_number(lease.epoch, text, end);
+    let epoch = write_u32(lease.epoch, text, end);
     let target = write_words(b" epoch ", text, epoch);
     write_target(lease, text, target)
 }
 
-/// Writes fragments, a space before each, so that they end at `end`, and answers where they start.
+/// Writes fragments, a space before each.
 fn write_sources(sources: &[Fragment], text: &mut [u8], end: usize) -> usize
     requires { (FRAGMENT_ROOM * length sources.now ≤ end) × (end ≤ length text.old) }
     ensures start { (end ≤ result + FRAGMENT_ROOM * length sources.now) × (result ≤ end) }
@@ -176,7 +179,7 @@ fn write_sources(sources: &[Fragment], text: &mut [u8], end: usize) -> usize
     at
 }
 
-/// Writes a word and the sources of a repair from a local group so that they end at `end`, and answers where they start.
+/// Writes the sources of a repair from a local group, and a word before them.
 fn write_local<const N: usize>(sources: &[Fragment; N], text: &mut [u8], end: usize) -> usize
     requires few { N ≤ 6 }
     requires room { (KIND_ROOM ≤ end) × (end ≤ length text.old) }
@@ -187,8 +190,8 @@ fn write_local<const N: usize>(sources: &[Fragment; N], text: &mut [u8], end: us
     write_words(b" local", text, start)
 }
 
-/// Writes a space and from what is rebuilt so that they end at `end`, and answers where they start.
-#[inline(always)] // as part of the text of a grant it needs no bounds of its own
+/// Writes a space and the kind of a repair.
+#[inline(always)] // in the text of a grant it needs no bounds checks of its own
 fn write_kind(kind: &Kind, text: &mut [u8], end: usize) -> usize
     requires { (KIND_ROOM ≤ end) × (end ≤ length text.old) }
     ensures start { (end ≤ result + KIND_ROOM) × (result ≤ end) }
@@ -204,19 +207,19 @@ fn write_kind(kind: &Kind, text: &mut [u8], end: usize) -> usize
 
 // ---- replies
 
-/// Writes words, a number and the end of a line so that they end at `end`, and answers where they start.
-#[inline(never)] // most refusals have no number, and their text is then short
+/// Writes words, a number and the end of a line.
+#[inline(never)] // most refusals have no number, and skip this
 fn write_detail(words: &[u8; 13], number: u32, text: &mut [u8], end: usize) -> usize
     requires { (DETAIL_ROOM ≤ end) × (end ≤ length text.old) }
     ensures start { (end ≤ result + DETAIL_ROOM) × (result ≤ end) }
     ensures written { drop result text.new ≡ (words.now ++ (decimal number ++ codes "\n")) ++ drop end text.old }
 {
     let digits = write_words(b"\n", text, end);
-    let start = write_number(number, text, digits);
+    let start = write_u32(number, text, digits);
     write_words(words, text, start)
 }
 
-/// Writes a refusal, a space before it and the end of the line behind it, so that it ends at `end`, and answers where it starts.
+/// Writes a space, a refusal and the end of the line.
 #[inline(always)] // as `write_reply`
 fn write_refusal(refusal: &Refusal, text: &mut [u8], end: usize) -> usize
     requires { (DETAIL_ROOM ≤ end) × (end ≤ length text.old) }
@@ -254,9 +257,8 @@ fn write_refusal(refusal: &Refusal, text: &mut [u8], end: usize) -> usize
     }
 }
 
-/// Writes a space, a word, the seats of a stripe of either code, and the end of the line, so that they end at `end`, and
-/// returns where they start.
-#[inline(never)] // the loop over lines then has few instructions
+/// Writes the seats of a stripe of either code, a word before them, and the end of the line.
+#[inline(never)] // keeps the loop over lines small
 fn write_placed<const N: usize>(seats: &[Seat; N], text: &mut [u8], end: usize) -> usize
     requires few { N ≤ 16 }
     requires room { (REPLY_ROOM ≤ end) × (end ≤ length text.old) }
@@ -286,13 +288,13 @@ fn write_ticked(clock: u32, ended: u32, text: &mut [u8], end: usize) -> usize
     ensures written { drop result text.new ≡ (codes " " ++ (reply_text (Ticked clock ended) ++ codes "\n")) ++ drop end text.old }
 {
     let last = write_words(b"\n", text, end);
-    let second = write_number(ended, text, last);
+    let second = write_u32(ended, text, last);
     let between = write_words(b" ", text, second);
-    let first = write_number(clock, text, between);
+    let first = write_u32(clock, text, between);
     write_words(b" ticked ", text, first)
 }
 
-/// Writes a reply, a space before it and the end of the line after it, so that it ends at `end`, and returns where it starts.
+/// Writes a space, a reply and the end of the line.
 #[inline(always)] // a reply is then not built whole, since only parts of it are written
 fn write_reply(reply: Reply, text: &mut [u8], end: usize) -> usize
     requires { (REPLY_ROOM ≤ end) × (end ≤ length text.old) }
@@ -314,28 +316,28 @@ fn write_reply(reply: Reply, text: &mut [u8], end: usize) -> usize
 
 // ---- lines
 
-/// Writes the line of a reply, whose call has this place in the history, so that it ends at `end`, and answers where it starts.
+/// Writes the line of a reply. Its call has this number in the history, counted from 1.
 #[inline(always)] // as `write_reply`
-fn write_line(place: usize, reply: Reply, text: &mut [u8], end: usize) -> usize
+fn write_line(number: usize, reply: Reply, text: &mut [u8], end: usize) -> usize
     requires { (LINE_ROOM ≤ end) × (end ≤ length text.old) }
     ensures start { (end ≤ result + LINE_ROOM) × (result ≤ end) }
-    ensures written { drop result text.new ≡ reply_line place reply ++ drop end text.old }
+    ensures written { drop result text.new ≡ reply_line number reply ++ drop end text.old }
 {
     let start = write_reply(reply, text, end);
-    itoa::write_digits(place as u64, text, start)
+    itoa::write_digits(number as u64, text, start)
 }
 
-/// Adds the line of a reply, whose call has this place in the history.
-pub fn push_reply_line(out: &mut Vec<u8>, place: usize, reply: &Reply) -> Result<(), AllocError>
-    ensures { OnOk result (out.new.items ≡ out.old.items ++ reply_line place reply.now) }
+/// Adds the line of a reply. Its call has this number in the history, counted from 1.
+pub fn push_reply_line(out: &mut Vec<u8>, number: usize, reply: &Reply) -> Result<(), AllocError>
+    ensures { OnOk result (out.new.items ≡ out.old.items ++ reply_line number reply.now) }
 {
     let mut text = [0u8; LINE_ROOM];
-    let start = write_line(place, *reply, &mut text, LINE_ROOM);
+    let start = write_line(number, *reply, &mut text, LINE_ROOM);
     out.extend_from_slice(&text[start..])
 }
 
-/// Writes the lines of entries whose places are so many hundreds and the numbers from `rest` on, so that they end at `end`, and
-/// answers where they start. Their hundreds are made digits once.
+/// Writes the lines of entries, of which the first has the number `100 * hundreds + rest`. The digits of `hundreds` are computed
+/// once.
 fn write_hundred(
     records: &[Record],
     hundreds: usize,
@@ -360,10 +362,9 @@ fn write_hundred(
     at
 }
 
-/// Writes the lines of entries, of which the first has this place in the history, so that they end at `end`, and answers where
-/// they start.
+/// Writes the lines of entries, of which the first has the number `first`.
 fn write_lines(records: &[Record], first: usize, text: &mut [u8], end: usize) -> usize
-    requires places { first + length records.now < 2 ^ 64 }
+    requires numbers { first + length records.now < 2 ^ 64 }
     requires room { (LINE_ROOM * length records.now ≤ end) × (end ≤ length text.old) }
     ensures start { result ≤ end }
     ensures written { drop result text.new ≡ lines_from first records.now ++ drop end text.old }
@@ -372,7 +373,7 @@ fn write_lines(records: &[Record], first: usize, text: &mut [u8], end: usize) ->
     let mut at = end;
     while left > 0 {
         let last = first + left - 1;
-        if last < 100 || last >= LONG_PLACE {
+        if last < 100 || last >= LONG_NUMBER {
             left -= 1;
             at = write_line(last, records[left].reply(), text, at);
         } else {
@@ -385,14 +386,14 @@ fn write_lines(records: &[Record], first: usize, text: &mut [u8], end: usize) ->
     at
 }
 
-/// Adds the lines of entries, of which the first has this place in the history. They are written in the room that is given.
+/// Adds the lines of entries, of which the first has the number `first`. They are first written into `room`.
 pub fn push_lines(
     out: &mut Vec<u8>,
     records: &[Record],
     first: usize,
     room: &mut [u8],
 ) -> Result<(), AllocError>
-    requires places { first + length records.now < 2 ^ 64 }
+    requires numbers { first + length records.now < 2 ^ 64 }
     requires room { LINE_ROOM * length records.now ≤ length room.old }
     ensures same { length room.new ≡ length room.old }
     ensures lines { OnOk result (out.new.items ≡ out.old.items ++ lines_from first records.now) }

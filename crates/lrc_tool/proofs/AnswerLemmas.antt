@@ -1,4 +1,4 @@
--- Each bundle has an answer, and only one.
+-- Each bundle has an output, and only one.
 use Rattle.std.proofs.Common.{arith, ◌≡◌, ◌≢◌, ℕ, ◌≤◌, ◌↔◌, inl, inr, List, length, Option, Some, None, Result, Ok, Err, refl, sym, ap, subst, ◌∙◌}
 use Rattle.lrc_topology.specs.declared.NodeInfo.{NodeInfo}
 use Rattle.lrc_topology.specs.declared.error.TopologyError.{TopologyError}
@@ -23,7 +23,7 @@ use Rattle.lrc_tool.proofs.JudgedLemmas.{few_scripts}
 some_outcome : (text : List ℕ) → (outcome : Result (List NodeInfo) TopologyError) × Reads text outcome
 some_outcome text = elim (each_text_is_told text) [ inl accepted ↦ (Ok accepted.0, accepted.1) | inr refused ↦ (Err refused.0, (refused.1, refused.2)) ]
 
--- ---- one answer
+-- ---- at most one output
 
 same_outcome : (text : List ℕ) (o p : Result (List NodeInfo) TopologyError) → Reads text o → Reads text p → o ≡ p
 same_outcome text (Ok ns) (Ok ms) h k = ap Ok (one_topology text ns ms h k)
@@ -31,7 +31,7 @@ same_outcome text (Ok ns) (Err e) h k = absurd (k.0 (topology_or_refusal text ns
 same_outcome text (Err e) (Ok ns) h k = absurd (h.0 (topology_or_refusal text ns e k h.1))
 same_outcome text (Err e) (Err f) h k = ap Err (one_refusal text e f h.0 k.0 h.1 k.1)
 
--- nodes and at most so many scripts have one answer
+-- nodes and at most `most` scripts have one output
 abbrev IsOneAnswer : ℕ → Answer → Type 0
 IsOneAnswer most answer = (nodes : List NodeInfo) (scripts : List Script) (t u : List ℕ) → length scripts ≤ most → answer nodes scripts t → answer nodes scripts u → t ≡ u
 
@@ -67,9 +67,9 @@ one_output = one_answer ArePrinted 1 same_printed
 pub one_check : (bundle text other : List ℕ) (status another : Status) → IsCheck bundle text status → IsCheck bundle other another → (text ≡ other) × (status ≡ another)
 one_check bundle text other status another = one_answer AreCounted (length (scripts_of bundle)) (λ nodes scripts t u few h k. h ∙ sym k) bundle text other status another (omega arith)
 
--- ---- some answer
+-- ---- at least one output
 
--- nodes and scripts that are not too many and have no bad line have an answer
+-- nodes and scripts that are not too many and have no bad line have an output
 abbrev IsSomeAnswer : Answer → Type 0
 IsSomeAnswer answer = (nodes : List NodeInfo) (scripts : List Script) → length scripts ≤ script_limit → first_bad_of scripts ≡ None → (text : List ℕ) × answer nodes scripts text
 

@@ -1,4 +1,4 @@
--- What the checks of a bundle tell, from its parts, and what it is answered then.
+-- The result of the checks of a bundle, from its parts, and its output then.
 use Rattle.std.proofs.Common.{◌⊎◌, inl, inr, Bool, true, false, if◌then◌else◌, nat_lt, ◌≡◌, ℕ, suc, ◌+◌, ◌<◌, ◌≤◌, All, List, [], ◌∷◌, ◌++◌, length, get_or, take, drop, sum_by, Option, Some, None, Result, Ok, Err, IfOk, Vec, Global, refl, sym, ap, subst, ◌∙◌, arith}
 use borrow.Author.Tests.{ltb-false}
 use Rattle.std.specs.List.{AllZip}
@@ -146,14 +146,14 @@ module _ (bundle : List ℕ) (nodes : List NodeInfo) (texts : List ScriptText) (
       let over = subst (λ (o : Option BadLine). IsAnsweredOver NoAnswer nodes (scripts_of bundle) o text status) (sym (texts_bad (scripts_of bundle) texts (bundle_texts bundle) are ∙ found)) (told ∙ same, end) in
       subst (λ (o : Option (List ℕ)). IsAnsweredUnless NoAnswer o bundle text status) (sym (not_refused bundle short few)) (Ok nodes, read, over)
 
--- ---- what is answered
+-- ---- outputs
 
 after_good : (answer : Answer) (nodes : List NodeInfo) (scripts : List Script) (found : Option BadLine) (text : List ℕ) (status : Status) → found ≡ None → answer nodes scripts text → status ≡ ended.Done
     → IsAnsweredOver answer nodes scripts found text status
 after_good answer nodes scripts None text status good h end = (h, end)
 after_good answer nodes scripts (Some bad) text status good h end = absurd (cc)
 
--- a bundle that passes all checks gets the answer
+-- a bundle that passes all checks has the output
 pub good_to_any : (answer : Answer) (bundle text : List ℕ) (status : Status) (nodes : List NodeInfo) (scripts : List (Vec Command Global)) → IsAccepted bundle nodes scripts
     → answer nodes (scripts_of bundle) text → status ≡ ended.Done → IsAnswered answer bundle text status
 good_to_any answer bundle text status nodes scripts good h end =

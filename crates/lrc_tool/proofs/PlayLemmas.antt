@@ -9,7 +9,7 @@ use Rattle.lrc_text.specs.Texts.{lines_from}
 use Rattle.lrc_tool.specs.Plays.{AreMadeBehind}
 use Rattle.lrc_tool.proofs.SessionLemmas.{IsFirst}
 
--- ---- commands behind a history
+-- ---- commands after a history
 
 pub none_made : (before : List Entry) (session : SessionNo) → AreMadeBehind before session [] before
 none_made before session = record {

@@ -1,4 +1,4 @@
--- The answer to what was read is that to the bundle.
+-- What was read has the same output as the bundle.
 use Rattle.std.proofs.Common.{◌≡◌, ℕ, ◌<◌, inl, inr, List, ◌++◌, length, Option, Some, None, IfSome, codes, refl, sym, ap, subst, ◌∙◌, arith, length-append, append-nil}
 use Rattle.std.proofs.lemmas.Bool.{lt-ltb}
 use Rattle.std.specs.Io.KnownBytes.{Appends}
@@ -12,7 +12,7 @@ too_long : (bundle : List ℕ) → bundle_limit < length bundle → early_refusa
 too_long bundle long = rw (lt-ltb bundle_limit (length bundle) long) refl
 
 module _ (answer : Answer) where
-  -- two bundles that are too long have one answer
+  -- two bundles that are too long have one output
   both_too_long : (read bundle text : List ℕ) (status : Status) → bundle_limit < length read → bundle_limit < length bundle → IsAnswered answer read text status → IsAnswered answer bundle text status
   both_too_long read bundle text status p q h =
       subst (λ (o : Option (List ℕ)). IsAnsweredUnless answer o bundle text status) (sym (too_long bundle q))

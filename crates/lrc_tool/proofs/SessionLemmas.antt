@@ -73,7 +73,7 @@ script_text-more h (e ∷ es) alone =
     ∙ ap₂ (λ t n. t ++ lines_from n es) (script_text-push h e (All-head IsFirst e es alone) ∙ ap (λ n. script_text h 1 ++ reply_line n e.reply) next) behind
     ∙ append_assoc (script_text h 1) (reply_line (length h + 1) e.reply) (lines_from (length h + 1 + 1) es)
 
--- what is printed of a history, behind what is printed of its first entries
+-- what is printed of a history, after what is printed of its first entries
 pub told_more : (h : List Entry) (n : ℕ) (text new : List ℕ) → All IsFirst h → n ≤ length h → text ≡ script_text (take n h) 1 → new ≡ text ++ lines_from (n + 1) (drop n h) → new ≡ script_text h 1
 told_more h n text new alone within so_far next =
     next
@@ -98,7 +98,7 @@ one_made nodes commands history text by printed = record {
   printed = printed ∙ sym (append-nil (script_text history 1));
 }
 
--- with the tables behind it, it is what is printed
+-- with the tables after it, it is the output
 pub played_with_tables : (nodes kept : List NodeInfo) (scripts : List (List Command)) (history : List Entry) (text whole : List ℕ) → AreMade nodes scripts history text → kept ≡ nodes
     → whole ≡ text ++ tables_text kept (state_after kept history) → IsPlayed nodes scripts whole
 played_with_tables nodes kept scripts history text whole made same is = record {

@@ -17,7 +17,7 @@ consumes_both (Some x) None c bs cs p q = absurd p
 consumes_both (Some x) (Some y) None bs cs p q = absurd q
 consumes_both (Some x) (Some y) (Some z) bs cs p q = p ∙ ap (λ l. bs ++ l) q ∙ sym (append_assoc bs cs z)
 
--- a read of so many bytes more
+-- a read of more bytes
 pub ConsumesAtMost-more : (a b c : Option (List ℕ)) (bytes more : List ℕ) (count most : ℕ) → Consumes a b bytes → Consumes b c (take count more) → length bytes + count ≤ most → ConsumesAtMost most a c
 ConsumesAtMost-more a b c bytes more count most p q few = record {
   bytes = bytes ++ take count more;
@@ -32,7 +32,7 @@ take_all (x ∷ xs) = ap (λ ys. x ∷ ys) (take_all xs)
 rest_whole : (bytes : List ℕ) (at : ℕ) → take (length bytes - at) (drop at bytes) ≡ drop at bytes
 rest_whole bytes at = ap (λ n. take n (drop at bytes)) (sym (length-drop at bytes)) ∙ take_all (drop at bytes)
 
--- a write of what is left takes so many bytes more
+-- a write of what is left takes more bytes
 pub Appends-more : (a b c : Option (List ℕ)) (bytes : List ℕ) (at count : ℕ) → Appends a b (take at bytes) → Appends b c (take count (take (length bytes - at) (drop at bytes))) → Appends a c (take (at + count) bytes)
 Appends-more a b c bytes at count p q =
     subst (Appends a c) (sym (take-add at count bytes)) (appends_both a b c _ _ p (subst (λ ys. Appends b c (take count ys)) (rest_whole bytes at) q))

@@ -1,4 +1,4 @@
--- What the tracks of scripts tell: the entries of their sessions in the history, and no others; and which faults stop none.
+-- The tracks of scripts hold the entries of their sessions in the history, and no others; and which faults stop no script.
 use Rattle.std.proofs.Common.{◌≡◌, ◌≢◌, ℕ, zero, suc, ◌+◌, ◌≤◌, ◌<◌, ◌==◌, inl, inr, Bool, true, nat_le, nat_eq, All, List, [], ◌∷◌, ◌++◌, length, map, get_or, flat_map, count_by, sum_by, Option, Some, None, unwrap_or, Vec, refl, sym, ap, subst, ◌∙◌, arith}
 use borrow.Author.Tests.{eq-eqb}
 use Rattle.std.proofs.lemmas.Bool.{cases_Bool, leb-true}
@@ -263,7 +263,7 @@ counted_less {Z} f first (suc j) (v ∷ vs) each low less =
     λ w. subst (λ k. f k < length (get_or vs j w).items) (let z : first + suc j ≡ first + 1 + j = omega arith in z) (less w) in
     omega (arith, no_more_here f first v vs each, counted_less f (first + 1) j vs (no_more_behind f first v vs each) (omega (arith, low)) next, total_of f first v vs, all)
 
--- a fault that is told of a script has stopped it
+-- a fault that is reported of a script has stopped it
 stopped_by : (o : Option Stop) (f : Fault) → stop_fault o ≡ Some f → o ≡ Some (stop.Fault f)
 stopped_by (Some (stop.Fault g)) f is = ap (λ (p : Option Fault). Some (stop.Fault (unwrap_or p g))) is
 stopped_by (Some stop.Gate) f is = absurd (cc)

@@ -5,15 +5,15 @@ use Rattle.lrc_script.specs.Scripts.{is_passed_over}
 use Rattle.lrc_script.specs.Bundles.{Script}
 use Rattle.lrc_tool.specs.Outputs.{Answer, IsAnswered, Writes, WritesPart}
 
--- how many commands a script without a bad line has: one for each line that is not passed over
+-- how many commands a script without a bad line has: one for each line that is not skipped
 abbrev pub command_count : Script → ℕ
 command_count script = length (filter (λ line. not (is_passed_over line)) script.lines)
 
--- the line for so many nodes, scripts and commands
+-- the line for these numbers of nodes, scripts and commands
 abbrev pub counts_line : ℕ → ℕ → ℕ → List ℕ
 counts_line nodes scripts commands = codes "ok nodes " ++ decimal nodes ++ codes " scripts " ++ decimal scripts ++ codes " commands " ++ decimal commands ++ codes "\n"
 
--- the line for so many nodes and these scripts: how many there are, and how many commands all of them have
+-- the line for a number of nodes and these scripts: their number, and the number of all their commands
 abbrev pub counted_line : ℕ → List Script → List ℕ
 counted_line nodes scripts = counts_line nodes (length scripts) (sum (map command_count scripts))
 
@@ -25,10 +25,10 @@ AreCounted nodes scripts text = text ≡ counted_line (length nodes) scripts
 abbrev pub IsCheck : List ℕ → List ℕ → Status → Type 0
 IsCheck bundle text status = IsAnswered AreCounted bundle text status
 
--- the line of the check of this bundle was written, whole, behind what was written before
+-- the line of the check of this bundle was written, whole, after what was written before
 abbrev pub WritesCheck : Option (List ℕ) → Option (List ℕ) → List ℕ → Status → Type 0
 WritesCheck old new bundle status = Writes AreCounted old new bundle status
 
--- a prefix of that line was written behind what was written before
+-- a prefix of that line was written after what was written before
 abbrev pub WritesPartOfCheck : Option (List ℕ) → Option (List ℕ) → List ℕ → Type 0
 WritesPartOfCheck old new bundle = WritesPart AreCounted old new bundle

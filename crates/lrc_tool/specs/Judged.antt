@@ -1,5 +1,5 @@
 -- Internal: no public clause reaches these definitions.
--- What the checks of a bundle tell: a refusal, or nodes and the commands of its scripts.
+-- The result of the checks of a bundle: a refusal, or nodes and the commands of its scripts.
 use Rattle.std.specs.Prelude.{◌≡◌, ℕ, ◌≤◌, All, List, [], ◌∷◌, length, map, sum_by, Option, None, Vec}
 use Rattle.std.specs.List.{AllZip}
 use Rattle.lrc_topology.specs.declared.NodeInfo.{NodeInfo}
@@ -39,11 +39,11 @@ pub record AreFew {Z : Type 0} (scripts : List (Vec Command Z)) : Type 0 where
 
 -- ---- bundles
 
--- no text answers nodes and scripts that pass all checks, so what is answered is a refusal
+-- nodes and scripts that pass all checks have no text, so each text is that of a refusal
 abbrev pub NoAnswer : Answer
 NoAnswer nodes scripts text = ⊥
 
--- a check of this bundle fails, and is told by this text and this status
+-- a check of this bundle fails, with this text and this status
 abbrev pub IsRefusal : List ℕ → List ℕ → Status → Type 0
 IsRefusal bundle text status = IsAnswered NoAnswer bundle text status
 

@@ -26,7 +26,7 @@ early_refusal bundle =
     if nat_lt bundle_limit (length bundle) then Some (codes "bundle 1\n")
     else (if nat_lt script_limit (length (scripts_of bundle)) then Some (codes "bundle 2\n") else None)
 
--- the text is read as a topology with this outcome: its nodes, or why it is refused; want of memory is no outcome
+-- the text is read as a topology with this outcome: its nodes, or why it is refused; `OutOfMemory` is no outcome
 abbrev pub Reads : List ℕ → Result (List NodeInfo) TopologyError → Type 0
 Reads text (Ok nodes) = IsTopologyOf text nodes
 Reads text (Err error) = (error ≢ OutOfMemory) × IsRefusedBy text error
@@ -50,17 +50,17 @@ pub record RunsSeveral (bundle : List ℕ) : Type 0 where
 abbrev pub Answer : Type 1
 Answer = List NodeInfo → List Script → List ℕ → Type 0
 
--- behind the check of the scripts' lines, which found this one bad, or none
+-- after the check of the scripts' lines, which found this one bad, or none
 abbrev pub IsAnsweredOver : Answer → List NodeInfo → List Script → Option BadLine → List ℕ → Status → Type 0
 IsAnsweredOver answer nodes scripts (Some bad) text status = (text ≡ bad_line_text bad) × (status ≡ ended.BadLine)
 IsAnsweredOver answer nodes scripts None text status = answer nodes scripts text × (status ≡ ended.Done)
 
--- behind the check of the topology, with its outcome
+-- after the check of the topology, with its outcome
 abbrev pub IsAnsweredAfter : Answer → Result (List NodeInfo) TopologyError → List Script → List ℕ → Status → Type 0
 IsAnsweredAfter answer (Err error) scripts text status = (text ≡ topology_line error) × (status ≡ ended.Refused)
 IsAnsweredAfter answer (Ok nodes) scripts text status = IsAnsweredOver answer nodes scripts (first_bad_of scripts) text status
 
--- behind the checks of the bundle's length and of the number of scripts, of which one failed with this line, or none
+-- after the checks of the bundle's length and of the number of scripts, of which one failed with this line, or none
 abbrev pub IsAnsweredUnless : Answer → Option (List ℕ) → List ℕ → List ℕ → Status → Type 0
 IsAnsweredUnless answer (Some line) bundle text status = (text ≡ line) × (status ≡ ended.Refused)
 IsAnsweredUnless answer None bundle text status =
@@ -70,13 +70,13 @@ IsAnsweredUnless answer None bundle text status =
 abbrev pub IsAnswered : Answer → List ℕ → List ℕ → Status → Type 0
 IsAnswered answer bundle text status = IsAnsweredUnless answer (early_refusal bundle) bundle text status
 
--- the answer to this bundle was written, whole, behind what was written before
+-- the answer to this bundle was written, whole, after what was written before
 pub record Writes (answer : Answer) (old new : Option (List ℕ)) (bundle : List ℕ) (status : Status) : Type 0 where
   pub text : List ℕ
   pub answered : IsAnswered answer bundle text status
   pub written : Appends old new text
 
--- a prefix of the answer to this bundle was written behind what was written before
+-- a prefix of the answer to this bundle was written after what was written before
 pub record WritesPart (answer : Answer) (old new : Option (List ℕ)) (bundle : List ℕ) : Type 0 where
   pub text : List ℕ
   pub status : Status
@@ -107,10 +107,10 @@ ArePrinted nodes scripts text = (lists : List (List Command)) × AreCommandsOf s
 abbrev pub IsOutput : List ℕ → List ℕ → Status → Type 0
 IsOutput bundle text status = IsAnswered ArePrinted bundle text status
 
--- the output of this bundle was written, whole, behind what was written before
+-- the output of this bundle was written, whole, after what was written before
 abbrev pub WritesOutput : Option (List ℕ) → Option (List ℕ) → List ℕ → Status → Type 0
 WritesOutput old new bundle status = Writes ArePrinted old new bundle status
 
--- a prefix of the output of this bundle was written behind what was written before
+-- a prefix of the output of this bundle was written after what was written before
 abbrev pub WritesPartOfOutput : Option (List ℕ) → Option (List ℕ) → List ℕ → Type 0
 WritesPartOfOutput old new bundle = WritesPart ArePrinted old new bundle

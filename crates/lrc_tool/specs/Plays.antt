@@ -18,7 +18,7 @@ pub record AreMade (nodes : List NodeInfo) (scripts : List (List Command)) (hist
   pub alone : All (λ e. e.session.value ≤ length scripts) history
   pub printed : text ≡ replies_text (length scripts) history
 
--- these commands were made behind these entries, all by this session
+-- these commands were made after these entries, all by this session
 pub record AreMadeBehind (before : List Entry) (session : SessionNo) (commands : List Command) (after : List Entry) : Type 0 where
   pub added : List Entry
   pub behind : after ≡ before ++ added

@@ -6,7 +6,7 @@ use Rattle.lrc_script.specs.declared.script.Cause.{Cause}
 use Rattle.lrc_script.specs.declared.script.Cause.TheVariants as cause
 use Rattle.lrc_script.specs.Scripts.{BadLine}
 
--- the line for a refused topology; want of memory is no refusal and has none
+-- the line for a refused topology; `OutOfMemory` is no refusal and has none
 abbrev pub topology_line : TopologyError → List ℕ
 topology_line Syntax = codes "topology 1\n"
 topology_line NoNodes = codes "topology 2\n"

@@ -4,7 +4,7 @@ use Rattle.std.specs.Io.KnownBytes.{Consumes, Appends}
 use Rattle.lrc_tool.specs.declared.streams.RunFault.{RunFault}
 use Rattle.lrc_tool.specs.declared.streams.RunFault.TheVariants.{Read, Write}
 
--- a write failed: it answered an error, or took no byte of some
+-- a write failed: it returned an error, or took no byte of some
 abbrev pub is_failed_write : {E : Type 0} → Result ℕ E → List ℕ → Bool
 is_failed_write (Ok count) bytes = nat_eq count 0 && nat_lt 0 (length bytes)
 is_failed_write (Err e) bytes = true
@@ -19,13 +19,13 @@ abbrev pub is_write_fault : {X : Type 0} → Result X RunFault → Bool
 is_write_fault (Err Write) = true
 is_write_fault _ = false
 
--- at most so many bytes came from the front
+-- at most `most` bytes were read
 pub record ConsumesAtMost (most : ℕ) (old new : Option (List ℕ)) : Type 0 where
   pub bytes : List ℕ
   pub few : length bytes ≤ most
   pub taken : Consumes old new bytes
 
--- so many of the bytes were written, from the front, and no more
+-- a number of the bytes were written, from the first on, and no more
 pub record AppendsPart (old new : Option (List ℕ)) (bytes : List ℕ) : Type 0 where
   pub count : ℕ
   pub within : count ≤ length bytes

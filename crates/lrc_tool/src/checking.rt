@@ -1,4 +1,4 @@
-//! Checking a bundle, from the bytes in to the bytes out.
+//! Checking a bundle, from the bytes of the source to those of the sink.
 
 ghost use Rattle.std.specs.Prelude.{◌≡◌, ◌≢◌, ◌||◌, ◌⊎◌, ◌+◌, ◌++◌, true, length, sum_by, string_bytes, OnOk, IfOk, IfErr, IfSome, IsErrOf};
 ghost use Rattle.std.specs.Io.KnownBytes.{Keeps};
@@ -16,32 +16,31 @@ use crate::streams::{RunFault, Sink, Source, read_all, write_all};
 use lrc_book::Command;
 use std::alloc::{AllocError, Global};
 
-/// Checks the bundle that the source holds, as a run does before its first command, and runs nothing. It writes how
-/// many nodes, scripts and commands the bundle has, or why a run would refuse it.
+/// Checks the bundle that the source holds, as a run does before its first command, and runs nothing. It writes the
+/// numbers of nodes, scripts and commands, or why a run would refuse the bundle.
 ///
 /// # Errors
 ///
-/// `OutOfMemory` where there is no room for the bundle or the line, `Read` where the bundle is not read, and `Write`
-/// where the line is not written.
+/// `OutOfMemory`; `Read` if a read fails; `Write` if a write fails.
 pub fn check<R: Source, W: Sink>(
     alloc: Global,
     source: &mut R,
     sink: &mut W,
 ) -> Result<Status, RunFault>
-    // Where the bytes of the source are known, the line of the check of its bundle was written, whole.
+    // The line of the check was written, whole, if the bytes of the source are known.
     ensures line { IfOk result (λ status. IfSome (R.left source.old) (λ bundle. WritesCheck (W.written sink.old) (W.written sink.new) bundle status)) }
 
-    // Where it stops, nothing was written, but for a prefix of the line if a write failed.
+    // After an error nothing was written, or after a failed write a prefix of the line.
     ensures nothing { IfErr result (λ e. e ≢ fault.Write → Keeps (W.written sink.old) (W.written sink.new)) }
     ensures part { IsErrOf result fault.Write → IfSome (R.left source.old) (λ bundle. WritesPartOfCheck (W.written sink.old) (W.written sink.new) bundle) }
 
-    // Where it ends well, the sink was flushed behind its last write.
+    // After `Ok` the sink was flushed after its last write.
     ensures flushed { OnOk result (W.is_flushed sink.new ≡ true) }
 
-    // However long the source is, one byte more than a bundle may have is the most that is read of it.
+    // It reads at most one byte more than a bundle may have.
     ensures most { ConsumesAtMost (BUNDLE_LIMIT + 1) (R.left source.old) (R.left source.new) }
 
-    // It stops by a read where one failed, by a write where one failed, and else for want of memory alone.
+    // It returns `Read` exactly if a read failed, `Write` exactly if a write failed, and else only `OutOfMemory`.
     ensures read { R.has_failed source.new ≡ (R.has_failed source.old || is_read_fault result) }
     ensures write { W.has_failed sink.new ≡ (W.has_failed sink.old || is_write_fault result) }
     ensures err { IfErr result (λ e. (e ≡ fault.OutOfMemory) ⊎ (e ≡ fault.Read) ⊎ (e ≡ fault.Write)) }
@@ -63,7 +62,7 @@ fn check_of(alloc: Global, bundle: &[u8]) -> Result<Output, RunFault>
     }
 }
 
-/// The output for so many nodes and the commands of these scripts.
+/// The output for this number of nodes, and for these scripts.
 fn counted(alloc: Global, nodes: usize, scripts: &[Vec<Command>]) -> Result<Output, RunFault>
     requires { AreFew scripts.now }
     ensures line { IfOk result (λ o. o.text.items ≡ counts_line nodes (length scripts.now) (sum_by (λ script. length script.items) scripts.now)) }

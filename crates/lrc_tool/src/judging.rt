@@ -13,12 +13,12 @@ use lrc_script::{BundleError, ScriptError, ScriptText, parse_script, split_bundl
 use lrc_topology::{Topology, TopologyError};
 use std::alloc::Global;
 
-/// What the checks of a bundle tell.
+/// The result of the checks of a bundle.
 #[derive(Drop)]
 pub(crate) enum Judged {
-    /// One of them fails.
+    /// A check fails.
     Refused(Output),
-    /// All pass.
+    /// All checks pass.
     Good {
         topology: Topology,
         /// The commands of each script.
@@ -55,9 +55,9 @@ pub(crate) fn judge(alloc: Global, bundle: &[u8]) -> Result<Judged, RunFault>
     }
 }
 
-/// The commands of each script, where no line of any is bad.
+/// Returns the commands of each script, if none has a bad line.
 fn parse_scripts(alloc: Global, scripts: &[ScriptText]) -> Result<Vec<Vec<Command>>, ScriptError>
-    // The scripts stand within their bundle.
+    // The scripts are parts of a bundle.
     requires { All (λ s. s.first_line + length s.text.now ≤ BUNDLE_LIMIT) scripts.now }
     ensures parsed { IfOk result (λ v. AreParsed scripts.now (lists_of v.items)) }
     ensures bad { IfErr result (IsFirstBad (first_bad_in scripts.now)) }

@@ -1,4 +1,4 @@
-//! Laws of the definitions, each the contract of a function that does nothing.
+//! Laws of the definitions. Each is the contract of a function that does nothing.
 
 ghost use Rattle.std.specs.Prelude.{◌≡◌, ◌≢◌, ◌↔◌, ◌≤◌, ℕ, List, length};
 ghost use Rattle.lrc_rules.specs.declared.command.Command.{Command};
@@ -14,7 +14,7 @@ pub fn some_output()
     ensures { (bundle : List ℕ) → (text : List ℕ) × (status : Status) × IsOutput bundle text status }
 {}
 
-/// The output of a run is a function of its bundle, where this has one script or none: no other text and no other status fit it.
+/// A bundle with at most one script has one output of a run: one text, and one status.
 pub fn one_output()
     ensures { (bundle text other : List ℕ) (status another : Status) → length (scripts_of bundle) ≤ 1
         → IsOutput bundle text status → IsOutput bundle other another → (text ≡ other) × (status ≡ another) }
@@ -25,7 +25,7 @@ pub fn some_check()
     ensures { (bundle : List ℕ) → (text : List ℕ) × (status : Status) × IsCheck bundle text status }
 {}
 
-/// The line of a check is a function of its bundle too.
+/// Each bundle has one line of a check.
 pub fn one_check()
     ensures { (bundle text other : List ℕ) (status another : Status)
         → IsCheck bundle text status → IsCheck bundle other another → (text ≡ other) × (status ≡ another) }
@@ -37,7 +37,7 @@ pub fn checks_refuse_as_runs()
         → status ≢ Done → IsCheck bundle text status ↔ IsOutput bundle text status }
 {}
 
-/// A script has as many commands as lines that are not passed over.
+/// A script has one command for each line that is not skipped.
 pub fn counted_commands()
     ensures { (script : Script) (commands : List Command)
         → IsScript script.lines commands → length commands ≡ command_count script }

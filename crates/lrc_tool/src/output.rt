@@ -60,7 +60,7 @@ pub(crate) fn refused(alloc: Global, line: &str) -> Result<Output, RunFault>
     })
 }
 
-/// Adds the line for a refused topology; none for want of memory, which is no refusal.
+/// Adds the line for a refused topology. `OutOfMemory` is no refusal and has no line.
 fn push_topology_line(out: &mut String, error: TopologyError) -> Result<(), AllocError>
     ensures { OnOk result (string_bytes out.new ≡ string_bytes out.old ++ topology_line error) }
 {

@@ -11,13 +11,13 @@ use lrc_text::{push_lines, push_script_line, with_tables};
 use lrc_topology::Topology;
 use std::alloc::Global;
 
-/// How many replies are told at once.
-const TOLD: usize = 32;
+/// The number of lines that are written at once.
+const LINES: usize = 32;
 
-/// Room for their lines: 32 times `LINE_ROOM`.
-const TOLD_ROOM: usize = 7040;
+/// Room for them: 32 times `LINE_ROOM`.
+const LINES_ROOM: usize = 7040;
 
-/// Makes the commands of the only script, if there is one, on a new book, and answers what is printed of them, with the tables.
+/// Runs the only script, if there is one, on a new book, and returns the output: the replies and both tables.
 pub(crate) fn play(
     alloc: Global,
     topology: Topology,
@@ -36,7 +36,7 @@ pub(crate) fn play(
     Ok(whole)
 }
 
-/// Makes the commands of the only script, if there is one, and answers what is printed of the replies.
+/// Runs the only script, if there is one, and returns the lines of its replies.
 fn play_scripts(
     book: &mut Book,
     scripts: &[Vec<Command>],
@@ -56,7 +56,7 @@ fn play_scripts(
     }
 }
 
-/// Makes the commands of the only script, all by session 1.
+/// Runs the commands of the only script by session 1, and returns the lines of their replies.
 fn play_alone(book: &mut Book, commands: &[Command], empty: Vec<u8>) -> Result<Vec<u8>, RunFault>
     requires fresh { (book.old.history ≡ []) × (book.old.limit ≡ HISTORY_LIMIT) }
     // The history has room for them.
@@ -69,10 +69,10 @@ fn play_alone(book: &mut Book, commands: &[Command], empty: Vec<u8>) -> Result<V
     let session = SessionNo::new(1).unwrap();
     let mut text = empty;
     push_script_line(&mut text, session)?;
-    let mut room = [0u8; TOLD_ROOM];
+    let mut room = [0u8; LINES_ROOM];
     let mut made = 0;
     while made < commands.len() {
-        let few = TOLD.min(commands.len() - made);
+        let few = LINES.min(commands.len() - made);
         make_all(book, session, &commands[made..made + few])?;
         push_lines(&mut text, &book.history()[made..], made + 1, &mut room)?;
         made += few;
@@ -80,7 +80,7 @@ fn play_alone(book: &mut Book, commands: &[Command], empty: Vec<u8>) -> Result<V
     Ok(text)
 }
 
-/// Makes commands, in order, all by one session.
+/// Runs commands in order, all by one session.
 fn make_all(book: &mut Book, session: SessionNo, commands: &[Command]) -> Result<(), RunFault>
     // The history has room for them.
     requires few { length book.old.history + length commands.now ≤ book.old.limit }

@@ -1,4 +1,4 @@
-//! Running a bundle, from the bytes in to the bytes out.
+//! Running a bundle, from the bytes of the source to those of the sink.
 
 ghost use Rattle.std.specs.Prelude.{◌≡◌, ◌≢◌, ◌||◌, ◌⊎◌, ◌+◌, ◌<◌, true, [], length, OnOk, IfOk, IfErr, IfSome, IsErrOf};
 ghost use Rattle.std.specs.Io.KnownBytes.{Keeps};
@@ -20,35 +20,35 @@ use std::alloc::Global;
 use std::sync::Wait;
 use std::thread::Threads;
 
-/// Runs the bundle that the source holds: reads it, makes the commands of its scripts, and then writes the whole output. Two or
-/// more scripts run at once, each in a thread of its own where the system gives one.
+/// Runs the bundle that the source holds: reads it, runs its scripts, and then writes the whole output. Two or more scripts run
+/// at once, each in its own thread if the system has threads.
 ///
 /// # Errors
 ///
-/// `OutOfMemory` where there is no room, `Read` where the bundle is not read, `Write` where the output is not written, and
-/// `NoReader` where the bundle passes all checks and has two scripts or more, and the library refuses a session its reader. Never
-/// `HistoryFull`, since a bundle is too short for so many commands.
+/// `OutOfMemory`; `Read` if a read fails; `Write` if a write fails; `NoReader` if the bundle passes all checks and has two scripts
+/// or more, and a session gets no reader of the published view. Never `HistoryFull`: no bundle has as many commands as a history
+/// has room for.
 pub fn run<R: Source, W: Sink, T: Threads + Wait + Sync>(
     rt: &T,
     alloc: Global,
     source: &mut R,
     sink: &mut W,
 ) -> Result<Status, RunFault>
-    // Where the bytes of the source are known, its bundle's output was written, whole.
+    // The output of the bundle was written, whole, if the bytes of the source are known.
     ensures output { IfOk result (λ status. IfSome (R.left source.old) (λ bundle. WritesOutput (W.written sink.old) (W.written sink.new) bundle status)) }
 
-    // Where it stops, nothing was written, but for a prefix of the output if a write failed.
+    // After an error nothing was written, or after a failed write a prefix of the output.
     ensures nothing { IfErr result (λ e. e ≢ fault.Write → Keeps (W.written sink.old) (W.written sink.new)) }
     ensures part { IsErrOf result fault.Write → IfSome (R.left source.old) (λ bundle. WritesPartOfOutput (W.written sink.old) (W.written sink.new) bundle) }
 
-    // Where it ends well, the sink was flushed behind its last write.
+    // After `Ok` the sink was flushed after its last write.
     ensures flushed { OnOk result (W.is_flushed sink.new ≡ true) }
 
-    // However long the source is, one byte more than a bundle may have is the most that is read of it.
+    // It reads at most one byte more than a bundle may have.
     ensures most { ConsumesAtMost (BUNDLE_LIMIT + 1) (R.left source.old) (R.left source.new) }
 
-    // It stops by a read where one failed, by a write where one failed, by no full history, for want of a reader only where two
-    // scripts or more are run, and else for want of memory alone.
+    // It returns `Read` exactly if a read failed, `Write` exactly if a write failed, `NoReader` only for two scripts or more, never
+    // `HistoryFull`, and else only `OutOfMemory`.
     ensures read { R.has_failed source.new ≡ (R.has_failed source.old || is_read_fault result) }
     ensures write { W.has_failed sink.new ≡ (W.has_failed sink.old || is_write_fault result) }
     ensures full { IfErr result (λ e. e ≢ fault.HistoryFull) }
@@ -60,7 +60,7 @@ pub fn run<R: Source, W: Sink, T: Threads + Wait + Sync>(
     Ok(output.status)
 }
 
-/// The output of a run of this bundle. What one script prints is written where the bundle stood.
+/// The output of a run of this bundle. The output of one script reuses the bundle's memory.
 fn output_of<T: Threads + Wait + Sync>(
     rt: &T,
     alloc: Global,
@@ -80,7 +80,7 @@ fn output_of<T: Threads + Wait + Sync>(
     }
 }
 
-/// The room of these bytes, for others.
+/// Removes all bytes, and keeps their memory.
 fn emptied(bytes: Vec<u8>) -> Vec<u8>
     ensures { result.items ≡ [] }
 {
@@ -89,7 +89,7 @@ fn emptied(bytes: Vec<u8>) -> Vec<u8>
     room
 }
 
-/// Makes the commands of the scripts on a new book over these nodes, and answers what is printed of them, with the tables.
+/// Runs the scripts on a new book over these nodes, and returns the output: the replies and both tables.
 fn play_all<T: Threads + Wait + Sync>(
     rt: &T,
     alloc: Global,

@@ -1,4 +1,4 @@
-//! What the code repairs of a set of losses, from the word in to the bytes out.
+//! Whether a set of losses is recoverable, from the mask as a word to the bytes of the sink.
 
 ghost use Rattle.std.specs.Prelude.{◌≡◌, ◌≢◌, ◌||◌, ◌⊎◌, true, OnOk, IfOk, IfErr, IsErrOf};
 ghost use Rattle.std.specs.Io.KnownBytes.{Appends, Keeps};
@@ -15,58 +15,58 @@ use lrc_code::Code;
 use lrc_text::{parse_mask, push_mask_line};
 use std::alloc::Global;
 
-/// Tells of a mask of a stripe of the code `Wide`, a word of four hexadecimal digits in either case with fragment f as
-/// bit f, how many fragments of each class are lost and how many further losses are withstood, or that the losses are
-/// not recoverable.
+/// Writes how many fragments of each class are lost and how many more losses can be recovered, or that the losses are not
+/// recoverable. The mask is of a stripe of the code `Wide`: four hexadecimal digits in either case, with fragment f as
+/// bit f.
 ///
 /// # Errors
 ///
-/// `OutOfMemory` where there is no room for the line, and `Write` where it is not written.
+/// `OutOfMemory`; `Write` if a write fails.
 pub fn recover<W: Sink>(alloc: Global, mask: &str, sink: &mut W) -> Result<Status, RunFault>
     // The line for the mask was written, whole.
     ensures written { OnOk result (Appends (W.written sink.old) (W.written sink.new) (recovery_text Wide mask.now)) }
     ensures status { IfOk result (λ status. status ≡ recovery_status Wide mask.now) }
 
-    // Where it stops, nothing was written, but for a prefix of the line if a write failed.
+    // After an error nothing was written, or after a failed write a prefix of the line.
     ensures nothing { IfErr result (λ e. e ≢ fault.Write → Keeps (W.written sink.old) (W.written sink.new)) }
     ensures part { IsErrOf result fault.Write → AppendsPart (W.written sink.old) (W.written sink.new) (recovery_text Wide mask.now) }
 
-    // Where it ends well, the sink was flushed behind its last write.
+    // After `Ok` the sink was flushed after its last write.
     ensures flushed { OnOk result (W.is_flushed sink.new ≡ true) }
 
-    // It stops by a write where one failed, and else for want of memory alone.
+    // It returns `Write` exactly if a write failed, and else only `OutOfMemory`.
     ensures err { IfErr result (λ e. (e ≡ fault.OutOfMemory) ⊎ (e ≡ fault.Write)) }
     ensures write { W.has_failed sink.new ≡ (W.has_failed sink.old || is_write_fault result) }
 {
     recover_in(alloc, Code::Wide, mask, sink)
 }
 
-/// Tells the same of a mask of a stripe of the code `Narrow`, whose fragments have the numbers below ten. A mask with
+/// Writes the same for a mask of a stripe of the code `Narrow`, whose fragments have the numbers below ten. A mask with
 /// another bit is refused.
 ///
 /// # Errors
 ///
-/// As those of `recover`.
+/// The same as those of `recover`.
 pub fn recover_narrow<W: Sink>(alloc: Global, mask: &str, sink: &mut W) -> Result<Status, RunFault>
     // The line for the mask was written, whole.
     ensures written { OnOk result (Appends (W.written sink.old) (W.written sink.new) (recovery_text Narrow mask.now)) }
     ensures status { IfOk result (λ status. status ≡ recovery_status Narrow mask.now) }
 
-    // Where it stops, nothing was written, but for a prefix of the line if a write failed.
+    // After an error nothing was written, or after a failed write a prefix of the line.
     ensures nothing { IfErr result (λ e. e ≢ fault.Write → Keeps (W.written sink.old) (W.written sink.new)) }
     ensures part { IsErrOf result fault.Write → AppendsPart (W.written sink.old) (W.written sink.new) (recovery_text Narrow mask.now) }
 
-    // Where it ends well, the sink was flushed behind its last write.
+    // After `Ok` the sink was flushed after its last write.
     ensures flushed { OnOk result (W.is_flushed sink.new ≡ true) }
 
-    // It stops by a write where one failed, and else for want of memory alone.
+    // It returns `Write` exactly if a write failed, and else only `OutOfMemory`.
     ensures err { IfErr result (λ e. (e ≡ fault.OutOfMemory) ⊎ (e ≡ fault.Write)) }
     ensures write { W.has_failed sink.new ≡ (W.has_failed sink.old || is_write_fault result) }
 {
     recover_in(alloc, Code::Narrow, mask, sink)
 }
 
-/// Tells it of a mask of a stripe of this code.
+/// Writes the same for a mask of a stripe of this code.
 fn recover_in<W: Sink>(
     alloc: Global,
     code: Code,
@@ -86,7 +86,7 @@ fn recover_in<W: Sink>(
     Ok(output.status)
 }
 
-/// The line for this word, and how it ends.
+/// The output for this word.
 fn recovery_of(alloc: Global, code: Code, word: &str) -> Result<Output, RunFault>
     ensures text { IfOk result (λ o. o.text.items ≡ recovery_text code word.now) }
     ensures status { IfOk result (λ o. o.status ≡ recovery_status code word.now) }

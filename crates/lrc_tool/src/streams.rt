@@ -1,4 +1,4 @@
-//! Where input comes from and output goes, with what is known of their bytes.
+//! Sources of input and sinks of output, with what is known of their bytes.
 
 ghost use Rattle.std.specs.Prelude.{◌≡◌, ◌+◌, ◌≤◌, ◌⊎◌, ℕ, List, length, Option, Bool, true, false, ◌||◌, is_ok, is_err, IfOk, IfErr, OnOk, OnErr};
 ghost use Rattle.std.specs.Io.{ReadsAtMost, WritesAtMost};
@@ -61,7 +61,7 @@ pub trait Source {
     // A call has failed.
     ghost has_failed: { Self → Bool };
 
-    /// Reads into the buffer, and answers how many bytes it gave; none only at the end.
+    /// Reads into the buffer, and returns the number of bytes that were read, 0 only at the end.
     fn read(&mut self, buf: &mut [u8]) -> io::Result<usize>
         ensures bound { ReadsAtMost result buf.new }
         ensures bytes { ReadConsumes (left self.old) (left self.new) result buf.new }
@@ -72,8 +72,8 @@ pub trait Source {
         ensures { result ≡ has_failed self.now };
 }
 
-/// A writer that says whether one of its calls has failed, or has taken no byte of some. Contracts know whether it was
-/// flushed, too.
+/// A writer that says whether one of its calls has failed, or has taken no byte of some. Its contract also says whether it
+/// was flushed.
 pub trait Sink {
     // The bytes that were written, where they are known.
     ghost written: { Self → Option (List ℕ) };
@@ -84,7 +84,7 @@ pub trait Sink {
     // A flush has succeeded since the last write.
     ghost is_flushed: { Self → Bool };
 
-    /// Writes from the front of the buffer, and answers how many bytes it took.
+    /// Writes from the beginning of the buffer, and returns the number of bytes that were written.
     fn write(&mut self, buf: &[u8]) -> io::Result<usize>
         ensures bound { WritesAtMost result buf.now }
         ensures bytes { WriteAppends (written self.old) (written self.new) result buf.now }
@@ -113,7 +113,7 @@ pub struct Plain<T> {
 }
 
 impl<T> Plain<T> {
-    /// Has not failed yet, and was not flushed.
+    /// Wraps a reader or a writer that has not failed and was not flushed.
     pub fn new(inner: T) -> Self
         ensures inner { result.inner ≡ inner }
         ensures fresh { result.failed ≡ false }
@@ -176,7 +176,7 @@ impl<W: Write> Sink for Plain<W> {
     }
 }
 
-/// Reads to the end, or until one byte more than `limit` has come.
+/// Reads to the end, or until it has read one byte more than `limit`.
 pub(crate) fn read_all<R: Source>(
     alloc: Global,
     source: &mut R,
@@ -207,7 +207,7 @@ pub(crate) fn read_all<R: Source>(
     Ok(bytes)
 }
 
-/// Writes all of the bytes, and flushes once behind them.
+/// Writes all of the bytes, and then flushes once.
 pub(crate) fn write_all<W: Sink>(sink: &mut W, bytes: &[u8]) -> Result<(), RunFault>
     ensures written { OnOk result (Appends (W.written sink.old) (W.written sink.new) bytes.now) }
     ensures part { OnErr result (AppendsPart (W.written sink.old) (W.written sink.new) bytes.now) }

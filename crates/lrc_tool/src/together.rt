@@ -1,4 +1,4 @@
-//! Several scripts at once, each by a session of its own.
+//! Running several scripts at once, each by its own session.
 
 ghost use Rattle.std.specs.Prelude.{◌≡◌, ◌≢◌, ◌<◌, ◌≤◌, ◌⊎◌, ◌++◌, length, sum_by, All, Some, None, option_map, IfOk, OnOk, IfErr};
 ghost use Rattle.lrc_code.specs.declared.fault.Fault.TheVariants as book;
@@ -21,15 +21,14 @@ use std::marker::Brand;
 use std::sync::Wait;
 use std::thread::Threads;
 
-/// What scripts leave: the book, and the track of each.
+/// The result of several scripts: the book, and the track of each.
 #[derive(Drop)]
 struct Played {
     book: Book,
     tracks: Vec<Track>,
 }
 
-/// Makes the commands of two to eight scripts on a new book, each by a session of its own, and answers what is printed of them,
-/// with the tables.
+/// Runs two to eight scripts on a new book, each by its own session, and returns the output: the replies and both tables.
 pub(crate) fn play_together<T: Threads + Wait + Sync>(
     rt: &T,
     alloc: Global,
@@ -50,7 +49,7 @@ pub(crate) fn play_together<T: Threads + Wait + Sync>(
     Ok(whole)
 }
 
-/// Runs each script by a session of its own, and ends their manager.
+/// Runs each script by its own session, and closes their manager.
 fn run_each<N: Naming + Send + Sync, T: Threads + Wait + Sync>(
     rt: &T,
     alloc: Global,
@@ -86,7 +85,7 @@ fn run_each<N: Naming + Send + Sync, T: Threads + Wait + Sync>(
     }
 }
 
-/// The tracks, where no fault stopped one; else the fault that stopped the first of those, which is want of memory.
+/// Returns the tracks if no fault stopped a script; else the fault that stopped the first of those, which is `OutOfMemory`.
 fn unstopped(tracks: Vec<Track>) -> Result<Vec<Track>, RunFault>
     // No script met a full history.
     requires room { All (λ track. stop_fault track.stopped ≢ Some book.HistoryFull) tracks.items }
@@ -102,7 +101,7 @@ fn unstopped(tracks: Vec<Track>) -> Result<Vec<Track>, RunFault>
     Ok(tracks)
 }
 
-/// What is printed of the tracks of the sessions from 1 on, in order.
+/// The lines of the tracks of the sessions from 1 on, in order.
 fn print_tracks(alloc: Global, tracks: &[Track]) -> Result<Vec<u8>, RunFault>
     requires { length tracks.now ≤ 8 }
     ensures text { IfOk result (λ text. text.items ≡ tracks_text 1 tracks.now) }

@@ -19,5 +19,5 @@ loop-node-init c =
 pub returns-clause-text : goal.returns-clause-text
 returns-clause-text c =
     let told = loads_told c.args.book.now.nodes (state_of c.args.book.now) c.args.book.now.nodes c.loop-node.node-iterator _ _ _ _ c.args.text.items c.loop-node.invariant.told c.in-None.ensures.steps.0
-    c.in_ok-push_load_header.ensures.row c.table_behind-table.ensures.text c.in_ok-extend_from_slice.ensures.items refl in
-    subst (λ (t : List ℕ). IfOk c.text_of_table.result (λ v. v.items ≡ t)) told c.text_of_table.ensures.text
+    c.in_ok-push_load_header.ensures.row c.begin_table-table.ensures.text c.in_ok-extend_from_slice.ensures.items refl in
+    subst (λ (t : List ℕ). IfOk c.end_table.result (λ v. v.items ≡ t)) told c.end_table.ensures.text

@@ -3,9 +3,9 @@ use Rattle.std.proofs.lemmas.Fmt.{length-decimal-le}
 use Rattle.lrc_text.proofs.texts.write_line.Goals as goal
 use Rattle.lrc_text.proofs.texts.write_line.Goals.{After-write_reply-start}
 
--- a place has at most twenty digits
-short : (c : After-write_reply-start) → length (decimal c.args.place) ≤ 20
-short c = length-decimal-le 20 c.args.place (omega arith) (omega (arith, c.ranges.place.fits)) (omega (arith, c.ranges.place.fits))
+-- a number has at most twenty digits
+short : (c : After-write_reply-start) → length (decimal c.args.number) ≤ 20
+short c = length-decimal-le 20 c.args.number (omega arith) (omega (arith, c.ranges.number.fits)) (omega (arith, c.ranges.number.fits))
 
 pub write_digits-requires : goal.write_digits-requires
 write_digits-requires c =

@@ -1,6 +1,6 @@
 use Rattle.std.proofs.Common.{◌<◌, ◌++◌, drop, decimal, ap, ◌∙◌, arith}
 use Rattle.lrc_text.proofs.PairLemmas.{count_within, short_written}
-use Rattle.lrc_text.proofs.digits.write_short.Goals as goal
+use Rattle.lrc_text.proofs.digits.write_below_1000.Goals as goal
 
 pub overflow_sub-result : goal.overflow_sub-result
 overflow_sub-result c =
