@@ -106,17 +106,3 @@ load_written node mode online seats number word state load slots x y z a b c d e
     rw (a, b, c, d, e)
     (row_plain (decimal node.number.value) (mode_text mode) (online_text online ∷ decimal seats ∷ decimal node.slots ∷ [])
     (decimal_plain node.number.value (omega (arith, x)), (mode_plain mode, (online_plain online, (decimal_plain seats (omega (arith, y)), (decimal_plain node.slots (omega (arith, z)), tt))))))
-
--- ---- the headers
-
-abbrev fields_of_risk : List (List ℕ)
-fields_of_risk = codes "stripe" ∷ codes "level" ∷ codes "margin" ∷ codes "missing" ∷ []
-
-abbrev fields_of_loads : List (List ℕ)
-fields_of_loads = codes "node" ∷ codes "mode" ∷ codes "online" ∷ codes "load" ∷ codes "slots" ∷ []
-
-pub risk_header : row_text default_writer fields_of_risk ≡ codes "stripe,level,margin,missing\n"
-risk_header = row_plain (codes "stripe") (codes "level") (codes "margin" ∷ codes "missing" ∷ []) (refl, (refl, (refl, (refl, tt))))
-
-pub load_header : row_text default_writer fields_of_loads ≡ codes "node,mode,online,load,slots\n"
-load_header = row_plain (codes "node") (codes "mode") (codes "online" ∷ codes "load" ∷ codes "slots" ∷ []) (refl, (refl, (refl, (refl, (refl, tt)))))

@@ -74,26 +74,24 @@ missing_told nodes st s there = rw there refl
 
 module _ (nodes : List NodeInfo) (st : State) where
   -- the rows, after the name of the table and its header
-  pub loads_told : (kept its : List NodeInfo) (done header behind items text : List ℕ)
+  pub loads_told : (kept its : List NodeInfo) (done header items text : List ℕ)
       → done ++ flat_map (load_row st) its ≡ header ++ flat_map (load_row st) kept → its ≡ []
-      → header ≡ behind ++ codes "node,mode,online,load,slots\n" → behind ≡ items → items ≡ text ++ codes "load\n" → kept ≡ nodes → done ≡ text ++ load_table nodes st
-  loads_told kept its done header behind items text told empty a b c same =
+      → header ≡ items → items ≡ text ++ codes "load\nnode,mode,online,load,slots\n" → kept ≡ nodes → done ≡ text ++ load_table nodes st
+  loads_told kept its done header items text told empty a b same =
       let rows = flat_map (load_row st) kept in
       sym (append-nil done) ∙ ap (λ (ns : List NodeInfo). done ++ flat_map (load_row st) ns) (sym empty) ∙ told
-      ∙ ap (λ t. t ++ rows) (a ∙ ap (λ t. t ++ codes "node,mode,online,load,slots\n") (b ∙ c))
-      ∙ append_assoc (text ++ codes "load\n") (codes "node,mode,online,load,slots\n") rows
-      ∙ append_assoc text (codes "load\n") (codes "node,mode,online,load,slots\n" ++ rows)
+      ∙ ap (λ t. t ++ rows) (a ∙ b)
+      ∙ append_assoc text (codes "load\nnode,mode,online,load,slots\n") rows
       ∙ ap (λ (ns : List NodeInfo). text ++ load_table ns st) same
 
-  pub risks_told : (rows : List (StripeNo × Level)) (i : ℕ) (done header behind items text : List ℕ)
+  pub risks_told : (rows : List (StripeNo × Level)) (i : ℕ) (done header items text : List ℕ)
       → done ≡ header ++ flat_map (risk_row nodes st) (take i rows) → length rows ≤ i
-      → header ≡ behind ++ codes "stripe,level,margin,missing\n" → behind ≡ items → items ≡ text ++ codes "risk\n" → rows ≡ risk nodes st → done ≡ text ++ risk_table nodes st
-  risks_told rows i done header behind items text told all a b c is =
+      → header ≡ items → items ≡ text ++ codes "risk\nstripe,level,margin,missing\n" → rows ≡ risk nodes st → done ≡ text ++ risk_table nodes st
+  risks_told rows i done header items text told all a b is =
       let lines = flat_map (risk_row nodes st) rows in
       told ∙ ap (λ (rs : List (StripeNo × Level)). header ++ flat_map (risk_row nodes st) rs) (take_all i rows all)
-      ∙ ap (λ t. t ++ lines) (a ∙ ap (λ t. t ++ codes "stripe,level,margin,missing\n") (b ∙ c))
-      ∙ append_assoc (text ++ codes "risk\n") (codes "stripe,level,margin,missing\n") lines
-      ∙ append_assoc text (codes "risk\n") (codes "stripe,level,margin,missing\n" ++ lines)
+      ∙ ap (λ t. t ++ lines) (a ∙ b)
+      ∙ append_assoc text (codes "risk\nstripe,level,margin,missing\n") lines
       ∙ ap (λ (rs : List (StripeNo × Level)). text ++ (codes "risk\nstripe,level,margin,missing\n" ++ flat_map (risk_row nodes st) rs)) is
 
   module _ (rows : List (StripeNo × Level)) (i : ℕ) (row : StripeNo × Level) (all : rows ≡ risk nodes st) (within : i < length rows) (here : row ≡ get_or rows i row) where

@@ -1,6 +1,6 @@
 //! The tables of stripes at risk and of loads.
 
-ghost use Rattle.std.specs.Prelude.{◌≡◌, ◌++◌, codes, string_bytes, IfOk, OnOk, IfErr};
+ghost use Rattle.std.specs.Prelude.{◌≡◌, ◌++◌, string_bytes, IfOk, OnOk, IfErr};
 ghost use Rattle.lrc_code.specs.declared.fault.Fault.TheVariants as fault;
 ghost use Rattle.lrc_code.specs.Losses.{bits_set, margin_of};
 ghost use Rattle.lrc_book.specs.Books.{state_of};
@@ -27,9 +27,8 @@ fn with_risk_table(alloc: Global, mut text: Vec<u8>, book: &Book) -> Result<Vec<
     ensures err { IfErr result (λ e. e ≡ fault.OutOfMemory) }
 {
     let rows = book.risk(alloc)?;
-    text.extend_from_slice(b"risk\n")?;
+    text.extend_from_slice(b"risk\nstripe,level,margin,missing\n")?;
     let mut table = begin_table(text);
-    push_risk_header(&mut table)?;
     for (stripe, level) in rows.as_slice() {
         let code = book.code(*stripe).unwrap();
         let missing = book.missing(*stripe).unwrap();
@@ -42,9 +41,8 @@ fn with_load_table(mut text: Vec<u8>, book: &Book) -> Result<Vec<u8>, Fault>
     ensures text { IfOk result (λ v. v.items ≡ text.items ++ load_table book.now.nodes (state_of book.now)) }
     ensures err { IfErr result (λ e. e ≡ fault.OutOfMemory) }
 {
-    text.extend_from_slice(b"load\n")?;
+    text.extend_from_slice(b"load\nnode,mode,online,load,slots\n")?;
     let mut table = begin_table(text);
-    push_load_header(&mut table)?;
     for node in book.topology().nodes() {
         let (mode, online) = book.mode(node.number).unwrap();
         let load = book.load(node.number).unwrap();
@@ -99,37 +97,6 @@ fn mask_word(alloc: Global, bits: u16) -> Result<String, AllocError>
 }
 
 // ---- rows
-
-fn push_risk_header(table: &mut Table) -> Result<(), Fault>
-    requires { IsBetweenRows table.old }
-    ensures row { OnOk result (text_in table.new ≡ text_in table.old ++ codes "stripe,level,margin,missing\n") }
-    ensures between { OnOk result (IsBetweenRows table.new) }
-    ensures err { IfErr result (λ e. e ≡ fault.OutOfMemory) }
-{
-    let fields = [
-        b"stripe".as_slice(),
-        b"level".as_slice(),
-        b"margin".as_slice(),
-        b"missing".as_slice(),
-    ];
-    push_row(table, fields.as_slice())
-}
-
-fn push_load_header(table: &mut Table) -> Result<(), Fault>
-    requires { IsBetweenRows table.old }
-    ensures row { OnOk result (text_in table.new ≡ text_in table.old ++ codes "node,mode,online,load,slots\n") }
-    ensures between { OnOk result (IsBetweenRows table.new) }
-    ensures err { IfErr result (λ e. e ≡ fault.OutOfMemory) }
-{
-    let fields = [
-        b"node".as_slice(),
-        b"mode".as_slice(),
-        b"online".as_slice(),
-        b"load".as_slice(),
-        b"slots".as_slice(),
-    ];
-    push_row(table, fields.as_slice())
-}
 
 /// Adds the row of a stripe with this level and code, and these missing fragments.
 fn push_risk_row(

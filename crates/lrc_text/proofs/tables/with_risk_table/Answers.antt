@@ -37,6 +37,6 @@ returns-clause-text c =
     let nodes = c.args.book.now.nodes in
     let st = state_of c.args.book.now in
     let all : c.as_slice-stripe-items.result.now ≡ risk nodes st = search rules in
-    let told = risks_told nodes st _ c.loop-stripe.stripe-index _ _ _ _ c.args.text.items c.loop-stripe.invariant.told c.loop-stripe-test.false
-    c.in_ok-push_risk_header.ensures.row c.begin_table-table.ensures.text c.in_ok-extend_from_slice.ensures.items all in
+    let told = risks_told nodes st _ c.loop-stripe.stripe-index _ _ _ c.args.text.items c.loop-stripe.invariant.told c.loop-stripe-test.false
+    c.begin_table-table.ensures.text c.in_ok-extend_from_slice.ensures.items all in
     subst (λ (t : List ℕ). IfOk c.end_table.result (λ v. v.items ≡ t)) told c.end_table.ensures.text
