@@ -1,4 +1,4 @@
--- Sessions that were opened, and have their numbers still, are all that end their manager.
+-- Sessions that were opened and kept their numbers are all sessions of their manager.
 use Rattle.std.proofs.Common.{◌≡◌, ℕ, suc, ◌<◌, ◌==◌, ◌+◌, cond, List, [], ◌∷◌, length, map, get_or, refl, sym, ap, ◌∙◌, arith}
 use Rattle.std.proofs.lemmas.List.Sums.{sum_by-cons}
 use Rattle.lrc_sessions.specs.Views.{SessionView, fresh}
@@ -9,7 +9,7 @@ use Rattle.lrc_sessions.proofs.OpenedLemmas.{all_fresh}
 times_more : (k : ℕ) (s : SessionView) (ss : List SessionView) → times k (s ∷ ss) ≡ cond (s.number == k) 1 0 + times k ss
 times_more k s ss = sum_by-cons (λ (x : SessionView). cond (x.number == k) 1 0) s ss
 
--- the numbers alone say how often each stands
+-- only the numbers matter for how often each is there
 same_times : {W : Type 0} (session : W → SessionView) (k : ℕ) (old new : List W) → length new ≡ length old
     → ((i : ℕ) (w : W) → i < length old → (session (get_or new i w)).number ≡ (session (get_or old i w)).number)
     → times k (map session new) ≡ times k (map session old)

@@ -1,18 +1,18 @@
-//! The program `looks`: what looks cost beside calls. One session of a manager makes calls while others look, each on a thread of
-//! its own. Counts go to standard output, and times to standard error.
+//! The program `looks` measures looks and calls that run at the same time. One session of a manager makes calls while others look,
+//! each on a thread of its own. Counts go to standard output, and times to standard error.
 #![tactic(auto)]
 
 ghost use Rattle.std.specs.Prelude.{◌≤◌, IfSome, IfOk};
 
-mod beside;
+mod concurrent;
 mod moment;
-mod room;
+mod run_buffers;
 mod stop;
 mod store;
 mod task;
 mod worker;
 
-use crate::beside::{Ran, run_beside};
+use crate::concurrent::{Ran, run_concurrently};
 use crate::moment::Moment;
 use crate::stop::Stop;
 use crate::store::twenty_nodes;
@@ -33,16 +33,16 @@ use std::time::CpuClock;
 /// The most calls of one book.
 const MOST_CALLS: u64 = 1_000_000;
 
-/// The most sessions that look beside the one that calls.
+/// The most sessions that look while another makes calls.
 const MOST_READERS: u8 = 7;
 
-/// What the command line asks for.
+/// The parsed command line.
 #[derive(Clone, Copy, Debug, PartialEq, Eq)]
 struct Request {
     readers: u8,
-    /// How often each reader looks.
+    /// The number of looks of each reader.
     looks: u64,
-    /// How many calls the other session makes.
+    /// The number of calls of the other session.
     calls: u64,
 }
 
@@ -64,7 +64,7 @@ fn parse_request(words: &[String]) -> Option<Request>
     }
 }
 
-/// Makes the calls on a book alone, where nothing is published and nobody looks.
+/// Makes the calls on a book that is not published.
 fn run_alone<R: Clock + CpuClock>(
     rt: &R,
     alloc: Global,
@@ -90,11 +90,17 @@ fn run_all<R: Threads + Wait + Clock + CpuClock + Sync>(
     let topology = twenty_nodes(alloc)?;
     let sessions = readers + 1;
     let parts = Parts::new(alloc, topology, sessions)?;
-    run_beside::<Brand, _>(rt, alloc, parts, sessions, plan)
+    run_concurrently::<Brand, _>(rt, alloc, parts, sessions, plan)
 }
 
-/// Tells what one thread has done: how much of it, and when, in nanoseconds from the start.
-fn tell(rt: &HostRuntime, name: &str, what: &str, start: Moment, done: &Done) -> Result<(), Stop> {
+/// Prints how much one thread did, and when, in nanoseconds from the start.
+fn report(
+    rt: &HostRuntime,
+    name: &str,
+    what: &str,
+    start: Moment,
+    done: &Done,
+) -> Result<(), Stop> {
     println!(rt; "{name} {what} {}", done.count)?;
     let span = done.span.ok_or(Stop::NoClock)?;
     eprintln!(rt;
@@ -107,18 +113,18 @@ fn tell(rt: &HostRuntime, name: &str, what: &str, start: Moment, done: &Done) ->
     Ok(())
 }
 
-/// Tells what each session has done, and how many entries the history has.
-fn tell_all(rt: &HostRuntime, start: Moment, ran: &Ran) -> Result<(), Stop> {
+/// Prints what each session did, and the number of entries of the history.
+fn report_all(rt: &HostRuntime, start: Moment, ran: &Ran) -> Result<(), Stop> {
     for (i, done) in ran.done.iter().enumerate() {
         let what = if i == 0 { "calls" } else { "looks" };
         let name = format!(in rt.alloc(); "session {}", i + 1)?;
-        tell(rt, name.as_str(), what, start, done)?;
+        report(rt, name.as_str(), what, start, done)?;
     }
     println!(rt; "entries {}", ran.closing.book.history().len())?;
     Ok(())
 }
 
-/// Makes the calls and the looks that are asked for on these threads, and tells of them.
+/// Makes the calls and looks of the request on these threads, and prints the results.
 fn measure<T: Threads + Wait + Clock + CpuClock + Sync>(
     rt: &HostRuntime,
     threads: &T,
@@ -133,12 +139,12 @@ fn measure<T: Threads + Wait + Clock + CpuClock + Sync>(
     };
     let start = Moment::now(rt).ok_or(Stop::NoClock)?;
     let alone = run_alone(rt, rt.alloc(), plan.stripe, plan.calls)?;
-    tell(rt, "book", "calls", start, &alone)?;
+    report(rt, "book", "calls", start, &alone)?;
     let ran = run_all(threads, rt.alloc(), request.readers, plan)?;
-    tell_all(rt, start, &ran)
+    report_all(rt, start, &ran)
 }
 
-/// What the command line asks for.
+/// Reads the command line.
 fn read_request(rt: &HostRuntime) -> Result<Request, Stop>
     ensures { IfOk result (λ r. r.readers ≤ 7) }
 {
@@ -146,7 +152,7 @@ fn read_request(rt: &HostRuntime) -> Result<Request, Stop>
     parse_request(words.as_slice()).ok_or(Stop::Usage)
 }
 
-/// Does what the command line asks for.
+/// Reads the command line and measures.
 fn perform<T: Threads + Wait + Clock + CpuClock + Sync>(
     rt: &HostRuntime,
     threads: &T,

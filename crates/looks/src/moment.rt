@@ -1,7 +1,7 @@
 use std::rt::Clock;
 use std::time::{CpuClock, Duration};
 
-/// A moment by two clocks: that of the wall, and the processor time of the thread that asks.
+/// The wall clock and the processor time of the current thread at one moment.
 #[derive(Clone, Copy, Debug, PartialEq, Eq)]
 pub(crate) struct Moment {
     wall: Duration,
@@ -9,7 +9,7 @@ pub(crate) struct Moment {
 }
 
 impl Moment {
-    /// `None` where a clock can't be read.
+    /// Reads both clocks. Returns `None` if one can't be read.
     pub(crate) fn now<R: Clock + CpuClock>(rt: &R) -> Option<Moment> {
         Some(Moment {
             wall: rt.monotonic().ok()?,
@@ -18,7 +18,7 @@ impl Moment {
     }
 }
 
-/// When a thread began a task and when it had ended it.
+/// The moments at which a thread began and ended a task.
 #[derive(Clone, Copy, Debug, PartialEq, Eq)]
 pub(crate) struct Span {
     begun: Moment,
@@ -33,17 +33,17 @@ impl Span {
         })
     }
 
-    /// Nanoseconds by the clock of the wall from a moment to the begin of the task.
+    /// Returns the nanoseconds by the wall clock from `start` to the begin of the task.
     pub(crate) fn begun(self, start: Moment) -> u128 {
         self.begun.wall.saturating_sub(start.wall).as_nanos()
     }
 
-    /// Nanoseconds by the clock of the wall from a moment to the end of the task.
+    /// Returns the nanoseconds by the wall clock from `start` to the end of the task.
     pub(crate) fn ended(self, start: Moment) -> u128 {
         self.ended.wall.saturating_sub(start.wall).as_nanos()
     }
 
-    /// Nanoseconds that the thread has used of a processor.
+    /// Returns the nanoseconds of processor time that the task took.
     pub(crate) fn processor(self) -> u128 {
         self.ended
             .processor

@@ -3,10 +3,10 @@ use std::alloc::AllocError;
 use std::io;
 use thiserror::Error;
 
-/// Why the program ends before it has told everything: the line on standard error.
+/// Why the program ends early. Its text is the line on standard error.
 #[derive(Clone, Copy, Debug, PartialEq, Eq, Error)]
 pub(crate) enum Stop {
-    /// The command line is refused.
+    /// The command line is wrong.
     #[error("usage: looks READERS LOOKS CALLS (at most 7 readers, and 1000000 calls)")]
     Usage,
     #[error("looks: out of memory")]
@@ -20,7 +20,7 @@ pub(crate) enum Stop {
 }
 
 impl Stop {
-    /// The exit status.
+    /// Returns the exit status.
     pub(crate) fn status(self) -> u8 {
         match self {
             Stop::Usage => 2,

@@ -1,11 +1,11 @@
-//! The store that is called and looked at.
+//! The store of the measurement.
 
 use crate::stop::Stop;
 use lrc_topology::Topology;
 use std::alloc::Global;
 use std::io::Write;
 
-/// Twenty nodes with four slots, each in a fault domain of its own, in ten upgrade domains.
+/// Makes twenty nodes with four slots, each in a fault domain of its own, in ten upgrade domains.
 pub(crate) fn twenty_nodes(alloc: Global) -> Result<Topology, Stop> {
     let mut text = String::new(alloc);
     for i in 0..20 {

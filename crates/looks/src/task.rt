@@ -1,4 +1,4 @@
-//! What is done over and over: calls, and looks.
+//! The tasks that are measured: calls and looks.
 
 ghost use Rattle.std.specs.Prelude.{◌≡◌};
 
@@ -10,18 +10,18 @@ use std::rt::Clock;
 use std::sync::Wait;
 use std::time::CpuClock;
 
-/// What was done of a task, and when.
+/// How much of a task was done, and when.
 #[derive(Clone, Copy, Debug, PartialEq, Eq)]
 pub(crate) struct Done {
     /// The calls that placed or dropped the stripe, or the looks that had a view.
     pub(crate) count: u64,
     /// The looks that saw the stripe whole.
     pub(crate) whole: u64,
-    /// `None` where there is no clock.
+    /// `None` if a clock can't be read.
     pub(crate) span: Option<Span>,
 }
 
-/// The stripe is placed and dropped in turn.
+/// Returns call `n` of a task, which places and drops a stripe in turn.
 fn command(stripe: StripeNo, n: u64) -> Command {
     if n % 2 == 0 {
         Command::Place(stripe)
@@ -30,12 +30,12 @@ fn command(stripe: StripeNo, n: u64) -> Command {
     }
 }
 
-/// Whether a call has placed or dropped a stripe.
+/// Returns whether a call placed or dropped a stripe.
 fn is_done(reply: &Reply) -> bool {
     matches!(reply, Reply::Placed(_) | Reply::Dropped)
 }
 
-/// Makes so many calls of a book, and answers how many were made before one failed.
+/// Makes up to `calls` calls of a book, and returns how many were made before one failed.
 fn call_book(book: &mut Book, stripe: StripeNo, calls: u64) -> u64 {
     let session = SessionNo { value: 1 };
     for n in 0..calls {
@@ -47,7 +47,7 @@ fn call_book(book: &mut Book, stripe: StripeNo, calls: u64) -> u64 {
     calls
 }
 
-/// Makes so many calls of a manager, and answers how many were made before one failed.
+/// Makes up to `calls` calls of a manager, and returns how many were made before one failed.
 fn call<N: Naming, R: Wait>(
     rt: &R,
     manager: &Manager<N>,
@@ -66,7 +66,7 @@ fn call<N: Naming, R: Wait>(
     calls
 }
 
-/// Looks so often at the stripe's level, and answers how many looks had a view before one had none, and how many saw it whole.
+/// Makes up to `looks` looks at a stripe's level. Returns how many were made before one failed, and how many saw it whole.
 fn look<N: Naming>(session: &mut Session<N>, stripe: StripeNo, looks: u64) -> (u64, u64)
     ensures { session.new.number ≡ session.old.number }
 {
@@ -84,7 +84,7 @@ fn look<N: Naming>(session: &mut Session<N>, stripe: StripeNo, looks: u64) -> (u
     (looks, whole)
 }
 
-/// Makes so many calls of a book that nobody looks at.
+/// Makes the calls of a book that is not published, and measures them.
 pub(crate) fn time_book<R: Clock + CpuClock>(
     rt: &R,
     book: &mut Book,
@@ -101,7 +101,7 @@ pub(crate) fn time_book<R: Clock + CpuClock>(
     }
 }
 
-/// Makes so many calls by a session.
+/// Makes the calls of a session, and measures them.
 pub(crate) fn time_calls<N: Naming, R: Wait + Clock + CpuClock>(
     rt: &R,
     manager: &Manager<N>,
@@ -121,7 +121,7 @@ pub(crate) fn time_calls<N: Naming, R: Wait + Clock + CpuClock>(
     }
 }
 
-/// Looks so often by a session.
+/// Makes the looks of a session, and measures them.
 pub(crate) fn time_looks<N: Naming, R: Clock + CpuClock>(
     rt: &R,
     session: &mut Session<N>,

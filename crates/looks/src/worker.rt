@@ -7,7 +7,7 @@ use std::rt::Clock;
 use std::sync::Wait;
 use std::time::CpuClock;
 
-/// What each session does: the first makes so many calls, and each other looks so often.
+/// The plan of a run: the first session makes the calls, and each other makes the looks.
 #[derive(Clone, Copy, Debug, PartialEq, Eq)]
 pub(crate) struct Plan {
     pub(crate) stripe: StripeNo,
@@ -15,7 +15,7 @@ pub(crate) struct Plan {
     pub(crate) calls: u64,
 }
 
-/// A session at its task, with nothing of another one's on its cache lines.
+/// A session with its task. `apart` keeps the sessions of other workers off its cache lines.
 #[derive(Drop)]
 pub(crate) struct Worker<N: Naming> {
     pub(crate) session: Session<N>,
@@ -24,7 +24,7 @@ pub(crate) struct Worker<N: Naming> {
 }
 
 impl<N: Naming> Worker<N> {
-    /// Does its part of the plan: that of the session which stands at this index.
+    /// Runs the part of the plan of the session at `index`.
     pub(crate) fn run<R: Wait + Clock + CpuClock>(
         &mut self,
         rt: &R,
@@ -47,8 +47,8 @@ impl<N: Naming> Worker<N> {
     }
 }
 
-/// Puts each session to work, in order.
-pub(crate) fn seat<N: Naming>(sessions: Vec<Session<N>>, workers: &mut Vec<Worker<N>>)
+/// Makes a worker of each session, in order.
+pub(crate) fn assign_sessions<N: Naming>(sessions: Vec<Session<N>>, workers: &mut Vec<Worker<N>>)
     requires { (workers.old.items ≡ []) × (length sessions.items ≤ vec_capacity workers.old) }
     ensures { map (λ w. w.session) workers.new.items ≡ sessions.items }
 {
@@ -65,8 +65,8 @@ pub(crate) fn seat<N: Naming>(sessions: Vec<Session<N>>, workers: &mut Vec<Worke
     }
 }
 
-/// Takes the sessions from their work, and what each has done, in order.
-pub(crate) fn unseat<N: Naming>(
+/// Collects the sessions of the workers and what each did, in order.
+pub(crate) fn collect_results<N: Naming>(
     workers: Vec<Worker<N>>,
     sessions: &mut Vec<Session<N>>,
     done: &mut Vec<Done>,

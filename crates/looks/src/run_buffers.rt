@@ -5,23 +5,23 @@ use crate::worker::Worker;
 use lrc_sessions::{Naming, Session};
 use std::alloc::{AllocError, Global};
 
-/// All memory that a run takes beyond that of its manager.
+/// All memory that a run allocates, except that of its manager.
 #[derive(Drop)]
-pub(crate) struct Room<N: Naming> {
+pub(crate) struct RunBuffers<N: Naming> {
     pub(crate) workers: Vec<Worker<N>>,
     pub(crate) sessions: Vec<Session<N>>,
     pub(crate) done: Vec<Done>,
 }
 
-impl<N: Naming> Room<N> {
-    /// Room for so many sessions.
-    pub(crate) fn new(alloc: Global, count: u8) -> Result<Room<N>, AllocError>
+impl<N: Naming> RunBuffers<N> {
+    /// Allocates the memory for `count` sessions.
+    pub(crate) fn new(alloc: Global, count: u8) -> Result<RunBuffers<N>, AllocError>
         ensures workers { IfOk result (λ r. (r.workers.items ≡ []) × (count ≤ vec_capacity r.workers)) }
         ensures sessions { IfOk result (λ r. (r.sessions.items ≡ []) × (count ≤ vec_capacity r.sessions)) }
         ensures done { IfOk result (λ r. (r.done.items ≡ []) × (count ≤ vec_capacity r.done)) }
     {
         let count = usize::from(count);
-        Ok(Room {
+        Ok(RunBuffers {
             workers: Vec::with_capacity(alloc, count)?,
             sessions: Vec::with_capacity(alloc, count)?,
             done: Vec::with_capacity(alloc, count)?,

@@ -2,7 +2,7 @@ use Rattle.std.proofs.Common.{List, sym, subst, ap, ◌∙◌}
 use Rattle.lrc_sessions.specs.Views.{SessionView, fresh}
 use Rattle.lrc_sessions.specs.Counts.{AreAll}
 use Rattle.lrc_sessions.proofs.OpenedLemmas.{all_fresh}
-use Rattle.looks.proofs.beside.run_beside.Goals as goal
+use Rattle.looks.proofs.concurrent.run_concurrently.Goals as goal
 
 pub end-requires : goal.end-requires
 end-requires g c =

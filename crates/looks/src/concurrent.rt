@@ -1,13 +1,13 @@
-//! One session calls and the others look, at the same time.
+//! A run in which one session makes calls while the others look.
 
 ghost use Rattle.std.specs.Prelude.{◌≡◌, ℕ, ◌<◌, ◌≤◌, [], length, vec_capacity, slice_index_or};
 ghost use Rattle.lrc_sessions.specs.Views.{fresh};
 ghost use Rattle.lrc_sessions.specs.Counts.{AreAll};
 
-use crate::room::Room;
+use crate::run_buffers::RunBuffers;
 use crate::stop::Stop;
 use crate::task::Done;
-use crate::worker::{Plan, Worker, seat, unseat};
+use crate::worker::{Plan, Worker, assign_sessions, collect_results};
 use lrc_sessions::{Closing, FinishError, Manager, Naming, Parts, Session};
 use std::alloc::Global;
 use std::rt::Clock;
@@ -16,21 +16,18 @@ use std::thread;
 use std::thread::Threads;
 use std::time::CpuClock;
 
-/// What a run leaves: its manager's book and counts, and what each session has done.
+/// The result of a run: the book and the counts of its manager, and what each session did.
 #[derive(Drop)]
 pub(crate) struct Ran {
     pub(crate) closing: Closing,
     pub(crate) done: Vec<Done>,
 }
 
-/// Opens a manager with as many sessions as its parts say, does the plan by them, and ends it.
-pub(crate) fn run_beside<N: Naming + Send + Sync, R: Threads + Wait + Clock + CpuClock + Sync>(
-    rt: &R,
-    alloc: Global,
-    parts: Parts,
-    count: u8,
-    plan: Plan,
-) -> Result<Ran, Stop>
+/// Opens a manager, runs the plan by its sessions, and ends the manager.
+pub(crate) fn run_concurrently<
+    N: Naming + Send + Sync,
+    R: Threads + Wait + Clock + CpuClock + Sync,
+>(rt: &R, alloc: Global, parts: Parts, count: u8, plan: Plan) -> Result<Ran, Stop>
     requires topology { parts.topology ≡ N.topology }
     requires limit { parts.limit ≡ N.limit }
     requires count { parts.count ≡ N.count }
@@ -40,8 +37,8 @@ pub(crate) fn run_beside<N: Naming + Send + Sync, R: Threads + Wait + Clock + Cp
     requires same { count ≡ parts.count }
 {
     let (manager, sessions) = Manager::<N>::open(alloc, rt, parts)?;
-    match Room::new(alloc, count) {
-        Ok(room) => Ok(run_in(rt, manager, sessions, room, plan)),
+    match RunBuffers::new(alloc, count) {
+        Ok(buffers) => Ok(run_in(rt, manager, sessions, buffers, plan)),
         Err(_) => {
             end(rt, manager, sessions);
             Err(Stop::OutOfMemory)
@@ -49,32 +46,32 @@ pub(crate) fn run_beside<N: Naming + Send + Sync, R: Threads + Wait + Clock + Cp
     }
 }
 
-/// Does the plan by the sessions that a manager was opened with, in room that was taken for them, and ends it.
+/// Runs the plan by the sessions that a manager was opened with, in memory that was allocated before, and ends the manager.
 fn run_in<N: Naming + Send + Sync, R: Threads + Wait + Clock + CpuClock + Sync>(
     rt: &R,
     manager: Manager<N>,
     opened: Vec<Session<N>>,
-    room: Room<N>,
+    buffers: RunBuffers<N>,
     plan: Plan,
 ) -> Ran
     requires opened { opened.items ≡ fresh manager.count }
-    requires workers { (room.workers.items ≡ []) × (manager.count ≤ vec_capacity room.workers) }
-    requires sessions { (room.sessions.items ≡ []) × (manager.count ≤ vec_capacity room.sessions) }
-    requires done { (room.done.items ≡ []) × (manager.count ≤ vec_capacity room.done) }
+    requires workers { (buffers.workers.items ≡ []) × (manager.count ≤ vec_capacity buffers.workers) }
+    requires sessions { (buffers.sessions.items ≡ []) × (manager.count ≤ vec_capacity buffers.sessions) }
+    requires done { (buffers.done.items ≡ []) × (manager.count ≤ vec_capacity buffers.done) }
 {
-    let Room {
+    let RunBuffers {
         mut workers,
         mut sessions,
         mut done,
-    } = room;
-    seat(opened, &mut workers);
+    } = buffers;
+    assign_sessions(opened, &mut workers);
     run_workers(rt, &manager, &mut workers, plan);
-    unseat(workers, &mut sessions, &mut done);
+    collect_results(workers, &mut sessions, &mut done);
     let closing = end(rt, manager, sessions);
     Ran { closing, done }
 }
 
-/// Ends a manager whose sessions are all there.
+/// Ends a manager, given all its sessions.
 fn end<N: Naming, R: Wait>(rt: &R, manager: Manager<N>, sessions: Vec<Session<N>>) -> Closing
     requires { AreAll manager.count sessions.items }
 {
@@ -84,7 +81,7 @@ fn end<N: Naming, R: Wait>(rt: &R, manager: Manager<N>, sessions: Vec<Session<N>
     }
 }
 
-/// Does the plan, each worker's part in a thread of its own where the system gives one.
+/// Runs the plan, each worker on a thread of its own if the system starts one.
 fn run_workers<N: Naming + Send + Sync, R: Threads + Wait + Clock + CpuClock + Sync>(
     rt: &R,
     manager: &Manager<N>,

@@ -1,7 +1,7 @@
 use Rattle.std.proofs.Common.{◌≡◌, ◌+◌, ◌≤◌, ◌++◌, length, map, vec_capacity}
 use Rattle.std.specs.Vec.Iter.{into_iter_items}
 use Rattle.looks.specs.declared.worker.Worker.{Worker}
-use Rattle.looks.proofs.worker.seat.Given as goal
+use Rattle.looks.proofs.worker.assign_sessions.Given as goal
 
 -- what is done and what is left are the whole
 abbrev pub invariant-loop-session : goal.invariant-loop-session
