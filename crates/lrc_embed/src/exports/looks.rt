@@ -1,4 +1,4 @@
-ghost use Rattle.std.specs.Prelude.{◌≡◌, ◌≢◌, ◌≤◌, ◌<◌, ◌⊎◌, true, is_some, Some, None, option_map, length, map};
+ghost use Rattle.std.specs.Prelude.{◌≡◌, ◌≢◌, ◌≤◌, ◌<◌, ◌⊎◌, true, is_some, None, option_map, length, map};
 ghost use Rattle.std.specs.Fn.{FnOnceReturnsAt};
 ghost use Rattle.lrc_book.specs.Books.{state_of};
 ghost use Rattle.lrc_rules.specs.States.{code_shown, homes_shown, level_shown, missing_shown, lease_of, load_shown, mode_shown};
@@ -182,25 +182,21 @@ pub extern "C" fn lrc_embed_mode(
     node: u16,
     mode: &mut LrcMode,
 ) -> u32
-    ensures same { handle.new.owned.book ≡ handle.old.owned.book }
-    ensures told { (result ≡ 0) → Of handle.old.owned.book (λ b. option_map encoded_mode (mode_shown b.nodes (state_of b) (node_no node)) ≡ Some mode.new) }
-    ensures unknown { (result ≡ 4) → Of handle.old.owned.book (λ b. mode_shown b.nodes (state_of b) (node_no node) ≡ None) }
-    ensures closed { (result ≡ 1) → handle.old.owned.book ≡ None }
-    ensures statuses { (result ≡ 0) ⊎ (result ≡ 1) ⊎ (result ≡ 4) }
-    ensures unwritten { (result ≢ 0) → mode.new ≡ mode.old }
+    ensures { IsLook ⊥ (λ b found. option_map encoded_mode (mode_shown b.nodes (state_of b) (node_no node)) ≡ found) handle.old.owned.book handle.new.owned.book result mode.old mode.new }
 {
-    let Some(book) = handle.take(alloc) else {
-        return IS_CLOSED;
-    };
-    let shown = book.mode(NodeNo { value: node });
-    handle.put(book);
-    match shown {
-        Some(shown) => {
-            *mode = LrcMode::of(shown);
-            DONE
-        }
-        None => UNKNOWN,
-    }
+    look(
+        alloc,
+        handle,
+        mode,
+        |book| mode_of(book, NodeNo { value: node }),
+    )
+}
+
+/// The mode of a node, if there is such a node.
+fn mode_of(book: &Book, node: NodeNo) -> Option<LrcMode>
+    ensures { result ≡ option_map encoded_mode (mode_shown book.now.nodes (state_of book.now) node) }
+{
+    Some(LrcMode::of(book.mode(node)?))
 }
 
 /// The number of ticks. A live lease ends when the clock reaches its expiry.
