@@ -336,6 +336,31 @@ pub fn push_reply_line(out: &mut Vec<u8>, number: usize, reply: &Reply) -> Resul
     out.extend_from_slice(&text[start..])
 }
 
+/// Writes the reply of an entry that names seats.
+#[inline(never)] // else each entry's reply is built with room for sixteen seats
+fn write_seats_of(entry: &Record, text: &mut [u8], end: usize) -> usize
+    requires { (REPLY_ROOM ≤ end) × (end ≤ length text.old) }
+    ensures start { (end ≤ result + REPLY_ROOM) × (result ≤ end) }
+    ensures written { drop result text.new ≡ (codes " " ++ (reply_text entry.now.reply ++ codes "\n")) ++ drop end text.old }
+{
+    write_reply(entry.reply(), text, end)
+}
+
+/// Writes the reply of an entry.
+#[inline(always)]
+fn write_entry(entry: &Record, text: &mut [u8], end: usize) -> usize
+    requires { (REPLY_ROOM ≤ end) × (end ≤ length text.old) }
+    ensures start { (end ≤ result + REPLY_ROOM) × (result ≤ end) }
+    ensures written { drop result text.new ≡ (codes " " ++ (reply_text entry.now.reply ++ codes "\n")) ++ drop end text.old }
+{
+    match entry.reply() {
+        Reply::Placed(_) => write_seats_of(entry, text, end),
+        Reply::Placed6(_) => write_seats_of(entry, text, end),
+        Reply::Granted(_, _) => write_seats_of(entry, text, end),
+        reply => write_reply(reply, text, end),
+    }
+}
+
 /// Writes the lines of entries, of which the first has the number `100 * hundreds + rest`. The digits of `hundreds` are computed
 /// once.
 fn write_hundred(
@@ -356,7 +381,7 @@ fn write_hundred(
     let mut at = end;
     while left > 0 {
         left -= 1;
-        let start = write_reply(records[left].reply(), text, at);
+        let start = write_entry(&records[left], text, at);
         at = digits.write_with(rest + left, text, start);
     }
     at

@@ -1,7 +1,6 @@
-use Rattle.std.proofs.Common.{arith, ◌≡◌, ◌+◌, ◌-◌, ◌*◌, ◌∷◌, ◌++◌, drop, codes, sym, ap, ◌∙◌}
+use Rattle.std.proofs.Common.{arith, ◌≡◌, ◌+◌, ◌-◌, ◌*◌, ◌∷◌, ◌++◌, drop, sym, ap, ◌∙◌}
 use Rattle.std.proofs.lemmas.List.{drop_more}
-use Rattle.lrc_rules.specs.declared.reply.Reply.{Reply}
-use Rattle.lrc_text.specs.Texts.{reply_text, lines_from}
+use Rattle.lrc_text.specs.Texts.{lines_from}
 use Rattle.lrc_text.proofs.PairLemmas.{told_with}
 use Rattle.lrc_text.proofs.texts.write_hundred.Goals as goal
 
@@ -18,8 +17,8 @@ loop-left-preserved c =
     let split : drop left records ≡ entry ∷ drop (left + 1) records =
     drop_more records left entry (omega (arith, before.left, back)) ∙ ap (λ e. e ∷ drop (left + 1) records) (sym c.index-records-left.is) in
     let later = before.written ∙ ap (λ k. lines_from k (drop c.loop-left.left records) ++ behind) next ∙ ap (λ k. lines_from (place + 1) (drop k records) ++ behind) (sym back) in
-    let told = c.write_reply-start in
-    let written = told.ensures.written ∙ ap (λ (r : Reply). (codes " " ++ (reply_text r ++ codes "\n")) ++ drop c.loop-left.at c.loop-left.text) c.reply.ensures in
+    let told = c.write_entry-start in
+    let written = told.ensures.written in
     let line = c.write_with-at in
     let digits = c.of-digits.ensures in
     let least = c.requires in
