@@ -1,5 +1,8 @@
-//! The book of placements: a store of slots, stripes and leases, and the history of commands and replies. `lrc_rules` defines
-//! what each command returns and changes.
+//! The book: a store of slots, stripes, leases, modes and the clock, and the history of commands and replies. `lrc_rules` defines
+//! what each command returns and changes; `Book::call` makes one call. `IsOf` of `specs/Stores` relates the store to the state.
+//!
+//! An `Answer` is a reply as the history keeps it, with seats in a box, and a `Record` is an entry with one. A `Plan` is an entry
+//! that is decided and not yet made.
 #![tactic(auto)]
 
 mod answer;

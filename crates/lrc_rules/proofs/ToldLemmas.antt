@@ -1,5 +1,5 @@
 -- What a reply means for the state before the command.
-use Rattle.std.proofs.Common.{◌≡◌, ◌≢◌, nat_lt, arith, Bool, true, false, not, ◌||◌, List, map, drop, length, Option, Some, None, IsSome, is_none, Result, Ok, Err, refl, sym, ap, ◌∙◌, subst, inl, inr}
+use Rattle.std.proofs.Common.{◌≡◌, nat_lt, arith, Bool, true, false, not, ◌||◌, List, map, drop, length, Option, Some, None, IsSome, is_none, Result, Ok, Err, refl, sym, ap, ◌∙◌, subst, inl, inr}
 use Rattle.std.proofs.lemmas.Bool.{or_parts, ltb-false, cases_Bool, eqb-true}
 use Rattle.lrc_code.specs.declared.codes.Code.{Code}
 use Rattle.lrc_code.specs.declared.codes.Code.TheVariants.{Wide, Narrow}
@@ -15,7 +15,7 @@ use Rattle.lrc_rules.specs.declared.reply.Reply.TheVariants.{Dropped, Changed, R
 use Rattle.lrc_rules.specs.States.{State, has_stripe, mode_of, is_active, is_draining, is_gone, is_down, load}
 use Rattle.lrc_rules.specs.Placement.{placed}
 use Rattle.lrc_rules.specs.Outcomes.{Outcome, refuse_if}
-use Rattle.lrc_rules.specs.Steps.{with_stripe, placed_reply, without_stripe, place_answer, place_outcome, drop_outcome, fail_outcome, down_outcome, up_outcome, join_outcome, drain_outcome, undrain_outcome, node_outcome, retire_outcome, with_gone, without_upgrading, would_lose, upgrade_answer, upgrade_outcome, is_the_domain, upgraded_outcome}
+use Rattle.lrc_rules.specs.Steps.{with_stripe, placed_reply, without_stripe, place_answer, place_outcome, drop_outcome, fail_outcome, down_outcome, up_outcome, join_outcome, drain_outcome, undrain_outcome, retire_outcome, with_gone, without_upgrading, would_lose, upgrade_answer, upgrade_outcome, is_the_domain, upgraded_outcome}
 use Rattle.lrc_rules.specs.Choices.{AreChosen}
 use Rattle.lrc_rules.proofs.LawLemmas.{never-refused}
 use Rattle.lrc_rules.proofs.StepLemmas.{place-passed, place-there, placed-grown, seats-added}
@@ -101,41 +101,9 @@ module _ (nodes : List NodeInfo) (st : State) (n : NodeNo) where
 
 -- ---- a node that retires
 
-passes-by : (st changed : State) (last : Outcome) (o : Option NodeInfo) (wrong : Bool)
-    → (refuse_if (is_none o) refusal.UnknownNode st (refuse_if wrong refusal.WrongMode st (Changed, changed))).0 ≡ Changed
-    → refuse_if (is_none o) refusal.UnknownNode st (refuse_if wrong refusal.WrongMode st last) ≡ last
-passes-by st changed last None wrong e = absurd (let never : Refused refusal.UnknownNode ≡ Changed = e in cc)
-passes-by st changed last (Some n) true e = absurd (let never : Refused refusal.WrongMode ≡ Changed = e in cc)
-passes-by st changed last (Some n) false e = refl
-
-stops-by : (st changed : State) (last : Outcome) (o : Option NodeInfo) (wrong : Bool)
-    → (refuse_if (is_none o) refusal.UnknownNode st (refuse_if wrong refusal.WrongMode st (Changed, changed))).0 ≢ Changed
-    → (refuse_if (is_none o) refusal.UnknownNode st (refuse_if wrong refusal.WrongMode st last)).0
-    ≡ (refuse_if (is_none o) refusal.UnknownNode st (refuse_if wrong refusal.WrongMode st (Changed, changed))).0
-stops-by st changed last None wrong e = refl
-stops-by st changed last (Some n) true e = refl
-stops-by st changed last (Some n) false e = absurd (e refl)
-
 module _ (nodes : List NodeInfo) (st : State) (n : NodeNo) where
   abbrev last : Outcome
   last = refuse_if (nat_lt 0 (load st n)) (refusal.NotEmpty (load st n)) st (Changed, with_gone st n)
-
-  -- if the node is draining, its held seats decide
-  pub retire-passes : (node_outcome nodes st n (not (is_draining (mode_of st n))) st).0 ≡ Changed
-      → (retire_outcome nodes st n).0 ≡ (refuse_if (nat_lt 0 (load st n)) (refusal.NotEmpty (load st n)) st (Changed, st)).0
-  unfolding retire_outcome
-  retire-passes e = ap (λ (o : Outcome). o.0) (passes-by st st last (node_at nodes n) (not (is_draining (mode_of st n))) e)
-      ∙ either (nat_lt 0 (load st n)) where
-        either : (b : Bool) → (refuse_if b (refusal.NotEmpty (load st n)) st (Changed, with_gone st n)).0
-            ≡ (refuse_if b (refusal.NotEmpty (load st n)) st (Changed, st)).0
-        either true = refl
-        either false = refl
-
-  -- otherwise Retire is refused as any command on a node
-  pub retire-stops : (node_outcome nodes st n (not (is_draining (mode_of st n))) st).0 ≢ Changed
-      → (retire_outcome nodes st n).0 ≡ (node_outcome nodes st n (not (is_draining (mode_of st n))) st).0
-  unfolding retire_outcome
-  retire-stops e = stops-by st st last (node_at nodes n) (not (is_draining (mode_of st n))) e
 
   -- a node retired: the store has it, and its load was 0
   pub retire-told : (retire_outcome nodes st n).0 ≡ Changed → IsSome (node_at nodes n) × (load st n ≡ 0)

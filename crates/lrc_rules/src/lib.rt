@@ -4,20 +4,24 @@
 //!
 //! Terms:
 //!
-//! - A *seat* is a slot of a node. The *home* of a fragment is the seat that holds it. A live lease keeps a second seat
-//!   for its fragment, the *target*. A seat is *held* if it is a home or a target. The *load* of a node is the number of
-//!   held seats on it.
-//! - A node is *offline* if it is down or its upgrade domain is upgrading. A node that is *gone* is out of the store.
+//! - A *seat* is a slot of a node. The *home* of a fragment is the seat that holds it. A live lease keeps a seat for its
+//!   fragment, the *target*. A seat is *held* if it is a home or a target. The *load* of a node is the number of held
+//!   seats on it.
+//! - A node is *gone* if it is out of the store. It is *online* if it is not gone, not down, and not in the upgrade
+//!   domain that is upgrading. Else it is *offline*.
 //! - A fragment is *homeless* if it has no home, and *missing* if it has no home on an online node.
 //! - The *level* of a stripe says how far it is from loss. Its *rank* orders repair: 0 is the most urgent.
 //!
 //! Read `specs/` in this order:
 //!
-//! 1. `Served`: what the manager promises, one field for each phrase.
-//! 2. `States`: the state of the store, and what can be read from it.
+//! 1. `Served`: what the manager promises of its history and of the state after it, one field for each phrase.
+//! 2. `States`: the state of the store, and what can be read from it. `Outcomes`: a reply with the next state.
 //! 3. `Steps`, `Leases`, `Placement`, `Repairs` and `Urgency`: the reply to each command, and the state after it.
-//! 4. `Histories`: legal histories, and the state after one.
+//! 4. `Histories` and `Sessions`: legal histories, and the state after one.
 //! 5. `Goodness`: what holds after each legal history.
+//!
+//! `Choices`, `Granting`, `Upgrading`, `Reporting`, `Endings`, `Touching` and `Boards` hold words of the laws. `Changes` says
+//! once more what a command changes, for proofs alone.
 //!
 //! The functions of `laws` do nothing. Their contracts are theorems about these definitions.
 #![tactic(auto)]
