@@ -207,6 +207,7 @@ impl Store {
     }
 
     /// The answer to a command. Each reply is a call that is not inlined, so that a step saves fewer registers.
+    #[inline(always)] // a `next` without work then makes no call
     fn answer_to(
         &self,
         counts: &Grants,
