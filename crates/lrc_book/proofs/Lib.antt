@@ -1,5 +1,4 @@
 pub mod ListLemmas
-pub mod LastLemmas
 pub mod NeighbourLemmas
 pub mod WorldLemmas
 pub mod TieLemmas

@@ -3,11 +3,11 @@ ghost use Rattle.lrc_code.specs.declared.numbers.StripeNo.{StripeNo};
 ghost use Rattle.lrc_code.specs.declared.numbers.Fragment.{Fragment};
 ghost use Rattle.lrc_rules.specs.declared.command.Command.{Command};
 ghost use Rattle.lrc_rules.specs.States.{State};
-ghost use Rattle.lrc_book.specs.Answers.{told};
+ghost use Rattle.lrc_book.specs.Answers.{told, lent};
 ghost use Rattle.lrc_rules.specs.Changes.{changed_by};
 ghost use Rattle.lrc_rules.specs.Leases.{is_grant};
 
-use crate::{Kind, Lease, Refusal, Reply, Seat};
+use crate::{Kind, Lease, Refusal, Reply, ReplyRef, Seat};
 use lrc_code::{FRAGMENTS, NARROW_FRAGMENTS, NodeNo};
 
 /// A seat that is to be overwritten.
@@ -72,21 +72,21 @@ impl Answer {
         }
     }
 
-    /// The reply that it stands for.
-    #[inline(always)] // so that the reply is built in its final location
-    pub(crate) fn reply(&self) -> Reply
-        ensures { result ≡ told self.now }
+    /// The reply that it stands for, borrowed.
+    #[inline(always)] // so that the caller's match is the only one
+    pub(crate) fn reply_ref(&self) -> ReplyRef<'_>
+        ensures { lent result ≡ told self.now }
     {
         match self {
-            Answer::Placed(seats) => Reply::Placed(**seats),
-            Answer::Placed6(seats) => Reply::Placed6(first_ten(seats)),
-            Answer::Dropped => Reply::Dropped,
-            Answer::Granted(lease, kind) => Reply::Granted(*lease, *kind),
-            Answer::Idle => Reply::Idle,
-            Answer::Ended => Reply::Ended,
-            Answer::Changed => Reply::Changed,
-            Answer::Refused(refusal) => Reply::Refused(*refusal),
-            Answer::Ticked { clock, ended } => Reply::Ticked {
+            Answer::Placed(seats) => ReplyRef::Placed(&**seats),
+            Answer::Placed6(seats) => ReplyRef::Placed6(first_ten(&**seats)),
+            Answer::Dropped => ReplyRef::Dropped,
+            Answer::Granted(lease, kind) => ReplyRef::Granted(lease, kind),
+            Answer::Idle => ReplyRef::Idle,
+            Answer::Ended => ReplyRef::Ended,
+            Answer::Changed => ReplyRef::Changed,
+            Answer::Refused(refusal) => ReplyRef::Refused(*refusal),
+            Answer::Ticked { clock, ended } => ReplyRef::Ticked {
                 clock: *clock,
                 ended: *ended,
             },
@@ -102,11 +102,8 @@ fn put_first(kept: &mut [Seat; FRAGMENTS], seats: &[Seat; NARROW_FRAGMENTS])
 }
 
 /// The first ten of sixteen seats.
-#[inline(never)] // so that `Answer::reply` is short enough to be inlined
-fn first_ten(seats: &[Seat; FRAGMENTS]) -> [Seat; NARROW_FRAGMENTS]
-    ensures { result ≡ take 10 seats.now }
+fn first_ten(seats: &[Seat; FRAGMENTS]) -> &[Seat; NARROW_FRAGMENTS]
+    ensures { result.now ≡ take 10 seats.now }
 {
-    let mut first = [NO_SEAT; NARROW_FRAGMENTS];
-    first.copy_from_slice(&seats[..NARROW_FRAGMENTS]);
-    first
+    <&[Seat; NARROW_FRAGMENTS]>::try_from(&seats[..NARROW_FRAGMENTS]).unwrap()
 }

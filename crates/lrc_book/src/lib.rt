@@ -18,6 +18,7 @@ mod node_set;
 mod plan;
 mod record;
 mod repair;
+mod reply_ref;
 mod step;
 mod store;
 
@@ -25,3 +26,4 @@ pub use book::{Book, HISTORY_LIMIT};
 pub use lrc_rules::{Command, Entry, Held, Kind, Lease, Level, Mode, Refusal, Reply, Seat};
 pub use plan::Plan;
 pub use record::Record;
+pub use reply_ref::ReplyRef;

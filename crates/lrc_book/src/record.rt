@@ -1,8 +1,8 @@
 ghost use Rattle.std.specs.Prelude.{◌≡◌};
-ghost use Rattle.lrc_book.specs.Answers.{told};
+ghost use Rattle.lrc_book.specs.Answers.{told, lent};
 
 use crate::answer::Answer;
-use crate::{Command, Entry, Reply};
+use crate::{Command, Entry, Reply, ReplyRef};
 use lrc_code::SessionNo;
 use std::marker::Model;
 
@@ -50,12 +50,20 @@ impl Record {
         self.command
     }
 
+    /// The reply to the command, borrowed.
+    #[inline(always)] // as `Answer::reply_ref`
+    pub fn reply_ref(&self) -> ReplyRef<'_>
+        ensures { lent result ≡ self.now.reply }
+    {
+        self.answer.reply_ref()
+    }
+
     /// The reply to the command.
-    #[inline(always)] // as `Answer::reply`
+    #[inline(always)] // as `ReplyRef::reply`
     pub fn reply(&self) -> Reply
         ensures { result ≡ self.now.reply }
     {
-        self.answer.reply()
+        self.answer.reply_ref().reply()
     }
 
     /// The entry as a plain value.
@@ -65,7 +73,7 @@ impl Record {
         Entry {
             session: self.session,
             command: self.command,
-            reply: self.answer.reply(),
+            reply: self.reply(),
         }
     }
 }

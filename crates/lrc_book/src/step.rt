@@ -77,19 +77,22 @@ impl Book {
         ensures same { (self.new.nodes ≡ self.old.nodes) × (self.new.limit ≡ self.old.limit) }
         ensures history { self.new.history ≡ self.old.history ++ record { session = session; command = command; reply = (outcome_in self.old.nodes (world_of self.old) session command).0 } ∷ [] }
     {
-        let index = self.history.len();
-        self.history
-            .push_reserved(Record::new(session, command, Answer::Idle));
-        let made = &mut self.history[index];
-        let store = &mut *self.store;
-        store.answer(&self.grants, self.repair_cursor, &mut self.seats, made);
+        let answer = self.store.answer_to(
+            &self.grants,
+            self.repair_cursor,
+            &mut self.seats,
+            session,
+            &command,
+        );
+        let made = Record::new(session, command, answer);
         make(
-            store,
+            &mut *self.store,
             &mut self.grants,
             &mut self.repair_cursor,
-            &self.history[..index],
-            &self.history[index],
+            &self.history,
+            &made,
         );
+        self.history.push_reserved(made);
     }
 
     /// Makes the step of a plan that was decided on this history, in a book that has room for it. It can't fail.
@@ -108,9 +111,8 @@ impl Book {
         } = plan.entry;
         let answer = Answer::of(&reply, &mut self.seats);
         let made = Record::new(session, command, answer);
-        let store = &mut *self.store;
         make(
-            store,
+            &mut *self.store,
             &mut self.grants,
             &mut self.repair_cursor,
             &self.history,
@@ -184,26 +186,9 @@ impl Store {
             Command::Place6(stripe) => self.place_reply(Code::Narrow, stripe),
             _ => self
                 .answer_to(counts, cursor, &mut None, session, command)
+                .reply_ref()
                 .reply(),
         }
-    }
-
-    /// Gives the record of a command its answer. The seats of a new stripe are put into the box `room`.
-    pub(crate) fn answer(
-        &self,
-        counts: &Grants,
-        cursor: Option<StripeNo>,
-        room: &mut Option<Box<[Seat; FRAGMENTS]>>,
-        made: &mut Record,
-    )
-        requires tied { IsTied self.now }
-        requires few { AreFew counts.now }
-        requires cursor { HasRepairCursor self.now cursor }
-        requires room { is_place made.old.command ≡ true → IsSome room.old }
-        ensures { (st : State) (past : List Entry) → IsOf st self.now → AreGrantsOf past counts.now → IsRepairCursor self.now.topology st cursor
-            → made.new ≡ record made.old { reply = (step self.now.topology past st made.old.session made.old.command).0 } }
-    {
-        made.answer = self.answer_to(counts, cursor, room, made.session, &made.command);
     }
 
     /// The answer to a command. Each reply is a call that is not inlined, so that a step saves fewer registers.

@@ -5,10 +5,11 @@
 
 ghost use Rattle.std.specs.Prelude.{◌≡◌, ◌+◌, ◌*◌, ◌^◌, ◌<◌, ◌≤◌, ◌∷◌, ◌++◌, length, drop, OnOk, codes, decimal, map};
 ghost use Rattle.lrc_rules.specs.declared.reply.Reply.TheVariants.{Granted, Refused, Ticked};
+ghost use Rattle.lrc_book.specs.Answers.{lent};
 ghost use Rattle.lrc_text.specs.Texts.{seat_text, spaced, lease_text, kind_text, reply_text, reply_line, lines_from, script_line};
 
 use crate::digits::{Digits, write_below_1000};
-use lrc_book::{Kind, Lease, Record, Refusal, Reply, Seat};
+use lrc_book::{Kind, Lease, Record, Refusal, Reply, ReplyRef, Seat};
 use lrc_code::{Fragment, SessionNo};
 use std::alloc::AllocError;
 
@@ -295,33 +296,32 @@ fn write_ticked(clock: u32, ended: u32, text: &mut [u8], end: usize) -> usize
 }
 
 /// Writes a space, a reply and the end of the line.
-#[inline(always)] // a reply is then not built whole, since only parts of it are written
-fn write_reply(reply: Reply, text: &mut [u8], end: usize) -> usize
+#[inline(always)] // so that the reply of an entry is matched once
+fn write_reply(reply: ReplyRef<'_>, text: &mut [u8], end: usize) -> usize
     requires { (REPLY_ROOM ≤ end) × (end ≤ length text.old) }
     ensures start { (end ≤ result + REPLY_ROOM) × (result ≤ end) }
-    ensures written { drop result text.new ≡ (codes " " ++ (reply_text reply ++ codes "\n")) ++ drop end text.old }
+    ensures written { drop result text.new ≡ (codes " " ++ (reply_text (lent reply) ++ codes "\n")) ++ drop end text.old }
 {
     match reply {
-        Reply::Placed(seats) => write_placed(&seats, text, end),
-        Reply::Placed6(seats) => write_placed(&seats, text, end),
-        Reply::Dropped => write_words(b" dropped\n", text, end),
-        Reply::Granted(lease, kind) => write_granted(&lease, &kind, text, end),
-        Reply::Idle => write_words(b" idle\n", text, end),
-        Reply::Ended => write_words(b" ended\n", text, end),
-        Reply::Changed => write_words(b" changed\n", text, end),
-        Reply::Refused(refusal) => write_refusal(&refusal, text, end),
-        Reply::Ticked { clock, ended } => write_ticked(clock, ended, text, end),
+        ReplyRef::Placed(seats) => write_placed(seats, text, end),
+        ReplyRef::Placed6(seats) => write_placed(seats, text, end),
+        ReplyRef::Dropped => write_words(b" dropped\n", text, end),
+        ReplyRef::Granted(lease, kind) => write_granted(lease, kind, text, end),
+        ReplyRef::Idle => write_words(b" idle\n", text, end),
+        ReplyRef::Ended => write_words(b" ended\n", text, end),
+        ReplyRef::Changed => write_words(b" changed\n", text, end),
+        ReplyRef::Refused(refusal) => write_refusal(&refusal, text, end),
+        ReplyRef::Ticked { clock, ended } => write_ticked(clock, ended, text, end),
     }
 }
 
 // ---- lines
 
 /// Writes the line of a reply. Its call has this number in the history, counted from 1.
-#[inline(always)] // as `write_reply`
-fn write_line(number: usize, reply: Reply, text: &mut [u8], end: usize) -> usize
+fn write_line(number: usize, reply: ReplyRef<'_>, text: &mut [u8], end: usize) -> usize
     requires { (LINE_ROOM ≤ end) × (end ≤ length text.old) }
     ensures start { (end ≤ result + LINE_ROOM) × (result ≤ end) }
-    ensures written { drop result text.new ≡ reply_line number reply ++ drop end text.old }
+    ensures written { drop result text.new ≡ reply_line number (lent reply) ++ drop end text.old }
 {
     let start = write_reply(reply, text, end);
     itoa::write_digits(number as u64, text, start)
@@ -332,46 +332,8 @@ pub fn push_reply_line(out: &mut Vec<u8>, number: usize, reply: &Reply) -> Resul
     ensures { OnOk result (out.new.items ≡ out.old.items ++ reply_line number reply.now) }
 {
     let mut text = [0u8; LINE_ROOM];
-    let start = write_line(number, *reply, &mut text, LINE_ROOM);
+    let start = write_line(number, ReplyRef::of(reply), &mut text, LINE_ROOM);
     out.extend_from_slice(&text[start..])
-}
-
-/// Writes the reply of an entry, which is built for it.
-#[inline(never)] // else each reply is built with room for sixteen seats
-fn write_long_reply(entry: &Record, text: &mut [u8], end: usize) -> usize
-    requires { (REPLY_ROOM ≤ end) × (end ≤ length text.old) }
-    ensures start { (end ≤ result + REPLY_ROOM) × (result ≤ end) }
-    ensures written { drop result text.new ≡ (codes " " ++ (reply_text entry.now.reply ++ codes "\n")) ++ drop end text.old }
-{
-    write_reply(entry.reply(), text, end)
-}
-
-/// Writes the reply of an entry. A grant is not built with room for sixteen seats.
-#[inline(never)] // a short reply then saves fewer registers
-fn write_grant(entry: &Record, text: &mut [u8], end: usize) -> usize
-    requires { (REPLY_ROOM ≤ end) × (end ≤ length text.old) }
-    ensures start { (end ≤ result + REPLY_ROOM) × (result ≤ end) }
-    ensures written { drop result text.new ≡ (codes " " ++ (reply_text entry.now.reply ++ codes "\n")) ++ drop end text.old }
-{
-    match entry.reply() {
-        Reply::Granted(lease, kind) => write_granted(&lease, &kind, text, end),
-        _ => write_long_reply(entry, text, end),
-    }
-}
-
-/// Writes the reply of an entry.
-#[inline(always)] // a short reply then makes no call
-fn write_entry(entry: &Record, text: &mut [u8], end: usize) -> usize
-    requires { (REPLY_ROOM ≤ end) × (end ≤ length text.old) }
-    ensures start { (end ≤ result + REPLY_ROOM) × (result ≤ end) }
-    ensures written { drop result text.new ≡ (codes " " ++ (reply_text entry.now.reply ++ codes "\n")) ++ drop end text.old }
-{
-    match entry.reply() {
-        Reply::Placed(_) => write_long_reply(entry, text, end),
-        Reply::Placed6(_) => write_long_reply(entry, text, end),
-        Reply::Granted(_, _) => write_grant(entry, text, end),
-        reply => write_reply(reply, text, end),
-    }
 }
 
 /// Writes the lines of entries, of which the first has the number `100 * hundreds + rest`. The digits of `hundreds` are computed
@@ -394,7 +356,7 @@ fn write_hundred(
     let mut at = end;
     while left > 0 {
         left -= 1;
-        let start = write_entry(&records[left], text, at);
+        let start = write_reply(records[left].reply_ref(), text, at);
         at = digits.write_with(rest + left, text, start);
     }
     at
@@ -413,7 +375,7 @@ fn write_lines(records: &[Record], first: usize, text: &mut [u8], end: usize) ->
         let last = first + left - 1;
         if last < 100 || last >= LONG_NUMBER {
             left -= 1;
-            at = write_line(last, records[left].reply(), text, at);
+            at = write_line(last, records[left].reply_ref(), text, at);
         } else {
             let many = left.min(last % 100 + 1);
             let same = &records[left - many..left];

@@ -6,7 +6,7 @@ use Rattle.lrc_book.proofs.WorldLemmas.{clock-early}
 pub invariant_of-self : goal.invariant_of-self
 invariant_of-self c =
     let past = c.deref.ensures.value in
-    let kept = (rw c.deref_mut-store.ensures.value at c.make.ensures.kept) c.self.inside.limit (rw past c.self.invariant) (rw past (rw (← c.self.view_is) at c.requires.room)) in
+    let kept = (rw c.deref_mut.ensures.value at c.make.ensures.kept) c.self.inside.limit (rw past c.self.invariant) (rw past (rw (← c.self.view_is) at c.requires.room)) in
     rw c.push_reserved.ensures.items (rw past at kept)
 
 pub make-requires : goal.make-requires
@@ -19,7 +19,7 @@ make-requires c =
         search rules,
         (
           few-grants b.store.value b.grants b.repair_cursor b.limit b.history.items c.self.invariant below,
-          (search rules, (search rules, rw c.deref_mut-store.ensures.value early)),
+          (search rules, (search rules, rw c.deref_mut.ensures.value early)),
         ),
       ),
     )
