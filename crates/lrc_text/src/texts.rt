@@ -297,12 +297,12 @@ fn write_ticked(clock: u32, ended: u32, text: &mut [u8], end: usize) -> usize
 
 /// Writes a space, a reply and the end of the line.
 #[inline(always)] // so that the reply of an entry is matched once
-fn write_reply(reply: ReplyRef<'_>, text: &mut [u8], end: usize) -> usize
+fn write_reply(reply: &ReplyRef<'_>, text: &mut [u8], end: usize) -> usize
     requires { (REPLY_ROOM ≤ end) × (end ≤ length text.old) }
     ensures start { (end ≤ result + REPLY_ROOM) × (result ≤ end) }
-    ensures written { drop result text.new ≡ (codes " " ++ (reply_text (lent reply) ++ codes "\n")) ++ drop end text.old }
+    ensures written { drop result text.new ≡ (codes " " ++ (reply_text (lent reply.now) ++ codes "\n")) ++ drop end text.old }
 {
-    match reply {
+    match *reply {
         ReplyRef::Placed(seats) => write_placed(seats, text, end),
         ReplyRef::Placed6(seats) => write_placed(seats, text, end),
         ReplyRef::Dropped => write_words(b" dropped\n", text, end),
@@ -318,10 +318,10 @@ fn write_reply(reply: ReplyRef<'_>, text: &mut [u8], end: usize) -> usize
 // ---- lines
 
 /// Writes the line of a reply. Its call has this number in the history, counted from 1.
-fn write_line(number: usize, reply: ReplyRef<'_>, text: &mut [u8], end: usize) -> usize
+fn write_line(number: usize, reply: &ReplyRef<'_>, text: &mut [u8], end: usize) -> usize
     requires { (LINE_ROOM ≤ end) × (end ≤ length text.old) }
     ensures start { (end ≤ result + LINE_ROOM) × (result ≤ end) }
-    ensures written { drop result text.new ≡ reply_line number (lent reply) ++ drop end text.old }
+    ensures written { drop result text.new ≡ reply_line number (lent reply.now) ++ drop end text.old }
 {
     let start = write_reply(reply, text, end);
     itoa::write_digits(number as u64, text, start)
@@ -332,7 +332,7 @@ pub fn push_reply_line(out: &mut Vec<u8>, number: usize, reply: &Reply) -> Resul
     ensures { OnOk result (out.new.items ≡ out.old.items ++ reply_line number reply.now) }
 {
     let mut text = [0u8; LINE_ROOM];
-    let start = write_line(number, ReplyRef::of(reply), &mut text, LINE_ROOM);
+    let start = write_line(number, &ReplyRef::of(reply), &mut text, LINE_ROOM);
     out.extend_from_slice(&text[start..])
 }
 
@@ -356,7 +356,7 @@ fn write_hundred(
     let mut at = end;
     while left > 0 {
         left -= 1;
-        let start = write_reply(records[left].reply_ref(), text, at);
+        let start = write_reply(&records[left].reply_ref(), text, at);
         at = digits.write_with(rest + left, text, start);
     }
     at
@@ -375,7 +375,7 @@ fn write_lines(records: &[Record], first: usize, text: &mut [u8], end: usize) ->
         let last = first + left - 1;
         if last < 100 || last >= LONG_NUMBER {
             left -= 1;
-            at = write_line(last, records[left].reply_ref(), text, at);
+            at = write_line(last, &records[left].reply_ref(), text, at);
         } else {
             let many = left.min(last % 100 + 1);
             let same = &records[left - many..left];

@@ -18,7 +18,7 @@ loop-left-preserved c =
     drop_more records left entry (omega (arith, before.left, back)) ∙ ap (λ e. e ∷ drop (left + 1) records) (sym c.index-records-left.is) in
     let later = before.written ∙ ap (λ k. lines_from k (drop c.loop-left.left records) ++ behind) next ∙ ap (λ k. lines_from (place + 1) (drop k records) ++ behind) (sym back) in
     let told = c.write_reply-start in
-    let written = told.ensures.written in
+    let written = rw c.reply_ref.ensures at told.ensures.written in
     let line = c.write_with-at in
     let digits = c.of-digits.ensures in
     let least = c.requires in
