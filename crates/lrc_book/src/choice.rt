@@ -40,8 +40,8 @@ impl Store {
         }
     }
 
-    /// The node and the slot that the rule chooses for a fragment of a class, in a new stripe of a code, beside the planned
-    /// seats of its other fragments.
+    /// Returns the seat that the rule chooses for a fragment of a new stripe. `bars` are the nodes that the seats planned for
+    /// the other fragments bar.
     pub(crate) fn open_for(&self, bars: &ClassBars, class: Class) -> Option<OpenRow<'_>>
         ensures chosen { (st : State) (code : AnyCode) (stripe : StripeNo) (fragment : Fragment) (planned : List Held) → IsOf st self.now → has_stripe st stripe ≡ false
             → class_of code fragment.value ≡ Some class
@@ -53,7 +53,7 @@ impl Store {
         self.table.row_outside(&bars.faults, bars.of(class))
     }
 
-    /// Bars the domains of the node that is planned for a fragment of a class.
+    /// Bars the domains of the node where a fragment of the class is planned.
     pub(crate) fn bar_planned(&self, bars: &mut ClassBars, class: Class, next: &OpenRow<'_>)
         ensures { (st : State) (code : AnyCode) (stripe : StripeNo) (fragment : Fragment) (planned : List Held) → IsOf st self.now
             → class_of code fragment.value ≡ Some class
@@ -108,8 +108,8 @@ impl Store {
         })
     }
 
-    /// The homes of a stripe's other fragments as the neighbours of a fragment whose class has these members, and what else is
-    /// barred.
+    /// Collects what bars nodes for a fragment: the homes of the stripe's other fragments, and `more`. `members` are the
+    /// fragments of its class.
     fn neighbours<'a>(
         &'a self,
         stripe: StripeNo,
@@ -131,7 +131,8 @@ impl Store {
         }
     }
 
-    /// Bars the domains of the targets of the leases of a stripe's other fragments for a fragment whose class has these members.
+    /// Bars the domains of the lease targets of the stripe's other fragments. `members` are the fragments of the class of
+    /// `fragment`.
     fn bar_targets(&self, bars: &mut Taken, stripe: StripeNo, fragment: Fragment, members: LossMask)
         requires { IsTied self.now }
         ensures { (st : State) (code : AnyCode) (seats : List Held) → IsOf st self.now → AreClassMembers code fragment members
@@ -160,8 +161,8 @@ impl Store {
         Some(lease.target)
     }
 
-    /// Bars the domains of a seat of another fragment of the stripe for a fragment whose class has these members: its fault
-    /// domain, and its upgrade domain if the other fragment is of the class. The node is one of the store's.
+    /// Bars the domains of the seat of another fragment: its fault domain, and its upgrade domain if that fragment is one of
+    /// `members`, the class of `fragment`. The node must be one of the store's.
     fn bar_seat(
         &self,
         bars: &mut Taken,
@@ -187,7 +188,7 @@ impl Store {
     }
 }
 
-/// The fragments of a fragment's class in a code, itself among them; none where the code has no such fragment.
+/// Returns the fragments of a fragment's class, itself included; none if the code has no such fragment.
 fn class_members(code: Code, fragment: Fragment) -> LossMask
     ensures { AreClassMembers code fragment result }
 {

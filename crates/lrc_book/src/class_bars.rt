@@ -38,8 +38,8 @@ impl ClassBars {
         &self.upgrades[index_of(class)]
     }
 
-    /// Bars the fault domain of the node that a seat of a fragment is on for all fragments, and its upgrade domain for
-    /// those of the fragment's class.
+    /// Bars the domains of a node that gets a fragment: its fault domain for all fragments, and its upgrade domain for the
+    /// fragments of the same class.
     pub(crate) fn bar(&mut self, table: &SlotTable, node: &NodeInfo, class: Class)
         ensures { (code : Code) (upgrading : Option UpgradeNo) (seats : List Held) (h : Held) → node_at (slots_of table.now).nodes h.seat.node ≡ Some node.now
             → class_of code h.fragment.value ≡ Some class

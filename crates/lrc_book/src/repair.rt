@@ -21,7 +21,7 @@ use crate::{Kind, Lease, Refusal, Seat};
 use lrc_code::{Code, Fragment, LossMask, SessionNo, StripeNo};
 use lrc_leases::Grants;
 
-/// What a lease is granted for: a fragment, how it is rebuilt, and the seat that it is to have.
+/// What a lease is granted for: a fragment, how it is rebuilt, and its new seat.
 #[derive(Clone, Copy)]
 pub(crate) struct Repair {
     pub(crate) stripe: StripeNo,
@@ -50,8 +50,8 @@ impl Repair {
 }
 
 impl Store {
-    /// The repair of a fragment that needs a lease and has none; or why its lease is refused. The stripe is there, and its
-    /// code has the fragment.
+    /// Returns the repair of a fragment that needs a lease and has none, or why its lease is refused. The stripe must exist,
+    /// and its code must have the fragment.
     pub(crate) fn repair(&self, stripe: StripeNo, fragment: Fragment) -> Result<Repair, Refusal>
         requires tied { IsTied self.now }
         requires there { IsTrue ((stored_in self.now.stripes).stripes stripe) }
@@ -72,7 +72,7 @@ impl Store {
         }
     }
 
-    /// The fragments of a stripe that is there that need a lease.
+    /// Returns the fragments of a stripe that need a lease. The stripe must exist.
     pub(crate) fn needs(&self, stripe: StripeNo) -> LossMask
         requires { IsTrue ((stored_in self.now.stripes).stripes stripe) }
         ensures { (st : State) (f : Fragment) → IsOf st self.now
@@ -81,7 +81,7 @@ impl Store {
         self.stripes.needs_there(stripe)
     }
 
-    /// How a fragment of a stripe that is there is rebuilt; `None` if it can't be. The stripe's code has the fragment.
+    /// Returns how a fragment is rebuilt; `None` if it can't be. The stripe must exist, and its code must have the fragment.
     #[inline(always)] // so that a grant copies its kind once less
     fn repair_kind(&self, stripe: StripeNo, fragment: Fragment) -> Option<Kind>
         requires { IsTrue ((stored_in self.now.stripes).stripes stripe) }
@@ -104,7 +104,7 @@ impl Store {
     }
 }
 
-/// How a fragment is rebuilt from its local group; `None` if it can't be with these fragments of its stripe missing.
+/// Returns how a fragment is rebuilt from its local group; `None` if too many fragments of the group are `missing`.
 #[inline(always)] // as `Store::repair_kind`
 fn local_kind(code: Code, missing: LossMask, fragment: Fragment) -> Option<Kind>
     ensures { result ≡ (if is_local code (bits_set missing.bits) fragment then Some (repairs.local_kind code (others code fragment)) else None) }

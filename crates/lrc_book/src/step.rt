@@ -1,4 +1,4 @@
-//! A step of the placement object: decided over the state that is kept, prepared by making room, and committed, which can't fail.
+//! A step of the book. It is decided over the store, then room is made for it, and then it is committed, which can't fail.
 
 ghost use Rattle.std.specs.Prelude.{◌≡◌, ◌<◌, ◌+◌, ◌≤◌, ◌++◌, ◌∷◌, [], ℕ, true, false, IfOk, IfErr, OnOk, IsOk, IsSome, List, length, nat_le, is_some, vec_len, vec_capacity};
 ghost use Rattle.lrc_code.specs.declared.fault.Fault.TheVariants as fault;
@@ -84,15 +84,13 @@ impl Book {
             session,
             &command,
         );
-        let made = Record::new(session, command, answer);
-        make(
+        enter(
             &mut *self.store,
             &mut self.grants,
             &mut self.repair_cursor,
-            &self.history,
-            &made,
+            &mut self.history,
+            Record::new(session, command, answer),
         );
-        self.history.push_reserved(made);
     }
 
     /// Makes the step of a plan that was decided on this history, in a book that has room for it. It can't fail.
@@ -110,20 +108,43 @@ impl Book {
             reply,
         } = plan.entry;
         let answer = Answer::of(&reply, &mut self.seats);
-        let made = Record::new(session, command, answer);
-        make(
+        enter(
             &mut *self.store,
             &mut self.grants,
             &mut self.repair_cursor,
-            &self.history,
-            &made,
+            &mut self.history,
+            Record::new(session, command, answer),
         );
-        self.history.push_reserved(made);
         reply
     }
 }
 
-/// Makes the step that is to be the next of the history after these entries, in a book that has room for it.
+/// Adds the next entry to a history that has room for it, and makes its change.
+#[inline(always)] // so that the entry is built where the history keeps it
+fn enter(
+    store: &mut Store,
+    grants: &mut Grants,
+    cursor: &mut Option<StripeNo>,
+    history: &mut Vec<Record>,
+    made: Record,
+)
+    requires kept { IsOf (state_after store.old.topology history.old.items) store.old }
+    requires few { AreFew grants.old }
+    requires room { has_room store.old ≡ true }
+    requires reserved { vec_len history.old < vec_capacity history.old }
+    requires step { (outcome_in store.old.topology (world_after store.old.topology history.old.items) made.session made.command).0 ≡ made.reply }
+    requires early { store.old.clock.value < 4294967292 }
+    ensures nodes { store.new.topology ≡ store.old.topology }
+    ensures history { history.new.items ≡ history.old.items ++ made ∷ [] }
+    ensures kept { (limit : ℕ) → IsKept store.old grants.old cursor.old limit history.old.items → length history.old.items < limit
+        → IsKept store.new grants.new cursor.new limit history.new.items }
+{
+    let index = history.len();
+    history.push_reserved(made);
+    make(store, grants, cursor, &history[..index], &history[index]);
+}
+
+/// Makes the change of the entry `made`, which comes next after the entries `past`. There must be room for it.
 #[inline(always)] // a step that changes nothing then makes no call here
 fn make(
     store: &mut Store,
@@ -167,7 +188,7 @@ fn room_for_seats(alloc: Global) -> Result<Box<[Seat; FRAGMENTS]>, AllocError> {
 }
 
 impl Store {
-    /// The reply of the plain placement object after entries with these grants.
+    /// Returns the reply to a command after entries with these grants.
     fn reply(
         &self,
         counts: &Grants,
@@ -191,7 +212,7 @@ impl Store {
         }
     }
 
-    /// The answer to a command. Each reply is a call that is not inlined, so that a step saves fewer registers.
+    /// Returns the answer to a command. Most arms are calls that are not inlined, so that a step saves fewer registers.
     #[inline(always)] // a `next` without work then makes no call
     fn answer_to(
         &self,

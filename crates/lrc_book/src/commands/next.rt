@@ -40,7 +40,7 @@ impl Store {
         self.next_reply_with_work(counts, cursor, session)
     }
 
-    /// The same where some stripe has work.
+    /// The same. Some stripe has work.
     #[inline(never)]
     fn next_reply_with_work(
         &self,
@@ -59,7 +59,7 @@ impl Store {
         }
     }
 
-    /// The repair of the fragment that comes first in the order of repair, of those whose lease would be granted.
+    /// Returns the first repair, in the order of repair, whose lease would be granted.
     fn next_repair(&self, cursor: Option<StripeNo>) -> Option<Repair>
         requires { HasRepairCursor self.now cursor }
         ensures first { (st : State) → IsOf st self.now → IsRepairCursor self.now.topology st cursor → option_map fragment_of result ≡ next_of self.now.topology st }
@@ -76,7 +76,7 @@ impl Store {
         None
     }
 
-    /// The stripes with work that don't come before the cursor, in the order of repair; all of them where there is none.
+    /// Returns the stripes with work from the cursor on, in the order of repair; all of them if there is no cursor.
     fn work_from(&self, cursor: Option<StripeNo>) -> Work<'_>
         requires { HasRepairCursor self.now cursor }
         ensures there { All (λ s. IsTrue ((stored_in self.now.stripes).stripes s)) result }
@@ -88,7 +88,7 @@ impl Store {
         }
     }
 
-    /// The repair of the first fragment of a stripe that is there whose lease would be granted.
+    /// Returns the first repair in a stripe whose lease would be granted. The stripe must exist.
     fn first_repair(&self, stripe: StripeNo) -> Option<Repair>
         requires tied { IsTied self.now }
         requires there { IsTrue ((stored_in self.now.stripes).stripes stripe) }
@@ -110,8 +110,8 @@ impl Store {
         None
     }
 
-    /// The repair of a fragment of a stripe that is there and whose waiting fragments are these, if its lease would be
-    /// granted.
+    /// Returns the repair of a fragment if its lease would be granted. `waiting` are the waiting fragments of the stripe,
+    /// which must exist.
     fn waiting_repair(
         &self,
         waiting: LossMask,
@@ -134,7 +134,7 @@ impl Store {
         }
     }
 
-    /// The fragments of a stripe that is there that need a lease and have none.
+    /// Returns the fragments of a stripe that need a lease and have none. The stripe must exist.
     fn waiting(&self, stripe: StripeNo) -> LossMask
         requires { IsTrue ((stored_in self.now.stripes).stripes stripe) }
         ensures { (st : State) (f : Fragment) → IsOf st self.now

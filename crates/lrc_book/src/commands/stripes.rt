@@ -54,8 +54,8 @@ impl Store {
         Answer::of(&self.place_reply(code, stripe), room)
     }
 
-    /// Puts the seats that the rule chooses for the fragments of a new stripe of the code, one after the other, into the
-    /// first of `seats`; or returns the first fragment that finds none.
+    /// Chooses the seats of a new stripe by the rule, one fragment after the other, and writes them to the first of `seats`.
+    /// Returns the first fragment that finds none, if there is one.
     fn plan_seats(
         &self,
         code: Code,
@@ -86,8 +86,7 @@ impl Store {
         Ok(())
     }
 
-    /// Takes the seats that were chosen for the fragments of a new stripe of the code, and adds the stripe with them as
-    /// homes.
+    /// Takes the seats that were chosen for a new stripe, and adds the stripe with these homes.
     pub(crate) fn place(&mut self, code: Code, stripe: StripeNo, seats: &[Seat])
         ghost st: { State }
         requires kept { IsOf st self.old }

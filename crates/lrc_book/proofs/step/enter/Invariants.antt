@@ -1,5 +1,5 @@
 use Rattle.lrc_rules.specs.Histories.{state_after}
-use Rattle.lrc_book.proofs.book.Book.make_call.Given as goal
+use Rattle.lrc_book.proofs.step.enter.Given as goal
 
 abbrev pub ghost-make : goal.ghost-make
 ghost-make a = state_after a.store.now.topology a.past.now
