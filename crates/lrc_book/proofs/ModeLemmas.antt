@@ -2,7 +2,7 @@
 use Rattle.std.proofs.Common.{◌≡◌, ◌≢◌, ap₂, map, ℕ, Bool, true, false, not, if◌then◌else◌, ◌&&◌, eqb, List, ◌++◌, Option, Some, None, IsSome, refl, sym, ap, ◌∙◌, subst}
 use Rattle.std.proofs.Math.Path.{fun_ext}
 use Rattle.std.specs.Option.{option_map_or}
-use Rattle.std.proofs.lemmas.Bool.{eqb-true, eqb-false, ne_eqb}
+use Rattle.std.proofs.lemmas.Bool.{eqb-true, eqb-false}
 use Rattle.lrc_code.specs.declared.numbers.NodeNo.{NodeNo}
 use Rattle.lrc_code.specs.Numbers.{same_node}
 use Rattle.lrc_topology.specs.declared.NodeInfo.{NodeInfo}
@@ -20,13 +20,13 @@ use Rattle.lrc_book.specs.declared.store.Store.{Store}
 use Rattle.lrc_book.specs.declared.modes.Modes.{Modes}
 use Rattle.lrc_rules.specs.Goodness.{AreSeated}
 use Rattle.lrc_book.specs.Stores.{IsOf, IsOfBut, StaysAsItWas, AreModesOf, kept_table, stored_of}
-use Rattle.lrc_rules.specs.States.{State, held_by, has_number, mode_of, is_active, is_draining, is_gone, is_down, is_online, takes_seats, online_at, drains_at}
-use Rattle.lrc_rules.specs.Steps.{with_gone, with_down, without_down, with_draining as with_draining_node, without_draining, without_gone, without_upgrading}
+use Rattle.lrc_rules.specs.States.{State, held_by, mode_of, is_active, is_draining, is_gone, is_down, is_online, takes_seats, online_at, drains_at}
+use Rattle.lrc_rules.specs.Steps.{without_upgrading}
 use Rattle.lrc_rules.specs.declared.mode.Mode.{Mode}
 use Rattle.lrc_rules.specs.declared.mode.Mode.TheVariants.{Active, Draining, Gone}
 use Rattle.lrc_rules.proofs.NodeLemmas.{member-node_at}
 use Rattle.lrc_book.proofs.StoredLemmas.{same_modes, same_lists, own-spare}
-use Rattle.lrc_rules.proofs.ModeListLemmas.{added-apart, left-apart}
+use Rattle.lrc_rules.proofs.NodeCommandLemmas.{IsAsItWas}
 use Rattle.lrc_slots.specs.Tables as slots
 use Rattle.lrc_stripes.specs.Tables as tables
 
@@ -130,7 +130,7 @@ module _ (node : NodeNo) (was st : State) (k : Store) (behind : IsOfBut node was
 
 -- what is kept of a state is behind of one in which a node's mode was changed
 pub behind-of : (was st : State) (node : NodeNo) (k : Store) (modes : Modes) → IsOf was k → AreSeated k.topology st → IsSome (node_at k.topology node)
-    → record was { gone = st.gone; draining = st.draining; down = st.down; upgrading = st.upgrading } ≡ st
+    → record was { gone = st.gone; draining = st.draining; down = st.down } ≡ st
     → ((n : NodeInfo) → n.number ≢ node → StaysAsItWas was st n) → AreModesOf st modes → IsOfBut node was st (record k { modes = modes })
 behind-of was st node k modes kept seated there same others told = record {
   known = kept.known;
@@ -148,39 +148,10 @@ behind-of was st node k modes kept seated there same others told = record {
   clock_is = kept.clock_is ∙ ap (λ (x : State). x.clock) same;
 }
 
--- ---- the other nodes
-
-module _ (st : State) (node : NodeNo) where
-  abbrev Stays : List NodeNo → List NodeNo → Type 0
-  Stays before after = (m : NodeNo) → eqb node.value m.value ≡ false → has_number after m ≡ has_number before m
-
-  others-by : (gone draining down : List NodeNo) → Stays st.gone gone → Stays st.draining draining → Stays st.down down
-      → (n : NodeInfo) → n.number ≢ node → StaysAsItWas st (record st { gone = gone; draining = draining; down = down }) n
-  others-by gone draining down same_gone same_draining same_down n other =
-      let apart = ne_eqb node.value n.number.value (λ e. other (ap (λ (v : ℕ). record { value = v }) (sym e))) in
-      let g = same_gone n.number apart in
-      let w = same_draining n.number apart in
-      let d = same_down n.number apart in record {
-        takes = rw (g, w, d) refl;
-        online = rw (g, w, d) refl;
-        drains = rw (g, w) refl;
-      }
-
-  pub others-gone : (n : NodeInfo) → n.number ≢ node → StaysAsItWas st (with_gone st node) n
-  others-gone = others-by (with_gone st node).gone (with_gone st node).draining (with_gone st node).down (added-apart st.gone node)
-      (left-apart st.draining node) (left-apart st.down node)
-
-  pub others-down : (n : NodeInfo) → n.number ≢ node → StaysAsItWas st (with_down st node) n
-  others-down = others-by st.gone st.draining (with_down st node).down (λ m apart. refl) (λ m apart. refl) (added-apart st.down node)
-
-  pub others-up : (n : NodeInfo) → n.number ≢ node → StaysAsItWas st (without_down st node) n
-  others-up = others-by st.gone st.draining (without_down st node).down (λ m apart. refl) (λ m apart. refl) (left-apart st.down node)
-
-  pub others-drain : (n : NodeInfo) → n.number ≢ node → StaysAsItWas st (with_draining_node st node) n
-  others-drain = others-by st.gone (with_draining_node st node).draining st.down (λ m apart. refl) (added-apart st.draining node) (λ m apart. refl)
-
-  pub others-undrain : (n : NodeInfo) → n.number ≢ node → StaysAsItWas st (without_draining st node) n
-  others-undrain = others-by st.gone (without_draining st node).draining st.down (λ m apart. refl) (left-apart st.draining node) (λ m apart. refl)
-
-  pub others-joined : (n : NodeInfo) → n.number ≢ node → StaysAsItWas st (without_gone st node) n
-  others-joined = others-by (without_gone st node).gone st.draining st.down (left-apart st.gone node) (λ m apart. refl) (λ m apart. refl)
+-- a node that is in the same lists stays as it was
+pub stays-by : (was st : State) (n : NodeInfo) → IsAsItWas was n.number st → was.upgrading ≡ st.upgrading → StaysAsItWas was st n
+stays-by was st n same upgrading = record {
+  takes = rw (same.gone, same.draining, same.down) refl;
+  online = rw (same.gone, same.draining, same.down, upgrading) refl;
+  drains = rw (same.gone, same.draining) refl;
+}

@@ -15,7 +15,6 @@ pub mod Neighbouring
 pub mod Planning
 pub mod Repairing
 pub mod Reports
-pub mod NodeCommands
 pub mod Books
 pub mod Dropping
 pub mod Answers

@@ -1,26 +1,14 @@
 ghost use Rattle.std.specs.Prelude.{◌≡◌, IfOk};
 ghost use Rattle.lrc_rules.specs.States.{State, opening, mode_of, is_down, is_online};
-ghost use Rattle.lrc_rules.specs.Steps.{with_gone, with_upgrading, without_upgrading};
-ghost use Rattle.lrc_book.specs.NodeCommands.{is_wrong_on, with_mode};
+ghost use Rattle.lrc_rules.specs.Steps.{is_wrong_on, with_mode, with_gone, with_upgrading, without_upgrading};
 ghost use Rattle.lrc_book.specs.Stores.{AreModesOf};
 
 use crate::Mode;
 use crate::node_set::NodeSet;
 use lrc_code::{NodeNo, UpgradeNo};
+use lrc_rules::NodeCommand;
 use lrc_topology::NodeInfo;
 use std::alloc::{AllocError, Global};
-
-/// A command on a node.
-#[derive(Clone, Copy)]
-pub(crate) enum NodeCommand {
-    Fail,
-    Down,
-    Up,
-    Drain,
-    Undrain,
-    Retire,
-    Join,
-}
 
 /// The modes of the nodes, which of them are down, and which upgrade domain is upgrading.
 #[derive(Drop)]

@@ -15,12 +15,12 @@ ghost use Rattle.lrc_book.specs.Repairing.{IsRepairCursor, HasRepairCursor, IsKe
 
 use crate::answer::{Answer, NO_SEAT};
 use crate::commands::leases::count_grant;
-use crate::modes::NodeCommand;
 use crate::plan::Plan;
 use crate::store::Store;
 use crate::{Book, Command, Entry, Record, Reply, Seat};
 use lrc_code::{Code, FRAGMENTS, Fault, NARROW_FRAGMENTS, SessionNo, StripeNo};
 use lrc_leases::Grants;
+use lrc_rules::NodeCommand;
 use std::alloc::{AllocError, Global};
 
 impl Book {

@@ -11,13 +11,15 @@ use Rattle.lrc_topology.specs.declared.NodeInfo.{NodeInfo}
 use Rattle.lrc_topology.specs.declared.seat.Held.{Held}
 use Rattle.lrc_terms.specs.declared.lease.Lease.{Lease as LeaseRecord}
 use Rattle.lrc_terms.specs.Leased.{is_target_on}
+use Rattle.lrc_rules.specs.declared.node_command.NodeCommand.TheVariants.{Fail}
 use Rattle.lrc_rules.specs.declared.reply.Reply.TheVariants.{Changed}
 use Rattle.lrc_rules.specs.declared.refusal.Refusal.TheVariants as refusal
 use Rattle.lrc_topology.specs.Nodes.{node_at}
 use Rattle.lrc_rules.specs.States.{State, is_home_of, mode_of, is_gone}
-use Rattle.lrc_rules.specs.Steps.{stands_on, hangs_on, emptied, with_gone, fail_outcome}
+use Rattle.lrc_rules.specs.Steps.{stands_on, hangs_on, emptied, changed_on, node_outcome}
 use Rattle.lrc_rules.proofs.MemberLemmas.{filter-member, member-filter, list_any-member, member-list_any}
-use Rattle.lrc_rules.proofs.NodeWordsLemmas.{fail-is, left-by, none-is, is-none}
+use Rattle.lrc_rules.proofs.NodeCommandLemmas.{after-node}
+use Rattle.lrc_rules.proofs.NodeWordsLemmas.{none-is, is-none}
 use Rattle.lrc_rules.proofs.OutcomeLemmas.{either-way}
 
 module _ (st : State) (n : NodeNo) where
@@ -83,21 +85,20 @@ module _ (st : State) (n : NodeNo) where
   -- ---- the step
 
   module _ (nodes : List NodeInfo) where
-    pub failed-homes : (h : Held) → (fail_outcome nodes st n).0 ≡ Changed
-        → Contains (fail_outcome nodes st n).1.homes h ↔ (Contains st.homes h × (h.seat.node ≢ n))
+    pub failed-homes : (h : Held) → (node_outcome nodes st Fail n).0 ≡ Changed
+        → Contains (node_outcome nodes st Fail n).1.homes h ↔ (Contains st.homes h × (h.seat.node ≢ n))
     failed-homes h =
-        left-by nodes st n (is_gone (mode_of st n)) (with_gone (emptied st n) n) (fail_outcome nodes st n) (fail-is nodes st n)
-        (λ (next : State). Contains next.homes h ↔ (Contains st.homes h × (h.seat.node ≢ n))) (λ right. homes-left h)
+        after-node nodes st Fail n (λ (next : State). Contains next.homes h ↔ (Contains st.homes h × (h.seat.node ≢ n))) (λ allowed. homes-left h)
 
-    pub failed-leases : (l : LeaseRecord) → (fail_outcome nodes st n).0 ≡ Changed
-        → Contains (fail_outcome nodes st n).1.leases l ↔ (Contains st.leases l × (l.target.node ≢ n) × NoHomeOf l)
+    pub failed-leases : (l : LeaseRecord) → (node_outcome nodes st Fail n).0 ≡ Changed
+        → Contains (node_outcome nodes st Fail n).1.leases l ↔ (Contains st.leases l × (l.target.node ≢ n) × NoHomeOf l)
     failed-leases l =
-        left-by nodes st n (is_gone (mode_of st n)) (with_gone (emptied st n) n) (fail_outcome nodes st n) (fail-is nodes st n)
-        (λ (next : State). Contains next.leases l ↔ (Contains st.leases l × (l.target.node ≢ n) × NoHomeOf l)) (λ right. leases-left l)
+        after-node nodes st Fail n (λ (next : State). Contains next.leases l ↔ (Contains st.leases l × (l.target.node ≢ n) × NoHomeOf l))
+        (λ allowed. leases-left l)
 
-    pub failed-stripes : (fail_outcome nodes st n).1.stripes ≡ st.stripes
-    unfolding fail_outcome
+    pub failed-stripes : (node_outcome nodes st Fail n).1.stripes ≡ st.stripes
+    unfolding node_outcome
     failed-stripes =
         let Keeps : State → Type 0 = λ next. next.stripes ≡ st.stripes in
         either-way Keeps (is_none (node_at nodes n)) refusal.UnknownNode st _ refl
-        (λ known. either-way Keeps (is_gone (mode_of st n)) refusal.WrongMode st (Changed, with_gone (emptied st n) n) refl (λ right. refl))
+        (λ known. either-way Keeps (is_gone (mode_of st n)) refusal.WrongMode st (Changed, changed_on Fail st n) refl (λ right. refl))

@@ -10,25 +10,27 @@ use Rattle.lrc_code.specs.Numbers.{same_node}
 use Rattle.lrc_code.proofs.NumbersLemmas.{equal_nodes}
 use Rattle.lrc_topology.specs.declared.NodeInfo.{NodeInfo}
 use Rattle.lrc_topology.specs.declared.seat.Seat.{Seat}
-use Rattle.lrc_topology.specs.Nodes.{AreNodes, node_at}
+use Rattle.lrc_topology.specs.Nodes.{AreNodes}
 use Rattle.lrc_terms.specs.declared.lease.Lease.{Lease as LeaseRecord}
 use Rattle.lrc_rules.specs.declared.mode.Mode.TheVariants.{Active, Draining}
 use Rattle.lrc_rules.specs.declared.command.Command.{Command}
-use Rattle.lrc_rules.specs.declared.command.Command.TheVariants.{Done, Fail, Drain, Undrain, Retire, Join}
+use Rattle.lrc_rules.specs.declared.command.Command.TheVariants.{Done}
+use Rattle.lrc_rules.specs.declared.node_command.NodeCommand.{NodeCommand}
+use Rattle.lrc_rules.specs.declared.node_command.NodeCommand.TheVariants as command
 use Rattle.lrc_rules.specs.declared.reply.Reply.{Reply}
 use Rattle.lrc_rules.specs.declared.reply.Reply.TheVariants.{Idle, Ended, Changed}
 use Rattle.lrc_rules.specs.declared.entry.Entry.{Entry}
 use Rattle.lrc_rules.specs.States.{State, lease_of, has_number, mode_of, is_active, is_gone, is_down, taken_seats}
-use Rattle.lrc_rules.specs.Steps.{with_gone, with_draining, without_draining, without_gone, drain_outcome, join_outcome, step}
-use Rattle.lrc_rules.specs.Changes.{with_done, changed_by}
+use Rattle.lrc_rules.specs.Steps.{with_gone, with_draining, without_draining, without_gone, is_wrong_on, changed_on, node_outcome, node_command, step}
+use Rattle.lrc_rules.specs.Changes.{with_done, changed_at, changed_by}
 use Rattle.lrc_rules.specs.Histories.{World, IsLegal, first_world, next_world, state_after}
 use Rattle.lrc_rules.specs.Goodness.{AreSeated}
 use Rattle.lrc_rules.proofs.MemberLemmas.{list_any-member, member-list_any, All-members}
 use Rattle.lrc_rules.proofs.StepLemmas.{step-changed}
-use Rattle.lrc_rules.proofs.ToldLemmas.{node-by}
+use Rattle.lrc_rules.proofs.NodeCommandLemmas.{step-allowed, after-node}
 use Rattle.lrc_rules.proofs.SeatedLemmas.{seat-present, down-present}
 use Rattle.lrc_rules.proofs.GoodLemmas.{state_after-good}
-use Rattle.lrc_rules.proofs.NodeWordsLemmas.{gone-mode, active-mode, flips-false, active-there, gone-there, joined-here, left-by, join-is}
+use Rattle.lrc_rules.proofs.NodeWordsLemmas.{gone-mode, active-mode, flips-false, active-there, gone-there, joined-here}
 use Rattle.lrc_rules.proofs.ModeListLemmas.{left-apart, added-apart, left}
 
 -- ---- no node is both gone and draining
@@ -74,28 +76,32 @@ module _ (st : State) (apart : NoneBoth st) where
   joined-apart n m gone =
       apart m (part-of (not (eqb n.value m.value)) (has_number st.gone m) (sym (left st.gone n m (eqb n.value m.value) refl) ∙ gone))
 
-  -- given that only a node that is not gone begins to drain
-  changed-apart : (c : Command) (r : Reply) → ((n : NodeNo) → c ≡ Drain n → r ≡ Changed → has_number st.gone n ≡ false) → NoneBoth (changed_by st c r)
-  changed-apart (Done s f e) Ended here = done-apart s f (lease_of st s f)
-  changed-apart (Fail n) Changed here = gone-apart n
-  changed-apart (Retire n) Changed here = gone-apart n
-  changed-apart (Drain n) Changed here = drained-apart n (here n refl refl)
-  changed-apart (Undrain n) Changed here = undrained-apart n
-  changed-apart (Join n) Changed here = joined-apart n
-  changed-apart _ Idle here = apart
-  changed-apart _ _ here = apart
+  drains-here : (n : NodeNo) → not (is_active (mode_of st n)) ≡ false → has_number st.gone n ≡ false
+  drains-here n right =
+      active-there (has_number st.gone n) (has_number st.draining n) (active-mode (mode_of st n) (flips-false (is_active (mode_of st n)) right))
+
+  -- only a node that is not gone begins to drain
+  command-both : (command : NodeCommand) (n : NodeNo) → is_wrong_on command st n ≡ false → NoneBoth (changed_on command st n)
+  command-both command.Fail n right = gone-apart n
+  command-both command.Retire n right = gone-apart n
+  command-both command.Drain n right = drained-apart n (drains-here n right)
+  command-both command.Undrain n right = undrained-apart n
+  command-both command.Join n right = joined-apart n
+  command-both _ n right = apart
 
   module _ (nodes : List NodeInfo) (past : List Entry) (session : SessionNo) where
-    drained-here : (n : NodeNo) → (drain_outcome nodes st n).0 ≡ Changed → has_number st.gone n ≡ false
-    unfolding drain_outcome
-    drained-here n told =
-        active-there (has_number st.gone n) (has_number st.draining n)
-        (active-mode (mode_of st n) (flips-false (is_active (mode_of st n)) (node-by st _ (node_at nodes n) (not (is_active (mode_of st n))) told).1))
+    node-both : (c : Command) (on : Option (NodeCommand × NodeNo)) → node_command c ≡ on → (step nodes past st session c).0 ≡ Changed → NoneBoth (changed_at st on)
+    node-both c None is told = apart
+    node-both c (Some on) is told = command-both on.0 on.1 (step-allowed nodes past st session c on is told).right
+
+    changed-both : (c : Command) (r : Reply) → (step nodes past st session c).0 ≡ r → NoneBoth (changed_by st c r)
+    changed-both (Done s f e) Ended told = done-apart s f (lease_of st s f)
+    changed-both c Changed told = node-both c (node_command c) refl told
+    changed-both _ Idle told = apart
+    changed-both _ _ told = apart
 
     step-apart : (c : Command) → NoneBoth (step nodes past st session c).1
-    step-apart c =
-        subst NoneBoth (sym (step-changed nodes past st session c)) (changed-apart c (step nodes past st session c).0 (λ n is told.
-        drained-here n (subst (λ (d : Command). (step nodes past st session d).0 ≡ Changed) is told)))
+    step-apart c = subst NoneBoth (sym (step-changed nodes past st session c)) (changed-both c (step nodes past st session c).0 refl)
 
 worlds-apart : (nodes : List NodeInfo) (w : World) (history : List Entry) → NoneBoth w.state → NoneBoth (fold (next_world nodes) w history).state
 worlds-apart nodes w [] apart = apart
@@ -144,9 +150,9 @@ module _ (nodes : List NodeInfo) (st : State) (n : NodeNo) (seated : AreSeated n
   }
 
 pub joined-after : (nodes : List NodeInfo) (history : List Entry) (n : NodeNo) → AreNodes nodes → IsLegal nodes history
-    → (join_outcome nodes (state_after nodes history) n).0 ≡ Changed → IsJoined n (join_outcome nodes (state_after nodes history) n).1
+    → (node_outcome nodes (state_after nodes history) command.Join n).0 ≡ Changed → IsJoined n (node_outcome nodes (state_after nodes history) command.Join n).1
 joined-after nodes history n known legal told =
     let st = state_after nodes history in
-    left-by nodes st n (not (is_gone (mode_of st n))) (without_gone st n) (join_outcome nodes st n) (join-is nodes st n) (IsJoined n) (λ right.
+    after-node nodes st command.Join n (IsJoined n) (λ allowed.
     joined-state nodes st n (state_after-good nodes known history legal).seated (state_after-apart nodes history)
-    (gone-there (has_number st.gone n) (has_number st.draining n) (gone-mode (mode_of st n) (flips-false (is_gone (mode_of st n)) right)))) told
+    (gone-there (has_number st.gone n) (has_number st.draining n) (gone-mode (mode_of st n) (flips-false (is_gone (mode_of st n)) allowed.right)))) told

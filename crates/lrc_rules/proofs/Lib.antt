@@ -11,6 +11,7 @@ pub mod OutcomeLemmas
 pub mod LeaseGoodLemmas
 pub mod LeaseStepLemmas
 pub mod SeatedLemmas
+pub mod NodeCommandLemmas
 pub mod StepSeatedLemmas
 pub mod LeaseCountLemmas
 pub mod GoodLemmas

@@ -1,5 +1,5 @@
--- When a command on a node gets each reply, and what holds for the node after it.
-use Rattle.std.proofs.Common.{◌≡◌, ◌≢◌, ◌||◌, Bool, true, false, not, if◌then◌else◌, List, Option, Some, None, IsSome, is_none, refl, sym, ap, ◌∙◌, subst}
+-- Modes by their tests, and what holds for a node after a command on it.
+use Rattle.std.proofs.Common.{◌≡◌, ◌≢◌, ◌||◌, Bool, true, false, not, if◌then◌else◌, List, refl, sym, ap, ◌∙◌}
 use Rattle.std.specs.List.{All}
 use Rattle.std.proofs.lemmas.Bool.{eq-eqb, eqb-false}
 use Rattle.std.proofs.lemmas.List.Elements.{All-weaker}
@@ -7,19 +7,13 @@ use Rattle.lrc_code.specs.declared.numbers.NodeNo.{NodeNo}
 use Rattle.lrc_code.specs.Numbers.{same_node}
 use Rattle.lrc_topology.specs.declared.NodeInfo.{NodeInfo}
 use Rattle.lrc_topology.specs.declared.seat.Seat.{Seat}
-use Rattle.lrc_topology.specs.Nodes.{node_at}
 use Rattle.lrc_rules.specs.declared.mode.Mode.{Mode}
 use Rattle.lrc_rules.specs.declared.mode.Mode.TheVariants.{Active, Draining, Gone}
-use Rattle.lrc_rules.specs.declared.reply.Reply.{Reply}
-use Rattle.lrc_rules.specs.declared.reply.Reply.TheVariants.{Changed, Refused}
-use Rattle.lrc_rules.specs.Outcomes.{Outcome, refuse_if}
-use Rattle.lrc_rules.specs.States.{State, has_number, without_number, mode_of, is_active, is_draining, is_gone, is_down, taken_seats}
-use Rattle.lrc_rules.specs.Steps.{node_outcome, emptied, with_gone, without_down, without_draining, without_gone, fail_outcome, up_outcome, undrain_outcome, join_outcome}
-use Rattle.lrc_rules.proofs.GrantingLemmas.{passed}
+use Rattle.lrc_rules.specs.States.{State, has_number, without_number, mode_of, is_active, is_gone, is_down, taken_seats}
+use Rattle.lrc_rules.specs.Steps.{emptied, with_gone, without_draining, without_gone}
 use Rattle.lrc_rules.proofs.RetiredLemmas.{gone-now}
 use Rattle.lrc_rules.proofs.SeatedLemmas.{emptied-apart}
 use Rattle.lrc_rules.proofs.ModeListLemmas.{left}
-use Rattle.lrc_rules.specs.declared.refusal.Refusal.TheVariants as refusal
 
 -- ---- modes and their tests
 
@@ -61,64 +55,6 @@ none-is true b e = absurd (cc)
 pub is-none : (a b : Bool) → a ≡ false → b ≡ false → (a || b) ≡ false
 is-none false b x y = y
 is-none true b x y = absurd (cc)
-
--- ---- when Down is allowed
-
-module _ (nodes : List NodeInfo) (st : State) (n : NodeNo) (wrong : Bool) (next : State) (o : Outcome)
-    (is : o ≡ node_outcome nodes st n wrong next) where
-  -- what each reply means
-  abbrev Says : Reply → Type 0
-  Says Changed = IsSome (node_at nodes n) × (wrong ≡ false)
-  Says (Refused refusal.UnknownNode) = node_at nodes n ≡ None
-  Says (Refused refusal.WrongMode) = IsSome (node_at nodes n) × (wrong ≡ true)
-  Says _ = ⊥
-
-  abbrev after_node : Outcome
-  after_node = refuse_if wrong refusal.WrongMode st (Changed, next)
-
-  by-mode : IsSome (node_at nodes n) → (b : Bool) → wrong ≡ b → Says (refuse_if b refusal.WrongMode st (Changed, next)).0
-  by-mode known true e = (known, e)
-  by-mode known false e = (known, e)
-
-  by-node : (k : Option NodeInfo) → node_at nodes n ≡ k → Says (refuse_if (is_none k) refusal.UnknownNode st after_node).0
-  by-node None e = e
-  by-node (Some m) e = by-mode (subst IsSome (sym e) refl) wrong refl
-
-  told : (r : Reply) → o.0 ≡ r → Says r
-  told r e = subst Says (sym (ap (λ (x : Outcome). x.0) is) ∙ e) (by-node (node_at nodes n) refl)
-
-  known-some : (k : Option NodeInfo) → IsSome k → is_none k ≡ false
-  known-some (Some m) known = refl
-  known-some None known = absurd (cc)
-
-  answer-known : IsSome (node_at nodes n) → o ≡ after_node
-  answer-known known = is ∙ passed (is_none (node_at nodes n)) refusal.UnknownNode st after_node (known-some (node_at nodes n) known)
-
-  tell-changed : Says Changed → o ≡ (Changed, next)
-  tell-changed so = answer-known so.0 ∙ passed wrong refusal.WrongMode st (Changed, next) so.1
-
-  -- if the command is done, the state after it is this one
-  pub left-by : (P : State → Type 0) → (wrong ≡ false → P next) → o.0 ≡ Changed → P o.1
-  left-by P so e = let says = told Changed e in subst P (sym (ap (λ (x : Outcome). x.1) (tell-changed says))) (so says.1)
-
--- ---- each command follows the pattern of commands on nodes
-
-module _ (nodes : List NodeInfo) (st : State) (n : NodeNo) where
-  pub fail-is : fail_outcome nodes st n ≡ node_outcome nodes st n (is_gone (mode_of st n)) (with_gone (emptied st n) n)
-  unfolding fail_outcome
-  fail-is = refl
-
-  pub up-is : up_outcome nodes st n ≡ node_outcome nodes st n (not (is_down st n)) (without_down st n)
-  unfolding up_outcome
-  up-is = refl
-
-  pub undrain-is : undrain_outcome nodes st n ≡ node_outcome nodes st n (not (is_draining (mode_of st n))) (without_draining st n)
-  unfolding undrain_outcome
-  undrain-is = refl
-
-  pub join-is : join_outcome nodes st n ≡ node_outcome nodes st n (not (is_gone (mode_of st n))) (without_gone st n)
-  unfolding join_outcome
-  join-is = refl
 
 -- ---- what holds for the node after it
 

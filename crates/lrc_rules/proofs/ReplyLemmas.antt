@@ -1,5 +1,5 @@
 -- Which kinds of replies a command can get.
-use Rattle.std.proofs.Common.{◌≡◌, Bool, true, false, not, nat_lt, is_none, List, Option, Some, None, Result, Ok, Err, ℕ, refl}
+use Rattle.std.proofs.Common.{◌≡◌, Bool, true, false, not, is_none, List, Option, Some, None, Result, Ok, Err, ℕ, refl}
 use Rattle.lrc_code.specs.declared.codes.Code.{Code}
 use Rattle.lrc_code.specs.declared.codes.Code.TheVariants.{Wide, Narrow}
 use Rattle.lrc_code.specs.declared.numbers.StripeNo.{StripeNo}
@@ -13,18 +13,19 @@ use Rattle.lrc_topology.specs.Nodes.{node_at, has_domain}
 use Rattle.lrc_terms.specs.Stripes.{StripeFragment}
 use Rattle.lrc_terms.specs.declared.lease.Lease.{Lease as LeaseRecord}
 use Rattle.lrc_rules.specs.declared.command.Command.{Command}
-use Rattle.lrc_rules.specs.declared.command.Command.TheVariants.{Place, Place6, Drop, Lease, Next, Done, Abandon, Revoke, Fail, Down, Up, Drain, Undrain, Retire, Join, Upgrade, Upgraded, Tick}
+use Rattle.lrc_rules.specs.declared.command.Command.TheVariants.{Place, Place6, Drop, Lease, Next, Done, Abandon, Revoke, Upgrade, Upgraded, Tick}
+use Rattle.lrc_rules.specs.declared.node_command.NodeCommand.{NodeCommand}
 use Rattle.lrc_rules.specs.declared.reply.Reply.TheVariants.{Dropped, Ended, Changed}
 use Rattle.lrc_rules.specs.declared.refusal.Refusal.{Refusal}
 use Rattle.lrc_rules.specs.declared.refusal.Refusal.TheVariants as refusal
 use Rattle.lrc_rules.specs.declared.entry.Entry.{Entry}
-use Rattle.lrc_rules.specs.States.{State, has_stripe, lease_of, mode_of, is_draining, load, online_at}
+use Rattle.lrc_rules.specs.States.{State, has_stripe, lease_of, load, online_at}
 use Rattle.lrc_rules.specs.Urgency.{next_of}
 use Rattle.lrc_rules.specs.Repairs.{needs, is_beyond_repair}
 use Rattle.lrc_rules.specs.Placement.{chosen, placed}
 use Rattle.lrc_rules.specs.Outcomes.{Outcome, refuse_if}
 use Rattle.lrc_rules.specs.Leases.{tick_outcome, granted, lease_answer, lease_outcome, next_answer, next_outcome, without_lease, at_epoch, is_held_by, moved_in, done_answer, done_outcome, abandon_answer, abandon_outcome, revoke_outcome}
-use Rattle.lrc_rules.specs.Steps.{with_stripe, place_command, place_answer, place_outcome, without_stripe, drop_outcome, node_outcome, with_gone, fail_outcome, down_outcome, up_outcome, drain_outcome, undrain_outcome, retire_outcome, join_outcome, without_upgrading, would_lose, upgrade_answer, upgrade_outcome, is_the_domain, upgraded_outcome, step}
+use Rattle.lrc_rules.specs.Steps.{with_stripe, place_command, place_answer, place_outcome, without_stripe, drop_outcome, is_wrong_on, changed_on, is_kept_by_load, node_outcome, without_upgrading, would_lose, upgrade_answer, upgrade_outcome, is_the_domain, upgraded_outcome, step}
 use Rattle.lrc_rules.specs.Changes.{asks_for_lease, can_get}
 
 abbrev Gets : Command → Outcome → Type 0
@@ -48,17 +49,13 @@ gets-drop : (st : State) (s : StripeNo) → Gets (Drop s) (drop_outcome st s)
 unfolding drop_outcome
 gets-drop st s = gets-if (Drop s) (not (has_stripe st s)) refusal.UnknownStripe st (Dropped, without_stripe st s) refl
 
-gets-node : (c : Command) (nodes : List NodeInfo) (st : State) (n : NodeNo) (wrong : Bool) (changed : State) → can_get c Changed ≡ true
-    → Gets c (node_outcome nodes st n wrong changed)
-gets-node c nodes st n wrong changed can =
-    gets-if c (is_none (node_at nodes n)) refusal.UnknownNode st _ (gets-if c wrong refusal.WrongMode st (Changed, changed) can)
-
-gets-retire : (nodes : List NodeInfo) (st : State) (n : NodeNo) → Gets (Retire n) (retire_outcome nodes st n)
-unfolding retire_outcome
-gets-retire nodes st n =
-    gets-if (Retire n) (is_none (node_at nodes n)) refusal.UnknownNode st _
-    (gets-if (Retire n) (not (is_draining (mode_of st n))) refusal.WrongMode st _
-    (gets-if (Retire n) (nat_lt 0 (load st n)) (refusal.NotEmpty (load st n)) st (Changed, with_gone st n) refl))
+gets-node : (nodes : List NodeInfo) (st : State) (command : NodeCommand) (n : NodeNo) (c : Command) → can_get c Changed ≡ true
+    → Gets c (node_outcome nodes st command n)
+unfolding node_outcome
+gets-node nodes st command n c can =
+    gets-if c (is_none (node_at nodes n)) refusal.UnknownNode st _
+    (gets-if c (is_wrong_on command st n) refusal.WrongMode st _
+    (gets-if c (is_kept_by_load command st n) (refusal.NotEmpty (load st n)) st (Changed, changed_on command st n) can))
 
 module _ (nodes : List NodeInfo) (past : List Entry) (st : State) (session : SessionNo) where
   gets-lease : (c : Command) (s : StripeNo) (f : Fragment) → asks_for_lease c ≡ true → Gets c (lease_outcome nodes past st session s f)
@@ -119,7 +116,7 @@ module _ (nodes : List NodeInfo) (past : List Entry) (st : State) (session : Ses
 
   -- the reply to a command is of a kind that it can get
   pub step-gets : (c : Command) → Gets c (step nodes past st session c)
-  unfolding fail_outcome down_outcome up_outcome drain_outcome undrain_outcome join_outcome tick_outcome
+  unfolding tick_outcome
   step-gets (Place s) = gets-place nodes st Wide s
   step-gets (Place6 s) = gets-place nodes st Narrow s
   step-gets (Drop s) = gets-drop st s
@@ -128,13 +125,7 @@ module _ (nodes : List NodeInfo) (past : List Entry) (st : State) (session : Ses
   step-gets (Done s f e) = gets-done s f e
   step-gets (Abandon s f e) = gets-abandon s f e
   step-gets (Revoke s f) = gets-revoke s f
-  step-gets (Fail n) = gets-node (Fail n) nodes st n _ _ refl
-  step-gets (Down n) = gets-node (Down n) nodes st n _ _ refl
-  step-gets (Up n) = gets-node (Up n) nodes st n _ _ refl
-  step-gets (Drain n) = gets-node (Drain n) nodes st n _ _ refl
-  step-gets (Undrain n) = gets-node (Undrain n) nodes st n _ _ refl
-  step-gets (Retire n) = gets-retire nodes st n
-  step-gets (Join n) = gets-node (Join n) nodes st n _ _ refl
   step-gets (Upgrade u) = gets-upgrade u
   step-gets (Upgraded u) = gets-upgraded u
   step-gets Tick = refl
+  step-gets c = gets-node nodes st _ _ c refl

@@ -325,11 +325,6 @@ module _ (nodes : List NodeInfo) (st : State) (n : NodeNo) where
       (λ seat here. fewer-numbers st.gone n seat.node (seat-present seated seat here))
       (λ m here. fewer-numbers st.gone n m (down-present seated m here))
 
-module _ (nodes : List NodeInfo) (st : State) (n : NodeNo) where
-  -- a node is gone, with the seats on it
-  pub with_gone-emptied : AreSeated nodes st → AreSeated nodes (with_gone (emptied st n) n)
-  with_gone-emptied seated = with_gone-seated nodes (emptied st n) n (emptied-seated nodes st n seated) (emptied-load nodes st n)
-
 module _ (nodes : List NodeInfo) (st : State) where
   -- an upgrade domain is upgrading, or none is
   pub upgrading-seated : (upgrading : Option UpgradeNo) → AreSeated nodes st → AreSeated nodes (record st { upgrading = upgrading })

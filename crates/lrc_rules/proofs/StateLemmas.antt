@@ -1,29 +1,26 @@
 -- Stripes, homes, leases, loads, and homeless and missing fragments in terms of the state's lists; and the empty
 -- store.
-use Rattle.std.proofs.Common.{◌≡◌, ◌≢◌, ◌⊎◌, inl, inr, ℕ, ◌+◌, ◌<◌, ◌≤◌, Bool, true, false, not, eqb, List, Option, Some, None, option_map, is_none, IsSome, refl, sym, ap, ap₂, ◌∙◌, subst}
-use Rattle.std.specs.List.{AllPairs, Contains, count_by}
+use Rattle.std.proofs.Common.{◌≡◌, ◌≢◌, ◌⊎◌, inl, inr, ℕ, ◌<◌, ◌≤◌, Bool, true, false, not, eqb, List, Option, Some, None, option_map, is_none, refl, sym, ap, ap₂, ◌∙◌, subst}
+use Rattle.std.specs.List.{AllPairs, Contains}
 use Rattle.std.specs.Option.{option_map_or}
 use Rattle.std.proofs.lemmas.Bool.{and_parts, and_from, and_left, false_from_ne_true, eqb-true, eq-eqb, lt-ltb, ltb-true, le-ltb}
 use Rattle.std.proofs.lemmas.Option.{same_Some}
 use Rattle.lrc_code.specs.declared.numbers.StripeNo.{StripeNo}
-use Rattle.lrc_code.specs.declared.numbers.NodeNo.{NodeNo}
 use Rattle.lrc_code.specs.declared.numbers.Fragment.{Fragment}
-use Rattle.lrc_code.specs.Numbers.{same_stripe, same_node}
+use Rattle.lrc_code.specs.Numbers.{same_stripe}
 use Rattle.lrc_code.specs.Codes.{fragment_count, has_fragment}
 use Rattle.lrc_code.proofs.NumbersLemmas.{equal_stripes, equal_fragments}
 use Rattle.lrc_topology.specs.declared.NodeInfo.{NodeInfo}
 use Rattle.lrc_topology.specs.declared.seat.Seat.{Seat}
 use Rattle.lrc_topology.specs.declared.seat.Held.{Held}
-use Rattle.lrc_topology.specs.Nodes.{node_at}
 use Rattle.lrc_terms.specs.Levels.{home_of, homes_of}
 use Rattle.lrc_terms.proofs.LevelLemmas.{homeless-missing}
 use Rattle.lrc_terms.specs.declared.lease.Lease.{Lease}
 use Rattle.lrc_terms.specs.Leased.{leases_in, is_of as lease_is, AreOneEach}
 use Rattle.lrc_terms.proofs.LeaseLemmas.{find-none, is_of-from, leases_in-own, leases_in-contains, contains-leases_in}
-use Rattle.lrc_rules.specs.States.{State, opening, has_stripe, lease_of, load, is_online, online_at, code_of, homeless, missing}
+use Rattle.lrc_rules.specs.States.{State, has_stripe, lease_of, online_at, code_of, homeless, missing}
 use Rattle.lrc_rules.specs.Goodness.{AreSeated}
 use Rattle.lrc_rules.proofs.MemberLemmas.{find-member, list_any-member}
-use Rattle.lrc_rules.proofs.TakenLemmas.{load-parts, count-held, count-targets}
 use Rattle.lrc_rules.proofs.LookUpLemmas.{home-only, home-own, lease-own, stripe-there, is_of}
 
 -- ---- stripes
@@ -129,13 +126,6 @@ module _ (st : State) (s : StripeNo) (f : Fragment) where
       ap₂ (λ (r : StripeNo) (g : Fragment). leases_in st.leases r g.value) (sym stripe) (sym fragment)
       ∙ contains-leases_in st.leases l single among
 
--- ---- loads
-
--- the load of a node is the number of homes and targets on it
-pub load-counts : (st : State) (n : NodeNo)
-    → load st n ≡ count_by (λ h. same_node h.seat.node n) st.homes + count_by (λ (l : Lease). same_node l.target.node n) st.leases
-load-counts st n = load-parts st n ∙ ap₂ (λ (a b : ℕ). a + b) (count-held st.homes n) (count-targets st.leases n)
-
 -- ---- homeless and missing fragments
 
 is-none : (o : Option Seat) → is_none o ≡ true → o ≡ None
@@ -211,12 +201,3 @@ module _ (nodes : List NodeInfo) (st : State) (s : StripeNo) (f : Fragment) (sea
     ap (λ (o : Option Held). option_map (λ h. h.seat) o) (home-by (home_of st.homes s f.value) refl),
     lease-by (lease_of st s f) refl,
   )
-
--- ---- before the first entry
-
-opening-online : (o : Option NodeInfo) → IsSome o → option_map_or (is_online opening) o false ≡ true
-opening-online None there = absurd (cc)
-opening-online (Some m) there = refl
-
-pub all-online : (nodes : List NodeInfo) (n : NodeNo) → IsSome (node_at nodes n) → online_at nodes opening n ≡ true
-all-online nodes n there = opening-online (node_at nodes n) there

@@ -1,5 +1,5 @@
 -- The replies and the states after them, command by command.
-use Rattle.std.proofs.Common.{[], ◌≡◌, ℕ, Bool, true, false, not, nat_eq, nat_lt, if◌then◌else◌, ◌||◌, is_none, List, ◌∷◌, ◌++◌, length, map, drop, fold, Option, Some, None, Result, Ok, Err, refl, sym, ap, ◌∙◌, append_assoc, append-nil, arith}
+use Rattle.std.proofs.Common.{[], ◌≡◌, ℕ, Bool, true, false, not, nat_eq, if◌then◌else◌, is_none, List, ◌∷◌, ◌++◌, length, map, drop, fold, Option, Some, None, Result, Ok, Err, refl, sym, ap, ◌∙◌, append_assoc, append-nil, arith}
 use Rattle.std.specs.Option.{option_map_or}
 use Rattle.std.proofs.lemmas.List.Folds.{fold_stays}
 use Rattle.lrc_code.specs.declared.codes.Code.{Code}
@@ -16,7 +16,8 @@ use Rattle.lrc_topology.specs.declared.seat.Seat.{Seat}
 use Rattle.lrc_topology.specs.declared.seat.Held.{Held}
 use Rattle.lrc_rules.specs.Leases.{tick_outcome}
 use Rattle.lrc_rules.specs.declared.command.Command.{Command}
-use Rattle.lrc_rules.specs.declared.command.Command.TheVariants.{Place, Place6, Drop, Lease, Next, Done, Abandon, Revoke, Fail, Down, Up, Drain, Undrain, Retire, Join, Upgrade, Upgraded, Tick}
+use Rattle.lrc_rules.specs.declared.command.Command.TheVariants.{Place, Place6, Drop, Lease, Next, Done, Abandon, Revoke, Upgrade, Upgraded, Tick}
+use Rattle.lrc_rules.specs.declared.node_command.NodeCommand.{NodeCommand}
 use Rattle.lrc_rules.specs.declared.reply.Reply.TheVariants.{Dropped, Granted, Ended, Changed, Refused}
 use Rattle.lrc_rules.specs.declared.refusal.Refusal.{Refusal}
 use Rattle.lrc_rules.specs.declared.refusal.Refusal.TheVariants as refusal
@@ -27,12 +28,13 @@ use Rattle.lrc_rules.specs.Urgency.{next_of}
 use Rattle.lrc_terms.specs.Stripes.{StripeFragment}
 use Rattle.lrc_rules.specs.Repairs.{needs, kind, is_beyond_repair}
 use Rattle.lrc_rules.specs.Leases.{new_lease, with_lease, granted, lease_answer, lease_outcome, next_answer, next_outcome, at_epoch, is_held_by, moved_in, without_lease, done_answer, done_outcome, abandon_answer, abandon_outcome, revoke_outcome}
-use Rattle.lrc_rules.specs.States.{State, has_stripe, lease_of, online_at, mode_of, is_active, is_draining, is_gone, is_down, load}
+use Rattle.lrc_rules.specs.States.{State, has_stripe, lease_of, online_at, load}
 use Rattle.lrc_rules.specs.Placement.{chosen, with_home, place_next, placed}
 use Rattle.lrc_rules.specs.Outcomes.{Outcome, refuse_if}
-use Rattle.lrc_rules.specs.Steps.{with_stripe, without_stripe, placed_reply, place_command, place_answer, place_outcome, drop_outcome, with_gone, without_upgrading, fail_outcome, down_outcome, up_outcome, drain_outcome, undrain_outcome, retire_outcome, join_outcome, would_lose, upgrade_answer, upgrade_outcome, is_the_domain, upgraded_outcome, step}
+use Rattle.lrc_rules.specs.Steps.{with_stripe, without_stripe, placed_reply, place_command, place_answer, place_outcome, drop_outcome, is_wrong_on, changed_on, is_kept_by_load, node_outcome, without_upgrading, would_lose, upgrade_answer, upgrade_outcome, is_the_domain, upgraded_outcome, step}
 use Rattle.lrc_rules.specs.Choices.{AreChosen}
 use Rattle.lrc_rules.proofs.CodedLemmas.{code-own}
+use Rattle.lrc_rules.proofs.OutcomeLemmas.{node_by}
 use Rattle.lrc_rules.specs.Changes.{held_at, with_placed, with_done, changed_by}
 
 -- the placement after one more fragment, by the seat that is chosen
@@ -174,51 +176,16 @@ drop-changed : (st : State) (s : StripeNo) → (drop_outcome st s).1 ≡ changed
 unfolding drop_outcome
 drop-changed st s = drop-cases st s (has_stripe st s)
 
-node-cases : (nodes : List NodeInfo) (st changed : State) (c : Command) (known wrong : Bool) → changed_by st c Changed ≡ changed
-    → ((r : Refusal) → changed_by st c (Refused r) ≡ st)
-    → (refuse_if known refusal.UnknownNode st (refuse_if wrong refusal.WrongMode st (Changed, changed))).1
-    ≡ changed_by st c (refuse_if known refusal.UnknownNode st (refuse_if wrong refusal.WrongMode st (Changed, changed))).0
-node-cases nodes st changed c true wrong is refused = sym (refused refusal.UnknownNode)
-node-cases nodes st changed c false true is refused = sym (refused refusal.WrongMode)
-node-cases nodes st changed c false false is refused = sym is
-
-module _ (nodes : List NodeInfo) (st : State) (n : NodeNo) where
-  fail-changed : (fail_outcome nodes st n).1 ≡ changed_by st (Fail n) (fail_outcome nodes st n).0
-  unfolding fail_outcome
-  fail-changed = node-cases nodes st _ (Fail n) (is_none (node_at nodes n)) (is_gone (mode_of st n)) refl (λ r. refl)
-
-  down-changed : (down_outcome nodes st n).1 ≡ changed_by st (Down n) (down_outcome nodes st n).0
-  unfolding down_outcome
-  down-changed = node-cases nodes st _ (Down n) (is_none (node_at nodes n)) (is_gone (mode_of st n) || is_down st n) refl (λ r. refl)
-
-  up-changed : (up_outcome nodes st n).1 ≡ changed_by st (Up n) (up_outcome nodes st n).0
-  unfolding up_outcome
-  up-changed = node-cases nodes st _ (Up n) (is_none (node_at nodes n)) (not (is_down st n)) refl (λ r. refl)
-
-  drain-changed : (drain_outcome nodes st n).1 ≡ changed_by st (Drain n) (drain_outcome nodes st n).0
-  unfolding drain_outcome
-  drain-changed = node-cases nodes st _ (Drain n) (is_none (node_at nodes n)) (not (is_active (mode_of st n))) refl (λ r. refl)
-
-  undrain-changed : (undrain_outcome nodes st n).1 ≡ changed_by st (Undrain n) (undrain_outcome nodes st n).0
-  unfolding undrain_outcome
-  undrain-changed = node-cases nodes st _ (Undrain n) (is_none (node_at nodes n)) (not (is_draining (mode_of st n))) refl (λ r. refl)
-
-  retire-cases : (known wrong full : Bool) (r : Refusal)
-      → (refuse_if known refusal.UnknownNode st (refuse_if wrong refusal.WrongMode st (refuse_if full r st (Changed, with_gone st n)))).1
-      ≡ changed_by st (Retire n)
-      (refuse_if known refusal.UnknownNode st (refuse_if wrong refusal.WrongMode st (refuse_if full r st (Changed, with_gone st n)))).0
-  retire-cases true wrong full r = refl
-  retire-cases false true full r = refl
-  retire-cases false false true r = refl
-  retire-cases false false false r = refl
-
-  retire-changed : (retire_outcome nodes st n).1 ≡ changed_by st (Retire n) (retire_outcome nodes st n).0
-  unfolding retire_outcome
-  retire-changed = retire-cases (is_none (node_at nodes n)) (not (is_draining (mode_of st n))) (nat_lt 0 (load st n)) (refusal.NotEmpty (load st n))
-
-  join-changed : (join_outcome nodes st n).1 ≡ changed_by st (Join n) (join_outcome nodes st n).0
-  unfolding join_outcome
-  join-changed = node-cases nodes st _ (Join n) (is_none (node_at nodes n)) (not (is_gone (mode_of st n))) refl (λ r. refl)
+-- a command on a node
+node-changed : (nodes : List NodeInfo) (st : State) (command : NodeCommand) (n : NodeNo) (c : Command) → changed_by st c Changed ≡ changed_on command st n
+    → ((r : Refusal) → changed_by st c (Refused r) ≡ st) → (node_outcome nodes st command n).1 ≡ changed_by st c (node_outcome nodes st command n).0
+unfolding node_outcome
+node-changed nodes st command n c is refused = by (is_none (node_at nodes n)) (is_wrong_on command st n) (is_kept_by_load command st n) where
+  by : (unknown wrong kept : Bool) → (node_by st (load st n) (changed_on command st n) unknown wrong kept).1 ≡ changed_by st c (node_by st (load st n) (changed_on command st n) unknown wrong kept).0
+  by true wrong kept = sym (refused refusal.UnknownNode)
+  by false true kept = sym (refused refusal.WrongMode)
+  by false false true = sym (refused (refusal.NotEmpty (load st n)))
+  by false false false = sym is
 
 module _ (nodes : List NodeInfo) (st : State) (u : UpgradeNo) where
   upgrade-cases : (known : Bool) (upgrading : Option UpgradeNo) (lost : Option StripeNo)
@@ -369,16 +336,10 @@ step-changed nodes past st session Next = next-changed nodes past st session
 step-changed nodes past st session (Done s f e) = done-changed nodes past st session s f e
 step-changed nodes past st session (Abandon s f e) = abandon-changed nodes past st session s f e
 step-changed nodes past st session (Revoke s f) = revoke-changed nodes past st session s f
-step-changed nodes past st session (Fail n) = fail-changed nodes st n
-step-changed nodes past st session (Down n) = down-changed nodes st n
-step-changed nodes past st session (Up n) = up-changed nodes st n
-step-changed nodes past st session (Drain n) = drain-changed nodes st n
-step-changed nodes past st session (Undrain n) = undrain-changed nodes st n
-step-changed nodes past st session (Retire n) = retire-changed nodes st n
-step-changed nodes past st session (Join n) = join-changed nodes st n
 step-changed nodes past st session (Upgrade u) = upgrade-changed nodes st u
 step-changed nodes past st session (Upgraded u) = upgraded-changed nodes st u
 step-changed nodes past st session Tick = tick-changed st
+step-changed nodes past st session c = node-changed nodes st _ _ c refl (λ r. refl)
 
 -- a refused command leaves the state as it was
 refused-left : (st : State) (c : Command) (r : Refusal) → changed_by st c (Refused r) ≡ st

@@ -3,30 +3,32 @@ use Rattle.std.proofs.Common.{◌≡◌, ◌≢◌, ◌+◌, ℕ, Bool, true, fa
 use Rattle.std.specs.List.{Contains}
 use Rattle.std.proofs.lemmas.List.Elements.{All-nil}
 use Rattle.lrc_code.specs.declared.codes.Code.TheVariants.{Wide, Narrow}
+use Rattle.lrc_code.specs.declared.numbers.NodeNo.{NodeNo}
 use Rattle.lrc_code.specs.declared.numbers.StripeNo.{StripeNo}
 use Rattle.lrc_code.specs.declared.numbers.SessionNo.{SessionNo}
 use Rattle.lrc_code.specs.declared.numbers.Fragment.{Fragment}
 use Rattle.lrc_topology.specs.declared.NodeInfo.{NodeInfo}
 use Rattle.lrc_topology.specs.Nodes.{AreNodes}
 use Rattle.lrc_rules.specs.declared.command.Command.{Command}
-use Rattle.lrc_rules.specs.declared.command.Command.TheVariants.{Place, Place6, Drop, Lease, Next, Done, Abandon, Revoke, Fail, Down, Up, Drain, Undrain, Retire, Join, Upgrade, Upgraded, Tick}
+use Rattle.lrc_rules.specs.declared.command.Command.TheVariants.{Place, Place6, Drop, Lease, Next, Done, Abandon, Revoke, Upgrade, Upgraded, Tick}
+use Rattle.lrc_rules.specs.declared.node_command.NodeCommand.{NodeCommand}
 use Rattle.lrc_rules.specs.declared.reply.Reply.{Reply}
 use Rattle.lrc_rules.specs.declared.reply.Reply.TheVariants.{Dropped, Idle, Ended, Changed, Ticked}
 use Rattle.lrc_rules.specs.declared.entry.Entry.{Entry}
 use Rattle.lrc_rules.specs.declared.mode.Mode.TheVariants.{Gone}
 use Rattle.lrc_rules.specs.States.{State, opening, mode_of, lease_of}
-use Rattle.lrc_rules.specs.Steps.{step}
+use Rattle.lrc_rules.specs.Steps.{node_command, step}
 use Rattle.lrc_rules.specs.Goodness.{IsStanding, AreSeated}
 use Rattle.lrc_terms.specs.declared.lease.Lease.{Lease as LeaseRecord}
 use Rattle.lrc_terms.specs.Leased.{ends_at}
 use Rattle.lrc_rules.specs.Leases.{without_ending}
-use Rattle.lrc_rules.specs.Changes.{with_done, changed_by, asks_for_lease}
+use Rattle.lrc_rules.specs.Changes.{with_done, changed_at, changed_by, asks_for_lease}
 use Rattle.lrc_rules.proofs.SeatingLemmas.{IsWithin}
 use Rattle.lrc_rules.proofs.LeaseGoodLemmas.{leases-seated, ended-seated, moved-seated}
 use Rattle.lrc_rules.proofs.LeaseStepLemmas.{lease-seated, next-seated}
 use Rattle.lrc_rules.proofs.StepLemmas.{step-changed}
-use Rattle.lrc_rules.proofs.ToldLemmas.{down-told, retire-told}
-use Rattle.lrc_rules.proofs.SeatedLemmas.{place-seated, without-seated, with_gone-seated, with_gone-emptied, with_down-seated, without_down-seated, with_draining-seated, without_draining-seated, without_gone-seated, upgrading-seated}
+use Rattle.lrc_rules.proofs.NodeCommandLemmas.{step-allowed, command-seated}
+use Rattle.lrc_rules.proofs.SeatedLemmas.{place-seated, without-seated, upgrading-seated}
 
 -- the command places a stripe
 abbrev is_placing : Command → Bool
@@ -68,6 +70,10 @@ module _ (nodes : List NodeInfo) (known : AreNodes nodes) (past : List Entry) (s
   done-seated s f None live = seated
   done-seated s f (Some l) live = moved-seated nodes st s f l live seated
 
+  node-seated : (c : Command) (on : Option (NodeCommand × NodeNo)) → node_command c ≡ on → (step nodes past st session c).0 ≡ Changed → AreSeated nodes (changed_at st on)
+  node-seated c None is told = seated
+  node-seated c (Some on) is told = command-seated nodes st on.1 on.0 seated (step-allowed nodes past st session c on is told)
+
   -- the state after a command that neither places a stripe nor asks for a lease
   changed-seated : (c : Command) (r : Reply) → (step nodes past st session c).0 ≡ r → is_placing c ≡ false → asks_for_lease c ≡ false
       → AreSeated nodes (changed_by st c r)
@@ -79,15 +85,9 @@ module _ (nodes : List NodeInfo) (known : AreNodes nodes) (past : List Entry) (s
   changed-seated (Done s f e) Ended told other none = done-seated s f (lease_of st s f) refl
   changed-seated (Abandon s f e) Ended told other none = ended-seated nodes st s f seated
   changed-seated (Revoke s f) Ended told other none = ended-seated nodes st s f seated
-  changed-seated (Fail n) Changed told other none = with_gone-emptied nodes st n seated
-  changed-seated (Down n) Changed told other none = with_down-seated nodes st n seated (down-told nodes st n told).1
-  changed-seated (Up n) Changed told other none = without_down-seated nodes st n seated
-  changed-seated (Drain n) Changed told other none = with_draining-seated nodes st n seated
-  changed-seated (Undrain n) Changed told other none = without_draining-seated nodes st n seated
-  changed-seated (Retire n) Changed told other none = with_gone-seated nodes st n seated (retire-told nodes st n told).1
-  changed-seated (Join n) Changed told other none = without_gone-seated nodes st n seated
   changed-seated (Upgrade u) Changed told other none = upgrading-seated nodes st (Some u) seated
   changed-seated (Upgraded u) Changed told other none = upgrading-seated nodes st None seated
+  changed-seated c Changed told other none = node-seated c (node_command c) refl told
   changed-seated Tick (Ticked clock ended) told other none =
       clocked-seated nodes (without_ending st (st.clock + 1)) (st.clock + 1) (leases-seated nodes st (λ (l : LeaseRecord). not (ends_at (st.clock + 1) l)) seated)
   changed-seated _ Idle told other none = seated

@@ -1,21 +1,20 @@
 -- What a reply means for the state before the command.
-use Rattle.std.proofs.Common.{◌≡◌, nat_lt, arith, Bool, true, false, not, ◌||◌, List, map, drop, length, Option, Some, None, IsSome, is_none, Result, Ok, Err, refl, sym, ap, ◌∙◌, subst, inl, inr}
-use Rattle.std.proofs.lemmas.Bool.{or_parts, ltb-false, cases_Bool, eqb-true}
+use Rattle.std.proofs.Common.{◌≡◌, Bool, true, false, not, List, map, drop, length, Option, Some, None, Result, Ok, Err, refl, sym, ap, ◌∙◌, subst, inl, inr}
+use Rattle.std.proofs.lemmas.Bool.{cases_Bool, eqb-true}
 use Rattle.lrc_code.specs.declared.codes.Code.{Code}
 use Rattle.lrc_code.specs.declared.codes.Code.TheVariants.{Wide, Narrow}
 use Rattle.lrc_code.specs.declared.numbers.StripeNo.{StripeNo}
-use Rattle.lrc_code.specs.declared.numbers.NodeNo.{NodeNo}
 use Rattle.lrc_code.specs.declared.numbers.Fragment.{Fragment}
 use Rattle.lrc_code.specs.Codes.{fragments}
 use Rattle.lrc_topology.specs.declared.NodeInfo.{NodeInfo}
 use Rattle.lrc_topology.specs.declared.seat.Seat.{Seat}
 use Rattle.lrc_topology.specs.declared.seat.Held.{Held}
-use Rattle.lrc_topology.specs.Nodes.{node_at, has_domain}
+use Rattle.lrc_topology.specs.Nodes.{has_domain}
 use Rattle.lrc_rules.specs.declared.reply.Reply.TheVariants.{Dropped, Changed, Refused}
-use Rattle.lrc_rules.specs.States.{State, has_stripe, mode_of, is_active, is_draining, is_gone, is_down, load}
+use Rattle.lrc_rules.specs.States.{State, has_stripe}
 use Rattle.lrc_rules.specs.Placement.{placed}
 use Rattle.lrc_rules.specs.Outcomes.{Outcome, refuse_if}
-use Rattle.lrc_rules.specs.Steps.{with_stripe, placed_reply, without_stripe, place_answer, place_outcome, drop_outcome, fail_outcome, down_outcome, up_outcome, join_outcome, drain_outcome, undrain_outcome, retire_outcome, with_gone, without_upgrading, would_lose, upgrade_answer, upgrade_outcome, is_the_domain, upgraded_outcome}
+use Rattle.lrc_rules.specs.Steps.{with_stripe, placed_reply, without_stripe, place_answer, place_outcome, drop_outcome, without_upgrading, would_lose, upgrade_answer, upgrade_outcome, is_the_domain, upgraded_outcome}
 use Rattle.lrc_rules.specs.Choices.{AreChosen}
 use Rattle.lrc_rules.proofs.LawLemmas.{never-refused}
 use Rattle.lrc_rules.proofs.StepLemmas.{place-passed, place-there, placed-grown, seats-added}
@@ -60,64 +59,6 @@ drop-by st s false e = absurd (let never : Refused refusal.UnknownStripe ≡ Dro
 pub drop-told : (st : State) (s : StripeNo) → (drop_outcome st s).0 ≡ Dropped → has_stripe st s ≡ true
 unfolding drop_outcome
 drop-told st s e = drop-by st s (has_stripe st s) e
-
-pub node-by : (st changed : State) (o : Option NodeInfo) (wrong : Bool)
-    → (refuse_if (is_none o) refusal.UnknownNode st (refuse_if wrong refusal.WrongMode st (Changed, changed))).0 ≡ Changed
-    → IsSome o × (wrong ≡ false)
-node-by st changed None wrong e = absurd (let never : Refused refusal.UnknownNode ≡ Changed = e in cc)
-node-by st changed (Some n) true e = absurd (let never : Refused refusal.WrongMode ≡ Changed = e in cc)
-node-by st changed (Some n) false e = (refl, refl)
-
-module _ (nodes : List NodeInfo) (st : State) (n : NodeNo) where
-  -- a node failed: the store has it
-  pub fail-told : (fail_outcome nodes st n).0 ≡ Changed → IsSome (node_at nodes n)
-  unfolding fail_outcome
-  fail-told e = (node-by st _ (node_at nodes n) (is_gone (mode_of st n)) e).0
-
-  -- a node went down: the store has it, and it was not gone
-  pub down-told : (down_outcome nodes st n).0 ≡ Changed → IsSome (node_at nodes n) × (is_gone (mode_of st n) ≡ false)
-  unfolding down_outcome
-  down-told e = let h = node-by st _ (node_at nodes n) (is_gone (mode_of st n) || is_down st n) e in (h.0, (or_parts (is_gone (mode_of st n)) (is_down st n) h.1).0)
-
-  -- a node came up: the store has it
-  pub up-told : (up_outcome nodes st n).0 ≡ Changed → IsSome (node_at nodes n)
-  unfolding up_outcome
-  up-told e = (node-by st _ (node_at nodes n) (not (is_down st n)) e).0
-
-  -- a node joined: the store has it
-  pub join-told : (join_outcome nodes st n).0 ≡ Changed → IsSome (node_at nodes n)
-  unfolding join_outcome
-  join-told e = (node-by st _ (node_at nodes n) (not (is_gone (mode_of st n))) e).0
-
-  -- a node drains: the store has it
-  pub drain-told : (drain_outcome nodes st n).0 ≡ Changed → IsSome (node_at nodes n)
-  unfolding drain_outcome
-  drain-told e = (node-by st _ (node_at nodes n) (not (is_active (mode_of st n))) e).0
-
-  -- a node no longer drains: the store has it
-  pub undrain-told : (undrain_outcome nodes st n).0 ≡ Changed → IsSome (node_at nodes n)
-  unfolding undrain_outcome
-  undrain-told e = (node-by st _ (node_at nodes n) (not (is_draining (mode_of st n))) e).0
-
--- ---- a node that retires
-
-module _ (nodes : List NodeInfo) (st : State) (n : NodeNo) where
-  abbrev last : Outcome
-  last = refuse_if (nat_lt 0 (load st n)) (refusal.NotEmpty (load st n)) st (Changed, with_gone st n)
-
-  -- a node retired: the store has it, and its load was 0
-  pub retire-told : (retire_outcome nodes st n).0 ≡ Changed → IsSome (node_at nodes n) × (load st n ≡ 0)
-  unfolding retire_outcome
-  retire-told e = told-by (node_at nodes n) (not (is_draining (mode_of st n))) e where
-    empty-by : (b : Bool) → (refuse_if b (refusal.NotEmpty (load st n)) st (Changed, with_gone st n)).0 ≡ Changed → b ≡ false
-    empty-by true e = absurd (let never : Refused (refusal.NotEmpty (load st n)) ≡ Changed = e in cc)
-    empty-by false e = refl
-
-    told-by : (o : Option NodeInfo) (wrong : Bool) → (refuse_if (is_none o) refusal.UnknownNode st (refuse_if wrong refusal.WrongMode st last)).0
-        ≡ Changed → IsSome o × (load st n ≡ 0)
-    told-by None wrong e = absurd (let never : Refused refusal.UnknownNode ≡ Changed = e in cc)
-    told-by (Some m) true e = absurd (let never : Refused refusal.WrongMode ≡ Changed = e in cc)
-    told-by (Some m) false e = (refl, let low = ltb-false 0 (load st n) (empty-by (nat_lt 0 (load st n)) e) in omega (arith, low))
 
 -- ---- upgrades
 

@@ -23,7 +23,7 @@ use Rattle.lrc_terms.specs.declared.lease.Lease.{Lease as LeaseRecord}
 use Rattle.lrc_rules.specs.declared.reply.Reply.TheVariants.{Idle, Placed, Placed6, Dropped, Ended, Changed}
 use Rattle.lrc_rules.specs.declared.mode.Mode.TheVariants.{Active, Draining, Gone}
 use Rattle.lrc_rules.specs.declared.command.Command.{Command}
-use Rattle.lrc_rules.specs.declared.command.Command.TheVariants.{Place, Place6, Drop, Done, Fail, Down, Up, Drain, Undrain, Retire, Join, Upgrade, Upgraded}
+use Rattle.lrc_rules.specs.declared.command.Command.TheVariants.{Place, Place6, Drop, Done, Fail, Down, Up, Retire, Join, Upgrade, Upgraded}
 use Rattle.lrc_rules.specs.declared.reply.Reply.{Reply}
 use Rattle.lrc_rules.specs.declared.entry.Entry.{Entry}
 use Rattle.lrc_rules.specs.States.{State, has_stripe, code_of, has_number, is_home_of, mode_of, is_gone, is_online, is_upgrading, online_at, level_shown, lease_of}
@@ -32,7 +32,8 @@ use Rattle.lrc_rules.specs.Changes.{held_at, with_placed, with_done, changed_by}
 use Rattle.lrc_rules.specs.Touching.{has_home_on, is_in_domain, can_change_level}
 use Rattle.lrc_rules.proofs.MemberLemmas.{list_any-member}
 use Rattle.lrc_rules.proofs.NodeLemmas.{member-node_at}
-use Rattle.lrc_rules.proofs.OtherModesLemmas.{IsAsItWas, changed-same}
+use Rattle.lrc_rules.proofs.NodeCommandLemmas.{IsAsItWas}
+use Rattle.lrc_rules.proofs.OtherModesLemmas.{changed-same}
 use Rattle.lrc_rules.proofs.PlacedHomesLemmas.{none-added, before-none, homes-append}
 use Rattle.lrc_rules.proofs.CodedLemmas.{code-other, code-left, narrow-left}
 use Rattle.lrc_rules.proofs.StepLemmas.{step-changed}
@@ -193,12 +194,6 @@ module _ (nodes : List NodeInfo) (past : List Entry) (st : State) (session : Ses
       node-keeps n (Down n) Changed other (λ m away. changed-same st m (Down n) Changed (apart-from n m away)) refl refl refl (λ f. refl)
   changed-keeps (Up n) Changed told other =
       node-keeps n (Up n) Changed other (λ m away. changed-same st m (Up n) Changed (apart-from n m away)) refl refl refl (λ f. refl)
-  changed-keeps (Drain n) Changed told other =
-      level-alike nodes st (changed_by st (Drain n) Changed) s refl refl (λ f. refl)
-      (λ h here is. online-alike nodes st (changed_by st (Drain n) Changed) h.seat.node refl refl (λ x e. refl))
-  changed-keeps (Undrain n) Changed told other =
-      level-alike nodes st (changed_by st (Undrain n) Changed) s refl refl (λ f. refl)
-      (λ h here is. online-alike nodes st (changed_by st (Undrain n) Changed) h.seat.node refl refl (λ x e. refl))
   changed-keeps (Retire n) Changed told other =
       node-keeps n (Retire n) Changed other (λ m away. changed-same st m (Retire n) Changed (apart-from n m away)) refl refl refl (λ f. refl)
   changed-keeps (Join n) Changed told other =
@@ -209,6 +204,9 @@ module _ (nodes : List NodeInfo) (past : List Entry) (st : State) (session : Ses
   changed-keeps (Upgraded u) Changed told other =
       domain-keeps u None other
       (λ x away. sym (ap (λ (o : Option UpgradeNo). option_map_or (λ v. same_upgrade v x.upgrade) o false) (upgraded-told nodes st u told) ∙ away))
+  changed-keeps c Changed told other =
+      level-alike nodes st (changed_by st c Changed) s refl refl (λ f. refl)
+      (λ h here is. online-alike nodes st (changed_by st c Changed) h.seat.node refl refl (λ x e. refl))
   changed-keeps _ Idle told other = refl
   changed-keeps _ _ told other = refl
 

@@ -1,6 +1,6 @@
 -- Internal: no public clause reaches these definitions.
 -- The state change of a command, from the command and its reply.
-use Rattle.std.specs.Prelude.{◌≡◌, Bool, true, false, not, filter, List, [], ◌∷◌, ◌++◌, Option, Some, None}
+use Rattle.std.specs.Prelude.{◌≡◌, Bool, true, false, not, filter, List, [], ◌∷◌, ◌++◌, Option, Some, None, is_some}
 use Rattle.lrc_code.specs.declared.numbers.StripeNo.{StripeNo}
 use Rattle.lrc_code.specs.declared.numbers.Fragment.{Fragment}
 use Rattle.lrc_code.specs.declared.numbers.NodeNo.{NodeNo}
@@ -10,7 +10,8 @@ use Rattle.lrc_code.specs.Codes.{fragments}
 use Rattle.lrc_topology.specs.declared.seat.Seat.{Seat}
 use Rattle.lrc_topology.specs.declared.seat.Held.{Held}
 use Rattle.lrc_rules.specs.declared.command.Command.{Command}
-use Rattle.lrc_rules.specs.declared.command.Command.TheVariants.{Place, Place6, Drop, Lease, Next, Done, Abandon, Revoke, Fail, Down, Up, Drain, Undrain, Retire, Join, Upgrade, Upgraded, Tick}
+use Rattle.lrc_rules.specs.declared.command.Command.TheVariants.{Place, Place6, Drop, Lease, Next, Done, Abandon, Revoke, Upgrade, Upgraded, Tick}
+use Rattle.lrc_rules.specs.declared.node_command.NodeCommand.{NodeCommand}
 use Rattle.lrc_rules.specs.declared.reply.Reply.{Reply}
 use Rattle.lrc_rules.specs.declared.reply.Reply.TheVariants.{Placed, Placed6, Dropped, Granted, Idle, Ended, Changed, Ticked, Refused}
 use Rattle.lrc_topology.specs.declared.NodeInfo.{NodeInfo}
@@ -20,7 +21,7 @@ use Rattle.lrc_rules.specs.States.{State, lease_of}
 use Rattle.lrc_code.specs.declared.numbers.SessionNo.{SessionNo}
 use Rattle.lrc_rules.specs.declared.entry.Entry.{Entry}
 use Rattle.lrc_rules.specs.Leases.{with_lease, without_lease, moved_in, ticked}
-use Rattle.lrc_rules.specs.Steps.{step, with_stripe, without_stripe, emptied, with_gone, with_down, without_down, with_draining, without_draining, without_gone, with_upgrading, without_upgrading}
+use Rattle.lrc_rules.specs.Steps.{step, with_stripe, without_stripe, changed_on, node_command, with_upgrading, without_upgrading}
 
 -- each fragment of a stripe on the seat at the same position
 abbrev pub held_at : StripeNo → List Fragment → List Seat → List Held
@@ -40,6 +41,11 @@ with_done st s f (Some lease) = moved_in st s f lease.target
 abbrev pub without_targets : State → NodeNo → State
 without_targets st n = record st { leases = filter (λ l. not (is_target_on n l)) st.leases }
 
+-- the state after a command on a node, if it is one
+abbrev pub changed_at : State → Option (NodeCommand × NodeNo) → State
+changed_at st None = st
+changed_at st (Some on) = changed_on on.0 st on.1
+
 -- the state after a command with this reply
 abbrev pub changed_by : State → Command → Reply → State
 changed_by st (Place s) (Placed seats) = with_placed st Wide s seats
@@ -50,15 +56,9 @@ changed_by st Next (Granted lease kind) = with_lease st lease
 changed_by st (Done s f e) Ended = with_done st s f (lease_of st s f)
 changed_by st (Abandon s f e) Ended = without_lease st s f
 changed_by st (Revoke s f) Ended = without_lease st s f
-changed_by st (Fail n) Changed = with_gone (emptied st n) n
-changed_by st (Down n) Changed = with_down st n
-changed_by st (Up n) Changed = without_down st n
-changed_by st (Drain n) Changed = with_draining st n
-changed_by st (Undrain n) Changed = without_draining st n
-changed_by st (Retire n) Changed = with_gone st n
-changed_by st (Join n) Changed = without_gone st n
 changed_by st (Upgrade u) Changed = with_upgrading st u
 changed_by st (Upgraded u) Changed = without_upgrading st
+changed_by st c Changed = changed_at st (node_command c)
 changed_by st Tick (Ticked clock ended) = ticked st
 changed_by st _ _ = st
 
@@ -85,15 +85,9 @@ can_get Next Idle = true
 can_get (Done s f e) Ended = true
 can_get (Abandon s f e) Ended = true
 can_get (Revoke s f) Ended = true
-can_get (Fail n) Changed = true
-can_get (Down n) Changed = true
-can_get (Up n) Changed = true
-can_get (Drain n) Changed = true
-can_get (Undrain n) Changed = true
-can_get (Retire n) Changed = true
-can_get (Join n) Changed = true
 can_get (Upgrade u) Changed = true
 can_get (Upgraded u) Changed = true
+can_get c Changed = is_some (node_command c)
 can_get Tick (Ticked clock ended) = true
 can_get c _ = false
 

@@ -1,6 +1,6 @@
 -- Which commands can end a live lease, remove a home or a stripe, or change the mode of a node, and what is left
 -- after a lease.
-use Rattle.std.specs.Prelude.{◌≡◌, ◌≢◌, ◌⊎◌, ◌+◌, IsTrue, List, [], ◌∷◌, None}
+use Rattle.std.specs.Prelude.{◌≡◌, ◌≢◌, ◌⊎◌, ◌+◌, IsTrue, IsSomeAnd, List, [], ◌∷◌, None}
 use Rattle.lrc_code.specs.declared.numbers.StripeNo.{StripeNo}
 use Rattle.lrc_code.specs.declared.numbers.Fragment.{Fragment}
 use Rattle.lrc_code.specs.declared.numbers.NodeNo.{NodeNo}
@@ -9,12 +9,12 @@ use Rattle.lrc_topology.specs.declared.seat.Seat.{Seat}
 use Rattle.lrc_terms.specs.declared.lease.Lease.{Lease as LeaseRecord}
 use Rattle.lrc_terms.specs.Leased.{ends_at}
 use Rattle.lrc_rules.specs.declared.command.Command.{Command}
-use Rattle.lrc_rules.specs.declared.command.Command.TheVariants.{Done, Abandon, Revoke, Drop, Fail, Down, Up, Drain, Undrain, Retire, Join, Tick}
+use Rattle.lrc_rules.specs.declared.command.Command.TheVariants.{Done, Abandon, Revoke, Drop, Fail, Tick}
 use Rattle.lrc_rules.specs.declared.entry.Entry.{Entry}
 use Rattle.lrc_rules.specs.States.{State, lease_of}
 use Rattle.lrc_rules.specs.Leases.{is_tick}
 use Rattle.lrc_rules.specs.Histories.{World, next_world}
-use Rattle.lrc_rules.specs.Steps.{hangs_on}
+use Rattle.lrc_rules.specs.Steps.{hangs_on, node_command}
 
 -- the command can end the lease: Done, Abandon or Revoke of its fragment, Drop of its stripe, Fail of the node of its
 -- target or of its fragment's home, or the Tick at which it expires
@@ -46,14 +46,7 @@ IsDropOf s _ = ⊥
 
 -- the command is on this node
 abbrev pub IsOnNode : NodeNo → Command → Type 0
-IsOnNode n (Fail m) = m ≡ n
-IsOnNode n (Down m) = m ≡ n
-IsOnNode n (Up m) = m ≡ n
-IsOnNode n (Drain m) = m ≡ n
-IsOnNode n (Undrain m) = m ≡ n
-IsOnNode n (Retire m) = m ≡ n
-IsOnNode n (Join m) = m ≡ n
-IsOnNode n _ = ⊥
+IsOnNode n command = IsSomeAnd (node_command command) (λ on. on.1 ≡ n)
 
 -- The state `st` is the state `was` without the live lease of the fragment; all else is the same.
 pub record IsWithoutLease (was : State) (s : StripeNo) (f : Fragment) (st : State) : Type 0 where

@@ -1,13 +1,13 @@
--- What the manager promises of a history and of the state after it: one sentence, with a field for each phrase.
+-- What the manager promises of a history and of the state after it. It is promised in one sentence:
 --
 -- "The history that the manager keeps is a history of one thread of the plain placement object: each session's calls stand in
 -- it once, in the session's order, with the replies they got, and no others; whenever the lock is free, slots, leases, loads,
 -- levels and repair order are those of the state after it, in which every placement is lawful, every lease single and current,
 -- and lost means unrecoverable."
 --
--- That a call adds its entry and does nothing else is in the contracts of the calls (`Book::call`, clauses `entry`
--- and `err`). That a read shows this state is in the contracts of the reads (`Book::homes`, `load`, `level`, `risk`
--- and the others).
+-- The records below have a field for each phrase about the history itself and about the state after it. The other phrases are
+-- about calls and reads, and stand in their contracts: that a call adds its entry and does nothing else (`Book::call`, clauses
+-- `entry` and `err`), and that a read shows this state (`Book::homes`, `load`, `level`, `risk` and the others).
 use Rattle.std.specs.Prelude.{◌≡◌, ◌≢◌, ◌+◌, ◌<◌, ◌≤◌, ◌↔◌, List, All, AllPairs}
 use Rattle.lrc_code.specs.declared.numbers.StripeNo.{StripeNo}
 use Rattle.lrc_code.specs.Losses.{IsRecoverable}

@@ -17,6 +17,8 @@ use Rattle.lrc_topology.specs.declared.seat.Held.{Held}
 use Rattle.lrc_topology.specs.Nodes.{node_at, has_domain}
 use Rattle.lrc_rules.specs.declared.command.Command.{Command}
 use Rattle.lrc_rules.specs.declared.command.Command.TheVariants.{Place, Place6, Drop, Lease, Next, Done, Abandon, Revoke, Fail, Down, Up, Drain, Undrain, Retire, Join, Upgrade, Upgraded, Tick}
+use Rattle.lrc_rules.specs.declared.node_command.NodeCommand.{NodeCommand}
+use Rattle.lrc_rules.specs.declared.node_command.NodeCommand.TheVariants as node
 use Rattle.lrc_rules.specs.declared.reply.Reply.{Reply}
 use Rattle.lrc_rules.specs.declared.reply.Reply.TheVariants.{Placed, Placed6, Dropped, Changed}
 use Rattle.lrc_rules.specs.declared.refusal.Refusal.TheVariants as refusal
@@ -79,13 +81,6 @@ drop_outcome st s = refuse_if (not (has_stripe st s)) refusal.UnknownStripe st (
 
 -- ---- nodes
 
--- a command on a node: refused if the store has no such node, or if its mode or being down makes the command wrong
-abbrev pub node_outcome : List NodeInfo → State → NodeNo → Bool → State → Outcome
-node_outcome nodes st n wrong changed =
-    refuse_if (is_none (node_at nodes n)) refusal.UnknownNode st
-    (refuse_if wrong refusal.WrongMode st
-    (Changed, changed))
-
 -- the held seat is on the node
 abbrev pub stands_on : NodeNo → Held → Bool
 stands_on n h = same_node n h.seat.node
@@ -122,37 +117,62 @@ without_draining st n = record st { draining = without_number st.draining n }
 abbrev pub without_gone : State → NodeNo → State
 without_gone st n = record st { gone = without_number st.gone n }
 
--- Fail: wrong if the node is gone
-unfoldable pub fail_outcome : List NodeInfo → State → NodeNo → Outcome
-fail_outcome nodes st n = node_outcome nodes st n (is_gone (mode_of st n)) (with_gone (emptied st n) n)
+-- The table of the commands on a node. First, the command is wrong: the mode of the node, or whether it is down, does not
+-- allow it.
+abbrev pub is_wrong_on : NodeCommand → State → NodeNo → Bool
+is_wrong_on node.Fail st n = is_gone (mode_of st n)
+is_wrong_on node.Down st n = is_gone (mode_of st n) || is_down st n
+is_wrong_on node.Up st n = not (is_down st n)
+is_wrong_on node.Drain st n = not (is_active (mode_of st n))
+is_wrong_on node.Undrain st n = not (is_draining (mode_of st n))
+is_wrong_on node.Retire st n = not (is_draining (mode_of st n))
+is_wrong_on node.Join st n = not (is_gone (mode_of st n))
 
--- Down: wrong if the node is gone, or is down already
-unfoldable pub down_outcome : List NodeInfo → State → NodeNo → Outcome
-down_outcome nodes st n = node_outcome nodes st n (is_gone (mode_of st n) || is_down st n) (with_down st n)
+-- second, the state with the node in the mode that the command gives it, and down or not down
+abbrev pub with_mode : NodeCommand → State → NodeNo → State
+with_mode node.Fail st n = with_gone st n
+with_mode node.Down st n = with_down st n
+with_mode node.Up st n = without_down st n
+with_mode node.Drain st n = with_draining st n
+with_mode node.Undrain st n = without_draining st n
+with_mode node.Retire st n = with_gone st n
+with_mode node.Join st n = without_gone st n
 
--- Up: wrong if the node is not down
-unfoldable pub up_outcome : List NodeInfo → State → NodeNo → Outcome
-up_outcome nodes st n = node_outcome nodes st n (not (is_down st n)) (without_down st n)
+-- third, Fail alone empties the node first
+abbrev pub emptied_if : NodeCommand → State → NodeNo → State
+emptied_if node.Fail st n = emptied st n
+emptied_if _ st n = st
 
--- Join: wrong if the node is not gone
-unfoldable pub join_outcome : List NodeInfo → State → NodeNo → Outcome
-join_outcome nodes st n = node_outcome nodes st n (not (is_gone (mode_of st n))) (without_gone st n)
+-- fourth, Retire alone is refused while the node has held seats
+abbrev pub is_kept_by_load : NodeCommand → State → NodeNo → Bool
+is_kept_by_load node.Retire st n = nat_lt 0 (load st n)
+is_kept_by_load _ st n = false
 
--- Drain: wrong if the node is not active
-unfoldable pub drain_outcome : List NodeInfo → State → NodeNo → Outcome
-drain_outcome nodes st n = node_outcome nodes st n (not (is_active (mode_of st n))) (with_draining st n)
+-- the state after the command, if it is not refused
+abbrev pub changed_on : NodeCommand → State → NodeNo → State
+changed_on command st n = with_mode command (emptied_if command st n) n
 
--- Undrain: wrong if the node is not draining
-unfoldable pub undrain_outcome : List NodeInfo → State → NodeNo → Outcome
-undrain_outcome nodes st n = node_outcome nodes st n (not (is_draining (mode_of st n))) (without_draining st n)
+-- the outcome on a node of the store whose mode allows the command
+abbrev pub last_on : NodeCommand → State → NodeNo → Outcome
+last_on command st n = refuse_if (is_kept_by_load command st n) (refusal.NotEmpty (load st n)) st (Changed, changed_on command st n)
 
--- Retire: wrong if the node is not draining, and refused if it has held seats
-unfoldable pub retire_outcome : List NodeInfo → State → NodeNo → Outcome
-retire_outcome nodes st n =
+-- a command on a node: refused if the store has no such node, if the command is wrong, or while held seats keep the node
+unfoldable pub node_outcome : List NodeInfo → State → NodeCommand → NodeNo → Outcome
+node_outcome nodes st command n =
     refuse_if (is_none (node_at nodes n)) refusal.UnknownNode st
-    (refuse_if (not (is_draining (mode_of st n))) refusal.WrongMode st
-    (refuse_if (nat_lt 0 (load st n)) (refusal.NotEmpty (load st n)) st
-    (Changed, with_gone st n)))
+    (refuse_if (is_wrong_on command st n) refusal.WrongMode st
+    (last_on command st n))
+
+-- the row of the table for this command, and its node; none if the command is not on a node
+abbrev pub node_command : Command → Option (NodeCommand × NodeNo)
+node_command (Fail n) = Some (node.Fail, n)
+node_command (Down n) = Some (node.Down, n)
+node_command (Up n) = Some (node.Up, n)
+node_command (Drain n) = Some (node.Drain, n)
+node_command (Undrain n) = Some (node.Undrain, n)
+node_command (Retire n) = Some (node.Retire, n)
+node_command (Join n) = Some (node.Join, n)
+node_command _ = None
 
 -- ---- upgrades
 
@@ -206,13 +226,13 @@ step nodes past st session Next = next_outcome nodes past st session
 step nodes past st session (Done s f e) = done_outcome nodes st session s f e
 step nodes past st session (Abandon s f e) = abandon_outcome st session s f e
 step nodes past st session (Revoke s f) = revoke_outcome st s f
-step nodes past st session (Fail n) = fail_outcome nodes st n
-step nodes past st session (Down n) = down_outcome nodes st n
-step nodes past st session (Up n) = up_outcome nodes st n
-step nodes past st session (Drain n) = drain_outcome nodes st n
-step nodes past st session (Undrain n) = undrain_outcome nodes st n
-step nodes past st session (Retire n) = retire_outcome nodes st n
-step nodes past st session (Join n) = join_outcome nodes st n
+step nodes past st session (Fail n) = node_outcome nodes st node.Fail n
+step nodes past st session (Down n) = node_outcome nodes st node.Down n
+step nodes past st session (Up n) = node_outcome nodes st node.Up n
+step nodes past st session (Drain n) = node_outcome nodes st node.Drain n
+step nodes past st session (Undrain n) = node_outcome nodes st node.Undrain n
+step nodes past st session (Retire n) = node_outcome nodes st node.Retire n
+step nodes past st session (Join n) = node_outcome nodes st node.Join n
 step nodes past st session (Upgrade u) = upgrade_outcome nodes st u
 step nodes past st session (Upgraded u) = upgraded_outcome nodes st u
 step nodes past st session Tick = tick_outcome st

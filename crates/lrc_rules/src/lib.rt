@@ -14,7 +14,7 @@
 //!
 //! Read `specs/` in this order:
 //!
-//! 1. `Served`: what the manager promises of its history and of the state after it, one field for each phrase.
+//! 1. `Served`: what the manager promises of its history and of the state after it, a field for each phrase about them.
 //! 2. `States`: the state of the store, and what can be read from it. `Outcomes`: a reply with the next state.
 //! 3. `Steps`, `Leases`, `Placement`, `Repairs` and `Urgency`: the reply to each command, and the state after it.
 //! 4. `Histories` and `Sessions`: legal histories, and the state after one.
@@ -31,6 +31,7 @@ mod entry;
 mod kind;
 pub mod laws;
 mod mode;
+mod node_command;
 mod refusal;
 mod reply;
 
@@ -40,5 +41,6 @@ pub use kind::Kind;
 pub use lrc_terms::{Lease, Level};
 pub use lrc_topology::{Held, Seat};
 pub use mode::Mode;
+pub use node_command::NodeCommand;
 pub use refusal::Refusal;
 pub use reply::Reply;

@@ -4,25 +4,24 @@ ghost use Rattle.std.specs.Prelude.{◌≡◌, IsSome};
 ghost use Rattle.lrc_topology.specs.Nodes.{node_at};
 ghost use Rattle.lrc_rules.specs.declared.reply.Reply.TheVariants.{Changed};
 ghost use Rattle.lrc_rules.specs.States.{State};
-ghost use Rattle.lrc_rules.specs.Steps.{emptied};
+ghost use Rattle.lrc_rules.specs.declared.node_command.NodeCommand.TheVariants.{Retire};
+ghost use Rattle.lrc_rules.specs.Steps.{emptied, emptied_if, changed_on, last_on, node_outcome};
 ghost use Rattle.lrc_rules.specs.Changes.{without_targets};
-ghost use Rattle.lrc_book.specs.declared.modes.NodeCommand.TheVariants.{Retire};
 ghost use Rattle.lrc_book.specs.Answers.{told};
-ghost use Rattle.lrc_book.specs.NodeCommands.{outcome_on, last_on, emptied_if, changed_on};
 ghost use Rattle.lrc_book.specs.Stores.{IsOf, IsTied};
 
 use crate::Refusal;
 use crate::answer::Answer;
-use crate::modes::NodeCommand;
 use crate::store::Store;
 use lrc_code::{NodeNo, StripeNo};
+use lrc_rules::NodeCommand;
 
 impl Store {
     /// The reply to a command on a node.
     #[inline(never)]
     pub(crate) fn node_reply(&self, command: NodeCommand, node: NodeNo) -> Answer
         requires { IsTied self.now }
-        ensures { (st : State) → IsOf st self.now → told result ≡ (outcome_on command self.now.topology st node).0 }
+        ensures { (st : State) → IsOf st self.now → told result ≡ (node_outcome self.now.topology st command node).0 }
     {
         if self.table.node(node).is_none() {
             return Answer::Refused(Refusal::UnknownNode);
@@ -53,7 +52,7 @@ impl Store {
     pub(crate) fn change_node(&mut self, command: NodeCommand, node: NodeNo)
         ghost st: { State }
         requires kept { IsOf st self.old }
-        requires told { (outcome_on command self.old.topology st node).0 ≡ Changed }
+        requires told { (node_outcome self.old.topology st command node).0 ≡ Changed }
         ensures nodes { self.new.topology ≡ self.old.topology }
         ensures kept { IsOf (changed_on command st node) self.new }
     {

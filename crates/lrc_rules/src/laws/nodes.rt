@@ -1,6 +1,6 @@
 //! Laws of the commands on nodes.
 
-ghost use Rattle.std.specs.Prelude.{◌≡◌, ◌≢◌, ◌↔◌, ◌⊎◌, ℕ, ◌≤◌, IsTrue, IsFalse, IsSome, List, All, Contains, Some, None};
+ghost use Rattle.std.specs.Prelude.{◌≡◌, ◌≢◌, ◌↔◌, ◌⊎◌, ◌||◌, not, ℕ, ◌≤◌, nat_lt, is_none, IsTrue, IsFalse, IsSome, List, All, Contains, Some, None};
 ghost use Rattle.lrc_topology.specs.declared.NodeInfo.{NodeInfo};
 ghost use Rattle.lrc_topology.specs.declared.seat.Seat.{Seat};
 ghost use Rattle.lrc_topology.specs.declared.seat.Held.{Held};
@@ -15,8 +15,9 @@ ghost use Rattle.lrc_rules.specs.declared.refusal.Refusal.TheVariants as refusal
 ghost use Rattle.lrc_rules.specs.declared.mode.Mode.TheVariants.{Active, Draining, Gone};
 ghost use Rattle.lrc_terms.specs.declared.lease.Lease.{Lease as LeaseRecord};
 ghost use Rattle.lrc_rules.specs.Endings.{IsOnNode};
-ghost use Rattle.lrc_rules.specs.Steps.{step};
-ghost use Rattle.lrc_rules.specs.States.{State, taken_seats, load, mode_of, is_down, online_at};
+ghost use Rattle.lrc_rules.specs.Steps.{emptied, with_gone, with_down, without_down, with_draining, without_draining, without_gone, step};
+ghost use Rattle.lrc_rules.specs.Outcomes.{refuse_if};
+ghost use Rattle.lrc_rules.specs.States.{State, taken_seats, load, mode_of, is_active, is_draining, is_gone, is_down, online_at};
 ghost use Rattle.lrc_rules.specs.Histories.{IsLegal, outcome_in, world_after, state_after};
 
 /// A node is online exactly if the store has it, it is neither gone nor down, and its upgrade domain is not
@@ -35,12 +36,48 @@ pub fn modes_change_by_these_alone()
         → ¬ (IsOnNode n command) → is_down (step nodes past st session command).1 n ≡ is_down st n }
 {}
 
+/// Each command on a node by itself: when it is refused, and the state after it. A command is on a node exactly if it is
+/// one of these.
+#[tactic(auto, unfolding(crate::specs::Steps::node_outcome))]
+pub fn node_commands_one_by_one()
+    ensures fail { (nodes : List NodeInfo) (past : List Entry) (st : State) (session : SessionNo) (n : NodeNo)
+        → step nodes past st session (Fail n)
+        ≡ refuse_if (is_none (node_at nodes n)) refusal.UnknownNode st (refuse_if (is_gone (mode_of st n)) refusal.WrongMode st
+        (Changed, with_gone (emptied st n) n)) }
+    ensures down { (nodes : List NodeInfo) (past : List Entry) (st : State) (session : SessionNo) (n : NodeNo)
+        → step nodes past st session (Down n)
+        ≡ refuse_if (is_none (node_at nodes n)) refusal.UnknownNode st (refuse_if (is_gone (mode_of st n) || is_down st n) refusal.WrongMode st
+        (Changed, with_down st n)) }
+    ensures up { (nodes : List NodeInfo) (past : List Entry) (st : State) (session : SessionNo) (n : NodeNo)
+        → step nodes past st session (Up n)
+        ≡ refuse_if (is_none (node_at nodes n)) refusal.UnknownNode st (refuse_if (not (is_down st n)) refusal.WrongMode st
+        (Changed, without_down st n)) }
+    ensures drain { (nodes : List NodeInfo) (past : List Entry) (st : State) (session : SessionNo) (n : NodeNo)
+        → step nodes past st session (Drain n)
+        ≡ refuse_if (is_none (node_at nodes n)) refusal.UnknownNode st (refuse_if (not (is_active (mode_of st n))) refusal.WrongMode st
+        (Changed, with_draining st n)) }
+    ensures undrain { (nodes : List NodeInfo) (past : List Entry) (st : State) (session : SessionNo) (n : NodeNo)
+        → step nodes past st session (Undrain n)
+        ≡ refuse_if (is_none (node_at nodes n)) refusal.UnknownNode st (refuse_if (not (is_draining (mode_of st n))) refusal.WrongMode st
+        (Changed, without_draining st n)) }
+    ensures retire { (nodes : List NodeInfo) (past : List Entry) (st : State) (session : SessionNo) (n : NodeNo)
+        → step nodes past st session (Retire n)
+        ≡ refuse_if (is_none (node_at nodes n)) refusal.UnknownNode st (refuse_if (not (is_draining (mode_of st n))) refusal.WrongMode st
+        (refuse_if (nat_lt 0 (load st n)) (refusal.NotEmpty (load st n)) st (Changed, with_gone st n))) }
+    ensures join { (nodes : List NodeInfo) (past : List Entry) (st : State) (session : SessionNo) (n : NodeNo)
+        → step nodes past st session (Join n)
+        ≡ refuse_if (is_none (node_at nodes n)) refusal.UnknownNode st (refuse_if (not (is_gone (mode_of st n))) refusal.WrongMode st
+        (Changed, without_gone st n)) }
+    ensures none_else { (n : NodeNo) (command : Command) → IsOnNode n command
+        ↔ ((command ≡ Fail n) ⊎ ((command ≡ Down n) ⊎ ((command ≡ Up n) ⊎ ((command ≡ Drain n) ⊎ ((command ≡ Undrain n) ⊎ ((command ≡ Retire n) ⊎ (command ≡ Join n))))))) }
+{}
+
 /// Each command on a node except Retire is done exactly if the store has the node and its mode allows the command. It
 /// is refused with UnknownNode exactly if the store has no such node, and otherwise with WrongMode if the mode does
 /// not allow it. Fail leaves the node Gone, not down, without held seats. Down leaves it down and Up not down, both
 /// in its mode. Drain leaves it Draining and Undrain Active, down or not as it was. After a legal history Join leaves
 /// it Active, not down, without held seats.
-#[tactic(auto, unfolding(crate::specs::Steps::fail_outcome, crate::specs::Steps::down_outcome, crate::specs::Steps::up_outcome, crate::specs::Steps::drain_outcome, crate::specs::Steps::undrain_outcome, crate::specs::Steps::join_outcome))]
+#[tactic(auto, unfolding(crate::specs::Steps::node_outcome))]
 pub fn node_commands_in_words()
     ensures fail { (nodes : List NodeInfo) (past : List Entry) (st : State) (session : SessionNo) (n : NodeNo)
         → ((step nodes past st session (Fail n)).0 ≡ Changed) ↔ (IsSome (node_at nodes n) × (mode_of st n ≢ Gone)) }
@@ -110,7 +147,7 @@ pub fn node_commands_in_words()
 /// Retire removes a node from the store exactly if the node is draining and has no held seat. It is refused with the
 /// node's load exactly if the node is draining and has held seats, with UnknownNode if the store has no such node,
 /// and with WrongMode if the node is not draining. After it the node is Gone, not down, and has no held seat.
-#[tactic(auto, unfolding(crate::specs::Steps::retire_outcome))]
+#[tactic(auto, unfolding(crate::specs::Steps::node_outcome))]
 pub fn retired_nodes_are_empty()
     ensures done { (nodes : List NodeInfo) (past : List Entry) (st : State) (session : SessionNo) (n : NodeNo)
         → ((step nodes past st session (Retire n)).0 ≡ Changed)

@@ -2,8 +2,8 @@ use Rattle.std.proofs.Common.{true, false, not, Option, is_some, refl, sym, ap, 
 use Rattle.lrc_slots.specs.Slots.{Slots}
 use Rattle.lrc_topology.specs.declared.NodeInfo.{NodeInfo}
 use Rattle.lrc_topology.specs.Nodes.{node_at}
-use Rattle.lrc_book.specs.declared.modes.NodeCommand.{NodeCommand}
-use Rattle.lrc_book.specs.NodeCommands.{is_wrong_on, last_on}
+use Rattle.lrc_rules.specs.declared.node_command.NodeCommand.{NodeCommand}
+use Rattle.lrc_rules.specs.Steps.{is_wrong_on, last_on}
 use Rattle.lrc_book.proofs.NodeCommandLemmas.{none-told, reply-by, last-other}
 use Rattle.lrc_book.proofs.store.Store.node_reply.Goals as goal
 
