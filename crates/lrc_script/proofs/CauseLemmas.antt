@@ -1,13 +1,10 @@
 -- A line without a cause is the line of a command, and the other way round.
-use Rattle.std.proofs.Common.{◌≡◌, ℕ, suc, ◌+◌, ◌*◌, ◌^◌, ◌<◌, ◌≤◌, lit≤, length-append, ◌↔◌, ◌⊎◌, inl, inr, Bool, true, false, nat_eq, nat_lt, if◌then◌else◌, Option, Some, None, List, [], ◌∷◌, ◌++◌, length, map, get_or, codes, decimal, refl, sym, ap, ◌∙◌, arith}
-use borrow.Author.Tests.{ltb-true, eqb-true, eq-eqb, ne_eqb}
-use Rattle.std.specs.List.{All, list_all, join_with_byte}
-use Rattle.std.specs.Char.{is_ascii_digit}
+use Rattle.std.proofs.Common.{◌≡◌, ◌≢◌, ℕ, suc, ◌^◌, ◌<◌, ◌≤◌, lit≤, ◌↔◌, ◌⊎◌, inl, inr, Bool, true, false, nat_eq, nat_lt, if◌then◌else◌, Option, Some, None, List, [], ◌∷◌, ◌++◌, length, map, codes, decimal, refl, sym, ap, ◌∙◌, arith}
+use borrow.Author.Tests.{ltb-true, eqb-true, eq-eqb}
+use Rattle.std.specs.List.{All, join_with_byte}
 use Rattle.std.specs.Str.Parse.{digits_value}
-use Rattle.std.proofs.lemmas.Bool.Decides.{nat_tests}
-use Rattle.std.proofs.lemmas.Fmt.{digits_decimal, digits_value-decimal, decimal_nonempty, length-decimal-le}
+use Rattle.std.proofs.lemmas.Fmt.{digits_decimal, digits_value-decimal, decimal_nonempty}
 use Rattle.std.proofs.lemmas.List.Splits.{slice_split_none, slice_split_at, join_with_byte-slice_split}
-use Rattle.std.proofs.lemmas.List.Sums.{AllPass-from_list_all}
 use Rattle.lrc_rules.specs.declared.command.Command.{Command}
 use Rattle.lrc_rules.specs.declared.command.Command.TheVariants.{Place, Place6, Drop, Lease, Next, Done, Abandon, Revoke, Fail, Down, Up, Drain, Undrain, Retire, Join, Upgrade, Upgraded, Tick}
 use Rattle.lrc_code.specs.declared.numbers.StripeNo.{StripeNo}
@@ -17,124 +14,50 @@ use Rattle.lrc_code.specs.declared.numbers.UpgradeNo.{UpgradeNo}
 use Rattle.lrc_script.specs.declared.script.Cause.{Cause}
 use Rattle.lrc_script.specs.declared.script.Cause.TheVariants.{WordCount, NotANumber, OutOfRange}
 use Rattle.lrc_script.specs.Scripts.{Form, same_text, is_number, argument_cause, or_else, arguments_cause, numbers_cause, form_cause, form_of, words_cause, words_of, is_passed_over, numbers_text, command_line, IsInRange, cause_of}
+use Rattle.lrc_script.specs.Cuts.{AreBelow}
+use Rattle.lrc_script.proofs.CutLemmas.{has_none}
 use Rattle.lrc_script.proofs.LineLemmas.{cause_of-short}
+use Rattle.lrc_script.proofs.NumbersLemmas.{digits_alone}
+use Rattle.lrc_script.proofs.FormLemmas.{form_with, form_at, index_of, numbers_of, line_of, form_sound, command_line-short, command_kept, no_space}
 use Rattle.lrc_front.proofs.DigitLemmas.{own}
 use Rattle.lrc_front.proofs.NumberLemmas.{zero_alone}
 use Rattle.lrc_script.proofs.ScriptLemmas.{is_number-digits, decimal-number, argument_cause-below, cause_of-passed, cause_of-command, same_text-true, words_of-some}
 
--- ---- the decimal text of a number
-
-digit_no_space : (c : ℕ) → is_ascii_digit c ≡ true → nat_eq c 32 ≡ false
-digit_no_space c digit = grind (arith, nat_tests)
-
-module _ (n : ℕ) (small : n < 2 ^ 64) where
-  digits : list_all is_ascii_digit (decimal n) ≡ true
-  digits = digits_decimal own n small
-
-  pub is_number-decimal : is_number (decimal n) ≡ true
-  is_number-decimal = sym (is_number-digits (decimal n) (decimal_nonempty n small) (zero_alone n small)) ∙ digits
-
-  pub argument_cause-decimal : (bound : ℕ) → n < bound → argument_cause (decimal n) bound ≡ None
-  argument_cause-decimal bound below = let value = digits_value-decimal own n small in argument_cause-below (decimal n) is_number-decimal bound (omega (arith, value))
-
-  -- no space stands in it
-  no_space : All (λ b. nat_eq b 32 ≡ false) (decimal n)
-  no_space = λ k d within. digit_no_space (get_or (decimal n) k d) (AllPass-from_list_all is_ascii_digit (decimal n) digits k d within)
-
--- ---- numbers in a row
-
--- each number is below its bound, which is at most 2 ^ 32
-abbrev pub AreBelow : List ℕ → List ℕ → Type 0
-AreBelow [] [] = Unit {0}
-AreBelow (n ∷ ns) (bound ∷ bounds) = ((n < bound) × (bound ≤ 2 ^ 32)) × AreBelow ns bounds
-AreBelow _ _ = ⊥
-
--- the numbers are the words of their text
-pub words_of-numbers : (n : ℕ) (ns bounds : List ℕ) → AreBelow (n ∷ ns) bounds → words_of (numbers_text (n ∷ ns)) ≡ map decimal (n ∷ ns)
-words_of-numbers n ns [] below = absurd below
-words_of-numbers n [] (bound ∷ bounds) below = slice_split_none (λ b. nat_eq b 32) (decimal n) (no_space n (omega (arith, below.0.0, below.0.1)))
-words_of-numbers n (m ∷ ms) (bound ∷ bounds) below =
-    slice_split_at (λ b. nat_eq b 32) (decimal n) 32 (numbers_text (m ∷ ms)) (no_space n (omega (arith, below.0.0, below.0.1))) refl
-    ∙ ap (λ ws. decimal n ∷ ws) (words_of-numbers m ms bounds below.1)
-
-length-numbers : (word : List ℕ) (ns bounds : List ℕ) → AreBelow ns bounds → length (join_with_byte 32 (word ∷ map decimal ns)) ≤ length word + 11 * length ns
-length-numbers word [] bounds below = omega arith
-length-numbers word (n ∷ ns) [] below = absurd below
-length-numbers word (n ∷ ns) (bound ∷ bounds) below =
-    let long = length-append word (32 ∷ numbers_text (n ∷ ns)) in
-    let ten = length-decimal-le 10 n (omega arith) (omega (arith, below.0.0, below.0.1)) (omega (arith, below.0.0, below.0.1)) in
-    omega (arith, long, ten, length-numbers (decimal n) ns bounds below.1)
-
--- the numbers have no cause
-numbers_none : (ns bounds : List ℕ) → AreBelow ns bounds → (length (map decimal ns) ≡ length bounds) × (arguments_cause (map decimal ns) bounds ≡ None)
-numbers_none [] [] below = (refl, refl)
-numbers_none [] (bound ∷ bounds) below = absurd below
-numbers_none (n ∷ ns) [] below = absurd below
-numbers_none (n ∷ ns) (bound ∷ bounds) below =
-    let rest = numbers_none ns bounds below.1 in
-    (ap suc rest.0, rw (argument_cause-decimal n (omega (arith, below.0.0, below.0.1)) bound below.0.0, rest.1) refl)
-
 -- ---- the line of a command is good
 
-kept : (line : List ℕ) → 0 < length line → nat_eq (get_or line 0 0) 35 ≡ false → is_passed_over line ≡ false
-kept line some other = rw (ne_eqb (length line) 0 (omega arith), other) refl
+module _ (n : ℕ) (small : n < 2 ^ 64) where
+  is_number-decimal : is_number (decimal n) ≡ true
+  is_number-decimal = sym (is_number-digits (decimal n) (decimal_nonempty n small) (zero_alone n small)) ∙ digits_decimal own n small
 
--- the form of a command with arguments below these bounds
-abbrev form_with : List ℕ → List ℕ → Form
-form_with word bounds = record { word = word; bounds = bounds }
+  argument_cause-decimal : (bound : ℕ) → n < bound → argument_cause (decimal n) bound ≡ None
+  argument_cause-decimal bound below = let value = digits_value-decimal own n small in argument_cause-below (decimal n) is_number-decimal bound (omega (arith, value))
 
--- the line of a command with these numbers
-good_line : (word : List ℕ) (n : ℕ) (ns bounds : List ℕ) → AreBelow (n ∷ ns) bounds → length word + 11 * length (n ∷ ns) ≤ 1024
-    → words_of (word ++ 32 ∷ numbers_text (n ∷ ns)) ≡ word ∷ words_of (numbers_text (n ∷ ns)) → nat_eq (get_or (word ++ 32 ∷ numbers_text (n ∷ ns)) 0 0) 35 ≡ false → form_of word ≡ Some (form_with word bounds)
-    → cause_of (word ++ 32 ∷ numbers_text (n ∷ ns)) ≡ None
-good_line word n ns bounds below short words first form =
-    let line = word ++ 32 ∷ numbers_text (n ∷ ns) in
-    let none = numbers_none (n ∷ ns) bounds below in
-    let long = length-append word (32 ∷ numbers_text (n ∷ ns)) in
-    cause_of-command line (omega (arith, short, length-numbers word (n ∷ ns) bounds below)) (kept line (omega (arith, long)) first)
-    ∙ ap words_cause words ∙ ap (λ ws. words_cause (word ∷ ws)) (words_of-numbers n ns bounds below) ∙ ap (form_cause (map decimal (n ∷ ns))) form
-    ∙ rw (eq-eqb (length (map decimal (n ∷ ns))) (length bounds) none.0, none.1) refl
+-- numbers below these bounds have no cause
+numbers_cause-none : (ns bounds : List ℕ) → AreBelow ns bounds → (length (map decimal ns) ≡ length bounds) × (arguments_cause (map decimal ns) bounds ≡ None)
+numbers_cause-none [] [] below = (refl, refl)
+numbers_cause-none [] (bound ∷ bounds) below = absurd below
+numbers_cause-none (n ∷ ns) [] below = absurd below
+numbers_cause-none (n ∷ ns) (bound ∷ bounds) below =
+    let rest = numbers_cause-none ns bounds below.1 in
+    (ap suc rest.0, rw (argument_cause-decimal n (omega (arith, below.0.0, below.0.1)) bound below.0.0, rest.1) refl)
 
-of_stripe_line : (word : List ℕ) (s : StripeNo) → length word + 11 ≤ 1024
-    → words_of (word ++ 32 ∷ decimal s.value) ≡ word ∷ words_of (decimal s.value) → nat_eq (get_or (word ++ 32 ∷ decimal s.value) 0 0) 35 ≡ false → form_of word ≡ Some (form_with word (4096 ∷ []))
-    → cause_of (word ++ 32 ∷ decimal s.value) ≡ None
-of_stripe_line word s = good_line word s.value [] (4096 ∷ []) ((s.in_range, lit≤ tt), tt)
-
-of_node_line : (word : List ℕ) (n : NodeNo) → n.value < 65536 → length word + 11 ≤ 1024
-    → words_of (word ++ 32 ∷ decimal n.value) ≡ word ∷ words_of (decimal n.value) → nat_eq (get_or (word ++ 32 ∷ decimal n.value) 0 0) 35 ≡ false → form_of word ≡ Some (form_with word (65536 ∷ []))
-    → cause_of (word ++ 32 ∷ decimal n.value) ≡ None
-of_node_line word n small = good_line word n.value [] (65536 ∷ []) ((small, lit≤ tt), tt)
-
-of_domain_line : (word : List ℕ) (u : UpgradeNo) → u.value < 256 → length word + 11 ≤ 1024
-    → words_of (word ++ 32 ∷ decimal u.value) ≡ word ∷ words_of (decimal u.value) → nat_eq (get_or (word ++ 32 ∷ decimal u.value) 0 0) 35 ≡ false → form_of word ≡ Some (form_with word (256 ∷ []))
-    → cause_of (word ++ 32 ∷ decimal u.value) ≡ None
-of_domain_line word u small = good_line word u.value [] (256 ∷ []) ((small, lit≤ tt), tt)
-
-pub below_pair : (s : StripeNo) (f : Fragment) → AreBelow (s.value ∷ f.value ∷ []) (4096 ∷ 16 ∷ [])
-below_pair s f = ((s.in_range, lit≤ tt), ((f.in_range, lit≤ tt), tt))
-
-pub below_report : (s : StripeNo) (f : Fragment) (e : ℕ) → e < 4294967296 → AreBelow (s.value ∷ f.value ∷ e ∷ []) (4096 ∷ 16 ∷ 4294967296 ∷ [])
-below_report s f e small = ((s.in_range, lit≤ tt), ((f.in_range, lit≤ tt), ((small, lit≤ tt), tt)))
+-- a word and numbers are the words of their line
+words_of-line : (word : List ℕ) (ns bounds : List ℕ) → All (λ b. b ≢ 32) word → AreBelow ns bounds → words_of (join_with_byte 32 (word ∷ map decimal ns)) ≡ word ∷ map decimal ns
+words_of-line word [] bounds none below = slice_split_none (λ b. nat_eq b 32) word (has_none 32 word none)
+words_of-line word (n ∷ ns) [] none below = absurd below
+words_of-line word (n ∷ ns) (bound ∷ bounds) none below =
+    slice_split_at (λ b. nat_eq b 32) word 32 (numbers_text (n ∷ ns)) (has_none 32 word none) refl
+    ∙ ap (λ ws. word ∷ ws) (words_of-line (decimal n) ns bounds (digits_alone n 32 (omega (arith, below.0.0, below.0.1)) refl) below.1)
 
 pub cause_of-command_line : (command : Command) → IsInRange command → cause_of (command_line command) ≡ None
-cause_of-command_line (Place s) _ = of_stripe_line (codes "place") s (lit≤ tt) refl refl refl
-cause_of-command_line (Place6 s) _ = of_stripe_line (codes "place6") s (lit≤ tt) refl refl refl
-cause_of-command_line (Drop s) _ = of_stripe_line (codes "drop") s (lit≤ tt) refl refl refl
-cause_of-command_line (Lease s f) _ = good_line (codes "lease") s.value (f.value ∷ []) (4096 ∷ 16 ∷ []) (below_pair s f) (lit≤ tt) refl refl refl
-cause_of-command_line Next _ = cause_of-command (codes "next") (lit≤ tt) refl
-cause_of-command_line (Done s f e) small = good_line (codes "done") s.value (f.value ∷ e ∷ []) (4096 ∷ 16 ∷ 4294967296 ∷ []) (below_report s f e small) (lit≤ tt) refl refl refl
-cause_of-command_line (Abandon s f e) small = good_line (codes "abandon") s.value (f.value ∷ e ∷ []) (4096 ∷ 16 ∷ 4294967296 ∷ []) (below_report s f e small) (lit≤ tt) refl refl refl
-cause_of-command_line (Revoke s f) _ = good_line (codes "revoke") s.value (f.value ∷ []) (4096 ∷ 16 ∷ []) (below_pair s f) (lit≤ tt) refl refl refl
-cause_of-command_line (Fail n) small = of_node_line (codes "fail") n small (lit≤ tt) refl refl refl
-cause_of-command_line (Down n) small = of_node_line (codes "down") n small (lit≤ tt) refl refl refl
-cause_of-command_line (Up n) small = of_node_line (codes "up") n small (lit≤ tt) refl refl refl
-cause_of-command_line (Drain n) small = of_node_line (codes "drain") n small (lit≤ tt) refl refl refl
-cause_of-command_line (Undrain n) small = of_node_line (codes "undrain") n small (lit≤ tt) refl refl refl
-cause_of-command_line (Retire n) small = of_node_line (codes "retire") n small (lit≤ tt) refl refl refl
-cause_of-command_line (Join n) small = of_node_line (codes "join") n small (lit≤ tt) refl refl refl
-cause_of-command_line (Upgrade u) small = of_domain_line (codes "upgrade") u small (lit≤ tt) refl refl refl
-cause_of-command_line (Upgraded u) small = of_domain_line (codes "upgraded") u small (lit≤ tt) refl refl refl
-cause_of-command_line Tick _ = cause_of-command (codes "tick") (lit≤ tt) refl
+cause_of-command_line command range =
+    let is = line_of command in
+    let form = form_at (index_of command) in
+    let ns = numbers_of command in
+    let none = numbers_cause-none ns form.bounds (is.below range) in
+    let words = ap words_of is.line ∙ words_of-line form.word ns form.bounds (no_space form.word (form_sound command).letters) (is.below range) in
+    cause_of-command (command_line command) (omega (arith, command_line-short command range)) (command_kept command range)
+    ∙ ap words_cause words ∙ ap (form_cause (map decimal ns)) is.found ∙ rw (eq-eqb (length (map decimal ns)) (length form.bounds) none.0, none.1) refl
 
 -- ---- a line without a cause
 

@@ -1,10 +1,10 @@
 -- The pieces of a text that is cut.
-use Rattle.std.proofs.Common.{inl, inr, ◌≡◌, ◌≢◌, ℕ, ◌+◌, ◌-◌, ◌≤◌, Bool, true, false, nat_eq, Option, Some, None, List, [], ◌∷◌, length, get_or, take, drop, sym, ap, ◌∙◌, arith, length-take}
+use Rattle.std.proofs.Common.{inl, inr, ◌≡◌, ◌≢◌, ℕ, suc, ◌+◌, ◌-◌, ◌<◌, ◌≤◌, Bool, true, false, nat_eq, Option, Some, None, List, [], ◌∷◌, ◌++◌, length, get_or, take, drop, replicate, refl, sym, ap, ◌∙◌, arith, length-take}
 use Rattle.std.specs.Borrow.{Bor}
 use Rattle.std.specs.List.{All, slice_split}
 use Rattle.std.proofs.lemmas.Bool.{cases_lt}
 use Rattle.std.proofs.lemmas.Bool.Decides.{nat_tests}
-use Rattle.std.proofs.lemmas.List.{get_or-take, get_or-drop}
+use Rattle.std.proofs.lemmas.List.{get_or-take, get_or-drop, drop_more, length-replicate, get_or-replicate}
 use Rattle.std.proofs.lemmas.List.Splits.{slice_split_none, slice_split_at}
 use Rattle.memchr.specs.Find.{Passes, Nowhere}
 use Rattle.lrc_script.specs.Cuts.{IsCut}
@@ -28,6 +28,23 @@ slice_split-cut separator text first None cut = ap (slice_split (λ b. nat_eq b 
 slice_split-cut separator text first (Some rest) cut =
     ap (slice_split (λ b. nat_eq b separator)) cut.1 ∙ slice_split_at (λ b. nat_eq b separator) first separator rest.now (has_none separator first cut.0) (same separator)
 
+-- a text has one cut at its first separator
+pub cut_once : (separator : ℕ) (first other rest more : List ℕ) → All (λ b. b ≢ separator) first → All (λ b. b ≢ separator) other
+    → first ++ separator ∷ rest ≡ other ++ separator ∷ more → (first ≡ other) × (rest ≡ more)
+cut_once separator [] [] rest more none none' is = (refl, cc)
+cut_once separator [] (b ∷ other) rest more none none' is = let head : b ≡ separator = cc in absurd (none' 0 b (omega arith) head)
+cut_once separator (a ∷ first) [] rest more none none' is = let head : a ≡ separator = cc in absurd (none 0 a (omega arith) head)
+cut_once separator (a ∷ first) (b ∷ other) rest more none none' is =
+    let head : a ≡ b = cc in
+    let tail : first ++ separator ∷ rest ≡ other ++ separator ∷ more = cc in
+    let parts = cut_once separator first other rest more (λ k d within. none (suc k) d (omega arith)) (λ k d within. none' (suc k) d (omega arith)) tail in
+    (ap (λ x. x ∷ first) head ∙ ap (λ xs. b ∷ xs) parts.0, parts.1)
+
+-- what stands before the first separator has none
+pub cut_first : (separator : ℕ) (text first : List ℕ) (rest : Option (Bor (List ℕ))) → IsCut separator text first rest → All (λ b. b ≢ separator) first
+cut_first separator text first None cut = cut.0
+cut_first separator text first (Some rest) cut = cut.0
+
 -- ---- a text that is searched in two parts
 
 module _ (test : ℕ → Bool) (text : List ℕ) (short : ℕ) where
@@ -45,3 +62,9 @@ module _ (test : ℕ → Bool) (text : List ℕ) (short : ℕ) where
             let there = ap test (get_or-drop short text (k - short) 0 ∙ ap (λ i. get_or text i 0) whole) in
             far (k - short) (omega arith) (omega (arith, past, high)) (there ∙ passes)
       ]
+
+-- ---- a line with ends of lines after it
+
+pub drop_ends : (n : ℕ) → n < 27 → drop {A = ℕ} n (replicate 27 10) ≡ 10 ∷ drop (n + 1) (replicate 27 10)
+drop_ends n within =
+    drop_more {X = ℕ} (replicate 27 10) n 0 (omega (arith, within, length-replicate {A = ℕ} 27 10)) ∙ ap (λ b. b ∷ drop (n + 1) (replicate 27 10)) (get_or-replicate 27 n 10 0 within)

@@ -1,95 +1,40 @@
--- A command's line in front of a text.
-use Rattle.std.proofs.Common.{◌≡◌, ◌≢◌, ℕ, ◌^◌, ◌<◌, lit≤, true, false, not, nat_eq, Some, List, [], ◌∷◌, ◌++◌, length, get_or, codes, decimal, refl, arith}
-use borrow.Author.Tests.{ne_eqb}
+-- The line of a command at the start of a text.
+use Rattle.std.proofs.Common.{◌≡◌, ◌≢◌, ◌⊎◌, ℕ, Bool, true, false, not, ◌&&◌, ◌||◌, nat_eq, nat_lt, Some, List, [], ◌∷◌, ◌++◌, length, map, get_or, decimal, refl, sym, ap, subst, ◌∙◌, append_assoc, inl, inr, arith}
+use borrow.Author.Tests.{ltb-true, eq-eqb, ne_eqb}
 use Rattle.std.specs.Borrow.{Bor}
-use Rattle.std.specs.List.{All, list_all}
-use Rattle.std.specs.Char.{is_ascii_digit}
+use Rattle.std.specs.List.{All, list_all, join_with_byte}
 use Rattle.std.proofs.lemmas.Bool.Decides.{nat_tests}
-use Rattle.std.proofs.lemmas.Fmt.{digits_decimal}
+use Rattle.std.proofs.lemmas.List.{get_or_append_left}
 use Rattle.std.proofs.lemmas.List.Elements.{All-append}
 use Rattle.std.proofs.lemmas.List.Sums.{AllPass-from_list_all}
 use Rattle.lrc_rules.specs.declared.command.Command.{Command}
-use Rattle.lrc_rules.specs.declared.command.Command.TheVariants.{Place, Place6, Drop, Lease, Next, Done, Abandon, Revoke, Fail, Down, Up, Drain, Undrain, Retire, Join, Upgrade, Upgraded, Tick}
-use Rattle.lrc_script.specs.Scripts.{is_passed_over, numbers_text, command_line, IsInRange}
-use Rattle.lrc_script.specs.Cuts.{IsLineRead}
-use Rattle.lrc_front.proofs.DigitLemmas.{own}
-use Rattle.lrc_script.proofs.CauseLemmas.{AreBelow, below_pair, below_report, cause_of-command_line}
+use Rattle.lrc_script.specs.Scripts.{Form, form_of, same_text, numbers_text, command_line, IsInRange}
+use Rattle.lrc_script.specs.Cuts.{AreBelow, HasNoNumbers, HasNoCommand, IsLineRead}
+use Rattle.lrc_script.proofs.ScriptLemmas.{both, same_text-true}
+use Rattle.lrc_script.proofs.NumbersLemmas.{digits_alone}
+use Rattle.lrc_script.proofs.FormLemmas.{form_with, all_forms, form_at, line_with, index_of, numbers_of, line_of, form_sound, no_end, command_kept}
+use Rattle.lrc_script.proofs.CauseLemmas.{cause_of-command_line}
 
 -- ---- no end of a line stands in the line of a command
 
-digit_no_end : (c : ℕ) → is_ascii_digit c ≡ true → c ≢ 10
-digit_no_end c digit = grind (arith, nat_tests)
+space_no_end : All (λ (b : ℕ). b ≢ 10) (32 ∷ [])
+space_no_end k d within = grind (arith, nat_tests)
 
-letter_no_end : (c : ℕ) → not (nat_eq c 10) ≡ true → c ≢ 10
-letter_no_end c letter = grind (arith, nat_tests)
+line_no_end : (word : List ℕ) (ns bounds : List ℕ) → All (λ b. b ≢ 10) word → AreBelow ns bounds → All (λ b. b ≢ 10) (join_with_byte 32 (word ∷ map decimal ns))
+line_no_end word [] bounds none below = none
+line_no_end word (n ∷ ns) [] none below = absurd below
+line_no_end word (n ∷ ns) (bound ∷ bounds) none below =
+    let digits = digits_alone n 10 (omega (arith, below.0.0, below.0.1)) refl in
+    All-append (λ b. b ≢ 10) word (32 ∷ numbers_text (n ∷ ns)) none
+    (All-append (λ b. b ≢ 10) (32 ∷ []) (numbers_text (n ∷ ns)) space_no_end (line_no_end (decimal n) ns bounds digits below.1))
 
-word_no_end : (word : List ℕ) → list_all (λ b. not (nat_eq b 10)) word ≡ true → All (λ b. b ≢ 10) word
-word_no_end word letters = λ k d within. letter_no_end (get_or word k d) (AllPass-from_list_all (λ b. not (nat_eq b 10)) word letters k d within)
+pub command_no_end : (command : Command) → IsInRange command → All (λ b. b ≢ 10) (command_line command)
+command_no_end command range =
+    let is = line_of command in
+    let form = form_at (index_of command) in
+    subst (All (λ b. b ≢ 10)) (sym is.line) (line_no_end form.word (numbers_of command) form.bounds (no_end form.word (form_sound command).letters) (is.below range))
 
-number_no_end : (n : ℕ) → n < 2 ^ 64 → All (λ b. b ≢ 10) (decimal n)
-number_no_end n small = λ k d within. digit_no_end (get_or (decimal n) k d) (AllPass-from_list_all is_ascii_digit (decimal n) (digits_decimal own n small) k d within)
-
-numbers_no_end : (n : ℕ) (ns bounds : List ℕ) → AreBelow (n ∷ ns) bounds → All (λ b. b ≢ 10) (numbers_text (n ∷ ns))
-numbers_no_end n ns [] below = absurd below
-numbers_no_end n [] (bound ∷ bounds) below = number_no_end n (omega (arith, below.0.0, below.0.1))
-numbers_no_end n (m ∷ ms) (bound ∷ bounds) below =
-    All-append (λ b. b ≢ 10) (decimal n) (32 ∷ numbers_text (m ∷ ms)) (number_no_end n (omega (arith, below.0.0, below.0.1)))
-    (All-append (λ b. b ≢ 10) (32 ∷ []) (numbers_text (m ∷ ms)) (word_no_end (32 ∷ []) refl) (numbers_no_end m ms bounds below.1))
-
-line_no_end :
-    (word : List ℕ) (n : ℕ) (ns bounds : List ℕ) → list_all (λ b. not (nat_eq b 10)) word ≡ true → AreBelow (n ∷ ns) bounds
-    → All (λ b. b ≢ 10) (word ++ numbers_text (n ∷ ns))
-line_no_end word n ns bounds letters below = All-append (λ b. b ≢ 10) word (numbers_text (n ∷ ns)) (word_no_end word letters) (numbers_no_end n ns bounds below)
-
-node_no_end : (word : List ℕ) (n : ℕ) → list_all (λ b. not (nat_eq b 10)) word ≡ true → n < 65536 → All (λ b. b ≢ 10) (word ++ decimal n)
-node_no_end word n letters small = line_no_end word n [] (65536 ∷ []) letters ((small, lit≤ tt), tt)
-
-command_no_end : (command : Command) → IsInRange command → All (λ b. b ≢ 10) (command_line command)
-command_no_end (Place s) _ = line_no_end (codes "place ") s.value [] (4096 ∷ []) refl ((s.in_range, lit≤ tt), tt)
-command_no_end (Place6 s) _ = line_no_end (codes "place6 ") s.value [] (4096 ∷ []) refl ((s.in_range, lit≤ tt), tt)
-command_no_end (Drop s) _ = line_no_end (codes "drop ") s.value [] (4096 ∷ []) refl ((s.in_range, lit≤ tt), tt)
-command_no_end (Lease s f) _ = line_no_end (codes "lease ") s.value (f.value ∷ []) (4096 ∷ 16 ∷ []) refl (below_pair s f)
-command_no_end Next _ = word_no_end (codes "next") refl
-command_no_end (Done s f e) small = line_no_end (codes "done ") s.value (f.value ∷ e ∷ []) (4096 ∷ 16 ∷ 4294967296 ∷ []) refl (below_report s f e small)
-command_no_end (Abandon s f e) small = line_no_end (codes "abandon ") s.value (f.value ∷ e ∷ []) (4096 ∷ 16 ∷ 4294967296 ∷ []) refl (below_report s f e small)
-command_no_end (Revoke s f) _ = line_no_end (codes "revoke ") s.value (f.value ∷ []) (4096 ∷ 16 ∷ []) refl (below_pair s f)
-command_no_end (Fail n) small = node_no_end (codes "fail ") n.value refl small
-command_no_end (Down n) small = node_no_end (codes "down ") n.value refl small
-command_no_end (Up n) small = node_no_end (codes "up ") n.value refl small
-command_no_end (Drain n) small = node_no_end (codes "drain ") n.value refl small
-command_no_end (Undrain n) small = node_no_end (codes "undrain ") n.value refl small
-command_no_end (Retire n) small = node_no_end (codes "retire ") n.value refl small
-command_no_end (Join n) small = node_no_end (codes "join ") n.value refl small
-command_no_end (Upgrade u) small = node_no_end (codes "upgrade ") u.value refl (omega (arith, small))
-command_no_end (Upgraded u) small = node_no_end (codes "upgraded ") u.value refl (omega (arith, small))
-command_no_end Tick _ = word_no_end (codes "tick") refl
-
--- ---- the line of a command is no comment
-
-letter_kept : (first : ℕ) (line : List ℕ) → nat_eq first 35 ≡ false → is_passed_over (first ∷ line) ≡ false
-letter_kept first line letter = rw (ne_eqb (length (first ∷ line)) 0 (omega arith), letter) refl
-
-command_kept : (command : Command) → is_passed_over (command_line command) ≡ false
-command_kept (Place s) = letter_kept 112 (codes "lace " ++ decimal s.value) refl
-command_kept (Place6 s) = letter_kept 112 (codes "lace6 " ++ decimal s.value) refl
-command_kept (Drop s) = letter_kept 100 (codes "rop " ++ decimal s.value) refl
-command_kept (Lease s f) = letter_kept 108 (codes "ease " ++ numbers_text (s.value ∷ f.value ∷ [])) refl
-command_kept Next = letter_kept 110 (codes "ext") refl
-command_kept (Done s f e) = letter_kept 100 (codes "one " ++ numbers_text (s.value ∷ f.value ∷ e ∷ [])) refl
-command_kept (Abandon s f e) = letter_kept 97 (codes "bandon " ++ numbers_text (s.value ∷ f.value ∷ e ∷ [])) refl
-command_kept (Revoke s f) = letter_kept 114 (codes "evoke " ++ numbers_text (s.value ∷ f.value ∷ [])) refl
-command_kept (Fail n) = letter_kept 102 (codes "ail " ++ decimal n.value) refl
-command_kept (Down n) = letter_kept 100 (codes "own " ++ decimal n.value) refl
-command_kept (Up n) = letter_kept 117 (codes "p " ++ decimal n.value) refl
-command_kept (Drain n) = letter_kept 100 (codes "rain " ++ decimal n.value) refl
-command_kept (Undrain n) = letter_kept 117 (codes "ndrain " ++ decimal n.value) refl
-command_kept (Retire n) = letter_kept 114 (codes "etire " ++ decimal n.value) refl
-command_kept (Join n) = letter_kept 106 (codes "oin " ++ decimal n.value) refl
-command_kept (Upgrade u) = letter_kept 117 (codes "pgrade " ++ decimal u.value) refl
-command_kept (Upgraded u) = letter_kept 117 (codes "pgraded " ++ decimal u.value) refl
-command_kept Tick = letter_kept 116 (codes "ick") refl
-
--- a line in front of a text, and its command behind those before
+-- a line at the start of a text, and its command after those before
 pub IsLineRead-front :
     (text : List ℕ) (before : List Command) (command : Command) (rest : Bor (List ℕ)) → IsInRange command → text ≡ command_line command ++ 10 ∷ rest.now
     → IsLineRead text before (before ++ command ∷ []) (Some rest)
@@ -97,5 +42,114 @@ IsLineRead-front text before command rest range is = record {
   line = command_line command;
   cut = (command_no_end command range, is);
   good = cause_of-command_line command range;
-  added = record { read = Some command; is_read = (command_kept command, range, refl); commands = refl };
+  added = record { read = Some command; is_read = (command_kept command range, range, refl); commands = refl };
 }
+
+-- ---- which line a text starts with
+
+-- the byte after a word: a space, or the end of the line
+abbrev pub byte_after : List ℕ → ℕ
+byte_after [] = 10
+byte_after (bound ∷ bounds) = 32
+
+-- how each line of a form begins
+abbrev pub head_of : Form → List ℕ
+head_of form = form.word ++ byte_after form.bounds ∷ []
+
+starts : (word : List ℕ) (ns bounds rest : List ℕ) → AreBelow ns bounds → (tail : List ℕ) × (join_with_byte 32 (word ∷ map decimal ns) ++ 10 ∷ rest ≡ (word ++ byte_after bounds ∷ []) ++ tail)
+starts word [] [] rest below = (rest, sym (append_assoc word (10 ∷ []) rest))
+starts word [] (bound ∷ bounds) rest below = absurd below
+starts word (n ∷ ns) [] rest below = absurd below
+starts word (n ∷ ns) (bound ∷ bounds) rest below =
+    (numbers_text (n ∷ ns) ++ 10 ∷ rest, append_assoc word (32 ∷ numbers_text (n ∷ ns)) (10 ∷ rest) ∙ sym (append_assoc word (32 ∷ []) (numbers_text (n ∷ ns) ++ 10 ∷ rest)))
+
+-- a byte of a text, and whether it is this one
+pub record Look : Type 0 where
+  pub at : ℕ
+  pub byte : ℕ
+  pub is : Bool
+
+-- this byte is there, or another
+abbrev pub has : ℕ → ℕ → Look
+has at byte = record { at = at; byte = byte; is = true }
+
+abbrev pub lacks : ℕ → ℕ → Look
+lacks at byte = record { at = at; byte = byte; is = false }
+
+abbrev pub AreTrue : List ℕ → List Look → Type 0
+AreTrue text [] = Unit {0}
+AreTrue text (look ∷ looks) = (nat_eq (get_or text look.at 0) look.byte ≡ look.is) × AreTrue text looks
+
+pub is : (b byte : ℕ) → b ≡ byte → nat_eq b byte ≡ true
+is b byte same = eq-eqb b byte same
+
+pub is_not : (b byte : ℕ) → b ≢ byte → nat_eq b byte ≡ false
+is_not b byte other = ne_eqb b byte other
+
+abbrev pub differ : Bool → Bool → Bool
+differ true b = not b
+differ false b = b
+
+-- one of these looks shows that a text starts with no line of the form
+abbrev pub is_ruled_out : List Look → Form → Bool
+is_ruled_out [] form = false
+is_ruled_out (look ∷ looks) form =
+    (nat_lt look.at (length (head_of form)) && differ (nat_eq (get_or (head_of form) look.at 0) look.byte) look.is) || is_ruled_out looks form
+
+-- the text starts with no line of the form
+abbrev pub HasNoLine : List ℕ → Form → Type 0
+HasNoLine text form = (ns rest : List ℕ) → AreBelow ns form.bounds → text ≢ line_with form ns ++ 10 ∷ rest
+
+same_differ : (b : Bool) → differ b b ≡ false
+same_differ true = refl
+same_differ false = refl
+
+either : (a b : Bool) → (a || b) ≡ true → (a ≡ true) ⊎ (b ≡ true)
+either true b e = inl refl
+either false b e = inr e
+
+ruled_out : (text : List ℕ) (form : Form) (looks : List Look) → AreTrue text looks → is_ruled_out looks form ≡ true → HasNoLine text form
+ruled_out text form [] true_looks e ns rest below is = cc
+ruled_out text form (look ∷ looks) true_looks e ns rest below is =
+    let here = nat_lt look.at (length (head_of form)) && differ (nat_eq (get_or (head_of form) look.at 0) look.byte) look.is in
+    elim (either here (is_ruled_out looks form) e) [
+      | inl this ↦
+          let parts = both (nat_lt look.at (length (head_of form))) (differ (nat_eq (get_or (head_of form) look.at 0) look.byte) look.is) this in
+          let start = starts form.word ns form.bounds rest below in
+          let byte : get_or text look.at 0 ≡ get_or (head_of form) look.at 0 =
+          ap (λ t. get_or t look.at 0) (is ∙ start.1) ∙ get_or_append_left (head_of form) start.0 0 look.at (ltb-true look.at (length (head_of form)) parts.0) in
+          let seen : nat_eq (get_or (head_of form) look.at 0) look.byte ≡ look.is = ap (λ b. nat_eq b look.byte) (sym byte) ∙ true_looks.0 in
+          let no : differ look.is look.is ≡ true = ap (λ b. differ b look.is) (sym seen) ∙ parts.1 in
+          let never : false ≡ true = sym (same_differ look.is) ∙ no in cc
+      | inr later ↦ ruled_out text form looks true_looks.1 later ns rest below is
+    ]
+
+-- no command's line is there where that of no form is
+no_command : (text : List ℕ) → ((command : Command) → HasNoLine text (form_at (index_of command))) → HasNoCommand text
+no_command text none command rest range is =
+    let line = line_of command in
+    none command (numbers_of command) rest (line.below range) (is ∙ ap (λ l. l ++ 10 ∷ rest) line.line)
+
+module _ (text : List ℕ) (looks : List Look) (true_looks : AreTrue text looks) where
+  but : (word bounds : List ℕ) → form_of word ≡ Some (form_with word bounds) → HasNoLine text (form_with word bounds) → (form : Form) → form_of form.word ≡ Some form
+      → (is_ruled_out looks form || same_text form.word word) ≡ true → HasNoLine text form
+  but word bounds found none form its tested = elim (either (is_ruled_out looks form) (same_text form.word word) tested) [
+    | inl this ↦ ruled_out text form looks true_looks this
+    | inr same ↦
+        let both_are : Some (form_with word bounds) ≡ Some form = sym found ∙ ap form_of (sym (same_text-true form.word word same)) ∙ its in
+        let the_form : form_with word bounds ≡ form = cc in
+        subst (HasNoLine text) the_form none
+  ]
+
+  -- each form but that of this word is
+  pub no_command-but : (word bounds : List ℕ) → form_of word ≡ Some (form_with word bounds) → list_all (λ form. is_ruled_out looks form || same_text form.word word) all_forms ≡ true
+      → HasNoLine text (form_with word bounds) → HasNoCommand text
+  no_command-but word bounds found out none = no_command text (λ command. but word bounds found none (form_at (index_of command)) (line_of command).found
+      (AllPass-from_list_all (λ form. is_ruled_out looks form || same_text form.word word) all_forms out (index_of command) (form_with [] []) (line_of command).within))
+
+-- ---- what is missing after a word
+
+pub no_line-numbers : (text word : List ℕ) (bound : ℕ) (bounds : List ℕ) → HasNoNumbers text (word ++ 32 ∷ []) (bound ∷ bounds) → HasNoLine text (form_with word (bound ∷ bounds))
+no_line-numbers text word bound bounds none [] rest below is = absurd below
+no_line-numbers text word bound bounds none (n ∷ ns) rest below is =
+    none (n ∷ ns) rest below (is ∙ append_assoc word (32 ∷ numbers_text (n ∷ ns)) (10 ∷ rest) ∙ sym (append_assoc word (32 ∷ []) (numbers_text (n ∷ ns) ++ 10 ∷ rest)))

@@ -1,8 +1,11 @@
 pub mod CutLemmas
 pub mod ScriptLemmas
+pub mod NumbersLemmas
 pub mod LineLemmas
+pub mod FormLemmas
 pub mod CauseLemmas
 pub mod FrontLemmas
+pub mod TableLemmas
 pub mod FirstLemmas
 pub mod SplitLemmas
 pub mod TextLemmas

@@ -1,25 +1,24 @@
 -- Words, lines and what they are read as.
-use Rattle.std.proofs.Common.{◌≡◌, ◌≢◌, ℕ, suc, ◌+◌, nat_eq, nat_lt, count_by, ◌^◌, ◌<◌, ◌≤◌, Bool, true, false, not, ◌&&◌, ◌||◌, List, [], ◌∷◌, length, get_or, take, decimal, codes, Option, Some, None, refl, sym, ap, ◌∙◌, arith}
-use borrow.Author.Tests.{ltb-true, lt-ltb, le-ltb, eqb-true, eq-eqb, ne_eqb}
-use Rattle.std.specs.List.{list_all, starts_with, join_with_byte}
+use Rattle.std.proofs.Common.{◌≡◌, ◌≢◌, ℕ, ◌+◌, nat_eq, nat_lt, count_by, ◌^◌, ◌<◌, ◌≤◌, Bool, true, false, not, ◌&&◌, ◌||◌, List, [], ◌∷◌, length, get_or, take, decimal, Option, Some, None, refl, sym, ap, ◌∙◌, arith}
+use borrow.Author.Tests.{ltb-true, lt-ltb, le-ltb, eqb-true, eq-eqb}
+use Rattle.std.specs.List.{list_all, starts_with}
 use Rattle.std.specs.Bool.{Decides}
 use Rattle.std.proofs.lemmas.List.{take_all}
 use Rattle.std.proofs.lemmas.Slice.Eq.{bytes_eq-Decides}
 use Rattle.std.specs.Char.{is_ascii_digit}
 use Rattle.std.specs.Str.Parse.{digits_value}
 use Rattle.std.proofs.lemmas.Fmt.{decimal-digits_value}
-use Rattle.lrc_script.specs.declared.script.Cause.TheVariants.{WordCount}
 use Rattle.std.proofs.lemmas.Bool.Decides.{nat_tests}
 use Rattle.std.specs.Borrow.{Bor}
-use Rattle.std.proofs.lemmas.List.Splits.{length-slice_split, join_with_byte-slice_split}
+use Rattle.std.proofs.lemmas.List.Splits.{length-slice_split}
 use Rattle.lrc_script.specs.Cuts.{IsCut, words_behind}
-use Rattle.lrc_script.specs.Scripts.{same_text, is_number, argument_cause, node_forms, form_in, numbers_cause, form_cause, words_cause, cause_of, is_passed_over, words_of}
+use Rattle.lrc_script.specs.Scripts.{same_text, is_number, argument_cause, words_cause, cause_of, is_passed_over, words_of}
 use Rattle.lrc_front.proofs.DigitLemmas.{own}
 use Rattle.lrc_script.proofs.CutLemmas.{pieces_behind, slice_split-cut}
 
 -- ---- texts
 
-both : (a b : Bool) → (a && b) ≡ true → (a ≡ true) × (b ≡ true)
+pub both : (a b : Bool) → (a && b) ≡ true → (a ≡ true) × (b ≡ true)
 both true b e = (refl, e)
 both false b e = cc
 
@@ -39,6 +38,9 @@ same_text-Decides xs ys =
 
 pub same_text-true : (xs ys : List ℕ) → same_text xs ys ≡ true → xs ≡ ys
 same_text-true xs ys e = (same_text-Decides xs ys).0 e
+
+pub same_text-own : (xs ys : List ℕ) → xs ≡ ys → same_text xs ys ≡ true
+same_text-own xs ys e = (same_text-Decides xs ys).1 e
 
 pub same_text-false : (xs ys : List ℕ) → xs ≢ ys → same_text xs ys ≡ false
 same_text-false xs ys ne = not_so (same_text xs ys) (λ e. ne (same_text-true xs ys e))
@@ -82,75 +84,6 @@ some_pieces (first ∷ more) n e = (first, more, refl)
 
 pub words_of-some : (line : List ℕ) → (word : List ℕ) × (words : List (List ℕ)) × (words_of line ≡ word ∷ words)
 words_of-some line = some_pieces (words_of line) (count_by (λ b. nat_eq b 32) line) (length-slice_split (λ b. nat_eq b 32) line)
-
--- one word stands behind where no space does
-pub words_behind-one : (rest more : Option (Bor (List ℕ))) (line : Bor (List ℕ)) (word : List ℕ) → rest ≡ Some line → more ≡ None → IsCut 32 line.now word more → words_behind rest ≡ word ∷ []
-words_behind-one rest more line word there none cut = ap words_behind there ∙ words_of-cut line.now word more cut ∙ ap (λ o. word ∷ words_behind o) none
-
-pub words_behind-more : (rest more : Option (Bor (List ℕ))) (line tail : Bor (List ℕ)) (word : List ℕ) → rest ≡ Some line → more ≡ Some tail → IsCut 32 line.now word more → length (words_behind rest) ≢ 1
-words_behind-more rest more line tail word there some cut one =
-    let both = ap words_behind there ∙ words_of-cut line.now word more cut ∙ ap (λ o. word ∷ words_behind o) some in
-    let split = words_of-some tail.now in
-    let count = ap length both ∙ ap (λ ws. suc (length ws)) split.2 in
-    absurd (omega (arith, one, count))
-
--- ---- commands
-
--- the line of a word and these behind it
-pub line-words :
-    (line word name : List ℕ) (words : List (List ℕ)) (rest : Option (Bor (List ℕ))) → IsCut 32 line word rest → words_behind rest ≡ words → word ≡ name
-    → line ≡ join_with_byte 32 (name ∷ words)
-line-words line word name words rest cut behind named =
-    sym (join_with_byte-slice_split 32 line) ∙ ap (join_with_byte 32) (words_of-cut line word rest cut ∙ ap (λ ws. word ∷ ws) behind ∙ ap (λ w. w ∷ words) named)
-
--- some word stands behind a space
-pub no_words-cause : (line : Bor (List ℕ)) → numbers_cause (words_of line.now) [] ≡ Some WordCount
-no_words-cause line = let split = words_of-some line.now in rw (split.2, ne_eqb (suc (length split.1)) 0 (omega arith)) refl
-
--- words behind a cut are one more than those behind its first word
-pub words_behind-next : (rest more : Option (Bor (List ℕ))) (line : Bor (List ℕ)) (word : List ℕ) (words : List (List ℕ)) → rest ≡ Some line → IsCut 32 line.now word more → words_behind more ≡ words → words_behind rest ≡ word ∷ words
-words_behind-next rest more line word words there cut next = ap words_behind there ∙ words_of-cut line.now word more cut ∙ ap (λ ws. word ∷ ws) next
-
-pub words_behind-count : (rest more : Option (Bor (List ℕ))) (line : Bor (List ℕ)) (word : List ℕ) (n : ℕ) → rest ≡ Some line → IsCut 32 line.now word more → length (words_behind more) ≢ n → length (words_behind rest) ≢ n + 1
-words_behind-count rest more line word n there cut other same =
-    let count = ap length (words_behind-next rest more line word (words_behind more) there cut refl) in
-    other (omega (arith, same, count))
-
--- the word of no command on stripes or the clock
-pub words_cause-node :
-    (line word : List ℕ) (rest : Option (Bor (List ℕ))) → IsCut 32 line word rest
-    → word ≢ codes "place" → word ≢ codes "place6" → word ≢ codes "drop" → word ≢ codes "lease" → word ≢ codes "next" → word ≢ codes "tick"
-    → word ≢ codes "done" → word ≢ codes "abandon" → word ≢ codes "revoke"
-    → words_cause (words_of line) ≡ form_cause (words_behind rest) (form_in node_forms word)
-words_cause-node line word rest cut no_place no_place6 no_drop no_lease no_next no_tick no_done no_abandon no_revoke =
-    ap words_cause (words_of-cut line word rest cut) ∙ rw (
-      same_text-false word (codes "place") no_place,
-      same_text-false word (codes "place6") no_place6,
-      same_text-false word (codes "drop") no_drop,
-      same_text-false word (codes "lease") no_lease,
-      same_text-false word (codes "next") no_next,
-      same_text-false word (codes "tick") no_tick,
-      same_text-false word (codes "done") no_done,
-      same_text-false word (codes "abandon") no_abandon,
-      same_text-false word (codes "revoke") no_revoke,
-    ) refl
-
--- the word of no command on nodes
-pub node_form-none :
-    (word : List ℕ) → word ≢ codes "fail" → word ≢ codes "down" → word ≢ codes "up" → word ≢ codes "drain" → word ≢ codes "undrain"
-    → word ≢ codes "retire" → word ≢ codes "join" → word ≢ codes "upgrade" → word ≢ codes "upgraded" → form_in node_forms word ≡ None
-node_form-none word no_fail no_down no_up no_drain no_undrain no_retire no_join no_upgrade no_upgraded =
-    rw (
-      same_text-false word (codes "fail") no_fail,
-      same_text-false word (codes "down") no_down,
-      same_text-false word (codes "up") no_up,
-      same_text-false word (codes "drain") no_drain,
-      same_text-false word (codes "undrain") no_undrain,
-      same_text-false word (codes "retire") no_retire,
-      same_text-false word (codes "join") no_join,
-      same_text-false word (codes "upgrade") no_upgrade,
-      same_text-false word (codes "upgraded") no_upgraded,
-    ) refl
 
 -- ---- lines
 

@@ -1,12 +1,11 @@
 -- How many commands the lines of a text can be, and the scripts of a bundle.
-use Rattle.std.proofs.Common.{◌≡◌, ℕ, suc, ◌+◌, ◌*◌, ◌≤◌, inl, inr, Bool, true, false, not, cond, nat_eq, All, List, [], ◌∷◌, ◌++◌, length, map, flat_map, filter, sum_by, codes, decimal, refl, ap, arith, length-append}
+use Rattle.std.proofs.Common.{◌≡◌, ℕ, suc, ◌+◌, ◌*◌, ◌≤◌, inl, inr, Bool, true, false, not, cond, nat_eq, All, List, [], ◌∷◌, ◌++◌, length, map, flat_map, filter, sum_by, codes, refl, ap, arith, length-append}
 use Rattle.std.specs.List.{slice_split, onto_first, AllZip}
-use Rattle.std.proofs.lemmas.Fmt.{decimal_nonempty}
 use Rattle.std.proofs.lemmas.List.Sums.{sum_by-cons}
 use Rattle.lrc_rules.specs.declared.command.Command.{Command}
-use Rattle.lrc_rules.specs.declared.command.Command.TheVariants.{Place, Place6, Drop, Lease, Next, Done, Abandon, Revoke, Fail, Down, Up, Drain, Undrain, Retire, Join, Upgrade, Upgraded, Tick}
-use Rattle.lrc_script.specs.Scripts.{lines_of, is_passed_over, numbers_text, command_line, IsInRange, IsScript}
+use Rattle.lrc_script.specs.Scripts.{lines_of, is_passed_over, command_line, IsInRange, IsScript}
 use Rattle.lrc_script.specs.Bundles.{Script, scripts_of, topology_of, HoldsLines}
+use Rattle.lrc_script.proofs.FormLemmas.{command_line-long}
 use Rattle.lrc_script.proofs.BundleLemmas.{IsScript-holds}
 use Rattle.lrc_script.proofs.JoinLemmas.{bundle_texts}
 use Rattle.lrc_script.proofs.TextLemmas.{bundle_joined}
@@ -33,29 +32,9 @@ size_of-filter : (p : List ℕ → Bool) (lines : List (List ℕ)) → size_of (
 size_of-filter p [] = omega arith
 size_of-filter p (line ∷ lines) = size_of-kept (p line) line (filter p lines) lines (size_of-filter p lines)
 
-length-command_line : (c : Command) → IsInRange c → 4 ≤ length (command_line c)
-length-command_line (Place s) _ = omega (arith, length-append (codes "place ") (decimal s.value))
-length-command_line (Place6 s) _ = omega (arith, length-append (codes "place6 ") (decimal s.value))
-length-command_line (Drop s) _ = omega (arith, length-append (codes "drop ") (decimal s.value))
-length-command_line (Lease s f) _ = omega (arith, length-append (codes "lease ") (numbers_text (s.value ∷ f.value ∷ [])))
-length-command_line Next _ = omega arith
-length-command_line (Done s f e) _ = omega (arith, length-append (codes "done ") (numbers_text (s.value ∷ f.value ∷ e ∷ [])))
-length-command_line (Abandon s f e) _ = omega (arith, length-append (codes "abandon ") (numbers_text (s.value ∷ f.value ∷ e ∷ [])))
-length-command_line (Revoke s f) _ = omega (arith, length-append (codes "revoke ") (numbers_text (s.value ∷ f.value ∷ [])))
-length-command_line (Fail n) _ = omega (arith, length-append (codes "fail ") (decimal n.value))
-length-command_line (Down n) _ = omega (arith, length-append (codes "down ") (decimal n.value))
-length-command_line (Up n) small = let digit = decimal_nonempty n.value (omega (arith, small)) in omega (arith, length-append (codes "up ") (decimal n.value), digit)
-length-command_line (Drain n) _ = omega (arith, length-append (codes "drain ") (decimal n.value))
-length-command_line (Undrain n) _ = omega (arith, length-append (codes "undrain ") (decimal n.value))
-length-command_line (Retire n) _ = omega (arith, length-append (codes "retire ") (decimal n.value))
-length-command_line (Join n) _ = omega (arith, length-append (codes "join ") (decimal n.value))
-length-command_line (Upgrade u) _ = omega (arith, length-append (codes "upgrade ") (decimal u.value))
-length-command_line (Upgraded u) _ = omega (arith, length-append (codes "upgraded ") (decimal u.value))
-length-command_line Tick _ = omega arith
-
 size_of-commands : (cs : List Command) → All IsInRange cs → 5 * length cs ≤ size_of (map command_line cs)
 size_of-commands [] _ = omega arith
-size_of-commands (c ∷ cs) in_range = omega (arith, length-command_line c (in_range 0 c (omega arith)), size_of-commands cs (λ k d within. in_range (suc k) d (omega (arith, within))))
+size_of-commands (c ∷ cs) in_range = omega (arith, command_line-long c (in_range 0 c (omega arith)), size_of-commands cs (λ k d within. in_range (suc k) d (omega (arith, within))))
 
 -- a command's line and its end have at least five bytes
 few_commands : (text : List ℕ) (commands : List Command) → IsScript (lines_of text) commands → 5 * length commands ≤ length text + 1

@@ -1,10 +1,11 @@
 -- Internal: no public clause reaches these definitions.
 -- Texts, cut at the first of a byte or at their first parting line, and lines, read.
-use Rattle.std.specs.Prelude.{◌≡◌, ◌≢◌, ℕ, ◌+◌, ◌≤◌, ◌⊎◌, true, false, List, [], ◌∷◌, ◌++◌, length, All, Option, Some, None, option_map, option_to_list}
+use Rattle.std.specs.Prelude.{◌≡◌, ◌≢◌, ℕ, ◌+◌, ◌^◌, ◌<◌, ◌≤◌, ◌⊎◌, true, false, List, [], ◌∷◌, ◌++◌, length, All, Option, Some, None, option_map, option_to_list}
 use Rattle.std.specs.Borrow.{Bor}
 use Rattle.lrc_rules.specs.declared.command.Command.{Command}
+use Rattle.lrc_script.specs.declared.forms.Form.{Form as Row}
 use Rattle.lrc_script.specs.declared.script.ScriptError.{ScriptError}
-use Rattle.lrc_script.specs.Scripts.{lines_of, words_of, is_passed_over, command_line, IsInRange, cause_of, BadLine, IsFirstBad}
+use Rattle.lrc_script.specs.Scripts.{Form, lines_of, words_of, is_passed_over, numbers_text, command_line, IsInRange, cause_of, BadLine, IsFirstBad}
 use Rattle.lrc_script.specs.Bundles.{parts_of, ended_lines}
 
 -- ---- at a byte
@@ -18,6 +19,26 @@ IsCut separator text first (Some rest) = All (λ b. b ≢ separator) first × (t
 abbrev pub words_behind : Option (Bor (List ℕ)) → List (List ℕ)
 words_behind None = []
 words_behind (Some rest) = words_of rest.now
+
+-- ---- commands
+
+-- the form in a row of the table
+abbrev pub row_form : Row → Form
+row_form row = record { word = row.word.now; bounds = row.bounds.now }
+
+-- each number is below its bound, which is at most 2 ^ 32
+abbrev pub AreBelow : List ℕ → List ℕ → Type 0
+AreBelow [] [] = Unit {0}
+AreBelow (n ∷ ns) (bound ∷ bounds) = ((n < bound) × (bound ≤ 2 ^ 32)) × AreBelow ns bounds
+AreBelow _ _ = ⊥
+
+-- the text does not start with the word, numbers below these bounds and the end of a line
+abbrev pub HasNoNumbers : List ℕ → List ℕ → List ℕ → Type 0
+HasNoNumbers text word bounds = (ns rest : List ℕ) → AreBelow ns bounds → text ≢ word ++ (numbers_text ns ++ 10 ∷ rest)
+
+-- the text does not start with the line of a command and its end
+abbrev pub HasNoCommand : List ℕ → Type 0
+HasNoCommand text = (command : Command) (rest : List ℕ) → IsInRange command → text ≢ command_line command ++ 10 ∷ rest
 
 -- ---- at a parting line
 

@@ -2,7 +2,9 @@
 #![tactic(auto)]
 
 mod bundle;
+mod cause;
 mod cut;
+mod forms;
 mod front;
 pub mod laws;
 mod script;

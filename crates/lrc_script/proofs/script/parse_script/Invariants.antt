@@ -2,8 +2,8 @@ use Rattle.std.proofs.Common.{length}
 use Rattle.lrc_script.proofs.LineLemmas.{IsReadTo}
 use Rattle.lrc_script.proofs.script.parse_script.Given as goal
 
-abbrev pub invariant-loop-behind : goal.invariant-loop-behind
-invariant-loop-behind l = IsReadTo l.first_line l.text l.commands.items l.rest l.number
+abbrev pub invariant-loop-command : goal.invariant-loop-command
+invariant-loop-command l = IsReadTo l.first_line l.text l.commands.items l.rest l.number
 
-abbrev pub decreases-loop-behind : goal.decreases-loop-behind
-decreases-loop-behind l = length l.rest
+abbrev pub decreases-loop-command : goal.decreases-loop-command
+decreases-loop-command l = length l.rest
