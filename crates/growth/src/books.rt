@@ -89,14 +89,14 @@ fn try_once(rt: &impl Host, book: &mut Book, trial: &Trial) -> Result<bool, Stop
 
 /// Makes room for a command, and commits it where there is room.
 fn prepare_once(rt: &impl Host, book: &mut Book, command: Command) -> Result<bool, Stop> {
-    let plan = book.decide(FIRST, command)?;
+    let entry = book.decide(FIRST, command)?;
     begin(rt);
     let prepared = book.prepare();
     end(rt, &prepared)?;
     look(rt, book)?;
     match prepared {
         Ok(()) => {
-            println!(rt; "{:?}", book.commit(plan))?;
+            println!(rt; "{:?}", book.commit(entry))?;
             look(rt, book)?;
             Ok(false)
         }

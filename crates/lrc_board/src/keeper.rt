@@ -79,10 +79,10 @@ impl<N: ViewNaming> Keeper<N> {
         ensures enough { self.old.ready ≡ true → length self.old.history < self.old.limit → IsOk result }
         ensures err { OnErr result (self.new.history ≡ self.old.history) }
     {
-        let plan = self.book.decide(session, command)?;
+        let entry = self.book.decide(session, command)?;
         self.book.prepare()?;
-        self.log.add(plan.entry);
-        let reply = self.book.commit(plan);
+        self.log.add(entry);
+        let reply = self.book.commit(entry);
         let place = self.book.history().len() as u64;
         let changed = ChangedLevels::by(command, &reply);
         self.publisher

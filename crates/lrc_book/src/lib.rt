@@ -1,8 +1,7 @@
 //! The book: a store of slots, stripes, leases, modes and the clock, and the history of commands and replies. `lrc_rules` defines
 //! what each command returns and changes; `Book::call` makes one call. `IsOf` of `specs/Stores` relates the store to the state.
 //!
-//! An `Answer` is a reply as the history keeps it, with seats in a box, and a `Record` is an entry with one. A `Plan` is an entry
-//! that is decided and not yet made.
+//! An `Answer` is a reply as the history keeps it, with seats in a box, and a `Record` is an entry with one.
 #![tactic(auto)]
 
 mod answer;
@@ -15,7 +14,6 @@ pub mod laws;
 mod modes;
 mod neighbours;
 mod node_set;
-mod plan;
 mod record;
 mod repair;
 mod reply_ref;
@@ -24,6 +22,5 @@ mod store;
 
 pub use book::{Book, HISTORY_LIMIT};
 pub use lrc_rules::{Command, Entry, Held, Kind, Lease, Level, Mode, Refusal, Reply, Seat};
-pub use plan::Plan;
 pub use record::Record;
 pub use reply_ref::ReplyRef;

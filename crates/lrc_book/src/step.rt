@@ -15,7 +15,6 @@ ghost use Rattle.lrc_book.specs.Repairing.{IsRepairCursor, HasRepairCursor, IsKe
 
 use crate::answer::{Answer, NO_SEAT};
 use crate::commands::leases::count_grant;
-use crate::plan::Plan;
 use crate::store::Store;
 use crate::{Book, Command, Entry, Record, Reply, Seat};
 use lrc_code::{Code, FRAGMENTS, Fault, NARROW_FRAGMENTS, SessionNo, StripeNo};
@@ -29,10 +28,10 @@ impl Book {
     /// # Errors
     ///
     /// Only `Fault::HistoryFull`, where the history has as many entries as its limit.
-    pub fn decide(&self, session: SessionNo, command: Command) -> Result<Plan, Fault>
-        ensures asked { IfOk result (λ p. (p.entry.session ≡ session) × (p.entry.command ≡ command)) }
-        ensures step { IfOk result (λ p. IsStep self.now p.entry) }
-        ensures room { IfOk result (λ p. length self.now.history < self.now.limit) }
+    pub fn decide(&self, session: SessionNo, command: Command) -> Result<Entry, Fault>
+        ensures asked { IfOk result (λ e. (e.session ≡ session) × (e.command ≡ command)) }
+        ensures step { IfOk result (λ e. IsStep self.now e) }
+        ensures room { IfOk result (λ e. length self.now.history < self.now.limit) }
         ensures err { IfErr result (λ e. (e ≡ fault.HistoryFull) × (length self.now.history ≡ self.now.limit)) }
     {
         if self.history.len() == self.limit {
@@ -41,12 +40,10 @@ impl Book {
         let reply = self
             .store
             .reply(&self.grants, self.repair_cursor, session, &command);
-        Ok(Plan {
-            entry: Entry {
-                session,
-                command,
-                reply,
-            },
+        Ok(Entry {
+            session,
+            command,
+            reply,
         })
     }
 
@@ -93,29 +90,24 @@ impl Book {
         );
     }
 
-    /// Makes the step of a plan that was decided on this history, in a book that has room for it. It can't fail.
-    pub fn commit(&mut self, plan: Plan) -> Reply
+    /// Adds an entry that was decided on this history, and makes its change. The book must have room for it; it can't fail.
+    pub fn commit(&mut self, entry: Entry) -> Reply
         requires ready { self.old.ready ≡ true }
         requires room { length self.old.history < self.old.limit }
-        requires step { IsStep self.old plan.entry }
-        ensures reply { result ≡ plan.entry.reply }
+        requires step { IsStep self.old entry }
+        ensures reply { result ≡ entry.reply }
         ensures same { (self.new.nodes ≡ self.old.nodes) × (self.new.limit ≡ self.old.limit) }
-        ensures history { self.new.history ≡ self.old.history ++ plan.entry ∷ [] }
+        ensures history { self.new.history ≡ self.old.history ++ entry ∷ [] }
     {
-        let Entry {
-            session,
-            command,
-            reply,
-        } = plan.entry;
-        let answer = Answer::of(&reply, &mut self.seats);
+        let answer = Answer::of(&entry.reply, &mut self.seats);
         enter(
             &mut *self.store,
             &mut self.grants,
             &mut self.repair_cursor,
             &mut self.history,
-            Record::new(session, command, answer),
+            Record::new(entry.session, entry.command, answer),
         );
-        reply
+        entry.reply
     }
 }
 

@@ -8,7 +8,7 @@ use super::{
     FIRST, ONE, Row, TWO, call, clock, close, expect_load, expect_node, expect_replies,
     expect_risk, expect_stripe, first_seats, homes, level, missing, mode, node, place_first,
 };
-use lrc_book::{Book, Command, Entry, Level, Mode, Plan, Reply, Seat};
+use lrc_book::{Book, Command, Entry, Level, Mode, Reply, Seat};
 use lrc_code::{Fault, StripeNo, UpgradeNo};
 use lrc_samples::twenty_nodes;
 use std::alloc::Global;
@@ -49,7 +49,7 @@ fn expect_full(rt: &impl Abort, book: &mut Book, command: Command) {
     assert!(rt; decide(book, command).err() == full, "to {command:?}");
 }
 
-fn decide(book: &Book, command: Command) -> Result<Plan, Fault> {
+fn decide(book: &Book, command: Command) -> Result<Entry, Fault> {
     book.decide(FIRST, command)
 }
 
@@ -225,19 +225,19 @@ fn a_plan_is_decided_while_there_is_room(rt: HostRuntime) -> Result<(), Fail> {
 
 /// Neither to decide nor to prepare a call makes it, and a full history can be prepared for a call too.
 fn decide_and_fill(rt: &impl Abort, alloc: Global, book: &mut Book) {
-    let plan = expect_decided(rt, book);
+    let decided = expect_decided(rt, book);
     prepare(rt, book);
     expect_untouched(rt, alloc, book);
     place_first(rt, book);
     prepare(rt, book);
     expect_full(rt, book, Command::Place(TWO));
-    expect_history(rt, book, &[(plan.entry.command, plan.entry.reply)]);
+    expect_history(rt, book, &[(decided.command, decided.reply)]);
     expect_stripe(rt, book, ONE, Level::Whole, 0);
 }
 
-/// The plan to place the first stripe.
-fn expect_decided(rt: &impl Abort, book: &Book) -> Plan {
-    let Ok(plan) = decide(book, Command::Place(ONE)) else {
+/// The entry that placing the first stripe would add.
+fn expect_decided(rt: &impl Abort, book: &Book) -> Entry {
+    let Ok(decided) = decide(book, Command::Place(ONE)) else {
         panic!(rt; "room for an entry");
     };
     let entry = Entry {
@@ -245,8 +245,8 @@ fn expect_decided(rt: &impl Abort, book: &Book) -> Plan {
         command: Command::Place(ONE),
         reply: Reply::Placed(first_seats()),
     };
-    assert!(rt; plan.entry == entry);
-    plan
+    assert!(rt; decided == entry);
+    decided
 }
 
 /// Makes room, for which there is memory.

@@ -58,7 +58,7 @@ fn expect_made(rt: &impl Abort, book: &mut Book, command: Command, reply: Reply)
 }
 
 fn made(book: &mut Book, command: Command) -> Option<Reply> {
-    let plan = book.decide(FIRST, command).ok()?;
+    let entry = book.decide(FIRST, command).ok()?;
     book.prepare().ok()?;
-    Some(book.commit(plan))
+    Some(book.commit(entry))
 }

@@ -85,8 +85,8 @@ fn decide(book: &Book, session: SessionNo, command: Command, reply: &mut LrcRepl
     ensures unwritten { (result ≢ 0) → reply.new ≡ reply.old }
 {
     match book.decide(session, command) {
-        Ok(plan) => {
-            reply.set(&plan.entry.reply);
+        Ok(entry) => {
+            reply.set(&entry.reply);
             DONE
         }
         Err(_) => FULL,
