@@ -112,7 +112,7 @@ impl Book {
 }
 
 /// Adds the next entry to a history that has room for it, and makes its change.
-#[inline(always)] // so that the entry is built where the history keeps it
+#[inline(always)] // so that an entry that changes nothing makes no call
 fn enter(
     store: &mut Store,
     grants: &mut Grants,
@@ -131,9 +131,8 @@ fn enter(
     ensures kept { (limit : ℕ) → IsKept store.old grants.old cursor.old limit history.old.items → length history.old.items < limit
         → IsKept store.new grants.new cursor.new limit history.new.items }
 {
-    let index = history.len();
+    make(store, grants, cursor, history, &made);
     history.push_reserved(made);
-    make(store, grants, cursor, &history[..index], &history[index]);
 }
 
 /// Makes the change of the entry `made`, which comes next after the entries `past`. There must be room for it.
@@ -228,7 +227,13 @@ impl Store {
             Command::Lease(stripe, fragment) => {
                 self.lease_reply(counts, session, stripe, fragment)
             }
-            Command::Next => self.next_reply(counts, cursor, session),
+            Command::Next => {
+                if self.stripes.has_work() {
+                    self.next_reply(counts, cursor, session)
+                } else {
+                    Answer::Idle
+                }
+            }
             Command::Done(stripe, fragment, epoch) => {
                 self.done_reply(session, stripe, fragment, epoch)
             }
