@@ -14,4 +14,4 @@ returns-else-has_work c = λ st past kept counted ahead.
     (λ s has.
     (let some : c.has_work.result ≡ true = c.has_work.ensures.1 (s, subst (λ (t : Stored). has_work t s ≡ true) (sym kept.stripes_is) has) in
     let both : true ≡ false = sym some ∙ c.if-has_work.false in cc)) in
-    ap (λ (o : Option StripeFragment). (next_answer nodes past st c.args.session o).0) none
+    rw c.in-Next.is (ap (λ (o : Option StripeFragment). (next_answer nodes past st c.args.session o).0) none)
