@@ -1,17 +1,18 @@
 -- Upgrades change only which domain is upgrading.
-use Rattle.std.proofs.Common.{◌≡◌, Bool, true, false, not, List, Option, Some, None, refl, ap}
+use Rattle.std.proofs.Common.{◌≡◌, not, List, Option, Some, None, refl, ap, ◌∙◌}
 use Rattle.lrc_code.specs.declared.numbers.StripeNo.{StripeNo}
 use Rattle.lrc_code.specs.declared.numbers.NodeNo.{NodeNo}
 use Rattle.lrc_code.specs.declared.numbers.UpgradeNo.{UpgradeNo}
 use Rattle.lrc_topology.specs.declared.NodeInfo.{NodeInfo}
 use Rattle.lrc_topology.specs.Nodes.{has_domain}
+use Rattle.lrc_rules.specs.declared.command.Command.TheVariants.{Upgrade}
 use Rattle.lrc_rules.specs.declared.reply.Reply.TheVariants.{Changed}
-use Rattle.lrc_rules.specs.declared.refusal.Refusal.{Refusal}
 use Rattle.lrc_rules.specs.declared.refusal.Refusal.TheVariants as refusal
-use Rattle.lrc_rules.specs.Outcomes.{Outcome, refuse_if}
 use Rattle.lrc_rules.specs.States.{State, is_down}
 use Rattle.lrc_rules.specs.Steps.{without_upgrading, would_lose, upgrade_answer, upgrade_outcome, is_the_domain, upgraded_outcome}
+use Rattle.lrc_rules.specs.Changes.{changed_by}
 use Rattle.lrc_rules.proofs.OutcomeLemmas.{either-way}
+use Rattle.lrc_rules.proofs.StepLemmas.{upgrade-changed}
 
 module _ (nodes : List NodeInfo) (st : State) (u : UpgradeNo) where
   -- all but the upgrading domain is as it was
@@ -38,19 +39,5 @@ module _ (nodes : List NodeInfo) (st : State) (u : UpgradeNo) where
   upgraded-down n = ap (λ (next : State). is_down next n) upgraded-rests
 
   -- after Upgrade this domain is upgrading
-  answer-begins : (running : Option UpgradeNo) (lost : Option StripeNo) → (upgrade_answer st u running lost).0 ≡ Changed
-      → (upgrade_answer st u running lost).1.upgrading ≡ Some u
-  answer-begins (Some v) lost told = absurd (cc)
-  answer-begins None (Some s) told = absurd (cc)
-  answer-begins None None told = refl
-
-  begins-by : (met : Bool) (r : Refusal) (other : Outcome) → (other.0 ≡ Changed → other.1.upgrading ≡ Some u)
-      → (refuse_if met r st other).0 ≡ Changed → (refuse_if met r st other).1.upgrading ≡ Some u
-  begins-by true r other next told = absurd (cc)
-  begins-by false r other next told = next told
-
   pub upgrade-begins : (upgrade_outcome nodes st u).0 ≡ Changed → (upgrade_outcome nodes st u).1.upgrading ≡ Some u
-  unfolding upgrade_outcome
-  upgrade-begins told =
-      begins-by (not (has_domain nodes u)) refusal.UnknownDomain (upgrade_answer st u st.upgrading (would_lose nodes st u))
-      (answer-begins st.upgrading (would_lose nodes st u)) told
+  upgrade-begins told = ap (λ (next : State). next.upgrading) (upgrade-changed nodes st u ∙ ap (changed_by st (Upgrade u)) told)
