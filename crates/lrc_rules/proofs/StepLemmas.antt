@@ -171,7 +171,7 @@ pub place-left : (nodes : List NodeInfo) (st : State) (code : Code) (s : StripeN
     → (place_outcome nodes st code s).1 ≡ with_placed st code s seats
 place-left nodes st code s seats told = place-changed nodes st code s ∙ ap (changed_by st (place_command code s)) told ∙ placed-left st code s seats
 
-drop-changed : (st : State) (s : StripeNo) → IsToldBy st (Drop s) (drop_outcome st s)
+pub drop-changed : (st : State) (s : StripeNo) → IsToldBy st (Drop s) (drop_outcome st s)
 unfolding drop_outcome
 drop-changed st s = told-if st (Drop s) (not (has_stripe st s)) refusal.UnknownStripe (Dropped, without_stripe st s) refl refl
 
@@ -226,7 +226,7 @@ module _ (nodes : List NodeInfo) (past : List Entry) (st : State) (session : Ses
   next-one = lease-by Next (record { granting = λ lease k. refl; refusing = λ r. refl })
 
   module _ (e : ℕ) where
-    done-changed : IsToldBy st (Done s f e) (done_outcome nodes st session s f e)
+    pub done-changed : IsToldBy st (Done s f e) (done_outcome nodes st session s f e)
     unfolding done_outcome
     done-changed = told-if st (Done s f e) (not (has_stripe st s)) refusal.UnknownStripe _ refl (by (lease_of st s f) refl) where
       same : (b : Bool) (lease : LeaseRecord) → lease_of st s f ≡ Some lease → IsToldBy st (Done s f e) (done_answer nodes st session s f (if b then Some lease else None))
@@ -240,14 +240,14 @@ module _ (nodes : List NodeInfo) (past : List Entry) (st : State) (session : Ses
       by None none = refl
       by (Some lease) live = same (nat_eq lease.epoch e) lease live
 
-    abandon-changed : IsToldBy st (Abandon s f e) (abandon_outcome st session s f e)
+    pub abandon-changed : IsToldBy st (Abandon s f e) (abandon_outcome st session s f e)
     unfolding abandon_outcome
     abandon-changed = told-if st (Abandon s f e) (not (has_stripe st s)) refusal.UnknownStripe _ refl (by (at_epoch e (lease_of st s f))) where
       by : (o : Option LeaseRecord) → IsToldBy st (Abandon s f e) (abandon_answer st session s f o)
       by None = refl
       by (Some lease) = told-if st (Abandon s f e) (not (is_held_by session lease)) (refusal.NotHolder lease.holder) (Ended, without_lease st s f) refl refl
 
-  revoke-changed : IsToldBy st (Revoke s f) (revoke_outcome st s f)
+  pub revoke-changed : IsToldBy st (Revoke s f) (revoke_outcome st s f)
   unfolding revoke_outcome
   revoke-changed =
       told-if st (Revoke s f) (not (has_stripe st s)) refusal.UnknownStripe _ refl
