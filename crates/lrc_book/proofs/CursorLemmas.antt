@@ -23,7 +23,7 @@ use Rattle.lrc_rules.specs.Choices.{IsApartFrom}
 use Rattle.lrc_rules.specs.Repairs.{needs, kind}
 use Rattle.lrc_rules.specs.Urgency.{is_grantable, all_fragments}
 use Rattle.lrc_book.specs.Stores.{stored_of}
-use Rattle.lrc_rules.specs.Granting.{IsGrantable, IsMoreUrgent, IsMostUrgent}
+use Rattle.lrc_rules.specs.Granting.{IsGrantable, ComesFirst, IsMostUrgent}
 use Rattle.lrc_rules.specs.Leases.{with_lease}
 use Rattle.lrc_book.specs.Repairing.{IsPast, IsRepairCursor, HaveGrantable}
 use Rattle.lrc_rules.proofs.MemberLemmas.{All-members, map-member, member-filter, list_any-member}
@@ -90,18 +90,18 @@ module _ (nodes : List NodeInfo) (st : State) (l : LeaseRecord) where
   cursor-leased None is = tt
   cursor-leased (Some s) is = record { there = is.there; fragment = is.fragment; needed = is.needed; first = λ p so. is.first p (still-grantable p so) }
 
-  urgent-once : (s t : StripeNo) → IsMoreUrgent nodes st s t → IsMoreUrgent nodes st t s → ⊥
+  urgent-once : (s t : StripeNo) → ComesFirst nodes st s t → ComesFirst nodes st t s → ⊥
   urgent-once s t (inl less) (inl more) = omega (arith, less, more)
   urgent-once s t (inl less) (inr (same, lower)) = omega (arith, less, same)
   urgent-once s t (inr (same, lower)) (inl more) = omega (arith, same, more)
   urgent-once s t (inr (same, lower)) (inr (equal, higher)) = omega (arith, lower, higher)
 
-  not-ahead : (p q : StripeFragment) → IsMostUrgent nodes st p → IsGrantable nodes st q → IsMoreUrgent nodes st q.0 p.0 → ⊥
+  not-ahead : (p q : StripeFragment) → IsMostUrgent nodes st p → IsGrantable nodes st q → ComesFirst nodes st q.0 p.0 → ⊥
   not-ahead p q most so ahead =
-      let other : q ≢ p = λ same. (let own = subst (λ (z : StripeFragment). IsMoreUrgent nodes st z.0 p.0) same ahead in urgent-once p.0 p.0 own own) in
+      let other : q ≢ p = λ same. (let own = subst (λ (z : StripeFragment). ComesFirst nodes st z.0 p.0) same ahead in urgent-once p.0 p.0 own own) in
       elim (most.first q so other) [
         | inl sooner ↦ urgent-once q.0 p.0 ahead sooner
-        | inr (same, lower) ↦ let own = subst (λ (s : StripeNo). IsMoreUrgent nodes st s p.0) (sym same) ahead in urgent-once p.0 p.0 own own
+        | inr (same, lower) ↦ let own = subst (λ (s : StripeNo). ComesFirst nodes st s p.0) (sym same) ahead in urgent-once p.0 p.0 own own
       ]
 
   -- the stripe of the most urgent fragment, which has a lease now

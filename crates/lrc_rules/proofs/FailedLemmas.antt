@@ -1,5 +1,5 @@
 -- What is left after a node failed.
-use Rattle.std.proofs.Common.{◌≡◌, ◌≢◌, ◌↔◌, ◌&&◌, Bool, true, false, not, is_none, List, refl, sym, ap, ◌∙◌}
+use Rattle.std.proofs.Common.{◌≡◌, ◌≢◌, ◌↔◌, ◌&&◌, Bool, true, false, not, List, refl, sym, ap, ◌∙◌}
 use Rattle.std.specs.List.{Contains, list_any}
 use Rattle.std.proofs.lemmas.Bool.{not-true, and_parts, and_from, eqb-true, eqb-false, eq-eqb, ne_eqb}
 use Rattle.lrc_code.specs.declared.numbers.StripeNo.{StripeNo}
@@ -13,14 +13,11 @@ use Rattle.lrc_terms.specs.declared.lease.Lease.{Lease as LeaseRecord}
 use Rattle.lrc_terms.specs.Leased.{is_target_on}
 use Rattle.lrc_rules.specs.declared.node_command.NodeCommand.TheVariants.{Fail}
 use Rattle.lrc_rules.specs.declared.reply.Reply.TheVariants.{Changed}
-use Rattle.lrc_rules.specs.declared.refusal.Refusal.TheVariants as refusal
-use Rattle.lrc_topology.specs.Nodes.{node_at}
-use Rattle.lrc_rules.specs.States.{State, is_home_of, mode_of, is_gone}
-use Rattle.lrc_rules.specs.Steps.{stands_on, hangs_on, emptied, changed_on, node_outcome}
+use Rattle.lrc_rules.specs.States.{State, is_home_of}
+use Rattle.lrc_rules.specs.Steps.{stands_on, hangs_on, emptied, node_outcome}
 use Rattle.lrc_rules.proofs.MemberLemmas.{filter-member, member-filter, list_any-member, member-list_any}
 use Rattle.lrc_rules.proofs.NodeCommandLemmas.{after-node}
 use Rattle.lrc_rules.proofs.NodeWordsLemmas.{none-is, is-none}
-use Rattle.lrc_rules.proofs.OutcomeLemmas.{either-way}
 
 module _ (st : State) (n : NodeNo) where
   -- ---- homes
@@ -95,10 +92,3 @@ module _ (st : State) (n : NodeNo) where
     failed-leases l =
         after-node nodes st Fail n (λ (next : State). Contains next.leases l ↔ (Contains st.leases l × (l.target.node ≢ n) × NoHomeOf l))
         (λ allowed. leases-left l)
-
-    pub failed-stripes : (node_outcome nodes st Fail n).1.stripes ≡ st.stripes
-    unfolding node_outcome
-    failed-stripes =
-        let Keeps : State → Type 0 = λ next. next.stripes ≡ st.stripes in
-        either-way Keeps (is_none (node_at nodes n)) refusal.UnknownNode st _ refl
-        (λ known. either-way Keeps (is_gone (mode_of st n)) refusal.WrongMode st (Changed, changed_on Fail st n) refl (λ right. refl))

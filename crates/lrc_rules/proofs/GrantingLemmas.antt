@@ -1,5 +1,5 @@
 -- When Lease gets each reply.
-use Rattle.std.proofs.Common.{◌≡◌, Bool, true, false, not, ◌&&◌, IsSomeAnd, List, Option, Some, None, refl, sym, ap, ◌∙◌, subst}
+use Rattle.std.proofs.Common.{◌≡◌, Bool, true, false, not, ◌&&◌, IsSomeAnd, List, Option, Some, None, refl, sym, ap, ap₂, ◌∙◌, subst}
 use Rattle.lrc_code.specs.declared.numbers.StripeNo.{StripeNo}
 use Rattle.lrc_code.specs.declared.numbers.SessionNo.{SessionNo}
 use Rattle.lrc_code.specs.declared.numbers.Fragment.{Fragment}
@@ -16,16 +16,9 @@ use Rattle.lrc_rules.specs.declared.entry.Entry.{Entry}
 use Rattle.lrc_rules.specs.States.{State, has_stripe, lease_of}
 use Rattle.lrc_rules.specs.Placement.{chosen}
 use Rattle.lrc_rules.specs.Repairs.{needs, is_safe, kind, is_global, is_beyond_repair}
-use Rattle.lrc_rules.specs.Outcomes.{Outcome, refuse_if}
+use Rattle.lrc_rules.specs.Outcomes.{refuse_if}
 use Rattle.lrc_rules.specs.Leases.{new_lease, granted, lease_answer, lease_outcome}
 use Rattle.lrc_rules.specs.Granting.{IsOwed}
-
--- the outcome if the condition holds, and if it does not
-pub passed : (met : Bool) (r : Refusal) (st : State) (other : Outcome) → met ≡ false → refuse_if met r st other ≡ other
-passed met r st other miss = rw miss refl
-
-pub stopped : (met : Bool) (r : Refusal) (st : State) (other : Outcome) → met ≡ true → (refuse_if met r st other).0 ≡ Refused r
-stopped met r st other hit = rw hit refl
 
 module _ (nodes : List NodeInfo) (past : List Entry) (st : State) (session : SessionNo) (s : StripeNo) (f : Fragment) where
   -- what each refusal means
@@ -86,21 +79,6 @@ module _ (nodes : List NodeInfo) (past : List Entry) (st : State) (session : Ses
 
   -- ---- and always if it holds
 
-  answer-there : has_stripe st s ≡ true → lease_outcome nodes past st session s f ≡ lease_answer nodes past st session s f (lease_of st s f)
-  unfolding lease_outcome
-  answer-there there =
-      passed (not (has_stripe st s)) refusal.UnknownStripe st (lease_answer nodes past st session s f (lease_of st s f)) (ap not there)
-
-  abbrev after_needs : Outcome
-  after_needs = refuse_if (is_beyond_repair nodes st s f) refusal.Unrecoverable st (granted nodes past st session s f (chosen nodes st s f))
-
-  answer-none : has_stripe st s ≡ true → lease_of st s f ≡ None
-      → lease_outcome nodes past st session s f ≡ refuse_if (not (needs nodes st s f)) refusal.NotNeeded st after_needs
-  answer-none there none = answer-there there ∙ ap (lease_answer nodes past st session s f) none
-
-  answer-needed : has_stripe st s ≡ true → lease_of st s f ≡ None → needs nodes st s f ≡ true → lease_outcome nodes past st session s f ≡ after_needs
-  answer-needed there none needed = answer-none there none ∙ passed (not (needs nodes st s f)) refusal.NotNeeded st after_needs (ap not needed)
-
   not-beyond : (safe : Bool) → is_safe nodes st s ≡ safe → (k : Kind) → kind nodes st s f ≡ k
       → (kind nodes st s f ≡ Global → is_safe nodes st s ≡ true) → (not safe && is_global k) ≡ false
   not-beyond true is k from suffices = refl
@@ -109,23 +87,19 @@ module _ (nodes : List NodeInfo) (past : List Entry) (st : State) (session : Ses
   not-beyond false is Move from suffices = refl
   not-beyond false is Global from suffices = absurd (let both : false ≡ true = sym is ∙ suffices from in cc)
 
-  answer-owed : IsOwed nodes st s f → lease_outcome nodes past st session s f ≡ granted nodes past st session s f (chosen nodes st s f)
-  answer-owed owed =
-      answer-needed owed.there owed.none owed.needed
-      ∙ passed (is_beyond_repair nodes st s f) refusal.Unrecoverable st (granted nodes past st session s f (chosen nodes st s f))
-      (not-beyond (is_safe nodes st s) refl (kind nodes st s f) refl owed.suffices)
-
   pub tell-granted : (l : LeaseRecord) (k : Kind) → Says (Granted l k) → (lease_outcome nodes past st session s f).0 ≡ Granted l k
-  tell-granted l k says =
-      ap (λ (o : Outcome). o.0) (answer-owed says.0 ∙ ap (granted nodes past st session s f) says.1)
-      ∙ ap (λ (m : LeaseRecord). Granted m (kind nodes st s f)) (sym says.2) ∙ ap (Granted l) (sym says.3)
+  unfolding lease_outcome
+  tell-granted l k (owed, at, is, from) =
+      let repairable = not-beyond (is_safe nodes st s) refl (kind nodes st s f) refl owed.suffices in
+      rw (owed.there, owed.none, owed.needed, repairable, at) (ap₂ Granted (sym is) (sym from))
 
   pub tell-none : (g : Fragment) → SaysRefused (refusal.NoLawfulNode g)
       → (lease_outcome nodes past st session s f).0 ≡ Refused (refusal.NoLawfulNode g)
-  tell-none g says =
-      ap (λ (o : Outcome). o.0) (answer-owed says.1 ∙ ap (granted nodes past st session s f) says.2)
-      ∙ ap (λ (h : Fragment). Refused (refusal.NoLawfulNode h)) (sym says.0)
+  unfolding lease_outcome
+  tell-none g (same, owed, none) =
+      let repairable = not-beyond (is_safe nodes st s) refl (kind nodes st s f) refl owed.suffices in
+      rw (owed.there, owed.none, owed.needed, repairable, none) (ap (λ (h : Fragment). Refused (refusal.NoLawfulNode h)) (sym same))
 
   pub tell-not_needed : SaysRefused refusal.NotNeeded → (lease_outcome nodes past st session s f).0 ≡ Refused refusal.NotNeeded
-  tell-not_needed says =
-      ap (λ (o : Outcome). o.0) (answer-none says.0 says.1) ∙ stopped (not (needs nodes st s f)) refusal.NotNeeded st _ (ap not says.2)
+  unfolding lease_outcome
+  tell-not_needed (there, none, unneeded) = rw (there, none, unneeded) refl

@@ -1,5 +1,5 @@
 -- No node is both gone and draining, and what holds for a node that joins.
-use Rattle.std.proofs.Common.{[], ◌≡◌, ◌≢◌, ◌&&◌, inl, inr, Bool, true, false, not, eqb, List, ◌∷◌, fold, Option, Some, None, refl, sym, ap, ◌∙◌, subst}
+use Rattle.std.proofs.Common.{[], ◌≡◌, ◌≢◌, inl, inr, Bool, true, false, not, eqb, List, ◌∷◌, fold, Option, Some, None, refl, sym, ap, ◌∙◌, subst}
 use Rattle.std.specs.List.{All}
 use Rattle.std.proofs.lemmas.Bool.{cases_Bool, eqb-true, eq-eqb}
 use Rattle.lrc_code.specs.declared.numbers.StripeNo.{StripeNo}
@@ -20,18 +20,17 @@ use Rattle.lrc_rules.specs.declared.node_command.NodeCommand.TheVariants as comm
 use Rattle.lrc_rules.specs.declared.reply.Reply.{Reply}
 use Rattle.lrc_rules.specs.declared.reply.Reply.TheVariants.{Idle, Ended, Changed}
 use Rattle.lrc_rules.specs.declared.entry.Entry.{Entry}
-use Rattle.lrc_rules.specs.States.{State, lease_of, has_number, mode_of, is_active, is_gone, is_down, taken_seats}
-use Rattle.lrc_rules.specs.Steps.{with_gone, with_draining, without_draining, without_gone, is_wrong_on, changed_on, node_outcome, node_command, step}
+use Rattle.lrc_rules.specs.States.{State, lease_of, has_number, without_number, mode_of, is_active, is_gone, is_down, taken_seats}
+use Rattle.lrc_rules.specs.Steps.{without_gone, is_wrong_on, changed_on, node_outcome, node_command, step}
 use Rattle.lrc_rules.specs.Changes.{with_done, changed_at, changed_by}
 use Rattle.lrc_rules.specs.Histories.{World, IsLegal, first_world, next_world, state_after}
 use Rattle.lrc_rules.specs.Goodness.{AreSeated}
 use Rattle.lrc_rules.proofs.MemberLemmas.{list_any-member, member-list_any, All-members}
 use Rattle.lrc_rules.proofs.StepLemmas.{step-changed}
-use Rattle.lrc_rules.proofs.NodeCommandLemmas.{step-allowed, after-node}
+use Rattle.lrc_rules.proofs.NodeCommandLemmas.{step-allowed, after-node, command-apart}
 use Rattle.lrc_rules.proofs.SeatedLemmas.{seat-present, down-present}
 use Rattle.lrc_rules.proofs.GoodLemmas.{state_after-good}
-use Rattle.lrc_rules.proofs.NodeWordsLemmas.{gone-mode, active-mode, flips-false, active-there, gone-there, joined-here}
-use Rattle.lrc_rules.proofs.ModeListLemmas.{left-apart, added-apart, left}
+use Rattle.lrc_rules.proofs.NodeWordsLemmas.{left-here, gone-mode, active-mode, flips-false, active-there, gone-there, joined-here}
 
 -- ---- no node is both gone and draining
 
@@ -41,53 +40,32 @@ NoneBoth st = (m : NodeNo) → has_number st.gone m ≡ true → has_number st.d
 never-both : (b : Bool) → b ≡ true → b ≡ false → ⊥
 never-both b hit miss = (let both : true ≡ false = sym hit ∙ miss in cc)
 
-none-of-less : (b : Bool) → b ≡ false → (c : Bool) → (c && b) ≡ false
-none-of-less b miss true = miss
-none-of-less b miss false = refl
-
-part-of : (c b : Bool) → (c && b) ≡ true → b ≡ true
-part-of true b e = e
-part-of false b e = absurd (cc)
-
 module _ (st : State) (apart : NoneBoth st) where
   done-apart : (r : StripeNo) (g : Fragment) (o : Option LeaseRecord) → NoneBoth (with_done st r g o)
   done-apart r g None = apart
   done-apart r g (Some l) = apart
-
-  gone-apart : (n : NodeNo) → NoneBoth (with_gone st n)
-  gone-apart n m gone = elim (cases_Bool (eqb n.value m.value)) [
-    | inl same ↦ left st.draining n m true same
-    | inr other ↦ left-apart st.draining n m other ∙ apart m (sym (added-apart st.gone n m other) ∙ gone)
-  ]
-
-  drained-apart : (n : NodeNo) → has_number st.gone n ≡ false → NoneBoth (with_draining st n)
-  drained-apart n here m gone = elim (cases_Bool (eqb n.value m.value)) [
-    | inl same ↦
-        let number : n ≡ m = equal_nodes n m (eqb-true n.value m.value same) in
-        absurd (never-both (has_number st.gone m) gone (ap (has_number st.gone) (sym number) ∙ here))
-    | inr other ↦ added-apart st.draining n m other ∙ apart m gone
-  ]
-
-  undrained-apart : (n : NodeNo) → NoneBoth (without_draining st n)
-  undrained-apart n m gone =
-      left st.draining n m (eqb n.value m.value) refl ∙ none-of-less (has_number st.draining m) (apart m gone) (not (eqb n.value m.value))
-
-  joined-apart : (n : NodeNo) → NoneBoth (without_gone st n)
-  joined-apart n m gone =
-      apart m (part-of (not (eqb n.value m.value)) (has_number st.gone m) (sym (left st.gone n m (eqb n.value m.value) refl) ∙ gone))
 
   drains-here : (n : NodeNo) → not (is_active (mode_of st n)) ≡ false → has_number st.gone n ≡ false
   drains-here n right =
       active-there (has_number st.gone n) (has_number st.draining n) (active-mode (mode_of st n) (flips-false (is_active (mode_of st n)) right))
 
   -- only a node that is not gone begins to drain
+  both-here : (command : NodeCommand) (n : NodeNo) → is_wrong_on command st n ≡ false → has_number (changed_on command st n).gone n ≡ true
+      → has_number (changed_on command st n).draining n ≡ false
+  both-here command.Down n right gone = apart n gone
+  both-here command.Up n right gone = apart n gone
+  both-here command.Drain n right gone = absurd (never-both (has_number st.gone n) gone (drains-here n right))
+  both-here command.Join n right gone = absurd (never-both (has_number (without_number st.gone n) n) gone (left-here st n st.gone))
+  both-here _ n right gone = left-here st n st.draining
+
   command-both : (command : NodeCommand) (n : NodeNo) → is_wrong_on command st n ≡ false → NoneBoth (changed_on command st n)
-  command-both command.Fail n right = gone-apart n
-  command-both command.Retire n right = gone-apart n
-  command-both command.Drain n right = drained-apart n (drains-here n right)
-  command-both command.Undrain n right = undrained-apart n
-  command-both command.Join n right = joined-apart n
-  command-both _ n right = apart
+  command-both command n right m gone = elim (cases_Bool (eqb n.value m.value)) [
+    | inl same ↦
+        let next = changed_on command st n in
+        subst (λ (k : NodeNo). has_number next.gone k ≡ true → has_number next.draining k ≡ false) (equal_nodes n m (eqb-true n.value m.value same))
+        (both-here command n right) gone
+    | inr other ↦ let as_was = command-apart st n m other command in as_was.draining ∙ apart m (sym as_was.gone ∙ gone)
+  ]
 
   module _ (nodes : List NodeInfo) (past : List Entry) (session : SessionNo) where
     node-both : (c : Command) (on : Option (NodeCommand × NodeNo)) → node_command c ≡ on → (step nodes past st session c).0 ≡ Changed → NoneBoth (changed_at st on)

@@ -59,4 +59,5 @@ module _ (nodes : List NodeInfo) (st : State) (s : StripeNo) (f : Fragment) (sea
     abandon-lacked session e = given_back.tell-stale st session s f e (there, not-at e)
 
     pub revoke-lacked : (revoke_outcome st s f).0 ≡ Refused refusal.NoLease
-    revoke-lacked = given_back.tell-none st s f (there, no-lease)
+    unfolding revoke_outcome
+    revoke-lacked = rw (there, no-lease) refl

@@ -18,7 +18,7 @@ use Rattle.lrc_terms.proofs.ListLemmas.{AllPairs-map, Contains-unmap}
 use Rattle.lrc_rules.specs.States.{State, has_stripe, code_of, rank, level}
 use Rattle.lrc_rules.specs.Repairs.{needs}
 use Rattle.lrc_rules.specs.Urgency.{by_rank, has_work, work, risk}
-use Rattle.lrc_rules.specs.Granting.{IsMoreUrgent}
+use Rattle.lrc_rules.specs.Granting.{ComesFirst}
 use Rattle.lrc_rules.proofs.MemberLemmas.{filter-member, member-filter, list_any-member, member-list_any, map-member}
 use Rattle.lrc_rules.proofs.RisingLemmas.{in_order-strict}
 use Rattle.lrc_rules.proofs.UrgencyLemmas.{stripe-order, stripe-ties, needs-own}
@@ -58,7 +58,7 @@ module _ (nodes : List NodeInfo) (st : State) where
       (member-filter test st.stripes s (stripe-there st s there) pass)
 
   rising : (test : StripeNo → Bool) → AllPairs (λ s t. s ≢ t) st.stripes
-      → AllPairs (IsMoreUrgent nodes st) (by_rank nodes st (filter test st.stripes))
+      → AllPairs (ComesFirst nodes st) (by_rank nodes st (filter test st.stripes))
   rising test distinct =
       let xs = filter test st.stripes in
       let strict = in_order-strict (comes_first (rank nodes st)) (stripe-order (rank nodes st)) (stripe-ties (rank nodes st)) xs
@@ -80,7 +80,7 @@ module _ (nodes : List NodeInfo) (st : State) where
       listed-from (has_work nodes st) s there
       (list_any-member (needs nodes st s) (fragments (code_of st s)) f (code-fragments (code_of st s) f (needs-own nodes st s f need)) need)
 
-  pub work-rising : AllPairs (λ s t. s ≢ t) st.stripes → AllPairs (IsMoreUrgent nodes st) (work nodes st)
+  pub work-rising : AllPairs (λ s t. s ≢ t) st.stripes → AllPairs (ComesFirst nodes st) (work nodes st)
   unfolding work
   work-rising distinct = rising (has_work nodes st) distinct
 
@@ -106,7 +106,7 @@ module _ (nodes : List NodeInfo) (st : State) where
       subst (λ (k : Level). Contains (map row stripes) (s, k)) is
       (map-member row stripes s (listed-from risky s there (whole-not (level nodes st s) (subst (λ (k : Level). k ≢ Whole) (sym is) other))))
 
-  pub risk-rising : AllPairs (λ s t. s ≢ t) st.stripes → AllPairs (λ (a b : StripeLevel). IsMoreUrgent nodes st a.0 b.0) (risk nodes st)
+  pub risk-rising : AllPairs (λ s t. s ≢ t) st.stripes → AllPairs (λ (a b : StripeLevel). ComesFirst nodes st a.0 b.0) (risk nodes st)
   unfolding risk
   risk-rising distinct =
-      AllPairs-map (λ (a b : StripeLevel). IsMoreUrgent nodes st a.0 b.0) row (by_rank nodes st (filter risky st.stripes)) (rising risky distinct)
+      AllPairs-map (λ (a b : StripeLevel). ComesFirst nodes st a.0 b.0) row (by_rank nodes st (filter risky st.stripes)) (rising risky distinct)

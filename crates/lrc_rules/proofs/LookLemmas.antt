@@ -18,11 +18,10 @@ use Rattle.lrc_code.proofs.BitsLemmas.{bits_set-bits_of, bits_of-below}
 use Rattle.lrc_topology.specs.declared.NodeInfo.{NodeInfo}
 use Rattle.lrc_topology.specs.declared.seat.Seat.{Seat}
 use Rattle.lrc_topology.specs.Nodes.{node_at}
-use Rattle.lrc_terms.specs.declared.level.Level.{Level}
-use Rattle.lrc_terms.specs.Levels.{homes_of, level_if, missing_if}
+use Rattle.lrc_terms.specs.Levels.{homes_of, missing_if}
 use Rattle.lrc_terms.proofs.CodeListLemmas.{fragment-number}
 use Rattle.lrc_rules.specs.declared.mode.Mode.{Mode}
-use Rattle.lrc_rules.specs.States.{State, has_stripe, code_of, load, mode_of, is_online, online_at, missing, level, code_shown, homes_shown, load_shown, level_shown, missing_shown, mode_shown}
+use Rattle.lrc_rules.specs.States.{State, has_stripe, code_of, load, mode_of, is_online, online_at, missing, homes_shown, load_shown, missing_shown, mode_shown}
 use Rattle.lrc_rules.proofs.NodeLemmas.{member-node_at}
 use Rattle.lrc_rules.proofs.StateLemmas.{none-beyond}
 
@@ -35,33 +34,6 @@ module _ {X : Type 0} (x : X) where
 
   pub some-if : (b : Bool) (y : X) → (b ≡ true) × (x ≡ y) → (if b then Some x else None) ≡ Some y
   some-if b y so = rw so.0 (ap (λ (z : X). Some z) so.1)
-
-  pub if-none : (b : Bool) → (if b then Some x else None) ≡ None → b ≡ false
-  if-none true is = absurd (cc)
-  if-none false is = refl
-
-  pub none-if : (b : Bool) → b ≡ false → (if b then Some x else None) ≡ None
-  none-if b is = rw is refl
-
--- ---- levels
-
-module _ (nodes : List NodeInfo) (st : State) (s : StripeNo) where
-  pub level-told : (l : Level) → (level_shown nodes st s ≡ Some l) ↔ ((has_stripe st s ≡ true) × (level nodes st s ≡ l))
-  unfolding level_if
-  level-told l = (if-some (level nodes st s) (has_stripe st s) l, some-if (level nodes st s) (has_stripe st s) l)
-
-  pub level-untold : (level_shown nodes st s ≡ None) ↔ (has_stripe st s ≡ false)
-  unfolding level_if
-  level-untold = (if-none (level nodes st s) (has_stripe st s), none-if (level nodes st s) (has_stripe st s))
-
--- ---- codes
-
-module _ (st : State) (s : StripeNo) where
-  pub code-told : (c : Code) → (code_shown st s ≡ Some c) ↔ ((has_stripe st s ≡ true) × (code_of st s ≡ c))
-  code-told c = (if-some (code_of st s) (has_stripe st s) c, some-if (code_of st s) (has_stripe st s) c)
-
-  pub code-untold : (code_shown st s ≡ None) ↔ (has_stripe st s ≡ false)
-  code-untold = (if-none (code_of st s) (has_stripe st s), none-if (code_of st s) (has_stripe st s))
 
 -- ---- missing fragments
 
@@ -115,10 +87,6 @@ module _ (nodes : List NodeInfo) (st : State) (s : StripeNo) where
     λ so. missing-shown m (so.0, same-masks m so.1),
   )
 
-  pub missing-untold : (missing_shown nodes st s ≡ None) ↔ (has_stripe st s ≡ false)
-  unfolding missing_if
-  missing-untold = (if-none mask (has_stripe st s), none-if mask (has_stripe st s))
-
 -- ---- homes
 
 module _ (st : State) (s : StripeNo) where
@@ -148,14 +116,7 @@ module _ (st : State) (s : StripeNo) where
     λ so. some-if all_homes (has_stripe st s) seats (so.0, same-homes seats so.1 so.2),
   )
 
-  pub homes-untold : (homes_shown st s ≡ None) ↔ (has_stripe st s ≡ false)
-  homes-untold = (if-none all_homes (has_stripe st s), none-if all_homes (has_stripe st s))
-
 -- ---- nodes
-
-none-node : {X : Type 0} (tell : NodeInfo → X) (o : Option NodeInfo) → option_map tell o ≡ None → o ≡ None
-none-node tell None is = refl
-none-node tell (Some m) is = absurd (cc)
 
 module _ (nodes : List NodeInfo) (st : State) (n : NodeNo) where
   abbrev mode_by : NodeInfo → Mode × Bool
@@ -187,9 +148,6 @@ module _ (nodes : List NodeInfo) (st : State) (n : NodeNo) where
     λ so. from-mode mode online (node_at nodes n) refl so.0 so.1 so.2,
   )
 
-  pub mode-untold : (mode_shown nodes st n ≡ None) ↔ (node_at nodes n ≡ None)
-  mode-untold = (none-node mode_by (node_at nodes n), λ none. ap (λ (o : Option NodeInfo). option_map mode_by o) none)
-
   load-from : (k : ℕ) (o : Option NodeInfo) → node_at nodes n ≡ o → option_map load_by o ≡ Some k → IsSome o × (load st n ≡ k)
   load-from k None is told = absurd (cc)
   load-from k (Some m) is told = (refl, subst (λ (i : NodeNo). load st i ≡ k) (sym (number-is m is)) (same_Some (load st m.number) k told))
@@ -200,6 +158,3 @@ module _ (nodes : List NodeInfo) (st : State) (n : NodeNo) where
 
   pub load-told : (k : ℕ) → (load_shown nodes st n ≡ Some k) ↔ (IsSome (node_at nodes n) × (load st n ≡ k))
   load-told k = (λ told. load-from k (node_at nodes n) refl told, λ so. from-load k (node_at nodes n) refl so.0 so.1)
-
-  pub load-untold : (load_shown nodes st n ≡ None) ↔ (node_at nodes n ≡ None)
-  load-untold = (none-node load_by (node_at nodes n), λ none. ap (λ (o : Option NodeInfo). option_map load_by o) none)

@@ -28,7 +28,7 @@ use Rattle.lrc_rules.specs.Placement.{chosen_node, chosen}
 use Rattle.lrc_rules.specs.Choices.{IsFitting}
 use Rattle.lrc_rules.specs.Repairs.{needs, is_safe, kind, is_global, is_beyond_repair}
 use Rattle.lrc_rules.specs.Urgency.{is_grantable, all_fragments, is_repaired_before, next_of}
-use Rattle.lrc_rules.specs.Granting.{IsGrantable, IsMoreUrgent, IsRepairedBefore, IsMostUrgent}
+use Rattle.lrc_rules.specs.Granting.{IsGrantable, ComesFirst, IsRepairedBefore, IsMostUrgent}
 use Rattle.lrc_rules.specs.Outcomes.{Outcome}
 use Rattle.lrc_rules.specs.Leases.{new_lease, lease_outcome, next_answer, next_outcome}
 use Rattle.lrc_rules.proofs.MemberLemmas.{All-members, not-Contains-nil, no-member, filter-member, member-filter, list_any-member}
@@ -41,7 +41,7 @@ use Rattle.lrc_rules.proofs.LookUpLemmas.{stripe-there}
 -- ---- the order in words
 
 module _ (nodes : List NodeInfo) (st : State) where
-  pub stripe-words : (s t : StripeNo) → IsTrue (comes_first (rank nodes st) s t) ↔ IsMoreUrgent nodes st s t
+  pub stripe-words : (s t : StripeNo) → IsTrue (comes_first (rank nodes st) s t) ↔ ComesFirst nodes st s t
   stripe-words s t = law_first (rank nodes st) s t
 
   before-words : (p q : StripeFragment) → is_repaired_before (rank nodes st) p q ≡ true → IsRepairedBefore nodes st p q

@@ -1,7 +1,6 @@
 -- The state after an accepted Done.
-use Rattle.std.proofs.Common.{◌≡◌, ◌≢◌, true, false, ◌&&◌, nat_eq, Option, Some, None, List, ℕ, refl, sym, ap, ◌∙◌, subst}
+use Rattle.std.proofs.Common.{[], ◌≡◌, ◌≢◌, true, false, ◌&&◌, nat_eq, Option, Some, None, List, ℕ, refl, sym, ap, ◌∙◌, subst}
 use Rattle.std.proofs.lemmas.Bool.{eq-eqb}
-use Rattle.std.proofs.lemmas.Option.{same_Some}
 use Rattle.lrc_code.specs.declared.numbers.StripeNo.{StripeNo}
 use Rattle.lrc_code.specs.declared.numbers.SessionNo.{SessionNo}
 use Rattle.lrc_code.specs.declared.numbers.Fragment.{Fragment}
@@ -14,7 +13,6 @@ use Rattle.lrc_terms.specs.declared.lease.Lease.{Lease as LeaseRecord}
 use Rattle.lrc_terms.specs.Leased.{Leased}
 use Rattle.lrc_terms.proofs.LeaseLemmas.{leased_of-less}
 use Rattle.lrc_rules.specs.declared.reply.Reply.TheVariants.{Ended}
-use Rattle.lrc_rules.specs.Outcomes.{Outcome}
 use Rattle.lrc_rules.specs.States.{State, lease_of}
 use Rattle.lrc_rules.specs.Placement.{with_home}
 use Rattle.lrc_rules.specs.declared.command.Command.TheVariants.{Done}
@@ -23,10 +21,9 @@ use Rattle.lrc_rules.specs.declared.entry.Entry.{Entry}
 use Rattle.lrc_rules.specs.Steps.{step}
 use Rattle.lrc_rules.specs.Changes.{with_done, changed_by}
 use Rattle.lrc_rules.specs.Leases.{without_lease, without_home, moved_in, done_outcome}
-use Rattle.lrc_rules.proofs.StepLemmas.{step-changed}
+use Rattle.lrc_rules.proofs.StepLemmas.{done-changed, step-changed}
 use Rattle.lrc_rules.proofs.LookUpLemmas.{homes-with, homes-cleared}
 use Rattle.lrc_rules.proofs.LeaseLawLemmas.{not-both}
-use Rattle.lrc_rules.proofs.ReportedLemmas.{done-told, done-ends}
 
 module _ (st : State) (s : StripeNo) (f : Fragment) where
   own : (same_stripe s s && nat_eq f.value f.value) ≡ true
@@ -48,10 +45,7 @@ module _ (st : State) (s : StripeNo) (f : Fragment) where
 module _ (nodes : List NodeInfo) (st : State) (session : SessionNo) (s : StripeNo) (f : Fragment) (e : ℕ) (l : LeaseRecord)
     (live : lease_of st s f ≡ Some l) (told : (done_outcome nodes st session s f e).0 ≡ Ended) where
   moved : (done_outcome nodes st session s f e).1 ≡ moved_in st s f l.target
-  moved =
-      let says = done-told nodes st session s f e Ended told in
-      ap (λ (o : Outcome). o.1) (done-ends nodes st session s f e says.0 says.1 says.2 says.3)
-      ∙ ap (λ (m : LeaseRecord). moved_in st s f m.target) (same_Some says.0 l (sym says.1.live ∙ live))
+  moved = done-changed nodes [] st session s f e ∙ ap (changed_by st (Done s f e)) told ∙ ap (with_done st s f) live
 
   -- the lease is over, and its target is the fragment's home
   pub moved-lease : lease_of (done_outcome nodes st session s f e).1 s f ≡ None

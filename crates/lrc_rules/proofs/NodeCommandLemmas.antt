@@ -1,5 +1,5 @@
 -- Commands on nodes: what the reply means, and the state after it, whichever of the seven it is.
-use Rattle.std.proofs.Common.{◌≡◌, Bool, true, false, eqb, arith, List, Option, Some, None, IsSome, is_some, is_none, refl, sym, ap, ◌∙◌, subst}
+use Rattle.std.proofs.Common.{◌≡◌, true, false, eqb, arith, List, Option, Some, None, IsSome, is_none, refl, sym, ap, ◌∙◌, subst}
 use Rattle.std.specs.Option.{option_map_or}
 use Rattle.std.proofs.lemmas.Bool.{or_parts, ltb-false}
 use Rattle.lrc_code.specs.declared.numbers.NodeNo.{NodeNo}
@@ -10,14 +10,14 @@ use Rattle.lrc_rules.specs.declared.command.Command.{Command}
 use Rattle.lrc_rules.specs.declared.command.Command.TheVariants.{Place}
 use Rattle.lrc_rules.specs.declared.node_command.NodeCommand.{NodeCommand}
 use Rattle.lrc_rules.specs.declared.node_command.NodeCommand.TheVariants.{Fail, Down, Up, Drain, Undrain, Retire, Join}
-use Rattle.lrc_rules.specs.declared.reply.Reply.TheVariants.{Changed, Refused}
+use Rattle.lrc_rules.specs.declared.reply.Reply.TheVariants.{Changed}
 use Rattle.lrc_rules.specs.declared.refusal.Refusal.TheVariants as refusal
 use Rattle.lrc_rules.specs.declared.entry.Entry.{Entry}
 use Rattle.lrc_rules.specs.States.{State, has_number, is_gone, mode_of, is_down, load}
 use Rattle.lrc_rules.specs.Outcomes.{Outcome}
 use Rattle.lrc_rules.specs.Steps.{is_wrong_on, with_mode, emptied, emptied_if, changed_on, is_kept_by_load, node_outcome, node_command, step}
 use Rattle.lrc_rules.specs.Goodness.{AreSeated}
-use Rattle.lrc_rules.proofs.OutcomeLemmas.{node_by}
+use Rattle.lrc_rules.proofs.OutcomeLemmas.{passed-changed}
 use Rattle.lrc_rules.proofs.ModeListLemmas.{added-apart, left-apart}
 use Rattle.lrc_rules.proofs.SeatedLemmas.{emptied-load, emptied-seated, with_gone-seated, with_down-seated, without_down-seated, with_draining-seated, without_draining-seated, without_gone-seated}
 
@@ -30,38 +30,37 @@ module _ (nodes : List NodeInfo) (st : State) (command : NodeCommand) (n : NodeN
     pub right : is_wrong_on command st n ≡ false
     pub free : is_kept_by_load command st n ≡ false
 
-  abbrev by_tests : Bool → Bool → Bool → Outcome
-  by_tests unknown wrong kept = node_by st (load st n) (changed_on command st n) unknown wrong kept
-
-  done-by : (o : Option NodeInfo) (wrong kept : Bool) → node_at nodes n ≡ o → is_wrong_on command st n ≡ wrong → is_kept_by_load command st n ≡ kept
-      → (by_tests (is_none o) wrong kept).0 ≡ Changed → IsAllowed × ((by_tests (is_none o) wrong kept).1 ≡ changed_on command st n)
-  done-by None wrong kept is was has e = absurd (let never : Refused refusal.UnknownNode ≡ Changed = e in cc)
-  done-by (Some m) true kept is was has e = absurd (let never : Refused refusal.WrongMode ≡ Changed = e in cc)
-  done-by (Some m) false true is was has e = absurd (let never : Refused (refusal.NotEmpty (load st n)) ≡ Changed = e in cc)
-  done-by (Some m) false false is was has e = (record { known = ap is_some is; right = was; free = has }, refl)
-
-  done : (node_outcome nodes st command n).0 ≡ Changed → IsAllowed × ((node_outcome nodes st command n).1 ≡ changed_on command st n)
-  unfolding node_outcome
-  done = done-by (node_at nodes n) (is_wrong_on command st n) (is_kept_by_load command st n) refl refl refl
-
   -- the command is done only if it is allowed
   pub done-allowed : (node_outcome nodes st command n).0 ≡ Changed → IsAllowed
-  done-allowed told = (done told).0
-
-  -- and always if it is
-  pub allowed-done : IsAllowed → (node_outcome nodes st command n).0 ≡ Changed
   unfolding node_outcome
-  allowed-done a = by (node_at nodes n) (is_wrong_on command st n) (is_kept_by_load command st n) a.known a.right a.free where
-    by : (o : Option NodeInfo) (wrong kept : Bool) → IsSome o → wrong ≡ false → kept ≡ false → (by_tests (is_none o) wrong kept).0 ≡ Changed
-    by (Some m) false false known right free = refl
-    by None wrong kept known right free = absurd (let never : false ≡ true = known in cc)
-    by (Some m) true kept known right free = absurd (let never : true ≡ false = right in cc)
-    by (Some m) false true known right free = absurd (let never : true ≡ false = free in cc)
+  done-allowed told =
+      let known = passed-changed (is_none (node_at nodes n)) refusal.UnknownNode st _ told in
+      let right = passed-changed (is_wrong_on command st n) refusal.WrongMode st _ known.1 in
+      record {
+        known = some-known (node_at nodes n) known.0;
+        right = right.0;
+        free = (passed-changed (is_kept_by_load command st n) (refusal.NotEmpty (load st n)) st (Changed, changed_on command st n) right.1).0;
+      }
+    where
+      some-known : (o : Option NodeInfo) → is_none o ≡ false → IsSome o
+      some-known (Some m) e = refl
+      some-known None e = absurd (let never : true ≡ false = e in cc)
+
+  -- and always if it is; then it leaves this state
+  allowed-is : IsAllowed → node_outcome nodes st command n ≡ (Changed, changed_on command st n)
+  unfolding node_outcome
+  allowed-is a = rw (none-known (node_at nodes n) a.known, a.right, a.free) refl where
+    none-known : (o : Option NodeInfo) → IsSome o → is_none o ≡ false
+    none-known (Some m) known = refl
+    none-known None known = absurd (let never : false ≡ true = known in cc)
+
+  pub allowed-done : IsAllowed → (node_outcome nodes st command n).0 ≡ Changed
+  allowed-done a = ap (λ (o : Outcome). o.0) (allowed-is a)
 
   -- what holds for the changed state holds after the command
   pub after-node : (P : State → Type 0) → (IsAllowed → P (changed_on command st n)) → (node_outcome nodes st command n).0 ≡ Changed
       → P (node_outcome nodes st command n).1
-  after-node P so told = subst P (sym (done told).1) (so (done told).0)
+  after-node P so told = let a = done-allowed told in subst P (sym (ap (λ (o : Outcome). o.1) (allowed-is a))) (so a)
 
 module _ (nodes : List NodeInfo) (past : List Entry) (st : State) (session : SessionNo) where
   -- the step of a command on a node

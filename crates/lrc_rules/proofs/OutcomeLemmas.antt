@@ -1,9 +1,8 @@
 -- Outcomes that can be refused.
-use Rattle.std.proofs.Common.{◌≡◌, ◌≢◌, ℕ, Bool, true, false, not, refl}
+use Rattle.std.proofs.Common.{◌≡◌, ◌≢◌, Bool, true, false, not, refl}
 use Rattle.lrc_rules.specs.declared.reply.Reply.{Reply}
 use Rattle.lrc_rules.specs.declared.reply.Reply.TheVariants.{Changed, Refused}
 use Rattle.lrc_rules.specs.declared.refusal.Refusal.{Refusal}
-use Rattle.lrc_rules.specs.declared.refusal.Refusal.TheVariants as refusal
 use Rattle.lrc_rules.specs.States.{State}
 use Rattle.lrc_rules.specs.Outcomes.{Outcome, refuse_if}
 
@@ -22,10 +21,13 @@ pub when-told : (told : Reply) → ((r : Refusal) → Refused r ≢ told) → (P
 when-told told never P true r st other next e = absurd (never r e)
 when-told told never P false r st other next e = next e
 
--- the outcome of a command on a node, by its three tests
-abbrev pub node_by : State → ℕ → State → Bool → Bool → Bool → Outcome
-node_by st held changed unknown wrong kept =
-    refuse_if unknown refusal.UnknownNode st
-    (refuse_if wrong refusal.WrongMode st
-    (refuse_if kept (refusal.NotEmpty held) st
-    (Changed, changed)))
+-- if the reply is no refusal, the test failed and the other outcome is told
+pub passed-told : (told : Reply) → ((r : Refusal) → Refused r ≢ told) → (met : Bool) (r : Refusal) (st : State) (other : Outcome)
+    → (refuse_if met r st other).0 ≡ told → (met ≡ false) × (other.0 ≡ told)
+passed-told told never true r st other e = absurd (never r e)
+passed-told told never false r st other e = (refl, e)
+
+pub passed-changed : (met : Bool) (r : Refusal) (st : State) (other : Outcome) → (refuse_if met r st other).0 ≡ Changed → (met ≡ false) × (other.0 ≡ Changed)
+passed-changed = passed-told Changed never where
+  never : (r : Refusal) → Refused r ≢ Changed
+  never r e = cc

@@ -12,12 +12,11 @@ use Rattle.lrc_rules.specs.declared.reply.Reply.{Reply}
 use Rattle.lrc_rules.specs.declared.reply.Reply.TheVariants.{Ended, Refused}
 use Rattle.lrc_rules.specs.declared.refusal.Refusal.TheVariants as refusal
 use Rattle.lrc_rules.specs.States.{State, has_stripe, lease_of, online_at}
-use Rattle.lrc_rules.specs.Outcomes.{Outcome, refuse_if}
+use Rattle.lrc_rules.specs.Outcomes.{refuse_if}
 use Rattle.lrc_rules.specs.Leases.{at_epoch, is_held_by, moved_in, done_answer, done_outcome}
 use Rattle.lrc_rules.specs.Reporting.{IsReported}
 use Rattle.lrc_rules.proofs.LeaseStepLemmas.{at_epoch-some}
 use Rattle.lrc_rules.proofs.LeaseLawLemmas.{none-at}
-use Rattle.lrc_rules.proofs.GrantingLemmas.{passed, stopped}
 
 low_range : (n : ℕ) → IsProp (1 ≤ n)
 low_range n = le_prop
@@ -99,46 +98,23 @@ module _ (nodes : List NodeInfo) (st : State) (session : SessionNo) (s : StripeN
   pub done-told : (r : Reply) → (done_outcome nodes st session s f e).0 ≡ r → SaysDone r
   done-told r told = subst SaysDone told done-says
 
-  done-there : has_stripe st s ≡ true → (o : Option LeaseRecord) → at_epoch e (lease_of st s f) ≡ o
-      → done_outcome nodes st session s f e ≡ done_answer nodes st session s f o
-  unfolding done_outcome
-  done-there there o is =
-      passed (not (has_stripe st s)) refusal.UnknownStripe st (done_answer nodes st session s f (at_epoch e (lease_of st s f))) (ap not there)
-      ∙ ap (done_answer nodes st session s f) is
+  -- ---- and always if it holds
 
   reported-at : (l : LeaseRecord) → IsReported st s f e l → at_epoch e (lease_of st s f) ≡ Some l
   reported-at l own = ap (at_epoch e) own.live ∙ at-own e l own.epoch
 
-  done-mine : (l : LeaseRecord) → IsReported st s f e l → l.holder ≡ session
-      → done_outcome nodes st session s f e ≡ refuse_if (not (online_at nodes st l.target.node)) (refusal.TargetOffline l.target.node) st
-      (Ended, moved_in st s f l.target)
-  done-mine l own held =
-      done-there own.there (Some l) (reported-at l own)
-      ∙ passed (not (is_held_by session l)) (refusal.NotHolder l.holder) st _ (ap not (session-held session l held))
-
-  -- and always if it holds
-  pub done-ends : (l : LeaseRecord) → IsReported st s f e l → l.holder ≡ session → online_at nodes st l.target.node ≡ true
-      → done_outcome nodes st session s f e ≡ (Ended, moved_in st s f l.target)
-  done-ends l own held online =
-      done-mine l own held ∙ passed (not (online_at nodes st l.target.node)) (refusal.TargetOffline l.target.node) st
-      (Ended, moved_in st s f l.target) (ap not online)
-
   pub tell-done : SaysDone Ended → (done_outcome nodes st session s f e).0 ≡ Ended
-  tell-done so = ap (λ (o : Outcome). o.0) (done-ends so.0 so.1 so.2 so.3)
+  unfolding done_outcome
+  tell-done (l, own, held, online) = rw (own.there, reported-at l own, session-held session l held, online) refl
 
   pub tell-offline : (n : NodeNo) → IsOffline n → (done_outcome nodes st session s f e).0 ≡ Refused (refusal.TargetOffline n)
-  tell-offline n so =
-      ap (λ (o : Outcome). o.0) (done-mine so.0 so.1 so.2)
-      ∙ stopped (not (online_at nodes st so.0.target.node)) (refusal.TargetOffline so.0.target.node) st _
-      (ap (λ (m : NodeNo). not (online_at nodes st m)) so.3 ∙ ap not so.4)
-      ∙ ap (λ (m : NodeNo). Refused (refusal.TargetOffline m)) so.3
+  unfolding done_outcome
+  tell-offline n (l, own, held, at, away) = rw (own.there, reported-at l own, session-held session l held, at, away) refl
 
   pub tell-others : (x : SessionNo) → IsOthers x → (done_outcome nodes st session s f e).0 ≡ Refused (refusal.NotHolder x)
-  tell-others x so =
-      ap (λ (o : Outcome). o.0) (done-there so.1.there (Some so.0) (reported-at so.0 so.1))
-      ∙ stopped (not (is_held_by session so.0)) (refusal.NotHolder so.0.holder) st _
-      (ap not (held-not session so.0 (subst (λ (y : SessionNo). y ≢ session) (sym so.2) so.3)))
-      ∙ ap (λ (y : SessionNo). Refused (refusal.NotHolder y)) so.2
+  unfolding done_outcome
+  tell-others x (l, own, whose, other) = rw (own.there, reported-at l own, held-not session l (λ same. other (sym whose ∙ same)), whose) refl
 
   pub tell-stale : IsStale → (done_outcome nodes st session s f e).0 ≡ Refused refusal.Stale
-  tell-stale so = ap (λ (o : Outcome). o.0) (done-there so.0 None (none-at e (lease_of st s f) so.1))
+  unfolding done_outcome
+  tell-stale (there, other) = rw (there, none-at e (lease_of st s f) other) refl

@@ -1,6 +1,6 @@
 -- An upgrade takes at most one fragment of each class of a whole stripe offline, and is refused for the first stripe
 -- that it would make unrecoverable.
-use Rattle.std.proofs.Common.{[], ◌≡◌, ◌≢◌, ℕ, ◌+◌, ◌-◌, ◌≤◌, ◌<◌, inl, inr, Bool, true, false, not, ◌&&◌, nat_lt, cond, List, ◌∷◌, map, filter, length, get_or, Option, Some, None, option_map, IfSome, IsTrue, arith, refl, sym, ap, ◌∙◌, subst}
+use Rattle.std.proofs.Common.{[], ◌≡◌, ◌≢◌, ℕ, ◌+◌, ◌-◌, ◌≤◌, ◌<◌, inl, inr, Bool, true, false, not, ◌&&◌, nat_lt, cond, List, ◌∷◌, map, filter, length, get_or, Option, Some, None, option_map, IfSome, IsTrue, arith, refl, sym, ap, ap₂, ◌∙◌, subst}
 use Rattle.std.specs.List.{AllPairs, Contains, count_by}
 use Rattle.std.specs.Option.{option_map_or}
 use Rattle.std.proofs.lemmas.Bool.{cases_Bool, eqb-true, eq-eqb, ltb-true, ltb-false, le-ltb, not-true, not-false, and_parts, and_from}
@@ -34,7 +34,7 @@ use Rattle.lrc_terms.specs.Levels.{home_of, NoneMissing}
 use Rattle.lrc_terms.proofs.LevelLemmas.{law_whole}
 use Rattle.lrc_rules.specs.declared.reply.Reply.{Reply}
 use Rattle.lrc_rules.specs.declared.reply.Reply.TheVariants.{Changed, Refused}
-use Rattle.lrc_rules.specs.Outcomes.{Outcome, refuse_if}
+use Rattle.lrc_rules.specs.Outcomes.{refuse_if}
 use Rattle.lrc_rules.specs.States.{State, has_stripe, code_of, held_by, seats_of, mode_of, is_gone, is_down, is_upgrading, is_online, online_at, homeless, missing, level}
 use Rattle.lrc_rules.specs.Repairs.{is_safe}
 use Rattle.lrc_rules.specs.Choices.{AreApart}
@@ -42,7 +42,9 @@ use Rattle.lrc_rules.specs.Goodness.{KeepApart, AreSeated}
 use Rattle.lrc_rules.specs.Steps.{with_upgrading, is_lost_to, would_lose, upgrade_answer, upgrade_outcome}
 use Rattle.lrc_rules.specs.Upgrading.{WouldBeLost}
 use Rattle.lrc_rules.proofs.MemberLemmas.{not-Contains-nil, no-member, All-members, filter-member, member-filter, list_any-member, none-count, AllPairs-head, AllPairs-tail}
-use Rattle.lrc_rules.proofs.GrantingLemmas.{passed}
+use Rattle.lrc_rules.specs.Changes.{changed_by}
+use Rattle.lrc_rules.specs.declared.command.Command.TheVariants.{Upgrade}
+use Rattle.lrc_rules.proofs.StepLemmas.{upgrade-changed}
 use Rattle.lrc_rules.proofs.PairLemmas.{pairs-members}
 use Rattle.lrc_rules.proofs.SeatingLemmas.{KeepApart-turn, fragments-distinct}
 use Rattle.lrc_rules.proofs.LookUpLemmas.{found-home, stripe-there}
@@ -350,23 +352,18 @@ module _ (nodes : List NodeInfo) (st : State) (u : UpgradeNo) where
   pub upgrade-told : (r : Reply) → (upgrade_outcome nodes st u).0 ≡ r → Says r
   upgrade-told r told = subst Says told says
 
-  answer-known : (o : Option UpgradeNo) (lost : Option StripeNo) → has_domain nodes u ≡ true → st.upgrading ≡ o → would_lose nodes st u ≡ lost
-      → upgrade_outcome nodes st u ≡ upgrade_answer st u o lost
-  unfolding upgrade_outcome
-  answer-known o lost known runs is =
-      passed (not (has_domain nodes u)) refusal.UnknownDomain st (upgrade_answer st u st.upgrading (would_lose nodes st u)) (ap not known)
-      ∙ ap (λ (p : Option UpgradeNo). upgrade_answer st u p (would_lose nodes st u)) runs ∙ ap (upgrade_answer st u o) is
-
   -- and always if it holds
   pub tell-lost : (s : StripeNo) → Says (Refused (refusal.WouldLose s)) → (upgrade_outcome nodes st u).0 ≡ Refused (refusal.WouldLose s)
-  tell-lost s so = ap (λ (o : Outcome). o.0) (answer-known None (Some s) so.0 so.1 so.2)
+  unfolding upgrade_outcome
+  tell-lost s (known, runs, lost) = rw known (ap₂ (λ (o : Option UpgradeNo) (l : Option StripeNo). (upgrade_answer st u o l).0) runs lost)
 
-  pub upgraded-to : Says Changed → upgrade_outcome nodes st u ≡ (Changed, with_upgrading st u)
-  upgraded-to so = answer-known None None so.0 so.1 so.2
+  pub tell-upgrades : Says Changed → (upgrade_outcome nodes st u).0 ≡ Changed
+  unfolding upgrade_outcome
+  tell-upgrades (known, runs, lost) = rw known (ap₂ (λ (o : Option UpgradeNo) (l : Option StripeNo). (upgrade_answer st u o l).0) runs lost)
 
   -- the state after an upgrade
   pub upgrade-after : (upgrade_outcome nodes st u).0 ≡ Changed → (upgrade_outcome nodes st u).1 ≡ with_upgrading st u
-  upgrade-after told = ap (λ (o : Outcome). o.1) (upgraded-to (upgrade-told Changed told))
+  upgrade-after told = upgrade-changed nodes st u ∙ ap (changed_by st (Upgrade u)) told
 
   -- a stripe that was recoverable is recoverable during the upgrade
   still-by : (s : StripeNo) → ((s : StripeNo) → ¬ (WouldBeLost nodes st u s)) → has_stripe st s ≡ true

@@ -34,7 +34,6 @@ use Rattle.lrc_rules.specs.Outcomes.{Outcome, refuse_if}
 use Rattle.lrc_rules.specs.Steps.{with_stripe, without_stripe, placed_reply, place_command, place_answer, place_outcome, drop_outcome, is_wrong_on, changed_on, is_kept_by_load, node_outcome, without_upgrading, would_lose, upgrade_answer, upgrade_outcome, is_the_domain, upgraded_outcome, step}
 use Rattle.lrc_rules.specs.Choices.{AreChosen}
 use Rattle.lrc_rules.proofs.CodedLemmas.{code-own}
-use Rattle.lrc_rules.proofs.OutcomeLemmas.{node_by}
 use Rattle.lrc_rules.specs.Changes.{held_at, with_placed, with_done, changed_by}
 
 -- the placement after one more fragment, by the seat that is chosen
@@ -72,6 +71,16 @@ module _ (nodes : List NodeInfo) (st : State) (code : Code) (s : StripeNo) where
   place-there there = refused-if _ _ st _ there
 
 -- ---- what a command changes
+
+-- the command and its reply determine the state after it
+abbrev IsToldBy : State → Command → Outcome → Type 0
+IsToldBy st c o = o.1 ≡ changed_by st c o.0
+
+-- with one more refusal, too
+told-if : (st : State) (c : Command) (met : Bool) (r : Refusal) (other : Outcome) → changed_by st c (Refused r) ≡ st → IsToldBy st c other
+    → IsToldBy st c (refuse_if met r st other)
+told-if st c true r other refused told = sym refused
+told-if st c false r other refused told = told
 
 -- a placement adds homes of the fragments in order, on the seats that are chosen for them
 pub record IsGrown (nodes : List NodeInfo) (s : StripeNo) (fs : List Fragment) (st done : State) : Type 0 where
@@ -122,7 +131,7 @@ unplaced-left st Narrow s r = refl
 
 answer-changed : (nodes : List NodeInfo) (st : State) (code : Code) (s : StripeNo) (r : Result State Fragment)
     → ((done : State) → r ≡ Ok done → IsGrown nodes s (fragments code) (with_stripe st code s) done)
-    → (place_answer st code r).1 ≡ changed_by st (place_command code s) (place_answer st code r).0
+    → IsToldBy st (place_command code s) (place_answer st code r)
 answer-changed nodes st code s (Err f) grown = sym (unplaced-left st code s (refusal.NoLawfulNode f))
 answer-changed nodes st code s (Ok done) grown =
     let g = grown done refl in
@@ -145,15 +154,11 @@ pub placed-grown : (nodes : List NodeInfo) (st : State) (code : Code) (s : Strip
     → IsGrown nodes s (fragments code) (with_stripe st code s) done
 placed-grown nodes st code s done e = placing-grown nodes s (fragments code) (with_stripe st code s) done (sym (placed-all nodes st code s) ∙ e)
 
-place-changed : (nodes : List NodeInfo) (st : State) (code : Code) (s : StripeNo) (there : Bool) → has_stripe st s ≡ there
-    → (place_outcome nodes st code s).1 ≡ changed_by st (place_command code s) (place_outcome nodes st code s).0
-place-changed nodes st code s true e =
-    let o = place-there nodes st code s e in
-    ap (λ (o : Outcome). o.1) o ∙ sym (ap (λ (o : Outcome). changed_by st (place_command code s) o.0) o ∙ unplaced-left st code s refusal.StripeExists)
-place-changed nodes st code s false e =
-    let o = place-passed nodes st code s e in
-    ap (λ (o : Outcome). o.1) o ∙ answer-changed nodes st code s (placed nodes (with_stripe st code s) s) (placed-grown nodes st code s)
-    ∙ sym (ap (λ (o : Outcome). changed_by st (place_command code s) o.0) o)
+place-changed : (nodes : List NodeInfo) (st : State) (code : Code) (s : StripeNo) → IsToldBy st (place_command code s) (place_outcome nodes st code s)
+unfolding place_outcome
+place-changed nodes st code s =
+    told-if st (place_command code s) (has_stripe st s) refusal.StripeExists _ (unplaced-left st code s refusal.StripeExists)
+    (answer-changed nodes st code s (placed nodes (with_stripe st code s) s) (placed-grown nodes st code s))
 
 -- Place and Place6
 pub place-step : (nodes : List NodeInfo) (past : List Entry) (st : State) (session : SessionNo) (code : Code) (s : StripeNo)
@@ -164,172 +169,108 @@ place-step nodes past st session Narrow s = refl
 -- if the stripe was placed
 pub place-left : (nodes : List NodeInfo) (st : State) (code : Code) (s : StripeNo) (seats : List Seat) → (place_outcome nodes st code s).0 ≡ placed_reply code seats
     → (place_outcome nodes st code s).1 ≡ with_placed st code s seats
-place-left nodes st code s seats told = place-changed nodes st code s (has_stripe st s) refl ∙ ap (changed_by st (place_command code s)) told ∙ placed-left st code s seats
+place-left nodes st code s seats told = place-changed nodes st code s ∙ ap (changed_by st (place_command code s)) told ∙ placed-left st code s seats
 
-drop-cases : (st : State) (s : StripeNo) (there : Bool)
-    → (refuse_if (not there) refusal.UnknownStripe st (Dropped, without_stripe st s)).1
-    ≡ changed_by st (Drop s) (refuse_if (not there) refusal.UnknownStripe st (Dropped, without_stripe st s)).0
-drop-cases st s true = refl
-drop-cases st s false = refl
-
-drop-changed : (st : State) (s : StripeNo) → (drop_outcome st s).1 ≡ changed_by st (Drop s) (drop_outcome st s).0
+pub drop-changed : (st : State) (s : StripeNo) → IsToldBy st (Drop s) (drop_outcome st s)
 unfolding drop_outcome
-drop-changed st s = drop-cases st s (has_stripe st s)
+drop-changed st s = told-if st (Drop s) (not (has_stripe st s)) refusal.UnknownStripe (Dropped, without_stripe st s) refl refl
 
 -- a command on a node
 node-changed : (nodes : List NodeInfo) (st : State) (command : NodeCommand) (n : NodeNo) (c : Command) → changed_by st c Changed ≡ changed_on command st n
-    → ((r : Refusal) → changed_by st c (Refused r) ≡ st) → (node_outcome nodes st command n).1 ≡ changed_by st c (node_outcome nodes st command n).0
+    → ((r : Refusal) → changed_by st c (Refused r) ≡ st) → IsToldBy st c (node_outcome nodes st command n)
 unfolding node_outcome
-node-changed nodes st command n c is refused = by (is_none (node_at nodes n)) (is_wrong_on command st n) (is_kept_by_load command st n) where
-  by : (unknown wrong kept : Bool) → (node_by st (load st n) (changed_on command st n) unknown wrong kept).1 ≡ changed_by st c (node_by st (load st n) (changed_on command st n) unknown wrong kept).0
-  by true wrong kept = sym (refused refusal.UnknownNode)
-  by false true kept = sym (refused refusal.WrongMode)
-  by false false true = sym (refused (refusal.NotEmpty (load st n)))
-  by false false false = sym is
+node-changed nodes st command n c is refused =
+    told-if st c (is_none (node_at nodes n)) refusal.UnknownNode _ (refused refusal.UnknownNode)
+    (told-if st c (is_wrong_on command st n) refusal.WrongMode _ (refused refusal.WrongMode)
+    (told-if st c (is_kept_by_load command st n) (refusal.NotEmpty (load st n)) (Changed, changed_on command st n) (refused (refusal.NotEmpty (load st n)))
+    (sym is)))
 
 module _ (nodes : List NodeInfo) (st : State) (u : UpgradeNo) where
-  upgrade-cases : (known : Bool) (upgrading : Option UpgradeNo) (lost : Option StripeNo)
-      → (refuse_if known refusal.UnknownDomain st (upgrade_answer st u upgrading lost)).1
-      ≡ changed_by st (Upgrade u) (refuse_if known refusal.UnknownDomain st (upgrade_answer st u upgrading lost)).0
-  upgrade-cases true upgrading lost = refl
-  upgrade-cases false (Some v) lost = refl
-  upgrade-cases false None (Some s) = refl
-  upgrade-cases false None None = refl
-
-  upgrade-changed : (upgrade_outcome nodes st u).1 ≡ changed_by st (Upgrade u) (upgrade_outcome nodes st u).0
+  pub upgrade-changed : IsToldBy st (Upgrade u) (upgrade_outcome nodes st u)
   unfolding upgrade_outcome
-  upgrade-changed = upgrade-cases (not (has_domain nodes u)) st.upgrading (would_lose nodes st u)
+  upgrade-changed = told-if st (Upgrade u) (not (has_domain nodes u)) refusal.UnknownDomain _ refl (by st.upgrading (would_lose nodes st u)) where
+    by : (upgrading : Option UpgradeNo) (lost : Option StripeNo) → IsToldBy st (Upgrade u) (upgrade_answer st u upgrading lost)
+    by (Some v) lost = refl
+    by None (Some s) = refl
+    by None None = refl
 
-  upgraded-cases : (known other : Bool)
-      → (refuse_if known refusal.UnknownDomain st (refuse_if other refusal.NotUpgrading st (Changed, without_upgrading st))).1
-      ≡ changed_by st (Upgraded u)
-      (refuse_if known refusal.UnknownDomain st (refuse_if other refusal.NotUpgrading st (Changed, without_upgrading st))).0
-  upgraded-cases true other = refl
-  upgraded-cases false true = refl
-  upgraded-cases false false = refl
-
-  upgraded-changed : (upgraded_outcome nodes st u).1 ≡ changed_by st (Upgraded u) (upgraded_outcome nodes st u).0
+  upgraded-changed : IsToldBy st (Upgraded u) (upgraded_outcome nodes st u)
   unfolding upgraded_outcome
-  upgraded-changed = upgraded-cases (not (has_domain nodes u)) (not (is_the_domain u st.upgrading))
+  upgraded-changed =
+      told-if st (Upgraded u) (not (has_domain nodes u)) refusal.UnknownDomain _ refl
+      (told-if st (Upgraded u) (not (is_the_domain u st.upgrading)) refusal.NotUpgrading (Changed, without_upgrading st) refl refl)
 
 module _ (nodes : List NodeInfo) (past : List Entry) (st : State) (session : SessionNo) (s : StripeNo) (f : Fragment) where
-  IsToldBy : Command → Outcome → Type 0
-  IsToldBy c o = o.1 ≡ changed_by st c o.0
-
   -- the command adds the lease that is granted, and changes nothing if none is
   record Grants (c : Command) : Type 0 where
     granting : (lease : LeaseRecord) (k : Kind) → changed_by st c (Granted lease k) ≡ with_lease st lease
     refusing : (r : Refusal) → changed_by st c (Refused r) ≡ st
 
-  module _ (c : Command) (grants : Grants c) where
-    needed-changed : (needed beyond : Bool) (seat : Option Seat)
-        → IsToldBy c (refuse_if (not needed) refusal.NotNeeded st (refuse_if beyond refusal.Unrecoverable st (granted nodes past st session s f seat)))
-    unfolding IsToldBy
-    needed-changed false beyond seat = sym (grants.refusing refusal.NotNeeded)
-    needed-changed true true seat = sym (grants.refusing refusal.Unrecoverable)
-    needed-changed true false (Some seat) = sym (grants.granting (new_lease past st session s f seat) (kind nodes st s f))
-    needed-changed true false None = sym (grants.refusing (refusal.NoLawfulNode f))
+  lease-by : (c : Command) → Grants c → IsToldBy st c (lease_outcome nodes past st session s f)
+  unfolding lease_outcome
+  lease-by c grants = told-if st c (not (has_stripe st s)) refusal.UnknownStripe _ (grants.refusing refusal.UnknownStripe) (by (lease_of st s f)) where
+    seated : (seat : Option Seat) → IsToldBy st c (granted nodes past st session s f seat)
+    seated (Some seat) = sym (grants.granting (new_lease past st session s f seat) (kind nodes st s f))
+    seated None = sym (grants.refusing (refusal.NoLawfulNode f))
 
-    answer-told : (o : Option LeaseRecord) → IsToldBy c (lease_answer nodes past st session s f o)
-    unfolding IsToldBy
-    answer-told (Some lease) = sym (grants.refusing (refusal.AlreadyLeased lease.epoch))
-    answer-told None = needed-changed (needs nodes st s f) (is_beyond_repair nodes st s f) (chosen nodes st s f)
+    by : (o : Option LeaseRecord) → IsToldBy st c (lease_answer nodes past st session s f o)
+    by (Some lease) = sym (grants.refusing (refusal.AlreadyLeased lease.epoch))
+    by None =
+        told-if st c (not (needs nodes st s f)) refusal.NotNeeded _ (grants.refusing refusal.NotNeeded)
+        (told-if st c (is_beyond_repair nodes st s f) refusal.Unrecoverable _ (grants.refusing refusal.Unrecoverable) (seated (chosen nodes st s f)))
 
-    lease-cases : (there : Bool) (o : Option LeaseRecord)
-        → IsToldBy c (refuse_if (not there) refusal.UnknownStripe st (lease_answer nodes past st session s f o))
-    unfolding IsToldBy
-    lease-cases false o = sym (grants.refusing refusal.UnknownStripe)
-    lease-cases true o = answer-told o
-
-    lease-by : (lease_outcome nodes past st session s f).1 ≡ changed_by st c (lease_outcome nodes past st session s f).0
-    unfolding IsToldBy lease_outcome
-    lease-by = lease-cases (has_stripe st s) (lease_of st s f)
-
-  lease-changed : (lease_outcome nodes past st session s f).1 ≡ changed_by st (Lease s f) (lease_outcome nodes past st session s f).0
+  lease-changed : IsToldBy st (Lease s f) (lease_outcome nodes past st session s f)
   lease-changed = lease-by (Lease s f) (record { granting = λ lease k. refl; refusing = λ r. refl })
 
-  next-one : (lease_outcome nodes past st session s f).1 ≡ changed_by st Next (lease_outcome nodes past st session s f).0
+  next-one : IsToldBy st Next (lease_outcome nodes past st session s f)
   next-one = lease-by Next (record { granting = λ lease k. refl; refusing = λ r. refl })
 
   module _ (e : ℕ) where
-    held-changed : (mine online : Bool) (lease : LeaseRecord) → lease_of st s f ≡ Some lease
-        → IsToldBy (Done s f e) (refuse_if (not mine) (refusal.NotHolder lease.holder) st (refuse_if (not online) (refusal.TargetOffline lease.target.node) st (Ended, moved_in st s f lease.target)))
-    unfolding IsToldBy
-    held-changed false online lease live = refl
-    held-changed true false lease live = refl
-    held-changed true true lease live = sym (ap (with_done st s f) live)
+    pub done-changed : IsToldBy st (Done s f e) (done_outcome nodes st session s f e)
+    unfolding done_outcome
+    done-changed = told-if st (Done s f e) (not (has_stripe st s)) refusal.UnknownStripe _ refl (by (lease_of st s f) refl) where
+      same : (b : Bool) (lease : LeaseRecord) → lease_of st s f ≡ Some lease → IsToldBy st (Done s f e) (done_answer nodes st session s f (if b then Some lease else None))
+      same false lease live = refl
+      same true lease live =
+          told-if st (Done s f e) (not (is_held_by session lease)) (refusal.NotHolder lease.holder) _ refl
+          (told-if st (Done s f e) (not (online_at nodes st lease.target.node)) (refusal.TargetOffline lease.target.node) (Ended, moved_in st s f lease.target) refl
+          (sym (ap (with_done st s f) live)))
 
-    epoch-changed : (same : Bool) (lease : LeaseRecord) → lease_of st s f ≡ Some lease
-        → IsToldBy (Done s f e) (done_answer nodes st session s f (if same then Some lease else None))
-    unfolding IsToldBy
-    epoch-changed false lease live = refl
-    epoch-changed true lease live = held-changed (is_held_by session lease) (online_at nodes st lease.target.node) lease live
+      by : (o : Option LeaseRecord) → lease_of st s f ≡ o → IsToldBy st (Done s f e) (done_answer nodes st session s f (at_epoch e o))
+      by None none = refl
+      by (Some lease) live = same (nat_eq lease.epoch e) lease live
 
-    live-changed : (o : Option LeaseRecord) → lease_of st s f ≡ o → IsToldBy (Done s f e) (done_answer nodes st session s f (at_epoch e o))
-    unfolding IsToldBy
-    live-changed None none = refl
-    live-changed (Some lease) live = epoch-changed (nat_eq lease.epoch e) lease live
+    pub abandon-changed : IsToldBy st (Abandon s f e) (abandon_outcome st session s f e)
+    unfolding abandon_outcome
+    abandon-changed = told-if st (Abandon s f e) (not (has_stripe st s)) refusal.UnknownStripe _ refl (by (at_epoch e (lease_of st s f))) where
+      by : (o : Option LeaseRecord) → IsToldBy st (Abandon s f e) (abandon_answer st session s f o)
+      by None = refl
+      by (Some lease) = told-if st (Abandon s f e) (not (is_held_by session lease)) (refusal.NotHolder lease.holder) (Ended, without_lease st s f) refl refl
 
-    done-cases : (there : Bool)
-        → IsToldBy (Done s f e) (refuse_if (not there) refusal.UnknownStripe st (done_answer nodes st session s f (at_epoch e (lease_of st s f))))
-    unfolding IsToldBy
-    done-cases false = refl
-    done-cases true = live-changed (lease_of st s f) refl
-
-    done-changed : (done_outcome nodes st session s f e).1 ≡ changed_by st (Done s f e) (done_outcome nodes st session s f e).0
-    unfolding IsToldBy done_outcome
-    done-changed = done-cases (has_stripe st s)
-
-    given-changed : (mine : Bool) (lease : LeaseRecord)
-        → IsToldBy (Abandon s f e) (refuse_if (not mine) (refusal.NotHolder lease.holder) st (Ended, without_lease st s f))
-    unfolding IsToldBy
-    given-changed false lease = refl
-    given-changed true lease = refl
-
-    back-changed : (o : Option LeaseRecord) → IsToldBy (Abandon s f e) (abandon_answer st session s f o)
-    unfolding IsToldBy
-    back-changed None = refl
-    back-changed (Some lease) = given-changed (is_held_by session lease) lease
-
-    abandon-cases : (there : Bool)
-        → IsToldBy (Abandon s f e) (refuse_if (not there) refusal.UnknownStripe st (abandon_answer st session s f (at_epoch e (lease_of st s f))))
-    unfolding IsToldBy
-    abandon-cases false = refl
-    abandon-cases true = back-changed (at_epoch e (lease_of st s f))
-
-    abandon-changed : (abandon_outcome st session s f e).1 ≡ changed_by st (Abandon s f e) (abandon_outcome st session s f e).0
-    unfolding IsToldBy abandon_outcome
-    abandon-changed = abandon-cases (has_stripe st s)
-
-  revoke-cases : (there none : Bool)
-      → IsToldBy (Revoke s f) (refuse_if (not there) refusal.UnknownStripe st (refuse_if none refusal.NoLease st (Ended, without_lease st s f)))
-  unfolding IsToldBy
-  revoke-cases false none = refl
-  revoke-cases true true = refl
-  revoke-cases true false = refl
-
-  revoke-changed : (revoke_outcome st s f).1 ≡ changed_by st (Revoke s f) (revoke_outcome st s f).0
-  unfolding IsToldBy revoke_outcome
-  revoke-changed = revoke-cases (has_stripe st s) (is_none (lease_of st s f))
+  pub revoke-changed : IsToldBy st (Revoke s f) (revoke_outcome st s f)
+  unfolding revoke_outcome
+  revoke-changed =
+      told-if st (Revoke s f) (not (has_stripe st s)) refusal.UnknownStripe _ refl
+      (told-if st (Revoke s f) (is_none (lease_of st s f)) refusal.NoLease (Ended, without_lease st s f) refl refl)
 
 module _ (nodes : List NodeInfo) (past : List Entry) (st : State) (session : SessionNo) where
-  next-cases : (o : Option StripeFragment) → (next_answer nodes past st session o).1 ≡ changed_by st Next (next_answer nodes past st session o).0
+  next-cases : (o : Option StripeFragment) → IsToldBy st Next (next_answer nodes past st session o)
   next-cases (Some p) = next-one nodes past st session p.0 p.1
   next-cases None = refl
 
-  next-changed : (next_outcome nodes past st session).1 ≡ changed_by st Next (next_outcome nodes past st session).0
+  next-changed : IsToldBy st Next (next_outcome nodes past st session)
   unfolding next_outcome
   next-changed = next-cases (next_of nodes st)
 
-tick-changed : (st : State) → (tick_outcome st).1 ≡ changed_by st Tick (tick_outcome st).0
+tick-changed : (st : State) → IsToldBy st Tick (tick_outcome st)
 unfolding tick_outcome
 tick-changed st = refl
 
 -- the command and the reply determine the state after it
 pub step-changed : (nodes : List NodeInfo) (past : List Entry) (st : State) (session : SessionNo) (c : Command)
     → (step nodes past st session c).1 ≡ changed_by st c (step nodes past st session c).0
-step-changed nodes past st session (Place s) = place-changed nodes st Wide s (has_stripe st s) refl
-step-changed nodes past st session (Place6 s) = place-changed nodes st Narrow s (has_stripe st s) refl
+step-changed nodes past st session (Place s) = place-changed nodes st Wide s
+step-changed nodes past st session (Place6 s) = place-changed nodes st Narrow s
 step-changed nodes past st session (Drop s) = drop-changed st s
 step-changed nodes past st session (Lease s f) = lease-changed nodes past st session s f
 step-changed nodes past st session Next = next-changed nodes past st session

@@ -1,5 +1,5 @@
 -- Which replies to Place, Place6 and Drop depend on whether the store has the stripe, and what is left after Drop.
-use Rattle.std.proofs.Common.{◌≡◌, ◌≢◌, ◌↔◌, true, not, List, filter, sym, ap, subst}
+use Rattle.std.proofs.Common.{◌≡◌, ◌≢◌, ◌↔◌, true, not, List, filter, refl, sym, ap, ◌∙◌, subst}
 use Rattle.std.specs.List.{Contains}
 use Rattle.std.proofs.lemmas.Bool.{not-true, eqb-false, ne_eqb}
 use Rattle.lrc_code.specs.declared.numbers.StripeNo.{StripeNo}
@@ -7,21 +7,20 @@ use Rattle.lrc_code.specs.Numbers.{same_stripe}
 use Rattle.lrc_code.proofs.NumbersLemmas.{equal_stripes}
 use Rattle.lrc_topology.specs.declared.seat.Held.{Held}
 use Rattle.lrc_terms.specs.declared.lease.Lease.{Lease as LeaseRecord}
+use Rattle.lrc_rules.specs.declared.command.Command.TheVariants.{Drop}
 use Rattle.lrc_rules.specs.declared.reply.Reply.TheVariants.{Dropped}
-use Rattle.lrc_rules.specs.declared.refusal.Refusal.TheVariants as refusal
-use Rattle.lrc_rules.specs.Outcomes.{Outcome}
 use Rattle.lrc_rules.specs.States.{State, has_stripe}
 use Rattle.lrc_rules.specs.Steps.{is_other, without_stripe, drop_outcome}
+use Rattle.lrc_rules.specs.Changes.{changed_by}
 use Rattle.lrc_rules.proofs.MemberLemmas.{filter-member, member-filter}
-use Rattle.lrc_rules.proofs.GrantingLemmas.{passed}
-use Rattle.lrc_rules.proofs.ToldLemmas.{drop-told}
+use Rattle.lrc_rules.proofs.StepLemmas.{drop-changed}
 
 -- ---- Place and Place6
 
 module _ (st : State) (s : StripeNo) where
   pub there-dropped : has_stripe st s ≡ true → drop_outcome st s ≡ (Dropped, without_stripe st s)
   unfolding drop_outcome
-  there-dropped there = passed (not (has_stripe st s)) refusal.UnknownStripe st (Dropped, without_stripe st s) (ap not there)
+  there-dropped there = rw there refl
 
   other-test : (r : StripeNo) → r ≢ s → is_other s r ≡ true
   other-test r other = ap not (ne_eqb s.value r.value (λ same. other (equal_stripes r s (sym same))))
@@ -40,7 +39,7 @@ module _ (st : State) (s : StripeNo) where
   )
 
   left-where : (P : State → Type 0) → P (without_stripe st s) → (drop_outcome st s).0 ≡ Dropped → P (drop_outcome st s).1
-  left-where P so told = subst P (sym (ap (λ (o : Outcome). o.1) (there-dropped (drop-told st s told)))) so
+  left-where P so told = subst P (sym (drop-changed st s ∙ ap (changed_by st (Drop s)) told)) so
 
   pub stripes-left : (r : StripeNo) → (drop_outcome st s).0 ≡ Dropped
       → Contains (drop_outcome st s).1.stripes r ↔ (Contains st.stripes r × (r ≢ s))

@@ -1,6 +1,6 @@
 -- What a reply means for the state before the command.
-use Rattle.std.proofs.Common.{◌≡◌, Bool, true, false, not, List, map, drop, length, Option, Some, None, Result, Ok, Err, refl, sym, ap, ◌∙◌, subst, inl, inr}
-use Rattle.std.proofs.lemmas.Bool.{cases_Bool, eqb-true}
+use Rattle.std.proofs.Common.{◌≡◌, ◌≢◌, Bool, true, false, not, List, map, drop, length, Option, Some, None, Result, Ok, Err, refl, sym, ap, ◌∙◌, subst}
+use Rattle.std.proofs.lemmas.Bool.{eqb-true}
 use Rattle.lrc_code.specs.declared.codes.Code.{Code}
 use Rattle.lrc_code.specs.declared.codes.Code.TheVariants.{Wide, Narrow}
 use Rattle.lrc_code.specs.declared.numbers.StripeNo.{StripeNo}
@@ -13,13 +13,14 @@ use Rattle.lrc_topology.specs.Nodes.{has_domain}
 use Rattle.lrc_rules.specs.declared.reply.Reply.TheVariants.{Dropped, Changed, Refused}
 use Rattle.lrc_rules.specs.States.{State, has_stripe}
 use Rattle.lrc_rules.specs.Placement.{placed}
-use Rattle.lrc_rules.specs.Outcomes.{Outcome, refuse_if}
+use Rattle.lrc_rules.specs.Outcomes.{Outcome}
 use Rattle.lrc_rules.specs.Steps.{with_stripe, placed_reply, without_stripe, place_answer, place_outcome, drop_outcome, without_upgrading, would_lose, upgrade_answer, upgrade_outcome, is_the_domain, upgraded_outcome}
 use Rattle.lrc_rules.specs.Choices.{AreChosen}
+use Rattle.lrc_rules.specs.declared.refusal.Refusal.{Refusal}
+use Rattle.lrc_rules.proofs.OutcomeLemmas.{from_not, passed-told, passed-changed}
 use Rattle.lrc_rules.proofs.LawLemmas.{never-refused}
 use Rattle.lrc_rules.proofs.StepLemmas.{place-passed, place-there, placed-grown, seats-added}
 use Rattle.lrc_code.specs.declared.numbers.UpgradeNo.{UpgradeNo}
-use Rattle.lrc_code.specs.Numbers.{same_upgrade}
 use Rattle.lrc_rules.specs.declared.refusal.Refusal.TheVariants as refusal
 
 -- a stripe was placed: the store lacked it, and each of its seats was chosen
@@ -51,40 +52,33 @@ pub place-told : (nodes : List NodeInfo) (st : State) (code : Code) (s : StripeN
     → ArePlaced nodes st code s seats
 place-told nodes st code s seats e = there-by nodes st code s seats (has_stripe st s) refl e
 
-drop-by : (st : State) (s : StripeNo) (there : Bool) → (refuse_if (not there) refusal.UnknownStripe st (Dropped, without_stripe st s)).0 ≡ Dropped → there ≡ true
-drop-by st s true e = refl
-drop-by st s false e = absurd (let never : Refused refusal.UnknownStripe ≡ Dropped = e in cc)
-
 -- a stripe was dropped: the store had it
 pub drop-told : (st : State) (s : StripeNo) → (drop_outcome st s).0 ≡ Dropped → has_stripe st s ≡ true
 unfolding drop_outcome
-drop-told st s e = drop-by st s (has_stripe st s) e
+drop-told st s e = from_not (has_stripe st s) (passed-told Dropped never (not (has_stripe st s)) refusal.UnknownStripe st (Dropped, without_stripe st s) e).0
+  where
+    never : (r : Refusal) → Refused r ≢ Dropped
+    never r e = cc
 
 -- ---- upgrades
-
-upgrade-by : (st : State) (u : UpgradeNo) (unknown : Bool) (upgrading : Option UpgradeNo) (lost : Option StripeNo)
-    → (refuse_if unknown refusal.UnknownDomain st (upgrade_answer st u upgrading lost)).0 ≡ Changed → upgrading ≡ None
-upgrade-by st u true upgrading lost e = absurd (let never : Refused refusal.UnknownDomain ≡ Changed = e in cc)
-upgrade-by st u false (Some v) lost e = absurd (let never : Refused (refusal.UpgradeRunning v) ≡ Changed = e in cc)
-upgrade-by st u false None lost e = refl
-
-upgraded-by : (st : State) (u : UpgradeNo) (unknown : Bool) (upgrading : Option UpgradeNo)
-    → (refuse_if unknown refusal.UnknownDomain st (refuse_if (not (is_the_domain u upgrading)) refusal.NotUpgrading st
-    (Changed, without_upgrading st))).0 ≡ Changed → upgrading ≡ Some u
-upgraded-by st u true upgrading e = absurd (let never : Refused refusal.UnknownDomain ≡ Changed = e in cc)
-upgraded-by st u false None e = absurd (let never : Refused refusal.NotUpgrading ≡ Changed = e in cc)
-upgraded-by st u false (Some v) e = elim (cases_Bool (same_upgrade u v)) [
-  | inl hit ↦ ap Some (sym (ap (λ n. record { value = n }) (eqb-true u.value v.value hit)))
-  | inr miss ↦ absurd (let never : Refused refusal.NotUpgrading ≡ Changed = rw miss at e in cc)
-]
 
 module _ (nodes : List NodeInfo) (st : State) (u : UpgradeNo) where
   -- an upgrade began: none was running
   pub upgrade-told : (upgrade_outcome nodes st u).0 ≡ Changed → st.upgrading ≡ None
   unfolding upgrade_outcome
-  upgrade-told e = upgrade-by st u (not (has_domain nodes u)) st.upgrading (would_lose nodes st u) e
+  upgrade-told e = by st.upgrading (would_lose nodes st u) (passed-changed (not (has_domain nodes u)) refusal.UnknownDomain st _ e).1 where
+    by : (upgrading : Option UpgradeNo) (lost : Option StripeNo) → (upgrade_answer st u upgrading lost).0 ≡ Changed → upgrading ≡ None
+    by (Some v) lost e = absurd (let never : Refused (refusal.UpgradeRunning v) ≡ Changed = e in cc)
+    by None lost e = refl
 
   -- an upgrade ended: it was running
   pub upgraded-told : (upgraded_outcome nodes st u).0 ≡ Changed → st.upgrading ≡ Some u
   unfolding upgraded_outcome
-  upgraded-told e = upgraded-by st u (not (has_domain nodes u)) st.upgrading e
+  upgraded-told e =
+      let known = passed-changed (not (has_domain nodes u)) refusal.UnknownDomain st _ e in
+      by st.upgrading (from_not (is_the_domain u st.upgrading)
+      (passed-changed (not (is_the_domain u st.upgrading)) refusal.NotUpgrading st (Changed, without_upgrading st) known.1).0)
+    where
+      by : (upgrading : Option UpgradeNo) → is_the_domain u upgrading ≡ true → upgrading ≡ Some u
+      by None e = absurd (cc)
+      by (Some v) e = ap Some (sym (ap (λ n. record { value = n }) (eqb-true u.value v.value e)))

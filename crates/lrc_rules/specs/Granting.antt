@@ -26,14 +26,14 @@ pub record IsGrantable (nodes : List NodeInfo) (st : State) (p : StripeFragment)
   pub node : NodeInfo
   pub fitting : IsFitting nodes st p.0 p.1 node
 
--- the first stripe is repaired before the second: it has the lower rank, or the same rank and the lower number
-abbrev pub IsMoreUrgent : List NodeInfo → State → StripeNo → StripeNo → Type 0
-IsMoreUrgent nodes st s t = (rank nodes st s < rank nodes st t) ⊎ ((rank nodes st s ≡ rank nodes st t) × (s.value < t.value))
+-- `comes_first`, in words: the first stripe has the lower rank, or the same rank and the lower number
+abbrev pub ComesFirst : List NodeInfo → State → StripeNo → StripeNo → Type 0
+ComesFirst nodes st s t = (rank nodes st s < rank nodes st t) ⊎ ((rank nodes st s ≡ rank nodes st t) × (s.value < t.value))
 
--- the first fragment is repaired before the second: its stripe is, or they are of one stripe and it has the lower
--- number
+-- `is_repaired_before`, in words: the stripe of the first fragment comes first, or they are of one stripe and it has the
+-- lower number
 abbrev pub IsRepairedBefore : List NodeInfo → State → StripeFragment → StripeFragment → Type 0
-IsRepairedBefore nodes st p q = IsMoreUrgent nodes st p.0 q.0 ⊎ ((p.0 ≡ q.0) × (p.1.value < q.1.value))
+IsRepairedBefore nodes st p q = ComesFirst nodes st p.0 q.0 ⊎ ((p.0 ≡ q.0) × (p.1.value < q.1.value))
 
 -- the fragment is grantable, and is repaired before every other that is
 pub record IsMostUrgent (nodes : List NodeInfo) (st : State) (p : StripeFragment) : Type 0 where

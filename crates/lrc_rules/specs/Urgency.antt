@@ -15,7 +15,7 @@ use Rattle.lrc_rules.specs.Repairs.{needs, is_beyond_repair}
 
 -- ---- stripes
 
--- the stripes sorted by rank, then by number
+-- these stripes, sorted by the order of repair of stripes
 abbrev pub by_rank : List NodeInfo → State → List StripeNo → List StripeNo
 by_rank nodes st stripes = in_order (comes_first (rank nodes st)) stripes
 
@@ -42,7 +42,7 @@ is_grantable nodes st p =
 abbrev pub all_fragments : State → List StripeFragment
 all_fragments st = flat_map (λ s. map (λ f. (s, f)) (fragments (code_of st s))) st.stripes
 
--- the order of repair of fragments: by rank, stripe number and fragment number
+-- the order of repair of fragments: that of their stripes, and within a stripe by fragment number
 abbrev pub is_repaired_before : (StripeNo → ℕ) → StripeFragment → StripeFragment → Bool
 is_repaired_before rank p q = comes_first rank p.0 q.0 || (same_stripe p.0 q.0 && nat_lt p.1.value q.1.value)
 

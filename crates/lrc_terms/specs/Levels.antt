@@ -69,7 +69,7 @@ level_by code homeless missing = if is_recoverable code homeless then level_at (
 unfoldable pub rank_by : Code → FragmentSet → ℕ
 rank_by code missing = unwrap_or (margin_of code missing) 4
 
--- the order of repair: by rank, then by stripe number
+-- the order of repair of stripes: by rank, then by number
 abbrev pub comes_first : (StripeNo → ℕ) → StripeNo → StripeNo → Bool
 comes_first rank s t = nat_lt (rank s) (rank t) || (nat_eq (rank s) (rank t) && nat_lt s.value t.value)
 

@@ -169,6 +169,7 @@ pub fn retired_nodes_are_empty()
 
 /// After Fail exactly these are left: the homes that were on other nodes, the leases with neither their target nor
 /// their fragment's home on the node, and all stripes.
+#[tactic(auto, unfolding(crate::specs::Steps::node_outcome))]
 pub fn a_failed_node_is_emptied()
     ensures homes { (nodes : List NodeInfo) (past : List Entry) (st : State) (session : SessionNo) (n : NodeNo) (h : Held)
         → (step nodes past st session (Fail n)).0 ≡ Changed

@@ -21,7 +21,7 @@ ghost use Rattle.lrc_terms.specs.Levels.{homes_of, rank_at};
 ghost use Rattle.lrc_rules.specs.declared.mode.Mode.TheVariants.{Draining};
 ghost use Rattle.lrc_rules.specs.Repairs.{needs};
 ghost use Rattle.lrc_rules.specs.Urgency.{work, risk};
-ghost use Rattle.lrc_rules.specs.Granting.{IsGrantable, IsMoreUrgent, IsMostUrgent};
+ghost use Rattle.lrc_rules.specs.Granting.{IsGrantable, ComesFirst, IsMostUrgent};
 ghost use Rattle.lrc_rules.specs.Steps.{step};
 ghost use Rattle.lrc_rules.specs.States.{State, has_stripe, code_of, mode_of, rank, level, level_shown};
 ghost use Rattle.lrc_rules.specs.Goodness.{AreSeated};
@@ -75,7 +75,7 @@ pub fn risk_lists_all()
     ensures each { (nodes : List NodeInfo) (st : State) (s : StripeNo) (l : Level)
         → Contains (risk nodes st) (s, l) ↔ (IsTrue (has_stripe st s) × (level nodes st s ≡ l) × (l ≢ Whole)) }
     ensures rising { (nodes : List NodeInfo) (st : State)
-        → AreSeated nodes st → AllPairs (λ a b. IsMoreUrgent nodes st a.0 b.0) (risk nodes st) }
+        → AreSeated nodes st → AllPairs (λ a b. ComesFirst nodes st a.0 b.0) (risk nodes st) }
 {}
 
 /// The work list has exactly the stripes with a fragment that needs a lease. In a state that meets `AreSeated` it has
@@ -84,5 +84,5 @@ pub fn work_lists_all()
     ensures each { (nodes : List NodeInfo) (st : State) (s : StripeNo)
         → Contains (work nodes st) s ↔ (IsTrue (has_stripe st s) × ((f : Fragment) × IsTrue (needs nodes st s f))) }
     ensures rising { (nodes : List NodeInfo) (st : State)
-        → AreSeated nodes st → AllPairs (λ a b. IsMoreUrgent nodes st a b) (work nodes st) }
+        → AreSeated nodes st → AllPairs (λ a b. ComesFirst nodes st a b) (work nodes st) }
 {}

@@ -106,6 +106,7 @@ pub fn levels_in_words()
 /// A read of a stripe returns its level, its code, the mask of its missing fragments, or the seats of its fragments
 /// by the sixteen fragment numbers; nothing if the store has no such stripe. A read of a node returns its mode,
 /// whether it is online, and its load; nothing if the store has no such node.
+#[tactic(auto, unfolding(lrc_terms::specs::Levels::level_if, lrc_terms::specs::Levels::missing_if))]
 pub fn answers_in_words()
     ensures level { (nodes : List NodeInfo) (st : State) (s : StripeNo) (l : Level)
         → (level_shown nodes st s ≡ Some l) ↔ (IsTrue (has_stripe st s) × (level nodes st s ≡ l)) }

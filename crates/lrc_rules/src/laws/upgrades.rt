@@ -68,6 +68,7 @@ pub fn upgraded_in_words()
 
 /// Upgrade and Upgraded change only which domain is upgrading: stripes, homes and leases stay, and so do the nodes
 /// that are gone, draining and down. After Upgrade the domain is upgrading.
+#[tactic(auto, unfolding(crate::specs::Steps::upgrade_outcome, crate::specs::Steps::upgraded_outcome))]
 pub fn upgrades_change_the_domain_alone()
     ensures upgrade { (nodes : List NodeInfo) (past : List Entry) (st : State) (session : SessionNo) (u : UpgradeNo)
         → (step nodes past st session (Upgrade u)).1 ≡ record st { upgrading = (step nodes past st session (Upgrade u)).1.upgrading } }

@@ -1,18 +1,14 @@
-use Rattle.lrc_rules.proofs.LookLemmas.{level-told, level-untold, code-told, code-untold, missing-told, missing-untold, homes-told, homes-untold, mode-told, mode-untold, load-told, load-untold}
+use Rattle.lrc_rules.proofs.LookLemmas.{missing-told, homes-told, mode-told, load-told}
 use Rattle.lrc_rules.proofs.laws.states.answers_in_words.Goals as goal
 
-pub returns : goal.returns
-returns c = record {
-  level = level-told;
-  no_level = level-untold;
-  missing = missing-told;
-  no_missing = missing-untold;
-  code = code-told;
-  no_code = code-untold;
-  homes = homes-told;
-  no_homes = homes-untold;
-  mode = mode-told;
-  no_mode = mode-untold;
-  load = load-told;
-  no_load = load-untold;
-}
+pub returns-clause-missing : goal.returns-clause-missing
+returns-clause-missing c = missing-told
+
+pub returns-clause-homes : goal.returns-clause-homes
+returns-clause-homes c = homes-told
+
+pub returns-clause-mode : goal.returns-clause-mode
+returns-clause-mode c = mode-told
+
+pub returns-clause-load : goal.returns-clause-load
+returns-clause-load c = load-told

@@ -1,10 +1,8 @@
-use Rattle.std.proofs.Common.{ap}
 use Rattle.lrc_rules.specs.declared.reply.Reply.TheVariants.{Changed, Refused}
 use Rattle.lrc_rules.specs.declared.refusal.Refusal.TheVariants as refusal
-use Rattle.lrc_rules.specs.Outcomes.{Outcome}
 use Rattle.lrc_rules.specs.Histories.{state_after}
 use Rattle.lrc_rules.proofs.GoodLemmas.{state_after-good}
-use Rattle.lrc_rules.proofs.SafeUpgradeLemmas.{lost-words, words-lost, none-words, words-none, upgrade-told, tell-lost, upgraded-to, upgrade-keeps, whole-safe, whole-left}
+use Rattle.lrc_rules.proofs.SafeUpgradeLemmas.{lost-words, words-lost, none-words, words-none, upgrade-told, tell-lost, tell-upgrades, upgrade-keeps, whole-safe, whole-left}
 use Rattle.lrc_rules.proofs.laws.upgrades.upgrades_are_safe.Goals as goal
 
 pub returns-clause-lost : goal.returns-clause-lost
@@ -18,7 +16,7 @@ returns-clause-lost c = λ nodes past st session u s. (
 pub returns-clause-done : goal.returns-clause-done
 returns-clause-done c = λ nodes past st session u. (
   λ told. let says = upgrade-told nodes st u Changed told in (says.0, says.1, none-words nodes st u says.2),
-  λ so. ap (λ (o : Outcome). o.0) (upgraded-to nodes st u (so.0, so.1, words-none nodes st u so.2)),
+  λ so. tell-upgrades nodes st u (so.0, so.1, words-none nodes st u so.2),
 )
 
 pub returns-clause-recoverable : goal.returns-clause-recoverable
