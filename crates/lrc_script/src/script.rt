@@ -6,7 +6,7 @@ ghost use Rattle.lrc_script.specs.Cuts.{IsReadAs, IsAdded, IsLineRead, IsLineBad
 
 use crate::cause::find_cause;
 use crate::cut::cut_line;
-use crate::front::{LONGEST, parse_command};
+use crate::front::{LONGEST, parse_command, parse_next};
 use lrc_rules::Command;
 use std::alloc::{AllocError, AllocFailed, Global};
 use thiserror::Error;
@@ -82,15 +82,18 @@ pub fn parse_script(
     let mut rest = text;
     let mut number = first_line;
     loop {
-        match parse_in_text(rest) {
-            Some((command, behind)) => {
-                commands.push(command)?;
-                rest = behind;
-            }
-            None => match push_first_line(&mut commands, rest, number)? {
+        // Most commands of workers are `next`, and this test is faster than a match by letters.
+        if let Some((command, behind)) = parse_next(rest) {
+            commands.push(command)?;
+            rest = behind;
+        } else if let Some((command, behind)) = parse_in_text(rest) {
+            commands.push(command)?;
+            rest = behind;
+        } else {
+            match push_first_line(&mut commands, rest, number)? {
                 Some(behind) => rest = behind,
                 None => return Ok(commands),
-            },
+            }
         }
         number += 1;
     }
