@@ -7,7 +7,7 @@ use lrc_book::{Book, Command};
 use lrc_code::{Fragment, NodeNo, StripeNo};
 use lrc_samples::twenty_nodes;
 
-/// A book over twenty nodes.
+/// Makes a book over twenty nodes.
 pub(crate) fn new_book(rt: &impl Host) -> Result<Book, Stop>
     ensures { IfOk result (λ b. b.history ≡ []) }
 {
@@ -18,11 +18,11 @@ pub(crate) fn new_book(rt: &impl Host) -> Result<Book, Stop>
     }
 }
 
-/// Lets a book go. Done in a function of its own, it is proved once.
+/// Drops a book. A function of its own, so that the drop is proved once.
 pub(crate) fn close(_book: Book) {}
 
-/// Tells all that a book answers: of its entries, of its clock, of two stripes and of one that is not there, and of the nodes
-/// and one more.
+/// Prints all that a book reports: its entries, its clock, two stripes and one that it lacks, its nodes and one that it
+/// lacks.
 pub(crate) fn look(rt: &impl Host, book: &Book) -> Result<(), Stop> {
     for entry in book.history() {
         println!(rt; "{:?}", entry.entry())?;
@@ -72,7 +72,7 @@ fn try_on(rt: &impl Host, book: &mut Book, trial: &Trial) -> Result<(), Stop> {
     Ok(())
 }
 
-/// Makes the call, and answers whether memory was refused to it.
+/// Makes the call, and returns whether an allocation failed.
 fn try_once(rt: &impl Host, book: &mut Book, trial: &Trial) -> Result<bool, Stop> {
     if let Call::Prepare = trial.call {
         return prepare_once(rt, book, trial.last);
@@ -87,7 +87,7 @@ fn try_once(rt: &impl Host, book: &mut Book, trial: &Trial) -> Result<bool, Stop
     Ok(is_refused)
 }
 
-/// Makes room for a command, and commits it where there is room.
+/// Reserves memory for a command, and commits it if that succeeds.
 fn prepare_once(rt: &impl Host, book: &mut Book, command: Command) -> Result<bool, Stop> {
     let entry = book.decide(FIRST, command)?;
     begin(rt);

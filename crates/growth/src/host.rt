@@ -1,4 +1,4 @@
-//! Where calls are tried: the marks round them, and what stands on both sides.
+//! How calls are tried: the marks around a call, and the commands before it.
 
 use lrc_book::{Command, Level};
 use lrc_code::{NodeNo, SessionNo, StripeNo};
@@ -6,12 +6,12 @@ use std::error::Error;
 use std::fmt::Debug;
 use std::sync::Wait;
 
-/// What every case needs of the runtime.
+/// The handles of the runtime that every case needs.
 pub(crate) trait Host: AllocGlobal + Print + Wait {}
 
 impl<R: AllocGlobal + Print + Wait> Host for R {}
 
-/// A case can't be told: a call outside the marks has failed, or a write.
+/// A case has no result, because a write or a call outside the marks failed.
 #[derive(Clone, Copy, Debug)]
 pub(crate) struct Stop;
 
@@ -24,7 +24,7 @@ impl<E: Error> From<E> for Stop {
 /// The call that is tried on a value.
 #[derive(Clone, Copy)]
 pub(crate) enum Call {
-    /// One that makes a command.
+    /// A call that makes a command.
     Command,
     Decide,
     Prepare,
@@ -35,7 +35,7 @@ pub(crate) enum Call {
     Finish,
 }
 
-/// A call, the commands that are made before it, and the one that it takes; looks take none, and pass over it.
+/// A call, the commands before it, and its own command. A look has no command and ignores it.
 #[derive(Drop)]
 pub(crate) struct Trial {
     pub(crate) call: Call,
@@ -52,18 +52,18 @@ pub(crate) const ONE: StripeNo = StripeNo { value: 1 };
 /// A node that holds a fragment of it.
 pub(crate) const NODE: NodeNo = NodeNo { value: 0 };
 
-/// Stripes at risk, and how many entries were made then.
+/// The stripes at risk, and the number of entries at that time.
 pub(crate) type Risk = (Vec<(StripeNo, Level)>, u64);
 
 /// The level of a stripe and the load of a node.
 pub(crate) type Looked = (Option<Level>, Option<u32>);
 
-/// The mark from which on memory can be refused. One that can't be written is missed by who reads the output.
+/// Prints the mark after which allocations can fail. If it can't be written, the reader of the output misses it.
 pub(crate) fn begin(rt: &impl Print) {
     let _ = rt.write_all(b"begin\n");
 }
 
-/// The mark from which on it is not, what the call has answered, and whether memory was refused to it.
+/// Prints the mark after which they can't, the result of the call, and whether an allocation failed.
 pub(crate) fn end<T: Debug, E: Debug>(
     rt: &impl Print,
     answer: &Result<T, E>,

@@ -9,7 +9,7 @@ use lrc_book::Book;
 use lrc_code::{NodeNo, StripeNo};
 use std::marker::Brand;
 
-/// Opens a keeper over a new book, and answers whether memory was refused to it.
+/// Opens a keeper over a new book, and returns whether an allocation failed.
 pub(crate) fn open_once(rt: &impl Host) -> Result<bool, Stop> {
     let book = new_book(rt)?;
     open_over::<Brand, _>(rt, book, NewLog::new())
@@ -67,7 +67,7 @@ fn try_on<N: ViewNaming, R: Host>(
     Ok(())
 }
 
-/// Tells all that a keeper answers and how much a viewer has seen, which sees all where a command is tried.
+/// Prints all that a keeper reports, and how much a viewer has seen. The viewer sees all of it if the call is a command.
 fn look_at<N: ViewNaming, R: Host>(
     rt: &R,
     keeper: &mut Keeper<N>,
@@ -83,7 +83,7 @@ fn look_at<N: ViewNaming, R: Host>(
     Ok(())
 }
 
-/// Tells all that a viewer sees.
+/// Prints all that a viewer sees.
 fn view<N: ViewNaming>(rt: &impl Host, viewer: &mut Viewer<N>) -> Result<(), Stop> {
     for value in 1..4 {
         let seen = viewer.level_of(StripeNo { value })?;
@@ -97,7 +97,7 @@ fn view<N: ViewNaming>(rt: &impl Host, viewer: &mut Viewer<N>) -> Result<(), Sto
     Ok(())
 }
 
-/// Makes the call, and answers whether memory was refused to it.
+/// Makes the call, and returns whether an allocation failed.
 fn try_once<N: ViewNaming, R: Host>(
     rt: &R,
     keeper: &mut Keeper<N>,

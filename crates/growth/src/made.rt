@@ -1,4 +1,4 @@
-//! Calls that make a value, or room in one.
+//! Calls that make a value, or reserve memory in one.
 
 use crate::host::{Host, ONE, Stop, begin, end};
 use crate::{keepers, managers};
@@ -11,7 +11,7 @@ use lrc_slots::SlotTable;
 use lrc_stripes::Stripes;
 use lrc_topology::Topology;
 
-/// Makes the value of a call, and makes it once more where memory was refused.
+/// Makes the value of a call, and makes it again if an allocation failed.
 pub(crate) fn try_call(rt: &impl Host, call: &str, text: &str) -> Result<(), Stop> {
     if try_once(rt, call, text)? {
         try_once(rt, call, text)?;
@@ -19,7 +19,7 @@ pub(crate) fn try_call(rt: &impl Host, call: &str, text: &str) -> Result<(), Sto
     Ok(())
 }
 
-/// Makes the value, and answers whether memory was refused to it.
+/// Makes the value, and returns whether an allocation failed.
 fn try_once(rt: &impl Host, call: &str, text: &str) -> Result<bool, Stop> {
     match call {
         "Stripes::reserve" => make_room(rt),
@@ -29,7 +29,7 @@ fn try_once(rt: &impl Host, call: &str, text: &str) -> Result<bool, Stop> {
     }
 }
 
-/// The same of what is made of a text, or of the nodes of a store. It is let go before the second mark, which takes no memory.
+/// The same for a value that is made of a text or of the nodes of a store. It is dropped before the second mark.
 fn make_once(rt: &impl Host, call: &str, text: &str) -> Result<bool, Stop> {
     let alloc = rt.alloc();
     let nodes = twenty_nodes(alloc)?;
@@ -47,7 +47,7 @@ fn make_once(rt: &impl Host, call: &str, text: &str) -> Result<bool, Stop> {
     }
 }
 
-/// Makes room for stripes beside one that has no homes, and answers whether memory was refused to it.
+/// Reserves memory for stripes beside one without homes, and returns whether an allocation failed.
 fn make_room(rt: &impl Host) -> Result<bool, Stop> {
     let nodes = twenty_nodes(rt.alloc())?;
     let mut stripes = Stripes::new(rt.alloc(), &nodes)?;

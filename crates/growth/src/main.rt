@@ -1,5 +1,5 @@
-//! The program `growth`: makes one call behind a mark, where memory can be refused to it, and tells all that can be asked before
-//! and after it. `tests/growth` refuses the memory, and compares what is told.
+//! The program `growth` prints a mark, makes one call in which allocations can fail, and prints all that can be asked before
+//! and after it. `tests/growth` makes the allocations fail, and compares the output.
 #![tactic(auto)]
 
 mod books;
@@ -14,7 +14,7 @@ use lrc_script::parse_script;
 use std::env;
 use std::thread::Threads;
 
-/// Tries the call of this name, by the text that it reads, or by a script whose last command is that of the call.
+/// Tries the call with this name. It takes the text that the call reads, or a script that ends with the call's command.
 fn try_call<R: Host + Threads + Sync>(rt: &R, name: &str, text: &str) -> Result<(), Stop> {
     match name {
         "Book::call" => books::try_call(rt, &trial(rt, Call::Command, text)?),

@@ -9,7 +9,7 @@ use lrc_samples::twenty_nodes;
 use lrc_sessions::{Closing, FinishError, LookError, Manager, Naming, OpenError, Parts, Session};
 use std::marker::Brand;
 
-/// Opens a manager of two sessions, and answers whether memory was refused to it.
+/// Opens a manager of two sessions, and returns whether an allocation failed.
 pub(crate) fn open_once(rt: &impl Host) -> Result<bool, Stop> {
     let parts = Parts::new(rt.alloc(), twenty_nodes(rt.alloc())?, 2)?;
     open_of::<Brand, _>(rt, parts)
@@ -29,7 +29,7 @@ fn open_of<N: Naming, R: Host>(rt: &R, parts: Parts) -> Result<bool, Stop>
     }
 }
 
-/// Ends a manager whose sessions are all there.
+/// Ends a manager, given all its sessions.
 pub(crate) fn finish<N: Naming, R: Host>(
     rt: &R,
     manager: Manager<N>,
@@ -43,10 +43,10 @@ pub(crate) fn finish<N: Naming, R: Host>(
     }
 }
 
-/// Lets go what is left of a manager. Done in a function of its own, it is proved once.
+/// Drops what is left of a manager. A function of its own, so that the drop is proved once.
 pub(crate) fn close(_closing: Closing) {}
 
-/// Tells the end of a manager, and all that its book answers and how many calls each session made.
+/// Prints how a manager ended, all that its book reports, and the number of calls of each session.
 pub(crate) fn tell_end(rt: &impl Host, closing: &Closing) -> Result<(), Stop> {
     end(rt, &Ok::<(), Stop>(()))?;
     look_at_book(rt, &closing.book)?;
@@ -99,7 +99,7 @@ fn try_on<N: Naming, R: Host>(
     Ok(())
 }
 
-/// Tells how much both sessions have seen, and what the first sees.
+/// Prints how much both sessions have seen, and what the first one sees.
 fn look<N: Naming>(rt: &impl Host, first: &mut Session<N>, second: &Session<N>) -> Result<(), Stop>
     ensures { first.new.number ≡ first.old.number }
 {
@@ -108,7 +108,7 @@ fn look<N: Naming>(rt: &impl Host, first: &mut Session<N>, second: &Session<N>) 
     Ok(())
 }
 
-/// Makes the call, and answers whether memory was refused to it. The first session makes a command, and the second looks.
+/// Makes the call, and returns whether an allocation failed. The first session makes a command, and the second looks.
 fn try_once<N: Naming, R: Host>(
     rt: &R,
     manager: &Manager<N>,

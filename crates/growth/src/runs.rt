@@ -1,4 +1,4 @@
-//! A run of one script, by the only session of a manager.
+//! Runs of one script by the only session of a manager.
 
 ghost use Rattle.std.specs.Prelude.{◌≡◌, ℕ, length, IfOk};
 ghost use Rattle.lrc_sessions.specs.Counts.{AreAll};
@@ -13,10 +13,10 @@ use std::alloc::Global;
 use std::marker::Brand;
 use std::thread::Threads;
 
-/// How many calls of a run were made.
+/// Returns the number of calls that a run made.
 type Made = Result<usize, Stop>;
 
-/// Runs a script, and then what is left of it, which is something where memory was refused.
+/// Runs a script, and then the rest of it if an allocation failed.
 pub(crate) fn try_call<R: Host + Threads + Sync>(rt: &R, trial: Trial) -> Result<(), Stop> {
     let parts = Parts::new(rt.alloc(), twenty_nodes(rt.alloc())?, 1)?;
     let mut script = trial.before;
@@ -43,7 +43,7 @@ fn try_of<N: Naming + Send + Sync, R: Host + Threads + Sync>(
     all.and(ended)
 }
 
-/// Runs what is left of a script after so many calls, and answers how many were made of that.
+/// Runs the rest of a script after its first calls, and returns the number of calls that this makes.
 fn run_once<N: Naming + Send + Sync, R: Host + Threads + Sync>(
     rt: &R,
     manager: &Manager<N>,
@@ -74,7 +74,7 @@ fn run_once<N: Naming + Send + Sync, R: Host + Threads + Sync>(
     }
 }
 
-/// What is left of a script after so many calls, and no other script.
+/// Returns the rest of a script after its first calls, as the only script.
 fn rest(alloc: Global, script: &[Command], made: Made) -> Result<Vec<Vec<Command>>, Stop>
     ensures { IfOk result (λ v. length v.items ≡ 1) }
 {
@@ -87,7 +87,7 @@ fn rest(alloc: Global, script: &[Command], made: Made) -> Result<Vec<Vec<Command
     Ok(scripts)
 }
 
-/// Tells what became of a run and how much the session has seen, and answers how many calls were made.
+/// Prints how a run ended and how much the session has seen, and returns the number of calls.
 fn tell_run<N: Naming>(
     rt: &impl Host,
     ran: Result<Vec<Track>, Fault>,
@@ -106,7 +106,7 @@ fn tell_run<N: Naming>(
     Ok(made)
 }
 
-/// Tells the tracks of a run, of which there is one, and answers how many receipts it has.
+/// Prints the only track of a run, and returns the number of its receipts.
 fn tell_tracks(rt: &impl Host, tracks: &[Track]) -> Made {
     end(rt, &Ok::<(), Fault>(()))?;
     let track = tracks.first().ok_or(Stop)?;

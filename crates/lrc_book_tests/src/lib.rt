@@ -1,4 +1,4 @@
-//! The tests of `lrc_book`: a book over twenty nodes, what it answers and what it shows after.
+//! Tests of `lrc_book`: the replies of a book over twenty nodes, and its state after them.
 #![tactic(auto)]
 
 #[cfg(test)]

@@ -1,4 +1,4 @@
-//! A book over twenty nodes: what it answers, and what it shows after.
+//! The replies of a book over twenty nodes, and its state after them.
 
 mod leases;
 mod limits;
@@ -14,10 +14,10 @@ use std::alloc::Global;
 use std::process::Abort;
 use std::test::Fail;
 
-/// A command, and the reply that it is to get.
+/// A command and its expected reply.
 type Row = (Command, Reply);
 
-/// The session that makes all calls but those of another.
+/// The session that makes all calls except those of another one.
 const FIRST: SessionNo = SessionNo { value: 1 };
 
 /// The two stripes that the tests place.
@@ -25,16 +25,16 @@ const ONE: StripeNo = StripeNo { value: 1 };
 
 const TWO: StripeNo = StripeNo { value: 2 };
 
-/// The nodes that take fragments 0 to 15 of the first stripe: class A takes nodes 0 to 5, class B takes 6 to 11, and
-/// the upgrade domains of 12 to 15 are those of 2 to 5, while 16 is in domain 6.
+/// The nodes of fragments 0 to 15 of the first stripe. Class A has nodes 0 to 5, and class B has 6 to 11. Nodes 12 to 15 are
+/// in the upgrade domains of 2 to 5, and 16 is in domain 6.
 const FIRST_NODES: [u16; 16] = [0, 1, 2, 3, 4, 5, 6, 7, 8, 9, 10, 11, 16, 12, 13, 14];
 
-/// A book over twenty nodes with four slots, each in a fault domain of its own, in ten upgrade domains.
+/// Makes a book over twenty nodes with four slots, each in a fault domain of its own, in ten upgrade domains.
 fn book(alloc: Global) -> Result<Book, Fail> {
     Ok(Book::new(alloc, twenty_nodes(alloc)?)?)
 }
 
-/// Lets a book go. Done in a function of its own, it is proved once.
+/// Drops a book. A function of its own, so that the drop is proved once.
 fn close(_book: Book) {}
 
 fn node(number: u16) -> NodeNo {
@@ -52,12 +52,12 @@ fn call(book: &mut Book, session: SessionNo, command: Command) -> Result<Reply, 
     book.call(session, command)
 }
 
-/// The reply to a call, for which there is room.
+/// Returns the reply to a call, or `None` if it fails.
 fn ask(book: &mut Book, session: SessionNo, command: Command) -> Option<Reply> {
     call(book, session, command).ok()
 }
 
-/// A session asks for these commands in order; each gets the reply beside it.
+/// A session makes these commands in order, and each has the reply next to it.
 fn expect_replies_to(rt: &impl Abort, book: &mut Book, session: SessionNo, rows: &[Row]) {
     for (command, reply) in rows {
         assert!(rt;
@@ -130,7 +130,7 @@ fn expect_stripe(rt: &impl Abort, book: &Book, stripe: StripeNo, wanted: Level, 
     assert!(rt; missing(book, stripe) == Some(LossMask::from_bits(lost)));
 }
 
-/// These stripes are not whole, and no other, in the order of repair.
+/// These stripes and no others are at risk, in the order of repair.
 fn expect_risk(rt: &impl Abort, alloc: Global, book: &Book, wanted: &[(StripeNo, Level)]) {
     match book.risk(alloc) {
         Ok(rows) => {
@@ -140,12 +140,12 @@ fn expect_risk(rt: &impl Abort, alloc: Global, book: &Book, wanted: &[(StripeNo,
     }
 }
 
-/// How many seats are on a node.
+/// A node has this number of seats.
 fn expect_load(rt: &impl Abort, book: &Book, number: u16, wanted: Option<u32>) {
     assert_eq!(rt; load(book, node(number)), wanted, "on {number}");
 }
 
-/// The mode of a node, whether it is online, and how many seats are on it.
+/// A node has this mode, is online or not, and has this number of seats.
 fn expect_node(rt: &impl Abort, book: &Book, number: u16, wanted: (Mode, bool), seats: u32) {
     assert!(rt; mode(book, node(number)) == Some(wanted), "of {number}");
     expect_load(rt, book, number, Some(seats));
@@ -176,14 +176,14 @@ fn place_and_drop(rt: &impl Abort, book: &mut Book) {
     expect_placed_second(rt, book, placed);
 }
 
-/// The load of a node that the first stripe takes, and beside it of one that it passes and of one that is not there.
+/// The load of a node that the first stripe uses, of one that it does not use, and of one that does not exist.
 fn expect_first_load(rt: &impl Abort, book: &Book, seats: u32) {
     expect_load(rt, book, 16, Some(seats));
     expect_load(rt, book, 15, Some(0));
     expect_load(rt, book, 20, None);
 }
 
-/// The history has four entries, of which the second has placed the first stripe.
+/// The history has four entries. The second one places the first stripe.
 fn expect_placed_second(rt: &impl Abort, book: &Book, placed: Reply) {
     assert_eq!(rt; book.history().len(), 4);
     let entry = Entry {
@@ -204,7 +204,7 @@ fn nodes_fail_go_down_and_come_back(rt: HostRuntime) -> Result<(), Fail> {
     Ok(())
 }
 
-/// Of the first stripe's nodes 2 goes down and 3 fails, each once.
+/// Node 2 of the first stripe goes down, and node 3 fails.
 fn fail_nodes(rt: &impl Abort, book: &mut Book) {
     let wrong = Reply::Refused(Refusal::WrongMode);
     let unknown = Reply::Refused(Refusal::UnknownNode);
@@ -227,7 +227,7 @@ fn fail_nodes(rt: &impl Abort, book: &mut Book) {
     expect_load(rt, book, 20, None);
 }
 
-/// Both come back, and the one that failed is empty.
+/// Both come back. The one that failed is empty.
 fn come_back(rt: &impl Abort, book: &mut Book) {
     expect_changes(rt, book, &[Command::Up(node(2)), Command::Join(node(3))]);
     expect_stripe(rt, book, ONE, Level::AtRisk(2), 0x0008);

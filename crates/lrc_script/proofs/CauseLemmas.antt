@@ -49,6 +49,10 @@ words_of-line word (n ∷ ns) (bound ∷ bounds) none below =
     slice_split_at (λ b. nat_eq b 32) word 32 (numbers_text (n ∷ ns)) (has_none 32 word none) refl
     ∙ ap (λ ws. word ∷ ws) (words_of-line (decimal n) ns bounds (digits_alone n 32 (omega (arith, below.0.0, below.0.1)) refl) below.1)
 
+pub words_of-numbers : (n : ℕ) (ns bounds : List ℕ) → AreBelow (n ∷ ns) bounds → words_of (numbers_text (n ∷ ns)) ≡ map decimal (n ∷ ns)
+words_of-numbers n ns [] below = absurd below
+words_of-numbers n ns (bound ∷ bounds) below = words_of-line (decimal n) ns bounds (digits_alone n 32 (omega (arith, below.0.0, below.0.1)) refl) below.1
+
 pub cause_of-command_line : (command : Command) → IsInRange command → cause_of (command_line command) ≡ None
 cause_of-command_line command range =
     let is = line_of command in

@@ -10,7 +10,6 @@ use Rattle.std.proofs.lemmas.List.Sums.{AllPass-from_list_all}
 use Rattle.lrc_rules.specs.declared.command.Command.{Command}
 use Rattle.lrc_script.specs.declared.script.Cause.{Cause}
 use Rattle.lrc_script.specs.declared.script.Cause.TheVariants.{WordCount}
-use Rattle.lrc_script.specs.declared.forms.Form.{Form as Row}
 use Rattle.lrc_script.specs.Scripts.{Form, form_of, form_in, form_cause, or_else, argument_cause, arguments_cause, numbers_cause, same_text, words_of, words_cause, command_line, IsInRange}
 use Rattle.lrc_script.specs.Cuts.{IsCut, words_behind, row_form}
 use Rattle.lrc_script.proofs.ScriptLemmas.{both, same_text-own, same_text-false, words_of-cut, words_of-some}
@@ -19,6 +18,10 @@ use Rattle.lrc_script.proofs.CauseLemmas.{words_cause-none}
 
 -- ---- the table
 
+-- a row of the table
+abbrev Row : Type 0
+Row = Bor (List ℕ) × Bor (List ℕ)
+
 module _ (rows : List Row) (word : List ℕ) where
   left : (i : ℕ) (d : Row) → i < length rows → drop i (map row_form rows) ≡ row_form (get_or rows i d) ∷ drop (i + 1) (map row_form rows)
   left i d within =
@@ -26,12 +29,12 @@ module _ (rows : List Row) (word : List ℕ) where
       drop_more (map row_form rows) i (row_form d) (omega (arith, long, within)) ∙ ap (λ form. form ∷ drop (i + 1) (map row_form rows)) (get_or-map row_form rows i d (row_form d) within)
 
   -- another word is not that of this row
-  pub form_in-next : (i : ℕ) (d : Row) → i < length rows → word ≢ (get_or rows i d).word.now → form_in (drop i (map row_form rows)) word ≡ form_in (drop (i + 1) (map row_form rows)) word
-  form_in-next i d within other = ap (λ forms. form_in forms word) (left i d within) ∙ rw (same_text-false word (get_or rows i d).word.now other) refl
+  pub form_in-next : (i : ℕ) (d : Row) → i < length rows → word ≢ (get_or rows i d).0.now → form_in (drop i (map row_form rows)) word ≡ form_in (drop (i + 1) (map row_form rows)) word
+  form_in-next i d within other = ap (λ forms. form_in forms word) (left i d within) ∙ rw (same_text-false word (get_or rows i d).0.now other) refl
 
   -- the word of this row has its form
-  pub form_in-here : (i : ℕ) (d : Row) → i < length rows → word ≡ (get_or rows i d).word.now → form_in (drop i (map row_form rows)) word ≡ Some (row_form (get_or rows i d))
-  form_in-here i d within same = ap (λ forms. form_in forms word) (left i d within) ∙ rw (same_text-own word (get_or rows i d).word.now same) refl
+  pub form_in-here : (i : ℕ) (d : Row) → i < length rows → word ≡ (get_or rows i d).0.now → form_in (drop i (map row_form rows)) word ≡ Some (row_form (get_or rows i d))
+  form_in-here i d within same = ap (λ forms. form_in forms word) (left i d within) ∙ rw (same_text-own word (get_or rows i d).0.now same) refl
 
   pub form_in-end : (i : ℕ) → length rows ≤ i → form_in (drop i (map row_form rows)) word ≡ None
   form_in-end i within = let long = length-map rows row_form in ap (λ forms. form_in forms word) (drop_all i (map row_form rows) (omega (arith, long, within)))

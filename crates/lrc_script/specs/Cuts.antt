@@ -1,21 +1,20 @@
 -- Internal: no public clause reaches these definitions.
--- Texts, cut at the first of a byte or at their first parting line, and lines, read.
+-- Texts split at a byte or at a parting line, and lines read from them.
 use Rattle.std.specs.Prelude.{◌≡◌, ◌≢◌, ℕ, ◌+◌, ◌^◌, ◌<◌, ◌≤◌, ◌⊎◌, true, false, List, [], ◌∷◌, ◌++◌, length, All, Option, Some, None, option_map, option_to_list}
 use Rattle.std.specs.Borrow.{Bor}
 use Rattle.lrc_rules.specs.declared.command.Command.{Command}
-use Rattle.lrc_script.specs.declared.forms.Form.{Form as Row}
 use Rattle.lrc_script.specs.declared.script.ScriptError.{ScriptError}
 use Rattle.lrc_script.specs.Scripts.{Form, lines_of, words_of, is_passed_over, numbers_text, command_line, IsInRange, cause_of, BadLine, IsFirstBad}
 use Rattle.lrc_script.specs.Bundles.{parts_of, ended_lines}
 
 -- ---- at a byte
 
--- `first` is what stands before the first separator of the text, and `rest` what stands behind it
+-- `first` is the part of the text before its first separator, and `rest` the part after it
 abbrev pub IsCut : ℕ → List ℕ → List ℕ → Option (Bor (List ℕ)) → Type 0
 IsCut separator text first None = All (λ b. b ≢ separator) first × (text ≡ first)
 IsCut separator text first (Some rest) = All (λ b. b ≢ separator) first × (text ≡ first ++ separator ∷ rest.now)
 
--- the words of what stands behind the first word, if anything does
+-- the words after the first one, if there are any
 abbrev pub words_behind : Option (Bor (List ℕ)) → List (List ℕ)
 words_behind None = []
 words_behind (Some rest) = words_of rest.now
@@ -23,8 +22,8 @@ words_behind (Some rest) = words_of rest.now
 -- ---- commands
 
 -- the form in a row of the table
-abbrev pub row_form : Row → Form
-row_form row = record { word = row.word.now; bounds = row.bounds.now }
+abbrev pub row_form : Bor (List ℕ) × Bor (List ℕ) → Form
+row_form row = record { word = row.0.now; bounds = row.1.now }
 
 -- each number is below its bound, which is at most 2 ^ 32
 abbrev pub AreBelow : List ℕ → List ℕ → Type 0
@@ -42,11 +41,11 @@ HasNoCommand text = (command : Command) (rest : List ℕ) → IsInRange command 
 
 -- ---- at a parting line
 
--- these parts stand behind a parting line, and this text behind its LF, which may be missing at the end
+-- the parts after a parting line, and the text after its LF, which may be missing at the end
 abbrev pub StandBehind : List ℕ → List (List (List ℕ)) → Type 0
 StandBehind text parts = (parts ≡ parts_of text) ⊎ ((text ≡ []) × (parts ≡ [] ∷ []))
 
--- a text, cut at its first parting line: what stands before, how many lines end there, and what stands behind
+-- a text split at its first parting line: the text before it, the number of its lines, and the text after it
 pub record IsCutAtParting (text before : List ℕ) (lines : ℕ) (behind : List ℕ) : Type 0 where
   pub first : List (List ℕ)
   pub others : List (List (List ℕ))
@@ -56,7 +55,7 @@ pub record IsCutAtParting (text before : List ℕ) (lines : ℕ) (behind : List 
   pub counted : lines ≡ length first
   pub within : length before + 2 + length behind ≤ length text
 
--- the first part of a text, and what stands behind its parting line if there is one
+-- the first part of a text, and the text after its parting line if there is one
 abbrev pub IsPart : List ℕ → List ℕ → ℕ → Option (Bor (List ℕ)) → Type 0
 IsPart text before lines (Some behind) = IsCutAtParting text before lines behind.now
 IsPart text before lines None = (before ≡ text) × (lines ≤ length text) × (parts_of text ≡ lines_of text ∷ [])
@@ -68,7 +67,7 @@ abbrev pub IsReadAs : List ℕ → Option Command → Type 0
 IsReadAs line (Some command) = (is_passed_over line ≡ false) × IsInRange command × (line ≡ command_line command)
 IsReadAs line None = is_passed_over line ≡ true
 
--- the commands behind those before: that of the line too, or none more where it is passed over
+-- the commands after the line: those before, and that of the line unless it is passed over
 pub record IsAdded (line : List ℕ) (before after : List Command) : Type 0 where
   pub read : Option Command
   pub is_read : IsReadAs line read
@@ -78,14 +77,14 @@ pub record IsAdded (line : List ℕ) (before after : List Command) : Type 0 wher
 abbrev pub bad_line : ℕ → List ℕ → Option BadLine
 bad_line number line = option_map (λ cause. record { line = number; cause = cause }) (cause_of line)
 
--- the first line of the text is good: the commands are with that of the line, if it has one, and this stands behind it
+-- the first line of the text is good: its command is added, if it has one, and this text is after it
 pub record IsLineRead (text : List ℕ) (before after : List Command) (behind : Option (Bor (List ℕ))) : Type 0 where
   pub line : List ℕ
   pub cut : IsCut 10 text line behind
   pub good : cause_of line ≡ None
   pub added : IsAdded line before after
 
--- the first line of the text, which has this number, is bad, and the error tells of it, or of no line
+-- the first line of the text, which has this number, is bad, and the error reports it, or no line at all
 pub record IsLineBad (text : List ℕ) (number : ℕ) (error : ScriptError) : Type 0 where
   pub line : List ℕ
   pub behind : Option (Bor (List ℕ))

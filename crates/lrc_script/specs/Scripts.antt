@@ -12,7 +12,7 @@ use Rattle.lrc_script.specs.declared.script.Cause.TheVariants.{UnknownWord, Word
 
 -- ---- lines
 
--- the lines of a text, cut at each LF; behind a last LF stands one more empty line
+-- the lines of a text, split at each LF; after a last LF there is one more line, which is empty
 abbrev pub lines_of : List ℕ → List (List ℕ)
 lines_of bytes = slice_split (λ b. nat_eq b 10) bytes
 
@@ -20,7 +20,7 @@ lines_of bytes = slice_split (λ b. nat_eq b 10) bytes
 abbrev pub is_passed_over : List ℕ → Bool
 is_passed_over line = nat_eq (length line) 0 || nat_eq (slice_index line 0) 35
 
--- numbers, parted by one space each
+-- numbers with one space between each two
 abbrev pub numbers_text : List ℕ → List ℕ
 numbers_text numbers = join_with_byte 32 (map decimal numbers)
 
@@ -45,8 +45,8 @@ command_line (Upgrade u) = codes "upgrade " ++ decimal u.value
 command_line (Upgraded u) = codes "upgraded " ++ decimal u.value
 command_line Tick = codes "tick"
 
--- a command's node has a number below 65,536, its upgrade domain one below 256, and its epoch is below 4,294,967,296;
--- the numbers of a stripe and a fragment are in their range by their types
+-- the number of a command's node is below 65,536, that of its upgrade domain below 256, and its epoch below 4,294,967,296;
+-- the types keep the numbers of stripes and fragments in range
 abbrev pub IsInRange : Command → Type 0
 IsInRange (Place s) = Unit {0}
 IsInRange (Place6 s) = Unit {0}
@@ -75,7 +75,7 @@ pub record IsScript (lines : List (List ℕ)) (commands : List Command) : Type 0
 
 -- ---- causes
 
--- a command word, and for each argument of the command the number that it stays below
+-- the word of a command, and for each of its arguments the bound that it is below
 pub record Form : Type 0 where
   pub word : List ℕ
   pub bounds : List ℕ
@@ -97,7 +97,7 @@ node_forms =
     ∷ record { word = codes "join"; bounds = 65536 ∷ [] } ∷ record { word = codes "upgrade"; bounds = 256 ∷ [] }
     ∷ record { word = codes "upgraded"; bounds = 256 ∷ [] } ∷ []
 
--- the two texts are one
+-- the two texts are equal
 abbrev pub same_text : List ℕ → List ℕ → Bool
 same_text xs ys = nat_eq (length xs) (length ys) && starts_with nat_eq xs ys
 
@@ -126,15 +126,15 @@ abbrev pub arguments_cause : List (List ℕ) → List ℕ → Option Cause
 arguments_cause (word ∷ words) (bound ∷ bounds) = or_else (argument_cause word bound) (arguments_cause words bounds)
 arguments_cause _ _ = None
 
--- the words of a line, parted by one space each
+-- the words of a line, split at each space
 abbrev pub words_of : List ℕ → List (List ℕ)
 words_of line = slice_split (λ b. nat_eq b 32) line
 
--- the cause of words that are to be as many numbers as these bounds, each below its bound
+-- why the words are not as many numbers as these bounds, each below its bound
 abbrev pub numbers_cause : List (List ℕ) → List ℕ → Option Cause
 numbers_cause words bounds = if nat_eq (length words) (length bounds) then arguments_cause words bounds else Some WordCount
 
--- the cause of a line with these words behind the first
+-- the cause of a line with these words after the first
 abbrev pub form_cause : List (List ℕ) → Option Form → Option Cause
 form_cause words None = Some UnknownWord
 form_cause words (Some form) = numbers_cause words form.bounds
@@ -143,7 +143,7 @@ abbrev pub words_cause : List (List ℕ) → Option Cause
 words_cause [] = Some UnknownWord
 words_cause (word ∷ words) = form_cause words (form_of word)
 
--- the first cause that a line is bad for
+-- the first cause why a line is bad
 unfoldable pub cause_of : List ℕ → Option Cause
 cause_of line = if nat_lt 1024 (length line) then Some TooLong else (if is_passed_over line then None else words_cause (words_of line))
 
@@ -162,7 +162,7 @@ pub record IsFirstBadAt (lines : List (List ℕ)) (i : ℕ) (cause : Cause) : Ty
   pub bad : IsSomeAnd (slice_get lines i) (λ line. cause_of line ≡ Some cause)
   pub good_before : All (λ line. cause_of line ≡ None) (take i lines)
 
--- the error tells of this bad line, or of no line
+-- the error reports this bad line, or no line at all
 abbrev pub IsFirstBad : Option BadLine → ScriptError → Type 0
 IsFirstBad found (Bad line cause) = found ≡ Some (record { line = line; cause = cause })
 IsFirstBad found OutOfMemory = Unit {0}

@@ -11,24 +11,24 @@ use thiserror::Error;
 /// The text of a script, and the number of its first line in the bundle.
 #[derive(Clone, Copy)]
 pub struct ScriptText<'a> {
-    /// Counted from 1 over the whole bundle.
+    /// Lines are counted from 1 over the whole bundle.
     pub first_line: u64,
-    /// What stands behind its parting line, up to the next one or to the end.
+    /// The text after its parting line, up to the next one or to the end of the bundle.
     pub text: &'a [u8],
 }
 
-/// A bundle, cut into its topology and its scripts.
+/// The parts of a bundle.
 #[derive(Drop)]
 pub struct Bundle<'a> {
-    /// What stands before the first parting line, or the whole bundle.
+    /// The text before the first parting line, or the whole bundle if it has none.
     pub topology: &'a [u8],
     pub scripts: Vec<ScriptText<'a>>,
 }
 
-/// Why a bundle is not cut.
+/// Why a bundle is refused.
 #[derive(Clone, Copy, Debug, PartialEq, Eq, Error)]
 pub enum BundleError {
-    /// It has more scripts than are taken.
+    /// It has more scripts than the caller accepts.
     #[error("too many scripts")]
     TooManyScripts,
     #[error("out of memory")]
@@ -57,11 +57,11 @@ impl<T: Drop> From<AllocFailed<T>> for BundleError {
     }
 }
 
-/// The topology and the scripts of a bundle that has at most this many scripts.
+/// Splits a bundle into its topology and its scripts, of which it has at most `most`.
 ///
 /// # Errors
 ///
-/// `TooManyScripts` where it has more, and `OutOfMemory` where there is no room to list them.
+/// `TooManyScripts` if it has more, and `OutOfMemory` if the list of scripts cannot be allocated.
 pub fn split_bundle<'a>(
     alloc: Global,
     bundle: &'a [u8],
@@ -77,7 +77,7 @@ pub fn split_bundle<'a>(
 {
     let first = cut_part(bundle);
     let mut scripts = Vec::new(alloc);
-    // How many lines stand before the next parting line.
+    // The number of lines before the next parting line.
     let mut passed = first.lines;
     let mut behind = first.behind;
     while let Some(rest) = behind {
@@ -95,21 +95,22 @@ pub fn split_bundle<'a>(
     Ok(Bundle { topology, scripts })
 }
 
-/// A text, cut at its first parting line.
+/// A text, split at its first parting line.
 #[derive(Clone, Copy)]
 struct Part<'a> {
-    /// What stands before that line, or the whole text.
+    /// The text before that line, or the whole text if it has none.
     text: &'a [u8],
-    /// How many lines end before a parting line.
+    /// The number of lines before that line.
     lines: u64,
-    /// What stands behind that line, if it is there.
+    /// The text after that line, or `None` if there is no such line.
     behind: Option<&'a [u8]>,
 }
 
+/// Splits a text at its first parting line.
 fn cut_part(text: &[u8]) -> Part<'_>
     ensures { IsPart text.now result.text.now result.lines result.behind }
 {
-    // Most texts have no such line, which one search of all their bytes for its first shows.
+    // Most texts have no such line, and a search for its first byte shows that fastest.
     if memchr(b'%', text).is_none() {
         return Part {
             text,

@@ -6,7 +6,7 @@ use crate::cut::cut_word;
 use crate::forms::bounds_of;
 use crate::script::Cause;
 
-/// Returns why a line is that of no command.
+/// Returns why a line is not that of a command.
 pub(crate) fn find_cause(line: &[u8]) -> Cause
     requires { (command : Command) → IsInRange command → line.now ≢ command_line command }
     ensures { words_cause (words_of line.now) ≡ Some result }
@@ -30,7 +30,7 @@ pub(crate) fn find_cause(line: &[u8]) -> Cause
     cause.unwrap()
 }
 
-/// Returns why a word is no number below the bound, or `None` if it is one.
+/// Returns why a word is not a number below the bound, or `None` if it is one.
 fn number_cause(word: &[u8], bound: u64) -> Option<Cause>
     requires { bound ≤ 2 ^ 32 }
     ensures { result ≡ argument_cause word.now bound }

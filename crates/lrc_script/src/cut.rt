@@ -4,11 +4,10 @@ ghost use Rattle.lrc_script.specs.Cuts.{IsCut};
 
 use memchr::memchr;
 
-/// How many bytes of a line are looked at one by one. Most lines are shorter, and then a search of many bytes at once
-/// would take longer.
+/// The number of bytes of a line that are searched one by one. Most lines are shorter, and `memchr` is slower for them.
 const SHORT: usize = 16;
 
-/// The first line of a text, without its end, and what stands behind it, if the line ends.
+/// Returns the first line of a text without its end, and the text after its end, or `None` if the line has no end.
 #[inline]
 pub(crate) fn cut_line(text: &[u8]) -> (&[u8], Option<&[u8]>)
     ensures { IsCut 10 text.now result.0.now result.1 }
@@ -19,7 +18,7 @@ pub(crate) fn cut_line(text: &[u8]) -> (&[u8], Option<&[u8]>)
     }
 }
 
-/// The first word of a line, and what stands behind the space after it, if there is one.
+/// Returns the first word of a line, and the text after the space that ends it, or `None` if no space does.
 #[inline]
 pub(crate) fn cut_word(line: &[u8]) -> (&[u8], Option<&[u8]>)
     ensures { IsCut 32 line.now result.0.now result.1 }
@@ -30,7 +29,7 @@ pub(crate) fn cut_word(line: &[u8]) -> (&[u8], Option<&[u8]>)
     }
 }
 
-/// Whether a word is this name. A name is short, so that its bytes are compared one by one.
+/// Returns whether a word is this name. Names are short, so their bytes are compared one by one.
 #[inline]
 pub(crate) fn is_word(word: &[u8], name: &[u8]) -> bool
     ensures { (result ≡ true) ↔ (word.now ≡ name.now) }
@@ -48,7 +47,7 @@ pub(crate) fn is_word(word: &[u8], name: &[u8]) -> bool
     true
 }
 
-/// The first index of a short text that holds the byte.
+/// Returns the first index of the byte in a short text.
 #[inline]
 fn find(byte: u8, text: &[u8]) -> Option<usize>
     ensures { IsFirstByte (is_byte byte) text.now result }
@@ -63,7 +62,7 @@ fn find(byte: u8, text: &[u8]) -> Option<usize>
     None
 }
 
-/// The index of the end of the first line of a text.
+/// Returns the index of the end of the first line of a text.
 #[inline]
 fn find_end(text: &[u8]) -> Option<usize>
     ensures { IsFirstByte (is_byte 10) text.now result }

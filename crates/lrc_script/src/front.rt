@@ -1,6 +1,6 @@
 //! Parses the command whose line a text starts with, in one pass. Nothing else makes commands.
 
-ghost use Rattle.std.specs.Prelude.{◌≡◌, ◌≢◌, ◌+◌, ◌<◌, ◌≤◌, ◌^◌, ◌∷◌, [], ◌++◌, length, slice_index, decimal, IfSome, IfNone};
+ghost use Rattle.std.specs.Prelude.{◌≡◌, ◌≢◌, ℕ, ◌+◌, ◌<◌, ◌≤◌, ◌^◌, ◌∷◌, [], ◌++◌, List, length, slice_index, codes, decimal, IfSome, IfNone};
 ghost use Rattle.lrc_script.specs.Scripts.{command_line, IsInRange};
 ghost use Rattle.lrc_script.specs.Cuts.{HasNoCommand, HasNoNumbers};
 
@@ -23,10 +23,6 @@ pub(crate) fn parse_command<const AT_END: bool>(text: &[u8]) -> Option<(Command,
     ensures none { IfNone result (HasNoCommand text.now) }
 {
     match text[0] {
-        b'n' => match behind(text, b"next\n") {
-            Some(rest) => Some((Command::Next, rest)),
-            None => None,
-        },
         b'a' => match report_behind(text, b"abandon ") {
             Some((stripe, fragment, epoch, rest)) => Some((
                 Command::Abandon(stripe, fragment, epoch),
@@ -47,6 +43,7 @@ pub(crate) fn parse_command<const AT_END: bool>(text: &[u8]) -> Option<(Command,
             Some((stripe, fragment, rest)) => Some((Command::Lease(stripe, fragment), rest)),
             None => None,
         },
+        b'n' => parse_next(text),
         b'p' => place_or_place6(text),
         b'r' => revoke_or_retire(text),
         b't' => match behind(text, b"tick\n") {
@@ -55,6 +52,18 @@ pub(crate) fn parse_command<const AT_END: bool>(text: &[u8]) -> Option<(Command,
         },
         b'u' => up_or_other(text),
         _ => None,
+    }
+}
+
+/// The same for `next` alone, in a text of any length.
+#[inline(always)]
+pub(crate) fn parse_next(text: &[u8]) -> Option<(Command, &[u8])>
+    ensures some { IfSome result (λ r. IsInRange r.0 × (text.now ≡ command_line r.0 ++ 10 ∷ r.1.now)) }
+    ensures none { IfNone result ((rest : List ℕ) → text.now ≢ codes "next\n" ++ rest) }
+{
+    match behind(text, b"next\n") {
+        Some(rest) => Some((Command::Next, rest)),
+        None => None,
     }
 }
 

@@ -1,4 +1,4 @@
-//! Laws of the definitions, each the contract of a function that does nothing.
+//! Laws of the definitions. Each is the contract of a function that does nothing.
 
 ghost use Rattle.std.specs.Prelude.{◌≡◌, ℕ, ◌+◌, ◌*◌, ◌≤◌, ◌↔◌, ◌⊎◌, ◌++◌, true, Some, None, List, All, length, sum_by, codes};
 ghost use Rattle.std.specs.List.{AllZip};
@@ -7,14 +7,14 @@ ghost use Rattle.lrc_script.specs.declared.script.Cause.{Cause};
 ghost use Rattle.lrc_script.specs.Bundles.{topology_of, scripts_of, HoldsLines, IsJoined, StandsIn, put_together, EndsEmpty};
 ghost use Rattle.lrc_script.specs.Scripts.{lines_of, is_passed_over, command_line, IsInRange, IsScript, cause_of, first_bad, IsFirstBadAt};
 
-/// A line is good exactly where it is passed over and has at most 1,024 bytes, or is the line of a command that is in range.
+/// A line is good exactly if it is passed over and has at most 1,024 bytes, or is the line of a command in range.
 pub fn good_lines()
     ensures { (line : List ℕ) → (cause_of line ≡ None)
         ↔ (((is_passed_over line ≡ true) × (length line ≤ 1024))
         ⊎ ((command : Command) × IsInRange command × (line ≡ command_line command))) }
 {}
 
-/// A script has a first bad line exactly where a line of it is bad and none before that line is.
+/// A line is the first bad line of a script exactly if it is bad and no line before it is.
 pub fn first_bad_line()
     ensures found { (number : ℕ) (lines : List (List ℕ)) (i : ℕ) (cause : Cause)
         → (first_bad number lines ≡ Some (record { line = number + i; cause = cause }))
@@ -23,9 +23,8 @@ pub fn first_bad_line()
         → (first_bad number lines ≡ None) ↔ All (λ line. cause_of line ≡ None) lines }
 {}
 
-/// A bundle's lines are those of its topology and then, behind a parting line each, those of its scripts; no
-/// other line parts. The first line of a script has the number of its place, where the first line has 1, and the text
-/// of a script has its lines.
+/// The lines of a bundle are those of its topology and then, after a parting line each, those of its scripts. No other
+/// line is a parting line. Lines are counted from 1, and the text of a script consists of its lines.
 pub fn bundle_lines()
     ensures cut { (bundle : List ℕ) → (topology : List (List ℕ))
         × HoldsLines (topology_of bundle) topology
@@ -34,16 +33,16 @@ pub fn bundle_lines()
     ensures texts { (bundle : List ℕ) → All (λ script. HoldsLines script.text script.lines) (scripts_of bundle) }
 {}
 
-/// A bundle's bytes are those of its topology and then, behind a parting line each, those of its scripts; but a
-/// parting line that ends the bundle may be without its LF.
+/// The bytes of a bundle are those of its topology and then, after a parting line each, those of its scripts. A parting
+/// line that ends the bundle may lack its LF.
 pub fn bundle_bytes()
     ensures { (bundle : List ℕ)
         → (put_together (topology_of bundle) (scripts_of bundle) ≡ bundle)
         ⊎ ((put_together (topology_of bundle) (scripts_of bundle) ≡ bundle ++ codes "\n") × EndsEmpty (scripts_of bundle)) }
 {}
 
-/// The line of a command has at least five bytes with its end, so the commands of all scripts of a bundle together are at most a
-/// fifth as many as its bytes, with one more for an end that its last line may lack.
+/// A command's line has at least five bytes with its end. So five times the number of commands in all scripts of a bundle
+/// is at most the number of its bytes, plus one for the end that its last line may lack.
 pub fn few_commands()
     ensures { (bundle : List ℕ) (lists : List (List Command))
         → AllZip (λ script commands. IsScript script.lines commands) (scripts_of bundle) lists

@@ -1,4 +1,4 @@
-//! The texts that come in: the commands of scripts, and the scripts of bundles.
+//! Parses what the tool reads: bundles into scripts, and scripts into commands.
 #![tactic(auto)]
 
 mod bundle;

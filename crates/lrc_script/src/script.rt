@@ -6,7 +6,7 @@ ghost use Rattle.lrc_script.specs.Cuts.{IsReadAs, IsAdded, IsLineRead, IsLineBad
 
 use crate::cause::find_cause;
 use crate::cut::cut_line;
-use crate::front::{LONGEST, parse_command};
+use crate::front::{LONGEST, parse_command, parse_next};
 use lrc_rules::Command;
 use std::alloc::{AllocError, AllocFailed, Global};
 use thiserror::Error;
@@ -14,16 +14,16 @@ use thiserror::Error;
 /// The most bytes of a line, without its end.
 const LINE_LIMIT: usize = 1024;
 
-/// Why a line of a script is bad. The numbers are those of the refusal's text.
+/// Why a line of a script is bad. The numbers are those in the text of the refusal.
 #[derive(Clone, Copy, Debug, PartialEq, Eq)]
 pub enum Cause {
-    /// The first word is no command word.
+    /// The first word is not that of a command.
     UnknownWord = 1,
-    /// The number of words is not that of the command.
+    /// The command takes another number of words.
     WordCount = 2,
-    /// An argument is no number.
+    /// An argument is not a number.
     NotANumber = 3,
-    /// An argument is a number out of its range.
+    /// An argument is a number that is out of range.
     OutOfRange = 4,
     /// The line has more than 1,024 bytes.
     TooLong = 5,
@@ -32,7 +32,7 @@ pub enum Cause {
 /// Why a script is refused.
 #[derive(Clone, Copy, Debug, PartialEq, Eq, Error)]
 pub enum ScriptError {
-    /// The first bad line, counted over the whole bundle, and the first cause that it is bad for.
+    /// The number of the first bad line, counted over the whole bundle, and its first cause.
     #[error("line {line} is bad: {cause:?}")]
     Bad { line: u64, cause: Cause },
     #[error("out of memory")]
@@ -61,12 +61,12 @@ impl<T: Drop> From<AllocFailed<T>> for ScriptError {
     }
 }
 
-/// The commands of a script, in order. Its first line has the number `first_line` in the bundle.
+/// Parses a script, whose first line has the number `first_line` in the bundle. Returns its commands in order.
 ///
 /// # Errors
 ///
-/// `Bad` for the first bad line, and `OutOfMemory` where there is no room for the commands.
-#[inline(never)] // its walk needs all registers
+/// `Bad` for the first bad line, and `OutOfMemory` if the commands cannot be stored.
+#[inline(never)] // its loop needs all registers
 pub fn parse_script(
     alloc: Global,
     text: &[u8],
@@ -82,22 +82,25 @@ pub fn parse_script(
     let mut rest = text;
     let mut number = first_line;
     loop {
-        match parse_in_text(rest) {
-            Some((command, behind)) => {
-                commands.push(command)?;
-                rest = behind;
-            }
-            None => match push_first_line(&mut commands, rest, number)? {
+        // Most commands of workers are `next`, and this test is faster than a match by letters.
+        if let Some((command, behind)) = parse_next(rest) {
+            commands.push(command)?;
+            rest = behind;
+        } else if let Some((command, behind)) = parse_in_text(rest) {
+            commands.push(command)?;
+            rest = behind;
+        } else {
+            match push_first_line(&mut commands, rest, number)? {
                 Some(behind) => rest = behind,
                 None => return Ok(commands),
-            },
+            }
         }
         number += 1;
     }
 }
 
 /// Parses the command whose line a text starts with. Returns it and the rest of the text after the line's end, or `None`
-/// where the text starts with no such line, and near the end of the text.
+/// if the text starts with no such line or is shorter than `LONGEST`.
 #[inline(always)]
 fn parse_in_text(text: &[u8]) -> Option<(Command, &[u8])>
     ensures { IfSome result (λ r. IsInRange r.0 × (text.now ≡ command_line r.0 ++ 10 ∷ r.1.now)) }
@@ -108,8 +111,12 @@ fn parse_in_text(text: &[u8]) -> Option<(Command, &[u8])>
     parse_command::<false>(text)
 }
 
-/// Adds the command of the first line of a text, which has this number, if it is the line of one, and answers what stands behind
-/// the line, if it ends.
+/// Adds the command of the first line of a text, unless the line is passed over. Returns the text after the line's end,
+/// or `None` if the line has no end.
+///
+/// # Errors
+///
+/// `Bad` with this number if the line is bad, and `OutOfMemory` if the command cannot be stored.
 #[inline(never)]
 fn push_first_line<'a>(
     commands: &mut Vec<Command>,
@@ -124,7 +131,7 @@ fn push_first_line<'a>(
     Ok(behind)
 }
 
-/// Adds the command of the line with this text and number, if it is the line of one.
+/// Adds the command of a line, unless the line is passed over. Its errors are those of `push_first_line`.
 fn push_line(commands: &mut Vec<Command>, text: &[u8], line: u64) -> Result<(), ScriptError>
     requires { All (λ b. b ≢ 10) text.now }
     ensures good { OnOk result (cause_of text.now ≡ None) }
@@ -141,7 +148,7 @@ fn push_line(commands: &mut Vec<Command>, text: &[u8], line: u64) -> Result<(), 
     Ok(())
 }
 
-/// Returns the command of a line, or `None` for an empty line and a comment.
+/// Returns the command of a line, or `None` for an empty line or a comment.
 #[tactic(auto, unfolding(crate::specs::Scripts::cause_of))]
 fn parse_line(line: &[u8]) -> Result<Option<Command>, Cause>
     requires { All (λ b. b ≢ 10) line.now }
@@ -160,14 +167,15 @@ fn parse_line(line: &[u8]) -> Result<Option<Command>, Cause>
     }
 }
 
+/// Returns whether a line is empty or a comment.
 fn is_passed_over(line: &[u8]) -> bool
     ensures { result ≡ is_passed_over line.now }
 {
     line.is_empty() || line[0] == b'#'
 }
 
-/// Returns the command of a line, or `None` for the line of none.
-#[inline(never)] // so that lines that are passed over pay nothing for it
+/// Returns the command of a line without its end, or `None` if it is not the line of a command.
+#[inline(never)] // so that comments do not pay for its frame
 fn parse_end(line: &[u8]) -> Option<Command>
     requires { All (λ b. b ≢ 10) line.now }
     ensures some { IfSome result (λ command. IsInRange command × (line.now ≡ command_line command)) }
@@ -182,7 +190,7 @@ fn parse_end(line: &[u8]) -> Option<Command>
     }
 }
 
-/// Returns the bytes of a line with ends of lines after it, as many as the longest line of a command has with its end.
+/// Returns a line and at least one LF after it, in as many bytes as `parse_command` may read.
 fn end_line(line: &[u8]) -> [u8; LONGEST]
     requires { length line.now < LONGEST }
     ensures { (rest : List ℕ) × (result ≡ line.now ++ 10 ∷ rest) }

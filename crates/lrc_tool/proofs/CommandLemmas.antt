@@ -13,7 +13,9 @@ use Rattle.lrc_rules.specs.declared.command.Command.{Command}
 use Rattle.lrc_rules.specs.declared.command.Command.TheVariants.{Place, Place6, Drop, Lease, Next, Done, Abandon, Revoke, Fail, Down, Up, Drain, Undrain, Retire, Join, Upgrade, Upgraded, Tick}
 use Rattle.lrc_script.specs.Scripts.{is_passed_over, numbers_text, words_of, command_line, IsInRange, IsScript, BadLine, or_else, first_bad, cause_of}
 use Rattle.lrc_script.specs.Bundles.{Script}
-use Rattle.lrc_script.proofs.CauseLemmas.{cause_of-good, AreBelow, words_of-numbers, below_pair, below_report}
+use Rattle.lrc_script.specs.Cuts.{AreBelow}
+use Rattle.lrc_script.proofs.CauseLemmas.{cause_of-good, words_of-numbers}
+use Rattle.lrc_script.proofs.FormLemmas.{below_pair, below_report}
 use Rattle.lrc_script.proofs.LineLemmas.{cause_of-short}
 use Rattle.lrc_script.proofs.FirstLemmas.{first_bad-none}
 use Rattle.lrc_tool.specs.Outputs.{first_bad_of, AreCommandsOf}

@@ -1,4 +1,4 @@
-//! The tests of `lrc_tool` and `lrc_script` that no file under `examples` can stand for.
+//! Tests of `lrc_tool` and `lrc_script` that no file under `examples` can replace.
 #![tactic(auto)]
 
 #[cfg(test)]

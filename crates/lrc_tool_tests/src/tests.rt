@@ -1,5 +1,5 @@
-//! Streams that fail, bundles that are cut, and the lines of scripts one by one. What a whole run prints, and what is
-//! refused in which words, stands in `examples`.
+//! Streams that fail, bundles that are split, and single lines of scripts. The files under `examples` test what whole runs
+//! print, and the texts of refusals.
 
 mod bundles;
 mod checks;
@@ -14,7 +14,7 @@ mod streams;
 /// One node with four slots, on which a stripe is to be placed.
 const ONE_NODE: &[u8] = b"[[node]]\nnumber = 0\nfault = 0\nupgrade = 0\nslots = 4\n%%\nplace 1\n";
 
-/// What is printed of it.
+/// The output for it.
 const ONE_NODE_OUTPUT: &[u8] = b"\
 script 1
 1 refused 103 1

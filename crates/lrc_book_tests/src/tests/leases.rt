@@ -18,7 +18,7 @@ pub(super) const THREE: Fragment = Fragment { value: 3 };
 
 pub(super) const SIX: Fragment = Fragment { value: 6 };
 
-/// What fragments 3 and 6 are rebuilt from: the rest of their local groups.
+/// The fragments from which 3 and 6 are rebuilt: the rest of their local groups.
 pub(super) const OF_THREE: Kind = Kind::Local([
     Fragment { value: 0 },
     Fragment { value: 1 },
@@ -70,7 +70,7 @@ pub(super) fn lease(book: &Book, stripe: StripeNo, fragment: Fragment) -> Option
     book.lease(stripe, fragment)
 }
 
-/// The epoch of the live lease of fragment 3 of the first stripe, if it has one.
+/// Returns the epoch of the live lease of fragment 3 of the first stripe, or `None` if it has none.
 fn epoch(book: &Book) -> Option<u32> {
     let lease = lease(book, ONE, THREE)?;
     Some(lease.epoch)

@@ -15,7 +15,7 @@ use std::alloc::Global;
 use std::process::Abort;
 use std::test::Fail;
 
-/// The nodes and slots that take fragments 0 to 15 of the second stripe.
+/// The nodes and slots of fragments 0 to 15 of the second stripe.
 const SECOND_SEATS: [(u16, u16); 16] = [
     (15, 0),
     (17, 0),
@@ -35,14 +35,14 @@ const SECOND_SEATS: [(u16, u16); 16] = [
     (10, 1),
 ];
 
-/// A book over twenty nodes whose history has at most so many entries.
+/// Makes a book over twenty nodes whose history has at most `limit` entries.
 fn limited(alloc: Global, limit: u32) -> Result<Book, Fail>
     requires limit { limit ≤ 1000000 }
 {
     Ok(Book::with_limit(alloc, twenty_nodes(alloc)?, limit)?)
 }
 
-/// The history is full: the command is neither made nor decided.
+/// The history is full, so the command is neither made nor decided.
 fn expect_full(rt: &impl Abort, book: &mut Book, command: Command) {
     let full = Some(Fault::HistoryFull);
     assert!(rt; call(book, FIRST, command).err() == full, "to {command:?}");
@@ -88,7 +88,7 @@ fn expect_history(rt: &impl Abort, book: &Book, rows: &[Row]) {
     }
 }
 
-/// A command of each kind. All but the last would change the book that is filled below.
+/// A command of each kind. All except the last would change the book that is filled below.
 fn each_kind() -> [Command; 18] {
     let domain = UpgradeNo { value: 0 };
     [
@@ -128,7 +128,7 @@ fn refuse_all_from_the_start(rt: &impl Abort, alloc: Global, book: &mut Book) {
     }
 }
 
-/// The book shows what it shows before any call.
+/// The book is as before any call.
 fn expect_untouched(rt: &impl Abort, alloc: Global, book: &Book) {
     expect_history(rt, book, &[]);
     expect_no_stripe(rt, book, ONE);
@@ -164,8 +164,7 @@ fn refuse_all_when_full(rt: &impl Abort, alloc: Global, book: &mut Book) {
     }
 }
 
-/// The first stripe loses two fragments, of which one is leased, until the tick after the two that follow. One node is down,
-/// and one drains.
+/// The first stripe loses two fragments. One of them is leased until the third tick from now. One node is down, and one drains.
 fn filling() -> [Row; 8] {
     [
         (Command::Place(ONE), Reply::Placed(first_seats())),
@@ -179,7 +178,7 @@ fn filling() -> [Row; 8] {
     ]
 }
 
-/// The book shows what it shows after these eight calls.
+/// The book is as after these eight calls.
 fn expect_filled(rt: &impl Abort, alloc: Global, book: &Book) {
     expect_history(rt, book, &filling());
     expect_leased(rt, book);
@@ -193,7 +192,7 @@ fn expect_filled(rt: &impl Abort, alloc: Global, book: &Book) {
     expect_load(rt, book, 20, None);
 }
 
-/// The first stripe is without fragments 3 and 6, of which the first session leases 3.
+/// The first stripe lacks fragments 3 and 6, and the first session leases 3.
 fn expect_leased(rt: &impl Abort, book: &Book) {
     let mut wanted = first_seats().map(|seat| Some(seat));
     wanted[3] = None;
@@ -223,7 +222,7 @@ fn a_plan_is_decided_while_there_is_room(rt: HostRuntime) -> Result<(), Fail> {
     Ok(())
 }
 
-/// Neither to decide nor to prepare a call makes it, and a full history can be prepared for a call too.
+/// A call that is only decided or prepared is not made. A full history can be prepared for a call too.
 fn decide_and_fill(rt: &impl Abort, alloc: Global, book: &mut Book) {
     let decided = expect_decided(rt, book);
     prepare(rt, book);
@@ -249,7 +248,7 @@ fn expect_decided(rt: &impl Abort, book: &Book) -> Entry {
     decided
 }
 
-/// Makes room, for which there is memory.
+/// Reserves memory, which succeeds.
 fn prepare(rt: &impl Abort, book: &mut Book) {
     assert!(rt; book.prepare().is_ok());
 }

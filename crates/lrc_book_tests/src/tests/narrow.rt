@@ -1,4 +1,4 @@
-//! Stripes of the code `Narrow`, alone and beside a wide one.
+//! Stripes of the code `Narrow`, alone and next to a wide one.
 
 use super::leases::lease;
 use super::{
@@ -17,7 +17,7 @@ const MEMBER: Fragment = Fragment { value: 1 };
 /// A fragment that a narrow stripe lacks.
 const LACKING: Fragment = Fragment { value: 12 };
 
-/// What fragment 1 is rebuilt from: the rest of its local group in a narrow stripe, and in a wide one.
+/// The fragments from which 1 is rebuilt: the rest of its local group in a narrow stripe, and in a wide one.
 const OF_THREE: Kind = Kind::Local3([
     Fragment { value: 0 },
     Fragment { value: 2 },
@@ -37,7 +37,7 @@ fn code(book: &Book, stripe: StripeNo) -> Option<Code> {
     book.code(stripe)
 }
 
-/// The first slot of a node.
+/// Returns the first slot of a node.
 fn seat(number: u16) -> Seat {
     Seat {
         node: node(number),
@@ -75,7 +75,7 @@ fn place_ten(rt: &impl Abort, book: &mut Book) {
     expect_load(rt, book, 10, Some(0));
 }
 
-/// The nodes that follow one another, and none for the numbers that the code lacks.
+/// The homes are on successive nodes. The numbers that the code lacks have none.
 fn expect_ten_homes(rt: &impl Abort, book: &Book) {
     let mut wanted = first_seats().map(|seat| Some(seat));
     for number in 10..16 {
@@ -164,7 +164,7 @@ fn lease_of_one(target: u16, epoch: u32) -> Lease {
     }
 }
 
-/// A fragment of a narrow stripe is leased and brought back. One that the code lacks needs no lease, and has none.
+/// A fragment of a narrow stripe is leased and rebuilt. One that the code lacks needs no lease, and has none.
 fn lease_of_three(rt: &impl Abort, book: &mut Book) {
     let first = lease_of_one(11, 1);
     let rows = [
@@ -192,7 +192,7 @@ fn lease_of_three(rt: &impl Abort, book: &mut Book) {
     expect_stripe(rt, book, ONE, Level::Whole, 0);
 }
 
-/// The stripe is placed anew, and wide.
+/// The stripe is placed again, as a wide one.
 fn lease_of_six(rt: &impl Abort, book: &mut Book) {
     let placed = [0, 2, 3, 4, 5, 6, 7, 8, 9, 10, 11, 12, 17, 13, 14, 15].map(|number| seat(number));
     let second = lease_of_one(18, 2);
@@ -215,7 +215,7 @@ fn a_narrow_stripe_is_judged_by_its_own_groups(rt: HostRuntime) -> Result<(), Fa
     Ok(())
 }
 
-/// Of ten nodes two fail, which hold one fragment of each group. Then three more of one group go down, and fail too.
+/// Two of ten nodes fail, with one fragment of each group. Then three more of one group go down, and fail too.
 fn lose_a_group(rt: &impl Abort, book: &mut Book) {
     expect_replies(rt, book, &[(Command::Place6(ONE), ten_placed())]);
     fail_all(rt, book, &[0, 3]);

@@ -9,7 +9,7 @@ use lrc_code::{Fragment, StripeNo, UpgradeNo};
 use std::process::Abort;
 use std::test::Fail;
 
-/// What fragment 11 is rebuilt from: the rest of its local group.
+/// The fragments from which 11 is rebuilt: the rest of its local group.
 const OF_ELEVEN: Kind = Kind::Local([
     Fragment { value: 6 },
     Fragment { value: 7 },
@@ -43,7 +43,7 @@ fn granted((stripe, fragment): (StripeNo, Fragment), target: u16, slot: u16, kin
     Reply::Granted(lease, kind)
 }
 
-/// Two stripes are placed, the second of which loses three homes of class A, and the first one of class B.
+/// Two stripes are placed. The second one loses three homes of class A, and the first loses one of class B.
 fn lose_homes_of_both(rt: &impl Abort, book: &mut Book) {
     assert!(rt; ask(book, FIRST, Command::Place(ONE)).is_some());
     assert!(rt; ask(book, FIRST, Command::Place(TWO)).is_some());
@@ -136,7 +136,7 @@ fn an_upgrade_that_would_lose_a_stripe_is_refused(rt: HostRuntime) -> Result<(),
     Ok(())
 }
 
-/// Domain 0 is upgraded, and while it is no other.
+/// Domain 0 is upgraded, and no other one meanwhile.
 fn upgrade(rt: &impl Abort, book: &mut Book) {
     let rows = [
         (Command::Place(ONE), Reply::Placed(first_seats())),

@@ -33,7 +33,7 @@ fn decide_each(rt: &impl Abort, book: &mut Book) {
     }
 }
 
-/// The reply that a session would get, and nothing changes.
+/// The command would have this reply, and nothing changes.
 fn expect_decided(rt: &impl Abort, book: &Book, command: Command, reply: Reply) {
     let before = book.history().len();
     assert!(rt; decided(book, command) == Some(reply), "{command:?}");
@@ -44,7 +44,7 @@ fn decided(book: &Book, command: Command) -> Option<Reply> {
     Some(book.decide(FIRST, command).ok()?.entry.reply)
 }
 
-/// The reply that it gets, and its entry is the last one.
+/// The command has this reply, and its entry is the last one.
 fn expect_made(rt: &impl Abort, book: &mut Book, command: Command, reply: Reply) {
     let before = book.history().len();
     assert!(rt; made(book, command) == Some(reply), "{command:?}");

@@ -15,13 +15,13 @@ pub(super) fn ticked(clock: u32, ended: u32) -> Reply {
     Reply::Ticked { clock, ended }
 }
 
-/// The clock comes to a number, and so many leases end.
+/// A tick sets the clock to `number` and ends `ended` leases.
 fn tick(rt: &impl Abort, book: &mut Book, number: u32, ended: u32) {
     expect_replies(rt, book, &[(Command::Tick, ticked(number, ended))]);
     assert_eq!(rt; clock(book), number);
 }
 
-/// The lease of fragment 3 that is granted after the third tick, which has ended the first.
+/// The lease of fragment 3 that is granted after the third tick, which ended the first lease.
 fn second_lease() -> Lease {
     Lease {
         expiry: 6,
@@ -46,7 +46,7 @@ fn a_lease_ends_at_the_third_tick(rt: HostRuntime) -> Result<(), Fail> {
     Ok(())
 }
 
-/// Fragment 3 is leased before the first tick. Its target is no seat any more after the third.
+/// Fragment 3 is leased before the first tick. After the third one its target is no longer a seat.
 fn lose_the_lease(rt: &impl Abort, book: &mut Book) {
     assert_eq!(rt; clock(book), 0);
     place_and_lease(rt, book);
@@ -61,7 +61,7 @@ fn lose_the_lease(rt: &impl Abort, book: &mut Book) {
     expect_stripe(rt, book, ONE, Level::AtRisk(2), 0x0008);
 }
 
-/// The report comes too late. One of a new lease comes in time.
+/// The report comes too late. That of a new lease comes in time.
 fn lease_again(rt: &impl Abort, book: &mut Book) {
     let second = second_lease();
     let stale = Reply::Refused(Refusal::Stale);

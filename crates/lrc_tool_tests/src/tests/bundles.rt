@@ -1,11 +1,11 @@
-//! Bundles that are cut.
+//! Bundles that are split.
 
 use lrc_tool::{Plain, run};
 use std::alloc::Global;
 use std::sync::Wait;
 use std::thread::Threads;
 
-/// Twenty nodes with four slots in ten upgrade domains, on which a stripe is to be placed.
+/// Twenty nodes with four slots in ten upgrade domains, and a script that places a stripe on them.
 const TWENTY_NODES: &[u8] = b"\
 [[node]]\nnumber = 0\nfault = 0\nupgrade = 0\nslots = 4\n\
 [[node]]\nnumber = 1\nfault = 1\nupgrade = 1\nslots = 4\n\
@@ -29,7 +29,7 @@ const TWENTY_NODES: &[u8] = b"\
 [[node]]\nnumber = 19\nfault = 19\nupgrade = 9\nslots = 4\n\
 %%\nplace 1\n";
 
-/// Whether a run ends without a fault.
+/// Returns whether a run ends without a fault.
 fn is_answered(rt: &(impl Threads + Wait + Sync), alloc: Global, bundle: &[u8]) -> bool {
     let mut source = Plain::new(bundle);
     let mut sink = Plain::new(Vec::new(alloc));

@@ -3,7 +3,7 @@
 use lrc_tool::{Plain, Status, check};
 use std::alloc::Global;
 
-/// Whether a check of such streams, or of fresh ones, ends so and writes this line.
+/// Returns whether a check of such streams, or of fresh ones, ends with this status and writes this line.
 fn is_told(alloc: Global, bundle: &str, line: &str, status: Status, failed: bool) -> bool {
     let mut source = Plain::new(bundle.as_bytes());
     source.failed = failed;

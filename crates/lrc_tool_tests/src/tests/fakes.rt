@@ -14,7 +14,7 @@ impl Read for Endless {
     }
 }
 
-/// A reader that fills its buffer, or fails where it has not enough left.
+/// A reader that fills its buffer, or fails if it has too few bytes left.
 #[derive(Drop)]
 pub(crate) struct Filling {
     pub left: usize,
@@ -31,7 +31,7 @@ impl Read for Filling {
     }
 }
 
-/// A reader that gives seven bytes a call, and fails at one of its calls.
+/// A reader that returns seven bytes a call, and fails at one of its calls.
 #[derive(Drop)]
 pub(crate) struct Faltering<'a> {
     pub rest: &'a [u8],

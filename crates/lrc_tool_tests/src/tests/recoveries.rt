@@ -7,7 +7,7 @@ use std::io;
 
 const LINE: &[u8] = b"A 3 B 1 G 0 recoverable margin 0\n";
 
-/// Whether a recovery whose sink fails at this one of its calls, and may have failed before, leaves what it may.
+/// Returns whether a recovery is right whose sink fails at this call and may have failed before.
 fn is_written(alloc: Global, failure: Failure, fails_at: usize, failed: bool) -> bool {
     let mut sink = Plain::new(Dribble {
         taken: Vec::new(alloc),
@@ -17,7 +17,7 @@ fn is_written(alloc: Global, failure: Failure, fails_at: usize, failed: bool) ->
     });
     sink.failed = failed;
     let result = recover(alloc, "0047", &mut sink);
-    // A call for each byte, and the flush.
+    // One call for each byte, and one to flush.
     if fails_at <= LINE.len() + 1 {
         let taken = &LINE[..fails_at.saturating_sub(1)];
         result == Err(RunFault::Write) && sink.failed() && sink.inner.taken.as_slice() == taken
@@ -40,7 +40,7 @@ fn after_a_failed_write_a_prefix_of_the_line_is_written(rt: HostRuntime) {
     }
 }
 
-/// Masks of a narrow stripe, what is told of them, and how that ends.
+/// Masks of a narrow stripe, the output for each, and the status.
 const NARROW_MASKS: [(&str, &str, Status); 5] = [
     ("0047", "A 4 B 0 G 0 not recoverable\n", Status::Done),
     ("000f", "A 3 B 1 G 0 recoverable margin 0\n", Status::Done),
@@ -49,7 +49,7 @@ const NARROW_MASKS: [(&str, &str, Status); 5] = [
     ("0400", "mask refused\n", Status::Refused),
 ];
 
-/// Whether a mask of a narrow stripe is told so.
+/// Returns whether a mask of a narrow stripe has this output and status.
 fn is_told(alloc: Global, mask: &str, line: &str, status: Status) -> bool {
     let mut sink = Plain::new(Dribble {
         taken: Vec::new(alloc),

@@ -90,7 +90,7 @@ const OUT_OF_RANGE: [&str; 14] = [
     "upgraded 65535",
 ];
 
-/// Whether a script has this first bad line, for this cause.
+/// Returns whether a script has this first bad line, with this cause.
 fn is_bad(alloc: Global, text: &[u8], line: u64, cause: Cause) -> bool {
     if text.len() > 4096 {
         return false;
@@ -101,7 +101,7 @@ fn is_bad(alloc: Global, text: &[u8], line: u64, cause: Cause) -> bool {
     }
 }
 
-/// Whether a script has these commands.
+/// Returns whether a script has these commands.
 fn is_good(alloc: Global, text: &[u8], commands: &[Command]) -> bool {
     if text.len() > 4096 {
         return false;
@@ -131,7 +131,7 @@ fn bad_lines(rt: HostRuntime) {
     assert!(rt; is_bad(rt.alloc(), b"place 1\xff", 102, Cause::NotANumber));
 }
 
-/// The first bad line, and not the least cause; LF alone ends a line.
+/// The first bad line is reported, and not that with the least cause. Only LF ends a line.
 #[test]
 fn first_bad_lines(rt: HostRuntime) {
     let rows = [
@@ -147,7 +147,7 @@ fn first_bad_lines(rt: HostRuntime) {
     }
 }
 
-/// Whether a script has no command.
+/// Returns whether a script has no command.
 fn is_without_commands(alloc: Global, text: &[u8]) -> bool {
     if text.len() > 4096 {
         return false;
@@ -261,7 +261,7 @@ fn lines_without_a_number_are_one_word(rt: HostRuntime) {
     assert!(rt; is_good(rt.alloc(), b"tick\nnext\ntick", &commands));
 }
 
-/// Puts bytes of every value but LF behind the first one.
+/// Puts bytes of every value except LF after the first byte.
 fn fill(line: &mut [u8]) {
     for (i, byte) in line.iter_mut().enumerate() {
         let value = (i % 256) as u8;

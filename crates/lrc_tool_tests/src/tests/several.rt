@@ -7,11 +7,11 @@ use std::io;
 use std::sync::Wait;
 use std::thread::Threads;
 
-/// One node, and two scripts of a command each.
+/// One node, and two scripts of one command each.
 const TWO_SCRIPTS: &[u8] =
     b"[[node]]\nnumber = 0\nfault = 0\nupgrade = 0\nslots = 4\n%%\nplace 1\n%%\nnext\n";
 
-/// What is printed of them where the first script's command is made first.
+/// The output if the first script's command is made first.
 const IN_ORDER: &[u8] = b"\
 script 1
 1 refused 103 1
@@ -24,7 +24,7 @@ node,mode,online,load,slots
 0,active,yes,0,4
 ";
 
-/// And where it is made last.
+/// The output if it is made last.
 const IN_REVERSE: &[u8] = b"\
 script 1
 2 refused 103 1
@@ -37,15 +37,15 @@ node,mode,online,load,slots
 0,active,yes,0,4
 ";
 
-/// Whether these are so many bytes of either output, from its beginning.
+/// Returns whether these are the first bytes of either output, as many as given.
 fn is_begun(bytes: &[u8], count: usize) -> bool {
     bytes.len() == count && (IN_ORDER.starts_with(bytes) || IN_REVERSE.starts_with(bytes))
 }
 
-/// How often the 71 bytes of the bundle are read, seven a call; the last call finds the end.
+/// The number of reads of the 71 bytes of the bundle, seven bytes a call. The last call finds the end.
 const READS: usize = 12;
 
-/// Whether a run whose source fails at this one of its calls leaves what it may.
+/// Returns whether a run is right whose source fails at this call.
 fn is_read(rt: &(impl Threads + Wait + Sync), alloc: Global, fails_at: usize) -> bool {
     let mut source = Plain::new(Faltering {
         rest: TWO_SCRIPTS,
@@ -71,7 +71,7 @@ fn after_a_failed_read_no_script_is_told(rt: HostRuntime) {
     }
 }
 
-/// Whether a run whose sink fails at this one of its calls leaves what it may.
+/// Returns whether a run is right whose sink fails at this call.
 fn is_written(
     rt: &(impl Threads + Wait + Sync),
     alloc: Global,
@@ -86,7 +86,7 @@ fn is_written(
     });
     let result = run(rt, alloc, &mut Plain::new(TWO_SCRIPTS), &mut sink);
     let taken = sink.inner.taken.as_slice();
-    // A call for each byte, and the flush.
+    // One call for each byte, and one to flush.
     if fails_at <= IN_ORDER.len() + 1 {
         result == Err(RunFault::Write)
             && sink.failed()

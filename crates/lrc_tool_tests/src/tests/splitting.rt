@@ -1,11 +1,11 @@
-//! Bundles, cut at their parting lines.
+//! Bundles that are split at their parting lines.
 
 use lrc_script::{BundleError, split_bundle};
 use std::alloc::Global;
 
 type Row = (&'static str, &'static str, &'static [(u64, &'static str)]);
 
-/// Whether a bundle has this topology and these scripts, each with the number of its first line.
+/// Returns whether a bundle has this topology and these scripts, each with the number of its first line.
 fn is_cut(alloc: Global, bundle: &str, topology: &str, scripts: &[(u64, &str)]) -> bool {
     let Ok(parts) = split_bundle(alloc, bundle.as_bytes(), 8) else {
         return false;
@@ -22,7 +22,7 @@ fn parts_of_bundles(rt: HostRuntime) {
     let rows: [Row; 8] = [
         ("", "", &[]),
         ("t\nu", "t\nu", &[]),
-        // Only the two bytes part.
+        // A parting line has these two bytes alone.
         (
             "a\n%%\r\n%% \n %%\n%%%\n\u{feff}%%\nb",
             "a\n%%\r\n%% \n %%\n%%%\n\u{feff}%%\nb",
@@ -33,7 +33,7 @@ fn parts_of_bundles(rt: HostRuntime) {
         ("%%", "", &[(2, "")]),
         ("%%\nplace 1", "", &[(2, "place 1")]),
         ("t\n%%\nplace 1\n", "t\n", &[(3, "place 1\n")]),
-        // LF alone ends a line, and parting lines count.
+        // Only LF ends a line, and parting lines are counted.
         (
             "a\rb\r\nc\n%%\nx\n\n%%\n%%\ny",
             "a\rb\r\nc\n",
@@ -48,7 +48,7 @@ fn parts_of_bundles(rt: HostRuntime) {
     }
 }
 
-/// Whether a bundle is refused since it has more scripts.
+/// Returns whether a bundle is refused because it has more scripts.
 fn has_more(alloc: Global, bundle: &str, most: usize) -> bool {
     match split_bundle(alloc, bundle.as_bytes(), most) {
         Ok(_) => false,

@@ -8,7 +8,7 @@ use std::io;
 use std::sync::Wait;
 use std::thread::Threads;
 
-/// Whether a run says of a bundle that it is too long, and no read has failed.
+/// Returns whether a run reports that a bundle is too long, and no read failed.
 fn is_too_long(rt: &(impl Threads + Wait + Sync), alloc: Global, source: &mut impl Source) -> bool {
     let mut sink = Plain::new(Vec::new(alloc));
     let result = run(rt, alloc, source, &mut sink);
@@ -33,10 +33,10 @@ fn behind_a_byte_too_many_nothing_is_read(rt: HostRuntime) {
     assert!(rt; result == Err(RunFault::Read));
 }
 
-/// How often the 63 bytes of the bundle are read, seven a call; the last call finds the end.
+/// The number of reads of the 63 bytes of the bundle, seven bytes a call. The last call finds the end.
 const READS: usize = 10;
 
-/// A reader of the bundle that fails at this one of its calls.
+/// Makes a reader of the bundle that fails at this call.
 fn faltering(fails_at: usize, kind: io::ErrorKind) -> Plain<Faltering<'static>> {
     Plain::new(Faltering {
         rest: ONE_NODE,
@@ -46,7 +46,7 @@ fn faltering(fails_at: usize, kind: io::ErrorKind) -> Plain<Faltering<'static>> 
     })
 }
 
-/// Whether a run whose source fails at this one of its calls, and may have failed before, leaves what it may.
+/// Returns whether a run is right whose source fails at this call and may have failed before.
 fn is_read(
     rt: &(impl Threads + Wait + Sync),
     alloc: Global,
@@ -81,7 +81,7 @@ fn after_a_failed_read_nothing_is_written(rt: HostRuntime) {
     }
 }
 
-/// How a check ends whose source fails at this one of its calls.
+/// Returns how a check ends whose source fails at this call.
 fn checked(alloc: Global, fails_at: usize) -> Result<Status, RunFault> {
     let mut source = faltering(fails_at, io::ErrorKind::Interrupted);
     check(alloc, &mut source, &mut Plain::new(Vec::new(alloc)))
@@ -93,7 +93,7 @@ fn a_check_reads_to_the_end_and_no_further(rt: HostRuntime) {
     assert!(rt; checked(rt.alloc(), READS + 1) == Ok(Status::Done));
 }
 
-/// Whether a run whose sink fails at this one of its calls, and may have failed before, leaves what it may.
+/// Returns whether a run is right whose sink fails at this call and may have failed before.
 fn is_written(
     rt: &(impl Threads + Wait + Sync),
     alloc: Global,
@@ -111,7 +111,7 @@ fn is_written(
     sink.failed = failed;
     let result = run(rt, alloc, &mut source, &mut sink);
     let taken = sink.inner.taken.as_slice();
-    // A call for each byte, and the flush.
+    // One call for each byte, and one to flush.
     let calls = ONE_NODE_OUTPUT.len() + 1;
     if fails_at <= calls {
         result == Err(RunFault::Write)
@@ -125,7 +125,7 @@ fn is_written(
     }
 }
 
-/// Whether that is so at each call, and behind the last one.
+/// Returns whether that is so at each call, and after the last one.
 fn is_written_up_to_a_failure(
     rt: &(impl Threads + Wait + Sync),
     alloc: Global,

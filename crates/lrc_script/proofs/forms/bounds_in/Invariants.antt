@@ -4,5 +4,5 @@ use Rattle.lrc_script.specs.Cuts.{row_form}
 use Rattle.lrc_script.proofs.forms.bounds_in.Given as goal
 
 -- the word is that of no form before
-abbrev pub invariant-loop-form : goal.invariant-loop-form
-invariant-loop-form l = form_in (map row_form l.forms) l.word ≡ form_in (drop l.form-index (map row_form l.forms)) l.word
+abbrev pub invariant-loop-name : goal.invariant-loop-name
+invariant-loop-name l = form_in (map row_form l.forms) l.word ≡ form_in (drop l.name-index (map row_form l.forms)) l.word

@@ -2,10 +2,10 @@ use Rattle.std.proofs.Common.{[], ◌∷◌, codes, refl}
 use Rattle.lrc_script.proofs.FrontLemmas.{has, is, no_command-but, no_line-numbers}
 use Rattle.lrc_script.proofs.front.parse_command.Goals as goal
 
-pub returns-in-None-report_behind-clause-none : goal.returns-in-None-report_behind-clause-none
-returns-in-None-report_behind-clause-none g c =
+pub returns-in-None-clause-none : goal.returns-in-None-clause-none
+returns-in-None-clause-none g c =
     no_command-but c.args.text.now (has 0 97 ∷ []) (is _ 97 c.in-97.is, tt) (codes "abandon") (4096 ∷ 16 ∷ 4294967296 ∷ []) refl refl
-    (no_line-numbers c.args.text.now (codes "abandon") 4096 (16 ∷ 4294967296 ∷ []) c.in-None-report_behind.ensures.none)
+    (no_line-numbers c.args.text.now (codes "abandon") 4096 (16 ∷ 4294967296 ∷ []) c.in-None.ensures.none)
 
 pub returns-in-None-node_behind-clause-none : goal.returns-in-None-node_behind-clause-none
 returns-in-None-node_behind-clause-none g c =
