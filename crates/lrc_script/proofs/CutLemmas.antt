@@ -40,11 +40,6 @@ cut_once separator (a ∷ first) (b ∷ other) rest more none none' is =
     let parts = cut_once separator first other rest more (λ k d within. none (suc k) d (omega arith)) (λ k d within. none' (suc k) d (omega arith)) tail in
     (ap (λ x. x ∷ first) head ∙ ap (λ xs. b ∷ xs) parts.0, parts.1)
 
--- what stands before the first separator has none
-pub cut_first : (separator : ℕ) (text first : List ℕ) (rest : Option (Bor (List ℕ))) → IsCut separator text first rest → All (λ b. b ≢ separator) first
-cut_first separator text first None cut = cut.0
-cut_first separator text first (Some rest) cut = cut.0
-
 -- ---- a text that is searched in two parts
 
 module _ (test : ℕ → Bool) (text : List ℕ) (short : ℕ) where

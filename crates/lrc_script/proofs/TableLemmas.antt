@@ -5,7 +5,7 @@ use Rattle.std.specs.Borrow.{Bor}
 use Rattle.std.specs.List.{All, list_all}
 use Rattle.std.specs.Option.{option_or, is_some, IsSome, IfSome}
 use Rattle.std.proofs.lemmas.Bool.Decides.{nat_tests}
-use Rattle.std.proofs.lemmas.List.{get_or-map, length-map, drop_more, drop_all}
+use Rattle.std.proofs.lemmas.List.{get_or-map, length-map, drop_more}
 use Rattle.std.proofs.lemmas.List.Sums.{AllPass-from_list_all}
 use Rattle.lrc_rules.specs.declared.command.Command.{Command}
 use Rattle.lrc_script.specs.declared.script.Cause.{Cause}
@@ -35,9 +35,6 @@ module _ (rows : List Row) (word : List ℕ) where
   -- the word of this row has its form
   pub form_in-here : (i : ℕ) (d : Row) → i < length rows → word ≡ (get_or rows i d).0.now → form_in (drop i (map row_form rows)) word ≡ Some (row_form (get_or rows i d))
   form_in-here i d within same = ap (λ forms. form_in forms word) (left i d within) ∙ rw (same_text-own word (get_or rows i d).0.now same) refl
-
-  pub form_in-end : (i : ℕ) → length rows ≤ i → form_in (drop i (map row_form rows)) word ≡ None
-  form_in-end i within = let long = length-map rows row_form in ap (λ forms. form_in forms word) (drop_all i (map row_form rows) (omega (arith, long, within)))
 
 abbrev is_narrow : ℕ → Bool
 is_narrow bound = not (nat_lt 4294967296 bound)
@@ -94,10 +91,6 @@ left_cause-next cause line word rest bounds i d cut within =
     (same_lengths (length (words_behind rest)) (length (drop (i + 1) bounds)))
     ∙ ap (λ o. if nat_eq (length (words_behind rest)) (length (drop (i + 1) bounds)) then o else Some WordCount)
     (or_else-next cause (argument_cause word (get_or bounds i d)) (arguments_cause (words_behind rest) (drop (i + 1) bounds)))
-
--- a word is missing
-pub left_cause-few : (cause : Option Cause) (bounds : List ℕ) (i : ℕ) → i < length bounds → left_cause cause [] (drop i bounds) ≡ Some WordCount
-left_cause-few cause bounds i within = ap (left_cause cause []) (drop_more bounds i 0 within) ∙ rw (ne_eqb 0 (suc (length (drop (i + 1) bounds))) (omega arith)) refl
 
 -- words are left, or none
 pub left_cause-many : (cause : Option Cause) (rest : Option (Bor (List ℕ))) → is_some rest ≡ true → left_cause cause (words_behind rest) [] ≡ Some WordCount
