@@ -12,7 +12,7 @@ use Rattle.lrc_topology.specs.declared.NodeInfo.{NodeInfo}
 use Rattle.lrc_topology.specs.Nodes.{place_in}
 use Rattle.lrc_nodes.specs.declared.node_state.NodeState.{NodeState}
 use Rattle.lrc_stripes.specs.Stored.{has_node}
-use Rattle.lrc_stripes.specs.Sets.{has}
+use Rattle.lrc_ranks.specs.Sets.{has}
 use Rattle.lrc_stripes.specs.NodeStates.{AreNodes, IsPositionOf}
 use Rattle.lrc_nodes.specs.States.{first_state, numbers_in, node_position, online_in, draining_in}
 use Rattle.lrc_nodes.proofs.StateLemmas.{IsPlaceOf, place-found, one_place}

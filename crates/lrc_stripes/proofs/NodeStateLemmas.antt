@@ -16,7 +16,7 @@ use Rattle.lrc_topology.specs.declared.seat.Seat.{Seat}
 use Rattle.lrc_topology.specs.Nodes.{node_at, nodes_in}
 use Rattle.lrc_nodes.specs.declared.node_state.NodeState.{NodeState}
 use Rattle.lrc_stripes.specs.Stored.{has_node}
-use Rattle.lrc_stripes.specs.Sets.{has}
+use Rattle.lrc_ranks.specs.Sets.{has}
 use Rattle.lrc_stripes.specs.NodeStates.{AreNodes, NodeStates, NodeLists, states_in, first_states, IsPositionOf}
 use Rattle.lrc_nodes.specs.States.{first_state, state_at, node_position, online_in, draining_in, with_offline, with_offline_in, with_draining}
 use Rattle.lrc_stripes.proofs.NodeLemmas.{on-changed, online-at_first, draining-at_first, sets-none}

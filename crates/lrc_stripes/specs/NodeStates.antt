@@ -7,7 +7,7 @@ use Rattle.lrc_topology.specs.declared.NodeInfo.{NodeInfo}
 use Rattle.lrc_nodes.specs.declared.node_state.NodeState.{NodeState}
 use Rattle.lrc_nodes.specs.States.{numbers_in, node_position, online_in, draining_in}
 use Rattle.lrc_stripes.specs.Stored.{has_node}
-use Rattle.lrc_stripes.specs.Sets.{has}
+use Rattle.lrc_ranks.specs.Sets.{has}
 
 -- The nodes in the order of the file, those that are online, those that are draining, and the stripes with a home on each.
 pub record NodeStates : Type 0 where

@@ -3,13 +3,13 @@
 ghost use Rattle.std.specs.Prelude.{◌≡◌, ◌&&◌, ◌||◌, true, false, get_or, []};
 ghost use Rattle.lrc_code.specs.declared.numbers.NodeNo.{NodeNo as AnyNode};
 ghost use Rattle.lrc_code.specs.declared.numbers.StripeNo.{StripeNo as AnyStripe};
-ghost use Rattle.lrc_stripes.specs.Sets.{has};
+ghost use Rattle.lrc_ranks.specs.Sets.{has};
 ghost use Rattle.lrc_stripes.specs.NodeStates.{states_in};
 ghost use Rattle.lrc_stripes.specs.UpgradeLosses.{is_on_several_offline};
 
 use crate::node_table::NodeTable;
-use crate::stripe_set::StripeSet;
 use lrc_code::{NodeNo, StripeNo};
+use lrc_ranks::StripeSet;
 
 /// The number of offline nodes that are tried for one stripe.
 const FEW: usize = 8;

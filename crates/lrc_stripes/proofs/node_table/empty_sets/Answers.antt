@@ -2,7 +2,7 @@ use Rattle.std.proofs.Common.{◌≡◌, ◌+◌, ◌∷◌, [], List, Bool, fal
 use Rattle.std.specs.List.{All}
 use Rattle.std.proofs.lemmas.List.{length-append}
 use Rattle.std.proofs.lemmas.List.Elements.{All-nil, All-cons, All-append}
-use Rattle.lrc_stripes.specs.Sets.{has}
+use Rattle.lrc_ranks.specs.Sets.{has}
 use Rattle.lrc_stripes.proofs.node_table.empty_sets.Goals as goal
 
 pub loop-init : goal.loop-init

@@ -1,6 +1,6 @@
 use Rattle.std.proofs.Common.{◌≡◌, ℕ, ◌<◌, true, false, [], map, get_or}
 use Rattle.lrc_nodes.specs.declared.node_state.NodeState.{NodeState}
-use Rattle.lrc_stripes.specs.Sets.{has}
+use Rattle.lrc_ranks.specs.Sets.{has}
 use Rattle.lrc_stripes.proofs.node_table.NodeTable.is_clear_of_few.Given as goal
 
 -- the nodes so far that are offline do not have the stripe

@@ -4,7 +4,7 @@ use Rattle.lrc_code.specs.declared.numbers.StripeNo.{StripeNo}
 use Rattle.lrc_code.specs.Numbers.{same_upgrade}
 use Rattle.lrc_topology.specs.declared.NodeInfo.{NodeInfo}
 use Rattle.lrc_nodes.specs.declared.node_state.NodeState.{NodeState}
-use Rattle.lrc_stripes.specs.Sets.{has}
+use Rattle.lrc_ranks.specs.Sets.{has}
 use Rattle.lrc_stripes.specs.NodeStates.{states_in}
 use Rattle.lrc_nodes.proofs.StateLemmas.{no_state}
 use Rattle.lrc_stripes.proofs.NodeStateLemmas.{on_some, in_domain, some-more, some-same, domain-nodes}

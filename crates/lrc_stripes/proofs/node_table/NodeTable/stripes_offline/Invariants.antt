@@ -1,5 +1,5 @@
 use Rattle.std.proofs.Common.{◌≡◌, take}
-use Rattle.lrc_stripes.specs.Sets.{has}
+use Rattle.lrc_ranks.specs.Sets.{has}
 use Rattle.lrc_stripes.specs.NodeStates.{states_in}
 use Rattle.lrc_stripes.proofs.NodeStateLemmas.{on_some}
 use Rattle.lrc_stripes.proofs.node_table.NodeTable.stripes_offline.Given as goal

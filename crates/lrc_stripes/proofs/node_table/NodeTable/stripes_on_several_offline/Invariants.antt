@@ -1,5 +1,5 @@
 use Rattle.std.proofs.Common.{◌≡◌, take, nat_lt}
-use Rattle.lrc_stripes.specs.Sets.{has}
+use Rattle.lrc_ranks.specs.Sets.{has}
 use Rattle.lrc_stripes.specs.NodeStates.{states_in}
 use Rattle.lrc_stripes.proofs.ShortLemmas.{counted}
 use Rattle.lrc_stripes.proofs.node_table.NodeTable.stripes_on_several_offline.Given as goal
