@@ -1,6 +1,6 @@
 use Rattle.std.proofs.Common.{arith}
 use Rattle.lrc_slots.proofs.BarLemmas.{barred-fault}
-use Rattle.lrc_slots.proofs.taken.Taken.bar_fault.Goals as goal
+use Rattle.lrc_slots.proofs.barred_domains.BarredDomains.bar_fault.Goals as goal
 
 pub returns : goal.returns
 returns c = rw (c.insert.ensures, ← c.self.view_is)

@@ -1,6 +1,6 @@
 use Rattle.std.proofs.Common.{◌≡◌, true, false, get_or, sym, ap, ◌∙◌, inl, inr}
 use Rattle.lrc_slots.proofs.MarkLemmas.{get_or-replicate_same}
-use Rattle.lrc_slots.proofs.taken.Taken.nodes.Goals as goal
+use Rattle.lrc_slots.proofs.barred_domains.BarredDomains.nodes.Goals as goal
 
 pub returns : goal.returns
 returns c = λ r. (

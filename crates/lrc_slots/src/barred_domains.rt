@@ -12,12 +12,12 @@ use std::marker::Model;
 
 /// The barred domains: none of their nodes is chosen.
 #[derive(Drop)]
-pub struct Taken {
+pub struct BarredDomains {
     faults: BitSet<4>,
     upgrades: BitSet<4>,
 }
 
-impl Model for Taken {
+impl Model for BarredDomains {
     ghost use Rattle.lrc_slots.specs.Tables.{Bars};
 
     ghost Value = { Bars };
@@ -29,12 +29,12 @@ impl Model for Taken {
     ghost invariant = { λ t. (length t.faults ≡ 256) × (length t.upgrades ≡ 256) };
 }
 
-impl Taken {
+impl BarredDomains {
     /// Returns a value that bars no domain.
-    pub fn new() -> Taken
+    pub fn new() -> BarredDomains
         ensures { barred result ≡ no_bars }
     {
-        Taken {
+        BarredDomains {
             faults: BitSet::new(),
             upgrades: BitSet::new(),
         }
@@ -65,7 +65,7 @@ impl Taken {
     }
 }
 
-impl Barring for Taken {
+impl Barring for BarredDomains {
     ghost use Rattle.lrc_slots.specs.Tables as tables;
 
     ghost barred = { tables.barred };

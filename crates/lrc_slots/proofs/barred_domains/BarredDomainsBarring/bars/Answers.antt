@@ -1,6 +1,6 @@
 use Rattle.std.proofs.Common.{◌≡◌, true, false, get_or, sym, ◌∙◌}
 use Rattle.lrc_slots.specs.Tables.{barred}
-use Rattle.lrc_slots.proofs.taken.TakenBarring.bars.Goals as goal
+use Rattle.lrc_slots.proofs.barred_domains.BarredDomainsBarring.bars.Goals as goal
 
 pub returns-then-contains : goal.returns-then-contains
 unfolding barred

@@ -1,6 +1,6 @@
 use Rattle.std.proofs.Common.{arith}
 use Rattle.lrc_slots.proofs.BarLemmas.{barred-upgrade}
-use Rattle.lrc_slots.proofs.taken.Taken.bar_upgrade.Goals as goal
+use Rattle.lrc_slots.proofs.barred_domains.BarredDomains.bar_upgrade.Goals as goal
 
 pub returns : goal.returns
 returns c = rw (c.insert.ensures, ← c.self.view_is)
