@@ -12,7 +12,7 @@ use Rattle.lrc_topology.specs.declared.NodeInfo.{NodeInfo}
 use Rattle.lrc_topology.specs.Nodes.{place_in}
 use Rattle.lrc_nodes.specs.declared.node_state.NodeState.{NodeState}
 use Rattle.lrc_nodes.specs.States.{first_state, numbers_in, state_at}
-use Rattle.lrc_nodes.specs.Kept.{states_from, AreDomains, ArePositions}
+use Rattle.lrc_nodes.specs.Kept.{states_from, AreDomains, ArePositions, AreKept}
 use Rattle.lrc_nodes.proofs.StateLemmas.{no_state, IsPlaceOf, place-found, state-found, state_at-past, state_at-number}
 
 -- ---- the nodes of the list
@@ -192,6 +192,29 @@ marked-positions nodes bits new p b within is are = record {
   long = ap length is ∙ (length-set bits p b ∙ are.long);
   past = λ q above. ap (λ (bs : List Bool). get_or bs q false) is ∙ (get_or-set_other bits p q b false (λ e. omega (arith, e, above, within)) ∙ are.past q above);
 }
+
+-- the bit of the node with a number set
+module _ (nodes : List NodeInfo) (off drain : List Bool) (t : List NodeState) (view : ◌≡◌ {A = List NodeState} (states_from 0 nodes off drain) t)
+    (n : NodeNo) (p : ℕ) (place : place_in (numbers_in t) n ≡ Some p) where
+  pub place-low : (bits : List Bool) → ArePositions nodes bits → length nodes ≤ 512 → p < length bits
+  place-low bits are few = let within = place-within nodes off drain t view n p place in let long = are.long in omega (arith, within, long, few)
+
+  pub marked : (numbers : List NodeNo) (domains : List (List Bool)) → AreKept nodes numbers off drain domains → (bits new : List Bool) (b : Bool) → ArePositions nodes bits
+      → new ≡ set bits p b → ArePositions nodes new × Turned nodes (λ k. same_node n k.number) b bits new
+  marked numbers domains kept bits new b are is =
+      let within = place-within nodes off drain t view n p place in (
+        marked-positions nodes bits new p b within is are,
+        marked-one nodes numbers kept.found kept.apart n p within (own-number nodes off drain t view n p place) bits new b are.long kept.few is,
+      )
+
+-- other nodes are offline, or draining
+module _ (nodes : List NodeInfo) (numbers : List NodeNo) (off drain : List Bool) (domains : List (List Bool)) (is : AreKept nodes numbers off drain domains)
+    (new : List Bool) (are : ArePositions nodes new) where
+  pub kept-offline : AreKept nodes numbers new drain domains
+  kept-offline = record { found = is.found; apart = is.apart; few = is.few; off = are; drain = is.drain; grouped = is.grouped }
+
+  pub kept-draining : AreKept nodes numbers off new domains
+  kept-draining = record { found = is.found; apart = is.apart; few = is.few; off = is.off; drain = are; grouped = is.grouped }
 
 -- the bits of an upgrade domain set
 module _ (nodes : List NodeInfo) (domains : List (List Bool)) (are : AreDomains nodes (length nodes) domains) (u : UpgradeNo) (low : u.value < 256) (places : List Bool) (is : places ≡ get_or domains u.value []) where

@@ -1,4 +1,4 @@
-ghost use Rattle.std.specs.Prelude.{◌≡◌, ◌<◌, ◌↔◌, false, map, length, get_or, slice_set, option_map, IfOk, IfErr, IsSome, IsTrue, Some};
+ghost use Rattle.std.specs.Prelude.{◌≡◌, ℕ, ◌<◌, ◌↔◌, if◌then◌else◌, false, map, length, get_or, slice_set, option_map, IfOk, IfErr, IsSome, IsTrue, Some};
 ghost use Rattle.std.specs.List.{All};
 ghost use Rattle.lrc_bits.specs.Flags.{FindsFrom};
 ghost use Rattle.lrc_code.specs.declared.fault.Fault.TheVariants.{OutOfMemory};
@@ -109,7 +109,7 @@ impl Nodes {
     }
 
     /// Reports whether no node is draining.
-    pub fn is_none_draining(&self) -> bool
+    pub fn are_none_draining(&self) -> bool
         ensures { IsTrue result ↔ All (λ x. x.is_draining ≡ false) self.now }
     {
         self.draining.is_empty()
@@ -172,11 +172,7 @@ impl Nodes {
         ensures { self.new ≡ with_offline_in self.old domain is_offline }
     {
         let positions = &self.domains[domain.value as usize];
-        if is_offline {
-            self.offline.insert_all(positions);
-        } else {
-            self.offline.remove_all(positions);
-        }
+        mark_all(&mut self.offline, positions, is_offline);
     }
 
     /// Sets whether a node is draining.
@@ -206,5 +202,17 @@ fn mark(set: &mut BitSet<8>, number: usize, is_in: bool)
         set.insert(number);
     } else {
         set.remove(number);
+    }
+}
+
+/// Adds all numbers of another set to a set or removes them.
+fn mark_all(set: &mut BitSet<8>, numbers: &BitSet<8>, are_in: bool)
+    ensures same { length set.new ≡ length set.old }
+    ensures each { (k : ℕ) → get_or set.new k false ≡ (if get_or numbers.now k false then are_in else get_or set.old k false) }
+{
+    if are_in {
+        set.insert_all(numbers);
+    } else {
+        set.remove_all(numbers);
     }
 }

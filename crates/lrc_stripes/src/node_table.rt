@@ -159,7 +159,7 @@ impl NodeTable {
     fn are_plain(&self) -> bool
         ensures { result ≡ true → (n : AnyNode) → IsTrue (has_node (states_in self.now).nodes n) → ((states_in self.now).online n ≡ true) × ((states_in self.now).draining n ≡ false) }
     {
-        self.nodes.are_all_online() && self.nodes.is_none_draining()
+        self.nodes.are_all_online() && self.nodes.are_none_draining()
     }
 
     /// The same, one fragment at a time.

@@ -1,5 +1,5 @@
 use Rattle.lrc_nodes.proofs.KeptLemmas.{seen-draining}
-use Rattle.lrc_nodes.proofs.nodes.Nodes.is_none_draining.Goals as goal
+use Rattle.lrc_nodes.proofs.nodes.Nodes.are_none_draining.Goals as goal
 
 pub returns : goal.returns
 returns c =

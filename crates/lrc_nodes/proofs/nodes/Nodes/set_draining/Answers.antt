@@ -1,38 +1,24 @@
-use Rattle.std.proofs.Common.{List, arith, ap, ◌∙◌}
+use Rattle.std.proofs.Common.{List, ap, ◌∙◌}
 use Rattle.lrc_code.specs.Numbers.{same_node}
 use Rattle.lrc_nodes.specs.declared.node_state.NodeState.{NodeState}
 use Rattle.lrc_nodes.specs.States.{with_draining}
-use Rattle.lrc_nodes.proofs.KeptLemmas.{place-within, own-number, draining-turned, marked-one, marked-positions}
+use Rattle.lrc_nodes.proofs.KeptLemmas.{place-low, marked, kept-draining, draining-turned}
 use Rattle.lrc_nodes.proofs.nodes.Nodes.set_draining.Goals as goal
 
 pub mark-requires : goal.mark-requires
 mark-requires c =
     let s = c.self.inside in
-    let within = place-within s.list.items s.offline s.draining c.args.self.now c.self.view_is c.args.number c.position_of-position.result c.position_of-position.ensures in
-    omega (arith, within, c.self.invariant.few, c.self.invariant.drain.long)
+    place-low s.list.items s.offline s.draining c.args.self.now c.self.view_is c.args.number c.position_of-position.result c.position_of-position.ensures s.draining c.self.invariant.drain c.self.invariant.few
 
 pub invariant_of-self : goal.invariant_of-self
 invariant_of-self c =
     let s = c.self.inside in
-    let is = c.self.invariant in
-    let p = c.position_of-position.result in
-    let within = place-within s.list.items s.offline s.draining c.args.self.now c.self.view_is c.args.number p c.position_of-position.ensures in
-    record {
-      found = is.found;
-      apart = is.apart;
-      few = is.few;
-      drain = marked-positions s.list.items s.draining c.mark.new.set p c.args.is_draining within c.mark.ensures is.drain;
-      off = is.off;
-      grouped = is.grouped;
-    }
+    kept-draining s.list.items s.index s.offline s.draining s.domains.items c.self.invariant c.mark.new.set
+    (marked s.list.items s.offline s.draining c.args.self.now c.self.view_is c.args.number c.position_of-position.result c.position_of-position.ensures s.index s.domains.items c.self.invariant s.draining c.mark.new.set c.args.is_draining c.self.invariant.drain c.mark.ensures).0
 
 pub returns : goal.returns
 returns c =
     let s = c.self.inside in
-    let is = c.self.invariant in
-    let p = c.position_of-position.result in
-    let within = place-within s.list.items s.offline s.draining c.args.self.now c.self.view_is c.args.number p c.position_of-position.ensures in
-    let own = own-number s.list.items s.offline s.draining c.args.self.now c.self.view_is c.args.number p c.position_of-position.ensures in
     draining-turned s.list.items s.offline s.draining (λ k. same_node c.args.number k.number) c.args.is_draining c.mark.new.set
-    (marked-one s.list.items s.index is.found is.apart c.args.number p within own s.draining c.mark.new.set c.args.is_draining is.drain.long is.few c.mark.ensures)
+    (marked s.list.items s.offline s.draining c.args.self.now c.self.view_is c.args.number c.position_of-position.result c.position_of-position.ensures s.index s.domains.items c.self.invariant s.draining c.mark.new.set c.args.is_draining c.self.invariant.drain c.mark.ensures).1
     ∙ ap (λ (xs : List NodeState). with_draining xs c.args.number c.args.is_draining) c.self.view_is

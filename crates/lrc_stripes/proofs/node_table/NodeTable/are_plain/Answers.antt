@@ -18,7 +18,7 @@ returns-then-are_all_online c = λ none n known.
           let x = get_or states p no_state in
           let own : x ≡ get_or states p x = sym (get_or_default states p x no_state within) in (
             sym (found-online c.self.inside.nodes c.self.inside.stripes.items c.args.self.now c.self.view_is n p at x own) ∙ ap not (c.are_all_online.ensures.0 c.if-are_all_online.true p no_state within),
-            sym (found-draining c.self.inside.nodes c.self.inside.stripes.items c.args.self.now c.self.view_is n p at x own) ∙ c.is_none_draining.ensures.0 none p no_state within,
+            sym (found-draining c.self.inside.nodes c.self.inside.stripes.items c.args.self.now c.self.view_is n p at x own) ∙ c.are_none_draining.ensures.0 none p no_state within,
           )
       | inr past ↦
           let there = known-state c.self.inside.nodes c.self.inside.stripes.items c.args.self.now c.self.view_is n known in
