@@ -40,7 +40,7 @@ pub struct Position {
 }
 
 impl ByRank {
-    /// No stripe at any rank.
+    /// Returns the empty sets: no stripe is at any rank.
     pub fn new() -> ByRank
         ensures { at_rank result ≡ λ k s. false }
     {
@@ -88,7 +88,7 @@ impl ByRank {
         }
     }
 
-    /// The first stripe of a rank from this number on.
+    /// Returns the first stripe of a rank from this number on.
     pub fn first_from(&self, rank: usize, from: usize) -> Option<StripeNo>
         requires { rank ≤ 4 }
         ensures { FindsNext (at_rank self.now rank) from result }
@@ -96,7 +96,7 @@ impl ByRank {
         self.sets[rank].first_from(from)
     }
 
-    /// The next stripe of a walk, if there is one. Moves the position past it.
+    /// Returns the next stripe of a walk, if there is one, and moves the position past it.
     pub fn next_stripe(&self, position: &mut Position) -> Option<StripeNo>
         requires { position.old.rank ≤ 4 }
         ensures low { position.new.rank ≤ 4 }

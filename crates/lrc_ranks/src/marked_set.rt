@@ -27,7 +27,7 @@ impl Model for MarkedSet {
 }
 
 impl MarkedSet {
-    /// The empty set.
+    /// Returns the empty set.
     pub(crate) fn new() -> MarkedSet
         ensures { has result ≡ λ s. false }
     {
@@ -49,10 +49,9 @@ impl MarkedSet {
     pub(crate) fn remove(&mut self, stripe: StripeNo)
         ensures { has self.new ≡ λ s. not (same_stripe stripe s) && has self.old s }
     {
-        let stretch = stripe.value as usize / 64;
         self.set.remove(stripe);
-        if !self.set.has_within(stretch) {
-            self.marks.remove(stretch);
+        if !self.set.has_near(stripe) {
+            self.marks.remove(stripe.value as usize / 64);
         }
     }
 
@@ -63,7 +62,7 @@ impl MarkedSet {
         set.insert_all(&self.set);
     }
 
-    /// The first stripe of the set from this number on.
+    /// Returns the first stripe of the set from this number on.
     pub(crate) fn first_from(&self, from: usize) -> Option<StripeNo>
         ensures { FindsNext (has self.now) from result }
     {

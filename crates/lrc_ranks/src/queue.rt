@@ -37,7 +37,7 @@ impl Model for Queue {
 }
 
 impl Queue {
-    /// No stripe has a rank.
+    /// Returns a queue in which no stripe has a rank.
     pub fn new(alloc: Global) -> Result<Queue, AllocError>
         ensures { IfOk result (λ q. at_rank q ≡ λ k s. false) }
     {
@@ -49,7 +49,7 @@ impl Queue {
         })
     }
 
-    /// The rank of a stripe, if it has one.
+    /// Returns the rank of a stripe, if it has one.
     pub fn rank(&self, stripe: StripeNo) -> Option<u8>
         ensures shown { (k : ℕ) → at_rank self.now k stripe ≡ is_at k result }
         ensures few { IfSome result (λ k. k ≤ 4) }
@@ -73,7 +73,7 @@ impl Queue {
         self.count = recount(self.count, before, rank);
     }
 
-    /// Whether no stripe has a rank.
+    /// Reports whether no stripe has a rank.
     pub fn is_empty(&self) -> bool
         ensures none { result ≡ true → (k : ℕ) (s : AnyStripe) → at_rank self.now k s ≡ false }
         ensures some { result ≡ false → (k : ℕ) × (s : AnyStripe) × (at_rank self.now k s ≡ true) }
@@ -88,7 +88,7 @@ impl Queue {
         self.ranks.join(set);
     }
 
-    /// The stripes from a position on, in the order of repair.
+    /// Returns the stripes from a position on, in the order of repair.
     pub fn walk(&self, position: Position) -> Work<'_>
         requires { position.rank ≤ 4 }
         ensures { result ≡ queue_from (at_rank self.now) position.rank position.from }
@@ -97,14 +97,14 @@ impl Queue {
     }
 }
 
-/// No rank for each of `count` stripes.
+/// Returns no rank for each of `count` stripes.
 fn no_ranks(alloc: Global, count: usize) -> Result<Vec<Option<u8>>, AllocError>
     ensures { IfOk result (λ v. v.items ≡ replicate count None) }
 {
     vec![in alloc; None; count]
 }
 
-/// The number of stripes that have a rank, after one stripe changed from one rank or none to another or none.
+/// Returns the number of stripes that have a rank, after one stripe changed from one rank or none to another or none.
 fn recount(count: usize, before: Option<u8>, rank: Option<u8>) -> usize
     requires few { count ≤ 4096 }
     requires some { one_if before ≤ count }

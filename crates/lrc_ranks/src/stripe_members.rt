@@ -22,7 +22,7 @@ impl<'a> Model for StripeMembers<'a> {
 }
 
 impl<'a> StripeMembers<'a> {
-    /// All stripes of the set.
+    /// Returns an iterator over all stripes of the set.
     pub(crate) fn new(bits: &'a BitSet<64>) -> StripeMembers<'a>
         requires { length bits.now ≡ 4096 }
         ensures { result ≡ bits.now }

@@ -25,7 +25,7 @@ impl Model for StripeSet {
 }
 
 impl StripeSet {
-    /// The empty set.
+    /// Returns the empty set.
     pub fn new() -> StripeSet
         ensures { has result ≡ λ s. false }
     {
@@ -34,7 +34,7 @@ impl StripeSet {
         }
     }
 
-    /// Whether a stripe is in the set.
+    /// Reports whether a stripe is in the set.
     pub fn contains(&self, stripe: StripeNo) -> bool
         ensures { result ≡ has self.now stripe }
     {
@@ -80,25 +80,21 @@ impl StripeSet {
         self.bits.insert_common(&one.bits, &other.bits);
     }
 
-    /// An iterator over the stripes of the set, in rising order.
+    /// Returns an iterator over the stripes of the set, in rising order.
     pub fn members(&self) -> StripeMembers<'_>
         ensures { result ≡ self.now }
     {
         StripeMembers::new(&self.bits)
     }
 
-    /// Whether the set has a member in this block of 64 numbers.
-    pub(crate) fn has_within(&self, stretch: usize) -> bool
-        requires { stretch ≤ 63 }
-        ensures { result ≡ false → (s : AnyStripe) → s.value / 64 ≡ stretch → has self.now s ≡ false }
+    /// Reports whether the set has a stripe in the block of 64 numbers of this one.
+    pub(crate) fn has_near(&self, stripe: StripeNo) -> bool
+        ensures { result ≡ false → (s : AnyStripe) → s.value / 64 ≡ stripe.value / 64 → has self.now s ≡ false }
     {
-        match self.first_from(stretch * 64) {
-            Some(first) => first.value as usize / 64 == stretch,
-            None => false,
-        }
+        self.bits.has_near(stripe.value as usize)
     }
 
-    /// The first stripe of the set from this number on.
+    /// Returns the first stripe of the set from this number on.
     pub fn first_from(&self, from: usize) -> Option<StripeNo>
         ensures { FindsNext (has self.now) from result }
     {

@@ -7,7 +7,7 @@ use crate::by_rank::{ByRank, Position};
 use lrc_code::StripeNo;
 use std::marker::Model;
 
-/// The stripes with a fragment that needs a lease, in the order of repair: by rank, and then by number.
+/// The stripes that a walk of a queue has left, by rank and then by number.
 #[derive(Drop)]
 pub struct Work<'a> {
     ranks: &'a ByRank,
@@ -28,7 +28,7 @@ impl<'a> Model for Work<'a> {
 }
 
 impl<'a> Work<'a> {
-    /// The stripes from this position on.
+    /// Returns the stripes from this position on.
     pub(crate) fn new(ranks: &'a ByRank, position: Position) -> Work<'a>
         requires { position.rank ≤ 4 }
         ensures { result ≡ queue_from (at_rank ranks.now) position.rank position.from }
