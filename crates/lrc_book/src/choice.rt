@@ -28,7 +28,7 @@ use crate::class_bars::ClassBars;
 use crate::neighbours::Neighbours;
 use crate::store::Store;
 use lrc_code::{Class, Code, Fragment, LossMask, StripeNo};
-use lrc_slots::{OpenRow, Taken};
+use lrc_slots::{BarredDomains, OpenRow};
 
 impl Store {
     /// Bars the upgrading domain, if there is one, for all fragments of a new stripe.
@@ -70,7 +70,7 @@ impl Store {
         if self.modes.upgrading.is_none() {
             return self.table.has_open_node();
         }
-        let mut bars = Taken::new();
+        let mut bars = BarredDomains::new();
         self.bar_upgrading(&mut bars);
         self.table.open_beside(&bars).is_some()
     }
@@ -82,14 +82,14 @@ impl Store {
         ensures { (st : State) → IsOf st self.now → result ≡ chosen self.now.topology st stripe fragment }
     {
         let members = class_members(self.code_of(stripe), fragment);
-        let mut more = Taken::new();
+        let mut more = BarredDomains::new();
         self.bar_targets(&mut more, stripe, fragment, members);
         self.bar_upgrading(&mut more);
         self.next_beside(&self.neighbours(stripe, fragment, members, &more))
     }
 
     /// Bars the upgrading domain too, if there is one.
-    fn bar_upgrading(&self, bars: &mut Taken)
+    fn bar_upgrading(&self, bars: &mut BarredDomains)
         ensures { (st : State) → IsOf st self.now → barred bars.new ≡ closed st.upgrading (barred bars.old) }
     {
         if let Some(domain) = self.modes.upgrading {
@@ -115,7 +115,7 @@ impl Store {
         stripe: StripeNo,
         fragment: Fragment,
         members: LossMask,
-        more: &'a Taken,
+        more: &'a BarredDomains,
     ) -> Neighbours<'a>
         requires { IsTrue ((stored_in self.now.stripes).stripes stripe) }
         ensures { (st : State) (code : AnyCode) → IsOf st self.now → AreClassMembers code fragment members
@@ -133,7 +133,13 @@ impl Store {
 
     /// Bars the domains of the lease targets of the stripe's other fragments. `members` are the fragments of the class of
     /// `fragment`.
-    fn bar_targets(&self, bars: &mut Taken, stripe: StripeNo, fragment: Fragment, members: LossMask)
+    fn bar_targets(
+        &self,
+        bars: &mut BarredDomains,
+        stripe: StripeNo,
+        fragment: Fragment,
+        members: LossMask,
+    )
         requires { IsTied self.now }
         ensures { (st : State) (code : AnyCode) (seats : List Held) → IsOf st self.now → AreClassMembers code fragment members
             → barred bars.old ≡ bars_in self.now.topology code stripe fragment seats
@@ -165,7 +171,7 @@ impl Store {
     /// `members`, the class of `fragment`. The node must be one of the store's.
     fn bar_seat(
         &self,
-        bars: &mut Taken,
+        bars: &mut BarredDomains,
         fragment: Fragment,
         members: LossMask,
         other: Fragment,

@@ -6,7 +6,7 @@ ghost use Rattle.lrc_code.specs.Losses.{bits_set};
 ghost use Rattle.lrc_book.specs.Neighbouring.{stands_in, homes_bar};
 
 use lrc_code::LossMask;
-use lrc_slots::{Barring, Taken};
+use lrc_slots::{BarredDomains, Barring};
 use lrc_stripes::HomeDomains;
 use lrc_topology::NodeInfo;
 
@@ -19,7 +19,7 @@ pub(crate) struct Neighbours<'a> {
     pub(crate) others: LossMask,
     /// Those of them that are of its class.
     pub(crate) members: LossMask,
-    pub(crate) more: &'a Taken,
+    pub(crate) more: &'a BarredDomains,
 }
 
 impl<'a> Neighbours<'a> {

@@ -11,7 +11,7 @@ ghost use Rattle.lrc_slots.specs.Rows.{fresh_row, position_of, alone, is_open, p
 
 use crate::node_slots::NodeSlots;
 use crate::ordinal_sets::OrdinalSets;
-use crate::{BarredNodes, Barring, OpenNode, OpenRow, Taken, setup};
+use crate::{BarredDomains, BarredNodes, Barring, OpenNode, OpenRow, setup};
 use lrc_code::{Fault, FaultNo, NodeNo, UpgradeNo};
 use lrc_topology::{NodeIndex, NodeInfo, Topology};
 use std::alloc::{AllocError, Global};
@@ -196,7 +196,7 @@ impl SlotTable {
     /// Returns the node that gets the next seat: the one with the least load of those that are eligible, have a free
     /// slot and are in no barred domain; among equal loads, the one with the lowest number. Returns `None` if there
     /// is no such node.
-    pub fn choose(&self, bars: &Taken) -> Option<NodeNo>
+    pub fn choose(&self, bars: &BarredDomains) -> Option<NodeNo>
         ensures node { result ≡ next_number (slots_of self.now) (barred bars.now) }
         ensures known { IfSome result (λ n. IsSome (node_at (slots_of self.now).nodes n)) }
     {
@@ -205,7 +205,7 @@ impl SlotTable {
     }
 
     /// Adds the fault domain of a node to the barred domains.
-    pub fn bar_fault_of(&self, bars: &mut Taken, node: NodeNo)
+    pub fn bar_fault_of(&self, bars: &mut BarredDomains, node: NodeNo)
         requires { IsSome (node_at (slots_of self.now).nodes node) }
         ensures { barred bars.new ≡ with_fault_of (slots_of self.now).nodes (barred bars.old) node }
     {
@@ -214,7 +214,7 @@ impl SlotTable {
     }
 
     /// Adds the fault domain and the upgrade domain of a node to the barred domains.
-    pub fn bar_domains_of(&self, bars: &mut Taken, node: NodeNo)
+    pub fn bar_domains_of(&self, bars: &mut BarredDomains, node: NodeNo)
         requires { IsSome (node_at (slots_of self.now).nodes node) }
         ensures { barred bars.new ≡ with_upgrade_of (slots_of self.now).nodes (with_fault_of (slots_of self.now).nodes (barred bars.old) node) node }
     {
@@ -240,7 +240,7 @@ impl SlotTable {
     }
 
     /// Returns the node that `choose` returns, and its lowest free slot.
-    pub fn open_beside(&self, bars: &Taken) -> Option<OpenNode>
+    pub fn open_beside(&self, bars: &BarredDomains) -> Option<OpenNode>
         ensures node { option_map (λ o. o.node) result ≡ next_node (slots_of self.now) (barred bars.now) }
         ensures slot { IfSome result (λ o. least_free_at (slots_of self.now) o.node.number ≡ Some o.slot) }
     {

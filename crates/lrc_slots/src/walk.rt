@@ -12,7 +12,7 @@ use crate::load_key::LoadKey;
 use crate::node_slots::NodeSlots;
 use crate::ordinal_set::OrdinalSet;
 use crate::ordinal_sets::OrdinalSets;
-use crate::{Barring, SlotTable, Taken};
+use crate::{BarredDomains, Barring, SlotTable};
 
 /// The number of rows to test one by one, before the set of all barred nodes is built.
 const WALKED: u32 = 32;
@@ -20,8 +20,8 @@ const WALKED: u32 = 32;
 impl SlotTable {
     /// Returns the row of the node that gets the next seat. If few domains are barred, one of the first rows is free;
     /// after `WALKED` rows it builds the set of all barred nodes.
-    pub(crate) fn first_beside(&self, taken: &Taken) -> Option<&NodeSlots>
-        ensures row { option_copied result ≡ least precedes (filter (is_open (barred taken.now)) self.now) }
+    pub(crate) fn first_beside(&self, domains: &BarredDomains) -> Option<&NodeSlots>
+        ensures row { option_copied result ≡ least precedes (filter (is_open (barred domains.now)) self.now) }
         ensures known { IfSome result (λ r. Contains self.now r.now) }
         ensures room { IfSome result (λ r. IsSome (least_free (alone r.now) r.now.node)) }
         ensures nodes { AreNodes (map (λ r. r.node) self.now) }
@@ -34,12 +34,12 @@ impl SlotTable {
             let key = self.by_load.first_from(from)?;
             let position = self.order[key.ordinal] as usize;
             let row = &self.rows[position];
-            if !taken.bars(row.node()) {
+            if !domains.bars(row.node()) {
                 return Some(row);
             }
             from = key.next();
         }
-        let barred_nodes = taken.nodes(&self.by_fault, &self.by_upgrade);
+        let barred_nodes = domains.nodes(&self.by_fault, &self.by_upgrade);
         self.first_outside_both(&barred_nodes, &barred_nodes)
     }
 

@@ -1,5 +1,5 @@
 -- Look-ups and changes of the stored nodes, seen as node states.
-use Rattle.std.proofs.Common.{◌≡◌, ℕ, ◌<◌, ◌≤◌, inl, inr, Bool, true, false, not, ◌&&◌, ◌||◌, if◌then◌else◌, nat_eq, List, [], ◌∷◌, ◌+◌, length, map, take, get_or, set, is_some, IsSome, Option, Some, None, IsTrue, arith, refl, sym, ap, ap₂, ◌∙◌, subst}
+use Rattle.std.proofs.Common.{◌≡◌, ℕ, ◌<◌, ◌≤◌, inl, inr, Bool, true, false, not, ◌&&◌, ◌||◌, if◌then◌else◌, nat_eq, List, [], ◌∷◌, ◌+◌, length, map, take, get_or, set, is_some, IsSome, option_map, Option, Some, None, IsTrue, arith, refl, sym, ap, ap₂, ◌∙◌, subst}
 use Rattle.std.proofs.Math.Path.{fun_ext}
 use Rattle.std.specs.List.{All, list_any}
 use Rattle.std.specs.Option.{option_map_or}
@@ -13,12 +13,15 @@ use Rattle.lrc_code.specs.Numbers.{same_node, same_stripe, same_upgrade}
 use Rattle.lrc_code.proofs.NumbersLemmas.{equal_nodes}
 use Rattle.lrc_topology.specs.declared.NodeInfo.{NodeInfo}
 use Rattle.lrc_topology.specs.declared.seat.Seat.{Seat}
-use Rattle.lrc_topology.specs.Nodes.{node_at}
-use Rattle.lrc_stripes.specs.declared.node_state.NodeState.{NodeState}
+use Rattle.lrc_topology.specs.Nodes.{node_at, nodes_in}
+use Rattle.lrc_nodes.specs.declared.node_state.NodeState.{NodeState}
 use Rattle.lrc_stripes.specs.Stored.{has_node}
-use Rattle.lrc_stripes.specs.Sets.{has}
-use Rattle.lrc_stripes.specs.NodeStates.{NodeStates, NodeLists, states_in, first_state, first_states, state_at, node_position, online_in, draining_in, IsPositionOf}
-use Rattle.lrc_stripes.proofs.NodeLemmas.{no_state, place_number, state_at-place, state_at-past, node_at-states, nodes-set, said-set, said-kept, place-set, on-changed, nodes-at_first, online-at_first, draining-at_first, sets-none}
+use Rattle.lrc_ranks.specs.Sets.{has}
+use Rattle.lrc_stripes.specs.NodeStates.{AreNodes, NodeStates, NodeLists, states_in, first_states, IsPositionOf}
+use Rattle.lrc_nodes.specs.States.{first_state, state_at, node_position, online_in, draining_in, with_offline, with_offline_in, with_draining}
+use Rattle.lrc_stripes.proofs.NodeLemmas.{on-changed, online-at_first, draining-at_first, sets-none}
+use Rattle.lrc_nodes.proofs.SetLemmas.{AreSameNodes, same-offline, same-offline_in, same-draining, online-offline, draining-offline, online-draining, draining-draining, online-offline_in, draining-offline_in}
+use Rattle.lrc_nodes.proofs.StateLemmas.{no_state, place_number, state_at-place, state_at-past, node_at-states, nodes-at_first}
 
 and-false : (b : Bool) → (b && false) ≡ false
 and-false true = refl
@@ -27,6 +30,10 @@ and-false false = refl
 pub or-false : (b : Bool) → (b || false) ≡ b
 or-false true = refl
 or-false false = refl
+
+some-state : (o : Option NodeState) → is_some (option_map (λ x. x.node) o) ≡ true → IsSome o
+some-state (Some x) e = refl
+some-state None e = absurd (let clash : false ≡ true = e in cc)
 
 -- the nodes and sets as they are kept, and the table that they are
 module _ (states : List NodeState) (sets : List (List Bool)) (t : NodeLists) (view : ◌≡◌ {A = NodeLists} (record { list = states; stripes = sets }) t) (n : NodeNo) where
@@ -89,45 +96,51 @@ module _ (states : List NodeState) (sets : List (List Bool)) (t : NodeLists) (vi
     unfolding states_in
     found-draining = subst (λ (y : NodeLists). x.is_draining ≡ (states_in y).draining n) view (rw found-state refl)
 
-    own-place : x ≡ get_or states (node_position states n) x
-    own-place = here ∙ ap (λ (q : ℕ). get_or states q x) (found p at).0
+  -- ---- states of nodes set
 
-    within-place : node_position states n < length states
-    within-place = let f = found p at in omega (arith, f.0, f.1)
+  -- the states are those of another list of the same nodes
+  states-set : (after : List NodeState) (online draining : NodeNo → Bool) → AreSameNodes states after → online_in after ≡ online → draining_in after ≡ draining
+      → states_in (record { list = after; stripes = sets }) ≡ record (states_in t) { online = online; draining = draining }
+  unfolding states_in
+  states-set after online draining same ons drains =
+      let now : NodeStates = states_in (record { list = states; stripes = sets }) in
+      subst (λ (z : NodeLists). states_in (record { list = after; stripes = sets }) ≡ record (states_in z) { online = online; draining = draining }) view
+      (ap (λ (ns : List NodeInfo). record now { nodes = ns; online = online_in after; draining = draining_in after; on = λ m. has (get_or sets (node_position after m) []) }) same.nodes
+      ∙ ap (λ (o : NodeNo → Bool). record now { online = o; draining = draining_in after; on = λ m. has (get_or sets (node_position after m) []) }) ons
+      ∙ ap (λ (o : NodeNo → Bool). record now { online = online; draining = o; on = λ m. has (get_or sets (node_position after m) []) }) drains
+      ∙ ap (λ (o : NodeNo → StripeNo → Bool). record now { online = online; draining = draining; on = o }) (fun_ext (λ m. ap (λ (q : ℕ). has (get_or sets q [])) (same.positions m))))
 
-    -- ---- a node set
+  -- one of the nodes has the number
+  pub known-state : IsTrue (has_node (states_in t).nodes n) → IsSome (state_at states n)
+  unfolding states_in
+  known-state known =
+      let at : has_node (map (λ (x : NodeState). x.node) states) n ≡ true = subst (λ (z : NodeLists). has_node (states_in z).nodes n ≡ true) (sym view) known in
+      some-state (state_at states n) (sym (ap (λ (o : Option NodeInfo). is_some o) (node_at-states states n)) ∙ at)
 
-    -- what a node of the same number and domains changes
-    node-set : (y : NodeState) → y.node ≡ x.node → (online draining : NodeNo → Bool) → online_in (set states (node_position states n) y) ≡ online → draining_in (set states (node_position states n) y) ≡ draining
-        → states_in (record { list = set states p y; stripes = sets }) ≡ record (states_in t) { online = online; draining = draining }
-    unfolding states_in
-    node-set y own online draining ons drains =
-        let same : y.node ≡ (get_or states (node_position states n) x).node = own ∙ ap (λ (z : NodeState). z.node) own-place in
-        let now : NodeStates = states_in (record { list = states; stripes = sets }) in
-        subst (λ (z : NodeLists). states_in (record { list = set states p y; stripes = sets }) ≡ record (states_in z) { online = online; draining = draining }) view
-        (rw (found p at).0 (
-        ap (λ (ns : List NodeInfo). record now { nodes = ns; online = online_in (set states (node_position states n) y); draining = draining_in (set states (node_position states n) y); on = λ m. has (get_or sets (node_position (set states (node_position states n) y) m) []) }) (nodes-set n y x states same)
-        ∙ ap (λ (o : NodeNo → Bool). record now { online = o; draining = draining_in (set states (node_position states n) y); on = λ m. has (get_or sets (node_position (set states (node_position states n) y) m) []) }) ons
-        ∙ ap (λ (o : NodeNo → Bool). record now { online = online; draining = o; on = λ m. has (get_or sets (node_position (set states (node_position states n) y) m) []) }) drains
-        ∙ ap (λ (o : NodeNo → StripeNo → Bool). record now { online = online; draining = draining; on = o }) (fun_ext (λ m. ap (λ (q : ℕ). has (get_or sets q [])) (place-set n y x states same m)))))
+  pub offline-set : (b : Bool) → IsTrue (has_node (states_in t).nodes n)
+      → states_in (record { list = with_offline states n b; stripes = sets }) ≡ record (states_in t) { online = λ m. if same_node n m then not b else (states_in t).online m }
+  unfolding states_in
+  offline-set b known =
+      states-set (with_offline states n b) (λ m. if same_node n m then not b else (states_in t).online m) (states_in t).draining (same-offline states n b)
+      (subst (λ (z : NodeLists). online_in (with_offline states n b) ≡ λ m. if same_node n m then not b else (states_in z).online m) view (online-offline states n b (known-state known)))
+      (subst (λ (z : NodeLists). draining_in (with_offline states n b) ≡ (states_in z).draining) view (draining-offline states n b))
 
-    pub offline-set : (b : Bool) → states_in (record { list = set states p (record x { is_offline = b }); stripes = sets }) ≡ record (states_in t) { online = λ m. if same_node n m then not b else (states_in t).online m }
-    unfolding states_in
-    offline-set b =
-        let y : NodeState = record x { is_offline = b } in
-        let same : y.node ≡ (get_or states (node_position states n) x).node = ap (λ (z : NodeState). z.node) own-place in
-        node-set y refl (λ m. if same_node n m then not b else (states_in t).online m) (states_in t).draining
-        (subst (λ (z : NodeLists). online_in (set states (node_position states n) y) ≡ λ m. if same_node n m then not b else (states_in z).online m) view (said-set n y x (λ z. not z.is_offline) states same within-place))
-        (subst (λ (z : NodeLists). draining_in (set states (node_position states n) y) ≡ (states_in z).draining) view (said-kept n y x (λ z. z.is_draining) states same (ap (λ (z : NodeState). z.is_draining) own-place)))
+  pub draining-set : (b : Bool) → IsTrue (has_node (states_in t).nodes n)
+      → states_in (record { list = with_draining states n b; stripes = sets }) ≡ record (states_in t) { draining = λ m. if same_node n m then b else (states_in t).draining m }
+  unfolding states_in
+  draining-set b known =
+      states-set (with_draining states n b) (states_in t).online (λ m. if same_node n m then b else (states_in t).draining m) (same-draining states n b)
+      (subst (λ (z : NodeLists). online_in (with_draining states n b) ≡ (states_in z).online) view (online-draining states n b))
+      (subst (λ (z : NodeLists). draining_in (with_draining states n b) ≡ λ m. if same_node n m then b else (states_in z).draining m) view (draining-draining states n b (known-state known)))
 
-    pub draining-set : (b : Bool) → states_in (record { list = set states p (record x { is_draining = b }); stripes = sets }) ≡ record (states_in t) { draining = λ m. if same_node n m then b else (states_in t).draining m }
-    unfolding states_in
-    draining-set b =
-        let y : NodeState = record x { is_draining = b } in
-        let same : y.node ≡ (get_or states (node_position states n) x).node = ap (λ (z : NodeState). z.node) own-place in
-        node-set y refl (states_in t).online (λ m. if same_node n m then b else (states_in t).draining m)
-        (subst (λ (z : NodeLists). online_in (set states (node_position states n) y) ≡ (states_in z).online) view (said-kept n y x (λ z. not z.is_offline) states same (ap (λ (z : NodeState). not z.is_offline) own-place)))
-        (subst (λ (z : NodeLists). draining_in (set states (node_position states n) y) ≡ λ m. if same_node n m then b else (states_in z).draining m) view (said-set n y x (λ z. z.is_draining) states same within-place))
+  pub domain-set : (u : UpgradeNo) (b : Bool) → AreNodes states sets
+      → states_in (record { list = with_offline_in states u b; stripes = sets })
+      ≡ record (states_in t) { online = λ m. if list_any (λ n. same_node n.number m) (nodes_in (states_in t).nodes u) then not b else (states_in t).online m }
+  unfolding states_in
+  domain-set u b are =
+      states-set (with_offline_in states u b) (λ m. if list_any (λ n. same_node n.number m) (nodes_in (states_in t).nodes u) then not b else (states_in t).online m) (states_in t).draining (same-offline_in states u b)
+      (subst (λ (z : NodeLists). online_in (with_offline_in states u b) ≡ λ m. if list_any (λ n. same_node n.number m) (nodes_in (states_in z).nodes u) then not b else (states_in z).online m) view (online-offline_in states u b are.apart))
+      (subst (λ (z : NodeLists). draining_in (with_offline_in states u b) ≡ (states_in z).draining) view (draining-offline_in states u b))
 
   -- ---- the stripes of a node changed
 

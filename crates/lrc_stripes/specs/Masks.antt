@@ -1,7 +1,6 @@
 -- Internal: no public clause reaches these definitions.
 -- The masks that a row keeps, and the ranks that follow from them.
-use Rattle.std.specs.Prelude.{◌≡◌, ◌≢◌, ℕ, ◌&&◌, Bool, false, IsFalse, if◌then◌else◌, nat_lt, nat_eq, List, get_or, Option, Some, None, is_none}
-use Rattle.std.specs.Option.{option_map_or}
+use Rattle.std.specs.Prelude.{◌≡◌, ◌≢◌, ℕ, ◌&&◌, Bool, IsFalse, if◌then◌else◌, nat_lt, nat_eq, List, get_or, Option, Some, None, is_none}
 use Rattle.lrc_code.specs.declared.codes.Code.{Code}
 use Rattle.lrc_code.specs.declared.losses.LossMask.{LossMask}
 use Rattle.lrc_code.specs.declared.numbers.NodeNo.{NodeNo}
@@ -89,7 +88,3 @@ work_rank l = if nat_eq l.needs.bits 0 then None else Some (rank_of l)
 -- its rank, if a fragment is missing
 abbrev pub risk_rank : Losses → Option ℕ
 risk_rank l = if nat_eq l.missing.bits 0 then None else Some (rank_of l)
-
--- the rank is this one
-abbrev pub is_at : ℕ → Option ℕ → Bool
-is_at k o = option_map_or (λ rank. nat_eq rank k) o false

@@ -10,7 +10,7 @@ ghost use Rattle.lrc_topology.specs.Nodes.{node_at, nodes_in};
 ghost use Rattle.lrc_terms.specs.Levels.{Homes as AnyHomes};
 ghost use Rattle.lrc_stripes.specs.Domains.{AreDomainsOf};
 ghost use Rattle.lrc_stripes.specs.Stored.{has_node};
-ghost use Rattle.lrc_stripes.specs.Sets.{FindsNext, has};
+ghost use Rattle.lrc_ranks.specs.Sets.{FindsNext, has};
 ghost use Rattle.lrc_stripes.specs.Rows.{seated_homes, sits_on};
 ghost use Rattle.lrc_stripes.specs.NodeStates.{states_in, first_states, IsPositionOf};
 ghost use Rattle.lrc_stripes.specs.Tables.{rows_in};
@@ -20,42 +20,32 @@ ghost use Rattle.lrc_stripes.specs.Masks.{AreLosses, AreWith};
 mod offline;
 
 use crate::losses::Losses;
-use crate::node_state::NodeState;
 use crate::row::Row;
 use crate::rows::Rows;
-use crate::stripe_set::StripeSet;
-use crate::{HomeDomains, Seat, domains, masks};
-use lrc_bits::BitSet;
+use crate::{HomeDomains, Seat, masks};
 use lrc_code::{Code, Fault, Fragment, LossMask, NodeNo, StripeNo, UpgradeNo};
-use lrc_topology::{NodeIndex, NodeInfo, Topology};
-use std::alloc::Global;
+use lrc_nodes::{NodeState, Nodes};
+use lrc_ranks::StripeSet;
+use lrc_topology::{NodeInfo, Topology};
+use std::alloc::{AllocError, Global};
 use std::marker::Model;
 
 /// The nodes of a store, those that are offline or draining, and the stripes with a home on each.
 #[derive(Drop)]
 pub(crate) struct NodeTable {
-    /// In the order of the topology file.
-    nodes: Vec<NodeInfo>,
-    /// The stripes with a home on each node, in the same order.
+    nodes: Nodes,
+    /// The stripes with a home on each node, in the order of the nodes.
     stripes: Vec<StripeSet>,
-    /// The position of each node in these lists.
-    positions: NodeIndex,
-    /// The positions of the offline nodes.
-    offline: BitSet<8>,
-    /// The positions of the draining nodes.
-    draining: BitSet<8>,
-    /// For each upgrade domain, the positions of its nodes.
-    domains: Vec<BitSet<8>>,
 }
 
 impl Model for NodeTable {
-    ghost use Rattle.lrc_stripes.specs.NodeStates.{NodeLists, AreNodes, states_from};
+    ghost use Rattle.lrc_stripes.specs.NodeStates.{NodeLists, AreNodes};
 
     ghost Value = { NodeLists };
 
-    ghost view = { λ t. record { list = states_from 0 t.nodes.items t.offline t.draining; stripes = t.stripes.items } };
+    ghost view = { λ t. record { list = t.nodes; stripes = t.stripes.items } };
 
-    ghost invariant = { λ t. AreNodes t.nodes.items t.stripes.items t.positions t.offline t.draining t.domains.items };
+    ghost invariant = { λ t. AreNodes t.nodes t.stripes.items };
 }
 
 impl NodeTable {
@@ -64,20 +54,9 @@ impl NodeTable {
         ensures value { IfOk result (λ t. states_in t ≡ first_states topology.now) }
         ensures err { IfErr result (λ e. e ≡ OutOfMemory) }
     {
-        let mut nodes = Vec::with_capacity(alloc, topology.len())?;
-        let mut stripes = Vec::with_capacity(alloc, topology.len())?;
-        for node in topology.nodes() {
-            nodes.push(*node)?;
-            stripes.push(StripeSet::new())?;
-        }
-        let domains = domains::positions_by_upgrade(alloc, &nodes)?;
         Ok(NodeTable {
-            nodes,
-            stripes,
-            positions: NodeIndex::new(alloc, topology)?,
-            offline: BitSet::new(),
-            draining: BitSet::new(),
-            domains,
+            nodes: Nodes::new(alloc, topology)?,
+            stripes: empty_sets(alloc, topology.len())?,
         })
     }
 
@@ -85,8 +64,7 @@ impl NodeTable {
     pub(crate) fn node(&self, number: NodeNo) -> Option<NodeInfo>
         ensures { result ≡ node_at (states_in self.now).nodes number }
     {
-        let position = self.position(number)?;
-        Some(self.nodes[position])
+        self.nodes.node(number)
     }
 
     /// The number of nodes.
@@ -101,27 +79,21 @@ impl NodeTable {
         requires { position < length (states_in self.now).nodes }
         ensures { (d : AnyInfo) → result ≡ get_or (states_in self.now).nodes position d }
     {
-        self.nodes[position]
+        self.nodes.node_at(position)
     }
 
     /// Whether the node with a number is online; `false` if there is none.
     pub(crate) fn is_online(&self, number: NodeNo) -> bool
         ensures { result ≡ (states_in self.now).online number }
     {
-        match self.position(number) {
-            Some(position) => !self.offline.contains(position),
-            None => false,
-        }
+        self.nodes.is_online(number)
     }
 
     /// Whether the node with a number is draining; `false` if there is none.
     pub(crate) fn is_draining(&self, number: NodeNo) -> bool
         ensures { result ≡ (states_in self.now).draining number }
     {
-        match self.position(number) {
-            Some(position) => self.draining.contains(position),
-            None => false,
-        }
+        self.nodes.is_draining(number)
     }
 
     /// Sets whether a node is offline.
@@ -129,20 +101,14 @@ impl NodeTable {
         requires { IsTrue (has_node (states_in self.old).nodes number) }
         ensures { states_in self.new ≡ record (states_in self.old) { online = λ n. if same_node number n then not is_offline else (states_in self.old).online n } }
     {
-        let position = self.position_of(number);
-        mark(&mut self.offline, position, is_offline);
+        self.nodes.set_offline(number, is_offline);
     }
 
     /// Sets whether the nodes of an upgrade domain are offline.
     pub(crate) fn set_offline_in(&mut self, domain: UpgradeNo, is_offline: bool)
         ensures { states_in self.new ≡ record (states_in self.old) { online = λ m. if list_any (λ n. same_node n.number m) (nodes_in (states_in self.old).nodes domain) then not is_offline else (states_in self.old).online m } }
     {
-        let positions = &self.domains[domain.value as usize];
-        if is_offline {
-            self.offline.insert_all(positions);
-        } else {
-            self.offline.remove_all(positions);
-        }
+        self.nodes.set_offline_in(domain, is_offline);
     }
 
     /// Sets whether a node is draining.
@@ -150,8 +116,7 @@ impl NodeTable {
         requires { IsTrue (has_node (states_in self.old).nodes number) }
         ensures { states_in self.new ≡ record (states_in self.old) { draining = λ n. if same_node number n then is_draining else (states_in self.old).draining n } }
     {
-        let position = self.position_of(number);
-        mark(&mut self.draining, position, is_draining);
+        self.nodes.set_draining(number, is_draining);
     }
 
     /// Adds a stripe of the code with homes on these seats, and stores their domains. Returns the losses of the stripe.
@@ -194,7 +159,7 @@ impl NodeTable {
     fn are_plain(&self) -> bool
         ensures { result ≡ true → (n : AnyNode) → IsTrue (has_node (states_in self.now).nodes n) → ((states_in self.now).online n ≡ true) × ((states_in self.now).draining n ≡ false) }
     {
-        self.offline.is_empty() && self.draining.is_empty()
+        self.nodes.are_all_online() && self.nodes.are_none_draining()
     }
 
     /// The same, one fragment at a time.
@@ -233,13 +198,9 @@ impl NodeTable {
         let position = self.position_of(number);
         let set = &mut self.stripes[position];
         set.insert(stripe);
-        let node = &self.nodes[position];
-        domains.put(fragment, node);
-        NodeState {
-            node: *node,
-            is_offline: self.offline.contains(position),
-            is_draining: self.draining.contains(position),
-        }
+        let state = self.nodes.at(position);
+        domains.put(fragment, &state.node);
+        state
     }
 
     /// Removes a stripe from a node.
@@ -322,7 +283,7 @@ impl NodeTable {
     {
         let mut found = StripeSet::new();
         for position in 0..self.nodes.len() {
-            let node = self.nodes[position];
+            let node = self.nodes.node_at(position);
             if node.upgrade == domain {
                 self.join(node.number, &mut found);
             }
@@ -343,7 +304,7 @@ impl NodeTable {
     fn position(&self, number: NodeNo) -> Option<usize>
         ensures { IsPositionOf self.now number result }
     {
-        self.positions.place(number)
+        self.nodes.position(number)
     }
 
     /// The position of the node with a number that exists.
@@ -351,18 +312,18 @@ impl NodeTable {
         requires { IsTrue (has_node (states_in self.now).nodes number) }
         ensures { IsPositionOf self.now number (Some result) }
     {
-        self.positions.place_of(number)
+        self.nodes.position_of(number)
     }
 }
 
-/// Adds a number to a set or removes it.
-fn mark(set: &mut BitSet<8>, number: usize, is_in: bool)
-    requires { number < length set.old }
-    ensures { set.new ≡ slice_set set.old number is_in }
+/// `count` empty sets.
+fn empty_sets(alloc: Global, count: usize) -> Result<Vec<StripeSet>, AllocError>
+    ensures long { IfOk result (λ v. length v.items ≡ count) }
+    ensures empty { IfOk result (λ v. All (λ set. has set ≡ λ s. false) v.items) }
 {
-    if is_in {
-        set.insert(number);
-    } else {
-        set.remove(number);
+    let mut sets = Vec::with_capacity(alloc, count)?;
+    for _ in 0..count {
+        sets.push(StripeSet::new())?;
     }
+    Ok(sets)
 }

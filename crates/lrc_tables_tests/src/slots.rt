@@ -7,7 +7,7 @@ mod plain_table;
 
 use crate::stores::{Plan, nodes, read};
 use lrc_code::{FaultNo, NodeNo, UpgradeNo};
-use lrc_slots::{SlotTable, Taken};
+use lrc_slots::{BarredDomains, SlotTable};
 use lrc_topology::NodeInfo;
 use std::process::Abort;
 
@@ -24,7 +24,7 @@ fn three(rt: &(impl AllocGlobal + Abort)) -> SlotTable {
 
 /// Takes the next slot if no domain is barred.
 fn take_next(table: &mut SlotTable) -> Option<(u16, u16)> {
-    let node = table.choose(&Taken::new())?;
+    let node = table.choose(&BarredDomains::new())?;
     let slot = table.take(node)?;
     Some((node.value, slot))
 }
@@ -34,7 +34,7 @@ fn expect_next(rt: &impl Abort, table: &mut SlotTable, want: Option<(u16, u16)>)
 }
 
 /// Expects this choice with these barred domains.
-fn expect_choice(rt: &impl Abort, table: &SlotTable, bars: &Taken, want: Option<u16>) {
+fn expect_choice(rt: &impl Abort, table: &SlotTable, bars: &BarredDomains, want: Option<u16>) {
     let want = match want {
         Some(number) => Some(NodeNo { value: number }),
         None => None,
@@ -67,12 +67,12 @@ fn load_comes_before_number(rt: &(impl AllocGlobal + Abort)) {
     expect_next(rt, &mut table, Some((7, 0)));
     expect_next(rt, &mut table, Some((5, 1)));
     expect_next(rt, &mut table, Some((7, 1)));
-    expect_choice(rt, &table, &Taken::new(), None);
+    expect_choice(rt, &table, &BarredDomains::new(), None);
 }
 
 fn barred_and_ineligible_nodes_are_passed_over(rt: &(impl AllocGlobal + Abort)) {
     let mut table = three(rt);
-    let mut bars = Taken::new();
+    let mut bars = BarredDomains::new();
     set_eligible(rt, &mut table, 3, false);
     expect_choice(rt, &table, &bars, Some(5));
     set_eligible(rt, &mut table, 3, true);
@@ -87,7 +87,7 @@ fn barred_and_ineligible_nodes_are_passed_over(rt: &(impl AllocGlobal + Abort)) 
 
 fn the_domains_of_a_node_are_barred_by_its_number(rt: &(impl AllocGlobal + Abort)) {
     let table = three(rt);
-    let mut bars = Taken::new();
+    let mut bars = BarredDomains::new();
     bar(rt, &table, &mut bars, 3, false);
     expect_choice(rt, &table, &bars, Some(5));
     bar(rt, &table, &mut bars, 3, true);
@@ -97,7 +97,7 @@ fn the_domains_of_a_node_are_barred_by_its_number(rt: &(impl AllocGlobal + Abort
 }
 
 /// Bars the fault domain of a node, and with `both` its upgrade domain too.
-fn bar(rt: &impl Abort, table: &SlotTable, bars: &mut Taken, number: u16, both: bool) {
+fn bar(rt: &impl Abort, table: &SlotTable, bars: &mut BarredDomains, number: u16, both: bool) {
     let node = NodeNo { value: number };
     assert!(rt; table.node(node).is_some());
     if both {
@@ -144,7 +144,7 @@ fn the_last_node_of_the_largest_store_is_chosen_where_all_others_are_barred(
 ) {
     let topology = nodes(rt, Plan::Largest, 512);
     let table = SlotTable::new(rt.alloc(), &topology).expect(rt, "memory");
-    let mut bars = Taken::new();
+    let mut bars = BarredDomains::new();
     expect_choice(rt, &table, &bars, Some(0));
     bars.bar_fault(FaultNo { value: 0 });
     expect_choice(rt, &table, &bars, Some(511));

@@ -3,13 +3,13 @@
 ghost use Rattle.std.specs.Prelude.{◌≡◌, ◌&&◌, ◌||◌, true, false, get_or, []};
 ghost use Rattle.lrc_code.specs.declared.numbers.NodeNo.{NodeNo as AnyNode};
 ghost use Rattle.lrc_code.specs.declared.numbers.StripeNo.{StripeNo as AnyStripe};
-ghost use Rattle.lrc_stripes.specs.Sets.{has};
+ghost use Rattle.lrc_ranks.specs.Sets.{has};
 ghost use Rattle.lrc_stripes.specs.NodeStates.{states_in};
 ghost use Rattle.lrc_stripes.specs.UpgradeLosses.{is_on_several_offline};
 
 use crate::node_table::NodeTable;
-use crate::stripe_set::StripeSet;
 use lrc_code::{NodeNo, StripeNo};
+use lrc_ranks::StripeSet;
 
 /// The number of offline nodes that are tried for one stripe.
 const FEW: usize = 8;
@@ -21,8 +21,8 @@ impl NodeTable {
     {
         let mut found = StripeSet::new();
         for position in 0..self.nodes.len() {
-            if self.offline.contains(position) {
-                self.join(self.nodes[position].number, &mut found);
+            if self.nodes.is_offline_at(position) {
+                self.join(self.nodes.node_at(position).number, &mut found);
             }
         }
         found
@@ -32,7 +32,7 @@ impl NodeTable {
     pub(crate) fn are_all_online(&self) -> bool
         ensures { result ≡ true → (n : AnyNode) (s : AnyStripe) → (states_in self.now).on n s ≡ true → (states_in self.now).online n ≡ true }
     {
-        self.offline.is_empty()
+        self.nodes.are_all_online()
     }
 
     /// Whether the stripe has no home on an offline node. `false` also if there are too many offline nodes to try.
@@ -52,7 +52,7 @@ impl NodeTable {
     {
         let mut from = 0;
         for _ in 0..FEW {
-            match self.offline.first_from(from) {
+            match self.nodes.first_offline_from(from) {
                 Some(position) => {
                     if self.has_at(position, stripe) {
                         return false;
@@ -79,8 +79,8 @@ impl NodeTable {
     pub(crate) fn are_few_offline(&self) -> bool
         ensures { result ≡ true → (s : AnyStripe) → is_on_several_offline (states_in self.now) s ≡ false }
     {
-        match self.offline.first() {
-            Some(position) => self.offline.first_from(position + 1).is_none(),
+        match self.nodes.first_offline_from(0) {
+            Some(position) => self.nodes.first_offline_from(position + 1).is_none(),
             None => true,
         }
     }
@@ -95,8 +95,8 @@ impl NodeTable {
         let mut once = StripeSet::new();
         let mut twice = StripeSet::new();
         for position in 0..self.nodes.len() {
-            if self.offline.contains(position) {
-                self.count(self.nodes[position].number, &mut once, &mut twice);
+            if self.nodes.is_offline_at(position) {
+                self.count(self.nodes.node_at(position).number, &mut once, &mut twice);
             }
         }
         twice

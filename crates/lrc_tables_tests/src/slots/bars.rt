@@ -1,11 +1,11 @@
 //! The same barred domains in three forms.
 
 use lrc_code::{FaultNo, UpgradeNo};
-use lrc_slots::{BarredNodes, SlotTable, Taken};
+use lrc_slots::{BarredDomains, BarredNodes, SlotTable};
 
 #[derive(Drop)]
 pub(crate) struct Bars {
-    pub(crate) taken: Taken,
+    pub(crate) taken: BarredDomains,
     pub(crate) fault_nodes: BarredNodes,
     pub(crate) upgrade_nodes: BarredNodes,
     pub(crate) faults: [bool; 256],
@@ -15,7 +15,7 @@ pub(crate) struct Bars {
 impl Bars {
     pub(crate) fn new() -> Bars {
         Bars {
-            taken: Taken::new(),
+            taken: BarredDomains::new(),
             fault_nodes: BarredNodes::new(),
             upgrade_nodes: BarredNodes::new(),
             faults: [false; 256],

@@ -1,7 +1,7 @@
 use Rattle.std.proofs.Common.{ℕ, Bool, cond, sym, ap, ◌∙◌}
 use Rattle.lrc_code.specs.Numbers.{same_stripe}
 use Rattle.lrc_code.specs.declared.numbers.StripeNo.{StripeNo}
-use Rattle.lrc_stripes.specs.Sets.{has, at_rank}
+use Rattle.lrc_ranks.specs.Sets.{has, at_rank}
 use Rattle.lrc_stripes.specs.NodeStates.{states_in}
 use Rattle.lrc_stripes.specs.Tables.{rows_in}
 use Rattle.lrc_stripes.specs.Masks.{risk_rank}

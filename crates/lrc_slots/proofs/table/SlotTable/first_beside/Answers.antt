@@ -14,7 +14,7 @@ pub returns-in_err-key-clause-row : goal.returns-in_err-key-clause-row
 returns-in_err-key-clause-row c =
     let s = c.self.inside in
     let h = c.self.invariant in
-    let b = barred c.args.taken.now in
+    let b = barred c.args.domains.now in
     let all = walked-none h.by_ordinal h.by_load b c.loop.from c.loop.invariant.passed c.in_err-key.ensures.first in
     rw (c.from_residual.ensures, ← c.self.view_is)
     (sym (none-open s.rows.items h.nodes h.by_ordinal h.by_load b (is_barred_at s.rows.items s.order.items b) (barred-at h.by_ordinal h.by_load b) all))
@@ -23,7 +23,7 @@ pub returns-then-not-bars-clause-row : goal.returns-then-not-bars-clause-row
 returns-then-not-bars-clause-row c =
     let s = c.self.inside in
     let h = c.self.invariant in
-    let b = barred c.args.taken.now in
+    let b = barred c.args.domains.now in
     let key = c.in_ok-key.key in
     let found = c.in_ok-key.ensures.first in
     let free = read-barred h.by_ordinal h.by_load key.load key.ordinal found.here c.index.result.now c.index.ensures
@@ -45,8 +45,8 @@ returns-then-not-bars-clause-room c =
 pub returns-clause-row : goal.returns-clause-row
 returns-clause-row c =
     let h = c.self.invariant in
-    let b = barred c.args.taken.now in
-    let each = mask-bars h.by_fault h.by_upgrade c.args.taken.now c.nodes-barred_nodes.result c.nodes-barred_nodes.ensures in
+    let b = barred c.args.domains.now in
+    let each = mask-bars h.by_fault h.by_upgrade c.args.domains.now c.nodes-barred_nodes.result c.nodes-barred_nodes.ensures in
     let known : AreBarredNodes (map (λ (r : Row). r.node) c.args.self.now) b c.nodes-barred_nodes.result =
     rw (← c.self.view_is) (barred-nodes h.by_ordinal b c.nodes-barred_nodes.result each) in
     c.first_outside_both.ensures.row b b known known ∙ ap (least precedes) (open-twice b c.args.self.now)

@@ -7,5 +7,5 @@ abbrev pub invariant-loop : goal.invariant-loop
 invariant-loop l = record {
   within : l.from.load < 256;
   passed : (load ordinal : ℕ) → listed l.self-inside.by_load load ordinal ≡ true
-      → is_barred_at l.self-inside.rows.items l.self-inside.order.items (barred l.taken) ordinal ≡ false → IsFrom l.from.load l.from.ordinal load ordinal;
+      → is_barred_at l.self-inside.rows.items l.self-inside.order.items (barred l.domains) ordinal ≡ false → IsFrom l.from.load l.from.ordinal load ordinal;
 }

@@ -1,23 +1,20 @@
 use Rattle.std.proofs.Common.{arith, refl}
-use Rattle.lrc_stripes.specs.NodeStates.{states_from}
-use Rattle.lrc_stripes.proofs.BitLemmas.{states-long}
 use Rattle.lrc_stripes.proofs.NodeStateLemmas.{found, joined-none, counted-none, set-same}
 use Rattle.lrc_stripes.proofs.node_table.NodeTable.count.Goals as goal
 
 pub index-set-requires : goal.index-set-requires
 index-set-requires c =
-    let at = found (states_from 0 c.self.inside.nodes.items c.self.inside.offline c.self.inside.draining) c.self.inside.stripes.items c.args.self.now c.self.view_is c.args.number c.in-Some.position c.in-Some.ensures in
-    let count = states-long 0 c.self.inside.nodes.items c.self.inside.offline c.self.inside.draining in
+    let at = found c.self.inside.nodes c.self.inside.stripes.items c.args.self.now c.self.view_is c.args.number c.in-Some.position c.in-Some.ensures in
     omega (arith, at.1, at.2, c.self.inside.stripes.ok.0)
 
 pub returns-in-Some-clause-once : goal.returns-in-Some-clause-once
 returns-in-Some-clause-once c =
-    rw (← set-same (states_from 0 c.self.inside.nodes.items c.self.inside.offline c.self.inside.draining) c.self.inside.stripes.items c.args.self.now c.self.view_is c.args.number c.in-Some.position c.in-Some.ensures c.index-set.result.now c.index-set.result.now
+    rw (← set-same c.self.inside.nodes c.self.inside.stripes.items c.args.self.now c.self.view_is c.args.number c.in-Some.position c.in-Some.ensures c.index-set.result.now c.index-set.result.now
     c.index-set.ensures) c.insert_all.ensures
 
 pub returns-in-Some-clause-twice : goal.returns-in-Some-clause-twice
 returns-in-Some-clause-twice c =
-    rw (← set-same (states_from 0 c.self.inside.nodes.items c.self.inside.offline c.self.inside.draining) c.self.inside.stripes.items c.args.self.now c.self.view_is c.args.number c.in-Some.position c.in-Some.ensures c.index-set.result.now c.index-set.result.now
+    rw (← set-same c.self.inside.nodes c.self.inside.stripes.items c.args.self.now c.self.view_is c.args.number c.in-Some.position c.in-Some.ensures c.index-set.result.now c.index-set.result.now
     c.index-set.ensures) c.insert_common.ensures
 
 pub returns-in_default-clause-once : goal.returns-in_default-clause-once

@@ -1,21 +1,25 @@
-use Rattle.std.proofs.Common.{Some, not, ap, ◌∙◌}
-use Rattle.lrc_topology.specs.declared.NodeInfo.{NodeInfo}
-use Rattle.lrc_stripes.proofs.NodeLemmas.{no_state}
-use Rattle.lrc_stripes.proofs.BitLemmas.{bit-node, bit-online, bit-draining}
-use Rattle.lrc_stripes.specs.NodeStates.{states_from}
-use Rattle.lrc_stripes.proofs.NodeStateLemmas.{inserted}
+use Rattle.std.proofs.Common.{arith}
+use Rattle.lrc_stripes.proofs.NodeStateLemmas.{found, found-node, found-online, found-draining, inserted}
 use Rattle.lrc_stripes.proofs.node_table.NodeTable.enter_one.Goals as goal
+
+pub index_mut-set-requires : goal.index_mut-set-requires
+index_mut-set-requires c =
+    let at = found c.self.inside.nodes c.self.inside.stripes.items c.args.self.now c.self.view_is c.args.number c.position_of-position.result c.position_of-position.ensures in
+    omega (arith, at.1, at.2, c.self.inside.stripes.ok.0)
+
+pub at-state-requires : goal.at-state-requires
+at-state-requires c = (found c.self.inside.nodes c.self.inside.stripes.items c.args.self.now c.self.view_is c.args.number c.position_of-position.result c.position_of-position.ensures).1
 
 pub returns-clause-on : goal.returns-clause-on
 returns-clause-on c =
-    inserted (states_from 0 c.self.inside.nodes.items c.self.inside.offline c.self.inside.draining) c.self.inside.stripes.items c.args.self.now c.self.view_is c.args.number c.position_of-position.result c.position_of-position.ensures c.index_mut-set.result.now _
+    inserted c.self.inside.nodes c.self.inside.stripes.items c.args.self.now c.self.view_is c.args.number c.position_of-position.result c.position_of-position.ensures c.index_mut-set.result.now _
     c.index_mut-set.ensures.value c.args.stripe c.insert.ensures
 
 pub returns-clause-online : goal.returns-clause-online
-returns-clause-online c = ap not c.contains.ensures ∙ bit-online c.self.inside.nodes.items c.self.inside.offline c.self.inside.draining c.self.inside.stripes.items c.args.self.now c.self.view_is c.args.number c.position_of-position.result c.position_of-position.ensures no_state.node
+returns-clause-online c = found-online c.self.inside.nodes c.self.inside.stripes.items c.args.self.now c.self.view_is c.args.number c.position_of-position.result c.position_of-position.ensures c.at-state.result (c.at-state.ensures c.at-state.result)
 
 pub returns-clause-draining : goal.returns-clause-draining
-returns-clause-draining c = c.contains-2.ensures ∙ bit-draining c.self.inside.nodes.items c.self.inside.offline c.self.inside.draining c.self.inside.stripes.items c.args.self.now c.self.view_is c.args.number c.position_of-position.result c.position_of-position.ensures no_state.node
+returns-clause-draining c = found-draining c.self.inside.nodes c.self.inside.stripes.items c.args.self.now c.self.view_is c.args.number c.position_of-position.result c.position_of-position.ensures c.at-state.result (c.at-state.ensures c.at-state.result)
 
 pub returns-clause-node : goal.returns-clause-node
-returns-clause-node c = ap (λ (n : NodeInfo). Some n) c.index-node.ensures ∙ bit-node c.self.inside.nodes.items c.self.inside.offline c.self.inside.draining c.self.inside.stripes.items c.args.self.now c.self.view_is c.args.number c.position_of-position.result c.position_of-position.ensures c.index-node.result.now
+returns-clause-node c = found-node c.self.inside.nodes c.self.inside.stripes.items c.args.self.now c.self.view_is c.args.number c.position_of-position.result c.position_of-position.ensures c.at-state.result (c.at-state.ensures c.at-state.result)

@@ -1,6 +1,4 @@
 use Rattle.std.proofs.Common.{arith, refl}
-use Rattle.lrc_stripes.specs.NodeStates.{states_from}
-use Rattle.lrc_stripes.proofs.BitLemmas.{states-long}
 use Rattle.lrc_stripes.proofs.NodeStateLemmas.{found, missed-on, set-same}
 use Rattle.lrc_stripes.proofs.node_table.NodeTable.first_on.Goals as goal
 
@@ -9,11 +7,10 @@ returns-in_err-position c = rw c.from_residual.ensures (λ t later. missed-on c.
 
 pub index-requires : goal.index-requires
 index-requires c =
-    let at = found (states_from 0 c.self.inside.nodes.items c.self.inside.offline c.self.inside.draining) c.self.inside.stripes.items c.args.self.now c.self.view_is c.args.number c.in_ok-position.position c.in_ok-position.ensures in
-    let count = states-long 0 c.self.inside.nodes.items c.self.inside.offline c.self.inside.draining in
+    let at = found c.self.inside.nodes c.self.inside.stripes.items c.args.self.now c.self.view_is c.args.number c.in_ok-position.position c.in_ok-position.ensures in
     omega (arith, at.1, at.2, c.self.inside.stripes.ok.0)
 
 pub returns : goal.returns
 returns c =
-    rw (← set-same (states_from 0 c.self.inside.nodes.items c.self.inside.offline c.self.inside.draining) c.self.inside.stripes.items c.args.self.now c.self.view_is c.args.number c.in_ok-position.position c.in_ok-position.ensures c.index.result.now c.index.result.now
+    rw (← set-same c.self.inside.nodes c.self.inside.stripes.items c.args.self.now c.self.view_is c.args.number c.in_ok-position.position c.in_ok-position.ensures c.index.result.now c.index.result.now
     c.index.ensures) c.first_from.ensures

@@ -1,9 +1,9 @@
-use Rattle.std.proofs.Common.{length, arith, ap}
-use Rattle.lrc_stripes.proofs.BitLemmas.{nodes-kept}
+use Rattle.std.proofs.Common.{sym, ◌∙◌}
+use Rattle.std.proofs.lemmas.List.{length-map}
+use Rattle.lrc_nodes.specs.declared.node_state.NodeState.{NodeState}
+use Rattle.lrc_stripes.specs.NodeStates.{states_in}
 use Rattle.lrc_stripes.proofs.node_table.NodeTable.len.Goals as goal
 
 pub returns : goal.returns
-returns c =
-    let kept = ap length (nodes-kept c.self.inside.nodes.items c.self.inside.offline c.self.inside.draining c.self.inside.stripes.items c.args.self.now c.self.view_is) in
-    let told = c.len.ensures in
-    omega (arith, kept, told, c.self.inside.nodes.ok.0)
+unfolding states_in
+returns c = rw (← c.self.view_is) (c.len.ensures ∙ sym (length-map c.self.inside.nodes (λ (x : NodeState). x.node)))

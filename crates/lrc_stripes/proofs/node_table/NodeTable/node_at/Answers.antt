@@ -1,15 +1,20 @@
-use Rattle.std.proofs.Common.{◌<◌, length, List, get_or, arith, ap, sym, subst, ◌∙◌}
-use Rattle.std.proofs.lemmas.List.{get_or_default}
-use Rattle.lrc_topology.specs.declared.NodeInfo.{NodeInfo}
-use Rattle.lrc_stripes.proofs.BitLemmas.{nodes-kept}
+use Rattle.std.proofs.Common.{◌<◌, length, map, sym, ◌∙◌, arith, subst}
+use Rattle.std.proofs.lemmas.List.{length-map, get_or-map}
+use Rattle.lrc_nodes.specs.declared.node_state.NodeState.{NodeState}
+use Rattle.lrc_stripes.specs.NodeStates.{NodeLists, states_in}
+use Rattle.lrc_nodes.proofs.StateLemmas.{no_state}
 use Rattle.lrc_stripes.proofs.node_table.NodeTable.node_at.Goals as goal
 
-pub index-requires : goal.index-requires
-index-requires c =
-    let within : c.args.position < length c.self.inside.nodes.items = subst (λ (ns : List NodeInfo). c.args.position < length ns) (sym (nodes-kept c.self.inside.nodes.items c.self.inside.offline c.self.inside.draining c.self.inside.stripes.items c.args.self.now c.self.view_is)) c.requires in
-    omega (arith, within, c.self.inside.nodes.ok.0)
+pub node_at-requires : goal.node_at-requires
+unfolding states_in
+node_at-requires c =
+    let inside : c.args.position < length (map (λ (x : NodeState). x.node) c.self.inside.nodes) = subst (λ (t : NodeLists). c.args.position < length (states_in t).nodes) (sym c.self.view_is) c.requires in
+    let long = length-map c.self.inside.nodes (λ (x : NodeState). x.node) in
+    omega (arith, inside, long)
 
 pub returns : goal.returns
+unfolding states_in
 returns c = λ d.
-    let within : c.args.position < length c.self.inside.nodes.items = subst (λ (ns : List NodeInfo). c.args.position < length ns) (sym (nodes-kept c.self.inside.nodes.items c.self.inside.offline c.self.inside.draining c.self.inside.stripes.items c.args.self.now c.self.view_is)) c.requires in
-    c.index.ensures ∙ (get_or_default c.self.inside.nodes.items c.args.position c.index.result.now d within ∙ ap (λ (ns : List NodeInfo). get_or ns c.args.position d) (nodes-kept c.self.inside.nodes.items c.self.inside.offline c.self.inside.draining c.self.inside.stripes.items c.args.self.now c.self.view_is))
+    let inside : c.args.position < length (map (λ (x : NodeState). x.node) c.self.inside.nodes) = subst (λ (t : NodeLists). c.args.position < length (states_in t).nodes) (sym c.self.view_is) c.requires in
+    let long = length-map c.self.inside.nodes (λ (x : NodeState). x.node) in
+    rw (← c.self.view_is) (c.node_at.ensures no_state ∙ sym (get_or-map (λ (x : NodeState). x.node) c.self.inside.nodes c.args.position no_state d (omega (arith, inside, long))))

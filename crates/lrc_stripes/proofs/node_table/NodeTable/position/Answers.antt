@@ -1,5 +1,5 @@
-use Rattle.lrc_stripes.proofs.BitLemmas.{place-found_in}
+use Rattle.lrc_stripes.proofs.NodeLemmas.{positioned}
 use Rattle.lrc_stripes.proofs.node_table.NodeTable.position.Goals as goal
 
 pub returns : goal.returns
-returns c = rw (c.place.ensures, c.self.invariant.found, ← c.self.view_is) (place-found_in c.self.inside.nodes.items c.self.inside.offline c.self.inside.draining c.self.inside.stripes.items c.args.number c.self.invariant.long)
+returns c = rw (← c.self.view_is) (positioned c.self.inside.nodes c.self.inside.stripes.items c.args.number c.self.invariant.long c.position.result c.position.ensures)

@@ -1,18 +1,15 @@
 use Rattle.std.proofs.Common.{arith, refl}
-use Rattle.lrc_stripes.specs.NodeStates.{states_from}
-use Rattle.lrc_stripes.proofs.BitLemmas.{states-long}
 use Rattle.lrc_stripes.proofs.NodeStateLemmas.{found, removed, removed-none}
 use Rattle.lrc_stripes.proofs.node_table.NodeTable.remove.Goals as goal
 
 pub index_mut-set-requires : goal.index_mut-set-requires
 index_mut-set-requires c =
-    let at = found (states_from 0 c.self.inside.nodes.items c.self.inside.offline c.self.inside.draining) c.self.inside.stripes.items c.args.self.now c.self.view_is c.args.number c.in-Some.position c.in-Some.ensures in
-    let count = states-long 0 c.self.inside.nodes.items c.self.inside.offline c.self.inside.draining in
+    let at = found c.self.inside.nodes c.self.inside.stripes.items c.args.self.now c.self.view_is c.args.number c.in-Some.position c.in-Some.ensures in
     omega (arith, at.1, at.2, c.self.inside.stripes.ok.0)
 
 pub returns-in-Some : goal.returns-in-Some
 returns-in-Some c =
-    removed (states_from 0 c.self.inside.nodes.items c.self.inside.offline c.self.inside.draining) c.self.inside.stripes.items c.args.self.now c.self.view_is c.args.number c.in-Some.position c.in-Some.ensures c.index_mut-set.result.now _
+    removed c.self.inside.nodes c.self.inside.stripes.items c.args.self.now c.self.view_is c.args.number c.in-Some.position c.in-Some.ensures c.index_mut-set.result.now _
     c.index_mut-set.ensures.value c.args.stripe c.remove.ensures
 
 pub returns-in_default : goal.returns-in_default

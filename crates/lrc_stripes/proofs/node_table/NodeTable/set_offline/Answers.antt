@@ -1,29 +1,22 @@
-use Rattle.std.proofs.Common.{length, arith, ap, ◌∙◌}
-use Rattle.std.proofs.Math.ListN.{length-set}
-use Rattle.lrc_stripes.proofs.NodeLemmas.{no_state}
-use Rattle.lrc_stripes.proofs.BitLemmas.{within-nodes, offline-marked}
+use Rattle.std.proofs.Common.{List, sym, ap, subst, ◌∙◌}
+use Rattle.lrc_nodes.specs.declared.node_state.NodeState.{NodeState}
+use Rattle.lrc_nodes.proofs.SetLemmas.{same-offline}
+use Rattle.lrc_stripes.specs.NodeStates.{AreNodes, states_in}
+use Rattle.lrc_stripes.proofs.NodeLemmas.{nodes-kept}
+use Rattle.lrc_stripes.proofs.NodeStateLemmas.{known-state, offline-set}
 use Rattle.lrc_stripes.proofs.node_table.NodeTable.set_offline.Goals as goal
 
-pub mark-requires : goal.mark-requires
-mark-requires c =
-    let within = within-nodes c.self.inside.nodes.items c.self.inside.offline c.self.inside.draining c.self.inside.stripes.items c.args.self.now c.self.view_is c.args.number c.position_of-position.result c.position_of-position.ensures in
-    omega (arith, within, c.self.invariant.few, c.self.invariant.offline_long)
+pub set_offline-requires : goal.set_offline-requires
+set_offline-requires c = known-state c.self.inside.nodes c.self.inside.stripes.items c.args.self.now c.self.view_is c.args.number c.requires
 
 pub invariant_of-self : goal.invariant_of-self
 invariant_of-self c =
-    let is = c.self.invariant in
-    record {
-      long = is.long;
-      found = is.found;
-      apart = is.apart;
-      few = is.few;
-      offline_long = ap length c.mark.ensures ∙ (length-set c.self.inside.offline c.position_of-position.result c.args.is_offline ∙ is.offline_long);
-      draining_long = is.draining_long;
-      grouped = is.grouped;
-    }
+    let s = c.self.inside in
+    subst (λ (xs : List NodeState). AreNodes xs s.stripes.items) (sym c.set_offline.ensures)
+    (nodes-kept s.nodes _ s.stripes.items (same-offline s.nodes c.args.number c.args.is_offline) c.self.invariant)
 
 pub returns : goal.returns
 returns c =
-    let within = within-nodes c.self.inside.nodes.items c.self.inside.offline c.self.inside.draining c.self.inside.stripes.items c.args.self.now c.self.view_is c.args.number c.position_of-position.result c.position_of-position.ensures in
-    offline-marked c.self.inside.nodes.items c.self.inside.offline c.self.inside.draining c.self.inside.stripes.items c.args.self.now c.self.view_is c.args.number c.position_of-position.result c.position_of-position.ensures no_state.node c.mark.new.set c.args.is_offline c.mark.ensures
-    (omega (arith, within, c.self.invariant.few, c.self.invariant.offline_long))
+    let s = c.self.inside in
+    ap (λ (xs : List NodeState). states_in (record { list = xs; stripes = s.stripes.items })) c.set_offline.ensures
+    ∙ offline-set c.self.inside.nodes c.self.inside.stripes.items c.args.self.now c.self.view_is c.args.number c.args.is_offline c.requires

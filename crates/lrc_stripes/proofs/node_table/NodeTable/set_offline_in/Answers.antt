@@ -1,26 +1,20 @@
-use Rattle.std.proofs.Common.{false, ◌<◌, [], List, ◌≢◌, length, get_or, arith, subst, ◌∙◌}
-use Rattle.std.specs.List.{AllPairs}
-use Rattle.std.proofs.lemmas.List.{get_or_default}
-use Rattle.lrc_code.specs.declared.numbers.NodeNo.{NodeNo}
-use Rattle.lrc_stripes.proofs.BitLemmas.{domain-marked, turned-in, put-in, put-out}
+use Rattle.std.proofs.Common.{List, sym, ap, subst, ◌∙◌}
+use Rattle.lrc_nodes.specs.declared.node_state.NodeState.{NodeState}
+use Rattle.lrc_nodes.proofs.SetLemmas.{same-offline_in}
+use Rattle.lrc_nodes.proofs.StateLemmas.{no_state}
+use Rattle.lrc_stripes.specs.NodeStates.{AreNodes, states_in}
+use Rattle.lrc_stripes.proofs.NodeLemmas.{nodes-kept}
+use Rattle.lrc_stripes.proofs.NodeStateLemmas.{domain-set}
 use Rattle.lrc_stripes.proofs.node_table.NodeTable.set_offline_in.Goals as goal
 
-pub returns-then-is_offline : goal.returns-then-is_offline
-returns-then-is_offline c =
+pub invariant_of-self : goal.invariant_of-self
+invariant_of-self c =
     let s = c.self.inside in
-    let is = c.self.invariant in
-    let low : c.args.domain.value < length s.domains.items = let many = is.grouped.many in omega (arith, many) in
-    let positions = c.index-positions.ensures ∙ get_or_default s.domains.items c.args.domain.value c.index-positions.result.now [] low in
-    domain-marked c.self.inside.nodes.items c.self.inside.offline c.self.inside.draining c.self.inside.stripes.items c.args.self.now c.self.view_is _ c.args.domain c.args.is_offline (subst (λ (ns : List NodeNo). AllPairs (λ (m n : NodeNo). m.value ≢ n.value) ns) is.found is.apart)
-    (turned-in s.nodes.items s.domains.items c.index-positions.result.now s.offline c.insert_all.new.self c.args.domain c.args.is_offline (omega arith) is.grouped positions
-    (λ k. c.insert_all.ensures.either k ∙ put-in (get_or s.offline k false) (get_or c.index-positions.result.now k false) c.args.is_offline c.if-is_offline.true))
+    subst (λ (xs : List NodeState). AreNodes xs s.stripes.items) (sym c.set_offline_in.ensures)
+    (nodes-kept s.nodes _ s.stripes.items (same-offline_in s.nodes c.args.domain c.args.is_offline) c.self.invariant)
 
-pub returns-else-is_offline : goal.returns-else-is_offline
-returns-else-is_offline c =
+pub returns : goal.returns
+returns c =
     let s = c.self.inside in
-    let is = c.self.invariant in
-    let low : c.args.domain.value < length s.domains.items = let many = is.grouped.many in omega (arith, many) in
-    let positions = c.index-positions.ensures ∙ get_or_default s.domains.items c.args.domain.value c.index-positions.result.now [] low in
-    domain-marked c.self.inside.nodes.items c.self.inside.offline c.self.inside.draining c.self.inside.stripes.items c.args.self.now c.self.view_is _ c.args.domain c.args.is_offline (subst (λ (ns : List NodeNo). AllPairs (λ (m n : NodeNo). m.value ≢ n.value) ns) is.found is.apart)
-    (turned-in s.nodes.items s.domains.items c.index-positions.result.now s.offline c.remove_all.new.self c.args.domain c.args.is_offline (omega arith) is.grouped positions
-    (λ k. c.remove_all.ensures.left k ∙ put-out (get_or s.offline k false) (get_or c.index-positions.result.now k false) c.args.is_offline c.if-is_offline.false))
+    ap (λ (xs : List NodeState). states_in (record { list = xs; stripes = s.stripes.items })) c.set_offline_in.ensures
+    ∙ domain-set c.self.inside.nodes c.self.inside.stripes.items c.args.self.now c.self.view_is no_state.node.number c.args.domain c.args.is_offline c.self.invariant

@@ -1,5 +1,4 @@
 use Rattle.std.proofs.Common.{refl}
-use Rattle.lrc_stripes.specs.NodeStates.{states_from}
 use Rattle.lrc_stripes.proofs.NodeStateLemmas.{missed-on, set-same}
 use Rattle.lrc_stripes.proofs.node_table.NodeTable.stripes_on.Goals as goal
 
@@ -8,5 +7,5 @@ returns-in_err-position-clause-none c = rw c.from_residual.ensures (λ s. missed
 
 pub returns-clause-set : goal.returns-clause-set
 returns-clause-set c =
-    set-same (states_from 0 c.self.inside.nodes.items c.self.inside.offline c.self.inside.draining) c.self.inside.stripes.items c.args.self.now c.self.view_is c.args.number c.in_ok-position.position c.in_ok-position.ensures
+    set-same c.self.inside.nodes c.self.inside.stripes.items c.args.self.now c.self.view_is c.args.number c.in_ok-position.position c.in_ok-position.ensures
     c.index.result.now c.index.result.now c.index.ensures

@@ -1,0 +1,24 @@
+use Rattle.std.proofs.Common.{◌≤◌, ap, sym, subst, map, length, List, ◌∙◌}
+use Rattle.lrc_topology.specs.declared.NodeInfo.{NodeInfo}
+use Rattle.lrc_topology.proofs.IndexLemmas.{numbers-apart}
+use Rattle.lrc_nodes.specs.States.{first_state}
+use Rattle.lrc_nodes.proofs.KeptLemmas.{states-at_first, positions-none}
+use Rattle.lrc_nodes.proofs.nodes.Nodes.new.Goals as goal
+
+pub positions_by_upgrade-requires : goal.positions_by_upgrade-requires
+positions_by_upgrade-requires c = subst (λ (ns : List NodeInfo). length ns ≤ 512) (sym c.in_ok-list.ensures.value) c.in_ok-list.ensures.known.few
+
+pub invariant_of-result : goal.invariant_of-result
+invariant_of-result c =
+    let all = c.in_ok-list.ensures.value in
+    record {
+      found = c.in_ok-new.ensures.value ∙ ap (map (λ (n : NodeInfo). n.number)) (sym all);
+      apart = numbers-apart c.args.topology.now c.in_ok-list.ensures.known c.in_ok-new.field-0 c.in_ok-new.ensures.value;
+      few = subst (λ (ns : List NodeInfo). length ns ≤ 512) (sym all) c.in_ok-list.ensures.known.few;
+      off = positions-none _ _ c.new-2.ensures;
+      drain = positions-none _ _ c.new-3.ensures;
+      grouped = c.in_ok-domains.ensures;
+    }
+
+pub returns-clause-value : goal.returns-clause-value
+returns-clause-value c = states-at_first _ _ _ c.new-2.ensures c.new-3.ensures ∙ ap (map first_state) c.in_ok-list.ensures.value

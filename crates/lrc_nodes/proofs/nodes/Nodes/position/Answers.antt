@@ -1,0 +1,10 @@
+use Rattle.std.proofs.Common.{List, ap, sym, ◌∙◌}
+use Rattle.lrc_code.specs.declared.numbers.NodeNo.{NodeNo}
+use Rattle.lrc_topology.specs.Nodes.{place_in}
+use Rattle.lrc_nodes.proofs.KeptLemmas.{seen-numbers}
+use Rattle.lrc_nodes.proofs.nodes.Nodes.position.Goals as goal
+
+pub returns : goal.returns
+returns c =
+    let s = c.self.inside in
+    c.place.ensures ∙ ap (λ (ns : List NodeNo). place_in ns c.args.number) (c.self.invariant.found ∙ sym (seen-numbers s.list.items s.offline s.draining c.args.self.now c.self.view_is))

@@ -1,0 +1,3 @@
+pub use Rattle.lrc_topology.specs.Nodes
+pub mod States
+pub mod Kept

@@ -1,0 +1,218 @@
+ghost use Rattle.std.specs.Prelude.{◌≡◌, ℕ, ◌<◌, ◌↔◌, if◌then◌else◌, false, map, length, get_or, slice_set, option_map, IfOk, IfErr, IsSome, IsTrue, Some};
+ghost use Rattle.std.specs.List.{All};
+ghost use Rattle.lrc_bits.specs.Flags.{FindsFrom};
+ghost use Rattle.lrc_code.specs.declared.fault.Fault.TheVariants.{OutOfMemory};
+ghost use Rattle.lrc_topology.specs.Nodes.{AreNodes, place_in};
+ghost use Rattle.lrc_nodes.specs.declared.node_state.NodeState.{NodeState as AnyState};
+ghost use Rattle.lrc_nodes.specs.States.{first_state, numbers_in, state_at, online_in, draining_in, with_offline, with_offline_in, with_draining};
+
+use crate::{NodeState, domains};
+use lrc_bits::BitSet;
+use lrc_code::{Fault, NodeNo, UpgradeNo};
+use lrc_topology::{NodeIndex, NodeInfo, Topology};
+use std::alloc::{AllocError, Global};
+use std::marker::Model;
+
+/// The nodes of a store in the order of the topology, and which of them are offline or draining.
+#[derive(Drop)]
+pub struct Nodes {
+    list: Vec<NodeInfo>,
+    index: NodeIndex,
+    /// The positions of the offline nodes.
+    offline: BitSet<8>,
+    /// The positions of the draining nodes.
+    draining: BitSet<8>,
+    /// For each upgrade domain, the positions of its nodes.
+    domains: Vec<BitSet<8>>,
+}
+
+impl Model for Nodes {
+    ghost use Rattle.std.specs.Prelude.{List};
+    ghost use Rattle.lrc_nodes.specs.declared.node_state.NodeState.{NodeState as AnyState};
+    ghost use Rattle.lrc_nodes.specs.Kept.{states_from, AreKept};
+
+    ghost Value = { List AnyState };
+
+    ghost view = { λ t. states_from 0 t.list.items t.offline t.draining };
+
+    ghost invariant = { λ t. AreKept t.list.items t.index t.offline t.draining t.domains.items };
+}
+
+impl Nodes {
+    /// Returns the nodes of the topology, all online and none draining.
+    ///
+    /// # Errors
+    ///
+    /// Only `Fault::OutOfMemory`.
+    pub fn new(alloc: Global, topology: &Topology) -> Result<Nodes, Fault>
+        ensures value { IfOk result (λ t. t ≡ map first_state topology.now) }
+        ensures err { IfErr result (λ e. e ≡ OutOfMemory) }
+    {
+        let list = nodes_of(alloc, topology)?;
+        let domains = domains::positions_by_upgrade(alloc, &list)?;
+        Ok(Nodes {
+            list,
+            index: NodeIndex::new(alloc, topology)?,
+            offline: BitSet::new(),
+            draining: BitSet::new(),
+            domains,
+        })
+    }
+
+    /// Returns the number of nodes, from 1 to 512.
+    pub fn len(&self) -> usize
+        ensures { result ≡ length self.now }
+    {
+        self.list.len()
+    }
+
+    /// Returns the node at a position in the list, and its state.
+    pub fn at(&self, position: usize) -> NodeState
+        requires { position < length self.now }
+        ensures { (d : AnyState) → result ≡ get_or self.now position d }
+    {
+        NodeState {
+            node: self.list[position],
+            is_offline: self.offline.contains(position),
+            is_draining: self.draining.contains(position),
+        }
+    }
+
+    /// Returns the node at a position in the list.
+    pub fn node_at(&self, position: usize) -> NodeInfo
+        requires { position < length self.now }
+        ensures { (d : AnyState) → result ≡ (get_or self.now position d).node }
+    {
+        self.list[position]
+    }
+
+    /// Reports whether the node at a position in the list is offline.
+    pub fn is_offline_at(&self, position: usize) -> bool
+        requires { position < length self.now }
+        ensures { (d : AnyState) → result ≡ (get_or self.now position d).is_offline }
+    {
+        self.offline.contains(position)
+    }
+
+    /// Returns the first position from this one on whose node is offline.
+    pub fn first_offline_from(&self, position: usize) -> Option<usize>
+        ensures { FindsFrom (map (λ x. x.is_offline) self.now) position result }
+    {
+        self.offline.first_from(position)
+    }
+
+    /// Reports whether no node is offline.
+    pub fn are_all_online(&self) -> bool
+        ensures { IsTrue result ↔ All (λ x. x.is_offline ≡ false) self.now }
+    {
+        self.offline.is_empty()
+    }
+
+    /// Reports whether no node is draining.
+    pub fn are_none_draining(&self) -> bool
+        ensures { IsTrue result ↔ All (λ x. x.is_draining ≡ false) self.now }
+    {
+        self.draining.is_empty()
+    }
+
+    /// Returns the position of the node with a number, if there is one.
+    pub fn position(&self, number: NodeNo) -> Option<usize>
+        ensures { result ≡ place_in (numbers_in self.now) number }
+    {
+        self.index.place(number)
+    }
+
+    /// Returns the position of the node with a number that exists.
+    pub fn position_of(&self, number: NodeNo) -> usize
+        requires { IsSome (state_at self.now number) }
+        ensures { place_in (numbers_in self.now) number ≡ Some result }
+    {
+        self.index.place_of(number)
+    }
+
+    /// Returns the node with a number, if there is one.
+    pub fn node(&self, number: NodeNo) -> Option<NodeInfo>
+        ensures { result ≡ option_map (λ x. x.node) (state_at self.now number) }
+    {
+        let position = self.position(number)?;
+        Some(self.list[position])
+    }
+
+    /// Reports whether the node with a number is online; `false` if there is none.
+    pub fn is_online(&self, number: NodeNo) -> bool
+        ensures { result ≡ online_in self.now number }
+    {
+        match self.position(number) {
+            Some(position) => !self.offline.contains(position),
+            None => false,
+        }
+    }
+
+    /// Reports whether the node with a number is draining; `false` if there is none.
+    pub fn is_draining(&self, number: NodeNo) -> bool
+        ensures { result ≡ draining_in self.now number }
+    {
+        match self.position(number) {
+            Some(position) => self.draining.contains(position),
+            None => false,
+        }
+    }
+
+    /// Sets whether a node is offline.
+    pub fn set_offline(&mut self, number: NodeNo, is_offline: bool)
+        requires { IsSome (state_at self.old number) }
+        ensures { self.new ≡ with_offline self.old number is_offline }
+    {
+        let position = self.position_of(number);
+        mark(&mut self.offline, position, is_offline);
+    }
+
+    /// Sets whether the nodes of an upgrade domain are offline.
+    pub fn set_offline_in(&mut self, domain: UpgradeNo, is_offline: bool)
+        ensures { self.new ≡ with_offline_in self.old domain is_offline }
+    {
+        let positions = &self.domains[domain.value as usize];
+        mark_all(&mut self.offline, positions, is_offline);
+    }
+
+    /// Sets whether a node is draining.
+    pub fn set_draining(&mut self, number: NodeNo, is_draining: bool)
+        requires { IsSome (state_at self.old number) }
+        ensures { self.new ≡ with_draining self.old number is_draining }
+    {
+        let position = self.position_of(number);
+        mark(&mut self.draining, position, is_draining);
+    }
+}
+
+/// Returns the nodes of the topology, in its order.
+fn nodes_of(alloc: Global, topology: &Topology) -> Result<Vec<NodeInfo>, AllocError>
+    ensures value { IfOk result (λ v. v.items ≡ topology.now) }
+    ensures known { AreNodes topology.now }
+{
+    topology.nodes().map(|node| *node).collect(alloc)
+}
+
+/// Adds a number to a set or removes it.
+fn mark(set: &mut BitSet<8>, number: usize, is_in: bool)
+    requires { number < length set.old }
+    ensures { set.new ≡ slice_set set.old number is_in }
+{
+    if is_in {
+        set.insert(number);
+    } else {
+        set.remove(number);
+    }
+}
+
+/// Adds all numbers of another set to a set or removes them.
+fn mark_all(set: &mut BitSet<8>, numbers: &BitSet<8>, are_in: bool)
+    ensures same { length set.new ≡ length set.old }
+    ensures each { (k : ℕ) → get_or set.new k false ≡ (if get_or numbers.now k false then are_in else get_or set.old k false) }
+{
+    if are_in {
+        set.insert_all(numbers);
+    } else {
+        set.remove_all(numbers);
+    }
+}

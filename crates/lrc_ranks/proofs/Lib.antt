@@ -1,0 +1,4 @@
+pub mod MemberLemmas
+pub mod StripeSetLemmas
+pub mod QueueLemmas
+mod MarkedLemmas

@@ -1,0 +1,117 @@
+ghost use Rattle.std.specs.Prelude.{◌≡◌, ◌||◌, ℕ, ◌≤◌, false, if◌then◌else◌, List, IfSome};
+ghost use Rattle.std.specs.Iterator.{YieldsFirst};
+ghost use Rattle.std.specs.List.{list_any};
+ghost use Rattle.lrc_code.specs.Numbers.{same_stripe};
+ghost use Rattle.lrc_code.specs.declared.numbers.StripeNo.{StripeNo as AnyStripe};
+ghost use Rattle.lrc_ranks.specs.Ranks.{is_at};
+ghost use Rattle.lrc_ranks.specs.Ranks.{queue_from};
+ghost use Rattle.lrc_ranks.specs.Sets.{FindsNext, at_rank, has};
+
+use crate::marked_set::MarkedSet;
+use crate::stripe_set::StripeSet;
+use lrc_code::StripeNo;
+use std::marker::Model;
+
+/// The number of ranks.
+const RANKS: usize = 5;
+
+/// A set of stripes for each rank.
+#[derive(Drop)]
+pub struct ByRank {
+    sets: [MarkedSet; RANKS],
+}
+
+impl Model for ByRank {
+    ghost use Rattle.std.specs.Prelude.{◌≡◌, Bool, List, length};
+
+    ghost Value = { List (List Bool) };
+
+    ghost view = { λ r. r.sets };
+
+    ghost invariant = { λ r. length r.sets ≡ 5 };
+}
+
+/// The position of a walk in the order of repair. The walk still has the stripes of this rank from a number on, and all
+/// stripes of higher ranks.
+#[derive(Clone, Copy)]
+pub struct Position {
+    pub rank: usize,
+    pub from: usize,
+}
+
+impl ByRank {
+    /// Returns the empty sets: no stripe is at any rank.
+    pub fn new() -> ByRank
+        ensures { at_rank result ≡ λ k s. false }
+    {
+        ByRank {
+            sets: [
+                MarkedSet::new(),
+                MarkedSet::new(),
+                MarkedSet::new(),
+                MarkedSet::new(),
+                MarkedSet::new(),
+            ],
+        }
+    }
+
+    /// Adds a stripe that is at no rank to this rank, if there is one.
+    pub fn add(&mut self, stripe: StripeNo, rank: Option<u8>)
+        requires none { (k : ℕ) → at_rank self.old k stripe ≡ false }
+        requires few { IfSome rank (λ k. k ≤ 4) }
+        ensures { (k : ℕ) (s : AnyStripe) → at_rank self.new k s ≡ (if same_stripe stripe s then is_at k rank else at_rank self.old k s) }
+    {
+        if let Some(rank) = rank {
+            let set = &mut self.sets[rank as usize];
+            set.insert(stripe);
+        }
+    }
+
+    /// Removes a stripe from its rank, if it has one.
+    pub fn remove(&mut self, stripe: StripeNo, rank: Option<u8>)
+        requires shown { (k : ℕ) → at_rank self.old k stripe ≡ is_at k rank }
+        requires few { IfSome rank (λ k. k ≤ 4) }
+        ensures { (k : ℕ) (s : AnyStripe) → at_rank self.new k s ≡ (if same_stripe stripe s then false else at_rank self.old k s) }
+    {
+        if let Some(rank) = rank {
+            let set = &mut self.sets[rank as usize];
+            set.remove(stripe);
+        }
+    }
+
+    /// Adds the stripes of all ranks to a set.
+    pub fn join(&self, set: &mut StripeSet)
+        ensures { has set.new ≡ λ s. has set.old s || list_any (λ ranked. has ranked s) self.now }
+    {
+        for ranked in self.sets.iter() {
+            ranked.join(set);
+        }
+    }
+
+    /// Returns the first stripe of a rank from this number on.
+    pub fn first_from(&self, rank: usize, from: usize) -> Option<StripeNo>
+        requires { rank ≤ 4 }
+        ensures { FindsNext (at_rank self.now rank) from result }
+    {
+        self.sets[rank].first_from(from)
+    }
+
+    /// Returns the next stripe of a walk, if there is one, and moves the position past it.
+    pub fn next_stripe(&self, position: &mut Position) -> Option<StripeNo>
+        requires { position.old.rank ≤ 4 }
+        ensures low { position.new.rank ≤ 4 }
+        ensures next { YieldsFirst (λ (left : List AnyStripe). left) (queue_from (at_rank self.now) position.old.rank position.old.from) result (queue_from (at_rank self.now) position.new.rank position.new.from) }
+    {
+        loop {
+            if let Some(stripe) = self.first_from(position.rank, position.from) {
+                position.from = stripe.value as usize + 1;
+                return Some(stripe);
+            }
+            if position.rank + 1 == RANKS {
+                return None;
+            }
+            position.rank += 1;
+            position.from = 0;
+        }
+    }
+}

@@ -1,0 +1,73 @@
+ghost use Rattle.std.specs.Prelude.{◌≡◌, ◌&&◌, ◌||◌, not, false};
+ghost use Rattle.lrc_code.specs.Numbers.{same_stripe};
+ghost use Rattle.lrc_ranks.specs.Sets.{FindsNext, has};
+
+use crate::stripe_set::StripeSet;
+use lrc_bits::BitSet;
+use lrc_code::StripeNo;
+use std::marker::Model;
+
+/// A set of stripes in two levels, so that a search skips blocks without a member.
+#[derive(Drop)]
+pub(crate) struct MarkedSet {
+    set: StripeSet,
+    /// The blocks of 64 numbers that have a member.
+    marks: BitSet<1>,
+}
+
+impl Model for MarkedSet {
+    ghost use Rattle.std.specs.Prelude.{Bool, List};
+    ghost use Rattle.lrc_ranks.specs.Kept.{AreMarked};
+
+    ghost Value = { List Bool };
+
+    ghost view = { λ s. s.set };
+
+    ghost invariant = { λ s. AreMarked s.set s.marks };
+}
+
+impl MarkedSet {
+    /// Returns the empty set.
+    pub(crate) fn new() -> MarkedSet
+        ensures { has result ≡ λ s. false }
+    {
+        MarkedSet {
+            set: StripeSet::new(),
+            marks: BitSet::new(),
+        }
+    }
+
+    /// Adds a stripe.
+    pub(crate) fn insert(&mut self, stripe: StripeNo)
+        ensures { has self.new ≡ λ s. same_stripe stripe s || has self.old s }
+    {
+        self.set.insert(stripe);
+        self.marks.insert(stripe.value as usize / 64);
+    }
+
+    /// Removes a stripe.
+    pub(crate) fn remove(&mut self, stripe: StripeNo)
+        ensures { has self.new ≡ λ s. not (same_stripe stripe s) && has self.old s }
+    {
+        self.set.remove(stripe);
+        if !self.set.has_near(stripe) {
+            self.marks.remove(stripe.value as usize / 64);
+        }
+    }
+
+    /// Adds the stripes of this set to another.
+    pub(crate) fn join(&self, set: &mut StripeSet)
+        ensures { has set.new ≡ λ s. has set.old s || has self.now s }
+    {
+        set.insert_all(&self.set);
+    }
+
+    /// Returns the first stripe of the set from this number on.
+    pub(crate) fn first_from(&self, from: usize) -> Option<StripeNo>
+        ensures { FindsNext (has self.now) from result }
+    {
+        let stretch = self.marks.first_from(from / 64)?;
+        let start = from.max(stretch * 64);
+        self.set.first_from(start)
+    }
+}
