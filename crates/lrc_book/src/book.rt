@@ -130,7 +130,7 @@ impl Book {
         self.store().stripes.homes(stripe)
     }
 
-    /// The number of seats on a node, at most 256; `None` where the store has no such node.
+    /// The number of seats on a node; `None` where the store has no such node.
     pub fn load(&self, node: NodeNo) -> Option<u32>
         ensures { result ≡ load_shown self.now.nodes (state_of self.now) node }
     {
@@ -179,7 +179,7 @@ impl Book {
         self.store().leases.lease(stripe, fragment)
     }
 
-    /// The number of ticks so far, at most 1,000,000. A live lease ends when the clock comes to its `expiry`.
+    /// The number of ticks so far. A live lease ends when the clock comes to its `expiry`.
     pub fn clock(&self) -> u32
         ensures { result ≡ (state_of self.now).clock }
     {

@@ -1,5 +1,5 @@
 -- Replays, as entries are added.
-use Rattle.std.proofs.Common.{◌≡◌, ℕ, ◌+◌, ◌<◌, List, [], ◌∷◌, ◌++◌, length, take, get_or, refl, sym, ap, subst, ◌∙◌, append_assoc, append-nil, replicate}
+use Rattle.std.proofs.Common.{◌≡◌, ℕ, ◌+◌, ◌<◌, List, [], ◌∷◌, ◌++◌, length, take, get_or, refl, sym, ap, subst, ◌∙◌, append_assoc, append-nil}
 use Rattle.std.proofs.lemmas.List.{take_more}
 use Rattle.std.proofs.lemmas.Option.{slice_get-get_or}
 use Rattle.std.proofs.lemmas.List.Sums.{fold-append}
@@ -9,8 +9,6 @@ use Rattle.lrc_rules.specs.Histories.{World, first_world, outcome_in, next_world
 use Rattle.lrc_book.specs.Books.{BookView, world_of}
 use Rattle.lrc_book.proofs.WorldLemmas.{legal_append}
 use Rattle.lrc_embed.specs.declared.entry.LrcEntry.{LrcEntry}
-use Rattle.lrc_embed.specs.Commands.{blank_command}
-use Rattle.lrc_embed.specs.Replies.{blank_reply}
 use Rattle.lrc_embed.specs.Replays.{IsEntry, AreEntries, IsReplay, IsRepeat, StopsAt}
 
 entries_push : (cs : List LrcEntry) (es : List Entry) (c : LrcEntry) (e : Entry) → AreEntries cs es → IsEntry c e
@@ -40,10 +38,6 @@ replay_push cs c b mid after r s =
       s.4 ∙ r.4,
       s.5 ∙ r.5,
     )
-
--- a struct of zeros
-abbrev pub no_entry : LrcEntry
-no_entry = record { session = 0; reserved = replicate 3 0; command = blank_command; reply = blank_reply }
 
 -- the entry at this position is replayed after those before it
 pub replay_more : (cs : List LrcEntry) (i : ℕ) (d : LrcEntry) (b mid same after : BookView) → i < length cs → IsReplay (take i cs) b mid → same ≡ mid

@@ -40,9 +40,9 @@ StopsAt P cs position b =
 abbrev pub IsUnreadable : LrcEntry → BookView → Type 0
 IsUnreadable c b = IsOutside c.session ⊎ (is_command c.command ≡ false)
 
--- the history has no room for one more
+-- a session and a command have these numbers, and the history has no room for one more
 abbrev pub IsFull : LrcEntry → BookView → Type 0
-IsFull c b = length b.history ≡ b.limit
+IsFull c b = (session : SessionNo) × (command : Command) × IsReadAs c session command × (length b.history ≡ b.limit)
 
 -- a session and a command have these numbers, and the history has room for one more
 abbrev pub IsCallable : LrcEntry → BookView → Type 0

@@ -1,4 +1,5 @@
-//! The functions that C calls. Each returns a status, and writes its result only if that is 0.
+//! The functions that C calls. Each returns a status, and writes its result only if that is 0. With another status
+//! `lrc_embed_open` and `lrc_embed_replay` may write where a text or an entry was refused.
 
 mod call;
 mod history;

@@ -1,6 +1,6 @@
 use Rattle.lrc_embed.specs.Replays.{IsUnreadable, IsFull, IsCallable, IsDifferent}
 use Rattle.lrc_embed.proofs.OfLemmas.{of_some}
-use Rattle.lrc_embed.proofs.ReplayLemmas.{no_entry, replay_more, stops_at}
+use Rattle.lrc_embed.proofs.ReplayLemmas.{replay_more, stops_at}
 use Rattle.lrc_embed.proofs.exports.replay.lrc_embed_replay.Goals as goal
 
 pub returns-then-status-ne-DONE-clause-range : goal.returns-then-status-ne-DONE-clause-range
@@ -10,7 +10,7 @@ returns-then-status-ne-DONE-clause-range c = λ is. of_some _ c.in-Some.ensures.
 
 pub returns-then-status-ne-DONE-clause-full : goal.returns-then-status-ne-DONE-clause-full
 returns-then-status-ne-DONE-clause-full c = λ is. of_some _ c.in-Some.ensures.book
-    (stops_at IsFull c.args.entries.now c.loop-i.i no_entry c.in-Some.book.value c.loop-i.book.value c.deref_mut.result.now
+    (stops_at IsFull c.args.entries.now c.loop-i.i _ c.in-Some.book.value c.loop-i.book.value c.deref_mut.result.now
     c.loop-i-test.true c.loop-i.invariant.replayed c.deref_mut.ensures.value (c.repeat-status.ensures.full is))
 
 pub returns-then-status-ne-DONE-clause-memory : goal.returns-then-status-ne-DONE-clause-memory

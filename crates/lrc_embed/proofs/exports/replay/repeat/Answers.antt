@@ -26,6 +26,14 @@ returns-in-Ok-2-clause-different c = λ _. (
       (c.of.ensures ∙ ap encoded_reply c.in-Ok.ensures.reply ∙ sym e),
 )
 
+pub returns-in-Err-HistoryFull-clause-full : goal.returns-in-Err-HistoryFull-clause-full
+returns-in-Err-HistoryFull-clause-full c = λ _. (
+  c.in-Some.session,
+  c.in-Some-read.command,
+  (c.in-Some.ensures.value, c.in-Some-read.ensures.value),
+  search rules,
+)
+
 pub returns-in-Err-OutOfMemory-clause-memory : goal.returns-in-Err-OutOfMemory-clause-memory
 returns-in-Err-OutOfMemory-clause-memory c = λ _. (
   c.in-Some.session,
