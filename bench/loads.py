@@ -122,13 +122,18 @@ def churn(script):
         script.say(f"place {stripe}", "placed")
 
 
+def repair_all(script):
+    """Each fragment that needs a lease is leased and reported, one after the other."""
+    while lease := script.lease_next():
+        script.call("done %d %d %d" % lease)
+
+
 def repairs(script):
     """A node fails; what it held is leased and reported, one after the other; it joins again."""
     while True:
         node = script.node()
         script.call(f"fail {node}")
-        while lease := script.lease_next():
-            script.call("done %d %d %d" % lease)
+        repair_all(script)
         script.call(f"join {node}")
 
 
@@ -163,8 +168,7 @@ def drains(script):
     while True:
         node = script.node()
         script.call(f"drain {node}")
-        while lease := script.lease_next():
-            script.call("done %d %d %d" % lease)
+        repair_all(script)
         script.call(f"retire {node}")
         script.call(f"join {node}")
 

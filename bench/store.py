@@ -10,13 +10,15 @@ from rules import least, members
 
 
 class Fragments:
-    """The sets of missing and of open fragments of a stripe, and the nodes of its homes and targets."""
+    """What is stored of the fragments of a stripe."""
 
-    __slots__ = "missing", "open", "homes", "targets", "rank"
+    __slots__ = "missing", "open", "stale", "homes", "targets", "barred", "rank"
 
     def __init__(self):
-        self.missing = self.open = 0
+        self.missing = self.open = 0  # the sets of missing and of open fragments
+        self.stale = 0  # the set of fragments of which these two may be out of date
         self.homes, self.targets = {}, {}  # fragment: node
+        self.barred = {}  # class: the set of nodes that are barred for its fragments without home and target
         self.rank = None  # the rank under which the stripe is listed
 
 
@@ -34,7 +36,7 @@ class Store(rules.Store):
         self.home_keys, self.target_keys = ({node: set() for node in nodes} for _ in range(2))
         self.of_stripe = {}  # stripe: Fragments
         self.work = [0] * rules.RANKS  # rank: the set of stripes with an open fragment
-        self.stale = defaultdict(int)  # stripe: the set of fragments of which the two sets may be out of date
+        self.stale = set()  # the stripes whose rank in `work` may be out of date
         self.skipped = 0  # the set of stripes that `next` can grant nothing of, until a change that is no grant
         self.ends = defaultdict(set)  # clock: the leases that end then
         for node in nodes:
@@ -79,38 +81,59 @@ class Store(rules.Store):
                 self.loads |= 1 << load
             self.listed[node] = load
 
-    def update_node(self, node):
-        """Updates the indexes for a node whose mode has changed."""
-        (self.online.add if super().is_online(node) else self.online.discard)(node)
+    def update_online(self, node):
+        """Updates the indexes for a node that may have gone offline or come online."""
+        is_online = super().is_online(node)
+        if is_online != (node in self.online):
+            (self.online.add if is_online else self.online.discard)(node)
+            for stripe, fragment in self.home_keys[node]:
+                # (a fragment with its home here is missing exactly while the node is offline)
+                self.of_stripe[stripe].missing ^= 1 << fragment
+                self.stale.add(stripe)
         self.list_node(node)
-        for stripe, fragment in self.home_keys[node]:
-            self.stale[stripe] |= 1 << fragment
         self.skipped = 0
 
     def set_mode(self, node, mode, is_down):
         self.in_mode[self.mode[node]].remove(node)
+        if mode != self.mode[node]:  # (whether a fragment is open depends on nothing else of a node)
+            for stripe, fragment in self.home_keys[node]:
+                self.of_stripe[stripe].stale |= 1 << fragment
+                self.stale.add(stripe)
         super().set_mode(node, mode, is_down)
         self.in_mode[mode].add(node)
-        self.update_node(node)
+        self.update_online(node)
 
     def set_upgrading(self, domain):
         changed = [known for known in (self.upgrading, domain) if known is not None]
         super().set_upgrading(domain)
         for known in changed:
             for node in members(self.in_upgrade[known]):
-                self.update_node(node)
+                self.update_online(node)
 
     # Stripes.
 
+    def updated(self, stripe):
+        """What is stored of a stripe, after its stale fragments are looked at again."""
+        of_stripe = self.of_stripe[stripe]
+        if of_stripe.stale:
+            stale, of_stripe.stale = of_stripe.stale, 0
+            missing, is_open = of_stripe.missing & ~stale, of_stripe.open & ~stale
+            while stale:
+                bit = stale & -stale
+                key = stripe, bit.bit_length() - 1
+                if self.is_missing(key):
+                    missing |= bit
+                if self.is_open(key):
+                    is_open |= bit
+                stale ^= bit
+            of_stripe.missing, of_stripe.open = missing, is_open
+        return of_stripe
+
     def missing(self, stripe):
-        if self.stale:
-            self.update_stripes()
-        return self.of_stripe[stripe].missing
+        return self.updated(stripe).missing
 
     def open_fragments(self, stripe):
-        if self.stale:
-            self.update_stripes()
-        return self.of_stripe[stripe].open
+        return self.updated(stripe).open
 
     def nodes_of(self, stripe):
         of_stripe = self.of_stripe[stripe]
@@ -125,21 +148,11 @@ class Store(rules.Store):
                 self.skipped |= 1 << stripe
 
     def update_stripes(self):
-        """Updates what is stored of the stripes with stale fragments."""
-        stale, self.stale = self.stale, defaultdict(int)
-        for stripe, fragments in stale.items():
-            of_stripe = self.of_stripe[stripe]
-            missing, is_open = of_stripe.missing & ~fragments, of_stripe.open & ~fragments
-            while fragments:
-                bit = fragments & -fragments
-                key = stripe, bit.bit_length() - 1
-                if self.is_missing(key):
-                    missing |= bit
-                if self.is_open(key):
-                    is_open |= bit
-                fragments ^= bit
-            of_stripe.missing, of_stripe.open = missing, is_open
-            rank = rules.rank_of(self.stripes[stripe], missing) if is_open else None
+        """Lists each stale stripe under its rank."""
+        stale, self.stale = self.stale, set()
+        for stripe in stale:
+            of_stripe = self.updated(stripe)
+            rank = rules.rank_of(self.stripes[stripe], of_stripe.missing) if of_stripe.open else None
             if rank != of_stripe.rank:
                 self.list_stripe(stripe, rank)
 
@@ -160,7 +173,18 @@ class Store(rules.Store):
         super().remove_stripe(stripe)
         self.list_stripe(stripe, None)
         del self.of_stripe[stripe]
-        self.stale.pop(stripe, None)
+        self.stale.discard(stripe)
+
+    # The choice of a seat.
+
+    def barred(self, key):
+        stripe, fragment = key
+        of_stripe, of_class = self.of_stripe[stripe], self.stripes[stripe].class_of[fragment]
+        if fragment in of_stripe.homes or fragment in of_stripe.targets:
+            return super().barred(key)
+        if of_class not in of_stripe.barred:
+            of_stripe.barred[of_class] = super().barred(key)
+        return of_stripe.barred[of_class]
 
     # Homes and leases.
 
@@ -168,7 +192,11 @@ class Store(rules.Store):
         (stripe, fragment), (node, slot) = key, seat
         keys_on[node].add(key)
         nodes[fragment] = node
-        self.stale[stripe] |= 1 << fragment
+        of_stripe = self.of_stripe[stripe]
+        of_stripe.stale |= 1 << fragment
+        self.stale.add(stripe)
+        for of_class in of_stripe.barred:
+            of_stripe.barred[of_class] |= self.bars[node][of_class >> fragment & 1]
         self.slots[node] |= 1 << slot
         self.list_node(node)
 
@@ -176,7 +204,10 @@ class Store(rules.Store):
         (stripe, fragment), (node, slot) = key, seat
         keys_on[node].remove(key)
         del nodes[fragment]
-        self.stale[stripe] |= 1 << fragment
+        of_stripe = self.of_stripe[stripe]
+        of_stripe.stale |= 1 << fragment
+        self.stale.add(stripe)
+        of_stripe.barred.clear()
         self.slots[node] ^= 1 << slot
         self.list_node(node)
         self.skipped = 0

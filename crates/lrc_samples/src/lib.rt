@@ -1,12 +1,17 @@
-//! A store that the tests of several crates use.
+//! Stores that the tests of several crates use.
 #![tactic(auto)]
 
 ghost use Rattle.std.specs.Prelude.{◌≡◌, IfOk, IfErr};
 ghost use Rattle.lrc_topology.specs.declared.error.TopologyError.TheVariants as error;
 ghost use Rattle.lrc_samples.specs.Stores.{twenty};
 
+mod seats;
+mod stores;
+
 use lrc_topology::{Topology, TopologyError};
+pub use seats::{first_seats, second_seats};
 use std::alloc::Global;
+pub use stores::{Layout, mixed_number, nodes, push_node, text};
 
 const TWENTY_NODES: &str = "\
 node = [

@@ -1,4 +1,4 @@
-//! The tests of `lrc_sessions`: sessions of a manager over twenty nodes, of one thread and of several.
+//! Tests of a published book and of the sessions of a manager.
 #![tactic(auto)]
 
 #[cfg(test)]

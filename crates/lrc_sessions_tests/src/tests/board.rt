@@ -44,7 +44,7 @@ fn watch<N: ViewNaming, R: Wait + Abort>(rt: &R, alloc: Global, book: Book, log:
     close(rt, keeper.into_book(rt));
 }
 
-/// Lets a book of two entries go.
+/// Expects two entries, and drops the book.
 fn close(rt: &impl Abort, book: Book) {
     assert_eq!(rt; book.history().len(), 2);
 }
@@ -53,12 +53,12 @@ fn show<N: ViewNaming>(keeper: &mut Keeper<N>, viewer: &mut Viewer<N>) {
     keeper.show(viewer);
 }
 
-/// How many entries a viewer has seen.
+/// Expects the number of entries that a viewer has seen.
 fn expect_count<N: ViewNaming>(rt: &impl Abort, viewer: &Viewer<N>, count: u64) {
     assert_eq!(rt; viewer.count(), count);
 }
 
-/// The stripe has lost one fragment with node 3, and no other node has lost its own.
+/// Expects that the stripe has lost one fragment with node 3, and no other.
 fn expect_seen<N: ViewNaming>(rt: &impl Abort, alloc: Global, viewer: &mut Viewer<N>) {
     assert!(rt; level(rt, viewer, ONE) == Some(Level::AtRisk(2)));
     for (value, seats) in [(3, Some(0)), (4, Some(1)), (99, None)] {
@@ -74,7 +74,7 @@ fn take<N: ViewNaming>(rt: &impl Abort, viewers: &mut Vec<Viewer<N>>) -> Viewer<
     viewer
 }
 
-/// One call of session 1, which has this place in the history.
+/// Makes a call by session 1, and expects this place in the history.
 fn apply<N: ViewNaming, R: Wait + Abort>(
     rt: &R,
     keeper: &mut Keeper<N>,
@@ -105,7 +105,7 @@ fn load<N: ViewNaming>(rt: &impl Abort, viewer: &mut Viewer<N>, node: NodeNo) ->
     }
 }
 
-/// Of all stripes this one alone is at risk.
+/// Expects this stripe alone at risk.
 fn expect_at_risk<N: ViewNaming>(
     rt: &impl Abort,
     alloc: Global,

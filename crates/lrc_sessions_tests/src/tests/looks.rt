@@ -1,54 +1,37 @@
 //! What sessions see of each other's calls, without the lock.
 
-ghost use Rattle.std.specs.Prelude.{◌≡◌};
-
-use super::{ONE, ONE_EACH, TWO, call, end, expect_fronts, meet, open, parts, put, take};
+use super::scenes::{Pair, expect_pair};
+use super::{ONE, TWO, call, expect_fronts, meet};
 use lrc_book::{Command, Level};
-use lrc_code::{NodeNo, SessionNo, StripeNo};
-use lrc_sessions::{Manager, Naming, Parts, Session};
+use lrc_code::{NodeNo, StripeNo};
+use lrc_sessions::{Manager, Naming, Session};
 use std::alloc::Global;
-use std::marker::Brand;
 use std::process::Abort;
 use std::sync::Wait;
 use std::test::Fail;
 use std::thread::{Threads, join};
 
-/// How many calls one session makes while another looks.
+/// The calls of one session while another looks.
 const CALLS: u64 = 50;
 
-/// How often the other looks at most.
+/// The most looks of the other.
 const LOOKS: u32 = 100_000_000;
 
 #[test]
 fn a_session_sees_the_calls_of_another(rt: HostRuntime) -> Result<(), Fail> {
-    let parts = parts(rt.alloc(), 2)?;
-    watch::<Brand, _>(&rt, rt.alloc(), parts);
-    Ok(())
+    expect_pair(&rt, rt.alloc(), Pair::Watch, (CALLS, 0))
 }
 
-/// One session makes calls, and another looks in a thread of its own until it has seen them; then they meet.
-fn watch<N: Naming + Send + Sync, R: Threads + Wait + Abort + Sync>(
+/// One session makes calls, and another looks on a thread of its own until it has seen them. Then they meet.
+pub(super) fn watch<N: Naming + Send + Sync, R: Threads + Wait + Abort + Sync>(
     rt: &R,
-    alloc: Global,
-    parts: Parts,
-)
-    requires topology { parts.topology ≡ N.topology }
-    requires limit { parts.limit ≡ N.limit }
-    requires count { parts.count ≡ N.count }
-    requires name { parts.name ≡ N.name }
-    requires shares { parts.shares ≡ N.parts }
-    requires log { (parts.log ≡ N.log) × (parts.start ≡ N.start) }
-{
-    let (manager, mut sessions) = open::<N, _>(rt, alloc, parts);
-    let mut second = take(rt, &mut sessions);
-    let mut first = take(rt, &mut sessions);
-    call_and_look(rt, &manager, &mut first, &mut second);
-    expect_fronts(rt, &first, &second, (CALLS, CALLS));
-    meet(rt, &manager, &mut first, &mut second, CALLS);
-    put(rt, &mut sessions, second);
-    put(rt, &mut sessions, first);
-    let made = [(SessionNo { value: 1 }, CALLS), (SessionNo { value: 2 }, 0)];
-    end(rt, manager, sessions, &made);
+    manager: &Manager<N>,
+    first: &mut Session<N>,
+    second: &mut Session<N>,
+) {
+    call_and_look(rt, manager, first, second);
+    expect_fronts(rt, first, second, (CALLS, CALLS));
+    meet(rt, manager, first, second, CALLS);
 }
 
 /// One session makes all calls, while the other looks until it has seen them.
@@ -72,7 +55,7 @@ fn call_again<N: Naming, R: Wait + Abort>(rt: &R, manager: &Manager<N>, session:
     }
 }
 
-/// Looks until all calls are seen. Each look has a view, and what is seen never falls back.
+/// Looks until all calls are seen. Each look has a view, and the number of entries that are seen never falls.
 fn look_until_seen<N: Naming>(rt: &impl Abort, session: &mut Session<N>) {
     let mut front = 0;
     for _ in 0..LOOKS {
@@ -88,75 +71,56 @@ fn look_until_seen<N: Naming>(rt: &impl Abort, session: &mut Session<N>) {
 
 #[test]
 fn looks_show_what_was_placed(rt: HostRuntime) -> Result<(), Fail> {
-    let parts = parts(rt.alloc(), 2)?;
-    look_around::<Brand, _>(&rt, rt.alloc(), parts);
-    Ok(())
+    expect_pair(&rt, rt.alloc(), Pair::LookAround, (1, 1))
 }
 
-/// Each of two sessions places a stripe. What one has placed the other sees without a call of its own; when they have met, each
-/// sees both.
-fn look_around<N: Naming, R: Wait + Abort>(rt: &R, alloc: Global, parts: Parts)
-    requires topology { parts.topology ≡ N.topology }
-    requires limit { parts.limit ≡ N.limit }
-    requires count { parts.count ≡ N.count }
-    requires name { parts.name ≡ N.name }
-    requires shares { parts.shares ≡ N.parts }
-    requires log { (parts.log ≡ N.log) × (parts.start ≡ N.start) }
-{
-    let (manager, mut sessions) = open::<N, _>(rt, alloc, parts);
-    let mut second = take(rt, &mut sessions);
-    let mut first = take(rt, &mut sessions);
-    expect_fronts(rt, &first, &second, (0, 0));
-    call(rt, &manager, &mut first, Command::Place(ONE));
-    expect_fronts(rt, &first, &second, (1, 0));
-    expect_whole(rt, &mut first, ONE, 1);
-    expect_whole(rt, &mut second, ONE, 1);
-    call(rt, &manager, &mut second, Command::Place(TWO));
-    meet(rt, &manager, &mut first, &mut second, 2);
-    expect_both_placed(rt, alloc, &mut first);
-    put(rt, &mut sessions, first);
-    put(rt, &mut sessions, second);
-    end(rt, manager, sessions, &ONE_EACH);
+/// Each of two sessions places a stripe. The other sees the stripe of one without a call of its own. After they met, each sees
+/// both.
+pub(super) fn look_around<N: Naming, R: Wait + Abort>(
+    rt: &R,
+    alloc: Global,
+    manager: &Manager<N>,
+    first: &mut Session<N>,
+    second: &mut Session<N>,
+) {
+    expect_fronts(rt, first, second, (0, 0));
+    call(rt, manager, first, Command::Place(ONE));
+    expect_fronts(rt, first, second, (1, 0));
+    expect_whole(rt, first, ONE, 1);
+    expect_whole(rt, second, ONE, 1);
+    call(rt, manager, second, Command::Place(TWO));
+    meet(rt, manager, first, second, 2);
+    expect_both_placed(rt, alloc, first);
 }
 
 #[test]
 fn looks_tell_the_codes_apart(rt: HostRuntime) -> Result<(), Fail> {
-    let parts = parts(rt.alloc(), 2)?;
-    look_at_both_codes::<Brand, _>(&rt, rt.alloc(), parts);
-    Ok(())
+    expect_pair(&rt, rt.alloc(), Pair::LookAtBothCodes, (2, 2))
 }
 
-/// One session places a narrow stripe and the other a wide one, and each says that a node with a fragment of both has failed.
-fn look_at_both_codes<N: Naming, R: Wait + Abort>(rt: &R, alloc: Global, parts: Parts)
-    requires topology { parts.topology ≡ N.topology }
-    requires limit { parts.limit ≡ N.limit }
-    requires count { parts.count ≡ N.count }
-    requires name { parts.name ≡ N.name }
-    requires shares { parts.shares ≡ N.parts }
-    requires log { (parts.log ≡ N.log) × (parts.start ≡ N.start) }
-{
-    let (manager, mut sessions) = open::<N, _>(rt, alloc, parts);
-    let mut second = take(rt, &mut sessions);
-    let mut first = take(rt, &mut sessions);
-    call(rt, &manager, &mut first, Command::Place6(ONE));
-    call(rt, &manager, &mut second, Command::Place(TWO));
-    call(rt, &manager, &mut first, fail(0));
-    call(rt, &manager, &mut second, fail(3));
-    meet(rt, &manager, &mut first, &mut second, 4);
-    expect_both_at_risk(rt, alloc, &mut first);
-    expect_both_at_risk(rt, alloc, &mut second);
-    put(rt, &mut sessions, first);
-    put(rt, &mut sessions, second);
-    let made = [(SessionNo { value: 1 }, 2), (SessionNo { value: 2 }, 2)];
-    end(rt, manager, sessions, &made);
+/// One session places a narrow stripe and the other a wide one, and each reports that a node with a fragment of both failed.
+pub(super) fn look_at_both_codes<N: Naming, R: Wait + Abort>(
+    rt: &R,
+    alloc: Global,
+    manager: &Manager<N>,
+    first: &mut Session<N>,
+    second: &mut Session<N>,
+) {
+    call(rt, manager, first, Command::Place6(ONE));
+    call(rt, manager, second, Command::Place(TWO));
+    call(rt, manager, first, fail(0));
+    call(rt, manager, second, fail(3));
+    meet(rt, manager, first, second, 4);
+    expect_both_at_risk(rt, alloc, first);
+    expect_both_at_risk(rt, alloc, second);
 }
 
 fn fail(number: u16) -> Command {
     Command::Fail(NodeNo { value: number })
 }
 
-/// The narrow stripe has lost a fragment of each local group, and the wide one a fragment of one group and a global parity, so that
-/// it withstands one loss less and is repaired first.
+/// The narrow stripe has lost a fragment of each local group, and the wide one two fragments of one group, so that it
+/// survives one loss less and is repaired first.
 fn expect_both_at_risk<N: Naming>(rt: &impl Abort, alloc: Global, session: &mut Session<N>) {
     assert!(rt; level_of(rt, session, ONE) == (4, Some(Level::AtRisk(2))));
     assert!(rt; level_of(rt, session, TWO) == (4, Some(Level::AtRisk(1))));
@@ -171,7 +135,7 @@ fn expect_both_at_risk<N: Naming>(rt: &impl Abort, alloc: Global, session: &mut 
     }
 }
 
-/// A session sees so many entries, and this stripe whole.
+/// Expects that a session sees `front` entries, and this stripe whole.
 fn expect_whole<N: Naming>(
     rt: &impl Abort,
     session: &mut Session<N>,
@@ -181,7 +145,7 @@ fn expect_whole<N: Naming>(
     assert!(rt; level_of(rt, session, stripe) == (front, Some(Level::Whole)));
 }
 
-/// A session sees the second stripe, how many seats are on a node of it alone and on one of both, and no stripe at risk.
+/// Expects that a session sees the second stripe, the seats on a node of it alone and on one of both, and no stripe at risk.
 fn expect_both_placed<N: Naming>(rt: &impl Abort, alloc: Global, session: &mut Session<N>) {
     expect_whole(rt, session, TWO, 2);
     expect_load(rt, session, 15, Some(1));
@@ -190,7 +154,7 @@ fn expect_both_placed<N: Naming>(rt: &impl Abort, alloc: Global, session: &mut S
     assert!(rt; at_risk(rt, alloc, session) == (2, 0));
 }
 
-/// A session sees two entries, and so many seats on a node.
+/// Expects that a session sees two entries, and these seats on a node.
 fn expect_load<N: Naming>(
     rt: &impl Abort,
     session: &mut Session<N>,
@@ -203,7 +167,7 @@ fn expect_load<N: Naming>(
     );
 }
 
-/// How much a look at a stripe's level has seen, and the level.
+/// Returns the number of entries that a look at a stripe's level sees, and the level.
 fn level_of<N: Naming>(
     rt: &impl Abort,
     session: &mut Session<N>,
@@ -215,7 +179,7 @@ fn level_of<N: Naming>(
     }
 }
 
-/// How much a look at a node's load has seen, and the load.
+/// Returns the number of entries that a look at a node's load sees, and the load.
 fn load_of<N: Naming>(
     rt: &impl Abort,
     session: &mut Session<N>,
@@ -227,7 +191,7 @@ fn load_of<N: Naming>(
     }
 }
 
-/// How much a look at the stripes at risk has seen, and how many there are.
+/// Returns the number of entries that a look at the stripes at risk sees, and the number of these stripes.
 fn at_risk<N: Naming>(rt: &impl Abort, alloc: Global, session: &mut Session<N>) -> (u64, usize) {
     match session.risk(alloc) {
         Ok(seen) => (seen.front, seen.value.len()),
@@ -235,68 +199,23 @@ fn at_risk<N: Naming>(rt: &impl Abort, alloc: Global, session: &mut Session<N>) 
     }
 }
 
-/// How many calls the first session makes before the second looks.
+/// The calls of the first session before the second looks.
 const FAR: u64 = 1500;
 
 #[test]
 fn a_session_that_is_far_behind_sees_the_last_call(rt: HostRuntime) -> Result<(), Fail> {
-    let parts = parts(rt.alloc(), 2)?;
-    look_from_behind::<Brand, _>(&rt, rt.alloc(), parts);
-    Ok(())
+    expect_pair(&rt, rt.alloc(), Pair::LookFromBehind, (FAR, 0))
 }
 
-fn look_from_behind<N: Naming, R: Wait + Abort>(rt: &R, alloc: Global, parts: Parts)
-    requires topology { parts.topology ≡ N.topology }
-    requires limit { parts.limit ≡ N.limit }
-    requires count { parts.count ≡ N.count }
-    requires name { parts.name ≡ N.name }
-    requires shares { parts.shares ≡ N.parts }
-    requires log { (parts.log ≡ N.log) × (parts.start ≡ N.start) }
-{
-    let (manager, mut sessions) = open::<N, _>(rt, alloc, parts);
-    let mut second = take(rt, &mut sessions);
-    let mut first = take(rt, &mut sessions);
+pub(super) fn look_from_behind<N: Naming, R: Wait + Abort>(
+    rt: &R,
+    manager: &Manager<N>,
+    first: &mut Session<N>,
+    second: &mut Session<N>,
+) {
     for _ in 1..FAR {
-        call(rt, &manager, &mut first, Command::Next);
+        call(rt, manager, first, Command::Next);
     }
-    call(rt, &manager, &mut first, Command::Place(ONE));
-    expect_whole(rt, &mut second, ONE, FAR);
-    put(rt, &mut sessions, first);
-    put(rt, &mut sessions, second);
-    let made = [(SessionNo { value: 1 }, FAR), (SessionNo { value: 2 }, 0)];
-    end(rt, manager, sessions, &made);
-}
-
-#[test]
-fn two_sessions_meet_at_the_call_of_a_third(rt: HostRuntime) -> Result<(), Fail> {
-    let parts = parts(rt.alloc(), 3)?;
-    meet_at_a_call::<Brand, _>(&rt, rt.alloc(), parts);
-    Ok(())
-}
-
-/// Two sessions that have seen nothing meet after the call of a third, and have then seen it.
-fn meet_at_a_call<N: Naming, R: Wait + Abort>(rt: &R, alloc: Global, parts: Parts)
-    requires topology { parts.topology ≡ N.topology }
-    requires limit { parts.limit ≡ N.limit }
-    requires count { parts.count ≡ N.count }
-    requires name { parts.name ≡ N.name }
-    requires shares { parts.shares ≡ N.parts }
-    requires log { (parts.log ≡ N.log) × (parts.start ≡ N.start) }
-{
-    let (manager, mut sessions) = open::<N, _>(rt, alloc, parts);
-    let mut third = take(rt, &mut sessions);
-    let mut second = take(rt, &mut sessions);
-    let mut first = take(rt, &mut sessions);
-    call(rt, &manager, &mut third, Command::Place(ONE));
-    expect_fronts(rt, &first, &second, (0, 0));
-    meet(rt, &manager, &mut first, &mut second, 1);
-    put(rt, &mut sessions, first);
-    put(rt, &mut sessions, second);
-    put(rt, &mut sessions, third);
-    let made = [
-        (SessionNo { value: 1 }, 0),
-        (SessionNo { value: 2 }, 0),
-        (SessionNo { value: 3 }, 1),
-    ];
-    end(rt, manager, sessions, &made);
+    call(rt, manager, first, Command::Place(ONE));
+    expect_whole(rt, second, ONE, FAR);
 }

@@ -1,0 +1,5 @@
+//! Tests of stripes.
+#![tactic(auto)]
+
+#[cfg(test)]
+mod stripes;
