@@ -111,7 +111,8 @@ impl<N: ViewNaming> Keeper<N> {
         viewer.see(count, &self.log.prefix());
     }
 
-    /// Ends the published view and returns the book. It waits for looks that have begun; later looks return `NoView`.
+    /// Ends the published view and returns the book. It waits for looks that have begun. `left_right` has no board for later
+    /// ones.
     pub fn into_book<R: Wait>(self, rt: &R) -> Book
         ensures { result ≡ self }
     {

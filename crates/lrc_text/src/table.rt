@@ -19,7 +19,8 @@ pub(crate) fn begin_table(text: Vec<u8>) -> Table
     WriterBuilder::new().from_writer(text)
 }
 
-/// Adds a row of these fields. All rows of a table have the same number of fields.
+/// Adds a row of these fields. A caller gives all rows of a table the same number of fields: `csv` refuses another number,
+/// and that too is told as `OutOfMemory`.
 pub(crate) fn push_row(table: &mut Table, fields: &[&[u8]]) -> Result<(), Fault>
     requires { IsBetweenRows table.old }
     ensures row { OnOk result (text_in table.new ≡ text_in table.old ++ row_text default_writer (map (λ f. f.now) fields.now)) }
