@@ -41,7 +41,7 @@ fn expect_decided(rt: &impl Abort, book: &Book, command: Command, reply: Reply) 
 }
 
 fn decided(book: &Book, command: Command) -> Option<Reply> {
-    Some(book.decide(FIRST, command).ok()?.entry.reply)
+    Some(book.decide(FIRST, command).ok()?.reply)
 }
 
 /// The command has this reply, and its entry is the last one.
