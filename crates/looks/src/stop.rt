@@ -1,4 +1,5 @@
 use lrc_sessions::OpenError;
+use lrc_topology::TopologyError;
 use std::alloc::AllocError;
 use std::io;
 use thiserror::Error;
@@ -31,6 +32,13 @@ impl Stop {
 
 impl From<AllocError> for Stop {
     fn from(_error: AllocError) -> Stop {
+        Stop::OutOfMemory
+    }
+}
+
+/// The only error of the nodes is out of memory.
+impl From<TopologyError> for Stop {
+    fn from(_error: TopologyError) -> Stop {
         Stop::OutOfMemory
     }
 }

@@ -21,6 +21,14 @@ pub(crate) struct Done {
     pub(crate) span: Option<Span>,
 }
 
+impl Done {
+    /// Returns what was done of a task that began at a moment and ends now.
+    fn now<R: Clock + CpuClock>(rt: &R, begun: Option<Moment>, count: u64, whole: u64) -> Done {
+        let span = Span::from(begun, Moment::now(rt));
+        Done { count, whole, span }
+    }
+}
+
 /// Returns call `n` of a task, which places and drops a stripe in turn.
 fn command(stripe: StripeNo, n: u64) -> Command {
     if n % 2 == 0 {
@@ -93,12 +101,7 @@ pub(crate) fn time_book<R: Clock + CpuClock>(
 ) -> Done {
     let begun = Moment::now(rt);
     let count = call_book(book, stripe, calls);
-    let span = Span::from(begun, Moment::now(rt));
-    Done {
-        count,
-        whole: 0,
-        span,
-    }
+    Done::now(rt, begun, count, 0)
 }
 
 /// Makes the calls of a session, and measures them.
@@ -113,12 +116,7 @@ pub(crate) fn time_calls<N: Naming, R: Wait + Clock + CpuClock>(
 {
     let begun = Moment::now(rt);
     let count = call(rt, manager, session, stripe, calls);
-    let span = Span::from(begun, Moment::now(rt));
-    Done {
-        count,
-        whole: 0,
-        span,
-    }
+    Done::now(rt, begun, count, 0)
 }
 
 /// Makes the looks of a session, and measures them.
@@ -132,6 +130,5 @@ pub(crate) fn time_looks<N: Naming, R: Clock + CpuClock>(
 {
     let begun = Moment::now(rt);
     let (count, whole) = look(session, stripe, looks);
-    let span = Span::from(begun, Moment::now(rt));
-    Done { count, whole, span }
+    Done::now(rt, begun, count, whole)
 }

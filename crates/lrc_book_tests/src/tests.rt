@@ -1,5 +1,15 @@
 //! The replies of a book over twenty nodes, and its state after them.
 
+/// Makes these calls on a book, and lets it go.
+macro_rules! on_book {
+    ($rt:expr, $book:expr, $($play:ident),+) => {{
+        let mut book = $book;
+        $($play($rt, &mut book);)+
+        close(book);
+        Ok(())
+    }};
+}
+
 mod leases;
 mod limits;
 mod narrow;
@@ -153,10 +163,7 @@ fn expect_node(rt: &impl Abort, book: &Book, number: u16, wanted: (Mode, bool), 
 
 #[test]
 fn a_stripe_is_placed_and_dropped(rt: HostRuntime) -> Result<(), Fail> {
-    let mut book = book(rt.alloc())?;
-    place_and_drop(&rt, &mut book);
-    close(book);
-    Ok(())
+    on_book!(&rt, book(rt.alloc())?, place_and_drop)
 }
 
 fn place_and_drop(rt: &impl Abort, book: &mut Book) {
@@ -197,11 +204,7 @@ fn expect_placed_second(rt: &impl Abort, book: &Book, placed: Reply) {
 
 #[test]
 fn nodes_fail_go_down_and_come_back(rt: HostRuntime) -> Result<(), Fail> {
-    let mut book = book(rt.alloc())?;
-    fail_nodes(&rt, &mut book);
-    come_back(&rt, &mut book);
-    close(book);
-    Ok(())
+    on_book!(&rt, book(rt.alloc())?, fail_nodes, come_back)
 }
 
 /// Node 2 of the first stripe goes down, and node 3 fails.
@@ -238,10 +241,7 @@ fn come_back(rt: &impl Abort, book: &mut Book) {
 
 #[test]
 fn a_node_that_comes_back_is_empty(rt: HostRuntime) -> Result<(), Fail> {
-    let mut book = book(rt.alloc())?;
-    come_back_empty(&rt, &mut book);
-    close(book);
-    Ok(())
+    on_book!(&rt, book(rt.alloc())?, come_back_empty)
 }
 
 fn come_back_empty(rt: &impl Abort, book: &mut Book) {
@@ -261,10 +261,7 @@ fn come_back_empty(rt: &impl Abort, book: &mut Book) {
 
 #[test]
 fn four_nodes_of_a_stripe_are_too_many(rt: HostRuntime) -> Result<(), Fail> {
-    let mut book = book(rt.alloc())?;
-    lose_four_nodes(&rt, &mut book);
-    close(book);
-    Ok(())
+    on_book!(&rt, book(rt.alloc())?, lose_four_nodes)
 }
 
 fn lose_four_nodes(rt: &impl Abort, book: &mut Book) {

@@ -78,10 +78,7 @@ fn epoch(book: &Book) -> Option<u32> {
 
 #[test]
 fn a_repair_is_done_once_and_by_its_epoch(rt: HostRuntime) -> Result<(), Fail> {
-    let mut book = book(rt.alloc())?;
-    repair(&rt, &mut book);
-    close(book);
-    Ok(())
+    on_book!(&rt, book(rt.alloc())?, repair)
 }
 
 fn repair(rt: &impl Abort, book: &mut Book) {
@@ -105,10 +102,7 @@ fn repair(rt: &impl Abort, book: &mut Book) {
 
 #[test]
 fn only_the_holder_reports_and_any_session_revokes(rt: HostRuntime) -> Result<(), Fail> {
-    let mut book = book(rt.alloc())?;
-    take_over(&rt, &mut book);
-    close(book);
-    Ok(())
+    on_book!(&rt, book(rt.alloc())?, take_over)
 }
 
 fn take_over(rt: &impl Abort, book: &mut Book) {
@@ -126,10 +120,7 @@ fn take_over(rt: &impl Abort, book: &mut Book) {
 
 #[test]
 fn a_lease_that_is_given_back_or_revoked_is_stale(rt: HostRuntime) -> Result<(), Fail> {
-    let mut book = book(rt.alloc())?;
-    give_back(&rt, &mut book);
-    close(book);
-    Ok(())
+    on_book!(&rt, book(rt.alloc())?, give_back)
 }
 
 fn give_back(rt: &impl Abort, book: &mut Book) {
@@ -151,10 +142,7 @@ fn give_back(rt: &impl Abort, book: &mut Book) {
 
 #[test]
 fn epochs_go_on_when_a_stripe_is_dropped(rt: HostRuntime) -> Result<(), Fail> {
-    let mut book = book(rt.alloc())?;
-    drop_and_place(&rt, &mut book);
-    close(book);
-    Ok(())
+    on_book!(&rt, book(rt.alloc())?, drop_and_place)
 }
 
 fn drop_and_place(rt: &impl Abort, book: &mut Book) {
@@ -175,10 +163,7 @@ fn drop_and_place(rt: &impl Abort, book: &mut Book) {
 
 #[test]
 fn a_lease_ends_with_its_target(rt: HostRuntime) -> Result<(), Fail> {
-    let mut book = book(rt.alloc())?;
-    lose_target(&rt, &mut book);
-    close(book);
-    Ok(())
+    on_book!(&rt, book(rt.alloc())?, lose_target)
 }
 
 fn lose_target(rt: &impl Abort, book: &mut Book) {
@@ -199,10 +184,7 @@ fn lose_target(rt: &impl Abort, book: &mut Book) {
 
 #[test]
 fn only_what_is_homeless_is_leased(rt: HostRuntime) -> Result<(), Fail> {
-    let mut book = book(rt.alloc())?;
-    ask_without_need(&rt, &mut book);
-    close(book);
-    Ok(())
+    on_book!(&rt, book(rt.alloc())?, ask_without_need)
 }
 
 fn ask_without_need(rt: &impl Abort, book: &mut Book) {
@@ -223,10 +205,7 @@ fn ask_without_need(rt: &impl Abort, book: &mut Book) {
 
 #[test]
 fn only_what_can_be_rebuilt_is_leased(rt: HostRuntime) -> Result<(), Fail> {
-    let mut book = book(rt.alloc())?;
-    ask_beyond_repair(&rt, &mut book);
-    close(book);
-    Ok(())
+    on_book!(&rt, book(rt.alloc())?, ask_beyond_repair)
 }
 
 fn ask_beyond_repair(rt: &impl Abort, book: &mut Book) {

@@ -8,32 +8,12 @@ use super::{
     FIRST, ONE, Row, TWO, call, clock, close, expect_load, expect_node, expect_replies,
     expect_risk, expect_stripe, first_seats, homes, level, missing, mode, node, place_first,
 };
-use lrc_book::{Book, Command, Entry, Level, Mode, Reply, Seat};
+use lrc_book::{Book, Command, Entry, Level, Mode, Reply};
 use lrc_code::{Fault, StripeNo, UpgradeNo};
-use lrc_samples::twenty_nodes;
+use lrc_samples::{second_seats, twenty_nodes};
 use std::alloc::Global;
 use std::process::Abort;
 use std::test::Fail;
-
-/// The nodes and slots of fragments 0 to 15 of the second stripe.
-const SECOND_SEATS: [(u16, u16); 16] = [
-    (15, 0),
-    (17, 0),
-    (18, 0),
-    (19, 0),
-    (0, 1),
-    (1, 1),
-    (2, 1),
-    (3, 1),
-    (4, 1),
-    (5, 1),
-    (6, 1),
-    (7, 1),
-    (12, 1),
-    (8, 1),
-    (9, 1),
-    (10, 1),
-];
 
 /// Makes a book over twenty nodes whose history has at most `limit` entries.
 fn limited(alloc: Global, limit: u32) -> Result<Book, Fail>
@@ -55,20 +35,13 @@ fn decide(book: &Book, command: Command) -> Result<Entry, Fault> {
 
 #[test]
 fn a_history_of_two_entries_takes_no_third(rt: HostRuntime) -> Result<(), Fail> {
-    let mut book = limited(rt.alloc(), 2)?;
-    place_both(&rt, &mut book);
-    close(book);
-    Ok(())
+    on_book!(&rt, limited(rt.alloc(), 2)?, place_both)
 }
 
 fn place_both(rt: &impl Abort, book: &mut Book) {
-    let second = SECOND_SEATS.map(|(number, slot)| Seat {
-        node: node(number),
-        slot,
-    });
     let rows = [
         (Command::Place(ONE), Reply::Placed(first_seats())),
-        (Command::Place(TWO), Reply::Placed(second)),
+        (Command::Place(TWO), Reply::Placed(second_seats())),
     ];
     expect_replies(rt, book, &rows);
     expect_full(rt, book, Command::Next);
@@ -115,16 +88,13 @@ fn each_kind() -> [Command; 18] {
 
 #[test]
 fn a_history_without_room_takes_no_call(rt: HostRuntime) -> Result<(), Fail> {
-    let mut book = limited(rt.alloc(), 0)?;
-    refuse_all_from_the_start(&rt, rt.alloc(), &mut book);
-    close(book);
-    Ok(())
+    on_book!(&rt, limited(rt.alloc(), 0)?, refuse_all_from_the_start)
 }
 
-fn refuse_all_from_the_start(rt: &impl Abort, alloc: Global, book: &mut Book) {
+fn refuse_all_from_the_start(rt: &(impl AllocGlobal + Abort), book: &mut Book) {
     for command in each_kind() {
         expect_full(rt, book, command);
-        expect_untouched(rt, alloc, book);
+        expect_untouched(rt, rt.alloc(), book);
     }
 }
 
@@ -149,18 +119,15 @@ fn expect_no_stripe(rt: &impl Abort, book: &Book, stripe: StripeNo) {
 
 #[test]
 fn a_full_history_takes_no_command_of_any_kind(rt: HostRuntime) -> Result<(), Fail> {
-    let mut book = limited(rt.alloc(), 8)?;
-    refuse_all_when_full(&rt, rt.alloc(), &mut book);
-    close(book);
-    Ok(())
+    on_book!(&rt, limited(rt.alloc(), 8)?, refuse_all_when_full)
 }
 
-fn refuse_all_when_full(rt: &impl Abort, alloc: Global, book: &mut Book) {
+fn refuse_all_when_full(rt: &(impl AllocGlobal + Abort), book: &mut Book) {
     expect_replies(rt, book, &filling());
-    expect_filled(rt, alloc, book);
+    expect_filled(rt, rt.alloc(), book);
     for command in each_kind() {
         expect_full(rt, book, command);
-        expect_filled(rt, alloc, book);
+        expect_filled(rt, rt.alloc(), book);
     }
 }
 
@@ -215,18 +182,15 @@ fn expect_node_of_filled(rt: &impl Abort, book: &Book, number: u16) {
 }
 
 #[test]
-fn a_plan_is_decided_while_there_is_room(rt: HostRuntime) -> Result<(), Fail> {
-    let mut book = limited(rt.alloc(), 1)?;
-    decide_and_fill(&rt, rt.alloc(), &mut book);
-    close(book);
-    Ok(())
+fn an_entry_is_decided_while_there_is_room(rt: HostRuntime) -> Result<(), Fail> {
+    on_book!(&rt, limited(rt.alloc(), 1)?, decide_and_fill)
 }
 
 /// A call that is only decided or prepared is not made. A full history can be prepared for a call too.
-fn decide_and_fill(rt: &impl Abort, alloc: Global, book: &mut Book) {
+fn decide_and_fill(rt: &(impl AllocGlobal + Abort), book: &mut Book) {
     let decided = expect_decided(rt, book);
     prepare(rt, book);
-    expect_untouched(rt, alloc, book);
+    expect_untouched(rt, rt.alloc(), book);
     place_first(rt, book);
     prepare(rt, book);
     expect_full(rt, book, Command::Place(TWO));

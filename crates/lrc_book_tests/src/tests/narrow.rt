@@ -7,7 +7,7 @@ use super::{
 };
 use lrc_book::{Book, Command, Kind, Lease, Level, Refusal, Reply, Seat};
 use lrc_code::{Code, Fragment, StripeNo, UpgradeNo};
-use lrc_topology::Topology;
+use lrc_samples::{Layout, nodes};
 use std::alloc::Global;
 use std::process::Abort;
 use std::test::Fail;
@@ -52,11 +52,7 @@ fn ten_placed() -> Reply {
 
 #[test]
 fn a_narrow_stripe_has_ten_homes(rt: HostRuntime) -> Result<(), Fail> {
-    let mut book = book(rt.alloc())?;
-    place_ten(&rt, &mut book);
-    drop_ten(&rt, &mut book);
-    close(book);
-    Ok(())
+    on_book!(&rt, book(rt.alloc())?, place_ten, drop_ten)
 }
 
 fn place_ten(rt: &impl Abort, book: &mut Book) {
@@ -95,43 +91,14 @@ fn drop_ten(rt: &impl Abort, book: &mut Book) {
     assert!(rt; code(book, TWO).is_none());
 }
 
-/// Twenty nodes with four slots, each in a fault domain of its own, in six upgrade domains.
-const SIX_DOMAINS: &str = "\
-node = [
-    { number = 0, fault = 0, upgrade = 0, slots = 4 },
-    { number = 1, fault = 1, upgrade = 1, slots = 4 },
-    { number = 2, fault = 2, upgrade = 2, slots = 4 },
-    { number = 3, fault = 3, upgrade = 3, slots = 4 },
-    { number = 4, fault = 4, upgrade = 4, slots = 4 },
-    { number = 5, fault = 5, upgrade = 5, slots = 4 },
-    { number = 6, fault = 6, upgrade = 0, slots = 4 },
-    { number = 7, fault = 7, upgrade = 1, slots = 4 },
-    { number = 8, fault = 8, upgrade = 2, slots = 4 },
-    { number = 9, fault = 9, upgrade = 3, slots = 4 },
-    { number = 10, fault = 10, upgrade = 4, slots = 4 },
-    { number = 11, fault = 11, upgrade = 5, slots = 4 },
-    { number = 12, fault = 12, upgrade = 0, slots = 4 },
-    { number = 13, fault = 13, upgrade = 1, slots = 4 },
-    { number = 14, fault = 14, upgrade = 2, slots = 4 },
-    { number = 15, fault = 15, upgrade = 3, slots = 4 },
-    { number = 16, fault = 16, upgrade = 4, slots = 4 },
-    { number = 17, fault = 17, upgrade = 5, slots = 4 },
-    { number = 18, fault = 18, upgrade = 0, slots = 4 },
-    { number = 19, fault = 19, upgrade = 1, slots = 4 },
-]
-";
-
+/// Returns a book over twenty nodes with four slots, each in a fault domain of its own, in six upgrade domains.
 fn six_domains(alloc: Global) -> Result<Book, Fail> {
-    let nodes = Topology::read(alloc, SIX_DOMAINS.as_bytes())?;
-    Ok(Book::new(alloc, nodes)?)
+    Ok(Book::new(alloc, nodes(alloc, Layout::SixUpgrades, 20)?)?)
 }
 
 #[test]
 fn six_upgrade_domains_suffice_for_a_narrow_stripe(rt: HostRuntime) -> Result<(), Fail> {
-    let mut book = six_domains(rt.alloc())?;
-    place_in_six(&rt, &mut book);
-    close(book);
-    Ok(())
+    on_book!(&rt, six_domains(rt.alloc())?, place_in_six)
 }
 
 /// A class of four finds a domain for each of its fragments, and one of seven does not.
@@ -145,11 +112,7 @@ fn place_in_six(rt: &impl Abort, book: &mut Book) {
 
 #[test]
 fn epochs_go_on_under_the_other_code(rt: HostRuntime) -> Result<(), Fail> {
-    let mut book = book(rt.alloc())?;
-    lease_of_three(&rt, &mut book);
-    lease_of_six(&rt, &mut book);
-    close(book);
-    Ok(())
+    on_book!(&rt, book(rt.alloc())?, lease_of_three, lease_of_six)
 }
 
 /// The lease of fragment 1 of the first stripe, on the first slot of a node.
@@ -209,10 +172,7 @@ fn lease_of_six(rt: &impl Abort, book: &mut Book) {
 
 #[test]
 fn a_narrow_stripe_is_judged_by_its_own_groups(rt: HostRuntime) -> Result<(), Fail> {
-    let mut book = book(rt.alloc())?;
-    lose_a_group(&rt, &mut book);
-    close(book);
-    Ok(())
+    on_book!(&rt, book(rt.alloc())?, lose_a_group)
 }
 
 /// Two of ten nodes fail, with one fragment of each group. Then three more of one group go down, and fail too.
@@ -230,10 +190,7 @@ fn lose_a_group(rt: &impl Abort, book: &mut Book) {
 
 #[test]
 fn no_upgrade_takes_the_rest_of_a_narrow_group(rt: HostRuntime) -> Result<(), Fail> {
-    let mut book = book(rt.alloc())?;
-    upgrade(&rt, &mut book);
-    close(book);
-    Ok(())
+    on_book!(&rt, book(rt.alloc())?, upgrade)
 }
 
 fn domain(number: u8) -> UpgradeNo {

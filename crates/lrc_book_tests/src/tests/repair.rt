@@ -79,20 +79,14 @@ fn repair_in_order(rt: &impl Abort, book: &mut Book) {
 
 #[test]
 fn a_stripe_that_finds_no_node_holds_up_no_other(rt: HostRuntime) -> Result<(), Fail> {
-    let mut book = book(rt.alloc())?;
-    pass_by_the_first(&rt, &mut book);
-    close(book);
-    Ok(())
+    on_book!(&rt, book(rt.alloc())?, pass_by_the_first)
 }
 
 fn pass_by_the_first(rt: &impl Abort, book: &mut Book) {
     lose_homes_of_both(rt, book);
-    let drains = [
-        Command::Drain(node(13)),
-        Command::Drain(node(14)),
-        Command::Drain(node(16)),
-    ];
-    expect_changes(rt, book, &drains);
+    for number in [13, 14, 16] {
+        expect_changes(rt, book, &[Command::Drain(node(number))]);
+    }
     let rows = [
         (Command::Next, granted((ONE, ELEVEN), 15, 1, OF_ELEVEN)),
         (Command::Next, Reply::Idle),
@@ -102,10 +96,7 @@ fn pass_by_the_first(rt: &impl Abort, book: &mut Book) {
 
 #[test]
 fn a_draining_node_is_emptied_by_moves_and_retires(rt: HostRuntime) -> Result<(), Fail> {
-    let mut book = book(rt.alloc())?;
-    drain_and_retire(&rt, &mut book);
-    close(book);
-    Ok(())
+    on_book!(&rt, book(rt.alloc())?, drain_and_retire)
 }
 
 fn drain_and_retire(rt: &impl Abort, book: &mut Book) {
@@ -129,11 +120,7 @@ fn drain_and_retire(rt: &impl Abort, book: &mut Book) {
 
 #[test]
 fn an_upgrade_that_would_lose_a_stripe_is_refused(rt: HostRuntime) -> Result<(), Fail> {
-    let mut book = book(rt.alloc())?;
-    upgrade(&rt, &mut book);
-    upgrade_with_losses(&rt, &mut book);
-    close(book);
-    Ok(())
+    on_book!(&rt, book(rt.alloc())?, upgrade, upgrade_with_losses)
 }
 
 /// Domain 0 is upgraded, and no other one meanwhile.

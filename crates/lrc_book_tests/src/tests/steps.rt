@@ -9,10 +9,7 @@ use std::test::Fail;
 
 #[test]
 fn a_reply_is_known_before_its_step(rt: HostRuntime) -> Result<(), Fail> {
-    let mut book = book(rt.alloc())?;
-    decide_each(&rt, &mut book);
-    close(book);
-    Ok(())
+    on_book!(&rt, book(rt.alloc())?, decide_each)
 }
 
 fn decide_each(rt: &impl Abort, book: &mut Book) {

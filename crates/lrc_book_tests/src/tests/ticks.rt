@@ -39,11 +39,7 @@ fn expect_lease(rt: &impl Abort, book: &Book, fragment: Fragment, wanted: Option
 
 #[test]
 fn a_lease_ends_at_the_third_tick(rt: HostRuntime) -> Result<(), Fail> {
-    let mut book = book(rt.alloc())?;
-    lose_the_lease(&rt, &mut book);
-    lease_again(&rt, &mut book);
-    close(book);
-    Ok(())
+    on_book!(&rt, book(rt.alloc())?, lose_the_lease, lease_again)
 }
 
 /// Fragment 3 is leased before the first tick. After the third one its target is no longer a seat.
@@ -79,10 +75,7 @@ fn lease_again(rt: &impl Abort, book: &mut Book) {
 
 #[test]
 fn each_lease_ends_three_ticks_after_its_grant(rt: HostRuntime) -> Result<(), Fail> {
-    let mut book = book(rt.alloc())?;
-    lose_two_leases(&rt, &mut book);
-    close(book);
-    Ok(())
+    on_book!(&rt, book(rt.alloc())?, lose_two_leases)
 }
 
 /// The lease of fragment 4, granted after the first tick.
@@ -132,11 +125,7 @@ fn expect_leases(rt: &impl Abort, book: &Book, three: Option<Lease>, four: Optio
 
 #[test]
 fn what_comes_after_the_end_is_refused(rt: HostRuntime) -> Result<(), Fail> {
-    let mut book = book(rt.alloc())?;
-    come_too_late(&rt, &mut book);
-    come_in_time(&rt, &mut book);
-    close(book);
-    Ok(())
+    on_book!(&rt, book(rt.alloc())?, come_too_late, come_in_time)
 }
 
 /// A lease that has ended is neither reported nor given back nor revoked.
