@@ -227,13 +227,7 @@ impl Store {
             Command::Lease(stripe, fragment) => {
                 self.lease_reply(counts, session, stripe, fragment)
             }
-            Command::Next => {
-                if self.stripes.has_work() {
-                    self.next_reply(counts, cursor, session)
-                } else {
-                    Answer::Idle
-                }
-            }
+            Command::Next => self.next_reply(counts, cursor, session),
             Command::Done(stripe, fragment, epoch) => {
                 self.done_reply(session, stripe, fragment, epoch)
             }

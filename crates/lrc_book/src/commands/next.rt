@@ -22,8 +22,27 @@ use lrc_leases::Grants;
 use lrc_stripes::Work;
 
 impl Store {
-    #[inline(never)]
+    #[inline(always)] // a step without work then makes no call here
     pub(crate) fn next_reply(
+        &self,
+        counts: &Grants,
+        cursor: Option<StripeNo>,
+        session: SessionNo,
+    ) -> Answer
+        requires few { AreFew counts.now }
+        requires cursor { HasRepairCursor self.now cursor }
+        ensures { (st : State) (past : List Entry) → IsOf st self.now → AreGrantsOf past counts.now → IsRepairCursor self.now.topology st cursor
+            → told result ≡ (next_outcome self.now.topology past st session).0 }
+    {
+        if !self.stripes.has_work() {
+            return Answer::Idle;
+        }
+        self.next_reply_with_work(counts, cursor, session)
+    }
+
+    /// The same. Some stripe has work.
+    #[inline(never)]
+    fn next_reply_with_work(
         &self,
         counts: &Grants,
         cursor: Option<StripeNo>,

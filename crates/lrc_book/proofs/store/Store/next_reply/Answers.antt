@@ -1,22 +1,17 @@
-use Rattle.std.proofs.Common.{Option, option_map, sym, ap, ◌∙◌}
+use Rattle.std.proofs.Common.{◌≡◌, true, false, Option, sym, ap, subst, ◌∙◌}
+use Rattle.lrc_stripes.specs.Stored.{Stored, has_work}
 use Rattle.lrc_terms.specs.Stripes.{StripeFragment}
-use Rattle.lrc_book.specs.declared.repair.Repair.{Repair}
+use Rattle.lrc_stripes.specs.Tables.{stored_in}
 use Rattle.lrc_rules.specs.Leases.{next_answer, next_outcome}
-use Rattle.lrc_book.specs.Repairing.{fragment_of}
-use Rattle.lrc_book.proofs.NextRepairLemmas.{repair-granted}
 use Rattle.lrc_book.proofs.store.Store.next_reply.Goals as goal
+use Rattle.lrc_book.proofs.WorkLemmas.{idle-next}
 
-pub returns-in-Some : goal.returns-in-Some
+pub returns-then-not-has_work : goal.returns-then-not-has_work
 unfolding next_outcome
-returns-in-Some c = λ st past kept counted ahead.
+returns-then-not-has_work c = λ st past kept counted ahead.
     let nodes = c.args.self.now.topology in
-    let found = sym (ap (λ (o : Option Repair). option_map fragment_of o) c.in-Some.is) ∙ c.next_repair.ensures.first st kept ahead in
-    c.granted_to.ensures past st counted kept.clock_is
-    ∙ sym (repair-granted nodes past st c.args.session c.in-Some.repair (c.in-Some.ensures.repair st kept))
-    ∙ ap (λ (o : Option StripeFragment). (next_answer nodes past st c.args.session o).0) found
-
-pub returns-in-None : goal.returns-in-None
-unfolding next_outcome
-returns-in-None c = λ st past kept counted ahead.
-    let none = sym (ap (λ (o : Option Repair). option_map fragment_of o) c.in-None.is) ∙ c.next_repair.ensures.first st kept ahead in
-    ap (λ (o : Option StripeFragment). (next_answer c.args.self.now.topology past st c.args.session o).0) none
+    let none = idle-next nodes st (stored_in c.args.self.now.stripes).spare
+    (λ s has.
+    (let some : c.has_work.result ≡ true = c.has_work.ensures.1 (s, subst (λ (t : Stored). has_work t s ≡ true) (sym kept.stripes_is) has) in
+    let both : true ≡ false = sym some ∙ c.if-not-has_work.true in cc)) in
+    ap (λ (o : Option StripeFragment). (next_answer nodes past st c.args.session o).0) none
