@@ -7,7 +7,8 @@ use Rattle.std.proofs.lemmas.List.FromFn.{length-map-range_with_len, get_or-map-
 use Rattle.std.proofs.lemmas.Nat.Bits.{bit_at-zero}
 use Rattle.std.specs.Int.{bit_at, bit_not, trailing_zeros}
 use Rattle.lrc_bits.specs.Flags.{flags, words_left, IsFirstFrom}
-use Rattle.lrc_bits.proofs.FlagLemmas.{length-flags, found-later, flags-remove}
+use Rattle.lrc_bits.proofs.FlagLemmas.{length-flags, flags-remove}
+use Rattle.lrc_bits.proofs.FirstFlagLemmas.{found-later}
 use Rattle.lrc_bits.proofs.UnionLemmas.{flags-empty}
 
 -- the word at `j` of what is left

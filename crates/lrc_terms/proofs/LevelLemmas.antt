@@ -13,7 +13,8 @@ use Rattle.lrc_code.specs.declared.numbers.Fragment.{Fragment}
 use Rattle.lrc_code.specs.Codes.{fragments, fragment_count, has_fragment}
 use Rattle.lrc_code.specs.Losses.{FragmentSet, losses_in, size_of, bits_set, IsRecoverable, is_recoverable, IsMargin, margin_of}
 use Rattle.lrc_code.proofs.LossesLemmas.{by_test, size_of-classes}
-use Rattle.lrc_code.proofs.MarginLemmas.{by_margin, by_no_margin, recoverable_part, three_recoverable, margin_all_whole, IsMargin-unique, margin-two}
+use Rattle.lrc_code.proofs.MarginLemmas.{by_margin, by_no_margin, margin_all_whole, IsMargin-unique}
+use Rattle.lrc_code.proofs.SizeLemmas.{recoverable_part, three_recoverable, margin-two}
 use Rattle.lrc_topology.specs.declared.seat.Seat.{Seat}
 use Rattle.lrc_terms.specs.declared.level.Level.TheVariants.{Whole, AtRisk, Unavailable, Lost}
 use Rattle.lrc_terms.specs.Levels.{Homes, homeless_in, missing_in, SomeMissing, NoneMissing, has_some, level_by, level_at, rank_by, rank_at}

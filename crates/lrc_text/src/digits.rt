@@ -2,7 +2,7 @@
 
 ghost use Rattle.std.specs.Prelude.{◌≡◌, ◌+◌, ◌/◌, ◌%◌, ◌^◌, ◌<◌, ◌≤◌, ◌∷◌, ◌++◌, length, drop, decimal};
 
-use crate::texts::write_words;
+use crate::parts::write_words;
 
 /// The two digits of each number below 100.
 static PAIRS: [[u8; 2]; 100] = [

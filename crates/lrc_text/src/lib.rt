@@ -3,6 +3,7 @@
 
 mod digits;
 mod masks;
+mod parts;
 mod table;
 mod tables;
 mod texts;

@@ -1,5 +1,5 @@
 use Rattle.std.proofs.Common.{arith}
-use Rattle.lrc_bits.proofs.FlagLemmas.{off-more, found-later, found-none_from}
+use Rattle.lrc_bits.proofs.FirstFlagLemmas.{off-more, found-later, found-none_from}
 use Rattle.lrc_bits.proofs.bit_set.BitSet.first.Goals as goal
 
 pub returns-then-word-ne0 : goal.returns-then-word-ne0

@@ -1,5 +1,5 @@
 use Rattle.std.proofs.Common.{arith, get_or, ◌/◌, ◌%◌}
-use Rattle.lrc_bits.proofs.FlagLemmas.{off-start, off-more, found-start, found-later, found-none_from, shifted-small}
+use Rattle.lrc_bits.proofs.FirstFlagLemmas.{off-start, off-more, found-start, found-later, found-none_from, shifted-small}
 use Rattle.lrc_bits.proofs.bit_set.BitSet.first_from.Goals as goal
 
 pub returns-then-rest-ne0 : goal.returns-then-rest-ne0

@@ -1,5 +1,5 @@
 use Rattle.std.proofs.Common.{arith, get_or, ◌/◌, ◌%◌}
-use Rattle.lrc_bits.proofs.FlagLemmas.{found-start, start-near, start-none, near-past, shifted-small}
+use Rattle.lrc_bits.proofs.FirstFlagLemmas.{found-start, start-near, start-none, near-past, shifted-small}
 use Rattle.lrc_bits.proofs.bit_set.BitSet.first_near.Goals as goal
 
 pub returns-then-rest-ne0 : goal.returns-then-rest-ne0

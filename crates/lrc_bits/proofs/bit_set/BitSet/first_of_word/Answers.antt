@@ -1,5 +1,5 @@
 use Rattle.std.proofs.Common.{arith}
-use Rattle.lrc_bits.proofs.FlagLemmas.{word-filled, found-in_word}
+use Rattle.lrc_bits.proofs.FirstFlagLemmas.{word-filled, found-in_word}
 use Rattle.lrc_bits.proofs.bit_set.BitSet.first_of_word.Goals as goal
 
 pub bounds-words-index : goal.bounds-words-index

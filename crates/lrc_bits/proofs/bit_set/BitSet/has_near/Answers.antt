@@ -1,5 +1,6 @@
 use Rattle.std.proofs.Common.{arith, ◌/◌}
-use Rattle.lrc_bits.proofs.FlagLemmas.{word-within, near-some, near-none, is_zero, is_not_zero}
+use Rattle.lrc_bits.proofs.FlagLemmas.{word-within}
+use Rattle.lrc_bits.proofs.FirstFlagLemmas.{near-some, near-none, is_zero, is_not_zero}
 use Rattle.lrc_bits.proofs.bit_set.BitSet.has_near.Goals as goal
 
 pub bounds-self-inside-number : goal.bounds-self-inside-number

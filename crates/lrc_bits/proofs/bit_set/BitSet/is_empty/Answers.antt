@@ -1,5 +1,5 @@
 use Rattle.std.proofs.Common.{◌≡◌, arith, eqb-true, eq-eqb, get_or, ◌<◌, ◌^◌}
-use Rattle.lrc_bits.proofs.FlagLemmas.{up_to}
+use Rattle.lrc_bits.proofs.FirstFlagLemmas.{up_to}
 use Rattle.lrc_bits.proofs.UnionLemmas.{or-zero, or-both_zero, or-small, flags-empty, empty-flags}
 use Rattle.lrc_bits.proofs.bit_set.BitSet.is_empty.Goals as goal
 

@@ -1,6 +1,6 @@
 use Rattle.std.proofs.Common.{◌≡◌, ◌+◌, ◌*◌, ◌≤◌, ◌++◌, length, drop, decimal, map}
 use Rattle.lrc_text.specs.Texts.{spaced}
-use Rattle.lrc_text.proofs.texts.write_sources.Given as goal
+use Rattle.lrc_text.proofs.parts.write_sources.Given as goal
 
 abbrev pub invariant-loop-left : goal.invariant-loop-left
 invariant-loop-left l = record {

@@ -1,7 +1,7 @@
 use Rattle.std.proofs.Common.{◌≤◌, length, decimal, arith}
 use Rattle.std.proofs.lemmas.Fmt.{length-decimal-le}
-use Rattle.lrc_text.proofs.texts.write_u16.Goals as goal
-use Rattle.lrc_text.proofs.texts.write_u16.Goals.{After-from}
+use Rattle.lrc_text.proofs.parts.write_u16.Goals as goal
+use Rattle.lrc_text.proofs.parts.write_u16.Goals.{After-from}
 
 -- a number of 16 bits has at most five digits
 short : (c : After-from) → length (decimal c.from.result) ≤ 5

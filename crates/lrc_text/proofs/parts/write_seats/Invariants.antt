@@ -1,6 +1,6 @@
 use Rattle.std.proofs.Common.{◌≡◌, ◌+◌, ◌*◌, ◌≤◌, ◌++◌, length, drop, map}
 use Rattle.lrc_text.specs.Texts.{seat_text, spaced}
-use Rattle.lrc_text.proofs.texts.write_seats.Given as goal
+use Rattle.lrc_text.proofs.parts.write_seats.Given as goal
 
 abbrev pub invariant-loop-left : goal.invariant-loop-left
 invariant-loop-left l = record {

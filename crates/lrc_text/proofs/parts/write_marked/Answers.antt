@@ -1,6 +1,6 @@
 use Rattle.std.proofs.Common.{◌≡◌, ◌+◌, ◌-◌, ◌∷◌, drop, ap, ◌∙◌, arith}
 use Rattle.std.proofs.lemmas.List.{drop-set}
-use Rattle.lrc_text.proofs.texts.write_marked.Goals as goal
+use Rattle.lrc_text.proofs.parts.write_marked.Goals as goal
 
 pub returns-clause-written : goal.returns-clause-written
 returns-clause-written c =
