@@ -1,11 +1,10 @@
 -- The chains of a table after a number is added or removed.
-use Rattle.std.proofs.Common.{◌≡◌, ◌≢◌, ◌⊎◌, ◌<◌, ◌≤◌, ℕ, zero, suc, ◌+◌, inl, inr, true, false, not, if◌then◌else◌, nat_eq, List, [], ◌∷◌, length, get_or, arith, refl, sym, ap, ◌∙◌, subst}
+use Rattle.std.proofs.Common.{◌≡◌, ◌≢◌, ◌⊎◌, ◌<◌, ◌≤◌, ℕ, zero, suc, inl, inr, not, if◌then◌else◌, nat_eq, List, [], ◌∷◌, length, arith, sym, ◌∙◌, subst}
 use Rattle.std.specs.List.{Contains}
 use Rattle.std.proofs.lemmas.Bool.{cases_eq, eq-eqb, ne_eqb}
-use Rattle.slab.proofs.SlabLemmas.{Contains-cons, Contains-cons_cases}
-use Rattle.lrc_leases.specs.declared.link.Link.{Link}
-use Rattle.lrc_leases.specs.Chains.{ChainTable, at, no_link, after_at, before_at, walk, chain_in, without, AreOnce, AreLinked, AreChained}
-use Rattle.lrc_terms.proofs.LeaseLemmas.{Contains-filter, filter-contains}
+use Rattle.slab.proofs.SlabLemmas.{Contains-cons_cases}
+use Rattle.lrc_leases.specs.Chains.{ChainTable, at, after_at, before_at, chain_in, without, AreOnce, AreLinked, AreChained}
+use Rattle.lrc_terms.proofs.LeaseLemmas.{Contains-filter}
 use Rattle.lrc_leases.proofs.ChainLemmas.{without-once, once-few, walk-linked, positive, first-in, after-in, before-first, before-in, linked-more, others-more, linked-less, others-less}
 
 -- ---- the chains of a table
