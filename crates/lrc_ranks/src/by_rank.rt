@@ -3,8 +3,7 @@ ghost use Rattle.std.specs.Iterator.{YieldsFirst};
 ghost use Rattle.std.specs.List.{list_any};
 ghost use Rattle.lrc_code.specs.Numbers.{same_stripe};
 ghost use Rattle.lrc_code.specs.declared.numbers.StripeNo.{StripeNo as AnyStripe};
-ghost use Rattle.lrc_ranks.specs.Ranks.{is_at};
-ghost use Rattle.lrc_ranks.specs.Ranks.{queue_from};
+ghost use Rattle.lrc_ranks.specs.Ranks.{is_at, queue_from};
 ghost use Rattle.lrc_ranks.specs.Sets.{FindsNext, at_rank, has};
 
 use crate::marked_set::MarkedSet;

@@ -2,9 +2,8 @@ ghost use Rattle.std.specs.Prelude.{◌≡◌, ◌||◌, ℕ, ◌+◌, ◌≤◌
 ghost use Rattle.std.specs.List.{list_any};
 ghost use Rattle.lrc_code.specs.Numbers.{same_stripe};
 ghost use Rattle.lrc_code.specs.declared.numbers.StripeNo.{StripeNo as AnyStripe};
-ghost use Rattle.lrc_ranks.specs.Ranks.{is_at};
+ghost use Rattle.lrc_ranks.specs.Ranks.{is_at, queue_from};
 ghost use Rattle.lrc_ranks.specs.Kept.{one_if};
-ghost use Rattle.lrc_ranks.specs.Ranks.{queue_from};
 ghost use Rattle.lrc_ranks.specs.Sets.{at_rank, has};
 
 use crate::by_rank::{ByRank, Position};

@@ -207,7 +207,7 @@ pub(crate) fn read_all<R: Source>(
     Ok(bytes)
 }
 
-/// Writes all of the bytes, and then flushes once.
+/// Writes all of the bytes, and flushes after the last write.
 pub(crate) fn write_all<W: Sink>(sink: &mut W, bytes: &[u8]) -> Result<(), RunFault>
     ensures written { OnOk result (Appends (W.written sink.old) (W.written sink.new) bytes.now) }
     ensures part { OnErr result (AppendsPart (W.written sink.old) (W.written sink.new) bytes.now) }
