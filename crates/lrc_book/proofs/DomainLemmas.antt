@@ -15,7 +15,8 @@ use Rattle.lrc_stripes.specs.Tables as tables
 use Rattle.lrc_stripes.specs.Tables.{stored_in}
 use Rattle.lrc_book.specs.declared.store.Store.{Store}
 use Rattle.lrc_book.specs.declared.modes.Modes.{Modes}
-use Rattle.lrc_rules.specs.States.{State, mode_of, is_gone, is_down, is_online, online_at}
+use Rattle.lrc_terms.specs.Modes.{is_gone}
+use Rattle.lrc_rules.specs.States.{State, mode_of, is_down, is_online, online_at}
 use Rattle.lrc_rules.specs.Steps.{with_upgrading, without_upgrading}
 use Rattle.lrc_book.specs.Stores.{IsOf, AreModesOf, stored_of, with_rest}
 use Rattle.lrc_rules.proofs.SeatedLemmas.{upgrading-seated}

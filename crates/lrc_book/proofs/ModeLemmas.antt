@@ -20,10 +20,11 @@ use Rattle.lrc_book.specs.declared.store.Store.{Store}
 use Rattle.lrc_book.specs.declared.modes.Modes.{Modes}
 use Rattle.lrc_rules.specs.Goodness.{AreSeated}
 use Rattle.lrc_book.specs.Stores.{IsOf, IsOfBut, StaysAsItWas, AreModesOf, kept_table, stored_of}
-use Rattle.lrc_rules.specs.States.{State, held_by, mode_of, is_active, is_draining, is_gone, is_down, is_online, takes_seats, online_at, drains_at}
+use Rattle.lrc_terms.specs.Modes.{is_active, is_draining, is_gone}
+use Rattle.lrc_rules.specs.States.{State, held_by, mode_of, is_down, is_online, takes_seats, online_at, drains_at}
 use Rattle.lrc_rules.specs.Steps.{without_upgrading}
-use Rattle.lrc_rules.specs.declared.mode.Mode.{Mode}
-use Rattle.lrc_rules.specs.declared.mode.Mode.TheVariants.{Active, Draining, Gone}
+use Rattle.lrc_terms.specs.declared.mode.Mode.{Mode}
+use Rattle.lrc_terms.specs.declared.mode.Mode.TheVariants.{Active, Draining, Gone}
 use Rattle.lrc_rules.proofs.NodeLemmas.{member-node_at}
 use Rattle.lrc_book.proofs.StoredLemmas.{same_modes, same_lists, own-spare}
 use Rattle.lrc_rules.proofs.NodeCommandLemmas.{IsAsItWas}

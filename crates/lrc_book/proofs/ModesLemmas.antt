@@ -2,10 +2,11 @@
 use Rattle.std.proofs.Common.{◌≡◌, refl, subst}
 use denote.Enum.Bare.{sameb}
 use Rattle.lrc_rules.specs.contracts.mode.Mode.{the_type}
-use Rattle.lrc_rules.specs.declared.mode.Mode.{Mode}
-use Rattle.lrc_rules.specs.declared.mode.Mode.TheVariants.{Active, Draining, Gone}
+use Rattle.lrc_terms.specs.declared.mode.Mode.{Mode}
+use Rattle.lrc_terms.specs.declared.mode.Mode.TheVariants.{Active, Draining, Gone}
 use Rattle.lrc_book.specs.declared.modes.Modes.{Modes}
-use Rattle.lrc_rules.specs.States.{State, is_active, is_draining, is_gone}
+use Rattle.lrc_terms.specs.Modes.{is_active, is_draining, is_gone}
+use Rattle.lrc_rules.specs.States.{State}
 use Rattle.lrc_book.specs.Stores.{AreModesOf}
 
 -- what is kept of the modes is that of each state that differs in its stripes, their codes, homes and leases alone

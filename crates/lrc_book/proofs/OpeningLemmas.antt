@@ -12,7 +12,8 @@ use Rattle.lrc_stripes.specs.Tables.{stored_in}
 use Rattle.lrc_terms.specs.Leased as leased
 use Rattle.lrc_leases.specs.Tables.{leased_in}
 use Rattle.lrc_book.specs.declared.store.Store.{Store}
-use Rattle.lrc_rules.specs.States.{opening, mode_of, is_draining, takes_seats, is_online, online_at, drains_at}
+use Rattle.lrc_terms.specs.Modes.{is_draining}
+use Rattle.lrc_rules.specs.States.{opening, mode_of, takes_seats, is_online, online_at, drains_at}
 use Rattle.lrc_book.specs.Stores.{IsOf, AreModesOf}
 use Rattle.lrc_rules.proofs.StepSeatedLemmas.{opening-seated}
 use Rattle.lrc_book.proofs.StoredLemmas.{same_modes, own-spare}

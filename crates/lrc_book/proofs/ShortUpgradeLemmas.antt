@@ -26,7 +26,7 @@ use Rattle.lrc_terms.specs.Levels.{home_of, needs_in, has_some}
 use Rattle.lrc_stripes.specs.Stored.{is_home_on, has_work}
 use Rattle.lrc_stripes.specs.Upgrades.{is_stripe_on, offline_count, IsFirstLostTo, IsFirstShortLostTo, is_short_lost_to}
 use Rattle.lrc_terms.proofs.LevelLemmas.{has_some-false}
-use Rattle.lrc_rules.specs.declared.mode.Mode.TheVariants.{Gone}
+use Rattle.lrc_terms.specs.declared.mode.Mode.TheVariants.{Gone}
 use Rattle.lrc_rules.specs.States.{State, has_stripe, code_of, held_by, seats_of, taken_seats, mode_of, online_at, drains_at, missing}
 use Rattle.lrc_rules.specs.Repairs.{is_safe}
 use Rattle.lrc_rules.specs.Goodness.{AreSeated, IsStanding}

@@ -17,7 +17,8 @@ use Rattle.lrc_topology.specs.Nodes.{node_at, has_domain}
 use Rattle.lrc_terms.specs.Levels.{homes_of, missing_in}
 use Rattle.lrc_stripes.specs.Upgrades.{is_in_domain, IsFirstLostTo}
 use Rattle.lrc_rules.specs.declared.reply.Reply.TheVariants.{Changed, Refused}
-use Rattle.lrc_rules.specs.States.{State, has_stripe, code_of, mode_of, is_gone, is_down, is_online, online_at}
+use Rattle.lrc_terms.specs.Modes.{is_gone}
+use Rattle.lrc_rules.specs.States.{State, has_stripe, code_of, mode_of, is_down, is_online, online_at}
 use Rattle.lrc_rules.specs.Repairs.{is_safe}
 use Rattle.lrc_rules.specs.Outcomes.{Outcome}
 use Rattle.lrc_rules.specs.Steps.{with_upgrading, is_lost_to, would_lose, upgrade_answer, upgrade_outcome, is_the_domain, upgraded_outcome}

@@ -28,7 +28,8 @@ use Rattle.lrc_leases.specs.Granted.{granted_in}
 use Rattle.lrc_rules.specs.declared.entry.Entry.{Entry}
 use Rattle.lrc_book.specs.declared.store.Store.{Store}
 use Rattle.lrc_book.specs.declared.modes.Modes.{Modes}
-use Rattle.lrc_rules.specs.States.{State, has_stripe, lease_of, code_of, has_number, mode_of, is_draining, takes_seats, is_online, online_at, drains_at}
+use Rattle.lrc_terms.specs.Modes.{is_draining}
+use Rattle.lrc_rules.specs.States.{State, has_stripe, lease_of, code_of, has_number, mode_of, takes_seats, is_online, online_at, drains_at}
 use Rattle.lrc_rules.specs.Placement.{chosen}
 use Rattle.lrc_rules.specs.declared.kind.Kind.{Kind}
 use Rattle.lrc_rules.specs.Repairs.{kind, is_beyond_repair}

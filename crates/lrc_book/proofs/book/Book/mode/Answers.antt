@@ -1,6 +1,6 @@
 use Rattle.std.proofs.Common.{List, Some, option_map, Bool, ap, ap₂, sym, ◌∙◌}
 use Rattle.lrc_topology.specs.declared.NodeInfo.{NodeInfo}
-use Rattle.lrc_rules.specs.declared.mode.Mode.{Mode}
+use Rattle.lrc_terms.specs.declared.mode.Mode.{Mode}
 use Rattle.lrc_rules.specs.States.{mode_of, is_online, mode_shown}
 use Rattle.lrc_book.specs.Books.{state_of}
 use Rattle.lrc_book.proofs.book.Book.mode.Goals as goal

@@ -1,6 +1,7 @@
 use Rattle.std.proofs.Common.{◌≡◌, Bool, ◌&&◌, not, sym, ap, ap₂, ◌∙◌}
 use Rattle.lrc_slots.specs.Slots.{Slots}
-use Rattle.lrc_rules.specs.States.{is_active, is_draining, online_at}
+use Rattle.lrc_terms.specs.Modes.{is_active, is_draining}
+use Rattle.lrc_rules.specs.States.{online_at}
 use Rattle.lrc_book.proofs.ModesLemmas.{same-active, same-draining}
 use Rattle.lrc_book.proofs.ModeLemmas.{follows}
 use Rattle.lrc_book.proofs.store.Store.follow.Goals.{then-eq, else-eq}
