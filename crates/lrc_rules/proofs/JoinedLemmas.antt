@@ -59,7 +59,7 @@ module _ (st : State) (apart : NoneBoth st) where
   both-here command.Join n right gone = absurd (never-both (has_number (without_number st.gone n) n) gone (left-here st n st.gone))
   both-here _ n right gone = left-here st n st.draining
 
-  command-both : (command : NodeCommand) (n : NodeNo) → is_wrong_on command st n ≡ false → NoneBoth (changed_on command st n)
+  pub command-both : (command : NodeCommand) (n : NodeNo) → is_wrong_on command st n ≡ false → NoneBoth (changed_on command st n)
   command-both command n right m gone = elim (cases_Bool (eqb n.value m.value)) [
     | inl same ↦
         let next = changed_on command st n in
