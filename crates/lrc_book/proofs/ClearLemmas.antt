@@ -20,7 +20,6 @@ use Rattle.lrc_rules.specs.Steps.{without_upgrading}
 use Rattle.lrc_rules.specs.Goodness.{AreSeated}
 use Rattle.lrc_book.specs.Ties.{table_of}
 use Rattle.lrc_book.proofs.ClosedLemmas.{settled-seated}
-use Rattle.lrc_book.proofs.ModesLemmas.{same-modes}
 use Rattle.lrc_rules.proofs.MemberLemmas.{filter-member, member-filter, map-member, Contains-cases, not-Contains-nil, list_any-member}
 use Rattle.lrc_rules.proofs.NodeLemmas.{member-taken}
 use Rattle.lrc_rules.proofs.LeaseGoodLemmas.{homes-seated}
@@ -189,7 +188,8 @@ module _ (st : State) (k : Store) (kept : IsOf st k) (s : StripeNo) (f : Fragmen
         stripes_is = own-spare nodes (without_home st s f) (stored_in stripes) (stored_in k.stripes).spare
             (cleared ∙ ap (λ (t : Stored). stored.with_home t s f None) kept.stripes_is ∙ stored-clear nodes st (stored_in k.stripes).spare s f);
         leases_is = kept.leases_is;
-        modes_are = same-modes st (without_home st s f) k.modes refl kept.modes_are;
+        apart = kept.apart;
+        upgrading_is = kept.upgrading_is;
         clock_is = kept.clock_is;
       }
 

@@ -12,7 +12,8 @@ use Rattle.lrc_topology.specs.Seats.{free_slot}
 use Rattle.lrc_slots.specs.Slots.{least_free_at}
 use Rattle.lrc_slots.specs.Barred.{Barred}
 use Rattle.lrc_slots.specs.Next.{may_take, is_chosen_before, next_node}
-use Rattle.lrc_rules.specs.States.{State, mode_of, is_active, is_gone, is_down, taken_seats}
+use Rattle.lrc_terms.specs.Modes.{is_active, is_gone}
+use Rattle.lrc_rules.specs.States.{State, mode_of, is_down, taken_seats}
 use Rattle.lrc_rules.specs.Goodness.{AreSeated}
 use Rattle.lrc_book.specs.Ties.{table_of, next_seat}
 use Rattle.lrc_rules.specs.Steps.{without_upgrading}

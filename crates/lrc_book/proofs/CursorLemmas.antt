@@ -1,6 +1,6 @@
 -- The cursor, before which nothing is grantable, and what a grant leaves of it.
 use Rattle.std.proofs.Common.{[], ◌≡◌, ◌≢◌, ℕ, inl, inr, true, not, List, ◌∷◌, ◌++◌, map, find, Option, Some, None, arith, refl, sym, ap, ◌∙◌, subst}
-use Rattle.std.specs.List.{Contains}
+use Rattle.std.specs.List.{AllPairs, Contains}
 use Rattle.std.specs.Option.{option_or}
 use Rattle.std.proofs.lemmas.Bool.{cases_Bool, and_parts, and_from}
 use Rattle.std.proofs.lemmas.List.{map-append, append_assoc}
@@ -31,6 +31,7 @@ use Rattle.lrc_rules.proofs.UrgencyLemmas.{fragments-from, needs-own}
 use Rattle.lrc_rules.proofs.MostUrgentLemmas.{stripe-words, grantable-words}
 use Rattle.lrc_terms.proofs.CodeListLemmas.{code-fragments}
 use Rattle.lrc_book.proofs.WorkLemmas.{grantable-own, granted-works, has-work}
+use Rattle.lrc_book.proofs.NodeStateLemmas.{rank-kept}
 use Rattle.lrc_rules.proofs.LookUpLemmas.{stripe-there}
 
 -- ---- with one more lease, what is grantable was so
@@ -131,7 +132,7 @@ module _ (nodes : List NodeInfo) (st : State) (spare : ℕ) where
   pub grantable-all : (stripes : List StripeNo) → AreWork (stored_of nodes st spare) stripes → HaveGrantable nodes st stripes
   grantable-all stripes are = record {
     there = λ s here. there-by s ((are.each s).0 here);
-    rising = are.rising;
+    rising = subst (λ (by : StripeNo → ℕ). AllPairs (λ r t. comes_first by r t ≡ true) stripes) (rank-kept nodes st spare) are.rising;
     each = λ p there grantable. (are.each p.0).1 (has-work nodes st spare p.0 there (granted-works nodes st spare p grantable));
   }
 
@@ -139,8 +140,8 @@ module _ (nodes : List NodeInfo) (st : State) (spare : ℕ) where
       → HaveGrantable nodes st stripes
   grantable-from first stripes past are = record {
     there = λ s here. there-by s (and_parts (has_work (stored_of nodes st spare) s) _ ((are.each s).0 here)).0;
-    rising = are.rising;
+    rising = subst (λ (by : StripeNo → ℕ). AllPairs (λ r t. comes_first by r t ≡ true) stripes) (rank-kept nodes st spare) are.rising;
     each = λ p there grantable.
         let words = grantable-words nodes st p (member-filter (is_grantable nodes st) (all_fragments st) p (fragments-from st st.stripes p (grantable-own nodes st p grantable) there) grantable) in
-        (are.each p.0).1 (and_from _ _ (has-work nodes st spare p.0 there (granted-works nodes st spare p grantable)) (ap not (past.first p words)));
+        (are.each p.0).1 (and_from _ _ (has-work nodes st spare p.0 there (granted-works nodes st spare p grantable)) (ap (λ (by : StripeNo → ℕ). not (comes_first by p.0 first)) (rank-kept nodes st spare) ∙ ap not (past.first p words)));
   }

@@ -13,6 +13,7 @@ use Rattle.lrc_topology.specs.declared.seat.Held.{Held}
 use Rattle.lrc_topology.specs.Nodes.{node_at}
 use Rattle.lrc_slots.specs.Slots.{Slots, with_taken, with_free}
 use Rattle.lrc_slots.specs.Tables.{slots_of}
+use Rattle.lrc_nodes.specs.States.{infos_in}
 use Rattle.lrc_stripes.specs.Stored.{Stored, has_slot, HasNoHome}
 use Rattle.lrc_stripes.specs.Tables.{stored_in}
 use Rattle.lrc_terms.specs.declared.lease.Lease.{Lease}
@@ -29,8 +30,8 @@ use Rattle.lrc_book.specs.Ties.{table_of}
 use Rattle.lrc_book.specs.Dropping.{unleased}
 use Rattle.lrc_rules.specs.Steps.{without_upgrading}
 use Rattle.lrc_book.specs.Stores.{IsOf, IsGrant, kept_table}
+use Rattle.lrc_book.proofs.NodeStateLemmas.{infos-kept}
 use Rattle.lrc_book.proofs.ClosedLemmas.{settled-seated}
-use Rattle.lrc_book.proofs.ModesLemmas.{same-modes}
 use Rattle.lrc_rules.proofs.MemberLemmas.{map-member, filter-member, member-filter}
 use Rattle.lrc_rules.proofs.NodeLemmas.{member-taken}
 use Rattle.lrc_rules.proofs.PairLemmas.{pairs-across, pairs-right, pairs-members}
@@ -167,7 +168,8 @@ module _ (st : State) (k : Store) (kept : IsOf st k) (s : StripeNo) (f : Fragmen
         ∙ end-table k.topology (without_upgrading st) s f l live (settled-seated k.topology st kept.seated);
     stripes_is = kept.stripes_is;
     leases_is = leases-out leases out;
-    modes_are = same-modes st (without_lease st s f) k.modes refl kept.modes_are;
+    apart = kept.apart;
+    upgrading_is = kept.upgrading_is;
     clock_is = kept.clock_is;
   }
 
@@ -180,7 +182,8 @@ module _ (st : State) (k : Store) (kept : IsOf st k) (s : StripeNo) (f : Fragmen
     table_is = kept.table_is ∙ ap (λ (ls : List Lease). kept_table k.topology (record st { leases = ls })) (sym (none-out st.leases s f.value none));
     stripes_is = kept.stripes_is;
     leases_is = leases-out leases out;
-    modes_are = same-modes st (without_lease st s f) k.modes refl kept.modes_are;
+    apart = kept.apart;
+    upgrading_is = kept.upgrading_is;
     clock_is = kept.clock_is;
   }
 
@@ -190,8 +193,10 @@ module _ (st : State) (k : Store) (kept : IsOf st k) (s : StripeNo) (f : Fragmen
   pub move-own : IsTrue (has_fragment ((stored_in k.stripes).code s) f.value)
   move-own = ap (λ (t : Stored). has_fragment (t.code s) f.value) kept.stripes_is ∙ lease-own k.topology st s f l live kept.seated
 
-  pub move-slot : IsTrue (has_slot (stored_in k.stripes).nodes l.target)
-  move-slot = ap (λ (t : Stored). has_slot t.nodes l.target) kept.stripes_is ∙ target-slot k.topology st s f l live kept.seated
+  pub move-slot : IsTrue (has_slot (infos_in (stored_in k.stripes).nodes) l.target)
+  move-slot =
+      ap (λ (t : Stored). has_slot (infos_in t.nodes) l.target) kept.stripes_is
+      ∙ (ap (λ (ns : List NodeInfo). has_slot ns l.target) (infos-kept st k.topology) ∙ target-slot k.topology st s f l live kept.seated)
 
   pub move-unused : HasNoHome (stored_in k.stripes) l.target
   move-unused = subst (λ (t : Stored). HasNoHome t l.target) (sym kept.stripes_is)
@@ -210,7 +215,8 @@ module _ (st : State) (k : Store) (kept : IsOf st k) (s : StripeNo) (f : Fragmen
         (set ∙ ap (λ (t : Stored). stored.with_home t s f (Some l.target)) kept.stripes_is
         ∙ stored-put k.topology st (stored_in k.stripes).spare s f l.target);
     leases_is = leases-out st k kept s f leases out;
-    modes_are = same-modes st (moved_in st s f l.target) k.modes refl kept.modes_are;
+    apart = kept.apart;
+    upgrading_is = kept.upgrading_is;
     clock_is = kept.clock_is;
   }
 
@@ -244,7 +250,8 @@ module _ (st : State) (k : Store) (kept : IsOf st k) (l : Lease) (told : IsGrant
     stripes_is = kept.stripes_is;
     leases_is = own-room (with_lease st l).leases (leased_in leases) ((leased_in k.leases).spare - 1)
         (added ∙ ap (λ (t : Leased). leased.with_lease t l) kept.leases_is ∙ sym (leased_of-append st.leases l (leased_in k.leases).spare told.new));
-    modes_are = same-modes st (with_lease st l) k.modes refl kept.modes_are;
+    apart = kept.apart;
+    upgrading_is = kept.upgrading_is;
     clock_is = kept.clock_is;
   }
 

@@ -15,7 +15,6 @@ use Rattle.lrc_rules.specs.Steps.{is_other, without_upgrading, without_stripe}
 use Rattle.lrc_rules.specs.Goodness.{AreSeated}
 use Rattle.lrc_stripes.specs.Stored.{Stored}
 use Rattle.lrc_book.proofs.ClosedLemmas.{settled-seated}
-use Rattle.lrc_book.proofs.ModesLemmas.{same-modes}
 use Rattle.lrc_rules.proofs.MemberLemmas.{list_any-All, All-members, list_any-member}
 use Rattle.lrc_rules.proofs.SeatedLemmas.{without-seated}
 use Rattle.lrc_rules.proofs.LeaseGoodLemmas.{homes-seated}
@@ -237,6 +236,7 @@ dropped-kept st s before k table stripes first last same freed removed =
       stripes_is = removed ∙ ap (λ (x : Stored). stored.with_spare (stored.without_stripe x s) (stored_in stripes).spare) kept.stripes_is
           ∙ ap (λ (x : Stored). stored.with_spare x (stored_in stripes).spare) (stored-without k.topology left (stored_in k.stripes).spare s);
       leases_is = kept.leases_is;
-      modes_are = same-modes left (without_stripe st s) k.modes refl kept.modes_are;
+      apart = kept.apart;
+      upgrading_is = kept.upgrading_is;
       clock_is = kept.clock_is;
     }

@@ -10,10 +10,9 @@ pub mod OpenLemmas
 pub mod PlanningLemmas
 pub mod FragmentLemmas
 pub mod StoredLemmas
-pub mod ModesLemmas
+pub mod NodeStateLemmas
 pub mod ModeLemmas
 pub mod NodeCommandLemmas
-pub mod NodeSetLemmas
 pub mod DomainLemmas
 pub mod UpgradeLemmas
 pub mod ShortUpgradeLemmas

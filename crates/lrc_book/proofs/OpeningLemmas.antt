@@ -12,35 +12,27 @@ use Rattle.lrc_stripes.specs.Tables.{stored_in}
 use Rattle.lrc_terms.specs.Leased as leased
 use Rattle.lrc_leases.specs.Tables.{leased_in}
 use Rattle.lrc_book.specs.declared.store.Store.{Store}
-use Rattle.lrc_rules.specs.States.{opening, mode_of, is_draining, takes_seats, is_online, online_at, drains_at}
-use Rattle.lrc_book.specs.Stores.{IsOf, AreModesOf}
+use Rattle.lrc_terms.specs.Modes.{is_draining}
+use Rattle.lrc_rules.specs.States.{opening, mode_of, takes_seats, is_online, online_at, drains_at}
+use Rattle.lrc_book.specs.Stores.{IsOf}
 use Rattle.lrc_rules.proofs.StepSeatedLemmas.{opening-seated}
-use Rattle.lrc_book.proofs.StoredLemmas.{same_modes, own-spare}
+use Rattle.lrc_book.proofs.StoredLemmas.{own-spare}
 use Rattle.lrc_book.proofs.EndLemmas.{own-room}
 
 takes-first : (o : Option NodeInfo) → true ≡ option_map_or (takes_seats opening) o true
 takes-first None = refl
 takes-first (Some n) = refl
 
-online-first : (o : Option NodeInfo) → is_some o ≡ option_map_or (is_online opening) o false
-online-first None = refl
-online-first (Some n) = refl
-
-drains-first : (o : Option NodeInfo) → false ≡ option_map_or (λ (n : NodeInfo). is_draining (mode_of opening n.number)) o false
-drains-first None = refl
-drains-first (Some n) = refl
-
 pub opening-kept : (k : Store) → AreNodes k.topology → slots_of k.table ≡ all_free k.topology → stored_in k.stripes ≡ stored.empty k.topology
-    → leased_in k.leases ≡ leased.empty → AreModesOf opening k.modes → k.clock.value ≡ 0 → IsOf opening k
-opening-kept k known table stripes leases modes clock = record {
+    → leased_in k.leases ≡ leased.empty → k.upgrading ≡ None → k.clock.value ≡ 0 → IsOf opening k
+opening-kept k known table stripes leases upgrading clock = record {
   known = known;
   seated = opening-seated k.topology;
+  apart = λ n gone. refl;
   table_is = table ∙ ap (λ (eligible : NodeNo → Bool). record (all_free k.topology) { eligible = eligible })
       (fun_ext (λ n. takes-first (node_at k.topology n)));
-  stripes_is = own-spare k.topology opening (stored_in k.stripes) 0
-      (stripes ∙ same_modes (stored.empty k.topology) _ (online_at k.topology opening) _ (drains_at k.topology opening)
-      (λ n. online-first (node_at k.topology n)) (λ n. drains-first (node_at k.topology n)));
+  stripes_is = own-spare k.topology opening (stored_in k.stripes) 0 stripes;
   leases_is = own-room [] (leased_in k.leases) 0 leases;
-  modes_are = modes;
+  upgrading_is = upgrading;
   clock_is = clock;
 }

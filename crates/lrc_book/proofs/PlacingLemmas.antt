@@ -28,7 +28,6 @@ use Rattle.lrc_rules.specs.Changes.{held_at, with_placed}
 use Rattle.lrc_rules.specs.Choices.{AreChosen, IsChoice}
 use Rattle.lrc_book.specs.declared.store.Store.{Store}
 use Rattle.lrc_book.specs.Stores.{IsOf, kept_table}
-use Rattle.lrc_book.proofs.ModesLemmas.{same-modes}
 use Rattle.lrc_rules.proofs.NodeLemmas.{node_at-member}
 use Rattle.lrc_rules.proofs.ChoiceLemmas.{chosen-choice}
 use Rattle.lrc_rules.proofs.SeatingLemmas.{IsPlacing, placing-some}
@@ -172,6 +171,7 @@ placed-kept st code s seats i k table stripes past sixteen kept absent p added =
           (added ∙ ap (λ (x : Stored). stored.with_homes x code s seats) kept.stripes_is
           ∙ stored-placed k.topology st (stored_in k.stripes).spare code s seats kept.seated absent sixteen);
       leases_is = kept.leases_is;
-      modes_are = same-modes st (with_placed st code s seats) k.modes refl kept.modes_are;
+      apart = kept.apart;
+      upgrading_is = kept.upgrading_is;
       clock_is = kept.clock_is;
     }

@@ -1,5 +1,5 @@
 -- A stripe that an upgrade would lose is short: it needs a lease, or has homes on several nodes that are not online.
-use Rattle.std.proofs.Common.{[], ◌≡◌, ◌≢◌, ◌⊎◌, ℕ, ◌+◌, ◌-◌, ◌≤◌, ◌<◌, inl, inr, Bool, true, false, not, ◌&&◌, ◌||◌, cond, List, ◌∷◌, map, Option, Some, None, option_map, IsFalse, IsSomeAnd, arith, refl, sym, ap, ◌∙◌, subst}
+use Rattle.std.proofs.Common.{[], ◌≡◌, ◌≢◌, ◌⊎◌, ℕ, ◌+◌, ◌-◌, ◌≤◌, ◌<◌, inl, inr, Bool, true, false, not, ◌&&◌, ◌||◌, cond, List, ◌∷◌, map, ap₂, Option, Some, None, option_map, ap₂, IsFalse, IsSomeAnd, arith, refl, sym, ap, ap₂, ◌∙◌, subst}
 use Rattle.std.specs.List.{Contains, count_by}
 use Rattle.std.specs.Option.{option_map_or}
 use Rattle.std.proofs.lemmas.Bool.{cases_Bool, eqb-true, eq-eqb, ltb-false, le-leb, ltb-true, not-true, and_parts, and_from}
@@ -26,7 +26,7 @@ use Rattle.lrc_terms.specs.Levels.{home_of, needs_in, has_some}
 use Rattle.lrc_stripes.specs.Stored.{is_home_on, has_work}
 use Rattle.lrc_stripes.specs.Upgrades.{is_stripe_on, offline_count, IsFirstLostTo, IsFirstShortLostTo, is_short_lost_to}
 use Rattle.lrc_terms.proofs.LevelLemmas.{has_some-false}
-use Rattle.lrc_rules.specs.declared.mode.Mode.TheVariants.{Gone}
+use Rattle.lrc_terms.specs.declared.mode.Mode.TheVariants.{Gone}
 use Rattle.lrc_rules.specs.States.{State, has_stripe, code_of, held_by, seats_of, taken_seats, mode_of, online_at, drains_at, missing}
 use Rattle.lrc_rules.specs.Repairs.{is_safe}
 use Rattle.lrc_rules.specs.Goodness.{AreSeated, IsStanding}
@@ -36,6 +36,7 @@ use Rattle.lrc_rules.proofs.MemberLemmas.{not-Contains-nil, Contains-cases, find
 use Rattle.lrc_rules.proofs.SeatingLemmas.{fragments-distinct}
 use Rattle.lrc_book.proofs.FragmentLemmas.{all-fragments}
 use Rattle.lrc_rules.proofs.SafeUpgradeLemmas.{at_most_one, pairs-by, class-one, IsOn, nodes-apart, added, no_two}
+use Rattle.lrc_book.proofs.NodeStateLemmas.{infos-kept, online-kept, work-kept}
 use Rattle.lrc_book.proofs.UpgradeLemmas.{lost-as}
 use Rattle.lrc_rules.proofs.LookUpLemmas.{found-home}
 use Rattle.lrc_stripes.specs.Upgrades as upgrades
@@ -107,7 +108,7 @@ module _ (nodes : List NodeInfo) (st : State) (spare : ℕ) (s : StripeNo) (seat
   homes f = option_map (λ (h : Held). h.seat) (home_of st.homes s f)
 
   none-needed : has_some code (needs_in code (drains_at nodes st) homes) ≡ false
-  none-needed = sym (ap (λ b. b && has_some code (needs_in code (drains_at nodes st) homes)) there) ∙ idle
+  none-needed = sym (ap (λ b. b && has_some code (needs_in code (drains_at nodes st) homes)) there) ∙ (sym (work-kept nodes st spare s) ∙ idle)
 
   by-node : (f : ℕ) (h : Held) → home_of st.homes s f ≡ Some h → online_at nodes st h.seat.node ≡ false → (o : Option NodeInfo)
       → node_at nodes h.seat.node ≡ o → IsSomeAnd o (λ n. (h.seat.slot < n.slots) × (mode_of st h.seat.node ≢ Gone)) → IsAway f
@@ -138,6 +139,11 @@ module _ (nodes : List NodeInfo) (st : State) (spare : ℕ) (s : StripeNo) (seat
   abbrev counted : NodeInfo → Bool
   counted n = not (online_at nodes st n.number) && is_stripe_on (stored_of nodes st spare) n.number s
 
+  few-counted : count_by counted nodes ≤ 1
+  few-counted =
+      subst (λ (k : ℕ). k ≤ 1)
+      (ap₂ (λ (online : NodeNo → Bool) (ns : List NodeInfo). count_by (λ n. not (online n.number) && is_stripe_on (stored_of nodes st spare) n.number s) ns) (online-kept nodes st) (infos-kept st nodes)) few
+
   own-number : (f : ℕ) (t : IsAway f) → (t.on.home.seat.node ≡ t.on.node.number) × Contains nodes t.on.node
   own-number f t =
       let found = find-member (λ (n : NodeInfo). same_node t.on.home.seat.node n.number) nodes t.on.node t.on.at in
@@ -158,7 +164,7 @@ module _ (nodes : List NodeInfo) (st : State) (spare : ℕ) (s : StripeNo) (seat
       let v = away g.value also in
       let apart = nodes-apart nodes st s seated f g other t.on v.on in
       two-counted counted nodes t.on.node v.on.node (own-number f.value t).1 (own-number g.value v).1
-      (λ same. apart.faults (ap (λ (n : NodeInfo). n.fault) same)) (is-counted f t) (is-counted g v) few
+      (λ same. apart.faults (ap (λ (n : NodeInfo). n.fault) same)) (is-counted f t) (is-counted g v) few-counted
 
   few-now : size_of code (missing nodes st s) ≤ 1
   few-now =

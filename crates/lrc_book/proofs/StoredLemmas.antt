@@ -16,7 +16,7 @@ use Rattle.lrc_topology.specs.declared.seat.Seat.{Seat}
 use Rattle.lrc_topology.specs.declared.seat.Held.{Held}
 use Rattle.lrc_terms.specs.Levels.{home_of, homes_of}
 use Rattle.lrc_stripes.specs.Stored.{Stored, HasNoHome}
-use Rattle.lrc_rules.specs.States.{State, has_stripe, code_of, online_at, drains_at}
+use Rattle.lrc_rules.specs.States.{State, has_stripe, code_of}
 use Rattle.lrc_rules.specs.Placement.{with_home}
 use Rattle.lrc_rules.specs.Steps.{with_stripe, without_stripe}
 use Rattle.lrc_rules.specs.Goodness.{AreSeated}
@@ -48,28 +48,6 @@ same_stored t stripes stripes' code code' homes homes' a b c =
 
 pub same_homes : (t : Stored) (homes homes' : StripeNo → ℕ → Option Seat) → ((s : StripeNo) (f : ℕ) → homes s f ≡ homes' s f) → ◌≡◌ {A = Stored} (record t { homes = homes }) (record t { homes = homes' })
 same_homes t homes homes' b = ap (λ (h : StripeNo → ℕ → Option Seat). record t { homes = h }) (fun_ext (λ s. fun_ext (b s)))
-
-pub same_modes : (t : Stored) (online online' draining draining' : NodeNo → Bool) → ((n : NodeNo) → online n ≡ online' n)
-    → ((n : NodeNo) → draining n ≡ draining' n)
-    → ◌≡◌ {A = Stored} (record t { online = online; draining = draining }) (record t { online = online'; draining = draining' })
-same_modes t online online' draining draining' a b =
-    ap (λ (p : NodeNo → Bool). record t { online = p; draining = draining }) (fun_ext a)
-    ∙ ap (λ (p : NodeNo → Bool). record t { online = online'; draining = p }) (fun_ext b)
-
--- a state's modes, with the stripes and homes of another that are the same
-pub same_lists : (nodes : List NodeInfo) (was st : State) (spare : ℕ) → was.stripes ≡ st.stripes → was.narrow ≡ st.narrow → was.homes ≡ st.homes
-    → ◌≡◌ {A = Stored} (record (stored_of nodes was spare) { online = online_at nodes st; draining = drains_at nodes st }) (stored_of nodes st spare)
-same_lists nodes was st spare stripes narrow homes =
-    ap (λ (ss : List StripeNo). record (stored_of nodes st spare) {
-      stripes = λ s. list_any (same_stripe s) ss;
-      code = λ s. if list_any (same_stripe s) was.narrow then Narrow else Wide;
-      homes = λ s. homes_of was.homes s;
-    }) stripes
-    ∙ ap (λ (ss : List StripeNo). record (stored_of nodes st spare) {
-      code = λ s. if list_any (same_stripe s) ss then Narrow else Wide;
-      homes = λ s. homes_of was.homes s;
-    }) narrow
-    ∙ ap (λ (hs : List Held). record (stored_of nodes st spare) { homes = λ s. homes_of hs s }) homes
 
 -- what is stored of a state with some room is so with its own
 pub own-spare : (nodes : List NodeInfo) (st : State) (t : Stored) (spare : ℕ) → t ≡ stored_of nodes st spare → t ≡ stored_of nodes st t.spare

@@ -16,7 +16,7 @@ use Rattle.lrc_topology.specs.Nodes.{node_at}
 use Rattle.lrc_topology.specs.Seats.{load_of, is_taken, free_slot}
 use Rattle.lrc_slots.specs.Barred.{Barred}
 use Rattle.lrc_slots.specs.Next.{may_take}
-use Rattle.lrc_rules.specs.declared.mode.Mode.TheVariants.{Gone}
+use Rattle.lrc_terms.specs.declared.mode.Mode.TheVariants.{Gone}
 use Rattle.lrc_rules.specs.States.{State, code_of, taken_seats, mode_of, takes_seats, is_eligible}
 use Rattle.lrc_rules.specs.Placement.{bars, is_beside}
 use Rattle.lrc_rules.specs.Goodness.{IsStanding}

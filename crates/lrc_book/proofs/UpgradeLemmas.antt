@@ -15,12 +15,16 @@ use Rattle.lrc_code.proofs.OrderLemmas.{least-listed, least-only}
 use Rattle.lrc_topology.specs.declared.NodeInfo.{NodeInfo}
 use Rattle.lrc_topology.specs.Nodes.{node_at, has_domain}
 use Rattle.lrc_terms.specs.Levels.{homes_of, missing_in}
-use Rattle.lrc_stripes.specs.Upgrades.{is_in_domain, IsFirstLostTo}
+use Rattle.lrc_stripes.specs.Stored.{Stored}
+use Rattle.lrc_stripes.specs.Upgrades.{IsFirstLostTo}
 use Rattle.lrc_rules.specs.declared.reply.Reply.TheVariants.{Changed, Refused}
-use Rattle.lrc_rules.specs.States.{State, has_stripe, code_of, mode_of, is_gone, is_down, is_online, online_at}
+use Rattle.lrc_terms.specs.Modes.{is_gone}
+use Rattle.lrc_rules.specs.States.{State, has_stripe, code_of, mode_of, is_down, is_online, online_at}
 use Rattle.lrc_rules.specs.Repairs.{is_safe}
 use Rattle.lrc_rules.specs.Outcomes.{Outcome}
 use Rattle.lrc_rules.specs.Steps.{with_upgrading, is_lost_to, would_lose, upgrade_answer, upgrade_outcome, is_the_domain, upgraded_outcome}
+use Rattle.lrc_book.proofs.DomainLemmas.{domain-out}
+use Rattle.lrc_book.proofs.NodeStateLemmas.{online-kept}
 use Rattle.lrc_book.specs.Stores.{stored_of}
 use Rattle.lrc_rules.proofs.MemberLemmas.{filter-member, member-filter, list_any-member, All-members}
 use Rattle.lrc_code.proofs.NumbersLemmas.{equal_stripes}
@@ -76,30 +80,13 @@ module _ (nodes : List NodeInfo) (st : State) (u : UpgradeNo) where
 
   -- ---- the stripe that it would lose
 
-  -- with the domain upgrading its nodes are offline
-  offline-by : (gone down : Bool) (x v : ℕ) → (not gone && (not down && not (eqb v x))) ≡ ((not gone && (not down && not false)) && not (eqb x v))
-  offline-by gone down x v = rw (test-sym v x) (by gone down (eqb x v)) where
-    by : (gone down same : Bool) → (not gone && (not down && not same)) ≡ ((not gone && (not down && not false)) && not same)
-    by true down same = refl
-    by false true same = refl
-    by false false same = refl
-
-  pub online-with : st.upgrading ≡ None → (n : NodeNo) → online_at nodes (with_upgrading st u) n ≡ (online_at nodes st n && not (is_in_domain nodes u n))
-  online-with none n = by (node_at nodes n) where
-    by : (o : Option NodeInfo) → option_map_or (is_online (with_upgrading st u)) o false
-        ≡ (option_map_or (is_online st) o false && not (option_map_or (λ m. same_upgrade m.upgrade u) o false))
-    by None = refl
-    by (Some m) =
-        offline-by (is_gone (mode_of st m.number)) (is_down st m.number) m.upgrade.value u.value
-        ∙ ap (λ (o : Option UpgradeNo). (not (is_gone (mode_of st m.number)) &&
-        (not (is_down st m.number) && not (option_map_or (λ v. same_upgrade v m.upgrade) o false))) && not (same_upgrade m.upgrade u)) (sym none)
-
   pub lost-as : st.upgrading ≡ None → (spare : ℕ) (s : StripeNo)
       → upgrades.is_lost_to (stored_of nodes st spare) u s ≡ (has_stripe st s && is_lost_to nodes st u s)
   unfolding upgrades.is_lost_to
   lost-as none spare s =
-      ap (λ (online : NodeNo → Bool). has_stripe st s && (is_safe nodes st s && not
-      (is_recoverable (code_of st s) (missing_in (code_of st s) online (homes_of st.homes s))))) (sym (fun_ext (online-with none)))
+      ap (λ (t : Stored). has_stripe st s && (upgrades.is_safe (stored_of nodes st spare) s && not (upgrades.is_safe t s))) (domain-out nodes st u none spare)
+      ∙ ap₂ (λ (now later : NodeNo → Bool). has_stripe st s && (is_recoverable (code_of st s) (missing_in (code_of st s) now (homes_of st.homes s)) && not (is_recoverable (code_of st s) (missing_in (code_of st s) later (homes_of st.homes s)))))
+      (online-kept nodes st) (online-kept nodes (with_upgrading st u))
 
   no-ties : HasNoTies (λ (s t : StripeNo). nat_lt s.value t.value) (filter (is_lost_to nodes st u) st.stripes)
   no-ties = λ a b here there before after.

@@ -30,6 +30,7 @@ use Rattle.lrc_rules.proofs.MemberLemmas.{All-members, not-Contains-nil, AllPair
 use Rattle.lrc_rules.proofs.RisingLemmas.{IsStrict, strict-nil, first-least, strict-in_order}
 use Rattle.lrc_rules.proofs.UrgencyLemmas.{stripe-order, stripe-ties, stripe-self, fragment-order, fragment-ties, fragments_at, fragments_in, at-stripe, fragments-into, IsOwn, fragments-from, needs-own}
 use Rattle.lrc_terms.proofs.CodeListLemmas.{code-fragments, code-rising}
+use Rattle.lrc_book.proofs.NodeStateLemmas.{rank-kept, level-kept, work-kept}
 use Rattle.lrc_rules.proofs.LookUpLemmas.{stripe-there}
 
 module _ (st : State) (ranks : StripeNo → ℕ) where
@@ -138,7 +139,7 @@ module _ (nodes : List NodeInfo) (st : State) (spare : ℕ) where
   pub has-work : (s : StripeNo) → Contains st.stripes s → has_work nodes st s ≡ true → stripe_has_work kept s ≡ true
   has-work s there has =
       let listed = list_any-member (same_stripe s) st.stripes s there (eq-eqb s.value s.value refl) in
-      and_from (has_stripe st s) (has_some (code_of st s) (needed s)) listed (needed-some s has)
+      work-kept nodes st spare s ∙ and_from (has_stripe st s) (has_some (code_of st s) (needed s)) listed (needed-some s has)
 
   pub granted-works : (p : StripeFragment) → is_grantable nodes st p ≡ true → has_work nodes st p.0 ≡ true
   granted-works p e =
@@ -184,7 +185,7 @@ module _ (nodes : List NodeInfo) (st : State) (spare : ℕ) where
 
     shown-is : (s : StripeNo) (there : Bool) → has_stripe st s ≡ there → level_shown kept s ≡ (if there then Some (level nodes st s) else None)
     unfolding level_if shown-by
-    shown-is s there e = ap (λ b. shown-by b s) e
+    shown-is s there e = level-kept nodes st spare s ∙ ap (λ b. shown-by b s) e
 
     shown-some : (s : StripeNo) (l : Level) (there : Bool) → has_stripe st s ≡ there → level_shown kept s ≡ Some l
         → Contains st.stripes s × (level nodes st s ≡ l)
@@ -207,7 +208,8 @@ module _ (nodes : List NodeInfo) (st : State) (spare : ℕ) where
         let ranks = rank nodes st in
         strict-in_order (comes_first ranks) (stripe-order ranks) (stripe-ties ranks) (filter is_risky st.stripes) (map (λ r. r.0) rows)
         (AllPairs-filter (λ s t. s ≢ t) is_risky st.stripes distinct)
-        (AllPairs-map (λ s t. comes_first ranks s t ≡ true) (λ (r : StripeLevel). r.0) rows are.rising)
+        (AllPairs-map (λ s t. comes_first ranks s t ≡ true) (λ (r : StripeLevel). r.0) rows
+        (subst (λ (by : StripeNo → ℕ). AllPairs (λ r t. comes_first by r.0 t.0 ≡ true) rows) (rank-kept nodes st spare) are.rising))
         (λ s here.
         let at = filter-member is_risky st.stripes s here in
         map-member (λ (r : StripeLevel). r.0) rows (s, level nodes st s) (risk-from s at.0 at.1))

@@ -1,24 +1,23 @@
 -- Internal: no public clause reaches these definitions.
 -- What a book keeps of a state, and the room that it has.
-use Rattle.std.specs.Prelude.{◌≡◌, ◌≢◌, ◌<◌, ℕ, Bool, not, ◌&&◌, ◌||◌, true, false, if◌then◌else◌, nat_le, List, get_or, Option, Some, None, IsSome, IsTrue}
-use Rattle.std.specs.List.{list_any}
+use Rattle.std.specs.Prelude.{◌≡◌, ◌<◌, ℕ, Bool, ◌&&◌, ◌||◌, true, false, if◌then◌else◌, nat_le, List, map, Option, Some, None, IsTrue}
 use Rattle.lrc_code.specs.declared.codes.Code.{Code}
 use Rattle.lrc_code.specs.declared.numbers.StripeNo.{StripeNo}
 use Rattle.lrc_code.specs.declared.numbers.NodeNo.{NodeNo}
 use Rattle.lrc_code.specs.declared.numbers.UpgradeNo.{UpgradeNo}
 use Rattle.lrc_code.specs.declared.numbers.Fragment.{Fragment}
-use Rattle.lrc_code.specs.Numbers.{same_node}
 use Rattle.lrc_code.specs.Codes.{has_fragment, share_class}
 use Rattle.lrc_code.specs.declared.losses.LossMask.{LossMask}
 use Rattle.lrc_code.specs.Losses.{bits_set}
 use Rattle.lrc_topology.specs.declared.NodeInfo.{NodeInfo}
 use Rattle.lrc_topology.specs.declared.seat.Seat.{Seat}
 use Rattle.lrc_topology.specs.declared.seat.Held.{Held}
-use Rattle.lrc_topology.specs.Nodes.{AreNodes, node_at}
+use Rattle.lrc_topology.specs.Nodes.{AreNodes}
 use Rattle.lrc_slots.specs.Barred.{Barred, with_upgrade}
 use Rattle.lrc_slots.specs.Slots.{Slots}
 use Rattle.lrc_slots.specs.Tables.{slots_of}
 use Rattle.lrc_terms.specs.Levels.{homes_of}
+use Rattle.lrc_nodes.specs.declared.node_state.NodeState.{NodeState}
 use Rattle.lrc_stripes.specs.Stored.{Stored}
 use Rattle.lrc_stripes.specs.Tables.{stored_in}
 use Rattle.lrc_terms.specs.declared.lease.Lease.{Lease}
@@ -27,8 +26,7 @@ use Rattle.lrc_leases.specs.Tables.{leased_in}
 use Rattle.lrc_leases.specs.Granted.{granted_in}
 use Rattle.lrc_rules.specs.declared.entry.Entry.{Entry}
 use Rattle.lrc_book.specs.declared.store.Store.{Store}
-use Rattle.lrc_book.specs.declared.modes.Modes.{Modes}
-use Rattle.lrc_rules.specs.States.{State, has_stripe, lease_of, code_of, has_number, mode_of, is_draining, takes_seats, is_online, online_at, drains_at}
+use Rattle.lrc_rules.specs.States.{State, has_stripe, lease_of, code_of, has_number, mode_of, is_down, is_upgrading}
 use Rattle.lrc_rules.specs.Placement.{chosen}
 use Rattle.lrc_rules.specs.declared.kind.Kind.{Kind}
 use Rattle.lrc_rules.specs.Repairs.{kind, is_beyond_repair}
@@ -37,29 +35,20 @@ use Rattle.lrc_rules.specs.Goodness.{AreSeated}
 use Rattle.lrc_rules.specs.Steps.{without_upgrading}
 use Rattle.lrc_book.specs.Ties.{table_of, bars_fault, bars_upgrade}
 
--- the stripes, codes, homes and the online and the draining nodes of the state, with room for `spare` more stripes
+-- a node with its state
+abbrev pub node_state : State → NodeInfo → NodeState
+node_state st n = record { node = n; mode = mode_of st n.number; is_down = is_down st n.number; is_upgrading = is_upgrading st n }
+
+-- the nodes with their states, the stripes, codes and homes of the state, with room for `spare` more stripes
 abbrev pub stored_of : List NodeInfo → State → ℕ → Stored
 stored_of nodes st spare =
     record {
-      nodes = nodes;
+      nodes = map (node_state st) nodes;
       stripes = has_stripe st;
       code = code_of st;
       homes = λ s. homes_of st.homes s;
-      online = online_at nodes st;
-      draining = drains_at nodes st;
       spare = spare;
     }
-
--- the node is one of a set, which is kept as a truth value for each number
-abbrev pub has_member : List Bool → NodeNo → Bool
-has_member set n = get_or set n.value false
-
--- the sets of nodes and the upgrading domain are those of the state
-pub record AreModesOf (st : State) (m : Modes) : Type 0 where
-  pub gone_are : (n : NodeNo) → has_member m.gone n ≡ has_number st.gone n
-  pub draining_are : (n : NodeNo) → has_member m.draining n ≡ has_number st.draining n
-  pub down_are : (n : NodeNo) → has_member m.down n ≡ has_number st.down n
-  pub upgrading_is : m.upgrading ≡ st.upgrading
 
 -- the slot table that is kept of a state: the nodes of the upgrading domain stay eligible, and its bars keep them out of each choice
 abbrev pub kept_table : List NodeInfo → State → Slots
@@ -70,41 +59,16 @@ abbrev pub closed : Option UpgradeNo → Barred → Barred
 closed None b = b
 closed (Some u) b = with_upgrade b u
 
--- what is kept is that of a state over these nodes, whose stripes are seated
+-- what is kept is that of a state over these nodes, whose stripes are seated, and none of whose nodes is both gone and draining
 pub record IsOf (st : State) (s : Store) : Type 0 where
   pub known : AreNodes s.topology
   pub seated : AreSeated s.topology st
+  pub apart : (n : NodeNo) → has_number st.gone n ≡ true → has_number st.draining n ≡ false
   pub table_is : slots_of s.table ≡ kept_table s.topology st
   pub stripes_is : stored_in s.stripes ≡ stored_of s.topology st (stored_in s.stripes).spare
   pub leases_is : leased_in s.leases ≡ leased_of st.leases (leased_in s.leases).spare
-  pub modes_are : AreModesOf st s.modes
+  pub upgrading_is : s.upgrading ≡ st.upgrading
   pub clock_is : s.clock.value ≡ st.clock
-
--- the node takes seats but for upgrades, is online and is draining as it was
-pub record StaysAsItWas (was st : State) (n : NodeInfo) : Type 0 where
-  pub takes : takes_seats (without_upgrading was) n ≡ takes_seats (without_upgrading st) n
-  pub online : is_online was n ≡ is_online st n
-  pub drains : is_draining (mode_of was n.number) ≡ is_draining (mode_of st n.number)
-
--- The same, but for the mode of one node: the slot table and the stripes are still those of the state before it changed.
-pub record IsOfBut (node : NodeNo) (was st : State) (s : Store) : Type 0 where
-  pub known : AreNodes s.topology
-  pub seated : AreSeated s.topology st
-  pub there : IsSome (node_at s.topology node)
-  pub stripes_stay : was.stripes ≡ st.stripes
-  pub narrow_stay : was.narrow ≡ st.narrow
-  pub homes_stay : was.homes ≡ st.homes
-  pub leases_stay : was.leases ≡ st.leases
-  pub others_stay : (n : NodeInfo) → n.number ≢ node → StaysAsItWas was st n
-  pub table_is : slots_of s.table ≡ kept_table s.topology was
-  pub stripes_is : stored_in s.stripes ≡ stored_of s.topology was (stored_in s.stripes).spare
-  pub leases_is : leased_in s.leases ≡ leased_of was.leases (leased_in s.leases).spare
-  pub modes_are : AreModesOf st s.modes
-  pub clock_is : s.clock.value ≡ st.clock
-
--- the same stripes, but those of these nodes that are not online in the state are offline
-abbrev pub with_rest : Stored → State → List NodeInfo → Stored
-with_rest t st nodes = record t { online = λ m. t.online m && not (list_any (λ n. same_node n.number m && not (is_online st n)) nodes) }
 
 -- this is the store of some state
 abbrev pub IsTied : Store → Type 0

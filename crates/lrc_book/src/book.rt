@@ -190,11 +190,9 @@ impl Book {
     pub fn mode(&self, node: NodeNo) -> Option<(Mode, bool)>
         ensures { result ≡ mode_shown self.now.nodes (state_of self.now) node }
     {
-        let store = self.store();
-        match store.topology.node(node) {
-            Some(info) => Some((store.modes.mode(info.number), store.modes.is_online(&info))),
-            None => None,
-        }
+        let stripes = &self.store().stripes;
+        let mode = stripes.mode(node)?;
+        Some((mode, stripes.is_online(node)))
     }
 
     /// Makes one step of the placement object and adds its entry. A `Fault` changes nothing.

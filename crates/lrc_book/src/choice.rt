@@ -35,7 +35,7 @@ impl Store {
     pub(crate) fn bar_upgrading_for_all(&self, bars: &mut ClassBars)
         ensures { (st : State) (code : AnyCode) → IsOf st self.now → AreBarsOf self.now.topology code None [] bars.old → AreBarsOf self.now.topology code st.upgrading [] bars.new }
     {
-        if let Some(domain) = self.modes.upgrading {
+        if let Some(domain) = self.upgrading {
             self.table.bar_upgrade_in(&mut bars.faults, domain);
         }
     }
@@ -67,7 +67,7 @@ impl Store {
     pub(crate) fn has_free_seat(&self) -> bool
         ensures { (st : State) → IsOf st self.now → result ≡ is_some (next_number (table_of self.now.topology st) no_bars) }
     {
-        if self.modes.upgrading.is_none() {
+        if self.upgrading.is_none() {
             return self.table.has_open_node();
         }
         let mut bars = BarredDomains::new();
@@ -92,7 +92,7 @@ impl Store {
     fn bar_upgrading(&self, bars: &mut BarredDomains)
         ensures { (st : State) → IsOf st self.now → barred bars.new ≡ closed st.upgrading (barred bars.old) }
     {
-        if let Some(domain) = self.modes.upgrading {
+        if let Some(domain) = self.upgrading {
             bars.bar_upgrade(domain);
         }
     }

@@ -1,4 +1,4 @@
-//! The book: a store of slots, stripes, leases, modes and the clock, and the history of commands and replies. `lrc_rules` defines
+//! The book: a store of slots, stripes, leases and the clock, and the history of commands and replies. `lrc_rules` defines
 //! what each command returns and changes; `Book::call` makes one call. `IsOf` of `specs/Stores` relates the store to the state.
 //!
 //! An `Answer` is a reply as the history keeps it, with seats in a box, and a `Record` is an entry with one.
@@ -11,9 +11,7 @@ mod class_bars;
 mod clock;
 mod commands;
 pub mod laws;
-mod modes;
 mod neighbours;
-mod node_set;
 mod record;
 mod repair;
 mod reply_ref;

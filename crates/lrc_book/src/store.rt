@@ -4,16 +4,13 @@ ghost use Rattle.lrc_slots.specs.Slots.{all_free};
 ghost use Rattle.lrc_slots.specs.Tables.{slots_of};
 ghost use Rattle.lrc_stripes.specs.Stored as stored;
 ghost use Rattle.lrc_stripes.specs.Tables.{stored_in};
-ghost use Rattle.lrc_terms.specs.Leased as leased;
 ghost use Rattle.lrc_leases.specs.Tables.{leased_in};
-ghost use Rattle.lrc_rules.specs.States.{State, opening, code_of, online_at};
+ghost use Rattle.lrc_rules.specs.States.{State, opening, code_of};
 ghost use Rattle.lrc_rules.specs.Leases.{without_lease, without_home};
-ghost use Rattle.lrc_book.specs.Stores.{IsOf, IsOfBut, IsTied, AreModesOf, kept_table, has_room};
+ghost use Rattle.lrc_book.specs.Stores.{IsOf, IsTied, kept_table, has_room};
 
-use crate::Mode;
 use crate::clock::Clock;
-use crate::modes::Modes;
-use lrc_code::{Code, Fault, Fragment, NodeNo, StripeNo};
+use lrc_code::{Code, Fault, Fragment, StripeNo, UpgradeNo};
 use lrc_leases::Leases;
 use lrc_slots::SlotTable;
 use lrc_stripes::Stripes;
@@ -31,7 +28,7 @@ pub(crate) struct Store {
     pub(crate) table: SlotTable,
     pub(crate) stripes: Stripes,
     pub(crate) leases: Leases,
-    pub(crate) modes: Modes,
+    pub(crate) upgrading: Option<UpgradeNo>,
     pub(crate) clock: Clock,
 }
 
@@ -41,14 +38,14 @@ impl Store {
         ensures value { IfOk result (λ s. (s.topology ≡ topology) × IsOf opening s) }
         ensures err { IfErr result (λ e. e ≡ fault.OutOfMemory) }
     {
-        let (modes, leases) = no_leases(alloc)?;
+        let leases = Leases::new(alloc)?;
         let (table, stripes) = no_stripes(alloc, &topology)?;
         Ok(Store {
             topology,
             table,
             stripes,
             leases,
-            modes,
+            upgrading: None,
             clock: Clock::new(),
         })
     }
@@ -77,16 +74,6 @@ impl Store {
         self.stripes.spare() > 0 && self.leases.spare() > 0
     }
 
-    /// Whether a node is one of the store's and online.
-    pub(crate) fn is_online(&self, node: NodeNo) -> bool
-        ensures { (st : State) → AreModesOf st self.now.modes → result ≡ online_at (slots_of self.now.table).nodes st node }
-    {
-        match self.table.node(node) {
-            Some(info) => self.modes.is_online(&info),
-            None => false,
-        }
-    }
-
     /// The code of a stripe; `Wide` where there is no such stripe.
     pub(crate) fn code_of(&self, stripe: StripeNo) -> Code
         ensures { (st : State) → IsOf st self.now → result ≡ code_of st stripe }
@@ -99,7 +86,6 @@ impl Store {
         requires tied { IsTied self.old }
         requires there { IsTrue ((stored_in self.old.stripes).stripes stripe) }
         ensures nodes { self.new.topology ≡ self.old.topology }
-        ensures modes { self.new.modes ≡ self.old.modes }
         ensures kept { (st : State) → IsOf st self.old → IsOf (without_home st stripe fragment) self.new }
     {
         if let Some(seat) = self.stripes.home(stripe, fragment) {
@@ -124,7 +110,6 @@ impl Store {
     pub(crate) fn end_lease(&mut self, stripe: StripeNo, fragment: Fragment)
         requires { IsTied self.old }
         ensures nodes { self.new.topology ≡ self.old.topology }
-        ensures modes { self.new.modes ≡ self.old.modes }
         ensures clock { self.new.clock ≡ self.old.clock }
         ensures kept { (st : State) → IsOf st self.old → IsOf (without_lease st stripe fragment) self.new }
     {
@@ -135,31 +120,6 @@ impl Store {
             self.table.free(lease.target.node, lease.target.slot);
         }
     }
-
-    /// Makes the slot table and the stripes follow the mode of a node after it was changed.
-    pub(crate) fn follow(&mut self, node: NodeNo)
-        requires { (was st : State) × IsOfBut node was st self.old }
-        ensures nodes { self.new.topology ≡ self.old.topology }
-        ensures kept { (was st : State) → IsOfBut node was st self.old → IsOf st self.new }
-    {
-        let is_online = self.is_online(node);
-        let mode = self.modes.mode(node);
-        let is_down = self.modes.is_down(node);
-        self.table
-            .set_eligible(node, mode == Mode::Active && !is_down);
-        self.stripes.set_offline(node, !is_online);
-        self.stripes.set_draining(node, mode == Mode::Draining);
-    }
-}
-
-/// Every node active and online, and no leases.
-fn no_leases(alloc: Global) -> Result<(Modes, Leases), Fault>
-    ensures value { IfOk result (λ r. AreModesOf opening r.0 × (leased_in r.1 ≡ leased.empty)) }
-    ensures err { IfErr result (λ e. e ≡ fault.OutOfMemory) }
-{
-    let modes = Modes::new(alloc)?;
-    let leases = Leases::new(alloc)?;
-    Ok((modes, leases))
 }
 
 /// Every slot free, and no stripes.

@@ -8,8 +8,8 @@ use Rattle.lrc_topology.specs.declared.error.TopologyError.{TopologyError}
 use Rattle.lrc_topology.specs.declared.error.TopologyError.TheVariants as topology
 use Rattle.lrc_terms.specs.declared.level.Level.{Level}
 use Rattle.lrc_terms.specs.declared.level.Level.TheVariants as level
-use Rattle.lrc_rules.specs.declared.mode.Mode.{Mode}
-use Rattle.lrc_rules.specs.declared.mode.Mode.TheVariants.{Active, Draining, Gone}
+use Rattle.lrc_terms.specs.declared.mode.Mode.{Mode}
+use Rattle.lrc_terms.specs.declared.mode.Mode.TheVariants.{Active, Draining, Gone}
 use Rattle.lrc_embed.specs.Replies.{encoded_seat, no_seat}
 use Rattle.lrc_embed.specs.declared.home.LrcHome.{LrcHome}
 use Rattle.lrc_embed.specs.declared.home.LrcHomes.{LrcHomes}

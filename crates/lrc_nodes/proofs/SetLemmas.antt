@@ -1,7 +1,7 @@
 -- States of nodes that are set: what changes, and that the nodes stay.
-use Rattle.std.proofs.Common.{◌≡◌, ◌≢◌, ℕ, suc, ◌<◌, inl, inr, Bool, true, false, not, nat_eq, if◌then◌else◌, List, [], ◌∷◌, length, map, filter, get_or, Option, Some, None, IsSome, is_some, option_map, arith, refl, sym, ap, ◌∙◌}
+use Rattle.std.proofs.Common.{◌≡◌, ◌≢◌, ℕ, suc, ◌<◌, inl, inr, Bool, true, false, not, ◌&&◌, nat_eq, if◌then◌else◌, List, [], ◌∷◌, length, map, filter, get_or, Option, Some, None, IsSome, is_some, option_map, arith, refl, sym, ap, ◌∙◌}
 use Rattle.std.proofs.Math.Path.{fun_ext}
-use Rattle.std.specs.List.{list_any, AllPairs}
+use Rattle.std.specs.List.{list_any}
 use Rattle.std.specs.Option.{option_map_or}
 use Rattle.std.proofs.lemmas.Bool.{cases_Bool, cases_eq, eq-eqb, ne_eqb, eqb-true}
 use Rattle.std.proofs.lemmas.List.{get_or-map, length-map}
@@ -10,9 +10,11 @@ use Rattle.lrc_code.specs.declared.numbers.UpgradeNo.{UpgradeNo}
 use Rattle.lrc_code.specs.Numbers.{same_node, same_upgrade}
 use Rattle.lrc_code.proofs.NumbersLemmas.{equal_nodes}
 use Rattle.lrc_topology.specs.declared.NodeInfo.{NodeInfo}
-use Rattle.lrc_topology.specs.Nodes.{nodes_in}
+use Rattle.lrc_topology.specs.Nodes.{node_at}
 use Rattle.lrc_nodes.specs.declared.node_state.NodeState.{NodeState}
-use Rattle.lrc_nodes.specs.States.{numbers_in, state_at, node_position, online_in, draining_in, with_offline, with_offline_in, with_draining}
+use Rattle.lrc_terms.specs.declared.mode.Mode.{Mode}
+use Rattle.lrc_terms.specs.Modes.{is_gone, is_draining}
+use Rattle.lrc_nodes.specs.States.{is_node_online, is_node_draining, infos_in, state_at, node_position, online_in, draining_in, with_state, with_upgrading_in}
 use Rattle.lrc_nodes.proofs.StateLemmas.{state_at-number}
 
 -- ---- the nodes stay
@@ -74,109 +76,99 @@ module _ (test : NodeInfo → Bool) (set : NodeState → NodeState) (own : (x : 
     by None = refl
     by (Some x) = at x (test x.node)
 
--- what the node with a number says that is set
-module _ (n : NodeNo) (set : NodeState → NodeState) (own : (x : NodeState) → (set x).node ≡ x.node) (says : NodeState → Bool) (told : Bool)
-    (hit : (x : NodeState) → says (set x) ≡ told) where
+-- what the nodes say if the one with a number is set
+module _ (n : NodeNo) (set : NodeState → NodeState) (own : (x : NodeState) → (set x).node ≡ x.node) (says : NodeState → Bool) where
   abbrev is_it : NodeInfo → Bool
   is_it k = same_node n k.number
 
-  said-set : (states : List NodeState) → IsSome (state_at states n) → (m : NodeNo)
-      → option_map_or says (state_at (map (put is_it set own) states) m) false ≡ (if same_node n m then told else option_map_or says (state_at states m) false)
-  said-set states there m = ap (λ (o : Option NodeState). option_map_or says o false) (state_at-mapped (put is_it set own) (put-node is_it set own) states m) ∙ by (state_at states m) refl where
-    here : (x : NodeState) (b : Bool) → says (if b then set x else x) ≡ (if b then told else says x)
-    here x true = hit x
-    here x false = refl
+  abbrev after : List NodeState → List NodeState
+  after states = map (put is_it set own) states
 
-    by : (o : Option NodeState) → state_at states m ≡ o → option_map_or says (option_map (put is_it set own) o) false ≡ (if same_node n m then told else option_map_or says o false)
-    by (Some x) e =
-        here x (same_node n x.node.number)
-        ∙ ap (λ (v : ℕ). if nat_eq n.value v then told else says x) (sym (state_at-number states m x e))
-    by None e = elim (cases_Bool (nat_eq n.value m.value)) [
-      | inr other ↦ rw other refl
-      | inl same ↦
-          let both : n ≡ m = equal_nodes n m (eqb-true _ _ same) in
-          absurd (let clash : false ≡ true = sym (ap (λ (o : Option NodeState). is_some o) (ap (state_at states) both ∙ e)) ∙ there in cc)
-    ]
+  -- the node itself, if there is one
+  said-there : (told : Bool) → ((x : NodeState) → says (set x) ≡ told) → (states : List NodeState) → IsSome (state_at states n) → option_map_or says (state_at (after states) n) false ≡ told
+  said-there told hit states there = ap (λ (o : Option NodeState). option_map_or says o false) (state_at-mapped (put is_it set own) (put-node is_it set own) states n) ∙ by (state_at states n) refl where
+    by : (o : Option NodeState) → state_at states n ≡ o → option_map_or says (option_map (put is_it set own) o) false ≡ told
+    by (Some x) e = rw (eq-eqb _ _ (state_at-number states n x e)) (hit x)
+    by None e = absurd (let clash : false ≡ true = sym (ap (λ (o : Option NodeState). is_some o) e) ∙ there in cc)
 
--- ---- the states of the table set
+  -- the others
+  said-others : (states : List NodeState) (m : NodeNo) → same_node n m ≡ false → option_map_or says (state_at (after states) m) false ≡ option_map_or says (state_at states m) false
+  said-others states m other = ap (λ (o : Option NodeState). option_map_or says o false) (state_at-mapped (put is_it set own) (put-node is_it set own) states m) ∙ by (state_at states m) refl where
+    by : (o : Option NodeState) → state_at states m ≡ o → option_map_or says (option_map (put is_it set own) o) false ≡ option_map_or says o false
+    by (Some x) e = let miss : same_node n x.node.number ≡ false = ap (λ (v : ℕ). nat_eq n.value v) (sym (state_at-number states m x e)) ∙ other in rw miss refl
+    by None e = refl
 
-pub same-offline : (states : List NodeState) (n : NodeNo) (b : Bool) → AreSameNodes states (with_offline states n b)
-same-offline states n b = same-put (λ k. same_node n k.number) (λ x. record x { is_offline = b }) (λ x. refl) states
+-- ---- the state of a node set
 
-pub same-offline_in : (states : List NodeState) (u : UpgradeNo) (b : Bool) → AreSameNodes states (with_offline_in states u b)
-same-offline_in states u b = same-put (λ k. same_upgrade k.upgrade u) (λ x. record x { is_offline = b }) (λ x. refl) states
+module _ (states : List NodeState) (n : NodeNo) (mode : Mode) (b : Bool) where
+  pub same-state : AreSameNodes states (with_state states n mode b)
+  same-state = same-put (λ k. same_node n k.number) (λ x. record x { mode = mode; is_down = b }) (λ x. refl) states
 
-pub same-draining : (states : List NodeState) (n : NodeNo) (b : Bool) → AreSameNodes states (with_draining states n b)
-same-draining states n b = same-put (λ k. same_node n k.number) (λ x. record x { is_draining = b }) (λ x. refl) states
+  pub online-state : (m : NodeNo) → same_node n m ≡ false → online_in (with_state states n mode b) m ≡ online_in states m
+  online-state m other = said-others n (λ x. record x { mode = mode; is_down = b }) (λ x. refl) is_node_online states m other
 
-pub online-offline : (states : List NodeState) (n : NodeNo) (b : Bool) → IsSome (state_at states n)
-    → online_in (with_offline states n b) ≡ λ m. if same_node n m then not b else online_in states m
-online-offline states n b there = fun_ext (λ m. said-set n (λ x. record x { is_offline = b }) (λ x. refl) (λ x. not x.is_offline) (not b) (λ x. refl) states there m)
+  pub draining-state : IsSome (state_at states n) → draining_in (with_state states n mode b) ≡ λ m. if same_node n m then is_draining mode else draining_in states m
+  draining-state there = fun_ext (λ m. elim (cases_eq n.value m.value) [
+    | inl same ↦
+        rw (eq-eqb _ _ same) (ap (draining_in (with_state states n mode b)) (sym (equal_nodes n m same))
+        ∙ said-there n (λ x. record x { mode = mode; is_down = b }) (λ x. refl) is_node_draining (is_draining mode) (λ x. refl) states there)
+    | inr other ↦
+        let miss : nat_eq n.value m.value ≡ false = ne_eqb _ _ other in
+        rw miss (said-others n (λ x. record x { mode = mode; is_down = b }) (λ x. refl) is_node_draining states m miss)
+  ])
 
-pub draining-offline : (states : List NodeState) (n : NodeNo) (b : Bool) → draining_in (with_offline states n b) ≡ draining_in states
-draining-offline states n b = fun_ext (λ m. said-kept (λ k. same_node n k.number) (λ x. record x { is_offline = b }) (λ x. refl) (λ x. x.is_draining) (λ x. refl) states m)
+-- ---- the nodes of an upgrade domain set
 
-pub draining-draining : (states : List NodeState) (n : NodeNo) (b : Bool) → IsSome (state_at states n)
-    → draining_in (with_draining states n b) ≡ λ m. if same_node n m then b else draining_in states m
-draining-draining states n b there = fun_ext (λ m. said-set n (λ x. record x { is_draining = b }) (λ x. refl) (λ x. x.is_draining) b (λ x. refl) states there m)
+module _ (states : List NodeState) (u : UpgradeNo) (b : Bool) where
+  pub same-upgrading : AreSameNodes states (with_upgrading_in states u b)
+  same-upgrading = same-put (λ k. same_upgrade k.upgrade u) (λ x. record x { is_upgrading = b }) (λ x. refl) states
 
-pub online-draining : (states : List NodeState) (n : NodeNo) (b : Bool) → online_in (with_draining states n b) ≡ online_in states
-online-draining states n b = fun_ext (λ m. said-kept (λ k. same_node n k.number) (λ x. record x { is_draining = b }) (λ x. refl) (λ x. not x.is_offline) (λ x. refl) states m)
+  pub draining-upgrading : draining_in (with_upgrading_in states u b) ≡ draining_in states
+  draining-upgrading = fun_ext (λ m. said-kept (λ k. same_upgrade k.upgrade u) (λ x. record x { is_upgrading = b }) (λ x. refl) is_node_draining (λ x. refl) states m)
 
-pub draining-offline_in : (states : List NodeState) (u : UpgradeNo) (b : Bool) → draining_in (with_offline_in states u b) ≡ draining_in states
-draining-offline_in states u b = fun_ext (λ m. said-kept (λ k. same_upgrade k.upgrade u) (λ x. record x { is_offline = b }) (λ x. refl) (λ x. x.is_draining) (λ x. refl) states m)
+-- the node of this number is in the upgrade domain
+abbrev pub is_of_domain : UpgradeNo → NodeNo → NodeInfo → Bool
+is_of_domain u m n = same_node m n.number && same_upgrade n.upgrade u
 
--- ---- the nodes of an upgrade domain
-
-abbrev AreApart : List NodeState → Type 0
-AreApart states = AllPairs (λ (m n : NodeNo). m.value ≢ n.value) (numbers_in states)
-
-apart-rest : (x : NodeState) (states : List NodeState) → AreApart (x ∷ states) → AreApart states
-apart-rest x states apart = λ i j d below within. apart (suc i) (suc j) d (omega (arith, below)) (omega (arith, within))
-
--- the number of the first differs from those after it
-apart-first : (x : NodeState) (states : List NodeState) → AreApart (x ∷ states) → (i : ℕ) (d : NodeState) → i < length states → x.node.number.value ≢ (get_or states i d).node.number.value
-apart-first x states apart i d within =
-    let count : length (numbers_in states) ≡ length states = length-map states (λ (k : NodeState). k.node.number) in
-    let own = get_or-map (λ (k : NodeState). k.node.number) states i d x.node.number within in
-    λ e. apart 0 (suc i) x.node.number (omega arith) (omega (arith, within, count)) (e ∙ ap (λ (k : NodeNo). k.value) (sym own))
-
-none-listed : (test : NodeInfo → Bool) (states : List NodeState) (m : NodeNo)
-    → ((i : ℕ) (d : NodeState) → i < length states → same_node (get_or states i d).node.number m ≡ false)
-    → list_any (λ n. same_node n.number m) (filter test (map (λ x. x.node) states)) ≡ false
-none-listed test [] m none = refl
-none-listed test (x ∷ states) m none =
-    let rest = none-listed test states m (λ i d within. none (suc i) d (omega (arith, within))) in
-    elim (cases_Bool (test x.node)) [
-      | inl hit ↦ rw (hit, none 0 x (omega arith)) rest
-      | inr miss ↦ rw miss rest
-    ]
-
-module _ (u : UpgradeNo) (b : Bool) (m : NodeNo) where
-  domain-at : (states : List NodeState) → AreApart states
-      → online_in (with_offline_in states u b) m ≡ (if list_any (λ n. same_node n.number m) (nodes_in (map (λ x. x.node) states) u) then not b else online_in states m)
-  domain-at [] apart = refl
-  domain-at (x ∷ states) apart =
-      let rest = domain-at states (apart-rest x states apart) in
-      elim (cases_eq m.value x.node.number.value) [
-        | inl same ↦
-            let here : nat_eq m.value x.node.number.value ≡ true = eq-eqb _ _ same in
-            let back : nat_eq x.node.number.value m.value ≡ true = eq-eqb _ _ (sym same) in
-            elim (cases_Bool (same_upgrade x.node.upgrade u)) [
-              | inl of ↦ rw (here, of, back, here) refl
-              | inr out ↦
-                  let none = none-listed (λ k. same_upgrade k.upgrade u) states m (λ i d within. ne_eqb _ _ (λ e. apart-first x states apart i d within (sym same ∙ sym e))) in
-                  rw (here, out, none, here) refl
-            ]
-        | inr other ↦
-            let later : nat_eq m.value x.node.number.value ≡ false = ne_eqb _ _ other in
-            let back : nat_eq x.node.number.value m.value ≡ false = ne_eqb _ _ (λ e. other (sym e)) in
-            elim (cases_Bool (same_upgrade x.node.upgrade u)) [
-              | inl of ↦ rw (later, of, back, later) rest
-              | inr out ↦ rw (later, out, later) rest
-            ]
+-- a node that is in no such domain is online as before
+pub online-upgrading : (u : UpgradeNo) (b : Bool) (m : NodeNo) (states : List NodeState) → list_any (is_of_domain u m) (infos_in states) ≡ false
+    → online_in (with_upgrading_in states u b) m ≡ online_in states m
+online-upgrading u b m [] none = refl
+online-upgrading u b m (x ∷ states) none = elim (cases_Bool (nat_eq m.value x.node.number.value)) [
+  | inl here ↦ elim (cases_Bool (same_upgrade x.node.upgrade u)) [
+    | inl of ↦ absurd (let clash : true ≡ false = rw (here, of) at none in cc)
+    | inr out ↦ rw (out, here) refl
+  ]
+  | inr later ↦
+      let rest = online-upgrading u b m states (rw later at none) in
+      elim (cases_Bool (same_upgrade x.node.upgrade u)) [
+        | inl of ↦ rw (of, later) rest
+        | inr out ↦ rw (out, later) rest
       ]
+]
 
-pub online-offline_in : (states : List NodeState) (u : UpgradeNo) (b : Bool) → AreApart states
-    → online_in (with_offline_in states u b) ≡ λ m. if list_any (λ n. same_node n.number m) (nodes_in (map (λ x. x.node) states) u) then not b else online_in states m
-online-offline_in states u b apart = fun_ext (λ m. domain-at u b m states apart)
+-- where the domain is upgrading, none of its nodes is online
+pub online-upgraded : (states : List NodeState) (u : UpgradeNo) (m : NodeNo)
+    → online_in (with_upgrading_in states u true) m ≡ (online_in states m && not (option_map_or (λ n. same_upgrade n.upgrade u) (node_at (infos_in states) m) false))
+online-upgraded [] u m = refl
+online-upgraded (x ∷ states) u m =
+    let rest = online-upgraded states u m in
+    elim (cases_Bool (nat_eq m.value x.node.number.value)) [
+      | inl here ↦ elim (cases_Bool (same_upgrade x.node.upgrade u)) [
+        | inl of ↦ rw (of, here, of) (off-upgrading (is_gone x.mode) x.is_down x.is_upgrading)
+        | inr out ↦ rw (out, here, out) (sym (and-true (is_node_online x)))
+      ]
+      | inr later ↦ elim (cases_Bool (same_upgrade x.node.upgrade u)) [
+        | inl of ↦ rw (of, later) rest
+        | inr out ↦ rw (out, later) rest
+      ]
+    ] where
+      off-upgrading : (gone down upgrading : Bool) → (not gone && (not down && not true)) ≡ ((not gone && (not down && not upgrading)) && not true)
+      off-upgrading true down upgrading = refl
+      off-upgrading false true upgrading = refl
+      off-upgrading false false true = refl
+      off-upgrading false false false = refl
+
+      and-true : (a : Bool) → (a && not false) ≡ a
+      and-true true = refl
+      and-true false = refl

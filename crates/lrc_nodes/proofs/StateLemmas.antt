@@ -1,5 +1,5 @@
 -- Look-ups in a list of nodes with their states.
-use Rattle.std.proofs.Common.{◌≡◌, ◌≢◌, ℕ, zero, suc, ◌<◌, ◌≤◌, inl, inr, false, not, nat_eq, nat_lt, if◌then◌else◌, List, [], ◌∷◌, length, map, get_or, Option, Some, None, option_map, arith, refl, sym, ap, ◌∙◌, subst}
+use Rattle.std.proofs.Common.{◌≡◌, ◌≢◌, ℕ, zero, suc, ◌<◌, ◌≤◌, inl, inr, false, nat_eq, nat_lt, if◌then◌else◌, List, [], ◌∷◌, length, map, get_or, Option, Some, None, option_map, arith, refl, sym, ap, ◌∙◌, subst}
 use Rattle.std.specs.List.{position_or_len, AllPairs}
 use Rattle.std.specs.Option.{option_map_or}
 use Rattle.std.proofs.lemmas.Bool.{cases_Bool, cases_lt, eq-eqb, ne_eqb, eqb-true, lt-ltb, le-ltb}
@@ -9,12 +9,13 @@ use Rattle.lrc_code.specs.declared.numbers.NodeNo.{NodeNo}
 use Rattle.lrc_code.specs.Numbers.{same_node}
 use Rattle.lrc_topology.specs.declared.NodeInfo.{NodeInfo}
 use Rattle.lrc_topology.specs.Nodes.{node_at, place_in}
+use Rattle.lrc_terms.specs.declared.mode.Mode.TheVariants.{Active}
 use Rattle.lrc_nodes.specs.declared.node_state.NodeState.{NodeState}
-use Rattle.lrc_nodes.specs.States.{first_state, numbers_in, state_at, node_position, online_in}
+use Rattle.lrc_nodes.specs.States.{first_state, is_node_online, numbers_in, state_at, node_position, online_in}
 
 -- a filler for no node
 abbrev pub no_state : NodeState
-no_state = record { node = record { number = record { value = 0 }; fault = record { value = 0 }; upgrade = record { value = 0 }; slots = 0 }; is_offline = false; is_draining = false }
+no_state = record { node = record { number = record { value = 0 }; fault = record { value = 0 }; upgrade = record { value = 0 }; slots = 0 }; mode = Active; is_down = false; is_upgrading = false }
 
 -- ---- at first
 
@@ -124,5 +125,5 @@ state_at-own (x ∷ states) (suc i) d within apart =
 
 -- whether it is online is what it says itself
 pub online-own : (states : List NodeState) (i : ℕ) (d : NodeState) → i < length states → AllPairs (λ (m n : NodeNo). m.value ≢ n.value) (numbers_in states)
-    → online_in states (get_or states i d).node.number ≡ not (get_or states i d).is_offline
-online-own states i d within apart = ap (λ (o : Option NodeState). option_map_or (λ x. not x.is_offline) o false) (state_at-own states i d within apart)
+    → online_in states (get_or states i d).node.number ≡ is_node_online (get_or states i d)
+online-own states i d within apart = ap (λ (o : Option NodeState). option_map_or is_node_online o false) (state_at-own states i d within apart)

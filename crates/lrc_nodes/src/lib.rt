@@ -1,4 +1,5 @@
-//! The nodes of a store in the order of the topology, and which of them are offline or draining. Only `Nodes::new` allocates.
+//! The nodes of a store in the order of the topology, with their states: the mode of each, and whether it is down or
+//! upgrading. Only `Nodes::new` allocates.
 #![tactic(auto)]
 
 mod domains;

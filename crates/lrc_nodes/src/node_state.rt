@@ -1,9 +1,11 @@
+use lrc_terms::Mode;
 use lrc_topology::NodeInfo;
 
-/// A node, and whether it is offline and whether it is draining.
+/// A node with its mode, whether it is down, and whether its upgrade domain is upgrading.
 #[derive(Clone, Copy)]
 pub struct NodeState {
     pub node: NodeInfo,
-    pub is_offline: bool,
-    pub is_draining: bool,
+    pub mode: Mode,
+    pub is_down: bool,
+    pub is_upgrading: bool,
 }

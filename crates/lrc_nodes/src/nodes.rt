@@ -1,27 +1,36 @@
-ghost use Rattle.std.specs.Prelude.{◌≡◌, ℕ, ◌<◌, ◌↔◌, if◌then◌else◌, false, map, length, get_or, slice_set, option_map, IfOk, IfErr, IsSome, IsTrue, Some};
+ghost use Rattle.std.specs.Prelude.{◌≡◌, ℕ, ◌<◌, ◌↔◌, ◌||◌, if◌then◌else◌, false, map, length, get_or, slice_set, option_map, IfOk, IfErr, IsSome, IsTrue, Some};
 ghost use Rattle.std.specs.List.{All};
 ghost use Rattle.lrc_bits.specs.Flags.{FindsFrom};
 ghost use Rattle.lrc_code.specs.declared.fault.Fault.TheVariants.{OutOfMemory};
 ghost use Rattle.lrc_topology.specs.Nodes.{AreNodes, place_in};
+ghost use Rattle.lrc_terms.specs.Modes.{is_gone};
+ghost use Rattle.lrc_nodes.specs.Kept.{mode_by};
 ghost use Rattle.lrc_nodes.specs.declared.node_state.NodeState.{NodeState as AnyState};
-ghost use Rattle.lrc_nodes.specs.States.{first_state, numbers_in, state_at, online_in, draining_in, with_offline, with_offline_in, with_draining};
+ghost use Rattle.lrc_nodes.specs.States.{first_state, is_node_offline, is_node_draining, numbers_in, state_at, down_in, online_in, draining_in, with_state, with_upgrading_in};
 
-use crate::{NodeState, domains};
+use crate::domains;
 use lrc_bits::BitSet;
 use lrc_code::{Fault, NodeNo, UpgradeNo};
+use lrc_terms::Mode;
 use lrc_topology::{NodeIndex, NodeInfo, Topology};
 use std::alloc::{AllocError, Global};
 use std::marker::Model;
 
-/// The nodes of a store in the order of the topology, and which of them are offline or draining.
+/// The nodes of a store in the order of the topology, with their states.
 #[derive(Drop)]
 pub struct Nodes {
     list: Vec<NodeInfo>,
     index: NodeIndex,
-    /// The positions of the offline nodes.
-    offline: BitSet<8>,
-    /// The positions of the draining nodes.
+    /// The positions of the nodes that are gone. A node in none of the first two sets is active.
+    gone: BitSet<8>,
+    /// The positions of the nodes that are draining.
     draining: BitSet<8>,
+    /// The positions of the nodes that are down.
+    down: BitSet<8>,
+    /// The positions of the nodes that are upgrading.
+    upgrading: BitSet<8>,
+    /// The positions of the offline nodes: those that are gone, down or upgrading. It follows from the other sets.
+    offline: BitSet<8>,
     /// For each upgrade domain, the positions of its nodes.
     domains: Vec<BitSet<8>>,
 }
@@ -33,13 +42,13 @@ impl Model for Nodes {
 
     ghost Value = { List AnyState };
 
-    ghost view = { λ t. states_from 0 t.list.items t.offline t.draining };
+    ghost view = { λ t. states_from 0 t.list.items (record { gone = t.gone; draining = t.draining; down = t.down; upgrading = t.upgrading }) };
 
-    ghost invariant = { λ t. AreKept t.list.items t.index t.offline t.draining t.domains.items };
+    ghost invariant = { λ t. AreKept t.list.items t.index (record { gone = t.gone; draining = t.draining; down = t.down; upgrading = t.upgrading }) t.offline t.domains.items };
 }
 
 impl Nodes {
-    /// Returns the nodes of the topology, all online and none draining.
+    /// Returns the nodes of the topology, all active, and none down or upgrading.
     ///
     /// # Errors
     ///
@@ -53,8 +62,11 @@ impl Nodes {
         Ok(Nodes {
             list,
             index: NodeIndex::new(alloc, topology)?,
-            offline: BitSet::new(),
+            gone: BitSet::new(),
             draining: BitSet::new(),
+            down: BitSet::new(),
+            upgrading: BitSet::new(),
+            offline: BitSet::new(),
             domains,
         })
     }
@@ -64,18 +76,6 @@ impl Nodes {
         ensures { result ≡ length self.now }
     {
         self.list.len()
-    }
-
-    /// Returns the node at a position in the list, and its state.
-    pub fn at(&self, position: usize) -> NodeState
-        requires { position < length self.now }
-        ensures { (d : AnyState) → result ≡ get_or self.now position d }
-    {
-        NodeState {
-            node: self.list[position],
-            is_offline: self.offline.contains(position),
-            is_draining: self.draining.contains(position),
-        }
     }
 
     /// Returns the node at a position in the list.
@@ -89,28 +89,28 @@ impl Nodes {
     /// Reports whether the node at a position in the list is offline.
     pub fn is_offline_at(&self, position: usize) -> bool
         requires { position < length self.now }
-        ensures { (d : AnyState) → result ≡ (get_or self.now position d).is_offline }
+        ensures { (d : AnyState) → result ≡ is_node_offline (get_or self.now position d) }
     {
         self.offline.contains(position)
     }
 
     /// Returns the first position from this one on whose node is offline.
     pub fn first_offline_from(&self, position: usize) -> Option<usize>
-        ensures { FindsFrom (map (λ x. x.is_offline) self.now) position result }
+        ensures { FindsFrom (map is_node_offline self.now) position result }
     {
         self.offline.first_from(position)
     }
 
     /// Reports whether no node is offline.
     pub fn are_all_online(&self) -> bool
-        ensures { IsTrue result ↔ All (λ x. x.is_offline ≡ false) self.now }
+        ensures { IsTrue result ↔ All (λ x. is_node_offline x ≡ false) self.now }
     {
         self.offline.is_empty()
     }
 
     /// Reports whether no node is draining.
     pub fn are_none_draining(&self) -> bool
-        ensures { IsTrue result ↔ All (λ x. x.is_draining ≡ false) self.now }
+        ensures { IsTrue result ↔ All (λ x. is_node_draining x ≡ false) self.now }
     {
         self.draining.is_empty()
     }
@@ -158,30 +158,49 @@ impl Nodes {
         }
     }
 
-    /// Sets whether a node is offline.
-    pub fn set_offline(&mut self, number: NodeNo, is_offline: bool)
+    /// Returns the mode of the node with a number, if there is one.
+    pub fn mode(&self, number: NodeNo) -> Option<Mode>
+        ensures { result ≡ option_map (λ x. x.mode) (state_at self.now number) }
+    {
+        let position = self.position(number)?;
+        let is_gone = self.gone.contains(position);
+        let is_draining = self.draining.contains(position);
+        Some(mode_by(is_gone, is_draining))
+    }
+
+    /// Reports whether the node with a number is down; `false` if there is none.
+    pub fn is_down(&self, number: NodeNo) -> bool
+        ensures { result ≡ down_in self.now number }
+    {
+        match self.position(number) {
+            Some(position) => self.down.contains(position),
+            None => false,
+        }
+    }
+
+    /// Sets the mode of a node, and whether it is down.
+    pub fn set_state(&mut self, number: NodeNo, mode: Mode, is_down: bool)
         requires { IsSome (state_at self.old number) }
-        ensures { self.new ≡ with_offline self.old number is_offline }
+        ensures { self.new ≡ with_state self.old number mode is_down }
     {
         let position = self.position_of(number);
+        let is_upgrading = self.upgrading.contains(position);
+        mark(&mut self.gone, position, mode.is_gone());
+        mark(&mut self.draining, position, mode.is_draining());
+        mark(&mut self.down, position, is_down);
+        let is_offline = is_offline(mode, is_down, is_upgrading);
         mark(&mut self.offline, position, is_offline);
     }
 
-    /// Sets whether the nodes of an upgrade domain are offline.
-    pub fn set_offline_in(&mut self, domain: UpgradeNo, is_offline: bool)
-        ensures { self.new ≡ with_offline_in self.old domain is_offline }
+    /// Sets whether the nodes of an upgrade domain are upgrading.
+    pub fn set_upgrading_in(&mut self, domain: UpgradeNo, is_upgrading: bool)
+        ensures { self.new ≡ with_upgrading_in self.old domain is_upgrading }
     {
         let positions = &self.domains[domain.value as usize];
-        mark_all(&mut self.offline, positions, is_offline);
-    }
-
-    /// Sets whether a node is draining.
-    pub fn set_draining(&mut self, number: NodeNo, is_draining: bool)
-        requires { IsSome (state_at self.old number) }
-        ensures { self.new ≡ with_draining self.old number is_draining }
-    {
-        let position = self.position_of(number);
-        mark(&mut self.draining, position, is_draining);
+        mark_all(&mut self.upgrading, positions, is_upgrading);
+        mark_all(&mut self.offline, positions, is_upgrading);
+        self.offline.insert_all(&self.gone);
+        self.offline.insert_all(&self.down);
     }
 }
 
@@ -191,6 +210,26 @@ fn nodes_of(alloc: Global, topology: &Topology) -> Result<Vec<NodeInfo>, AllocEr
     ensures known { AreNodes topology.now }
 {
     topology.nodes().map(|node| *node).collect(alloc)
+}
+
+/// Returns the mode of a node that is gone or not, and draining or not.
+fn mode_by(is_gone: bool, is_draining: bool) -> Mode
+    ensures { result ≡ mode_by is_gone is_draining }
+{
+    if is_gone {
+        Mode::Gone
+    } else if is_draining {
+        Mode::Draining
+    } else {
+        Mode::Active
+    }
+}
+
+/// Reports whether a node with this state is offline.
+fn is_offline(mode: Mode, is_down: bool, is_upgrading: bool) -> bool
+    ensures { result ≡ (is_gone mode || (is_down || is_upgrading)) }
+{
+    mode.is_gone() || is_down || is_upgrading
 }
 
 /// Adds a number to a set or removes it.

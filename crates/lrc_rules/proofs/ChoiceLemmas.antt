@@ -19,9 +19,10 @@ use Rattle.lrc_topology.specs.declared.seat.Seat.{Seat}
 use Rattle.lrc_topology.specs.declared.seat.Held.{Held}
 use Rattle.lrc_topology.specs.Nodes.{AreNodes, node_at}
 use Rattle.lrc_topology.specs.Seats.{free_slot, free_seat, is_preferred, is_taken}
-use Rattle.lrc_rules.specs.declared.mode.Mode.{Mode}
-use Rattle.lrc_rules.specs.declared.mode.Mode.TheVariants.{Active, Draining, Gone}
-use Rattle.lrc_rules.specs.States.{mode_of, is_active, is_online, takes_seats, State, code_of, seats_of, taken_seats, load, is_eligible}
+use Rattle.lrc_terms.specs.declared.mode.Mode.{Mode}
+use Rattle.lrc_terms.specs.declared.mode.Mode.TheVariants.{Active, Draining, Gone}
+use Rattle.lrc_terms.specs.Modes.{is_active}
+use Rattle.lrc_rules.specs.States.{mode_of, is_online, takes_seats, State, code_of, seats_of, taken_seats, load, is_eligible}
 use Rattle.lrc_rules.specs.Placement.{clashes, bars, fits, chosen, chosen_node}
 use Rattle.lrc_rules.specs.Choices.{AreApart, IsApartFrom, IsFree, IsEligible, IsFitting, IsChoice}
 use Rattle.lrc_rules.proofs.MemberLemmas.{filter-member, member-filter, All-list_any, list_any-All, not-Contains-nil}

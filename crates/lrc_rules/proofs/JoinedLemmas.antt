@@ -12,7 +12,7 @@ use Rattle.lrc_topology.specs.declared.NodeInfo.{NodeInfo}
 use Rattle.lrc_topology.specs.declared.seat.Seat.{Seat}
 use Rattle.lrc_topology.specs.Nodes.{AreNodes}
 use Rattle.lrc_terms.specs.declared.lease.Lease.{Lease as LeaseRecord}
-use Rattle.lrc_rules.specs.declared.mode.Mode.TheVariants.{Active, Draining}
+use Rattle.lrc_terms.specs.declared.mode.Mode.TheVariants.{Active, Draining}
 use Rattle.lrc_rules.specs.declared.command.Command.{Command}
 use Rattle.lrc_rules.specs.declared.command.Command.TheVariants.{Done}
 use Rattle.lrc_rules.specs.declared.node_command.NodeCommand.{NodeCommand}
@@ -20,7 +20,8 @@ use Rattle.lrc_rules.specs.declared.node_command.NodeCommand.TheVariants as comm
 use Rattle.lrc_rules.specs.declared.reply.Reply.{Reply}
 use Rattle.lrc_rules.specs.declared.reply.Reply.TheVariants.{Idle, Ended, Changed}
 use Rattle.lrc_rules.specs.declared.entry.Entry.{Entry}
-use Rattle.lrc_rules.specs.States.{State, lease_of, has_number, without_number, mode_of, is_active, is_gone, is_down, taken_seats}
+use Rattle.lrc_terms.specs.Modes.{is_active, is_gone}
+use Rattle.lrc_rules.specs.States.{State, lease_of, has_number, without_number, mode_of, is_down, taken_seats}
 use Rattle.lrc_rules.specs.Steps.{without_gone, is_wrong_on, changed_on, node_outcome, node_command, step}
 use Rattle.lrc_rules.specs.Changes.{with_done, changed_at, changed_by}
 use Rattle.lrc_rules.specs.Histories.{World, IsLegal, first_world, next_world, state_after}
@@ -58,7 +59,7 @@ module _ (st : State) (apart : NoneBoth st) where
   both-here command.Join n right gone = absurd (never-both (has_number (without_number st.gone n) n) gone (left-here st n st.gone))
   both-here _ n right gone = left-here st n st.draining
 
-  command-both : (command : NodeCommand) (n : NodeNo) → is_wrong_on command st n ≡ false → NoneBoth (changed_on command st n)
+  pub command-both : (command : NodeCommand) (n : NodeNo) → is_wrong_on command st n ≡ false → NoneBoth (changed_on command st n)
   command-both command n right m gone = elim (cases_Bool (eqb n.value m.value)) [
     | inl same ↦
         let next = changed_on command st n in

@@ -20,7 +20,7 @@ use Rattle.lrc_topology.specs.declared.seat.Seat.{Seat}
 use Rattle.lrc_topology.specs.Nodes.{node_at}
 use Rattle.lrc_terms.specs.Levels.{homes_of, missing_if}
 use Rattle.lrc_terms.proofs.CodeListLemmas.{fragment-number}
-use Rattle.lrc_rules.specs.declared.mode.Mode.{Mode}
+use Rattle.lrc_terms.specs.declared.mode.Mode.{Mode}
 use Rattle.lrc_rules.specs.States.{State, has_stripe, code_of, load, mode_of, is_online, online_at, missing, homes_shown, load_shown, missing_shown, mode_shown}
 use Rattle.lrc_rules.proofs.NodeLemmas.{member-node_at}
 use Rattle.lrc_rules.proofs.StateLemmas.{none-beyond}

@@ -19,7 +19,7 @@ use Rattle.lrc_terms.specs.Leased.{is_of}
 use Rattle.lrc_rules.specs.Leases.{ticked}
 use Rattle.lrc_terms.specs.Leased.{ends_at}
 use Rattle.lrc_rules.specs.declared.reply.Reply.TheVariants.{Idle, Ticked}
-use Rattle.lrc_rules.specs.declared.mode.Mode.TheVariants.{Active}
+use Rattle.lrc_terms.specs.declared.mode.Mode.TheVariants.{Active}
 use Rattle.lrc_rules.specs.declared.command.Command.{Command}
 use Rattle.lrc_rules.specs.declared.command.Command.TheVariants.{Place, Place6, Drop, Lease, Next, Done, Abandon, Revoke, Fail, Tick}
 use Rattle.lrc_rules.specs.declared.reply.Reply.{Reply}

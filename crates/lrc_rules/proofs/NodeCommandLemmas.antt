@@ -13,7 +13,8 @@ use Rattle.lrc_rules.specs.declared.node_command.NodeCommand.TheVariants.{Fail, 
 use Rattle.lrc_rules.specs.declared.reply.Reply.TheVariants.{Changed}
 use Rattle.lrc_rules.specs.declared.refusal.Refusal.TheVariants as refusal
 use Rattle.lrc_rules.specs.declared.entry.Entry.{Entry}
-use Rattle.lrc_rules.specs.States.{State, has_number, is_gone, mode_of, is_down, load}
+use Rattle.lrc_terms.specs.Modes.{is_gone}
+use Rattle.lrc_rules.specs.States.{State, has_number, mode_of, is_down, load}
 use Rattle.lrc_rules.specs.Outcomes.{Outcome}
 use Rattle.lrc_rules.specs.Steps.{is_wrong_on, with_mode, emptied, emptied_if, changed_on, is_kept_by_load, node_outcome, node_command, step}
 use Rattle.lrc_rules.specs.Goodness.{AreSeated}

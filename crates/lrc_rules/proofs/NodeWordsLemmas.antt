@@ -7,9 +7,10 @@ use Rattle.lrc_code.specs.declared.numbers.NodeNo.{NodeNo}
 use Rattle.lrc_code.specs.Numbers.{same_node}
 use Rattle.lrc_topology.specs.declared.NodeInfo.{NodeInfo}
 use Rattle.lrc_topology.specs.declared.seat.Seat.{Seat}
-use Rattle.lrc_rules.specs.declared.mode.Mode.{Mode}
-use Rattle.lrc_rules.specs.declared.mode.Mode.TheVariants.{Active, Draining, Gone}
-use Rattle.lrc_rules.specs.States.{State, has_number, without_number, mode_of, is_active, is_gone, is_down, taken_seats}
+use Rattle.lrc_terms.specs.declared.mode.Mode.{Mode}
+use Rattle.lrc_terms.specs.declared.mode.Mode.TheVariants.{Active, Draining, Gone}
+use Rattle.lrc_terms.specs.Modes.{is_active, is_gone}
+use Rattle.lrc_rules.specs.States.{State, has_number, without_number, mode_of, is_down, taken_seats}
 use Rattle.lrc_rules.specs.Steps.{emptied, with_gone, without_draining, without_gone}
 use Rattle.lrc_rules.proofs.RetiredLemmas.{gone-now}
 use Rattle.lrc_rules.proofs.SeatedLemmas.{emptied-apart}

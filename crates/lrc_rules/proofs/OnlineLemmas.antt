@@ -17,8 +17,9 @@ use Rattle.lrc_terms.specs.declared.level.Level.{Level}
 use Rattle.lrc_terms.specs.Levels.{Homes, homes_of, homeless_in, missing_in, level_by, level_if, rank_at}
 use Rattle.lrc_terms.proofs.NeedLemmas.{law_needs}
 use Rattle.lrc_terms.proofs.LevelLemmas.{law_rank, homeless-missing}
-use Rattle.lrc_rules.specs.declared.mode.Mode.TheVariants.{Draining, Gone}
-use Rattle.lrc_rules.specs.States.{State, has_stripe, code_of, mode_of, is_gone, is_draining, is_down, is_upgrading, is_online, online_at, drains_at, rank, level, level_shown}
+use Rattle.lrc_terms.specs.declared.mode.Mode.TheVariants.{Draining, Gone}
+use Rattle.lrc_terms.specs.Modes.{is_gone, is_draining}
+use Rattle.lrc_rules.specs.States.{State, has_stripe, code_of, mode_of, is_down, is_upgrading, is_online, online_at, drains_at, rank, level, level_shown}
 use Rattle.lrc_rules.specs.Repairs.{needs}
 use Rattle.lrc_rules.proofs.NodeLemmas.{member-node_at}
 use Rattle.lrc_rules.proofs.NodeWordsLemmas.{gone-mode, mode-gone, fails-not, not-fails, flips-true}

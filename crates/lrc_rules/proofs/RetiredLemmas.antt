@@ -10,10 +10,11 @@ use Rattle.lrc_topology.specs.declared.NodeInfo.{NodeInfo}
 use Rattle.lrc_topology.specs.declared.seat.Seat.{Seat}
 use Rattle.lrc_topology.specs.Nodes.{node_at}
 use Rattle.lrc_topology.specs.Seats.{load_of}
-use Rattle.lrc_rules.specs.declared.mode.Mode.{Mode}
-use Rattle.lrc_rules.specs.declared.mode.Mode.TheVariants.{Active, Draining, Gone}
+use Rattle.lrc_terms.specs.declared.mode.Mode.{Mode}
+use Rattle.lrc_terms.specs.declared.mode.Mode.TheVariants.{Active, Draining, Gone}
 use Rattle.lrc_rules.specs.declared.node_command.NodeCommand.TheVariants.{Retire}
-use Rattle.lrc_rules.specs.States.{State, has_number, mode_of, is_draining, taken_seats, load}
+use Rattle.lrc_terms.specs.Modes.{is_draining}
+use Rattle.lrc_rules.specs.States.{State, has_number, mode_of, taken_seats, load}
 use Rattle.lrc_rules.specs.Steps.{with_gone}
 use Rattle.lrc_rules.proofs.MemberLemmas.{list_any-member, count-none, none-count}
 use Rattle.lrc_rules.proofs.NodeCommandLemmas.{IsAllowed}

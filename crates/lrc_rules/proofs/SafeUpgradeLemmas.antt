@@ -35,7 +35,8 @@ use Rattle.lrc_terms.proofs.LevelLemmas.{law_whole}
 use Rattle.lrc_rules.specs.declared.reply.Reply.{Reply}
 use Rattle.lrc_rules.specs.declared.reply.Reply.TheVariants.{Changed, Refused}
 use Rattle.lrc_rules.specs.Outcomes.{refuse_if}
-use Rattle.lrc_rules.specs.States.{State, has_stripe, code_of, held_by, seats_of, mode_of, is_gone, is_down, is_upgrading, is_online, online_at, homeless, missing, level}
+use Rattle.lrc_terms.specs.Modes.{is_gone}
+use Rattle.lrc_rules.specs.States.{State, has_stripe, code_of, held_by, seats_of, mode_of, is_down, is_upgrading, is_online, online_at, homeless, missing, level}
 use Rattle.lrc_rules.specs.Repairs.{is_safe}
 use Rattle.lrc_rules.specs.Choices.{AreApart}
 use Rattle.lrc_rules.specs.Goodness.{KeepApart, AreSeated}

@@ -20,10 +20,11 @@ use Rattle.lrc_topology.specs.declared.seat.Held.{Held}
 use Rattle.lrc_topology.specs.Nodes.{AreNodes, node_at}
 use Rattle.lrc_topology.specs.Seats.{load_of}
 use Rattle.lrc_rules.specs.declared.refusal.Refusal.TheVariants as refusal
-use Rattle.lrc_rules.specs.declared.mode.Mode.TheVariants.{Active, Draining, Gone}
+use Rattle.lrc_terms.specs.declared.mode.Mode.TheVariants.{Active, Draining, Gone}
 use Rattle.lrc_terms.specs.declared.lease.Lease.{Lease as LeaseRecord}
 use Rattle.lrc_terms.specs.Leased.{is_target_on}
-use Rattle.lrc_rules.specs.States.{State, held_by, has_stripe, has_number, without_number, mode_of, is_gone, code_of, seats_of, taken_seats, load}
+use Rattle.lrc_terms.specs.Modes.{is_gone}
+use Rattle.lrc_rules.specs.States.{State, held_by, has_stripe, has_number, without_number, mode_of, code_of, seats_of, taken_seats, load}
 use Rattle.lrc_rules.specs.Placement.{place_next, placed}
 use Rattle.lrc_rules.specs.Steps.{with_code, with_stripe, place_answer, place_outcome, is_other, without_stripe, stands_on, hangs_on, emptied, with_gone, with_down, without_down, with_draining, without_draining, without_gone}
 use Rattle.lrc_rules.specs.Goodness.{IsStanding, KeepApart, AreSeated}

@@ -19,7 +19,7 @@ use Rattle.lrc_topology.specs.declared.NodeInfo.{NodeInfo}
 use Rattle.lrc_topology.specs.declared.seat.Seat.{Seat}
 use Rattle.lrc_topology.specs.declared.seat.Held.{Held}
 use Rattle.lrc_topology.specs.Nodes.{AreNodes, node_at}
-use Rattle.lrc_rules.specs.declared.mode.Mode.TheVariants.{Active, Gone}
+use Rattle.lrc_terms.specs.declared.mode.Mode.TheVariants.{Active, Gone}
 use Rattle.lrc_terms.specs.declared.lease.Lease.{Lease}
 use Rattle.lrc_terms.proofs.LeaseLemmas.{one_each-append}
 use Rattle.lrc_rules.specs.States.{State, mode_of, code_of, held_by, lease_of, seats_of, taken_seats}

@@ -15,7 +15,7 @@ use Rattle.lrc_rules.specs.declared.node_command.NodeCommand.{NodeCommand}
 use Rattle.lrc_rules.specs.declared.reply.Reply.{Reply}
 use Rattle.lrc_rules.specs.declared.reply.Reply.TheVariants.{Dropped, Idle, Ended, Changed, Ticked}
 use Rattle.lrc_rules.specs.declared.entry.Entry.{Entry}
-use Rattle.lrc_rules.specs.declared.mode.Mode.TheVariants.{Gone}
+use Rattle.lrc_terms.specs.declared.mode.Mode.TheVariants.{Gone}
 use Rattle.lrc_rules.specs.States.{State, opening, mode_of, lease_of}
 use Rattle.lrc_rules.specs.Steps.{node_command, step}
 use Rattle.lrc_rules.specs.Goodness.{IsStanding, AreSeated}

@@ -21,12 +21,13 @@ use Rattle.lrc_topology.specs.Nodes.{node_at}
 use Rattle.lrc_terms.specs.Levels.{home_of, homes_of, homeless_in, level_by, level_if}
 use Rattle.lrc_terms.specs.declared.lease.Lease.{Lease as LeaseRecord}
 use Rattle.lrc_rules.specs.declared.reply.Reply.TheVariants.{Idle, Placed, Placed6, Dropped, Ended, Changed}
-use Rattle.lrc_rules.specs.declared.mode.Mode.TheVariants.{Active, Draining, Gone}
+use Rattle.lrc_terms.specs.declared.mode.Mode.TheVariants.{Active, Draining, Gone}
 use Rattle.lrc_rules.specs.declared.command.Command.{Command}
 use Rattle.lrc_rules.specs.declared.command.Command.TheVariants.{Place, Place6, Drop, Done, Fail, Down, Up, Retire, Join, Upgrade, Upgraded}
 use Rattle.lrc_rules.specs.declared.reply.Reply.{Reply}
 use Rattle.lrc_rules.specs.declared.entry.Entry.{Entry}
-use Rattle.lrc_rules.specs.States.{State, has_stripe, code_of, has_number, is_home_of, mode_of, is_gone, is_online, is_upgrading, online_at, level_shown, lease_of}
+use Rattle.lrc_terms.specs.Modes.{is_gone}
+use Rattle.lrc_rules.specs.States.{State, has_stripe, code_of, has_number, is_home_of, mode_of, is_online, is_upgrading, online_at, level_shown, lease_of}
 use Rattle.lrc_rules.specs.Steps.{step, stands_on, without_stripe}
 use Rattle.lrc_rules.specs.Changes.{held_at, with_placed, with_done, changed_by}
 use Rattle.lrc_rules.specs.Touching.{has_home_on, is_in_domain, can_change_level}

@@ -9,6 +9,7 @@ pub use Rattle.lrc_topology.specs.Seats
 pub use Rattle.lrc_terms.specs.Levels
 pub use Rattle.lrc_terms.specs.Stripes
 pub use Rattle.lrc_terms.specs.Leased
+pub use Rattle.lrc_terms.specs.Modes
 -- the rules: the state, the reply to each command and the state after it
 pub mod States
 pub mod Placement

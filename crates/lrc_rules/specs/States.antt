@@ -21,8 +21,9 @@ use Rattle.lrc_terms.specs.declared.level.Level.{Level}
 use Rattle.lrc_terms.specs.Levels.{homes_of, homeless_in, missing_in, level_by, rank_by, missing_if, level_if}
 use Rattle.lrc_terms.specs.declared.lease.Lease.{Lease}
 use Rattle.lrc_terms.specs.Leased.{leases_in}
-use Rattle.lrc_rules.specs.declared.mode.Mode.{Mode}
-use Rattle.lrc_rules.specs.declared.mode.Mode.TheVariants.{Active, Draining, Gone}
+use Rattle.lrc_terms.specs.Modes.{is_active, is_draining, is_gone}
+use Rattle.lrc_terms.specs.declared.mode.Mode.{Mode}
+use Rattle.lrc_terms.specs.declared.mode.Mode.TheVariants.{Active, Draining, Gone}
 
 -- The state of the store. Each list is in the order in which its elements were added. A node in none of the lists is
 -- active and not down.
@@ -97,24 +98,6 @@ without_number numbers n = filter (λ m. not (same_node n m)) numbers
 -- the mode of a node: Active, unless it is gone or draining
 abbrev pub mode_of : State → NodeNo → Mode
 mode_of st n = if has_number st.gone n then Gone else (if has_number st.draining n then Draining else Active)
-
--- the mode is Active
-abbrev pub is_active : Mode → Bool
-is_active Active = true
-is_active Draining = false
-is_active Gone = false
-
--- the mode is Draining
-abbrev pub is_draining : Mode → Bool
-is_draining Active = false
-is_draining Draining = true
-is_draining Gone = false
-
--- the mode is Gone
-abbrev pub is_gone : Mode → Bool
-is_gone Active = false
-is_gone Draining = false
-is_gone Gone = true
 
 -- the node is down: a Down of it was not followed by an Up, Fail or Retire
 abbrev pub is_down : State → NodeNo → Bool

@@ -25,7 +25,8 @@ use Rattle.lrc_rules.specs.declared.refusal.Refusal.TheVariants as refusal
 use Rattle.lrc_rules.specs.declared.entry.Entry.{Entry}
 use Rattle.lrc_terms.specs.declared.lease.Lease.{Lease as LeaseRecord}
 use Rattle.lrc_terms.specs.Leased.{is_target_on}
-use Rattle.lrc_rules.specs.States.{State, has_stripe, is_home_of, without_number, mode_of, is_active, is_draining, is_gone, is_down, load}
+use Rattle.lrc_terms.specs.Modes.{is_active, is_draining, is_gone}
+use Rattle.lrc_rules.specs.States.{State, has_stripe, is_home_of, without_number, mode_of, is_down, load}
 use Rattle.lrc_rules.specs.Placement.{placed}
 use Rattle.lrc_rules.specs.Repairs.{is_safe}
 use Rattle.lrc_rules.specs.Outcomes.{Outcome, refused, refuse_if}

@@ -13,19 +13,22 @@ use Rattle.lrc_code.specs.Numbers.{same_node, same_stripe, same_upgrade}
 use Rattle.lrc_code.proofs.NumbersLemmas.{equal_nodes}
 use Rattle.lrc_topology.specs.declared.NodeInfo.{NodeInfo}
 use Rattle.lrc_topology.specs.declared.seat.Seat.{Seat}
-use Rattle.lrc_topology.specs.Nodes.{node_at, nodes_in}
+use Rattle.lrc_topology.specs.Nodes.{node_at}
 use Rattle.lrc_nodes.specs.declared.node_state.NodeState.{NodeState}
 use Rattle.lrc_stripes.specs.Stored.{has_node}
 use Rattle.lrc_ranks.specs.Sets.{has}
 use Rattle.lrc_stripes.specs.NodeStates.{AreNodes, NodeStates, NodeLists, states_in, first_states, IsPositionOf}
-use Rattle.lrc_nodes.specs.States.{first_state, state_at, node_position, online_in, draining_in, with_offline, with_offline_in, with_draining}
+use Rattle.lrc_nodes.specs.States.{first_state, is_node_online, is_node_offline, is_node_draining, infos_in, state_at, node_position, online_in, draining_in}
 use Rattle.lrc_stripes.proofs.NodeLemmas.{on-changed, online-at_first, draining-at_first, sets-none}
-use Rattle.lrc_nodes.proofs.SetLemmas.{AreSameNodes, same-offline, same-offline_in, same-draining, online-offline, draining-offline, online-draining, draining-draining, online-offline_in, draining-offline_in}
 use Rattle.lrc_nodes.proofs.StateLemmas.{no_state, place_number, state_at-place, state_at-past, node_at-states, nodes-at_first}
 
 and-false : (b : Bool) → (b && false) ≡ false
 and-false true = refl
 and-false false = refl
+
+pub not-not : (b : Bool) → not (not b) ≡ b
+not-not true = refl
+not-not false = refl
 
 pub or-false : (b : Bool) → (b || false) ≡ b
 or-false true = refl
@@ -88,27 +91,13 @@ module _ (states : List NodeState) (sets : List (List Bool)) (t : NodeLists) (vi
     unfolding states_in
     found-node = subst (λ (y : NodeLists). Some x.node ≡ node_at (states_in y).nodes n) view (rw (node_at-states states n, found-state) refl)
 
-    pub found-online : not x.is_offline ≡ (states_in t).online n
+    pub found-online : is_node_online x ≡ (states_in t).online n
     unfolding states_in
-    found-online = subst (λ (y : NodeLists). not x.is_offline ≡ (states_in y).online n) view (rw found-state refl)
+    found-online = subst (λ (y : NodeLists). is_node_online x ≡ (states_in y).online n) view (rw found-state refl)
 
-    pub found-draining : x.is_draining ≡ (states_in t).draining n
+    pub found-draining : is_node_draining x ≡ (states_in t).draining n
     unfolding states_in
-    found-draining = subst (λ (y : NodeLists). x.is_draining ≡ (states_in y).draining n) view (rw found-state refl)
-
-  -- ---- states of nodes set
-
-  -- the states are those of another list of the same nodes
-  states-set : (after : List NodeState) (online draining : NodeNo → Bool) → AreSameNodes states after → online_in after ≡ online → draining_in after ≡ draining
-      → states_in (record { list = after; stripes = sets }) ≡ record (states_in t) { online = online; draining = draining }
-  unfolding states_in
-  states-set after online draining same ons drains =
-      let now : NodeStates = states_in (record { list = states; stripes = sets }) in
-      subst (λ (z : NodeLists). states_in (record { list = after; stripes = sets }) ≡ record (states_in z) { online = online; draining = draining }) view
-      (ap (λ (ns : List NodeInfo). record now { nodes = ns; online = online_in after; draining = draining_in after; on = λ m. has (get_or sets (node_position after m) []) }) same.nodes
-      ∙ ap (λ (o : NodeNo → Bool). record now { online = o; draining = draining_in after; on = λ m. has (get_or sets (node_position after m) []) }) ons
-      ∙ ap (λ (o : NodeNo → Bool). record now { online = online; draining = o; on = λ m. has (get_or sets (node_position after m) []) }) drains
-      ∙ ap (λ (o : NodeNo → StripeNo → Bool). record now { online = online; draining = draining; on = o }) (fun_ext (λ m. ap (λ (q : ℕ). has (get_or sets q [])) (same.positions m))))
+    found-draining = subst (λ (y : NodeLists). is_node_draining x ≡ (states_in y).draining n) view (rw found-state refl)
 
   -- one of the nodes has the number
   pub known-state : IsTrue (has_node (states_in t).nodes n) → IsSome (state_at states n)
@@ -116,31 +105,6 @@ module _ (states : List NodeState) (sets : List (List Bool)) (t : NodeLists) (vi
   known-state known =
       let at : has_node (map (λ (x : NodeState). x.node) states) n ≡ true = subst (λ (z : NodeLists). has_node (states_in z).nodes n ≡ true) (sym view) known in
       some-state (state_at states n) (sym (ap (λ (o : Option NodeInfo). is_some o) (node_at-states states n)) ∙ at)
-
-  pub offline-set : (b : Bool) → IsTrue (has_node (states_in t).nodes n)
-      → states_in (record { list = with_offline states n b; stripes = sets }) ≡ record (states_in t) { online = λ m. if same_node n m then not b else (states_in t).online m }
-  unfolding states_in
-  offline-set b known =
-      states-set (with_offline states n b) (λ m. if same_node n m then not b else (states_in t).online m) (states_in t).draining (same-offline states n b)
-      (subst (λ (z : NodeLists). online_in (with_offline states n b) ≡ λ m. if same_node n m then not b else (states_in z).online m) view (online-offline states n b (known-state known)))
-      (subst (λ (z : NodeLists). draining_in (with_offline states n b) ≡ (states_in z).draining) view (draining-offline states n b))
-
-  pub draining-set : (b : Bool) → IsTrue (has_node (states_in t).nodes n)
-      → states_in (record { list = with_draining states n b; stripes = sets }) ≡ record (states_in t) { draining = λ m. if same_node n m then b else (states_in t).draining m }
-  unfolding states_in
-  draining-set b known =
-      states-set (with_draining states n b) (states_in t).online (λ m. if same_node n m then b else (states_in t).draining m) (same-draining states n b)
-      (subst (λ (z : NodeLists). online_in (with_draining states n b) ≡ (states_in z).online) view (online-draining states n b))
-      (subst (λ (z : NodeLists). draining_in (with_draining states n b) ≡ λ m. if same_node n m then b else (states_in z).draining m) view (draining-draining states n b (known-state known)))
-
-  pub domain-set : (u : UpgradeNo) (b : Bool) → AreNodes states sets
-      → states_in (record { list = with_offline_in states u b; stripes = sets })
-      ≡ record (states_in t) { online = λ m. if list_any (λ n. same_node n.number m) (nodes_in (states_in t).nodes u) then not b else (states_in t).online m }
-  unfolding states_in
-  domain-set u b are =
-      states-set (with_offline_in states u b) (λ m. if list_any (λ n. same_node n.number m) (nodes_in (states_in t).nodes u) then not b else (states_in t).online m) (states_in t).draining (same-offline_in states u b)
-      (subst (λ (z : NodeLists). online_in (with_offline_in states u b) ≡ λ m. if list_any (λ n. same_node n.number m) (nodes_in (states_in z).nodes u) then not b else (states_in z).online m) view (online-offline_in states u b are.apart))
-      (subst (λ (z : NodeLists). draining_in (with_offline_in states u b) ≡ (states_in z).draining) view (draining-offline_in states u b))
 
   -- ---- the stripes of a node changed
 
@@ -215,9 +179,9 @@ pub states_in-at_first : (states : List NodeState) (sets : List (List Bool)) (no
 unfolding states_in
 states_in-at_first states sets nodes made none =
     let on_none : (λ (n : NodeNo). has (get_or sets (node_position states n) [])) ≡ (λ n s. false) = fun_ext (λ n. sets-none sets none (node_position states n)) in
-    ap (λ (on : NodeNo → StripeNo → Bool). let now : NodeStates = record { nodes = map (λ x. x.node) states; online = online_in states; draining = draining_in states; on = on } in now) on_none
-    ∙ ap (λ (xs : List NodeState). let now : NodeStates = record { nodes = map (λ x. x.node) xs; online = online_in xs; draining = draining_in xs; on = λ n s. false } in now) made
-    ∙ ap (λ (ns : List NodeInfo). let now : NodeStates = record { nodes = ns; online = online_in (map first_state nodes); draining = draining_in (map first_state nodes); on = λ n s. false } in now) (nodes-at_first nodes)
+    ap (λ (on : NodeNo → StripeNo → Bool). let now : NodeStates = record { list = states; nodes = infos_in states; online = online_in states; draining = draining_in states; on = on } in now) on_none
+    ∙ ap (λ (xs : List NodeState). let now : NodeStates = record { list = xs; nodes = infos_in xs; online = online_in xs; draining = draining_in xs; on = λ n s. false } in now) made
+    ∙ ap (λ (ns : List NodeInfo). record (first_states nodes) { nodes = ns; online = online_in (map first_state nodes); draining = draining_in (map first_state nodes) }) (nodes-at_first nodes)
     ∙ ap₂ (λ (o b : NodeNo → Bool). record (first_states nodes) { online = o; draining = b }) (online-at_first nodes) (draining-at_first nodes)
 
 -- ---- a stripe taken off several homes
@@ -299,24 +263,20 @@ domain-nodes states sets t view u =
 
 module _ (states : List NodeState) (sets : List (List Bool)) (long : length sets ≡ length states) where
   offline-listed : (n : NodeNo) (s : StripeNo) → online_in states n ≡ false → has (get_or sets (node_position states n) []) s ≡ true
-      → list_any (λ (x : NodeState). x.is_offline && has (get_or sets (node_position states x.node.number) []) s) states ≡ true
+      → list_any (λ (x : NodeState). is_node_offline x && has (get_or sets (node_position states x.node.number) []) s) states ≡ true
   offline-listed n s off on = elim (cases_lt (node_position states n) (length states)) [
     | inr past ↦ absurd (let none = get_or_past sets (node_position states n) [] (omega (arith, past, long)) in let clash : true ≡ false = sym on ∙ ap (λ (bits : List Bool). has bits s) none in cc)
     | inl within ↦
         let x = get_or states (node_position states n) no_state in
         let own : n ≡ x.node.number = equal_nodes n x.node.number (place_number states n no_state within) in
-        let down : x.is_offline ≡ true =
-        not-false x.is_offline (sym (ap (λ (o : Option NodeState). option_map_or (λ y. not y.is_offline) o false) (state_at-place states n no_state within)) ∙ off) in
-        list_any_at (λ (y : NodeState). y.is_offline && has (get_or sets (node_position states y.node.number) []) s) states (node_position states n) no_state within
+        let down : is_node_offline x ≡ true = ap not (sym (ap (λ (o : Option NodeState). option_map_or is_node_online o false) (state_at-place states n no_state within)) ∙ off) in
+        list_any_at (λ (y : NodeState). is_node_offline y && has (get_or sets (node_position states y.node.number) []) s) states (node_position states n) no_state within
         (rw (down, ← own) on)
-  ] where
-    not-false : (b : Bool) → not b ≡ false → b ≡ true
-    not-false true e = refl
-    not-false false e = sym e
+  ]
 
 -- a stripe with a home on such a node
 pub offline-all : (states : List NodeState) (sets : List (List Bool)) (t : NodeLists) (view : ◌≡◌ {A = NodeLists} (record { list = states; stripes = sets }) t) → length sets ≡ length states
-    → (n : NodeNo) (s : StripeNo) → (states_in t).online n ≡ false → (states_in t).on n s ≡ true → on_some (states_in t) (λ x. x.is_offline) states s ≡ true
+    → (n : NodeNo) (s : StripeNo) → (states_in t).online n ≡ false → (states_in t).on n s ≡ true → on_some (states_in t) is_node_offline states s ≡ true
 unfolding states_in
 offline-all states sets t view long n s =
-    subst (λ (y : NodeLists). (states_in y).online n ≡ false → (states_in y).on n s ≡ true → on_some (states_in y) (λ x. x.is_offline) states s ≡ true) view (offline-listed states sets long n s)
+    subst (λ (y : NodeLists). (states_in y).online n ≡ false → (states_in y).on n s ≡ true → on_some (states_in y) is_node_offline states s ≡ true) view (offline-listed states sets long n s)

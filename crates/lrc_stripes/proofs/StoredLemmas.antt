@@ -17,7 +17,7 @@ use Rattle.lrc_topology.specs.declared.NodeInfo.{NodeInfo}
 use Rattle.lrc_topology.specs.declared.seat.Seat.{Seat}
 use Rattle.lrc_topology.specs.Nodes.{node_at}
 use Rattle.lrc_stripes.specs.declared.row.Row.{Row}
-use Rattle.lrc_stripes.specs.Stored.{Stored, has_node, has_slot, empty, with_stripe, with_homes, without_stripe, with_home, with_offline, with_draining, with_spare}
+use Rattle.lrc_stripes.specs.Stored.{Stored, has_node, has_slot, empty, with_stripe, with_homes, without_stripe, with_home, with_spare}
 use Rattle.lrc_stripes.specs.NodeStates.{NodeStates, first_states}
 use Rattle.lrc_stripes.specs.Rows.{seated_homes}
 use Rattle.lrc_stripes.specs.Tables.{row_homes, row_code}
@@ -26,12 +26,10 @@ use Rattle.lrc_stripes.proofs.KeptLemmas.{replicated}
 -- the stored stripes that nodes and rows represent
 abbrev pub stored_by : NodeStates → (StripeNo → Option Row) → ℕ → Stored
 stored_by z rows spare = record {
-  nodes = z.nodes;
+  nodes = z.list;
   stripes = λ s. is_some (rows s);
   code = λ s. row_code (rows s);
   homes = λ s. row_homes (rows s);
-  online = z.online;
-  draining = z.draining;
   spare = spare;
 }
 
@@ -134,32 +132,6 @@ module _ (z : NodeStates) (rows after : StripeNo → Option Row) (s : StripeNo) 
         ∙ ap (λ (b : StripeNo → Bool). record (before spare) { stripes = b; code = λ u. row_code (if same_stripe s u then Some q else rows u); homes = λ u. row_homes (if same_stripe s u then Some q else rows u) }) (fun_ext stripes-kept)
         ∙ ap (λ (c : StripeNo → Code). record (before spare) { code = c; homes = λ u. row_homes (if same_stripe s u then Some q else rows u) }) (fun_ext codes-kept)
         ∙ ap (λ (h : StripeNo → ℕ → Option Seat). record (before spare) { homes = h }) (fun_ext (λ u. fun_ext (λ g. homes-set u g)))
-
--- ---- nodes that stay as they are
-
-flag-stays : (flags : NodeNo → Bool) (n : NodeNo) (b : Bool) → flags n ≡ b → flags ≡ (λ m. if same_node n m then b else flags m)
-flag-stays flags n b is = fun_ext (λ m. elim (cases_eq n.value m.value) [
-  | inl same ↦ rw (eq-eqb _ _ same) (ap flags (sym (equal_nodes n m same)) ∙ is)
-  | inr other ↦ rw (ne_eqb _ _ other) refl
-])
-
-apart-not : (a b : Bool) → beq a b ≡ false → a ≡ not b
-apart-not true true e = e
-apart-not true false e = refl
-apart-not false true e = refl
-apart-not false false e = sym e
-
-alike-same : (a b : Bool) → not (beq a b) ≡ false → a ≡ b
-alike-same true true e = refl
-alike-same true false e = e
-alike-same false true e = sym e
-alike-same false false e = refl
-
-pub offline-stays : (t : Stored) (n : NodeNo) (b : Bool) → beq (t.online n) b ≡ false → t ≡ with_offline t n b
-offline-stays t n b apart = ap (λ (o : NodeNo → Bool). record t { online = o }) (flag-stays t.online n (not b) (apart-not (t.online n) b apart))
-
-pub draining-stays : (t : Stored) (n : NodeNo) (b : Bool) → not (beq (t.draining n) b) ≡ false → t ≡ with_draining t n b
-draining-stays t n b alike = ap (λ (d : NodeNo → Bool). record t { draining = d }) (flag-stays t.draining n b (alike-same (t.draining n) b alike))
 
 -- ---- seats
 

@@ -5,12 +5,14 @@ use Rattle.lrc_code.specs.declared.numbers.StripeNo.{StripeNo}
 use Rattle.lrc_code.specs.declared.numbers.NodeNo.{NodeNo}
 use Rattle.lrc_topology.specs.declared.NodeInfo.{NodeInfo}
 use Rattle.lrc_nodes.specs.declared.node_state.NodeState.{NodeState}
-use Rattle.lrc_nodes.specs.States.{numbers_in, node_position, online_in, draining_in}
+use Rattle.lrc_nodes.specs.States.{first_state, infos_in, numbers_in, node_position, online_in, draining_in}
 use Rattle.lrc_stripes.specs.Stored.{has_node}
 use Rattle.lrc_ranks.specs.Sets.{has}
 
--- The nodes in the order of the file, those that are online, those that are draining, and the stripes with a home on each.
+-- The nodes in the order of the file with their states; the nodes alone, those that are online and those that are draining, which
+-- follow from it; and the stripes with a home on each.
 pub record NodeStates : Type 0 where
+  pub list : List NodeState
   pub nodes : List NodeInfo
   pub online : NodeNo → Bool
   pub draining : NodeNo → Bool
@@ -18,7 +20,7 @@ pub record NodeStates : Type 0 where
 
 -- the nodes at first
 abbrev pub first_states : List NodeInfo → NodeStates
-first_states nodes = record { nodes = nodes; online = has_node nodes; draining = λ n. false; on = λ n s. false }
+first_states nodes = record { list = map first_state nodes; nodes = nodes; online = has_node nodes; draining = λ n. false; on = λ n s. false }
 
 -- the stored nodes, and in the same order the stripes with a home on each
 pub record NodeLists : Type 0 where
@@ -28,7 +30,8 @@ pub record NodeLists : Type 0 where
 -- the nodes and stripes that the lists represent
 unfoldable pub states_in : NodeLists → NodeStates
 states_in t = record {
-  nodes = map (λ x. x.node) t.list;
+  list = t.list;
+  nodes = infos_in t.list;
   online = online_in t.list;
   draining = draining_in t.list;
   on = λ n. has (get_or t.stripes (node_position t.list n) []);

@@ -1,6 +1,6 @@
--- The stripes of a store: those that exist, the homes of their fragments, and the nodes that are online or draining.
-use Rattle.std.specs.Prelude.{◌≡◌, ◌≢◌, ℕ, ◌-◌, ◌≤◌, Bool, false, not, ◌&&◌, ◌||◌, if◌then◌else◌, nat_lt, nat_eq, List, Option, Some, None, is_some, IsTrue, IsFalse, ◌↔◌}
-use Rattle.std.specs.List.{Contains, AllPairs, list_any, slice_get}
+-- The stripes of a store: those that exist, the homes of their fragments, and the nodes with their states.
+use Rattle.std.specs.Prelude.{◌≡◌, ◌≢◌, ℕ, ◌-◌, ◌≤◌, Bool, false, not, ◌&&◌, ◌||◌, if◌then◌else◌, nat_lt, nat_eq, List, map, Option, Some, None, is_some, IsTrue, IsFalse, ◌↔◌}
+use Rattle.std.specs.List.{Contains, AllPairs, slice_get}
 use Rattle.std.specs.Option.{option_map_or}
 use Rattle.lrc_code.specs.declared.codes.Code.{Code}
 use Rattle.lrc_code.specs.declared.codes.Code.TheVariants.{Wide}
@@ -8,39 +8,39 @@ use Rattle.lrc_code.specs.declared.losses.LossMask.{LossMask}
 use Rattle.lrc_code.specs.declared.numbers.StripeNo.{StripeNo}
 use Rattle.lrc_code.specs.declared.numbers.Fragment.{Fragment}
 use Rattle.lrc_code.specs.declared.numbers.NodeNo.{NodeNo}
+use Rattle.lrc_code.specs.declared.numbers.UpgradeNo.{UpgradeNo}
 use Rattle.lrc_code.specs.Numbers.{same_stripe, same_node}
 use Rattle.lrc_topology.specs.declared.NodeInfo.{NodeInfo}
 use Rattle.lrc_topology.specs.declared.seat.Seat.{Seat}
 use Rattle.lrc_topology.specs.Nodes.{node_at}
+use Rattle.lrc_terms.specs.declared.mode.Mode.{Mode}
 use Rattle.lrc_terms.specs.declared.level.Level.{Level}
 use Rattle.lrc_terms.specs.Levels.{Homes, missing_in, needs_in, homes_if, missing_if, needs_if, level_if, has_some, rank_by, comes_first, is_whole}
 use Rattle.lrc_terms.specs.Stripes.{StripeFragment, StripeLevel, comes_before}
+use Rattle.lrc_nodes.specs.declared.node_state.NodeState.{NodeState}
+use Rattle.lrc_nodes.specs.States.{first_state, online_in, draining_in}
+use Rattle.lrc_nodes.specs.States as node
 
--- The nodes in the order of the file; the stripes that exist, their codes and the homes of their fragments; the nodes that are
--- online and those that are draining; and the number of stripes for which there is room. A stripe that does not exist counts as
--- Wide.
+-- The nodes in the order of the file, with their states; the stripes that exist, their codes and the homes of their fragments;
+-- and the number of stripes for which there is room. A stripe that does not exist counts as Wide.
 pub record Stored : Type 0 where
-  pub nodes : List NodeInfo
+  pub nodes : List NodeState
   pub stripes : StripeNo → Bool
   pub code : StripeNo → Code
   pub homes : StripeNo → Homes
-  pub online : NodeNo → Bool
-  pub draining : NodeNo → Bool
   pub spare : ℕ
 
 -- one of the nodes has the number
 abbrev pub has_node : List NodeInfo → NodeNo → Bool
 has_node nodes n = is_some (node_at nodes n)
 
--- no stripes and no room, and every node is online and none draining; a number that is no node is neither
+-- no stripes and no room, and every node is active, not down and not upgrading
 abbrev pub empty : List NodeInfo → Stored
 empty nodes = record {
-  nodes = nodes;
+  nodes = map first_state nodes;
   stripes = λ s. false;
   code = λ s. Wide;
   homes = λ s f. None;
-  online = has_node nodes;
-  draining = λ n. false;
   spare = 0;
 }
 
@@ -69,17 +69,13 @@ without_stripe t s = record t {
 abbrev pub with_home : Stored → StripeNo → Fragment → Option Seat → Stored
 with_home t s f home = record t { homes = λ r g. if same_stripe s r && nat_eq f.value g then home else t.homes r g }
 
--- the node is offline or not, as set
-abbrev pub with_offline : Stored → NodeNo → Bool → Stored
-with_offline t n b = record t { online = λ m. if same_node n m then not b else t.online m }
+-- the node has this mode, and is down or not, as set
+abbrev pub with_state : Stored → NodeNo → Mode → Bool → Stored
+with_state t n mode is_down = record t { nodes = node.with_state t.nodes n mode is_down }
 
--- these nodes are offline or not, as set
-abbrev pub with_offline_all : Stored → List NodeInfo → Bool → Stored
-with_offline_all t nodes b = record t { online = λ m. if list_any (λ n. same_node n.number m) nodes then not b else t.online m }
-
--- the node is draining or not, as set
-abbrev pub with_draining : Stored → NodeNo → Bool → Stored
-with_draining t n b = record t { draining = λ m. if same_node n m then b else t.draining m }
+-- the nodes of an upgrade domain are upgrading or not, as set
+abbrev pub with_upgrading_in : Stored → UpgradeNo → Bool → Stored
+with_upgrading_in t u b = record t { nodes = node.with_upgrading_in t.nodes u b }
 
 -- there is room for this number of stripes
 abbrev pub with_spare : Stored → ℕ → Stored
@@ -93,25 +89,25 @@ homes_shown t s = homes_if (t.stripes s) (t.homes s)
 
 -- the missing fragments of a stripe; none for a stripe that does not exist
 abbrev pub missing_shown : Stored → StripeNo → Option LossMask
-missing_shown t s = missing_if (t.stripes s) (t.code s) t.online (t.homes s)
+missing_shown t s = missing_if (t.stripes s) (t.code s) (online_in t.nodes) (t.homes s)
 
 -- the fragments of a stripe that need a lease; none for a stripe that does not exist
 abbrev pub needs_shown : Stored → StripeNo → Option LossMask
-needs_shown t s = needs_if (t.stripes s) (t.code s) t.draining (t.homes s)
+needs_shown t s = needs_if (t.stripes s) (t.code s) (draining_in t.nodes) (t.homes s)
 
 -- the level of a stripe; none for a stripe that does not exist
 abbrev pub level_shown : Stored → StripeNo → Option Level
-level_shown t s = level_if (t.stripes s) (t.code s) t.online (t.homes s)
+level_shown t s = level_if (t.stripes s) (t.code s) (online_in t.nodes) (t.homes s)
 
 -- ---- repair
 
 -- the rank of a stripe: by the margin of its missing fragments
 abbrev pub rank_in : Stored → StripeNo → ℕ
-rank_in t s = rank_by (t.code s) (missing_in (t.code s) t.online (t.homes s))
+rank_in t s = rank_by (t.code s) (missing_in (t.code s) (online_in t.nodes) (t.homes s))
 
 -- the stripe exists, and one of its fragments needs a lease
 abbrev pub has_work : Stored → StripeNo → Bool
-has_work t s = t.stripes s && has_some (t.code s) (needs_in (t.code s) t.draining (t.homes s))
+has_work t s = t.stripes s && has_some (t.code s) (needs_in (t.code s) (draining_in t.nodes) (t.homes s))
 
 -- these are all stripes with a fragment that needs a lease, in the order of repair
 pub record AreWork (t : Stored) (stripes : List StripeNo) : Type 0 where

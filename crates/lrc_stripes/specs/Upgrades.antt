@@ -1,5 +1,5 @@
 -- Which stripes become unrecoverable while an upgrade domain is offline.
-use Rattle.std.specs.Prelude.{ℕ, ◌<◌, Bool, false, not, ◌&&◌, ◌||◌, nat_lt, IsTrue, IsFalse, List, count_by}
+use Rattle.std.specs.Prelude.{ℕ, ◌<◌, Bool, true, false, not, ◌&&◌, ◌||◌, nat_lt, IsTrue, IsFalse, List, count_by}
 use Rattle.std.specs.List.{list_any}
 use Rattle.std.specs.Option.{option_map_or}
 use Rattle.lrc_code.specs.declared.codes.Code.TheVariants.{Wide}
@@ -12,19 +12,20 @@ use Rattle.lrc_code.specs.Losses.{is_recoverable}
 use Rattle.lrc_topology.specs.declared.NodeInfo.{NodeInfo}
 use Rattle.lrc_topology.specs.Nodes.{node_at}
 use Rattle.lrc_terms.specs.Levels.{missing_in}
-use Rattle.lrc_stripes.specs.Stored.{Stored, is_home_on, has_work}
+use Rattle.lrc_nodes.specs.States.{infos_in, online_in}
+use Rattle.lrc_stripes.specs.Stored.{Stored, with_upgrading_in, is_home_on, has_work}
 
 -- the node of this number is in the upgrade domain
 abbrev pub is_in_domain : List NodeInfo → UpgradeNo → NodeNo → Bool
 is_in_domain nodes u n = option_map_or (λ m. same_upgrade m.upgrade u) (node_at nodes n) false
 
--- the nodes of the domain are offline
+-- the domain is upgrading
 abbrev pub with_upgrade : Stored → UpgradeNo → Stored
-with_upgrade t u = record t { online = λ n. t.online n && not (is_in_domain t.nodes u n) }
+with_upgrade t u = with_upgrading_in t u true
 
 -- the missing fragments of the stripe are recoverable
 abbrev pub is_safe : Stored → StripeNo → Bool
-is_safe t s = is_recoverable (t.code s) (missing_in (t.code s) t.online (t.homes s))
+is_safe t s = is_recoverable (t.code s) (missing_in (t.code s) (online_in t.nodes) (t.homes s))
 
 -- the stripe exists, is recoverable now, and would not be with the nodes of the domain offline
 unfoldable pub is_lost_to : Stored → UpgradeNo → StripeNo → Bool
@@ -36,7 +37,7 @@ is_stripe_on t n s = list_any (λ f. is_home_on t n (s, f)) (fragments Wide)
 
 -- the number of nodes that are not online and have a home of the stripe
 abbrev pub offline_count : Stored → StripeNo → ℕ
-offline_count t s = count_by (λ n. not (t.online n.number) && is_stripe_on t n.number s) t.nodes
+offline_count t s = count_by (λ n. not (online_in t.nodes n.number) && is_stripe_on t n.number s) (infos_in t.nodes)
 
 -- its homes are on several nodes that are not online, or one of its fragments needs a lease
 unfoldable pub is_short : Stored → StripeNo → Bool

@@ -1,4 +1,4 @@
-ghost use Rattle.std.specs.Prelude.{◌≡◌, if◌then◌else◌, nat_eq, ◌&&◌, ◌||◌, not, true, false, None, Some, is_some, IfOk, IfErr, IfSome, IfNone, IsTrue, ◌<◌, length, get_or, slice_set};
+ghost use Rattle.std.specs.Prelude.{◌≡◌, if◌then◌else◌, nat_eq, ◌&&◌, ◌||◌, not, true, false, None, Some, is_some, option_map, IfOk, IfErr, IfSome, IfNone, IsTrue, ◌<◌, length, get_or, slice_set};
 ghost use Rattle.std.specs.List.{All, list_any};
 ghost use Rattle.lrc_code.specs.Codes.{fragment_count};
 ghost use Rattle.lrc_code.specs.Numbers.{same_stripe, same_node, same_upgrade};
@@ -6,10 +6,11 @@ ghost use Rattle.lrc_code.specs.declared.numbers.NodeNo.{NodeNo as AnyNode};
 ghost use Rattle.lrc_code.specs.declared.numbers.StripeNo.{StripeNo as AnyStripe};
 ghost use Rattle.lrc_code.specs.declared.fault.Fault.TheVariants.{OutOfMemory};
 ghost use Rattle.lrc_topology.specs.declared.NodeInfo.{NodeInfo as AnyInfo};
-ghost use Rattle.lrc_topology.specs.Nodes.{node_at, nodes_in};
+ghost use Rattle.lrc_topology.specs.Nodes.{node_at};
 ghost use Rattle.lrc_terms.specs.Levels.{Homes as AnyHomes};
 ghost use Rattle.lrc_stripes.specs.Domains.{AreDomainsOf};
 ghost use Rattle.lrc_stripes.specs.Stored.{has_node};
+ghost use Rattle.lrc_nodes.specs.States.{state_at, down_in, with_state, with_upgrading_in};
 ghost use Rattle.lrc_ranks.specs.Sets.{FindsNext, has};
 ghost use Rattle.lrc_stripes.specs.Rows.{seated_homes, sits_on};
 ghost use Rattle.lrc_stripes.specs.NodeStates.{states_in, first_states, IsPositionOf};
@@ -24,13 +25,14 @@ use crate::row::Row;
 use crate::rows::Rows;
 use crate::{HomeDomains, Seat, masks};
 use lrc_code::{Code, Fault, Fragment, LossMask, NodeNo, StripeNo, UpgradeNo};
-use lrc_nodes::{NodeState, Nodes};
+use lrc_nodes::Nodes;
 use lrc_ranks::StripeSet;
+use lrc_terms::Mode;
 use lrc_topology::{NodeInfo, Topology};
 use std::alloc::{AllocError, Global};
 use std::marker::Model;
 
-/// The nodes of a store, those that are offline or draining, and the stripes with a home on each.
+/// The nodes of a store with their states, and the stripes with a home on each.
 #[derive(Drop)]
 pub(crate) struct NodeTable {
     nodes: Nodes,
@@ -49,7 +51,7 @@ impl Model for NodeTable {
 }
 
 impl NodeTable {
-    /// The nodes of the topology. All are online, none is draining, and there are no stripes.
+    /// The nodes of the topology. All are active, none is down or upgrading, and there are no stripes.
     pub(crate) fn new(alloc: Global, topology: &Topology) -> Result<NodeTable, Fault>
         ensures value { IfOk result (λ t. states_in t ≡ first_states topology.now) }
         ensures err { IfErr result (λ e. e ≡ OutOfMemory) }
@@ -96,27 +98,33 @@ impl NodeTable {
         self.nodes.is_draining(number)
     }
 
-    /// Sets whether a node is offline.
-    pub(crate) fn set_offline(&mut self, number: NodeNo, is_offline: bool)
-        requires { IsTrue (has_node (states_in self.old).nodes number) }
-        ensures { states_in self.new ≡ record (states_in self.old) { online = λ n. if same_node number n then not is_offline else (states_in self.old).online n } }
+    /// The mode of the node with a number, if there is one.
+    pub(crate) fn mode(&self, number: NodeNo) -> Option<Mode>
+        ensures { result ≡ option_map (λ x. x.mode) (state_at self.now.list number) }
     {
-        self.nodes.set_offline(number, is_offline);
+        self.nodes.mode(number)
     }
 
-    /// Sets whether the nodes of an upgrade domain are offline.
-    pub(crate) fn set_offline_in(&mut self, domain: UpgradeNo, is_offline: bool)
-        ensures { states_in self.new ≡ record (states_in self.old) { online = λ m. if list_any (λ n. same_node n.number m) (nodes_in (states_in self.old).nodes domain) then not is_offline else (states_in self.old).online m } }
+    /// Whether the node with a number is down; `false` if there is none.
+    pub(crate) fn is_down(&self, number: NodeNo) -> bool
+        ensures { result ≡ down_in self.now.list number }
     {
-        self.nodes.set_offline_in(domain, is_offline);
+        self.nodes.is_down(number)
     }
 
-    /// Sets whether a node is draining.
-    pub(crate) fn set_draining(&mut self, number: NodeNo, is_draining: bool)
+    /// Sets the mode of a node, and whether it is down.
+    pub(crate) fn set_state(&mut self, number: NodeNo, mode: Mode, is_down: bool)
         requires { IsTrue (has_node (states_in self.old).nodes number) }
-        ensures { states_in self.new ≡ record (states_in self.old) { draining = λ n. if same_node number n then is_draining else (states_in self.old).draining n } }
+        ensures { self.new ≡ record self.old { list = with_state self.old.list number mode is_down } }
     {
-        self.nodes.set_draining(number, is_draining);
+        self.nodes.set_state(number, mode, is_down);
+    }
+
+    /// Sets whether the nodes of an upgrade domain are upgrading.
+    pub(crate) fn set_upgrading_in(&mut self, domain: UpgradeNo, is_upgrading: bool)
+        ensures { self.new ≡ record self.old { list = with_upgrading_in self.old.list domain is_upgrading } }
+    {
+        self.nodes.set_upgrading_in(domain, is_upgrading);
     }
 
     /// Adds a stripe of the code with homes on these seats, and stores their domains. Returns the losses of the stripe.
@@ -186,21 +194,19 @@ impl NodeTable {
         fragment: Fragment,
         number: NodeNo,
         domains: &mut HomeDomains,
-    ) -> NodeState
+    ) -> NodeInfo
         requires { IsTrue (has_node (states_in self.old).nodes number) }
         ensures on { states_in self.new ≡ record (states_in self.old) { on = λ n s. (same_node number n && same_stripe stripe s) || (states_in self.old).on n s } }
-        ensures node { Some result.node ≡ node_at (states_in self.old).nodes number }
-        ensures online { not result.is_offline ≡ (states_in self.old).online number }
-        ensures draining { result.is_draining ≡ (states_in self.old).draining number }
-        ensures faults { domains.new.faults ≡ slice_set domains.old.faults fragment.value result.node.fault.value }
-        ensures upgrades { domains.new.upgrades ≡ slice_set domains.old.upgrades fragment.value result.node.upgrade.value }
+        ensures node { Some result ≡ node_at (states_in self.old).nodes number }
+        ensures faults { domains.new.faults ≡ slice_set domains.old.faults fragment.value result.fault.value }
+        ensures upgrades { domains.new.upgrades ≡ slice_set domains.old.upgrades fragment.value result.upgrade.value }
     {
         let position = self.position_of(number);
         let set = &mut self.stripes[position];
         set.insert(stripe);
-        let state = self.nodes.at(position);
-        domains.put(fragment, &state.node);
-        state
+        let node = self.nodes.node_at(position);
+        domains.put(fragment, &node);
+        node
     }
 
     /// Removes a stripe from a node.
@@ -253,8 +259,9 @@ impl NodeTable {
     {
         match home {
             Some(seat) => {
-                let state = self.enter_one(stripe, fragment, seat.node, domains);
-                losses.put(fragment, false, state.is_offline, state.is_draining)
+                self.enter_one(stripe, fragment, seat.node, domains);
+                let is_missing = !self.is_online(seat.node);
+                losses.put(fragment, false, is_missing, self.is_draining(seat.node))
             }
             None => losses.put(fragment, true, true, true),
         }

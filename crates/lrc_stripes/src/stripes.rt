@@ -1,12 +1,10 @@
-ghost use Rattle.std.specs.Prelude.{◌≡◌, if◌then◌else◌, ◌<◌, ◌≤◌, length, get_or, IsTrue, IsFalse, IfOk, IfErr, IfSome, OnErr, OnOk, IsOk, None, Some};
+ghost use Rattle.std.specs.Prelude.{◌≡◌, ◌≤◌, length, IsTrue, IsFalse, IfOk, IfErr, IfSome, OnErr, OnOk, IsOk, None, Some};
 ghost use Rattle.std.specs.List.{All};
 ghost use Rattle.lrc_code.specs.declared.codes.Code.TheVariants.{Wide, Narrow};
 ghost use Rattle.lrc_code.specs.declared.fault.Fault.TheVariants.{OutOfMemory};
-ghost use Rattle.lrc_code.specs.Numbers.{same_upgrade};
 ghost use Rattle.lrc_code.specs.Codes.{fragment_count, has_fragment};
-ghost use Rattle.lrc_topology.specs.Nodes.{nodes_in};
-ghost use Rattle.lrc_topology.specs.declared.NodeInfo.{NodeInfo as AnyInfo};
-ghost use Rattle.lrc_stripes.specs.Stored.{empty, with_stripe, with_homes, without_stripe, with_home, with_offline, with_offline_all, with_draining, with_spare, has_node, has_slot, HasNoHome};
+ghost use Rattle.lrc_nodes.specs.States.{infos_in};
+ghost use Rattle.lrc_stripes.specs.Stored.{empty, with_stripe, with_homes, without_stripe, with_home, with_state, with_upgrading_in, with_spare, has_node, has_slot, HasNoHome};
 ghost use Rattle.lrc_stripes.specs.Tables.{stored_in};
 
 mod queries;
@@ -16,11 +14,12 @@ use crate::row::Row;
 use crate::rows::Rows;
 use crate::{HomeDomains, Seat};
 use lrc_code::{Code, Fault, Fragment, NodeNo, STRIPES, StripeNo, UpgradeNo};
-use lrc_topology::{NodeInfo, Topology};
+use lrc_terms::Mode;
+use lrc_topology::Topology;
 use std::alloc::Global;
 use std::marker::Model;
 
-/// The stripes of a store with their codes and homes, and the nodes that are offline or draining.
+/// The stripes of a store with their codes and homes, and the nodes with their states.
 #[derive(Drop)]
 pub struct Stripes {
     node_table: NodeTable,
@@ -46,7 +45,7 @@ impl Model for Stripes {
 
 #[tactic(auto, unfolding(crate::specs::Tables::stored_in))]
 impl Stripes {
-    /// No stripes and no room for any. Every node of the topology is online, and none is draining.
+    /// No stripes and no room for any. Every node of the topology is active, and none is down or upgrading.
     ///
     /// # Errors
     ///
@@ -105,7 +104,7 @@ impl Stripes {
         requires absent { IsFalse ((stored_in self.old).stripes stripe) }
         requires room { 1 ≤ (stored_in self.old).spare }
         requires length { length seats.now ≡ fragment_count code }
-        requires slots { All (λ seat. IsTrue (has_slot (stored_in self.old).nodes seat)) seats.now }
+        requires slots { All (λ seat. IsTrue (has_slot (infos_in (stored_in self.old).nodes) seat)) seats.now }
         ensures { stored_in self.new ≡ with_homes (stored_in self.old) code stripe seats.now }
     {
         let domains = &mut self.domains[stripe.value as usize];
@@ -132,7 +131,7 @@ impl Stripes {
         requires stripe { IsTrue ((stored_in self.old).stripes stripe) }
         requires code { IsTrue (has_fragment ((stored_in self.old).code stripe) fragment.value) }
         requires homeless { (stored_in self.old).homes stripe fragment.value ≡ None }
-        requires slot { IsTrue (has_slot (stored_in self.old).nodes seat) }
+        requires slot { IsTrue (has_slot (infos_in (stored_in self.old).nodes) seat) }
         requires unused { HasNoHome (stored_in self.old) seat }
         ensures { stored_in self.new ≡ with_home (stored_in self.old) stripe fragment (Some seat) }
     {
@@ -143,7 +142,7 @@ impl Stripes {
     pub fn put_home(&mut self, stripe: StripeNo, fragment: Fragment, seat: Seat)
         requires stripe { IsTrue ((stored_in self.old).stripes stripe) }
         requires code { IsTrue (has_fragment ((stored_in self.old).code stripe) fragment.value) }
-        requires slot { IsTrue (has_slot (stored_in self.old).nodes seat) }
+        requires slot { IsTrue (has_slot (infos_in (stored_in self.old).nodes) seat) }
         requires unused { HasNoHome (stored_in self.old) seat }
         ensures { stored_in self.new ≡ with_home (stored_in self.old) stripe fragment (Some seat) }
     {
@@ -164,7 +163,7 @@ impl Stripes {
     fn rehome(&mut self, stripe: StripeNo, fragment: Fragment, home: Option<Seat>)
         requires there { IsTrue ((stored_in self.old).stripes stripe) }
         requires code { IsTrue (has_fragment ((stored_in self.old).code stripe) fragment.value) }
-        requires slot { IfSome home (λ seat. IsTrue (has_slot (stored_in self.old).nodes seat)) }
+        requires slot { IfSome home (λ seat. IsTrue (has_slot (infos_in (stored_in self.old).nodes) seat)) }
         ensures { stored_in self.new ≡ with_home (stored_in self.old) stripe fragment home }
     {
         if let Some(row) = self.rows.get(stripe) {
@@ -177,58 +176,23 @@ impl Stripes {
         }
     }
 
-    /// Sets whether a node is offline.
-    pub fn set_offline(&mut self, node: NodeNo, is_offline: bool)
-        requires { IsTrue (has_node (stored_in self.old).nodes node) }
-        ensures { stored_in self.new ≡ with_offline (stored_in self.old) node is_offline }
+    /// Sets the mode of a node, and whether it is down.
+    pub fn set_state(&mut self, node: NodeNo, mode: Mode, is_down: bool)
+        requires { IsTrue (has_node (infos_in (stored_in self.old).nodes) node) }
+        ensures { stored_in self.new ≡ with_state (stored_in self.old) node mode is_down }
     {
-        if self.node_table.is_online(node) == is_offline {
-            self.node_table.set_offline(node, is_offline);
-            if self.rows.has_work() {
-                self.rows.renew_missing(&self.node_table, node, is_offline);
-            }
-        }
+        let was_online = self.node_table.is_online(node);
+        self.rows
+            .follow_draining(&self.node_table, node, mode.is_draining());
+        self.node_table.set_state(node, mode, is_down);
+        self.rows.follow_online(&self.node_table, node, was_online);
     }
 
-    /// Sets whether the nodes of an upgrade domain are offline.
-    pub fn set_offline_in(&mut self, domain: UpgradeNo, is_offline: bool)
-        ensures { stored_in self.new ≡ with_offline_all (stored_in self.old) (nodes_in (stored_in self.old).nodes domain) is_offline }
+    /// Sets whether the nodes of an upgrade domain are upgrading.
+    pub fn set_upgrading_in(&mut self, domain: UpgradeNo, is_upgrading: bool)
+        ensures { stored_in self.new ≡ with_upgrading_in (stored_in self.old) domain is_upgrading }
     {
-        if self.rows.has_work() {
-            for position in 0..self.node_count() {
-                self.set_offline_at(position, domain, is_offline);
-            }
-        } else {
-            self.node_table.set_offline_in(domain, is_offline);
-        }
-    }
-
-    /// The number of nodes.
-    fn node_count(&self) -> usize
-        ensures { result ≡ length (stored_in self.now).nodes }
-    {
-        self.node_table.len()
-    }
-
-    /// Sets whether the node at a position in the list is offline, if it is in the upgrade domain.
-    fn set_offline_at(&mut self, position: usize, domain: UpgradeNo, is_offline: bool)
-        requires { position < length (stored_in self.old).nodes }
-        ensures { (d : AnyInfo) → stored_in self.new ≡ (if same_upgrade (get_or (stored_in self.old).nodes position d).upgrade domain then with_offline (stored_in self.old) (get_or (stored_in self.old).nodes position d).number is_offline else stored_in self.old) }
-    {
-        let node = self.node_table.node_at(position);
-        if node.upgrade == domain {
-            self.set_offline(node.number, is_offline);
-        }
-    }
-
-    /// Sets whether a node is draining.
-    pub fn set_draining(&mut self, node: NodeNo, is_draining: bool)
-        requires { IsTrue (has_node (stored_in self.old).nodes node) }
-        ensures { stored_in self.new ≡ with_draining (stored_in self.old) node is_draining }
-    {
-        if self.node_table.is_draining(node) != is_draining {
-            self.rows.renew_needs(&self.node_table, node, is_draining);
-            self.node_table.set_draining(node, is_draining);
-        }
+        self.node_table.set_upgrading_in(domain, is_upgrading);
+        self.rows.follow_upgrade(&self.node_table, domain);
     }
 }

@@ -3,6 +3,7 @@
 ghost use Rattle.std.specs.Prelude.{IsTrue};
 ghost use Rattle.std.specs.List.{All};
 ghost use Rattle.lrc_code.specs.Codes.{has_fragment};
+ghost use Rattle.lrc_nodes.specs.States.{infos_in};
 ghost use Rattle.lrc_stripes.specs.Stored.{has_slot};
 ghost use Rattle.lrc_stripes.specs.Tables.{stored_in};
 
@@ -16,7 +17,7 @@ mod upgrades;
 
 use lrc_code::{Code, Fragment, LossMask, NodeNo, StripeNo, UpgradeNo};
 use lrc_samples::{Layout, nodes};
-use lrc_stripes::{Level, Seat, Stripes};
+use lrc_stripes::{Level, Mode, Seat, Stripes};
 use std::process::Abort;
 
 /// No stripe over `count` nodes, with memory for `room` stripes.
@@ -99,7 +100,7 @@ fn has_fragment(stripes: &Stripes, stripe: StripeNo, fragment: Fragment) -> bool
 
 /// Reports whether all of these are slots of nodes.
 fn are_slots(stripes: &Stripes, seats: &[Seat]) -> bool
-    ensures { IsTrue result → All (λ seat. IsTrue (has_slot (stored_in stripes.now).nodes seat)) seats.now }
+    ensures { IsTrue result → All (λ seat. IsTrue (has_slot (infos_in (stored_in stripes.now).nodes) seat)) seats.now }
 {
     for seat in seats.iter() {
         if !stripes.has_slot(*seat) {
@@ -133,16 +134,24 @@ fn add_seated(
     stripes.add_with_homes(code, stripe, seats);
 }
 
-fn set_offline(rt: &impl Abort, stripes: &mut Stripes, number: u16, is_offline: bool) {
+/// Sets whether a node is down. Its mode stays.
+fn set_down(rt: &impl Abort, stripes: &mut Stripes, number: u16, is_down: bool) {
     let node = node(number);
+    let mode = stripes.mode(node).expect(rt, "a node");
     assert!(rt; stripes.has_node(node));
-    stripes.set_offline(node, is_offline);
+    stripes.set_state(node, mode, is_down);
 }
 
+/// Makes a node draining or active. It stays down, or not down.
 fn set_draining(rt: &impl Abort, stripes: &mut Stripes, number: u16, is_draining: bool) {
     let node = node(number);
+    let mode = if is_draining {
+        Mode::Draining
+    } else {
+        Mode::Active
+    };
     assert!(rt; stripes.has_node(node));
-    stripes.set_draining(node, is_draining);
+    stripes.set_state(node, mode, stripes.is_down(node));
 }
 
 /// One stripe, with fragment f in slot 1 of node f.

@@ -6,3 +6,4 @@ pub use Rattle.lrc_topology.specs.Seats
 pub mod Levels
 pub mod Stripes
 pub mod Leased
+pub mod Modes

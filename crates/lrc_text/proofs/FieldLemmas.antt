@@ -15,8 +15,8 @@ use Rattle.lrc_code.specs.Losses.{margin_of, bits_set}
 use Rattle.lrc_topology.specs.declared.NodeInfo.{NodeInfo}
 use Rattle.lrc_book.specs.declared.Level.{Level}
 use Rattle.lrc_book.specs.declared.Level.TheVariants.{Whole, AtRisk, Unavailable, Lost}
-use Rattle.lrc_rules.specs.declared.mode.Mode.{Mode}
-use Rattle.lrc_rules.specs.declared.mode.Mode.TheVariants.{Active, Draining, Gone}
+use Rattle.lrc_terms.specs.declared.mode.Mode.{Mode}
+use Rattle.lrc_terms.specs.declared.mode.Mode.TheVariants.{Active, Draining, Gone}
 use Rattle.lrc_text.specs.Tables.{row_line, level_text, margin_field, mask_field, risk_line, mode_text, online_text, load_line}
 
 -- the field is written as it is

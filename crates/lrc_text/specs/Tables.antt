@@ -7,8 +7,8 @@ use Rattle.lrc_code.specs.Losses.{margin_of, bits_set, bits_of}
 use Rattle.lrc_topology.specs.declared.NodeInfo.{NodeInfo}
 use Rattle.lrc_book.specs.declared.Level.{Level}
 use Rattle.lrc_book.specs.declared.Level.TheVariants.{Whole, AtRisk, Unavailable, Lost}
-use Rattle.lrc_rules.specs.declared.mode.Mode.{Mode}
-use Rattle.lrc_rules.specs.declared.mode.Mode.TheVariants.{Active, Draining, Gone}
+use Rattle.lrc_terms.specs.declared.mode.Mode.{Mode}
+use Rattle.lrc_terms.specs.declared.mode.Mode.TheVariants.{Active, Draining, Gone}
 use Rattle.lrc_rules.specs.States.{State, code_of, load, mode_of, is_online, missing}
 use Rattle.lrc_rules.specs.Urgency.{risk}
 

@@ -72,7 +72,7 @@ impl Store {
         match self.reported_lease(session, stripe, fragment, epoch) {
             Err(refusal) => Answer::Refused(refusal),
             Ok(lease) => {
-                if !self.is_online(lease.target.node) {
+                if !self.stripes.is_online(lease.target.node) {
                     return Answer::Refused(Refusal::TargetOffline(lease.target.node));
                 }
                 Answer::Ended

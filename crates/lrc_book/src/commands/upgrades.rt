@@ -1,22 +1,16 @@
 //! Commands on upgrade domains.
 
-ghost use Rattle.std.specs.Prelude.{◌≡◌, IsTrue};
-ghost use Rattle.std.specs.List.{All};
-ghost use Rattle.lrc_stripes.specs.Stored.{has_node};
-ghost use Rattle.lrc_stripes.specs.Tables.{stored_in};
+ghost use Rattle.std.specs.Prelude.{◌≡◌};
 ghost use Rattle.lrc_rules.specs.declared.reply.Reply.TheVariants.{Changed};
 ghost use Rattle.lrc_book.specs.Answers.{told};
 ghost use Rattle.lrc_rules.specs.States.{State};
 ghost use Rattle.lrc_rules.specs.Steps.{upgrade_outcome, upgraded_outcome, with_upgrading, without_upgrading};
-ghost use Rattle.lrc_book.specs.Stores.{IsOf, AreModesOf, with_rest};
+ghost use Rattle.lrc_book.specs.Stores.{IsOf};
 
 use crate::Refusal;
 use crate::answer::Answer;
-use crate::modes::Modes;
 use crate::store::Store;
 use lrc_code::UpgradeNo;
-use lrc_stripes::Stripes;
-use lrc_topology::NodeInfo;
 
 impl Store {
     #[inline(never)]
@@ -26,7 +20,7 @@ impl Store {
         if !self.topology.has_upgrade_domain(domain) {
             return Answer::Refused(Refusal::UnknownDomain);
         }
-        if let Some(upgrading) = self.modes.upgrading {
+        if let Some(upgrading) = self.upgrading {
             return Answer::Refused(Refusal::UpgradeRunning(upgrading));
         }
         match self.stripes.would_lose_short(domain) {
@@ -43,8 +37,8 @@ impl Store {
         ensures nodes { self.new.topology ≡ self.old.topology }
         ensures kept { IsOf (with_upgrading st domain) self.new }
     {
-        self.modes.upgrade(domain);
-        self.stripes.set_offline_in(domain, true);
+        self.upgrading = Some(domain);
+        self.stripes.set_upgrading_in(domain, true);
     }
 
     #[inline(never)]
@@ -54,7 +48,7 @@ impl Store {
         if !self.topology.has_upgrade_domain(domain) {
             return Answer::Refused(Refusal::UnknownDomain);
         }
-        if self.modes.upgrading != Some(domain) {
+        if self.upgrading != Some(domain) {
             return Answer::Refused(Refusal::NotUpgrading);
         }
         Answer::Changed
@@ -68,23 +62,7 @@ impl Store {
         ensures nodes { self.new.topology ≡ self.old.topology }
         ensures kept { IsOf (without_upgrading st) self.new }
     {
-        self.modes.upgraded();
-        self.stripes.set_offline_in(domain, false);
-        let nodes = self.topology.nodes_in(domain);
-        keep_offline(&mut self.stripes, &self.modes, nodes);
-    }
-}
-
-/// Sets those of these nodes offline that are down or out of the store.
-fn keep_offline(stripes: &mut Stripes, modes: &Modes, nodes: &[NodeInfo])
-    ghost st: { State }
-    requires modes { AreModesOf st modes.now }
-    requires nodes { All (λ n. IsTrue (has_node (stored_in stripes.old).nodes n.number)) nodes.now }
-    ensures { stored_in stripes.new ≡ with_rest (stored_in stripes.old) st nodes.now }
-{
-    for node in nodes {
-        if !modes.is_online(node) {
-            stripes.set_offline(node.number, true);
-        }
+        self.upgrading = None;
+        self.stripes.set_upgrading_in(domain, false);
     }
 }

@@ -12,12 +12,13 @@ ghost use Rattle.lrc_rules.specs.declared.command.Command.{Command};
 ghost use Rattle.lrc_rules.specs.declared.command.Command.TheVariants.{Fail, Down, Up, Drain, Undrain, Retire, Join};
 ghost use Rattle.lrc_rules.specs.declared.reply.Reply.TheVariants.{Changed, Refused};
 ghost use Rattle.lrc_rules.specs.declared.refusal.Refusal.TheVariants as refusal;
-ghost use Rattle.lrc_rules.specs.declared.mode.Mode.TheVariants.{Active, Draining, Gone};
+ghost use Rattle.lrc_terms.specs.declared.mode.Mode.TheVariants.{Active, Draining, Gone};
 ghost use Rattle.lrc_terms.specs.declared.lease.Lease.{Lease as LeaseRecord};
 ghost use Rattle.lrc_rules.specs.Endings.{IsOnNode};
 ghost use Rattle.lrc_rules.specs.Steps.{emptied, with_gone, with_down, without_down, with_draining, without_draining, without_gone, step};
 ghost use Rattle.lrc_rules.specs.Outcomes.{refuse_if};
-ghost use Rattle.lrc_rules.specs.States.{State, taken_seats, load, mode_of, is_active, is_draining, is_gone, is_down, online_at};
+ghost use Rattle.lrc_terms.specs.Modes.{is_active, is_draining, is_gone};
+ghost use Rattle.lrc_rules.specs.States.{State, taken_seats, load, mode_of, is_down, online_at};
 ghost use Rattle.lrc_rules.specs.Histories.{IsLegal, outcome_in, world_after, state_after};
 
 /// A node is online exactly if the store has it, it is neither gone nor down, and its upgrade domain is not

@@ -18,7 +18,7 @@ ghost use Rattle.lrc_terms.specs.declared.level.Level.{Level};
 ghost use Rattle.lrc_terms.specs.declared.level.Level.TheVariants.{Whole};
 ghost use Rattle.lrc_terms.specs.declared.lease.Lease.{Lease as LeaseRecord};
 ghost use Rattle.lrc_terms.specs.Levels.{homes_of, rank_at};
-ghost use Rattle.lrc_rules.specs.declared.mode.Mode.TheVariants.{Draining};
+ghost use Rattle.lrc_terms.specs.declared.mode.Mode.TheVariants.{Draining};
 ghost use Rattle.lrc_rules.specs.Repairs.{needs};
 ghost use Rattle.lrc_rules.specs.Urgency.{work, risk};
 ghost use Rattle.lrc_rules.specs.Granting.{IsGrantable, ComesFirst, IsMostUrgent};

@@ -19,8 +19,8 @@ ghost use Rattle.lrc_terms.specs.declared.level.Level.TheVariants.{Whole, AtRisk
 ghost use Rattle.lrc_terms.specs.Levels.{homes_of, SomeMissing, NoneMissing};
 ghost use Rattle.lrc_terms.specs.declared.lease.Lease.{Lease as LeaseRecord};
 ghost use Rattle.lrc_terms.specs.Leased.{AreOneEach};
-ghost use Rattle.lrc_rules.specs.declared.mode.Mode.{Mode};
-ghost use Rattle.lrc_rules.specs.declared.mode.Mode.TheVariants.{Active};
+ghost use Rattle.lrc_terms.specs.declared.mode.Mode.{Mode};
+ghost use Rattle.lrc_terms.specs.declared.mode.Mode.TheVariants.{Active};
 ghost use Rattle.lrc_rules.specs.States.{State, opening, has_stripe, code_of, load, lease_of, mode_of, is_down, online_at, homeless, missing, level, code_shown, homes_shown, load_shown, level_shown, missing_shown, mode_shown};
 ghost use Rattle.lrc_rules.specs.Goodness.{AreSeated};
 ghost use Rattle.lrc_rules.specs.Histories.{state_after};

@@ -1,17 +1,19 @@
 //! The queries. They change nothing.
 
-ghost use Rattle.std.specs.Prelude.{◌≡◌, ℕ, if◌then◌else◌, None, is_some, ◌<◌, ◌↔◌, IsTrue, IsFalse, IfSome, IfNone, Some};
+ghost use Rattle.std.specs.Prelude.{◌≡◌, ℕ, if◌then◌else◌, None, is_some, option_map, ◌<◌, ◌↔◌, IsTrue, IsFalse, IfSome, IfNone, Some};
 ghost use Rattle.lrc_code.specs.declared.numbers.StripeNo.{StripeNo as AnyStripe};
 ghost use Rattle.lrc_stripes.specs.Stored.{homes_shown, missing_shown, needs_shown, level_shown, has_node, has_slot, HasNoHome, AreHomesOn, AreHomesOnFrom, has_work, AreWork, AreWorkFrom, AreAtRisk};
 ghost use Rattle.lrc_stripes.specs.Domains.{AreDomainsOf};
 ghost use Rattle.lrc_code.specs.Codes.{has_fragment};
 ghost use Rattle.lrc_code.specs.Losses.{bits_set};
+ghost use Rattle.lrc_nodes.specs.States.{infos_in, state_at, down_in, online_in};
 ghost use Rattle.lrc_stripes.specs.Tables.{stored_in};
 ghost use Rattle.lrc_stripes.specs.Upgrades.{is_lost_to, is_short_lost_to, IsFirstLostTo, IsFirstShortLostTo};
 
 use crate::stripes::Stripes;
 use crate::{AtRisk, HomeDomains, HomesOn, Level, Seat, Work, upgrades};
 use lrc_code::{Code, FRAGMENTS, Fragment, LossMask, NodeNo, StripeNo, UpgradeNo};
+use lrc_terms::Mode;
 
 #[tactic(auto, unfolding(crate::specs::Tables::stored_in))]
 impl Stripes {
@@ -60,7 +62,7 @@ impl Stripes {
     /// The domains of the nodes of a stripe's homes.
     pub fn domains(&self, stripe: StripeNo) -> &HomeDomains
         requires { IsTrue ((stored_in self.now).stripes stripe) }
-        ensures { AreDomainsOf (stored_in self.now).nodes ((stored_in self.now).homes stripe) result.now }
+        ensures { AreDomainsOf (infos_in (stored_in self.now).nodes) ((stored_in self.now).homes stripe) result.now }
     {
         &self.domains[stripe.value as usize]
     }
@@ -171,14 +173,35 @@ impl Stripes {
 
     /// Whether the store has a node of this number.
     pub fn has_node(&self, node: NodeNo) -> bool
-        ensures { result ≡ has_node (stored_in self.now).nodes node }
+        ensures { result ≡ has_node (infos_in (stored_in self.now).nodes) node }
     {
         self.node_table.node(node).is_some()
     }
 
+    /// The mode of a node, if the store has it.
+    pub fn mode(&self, node: NodeNo) -> Option<Mode>
+        ensures { result ≡ option_map (λ x. x.mode) (state_at (stored_in self.now).nodes node) }
+    {
+        self.node_table.mode(node)
+    }
+
+    /// Whether a node is down; `false` if the store does not have it.
+    pub fn is_down(&self, node: NodeNo) -> bool
+        ensures { result ≡ down_in (stored_in self.now).nodes node }
+    {
+        self.node_table.is_down(node)
+    }
+
+    /// Whether a node is online; `false` if the store does not have it.
+    pub fn is_online(&self, node: NodeNo) -> bool
+        ensures { result ≡ online_in (stored_in self.now).nodes node }
+    {
+        self.node_table.is_online(node)
+    }
+
     /// Whether the seat exists: its node does, and has the slot.
     pub fn has_slot(&self, seat: Seat) -> bool
-        ensures { result ≡ has_slot (stored_in self.now).nodes seat }
+        ensures { result ≡ has_slot (infos_in (stored_in self.now).nodes) seat }
     {
         match self.node_table.node(seat.node) {
             Some(node) => seat.slot < node.slots,

@@ -5,7 +5,7 @@ ghost use Rattle.std.specs.Prelude.{◌<◌};
 use crate::stripes::plain_store::{PlainRow, PlainStore};
 use crate::stripes::{are_slots, fragment_numbered, has_fragment, no_stripe, node, reserve, seat};
 use lrc_code::{Code, Fragment, UpgradeNo};
-use lrc_stripes::{Seat, Stripes};
+use lrc_stripes::{Mode, Seat, Stripes};
 use std::process::Abort;
 
 /// Returns the next number of a fixed sequence that goes through all numbers below 65,537.
@@ -23,8 +23,9 @@ fn plain() -> Option<PlainStore> {
             PlainRow::new(2047)?,
             PlainRow::new(4095)?,
         ],
-        offline: [false; 20],
-        draining: [false; 20],
+        modes: [Mode::Active; 20],
+        down: [false; 20],
+        upgrading: [false; 10],
     })
 }
 
@@ -167,38 +168,41 @@ fn add_seated(stripes: &mut Stripes, row: &mut PlainRow, number: u16, slot: u16,
     }
 }
 
-/// Sets whether the two nodes of an upgrade domain are offline.
-fn set_domain_offline(
-    stripes: &mut Stripes,
-    plain: &mut PlainStore,
-    domain: u16,
-    is_offline: bool,
-) {
+/// Sets whether the two nodes of an upgrade domain are upgrading.
+fn set_upgrading(stripes: &mut Stripes, plain: &mut PlainStore, domain: u16, is_upgrading: bool) {
     if domain < 10 {
         let number = UpgradeNo {
             value: domain as u8,
         };
-        stripes.set_offline_in(number, is_offline);
-        plain.offline[domain as usize] = is_offline;
-        plain.offline[domain as usize + 10] = is_offline;
+        stripes.set_upgrading_in(number, is_upgrading);
+        plain.upgrading[domain as usize] = is_upgrading;
     }
 }
 
-/// Sets whether a node is offline.
-fn set_offline(stripes: &mut Stripes, plain: &mut PlainStore, number: u16, is_offline: bool) {
+/// Sets whether a node is down.
+fn set_down(stripes: &mut Stripes, plain: &mut PlainStore, number: u16, is_down: bool) {
     let node = node(number);
     if number < 20 && stripes.has_node(node) {
-        stripes.set_offline(node, is_offline);
-        plain.offline[number as usize] = is_offline;
+        stripes.set_state(node, plain.modes[number as usize], is_down);
+        plain.down[number as usize] = is_down;
     }
 }
 
-/// Sets whether a node is draining.
-fn set_draining(stripes: &mut Stripes, plain: &mut PlainStore, number: u16, is_draining: bool) {
+/// Sets the mode of a node.
+fn set_mode(stripes: &mut Stripes, plain: &mut PlainStore, number: u16, mode: Mode) {
     let node = node(number);
     if number < 20 && stripes.has_node(node) {
-        stripes.set_draining(node, is_draining);
-        plain.draining[number as usize] = is_draining;
+        stripes.set_state(node, mode, plain.down[number as usize]);
+        plain.modes[number as usize] = mode;
+    }
+}
+
+/// Returns `Active` for half of the numbers below 4, and each other mode for a quarter.
+fn mode_for(number: u16) -> Mode {
+    match number {
+        0 => Mode::Draining,
+        1 => Mode::Gone,
+        _ => Mode::Active,
     }
 }
 
@@ -217,9 +221,9 @@ fn call(stripes: &mut Stripes, plain: &mut PlainStore, state: u32, fragment: Fra
         ),
         24 | 25 => clear_home(stripes, &mut plain.rows[place], fragment),
         26 => turn_and_add(stripes, plain, place, number, is_rare, code_for(fragment)),
-        27 | 28 => set_offline(stripes, plain, number, is_rare),
-        29 => set_domain_offline(stripes, plain, number % 10, is_rare),
-        _ => set_draining(stripes, plain, number, is_rare),
+        27 | 28 => set_down(stripes, plain, number, is_rare),
+        29 => set_upgrading(stripes, plain, number % 10, is_rare),
+        _ => set_mode(stripes, plain, number, mode_for(slot)),
     }
 }
 
@@ -271,11 +275,22 @@ fn calls_alike(rt: &impl Abort, stripes: &mut Stripes, plain: &mut PlainStore) -
     are_alike
 }
 
+/// Reports whether both return the same for the state of a node.
+fn states_alike(stripes: &Stripes, plain: &PlainStore, number: u16) -> bool {
+    let node = node(number);
+    let mode = plain.modes.get(number as usize).copied();
+    let is_down = plain.down.get(number as usize).copied();
+    stripes.mode(node) == mode
+        && Some(stripes.is_down(node)) == is_down
+        && stripes.is_online(node) != plain.is_offline(node)
+}
+
 fn all_alike(stripes: &Stripes, plain: &PlainStore, state: u32) -> bool {
     levels_alike(stripes, plain)
         && work_alike(stripes, plain)
         && risk_alike(stripes, plain)
         && homes_alike(stripes, plain, (state % 20) as u16)
+        && states_alike(stripes, plain, (state % 20) as u16)
         && lose_alike(stripes, plain, (state % 10) as u8)
 }
 

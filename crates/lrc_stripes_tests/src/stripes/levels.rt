@@ -2,7 +2,7 @@
 
 use crate::stripes::{
     add_in_slot, assert_at_risk, assert_missing, assert_needs, assert_work, clear_homes, no_stripe,
-    one_stripe, set_draining, set_offline, stripe_numbered,
+    one_stripe, set_down, set_draining, stripe_numbered,
 };
 use lrc_code::StripeNo;
 use lrc_stripes::{Level, Stripes};
@@ -14,16 +14,16 @@ fn offline_nodes_make_unavailable_and_lost_homes_lost(rt: &(impl AllocGlobal + A
     assert_missing(rt, &stripes, stripe, 0, Level::Whole);
 
     for number in 0..4 {
-        set_offline(rt, &mut stripes, number, true);
+        set_down(rt, &mut stripes, number, true);
     }
     assert_missing(rt, &stripes, stripe, 0x000f, Level::Unavailable);
 
     for number in [0, 1, 2] {
-        set_offline(rt, &mut stripes, number, false);
+        set_down(rt, &mut stripes, number, false);
     }
     assert_missing(rt, &stripes, stripe, 0x0008, Level::AtRisk(2));
 
-    set_offline(rt, &mut stripes, 3, false);
+    set_down(rt, &mut stripes, 3, false);
     clear_homes(rt, &mut stripes, stripe, &[0, 1, 2, 4]);
     assert_missing(rt, &stripes, stripe, 0x0017, Level::Lost);
 }
@@ -63,7 +63,7 @@ fn drain_and_lose(
     assert_work(rt, stripes, &[ninth, fifth, seventh, second]);
     assert_at_risk(rt, stripes, &at_risk);
 
-    set_offline(rt, stripes, 4, true);
+    set_down(rt, stripes, 4, true);
     assert_work(rt, stripes, &[fifth, seventh, second, ninth]);
     assert_at_risk(
         rt,
@@ -86,7 +86,7 @@ fn homeless_and_draining_fragments_need_a_lease(rt: &(impl AllocGlobal + Abort))
     let stripe = stripe_numbered(rt, 6);
     let other = stripe_numbered(rt, 7);
     let mut stripes = one_stripe(rt, stripe);
-    set_offline(rt, &mut stripes, 5, true);
+    set_down(rt, &mut stripes, 5, true);
     assert_needs(rt, &stripes, stripe, 0x0000);
 
     set_draining(rt, &mut stripes, 3, true);

@@ -3,7 +3,7 @@
 use crate::stripes::{
     add, add_in_slot, add_seated, assert_at_risk, assert_missing, assert_needs, assert_work,
     clear_homes, expect_homes_on, expect_loss, expect_short_loss, fragment_numbered, no_stripe,
-    remove, reserve, seat, seats_from, set_draining, set_home, set_offline, stripe_numbered,
+    remove, reserve, seat, seats_from, set_down, set_draining, set_home, stripe_numbered,
 };
 use lrc_code::{Code, StripeNo};
 use lrc_stripes::{Level, Seat, Stripes};
@@ -80,22 +80,22 @@ fn ten_homes() -> [Option<Seat>; 16] {
 fn levels_are_those_of_ten_fragments(rt: &(impl AllocGlobal + Abort)) {
     let stripe = stripe_numbered(rt, 4);
     let mut stripes = one_narrow_stripe(rt, stripe);
-    set_offline_all(rt, &mut stripes, &[0, 3], true);
+    set_down_all(rt, &mut stripes, &[0, 3], true);
     assert_missing(rt, &stripes, stripe, 0x0009, Level::AtRisk(2));
-    set_offline_all(rt, &mut stripes, &[1, 2], true);
+    set_down_all(rt, &mut stripes, &[1, 2], true);
     assert_missing(rt, &stripes, stripe, 0x000f, Level::AtRisk(0));
-    set_offline(rt, &mut stripes, 3, false);
-    set_offline(rt, &mut stripes, 6, true);
+    set_down(rt, &mut stripes, 3, false);
+    set_down(rt, &mut stripes, 6, true);
     assert_missing(rt, &stripes, stripe, 0x0047, Level::Unavailable);
-    set_offline_all(rt, &mut stripes, &[0, 1, 2, 6], false);
-    set_offline_all(rt, &mut stripes, &[8, 9], true);
+    set_down_all(rt, &mut stripes, &[0, 1, 2, 6], false);
+    set_down_all(rt, &mut stripes, &[8, 9], true);
     assert_missing(rt, &stripes, stripe, 0x0300, Level::AtRisk(1));
     assert_needs(rt, &stripes, stripe, 0x0000);
     lose_a_group(rt, &mut stripes, stripe);
 }
 
 fn lose_a_group(rt: &impl Abort, stripes: &mut Stripes, stripe: StripeNo) {
-    set_offline_all(rt, stripes, &[8, 9], false);
+    set_down_all(rt, stripes, &[8, 9], false);
     set_draining(rt, stripes, 7, true);
     clear_homes(rt, stripes, stripe, &[0, 1, 2]);
     assert_missing(rt, stripes, stripe, 0x0007, Level::AtRisk(0));
@@ -104,9 +104,9 @@ fn lose_a_group(rt: &impl Abort, stripes: &mut Stripes, stripe: StripeNo) {
     assert_missing(rt, stripes, stripe, 0x0047, Level::Lost);
 }
 
-fn set_offline_all(rt: &impl Abort, stripes: &mut Stripes, numbers: &[u16], is_offline: bool) {
+fn set_down_all(rt: &impl Abort, stripes: &mut Stripes, numbers: &[u16], is_down: bool) {
     for number in numbers {
-        set_offline(rt, stripes, *number, is_offline);
+        set_down(rt, stripes, *number, is_down);
     }
 }
 
@@ -140,7 +140,7 @@ fn expect_order(
         (second, Level::AtRisk(2)),
     ];
     assert_at_risk(rt, stripes, &at_risk);
-    set_offline_all(rt, stripes, &[1, 2], true);
+    set_down_all(rt, stripes, &[1, 2], true);
     assert_work(rt, stripes, &[second, fifth, third, eighth]);
 }
 
@@ -152,7 +152,7 @@ fn an_upgrade_loses_a_stripe_of_ten(rt: &(impl AllocGlobal + Abort)) {
     for domain in 0..10 {
         expect_loss(rt, &stripes, domain, None);
     }
-    set_offline_all(rt, &mut stripes, &[0, 1, 2], true);
+    set_down_all(rt, &mut stripes, &[0, 1, 2], true);
     for domain in &[6, 8, 9] {
         expect_loss(rt, &stripes, *domain, Some(stripe));
         expect_short_loss(rt, &stripes, *domain, stripe);

@@ -1,7 +1,7 @@
 //! A plain store that holds only homes and searches them all for each question.
 
 use lrc_code::{Code, Fragment, LossMask, NodeNo, StripeNo};
-use lrc_stripes::{Level, Seat};
+use lrc_stripes::{Level, Mode, Seat};
 
 /// A stripe number; its code and the homes of its fragments while the store has the stripe.
 #[derive(Clone, Copy)]
@@ -54,21 +54,23 @@ impl PlainRow {
 pub(crate) struct PlainStore {
     /// In ascending order of the stripe numbers.
     pub(crate) rows: [PlainRow; 5],
-    pub(crate) offline: [bool; 20],
-    pub(crate) draining: [bool; 20],
+    pub(crate) modes: [Mode; 20],
+    pub(crate) down: [bool; 20],
+    pub(crate) upgrading: [bool; 10],
 }
 
 impl PlainStore {
-    fn is_offline(&self, node: NodeNo) -> bool {
-        match self.offline.get(node.value as usize) {
-            Some(is_offline) => *is_offline,
-            None => true,
-        }
+    pub(crate) fn is_offline(&self, node: NodeNo) -> bool {
+        let number = node.value as usize;
+        number >= 20
+            || self.modes[number] == Mode::Gone
+            || self.down[number]
+            || self.upgrading[number % 10]
     }
 
     fn is_draining(&self, node: NodeNo) -> bool {
-        match self.draining.get(node.value as usize) {
-            Some(is_draining) => *is_draining,
+        match self.modes.get(node.value as usize) {
+            Some(mode) => *mode == Mode::Draining,
             None => false,
         }
     }

@@ -2,7 +2,7 @@
 
 use crate::stripes::{
     add_in_slot, clear_home, expect_loss, expect_short_loss, fragment_numbered, one_stripe,
-    reserve, set_offline, stripe_numbered,
+    reserve, set_down, stripe_numbered,
 };
 use lrc_code::StripeNo;
 use lrc_stripes::Stripes;
@@ -26,7 +26,7 @@ fn lose_to_upgrades(rt: &impl Abort, stripes: &mut Stripes, first: StripeNo, sec
         expect_loss(rt, stripes, domain, None);
     }
     for number in 1..4 {
-        set_offline(rt, stripes, number, true);
+        set_down(rt, stripes, number, true);
     }
     for domain in &[0, 2, 4, 5] {
         expect_loss(rt, stripes, *domain, Some(first));
@@ -37,6 +37,6 @@ fn lose_to_upgrades(rt: &impl Abort, stripes: &mut Stripes, first: StripeNo, sec
     }
     clear_home(rt, stripes, first, fifth);
     expect_loss(rt, stripes, 0, Some(second));
-    set_offline(rt, stripes, 4, true);
+    set_down(rt, stripes, 4, true);
     expect_loss(rt, stripes, 0, None);
 }

@@ -12,7 +12,7 @@ pub returns-in-Some : goal.returns-in-Some
 returns-in-Some c = λ st code kept are.
     let nodes = c.args.self.now.topology in
     let faults = c.bar_upgrade_in.new.barred_nodes in
-    subst (λ (u : Option UpgradeNo). AreBarsOf nodes code u [] (record c.args.bars.now { faults = faults })) (sym c.in-Some.is ∙ kept.modes_are.upgrading_is)
+    subst (λ (u : Option UpgradeNo). AreBarsOf nodes code u [] (record c.args.bars.now { faults = faults })) (sym c.in-Some.is ∙ kept.upgrading_is)
     (upgrading-barred nodes code c.in-Some.domain c.args.bars.now faults
     (subst (λ (ns : List NodeInfo). (b : Barred) → AreBarredNodes ns b c.args.bars.now.faults → AreBarredNodes ns (with_upgrade b c.in-Some.domain) faults)
     (ap (λ (t : Slots). t.nodes) kept.table_is) c.bar_upgrade_in.ensures) are)

@@ -8,7 +8,7 @@ use Rattle.lrc_book.proofs.EmptyLemmas.{here, emptying-start, emptying-stripe, e
 use Rattle.lrc_book.proofs.store.Store.clear_homes.Goals as goal
 
 pub loop-stripe-init : goal.loop-stripe-init
-loop-stripe-init g c = record { emptying = emptying-start g.st c.args.node c.args.self.now c.requires.0; low = omega arith; ahead = λ p hit. omega arith; nodes = refl; modes = refl }
+loop-stripe-init g c = record { emptying = emptying-start g.st c.args.node c.args.self.now c.requires.0; low = omega arith; ahead = λ p hit. omega arith; nodes = refl }
 
 pub invariant_of-from : goal.invariant_of-from
 invariant_of-from g c = record { in_range = c.loop-stripe.invariant.low }
@@ -51,7 +51,6 @@ loop-stripe-preserved g c =
           (c.clear_home.ensures.kept (without_lease (here g.st c.args.node k e) c.in-Some.stripe c.in-Some.fragment) ended) c.args.node c.in-Some.stripe.value
           (first-ahead (stored_in k.stripes) c.args.node c.homes_on_from.result c.next.new.self c.in-Some.stripe c.in-Some.fragment on c.in-Some.ensures.steps);
       nodes = c.clear_home.ensures.nodes ∙ c.end_lease.ensures.nodes ∙ c.loop-stripe.invariant.nodes;
-      modes = c.clear_home.ensures.modes ∙ c.end_lease.ensures.modes ∙ c.loop-stripe.invariant.modes;
     }
 
 pub returns-clause-kept : goal.returns-clause-kept

@@ -12,7 +12,6 @@ invariant-loop-stripe g l = record {
   low : l.from.0 < 4096;
   ahead : IsAhead (stored_in l.self.stripes) l.node l.from.0;
   nodes : l.self.topology ≡ l.initial.self.topology;
-  modes : l.self.modes ≡ l.initial.self.modes;
 }
 
 abbrev pub decreases-loop-stripe : goal.decreases-loop-stripe

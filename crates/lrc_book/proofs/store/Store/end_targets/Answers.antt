@@ -6,7 +6,7 @@ use Rattle.lrc_book.proofs.EmptyLemmas.{now, ending-more, ending-smaller, ending
 use Rattle.lrc_book.proofs.store.Store.end_targets.Goals as goal
 
 pub loop-lease-init : goal.loop-lease-init
-loop-lease-init g c = record { ending = record { live = g.st.leases; kept = c.requires.0; rest = refl }; nodes = refl; modes = refl }
+loop-lease-init g c = record { ending = record { live = g.st.leases; kept = c.requires.0; rest = refl }; nodes = refl }
 
 pub end_lease-requires : goal.end_lease-requires
 end_lease-requires g c = (now g.st c.args.node c.loop-lease.self c.loop-lease.invariant.ending, c.loop-lease.invariant.ending.kept)
@@ -26,7 +26,6 @@ loop-lease-preserved g c =
     let first = first-target (leased_in k.leases) c.args.node c.targets_on.result c.next.new.self c.in-Some.lease c.targets_on.ensures c.in-Some.ensures.steps in record {
       ending = ending-more g.st c.args.node k e c.in-Some.lease first.0 first.1 c.end_lease.new.self c.end_lease.ensures.nodes (c.end_lease.ensures.kept (now g.st c.args.node k e) e.kept);
       nodes = c.end_lease.ensures.nodes ∙ c.loop-lease.invariant.nodes;
-      modes = c.end_lease.ensures.modes ∙ c.loop-lease.invariant.modes;
     }
 
 pub returns-clause-kept : goal.returns-clause-kept

@@ -8,7 +8,6 @@ abbrev pub invariant-loop-lease : goal.invariant-loop-lease
 invariant-loop-lease g l = record {
   ending : IsEnding g.st l.node l.self;
   nodes : l.self.topology ≡ l.initial.self.topology;
-  modes : l.self.modes ≡ l.initial.self.modes;
 }
 
 abbrev pub decreases-loop-lease : goal.decreases-loop-lease

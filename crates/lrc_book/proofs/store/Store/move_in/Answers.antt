@@ -4,6 +4,7 @@ use Rattle.lrc_terms.specs.declared.lease.Lease.{Lease}
 use Rattle.lrc_leases.specs.Tables.{leased_in}
 use Rattle.lrc_terms.specs.Leased as leased
 use Rattle.lrc_terms.specs.Leased.{with_spare}
+use Rattle.lrc_nodes.specs.States.{infos_in}
 use Rattle.lrc_stripes.specs.Stored.{Stored, has_slot, HasNoHome}
 use Rattle.lrc_stripes.specs.Stored as stored
 use Rattle.lrc_stripes.specs.Tables.{stored_in}
@@ -30,7 +31,7 @@ put_home-requires g c =
     record {
       stripe = subst (λ (x : Store). IsTrue ((stored_in x.stripes).stripes s)) same (ap (λ (x : Stored). x.stripes s) c.requires.0.stripes_is ∙ c.requires.1.0);
       code = subst (λ (x : Store). IsTrue (has_fragment ((stored_in x.stripes).code s) f.value)) same (move-own g.st k c.requires.0 s f lease live);
-      slot = subst (λ (x : Store). IsTrue (has_slot (stored_in x.stripes).nodes lease.target)) same (move-slot g.st k c.requires.0 s f lease live);
+      slot = subst (λ (x : Store). IsTrue (has_slot (infos_in (stored_in x.stripes).nodes) lease.target)) same (move-slot g.st k c.requires.0 s f lease live);
       unused = subst (λ (x : Store). HasNoHome (stored_in x.stripes) lease.target) same (move-unused g.st k c.requires.0 s f lease live);
     }
 

@@ -8,7 +8,9 @@ use Rattle.lrc_topology.specs.declared.seat.Seat.{Seat}
 use Rattle.lrc_slots.specs.Barred.{joined}
 use Rattle.lrc_slots.specs.Slots.{Slots}
 use Rattle.lrc_slots.specs.Tables.{barred}
+use Rattle.lrc_nodes.specs.States.{infos_in}
 use Rattle.lrc_stripes.specs.Stored.{Stored}
+use Rattle.lrc_book.proofs.NodeStateLemmas.{infos-kept}
 use Rattle.lrc_book.proofs.BesideLemmas.{home_at, homes-all}
 use Rattle.lrc_book.proofs.KnownSeatLemmas.{IsKnown, home-known}
 use Rattle.lrc_book.proofs.NeighbourLemmas.{homes-bar, members-both}
@@ -29,6 +31,6 @@ returns c = λ st code kept members.
     (λ g. members-both c.without-others.result.bits c.args.members.bits c.from_bits-members.result.bits g.value _ c.from_bits-members.ensures (members g))
     (λ g seat is. subst (λ (ns : List NodeInfo). IsSome (node_at ns seat.node)) same
     (subst (λ (o : Option Seat). IfSome o (IsKnown k)) (home g ∙ is) (home-known st k kept s g _ refl)))
-    (λ g seat n is found. c.domains.ensures g.value seat n (home g ∙ is) (ap (λ (t : Stored). node_at t.nodes seat.node) kept.stripes_is ∙ found))
+    (λ g seat n is found. c.domains.ensures g.value seat n (home g ∙ is) (ap (λ (t : Stored). node_at (infos_in t.nodes) seat.node) kept.stripes_is ∙ (ap (λ (ns : List NodeInfo). node_at ns seat.node) (infos-kept st nodes) ∙ found)))
     (fragments Wide)
     ∙ homes-all nodes st s kept.seated code f [])

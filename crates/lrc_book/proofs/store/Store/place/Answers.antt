@@ -7,6 +7,7 @@ use Rattle.lrc_code.specs.Codes.{fragments}
 use Rattle.lrc_topology.specs.declared.seat.Seat.{Seat}
 use Rattle.lrc_topology.specs.declared.NodeInfo.{NodeInfo}
 use Rattle.lrc_slots.specs.Tables.{slots_of}
+use Rattle.lrc_nodes.specs.States.{infos_in}
 use Rattle.lrc_stripes.specs.Stored as stored
 use Rattle.lrc_stripes.specs.Stored.{Stored, has_slot}
 use Rattle.lrc_stripes.specs.Tables.{stored_in}
@@ -16,6 +17,7 @@ use Rattle.lrc_rules.specs.Steps.{with_stripe}
 use Rattle.lrc_rules.specs.Changes.{with_placed}
 use Rattle.lrc_book.specs.Stores.{IsOf}
 use Rattle.lrc_rules.proofs.LawLemmas.{chosen-length}
+use Rattle.lrc_book.proofs.NodeStateLemmas.{infos-kept}
 use Rattle.lrc_book.proofs.PlacingLemmas.{taken-start, taken-known, taken-least, taken-more, placed-kept}
 use Rattle.lrc_rules.proofs.ToldLemmas.{place-told}
 use Rattle.lrc_book.proofs.store.Store.place.Goals as goal
@@ -71,7 +73,7 @@ add_with_homes-requires g c =
           ∙ (place-told c.args.self.now.topology g.st c.args.code c.args.stripe c.args.seats.now c.requires.1.1).absent;
       room = subst (λ (k : Store). 1 ≤ (stored_in k.stripes).spare) (sym c.loop-seat.invariant.rest) (leb-true 1 (stored_in c.args.self.now.stripes).spare (and_parts (nat_le 1 (stored_in c.args.self.now.stripes).spare) _ c.requires.1.0).0);
       length = c.loop-seat.invariant.all ∙ fragments-long c.args.code;
-      slots = subst (λ (ns : List NodeInfo). All (λ seat. has_slot ns seat ≡ true) c.args.seats.now) (sym (ap (λ (x : Stored). x.nodes) same))
+      slots = subst (λ (ns : List NodeInfo). All (λ seat. has_slot ns seat ≡ true) c.args.seats.now) (sym (ap (λ (x : Stored). infos_in x.nodes) same ∙ infos-kept g.st c.args.self.now.topology))
           (subst (λ (xs : List Seat). All (λ seat. has_slot c.args.self.now.topology seat ≡ true) xs) all c.loop-seat.invariant.taken.slots);
     }
 

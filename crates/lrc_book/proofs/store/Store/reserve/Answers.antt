@@ -14,6 +14,7 @@ returns-clause-same c = λ st kept. record {
   table_is = kept.table_is;
   stripes_is = c.reserve.ensures.rest ∙ ap (λ (t : Stored). stored.with_spare t (stored_in c.reserve.new.self).spare) kept.stripes_is;
   leases_is = c.reserve-2.ensures.rest ∙ ap (λ (t : Leased). leased.with_spare t (leased_in c.reserve-2.new.self).spare) kept.leases_is;
-  modes_are = kept.modes_are;
+  apart = kept.apart;
+  upgrading_is = kept.upgrading_is;
   clock_is = kept.clock_is;
 }

@@ -14,11 +14,11 @@ returns-then-not-has_upgrade_domain c = λ st kept. sym (upgrade-unknown c.args.
 pub returns-in-Some : goal.returns-in-Some
 returns-in-Some c = λ st kept.
     sym (upgrade-running c.args.self.now.topology st c.args.domain
-    (sym c.has_upgrade_domain.ensures ∙ c.if-not-has_upgrade_domain.false) c.in-Some.upgrading (sym kept.modes_are.upgrading_is ∙ c.in-Some.is))
+    (sym c.has_upgrade_domain.ensures ∙ c.if-not-has_upgrade_domain.false) c.in-Some.upgrading (sym kept.upgrading_is ∙ c.in-Some.is))
 
 pub returns-in-Some-would_lose_short : goal.returns-in-Some-would_lose_short
 returns-in-Some-would_lose_short c = λ st kept.
-    let none = sym kept.modes_are.upgrading_is ∙ c.in_default.is in
+    let none = sym kept.upgrading_is ∙ c.in_default.is in
     let found = subst (λ
     (t : Stored). IsFirstShortLostTo t c.args.domain c.in-Some-would_lose_short.stripe) kept.stripes_is c.in-Some-would_lose_short.ensures.found in
     sym (upgrade-lost c.args.self.now.topology st c.args.domain
@@ -28,7 +28,7 @@ returns-in-Some-would_lose_short c = λ st kept.
 
 pub returns-in-None : goal.returns-in-None
 returns-in-None c = λ st kept.
-    let none = sym kept.modes_are.upgrading_is ∙ c.in_default.is in
+    let none = sym kept.upgrading_is ∙ c.in_default.is in
     let no_stripe = subst (λ (t : Stored). (s : StripeNo) → IsFalse (is_short_lost_to t c.args.domain s)) kept.stripes_is c.in-None.ensures.none in
     sym (upgrade-passed c.args.self.now.topology st c.args.domain (sym c.has_upgrade_domain.ensures ∙ c.if-not-has_upgrade_domain.false) none
     (lost-none c.args.self.now.topology st c.args.domain none (stored_in c.args.self.now.stripes).spare

@@ -12,12 +12,12 @@ pub returns-then-ne : goal.returns-then-ne
 returns-then-ne c = λ st kept.
     let other = not-true _ (sym c.ne.ensures ∙ c.if-ne.true) in
     sym (upgraded-other c.args.self.now.topology st c.args.domain (sym c.has_upgrade_domain.ensures ∙ c.if-not-has_upgrade_domain.false)
-    (ap (is_the_domain c.args.domain) (sym kept.modes_are.upgrading_is)
-    ∙ sym (the-domain _ (λ a b. refl) c.args.domain c.args.self.now.modes.upgrading) ∙ other))
+    (ap (is_the_domain c.args.domain) (sym kept.upgrading_is)
+    ∙ sym (the-domain _ (λ a b. refl) c.args.domain c.args.self.now.upgrading) ∙ other))
 
 pub returns : goal.returns
 returns c = λ st kept.
     let this = not-false _ (sym c.ne.ensures ∙ c.if-ne.false) in
     sym (upgraded-passed c.args.self.now.topology st c.args.domain (sym c.has_upgrade_domain.ensures ∙ c.if-not-has_upgrade_domain.false)
-    (ap (is_the_domain c.args.domain) (sym kept.modes_are.upgrading_is)
-    ∙ sym (the-domain _ (λ a b. refl) c.args.domain c.args.self.now.modes.upgrading) ∙ this))
+    (ap (is_the_domain c.args.domain) (sym kept.upgrading_is)
+    ∙ sym (the-domain _ (λ a b. refl) c.args.domain c.args.self.now.upgrading) ∙ this))

@@ -1,21 +1,28 @@
-use Rattle.std.proofs.Common.{Option, false, arith, sym, ap, ◌∙◌}
+use Rattle.std.proofs.Common.{Option, false, get_or, arith, sym, ap, ◌∙◌}
 use Rattle.std.specs.Option.{option_map_or}
 use Rattle.lrc_nodes.specs.declared.node_state.NodeState.{NodeState}
+use Rattle.lrc_nodes.specs.States.{is_node_draining}
+use Rattle.lrc_nodes.specs.Kept.{StateBits}
 use Rattle.lrc_nodes.proofs.StateLemmas.{no_state}
-use Rattle.lrc_nodes.proofs.KeptLemmas.{place-within, seen-state, unseen-state}
+use Rattle.lrc_nodes.proofs.KeptLemmas.{said-draining, place-within, seen-state, unseen-state}
 use Rattle.lrc_nodes.proofs.nodes.Nodes.is_draining.Goals as goal
 
 pub contains-requires : goal.contains-requires
 contains-requires c =
     let s = c.self.inside in
-    let within = place-within s.list.items s.offline s.draining c.args.self.now c.self.view_is c.args.number c.in-Some.position (sym c.position.ensures ∙ c.in-Some.is) in
-    omega (arith, within, c.self.invariant.few, c.self.invariant.drain.long)
+    let bits : StateBits = record { gone = s.gone; draining = s.draining; down = s.down; upgrading = s.upgrading } in
+    let within = place-within s.list.items bits c.args.self.now c.self.view_is c.args.number c.in-Some.position (sym c.position.ensures ∙ c.in-Some.is) in
+    omega (arith, within, c.self.invariant.few, c.self.invariant.states.draining.long)
 
 pub returns-in-Some : goal.returns-in-Some
 returns-in-Some c =
     let s = c.self.inside in
+    let bits : StateBits = record { gone = s.gone; draining = s.draining; down = s.down; upgrading = s.upgrading } in
+    let place = sym c.position.ensures ∙ c.in-Some.is in
+    let p = c.in-Some.position in
     c.contains.ensures
-    ∙ sym (ap (λ (o : Option NodeState). option_map_or (λ x. x.is_draining) o false) (seen-state s.list.items s.offline s.draining c.args.self.now c.self.view_is c.args.number c.in-Some.position (sym c.position.ensures ∙ c.in-Some.is) no_state.node))
+    ∙ sym (ap (λ (o : Option NodeState). option_map_or is_node_draining o false) (seen-state s.list.items bits c.args.self.now c.self.view_is c.args.number p place no_state.node)
+    ∙ said-draining (get_or s.gone p false) (get_or s.draining p false) (c.self.invariant.states.one_mode p))
 
 pub returns-in-None : goal.returns-in-None
-returns-in-None c = sym (ap (λ (o : Option NodeState). option_map_or (λ x. x.is_draining) o false) (unseen-state c.args.self.now c.args.number (sym c.position.ensures ∙ c.in-None.is)))
+returns-in-None c = sym (ap (λ (o : Option NodeState). option_map_or is_node_draining o false) (unseen-state c.args.self.now c.args.number (sym c.position.ensures ∙ c.in-None.is)))

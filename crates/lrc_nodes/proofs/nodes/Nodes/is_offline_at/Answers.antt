@@ -1,16 +1,18 @@
-use Rattle.std.proofs.Common.{arith, ap, ◌∙◌}
-use Rattle.lrc_nodes.specs.declared.node_state.NodeState.{NodeState}
-use Rattle.lrc_nodes.proofs.KeptLemmas.{seen-long, seen-at}
+use Rattle.std.proofs.Common.{arith, sym, ◌∙◌}
+use Rattle.lrc_nodes.specs.Kept.{StateBits}
+use Rattle.lrc_nodes.proofs.KeptLemmas.{seen-long, offline-bit}
 use Rattle.lrc_nodes.proofs.nodes.Nodes.is_offline_at.Goals as goal
 
 pub contains-requires : goal.contains-requires
 contains-requires c =
     let s = c.self.inside in
-    let long = seen-long s.list.items s.offline s.draining c.args.self.now c.self.view_is in
+    let bits : StateBits = record { gone = s.gone; draining = s.draining; down = s.down; upgrading = s.upgrading } in
+    let long = seen-long s.list.items bits c.args.self.now c.self.view_is in
     omega (arith, long, c.requires, c.self.invariant.few, c.self.invariant.off.long)
 
 pub returns : goal.returns
 returns c = λ d.
     let s = c.self.inside in
-    let long = seen-long s.list.items s.offline s.draining c.args.self.now c.self.view_is in
-    c.contains.ensures ∙ ap (λ (x : NodeState). x.is_offline) (seen-at s.list.items s.offline s.draining c.args.self.now c.self.view_is c.args.position d d.node (omega (arith, long, c.requires)))
+    let bits : StateBits = record { gone = s.gone; draining = s.draining; down = s.down; upgrading = s.upgrading } in
+    let long = seen-long s.list.items bits c.args.self.now c.self.view_is in
+    c.contains.ensures ∙ sym (offline-bit s.list.items bits c.args.self.now c.self.view_is s.offline c.self.invariant.off c.self.invariant.derived c.args.position d (omega (arith, long, c.requires)))

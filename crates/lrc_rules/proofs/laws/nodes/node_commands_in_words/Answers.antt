@@ -1,7 +1,8 @@
 use Rattle.std.proofs.Common.{◌≡◌, false, refl}
-use Rattle.lrc_rules.specs.declared.mode.Mode.TheVariants.{Active}
+use Rattle.lrc_terms.specs.declared.mode.Mode.TheVariants.{Active}
 use Rattle.lrc_rules.specs.declared.node_command.NodeCommand.TheVariants.{Fail, Up, Undrain}
-use Rattle.lrc_rules.specs.States.{State, mode_of, is_draining, is_down}
+use Rattle.lrc_terms.specs.Modes.{is_draining}
+use Rattle.lrc_rules.specs.States.{State, mode_of, is_down}
 use Rattle.lrc_rules.proofs.NodeCommandLemmas.{after-node}
 use Rattle.lrc_rules.proofs.NodeWordsLemmas.{flips-false, left-here, IsEmptied, failed-here, undrained-here}
 use Rattle.lrc_rules.proofs.RetiredLemmas.{draining-mode}

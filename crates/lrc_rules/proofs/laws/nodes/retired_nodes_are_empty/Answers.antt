@@ -1,6 +1,7 @@
 use Rattle.std.proofs.Common.{◌≡◌, false}
 use Rattle.lrc_rules.specs.declared.node_command.NodeCommand.TheVariants.{Retire}
-use Rattle.lrc_rules.specs.States.{State, mode_of, is_draining, is_down}
+use Rattle.lrc_terms.specs.Modes.{is_draining}
+use Rattle.lrc_rules.specs.States.{State, mode_of, is_down}
 use Rattle.lrc_rules.proofs.NodeCommandLemmas.{done-allowed, allowed-done, after-node}
 use Rattle.lrc_rules.proofs.NodeWordsLemmas.{flips-false, left-here}
 use Rattle.lrc_rules.proofs.RetiredLemmas.{draining-mode, retired-empty, empty-retired}

@@ -1,5 +1,6 @@
 use Rattle.std.proofs.Common.{is_none, true, ◌+◌, ◌≡◌, map, Bool, sym, ap, ◌∙◌, arith}
 use Rattle.lrc_code.specs.declared.numbers.StripeNo.{StripeNo}
+use Rattle.lrc_nodes.specs.States.{is_node_offline}
 use Rattle.lrc_nodes.specs.declared.node_state.NodeState.{NodeState}
 use Rattle.lrc_stripes.proofs.MaskLemmas.{is_none-answer}
 use Rattle.lrc_stripes.proofs.ShortLemmas.{few-on_several, few-bits, none-found}
@@ -12,7 +13,7 @@ returns-in-Some c = λ few s.
     ap (λ (f : StripeNo → Bool). f s)
     (sym (few-on_several c.self.inside.nodes c.self.inside.stripes.items c.args.self.now c.self.view_is c.self.invariant.apart
     (few-bits states c.in-Some.position (λ i below. c.in-Some.ensures.first i (omega arith) below)
-    (λ i above. none-found (map (λ (x : NodeState). x.is_offline) states) (c.in-Some.position + 1) c.first_offline_from-in-Some.result none c.first_offline_from-in-Some.ensures i (omega (arith, above))))))
+    (λ i above. none-found (map is_node_offline states) (c.in-Some.position + 1) c.first_offline_from-in-Some.result none c.first_offline_from-in-Some.ensures i (omega (arith, above))))))
 
 pub returns-in-None : goal.returns-in-None
 returns-in-None c = λ few s.

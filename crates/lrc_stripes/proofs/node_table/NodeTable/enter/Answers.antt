@@ -42,7 +42,7 @@ loop-number-preserved c =
       e.on ∙ entered-more first c.args.stripe (states_in c.loop-number.self) before after here is.0
           (λ n. list_any_more (sits_on n) homes i None within ∙ ap (λ (h : Option Seat). before n || sits_on n h) (get_or-map Some seats i no_seat None below)),
       domains-next first.nodes (λ f. get_or (seated_homes seats) f None) i i here (omega (arith, low, few-fragments c.args.code)) refl (home-at c.args.code seats c.requires.length no_seat i low) c.loop-number.domains c.enter_one.new.domains
-          c.enter_one.result.node (sym (e.node ∙ ap (λ (z : NodeStates). node_at z.nodes here.node) is.0)) e.faults e.upgrades is.1,
+          c.enter_one.result (sym (e.node ∙ ap (λ (z : NodeStates). node_at z.nodes here.node) is.0)) e.faults e.upgrades is.1,
     )
 
 pub returns-clause-on : goal.returns-clause-on

@@ -9,8 +9,8 @@ pub returns-in-Some-clause-domains : goal.returns-in-Some-clause-domains
 returns-in-Some-clause-domains c = λ homes are.
     let f = c.args.fragment in
     let nodes = (states_in c.args.self.now).nodes in
-    subst (λ (o : Option Seat). AreDomainsOf nodes (λ g. cond (nat_eq f.value g) o (homes g)) c.enter_one-state.new.domains) (sym c.in-Some.is)
-    (domains-with nodes c.args.domains.now c.enter_one-state.new.domains f.value f.in_range c.enter_one-state.result.node c.in-Some.seat (sym c.enter_one-state.ensures.node) c.enter_one-state.ensures.faults c.enter_one-state.ensures.upgrades homes are)
+    subst (λ (o : Option Seat). AreDomainsOf nodes (λ g. cond (nat_eq f.value g) o (homes g)) c.enter_one.new.domains) (sym c.in-Some.is)
+    (domains-with nodes c.args.domains.now c.enter_one.new.domains f.value f.in_range c.enter_one.result c.in-Some.seat (sym c.enter_one.ensures.node) c.enter_one.ensures.faults c.enter_one.ensures.upgrades homes are)
 
 pub returns-in-None-clause-domains : goal.returns-in-None-clause-domains
 returns-in-None-clause-domains c = λ homes are.

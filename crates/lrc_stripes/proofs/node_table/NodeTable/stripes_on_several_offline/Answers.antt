@@ -1,4 +1,4 @@
-use Rattle.std.proofs.Common.{Bool, ◌<◌, ◌∙◌, ◌||◌, ◌&&◌, arith, ap, sym, not, nat_lt, List, length}
+use Rattle.std.proofs.Common.{Bool, ◌<◌, ◌∙◌, ◌||◌, ◌&&◌, arith, ap, sym, not, nat_lt, List, length, get_or}
 use Rattle.std.proofs.Math.Path.{fun_ext}
 use Rattle.std.proofs.lemmas.List.{take_all}
 use Rattle.lrc_code.specs.declared.numbers.StripeNo.{StripeNo}
@@ -7,7 +7,9 @@ use Rattle.lrc_topology.specs.declared.NodeInfo.{NodeInfo}
 use Rattle.lrc_nodes.specs.declared.node_state.NodeState.{NodeState}
 use Rattle.lrc_ranks.specs.Sets.{has}
 use Rattle.lrc_stripes.specs.NodeStates.{states_in}
+use Rattle.lrc_nodes.specs.States.{is_node_online}
 use Rattle.lrc_nodes.proofs.StateLemmas.{no_state}
+use Rattle.lrc_stripes.proofs.NodeStateLemmas.{not-not}
 use Rattle.lrc_stripes.proofs.ShortLemmas.{counted, once-next, twice-next, once-same, twice-same, on_several-nodes, online-there}
 use Rattle.lrc_stripes.proofs.node_table.NodeTable.stripes_on_several_offline.Goals as goal
 use Rattle.lrc_stripes.proofs.node_table.NodeTable.stripes_on_several_offline.Goals.{then-is_offline_at, else-is_offline_at}
@@ -27,7 +29,7 @@ loop-position-preserved c =
     let before = c.loop-position.invariant in
     let said =
     online-there xs c.self.inside.stripes.items c.args.self.now c.self.view_is c.self.invariant.apart i no_state within
-    ∙ ap not (sym (c.is_offline_at.ensures no_state)) in
+    ∙ (sym (not-not (is_node_online (get_or xs i no_state))) ∙ ap not (sym (c.is_offline_at.ensures no_state))) in
     elim c.if-is_offline_at.branch [
       | then-is_offline_at w ↦
           let at = ap (λ (n : NodeInfo). n.number) (w.node_at.ensures no_state) in
