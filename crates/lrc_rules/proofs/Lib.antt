@@ -56,3 +56,6 @@ pub mod TermLemmas
 pub mod LookUpLemmas
 pub mod ModeListLemmas
 pub mod ServedLemmas
+pub mod AlikeListLemmas
+pub mod AlikeReadLemmas
+pub mod AlikeChoiceLemmas

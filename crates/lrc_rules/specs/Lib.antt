@@ -24,6 +24,7 @@ pub mod Sessions
 pub mod Choices
 pub mod Goodness
 pub mod Alike
+pub mod Futures
 pub mod Granting
 pub mod Upgrading
 pub mod Reporting
