@@ -1,6 +1,6 @@
 -- In alike states the rules choose the same: seats, the seats of a new stripe, the most urgent fragment, and the
 -- stripe that an upgrade would lose.
-use Rattle.std.proofs.Common.{[], ◌≡◌, ℕ, inl, inr, Bool, true, false, not, ◌&&◌, nat_lt, List, ◌∷◌, map, filter, flat_map, Option, Some, None, is_none, is_some, option_map, option_and_then, refl, sym, ap, ◌∙◌, subst, arith}
+use Rattle.std.proofs.Common.{[], ◌≡◌, ℕ, inl, inr, Bool, false, not, ◌&&◌, nat_lt, List, ◌∷◌, map, filter, flat_map, Option, Some, is_none, is_some, option_map, option_and_then, refl, sym, ap, ◌∙◌, subst, arith}
 use Rattle.std.proofs.Math.Path.{fun_ext}
 use Rattle.std.specs.List.{list_any}
 use Rattle.std.specs.Option.{option_map_or}
@@ -19,7 +19,7 @@ use Rattle.lrc_topology.specs.declared.seat.Held.{Held}
 use Rattle.lrc_topology.specs.Nodes.{AreNodes, node_at}
 use Rattle.lrc_topology.specs.Seats.{is_taken, first_slot, is_lighter, is_preferred}
 use Rattle.lrc_terms.specs.Stripes.{StripeFragment}
-use Rattle.lrc_rules.specs.States.{State, code_of, seats_of, taken_seats, is_active, takes_seats, is_eligible, rank}
+use Rattle.lrc_rules.specs.States.{State, code_of, seats_of, taken_seats, is_active, is_eligible, rank}
 use Rattle.lrc_rules.specs.Placement.{clashes, is_beside, bars, fits, chosen, with_home}
 use Rattle.lrc_rules.specs.Choices.{AreChosen, IsFirstWithout}
 use Rattle.lrc_rules.specs.Urgency.{is_grantable, all_fragments, is_repaired_before, next_of}
@@ -171,5 +171,9 @@ module _ (nodes : List NodeInfo) (known : AreNodes nodes) (s : StripeNo) where
   alike-first_without w v (g ∷ gs) f alike p q (inl here) = inl (same-chosen w v g gs alike p q ∙ here.0, here.1)
   alike-first_without w v (g ∷ gs) f alike p q (inr later) =
       let own = same-chosen w v g gs alike p q ∙ later.1 in
-      inr (later.0, own, alike-first_without (with_home w s g later.0) (with_home v s g later.0) gs f (with_home-alike w v s g later.0 alike)
-      (placing-some nodes known s w g gs later.0 p later.1) (placing-some nodes known s v g gs later.0 q own) later.2)
+      inr (
+        later.0,
+        own,
+        alike-first_without (with_home w s g later.0) (with_home v s g later.0) gs f (with_home-alike w v s g later.0 alike)
+            (placing-some nodes known s w g gs later.0 p later.1) (placing-some nodes known s v g gs later.0 q own) later.2,
+      )

@@ -1,7 +1,7 @@
 -- Lists with the same elements: what tests, counts, searches and orders say of them.
-use Rattle.std.proofs.Common.{[], ◌≡◌, ◌≢◌, ◌+◌, ◌≤◌, ℕ, inl, inr, Bool, true, false, cond, List, ◌∷◌, ◌++◌, map, filter, flat_map, Option, Some, None, refl, sym, ap, ◌∙◌, subst, arith}
+use Rattle.std.proofs.Common.{[], ◌≡◌, ◌≢◌, ◌≤◌, ℕ, inl, inr, Bool, true, false, cond, List, ◌∷◌, ◌++◌, map, filter, flat_map, Option, Some, None, refl, sym, ◌∙◌, subst, arith}
 use Rattle.std.specs.Cmp.{IsStrictWeakOrder}
-use Rattle.std.specs.List.{All, AllPairs, Contains, list_any, count_by, sum_by, remove}
+use Rattle.std.specs.List.{AllPairs, Contains, list_any, count_by, sum_by, remove}
 use Rattle.std.proofs.lemmas.Bool.{cases_Bool, false_from_ne_true}
 use Rattle.std.proofs.lemmas.List.Elements.{All-contains, Contains-append_left, Contains-append_right, Contains-append_cases}
 use Rattle.std.proofs.lemmas.List.Sorted.{IsPermutation-remove, IsPermutation-sym, Contains-permutation, sum_by-IsPermutation}

@@ -1,35 +1,28 @@
 -- Alike states show the same: codes, homes, leases, modes, missing fragments, levels, loads and the risk list.
-use Rattle.std.proofs.Common.{◌≡◌, ◌≢◌, ℕ, Bool, true, false, not, ◌&&◌, if◌then◌else◌, eqb, List, map, filter, Option, Some, None, option_map, refl, sym, ap, ◌∙◌, subst}
+use Rattle.std.proofs.Common.{◌≡◌, ◌≢◌, ℕ, Bool, false, not, ◌&&◌, if◌then◌else◌, eqb, List, map, filter, Some, None, option_map, refl, ap, ◌∙◌, subst}
 use Rattle.std.proofs.Math.Path.{fun_ext}
-use Rattle.std.specs.List.{AllPairs, Contains, list_any}
+use Rattle.std.specs.List.{AllPairs, list_any}
 use Rattle.std.specs.Option.{option_map_or}
 use Rattle.std.proofs.lemmas.Bool.{eqb-true, and_parts}
 use Rattle.std.proofs.lemmas.List.Kept.{AllPairs-filter}
-use Rattle.lrc_code.specs.declared.codes.Code.{Code}
 use Rattle.lrc_code.specs.declared.codes.Code.TheVariants.{Wide, Narrow}
 use Rattle.lrc_code.specs.declared.numbers.StripeNo.{StripeNo}
 use Rattle.lrc_code.specs.declared.numbers.NodeNo.{NodeNo}
-use Rattle.lrc_code.specs.declared.numbers.UpgradeNo.{UpgradeNo}
 use Rattle.lrc_code.specs.declared.numbers.Fragment.{Fragment}
 use Rattle.lrc_code.specs.Numbers.{same_stripe, same_node}
 use Rattle.lrc_code.specs.Codes.{fragments, others}
-use Rattle.lrc_code.specs.Losses.{FragmentSet, is_recoverable, is_local}
+use Rattle.lrc_code.specs.Losses.{is_recoverable, is_local}
 use Rattle.lrc_code.specs.Order.{in_order}
-use Rattle.lrc_code.proofs.NumbersLemmas.{equal_stripes, equal_fragments}
+use Rattle.lrc_code.proofs.NumbersLemmas.{equal_stripes}
 use Rattle.lrc_topology.specs.declared.NodeInfo.{NodeInfo}
 use Rattle.lrc_topology.specs.declared.seat.Seat.{Seat}
 use Rattle.lrc_topology.specs.declared.seat.Held.{Held}
 use Rattle.lrc_topology.specs.Nodes.{node_at}
-use Rattle.lrc_topology.specs.Seats.{load_of}
 use Rattle.lrc_terms.specs.declared.lease.Lease.{Lease}
 use Rattle.lrc_terms.specs.declared.level.Level.{Level}
 use Rattle.lrc_terms.specs.Leased.{LeaseMap, AreOneEach, leases_in}
-use Rattle.lrc_terms.specs.Levels.{Homes, home_of, homes_of, homeless_in, missing_in, needs_in, level_by, level_if, missing_if, rank_by, comes_first, is_whole}
-use Rattle.lrc_terms.specs.Stripes.{StripeLevel}
+use Rattle.lrc_terms.specs.Levels.{home_of, homes_of, homeless_in, missing_in, needs_in, level_by, level_if, missing_if, rank_by, comes_first, is_whole}
 use Rattle.lrc_terms.proofs.LeaseLemmas.{same_answers, leases_in-own, leases_in-contains, contains-leases_in}
-use Rattle.lrc_rules.specs.declared.mode.Mode.{Mode}
-use Rattle.lrc_rules.specs.declared.mode.Mode.TheVariants.{Active, Draining, Gone}
-use Rattle.lrc_rules.specs.declared.kind.Kind.{Kind}
 use Rattle.lrc_rules.specs.declared.kind.Kind.TheVariants.{Move, Global}
 use Rattle.lrc_rules.specs.States.{State, has_stripe, code_of, held_by, seats_of, taken_seats, load, lease_of, has_number, mode_of, is_down, is_draining, is_online, online_at, drains_at, missing, level, rank, code_shown, homes_shown, load_shown, level_shown, missing_shown, mode_shown}
 use Rattle.lrc_rules.specs.Repairs.{needs, is_at_home, is_safe, local_kind, kind, is_global, is_beyond_repair}

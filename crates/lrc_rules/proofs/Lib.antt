@@ -59,3 +59,6 @@ pub mod ServedLemmas
 pub mod AlikeListLemmas
 pub mod AlikeReadLemmas
 pub mod AlikeChoiceLemmas
+pub mod AlikeReplyLemmas
+pub mod AlikeChangeLemmas
+pub mod AlikeWorldLemmas
