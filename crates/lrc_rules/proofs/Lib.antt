@@ -62,3 +62,4 @@ pub mod AlikeChoiceLemmas
 pub mod AlikeReplyLemmas
 pub mod AlikeChangeLemmas
 pub mod AlikeWorldLemmas
+pub mod TidyLemmas
