@@ -1,0 +1,6 @@
+pub mod EarlierLemmas
+pub mod AnswerLemmas
+pub mod SeatCauseLemmas
+pub mod RisingLemmas
+pub mod LawfulLemmas
+pub mod SeatedRowsLemmas
