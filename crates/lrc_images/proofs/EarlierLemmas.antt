@@ -1,5 +1,5 @@
 -- The grants of the entries that stand for an image's rows are the counts in the rows.
-use Rattle.std.proofs.Common.{[], ◌≡◌, ◌≢◌, ◌+◌, ◌≤◌, ℕ, zero, suc, inl, inr, Bool, true, false, cond, ◌&&◌, if◌then◌else◌, List, ◌∷◌, flat_map, replicate, get_or, refl, sym, ap, ◌∙◌, subst, arith}
+use Rattle.std.proofs.Common.{[], ◌≡◌, ◌≢◌, ◌≤◌, ℕ, zero, suc, inl, inr, Bool, true, false, cond, ◌&&◌, if◌then◌else◌, List, ◌∷◌, flat_map, replicate, get_or, refl, sym, ap, ◌∙◌, arith}
 use Rattle.std.specs.List.{All, AllPairs, Contains, sum_by}
 use Rattle.std.proofs.lemmas.Bool.{cases_Bool, eqb-true, eq-eqb, ne_eqb, and_parts, and_from, and_left, false_from_ne_true, lt-ltb, ltb-true}
 use Rattle.std.proofs.lemmas.List.Elements.{All-contains, All-head, All-tail, All-weaker}
@@ -9,11 +9,11 @@ use Rattle.lrc_code.specs.declared.numbers.StripeNo.{StripeNo}
 use Rattle.lrc_code.specs.declared.numbers.Fragment.{Fragment}
 use Rattle.lrc_code.specs.Numbers.{same_stripe, same_fragment}
 use Rattle.lrc_code.specs.Codes.{fragments}
-use Rattle.lrc_code.proofs.NumbersLemmas.{equal_fragments}
+use Rattle.lrc_code.proofs.NumbersLemmas.{equal_stripes, equal_fragments}
 use Rattle.lrc_terms.proofs.CodeListLemmas.{code-fragments}
 use Rattle.lrc_rules.specs.declared.entry.Entry.{Entry}
 use Rattle.lrc_rules.specs.Leases.{is_grant, grants}
-use Rattle.lrc_rules.proofs.MemberLemmas.{Contains-cases, not-Contains-nil, AllPairs-head, AllPairs-tail}
+use Rattle.lrc_rules.proofs.MemberLemmas.{All-members, Contains-cases, not-Contains-nil, AllPairs-head, AllPairs-tail}
 use Rattle.lrc_rules.proofs.SeatingLemmas.{fragments-distinct}
 use Rattle.lrc_images.specs.declared.image.GrantRow.{GrantRow}
 use Rattle.lrc_images.specs.Images.{some_grant, row_grants, earlier}
@@ -124,6 +124,37 @@ module _ (s : StripeNo) (f : Fragment) where
             (All-tail (λ (r : GrantRow). get_or r.granted f.value 0 ≤ m) r rs few) in
             omega (arith, sum, first, rest)
       ]
+
+  -- if no row is of the stripe
+  pub none-granted : (rows : List GrantRow) → ((r : GrantRow) → Contains rows r → r.stripe ≢ s) → grants (earlier rows) s f ≡ 0
+  none-granted rows none =
+      grants-earlier rows
+      ∙ none-counted rows (All-members (λ (r : GrantRow). same_stripe r.stripe s ≡ false) rows
+      (λ r here. ne_eqb r.stripe.value s.value (λ e. none r here (equal_stripes r.stripe s e))))
+
+-- if the rows rise, the count of a row is the number of grants of its fragment
+counted-one : (rows : List GrantRow) (r : GrantRow) (f : Fragment) → IsRising grant_first rows → Contains rows r → sum_by (counted r.stripe f) rows ≡ get_or r.granted f.value 0
+counted-one [] r f rising here = absurd (not-Contains-nil r here)
+counted-one (q ∷ qs) r f rising here =
+    let sum = sum_by-cons (counted r.stripe f) q qs in
+    let later = AllPairs-head (λ (a b : GrantRow). grant_first a b ≡ true) q qs rising in
+    elim (Contains-cases q r qs here) [
+      | inl same ↦
+          let own : counted r.stripe f q ≡ get_or r.granted f.value 0 = ap (counted r.stripe f) same ∙ rw (eq-eqb r.stripe.value r.stripe.value refl) refl in
+          let rest = none-counted r.stripe f qs (All-weaker (λ (p : GrantRow). grant_first q p ≡ true) (λ p. same_stripe p.stripe r.stripe ≡ false)
+          (λ p behind. ne_eqb p.stripe.value r.stripe.value (λ e.
+          let less = ltb-true q.stripe.value p.stripe.value behind in
+          let at : q.stripe.value ≡ r.stripe.value = ap (λ (p : GrantRow). p.stripe.value) same in omega (arith, less, at, e))) qs later) in
+          omega (arith, sum, own, rest)
+      | inr more ↦
+          let less = ltb-true q.stripe.value r.stripe.value (All-contains (λ (p : GrantRow). grant_first q p ≡ true) qs r later more) in
+          let own : counted r.stripe f q ≡ 0 = rw (ne_eqb q.stripe.value r.stripe.value (λ e. omega (arith, less, e))) refl in
+          let rest = counted-one qs r f (AllPairs-tail (λ (a b : GrantRow). grant_first a b ≡ true) q qs rising) more in
+          omega (arith, sum, own, rest)
+    ]
+
+pub row-granted : (rows : List GrantRow) (r : GrantRow) (f : Fragment) → IsRising grant_first rows → Contains rows r → grants (earlier rows) r.stripe f ≡ get_or r.granted f.value 0
+row-granted rows r f rising here = grants-earlier r.stripe f rows ∙ counted-one rows r f rising here
 
 -- a count of a row is no more than the grants of its fragment
 pub counted-most : (rows : List GrantRow) (r : GrantRow) (f : Fragment) → Contains rows r → get_or r.granted f.value 0 ≤ grants (earlier rows) r.stripe f

@@ -1,6 +1,6 @@
 -- What it says of an image that no row is wrong, row by row.
-use Rattle.std.proofs.Common.{[], ◌≡◌, ◌≢◌, ◌+◌, ◌<◌, ◌≤◌, ℕ, Bool, true, false, not, ◌&&◌, nat_lt, nat_le, nat_eq, List, ◌∷◌, length, get_or, Option, Some, None, option_map, IfSome, IsSome, IsTrue, is_none, refl, sym, ap, ◌∙◌, subst, arith}
-use Rattle.std.specs.List.{All, AllPairs, Contains, list_any}
+use Rattle.std.proofs.Common.{[], ◌≡◌, ◌≢◌, ◌+◌, ◌<◌, ◌≤◌, ℕ, Bool, true, false, not, ◌&&◌, nat_lt, nat_le, nat_eq, List, length, get_or, Option, Some, None, option_map, IfSome, IsSome, IsTrue, is_none, refl, sym, ap, ◌∙◌, subst, arith}
+use Rattle.std.specs.List.{All, AllPairs, list_any}
 use Rattle.std.specs.Option.{option_map_or}
 use Rattle.std.proofs.lemmas.Bool.{ltb-true, ltb-false, leb-true, eqb-false, and_parts, and_from}
 use Rattle.std.proofs.lemmas.List.Elements.{All-contains}
@@ -13,15 +13,13 @@ use Rattle.lrc_code.specs.Codes.{fragments}
 use Rattle.lrc_topology.specs.declared.NodeInfo.{NodeInfo}
 use Rattle.lrc_topology.specs.Nodes.{node_at, has_domain}
 use Rattle.lrc_rules.specs.declared.mode.Mode.TheVariants.{Gone}
-use Rattle.lrc_rules.specs.States.{has_stripe, has_number, held_by, mode_of, is_gone, is_draining}
+use Rattle.lrc_rules.specs.States.{has_stripe, has_number, held_by, mode_of, is_gone}
 use Rattle.lrc_rules.specs.Leases.{grants, term}
 use Rattle.lrc_rules.specs.Tidiness.{AreOfStore}
 use Rattle.lrc_rules.proofs.MemberLemmas.{All-members, All-list_any}
 use Rattle.lrc_rules.proofs.NodeWordsLemmas.{flips-false, gone-there}
-use Rattle.lrc_images.specs.declared.cause.Cause.{Cause}
 use Rattle.lrc_images.specs.declared.cause.Cause.TheVariants as cause
 use Rattle.lrc_images.specs.declared.image.NodeRow.{NodeRow}
-use Rattle.lrc_images.specs.declared.image.StripeRow.{StripeRow}
 use Rattle.lrc_images.specs.declared.image.GrantRow.{GrantRow}
 use Rattle.lrc_images.specs.declared.image.LeaseRow.{LeaseRow}
 use Rattle.lrc_images.specs.declared.image.Image.{Image}

@@ -4,3 +4,4 @@ pub mod SeatCauseLemmas
 pub mod RisingLemmas
 pub mod LawfulLemmas
 pub mod SeatedRowsLemmas
+pub mod TakenLemmas

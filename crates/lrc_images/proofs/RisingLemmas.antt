@@ -1,8 +1,8 @@
 -- Images whose rows rise: no stripe is there twice, and each fragment has at most one home and one lease.
-use Rattle.std.proofs.Common.{[], ◌≡◌, ◌≢◌, ◌<◌, ℕ, inl, inr, Bool, true, false, if◌then◌else◌, nat_lt, List, ◌∷◌, ◌++◌, map, filter, flat_map, get_or, Option, Some, None, refl, sym, ap, ◌∙◌, subst, arith}
+use Rattle.std.proofs.Common.{[], ◌≡◌, ◌≢◌, inl, inr, Bool, true, false, if◌then◌else◌, nat_lt, List, ◌∷◌, map, filter, flat_map, get_or, Option, Some, None, refl, sym, ap, ◌∙◌, subst, arith}
 use Rattle.std.specs.List.{All, AllPairs, Contains, list_any}
-use Rattle.std.proofs.lemmas.Bool.{cases_Bool, eqb-true, eq-eqb, ne_eqb, ltb-true, or_cases, and_parts, false_from_ne_true}
-use Rattle.std.proofs.lemmas.List.Elements.{All-contains, All-weaker}
+use Rattle.std.proofs.lemmas.Bool.{cases_Bool, eqb-true, eq-eqb, ltb-true, or_cases, and_parts, false_from_ne_true}
+use Rattle.std.proofs.lemmas.List.Elements.{All-contains}
 use Rattle.lrc_code.specs.declared.codes.Code.{Code}
 use Rattle.lrc_code.specs.declared.codes.Code.TheVariants.{Wide, Narrow}
 use Rattle.lrc_code.specs.declared.numbers.StripeNo.{StripeNo}
@@ -10,7 +10,7 @@ use Rattle.lrc_code.specs.declared.numbers.NodeNo.{NodeNo}
 use Rattle.lrc_code.specs.declared.numbers.Fragment.{Fragment}
 use Rattle.lrc_code.specs.Numbers.{same_stripe, same_node}
 use Rattle.lrc_code.specs.Codes.{fragments}
-use Rattle.lrc_code.proofs.NumbersLemmas.{equal_stripes, equal_nodes}
+use Rattle.lrc_code.proofs.NumbersLemmas.{equal_nodes}
 use Rattle.lrc_topology.specs.declared.seat.Seat.{Seat}
 use Rattle.lrc_topology.specs.declared.seat.Held.{Held}
 use Rattle.lrc_terms.specs.declared.lease.Lease.{Lease}
@@ -25,7 +25,7 @@ use Rattle.lrc_rules.proofs.TakenLemmas.{member-map}
 use Rattle.lrc_rules.proofs.PairLemmas.{pairs-join}
 use Rattle.lrc_rules.proofs.SeatingLists.{pairs-map}
 use Rattle.lrc_rules.proofs.SeatingLemmas.{fragments-distinct}
-use Rattle.lrc_rules.proofs.AlikeListLemmas.{flat-member, member-flat}
+use Rattle.lrc_rules.proofs.AlikeListLemmas.{flat-member}
 use Rattle.lrc_images.specs.declared.image.NodeRow.{NodeRow}
 use Rattle.lrc_images.specs.declared.image.StripeRow.{StripeRow}
 use Rattle.lrc_images.specs.declared.image.LeaseRow.{LeaseRow}

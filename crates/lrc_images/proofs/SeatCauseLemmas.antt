@@ -1,5 +1,5 @@
 -- A seat has no cause exactly if it may be held: the test and the words agree.
-use Rattle.std.proofs.Common.{◌≡◌, ◌≢◌, ◌<◌, nat_lt, Bool, true, false, not, List, map, Option, Some, None, IfSome, IsSomeAnd, refl, sym, ap, ◌∙◌, subst}
+use Rattle.std.proofs.Common.{◌≡◌, ◌≢◌, ◌<◌, nat_lt, true, false, not, List, Option, Some, None, IfSome, IsSomeAnd, refl, sym, ◌∙◌, subst}
 use Rattle.std.specs.List.{All, Contains, list_any}
 use Rattle.std.proofs.lemmas.Bool.{ltb-true, lt-ltb, false_from_ne_true, not_from_true}
 use Rattle.std.proofs.lemmas.List.Elements.{All-contains, All-weaker}

@@ -1,6 +1,6 @@
 -- If no row of an image is wrong, the seats of its state are in order, and a book can begin in its world.
-use Rattle.std.proofs.Common.{[], ◌≡◌, ◌≢◌, ◌+◌, ◌<◌, ◌≤◌, Bool, true, false, not, List, ◌∷◌, ◌++◌, map, filter, flat_map, Some, None, IsTrue, refl, sym, ap, ap₂, ◌∙◌, subst, append_assoc, append-nil, arith}
-use Rattle.std.specs.List.{All, AllPairs, Contains, list_any}
+use Rattle.std.proofs.Common.{[], ◌≡◌, ◌≢◌, ◌+◌, ◌<◌, ◌≤◌, true, false, List, ◌∷◌, ◌++◌, map, filter, flat_map, None, refl, sym, ap, ap₂, ◌∙◌, subst, append_assoc, append-nil, arith}
+use Rattle.std.specs.List.{All, AllPairs, Contains}
 use Rattle.std.proofs.lemmas.Bool.{ne_eqb}
 use Rattle.std.proofs.lemmas.List.{map-append}
 use Rattle.std.proofs.lemmas.List.Concat.{flat_map-append}
@@ -8,19 +8,16 @@ use Rattle.std.proofs.lemmas.List.Elements.{All-nil, All-head, All-tail, All-wea
 use Rattle.lrc_code.specs.declared.codes.Code.{Code}
 use Rattle.lrc_code.specs.declared.codes.Code.TheVariants.{Wide, Narrow}
 use Rattle.lrc_code.specs.declared.numbers.StripeNo.{StripeNo}
-use Rattle.lrc_code.specs.declared.numbers.Fragment.{Fragment}
 use Rattle.lrc_code.proofs.NumbersLemmas.{equal_stripes}
 use Rattle.lrc_topology.specs.declared.NodeInfo.{NodeInfo}
 use Rattle.lrc_topology.specs.declared.seat.Held.{Held}
 use Rattle.lrc_topology.specs.Nodes.{AreNodes}
 use Rattle.lrc_terms.specs.declared.lease.Lease.{Lease}
 use Rattle.lrc_rules.specs.declared.entry.Entry.{Entry}
-use Rattle.lrc_rules.specs.declared.mode.Mode.TheVariants.{Gone}
-use Rattle.lrc_rules.specs.States.{State, has_stripe, lease_of, held_by, is_gone, is_draining}
+use Rattle.lrc_rules.specs.States.{State, has_stripe, held_by, is_gone, is_draining}
 use Rattle.lrc_rules.specs.Leases.{grants, term}
 use Rattle.lrc_rules.specs.Steps.{is_other, with_code, with_stripe}
-use Rattle.lrc_rules.specs.Goodness.{IsStanding, AreSeated, IsGood}
-use Rattle.lrc_rules.specs.Tidiness.{IsTidy}
+use Rattle.lrc_rules.specs.Goodness.{IsStanding, AreSeated}
 use Rattle.lrc_rules.proofs.MemberLemmas.{All-members, filter-member, map-member}
 use Rattle.lrc_rules.proofs.TakenLemmas.{member-map}
 use Rattle.lrc_rules.proofs.PairLemmas.{pairs-left}
@@ -29,7 +26,6 @@ use Rattle.lrc_rules.proofs.StateLemmas.{stripe-absent, lease-none}
 use Rattle.lrc_rules.proofs.SeatingLemmas.{IsWithin, inserted-seated, leased-seated}
 use Rattle.lrc_rules.proofs.SeatedLemmas.{stripe-seated}
 use Rattle.lrc_images.specs.declared.cause.Cause.TheVariants as cause
-use Rattle.lrc_images.specs.declared.image.NodeRow.{NodeRow}
 use Rattle.lrc_images.specs.declared.image.StripeRow.{StripeRow}
 use Rattle.lrc_images.specs.declared.image.LeaseRow.{LeaseRow}
 use Rattle.lrc_images.specs.declared.image.Image.{Image}
