@@ -43,10 +43,10 @@ module _ (w v : State) (alike : AreAlike w v) where
   pub alike-code : code_of w ≡ code_of v
   alike-code = fun_ext (λ s. ap (λ (b : Bool). if b then Narrow else Wide) (same-any (same_stripe s) w.narrow v.narrow alike.narrow))
 
-  alike-gone : (n : NodeNo) → has_number w.gone n ≡ has_number v.gone n
+  pub alike-gone : (n : NodeNo) → has_number w.gone n ≡ has_number v.gone n
   alike-gone n = same-any (same_node n) w.gone v.gone alike.gone
 
-  alike-draining : (n : NodeNo) → has_number w.draining n ≡ has_number v.draining n
+  pub alike-draining : (n : NodeNo) → has_number w.draining n ≡ has_number v.draining n
   alike-draining n = same-any (same_node n) w.draining v.draining alike.draining
 
   pub alike-mode : (n : NodeNo) → mode_of w n ≡ mode_of v n

@@ -63,3 +63,4 @@ pub mod AlikeReplyLemmas
 pub mod AlikeChangeLemmas
 pub mod AlikeWorldLemmas
 pub mod TidyLemmas
+pub mod AlikeGoodLemmas

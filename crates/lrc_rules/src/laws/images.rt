@@ -9,9 +9,9 @@ ghost use Rattle.lrc_rules.specs.declared.command.Command.{Command};
 ghost use Rattle.lrc_rules.specs.declared.entry.Entry.{Entry};
 ghost use Rattle.lrc_rules.specs.States.{State};
 ghost use Rattle.lrc_rules.specs.Histories.{World, outcome_in, world_from, state_from, state_after, IsLegalFrom};
-ghost use Rattle.lrc_rules.specs.Goodness.{AreSeated};
+ghost use Rattle.lrc_rules.specs.Goodness.{AreSeated, IsGood};
 ghost use Rattle.lrc_rules.specs.Tidiness.{IsTidy};
-ghost use Rattle.lrc_rules.specs.Alike.{AreAlike};
+ghost use Rattle.lrc_rules.specs.Alike.{AreAlike, AreDistinct};
 ghost use Rattle.lrc_rules.specs.Futures.{HaveSameGrants, ShowTheSame};
 
 /// Two states that are alike, and that meet `AreSeated`, show the same to every read.
@@ -19,6 +19,18 @@ pub fn alike_states_show_the_same()
     ensures { (nodes : List NodeInfo) (st other : State)
         → AreSeated nodes st → AreSeated nodes other → AreAlike st other
         → ShowTheSame nodes st other }
+{}
+
+/// A state that is alike one that meets `AreSeated`, and that lists nothing twice, meets it too. If
+/// as many leases were granted, it is as good, and if the other is tidy, so is it.
+pub fn alike_states_are_as_good()
+    ensures seated { (nodes : List NodeInfo) (st other : State)
+        → AreAlike st other → AreDistinct other → AreSeated nodes st → AreSeated nodes other }
+    ensures good { (nodes : List NodeInfo) (w v : World)
+        → AreAlike w.state v.state → HaveSameGrants w.past v.past → AreDistinct v.state
+        → IsGood nodes w.past w.state → IsGood nodes v.past v.state }
+    ensures tidy { (nodes : List NodeInfo) (st other : State)
+        → AreAlike st other → IsTidy nodes st → IsTidy nodes other }
 {}
 
 /// Two worlds have one future if their states are alike and meet `AreSeated`, and if their entries
