@@ -5,3 +5,4 @@ pub mod RisingLemmas
 pub mod LawfulLemmas
 pub mod SeatedRowsLemmas
 pub mod TakenLemmas
+pub mod ImageLemmas

@@ -1,6 +1,7 @@
 //! Laws of images: what rising rows say, and which images are worlds that a book can begin in.
 
-ghost use Rattle.std.specs.Prelude.{◌≡◌, ◌≢◌, ◌≤◌, IsTrue, IsFalse, AllPairs, Contains, List, get_or, None};
+ghost use Rattle.std.specs.Prelude.{◌≡◌, ◌≢◌, ◌≤◌, IsTrue, IsFalse, AllPairs, Contains};
+ghost use Rattle.std.specs.Prelude.{List, get_or, None};
 ghost use Rattle.lrc_code.specs.declared.numbers.StripeNo.{StripeNo};
 ghost use Rattle.lrc_code.specs.declared.numbers.NodeNo.{NodeNo};
 ghost use Rattle.lrc_code.specs.declared.numbers.Fragment.{Fragment};
@@ -9,7 +10,9 @@ ghost use Rattle.lrc_topology.specs.Nodes.{AreNodes};
 ghost use Rattle.lrc_terms.specs.Leased.{AreOneEach};
 ghost use Rattle.lrc_rules.specs.States.{has_number};
 ghost use Rattle.lrc_rules.specs.Leases.{grants};
-ghost use Rattle.lrc_rules.specs.Alike.{AreDistinct};
+ghost use Rattle.lrc_rules.specs.Histories.{World};
+ghost use Rattle.lrc_rules.specs.Alike.{AreAlike, AreDistinct};
+ghost use Rattle.lrc_rules.specs.Futures.{HaveSameGrants};
 ghost use Rattle.lrc_images.specs.declared.image.GrantRow.{GrantRow};
 ghost use Rattle.lrc_images.specs.declared.image.Image.{Image};
 ghost use Rattle.lrc_images.specs.Images.{image_state, image_world};
@@ -56,4 +59,18 @@ pub fn bases_are_taken()
     ensures { (nodes : List NodeInfo) (i : Image)
         → AreRising i → IsBase nodes (image_world i) → i.before ≤ most_entries
         → first_cause nodes i ≡ None }
+{}
+
+/// A book can begin in the world of an image of any world that a book can begin in: the rows of the
+/// image rise, its state is alike, and as many leases of each fragment were granted. If the image
+/// says no more than the largest number of entries, no row of it is wrong.
+pub fn images_of_bases_are_bases()
+    ensures base { (nodes : List NodeInfo) (w : World) (i : Image)
+        → IsBase nodes w → AreRising i
+        → AreAlike w.state (image_state i) → HaveSameGrants w.past (image_world i).past
+        → IsBase nodes (image_world i) }
+    ensures taken { (nodes : List NodeInfo) (w : World) (i : Image)
+        → IsBase nodes w → AreRising i
+        → AreAlike w.state (image_state i) → HaveSameGrants w.past (image_world i).past
+        → i.before ≤ most_entries → first_cause nodes i ≡ None }
 {}
