@@ -79,7 +79,7 @@ module _ (st : State) (apart : NoneBoth st) where
     changed-both _ Idle told = apart
     changed-both _ _ told = apart
 
-    step-apart : (c : Command) → NoneBoth (step nodes past st session c).1
+    pub step-apart : (c : Command) → NoneBoth (step nodes past st session c).1
     step-apart c = subst NoneBoth (sym (step-changed nodes past st session c)) (changed-both c (step nodes past st session c).0 refl)
 
 worlds-apart : (nodes : List NodeInfo) (w : World) (history : List Entry) → NoneBoth w.state → NoneBoth (fold (next_world nodes) w history).state

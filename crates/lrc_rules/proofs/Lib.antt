@@ -56,3 +56,11 @@ pub mod TermLemmas
 pub mod LookUpLemmas
 pub mod ModeListLemmas
 pub mod ServedLemmas
+pub mod AlikeListLemmas
+pub mod AlikeReadLemmas
+pub mod AlikeChoiceLemmas
+pub mod AlikeReplyLemmas
+pub mod AlikeChangeLemmas
+pub mod AlikeWorldLemmas
+pub mod TidyLemmas
+pub mod AlikeGoodLemmas

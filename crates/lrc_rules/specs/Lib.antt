@@ -24,6 +24,9 @@ pub mod Sessions
 -- the rules in words, for the laws
 pub mod Choices
 pub mod Goodness
+pub mod Tidiness
+pub mod Alike
+pub mod Futures
 pub mod Granting
 pub mod Upgrading
 pub mod Reporting

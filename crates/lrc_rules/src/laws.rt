@@ -2,6 +2,7 @@
 
 pub mod boards;
 pub mod histories;
+pub mod images;
 pub mod leases;
 pub mod nodes;
 pub mod placing;

@@ -1,0 +1,8 @@
+pub mod EarlierLemmas
+pub mod AnswerLemmas
+pub mod SeatCauseLemmas
+pub mod RisingLemmas
+pub mod LawfulLemmas
+pub mod SeatedRowsLemmas
+pub mod TakenLemmas
+pub mod ImageLemmas

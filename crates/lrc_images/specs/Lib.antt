@@ -1,0 +1,4 @@
+pub mod Images
+pub mod Rising
+pub mod Causes
+pub mod Bases
