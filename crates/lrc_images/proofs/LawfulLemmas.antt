@@ -12,8 +12,9 @@ use Rattle.lrc_code.specs.declared.numbers.Fragment.{Fragment}
 use Rattle.lrc_code.specs.Codes.{fragments}
 use Rattle.lrc_topology.specs.declared.NodeInfo.{NodeInfo}
 use Rattle.lrc_topology.specs.Nodes.{node_at, has_domain}
-use Rattle.lrc_rules.specs.declared.mode.Mode.TheVariants.{Gone}
-use Rattle.lrc_rules.specs.States.{has_stripe, has_number, held_by, mode_of, is_gone}
+use Rattle.lrc_terms.specs.declared.mode.Mode.TheVariants.{Gone}
+use Rattle.lrc_rules.specs.States.{has_stripe, has_number, held_by, mode_of}
+use Rattle.lrc_terms.specs.Modes.{is_gone}
 use Rattle.lrc_rules.specs.Leases.{grants, term}
 use Rattle.lrc_rules.specs.Tidiness.{AreOfStore}
 use Rattle.lrc_rules.proofs.MemberLemmas.{All-members, All-list_any}

@@ -16,9 +16,10 @@ use Rattle.lrc_topology.specs.declared.seat.Held.{Held}
 use Rattle.lrc_terms.specs.declared.lease.Lease.{Lease}
 use Rattle.lrc_terms.specs.Leased.{AreOneEach}
 use Rattle.lrc_rules.specs.declared.entry.Entry.{Entry}
-use Rattle.lrc_rules.specs.declared.mode.Mode.{Mode}
-use Rattle.lrc_rules.specs.declared.mode.Mode.TheVariants.{Active, Draining, Gone}
-use Rattle.lrc_rules.specs.States.{State, code_of, has_number, is_gone, is_draining}
+use Rattle.lrc_terms.specs.declared.mode.Mode.{Mode}
+use Rattle.lrc_terms.specs.declared.mode.Mode.TheVariants.{Active, Draining, Gone}
+use Rattle.lrc_rules.specs.States.{State, code_of, has_number}
+use Rattle.lrc_terms.specs.Modes.{is_gone, is_draining}
 use Rattle.lrc_rules.specs.Alike.{AreDistinct}
 use Rattle.lrc_rules.proofs.MemberLemmas.{All-members, AllPairs-head, AllPairs-tail, Contains-cases, not-Contains-nil, filter-member, member-filter, list_any-member, member-list_any, map-member}
 use Rattle.lrc_rules.proofs.TakenLemmas.{member-map}

@@ -8,8 +8,9 @@ use Rattle.lrc_topology.specs.declared.NodeInfo.{NodeInfo}
 use Rattle.lrc_topology.specs.declared.seat.Held.{Held}
 use Rattle.lrc_topology.specs.Nodes.{node_at}
 use Rattle.lrc_topology.specs.Seats.{is_taken}
-use Rattle.lrc_rules.specs.declared.mode.Mode.TheVariants.{Gone}
-use Rattle.lrc_rules.specs.States.{State, code_of, seats_of, taken_seats, mode_of, is_gone}
+use Rattle.lrc_terms.specs.declared.mode.Mode.TheVariants.{Gone}
+use Rattle.lrc_rules.specs.States.{State, code_of, seats_of, taken_seats, mode_of}
+use Rattle.lrc_terms.specs.Modes.{is_gone}
 use Rattle.lrc_rules.specs.Placement.{bars}
 use Rattle.lrc_rules.specs.Choices.{AreApart, IsApartFrom}
 use Rattle.lrc_rules.specs.Goodness.{IsStanding, KeepApart}

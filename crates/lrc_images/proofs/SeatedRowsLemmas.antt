@@ -14,7 +14,8 @@ use Rattle.lrc_topology.specs.declared.seat.Held.{Held}
 use Rattle.lrc_topology.specs.Nodes.{AreNodes}
 use Rattle.lrc_terms.specs.declared.lease.Lease.{Lease}
 use Rattle.lrc_rules.specs.declared.entry.Entry.{Entry}
-use Rattle.lrc_rules.specs.States.{State, has_stripe, held_by, is_gone, is_draining}
+use Rattle.lrc_rules.specs.States.{State, has_stripe, held_by}
+use Rattle.lrc_terms.specs.Modes.{is_gone, is_draining}
 use Rattle.lrc_rules.specs.Leases.{grants, term}
 use Rattle.lrc_rules.specs.Steps.{is_other, with_code, with_stripe}
 use Rattle.lrc_rules.specs.Goodness.{IsStanding, AreSeated}

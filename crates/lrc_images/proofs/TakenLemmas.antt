@@ -17,9 +17,10 @@ use Rattle.lrc_topology.specs.declared.seat.Held.{Held}
 use Rattle.lrc_topology.specs.Nodes.{node_at, has_domain}
 use Rattle.lrc_terms.specs.declared.lease.Lease.{Lease}
 use Rattle.lrc_rules.specs.declared.entry.Entry.{Entry}
-use Rattle.lrc_rules.specs.declared.mode.Mode.{Mode}
-use Rattle.lrc_rules.specs.declared.mode.Mode.TheVariants.{Active, Draining, Gone}
-use Rattle.lrc_rules.specs.States.{State, has_stripe, code_of, held_by, seats_of, has_number, mode_of, is_gone, is_draining}
+use Rattle.lrc_terms.specs.declared.mode.Mode.{Mode}
+use Rattle.lrc_terms.specs.declared.mode.Mode.TheVariants.{Active, Draining, Gone}
+use Rattle.lrc_rules.specs.States.{State, has_stripe, code_of, held_by, seats_of, has_number, mode_of}
+use Rattle.lrc_terms.specs.Modes.{is_gone, is_draining}
 use Rattle.lrc_rules.specs.Choices.{AreApart}
 use Rattle.lrc_rules.specs.Leases.{grants, term}
 use Rattle.lrc_rules.specs.Goodness.{IsStanding, KeepApart, AreSeated}

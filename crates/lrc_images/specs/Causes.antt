@@ -9,7 +9,8 @@ use Rattle.lrc_topology.specs.declared.NodeInfo.{NodeInfo}
 use Rattle.lrc_topology.specs.declared.seat.Held.{Held}
 use Rattle.lrc_topology.specs.Nodes.{node_at, has_domain}
 use Rattle.lrc_topology.specs.Seats.{is_taken}
-use Rattle.lrc_rules.specs.States.{State, has_stripe, code_of, held_by, seats_of, taken_seats, mode_of, is_gone}
+use Rattle.lrc_rules.specs.States.{State, has_stripe, code_of, held_by, seats_of, taken_seats, mode_of}
+use Rattle.lrc_terms.specs.Modes.{is_gone}
 use Rattle.lrc_rules.specs.Placement.{bars}
 use Rattle.lrc_rules.specs.Leases.{grants, term}
 use Rattle.lrc_images.specs.declared.cause.Cause.{Cause}

@@ -14,7 +14,8 @@ use Rattle.lrc_rules.specs.declared.command.Command.TheVariants.{Lease}
 use Rattle.lrc_rules.specs.declared.reply.Reply.TheVariants.{Granted}
 use Rattle.lrc_rules.specs.declared.kind.Kind.TheVariants.{Global}
 use Rattle.lrc_rules.specs.declared.entry.Entry.{Entry}
-use Rattle.lrc_rules.specs.States.{State, is_draining, is_gone}
+use Rattle.lrc_rules.specs.States.{State}
+use Rattle.lrc_terms.specs.Modes.{is_draining, is_gone}
 use Rattle.lrc_rules.specs.Leases.{grants}
 use Rattle.lrc_rules.specs.Histories.{World}
 use Rattle.lrc_images.specs.declared.image.NodeRow.{NodeRow}

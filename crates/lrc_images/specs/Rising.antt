@@ -4,7 +4,7 @@ use Rattle.std.specs.List.{list_any}
 use Rattle.lrc_code.specs.declared.codes.Code.TheVariants.{Wide}
 use Rattle.lrc_code.specs.Codes.{fragments}
 use Rattle.lrc_terms.specs.Stripes.{comes_before}
-use Rattle.lrc_rules.specs.States.{is_active}
+use Rattle.lrc_terms.specs.Modes.{is_active}
 use Rattle.lrc_images.specs.declared.image.NodeRow.{NodeRow}
 use Rattle.lrc_images.specs.declared.image.StripeRow.{StripeRow}
 use Rattle.lrc_images.specs.declared.image.GrantRow.{GrantRow}

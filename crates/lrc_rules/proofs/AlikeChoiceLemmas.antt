@@ -19,7 +19,8 @@ use Rattle.lrc_topology.specs.declared.seat.Held.{Held}
 use Rattle.lrc_topology.specs.Nodes.{AreNodes, node_at}
 use Rattle.lrc_topology.specs.Seats.{is_taken, first_slot, is_lighter, is_preferred}
 use Rattle.lrc_terms.specs.Stripes.{StripeFragment}
-use Rattle.lrc_rules.specs.States.{State, code_of, seats_of, taken_seats, is_active, is_eligible, rank}
+use Rattle.lrc_rules.specs.States.{State, code_of, seats_of, taken_seats, is_eligible, rank}
+use Rattle.lrc_terms.specs.Modes.{is_active}
 use Rattle.lrc_rules.specs.Placement.{clashes, is_beside, bars, fits, chosen, with_home}
 use Rattle.lrc_rules.specs.Choices.{AreChosen, IsFirstWithout}
 use Rattle.lrc_rules.specs.Urgency.{is_grantable, all_fragments, is_repaired_before, next_of}

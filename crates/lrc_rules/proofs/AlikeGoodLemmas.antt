@@ -13,8 +13,8 @@ use Rattle.lrc_topology.specs.declared.seat.Held.{Held}
 use Rattle.lrc_topology.specs.Nodes.{node_at, has_domain}
 use Rattle.lrc_terms.specs.declared.lease.Lease.{Lease}
 use Rattle.lrc_rules.specs.declared.entry.Entry.{Entry}
-use Rattle.lrc_rules.specs.declared.mode.Mode.{Mode}
-use Rattle.lrc_rules.specs.declared.mode.Mode.TheVariants.{Gone}
+use Rattle.lrc_terms.specs.declared.mode.Mode.{Mode}
+use Rattle.lrc_terms.specs.declared.mode.Mode.TheVariants.{Gone}
 use Rattle.lrc_rules.specs.States.{State, code_of, held_by, seats_of, taken_seats, mode_of}
 use Rattle.lrc_rules.specs.Choices.{AreApart}
 use Rattle.lrc_rules.specs.Leases.{grants, term}

@@ -24,7 +24,8 @@ use Rattle.lrc_terms.specs.Leased.{LeaseMap, AreOneEach, leases_in}
 use Rattle.lrc_terms.specs.Levels.{home_of, homes_of, homeless_in, missing_in, needs_in, level_by, level_if, missing_if, rank_by, comes_first, is_whole}
 use Rattle.lrc_terms.proofs.LeaseLemmas.{same_answers, leases_in-own, leases_in-contains, contains-leases_in}
 use Rattle.lrc_rules.specs.declared.kind.Kind.TheVariants.{Move, Global}
-use Rattle.lrc_rules.specs.States.{State, has_stripe, code_of, held_by, seats_of, taken_seats, load, lease_of, has_number, mode_of, is_down, is_draining, is_online, online_at, drains_at, missing, level, rank, code_shown, homes_shown, load_shown, level_shown, missing_shown, mode_shown}
+use Rattle.lrc_rules.specs.States.{State, has_stripe, code_of, held_by, seats_of, taken_seats, load, lease_of, has_number, mode_of, is_down, is_online, online_at, drains_at, missing, level, rank, code_shown, homes_shown, load_shown, level_shown, missing_shown, mode_shown}
+use Rattle.lrc_terms.specs.Modes.{is_draining}
 use Rattle.lrc_rules.specs.Repairs.{needs, is_at_home, is_safe, local_kind, kind, is_global, is_beyond_repair}
 use Rattle.lrc_rules.specs.Urgency.{by_rank, has_work, work, risk}
 use Rattle.lrc_rules.specs.Alike.{HaveSame, AreAlike}

@@ -23,8 +23,9 @@ use Rattle.lrc_rules.specs.declared.reply.Reply.TheVariants.{Granted, Ended, Tic
 use Rattle.lrc_rules.specs.declared.refusal.Refusal.{Refusal}
 use Rattle.lrc_rules.specs.declared.refusal.Refusal.TheVariants as refusal
 use Rattle.lrc_rules.specs.declared.entry.Entry.{Entry}
-use Rattle.lrc_rules.specs.declared.mode.Mode.{Mode}
-use Rattle.lrc_rules.specs.States.{State, has_stripe, lease_of, online_at, is_active, is_draining, is_gone, load}
+use Rattle.lrc_terms.specs.declared.mode.Mode.{Mode}
+use Rattle.lrc_rules.specs.States.{State, has_stripe, lease_of, online_at, load}
+use Rattle.lrc_terms.specs.Modes.{is_active, is_draining, is_gone}
 use Rattle.lrc_rules.specs.Placement.{chosen, placed}
 use Rattle.lrc_rules.specs.Repairs.{needs, is_beyond_repair}
 use Rattle.lrc_rules.specs.Urgency.{next_of}
