@@ -1,5 +1,5 @@
 -- What is kept at first is that of the opening state.
-use Rattle.std.proofs.Common.{[], ◌≡◌, Bool, true, false, Option, Some, None, is_some, refl, ap, ◌∙◌}
+use Rattle.std.proofs.Common.{[], ◌≡◌, Bool, true, Option, Some, None, refl, ap, ◌∙◌}
 use Rattle.std.proofs.Math.Path.{fun_ext}
 use Rattle.std.specs.Option.{option_map_or}
 use Rattle.lrc_code.specs.declared.numbers.NodeNo.{NodeNo}
@@ -12,8 +12,7 @@ use Rattle.lrc_stripes.specs.Tables.{stored_in}
 use Rattle.lrc_terms.specs.Leased as leased
 use Rattle.lrc_leases.specs.Tables.{leased_in}
 use Rattle.lrc_book.specs.declared.store.Store.{Store}
-use Rattle.lrc_terms.specs.Modes.{is_draining}
-use Rattle.lrc_rules.specs.States.{opening, mode_of, takes_seats, is_online, online_at, drains_at}
+use Rattle.lrc_rules.specs.States.{opening, takes_seats}
 use Rattle.lrc_book.specs.Stores.{IsOf}
 use Rattle.lrc_rules.proofs.StepSeatedLemmas.{opening-seated}
 use Rattle.lrc_book.proofs.StoredLemmas.{own-spare}

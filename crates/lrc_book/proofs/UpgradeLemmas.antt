@@ -1,8 +1,7 @@
 -- The commands on upgrade domains: what their replies tell, and which stripe an upgrade would lose.
 use Rattle.std.proofs.Common.{◌≡◌, ℕ, arith, Bool, true, false, not, ◌&&◌, nat_lt, eqb, List, filter, Option, Some, None, IsFalse, refl, sym, ap, ap₂, ◌∙◌, inl, inr}
-use Rattle.std.proofs.Math.Path.{fun_ext}
 use Rattle.std.specs.List.{Contains}
-use Rattle.std.specs.Option.{option_map_or, option_eq}
+use Rattle.std.specs.Option.{option_eq}
 use Rattle.std.proofs.lemmas.Bool.{cases_Bool, eq-eqb, and_parts, ltb-true, ltb-false}
 use Rattle.std.proofs.lemmas.List.MinMax.{IsStrictWeakOrder-by_number}
 use Rattle.lrc_code.specs.declared.numbers.StripeNo.{StripeNo}
@@ -13,14 +12,12 @@ use Rattle.lrc_code.specs.Losses.{is_recoverable}
 use Rattle.lrc_code.specs.Order.{HasNoTies, least}
 use Rattle.lrc_code.proofs.OrderLemmas.{least-listed, least-only}
 use Rattle.lrc_topology.specs.declared.NodeInfo.{NodeInfo}
-use Rattle.lrc_topology.specs.Nodes.{node_at, has_domain}
+use Rattle.lrc_topology.specs.Nodes.{has_domain}
 use Rattle.lrc_terms.specs.Levels.{homes_of, missing_in}
 use Rattle.lrc_stripes.specs.Stored.{Stored}
 use Rattle.lrc_stripes.specs.Upgrades.{IsFirstLostTo}
 use Rattle.lrc_rules.specs.declared.reply.Reply.TheVariants.{Changed, Refused}
-use Rattle.lrc_terms.specs.Modes.{is_gone}
-use Rattle.lrc_rules.specs.States.{State, has_stripe, code_of, mode_of, is_down, is_online, online_at}
-use Rattle.lrc_rules.specs.Repairs.{is_safe}
+use Rattle.lrc_rules.specs.States.{State, has_stripe, code_of}
 use Rattle.lrc_rules.specs.Outcomes.{Outcome}
 use Rattle.lrc_rules.specs.Steps.{with_upgrading, is_lost_to, would_lose, upgrade_answer, upgrade_outcome, is_the_domain, upgraded_outcome}
 use Rattle.lrc_book.proofs.DomainLemmas.{domain-out}

@@ -20,8 +20,8 @@ use std::alloc::Global;
 /// The number of stripes and leases that memory is reserved for at once, so that it is seldom reserved.
 const MORE: u32 = 16;
 
-/// The state of a book: the taken slots, the homes of fragments, the live leases, the modes of nodes, and the
-/// clock.
+/// The state of a book: the taken slots; the nodes with their states and the homes of fragments; the live leases; the
+/// upgrade domain that is upgrading; and the clock.
 #[derive(Drop)]
 pub(crate) struct Store {
     pub(crate) topology: Topology,
@@ -33,7 +33,7 @@ pub(crate) struct Store {
 }
 
 impl Store {
-    /// No stripes, and every node active and online.
+    /// No stripes, every node active and not down, and no domain upgrading.
     pub(crate) fn new(alloc: Global, topology: Topology) -> Result<Store, Fault>
         ensures value { IfOk result (λ s. (s.topology ≡ topology) × IsOf opening s) }
         ensures err { IfErr result (λ e. e ≡ fault.OutOfMemory) }

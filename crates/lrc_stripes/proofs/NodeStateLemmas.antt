@@ -17,7 +17,7 @@ use Rattle.lrc_topology.specs.Nodes.{node_at}
 use Rattle.lrc_nodes.specs.declared.node_state.NodeState.{NodeState}
 use Rattle.lrc_stripes.specs.Stored.{has_node}
 use Rattle.lrc_ranks.specs.Sets.{has}
-use Rattle.lrc_stripes.specs.NodeStates.{AreNodes, NodeStates, NodeLists, states_in, first_states, IsPositionOf}
+use Rattle.lrc_stripes.specs.NodeStates.{NodeStates, NodeLists, states_in, first_states, IsPositionOf}
 use Rattle.lrc_nodes.specs.States.{first_state, is_node_online, is_node_offline, is_node_draining, infos_in, state_at, node_position, online_in, draining_in}
 use Rattle.lrc_stripes.proofs.NodeLemmas.{on-changed, online-at_first, draining-at_first, sets-none}
 use Rattle.lrc_nodes.proofs.StateLemmas.{no_state, place_number, state_at-place, state_at-past, node_at-states, nodes-at_first}

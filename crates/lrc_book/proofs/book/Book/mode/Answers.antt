@@ -1,6 +1,5 @@
-use Rattle.std.proofs.Common.{List, Option, Some, option_map, sym, ap, ap₂, ◌∙◌}
+use Rattle.std.proofs.Common.{List, Some, option_map, sym, ap, ◌∙◌}
 use Rattle.lrc_topology.specs.declared.NodeInfo.{NodeInfo}
-use Rattle.lrc_terms.specs.declared.mode.Mode.{Mode}
 use Rattle.lrc_nodes.specs.States.{state_at, online_in}
 use Rattle.lrc_stripes.specs.Stored.{Stored}
 use Rattle.lrc_rules.specs.States.{mode_shown}

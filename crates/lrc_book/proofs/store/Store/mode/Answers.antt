@@ -1,5 +1,4 @@
-use Rattle.std.proofs.Common.{Option, Some, option_map, sym, ap, ◌∙◌}
-use Rattle.lrc_terms.specs.declared.mode.Mode.{Mode}
+use Rattle.std.proofs.Common.{option_map, ap, ◌∙◌}
 use Rattle.lrc_nodes.specs.States.{state_at}
 use Rattle.lrc_stripes.specs.Stored.{Stored}
 use Rattle.lrc_book.proofs.NodeStateLemmas.{mode-known}

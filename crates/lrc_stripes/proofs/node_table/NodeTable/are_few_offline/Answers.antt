@@ -1,7 +1,6 @@
 use Rattle.std.proofs.Common.{is_none, true, ◌+◌, ◌≡◌, map, Bool, sym, ap, ◌∙◌, arith}
 use Rattle.lrc_code.specs.declared.numbers.StripeNo.{StripeNo}
 use Rattle.lrc_nodes.specs.States.{is_node_offline}
-use Rattle.lrc_nodes.specs.declared.node_state.NodeState.{NodeState}
 use Rattle.lrc_stripes.proofs.MaskLemmas.{is_none-answer}
 use Rattle.lrc_stripes.proofs.ShortLemmas.{few-on_several, few-bits, none-found}
 use Rattle.lrc_stripes.proofs.node_table.NodeTable.are_few_offline.Goals as goal

@@ -1,6 +1,5 @@
 use Rattle.std.proofs.Common.{map}
 use Rattle.lrc_nodes.specs.States.{is_node_offline}
-use Rattle.lrc_nodes.specs.declared.node_state.NodeState.{NodeState}
 use Rattle.lrc_stripes.proofs.ClearLemmas.{clear-online, clear-so_far}
 use Rattle.lrc_stripes.proofs.node_table.NodeTable.is_clear_of_few.Goals as goal
 

@@ -1,6 +1,5 @@
 use Rattle.std.proofs.Common.{◌≡◌, ℕ, ◌<◌, true, false, [], map, get_or}
 use Rattle.lrc_nodes.specs.States.{is_node_offline}
-use Rattle.lrc_nodes.specs.declared.node_state.NodeState.{NodeState}
 use Rattle.lrc_ranks.specs.Sets.{has}
 use Rattle.lrc_stripes.proofs.node_table.NodeTable.is_clear_of_few.Given as goal
 

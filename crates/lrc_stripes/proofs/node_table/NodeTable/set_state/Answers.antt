@@ -1,4 +1,4 @@
-use Rattle.std.proofs.Common.{◌≡◌, List, sym, ap, subst, ◌∙◌}
+use Rattle.std.proofs.Common.{List, sym, ap, subst, ◌∙◌}
 use Rattle.lrc_nodes.specs.declared.node_state.NodeState.{NodeState}
 use Rattle.lrc_nodes.specs.States.{with_state}
 use Rattle.lrc_nodes.proofs.SetLemmas.{same-state}

@@ -1,7 +1,6 @@
-use Rattle.std.proofs.Common.{◌<◌, List, Bool, if◌then◌else◌, length, take, arith, ap, subst}
+use Rattle.std.proofs.Common.{◌<◌, List, if◌then◌else◌, length, take, arith, subst}
 use Rattle.std.specs.List.{list_any}
 use Rattle.std.proofs.lemmas.List.{take_all}
-use Rattle.lrc_code.specs.declared.numbers.NodeNo.{NodeNo}
 use Rattle.lrc_topology.specs.declared.NodeInfo.{NodeInfo}
 use Rattle.lrc_nodes.proofs.SetLemmas.{is_of_domain}
 use Rattle.lrc_nodes.proofs.StateLemmas.{no_state}

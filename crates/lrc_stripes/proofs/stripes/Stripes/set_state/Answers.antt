@@ -1,4 +1,4 @@
-use Rattle.std.proofs.Common.{◌≡◌, IsSome, IsTrue, if◌then◌else◌, refl, ap, subst, sym}
+use Rattle.std.proofs.Common.{IsSome, IsTrue, if◌then◌else◌, refl, ap, subst, sym}
 use Rattle.lrc_code.specs.Numbers.{same_node}
 use Rattle.lrc_nodes.specs.States.{state_at, with_state}
 use Rattle.lrc_nodes.proofs.SetLemmas.{same-state}
