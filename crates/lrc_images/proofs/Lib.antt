@@ -6,3 +6,4 @@ pub mod LawfulLemmas
 pub mod SeatedRowsLemmas
 pub mod TakenLemmas
 pub mod ImageLemmas
+pub mod SameRowsLemmas

@@ -113,7 +113,7 @@ stripes-distinct rows rising =
 abbrev pub AreOneHome : Held → Held → Type 0
 AreOneHome h g = h.stripe ≡ g.stripe → h.fragment ≢ g.fragment
 
-home-own : (s : StripeNo) (f : Fragment) (o : Option Seat) (h : Held) → Contains (home_list s f o) h → (h.stripe ≡ s) × (h.fragment ≡ f)
+pub home-own : (s : StripeNo) (f : Fragment) (o : Option Seat) (h : Held) → Contains (home_list s f o) h → (h.stripe ≡ s) × (h.fragment ≡ f)
 home-own s f None h here = absurd (not-Contains-nil h here)
 home-own s f (Some seat) h here = elim (Contains-cases (record { stripe = s; fragment = f; seat = seat }) h [] here) [
   | inl same ↦ (ap (λ (g : Held). g.stripe) (sym same), ap (λ (g : Held). g.fragment) (sym same))
@@ -125,7 +125,7 @@ home-single R s f None = λ i j d below within. absurd (omega arith)
 home-single R s f (Some seat) = λ i j d below within. absurd (omega (arith, below, within))
 
 module _ (r : StripeRow) where
-  abbrev homes_at : Fragment → List Held
+  abbrev pub homes_at : Fragment → List Held
   homes_at f = home_list r.stripe f (get_or r.homes f.value None)
 
   -- each home of the row is of its stripe

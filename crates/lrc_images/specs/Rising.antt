@@ -1,5 +1,5 @@
 -- Images whose rows are in order.
-use Rattle.std.specs.Prelude.{Bool, not, ◌&&◌, nat_lt, List, All, AllPairs, get_or, IsTrue}
+use Rattle.std.specs.Prelude.{◌≡◌, Bool, not, ◌&&◌, nat_lt, List, length, All, AllPairs, get_or, IsTrue}
 use Rattle.std.specs.List.{list_any}
 use Rattle.lrc_code.specs.declared.codes.Code.TheVariants.{Wide}
 use Rattle.lrc_code.specs.Codes.{fragments}
@@ -48,3 +48,8 @@ pub record AreRising (i : Image) : Type 0 where
   pub leases : IsRising lease_first i.leases.items
   pub telling_nodes : All (λ r. IsTrue (tells_node r)) i.nodes.items
   pub telling_grants : All (λ r. IsTrue (tells_grants r)) i.grants.items
+
+-- each row of a stripe or of grants has a place for each of the sixteen fragments
+pub record HaveAllFragments (i : Image) : Type 0 where
+  pub homes : All (λ r. length r.homes ≡ 16) i.stripes.items
+  pub granted : All (λ r. length r.granted ≡ 16) i.grants.items

@@ -16,7 +16,7 @@ ghost use Rattle.lrc_rules.specs.Futures.{HaveSameGrants};
 ghost use Rattle.lrc_images.specs.declared.image.GrantRow.{GrantRow};
 ghost use Rattle.lrc_images.specs.declared.image.Image.{Image};
 ghost use Rattle.lrc_images.specs.Images.{image_state, image_world};
-ghost use Rattle.lrc_images.specs.Rising.{grant_first, IsRising, AreRising};
+ghost use Rattle.lrc_images.specs.Rising.{grant_first, IsRising, AreRising, HaveAllFragments};
 ghost use Rattle.lrc_images.specs.Causes.{most_entries, first_cause};
 ghost use Rattle.lrc_images.specs.Bases.{IsBase};
 
@@ -41,6 +41,25 @@ pub fn grants_are_those_of_the_rows()
     ensures none { (i : Image) (s : StripeNo) (f : Fragment)
         → ((r : GrantRow) → Contains i.grants.items r → r.stripe ≢ s)
         → grants (image_world i).past s f ≡ 0 }
+{}
+
+/// A state has one image: images whose rows rise, and have a place for each of the sixteen fragments,
+/// have the same rows if their states are alike and as many leases of each fragment were granted.
+pub fn alike_images_have_the_same_rows()
+    ensures nodes { (i j : Image)
+        → AreRising i → AreRising j → AreAlike (image_state i) (image_state j)
+        → i.nodes.items ≡ j.nodes.items }
+    ensures stripes { (i j : Image)
+        → AreRising i → AreRising j → AreAlike (image_state i) (image_state j)
+        → HaveAllFragments i → HaveAllFragments j → i.stripes.items ≡ j.stripes.items }
+    ensures grants { (i j : Image)
+        → AreRising i → AreRising j → AreAlike (image_state i) (image_state j)
+        → HaveAllFragments i → HaveAllFragments j
+        → HaveSameGrants (image_world i).past (image_world j).past
+        → i.grants.items ≡ j.grants.items }
+    ensures leases { (i j : Image)
+        → AreRising i → AreRising j → AreAlike (image_state i) (image_state j)
+        → i.leases.items ≡ j.leases.items }
 {}
 
 /// If no row of an image is wrong, its rows rise, and a book can begin in its world.

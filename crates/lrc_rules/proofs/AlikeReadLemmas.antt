@@ -91,13 +91,17 @@ lease-within xs ys within single s f l found =
     (subst (λ (r : StripeNo). leases_in ys r l.fragment.value ≡ Some l) own.0
     (contains-leases_in ys l single (within l (leases_in-contains xs s f l found))))
 
+-- lists with the same homes, at most one of each fragment
+pub same-homes : (xs ys : List Held) → HaveSame xs ys → AllPairs (λ h g. h.stripe ≡ g.stripe → h.fragment ≢ g.fragment) xs
+    → AllPairs (λ h g. h.stripe ≡ g.stripe → h.fragment ≢ g.fragment) ys → homes_of xs ≡ homes_of ys
+same-homes xs ys same single single' = fun_ext (λ s. fun_ext (λ f. ap (option_map (λ (h : Held). h.seat)) (same_answers (home_of xs s f) (home_of ys s f)
+    (home-within xs ys (into xs ys same) single' s f) (home-within ys xs (back xs ys same) single s f))))
+
 -- ---- what the two states show
 
 module _ (nodes : List NodeInfo) (w v : State) (alike : AreAlike w v) (seated : AreSeated nodes w) (seated' : AreSeated nodes v) where
   pub alike-homes : homes_of w.homes ≡ homes_of v.homes
-  alike-homes = fun_ext (λ s. fun_ext (λ f. ap (option_map (λ (h : Held). h.seat)) (same_answers (home_of w.homes s f) (home_of v.homes s f)
-      (home-within w.homes v.homes (into w.homes v.homes alike.homes) seated'.one_home s f)
-      (home-within v.homes w.homes (back w.homes v.homes alike.homes) seated.one_home s f))))
+  alike-homes = same-homes w.homes v.homes alike.homes seated.one_home seated'.one_home
 
   pub alike-leases : leases_in w.leases ≡ leases_in v.leases
   alike-leases = fun_ext (λ s. fun_ext (λ f. same_answers (leases_in w.leases s f) (leases_in v.leases s f)
