@@ -106,6 +106,12 @@ place-found states n =
 pub state-found : (states : List NodeState) (n : NodeNo) (p : ℕ) (d : NodeState) → IsPlaceOf states n (Some p) → state_at states n ≡ Some (get_or states p d)
 state-found states n p d at = state_at-place states n d (omega (arith, at.0, at.1)) ∙ ap (λ (q : ℕ). Some (get_or states q d)) (sym at.0)
 
+-- the node at the position of a number
+pub placed-state : (states : List NodeState) (n : NodeNo) (p : ℕ) → place_in (numbers_in states) n ≡ Some p → (p < length states) × (state_at states n ≡ Some (get_or states p no_state))
+placed-state states n p place =
+    let at = subst (λ (o : Option ℕ). IsPlaceOf states n o) place (place-found states n) in
+    (at.1, state-found states n p no_state at)
+
 -- ---- a node by its own number
 
 -- the node at a position is the one of its number

@@ -8,7 +8,7 @@ ghost use Rattle.lrc_nodes.specs.Kept.{mode_by};
 ghost use Rattle.lrc_nodes.specs.declared.node_state.NodeState.{NodeState as AnyState};
 ghost use Rattle.lrc_nodes.specs.States.{first_state, is_node_offline, is_node_draining, numbers_in, state_at, down_in, online_in, draining_in, with_state, with_upgrading_in};
 
-use crate::domains;
+use crate::{NodeState, domains};
 use lrc_bits::BitSet;
 use lrc_code::{Fault, NodeNo, UpgradeNo};
 use lrc_terms::Mode;
@@ -76,6 +76,24 @@ impl Nodes {
         ensures { result ≡ length self.now }
     {
         self.list.len()
+    }
+
+    /// Returns the node at a position in the list, with its state.
+    pub fn at(&self, position: usize) -> NodeState
+        requires { position < length self.now }
+        ensures { (d : AnyState) → result ≡ get_or self.now position d }
+    {
+        let node = self.list[position];
+        let is_gone = self.gone.contains(position);
+        let is_draining = self.draining.contains(position);
+        let is_down = self.down.contains(position);
+        let is_upgrading = self.upgrading.contains(position);
+        NodeState {
+            node,
+            mode: mode_by(is_gone, is_draining),
+            is_down,
+            is_upgrading,
+        }
     }
 
     /// Returns the node at a position in the list.
@@ -163,9 +181,7 @@ impl Nodes {
         ensures { result ≡ option_map (λ x. x.mode) (state_at self.now number) }
     {
         let position = self.position(number)?;
-        let is_gone = self.gone.contains(position);
-        let is_draining = self.draining.contains(position);
-        Some(mode_by(is_gone, is_draining))
+        Some(self.at(position).mode)
     }
 
     /// Reports whether the node with a number is down; `false` if there is none.
@@ -173,7 +189,7 @@ impl Nodes {
         ensures { result ≡ down_in self.now number }
     {
         match self.position(number) {
-            Some(position) => self.down.contains(position),
+            Some(position) => self.at(position).is_down,
             None => false,
         }
     }
