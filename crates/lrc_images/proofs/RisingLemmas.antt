@@ -54,7 +54,7 @@ module _ {X : Type 0} (first : X → X → Bool) where
       ]
 
 -- pairs of lists that are appended
-pub pairs-flat : {X Y : Type 0} (R : Y → Y → Type 0) (S : X → X → Type 0) (f : X → List Y) → ((x : X) → AllPairs R (f x))
+pairs-flat : {X Y : Type 0} (R : Y → Y → Type 0) (S : X → X → Type 0) (f : X → List Y) → ((x : X) → AllPairs R (f x))
     → ((x z : X) (y u : Y) → S x z → Contains (f x) y → Contains (f z) u → R y u) → (xs : List X) → AllPairs S xs → AllPairs R (flat_map f xs)
 pairs-flat R S f own across [] pairs = λ i j d below within. absurd (omega arith)
 pairs-flat R S f own across (x ∷ xs) pairs =
@@ -104,7 +104,7 @@ other-stripe a b first same =
     let less = ltb-true a.stripe.value b.stripe.value first in
     let number : a.stripe.value ≡ b.stripe.value = ap (λ (s : StripeNo). s.value) same in omega (arith, less, number)
 
-pub stripes-distinct : (rows : List StripeRow) → IsRising stripe_first rows → AllPairs (λ s t. s ≢ t) (map (λ r. r.stripe) rows)
+stripes-distinct : (rows : List StripeRow) → IsRising stripe_first rows → AllPairs (λ s t. s ≢ t) (map (λ r. r.stripe) rows)
 stripes-distinct rows rising =
     pairs-map (λ s t. s ≢ t) (λ (r : StripeRow). r.stripe) rows
     (pairs-weaker (λ a b. stripe_first a b ≡ true) (λ (a b : StripeRow). a.stripe ≢ b.stripe) other-stripe rows rising)

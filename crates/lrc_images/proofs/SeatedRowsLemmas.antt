@@ -49,7 +49,7 @@ homes_in rows = flat_map row_homes rows
 abbrev narrow_in : List StripeRow → List StripeNo
 narrow_in rows = map (λ r. r.stripe) (filter (λ r. is_narrow r.code) rows)
 
-pub homes-more : (before : List StripeRow) (r : StripeRow) → homes_in (before ++ r ∷ []) ≡ homes_in before ++ row_homes r
+homes-more : (before : List StripeRow) (r : StripeRow) → homes_in (before ++ r ∷ []) ≡ homes_in before ++ row_homes r
 homes-more before r = flat_map-append row_homes before (r ∷ []) ∙ ap (λ (hs : List Held). homes_in before ++ hs) (append-nil (row_homes r))
 
 keep-all : (s : StripeNo) (xs : List StripeNo) → All (λ t. t ≢ s) xs → filter (is_other s) xs ≡ xs
@@ -160,7 +160,7 @@ module _ (nodes : List NodeInfo) (known : AreNodes nodes) (i : Image) (lawful : 
       subst (λ (ls : List Lease). AreSeated nodes (record (image_state i) { leases = ls })) (sym (map-append (row_lease past) before (r ∷ [])))
       (leased-seated nodes st seated l (seat-may nodes st (held_by l) row.seat (stripe-there (image_state i) r.stripe row.there)) unleased)
 
-  pub lawful-seated : AreSeated nodes (image_state i)
+  lawful-seated : AreSeated nodes (image_state i)
   lawful-seated =
       clear-walk (lease_cause nodes i) i.leases.items (λ rows. AreSeated nodes (with_leases i rows)) lease-step [] i.leases.items refl
       stripes-seated lawful.lease_rows

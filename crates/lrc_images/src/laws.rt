@@ -43,7 +43,7 @@ pub fn grants_are_those_of_the_rows()
         → grants (image_world i).past s f ≡ 0 }
 {}
 
-/// A state has one image: images whose rows rise, and have a place for each of the sixteen fragments,
+/// A state has one image. Images whose rows rise, with a place for each of the sixteen fragments,
 /// have the same rows if their states are alike and as many leases of each fragment were granted.
 pub fn alike_images_have_the_same_rows()
     ensures nodes { (i j : Image)

@@ -24,7 +24,7 @@ module _ {X : Type 0} where
   pub back : (xs ys : List X) → HaveSame xs ys → IsWithinList ys xs
   back xs ys same x = (same x).1
 
-  pub same-self : (xs : List X) → HaveSame xs xs
+  same-self : (xs : List X) → HaveSame xs xs
   same-self xs x = (λ here. here, λ here. here)
 
   -- ---- tests

@@ -115,13 +115,13 @@ module _ (nodes : List NodeInfo) (w v : State) (alike : AreAlike w v) (seated : 
   pub alike-load : load w ≡ load v
   alike-load = fun_ext (λ n. same-count (λ (seat : Seat). same_node seat.node n) (taken_seats w) (taken_seats v) (alike-taken w v alike) seated.single seated'.single)
 
-  pub alike-missing : missing nodes w ≡ missing nodes v
+  alike-missing : missing nodes w ≡ missing nodes v
   alike-missing =
       let code = alike-code w v alike in
       let online = alike-online_at w v alike nodes in
       let homes = alike-homes in λ i s. missing_in (code i s) (online i) (homes i s)
 
-  pub alike-level : level nodes w ≡ level nodes v
+  alike-level : level nodes w ≡ level nodes v
   alike-level =
       let code = alike-code w v alike in
       let missing = alike-missing in
