@@ -17,9 +17,10 @@ use Rattle.lrc_terms.specs.Levels.{Homes, homes_of}
 use Rattle.lrc_terms.specs.declared.lease.Lease.{Lease}
 use Rattle.lrc_terms.proofs.ListLemmas.{same_rising}
 use Rattle.lrc_terms.proofs.LeaseLemmas.{same_answers}
-use Rattle.lrc_rules.specs.declared.mode.Mode.{Mode}
-use Rattle.lrc_rules.specs.declared.mode.Mode.TheVariants.{Active, Draining, Gone}
-use Rattle.lrc_rules.specs.States.{State, code_of, has_number, is_gone, is_draining}
+use Rattle.lrc_terms.specs.declared.mode.Mode.{Mode}
+use Rattle.lrc_terms.specs.declared.mode.Mode.TheVariants.{Active, Draining, Gone}
+use Rattle.lrc_rules.specs.States.{State, code_of, has_number}
+use Rattle.lrc_terms.specs.Modes.{is_gone, is_draining}
 use Rattle.lrc_rules.specs.Leases.{grants}
 use Rattle.lrc_rules.specs.Alike.{HaveSame, AreAlike}
 use Rattle.lrc_rules.specs.Futures.{HaveSameGrants}
