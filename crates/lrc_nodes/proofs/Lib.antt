@@ -1,3 +1,4 @@
 pub mod StateLemmas
 pub mod SetLemmas
 mod KeptLemmas
+mod FirstLemmas

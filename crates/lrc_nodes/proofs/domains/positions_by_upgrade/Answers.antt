@@ -1,6 +1,6 @@
 use Rattle.lrc_nodes.specs.Kept.{AreDomains}
 use Rattle.std.proofs.Common.{List, Bool, sym, subst}
-use Rattle.lrc_nodes.proofs.KeptLemmas.{domains-none}
+use Rattle.lrc_nodes.proofs.FirstLemmas.{domains-none}
 use Rattle.lrc_nodes.proofs.domains.positions_by_upgrade.Goals as goal
 
 pub loop-position-init : goal.loop-position-init

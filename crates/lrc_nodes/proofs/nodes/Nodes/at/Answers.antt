@@ -1,4 +1,4 @@
-use Rattle.std.proofs.Common.{Bool, false, get_or, arith, ap, ap₂, ◌∙◌}
+use Rattle.std.proofs.Common.{Bool, false, get_or, arith, ap₂, ◌∙◌}
 use Rattle.lrc_topology.specs.declared.NodeInfo.{NodeInfo}
 use Rattle.lrc_terms.specs.declared.mode.Mode.{Mode}
 use Rattle.lrc_nodes.specs.declared.node_state.NodeState.{NodeState}

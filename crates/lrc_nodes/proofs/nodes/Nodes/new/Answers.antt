@@ -2,7 +2,7 @@ use Rattle.std.proofs.Common.{◌≤◌, ◌&&◌, false, get_or, ap, sym, subst
 use Rattle.lrc_topology.specs.declared.NodeInfo.{NodeInfo}
 use Rattle.lrc_topology.proofs.IndexLemmas.{numbers-apart}
 use Rattle.lrc_nodes.specs.States.{first_state}
-use Rattle.lrc_nodes.proofs.KeptLemmas.{states-at_first, positions-none, none-set}
+use Rattle.lrc_nodes.proofs.FirstLemmas.{states-at_first, positions-none, none-set}
 use Rattle.lrc_nodes.proofs.nodes.Nodes.new.Goals as goal
 
 pub positions_by_upgrade-requires : goal.positions_by_upgrade-requires
