@@ -1,26 +1,46 @@
 -- What contracts see of a book.
-use Rattle.std.specs.Prelude.{◌≡◌, ℕ, ◌<◌, Bool, List, length}
+use Rattle.std.specs.Prelude.{◌≡◌, ℕ, ◌<◌, Bool, List, length, Option, Some, None}
+use Rattle.std.specs.Global.{Box}
 use Rattle.lrc_code.specs.declared.fault.Fault.{Fault}
 use Rattle.lrc_code.specs.declared.fault.Fault.TheVariants.{OutOfMemory, HistoryFull}
 use Rattle.lrc_topology.specs.declared.NodeInfo.{NodeInfo}
 use Rattle.lrc_rules.specs.declared.entry.Entry.{Entry}
 use Rattle.lrc_rules.specs.States.{State}
-use Rattle.lrc_rules.specs.Histories.{World, outcome_in, world_after, state_after}
+use Rattle.lrc_rules.specs.Histories.{World, first_world, outcome_in, world_from, state_from}
+use Rattle.lrc_images.specs.declared.image.Image.{Image}
+use Rattle.lrc_images.specs.Images.{image_world}
 
--- a book over these nodes, with at most `limit` entries; `ready`: it has room for one more command of any kind
+-- a book over these nodes that began in the world `base`, with at most `limit` entries since; `before`: the number of
+-- entries of the store before `base`; `ready`: it has room for one more command of any kind
 pub record BookView : Type 0 where
   pub nodes : List NodeInfo
+  pub base : World
+  pub before : ℕ
   pub limit : ℕ
   pub history : List Entry
   pub ready : Bool
 
+-- ---- the world in which a book began
+
+-- the world of the image, or the first world where there is no image
+abbrev pub base_world : Option (Box Image) → World
+base_world None = first_world
+base_world (Some image) = image_world image.value
+
+-- the number of entries before it
+abbrev pub entries_before : Option (Box Image) → ℕ
+entries_before None = 0
+entries_before (Some image) = image.value.before
+
+-- ---- the history
+
 -- the world after the book's history
 abbrev pub world_of : BookView → World
-world_of b = world_after b.nodes b.history
+world_of b = world_from b.nodes b.base b.history
 
 -- the state after the book's history
 abbrev pub state_of : BookView → State
-state_of b = state_after b.nodes b.history
+state_of b = state_from b.nodes b.base b.history
 
 -- the history is full exactly where a call says so
 abbrev pub FaultFits : BookView → Fault → Type 0

@@ -1,6 +1,6 @@
 -- Internal: no public clause reaches these definitions.
 -- The repair that a lease would be granted for.
-use Rattle.std.specs.Prelude.{◌≡◌, ℕ, ◌≤◌, length, Bool, true, ◌&&◌, List, Option, Some, None, is_none, IfSome, IsTrue, IsFalse, Result, Ok, Err}
+use Rattle.std.specs.Prelude.{◌≡◌, ℕ, ◌<◌, ◌≤◌, ◌++◌, length, Bool, true, ◌&&◌, List, Option, Some, None, is_none, IfSome, IsTrue, IsFalse, Result, Ok, Err}
 use Rattle.std.specs.List.{Contains, AllPairs}
 use Rattle.lrc_code.specs.declared.numbers.StripeNo.{StripeNo}
 use Rattle.lrc_code.specs.declared.numbers.Fragment.{Fragment}
@@ -20,7 +20,9 @@ use Rattle.lrc_rules.specs.Urgency.{is_grantable}
 use Rattle.lrc_rules.specs.Granting.{IsGrantable}
 use Rattle.lrc_book.specs.Stores.{IsOf, AreGrantsOf, repair_of}
 use Rattle.lrc_rules.specs.declared.entry.Entry.{Entry}
-use Rattle.lrc_rules.specs.Histories.{state_after, IsLegal}
+use Rattle.lrc_rules.specs.Leases.{grants}
+use Rattle.lrc_rules.specs.Goodness.{IsGood}
+use Rattle.lrc_rules.specs.Histories.{World, state_from, IsLegalFrom}
 
 -- the fragment needs a lease, and has none
 abbrev pub is_waiting : List NodeInfo → State → StripeNo → Fragment → Bool
@@ -73,11 +75,20 @@ pub record IsRepair (nodes : List NodeInfo) (st : State) (r : Repair) : Type 0 w
 
 -- ---- a book
 
--- What a book keeps is the store of the state after its history, the counts of its grants, and a repair cursor; it is legal and not longer than the limit.
-pub record IsKept (store : Store) (counts : List ℕ) (cursor : Option StripeNo) (limit : ℕ) (history : List Entry) : Type 0 where
-  pub store_is : IsOf (state_after store.topology history) store
-  pub counted : AreGrantsOf history counts
-  pub cursor_is : IsRepairCursor store.topology (state_after store.topology history) cursor
-  pub legal : IsLegal store.topology history
+-- A book can begin in this world: it is good, and after 1,000,000 more entries the clock and each count of grants have
+-- not come to the end of their numbers.
+pub record IsBase (nodes : List NodeInfo) (base : World) : Type 0 where
+  pub good : IsGood nodes base.past base.state
+  pub counts : (s : StripeNo) (f : Fragment) → grants base.past s f < 4293967295
+  pub clock : base.state.clock < 4293967292
+
+-- What a book keeps is the store of the state after its history, the counts of the grants up to then, and a repair cursor. It began in a base;
+-- the history is legal and not longer than the limit.
+pub record IsKept (store : Store) (counts : List ℕ) (cursor : Option StripeNo) (limit : ℕ) (base : World) (history : List Entry) : Type 0 where
+  pub based : IsBase store.topology base
+  pub store_is : IsOf (state_from store.topology base history) store
+  pub counted : AreGrantsOf (base.past ++ history) counts
+  pub cursor_is : IsRepairCursor store.topology (state_from store.topology base history) cursor
+  pub legal : IsLegalFrom store.topology base history
   pub few : length history ≤ limit
   pub limited : limit ≤ 1000000
