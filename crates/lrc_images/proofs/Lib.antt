@@ -1,0 +1,6 @@
+pub mod RowLemmas
+pub mod SameLemmas
+pub mod EarlierLemmas
+pub mod AlikeLemmas
+pub mod ImageLemmas
+pub mod DistinctLemmas
