@@ -1,11 +1,14 @@
 -- What contracts see of a book.
-use Rattle.std.specs.Prelude.{◌≡◌, ℕ, ◌<◌, Bool, List, length, Option, Some, None}
+use Rattle.std.specs.Prelude.{◌≡◌, ℕ, ◌+◌, ◌<◌, ◌≤◌, ◌⊎◌, ◌++◌, Bool, List, length, Option, Some, None}
 use Rattle.std.specs.Global.{Box}
 use Rattle.lrc_code.specs.declared.fault.Fault.{Fault}
+use Rattle.lrc_code.specs.declared.numbers.StripeNo.{StripeNo}
+use Rattle.lrc_code.specs.declared.numbers.Fragment.{Fragment}
 use Rattle.lrc_code.specs.declared.fault.Fault.TheVariants.{OutOfMemory, HistoryFull}
 use Rattle.lrc_topology.specs.declared.NodeInfo.{NodeInfo}
 use Rattle.lrc_rules.specs.declared.entry.Entry.{Entry}
 use Rattle.lrc_rules.specs.States.{State}
+use Rattle.lrc_rules.specs.Leases.{grants}
 use Rattle.lrc_rules.specs.Histories.{World, first_world, outcome_in, world_from, state_from}
 use Rattle.lrc_images.specs.declared.image.Image.{Image}
 use Rattle.lrc_images.specs.Images.{image_world}
@@ -50,3 +53,11 @@ FaultFits b HistoryFull = length b.history ≡ b.limit
 -- the entry is the next one of the book: its reply is what the step answers to its command after the history
 abbrev pub IsStep : BookView → Entry → Type 0
 IsStep b e = (outcome_in b.nodes (world_of b) e.session e.command).0 ≡ e.reply
+
+-- no book can begin in the state: after 1,000,000 more entries a count of grants, the clock or the number of entries
+-- could come to the end of its numbers
+abbrev pub IsSpent : BookView → Type 0
+IsSpent b =
+    ((s : StripeNo) × (f : Fragment) × (4293967295 ≤ grants (b.base.past ++ b.history) s f))
+    ⊎ (4293967292 ≤ (state_of b).clock)
+    ⊎ (18446744073709551616 ≤ b.before + length b.history)

@@ -1,11 +1,13 @@
 -- Internal: no public clause reaches these definitions.
 -- The repair that a lease would be granted for.
-use Rattle.std.specs.Prelude.{◌≡◌, ℕ, ◌<◌, ◌≤◌, ◌++◌, length, Bool, true, ◌&&◌, List, Option, Some, None, is_none, IfSome, IsTrue, IsFalse, Result, Ok, Err}
+use Rattle.std.specs.Prelude.{◌≡◌, ℕ, ◌<◌, ◌≤◌, ◌++◌, length, Bool, true, false, ◌&&◌, List, Option, Some, None, is_none, IfSome, IsSome, IsTrue, IsFalse, Result, Ok, Err}
 use Rattle.std.specs.List.{Contains, AllPairs}
 use Rattle.lrc_code.specs.declared.numbers.StripeNo.{StripeNo}
 use Rattle.lrc_code.specs.declared.numbers.Fragment.{Fragment}
+use Rattle.lrc_code.specs.declared.numbers.NodeNo.{NodeNo}
 use Rattle.lrc_topology.specs.declared.NodeInfo.{NodeInfo}
 use Rattle.lrc_topology.specs.declared.seat.Seat.{Seat}
+use Rattle.lrc_topology.specs.Nodes.{node_at}
 use Rattle.lrc_terms.specs.Levels.{comes_first}
 use Rattle.lrc_terms.specs.Stripes.{StripeFragment}
 use Rattle.lrc_book.specs.declared.repair.Repair.{Repair}
@@ -13,7 +15,7 @@ use Rattle.lrc_book.specs.declared.store.Store.{Store}
 use Rattle.lrc_rules.specs.declared.kind.Kind.{Kind}
 use Rattle.lrc_rules.specs.declared.refusal.Refusal.{Refusal}
 use Rattle.lrc_rules.specs.declared.refusal.Refusal.TheVariants as refusal
-use Rattle.lrc_rules.specs.States.{State, has_stripe, lease_of, rank}
+use Rattle.lrc_rules.specs.States.{State, has_stripe, lease_of, rank, has_number}
 use Rattle.lrc_rules.specs.Placement.{chosen}
 use Rattle.lrc_rules.specs.Repairs.{needs}
 use Rattle.lrc_rules.specs.Urgency.{is_grantable}
@@ -22,6 +24,7 @@ use Rattle.lrc_book.specs.Stores.{IsOf, AreGrantsOf, repair_of}
 use Rattle.lrc_rules.specs.declared.entry.Entry.{Entry}
 use Rattle.lrc_rules.specs.Leases.{grants}
 use Rattle.lrc_rules.specs.Goodness.{IsGood}
+use Rattle.lrc_images.specs.Rows.{is_active_and_up}
 use Rattle.lrc_rules.specs.Histories.{World, state_from, IsLegalFrom}
 
 -- the fragment needs a lease, and has none
@@ -75,10 +78,13 @@ pub record IsRepair (nodes : List NodeInfo) (st : State) (r : Repair) : Type 0 w
 
 -- ---- a book
 
--- A book can begin in this world: it is good, and after 1,000,000 more entries the clock and each count of grants have
--- not come to the end of their numbers.
+-- A book can begin in this world: it is good, no node is both gone and draining, the nodes that are gone, draining or down
+-- are nodes of the store, and after 1,000,000 more entries the clock and each count of grants have not come to the end of
+-- their numbers.
 pub record IsBase (nodes : List NodeInfo) (base : World) : Type 0 where
   pub good : IsGood nodes base.past base.state
+  pub apart : (n : NodeNo) → has_number base.state.gone n ≡ true → has_number base.state.draining n ≡ false
+  pub known : (n : NodeNo) → is_active_and_up base.state n ≡ false → IsSome (node_at nodes n)
   pub counts : (s : StripeNo) (f : Fragment) → grants base.past s f < 4293967295
   pub clock : base.state.clock < 4293967292
 
