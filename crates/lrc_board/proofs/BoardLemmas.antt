@@ -3,7 +3,7 @@ use Rattle.std.proofs.Common.{◌≡◌, ℕ, List, length, map, ap, ◌∙◌}
 use Rattle.logbook.specs.Pages.{Book}
 use Rattle.lrc_topology.specs.declared.NodeInfo.{NodeInfo}
 use Rattle.lrc_rules.specs.States.{load}
-use Rattle.lrc_rules.specs.Histories.{IsLegal, state_after}
+use Rattle.lrc_rules.specs.Histories.{first_world, state_from, IsLegal, state_after}
 use Rattle.lrc_rules.specs.Boards.{Loads, loads_of}
 use Rattle.lrc_book.specs.Books.{BookView, state_of}
 use Rattle.lrc_board.specs.declared.line.Line.{Line}
@@ -22,15 +22,15 @@ board-whole book start nodes x is =
 
 pub board-renewed : (book : Book) (start : ℕ) (nodes : List NodeInfo) (last now : ChangedLevels) (shown spare : BoardView)
     (b : BookView) (count : ℕ) (lines : List Line)
-    → AreBoards book start nodes last shown spare → b.nodes ≡ nodes → b.history ≡ written start lines
+    → AreBoards book start nodes last shown spare → b.nodes ≡ nodes → b.history ≡ written start lines → b.base ≡ first_world
     → count ≡ length (written start lines) → IsLegal nodes (written start lines)
     → LevelsStay nodes now (state_after nodes (published start shown)) (state_after nodes (written start lines))
     → IsBoard book start nodes (renewed spare b last now count lines)
-board-renewed book start nodes last now shown spare b count lines are same written_is counted legal stay =
+board-renewed book start nodes last now shown spare b count lines are same written_is began counted legal stay =
     let first = state_after nodes (published start spare) in
     let second = state_after nodes (published start shown) in
     let third = state_after nodes (written start lines) in
-    let is : state_of b ≡ third = λ i. state_after (same i) (written_is i) in
+    let is : state_of b ≡ third = λ i. state_from (same i) (began i) (written_is i) in
     record {
       named = are.spare_is.named;
       count_is = counted;

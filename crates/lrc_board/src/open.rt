@@ -1,5 +1,6 @@
 ghost use Rattle.std.specs.Prelude.{◌≡◌, ◌≢◌, ◌≤◌, [], replicate, IfOk, IfErr};
 ghost use Rattle.lrc_topology.specs.Nodes.{AreNodes};
+ghost use Rattle.lrc_rules.specs.Histories.{first_world};
 ghost use Rattle.lrc_board.specs.declared.open_error.OpenError.TheVariants as error;
 ghost use Rattle.lrc_board.specs.Views.{empty_board};
 
@@ -75,9 +76,9 @@ fn writer_of<N: ViewNaming, R: Wait>(
     Ok(put_spare(rt, writer, second))
 }
 
-/// Makes the keeper of a book without entries.
+/// Makes the keeper of a book that began empty and has no entry.
 fn keeper_of<N: ViewNaming>(book: Book, log: NewLog, writer: BoardWriter<N>) -> Keeper<N>
-    requires book { (book.history ≡ []) × (book.nodes ≡ N.topology) × (book.limit ≡ N.limit) }
+    requires book { (book.history ≡ []) × (book.nodes ≡ N.topology) × (book.limit ≡ N.limit) × (book.base ≡ first_world) }
     requires log { (log.prefix.book ≡ N.log) × (log.permit.nib.key ≡ N.start) }
     requires shown { writer.desk.shown.value ≡ empty_board N.topology N.log }
     requires spare { writer.desk.spare.value ≡ empty_board N.topology N.log }
@@ -101,10 +102,10 @@ impl<N: ViewNaming> Keeper<N> {
         log: NewLog,
         readers: u8,
     ) -> Result<(Keeper<N>, Vec<Viewer<N>>), OpenError>
-        requires book { (book.history ≡ []) × (book.nodes ≡ N.topology) × (book.limit ≡ N.limit) }
+        requires book { (book.history ≡ []) × (book.nodes ≡ N.topology) × (book.limit ≡ N.limit) × (book.base ≡ first_world) }
         requires log { (log.prefix.book ≡ N.log) × (log.permit.nib.key ≡ N.start) }
         requires readers { (1 ≤ readers) × (readers ≤ 8) }
-        ensures book { IfOk result (λ r. (r.0.nodes ≡ book.nodes) × (r.0.limit ≡ book.limit) × (r.0.history ≡ []) × (r.0.ready ≡ book.ready)) }
+        ensures book { IfOk result (λ r. (r.0.nodes ≡ book.nodes) × (r.0.limit ≡ book.limit) × (r.0.history ≡ []) × (r.0.ready ≡ book.ready) × (r.0.base ≡ first_world)) }
         ensures viewers { IfOk result (λ r. r.1.items ≡ replicate readers []) }
         ensures err { IfErr result (λ e. e ≢ error.BadCount) }
     {

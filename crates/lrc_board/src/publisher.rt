@@ -1,5 +1,5 @@
 ghost use Rattle.std.specs.Prelude.{◌≡◌, [], length, None, Some};
-ghost use Rattle.lrc_rules.specs.Histories.{IsLegal, state_after};
+ghost use Rattle.lrc_rules.specs.Histories.{IsLegal, first_world, state_after};
 ghost use Rattle.lrc_board.specs.Lines.{written};
 ghost use Rattle.lrc_board.specs.Views.{IsBoard, empty_board};
 ghost use Rattle.lrc_board.specs.Refreshed.{LevelsStay, IsWhole, renewed};
@@ -93,7 +93,7 @@ impl<N: ViewNaming> Publisher<N> {
         prefix: &LogPrefix,
     )
         requires log { prefix.now.book ≡ N.log }
-        requires book { (book.now.nodes ≡ N.topology) × (book.now.history ≡ written N.start prefix.now.log) }
+        requires book { (book.now.nodes ≡ N.topology) × (book.now.history ≡ written N.start prefix.now.log) × (book.now.base ≡ first_world) }
         requires count { count ≡ length (written N.start prefix.now.log) }
         requires legal { IsLegal N.topology (written N.start prefix.now.log) }
         requires changed { LevelsStay N.topology changed (state_after N.topology self.old) (state_after N.topology (written N.start prefix.now.log)) }

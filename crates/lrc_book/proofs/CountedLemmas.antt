@@ -1,11 +1,12 @@
 -- The counters of grants, as entries are added.
 use Rattle.std.proofs.Common.{[], ◌≡◌, ℕ, ◌+◌, ◌<◌, ◌≤◌, cond, Bool, false, List, ◌∷◌, ◌++◌, length, Option, arith, sym, ap, ◌∙◌}
-use Rattle.std.proofs.lemmas.List.Sums.{count_by-le-length}
+use Rattle.std.proofs.lemmas.List.Sums.{count_by-le-length, sum_by-append}
 use Rattle.lrc_code.specs.declared.numbers.StripeNo.{StripeNo}
 use Rattle.lrc_code.specs.declared.numbers.Fragment.{Fragment}
 use Rattle.lrc_rules.specs.declared.entry.Entry.{Entry}
 use Rattle.lrc_book.specs.declared.store.Store.{Store}
 use Rattle.lrc_rules.specs.Leases.{is_grant, grants}
+use Rattle.lrc_rules.specs.Histories.{World}
 use Rattle.lrc_book.specs.Stores.{AreGrantsOf, AreFew}
 use Rattle.lrc_book.specs.Repairing.{IsKept}
 use Rattle.lrc_rules.proofs.LeaseCountLemmas.{grants-push}
@@ -14,12 +15,17 @@ use Rattle.lrc_rules.proofs.LeaseCountLemmas.{grants-push}
 pub grants-low : (past : List Entry) (s : StripeNo) (f : Fragment) → grants past s f ≤ length past
 grants-low past s f = count_by-le-length (λ (e : Entry). is_grant s f e.reply) past
 
-pub few-grants : (store : Store) (counts : List ℕ) (cursor : Option StripeNo) (limit : ℕ) (history : List Entry) → IsKept store counts cursor limit history
+-- the grants of two lists, one after the other
+pub grants-both : (past history : List Entry) (s : StripeNo) (f : Fragment) → grants (past ++ history) s f ≡ grants past s f + grants history s f
+grants-both past history s f = sum_by-append (λ (x : Entry). cond (is_grant s f x.reply) 1 0) past history
+
+pub few-grants : (store : Store) (counts : List ℕ) (cursor : Option StripeNo) (limit : ℕ) (base : World) (history : List Entry) → IsKept store counts cursor limit base history
     → length history < limit → AreFew counts
-few-grants store counts cursor limit history kept room = λ s f.
+few-grants store counts cursor limit base history kept room = λ s f.
     let low = grants-low history s f in
-    let same = kept.counted s f in
-    omega (arith, low, same, room, kept.limited)
+    let same = kept.counted s f ∙ grants-both base.past history s f in
+    let first = kept.based.counts s f in
+    omega (arith, low, same, first, room, kept.limited)
 
 grants-same : (past : List Entry) (e : Entry) (s : StripeNo) (f : Fragment) → is_grant s f e.reply ≡ false → grants (past ++ e ∷ []) s f ≡ grants past s f
 grants-same past e s f miss = let push = grants-push past e s f ∙ ap (λ (b : Bool). grants past s f + cond b 1 0) miss in omega (arith, push)

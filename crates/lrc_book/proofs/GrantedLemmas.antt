@@ -13,7 +13,7 @@ use Rattle.lrc_rules.specs.States.{State}
 use Rattle.lrc_rules.specs.Leases.{with_lease}
 use Rattle.lrc_rules.specs.Changes.{changed_by}
 use Rattle.lrc_rules.specs.Steps.{step}
-use Rattle.lrc_rules.specs.Histories.{outcome_in, world_after, state_after}
+use Rattle.lrc_rules.specs.Histories.{World, outcome_in, world_from, state_from}
 use Rattle.lrc_book.specs.Stores.{IsOf, IsGrant, AreGrantsOf}
 use Rattle.lrc_book.specs.Repairing.{IsRepairCursor, IsKept}
 use Rattle.lrc_rules.proofs.EarnedLemmas.{asked}
@@ -34,13 +34,13 @@ module _ (nodes : List NodeInfo) (past : List Entry) (st : State) (session : Ses
   ]
 
 -- a grant that is made and recorded keeps what is kept, where the new cursor is one of the state with the lease
-pub kept-granted : (k next : Store) (counts counts_next : List ℕ) (cursor cursor_next : Option StripeNo) (limit : ℕ) (h : List Entry) (e : Entry) (l : LeaseRecord) (kind : Kind)
-    → e.reply ≡ Granted l kind → IsKept k counts cursor limit h → length h < limit → (outcome_in k.topology (world_after k.topology h) e.session e.command).0 ≡ e.reply
-    → next.topology ≡ k.topology → IsOf (with_lease (state_after k.topology h) l) next → AreGrantsOf (h ++ e ∷ []) counts_next
-    → IsRepairCursor k.topology (with_lease (state_after k.topology h) l) cursor_next → IsKept next counts_next cursor_next limit (h ++ e ∷ [])
-kept-granted k next counts counts_next cursor cursor_next limit h e l kind reply kept room told same now counted ahead =
-    let w = world_after k.topology h in
+pub kept-granted : (k next : Store) (counts counts_next : List ℕ) (cursor cursor_next : Option StripeNo) (limit : ℕ) (base : World) (h : List Entry) (e : Entry) (l : LeaseRecord) (kind : Kind)
+    → e.reply ≡ Granted l kind → IsKept k counts cursor limit base h → length h < limit → (outcome_in k.topology (world_from k.topology base h) e.session e.command).0 ≡ e.reply
+    → next.topology ≡ k.topology → IsOf (with_lease (state_from k.topology base h) l) next → AreGrantsOf ((base.past ++ h) ++ e ∷ []) counts_next
+    → IsRepairCursor k.topology (with_lease (state_from k.topology base h) l) cursor_next → IsKept next counts_next cursor_next limit base (h ++ e ∷ [])
+kept-granted k next counts counts_next cursor cursor_next limit base h e l kind reply kept room told same now counted ahead =
+    let w = world_from k.topology base h in
     let change : changed_by w.state e.command e.reply ≡ with_lease w.state l =
     ap (changed_by w.state e.command) reply ∙ granted-change k.topology w.past w.state e.session e.command l kind (told ∙ reply) w.state in
-    kept_push k next counts counts_next cursor cursor_next limit h e kept room told same
+    kept_push k next counts counts_next cursor cursor_next limit base h e kept room told same
     (subst (λ (st : State). IsOf st next) (sym change) now) counted (subst (λ (st : State). IsRepairCursor k.topology st cursor_next) (sym change) ahead)

@@ -38,3 +38,6 @@ pub mod AheadLemmas
 pub mod GrantedLemmas
 pub mod SlotTableLemmas
 pub mod WorkLemmas
+pub mod AlikeKeptLemmas
+pub mod ForgetLemmas
+pub mod ImagedLemmas

@@ -1,65 +1,67 @@
 -- Worlds and legal histories, as entries are added.
-use Rattle.std.proofs.Common.{[], ◌≡◌, ℕ, ◌<◌, List, ◌∷◌, ◌++◌, length, fold, Option, sym, ap, subst, ◌∙◌, length-append, arith}
+use Rattle.std.proofs.Common.{[], ◌≡◌, ℕ, ◌<◌, List, ◌∷◌, ◌++◌, length, fold, Option, sym, ap, subst, ◌∙◌, length-append, append_assoc, arith}
 use Rattle.std.proofs.lemmas.List.Sums.{fold-append, count_by-le-length}
 use Rattle.lrc_code.specs.declared.numbers.StripeNo.{StripeNo}
 use Rattle.lrc_topology.specs.declared.NodeInfo.{NodeInfo}
 use Rattle.lrc_rules.specs.declared.entry.Entry.{Entry}
 use Rattle.lrc_rules.specs.States.{State}
-use Rattle.lrc_rules.specs.Histories.{World, first_world, outcome_in, next_world, world_after, state_after, IsLegalFrom, IsLegal}
-use Rattle.lrc_book.specs.Repairing.{IsRepairCursor, IsKept}
+use Rattle.lrc_rules.specs.Histories.{World, outcome_in, next_world, world_from, state_from, IsLegalFrom}
+use Rattle.lrc_book.specs.Repairing.{IsRepairCursor, IsBase, IsKept}
 use Rattle.lrc_book.specs.declared.store.Store.{Store}
 use Rattle.lrc_book.specs.Stores.{IsOf, AreGrantsOf}
 use Rattle.lrc_rules.specs.Changes.{changed_by}
 use Rattle.lrc_rules.proofs.StepLemmas.{step-changed}
 use Rattle.lrc_rules.specs.Leases.{is_tick}
-use Rattle.lrc_rules.proofs.ClockLemmas.{ticks-counted}
+use Rattle.lrc_rules.proofs.ClockLemmas.{worlds-clock}
 
-pub world_push : (nodes : List NodeInfo) (h : List Entry) (e : Entry) → world_after nodes (h ++ e ∷ []) ≡ next_world nodes (world_after nodes h) e
-world_push nodes h e = fold-append (next_world nodes) first_world h (e ∷ [])
+pub world_push : (nodes : List NodeInfo) (base : World) (h : List Entry) (e : Entry) → world_from nodes base (h ++ e ∷ []) ≡ next_world nodes (world_from nodes base h) e
+world_push nodes base h e = fold-append (next_world nodes) base h (e ∷ [])
 
 pub legal_append : (nodes : List NodeInfo) (w : World) (xs ys : List Entry) → IsLegalFrom nodes w xs → IsLegalFrom nodes (fold (next_world nodes) w xs) ys → IsLegalFrom nodes w (xs ++ ys)
 legal_append nodes w [] ys a b = b
 legal_append nodes w (x ∷ xs) ys a b = (a.0, legal_append nodes (next_world nodes w x) xs ys a.1 b)
 
-pub legal_push : (nodes : List NodeInfo) (h : List Entry) (e : Entry) → IsLegal nodes h → (outcome_in nodes (world_after nodes h) e.session e.command).0 ≡ e.reply → IsLegal nodes (h ++ e ∷ [])
-legal_push nodes h e legal is = legal_append nodes first_world h (e ∷ []) legal (is, tt)
+pub legal_push : (nodes : List NodeInfo) (base : World) (h : List Entry) (e : Entry) → IsLegalFrom nodes base h → (outcome_in nodes (world_from nodes base h) e.session e.command).0 ≡ e.reply → IsLegalFrom nodes base (h ++ e ∷ [])
+legal_push nodes base h e legal is = legal_append nodes base h (e ∷ []) legal (is, tt)
 
 -- the state after one more entry is what its command changed
-pub state_push : (nodes : List NodeInfo) (h : List Entry) (e : Entry) → (outcome_in nodes (world_after nodes h) e.session e.command).0 ≡ e.reply → state_after nodes (h ++ e ∷ []) ≡ changed_by (state_after nodes h) e.command e.reply
-state_push nodes h e is =
-    ap (λ (w : World). w.state) (world_push nodes h e) ∙ step-changed nodes (world_after nodes h).past (state_after nodes h) e.session e.command ∙ ap (changed_by (state_after nodes h) e.command) is
+pub state_push : (nodes : List NodeInfo) (base : World) (h : List Entry) (e : Entry) → (outcome_in nodes (world_from nodes base h) e.session e.command).0 ≡ e.reply → state_from nodes base (h ++ e ∷ []) ≡ changed_by (state_from nodes base h) e.command e.reply
+state_push nodes base h e is =
+    ap (λ (w : World). w.state) (world_push nodes base h e) ∙ step-changed nodes (world_from nodes base h).past (state_from nodes base h) e.session e.command ∙ ap (changed_by (state_from nodes base h) e.command) is
 
 -- a step that is made and recorded keeps what is kept
-pub kept_push : (k next : Store) (counts counts_next : List ℕ) (cursor cursor_next : Option StripeNo) (limit : ℕ) (h : List Entry) (e : Entry)
-    → IsKept k counts cursor limit h → length h < limit → (outcome_in k.topology (world_after k.topology h) e.session e.command).0 ≡ e.reply
-    → next.topology ≡ k.topology → IsOf (changed_by (state_after k.topology h) e.command e.reply) next → AreGrantsOf (h ++ e ∷ []) counts_next
-    → IsRepairCursor k.topology (changed_by (state_after k.topology h) e.command e.reply) cursor_next → IsKept next counts_next cursor_next limit (h ++ e ∷ [])
-kept_push k next counts counts_next cursor cursor_next limit h e kept room is same now counted ahead = record {
-  counted = counted;
+pub kept_push : (k next : Store) (counts counts_next : List ℕ) (cursor cursor_next : Option StripeNo) (limit : ℕ) (base : World) (h : List Entry) (e : Entry)
+    → IsKept k counts cursor limit base h → length h < limit → (outcome_in k.topology (world_from k.topology base h) e.session e.command).0 ≡ e.reply
+    → next.topology ≡ k.topology → IsOf (changed_by (state_from k.topology base h) e.command e.reply) next → AreGrantsOf ((base.past ++ h) ++ e ∷ []) counts_next
+    → IsRepairCursor k.topology (changed_by (state_from k.topology base h) e.command e.reply) cursor_next → IsKept next counts_next cursor_next limit base (h ++ e ∷ [])
+kept_push k next counts counts_next cursor cursor_next limit base h e kept room is same now counted ahead = record {
+  based = subst (λ ns. IsBase ns base) (sym same) kept.based;
+  counted = subst (λ past. AreGrantsOf past counts_next) (append_assoc base.past h (e ∷ [])) counted;
   cursor_is =
-      subst (λ ns. IsRepairCursor ns (state_after ns (h ++ e ∷ [])) cursor_next) (sym same)
-      (subst (λ (st : State). IsRepairCursor k.topology st cursor_next) (sym (state_push k.topology h e is)) ahead);
-  store_is = subst (λ ns. IsOf (state_after ns (h ++ e ∷ [])) next) (sym same) (subst (λ (st : State). IsOf st next) (sym (state_push k.topology h e is)) now);
-  legal = subst (λ ns. IsLegal ns (h ++ e ∷ [])) (sym same) (legal_push k.topology h e kept.legal is);
+      subst (λ ns. IsRepairCursor ns (state_from ns base (h ++ e ∷ [])) cursor_next) (sym same)
+      (subst (λ (st : State). IsRepairCursor k.topology st cursor_next) (sym (state_push k.topology base h e is)) ahead);
+  store_is = subst (λ ns. IsOf (state_from ns base (h ++ e ∷ [])) next) (sym same) (subst (λ (st : State). IsOf st next) (sym (state_push k.topology base h e is)) now);
+  legal = subst (λ ns. IsLegalFrom ns base (h ++ e ∷ [])) (sym same) (legal_push k.topology base h e kept.legal is);
   few = rw (length-append h (e ∷ [])) (omega (arith, room));
   limited = kept.limited;
 }
 
 -- and so does more room
-pub kept_room : (k next : Store) (counts : List ℕ) (cursor : Option StripeNo) (limit : ℕ) (h same_h : List Entry) → IsKept k counts cursor limit h
-    → same_h ≡ h → next.topology ≡ k.topology → ((st : State) → IsOf st k → IsOf st next) → IsKept next counts cursor limit same_h
-kept_room k next counts cursor limit h same_h kept entries same rest =
-    subst (λ (xs : List Entry). IsKept next counts cursor limit xs) (sym entries) (record {
-      cursor_is = subst (λ ns. IsRepairCursor ns (state_after ns h) cursor) (sym same) kept.cursor_is;
-      store_is = subst (λ ns. IsOf (state_after ns h) next) (sym same) (rest (state_after k.topology h) kept.store_is);
+pub kept_room : (k next : Store) (counts : List ℕ) (cursor : Option StripeNo) (limit : ℕ) (base : World) (h same_h : List Entry) → IsKept k counts cursor limit base h
+    → same_h ≡ h → next.topology ≡ k.topology → ((st : State) → IsOf st k → IsOf st next) → IsKept next counts cursor limit base same_h
+kept_room k next counts cursor limit base h same_h kept entries same rest =
+    subst (λ (xs : List Entry). IsKept next counts cursor limit base xs) (sym entries) (record {
+      based = subst (λ ns. IsBase ns base) (sym same) kept.based;
+      cursor_is = subst (λ ns. IsRepairCursor ns (state_from ns base h) cursor) (sym same) kept.cursor_is;
+      store_is = subst (λ ns. IsOf (state_from ns base h) next) (sym same) (rest (state_from k.topology base h) kept.store_is);
       counted = kept.counted;
-      legal = subst (λ ns. IsLegal ns h) (sym same) kept.legal;
+      legal = subst (λ ns. IsLegalFrom ns base h) (sym same) kept.legal;
       few = kept.few;
       limited = kept.limited;
     })
 
 -- the clock of a book with room can still be moved on
-pub clock-early : (store : Store) (counts : List ℕ) (cursor : Option StripeNo) (limit : ℕ) (h : List Entry) → IsKept store counts cursor limit h
+pub clock-early : (store : Store) (counts : List ℕ) (cursor : Option StripeNo) (limit : ℕ) (base : World) (h : List Entry) → IsKept store counts cursor limit base h
     → length h < limit → store.clock.value < 4294967292
-clock-early store counts cursor limit h kept room =
-    omega (arith, kept.store_is.clock_is, ticks-counted store.topology h, count_by-le-length (λ (e : Entry). is_tick e.command) h, room, kept.limited)
+clock-early store counts cursor limit base h kept room =
+    omega (arith, kept.store_is.clock_is, worlds-clock store.topology base h, kept.based.clock, count_by-le-length (λ (e : Entry). is_tick e.command) h, room, kept.limited)

@@ -1,11 +1,13 @@
 -- Internal: no public clause reaches these definitions.
 -- The repair that a lease would be granted for.
-use Rattle.std.specs.Prelude.{◌≡◌, ℕ, ◌≤◌, length, Bool, true, ◌&&◌, List, Option, Some, None, is_none, IfSome, IsTrue, IsFalse, Result, Ok, Err}
+use Rattle.std.specs.Prelude.{◌≡◌, ℕ, ◌<◌, ◌≤◌, ◌++◌, length, Bool, true, false, ◌&&◌, List, Option, Some, None, is_none, IfSome, IsSome, IsTrue, IsFalse, Result, Ok, Err}
 use Rattle.std.specs.List.{Contains, AllPairs}
 use Rattle.lrc_code.specs.declared.numbers.StripeNo.{StripeNo}
 use Rattle.lrc_code.specs.declared.numbers.Fragment.{Fragment}
+use Rattle.lrc_code.specs.declared.numbers.NodeNo.{NodeNo}
 use Rattle.lrc_topology.specs.declared.NodeInfo.{NodeInfo}
 use Rattle.lrc_topology.specs.declared.seat.Seat.{Seat}
+use Rattle.lrc_topology.specs.Nodes.{node_at}
 use Rattle.lrc_terms.specs.Levels.{comes_first}
 use Rattle.lrc_terms.specs.Stripes.{StripeFragment}
 use Rattle.lrc_book.specs.declared.repair.Repair.{Repair}
@@ -13,14 +15,17 @@ use Rattle.lrc_book.specs.declared.store.Store.{Store}
 use Rattle.lrc_rules.specs.declared.kind.Kind.{Kind}
 use Rattle.lrc_rules.specs.declared.refusal.Refusal.{Refusal}
 use Rattle.lrc_rules.specs.declared.refusal.Refusal.TheVariants as refusal
-use Rattle.lrc_rules.specs.States.{State, has_stripe, lease_of, rank}
+use Rattle.lrc_rules.specs.States.{State, has_stripe, lease_of, rank, has_number}
 use Rattle.lrc_rules.specs.Placement.{chosen}
 use Rattle.lrc_rules.specs.Repairs.{needs}
 use Rattle.lrc_rules.specs.Urgency.{is_grantable}
 use Rattle.lrc_rules.specs.Granting.{IsGrantable}
 use Rattle.lrc_book.specs.Stores.{IsOf, AreGrantsOf, repair_of}
 use Rattle.lrc_rules.specs.declared.entry.Entry.{Entry}
-use Rattle.lrc_rules.specs.Histories.{state_after, IsLegal}
+use Rattle.lrc_rules.specs.Leases.{grants}
+use Rattle.lrc_rules.specs.Goodness.{IsGood}
+use Rattle.lrc_images.specs.Rows.{is_active_and_up}
+use Rattle.lrc_rules.specs.Histories.{World, state_from, IsLegalFrom}
 
 -- the fragment needs a lease, and has none
 abbrev pub is_waiting : List NodeInfo → State → StripeNo → Fragment → Bool
@@ -73,11 +78,23 @@ pub record IsRepair (nodes : List NodeInfo) (st : State) (r : Repair) : Type 0 w
 
 -- ---- a book
 
--- What a book keeps is the store of the state after its history, the counts of its grants, and a repair cursor; it is legal and not longer than the limit.
-pub record IsKept (store : Store) (counts : List ℕ) (cursor : Option StripeNo) (limit : ℕ) (history : List Entry) : Type 0 where
-  pub store_is : IsOf (state_after store.topology history) store
-  pub counted : AreGrantsOf history counts
-  pub cursor_is : IsRepairCursor store.topology (state_after store.topology history) cursor
-  pub legal : IsLegal store.topology history
+-- A book can begin in this world: it is good, no node is both gone and draining, the nodes that are gone, draining or down
+-- are nodes of the store, and after 1,000,000 more entries the clock and each count of grants have not come to the end of
+-- their numbers.
+pub record IsBase (nodes : List NodeInfo) (base : World) : Type 0 where
+  pub good : IsGood nodes base.past base.state
+  pub apart : (n : NodeNo) → has_number base.state.gone n ≡ true → has_number base.state.draining n ≡ false
+  pub known : (n : NodeNo) → is_active_and_up base.state n ≡ false → IsSome (node_at nodes n)
+  pub counts : (s : StripeNo) (f : Fragment) → grants base.past s f < 4293967295
+  pub clock : base.state.clock < 4293967292
+
+-- What a book keeps is the store of the state after its history, the counts of the grants up to then, and a repair cursor. It began in a base;
+-- the history is legal and not longer than the limit.
+pub record IsKept (store : Store) (counts : List ℕ) (cursor : Option StripeNo) (limit : ℕ) (base : World) (history : List Entry) : Type 0 where
+  pub based : IsBase store.topology base
+  pub store_is : IsOf (state_from store.topology base history) store
+  pub counted : AreGrantsOf (base.past ++ history) counts
+  pub cursor_is : IsRepairCursor store.topology (state_from store.topology base history) cursor
+  pub legal : IsLegalFrom store.topology base history
   pub few : length history ≤ limit
   pub limited : limit ≤ 1000000

@@ -107,6 +107,6 @@ with_seat nodes code s f b other (Some seat) = with_held nodes code s f b (recor
 abbrev pub AreGrantsOf : List Entry → List ℕ → Type 0
 AreGrantsOf past counts = (s : StripeNo) (f : Fragment) → granted_in counts s f ≡ grants past s f
 
--- no fragment was granted as often as there may be entries
+-- each count of grants can be counted on
 abbrev pub AreFew : List ℕ → Type 0
-AreFew counts = (s : StripeNo) (f : Fragment) → granted_in counts s f < 1000000
+AreFew counts = (s : StripeNo) (f : Fragment) → granted_in counts s f < 4294967295

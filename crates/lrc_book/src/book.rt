@@ -3,7 +3,7 @@ ghost use Rattle.lrc_code.specs.declared.fault.Fault.TheVariants as fault;
 ghost use Rattle.lrc_topology.specs.Nodes.{AreNodes};
 ghost use Rattle.lrc_rules.specs.States.{code_shown, homes_shown, load_shown, level_shown, missing_shown, lease_of, mode_shown};
 ghost use Rattle.lrc_rules.specs.Urgency.{risk};
-ghost use Rattle.lrc_rules.specs.Histories.{outcome_in, IsLegal};
+ghost use Rattle.lrc_rules.specs.Histories.{first_world, outcome_in, IsLegalFrom};
 ghost use Rattle.lrc_rules.specs.Goodness.{IsGood};
 ghost use Rattle.lrc_rules.specs.Served.{IsServed};
 ghost use Rattle.lrc_book.specs.Books.{world_of, state_of, FaultFits};
@@ -12,6 +12,7 @@ ghost use Rattle.lrc_book.specs.Stores.{IsOf};
 use crate::store::Store;
 use crate::{Command, Lease, Level, Mode, Record, Reply, Seat};
 use lrc_code::{Code, FRAGMENTS, Fault, Fragment, LossMask, NodeNo, SessionNo, StripeNo};
+use lrc_images::Image;
 use lrc_leases::Grants;
 use lrc_topology::Topology;
 use std::alloc::Global;
@@ -33,11 +34,13 @@ pub struct Book {
     /// Room for the seats of the next stripe that is placed.
     pub(crate) seats: Option<Box<[Seat; FRAGMENTS]>>,
     pub(crate) limit: usize,
+    /// The image in which the book began; `None` for the empty store.
+    pub(crate) base: Option<Box<Image>>,
 }
 
 impl Model for Book {
     ghost use Rattle.std.specs.Prelude.{◌+◌, ◌&&◌, nat_le, is_some, vec_len, vec_capacity};
-    ghost use Rattle.lrc_book.specs.Books.{BookView};
+    ghost use Rattle.lrc_book.specs.Books.{BookView, base_world, entries_before};
     ghost use Rattle.lrc_book.specs.Stores.{has_room};
     ghost use Rattle.lrc_book.specs.Repairing.{IsKept};
 
@@ -45,12 +48,14 @@ impl Model for Book {
 
     ghost view = { λ b. record {
       nodes = b.store.value.topology;
+      base = base_world b.base;
+      before = entries_before b.base;
       limit = b.limit;
       history = b.history.items;
       ready = nat_le (vec_len b.history + 1) (vec_capacity b.history) && (has_room b.store.value && is_some b.seats);
     } };
 
-    ghost invariant = { λ b. IsKept b.store.value b.grants b.repair_cursor b.limit b.history.items };
+    ghost invariant = { λ b. IsKept b.store.value b.grants b.repair_cursor b.limit (base_world b.base) b.history.items };
 }
 
 impl Book {
@@ -60,7 +65,7 @@ impl Book {
     ///
     /// Only `Fault::OutOfMemory`.
     pub fn new(alloc: Global, topology: Topology) -> Result<Book, Fault>
-        ensures value { IfOk result (λ b. (b.nodes ≡ topology) × (b.limit ≡ 1000000) × (b.history ≡ [])) }
+        ensures value { IfOk result (λ b. (b.nodes ≡ topology) × (b.limit ≡ 1000000) × (b.history ≡ []) × (b.base ≡ first_world) × (b.before ≡ 0)) }
         ensures err { IfErr result (λ e. e ≡ fault.OutOfMemory) }
     {
         Book::with_limit(alloc, topology, HISTORY_LIMIT)
@@ -73,7 +78,7 @@ impl Book {
     /// Only `Fault::OutOfMemory`.
     pub fn with_limit(alloc: Global, topology: Topology, limit: u32) -> Result<Book, Fault>
         requires limit { limit ≤ 1000000 }
-        ensures value { IfOk result (λ b. (b.nodes ≡ topology) × (b.limit ≡ limit) × (b.history ≡ [])) }
+        ensures value { IfOk result (λ b. (b.nodes ≡ topology) × (b.limit ≡ limit) × (b.history ≡ []) × (b.base ≡ first_world) × (b.before ≡ 0)) }
         ensures err { IfErr result (λ e. e ≡ fault.OutOfMemory) }
     {
         let store = Store::new(alloc, topology)?;
@@ -84,6 +89,7 @@ impl Book {
             history: Vec::new(alloc),
             seats: None,
             limit: limit as usize,
+            base: None,
         })
     }
 
@@ -98,14 +104,24 @@ impl Book {
     /// The entries so far.
     pub fn history(&self) -> &[Record]
         ensures value { result.now ≡ self.now.history }
-        ensures legal { IsLegal self.now.nodes self.now.history }
+        ensures legal { IsLegalFrom self.now.nodes self.now.base self.now.history }
         ensures few { length self.now.history ≤ self.now.limit }
         ensures limit { self.now.limit ≤ 1000000 }
         ensures nodes { AreNodes self.now.nodes }
-        ensures good { IsGood self.now.nodes self.now.history (state_of self.now) }
-        ensures served { IsServed self.now.nodes self.now.history }
+        ensures good { IsGood self.now.nodes (self.now.base.past ++ self.now.history) (state_of self.now) }
+        ensures served { self.now.base ≡ first_world → IsServed self.now.nodes self.now.history }
     {
         self.history.as_slice()
+    }
+
+    /// The number of entries of the store before those of `history`.
+    pub fn before(&self) -> u64
+        ensures { result ≡ self.now.before }
+    {
+        match &self.base {
+            Some(image) => image.before,
+            None => 0,
+        }
     }
 
     /// The nodes of the book.
@@ -203,7 +219,7 @@ impl Book {
     pub fn call(&mut self, session: SessionNo, command: Command) -> Result<Reply, Fault>
         ensures reply { IfOk result (λ r. r ≡ (outcome_in self.old.nodes (world_of self.old) session command).0) }
         ensures entry { IfOk result (λ r. self.new.history ≡ self.old.history ++ record { session = session; command = command; reply = r } ∷ []) }
-        ensures same { (self.new.nodes ≡ self.old.nodes) × (self.new.limit ≡ self.old.limit) }
+        ensures same { (self.new.nodes ≡ self.old.nodes) × (self.new.limit ≡ self.old.limit) × (self.new.base ≡ self.old.base) × (self.new.before ≡ self.old.before) }
         ensures full { IsErrOf result fault.HistoryFull ↔ (length self.old.history ≡ self.old.limit) }
         ensures fault { IfErr result (FaultFits self.old) }
         ensures enough { self.old.ready ≡ true → length self.old.history < self.old.limit → IsOk result }
@@ -221,7 +237,7 @@ impl Book {
     /// As `call`.
     pub fn add(&mut self, session: SessionNo, command: Command) -> Result<(), Fault>
         ensures entry { OnOk result (self.new.history ≡ self.old.history ++ record { session = session; command = command; reply = (outcome_in self.old.nodes (world_of self.old) session command).0 } ∷ []) }
-        ensures same { (self.new.nodes ≡ self.old.nodes) × (self.new.limit ≡ self.old.limit) }
+        ensures same { (self.new.nodes ≡ self.old.nodes) × (self.new.limit ≡ self.old.limit) × (self.new.base ≡ self.old.base) × (self.new.before ≡ self.old.before) }
         ensures full { IsErrOf result fault.HistoryFull ↔ (length self.old.history ≡ self.old.limit) }
         ensures fault { IfErr result (FaultFits self.old) }
         ensures enough { self.old.ready ≡ true → length self.old.history < self.old.limit → IsOk result }

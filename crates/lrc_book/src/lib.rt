@@ -10,6 +10,7 @@ mod choice;
 mod class_bars;
 mod clock;
 mod commands;
+mod image;
 pub mod laws;
 mod neighbours;
 mod record;
@@ -19,6 +20,7 @@ mod step;
 mod store;
 
 pub use book::{Book, HISTORY_LIMIT};
+pub use lrc_images::{GrantRow, Image, LeaseRow, NodeRow, StripeRow};
 pub use lrc_rules::{Command, Entry, Held, Kind, Lease, Level, Mode, Refusal, Reply, Seat};
 pub use record::Record;
 pub use reply_ref::ReplyRef;

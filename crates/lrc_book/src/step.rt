@@ -6,10 +6,10 @@ ghost use Rattle.lrc_code.specs.declared.numbers.SessionNo.{SessionNo};
 ghost use Rattle.lrc_rules.specs.declared.entry.Entry.{Entry};
 ghost use Rattle.lrc_rules.specs.States.{State};
 ghost use Rattle.lrc_rules.specs.Steps.{step};
-ghost use Rattle.lrc_rules.specs.Histories.{world_after, state_after, outcome_in};
+ghost use Rattle.lrc_rules.specs.Histories.{world_from, state_from, outcome_in};
 ghost use Rattle.lrc_book.specs.Answers.{told, is_place};
 ghost use Rattle.lrc_rules.specs.Changes.{IsAnswer, changed_by, grants_lease};
-ghost use Rattle.lrc_book.specs.Books.{IsStep, world_of};
+ghost use Rattle.lrc_book.specs.Books.{IsStep, world_of, base_world};
 ghost use Rattle.lrc_book.specs.Stores.{IsOf, IsTied, AreGrantsOf, AreFew, has_room};
 ghost use Rattle.lrc_book.specs.Repairing.{IsRepairCursor, HasRepairCursor, IsKept};
 
@@ -18,6 +18,7 @@ use crate::commands::leases::count_grant;
 use crate::store::Store;
 use crate::{Book, Command, Entry, Record, Reply, Seat};
 use lrc_code::{Code, FRAGMENTS, Fault, NARROW_FRAGMENTS, SessionNo, StripeNo};
+use lrc_images::Image;
 use lrc_leases::Grants;
 use lrc_rules::NodeCommand;
 use std::alloc::{AllocError, Global};
@@ -53,7 +54,7 @@ impl Book {
     ///
     /// Only `Fault::OutOfMemory`, and not where there is room already.
     pub fn prepare(&mut self) -> Result<(), Fault>
-        ensures same { (self.new.nodes ≡ self.old.nodes) × (self.new.limit ≡ self.old.limit) × (self.new.history ≡ self.old.history) }
+        ensures same { (self.new.nodes ≡ self.old.nodes) × (self.new.limit ≡ self.old.limit) × (self.new.history ≡ self.old.history) × (self.new.base ≡ self.old.base) × (self.new.before ≡ self.old.before) }
         ensures ok { OnOk result (self.new.ready ≡ true) }
         ensures kept { self.old.ready ≡ true → self.new.ready ≡ true }
         ensures enough { self.old.ready ≡ true → IsOk result }
@@ -71,7 +72,7 @@ impl Book {
     pub(crate) fn make_call(&mut self, session: SessionNo, command: Command)
         requires ready { self.old.ready ≡ true }
         requires room { length self.old.history < self.old.limit }
-        ensures same { (self.new.nodes ≡ self.old.nodes) × (self.new.limit ≡ self.old.limit) }
+        ensures same { (self.new.nodes ≡ self.old.nodes) × (self.new.limit ≡ self.old.limit) × (self.new.base ≡ self.old.base) × (self.new.before ≡ self.old.before) }
         ensures history { self.new.history ≡ self.old.history ++ record { session = session; command = command; reply = (outcome_in self.old.nodes (world_of self.old) session command).0 } ∷ [] }
     {
         let answer = self.store.answer_to(
@@ -85,6 +86,7 @@ impl Book {
             &mut *self.store,
             &mut self.grants,
             &mut self.repair_cursor,
+            &self.base,
             &mut self.history,
             Record::new(session, command, answer),
         );
@@ -96,7 +98,7 @@ impl Book {
         requires room { length self.old.history < self.old.limit }
         requires step { IsStep self.old entry }
         ensures reply { result ≡ entry.reply }
-        ensures same { (self.new.nodes ≡ self.old.nodes) × (self.new.limit ≡ self.old.limit) }
+        ensures same { (self.new.nodes ≡ self.old.nodes) × (self.new.limit ≡ self.old.limit) × (self.new.base ≡ self.old.base) × (self.new.before ≡ self.old.before) }
         ensures history { self.new.history ≡ self.old.history ++ entry ∷ [] }
     {
         let answer = Answer::of(&entry.reply, &mut self.seats);
@@ -104,6 +106,7 @@ impl Book {
             &mut *self.store,
             &mut self.grants,
             &mut self.repair_cursor,
+            &self.base,
             &mut self.history,
             Record::new(entry.session, entry.command, answer),
         );
@@ -117,21 +120,22 @@ fn enter(
     store: &mut Store,
     grants: &mut Grants,
     cursor: &mut Option<StripeNo>,
+    base: &Option<Box<Image>>,
     history: &mut Vec<Record>,
     made: Record,
 )
-    requires kept { IsOf (state_after store.old.topology history.old.items) store.old }
+    requires kept { IsOf (state_from store.old.topology (base_world base.now) history.old.items) store.old }
     requires few { AreFew grants.old }
     requires room { has_room store.old ≡ true }
     requires reserved { vec_len history.old < vec_capacity history.old }
-    requires step { (outcome_in store.old.topology (world_after store.old.topology history.old.items) made.session made.command).0 ≡ made.reply }
+    requires step { (outcome_in store.old.topology (world_from store.old.topology (base_world base.now) history.old.items) made.session made.command).0 ≡ made.reply }
     requires early { store.old.clock.value < 4294967292 }
     ensures nodes { store.new.topology ≡ store.old.topology }
     ensures history { history.new.items ≡ history.old.items ++ made ∷ [] }
-    ensures kept { (limit : ℕ) → IsKept store.old grants.old cursor.old limit history.old.items → length history.old.items < limit
-        → IsKept store.new grants.new cursor.new limit history.new.items }
+    ensures kept { (limit : ℕ) → IsKept store.old grants.old cursor.old limit (base_world base.now) history.old.items → length history.old.items < limit
+        → IsKept store.new grants.new cursor.new limit (base_world base.now) history.new.items }
 {
-    make(store, grants, cursor, history, &made);
+    make(store, grants, cursor, base, history, &made);
     history.push_reserved(made);
 }
 
@@ -141,19 +145,20 @@ fn make(
     store: &mut Store,
     grants: &mut Grants,
     cursor: &mut Option<StripeNo>,
+    base: &Option<Box<Image>>,
     past: &[Record],
     made: &Record,
 )
     ghost st: { State }
-    requires state { state_after store.old.topology past.now ≡ st }
+    requires state { state_from store.old.topology (base_world base.now) past.now ≡ st }
     requires kept { IsOf st store.old }
     requires few { AreFew grants.old }
     requires room { has_room store.old ≡ true }
-    requires step { (outcome_in store.old.topology (world_after store.old.topology past.now) made.now.session made.now.command).0 ≡ made.now.reply }
+    requires step { (outcome_in store.old.topology (world_from store.old.topology (base_world base.now) past.now) made.now.session made.now.command).0 ≡ made.now.reply }
     requires early { store.old.clock.value < 4294967292 }
     ensures nodes { store.new.topology ≡ store.old.topology }
-    ensures kept { (limit : ℕ) → IsKept store.old grants.old cursor.old limit past.now → length past.now < limit
-        → IsKept store.new grants.new cursor.new limit (past.now ++ made.now ∷ []) }
+    ensures kept { (limit : ℕ) → IsKept store.old grants.old cursor.old limit (base_world base.now) past.now → length past.now < limit
+        → IsKept store.new grants.new cursor.new limit (base_world base.now) (past.now ++ made.now ∷ []) }
 {
     if !made.answer.changes() {
         return;

@@ -5,7 +5,7 @@ use Rattle.std.proofs.lemmas.Option.{slice_get-get_or}
 use Rattle.std.proofs.lemmas.List.Sums.{fold-append}
 use Rattle.lrc_topology.specs.declared.NodeInfo.{NodeInfo}
 use Rattle.lrc_rules.specs.declared.entry.Entry.{Entry}
-use Rattle.lrc_rules.specs.Histories.{World, first_world, outcome_in, next_world, world_after}
+use Rattle.lrc_rules.specs.Histories.{World, outcome_in, next_world, world_from}
 use Rattle.lrc_book.specs.Books.{BookView, world_of}
 use Rattle.lrc_book.proofs.WorldLemmas.{legal_append}
 use Rattle.lrc_embed.specs.declared.entry.LrcEntry.{LrcEntry}
@@ -20,16 +20,15 @@ entries_push (y ∷ ys) (x ∷ xs) c e are is = (are.0, entries_push ys xs c e a
 
 -- no entries are replayed by nothing
 pub replay_none : (b : BookView) → IsReplay [] b b
-replay_none b = ([], tt, tt, sym (append-nil b.history), refl, refl)
+replay_none b = ([], tt, tt, sym (append-nil b.history), refl, refl, refl, refl)
 
 -- one more
 pub replay_push : (cs : List LrcEntry) (c : LrcEntry) (b mid after : BookView) → IsReplay cs b mid → IsRepeat c mid after
     → IsReplay (cs ++ c ∷ []) b after
 replay_push cs c b mid after r s =
     let es = r.0 in let e = s.0 in let nodes = r.4 in
-    let there : world_of mid ≡ world_after b.nodes (b.history ++ es) =
-    ap (λ (ns : List NodeInfo). world_after ns mid.history) nodes ∙ ap (world_after b.nodes) r.3 in
-    let at = there ∙ fold-append (next_world b.nodes) first_world b.history es in
+    let there : world_of mid ≡ world_from b.nodes b.base (b.history ++ es) = λ i. world_from (nodes i) (r.6 i) (r.3 i) in
+    let at = there ∙ fold-append (next_world b.nodes) b.base b.history es in
     let replied = subst (λ (ns : List NodeInfo). (outcome_in ns (world_of mid) e.session e.command).0 ≡ e.reply) nodes s.2 in (
       es ++ e ∷ [],
       entries_push cs es c e r.1 s.1,
@@ -37,6 +36,8 @@ replay_push cs c b mid after r s =
       s.3 ∙ ap (λ (h : List Entry). h ++ e ∷ []) r.3 ∙ append_assoc b.history es (e ∷ []),
       s.4 ∙ r.4,
       s.5 ∙ r.5,
+      s.6 ∙ r.6,
+      s.7 ∙ r.7,
     )
 
 -- the entry at this position is replayed after those before it

@@ -9,7 +9,7 @@ use Rattle.lrc_topology.specs.declared.error.TopologyError.{TopologyError}
 use Rattle.lrc_topology.specs.Documents.{IsTopologyOf, IsRefusedBy}
 use Rattle.lrc_rules.specs.declared.command.Command.{Command}
 use Rattle.lrc_rules.specs.declared.entry.Entry.{Entry}
-use Rattle.lrc_rules.specs.Histories.{outcome_in}
+use Rattle.lrc_rules.specs.Histories.{World, first_world, outcome_in}
 use Rattle.lrc_book.specs.Books.{BookView, world_of}
 use Rattle.lrc_embed.specs.declared.command.LrcCommand.{LrcCommand}
 use Rattle.lrc_embed.specs.declared.reply.LrcReply.{LrcReply}
@@ -24,12 +24,12 @@ Of None P = ⊥
 Of (Some b) P = P b
 
 -- what a failed call leaves as it was; the room that was made for later is not part of it
-abbrev pub contents : Option BookView → Option (List NodeInfo × ℕ × List Entry)
-contents book = option_map (λ b. (b.nodes, b.limit, b.history)) book
+abbrev pub contents : Option BookView → Option (List NodeInfo × ℕ × List Entry × World × ℕ)
+contents book = option_map (λ b. (b.nodes, b.limit, b.history, b.base, b.before)) book
 
--- a book of the text's nodes, with no entry yet
+-- a book of the text's nodes that begins empty, with no entry yet
 abbrev pub IsNew : List ℕ → BookView → Type 0
-IsNew text b = IsTopologyOf text b.nodes × (b.limit ≡ 1000000) × (b.history ≡ [])
+IsNew text b = IsTopologyOf text b.nodes × (b.limit ≡ 1000000) × (b.history ≡ []) × (b.base ≡ first_world) × (b.before ≡ 0)
 
 -- the text is refused as this status and this detail say
 abbrev pub IsRefused : List ℕ → ℕ → ℕ → Type 0
@@ -49,7 +49,7 @@ abbrev pub IsStepOf : BookView → SessionNo → Command → LrcReply → BookVi
 IsStepOf b session command reply after =
     IsReplyOf b session command reply
     × (after.history ≡ b.history ++ record { session = session; command = command; reply = (outcome_in b.nodes (world_of b) session command).0 } ∷ [])
-    × (after.nodes ≡ b.nodes) × (after.limit ≡ b.limit)
+    × (after.nodes ≡ b.nodes) × (after.limit ≡ b.limit) × (after.base ≡ b.base) × (after.before ≡ b.before)
 
 -- the same, of the command that C wrote
 abbrev pub IsCall : ℕ → LrcCommand → LrcReply → BookView → BookView → Type 0

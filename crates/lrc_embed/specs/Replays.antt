@@ -29,7 +29,7 @@ AreEntries _ _ = ⊥
 abbrev pub IsReplay : List LrcEntry → BookView → BookView → Type 0
 IsReplay cs b after =
     (es : List Entry) × AreEntries cs es × IsLegalFrom b.nodes (world_of b) es
-    × (after.history ≡ b.history ++ es) × (after.nodes ≡ b.nodes) × (after.limit ≡ b.limit)
+    × (after.history ≡ b.history ++ es) × (after.nodes ≡ b.nodes) × (after.limit ≡ b.limit) × (after.base ≡ b.base) × (after.before ≡ b.before)
 
 -- the entries before this position are replayed, and this holds of the entry there, in the book after them
 abbrev pub StopsAt : (LrcEntry → BookView → Type 0) → List LrcEntry → ℕ → BookView → Type 0
@@ -57,4 +57,4 @@ IsDifferent c b =
 abbrev pub IsRepeat : LrcEntry → BookView → BookView → Type 0
 IsRepeat c b after =
     (e : Entry) × IsEntry c e × ((outcome_in b.nodes (world_of b) e.session e.command).0 ≡ e.reply)
-    × (after.history ≡ b.history ++ e ∷ []) × (after.nodes ≡ b.nodes) × (after.limit ≡ b.limit)
+    × (after.history ≡ b.history ++ e ∷ []) × (after.nodes ≡ b.nodes) × (after.limit ≡ b.limit) × (after.base ≡ b.base) × (after.before ≡ b.before)

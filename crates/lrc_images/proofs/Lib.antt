@@ -7,3 +7,9 @@ pub mod SeatedRowsLemmas
 pub mod TakenLemmas
 pub mod ImageLemmas
 pub mod SameRowsLemmas
+pub mod RowLemmas
+pub mod SameLemmas
+pub mod RowGrantLemmas
+pub mod AlikeLemmas
+pub mod AlikeRowLemmas
+pub mod DistinctLemmas

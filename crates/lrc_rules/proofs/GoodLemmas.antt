@@ -19,7 +19,7 @@ use Rattle.lrc_rules.specs.States.{State, opening, lease_of}
 use Rattle.lrc_rules.specs.Outcomes.{Outcome}
 use Rattle.lrc_rules.specs.Leases.{is_grant, grants, term, is_tick, tick_outcome}
 use Rattle.lrc_rules.specs.Steps.{step}
-use Rattle.lrc_rules.specs.Histories.{World, first_world, outcome_in, next_world, world_after, state_after, IsLegalFrom, IsLegal}
+use Rattle.lrc_rules.specs.Histories.{World, first_world, outcome_in, next_world, world_from, state_from, world_after, state_after, IsLegalFrom, IsLegal}
 use Rattle.lrc_rules.specs.Goodness.{IsGood}
 use Rattle.lrc_rules.proofs.MemberLemmas.{All-members, filter-member}
 use Rattle.lrc_rules.proofs.StepSeatedLemmas.{opening-seated, step-seated}
@@ -100,7 +100,7 @@ module _ (st : State) (running : (l : Lease) → Contains st.leases l → IsRunn
 -- ---- histories
 
 -- the entries of a world are the ones that it started with, followed by the history
-past-from : (nodes : List NodeInfo) (w : World) (history : List Entry) → (fold (next_world nodes) w history).past ≡ w.past ++ history
+pub past-from : (nodes : List NodeInfo) (w : World) (history : List Entry) → (world_from nodes w history).past ≡ w.past ++ history
 past-from nodes w [] = sym (append-nil w.past)
 past-from nodes w (e ∷ es) = past-from nodes (next_world nodes w e) es ∙ append_assoc w.past (e ∷ []) es
 
@@ -138,12 +138,15 @@ next-good nodes known w e told good =
 
 -- and so does a legal history.
 worlds-good : (nodes : List NodeInfo) → AreNodes nodes → (w : World) (history : List Entry) → IsLegalFrom nodes w history → IsGoodIn nodes w
-    → IsGoodIn nodes (fold (next_world nodes) w history)
+    → IsGoodIn nodes (world_from nodes w history)
 worlds-good nodes known w [] legal good = good
 worlds-good nodes known w (e ∷ es) legal good = worlds-good nodes known (next_world nodes w e) es legal.1 (next-good nodes known w e legal.0 good)
 
+pub state_from-good : (nodes : List NodeInfo) → AreNodes nodes → (w : World) (history : List Entry) → IsLegalFrom nodes w history → IsGoodIn nodes w
+    → IsGood nodes (w.past ++ history) (state_from nodes w history)
+state_from-good nodes known w history legal good =
+    subst (λ past. IsGood nodes past (state_from nodes w history)) (past-from nodes w history) (worlds-good nodes known w history legal good)
+
 pub state_after-good : (nodes : List NodeInfo) → AreNodes nodes → (history : List Entry) → IsLegal nodes history
     → IsGood nodes history (state_after nodes history)
-state_after-good nodes known history legal =
-    subst (λ past. IsGood nodes past (state_after nodes history)) (past-after nodes history)
-    (worlds-good nodes known first_world history legal (opening-good nodes))
+state_after-good nodes known history legal = state_from-good nodes known first_world history legal (opening-good nodes)

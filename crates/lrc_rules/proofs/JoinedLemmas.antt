@@ -1,5 +1,5 @@
 -- No node is both gone and draining, and what holds for a node that joins.
-use Rattle.std.proofs.Common.{[], ◌≡◌, ◌≢◌, inl, inr, Bool, true, false, not, eqb, List, ◌∷◌, fold, Option, Some, None, refl, sym, ap, ◌∙◌, subst}
+use Rattle.std.proofs.Common.{[], ◌≡◌, ◌≢◌, inl, inr, Bool, true, false, not, eqb, List, ◌∷◌, Option, Some, None, refl, sym, ap, ◌∙◌, subst}
 use Rattle.std.specs.List.{All}
 use Rattle.std.proofs.lemmas.Bool.{cases_Bool, eqb-true, eq-eqb}
 use Rattle.lrc_code.specs.declared.numbers.StripeNo.{StripeNo}
@@ -24,7 +24,7 @@ use Rattle.lrc_terms.specs.Modes.{is_active, is_gone}
 use Rattle.lrc_rules.specs.States.{State, lease_of, has_number, without_number, mode_of, is_down, taken_seats}
 use Rattle.lrc_rules.specs.Steps.{without_gone, is_wrong_on, changed_on, node_outcome, node_command, step}
 use Rattle.lrc_rules.specs.Changes.{with_done, changed_at, changed_by}
-use Rattle.lrc_rules.specs.Histories.{World, IsLegal, first_world, next_world, state_after}
+use Rattle.lrc_rules.specs.Histories.{World, IsLegal, first_world, next_world, world_from, state_after}
 use Rattle.lrc_rules.specs.Goodness.{AreSeated}
 use Rattle.lrc_rules.proofs.MemberLemmas.{list_any-member, member-list_any, All-members}
 use Rattle.lrc_rules.proofs.StepLemmas.{step-changed}
@@ -82,7 +82,7 @@ module _ (st : State) (apart : NoneBoth st) where
     pub step-apart : (c : Command) → NoneBoth (step nodes past st session c).1
     step-apart c = subst NoneBoth (sym (step-changed nodes past st session c)) (changed-both c (step nodes past st session c).0 refl)
 
-worlds-apart : (nodes : List NodeInfo) (w : World) (history : List Entry) → NoneBoth w.state → NoneBoth (fold (next_world nodes) w history).state
+pub worlds-apart : (nodes : List NodeInfo) (w : World) (history : List Entry) → NoneBoth w.state → NoneBoth (world_from nodes w history).state
 worlds-apart nodes w [] apart = apart
 worlds-apart nodes w (e ∷ es) apart = worlds-apart nodes (next_world nodes w e) es (step-apart w.state apart nodes w.past e.session e.command)
 

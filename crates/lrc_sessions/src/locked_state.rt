@@ -1,5 +1,6 @@
 ghost use Rattle.std.specs.Prelude.{◌≡◌, ℕ, ◌+◌, ◌<◌, ◌≤◌, [], length, true, IfOk, OnOk, OnErr, IfErr, IsOk};
 ghost use mathlib.Core.List.{IsPrefix};
+ghost use Rattle.lrc_rules.specs.Histories.{first_world};
 ghost use Rattle.lrc_book.specs.Books.{BookView, FaultFits};
 ghost use Rattle.lrc_sessions.specs.Locked.{IsLocked, IsMade};
 ghost use Rattle.lrc_sessions.specs.Calls.{IsCalled, IsLeft};
@@ -36,7 +37,7 @@ impl<N: Naming> Model for LockedState<N> {
 impl<N: Naming> LockedState<N> {
     /// Makes the state before the first call.
     pub(crate) fn new(keeper: Keeper<N>, tally: Tally<N>, rest: Share<N>) -> LockedState<N>
-        requires book { (keeper.nodes ≡ N.topology) × (keeper.limit ≡ N.limit) × (keeper.history ≡ []) }
+        requires book { (keeper.nodes ≡ N.topology) × (keeper.limit ≡ N.limit) × (keeper.history ≡ []) × (keeper.base ≡ first_world) }
         requires tally { tally.total ≡ 0 }
         requires rest { (rest.parts + N.count ≡ 8) × (rest.amount ≡ 0) }
         ensures { result ≡ keeper }

@@ -21,6 +21,7 @@ pub struct Parts {
 
 impl Model for Parts {
     ghost use Rattle.std.specs.Prelude.{◌≡◌, ◌≤◌, []};
+    ghost use Rattle.lrc_rules.specs.Histories.{first_world};
     ghost use Rattle.lrc_sessions.specs.Views.{PartsView};
 
     ghost Value = { PartsView };
@@ -36,7 +37,7 @@ impl Model for Parts {
     } };
 
     ghost invariant = { λ p. (p.book.history ≡ []) × (p.book.limit ≤ 1000000) × (p.tally.parts ≡ 8)
-        × (1 ≤ p.count) × (p.count ≤ 8) };
+        × (1 ≤ p.count) × (p.count ≤ 8) × (p.book.base ≡ first_world) };
 }
 
 impl Parts {

@@ -1,4 +1,5 @@
 ghost use Rattle.std.specs.Prelude.{◌≡◌, ◌+◌, ◌≤◌, [], ◌∷◌, length, IfOk, OnOk, IfErr};
+ghost use Rattle.lrc_rules.specs.Histories.{first_world};
 ghost use Rattle.lrc_tool.specs.Judged.{lists_of, AreFew};
 ghost use Rattle.lrc_tool.specs.Plays.{AreMade, AreMadeBehind};
 ghost use Rattle.lrc_tool.specs.Outputs.{IsPlayed};
@@ -42,12 +43,13 @@ fn play_scripts(
     scripts: &[Vec<Command>],
     room: Vec<u8>,
 ) -> Result<Vec<u8>, RunFault>
-    requires fresh { (book.old.history ≡ []) × (book.old.limit ≡ HISTORY_LIMIT) }
+    requires fresh { (book.old.history ≡ []) × (book.old.limit ≡ HISTORY_LIMIT) × (book.old.base ≡ first_world) }
     requires few { AreFew scripts.now }
     requires alone { length scripts.now ≤ 1 }
     requires empty { room.items ≡ [] }
     ensures made { IfOk result (λ text. AreMade book.old.nodes (lists_of scripts.now) book.new.history text.items) }
     ensures nodes { OnOk result (book.new.nodes ≡ book.old.nodes) }
+    ensures base { OnOk result (book.new.base ≡ first_world) }
     ensures err { IfErr result (λ e. e ≡ fault.OutOfMemory) }
 {
     match scripts {
@@ -58,12 +60,13 @@ fn play_scripts(
 
 /// Runs the commands of the only script by session 1, and returns the lines of their replies.
 fn play_alone(book: &mut Book, commands: &[Command], empty: Vec<u8>) -> Result<Vec<u8>, RunFault>
-    requires fresh { (book.old.history ≡ []) × (book.old.limit ≡ HISTORY_LIMIT) }
+    requires fresh { (book.old.history ≡ []) × (book.old.limit ≡ HISTORY_LIMIT) × (book.old.base ≡ first_world) }
     // The history has room for them.
     requires few { length commands.now ≤ HISTORY_LIMIT }
     requires empty { empty.items ≡ [] }
     ensures made { IfOk result (λ text. AreMade book.old.nodes (commands.now ∷ []) book.new.history text.items) }
     ensures nodes { OnOk result (book.new.nodes ≡ book.old.nodes) }
+    ensures base { OnOk result (book.new.base ≡ first_world) }
     ensures err { IfErr result (λ e. e ≡ fault.OutOfMemory) }
 {
     let session = SessionNo::new(1).unwrap();
@@ -85,7 +88,7 @@ fn make_all(book: &mut Book, session: SessionNo, commands: &[Command]) -> Result
     // The history has room for them.
     requires few { length book.old.history + length commands.now ≤ book.old.limit }
     ensures made { OnOk result (AreMadeBehind book.old.history session commands.now book.new.history) }
-    ensures same { OnOk result ((book.new.nodes ≡ book.old.nodes) × (book.new.limit ≡ book.old.limit)) }
+    ensures same { OnOk result ((book.new.nodes ≡ book.old.nodes) × (book.new.limit ≡ book.old.limit) × (book.new.base ≡ book.old.base)) }
     ensures err { IfErr result (λ e. e ≡ fault.OutOfMemory) }
 {
     for command in commands.iter() {

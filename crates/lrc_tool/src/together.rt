@@ -2,6 +2,7 @@
 
 ghost use Rattle.std.specs.Prelude.{◌≡◌, ◌≢◌, ◌<◌, ◌≤◌, ◌⊎◌, ◌++◌, length, sum_by, All, Some, None, option_map, IfOk, OnOk, IfErr};
 ghost use Rattle.lrc_code.specs.declared.fault.Fault.TheVariants as book;
+ghost use Rattle.lrc_rules.specs.Histories.{first_world};
 ghost use Rattle.lrc_tool.specs.Faults.{run_fault, stop_fault, first_fault};
 ghost use Rattle.lrc_tool.specs.Judged.{lists_of, AreFew};
 ghost use Rattle.lrc_tool.specs.Plays.{AreMade, receipts_text, tracks_text};
@@ -66,6 +67,7 @@ fn run_each<N: Naming + Send + Sync, T: Threads + Wait + Sync>(
     // The history has room for the commands of all.
     requires few { sum_by (λ script. length script.items) scripts.now ≤ parts.limit }
     ensures nodes { IfOk result (λ p. p.book.nodes ≡ parts.topology) }
+    ensures base { IfOk result (λ p. p.book.base ≡ first_world) }
     ensures tracks { IfOk result (λ p. length p.tracks.items ≤ 8) }
     ensures made { IfOk result (λ p. AreMade parts.topology (lists_of scripts.now) p.book.history (tracks_text 1 p.tracks.items)) }
     ensures err { IfErr result (λ e. (e ≡ fault.OutOfMemory) ⊎ (e ≡ fault.NoReader)) }

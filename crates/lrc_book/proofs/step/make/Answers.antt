@@ -1,13 +1,14 @@
-use Rattle.std.proofs.Common.{◌≡◌, Some, None, refl, sym, ap, subst, ◌∙◌}
+use Rattle.std.proofs.Common.{◌≡◌, ◌++◌, Some, None, refl, sym, ap, subst, ◌∙◌}
 use Rattle.lrc_rules.specs.declared.command.Command.{Command}
 use Rattle.lrc_rules.specs.declared.reply.Reply.TheVariants.{Granted}
 use Rattle.lrc_rules.specs.States.{State}
 use Rattle.lrc_rules.specs.Leases.{with_lease}
 use Rattle.lrc_rules.specs.Steps.{step as step_of}
-use Rattle.lrc_rules.specs.Histories.{world_after, state_after}
+use Rattle.lrc_rules.specs.Histories.{world_from, state_from}
 use Rattle.lrc_rules.specs.Changes.{changed_by}
 use Rattle.lrc_book.specs.Stores.{IsOf}
 use Rattle.lrc_book.specs.Repairing.{IsRepairCursor}
+use Rattle.lrc_book.specs.Books.{base_world}
 use Rattle.lrc_book.specs.Answers.{told}
 use Rattle.lrc_rules.specs.declared.entry.Entry.{Entry}
 use Rattle.lrc_book.proofs.WorldLemmas.{kept_push}
@@ -21,7 +22,7 @@ use Rattle.lrc_book.proofs.step.make.Goals as goal
 pub grant-requires : goal.grant-requires
 grant-requires g c =
     let nodes = c.args.store.now.topology in
-    let past = (world_after nodes c.args.past.now).past in
+    let past = (world_from nodes (base_world c.args.base.now) c.args.past.now).past in
     let made = c.made.inside in
     let step = rw (← c.made.view_is) at c.requires.1.1.1.1.0 in
     let so = subst (λ (st : State). (step_of nodes past st made.session made.command).0 ≡ told made.answer) c.requires.0 step in
@@ -31,7 +32,7 @@ grant-requires g c =
 pub make_change-requires : goal.make_change-requires
 make_change-requires g c =
     let nodes = c.args.store.now.topology in
-    let past = (world_after nodes c.args.past.now).past in
+    let past = (world_from nodes (base_world c.args.base.now) c.args.past.now).past in
     let made = c.made.inside in
     let step = rw (← c.made.view_is) at c.requires.1.1.1.1.0 in (
       c.requires.1.0,
@@ -58,12 +59,12 @@ returns-then-not-changes-clause-kept g c = λ limit was below.
     let made = c.made.inside in
     let e : Entry = record { session = made.session; command = made.command; reply = told made.answer } in
     let step = rw (← c.made.view_is) at c.requires.1.1.1.1.0 in
-    let same : changed_by (state_after nodes past) e.command e.reply ≡ state_after nodes past =
-    c.changes.ensures.same c.if-not-changes.true (state_after nodes past) e.command in
+    let same : changed_by (state_from nodes (base_world c.args.base.now) past) e.command e.reply ≡ state_from nodes (base_world c.args.base.now) past =
+    c.changes.ensures.same c.if-not-changes.true (state_from nodes (base_world c.args.base.now) past) e.command in
     rw (← c.made.view_is)
-    (kept_push c.args.store.now c.args.store.now c.args.grants.now c.args.grants.now c.args.cursor.now c.args.cursor.now limit past e was below step
+    (kept_push c.args.store.now c.args.store.now c.args.grants.now c.args.grants.now c.args.cursor.now c.args.cursor.now limit (base_world c.args.base.now) past e was below step
     refl (subst (λ (st : State). IsOf st c.args.store.now) (sym same) was.store_is)
-    (counted-none past e c.args.grants.now was.counted (c.changes.ensures.none c.if-not-changes.true))
+    (counted-none ((base_world c.args.base.now).past ++ past) e c.args.grants.now was.counted (c.changes.ensures.none c.if-not-changes.true))
     (subst (λ (st : State). IsRepairCursor nodes st c.args.cursor.now) (sym same) was.cursor_is))
 
 pub returns-in-Next-clause-kept : goal.returns-in-Next-clause-kept
@@ -75,13 +76,13 @@ returns-in-Next-clause-kept g c = λ limit was below.
     let k = c.in-Granted.field-1 in
     let e : Entry = record { session = made.session; command = made.command; reply = told made.answer } in
     let step = rw (← c.made.view_is) at c.requires.1.1.1.1.0 in
-    let w = world_after nodes past in
+    let w = world_from nodes (base_world c.args.base.now) past in
     let most = granted-urgent nodes w.past w.state made.session l k
     (subst (λ (command : Command). (step_of nodes w.past w.state made.session command).0 ≡ Granted l k) c.in-Next.is (step ∙ ap told c.in-Granted.is)) in
     rw (← c.made.view_is)
-    (kept-granted c.args.store.now c.grant.new.self c.args.grants.now c.count_grant.new.counts c.args.cursor.now (Some l.stripe) limit past e l k
+    (kept-granted c.args.store.now c.grant.new.self c.args.grants.now c.count_grant.new.counts c.args.cursor.now (Some l.stripe) limit (base_world c.args.base.now) past e l k
     (ap told c.in-Granted.is) was below step c.grant.ensures.nodes
-    (subst (λ (st : State). IsOf (with_lease st l) c.grant.new.self) (sym c.requires.0) c.grant.ensures.kept) (c.count_grant.ensures past e refl was.counted)
+    (subst (λ (st : State). IsOf (with_lease st l) c.grant.new.self) (sym c.requires.0) c.grant.ensures.kept) (c.count_grant.ensures ((base_world c.args.base.now).past ++ past) e refl was.counted)
     (cursor-granted nodes w.state l (l.stripe, l.fragment) most))
 
 pub returns-in_default-command : goal.returns-in_default-command
@@ -94,10 +95,10 @@ returns-in_default-command g c = record {
       let cursor = c.args.cursor.now in
       let e : Entry = record { session = made.session; command = made.command; reply = told made.answer } in
       rw (← c.made.view_is)
-      (kept-granted c.args.store.now c.grant.new.self c.args.grants.now c.count_grant.new.counts cursor cursor limit past e l c.in-Granted.field-1
+      (kept-granted c.args.store.now c.grant.new.self c.args.grants.now c.count_grant.new.counts cursor cursor limit (base_world c.args.base.now) past e l c.in-Granted.field-1
       (ap told c.in-Granted.is) was below (rw (← c.made.view_is) at c.requires.1.1.1.1.0) c.grant.ensures.nodes
-      (subst (λ (st : State). IsOf (with_lease st l) c.grant.new.self) (sym c.requires.0) c.grant.ensures.kept) (c.count_grant.ensures past e refl was.counted)
-      (cursor-leased c.args.store.now.topology (state_after c.args.store.now.topology past) l cursor was.cursor_is));
+      (subst (λ (st : State). IsOf (with_lease st l) c.grant.new.self) (sym c.requires.0) c.grant.ensures.kept) (c.count_grant.ensures ((base_world c.args.base.now).past ++ past) e refl was.counted)
+      (cursor-leased c.args.store.now.topology (state_from c.args.store.now.topology (base_world c.args.base.now) past) l cursor was.cursor_is));
 }
 
 pub returns-in_default-clause-kept : goal.returns-in_default-clause-kept
@@ -108,6 +109,6 @@ returns-in_default-clause-kept g c = λ limit was below.
     let e : Entry = record { session = made.session; command = made.command; reply = told made.answer } in
     let step = rw (← c.made.view_is) at c.requires.1.1.1.1.0 in
     rw (← c.made.view_is)
-    (kept_push c.args.store.now c.make_change.new.self c.args.grants.now c.count_grant.new.counts c.args.cursor.now None limit past e was below step
+    (kept_push c.args.store.now c.make_change.new.self c.args.grants.now c.count_grant.new.counts c.args.cursor.now None limit (base_world c.args.base.now) past e was below step
     c.make_change.ensures.nodes (subst (λ (st : State). IsOf (changed_by st e.command e.reply) c.make_change.new.self) (sym c.requires.0) c.make_change.ensures.kept)
-    (c.count_grant.ensures past e refl was.counted) tt)
+    (c.count_grant.ensures ((base_world c.args.base.now).past ++ past) e refl was.counted) tt)

@@ -1,6 +1,6 @@
 use Rattle.std.proofs.Common.{refl, ◌∙◌}
 use Rattle.lrc_rules.specs.declared.entry.Entry.{Entry}
-use Rattle.lrc_rules.specs.Histories.{outcome_in, world_after}
+use Rattle.lrc_rules.specs.Histories.{outcome_in, world_from}
 use Rattle.lrc_tool.proofs.PlayLemmas.{none_made, one_more_made, all_made}
 use Rattle.lrc_tool.proofs.play.make_all.Goals as goal
 
@@ -8,6 +8,7 @@ pub loop-command-init : goal.loop-command-init
 loop-command-init c = record {
   nodes = refl;
   limit = refl;
+  base = refl;
   made = none_made c.args.book.now.history c.args.session;
 }
 
@@ -17,10 +18,11 @@ loop-command-preserved c =
     let past = c.loop-command.book.history in
     let nodes = c.loop-command.book.nodes in
     let command = c.command-item.result in
-    let entry : Entry = record { session = c.args.session; command = command; reply = (outcome_in nodes (world_after nodes past) c.args.session command).0 } in
+    let entry : Entry = record { session = c.args.session; command = command; reply = (outcome_in nodes (world_from nodes c.loop-command.book.base past) c.args.session command).0 } in
     record {
       nodes = c.in_ok-add.ensures.same.0 ∙ before.nodes;
       limit = c.in_ok-add.ensures.same.1 ∙ before.limit;
+      base = c.in_ok-add.ensures.same.2 ∙ before.base;
       made = rw c.in_ok-add.ensures.entry (one_more_made c.args.book.now.history past c.args.session c.args.commands.now c.loop-command.command-index entry before.made c.loop-command-test.true c.command-item.is refl);
     }
 

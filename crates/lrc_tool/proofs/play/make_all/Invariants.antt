@@ -6,5 +6,6 @@ abbrev pub invariant-loop-command : goal.invariant-loop-command
 invariant-loop-command l = record {
   nodes : l.book.nodes ≡ l.fn.book.nodes;
   limit : l.book.limit ≡ l.fn.book.limit;
+  base : l.book.base ≡ l.fn.book.base;
   made : AreMadeBehind l.fn.book.history l.session (take l.command-index l.commands) l.book.history;
 }

@@ -1,5 +1,5 @@
 use Rattle.std.proofs.Common.{◌≡◌, ◌-◌, ◌≤◌, All, length, map, take}
-use Rattle.lrc_rules.specs.Histories.{IsLegal}
+use Rattle.lrc_rules.specs.Histories.{first_world, IsLegal}
 use Rattle.lrc_text.specs.Texts.{script_text}
 use Rattle.lrc_tool.proofs.SessionLemmas.{IsFirst}
 use Rattle.lrc_tool.proofs.play.play_alone.Given as goal
@@ -8,6 +8,7 @@ abbrev pub invariant-loop-made : goal.invariant-loop-made
 invariant-loop-made l = record {
   nodes : l.book.nodes ≡ l.fn.book.nodes;
   limit : l.book.limit ≡ 1000000;
+  base : l.book.base ≡ first_world;
   within : l.made ≤ length l.commands;
   legal : IsLegal l.fn.book.nodes l.book.history;
   made : map (λ e. e.command) l.book.history ≡ take l.made l.commands;

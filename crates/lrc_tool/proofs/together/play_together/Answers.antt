@@ -1,5 +1,7 @@
-use Rattle.std.proofs.Common.{◌≡◌, ℕ, List, ap, subst, sym, ◌∙◌}
+use Rattle.std.proofs.Common.{◌≡◌, ◌++◌, ℕ, List, ap, subst, sym, ◌∙◌}
 use Rattle.lrc_topology.specs.declared.NodeInfo.{NodeInfo}
+use Rattle.lrc_rules.specs.Histories.{World, state_from}
+use Rattle.lrc_text.specs.Tables.{tables_text}
 use Rattle.lrc_tool.specs.Judged.{lists_of}
 use Rattle.lrc_tool.specs.Plays.{AreMade, tracks_text}
 use Rattle.lrc_tool.proofs.SessionLemmas.{played_with_tables}
@@ -16,4 +18,6 @@ returns-clause-played g c =
     let printed : text ≡ tracks_text 1 tracks = c.in_ok-text.ensures.text ∙ ap (tracks_text 1) c.as_slice.ensures.value in
     let on_nodes = subst (λ (ns : List NodeInfo). AreMade ns lists book.history (tracks_text 1 tracks)) same c.in_ok-played.ensures.made in
     let made = subst (λ (t : List ℕ). AreMade nodes lists book.history t) (sym printed) on_nodes in
-    played_with_tables nodes book.nodes lists book.history text c.in_ok-whole.whole.items made (c.in_ok-played.ensures.nodes ∙ same) c.in_ok-whole.ensures.text
+    let whole = c.in_ok-whole.whole.items in
+    let shown = subst (λ (w : World). whole ≡ text ++ tables_text book.nodes (state_from book.nodes w book.history)) c.in_ok-played.ensures.base c.in_ok-whole.ensures.text in
+    played_with_tables nodes book.nodes lists book.history text whole made (c.in_ok-played.ensures.nodes ∙ same) shown

@@ -1,8 +1,8 @@
 use Rattle.std.proofs.Common.{ap, sym, ◌∙◌, subst}
 use Rattle.lrc_book.specs.declared.store.Store.{Store}
 use Rattle.lrc_book.specs.Stores.{IsOf}
-use Rattle.lrc_rules.specs.Histories.{state_after}
-use Rattle.lrc_book.specs.Books.{BookView, state_of}
+use Rattle.lrc_rules.specs.Histories.{state_from}
+use Rattle.lrc_book.specs.Books.{BookView, base_world, state_of}
 use Rattle.lrc_book.proofs.book.Book.store.Goals as goal
 
 pub returns-clause-nodes : goal.returns-clause-nodes
@@ -11,6 +11,6 @@ returns-clause-nodes c = ap (λ (k : Store). k.topology) c.deref.ensures ∙ ap 
 pub returns-clause-kept : goal.returns-clause-kept
 returns-clause-kept c =
     let b = c.self.inside in
-    let st = state_after b.store.value.topology b.history.items in
+    let st = state_from b.store.value.topology (base_world b.base) b.history.items in
     subst (λ (v : BookView). IsOf (state_of v) c.deref.result.now) c.self.view_is
     (subst (λ (k : Store). IsOf st k) (sym c.deref.ensures) c.self.invariant.store_is)

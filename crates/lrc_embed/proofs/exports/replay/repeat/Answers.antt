@@ -15,6 +15,8 @@ returns-in-Ok-clause-done c = λ _. (
   c.in-Ok.ensures.entry,
   c.call.ensures.same.0,
   c.call.ensures.same.1,
+  c.call.ensures.same.2,
+  c.call.ensures.same.3,
 )
 
 pub returns-in-Ok-2-clause-different : goal.returns-in-Ok-2-clause-different

@@ -35,6 +35,7 @@ returns g c =
       ap (λ (b : BookView). length b.history) out ∙ counted,
       subst (λ k. made ≡ counts_in k book.history) n (same ∙ ap (λ (b : BookView). counts_in count b.history) (sym out)),
       subst (λ (b : BookView). All (λ s. IsPrefix s.seen b.history) ss) (sym out) begin,
+      ap (λ (b : BookView). b.base) out ∙ parts.locked.7,
     )
 
 pub returns-then-not-are_all : goal.returns-then-not-are_all

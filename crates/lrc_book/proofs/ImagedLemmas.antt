@@ -1,0 +1,121 @@
+-- The walk that makes the rows of an image.
+use Rattle.std.proofs.Common.{[], ◌≡◌, ◌≢◌, ℕ, ◌+◌, ◌<◌, ◌≤◌, inl, inr, Bool, true, false, if◌then◌else◌, List, ◌∷◌, ◌++◌, length, get_or, set, take, map, flat_map, Option, Some, None, refl, sym, ap, subst, ◌∙◌, append_assoc, append-nil, arith}
+use Rattle.std.proofs.Common.{lit<}
+use Rattle.std.specs.Prelude.{option_map, option_to_list, Result, Ok, Err, IfOk, nat_lt}
+use Rattle.std.specs.List.{list_any}
+use Rattle.std.proofs.Math.ListN.{length-set}
+use Rattle.std.proofs.lemmas.Bool.{cases_eq}
+use Rattle.std.proofs.lemmas.List.{ext_get_or, get_or-map, get_or-set_same, get_or-set_other, take_more, length-map}
+use Rattle.std.proofs.lemmas.List.Concat.{flat_map-append}
+use Rattle.lrc_code.specs.declared.codes.Code.TheVariants.{Wide}
+use Rattle.lrc_code.specs.declared.numbers.StripeNo.{StripeNo}
+use Rattle.lrc_code.specs.declared.numbers.Fragment.{Fragment}
+use Rattle.lrc_code.specs.Codes.{fragments}
+use Rattle.lrc_code.proofs.NumbersLemmas.{equal_fragments, equal_stripes}
+use Rattle.lrc_topology.specs.declared.seat.Seat.{Seat}
+use Rattle.lrc_terms.specs.Levels.{homes_of, homes_if}
+use Rattle.lrc_terms.specs.Stripes.{stripe_at}
+use Rattle.lrc_terms.specs.declared.lease.Lease.{Lease}
+use Rattle.lrc_terms.proofs.CodeListLemmas.{fragment-number}
+use Rattle.lrc_rules.specs.declared.entry.Entry.{Entry}
+use Rattle.lrc_leases.specs.Granted.{granted_in}
+use Rattle.lrc_book.specs.Stores.{AreGrantsOf}
+use Rattle.lrc_rules.specs.States.{State, has_stripe, code_of, lease_of}
+use Rattle.lrc_images.specs.declared.image.LeaseRow.{LeaseRow}
+use Rattle.lrc_images.specs.declared.image.StripeRow.{StripeRow}
+use Rattle.lrc_images.specs.declared.image.GrantRow.{GrantRow}
+use Rattle.lrc_images.specs.Rows.{stripe_row, granted_of, grant_row, lease_row, stripe_leases}
+use Rattle.lrc_images.proofs.RowLemmas.{own-number}
+
+-- ---- fragments by number
+
+pub item-number : (items : List Fragment) (i : ℕ) (d : Fragment) → items ≡ fragments Wide → i < 16 → (get_or items i d).value ≡ i
+item-number items i d all within = rw all (fragment-number i d within)
+
+-- the fragment of a number comes at the place of this number
+pub item-at : (items : List Fragment) (f d : Fragment) → items ≡ fragments Wide → get_or items f.value d ≡ f
+item-at items f d all = equal_fragments (get_or items f.value d) f (item-number items f.value d all f.in_range)
+
+-- a list with the value of each fragment at its number
+pub by-fragment : (counts : List ℕ) (value : Fragment → ℕ) → length counts ≡ 16 → ((f : Fragment) → get_or counts f.value 0 ≡ value f) → counts ≡ map value (fragments Wide)
+by-fragment counts value long each =
+    let first : Fragment = record { value = 0; in_range = lit< tt } in
+    ext_get_or 0 counts (map value (fragments Wide)) long (λ k below.
+    let within : k < 16 = omega (arith, below, long) in
+    let number = fragment-number k first within in
+    ap (λ n. get_or counts n 0) (sym number) ∙ each (get_or (fragments Wide) k first) ∙ sym (get_or-map value (fragments Wide) k first 0 within))
+
+-- ---- rows
+
+module _ (st : State) (s : StripeNo) where
+  abbrev pub row_with : List (Option Seat) → StripeRow
+  row_with homes = record { stripe = s; code = code_of st s; homes = homes }
+
+  abbrev own_homes : List (Option Seat)
+  own_homes = map (λ (f : Fragment). homes_of st.homes s f.value) (fragments Wide)
+
+  some-by : (b : Bool) (homes : List (Option Seat)) → (if b then Some own_homes else None) ≡ Some homes → Some (row_with homes) ≡ (if b then Some (row_with own_homes) else None)
+  some-by true homes e = ap (option_map row_with) (sym e)
+  some-by false homes e = absurd (let no : ◌≡◌ {A = Option (List (Option Seat))} None (Some homes) = e in cc)
+
+  none-by : (b : Bool) → (if b then Some own_homes else None) ≡ None → ◌≡◌ {A = Option StripeRow} None (if b then Some (row_with own_homes) else None)
+  none-by true e = absurd (let no : ◌≡◌ {A = Option (List (Option Seat))} (Some own_homes) None = e in cc)
+  none-by false e = refl
+
+  pub stripe-some : (homes : List (Option Seat)) → homes_if (has_stripe st s) (homes_of st.homes s) ≡ Some homes → Some (row_with homes) ≡ stripe_row st s
+  unfolding homes_if
+  stripe-some homes is = some-by (has_stripe st s) homes is
+
+  pub stripe-none : homes_if (has_stripe st s) (homes_of st.homes s) ≡ None → None ≡ stripe_row st s
+  unfolding homes_if
+  stripe-none is = none-by (has_stripe st s) is
+
+module _ (past : List Entry) (kept : List ℕ) (s : StripeNo) (granted : List ℕ) (is : granted ≡ map (λ f. granted_in kept s f) (fragments Wide)) (counted : AreGrantsOf past kept) where
+  same-granted : granted ≡ granted_of past s
+  same-granted = is ∙ (λ i. map (λ f. counted s f i) (fragments Wide))
+
+  abbrev grant_with : List ℕ → GrantRow
+  grant_with counts = record { stripe = s; granted = counts }
+
+  pub grant-some : list_any (nat_lt 0) granted ≡ true → Some (grant_with granted) ≡ grant_row past s
+  grant-some hit =
+      ap (λ (counts : List ℕ). Some (grant_with counts)) same-granted
+      ∙ sym (ap (λ b. if b then Some (grant_with (granted_of past s)) else None) (ap (list_any (nat_lt 0)) (sym same-granted) ∙ hit))
+
+  pub grant-none : list_any (nat_lt 0) granted ≡ false → None ≡ grant_row past s
+  grant-none miss = sym (ap (λ b. if b then Some (grant_with (granted_of past s)) else None) (ap (list_any (nat_lt 0)) (sym same-granted) ∙ miss))
+
+-- a clause of a result that is no error
+pub if-ok : {T E : Type 0} {P Q : T → Type 0} (r : Result T E) → ((t : T) → P t → Q t) → IfOk r P → IfOk r Q
+if-ok (Ok t) into holds = into t holds
+if-ok (Err e) into holds = tt
+
+-- ---- leases
+
+module _ (st : State) (s : StripeNo) (items : List Fragment) (all : items ≡ fragments Wide) (i : ℕ) (d : Fragment) (within : i < 16) (rows before : List LeaseRow)
+    (so_far : rows ≡ before ++ flat_map (λ f. option_to_list (option_map lease_row (lease_of st s f))) (take i (fragments Wide))) where
+  abbrev leases_at : Fragment → List LeaseRow
+  leases_at f = option_to_list (option_map lease_row (lease_of st s f))
+
+  leases-more : (o : Option Lease) → lease_of st s (get_or items i d) ≡ o
+      → rows ++ option_to_list (option_map lease_row o) ≡ before ++ flat_map leases_at (take (i + 1) (fragments Wide))
+  leases-more o is =
+      let here : get_or items i d ≡ get_or (fragments Wide) i d = ap (λ (fs : List Fragment). get_or fs i d) all in
+      ap (λ (l : List LeaseRow). l ++ option_to_list (option_map lease_row o)) so_far
+      ∙ append_assoc before (flat_map leases_at (take i (fragments Wide))) (option_to_list (option_map lease_row o))
+      ∙ ap (λ l. before ++ l) (
+      ap (λ (p : Option Lease). flat_map leases_at (take i (fragments Wide)) ++ option_to_list (option_map lease_row p)) (sym is ∙ ap (lease_of st s) here)
+      ∙ ap (λ l. flat_map leases_at (take i (fragments Wide)) ++ l) (sym (append-nil (leases_at (get_or (fragments Wide) i d))))
+      ∙ sym (flat_map-append leases_at (take i (fragments Wide)) (get_or (fragments Wide) i d ∷ []))
+      ∙ ap (flat_map leases_at) (sym (take_more (fragments Wide) i d within)))
+
+  pub lease-push : (l : Lease) → lease_of st s (get_or items i d) ≡ Some l → rows ++ lease_row l ∷ [] ≡ before ++ flat_map leases_at (take (i + 1) (fragments Wide))
+  lease-push l is = leases-more (Some l) is
+
+  pub lease-pass : lease_of st s (get_or items i d) ≡ None → rows ≡ before ++ flat_map leases_at (take (i + 1) (fragments Wide))
+  lease-pass is = sym (append-nil rows) ∙ leases-more None is
+
+pub leases-all : (st : State) (s : StripeNo) (i : ℕ) (rows before : List LeaseRow)
+    → rows ≡ before ++ flat_map (λ f. option_to_list (option_map lease_row (lease_of st s f))) (take i (fragments Wide)) → i ≡ 16 → rows ≡ before ++ stripe_leases st s
+leases-all st s i rows before so_far end =
+    so_far ∙ ap (λ n. before ++ flat_map (λ f. option_to_list (option_map lease_row (lease_of st s f))) (take n (fragments Wide))) end
