@@ -13,7 +13,8 @@ use Rattle.lrc_topology.specs.Seats.{is_taken}
 use Rattle.lrc_stripes.specs.Tables.{stored_in}
 use Rattle.lrc_terms.specs.Leased.{leased_of}
 use Rattle.lrc_leases.specs.Tables.{leased_in}
-use Rattle.lrc_rules.specs.States.{State, seats_of, taken_seats, mode_of, is_active, is_draining, is_gone, is_online, takes_seats}
+use Rattle.lrc_rules.specs.States.{State, seats_of, taken_seats, mode_of, is_online, takes_seats}
+use Rattle.lrc_terms.specs.Modes.{is_active, is_draining, is_gone}
 use Rattle.lrc_rules.specs.Steps.{without_upgrading}
 use Rattle.lrc_rules.specs.Alike.{AreAlike, AreDistinct}
 use Rattle.lrc_rules.specs.Goodness.{AreSeated}

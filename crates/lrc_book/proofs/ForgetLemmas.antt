@@ -8,7 +8,8 @@ use Rattle.lrc_code.specs.declared.numbers.Fragment.{Fragment}
 use Rattle.lrc_topology.specs.declared.NodeInfo.{NodeInfo}
 use Rattle.lrc_topology.specs.Nodes.{node_at}
 use Rattle.lrc_rules.specs.declared.entry.Entry.{Entry}
-use Rattle.lrc_rules.specs.States.{State, has_number, mode_of, is_active, is_down}
+use Rattle.lrc_rules.specs.States.{State, has_number, mode_of, is_down}
+use Rattle.lrc_terms.specs.Modes.{is_active}
 use Rattle.lrc_rules.specs.Leases.{grants}
 use Rattle.lrc_rules.specs.Histories.{World, first_world, world_from, state_from}
 use Rattle.lrc_rules.specs.Alike.{AreAlike}

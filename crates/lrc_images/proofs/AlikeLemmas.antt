@@ -20,8 +20,8 @@ use Rattle.lrc_terms.specs.Levels.{home_of, homes_of}
 use Rattle.lrc_terms.specs.declared.lease.Lease.{Lease}
 use Rattle.lrc_terms.specs.Leased.{is_of, leases_in}
 use Rattle.lrc_terms.proofs.LeaseLemmas.{is_of-parts}
-use Rattle.lrc_rules.specs.declared.mode.Mode.{Mode}
-use Rattle.lrc_rules.specs.declared.mode.Mode.TheVariants.{Active, Draining, Gone}
+use Rattle.lrc_terms.specs.declared.mode.Mode.{Mode}
+use Rattle.lrc_terms.specs.declared.mode.Mode.TheVariants.{Active, Draining, Gone}
 use Rattle.lrc_rules.specs.declared.entry.Entry.{Entry}
 use Rattle.lrc_rules.specs.States.{State, has_stripe, code_of, has_number, held_by, seats_of, taken_seats, mode_of, is_online}
 use Rattle.lrc_rules.specs.Choices.{AreApart}

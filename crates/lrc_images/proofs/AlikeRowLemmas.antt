@@ -22,10 +22,11 @@ use Rattle.lrc_terms.specs.Stripes.{stripe_at}
 use Rattle.lrc_terms.specs.declared.lease.Lease.{Lease}
 use Rattle.lrc_terms.proofs.CodeListLemmas.{fragment-number}
 use Rattle.lrc_terms.proofs.LeaseLemmas.{contains-leases_in, leases_in-contains}
-use Rattle.lrc_rules.specs.declared.mode.Mode.{Mode}
-use Rattle.lrc_rules.specs.declared.mode.Mode.TheVariants.{Active, Draining, Gone}
+use Rattle.lrc_terms.specs.declared.mode.Mode.{Mode}
+use Rattle.lrc_terms.specs.declared.mode.Mode.TheVariants.{Active, Draining, Gone}
 use Rattle.lrc_rules.specs.declared.entry.Entry.{Entry}
-use Rattle.lrc_rules.specs.States.{State, has_stripe, code_of, lease_of, has_number, held_by, seats_of, mode_of, is_active, is_draining, is_gone, is_down}
+use Rattle.lrc_rules.specs.States.{State, has_stripe, code_of, lease_of, has_number, held_by, seats_of, mode_of, is_down}
+use Rattle.lrc_terms.specs.Modes.{is_active, is_draining, is_gone}
 use Rattle.lrc_rules.specs.Leases.{grants}
 use Rattle.lrc_rules.specs.Alike.{HaveSame, AreAlike}
 use Rattle.lrc_rules.specs.Goodness.{AreSeated, IsGood}

@@ -12,7 +12,8 @@ use Rattle.lrc_terms.specs.Levels.{homes_of}
 use Rattle.lrc_terms.specs.Stripes.{stripe_at, comes_before}
 use Rattle.lrc_terms.specs.declared.lease.Lease.{Lease}
 use Rattle.lrc_rules.specs.declared.entry.Entry.{Entry}
-use Rattle.lrc_rules.specs.States.{State, has_stripe, code_of, lease_of, mode_of, is_active, is_down}
+use Rattle.lrc_rules.specs.States.{State, has_stripe, code_of, lease_of, mode_of, is_down}
+use Rattle.lrc_terms.specs.Modes.{is_active}
 use Rattle.lrc_rules.specs.Leases.{grants}
 use Rattle.lrc_images.specs.declared.image.NodeRow.{NodeRow}
 use Rattle.lrc_images.specs.declared.image.StripeRow.{StripeRow}

@@ -9,14 +9,15 @@ use Rattle.lrc_code.proofs.NumbersLemmas.{equal_nodes}
 use Rattle.lrc_topology.specs.declared.NodeInfo.{NodeInfo}
 use Rattle.lrc_topology.specs.Nodes.{node_at}
 use Rattle.lrc_terms.specs.declared.lease.Lease.{Lease as LeaseRecord}
-use Rattle.lrc_rules.specs.declared.mode.Mode.TheVariants.{Active, Draining, Gone}
+use Rattle.lrc_terms.specs.declared.mode.Mode.TheVariants.{Active, Draining, Gone}
 use Rattle.lrc_rules.specs.declared.command.Command.{Command}
 use Rattle.lrc_rules.specs.declared.command.Command.TheVariants.{Done}
 use Rattle.lrc_rules.specs.declared.node_command.NodeCommand.{NodeCommand}
 use Rattle.lrc_rules.specs.declared.reply.Reply.{Reply}
 use Rattle.lrc_rules.specs.declared.reply.Reply.TheVariants.{Idle, Ended, Changed}
 use Rattle.lrc_rules.specs.declared.entry.Entry.{Entry}
-use Rattle.lrc_rules.specs.States.{State, lease_of, mode_of, is_active, is_down}
+use Rattle.lrc_rules.specs.States.{State, lease_of, mode_of, is_down}
+use Rattle.lrc_terms.specs.Modes.{is_active}
 use Rattle.lrc_rules.specs.Steps.{changed_on, node_command, step}
 use Rattle.lrc_rules.specs.Changes.{with_done, changed_at, changed_by}
 use Rattle.lrc_rules.specs.Histories.{World, first_world, next_world, world_from}
