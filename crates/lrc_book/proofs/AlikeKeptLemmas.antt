@@ -1,5 +1,5 @@
 -- The store of a state is that of any alike state.
-use Rattle.std.proofs.Common.{◌≡◌, ℕ, Bool, true, false, not, ◌&&◌, List, map, Option, Some, None, refl, sym, ap, ◌∙◌}
+use Rattle.std.proofs.Common.{◌≡◌, ℕ, Bool, true, false, not, ◌&&◌, List, map, Option, Some, None, refl, sym, ap, subst, ◌∙◌}
 use Rattle.std.proofs.Math.Path.{fun_ext}
 use Rattle.std.specs.Option.{option_map_or}
 use Rattle.lrc_code.specs.declared.numbers.StripeNo.{StripeNo}
@@ -13,7 +13,7 @@ use Rattle.lrc_topology.specs.Seats.{is_taken}
 use Rattle.lrc_stripes.specs.Tables.{stored_in}
 use Rattle.lrc_terms.specs.Leased.{leased_of}
 use Rattle.lrc_leases.specs.Tables.{leased_in}
-use Rattle.lrc_rules.specs.States.{State, seats_of, taken_seats, mode_of, is_online, takes_seats}
+use Rattle.lrc_rules.specs.States.{State, seats_of, taken_seats, has_number, mode_of, is_online, takes_seats}
 use Rattle.lrc_terms.specs.Modes.{is_active, is_draining, is_gone}
 use Rattle.lrc_rules.specs.Steps.{without_upgrading}
 use Rattle.lrc_rules.specs.Alike.{AreAlike, AreDistinct}
@@ -23,7 +23,7 @@ use Rattle.lrc_images.proofs.SameLemmas.{same-map}
 use Rattle.lrc_images.proofs.AlikeLemmas.{alike-number, alike-mode, alike-stripe, alike-code, alike-seats, alike-home, alike-lease, alike-seated}
 use Rattle.lrc_book.specs.declared.store.Store.{Store}
 use Rattle.lrc_book.specs.Ties.{table_of}
-use Rattle.lrc_book.specs.Stores.{IsOf, stored_of, kept_table}
+use Rattle.lrc_book.specs.Stores.{IsOf, node_state, stored_of, kept_table}
 
 module _ (nodes : List NodeInfo) (w v : State) (alike : AreAlike w v) where
   alike-online : (n : NodeInfo) → is_online w n ≡ is_online v n
@@ -39,15 +39,6 @@ module _ (nodes : List NodeInfo) (w v : State) (alike : AreAlike w v) where
   takes-by None = refl
   takes-by (Some n) = alike-takes n
 
-  online-by : (o : Option NodeInfo) → option_map_or (is_online w) o false ≡ option_map_or (is_online v) o false
-  online-by None = refl
-  online-by (Some n) = alike-online n
-
-  drains-by : (o : Option NodeInfo) → option_map_or (λ (m : NodeInfo). is_draining (mode_of w m.number)) o false
-      ≡ option_map_or (λ (m : NodeInfo). is_draining (mode_of v m.number)) o false
-  drains-by None = refl
-  drains-by (Some n) = ap is_draining (alike-mode nodes w v alike n.number)
-
   alike-taken : is_taken (taken_seats w) ≡ is_taken (taken_seats v)
   alike-taken =
       let seats = same-map (λ (h : Held). h.seat) (seats_of w) (seats_of v) (alike-seats nodes w v alike) in
@@ -58,14 +49,19 @@ module _ (nodes : List NodeInfo) (w v : State) (alike : AreAlike w v) where
       let eligible = fun_ext (λ (n : NodeNo). takes-by (node_at nodes n)) in
       let taken = alike-taken in λ i. record { nodes = nodes; eligible = eligible i; taken = taken i }
 
+  -- a node is stored in the same state
+  alike-state : (n : NodeInfo) → node_state w n ≡ node_state v n
+  alike-state n =
+      let m = alike-number nodes w v alike n.number in
+      let mode = alike-mode nodes w v alike n.number in
+      λ i. record { node = n; mode = mode i; is_down = m.down i; is_upgrading = option_map_or (λ (u : UpgradeNo). same_upgrade u n.upgrade) (alike.upgrading i) false }
+
   alike-stored : AreSeated nodes w → (spare : ℕ) → stored_of nodes w spare ≡ stored_of nodes v spare
   alike-stored seated spare =
       let stripes = fun_ext (alike-stripe nodes w v alike) in
       let code = fun_ext (alike-code nodes w v alike) in
       let homes = fun_ext (λ (s : StripeNo). fun_ext (alike-home nodes w v alike seated s)) in
-      let online = fun_ext (λ (n : NodeNo). online-by (node_at nodes n)) in
-      let draining = fun_ext (λ (n : NodeNo). drains-by (node_at nodes n)) in
-      λ i. record { nodes = nodes; stripes = stripes i; code = code i; homes = homes i; online = online i; draining = draining i; spare = spare }
+      λ i. record { nodes = map (λ n. alike-state n i) nodes; stripes = stripes i; code = code i; homes = homes i; spare = spare }
 
   alike-leased : AreSeated nodes w → (spare : ℕ) → leased_of w.leases spare ≡ leased_of v.leases spare
   alike-leased seated spare =
@@ -87,14 +83,10 @@ alike-kept w v k alike distinct kept =
     } in record {
       known = kept.known;
       seated = alike-seated nodes w v alike kept.seated distinct;
+      apart = λ n. let m = alike-number nodes w v alike n in subst (λ (g : Bool). g ≡ true → has_number v.draining n ≡ false) m.gone (subst (λ (d : Bool). has_number w.gone n ≡ true → d ≡ false) m.draining (kept.apart n));
       table_is = kept.table_is ∙ alike-table nodes (without_upgrading w) (without_upgrading v) without;
       stripes_is = kept.stripes_is ∙ alike-stored nodes w v alike kept.seated (stored_in k.stripes).spare;
       leases_is = kept.leases_is ∙ alike-leased nodes w v alike kept.seated (leased_in k.leases).spare;
-      modes_are = record {
-        gone_are = λ n. kept.modes_are.gone_are n ∙ (alike-number nodes w v alike n).gone;
-        draining_are = λ n. kept.modes_are.draining_are n ∙ (alike-number nodes w v alike n).draining;
-        down_are = λ n. kept.modes_are.down_are n ∙ (alike-number nodes w v alike n).down;
-        upgrading_is = kept.modes_are.upgrading_is ∙ alike.upgrading;
-      };
+      upgrading_is = kept.upgrading_is ∙ alike.upgrading;
       clock_is = kept.clock_is ∙ alike.clock;
     }

@@ -134,7 +134,7 @@ fn image_of(alloc: Global, store: &Store, grants: &Grants, before: u64) -> Resul
     Ok(Image {
         before,
         clock: store.clock.get(),
-        upgrading: store.modes.upgrading,
+        upgrading: store.upgrading,
         nodes,
         stripes,
         grants: granted,
@@ -162,8 +162,8 @@ fn node_row_of(store: &Store, node: NodeNo) -> Option<NodeRow>
     ensures { (st : State) → IsOf st store.now → result ≡ node_row store.now.topology st node }
 {
     store.topology.node(node)?;
-    let mode = store.modes.mode(node);
-    let is_down = store.modes.is_down(node);
+    let mode = store.mode(node);
+    let is_down = store.is_down(node);
     if mode == Mode::Active && !is_down {
         None
     } else {

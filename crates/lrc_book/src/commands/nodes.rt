@@ -40,14 +40,21 @@ impl Store {
     fn forbid(&self, command: NodeCommand, node: NodeNo) -> bool
         ensures { (st : State) → IsOf st self.now → IsSome (node_at self.now.topology node) → result ≡ is_wrong_on command st node }
     {
-        is_wrong_for(command, self.mode(node), self.stripes.is_down(node))
+        is_wrong_for(command, self.mode(node), self.is_down(node))
     }
 
     /// The mode of a node of the store.
-    fn mode(&self, node: NodeNo) -> Mode
+    pub(crate) fn mode(&self, node: NodeNo) -> Mode
         ensures { (st : State) → IsOf st self.now → IsSome (node_at self.now.topology node) → result ≡ mode_of st node }
     {
         self.stripes.mode(node).unwrap_or(Mode::Gone)
+    }
+
+    /// Whether a node of the store is down.
+    pub(crate) fn is_down(&self, node: NodeNo) -> bool
+        ensures { (st : State) → IsOf st self.now → IsSome (node_at self.now.topology node) → result ≡ is_down st node }
+    {
+        self.stripes.is_down(node)
     }
 
     /// The reply to the command that retires a node: refused where seats are on it.

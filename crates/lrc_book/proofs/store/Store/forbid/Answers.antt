@@ -1,11 +1,4 @@
-use Rattle.std.proofs.Common.{ap, ◌∙◌}
-use Rattle.lrc_nodes.specs.States.{down_in}
-use Rattle.lrc_stripes.specs.Stored.{Stored}
-use Rattle.lrc_book.proofs.NodeStateLemmas.{down-known}
 use Rattle.lrc_book.proofs.store.Store.forbid.Goals as goal
 
 pub returns : goal.returns
-returns c = λ st kept known.
-    let n = c.args.node in
-    c.is_wrong_for.ensures st n (c.mode.ensures st kept known)
-    (c.is_down.ensures ∙ (ap (λ (t : Stored). down_in t.nodes n) kept.stripes_is ∙ down-known c.args.self.now.topology st n known))
+returns c = λ st kept known. c.is_wrong_for.ensures st c.args.node (c.mode.ensures st kept known) (c.is_down.ensures st kept known)
