@@ -62,6 +62,7 @@ static void want(bool holds, int line) {
 // more; with each status.
 typedef struct {
     size_t count, at_risk;
+    uint64_t before;
     uint32_t clock;
     lrc_entry entries[ENTRIES];
     lrc_homes homes[STRIPES];
@@ -72,7 +73,7 @@ typedef struct {
     uint32_t loads[NODES];
     lrc_mode modes[NODES];
     lrc_risk rows[STRIPES];
-    uint32_t statuses[3 + ENTRIES + STRIPES * (4 + LRC_FRAGMENTS) + NODES * 2];
+    uint32_t statuses[4 + ENTRIES + STRIPES * (4 + LRC_FRAGMENTS) + NODES * 2];
 } looks_of_book;
 
 static void look(looks_of_book *it) {
@@ -82,7 +83,7 @@ static void look(looks_of_book *it) {
     *status++ = lrc_embed_count(&handle, &it->count);
     WANT(it->count <= ENTRIES);
     *status++ = lrc_embed_clock(&handle, &it->clock);
-    for (size_t i = 0; i < it->count; i++) *status++ = lrc_embed_entry(&handle, i, &it->entries[i]);
+    *status++ = lrc_embed_before(&handle, &it->before);
     for (uint16_t stripe = 0; stripe < STRIPES; stripe++) {
         *status++ = lrc_embed_homes(&handle, stripe, &it->homes[stripe]);
         *status++ = lrc_embed_level(&handle, stripe, &it->levels[stripe]);
@@ -96,6 +97,7 @@ static void look(looks_of_book *it) {
         *status++ = lrc_embed_mode(&handle, node, &it->modes[node]);
     }
     *status++ = lrc_embed_risk(&handle, it->rows, STRIPES, &it->at_risk);
+    for (size_t i = 0; i < it->count; i++) *status++ = lrc_embed_entry(&handle, i, &it->entries[i]);
     is_looking = false;
 }
 
@@ -215,6 +217,7 @@ static void closed(void) {
         lrc_mode mode;
         lrc_risk rows[2];
         size_t number;
+        uint64_t wide;
         lrc_entry entry;
     } found = {.entry = pattern.entry};
     lrc_command command = {.kind = LRC_NEXT};
@@ -235,6 +238,8 @@ static void closed(void) {
     WANT(lrc_embed_risk(&handle, found.rows, 2, &number) == LRC_IS_CLOSED);
     WANT(lrc_embed_count(&handle, &found.number) == LRC_IS_CLOSED);
     WANT(lrc_embed_clock(&handle, &found.load) == LRC_IS_CLOSED);
+    WANT(lrc_embed_before(&handle, &found.wide) == LRC_IS_CLOSED);
+    WANT(lrc_embed_forget(&handle) == LRC_IS_CLOSED);
     WANT(lrc_embed_entry(&handle, 0, &found.entry) == LRC_IS_CLOSED);
     WANT(number == 99 && memcmp(&found, pattern.bytes, sizeof pattern.bytes) == 0);
     WANT(lrc_embed_close(&handle) == LRC_DONE);
@@ -500,6 +505,42 @@ static void replays(void) {
     WANT(replay(entries, count, &position) == LRC_OUT_OF_RANGE && position == 2);
 }
 
+// A book forgets its entries: the looks are as before, but for the count, the entries, and the number of those before them.
+static void forget(void) {
+    uint32_t status;
+    STATUS(status, lrc_embed_forget(&handle));
+    WANT(status == LRC_DONE);
+    look(&after);
+    WANT(after.count == 0 && after.before == before.before + before.count);
+    after.count = before.count, after.before = before.before;
+    memcpy(after.entries, before.entries, sizeof after.entries);
+    WANT(memcmp(&before, &after, sizeof before) == 0);
+}
+
+static void forgets(void) {
+    lrc_lease lease;
+    WANT(lrc_embed_close(&handle) == LRC_DONE);
+    open_twenty();
+    forget();
+    WANT(MAKE(1, .kind = LRC_PLACE, .stripe = 1).kind == LRC_PLACED);
+    WANT(MAKE(1, .kind = LRC_PLACE6, .stripe = 2).kind == LRC_PLACED6);
+    WANT(MAKE(1, .kind = LRC_FAIL, .node = 3).kind == LRC_CHANGED);
+    WANT(MAKE(1, .kind = LRC_DRAIN, .node = 5).kind == LRC_CHANGED);
+    WANT(MAKE(1, .kind = LRC_DOWN, .node = 7).kind == LRC_CHANGED);
+    WANT(MAKE(1, .kind = LRC_UPGRADE, .domain = 8).kind == LRC_CHANGED);
+    WANT(MAKE(1, .kind = LRC_TICK).kind == LRC_TICKED);
+    WANT(MAKE(2, .kind = LRC_LEASE, .stripe = 1, .fragment = 3).lease.epoch == 1);
+    forget();
+    WANT(lrc_embed_lease(&handle, 1, 3, &lease) == LRC_DONE && lease.epoch == 1 && lease.holder == 2 && lease.expiry == 4);
+    WANT(MAKE(1, .kind = LRC_REVOKE, .stripe = 1, .fragment = 3).kind == LRC_ENDED);
+    WANT(MAKE(1, .kind = LRC_LEASE, .stripe = 1, .fragment = 3).lease.epoch == 2);
+    WANT(count_of() == 2);
+    forget();
+    forget();
+    look(&after);
+    WANT(after.before == 10 && after.count == 0);
+}
+
 static void fill(void) {
     lrc_command command = {.kind = LRC_UP, .node = 1};
     lrc_reply reply = {0};
@@ -523,6 +564,12 @@ static void fill(void) {
     WANT(lrc_embed_call(&handle, 1, &tick, &reply) == LRC_FULL && reply.kind == 99);
     WANT(lrc_embed_peek(&handle, 1, &tick, &reply) == LRC_FULL && reply.kind == 99);
     WANT(lrc_embed_clock(&handle, &clock) == LRC_DONE && clock == 0);
+    uint64_t forgotten = 99;
+    WANT(lrc_embed_forget(&handle) == LRC_DONE && count_of() == 0);
+    WANT(lrc_embed_before(&handle, &forgotten) == LRC_DONE && forgotten == LRC_HISTORY_LIMIT);
+    for (size_t i = 0; i < LRC_HISTORY_LIMIT; i++)
+        WANT(lrc_embed_call(&handle, 1, &command, &reply) == LRC_DONE);
+    WANT(lrc_embed_call(&handle, 1, &command, &reply) == LRC_FULL && count_of() == LRC_HISTORY_LIMIT);
     WANT(lrc_embed_replay(&handle, &entry, 1, &position) == LRC_FULL && position == 0);
     WANT(lrc_embed_count(&handle, &position) == LRC_IS_CLOSED);
 }
@@ -550,6 +597,7 @@ int main(int argc, char **argv) {
     WANT(MAKE(1, .kind = LRC_DROP, .stripe = 2).kind == LRC_DROPPED);
     narrow();
     replays();
+    forgets();
     if (argc > 1 && strcmp(argv[1], "full") == 0) fill();
     WANT(lrc_embed_close(&handle) == LRC_DONE);
     closed();

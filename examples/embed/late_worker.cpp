@@ -55,6 +55,14 @@ class Book {
         done("count", lrc_embed_count(&handle, &count));
         return count;
     }
+    // The number of entries that were forgotten.
+    std::uint64_t before() {
+        std::uint64_t before = 0;
+        done("before", lrc_embed_before(&handle, &before));
+        return before;
+    }
+    // Forgets the entries, which the log has.
+    void forget() { done("forget", lrc_embed_forget(&handle)); }
     lrc_entry entry(std::size_t index) {
         lrc_entry entry{};
         done("entry", lrc_embed_entry(&handle, index, &entry));

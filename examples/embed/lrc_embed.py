@@ -1,7 +1,7 @@
 """The book of liblrc_embed.so for Python: the structs and constants of lrc_embed.h, and a class that owns the handle."""
 import ctypes
 import weakref
-from ctypes import c_bool, c_size_t, c_uint8, c_uint16, c_uint32, c_void_p
+from ctypes import c_bool, c_size_t, c_uint8, c_uint16, c_uint32, c_uint64, c_void_p
 from enum import IntEnum
 from operator import index as whole
 
@@ -240,6 +240,14 @@ class Book:
 
     def count(self):
         return self.result_of("count", c_size_t()).value
+
+    def before(self):
+        """The number of entries that were forgotten."""
+        return self.result_of("before", c_uint64()).value
+
+    def forget(self):
+        """Forgets the entries, which the log has. All looks but those at the history return what they returned before."""
+        self.done("forget")
 
     def entry(self, index):
         return self.result_of("entry", Entry(), c_size_t(within("index", index)))

@@ -54,7 +54,7 @@ enum lrc_status {
     LRC_IS_OPEN = 2,       // the handle to be opened is open
     LRC_OUT_OF_RANGE = 3,  // a session, a kind of command, a stripe or a fragment is out of its range
     LRC_UNKNOWN = 4,       // there is no such stripe, lease, node or entry
-    LRC_FULL = 5,          // the history has LRC_HISTORY_LIMIT entries
+    LRC_FULL = 5,          // the history has LRC_HISTORY_LIMIT entries; of lrc_embed_forget: a number is at its end
     LRC_OUT_OF_MEMORY = 6, // memory was refused, and the history is as it was: the call may be repeated (but a replay
                            // has closed the handle)
     LRC_SHORT = 7,         // the buffer has no room for all rows
@@ -263,6 +263,12 @@ uint32_t lrc_embed_peek(lrc_handle *handle, uint8_t session, const lrc_command *
 // command does not use, and what is reserved outside the reply, is ignored.
 uint32_t lrc_embed_replay(lrc_handle *handle, const lrc_entry *entries, size_t count, size_t *position);
 
+// Forgets the entries: the history is empty then, and takes LRC_HISTORY_LIMIT more. The looks return what they returned
+// before, but for those at the history; epochs go on where they were. DONE, IS_CLOSED, OUT_OF_MEMORY; or FULL, if a
+// fragment was leased 4,293,967,295 times, or the clock is 4,293,967,292. With another status than DONE nothing changes.
+// Forget only what the log has, since an entry that is forgotten can't be read any more.
+uint32_t lrc_embed_forget(lrc_handle *handle);
+
 // The looks. They change nothing.
 // DONE, IS_CLOSED, OUT_OF_RANGE, or UNKNOWN if there is no such stripe.
 uint32_t lrc_embed_homes(lrc_handle *handle, uint16_t stripe, lrc_homes *homes);
@@ -283,6 +289,9 @@ uint32_t lrc_embed_clock(lrc_handle *handle, uint32_t *clock);
 uint32_t lrc_embed_risk(lrc_handle *handle, lrc_risk *rows, size_t length, size_t *count);
 // The number of entries of the history: DONE or IS_CLOSED.
 uint32_t lrc_embed_count(lrc_handle *handle, size_t *count);
+// The number of entries that were forgotten, so that the entry at an index is number `before` + index + 1 of the store: DONE
+// or IS_CLOSED.
+uint32_t lrc_embed_before(lrc_handle *handle, uint64_t *before);
 // The entry at an index, from 0: DONE, IS_CLOSED or UNKNOWN.
 uint32_t lrc_embed_entry(lrc_handle *handle, size_t index, lrc_entry *entry);
 

@@ -1,5 +1,5 @@
 -- What calls and looks return of the book of a handle.
-use Rattle.std.specs.Prelude.{◌≡◌, ◌≢◌, ℕ, List, [], ◌∷◌, ◌++◌, drop, length, Option, Some, None, option_map, ◌⊎◌, ◌≤◌}
+use Rattle.std.specs.Prelude.{◌≡◌, ◌≢◌, ℕ, ◌+◌, List, [], ◌∷◌, ◌++◌, drop, length, Option, Some, None, option_map, ◌⊎◌, ◌≤◌}
 use Rattle.lrc_code.specs.declared.numbers.StripeNo.{StripeNo}
 use Rattle.lrc_code.specs.declared.numbers.Fragment.{Fragment}
 use Rattle.lrc_code.specs.declared.numbers.NodeNo.{NodeNo}
@@ -9,8 +9,10 @@ use Rattle.lrc_topology.specs.declared.error.TopologyError.{TopologyError}
 use Rattle.lrc_topology.specs.Documents.{IsTopologyOf, IsRefusedBy}
 use Rattle.lrc_rules.specs.declared.command.Command.{Command}
 use Rattle.lrc_rules.specs.declared.entry.Entry.{Entry}
+use Rattle.lrc_rules.specs.Leases.{grants}
+use Rattle.lrc_rules.specs.Alike.{AreAlike}
 use Rattle.lrc_rules.specs.Histories.{World, first_world, outcome_in}
-use Rattle.lrc_book.specs.Books.{BookView, world_of}
+use Rattle.lrc_book.specs.Books.{BookView, world_of, state_of}
 use Rattle.lrc_embed.specs.declared.command.LrcCommand.{LrcCommand}
 use Rattle.lrc_embed.specs.declared.reply.LrcReply.{LrcReply}
 use Rattle.lrc_embed.specs.declared.risk.LrcRisk.{LrcRisk}
@@ -55,6 +57,13 @@ IsStepOf b session command reply after =
 abbrev pub IsCall : ℕ → LrcCommand → LrcReply → BookView → BookView → Type 0
 IsCall number c reply b after =
     (session : SessionNo) × (command : Command) × (session.value ≡ number) × IsCommand c command × IsStepOf b session command reply after
+
+-- The history is empty, after all entries of the book before. The state is alike, and as many leases were granted for each fragment.
+abbrev pub IsForgotten : BookView → BookView → Type 0
+IsForgotten b after =
+    (after.history ≡ []) × (after.before ≡ b.before + length b.history) × AreAlike (state_of b) (state_of after)
+    × ((s : StripeNo) (f : Fragment) → grants after.base.past s f ≡ grants (b.base.past ++ b.history) s f)
+    × (after.nodes ≡ b.nodes) × (after.limit ≡ b.limit)
 
 -- the stripe of a number that is in its range
 abbrev pub AtStripe : ℕ → (StripeNo → Type 0) → Type 0

@@ -2,6 +2,7 @@
 //! `lrc_embed_open` and `lrc_embed_replay` may write where a text or an entry was refused.
 
 mod call;
+mod forget;
 mod history;
 mod looks;
 mod open;

@@ -1,0 +1,57 @@
+ghost use Rattle.std.specs.Prelude.{◌≡◌, ◌≢◌, ◌↔◌, ◌⊎◌, Some, None};
+ghost use Rattle.lrc_book.specs.Books.{IsSpent};
+ghost use Rattle.lrc_embed.specs.Calls.{Of, contents, IsForgotten};
+
+use crate::LrcHandle;
+use crate::status::{DONE, FULL, IS_CLOSED, OUT_OF_MEMORY};
+use lrc_book::Book;
+use lrc_code::Fault;
+use std::alloc::Global;
+
+/// Forgets the entries: the history is empty then. All looks but those at the history return what they returned before.
+#[unsafe(no_mangle)]
+pub extern "C" fn lrc_embed_forget(alloc: Global, handle: &mut LrcHandle) -> u32
+    ensures done { (result ≡ 0) → Of handle.old.owned.book (λ b. Of handle.new.owned.book (IsForgotten b)) }
+    ensures unchanged { (result ≢ 0) → contents handle.new.owned.book ≡ contents handle.old.owned.book }
+    ensures full { (result ≢ 1) → Of handle.old.owned.book (λ b. (result ≡ 5) ↔ IsSpent b) }
+    ensures closed { (result ≡ 1) → handle.old.owned.book ≡ None }
+    ensures statuses { (result ≡ 0) ⊎ (result ≡ 1) ⊎ (result ≡ 5) ⊎ (result ≡ 6) }
+{
+    let Some(mut book) = handle.take(alloc) else {
+        return IS_CLOSED;
+    };
+    let status = forget(&mut book);
+    handle.put(book);
+    status
+}
+
+/// Forgets the entries of a book.
+fn forget(book: &mut Book) -> u32
+    ensures done { (result ≡ 0) → IsForgotten book.old book.new }
+    ensures unchanged { (result ≢ 0) → contents (Some book.new) ≡ contents (Some book.old) }
+    ensures full { (result ≡ 5) ↔ IsSpent book.old }
+    ensures statuses { (result ≡ 0) ⊎ (result ≡ 5) ⊎ (result ≡ 6) }
+{
+    match book.forget() {
+        Ok(_) => DONE,
+        Err(Fault::HistoryFull) => FULL,
+        Err(Fault::OutOfMemory) => OUT_OF_MEMORY,
+    }
+}
+
+/// The number of entries of the store before those of the history: the entries that were forgotten.
+#[unsafe(no_mangle)]
+pub extern "C" fn lrc_embed_before(alloc: Global, handle: &mut LrcHandle, before: &mut u64) -> u32
+    ensures same { handle.new.owned.book ≡ handle.old.owned.book }
+    ensures value { (result ≡ 0) → Of handle.old.owned.book (λ b. b.before ≡ before.new) }
+    ensures closed { (result ≡ 1) → handle.old.owned.book ≡ None }
+    ensures statuses { (result ≡ 0) ⊎ (result ≡ 1) }
+    ensures unwritten { (result ≢ 0) → before.new ≡ before.old }
+{
+    let Some(book) = handle.take(alloc) else {
+        return IS_CLOSED;
+    };
+    *before = book.before();
+    handle.put(book);
+    DONE
+}
