@@ -21,9 +21,9 @@ use Rattle.lrc_rules.specs.Goodness.{AreSeated}
 use Rattle.lrc_rules.proofs.TakenLemmas.{taken-same}
 use Rattle.lrc_images.proofs.SameLemmas.{same-map}
 use Rattle.lrc_images.proofs.AlikeLemmas.{alike-number, alike-mode, alike-stripe, alike-code, alike-seats, alike-home, alike-lease, alike-seated}
-use Rattle.lrc_book.specs.declared.store.Store.{Store}
-use Rattle.lrc_book.specs.Ties.{table_of}
-use Rattle.lrc_book.specs.Stores.{IsOf, node_state, stored_of, kept_table}
+use Rattle.lrc_store.specs.declared.store.Store.{Store}
+use Rattle.lrc_bars.specs.Ties.{table_of, kept_table}
+use Rattle.lrc_store.specs.Stores.{IsOf, node_state, stored_of}
 
 module _ (nodes : List NodeInfo) (w v : State) (alike : AreAlike w v) where
   alike-online : (n : NodeInfo) → is_online w n ≡ is_online v n

@@ -4,11 +4,11 @@ use Rattle.std.proofs.lemmas.List.Sums.{count_by-le-length, sum_by-append}
 use Rattle.lrc_code.specs.declared.numbers.StripeNo.{StripeNo}
 use Rattle.lrc_code.specs.declared.numbers.Fragment.{Fragment}
 use Rattle.lrc_rules.specs.declared.entry.Entry.{Entry}
-use Rattle.lrc_book.specs.declared.store.Store.{Store}
+use Rattle.lrc_store.specs.declared.store.Store.{Store}
 use Rattle.lrc_rules.specs.Leases.{is_grant, grants}
 use Rattle.lrc_rules.specs.Histories.{World}
-use Rattle.lrc_book.specs.Stores.{AreGrantsOf, AreFew}
-use Rattle.lrc_book.specs.Repairing.{IsKept}
+use Rattle.lrc_store.specs.Stores.{AreGrantsOf, AreFew}
+use Rattle.lrc_book.specs.Kept.{IsKept}
 use Rattle.lrc_rules.proofs.LeaseCountLemmas.{grants-push}
 
 -- a fragment was granted at most as often as there are entries

@@ -22,9 +22,9 @@ use Rattle.lrc_images.specs.Rows.{IsImageOf}
 use Rattle.lrc_images.proofs.AlikeLemmas.{alike-number, alike-mode, alike-good}
 use Rattle.lrc_images.proofs.AlikeRowLemmas.{image-alike, image-grants}
 use Rattle.lrc_images.proofs.DistinctLemmas.{image-distinct}
-use Rattle.lrc_book.specs.declared.store.Store.{Store}
+use Rattle.lrc_store.specs.declared.store.Store.{Store}
 use Rattle.lrc_book.specs.Books.{BookView, state_of, IsSpent}
-use Rattle.lrc_book.specs.Repairing.{IsBase, IsKept}
+use Rattle.lrc_book.specs.Kept.{IsBase, IsKept}
 use Rattle.lrc_book.proofs.AlikeKeptLemmas.{alike-kept}
 
 -- ---- the ends of the numbers

@@ -8,16 +8,17 @@ use Rattle.lrc_rules.specs.declared.kind.Kind.{Kind}
 use Rattle.lrc_rules.specs.declared.command.Command.{Command}
 use Rattle.lrc_rules.specs.declared.reply.Reply.TheVariants.{Granted}
 use Rattle.lrc_rules.specs.declared.entry.Entry.{Entry}
-use Rattle.lrc_book.specs.declared.store.Store.{Store}
+use Rattle.lrc_store.specs.declared.store.Store.{Store}
 use Rattle.lrc_rules.specs.States.{State}
 use Rattle.lrc_rules.specs.Leases.{with_lease}
 use Rattle.lrc_rules.specs.Changes.{changed_by}
 use Rattle.lrc_rules.specs.Steps.{step}
 use Rattle.lrc_rules.specs.Histories.{World, outcome_in, world_from, state_from}
-use Rattle.lrc_book.specs.Stores.{IsOf, IsGrant, AreGrantsOf}
-use Rattle.lrc_book.specs.Repairing.{IsRepairCursor, IsKept}
+use Rattle.lrc_store.specs.Stores.{IsOf, IsGrant, AreGrantsOf}
+use Rattle.lrc_store.specs.Repairing.{IsRepairCursor}
+use Rattle.lrc_book.specs.Kept.{IsKept}
 use Rattle.lrc_rules.proofs.EarnedLemmas.{asked}
-use Rattle.lrc_book.proofs.LeaseToldLemmas.{lease-told, next-told}
+use Rattle.lrc_store.proofs.LeaseToldLemmas.{lease-told, next-told}
 use Rattle.lrc_book.proofs.WorldLemmas.{kept_push}
 
 module _ (nodes : List NodeInfo) (past : List Entry) (st : State) (session : SessionNo) (c : Command) (l : LeaseRecord) (k : Kind) (told : (step nodes past st session c).0 ≡ Granted l k) where

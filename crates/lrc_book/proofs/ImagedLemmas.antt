@@ -1,6 +1,5 @@
 -- The walk that makes the rows of an image.
-use Rattle.std.proofs.Common.{[], ◌≡◌, ◌≢◌, ℕ, ◌+◌, ◌<◌, ◌≤◌, inl, inr, Bool, true, false, if◌then◌else◌, List, ◌∷◌, ◌++◌, length, get_or, set, take, map, flat_map, Option, Some, None, refl, sym, ap, subst, ◌∙◌, append_assoc, append-nil, arith}
-use Rattle.std.proofs.Common.{lit<}
+use Rattle.std.proofs.Common.{[], ◌≡◌, ◌≢◌, ℕ, ◌+◌, ◌<◌, ◌≤◌, inl, inr, Bool, true, false, if◌then◌else◌, List, ◌∷◌, ◌++◌, length, get_or, set, take, map, flat_map, Option, Some, None, refl, sym, ap, subst, ◌∙◌, append_assoc, append-nil, arith, lit<}
 use Rattle.std.specs.Prelude.{option_map, option_to_list, Result, Ok, Err, IfOk, nat_lt}
 use Rattle.std.specs.List.{list_any}
 use Rattle.std.proofs.Math.ListN.{length-set}
@@ -19,7 +18,7 @@ use Rattle.lrc_terms.specs.declared.lease.Lease.{Lease}
 use Rattle.lrc_terms.proofs.CodeListLemmas.{fragment-number}
 use Rattle.lrc_rules.specs.declared.entry.Entry.{Entry}
 use Rattle.lrc_leases.specs.Granted.{granted_in}
-use Rattle.lrc_book.specs.Stores.{AreGrantsOf}
+use Rattle.lrc_store.specs.Stores.{AreGrantsOf}
 use Rattle.lrc_rules.specs.States.{State, has_stripe, code_of, lease_of}
 use Rattle.lrc_images.specs.declared.image.LeaseRow.{LeaseRow}
 use Rattle.lrc_images.specs.declared.image.StripeRow.{StripeRow}

@@ -6,9 +6,10 @@ use Rattle.lrc_topology.specs.declared.NodeInfo.{NodeInfo}
 use Rattle.lrc_rules.specs.declared.entry.Entry.{Entry}
 use Rattle.lrc_rules.specs.States.{State}
 use Rattle.lrc_rules.specs.Histories.{World, outcome_in, next_world, world_from, state_from, IsLegalFrom}
-use Rattle.lrc_book.specs.Repairing.{IsRepairCursor, IsBase, IsKept}
-use Rattle.lrc_book.specs.declared.store.Store.{Store}
-use Rattle.lrc_book.specs.Stores.{IsOf, AreGrantsOf}
+use Rattle.lrc_store.specs.Repairing.{IsRepairCursor}
+use Rattle.lrc_book.specs.Kept.{IsBase, IsKept}
+use Rattle.lrc_store.specs.declared.store.Store.{Store}
+use Rattle.lrc_store.specs.Stores.{IsOf, AreGrantsOf}
 use Rattle.lrc_rules.specs.Changes.{changed_by}
 use Rattle.lrc_rules.proofs.StepLemmas.{step-changed}
 use Rattle.lrc_rules.specs.Leases.{is_tick}

@@ -7,14 +7,14 @@ ghost use Rattle.lrc_rules.specs.Histories.{first_world, outcome_in, IsLegalFrom
 ghost use Rattle.lrc_rules.specs.Goodness.{IsGood};
 ghost use Rattle.lrc_rules.specs.Served.{IsServed};
 ghost use Rattle.lrc_book.specs.Books.{world_of, state_of, FaultFits};
-ghost use Rattle.lrc_book.specs.Stores.{IsOf};
+ghost use Rattle.lrc_store.specs.Stores.{IsOf};
 
-use crate::store::Store;
-use crate::{Command, Lease, Level, Mode, Record, Reply, Seat};
 use lrc_code::{Code, FRAGMENTS, Fault, Fragment, LossMask, NodeNo, SessionNo, StripeNo};
 use lrc_images::Image;
 use lrc_leases::Grants;
+use lrc_store::Store;
 use lrc_topology::Topology;
+use crate::{Command, Lease, Level, Mode, Record, Reply, Seat};
 use std::alloc::Global;
 use std::marker::Model;
 
@@ -41,8 +41,8 @@ pub struct Book {
 impl Model for Book {
     ghost use Rattle.std.specs.Prelude.{◌+◌, ◌&&◌, nat_le, is_some, vec_len, vec_capacity};
     ghost use Rattle.lrc_book.specs.Books.{BookView, base_world, entries_before};
-    ghost use Rattle.lrc_book.specs.Stores.{has_room};
-    ghost use Rattle.lrc_book.specs.Repairing.{IsKept};
+    ghost use Rattle.lrc_store.specs.Stores.{has_room};
+    ghost use Rattle.lrc_book.specs.Kept.{IsKept};
 
     ghost Value = { BookView };
 

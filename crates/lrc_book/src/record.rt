@@ -1,9 +1,9 @@
 ghost use Rattle.std.specs.Prelude.{◌≡◌};
-ghost use Rattle.lrc_book.specs.Answers.{told, lent};
+ghost use Rattle.lrc_answers.specs.Answers.{told, lent};
 
-use crate::answer::Answer;
-use crate::{Command, Entry, Reply, ReplyRef};
+use lrc_answers::Answer;
 use lrc_code::SessionNo;
+use crate::{Command, Entry, Reply, ReplyRef};
 use std::marker::Model;
 
 /// An entry as the history keeps it: seats take memory only in the entries that have some.
@@ -19,7 +19,7 @@ impl Model for Record {
 
     ghost Value = { Entry };
 
-    ghost use Rattle.lrc_book.specs.Answers.{told};
+    ghost use Rattle.lrc_answers.specs.Answers.{told};
 
     ghost view = { λ r. record { session = r.session; command = r.command; reply = told r.answer } };
 }

@@ -14,16 +14,16 @@ use Rattle.lrc_code.specs.Numbers.{same_stripe}
 use Rattle.lrc_code.proofs.NumbersLemmas.{equal_stripes}
 use Rattle.lrc_topology.specs.declared.NodeInfo.{NodeInfo}
 use Rattle.lrc_topology.specs.declared.seat.Seat.{Seat}
-use Rattle.lrc_stripes.specs.declared.losses.Losses.{Losses}
-use Rattle.lrc_stripes.specs.declared.row.Row.{Row}
-use Rattle.lrc_stripes.specs.Rows.{sits_on, is_missing, is_to_move}
-use Rattle.lrc_stripes.specs.NodeStates.{NodeStates, first_states}
-use Rattle.lrc_stripes.specs.Masks.{AreAll, AreWith, AreLosses, AreKept, renewed, IsFull, IsPut, IsMaskOf}
-use Rattle.lrc_stripes.specs.Tables.{row_code}
-use Rattle.lrc_stripes.specs.Kept.{IsKept, is_row_on}
-use Rattle.lrc_stripes.proofs.NodeStateLemmas.{or-false}
-use Rattle.lrc_stripes.proofs.MaskLemmas.{has-low}
-use Rattle.lrc_stripes.proofs.FreshLemmas.{loosened, renewed-exact}
+use Rattle.lrc_homes.specs.declared.losses.Losses.{Losses}
+use Rattle.lrc_rows.specs.declared.row.Row.{Row}
+use Rattle.lrc_homes.specs.Homes.{sits_on, is_missing, is_to_move}
+use Rattle.lrc_rows.specs.NodeStates.{NodeStates, first_states}
+use Rattle.lrc_homes.specs.Masks.{AreAll, AreLosses, AreKept, renewed, IsFull, IsPut, IsMaskOf}
+use Rattle.lrc_rows.specs.Kept.{AreWith, IsKept, is_row_on}
+use Rattle.lrc_rows.specs.Listed.{row_code}
+use Rattle.lrc_rows.proofs.NodeStateLemmas.{or-false}
+use Rattle.lrc_homes.proofs.MaskLemmas.{has-low}
+use Rattle.lrc_rows.proofs.FreshLemmas.{loosened, renewed-exact}
 
 -- ---- masks of homes
 

@@ -14,12 +14,16 @@ use Rattle.lrc_code.proofs.NumbersLemmas.{equal_stripes}
 use Rattle.lrc_topology.specs.declared.NodeInfo.{NodeInfo}
 use Rattle.lrc_topology.specs.declared.seat.Seat.{Seat}
 use Rattle.lrc_topology.specs.Nodes.{node_at}
-use Rattle.lrc_stripes.specs.declared.row.Row.{Row}
-use Rattle.lrc_stripes.specs.Stored.{Stored, has_node, has_slot, empty, with_stripe, with_homes, without_stripe, with_home, with_spare}
-use Rattle.lrc_stripes.specs.NodeStates.{NodeStates, first_states}
-use Rattle.lrc_stripes.specs.Rows.{seated_homes}
-use Rattle.lrc_stripes.specs.Tables.{row_homes, row_code}
+use Rattle.lrc_rows.specs.declared.row.Row.{Row}
+use Rattle.lrc_stripes.specs.Stored.{Stored, has_slot, empty, with_stripe, with_homes, without_stripe, with_home, with_spare}
+use Rattle.lrc_rows.specs.NodeStates.{has_node, NodeStates, first_states, NodeLists}
+use Rattle.lrc_homes.specs.Homes.{seated_homes}
+use Rattle.lrc_rows.specs.Listed.{row_homes, row_code, rows_in}
+use Rattle.lrc_stripes.specs.Tables.{stored_in}
 use Rattle.lrc_stripes.proofs.KeptLemmas.{replicated}
+use Rattle.lrc_nodes.specs.declared.node_state.NodeState.{NodeState}
+use Rattle.lrc_terms.specs.Levels.{Homes}
+use Rattle.lrc_rows.specs.Kept.{AreSameStripes}
 
 -- the stored stripes that nodes and rows represent
 abbrev pub stored_by : NodeStates → (StripeNo → Option Row) → ℕ → Stored
@@ -141,3 +145,33 @@ slot-known (Some n) slot e = refl
 pub seat-known : (nodes : List NodeInfo) (home : Option Seat) → IfSome home (λ seat. has_slot nodes seat ≡ true) → IfSome home (λ seat. has_node nodes seat.node ≡ true)
 seat-known nodes None slot = slot
 seat-known nodes (Some seat) slot = slot-known (node_at nodes seat.node) seat.slot slot
+
+pub stored_of : List NodeState → (StripeNo → Option Row) → ℕ → Stored
+stored_of nodes rows spare = record {
+  nodes = nodes;
+  stripes = λ s. is_some (rows s);
+  code = λ s. row_code (rows s);
+  homes = λ s. row_homes (rows s);
+  spare = spare;
+}
+
+pub stored_of-states_in : (states : NodeLists) (rows : List (Option Row)) (spare : ℕ) → stored_in (record { node_table = states.list; rows = rows; spare = spare }) ≡ stored_of states.list (rows_in rows) spare
+unfolding stored_in stored_of
+stored_of-states_in states rows spare = refl
+
+pub stored_of-rows : (nodes : List NodeState) (rows rows' : StripeNo → Option Row) (spare : ℕ) → AreSameStripes rows rows' → stored_of nodes rows' spare ≡ stored_of nodes rows spare
+unfolding stored_of
+stored_of-rows nodes rows rows' spare same =
+    ap₂ (λ (stripes : StripeNo → Bool) (home : StripeNo → Homes). let s : Stored = record { nodes = nodes; stripes = stripes; code = λ s. row_code (rows' s); homes = home; spare = spare } in s)
+    (fun_ext same.there) (fun_ext same.homes)
+    ∙ ap (λ (c : StripeNo → Code). let s : Stored = record { nodes = nodes; stripes = λ s. is_some (rows s); code = c; homes = λ s. row_homes (rows s); spare = spare } in s) (fun_ext same.codes)
+
+-- the stores of tables that differ in the states of their nodes, with rows of the same stripes
+pub stored-set : (old new : NodeLists) (list : List NodeState) (rows rows' : List (Option Row)) (spare : ℕ) → new.list ≡ list → AreSameStripes (rows_in rows) (rows_in rows')
+    → stored_in (record { node_table = new.list; rows = rows'; spare = spare }) ≡ record (stored_in (record { node_table = old.list; rows = rows; spare = spare })) { nodes = list }
+unfolding stored_of
+stored-set old new list rows rows' spare is same =
+    stored_of-states_in new rows' spare
+    ∙ (ap (λ (xs : List NodeState). stored_of xs (rows_in rows') spare) is
+    ∙ (stored_of-rows list (rows_in rows) (rows_in rows') spare same
+    ∙ ap (λ (s : Stored). record s { nodes = list }) (sym (stored_of-states_in old rows spare))))

@@ -1,5 +1,5 @@
 -- The stripes of a store: those that exist, the homes of their fragments, and the nodes with their states.
-use Rattle.std.specs.Prelude.{◌≡◌, ◌≢◌, ℕ, ◌-◌, ◌≤◌, Bool, false, not, ◌&&◌, ◌||◌, if◌then◌else◌, nat_lt, nat_eq, List, map, Option, Some, None, is_some, IsTrue, IsFalse, ◌↔◌}
+use Rattle.std.specs.Prelude.{◌≡◌, ◌≢◌, ℕ, ◌-◌, ◌≤◌, Bool, false, not, ◌&&◌, ◌||◌, if◌then◌else◌, nat_lt, nat_eq, List, map, Option, Some, None, IsTrue, IsFalse, ◌↔◌}
 use Rattle.std.specs.List.{Contains, AllPairs, slice_get}
 use Rattle.std.specs.Option.{option_map_or}
 use Rattle.lrc_code.specs.declared.codes.Code.{Code}
@@ -29,10 +29,6 @@ pub record Stored : Type 0 where
   pub code : StripeNo → Code
   pub homes : StripeNo → Homes
   pub spare : ℕ
-
--- one of the nodes has the number
-abbrev pub has_node : List NodeInfo → NodeNo → Bool
-has_node nodes n = is_some (node_at nodes n)
 
 -- no stripes and no room, and every node is active, not down and not upgrading
 abbrev pub empty : List NodeInfo → Stored

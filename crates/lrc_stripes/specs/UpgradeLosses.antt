@@ -1,17 +1,17 @@
 -- Internal: no public clause reaches these definitions.
 -- Which rows become unrecoverable while an upgrade domain is offline, by the stored masks.
-use Rattle.std.specs.Prelude.{ℕ, ◌<◌, Bool, false, not, ◌&&◌, ◌||◌, nat_lt, nat_eq, count_by, IsTrue, IsFalse, List, get_or, Option, None}
+use Rattle.std.specs.Prelude.{◌<◌, Bool, false, not, ◌&&◌, ◌||◌, nat_lt, IsTrue, IsFalse, List, get_or, Option, None}
 use Rattle.std.specs.Option.{option_map_or}
 use Rattle.lrc_code.specs.declared.numbers.StripeNo.{StripeNo}
 use Rattle.lrc_code.specs.declared.numbers.UpgradeNo.{UpgradeNo}
 use Rattle.lrc_code.specs.Losses.{FragmentSet, bits_set, is_recoverable}
 use Rattle.lrc_topology.specs.declared.NodeInfo.{NodeInfo}
 use Rattle.lrc_topology.specs.declared.seat.Seat.{Seat}
-use Rattle.lrc_stripes.specs.declared.row.Row.{Row}
+use Rattle.lrc_rows.specs.declared.row.Row.{Row}
 use Rattle.lrc_stripes.specs.Upgrades.{is_in_domain}
-use Rattle.lrc_stripes.specs.NodeStates.{NodeStates}
-use Rattle.lrc_stripes.specs.Tables.{rows_in}
-use Rattle.lrc_stripes.specs.Kept.{freshened}
+use Rattle.lrc_rows.specs.NodeStates.{NodeStates, is_on_several_offline}
+use Rattle.lrc_rows.specs.Listed.{rows_in}
+use Rattle.lrc_rows.specs.Kept.{freshened, row_has_work}
 
 -- the home is on a node of the domain
 abbrev pub is_home_in : List NodeInfo → UpgradeNo → Option Seat → Bool
@@ -28,18 +28,6 @@ is_row_lost states u r = is_recoverable r.losses.code (bits_set r.losses.missing
 -- the stripe has such a row
 abbrev pub lost_in : NodeStates → (StripeNo → Option Row) → UpgradeNo → StripeNo → Bool
 lost_in states rows u s = option_map_or (is_row_lost states u) (rows s) false
-
--- one of the row's fragments needs a lease
-abbrev pub row_has_work : Option Row → Bool
-row_has_work o = option_map_or (λ r. not (nat_eq r.losses.needs.bits 0)) o false
-
--- the number of these nodes that are not online and have a home of the stripe
-abbrev pub offline_in : NodeStates → StripeNo → List NodeInfo → ℕ
-offline_in states s nodes = count_by (λ n. not (states.online n.number) && states.on n.number s) nodes
-
--- several nodes are not online and have a home of the stripe
-abbrev pub is_on_several_offline : NodeStates → StripeNo → Bool
-is_on_several_offline states s = nat_lt 1 (offline_in states s states.nodes)
 
 -- the stripe is short, by its row and the nodes, and lost to the domain
 abbrev pub short_lost_in : NodeStates → List (Option Row) → UpgradeNo → StripeNo → Bool

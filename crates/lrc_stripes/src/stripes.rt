@@ -4,18 +4,17 @@ ghost use Rattle.lrc_code.specs.declared.codes.Code.TheVariants.{Wide, Narrow};
 ghost use Rattle.lrc_code.specs.declared.fault.Fault.TheVariants.{OutOfMemory};
 ghost use Rattle.lrc_code.specs.Codes.{fragment_count, has_fragment};
 ghost use Rattle.lrc_nodes.specs.States.{infos_in};
-ghost use Rattle.lrc_stripes.specs.Stored.{empty, with_stripe, with_homes, without_stripe, with_home, with_state, with_upgrading_in, with_spare, has_node, has_slot, HasNoHome};
+ghost use Rattle.lrc_stripes.specs.Stored.{empty, with_stripe, with_homes, without_stripe, with_home, with_state, with_upgrading_in, with_spare, has_slot, HasNoHome};
+ghost use Rattle.lrc_rows.specs.NodeStates.{has_node};
 ghost use Rattle.lrc_stripes.specs.Tables.{stored_in};
 
 mod queries;
 
-use crate::node_table::NodeTable;
-use crate::row::Row;
-use crate::rows::Rows;
-use crate::{HomeDomains, Seat};
 use lrc_code::{Code, Fault, Fragment, NodeNo, STRIPES, StripeNo, UpgradeNo};
+use lrc_rows::{NodeTable, Row, Rows};
 use lrc_terms::Mode;
 use lrc_topology::Topology;
+use crate::{HomeDomains, Seat};
 use std::alloc::Global;
 use std::marker::Model;
 
@@ -31,10 +30,10 @@ pub struct Stripes {
 
 impl Model for Stripes {
     ghost use Rattle.lrc_stripes.specs.Tables.{Table};
-    ghost use Rattle.lrc_stripes.specs.Tables.{rows_in, row_homes};
-    ghost use Rattle.lrc_stripes.specs.NodeStates.{states_in};
-    ghost use Rattle.lrc_stripes.specs.Kept.{IsKept};
-    ghost use Rattle.lrc_stripes.specs.HomeArrays.{AreDomainsKept};
+    ghost use Rattle.lrc_rows.specs.Listed.{rows_in, row_homes};
+    ghost use Rattle.lrc_rows.specs.NodeStates.{states_in};
+    ghost use Rattle.lrc_rows.specs.Kept.{IsKept};
+    ghost use Rattle.lrc_homes.specs.HomeArrays.{AreDomainsKept};
 
     ghost Value = { Table };
 

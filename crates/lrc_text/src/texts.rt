@@ -5,7 +5,7 @@
 
 ghost use Rattle.std.specs.Prelude.{◌≡◌, ◌+◌, ◌*◌, ◌^◌, ◌<◌, ◌≤◌, ◌++◌, length, drop, OnOk, codes, decimal, map};
 ghost use Rattle.lrc_rules.specs.declared.reply.Reply.TheVariants.{Granted, Refused, Ticked};
-ghost use Rattle.lrc_book.specs.Answers.{lent};
+ghost use Rattle.lrc_answers.specs.Answers.{lent};
 ghost use Rattle.lrc_text.specs.Texts.{seat_text, spaced, reply_text, reply_line, lines_from, script_line};
 
 use crate::digits::Digits;

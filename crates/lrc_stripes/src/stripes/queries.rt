@@ -2,8 +2,9 @@
 
 ghost use Rattle.std.specs.Prelude.{◌≡◌, ℕ, if◌then◌else◌, None, is_some, option_map, ◌<◌, ◌↔◌, IsTrue, IsFalse, IfSome, IfNone, Some};
 ghost use Rattle.lrc_code.specs.declared.numbers.StripeNo.{StripeNo as AnyStripe};
-ghost use Rattle.lrc_stripes.specs.Stored.{homes_shown, missing_shown, needs_shown, level_shown, has_node, has_slot, HasNoHome, AreHomesOn, AreHomesOnFrom, has_work, AreWork, AreWorkFrom, AreAtRisk};
-ghost use Rattle.lrc_stripes.specs.Domains.{AreDomainsOf};
+ghost use Rattle.lrc_stripes.specs.Stored.{homes_shown, missing_shown, needs_shown, level_shown, has_slot, HasNoHome, AreHomesOn, AreHomesOnFrom, has_work, AreWork, AreWorkFrom, AreAtRisk};
+ghost use Rattle.lrc_rows.specs.NodeStates.{has_node};
+ghost use Rattle.lrc_homes.specs.Domains.{AreDomainsOf};
 ghost use Rattle.lrc_code.specs.Codes.{has_fragment};
 ghost use Rattle.lrc_code.specs.Losses.{bits_set};
 ghost use Rattle.lrc_nodes.specs.States.{infos_in, state_at, down_in, online_in};

@@ -3,7 +3,7 @@ use Rattle.std.specs.Prelude.{option_to_list}
 use Rattle.lrc_terms.specs.Stripes.{stripe_at}
 use Rattle.lrc_rules.specs.declared.entry.Entry.{Entry}
 use Rattle.lrc_images.specs.Rows.{rows_below, grant_row}
-use Rattle.lrc_book.specs.Stores.{AreGrantsOf}
+use Rattle.lrc_store.specs.Stores.{AreGrantsOf}
 use Rattle.lrc_book.proofs.image.imaged_grants.Given as goal
 
 -- the rows of the stripe numbers so far

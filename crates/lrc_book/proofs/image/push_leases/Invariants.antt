@@ -4,7 +4,7 @@ use Rattle.lrc_code.specs.declared.codes.Code.TheVariants.{Wide}
 use Rattle.lrc_code.specs.Codes.{fragments}
 use Rattle.lrc_rules.specs.States.{State, lease_of}
 use Rattle.lrc_images.specs.Rows.{lease_row}
-use Rattle.lrc_book.specs.Stores.{IsOf}
+use Rattle.lrc_store.specs.Stores.{IsOf}
 use Rattle.lrc_book.proofs.image.push_leases.Given as goal
 
 -- the rows of the leases of the fragments so far

@@ -6,17 +6,17 @@ use Rattle.lrc_rules.specs.Leases.{with_lease}
 use Rattle.lrc_rules.specs.Steps.{step as step_of}
 use Rattle.lrc_rules.specs.Histories.{world_from, state_from}
 use Rattle.lrc_rules.specs.Changes.{changed_by}
-use Rattle.lrc_book.specs.Stores.{IsOf}
-use Rattle.lrc_book.specs.Repairing.{IsRepairCursor}
+use Rattle.lrc_store.specs.Stores.{IsOf}
+use Rattle.lrc_store.specs.Repairing.{IsRepairCursor}
 use Rattle.lrc_book.specs.Books.{base_world}
-use Rattle.lrc_book.specs.Answers.{told}
+use Rattle.lrc_answers.specs.Answers.{told}
 use Rattle.lrc_rules.specs.declared.entry.Entry.{Entry}
 use Rattle.lrc_book.proofs.WorldLemmas.{kept_push}
 use Rattle.lrc_book.proofs.CountedLemmas.{counted-none}
-use Rattle.lrc_book.proofs.AnswerLemmas.{other-answer}
+use Rattle.lrc_answers.proofs.AnswerLemmas.{other-answer}
 use Rattle.lrc_book.proofs.GrantedLemmas.{granted-told, kept-granted}
 use Rattle.lrc_rules.proofs.MostUrgentLemmas.{granted-urgent}
-use Rattle.lrc_book.proofs.CursorLemmas.{cursor-leased, cursor-granted}
+use Rattle.lrc_store.proofs.CursorLemmas.{cursor-leased, cursor-granted}
 use Rattle.lrc_book.proofs.step.make.Goals as goal
 
 pub grant-requires : goal.grant-requires

@@ -2,11 +2,11 @@ use Rattle.std.proofs.Common.{ℕ, Bool, cond, sym, ap, ◌∙◌}
 use Rattle.lrc_code.specs.Numbers.{same_stripe}
 use Rattle.lrc_code.specs.declared.numbers.StripeNo.{StripeNo}
 use Rattle.lrc_ranks.specs.Sets.{has, at_rank}
-use Rattle.lrc_stripes.specs.NodeStates.{states_in}
-use Rattle.lrc_stripes.specs.Tables.{rows_in}
-use Rattle.lrc_stripes.specs.Masks.{risk_rank}
-use Rattle.lrc_stripes.specs.Kept.{IsKept, queued, freshened}
-use Rattle.lrc_stripes.proofs.FreshLemmas.{at_risk-among}
+use Rattle.lrc_rows.specs.NodeStates.{states_in}
+use Rattle.lrc_rows.specs.Listed.{rows_in}
+use Rattle.lrc_homes.specs.Masks.{risk_rank}
+use Rattle.lrc_rows.specs.Kept.{IsKept, queued, freshened}
+use Rattle.lrc_rows.proofs.FreshLemmas.{at_risk-among}
 use Rattle.lrc_stripes.proofs.RiskLemmas.{nothing-below, not-yet, one-more, all-found}
 use Rattle.lrc_stripes.proofs.at_risk.stripes_at_risk.Goals as goal
 

@@ -2,7 +2,7 @@ use Rattle.std.proofs.Common.{◌≡◌, ◌≤◌, ◌<◌, ◌++◌, ℕ, leng
 use Rattle.lrc_code.specs.declared.numbers.StripeNo.{StripeNo}
 use Rattle.lrc_code.specs.declared.numbers.Fragment.{Fragment}
 use Rattle.lrc_rules.specs.Leases.{grants}
-use Rattle.lrc_book.specs.declared.store.Store.{Store}
+use Rattle.lrc_store.specs.declared.store.Store.{Store}
 use Rattle.lrc_book.specs.Books.{BookView, state_of}
 use Rattle.lrc_book.proofs.ForgetLemmas.{spent-by}
 use Rattle.lrc_book.proofs.book.Book.entries_so_far.Goals as goal

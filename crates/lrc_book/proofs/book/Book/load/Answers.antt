@@ -3,7 +3,7 @@ use Rattle.lrc_topology.specs.declared.NodeInfo.{NodeInfo}
 use Rattle.lrc_slots.specs.Slots.{Slots, load_at}
 use Rattle.lrc_rules.specs.States.{load_shown}
 use Rattle.lrc_book.specs.Books.{state_of}
-use Rattle.lrc_book.proofs.ShownLemmas.{load-shown}
+use Rattle.lrc_store.proofs.ShownLemmas.{load-shown}
 use Rattle.lrc_book.proofs.book.Book.load.Goals as goal
 
 pub returns-in-Some : goal.returns-in-Some

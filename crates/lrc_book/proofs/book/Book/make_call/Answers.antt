@@ -4,7 +4,7 @@ use Rattle.lrc_rules.specs.declared.reply.Reply.{Reply}
 use Rattle.lrc_rules.specs.Histories.{world_from, outcome_in}
 use Rattle.lrc_rules.specs.Steps.{step}
 use Rattle.lrc_book.specs.Books.{base_world}
-use Rattle.lrc_book.specs.Answers.{told}
+use Rattle.lrc_answers.specs.Answers.{told}
 use Rattle.lrc_rules.proofs.GoodLemmas.{past-from}
 use Rattle.lrc_book.proofs.WorldLemmas.{clock-early}
 use Rattle.lrc_book.proofs.CountedLemmas.{few-grants}

@@ -3,7 +3,7 @@ use Rattle.lrc_topology.specs.declared.NodeInfo.{NodeInfo}
 use Rattle.lrc_stripes.specs.Stored.{Stored, missing_shown}
 use Rattle.lrc_rules.specs.States as states
 use Rattle.lrc_stripes.specs.Tables.{stored_in}
-use Rattle.lrc_book.proofs.NodeStateLemmas.{missing-kept}
+use Rattle.lrc_store.proofs.NodeStateLemmas.{missing-kept}
 use Rattle.lrc_book.specs.Books.{state_of}
 use Rattle.lrc_book.proofs.book.Book.missing.Goals as goal
 

@@ -4,7 +4,7 @@ use Rattle.lrc_nodes.specs.States.{state_at, online_in}
 use Rattle.lrc_stripes.specs.Stored.{Stored}
 use Rattle.lrc_rules.specs.States.{mode_shown}
 use Rattle.lrc_book.specs.Books.{state_of}
-use Rattle.lrc_book.proofs.NodeStateLemmas.{shown-there, shown-absent}
+use Rattle.lrc_store.proofs.NodeStateLemmas.{shown-there, shown-absent}
 use Rattle.lrc_book.proofs.book.Book.mode.Goals as goal
 
 pub returns-in_err-mode : goal.returns-in_err-mode

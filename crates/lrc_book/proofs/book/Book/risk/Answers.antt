@@ -6,7 +6,7 @@ use Rattle.lrc_terms.specs.Stripes.{StripeLevel}
 use Rattle.lrc_rules.specs.Urgency.{risk}
 use Rattle.lrc_book.specs.Books.{state_of}
 use Rattle.lrc_book.proofs.book.Book.risk.Goals as goal
-use Rattle.lrc_book.proofs.WorkLemmas.{risk-is}
+use Rattle.lrc_store.proofs.WorkLemmas.{risk-is}
 
 pub returns-clause-value : goal.returns-clause-value
 returns-clause-value c =

@@ -1,6 +1,6 @@
 use Rattle.std.proofs.Common.{ap, sym, ◌∙◌, subst}
-use Rattle.lrc_book.specs.declared.store.Store.{Store}
-use Rattle.lrc_book.specs.Stores.{IsOf}
+use Rattle.lrc_store.specs.declared.store.Store.{Store}
+use Rattle.lrc_store.specs.Stores.{IsOf}
 use Rattle.lrc_rules.specs.Histories.{state_from}
 use Rattle.lrc_book.specs.Books.{BookView, base_world, state_of}
 use Rattle.lrc_book.proofs.book.Book.store.Goals as goal

@@ -2,17 +2,18 @@ use Rattle.std.proofs.Common.{◌≡◌, ◌-◌, false, IsTrue, List, Option, N
 use Rattle.std.specs.List.{All}
 use Rattle.lrc_topology.specs.Nodes.{node_at}
 use Rattle.lrc_topology.specs.declared.seat.Seat.{Seat}
-use Rattle.lrc_stripes.specs.declared.losses.Losses.{Losses}
+use Rattle.lrc_homes.specs.declared.losses.Losses.{Losses}
 use Rattle.lrc_code.specs.declared.codes.Code.{Code}
-use Rattle.lrc_stripes.specs.Kept.{IsKept}
-use Rattle.lrc_stripes.specs.Rows.{seated_homes}
-use Rattle.lrc_stripes.specs.Masks.{AreLosses}
-use Rattle.lrc_stripes.specs.Domains.{AreDomainsOf}
-use Rattle.lrc_stripes.specs.HomeArrays.{AreDomainsKept}
-use Rattle.lrc_stripes.proofs.DomainLemmas.{domains-put}
+use Rattle.lrc_rows.specs.Kept.{IsKept}
+use Rattle.lrc_homes.specs.Homes.{seated_homes}
+use Rattle.lrc_homes.specs.Masks.{AreLosses}
+use Rattle.lrc_homes.specs.Domains.{AreDomainsOf}
+use Rattle.lrc_homes.specs.HomeArrays.{AreDomainsKept}
+use Rattle.lrc_rows.proofs.DomainLemmas.{domains-put}
 use Rattle.lrc_stripes.specs.Stored.{has_slot}
-use Rattle.lrc_stripes.specs.NodeStates.{NodeStates, states_in}
-use Rattle.lrc_stripes.specs.Tables.{stored_in, rows_in, row_homes}
+use Rattle.lrc_rows.specs.NodeStates.{NodeStates, states_in}
+use Rattle.lrc_stripes.specs.Tables.{stored_in}
+use Rattle.lrc_rows.specs.Listed.{rows_in, row_homes}
 use Rattle.lrc_stripes.proofs.KeptLemmas.{kept-enter}
 use Rattle.lrc_stripes.proofs.StoredLemmas.{stored_by, stored-seated, slot-known}
 use Rattle.lrc_stripes.proofs.stripes.Stripes.add_with_homes.Goals as goal

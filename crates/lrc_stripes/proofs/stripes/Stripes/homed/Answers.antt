@@ -1,5 +1,6 @@
-use Rattle.lrc_stripes.specs.NodeStates.{states_in}
-use Rattle.lrc_stripes.specs.Tables.{stored_in, rows_in}
+use Rattle.lrc_rows.specs.NodeStates.{states_in}
+use Rattle.lrc_stripes.specs.Tables.{stored_in}
+use Rattle.lrc_rows.specs.Listed.{rows_in}
 use Rattle.lrc_stripes.proofs.KeptLemmas.{homed-within}
 use Rattle.lrc_stripes.proofs.stripes.Stripes.homed.Goals as goal
 

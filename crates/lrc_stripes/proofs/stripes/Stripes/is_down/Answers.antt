@@ -1,4 +1,4 @@
-use Rattle.lrc_stripes.specs.NodeStates.{states_in}
+use Rattle.lrc_rows.specs.NodeStates.{states_in}
 use Rattle.lrc_stripes.specs.Tables.{stored_in}
 use Rattle.lrc_stripes.proofs.stripes.Stripes.is_down.Goals as goal
 

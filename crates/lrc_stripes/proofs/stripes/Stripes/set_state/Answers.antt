@@ -2,13 +2,14 @@ use Rattle.std.proofs.Common.{IsSome, IsTrue, if◌then◌else◌, refl, ap, sub
 use Rattle.lrc_code.specs.Numbers.{same_node}
 use Rattle.lrc_nodes.specs.States.{state_at, with_state}
 use Rattle.lrc_nodes.proofs.SetLemmas.{same-state}
-use Rattle.lrc_stripes.specs.Stored.{has_node}
-use Rattle.lrc_stripes.specs.HomeArrays.{AreDomainsKept}
-use Rattle.lrc_stripes.specs.Kept.{IsKept}
-use Rattle.lrc_stripes.specs.NodeStates.{NodeLists, states_in}
-use Rattle.lrc_stripes.specs.Tables.{stored_in, rows_in, row_homes}
-use Rattle.lrc_stripes.proofs.NodeStateLemmas.{known-state}
-use Rattle.lrc_stripes.proofs.RenewLemmas.{kept-state, same-then, domains-stay, stored-set}
+use Rattle.lrc_rows.specs.NodeStates.{has_node, NodeLists, states_in}
+use Rattle.lrc_homes.specs.HomeArrays.{AreDomainsKept}
+use Rattle.lrc_rows.specs.Kept.{IsKept}
+use Rattle.lrc_stripes.specs.Tables.{stored_in}
+use Rattle.lrc_rows.specs.Listed.{rows_in, row_homes}
+use Rattle.lrc_rows.proofs.NodeStateLemmas.{known-state}
+use Rattle.lrc_rows.proofs.RenewLemmas.{kept-state, same-then, domains-stay}
+use Rattle.lrc_stripes.proofs.StoredLemmas.{stored-set}
 use Rattle.lrc_stripes.proofs.stripes.Stripes.set_state.Goals as goal
 
 pub follow_draining-requires : goal.follow_draining-requires

@@ -4,11 +4,13 @@ use Rattle.lrc_code.specs.declared.numbers.NodeNo.{NodeNo}
 use Rattle.lrc_code.specs.Numbers.{same_node, same_upgrade}
 use Rattle.lrc_nodes.specs.States.{with_upgrading_in}
 use Rattle.lrc_nodes.proofs.SetLemmas.{same-upgrading}
-use Rattle.lrc_stripes.specs.HomeArrays.{AreDomainsKept}
-use Rattle.lrc_stripes.specs.Kept.{IsKept}
-use Rattle.lrc_stripes.specs.NodeStates.{NodeLists, states_in}
-use Rattle.lrc_stripes.specs.Tables.{stored_in, rows_in, row_homes}
-use Rattle.lrc_stripes.proofs.RenewLemmas.{kept-upgrading, online-outside, domains-stay, stored-set}
+use Rattle.lrc_homes.specs.HomeArrays.{AreDomainsKept}
+use Rattle.lrc_rows.specs.Kept.{IsKept}
+use Rattle.lrc_rows.specs.NodeStates.{NodeLists, states_in}
+use Rattle.lrc_stripes.specs.Tables.{stored_in}
+use Rattle.lrc_rows.specs.Listed.{rows_in, row_homes}
+use Rattle.lrc_rows.proofs.RenewLemmas.{kept-upgrading, online-outside, domains-stay}
+use Rattle.lrc_stripes.proofs.StoredLemmas.{stored-set}
 use Rattle.lrc_stripes.proofs.stripes.Stripes.set_upgrading_in.Goals as goal
 
 pub invariant_of-self : goal.invariant_of-self

@@ -1,0 +1,11 @@
+pub mod TableLemmas
+pub mod TieLemmas
+pub mod BarLemmas
+pub mod ClassBarLemmas
+pub mod BesideLemmas
+pub mod NeighbourLemmas
+pub mod PlanLemmas
+pub mod ClosedLemmas
+pub mod OpenLemmas
+pub mod SlotTableLemmas
+pub mod FragmentListLemmas

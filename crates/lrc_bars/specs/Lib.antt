@@ -1,0 +1,10 @@
+pub use Rattle.lrc_code.specs.Codes
+pub use Rattle.lrc_code.specs.Losses
+pub use Rattle.lrc_topology.specs.Nodes
+pub use Rattle.lrc_topology.specs.Seats
+pub use Rattle.lrc_slots.specs.Slots
+pub use Rattle.lrc_slots.specs.Barred
+pub use Rattle.lrc_slots.specs.Next
+pub mod Ties
+pub mod Planning
+pub mod Neighbouring

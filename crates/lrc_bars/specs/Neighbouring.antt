@@ -1,0 +1,23 @@
+-- What the homes beside a fragment bar, by the domains of their nodes, which are kept in a row for each stripe.
+use Rattle.std.specs.Prelude.{ℕ, Bool, ◌&&◌, nat_eq, List, get_or}
+use Rattle.std.specs.List.{list_any}
+use Rattle.lrc_code.specs.declared.numbers.Fragment.{Fragment}
+use Rattle.lrc_code.specs.Losses.{bits_set}
+use Rattle.lrc_code.specs.declared.codes.Code.TheVariants.{Wide}
+use Rattle.lrc_code.specs.Codes.{fragments}
+use Rattle.lrc_slots.specs.Barred.{Barred, joined}
+use Rattle.lrc_slots.specs.Tables.{barred}
+use Rattle.lrc_bars.specs.declared.neighbours.Neighbours.{Neighbours}
+
+-- the fragment is one of these, and its home is in the domain of this number
+abbrev pub stands_in : List ℕ → ℕ → ℕ → Fragment → Bool
+stands_in domains bits number f = bits_set bits f.value && nat_eq (get_or domains f.value 0) number
+
+-- the domains that the homes of fragments bar: the fault domains of the others, and the upgrade domains of the members of its class
+abbrev pub homes_bar : List ℕ → List ℕ → ℕ → ℕ → List Fragment → Barred
+homes_bar faults upgrades others members fs =
+    record { faults = λ d. list_any (stands_in faults others d.value) fs; upgrades = λ d. list_any (stands_in upgrades members d.value) fs }
+
+-- the domains that the homes bar, and all else that is barred
+abbrev pub barred_by : Neighbours → Barred
+barred_by n = joined (barred n.more.now) (homes_bar n.homes.now.faults n.homes.now.upgrades n.others.bits n.members.bits (fragments Wide))

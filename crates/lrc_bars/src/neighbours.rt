@@ -1,0 +1,53 @@
+ghost use Rattle.std.specs.Prelude.{◌≡◌, ◌<◌, ◌&&◌, ◌||◌, ℕ, List, nat_eq, nat_lt, get_or};
+ghost use Rattle.std.specs.List.{list_any};
+ghost use Rattle.lrc_code.specs.declared.codes.Code.TheVariants.{Wide};
+ghost use Rattle.lrc_code.specs.Codes.{fragments};
+ghost use Rattle.lrc_code.specs.Losses.{bits_set};
+ghost use Rattle.lrc_bars.specs.Neighbouring.{stands_in, homes_bar};
+
+use lrc_code::LossMask;
+use lrc_homes::HomeDomains;
+use lrc_slots::{BarredDomains, Barring};
+use lrc_topology::NodeInfo;
+
+/// The homes of the other fragments of a stripe, and what else bars nodes for a fragment.
+#[derive(Drop)]
+pub struct Neighbours<'a> {
+    /// The domains of the homes of its stripe.
+    pub homes: &'a HomeDomains,
+    /// The other fragments that have a home.
+    pub others: LossMask,
+    /// Those of them that are of its class.
+    pub members: LossMask,
+    pub more: &'a BarredDomains,
+}
+
+impl<'a> Neighbours<'a> {
+    /// Whether the node is in a domain that one of the homes bars.
+    fn are_near(&self, node: &NodeInfo) -> bool
+        ensures { result ≡ (list_any (stands_in self.now.homes.now.faults self.now.others.bits node.now.fault.value) (fragments Wide)
+            || list_any (stands_in self.now.homes.now.upgrades self.now.members.bits node.now.upgrade.value) (fragments Wide)) }
+    {
+        meet(self.homes.in_fault(node.fault), self.others)
+            || meet(self.homes.in_upgrade(node.upgrade), self.members)
+    }
+}
+
+impl<'a> Barring for Neighbours<'a> {
+    ghost use Rattle.lrc_bars.specs.Neighbouring.{barred_by};
+
+    ghost barred = { barred_by };
+
+    fn bars(&self, node: &NodeInfo) -> bool {
+        self.are_near(node) || self.more.bars(node)
+    }
+}
+
+/// Whether two sets have a fragment in common.
+fn meet(one: LossMask, other: LossMask) -> bool
+    ensures { (domains : List ℕ) (number : ℕ) → ((f : ℕ) → bits_set one.bits f ≡ (nat_lt f 16 && nat_eq (get_or domains f 0) number))
+        → result ≡ list_any (stands_in domains other.bits number) (fragments Wide) }
+{
+    let met = LossMask::from_bits(one.bits & other.bits);
+    met.bits != 0
+}

@@ -1,9 +1,0 @@
-use Rattle.lrc_rules.specs.States.{taken_seats}
-use Rattle.lrc_book.proofs.TieLemmas.{standing-slots}
-use Rattle.lrc_book.proofs.PlanLemmas.{planned-chosen}
-use Rattle.lrc_book.proofs.laws.planned_homes_only_bar_domains.Goals as goal
-
-pub returns : goal.returns
-returns c =
-    λ nodes st planned s f known seated beside. planned-chosen nodes st planned s f beside known seated.single
-    (standing-slots nodes st (taken_seats st) seated.standing)

@@ -1,4 +1,0 @@
-use Rattle.lrc_book.proofs.store.Store.change_node.Given as goal
-
-abbrev pub ghost-empty_if_failed : goal.ghost-empty_if_failed
-ghost-empty_if_failed g a = g.st

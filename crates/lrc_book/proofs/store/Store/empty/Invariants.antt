@@ -1,7 +1,0 @@
-use Rattle.lrc_book.proofs.store.Store.empty.Given as goal
-
-abbrev pub ghost-end_targets : goal.ghost-end_targets
-ghost-end_targets g a = g.st
-
-abbrev pub ghost-clear_homes : goal.ghost-clear_homes
-ghost-clear_homes g a = g.st

@@ -1,0 +1,3 @@
+pub mod MaskLemmas
+pub mod RankLemmas
+pub mod HomesLemmas

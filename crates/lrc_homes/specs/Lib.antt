@@ -1,0 +1,10 @@
+pub use Rattle.lrc_code.specs.Numbers
+pub use Rattle.lrc_code.specs.Codes
+pub use Rattle.lrc_code.specs.Losses
+pub use Rattle.lrc_topology.specs.Nodes
+pub use Rattle.lrc_topology.specs.Seats
+pub use Rattle.lrc_terms.specs.Levels
+pub mod Domains
+pub mod HomeArrays
+pub mod Masks
+pub mod Homes

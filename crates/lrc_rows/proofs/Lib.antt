@@ -1,0 +1,9 @@
+pub mod NodeLemmas
+pub mod NodeStateLemmas
+pub mod FreshLemmas
+pub mod RowsLemmas
+pub mod SeatedLemmas
+pub mod ClearLemmas
+pub mod DomainLemmas
+pub mod ShortLemmas
+pub mod RenewLemmas

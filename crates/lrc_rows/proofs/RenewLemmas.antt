@@ -1,0 +1,278 @@
+-- What is kept where a node's stripes have their rows renewed.
+use Rattle.std.proofs.Common.{◌≡◌, ◌≢◌, ℕ, ◌<◌, ◌+◌, inl, inr, Bool, true, false, not, ◌&&◌, ◌||◌, cond, if◌then◌else◌, nat_lt, nat_eq, List, [], length, take, get_or, Option, Some, None, is_none, IsSome, arith, refl, sym, ap, ◌∙◌, subst}
+use Rattle.std.proofs.Math.Path.{fun_ext}
+use Rattle.std.specs.List.{list_any}
+use Rattle.std.proofs.lemmas.Bool.{cases_Bool, cases_eq, eq-eqb, ne_eqb, lt-ltb}
+use Rattle.std.proofs.lemmas.List.Folds.{list_any_at, list_any_more}
+use Rattle.std.proofs.lemmas.Option.{same_Some}
+use Rattle.lrc_code.specs.declared.codes.Code.{Code}
+use Rattle.lrc_code.specs.declared.losses.LossMask.{LossMask}
+use Rattle.lrc_code.specs.declared.numbers.StripeNo.{StripeNo}
+use Rattle.lrc_code.specs.declared.numbers.NodeNo.{NodeNo}
+use Rattle.lrc_code.specs.declared.numbers.UpgradeNo.{UpgradeNo}
+use Rattle.lrc_code.specs.Numbers.{same_node, same_upgrade}
+use Rattle.lrc_code.proofs.NumbersLemmas.{equal_nodes}
+use Rattle.lrc_code.specs.Codes.{has_fragment}
+use Rattle.lrc_code.specs.Losses.{bits_set}
+use Rattle.lrc_topology.specs.declared.NodeInfo.{NodeInfo}
+use Rattle.lrc_topology.specs.declared.seat.Seat.{Seat}
+use Rattle.lrc_terms.specs.declared.mode.Mode.{Mode}
+use Rattle.lrc_terms.specs.Modes.{is_draining}
+use Rattle.lrc_nodes.specs.declared.node_state.NodeState.{NodeState}
+use Rattle.lrc_nodes.specs.States.{infos_in, state_at, online_in, draining_in, with_state, with_upgrading_in}
+use Rattle.lrc_nodes.proofs.SetLemmas.{AreSameNodes, same-state, online-state, draining-state, same-upgrading, draining-upgrading, is_of_domain, online-upgrading}
+use Rattle.lrc_ranks.specs.Sets.{has}
+use Rattle.lrc_homes.specs.declared.home_domains.HomeDomains.{HomeDomains}
+use Rattle.lrc_homes.specs.HomeArrays.{AreDomainsKept}
+use Rattle.lrc_rows.specs.declared.row.Row.{Row}
+use Rattle.lrc_terms.specs.Levels.{Homes}
+use Rattle.lrc_rows.specs.NodeStates.{NodeLists, NodeStates, states_in}
+use Rattle.lrc_homes.specs.Homes.{sits_on, is_missing, is_to_move}
+use Rattle.lrc_rows.specs.Listed.{row_homes}
+use Rattle.lrc_homes.specs.Masks.{IsMaskOf, AreWithin, IsPutOn, AreKept}
+use Rattle.lrc_rows.specs.Kept.{IsKept, is_row_on, AreSameStripes, AreRenewed, IsRenewed, IsMissingOn, IsToMoveOn}
+use Rattle.lrc_homes.proofs.MaskLemmas.{has-low}
+use Rattle.lrc_rows.proofs.FreshLemmas.{mask-is}
+use Rattle.lrc_rows.proofs.NodeStateLemmas.{not-not}
+
+-- ---- one mask
+
+module _ (code : Code) (n : NodeNo) (b : Bool) (test after : Option Seat → Bool) (on : (home : Option Seat) → sits_on n home ≡ true → after home ≡ b)
+    (off : (home : Option Seat) → sits_on n home ≡ false → after home ≡ test home) (homes : List (Option Seat)) where
+  -- what is put into the mask of a test is the mask of the test that follows
+  mask-put : (old new : LossMask) → AreWithin code homes → IsMaskOf code test homes old → IsPutOn n b homes old new → IsMaskOf code after homes new
+  mask-put old new lacks is put f = put f ∙ by (sits_on n (get_or homes f None)) refl (has_fragment code f) refl where
+    by : (s : Bool) → sits_on n (get_or homes f None) ≡ s → (l : Bool) → has_fragment code f ≡ l
+        → cond (nat_lt f 16 && sits_on n (get_or homes f None)) b (bits_set old.bits f) ≡ (has_fragment code f && after (get_or homes f None))
+    by true sits true low = rw (lt-ltb f 16 (has-low code f low), low, sits, on (get_or homes f None) sits) refl
+    by false sits true low = rw (lt-ltb f 16 (has-low code f low), low, sits, off (get_or homes f None) sits) (is f ∙ ap (λ l. l && test (get_or homes f None)) low)
+    by true sits false high = absurd (let none : sits_on n (get_or homes f None) ≡ false = ap (sits_on n) (lacks f high) in let clash : true ≡ false = sym sits ∙ none in cc)
+    by false sits false high = rw (high, sits) (ap (λ c. cond c b (bits_set old.bits f)) (bare (nat_lt f 16)) ∙ (is f ∙ ap (λ l. l && test (get_or homes f None)) high)) where
+      bare : (b : Bool) → (b && false) ≡ false
+      bare true = refl
+      bare false = refl
+
+  -- the mask of homes none of which is on the node stays
+  mask-stays : (mask : LossMask) → length homes ≡ 16 → list_any (sits_on n) homes ≡ false → IsMaskOf code test homes mask → IsMaskOf code after homes mask
+  mask-stays mask long none is f = is f ∙ by (has_fragment code f) refl where
+    by : (l : Bool) → has_fragment code f ≡ l → (has_fragment code f && test (get_or homes f None)) ≡ (has_fragment code f && after (get_or homes f None))
+    by false high = rw high refl
+    by true low =
+        let within : f < length homes = let few = has-low code f low in omega (arith, few, long) in
+        let sits : sits_on n (get_or homes f None) ≡ false = elim (cases_Bool (sits_on n (get_or homes f None))) [
+          | inl hit ↦ absurd (let any = list_any_at (sits_on n) homes f None within hit in let clash : true ≡ false = sym any ∙ none in cc)
+          | inr miss ↦ miss
+        ] in
+        ap (λ x. has_fragment code f && x) (sym (off (get_or homes f None) sits))
+
+-- ---- the rows
+
+module _ (on : StripeNo → Bool) (R : Row → Row → Type 0) (before after : StripeNo → Option Row) (renewed : AreRenewed on R before after) where
+  -- what depends on the homes alone stays
+  same-of : {Z : Type 0} (P : Option Row → Z) → ((q r : Row) → R q r → P (Some r) ≡ P (Some q)) → (x : StripeNo) → P (after x) ≡ P (before x)
+  same-of P same x = elim (cases_Bool (on x)) [
+    | inl there ↦ by (before x) refl (renewed.listed x there)
+    | inr miss ↦ ap P (renewed.others x miss)
+  ] where
+    by : (o : Option Row) → before x ≡ o → IsRenewed R o (after x) → P (after x) ≡ P (before x)
+    by None e gone = ap P gone ∙ ap P (sym e)
+    by (Some q) e (r, to, holds) = ap P to ∙ (same q r holds ∙ ap P (sym e))
+
+  -- a property of rows that a renewal gives, and that the others have already
+  each-of : (P Q : Row → Type 0) → ((x : StripeNo) (q : Row) → before x ≡ Some q → P q) → ((q r : Row) → R q r → P q → Q r)
+      → ((x : StripeNo) (q : Row) → on x ≡ false → before x ≡ Some q → P q → Q q) → (x : StripeNo) (r : Row) → after x ≡ Some r → Q r
+  each-of P Q had gives stays x r there = elim (cases_Bool (on x)) [
+    | inl hit ↦ by (before x) refl (renewed.listed x hit)
+    | inr miss ↦ let was = sym (renewed.others x miss) ∙ there in stays x r miss was (had x r was)
+  ] where
+    by : (o : Option Row) → before x ≡ o → IsRenewed R o (after x) → Q r
+    by None e gone = absurd (let clash : None ≡ Some r = sym gone ∙ there in cc)
+    by (Some q) e (new, to, holds) = subst Q (same_Some new r (sym to ∙ there)) (gives q new holds (had x q e))
+
+-- ---- what a store is made of
+
+pub same-stripes : (rows : StripeNo → Option Row) → AreSameStripes rows rows
+same-stripes rows = record { there = λ s. refl; codes = λ s. refl; homes = λ s. refl }
+
+pub same-then : (first second third : StripeNo → Option Row) → AreSameStripes first second → AreSameStripes second third → AreSameStripes first third
+same-then first second third one two = record { there = λ s. two.there s ∙ one.there s; codes = λ s. two.codes s ∙ one.codes s; homes = λ s. two.homes s ∙ one.homes s }
+
+-- ---- what is kept
+
+-- what is kept depends on the nodes that are online or draining, and on the stripes on each
+pub kept-as : (z y : NodeStates) (rows : StripeNo → Option Row) → y.online ≡ z.online → y.draining ≡ z.draining → y.on ≡ z.on → IsKept z rows → IsKept y rows
+kept-as z y rows online draining on kept = record {
+  losses = λ s r there. subst (λ (o : NodeNo → Bool). AreKept o y.draining r.homes r.losses) (sym online) (subst (λ (d : NodeNo → Bool). AreKept z.online d r.homes r.losses) (sym draining) (kept.losses s r there));
+  listed = λ n s. ap (λ (o : NodeNo → StripeNo → Bool). o n s) on ∙ kept.listed n s;
+}
+
+-- ---- a node is online or not, or draining or not
+
+module _ (z : NodeStates) (rows rows' : StripeNo → Option Row) (kept : IsKept z rows) (n : NodeNo) (b : Bool) where
+  -- a row that is not among those on the node has no home there
+  off-node : (x : StripeNo) (q : Row) → z.on n x ≡ false → rows x ≡ Some q → list_any (sits_on n) q.homes ≡ false
+  off-node x q miss there = sym (kept.listed n x ∙ ap (is_row_on n) there) ∙ miss
+
+  module _ (renewed : AreRenewed (z.on n) (IsMissingOn n b) rows rows') where
+    abbrev online' : NodeNo → Bool
+    online' m = cond (same_node n m) (not b) (z.online m)
+
+    missing-on : (home : Option Seat) → sits_on n home ≡ true → is_missing online' home ≡ b
+    missing-on None hit = absurd (cc)
+    missing-on (Some seat) hit = rw hit (not-not b)
+
+    missing-off : (home : Option Seat) → sits_on n home ≡ false → is_missing online' home ≡ is_missing z.online home
+    missing-off None miss = refl
+    missing-off (Some seat) miss = rw miss refl
+
+    pub kept-offline : IsKept (record z { online = online' }) rows'
+    kept-offline = record {
+      losses = each-of (z.on n) (IsMissingOn n b) rows rows' renewed
+          (λ q. AreKept z.online z.draining q.homes q.losses) (λ q. AreKept online' z.draining q.homes q.losses) kept.losses
+          (λ q r gives had. record {
+            within = subst (λ (hs : List (Option Seat)). AreWithin r.losses.code hs) (sym gives.homes) (subst (λ (code : Code). AreWithin code q.homes) (sym gives.code) had.within);
+            homeless = subst (λ (hs : List (Option Seat)). (f : ℕ) → bits_set r.losses.homeless.bits f ≡ (has_fragment r.losses.code f && is_none (get_or hs f None))) (sym gives.homes)
+                (λ f. ap (λ (m : LossMask). bits_set m.bits f) gives.homeless ∙ (had.homeless f ∙ ap (λ (code : Code). has_fragment code f && is_none (get_or q.homes f None)) (sym gives.code)));
+            missing = λ some.
+                let work : q.losses.needs.bits ≢ 0 = λ empty. some (ap (λ (m : LossMask). m.bits) gives.needs ∙ empty) in
+                subst (λ (hs : List (Option Seat)). IsMaskOf r.losses.code (is_missing online') hs r.losses.missing) (sym gives.homes)
+                (subst (λ (code : Code). IsMaskOf code (is_missing online') q.homes r.losses.missing) (sym gives.code)
+                (mask-put q.losses.code n b (is_missing z.online) (is_missing online') missing-on missing-off q.homes q.losses.missing r.losses.missing had.within (had.missing work) (gives.missing work)));
+            needs = subst (λ (hs : List (Option Seat)). (f : ℕ) → bits_set r.losses.needs.bits f ≡ (has_fragment r.losses.code f && is_to_move z.draining (get_or hs f None))) (sym gives.homes)
+                (λ f. ap (λ (m : LossMask). bits_set m.bits f) gives.needs ∙ (had.needs f ∙ ap (λ (code : Code). has_fragment code f && is_to_move z.draining (get_or q.homes f None)) (sym gives.code)));
+          })
+          (λ x q miss there had. record {
+            within = had.within;
+            homeless = had.homeless;
+            missing = λ some. mask-stays q.losses.code n b (is_missing z.online) (is_missing online') missing-on missing-off q.homes q.losses.missing q.sixteen (off-node x q miss there) (had.missing some);
+            needs = had.needs;
+          });
+      listed = λ m x. kept.listed m x ∙ sym (same-of (z.on n) (IsMissingOn n b) rows rows' renewed (is_row_on m) (λ q r gives. ap (λ (hs : List (Option Seat)). list_any (sits_on m) hs) gives.homes) x);
+    }
+
+  module _ (renewed : AreRenewed (z.on n) (IsToMoveOn z.online n b) rows rows') where
+    abbrev draining' : NodeNo → Bool
+    draining' m = cond (same_node n m) b (z.draining m)
+
+    to_move-on : (home : Option Seat) → sits_on n home ≡ true → is_to_move draining' home ≡ b
+    to_move-on None hit = absurd (cc)
+    to_move-on (Some seat) hit = rw hit refl
+
+    to_move-off : (home : Option Seat) → sits_on n home ≡ false → is_to_move draining' home ≡ is_to_move z.draining home
+    to_move-off None miss = refl
+    to_move-off (Some seat) miss = rw miss refl
+
+    pub kept-draining : IsKept (record z { draining = draining' }) rows'
+    kept-draining = record {
+      losses = each-of (z.on n) (IsToMoveOn z.online n b) rows rows' renewed
+          (λ q. AreKept z.online z.draining q.homes q.losses) (λ q. AreKept z.online draining' q.homes q.losses) kept.losses
+          (λ q r gives had. record {
+            within = subst (λ (hs : List (Option Seat)). AreWithin r.losses.code hs) (sym gives.homes) (subst (λ (code : Code). AreWithin code q.homes) (sym gives.code) had.within);
+            homeless = subst (λ (hs : List (Option Seat)). (f : ℕ) → bits_set r.losses.homeless.bits f ≡ (has_fragment r.losses.code f && is_none (get_or hs f None))) (sym gives.homes)
+                (λ f. ap (λ (m : LossMask). bits_set m.bits f) gives.homeless ∙ (had.homeless f ∙ ap (λ (code : Code). has_fragment code f && is_none (get_or q.homes f None)) (sym gives.code)));
+            missing = λ some. subst (λ (hs : List (Option Seat)). (f : ℕ) → bits_set r.losses.missing.bits f ≡ (has_fragment r.losses.code f && is_missing z.online (get_or hs f None))) (sym gives.homes)
+                (λ f. ap (λ (m : LossMask). bits_set m.bits f) gives.missing ∙ (mask-is q.losses.code z.online q.homes f ∙ ap (λ (code : Code). has_fragment code f && is_missing z.online (get_or q.homes f None)) (sym gives.code)));
+            needs = subst (λ (hs : List (Option Seat)). IsMaskOf r.losses.code (is_to_move draining') hs r.losses.needs) (sym gives.homes)
+                (subst (λ (code : Code). IsMaskOf code (is_to_move draining') q.homes r.losses.needs) (sym gives.code)
+                (mask-put q.losses.code n b (is_to_move z.draining) (is_to_move draining') to_move-on to_move-off q.homes q.losses.needs r.losses.needs had.within had.needs gives.needs));
+          })
+          (λ x q miss there had. record {
+            within = had.within;
+            homeless = had.homeless;
+            missing = had.missing;
+            needs = mask-stays q.losses.code n b (is_to_move z.draining) (is_to_move draining') to_move-on to_move-off q.homes q.losses.needs q.sixteen (off-node x q miss there) had.needs;
+          });
+      listed = λ m x. kept.listed m x ∙ sym (same-of (z.on n) (IsToMoveOn z.online n b) rows rows' renewed (is_row_on m) (λ q r gives. ap (λ (hs : List (Option Seat)). list_any (sits_on m) hs) gives.homes) x);
+    }
+
+-- the masks follow the node, where those of the other nodes are as they are told
+pub online-follows : (z : NodeStates) (online : NodeNo → Bool) (n : NodeNo) (rows rows' : StripeNo → Option Row) → IsKept (record z { online = online }) rows
+    → AreRenewed (z.on n) (IsMissingOn n (not (z.online n))) rows rows' → IsKept (record z { online = λ m. if same_node m n then z.online m else online m }) rows'
+online-follows z online n rows rows' kept renewed =
+    kept-as (record z { online = λ m. cond (same_node n m) (not (not (z.online n))) (online m) }) (record z { online = λ m. if same_node m n then z.online m else online m }) rows'
+    (fun_ext (λ m. elim (cases_eq m.value n.value) [
+      | inl same ↦ rw (eq-eqb _ _ same, eq-eqb _ _ (sym same)) (ap z.online (equal_nodes m n same) ∙ sym (not-not (z.online n)))
+      | inr other ↦ rw (ne_eqb _ _ other, ne_eqb _ _ (λ e. other (sym e))) refl
+    ])) refl refl
+    (kept-offline (record z { online = online }) rows rows' kept n (not (z.online n)) renewed)
+
+-- where only one node may be told otherwise, the masks follow all
+pub told-follows : (z : NodeStates) (n : NodeNo) (was : Bool) (rows : StripeNo → Option Row)
+    → IsKept (record z { online = λ m. if same_node m n then z.online m else (if same_node n m then was else z.online m) }) rows → IsKept z rows
+told-follows z n was rows kept =
+    kept-as (record z { online = λ m. if same_node m n then z.online m else (if same_node n m then was else z.online m) }) z rows
+    (fun_ext (λ m. elim (cases_eq m.value n.value) [
+      | inl same ↦ rw (eq-eqb _ _ same) refl
+      | inr other ↦ rw (ne_eqb _ _ other, ne_eqb _ _ (λ e. other (sym e))) refl
+    ])) refl refl kept
+
+-- the nodes of a domain so far, and one more
+module _ (z : NodeStates) (u : UpgradeNo) (online : NodeNo → Bool) where
+  abbrev told : List NodeInfo → NodeNo → Bool
+  told nodes m = if list_any (is_of_domain u m) nodes then z.online m else online m
+
+  pub more-follow : (i : ℕ) (d : NodeInfo) (rows : StripeNo → Option Row) → i < length z.nodes
+      → IsKept (record z { online = λ m. if is_of_domain u m (get_or z.nodes i d) then z.online m else told (take i z.nodes) m }) rows → IsKept (record z { online = told (take (i + 1) z.nodes) }) rows
+  more-follow i d rows within kept =
+      kept-as (record z { online = λ m. if is_of_domain u m (get_or z.nodes i d) then z.online m else told (take i z.nodes) m }) (record z { online = told (take (i + 1) z.nodes) }) rows
+      (fun_ext (λ m. rw (list_any_more (is_of_domain u m) z.nodes i d within) (either (list_any (is_of_domain u m) (take i z.nodes)) (is_of_domain u m (get_or z.nodes i d)) (z.online m) (online m)))) refl refl kept where
+        either : (before here x y : Bool) → (if before || here then x else y) ≡ (if here then x else (if before then x else y))
+        either true true x y = refl
+        either true false x y = refl
+        either false true x y = refl
+        either false false x y = refl
+
+  pub all-follow : (rows : StripeNo → Option Row) → ((m : NodeNo) → list_any (is_of_domain u m) z.nodes ≡ false → online m ≡ z.online m) → IsKept (record z { online = told z.nodes }) rows → IsKept z rows
+  all-follow rows outside kept =
+      kept-as (record z { online = told z.nodes }) z rows
+      (fun_ext (λ m. elim (cases_Bool (list_any (is_of_domain u m) z.nodes)) [
+        | inl among ↦ rw among refl
+        | inr none ↦ rw none (sym (outside m none))
+      ])) refl refl kept
+
+-- ---- a state set, in the lists
+
+-- the stripes on each node stay where the nodes do
+on-stays : (t : NodeLists) (list : List NodeState) → AreSameNodes t.list list → (states_in (record t { list = list })).on ≡ (states_in t).on
+unfolding states_in
+on-stays t list same = fun_ext (λ m. ap (λ (q : ℕ). has (get_or t.stripes q [])) (same.positions m))
+
+-- what is kept where the node drains or not, as it does after its state is set
+pub kept-state : (t : NodeLists) (n : NodeNo) (mode : Mode) (b was drains : Bool) (rows : StripeNo → Option Row) → IsSome (state_at t.list n) → was ≡ (states_in t).online n → drains ≡ is_draining mode
+    → IsKept (record (states_in t) { draining = λ m. if same_node n m then drains else (states_in t).draining m }) rows
+    → IsKept (record (states_in (record t { list = with_state t.list n mode b })) { online = λ m. if same_node n m then was else (states_in (record t { list = with_state t.list n mode b })).online m }) rows
+unfolding states_in
+kept-state t n mode b was drains rows there on drain =
+    let list = with_state t.list n mode b in
+    let new : NodeStates = states_in (record t { list = list }) in
+    kept-as (record (states_in t) { draining = λ m. if same_node n m then drains else (states_in t).draining m }) (record new { online = λ m. if same_node n m then was else new.online m }) rows
+    (fun_ext (λ m. elim (cases_eq n.value m.value) [
+      | inl same ↦ rw (eq-eqb _ _ same) (on ∙ ap (online_in t.list) (equal_nodes n m same))
+      | inr other ↦ let miss : nat_eq n.value m.value ≡ false = ne_eqb _ _ other in rw miss (online-state t.list n mode b m miss)
+    ]))
+    (draining-state t.list n mode b there ∙ fun_ext (λ m. ap (λ (x : Bool). if same_node n m then x else draining_in t.list m) (sym drain)))
+    (on-stays t list (same-state t.list n mode b))
+
+-- what is kept where the domain is upgrading, but for the nodes of the domain that are online
+pub kept-upgrading : (t : NodeLists) (u : UpgradeNo) (b : Bool) (rows : StripeNo → Option Row) → IsKept (states_in t) rows
+    → IsKept (record (states_in (record t { list = with_upgrading_in t.list u b })) { online = (states_in t).online }) rows
+unfolding states_in
+kept-upgrading t u b rows kept =
+    let new : NodeStates = states_in (record t { list = with_upgrading_in t.list u b }) in
+    kept-as (states_in t) (record new { online = (states_in t).online }) rows refl (draining-upgrading t.list u b) (on-stays t (with_upgrading_in t.list u b) (same-upgrading t.list u b)) kept
+
+-- the nodes that are in no such domain are online as before
+pub online-outside : (t : NodeLists) (u : UpgradeNo) (b : Bool) (m : NodeNo)
+    → list_any (λ n. same_node m n.number && same_upgrade n.upgrade u) (states_in (record t { list = with_upgrading_in t.list u b })).nodes ≡ false
+    → (states_in t).online m ≡ (states_in (record t { list = with_upgrading_in t.list u b })).online m
+unfolding states_in
+online-outside t u b m none =
+    sym (online-upgrading u b m t.list (ap (list_any (λ (n : NodeInfo). same_node m n.number && same_upgrade n.upgrade u)) (sym (same-upgrading t.list u b).nodes) ∙ none))
+
+-- the domains of the homes stay where the nodes do
+pub domains-stay : (t : NodeLists) (list : List NodeState) (rows rows' : StripeNo → Option Row) (domains : List HomeDomains) → AreSameNodes t.list list → AreSameStripes rows rows'
+    → AreDomainsKept (states_in t).nodes (λ s. row_homes (rows s)) domains → AreDomainsKept (states_in (record t { list = list })).nodes (λ s. row_homes (rows' s)) domains
+unfolding states_in
+domains-stay t list rows rows' domains same stripes =
+    subst (λ (ns : List NodeInfo). AreDomainsKept (infos_in t.list) (λ s. row_homes (rows s)) domains → AreDomainsKept ns (λ s. row_homes (rows' s)) domains) (sym same.nodes)
+    (subst (λ (h : StripeNo → Homes). AreDomainsKept (infos_in t.list) h domains) (fun_ext (λ s. sym (stripes.homes s))))

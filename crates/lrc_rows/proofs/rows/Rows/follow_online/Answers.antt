@@ -1,0 +1,12 @@
+use Rattle.std.proofs.Common.{if◌then◌else◌}
+use Rattle.lrc_code.specs.Numbers.{same_node}
+use Rattle.lrc_rows.specs.NodeStates.{states_in}
+use Rattle.lrc_rows.specs.Listed.{rows_in}
+use Rattle.lrc_rows.proofs.RenewLemmas.{told-follows}
+use Rattle.lrc_rows.proofs.rows.Rows.follow_online.Goals as goal
+
+pub returns-then-has_work-clause-kept : goal.returns-then-has_work-clause-kept
+returns-then-has_work-clause-kept c = λ kept.
+    let z = states_in c.args.node_table.now in
+    told-follows z c.args.node c.args.was_online (rows_in c.follow_node.new.self)
+    (c.follow_node.ensures.kept (λ m. if same_node c.args.node m then c.args.was_online else z.online m) kept)

@@ -1,0 +1,36 @@
+use Rattle.std.proofs.Common.{◌≡◌, ◌<◌, Option, None, is_some, option_and_then, length, set, arith, ap, subst, ◌∙◌}
+use Rattle.std.proofs.lemmas.List.{get_or_default}
+use Rattle.lrc_rows.specs.declared.row.Row.{Row}
+use Rattle.lrc_homes.specs.Masks.{work_rank}
+use Rattle.lrc_rows.specs.Listed.{rows_in}
+use Rattle.lrc_rows.specs.Kept.{needs_of, IsRenewed, IsWithLosses}
+use Rattle.lrc_rows.proofs.RowsLemmas.{rows_in-set, present-same, renewed-there, are_queued-set, renewed-set}
+use Rattle.lrc_rows.proofs.rows.Rows.set_losses.Goals as goal
+
+pub invariant_of-self : goal.invariant_of-self
+invariant_of-self c =
+    let list = c.self.inside.list.items in
+    let s = c.args.stripe in
+    let was = c.self.invariant in
+    let within : s.value < length list = let low = s.in_range in let long = was.long in omega (arith, low, long) in
+    let row = c.index_mut-row.result.now in
+    let old : row ≡ rows_in list s = c.index_mut-row.ensures.value ∙ get_or_default list s.value row None within in
+    let there = c.self.inside.there in
+    let Renews = IsWithLosses c.args.losses in
+    let new = c.put_losses.new.row in
+    let is_there = renewed-there Renews row new c.put_losses.ensures ∙ ap (λ (o : Option Row). is_some o) old in
+    are_queued-set list s new within c.self.inside.needs.items c.needs_of.result there there c.self.inside.work c.relist.new.self c.work_rank-rank.result
+    was (present-same list s new within there was.present is_there) (c.needs_of.ensures ∙ ap needs_of c.as_ref.ensures.value)
+    (c.work_rank-rank.ensures.value ∙ ap (option_and_then (λ r. work_rank r.losses)) c.as_ref-2.ensures.value) c.relist.ensures
+
+pub returns : goal.returns
+returns c =
+    let list = c.self.inside.list.items in
+    let s = c.args.stripe in
+    let new = c.put_losses.new.row in
+    let Renews = IsWithLosses c.args.losses in
+    let within : s.value < length list = let low = s.in_range in let long = c.self.invariant.long in omega (arith, low, long) in
+    let row = c.index_mut-row.result.now in
+    let old : row ≡ rows_in list s = c.index_mut-row.ensures.value ∙ get_or_default list s.value row None within in
+    let renewed = subst (λ (o : Option Row). IsRenewed Renews o new) old c.put_losses.ensures in
+    rw (← c.self.view_is) (renewed-set Renews (rows_in list) (rows_in (set list s.value new)) s new (rows_in-set list s new within) renewed)

@@ -1,0 +1,15 @@
+pub use Rattle.lrc_code.specs.Numbers
+pub use Rattle.lrc_code.specs.Codes
+pub use Rattle.lrc_code.specs.Losses
+pub use Rattle.lrc_topology.specs.Nodes
+pub use Rattle.lrc_terms.specs.Levels
+pub use Rattle.lrc_terms.specs.Stripes
+pub use Rattle.lrc_nodes.specs.States
+pub use Rattle.lrc_ranks.specs.Sets
+pub use Rattle.lrc_ranks.specs.Ranks
+pub use Rattle.lrc_homes.specs.Domains
+pub use Rattle.lrc_homes.specs.Homes
+pub use Rattle.lrc_homes.specs.Masks
+pub mod NodeStates
+pub mod Kept
+pub mod Listed

@@ -1,0 +1,60 @@
+-- The stored nodes, and the stripes with a home on each.
+use Rattle.std.specs.Prelude.{◌≡◌, ◌≢◌, ℕ, ◌<◌, ◌≤◌, Bool, false, List, [], map, get_or, length, Option, Some, None, is_some, not, ◌&&◌, nat_lt, count_by}
+use Rattle.std.specs.List.{AllPairs}
+use Rattle.lrc_code.specs.declared.numbers.StripeNo.{StripeNo}
+use Rattle.lrc_code.specs.declared.numbers.NodeNo.{NodeNo}
+use Rattle.lrc_topology.specs.declared.NodeInfo.{NodeInfo}
+use Rattle.lrc_nodes.specs.declared.node_state.NodeState.{NodeState}
+use Rattle.lrc_nodes.specs.States.{first_state, infos_in, numbers_in, node_position, online_in, draining_in}
+use Rattle.lrc_ranks.specs.Sets.{has}
+use Rattle.lrc_topology.specs.Nodes.{node_at}
+
+-- one of the nodes has the number
+abbrev pub has_node : List NodeInfo → NodeNo → Bool
+has_node nodes n = is_some (node_at nodes n)
+
+-- The nodes in the order of the file with their states; the nodes alone, those that are online and those that are draining, which
+-- follow from it; and the stripes with a home on each.
+pub record NodeStates : Type 0 where
+  pub list : List NodeState
+  pub nodes : List NodeInfo
+  pub online : NodeNo → Bool
+  pub draining : NodeNo → Bool
+  pub on : NodeNo → StripeNo → Bool
+
+-- the nodes at first
+abbrev pub first_states : List NodeInfo → NodeStates
+first_states nodes = record { list = map first_state nodes; nodes = nodes; online = has_node nodes; draining = λ n. false; on = λ n s. false }
+
+-- the stored nodes, and in the same order the stripes with a home on each
+pub record NodeLists : Type 0 where
+  pub list : List NodeState
+  pub stripes : List (List Bool)
+
+-- the nodes and stripes that the lists represent
+unfoldable pub states_in : NodeLists → NodeStates
+states_in t = record {
+  list = t.list;
+  nodes = infos_in t.list;
+  online = online_in t.list;
+  draining = draining_in t.list;
+  on = λ n. has (get_or t.stripes (node_position t.list n) []);
+}
+
+-- there is a set for each node, and the numbers of the nodes differ
+pub record AreNodes (states : List NodeState) (sets : List (List Bool)) : Type 0 where
+  pub long : length sets ≡ length states
+  pub apart : AllPairs (λ m n. m.value ≢ n.value) (numbers_in states)
+
+-- the result of a look-up: the position of the node, or none if no node has the number
+abbrev pub IsPositionOf : NodeLists → NodeNo → Option ℕ → Type 0
+IsPositionOf t n None = (length t.list ≤ node_position t.list n) × (length t.stripes ≡ length t.list)
+IsPositionOf t n (Some p) = (p ≡ node_position t.list n) × (p < length t.list) × (length t.stripes ≡ length t.list)
+
+-- the number of these nodes that are not online and have a home of the stripe
+abbrev pub offline_in : NodeStates → StripeNo → List NodeInfo → ℕ
+offline_in states s nodes = count_by (λ n. not (states.online n.number) && states.on n.number s) nodes
+
+-- several nodes are not online and have a home of the stripe
+abbrev pub is_on_several_offline : NodeStates → StripeNo → Bool
+is_on_several_offline states s = nat_lt 1 (offline_in states s states.nodes)

@@ -1,0 +1,370 @@
+ghost use Rattle.std.specs.Prelude.{◌≡◌, if◌then◌else◌, ◌||◌, ◌&&◌, ℕ, nat_lt, ◌<◌, ◌≤◌, length, get_or, option_and_then, replicate, Some, None, is_some, true, false, IsTrue, IfOk, IfErr, IfSome};
+ghost use Rattle.std.specs.Option.{option_copied};
+ghost use Rattle.lrc_code.specs.Numbers.{same_stripe};
+ghost use Rattle.lrc_code.specs.declared.numbers.StripeNo.{StripeNo as AnyStripe};
+ghost use Rattle.lrc_rows.specs.declared.row.Row.{Row as AnyRow};
+ghost use Rattle.lrc_code.specs.declared.fault.Fault.TheVariants.{OutOfMemory};
+ghost use Rattle.lrc_ranks.specs.Ranks.{is_at, queue_from};
+ghost use Rattle.lrc_homes.specs.Masks.{work_rank, risk_rank};
+ghost use Rattle.lrc_ranks.specs.Sets.{has};
+ghost use Rattle.lrc_rows.specs.Kept.{row_has_work, IsKept, queued, needs_of, freshened, level_in, is_row_on, holds, AreRenewed, IsRenewed, IsWithLosses, IsWithMissing, IsRehomed, IsMissingOn, IsToMoveOn};
+ghost use Rattle.lrc_rows.specs.NodeStates.{states_in};
+ghost use Rattle.lrc_homes.specs.Homes.{sits_on};
+ghost use Rattle.lrc_code.specs.Losses.{bits_set};
+ghost use Rattle.lrc_rows.specs.Listed.{rows_in};
+
+mod following;
+
+use lrc_code::{Fault, Fragment, LossMask, NodeNo, STRIPES, StripeNo};
+use lrc_homes::{Losses, masks};
+use lrc_ranks::{Position, Queue, StripeSet, Work};
+use lrc_terms::Level;
+use lrc_topology::Seat;
+use crate::node_table::NodeTable;
+use crate::row::Row;
+use std::alloc::{AllocError, Global};
+use std::marker::Model;
+
+/// The rows of the stripes that exist, and the stripes that have work, by rank.
+#[derive(Drop)]
+pub struct Rows {
+    /// By stripe number.
+    list: Vec<Option<Row>>,
+    /// By stripe number, the fragments that need a lease, as bits; 0 for a stripe that does not exist. A copy, so that a
+    /// walk in the order of repair reads no rows.
+    needs: Vec<u16>,
+    /// The stripes that exist. A copy, so that a test reads no row.
+    there: StripeSet,
+    work: Queue,
+}
+
+impl Model for Rows {
+    ghost use Rattle.std.specs.Prelude.{List, Option};
+    ghost use Rattle.lrc_rows.specs.declared.row.Row.{Row as AnyRow};
+    ghost use Rattle.lrc_rows.specs.Kept.{AreQueued};
+
+    ghost Value = { List (Option AnyRow) };
+
+    ghost view = { λ t. t.list.items };
+
+    ghost invariant = { λ t. AreQueued t.list.items t.needs.items t.there t.work };
+}
+
+impl Rows {
+    /// No rows, and room for a row of each stripe number.
+    pub fn new(alloc: Global) -> Result<Rows, Fault>
+        ensures value { IfOk result (λ t. rows_in t ≡ λ s. None) }
+        ensures err { IfErr result (λ e. e ≡ OutOfMemory) }
+    {
+        Ok(Rows {
+            list: none(alloc, STRIPES)?,
+            needs: zeros(alloc, STRIPES)?,
+            there: StripeSet::new(),
+            work: Queue::new(alloc)?,
+        })
+    }
+
+    /// Whether a stripe exists.
+    pub fn contains(&self, stripe: StripeNo) -> bool
+        ensures { result ≡ is_some (rows_in self.now stripe) }
+    {
+        self.there.contains(stripe)
+    }
+
+    /// The row of a stripe, if it exists.
+    pub fn get(&self, stripe: StripeNo) -> Option<&Row>
+        ensures { option_copied result ≡ rows_in self.now stripe }
+    {
+        self.list[stripe.value as usize].as_ref()
+    }
+
+    /// The fragments of a stripe that need a lease; none for a stripe that does not exist.
+    pub fn needs(&self, stripe: StripeNo) -> LossMask
+        ensures value { result.bits ≡ needs_of (rows_in self.now stripe) }
+        ensures few { result.bits < 65536 }
+    {
+        LossMask::from_bits(self.needs[stripe.value as usize])
+    }
+
+    /// The fragments of an existing stripe that have a home.
+    pub fn homed(&self, stripe: StripeNo) -> LossMask
+        ensures few { result.bits < 65536 }
+        ensures homed { (r : AnyRow) → rows_in self.now stripe ≡ Some r → (f : ℕ) → bits_set result.bits f ≡ is_some (get_or r.homes f None) }
+    {
+        match self.get(stripe) {
+            Some(row) => row.homes.homed(),
+            None => LossMask::from_bits(0),
+        }
+    }
+
+    /// Adds or replaces the row of a stripe.
+    pub fn add(&mut self, stripe: StripeNo, row: Row)
+        ensures { rows_in self.new ≡ λ s. if same_stripe stripe s then Some row else rows_in self.old s }
+    {
+        let rank = row.losses.work_rank();
+        self.needs[stripe.value as usize] = row.losses.needs.bits;
+        self.there.set(stripe, true);
+        self.list[stripe.value as usize] = Some(row);
+        self.work.relist(stripe, rank);
+    }
+
+    /// Removes the row of a stripe.
+    pub fn remove(&mut self, stripe: StripeNo)
+        ensures { rows_in self.new ≡ λ s. if same_stripe stripe s then None else rows_in self.old s }
+    {
+        self.needs[stripe.value as usize] = 0;
+        self.there.set(stripe, false);
+        self.list[stripe.value as usize] = None;
+        self.work.relist(stripe, None);
+    }
+
+    /// Sets the losses of a stripe, if it exists.
+    fn set_losses(&mut self, stripe: StripeNo, losses: Losses)
+        ensures { AreRenewed (same_stripe stripe) (IsWithLosses losses) (rows_in self.old) (rows_in self.new) }
+    {
+        let row = &mut self.list[stripe.value as usize];
+        put_losses(row, losses);
+        self.needs[stripe.value as usize] = needs_of(row.as_ref());
+        let rank = work_rank(row.as_ref());
+        self.work.relist(stripe, rank);
+    }
+
+    /// Sets the home of a fragment of an existing stripe, or clears it, and sets the losses of the stripe.
+    pub fn set_home(
+        &mut self,
+        stripe: StripeNo,
+        fragment: Fragment,
+        home: Option<Seat>,
+        losses: Losses,
+    )
+        requires { IsTrue (is_some (rows_in self.old stripe)) }
+        ensures { AreRenewed (same_stripe stripe) (IsRehomed fragment.value home losses) (rows_in self.old) (rows_in self.new) }
+    {
+        let row = &mut self.list[stripe.value as usize];
+        put_home(row, fragment, home, losses);
+        self.needs[stripe.value as usize] = losses.needs.bits;
+        let rank = losses.work_rank();
+        self.work.relist(stripe, rank);
+    }
+
+    /// The fragments of an existing stripe whose homes are on the node.
+    pub fn fragments_on(&self, stripe: StripeNo, node: NodeNo) -> LossMask
+        ensures few { result.bits < 65536 }
+        ensures on { (r : AnyRow) → rows_in self.now stripe ≡ Some r → (f : ℕ) → bits_set result.bits f ≡ (nat_lt f 16 && sits_on node (get_or r.homes f None)) }
+    {
+        match self.get(stripe) {
+            Some(row) => row.homes.fragments_on(node),
+            None => LossMask::from_bits(0),
+        }
+    }
+
+    /// Whether a fragment of an existing stripe has its home on the node.
+    pub(crate) fn is_on(&self, stripe: StripeNo, node: NodeNo) -> bool
+        requires { IsTrue (is_some (rows_in self.now stripe)) }
+        ensures { result ≡ is_row_on node (rows_in self.now stripe) }
+    {
+        self.fragments_on(stripe, node).bits != 0
+    }
+
+    /// Whether a fragment of the stripe has its home on the seat.
+    pub fn holds(&self, stripe: StripeNo, seat: Seat) -> bool
+        ensures { result ≡ holds seat (rows_in self.now stripe) }
+    {
+        match self.get(stripe) {
+            Some(row) => row.holds(seat),
+            None => false,
+        }
+    }
+
+    /// Sets whether the fragments on the node are missing, in the stripes that have work.
+    fn renew_missing(&mut self, node_table: &NodeTable, node: NodeNo, are_missing: bool)
+        ensures { AreRenewed ((states_in node_table.now).on node) (IsMissingOn node are_missing) (rows_in self.old) (rows_in self.new) }
+    {
+        if let Some(stripes) = node_table.stripes_on(node) {
+            self.renew_missing_in(stripes, node, are_missing);
+        }
+    }
+
+    /// Does the same for a set of stripes, with or without a home on the node.
+    fn renew_missing_in(&mut self, stripes: &StripeSet, node: NodeNo, are_missing: bool)
+        ensures { AreRenewed (has stripes.now) (IsMissingOn node are_missing) (rows_in self.old) (rows_in self.new) }
+    {
+        let mut left = stripes.members();
+        while let Some(stripe) = left.next_stripe() {
+            if self.needs(stripe).bits != 0 {
+                self.renew_missing_of(stripe, node, are_missing);
+            }
+        }
+    }
+
+    /// Sets whether the fragments of a stripe on the node are missing, if the stripe exists.
+    fn renew_missing_of(&mut self, stripe: StripeNo, node: NodeNo, are_missing: bool)
+        ensures { AreRenewed (same_stripe stripe) (IsMissingOn node are_missing) (rows_in self.old) (rows_in self.new) }
+    {
+        let fragments = self.fragments_on(stripe, node);
+        self.put_missing(stripe, fragments, are_missing);
+    }
+
+    /// Sets whether these fragments of a stripe are missing, if the stripe exists.
+    fn put_missing(&mut self, stripe: StripeNo, fragments: LossMask, are_missing: bool)
+        ensures { AreRenewed (same_stripe stripe) (IsWithMissing fragments are_missing) (rows_in self.old) (rows_in self.new) }
+    {
+        let row = &mut self.list[stripe.value as usize];
+        put_missing(row, fragments, are_missing);
+        let rank = work_rank(row.as_ref());
+        self.work.relist(stripe, rank);
+    }
+
+    /// Sets whether the fragments on the node need a lease. The masks of the rows must be kept.
+    fn renew_needs(&mut self, node_table: &NodeTable, node: NodeNo, are_to_move: bool)
+        requires { IsKept (states_in node_table.now) (rows_in self.old) }
+        ensures { AreRenewed ((states_in node_table.now).on node) (IsToMoveOn (states_in node_table.now).online node are_to_move) (rows_in self.old) (rows_in self.new) }
+    {
+        if let Some(stripes) = node_table.stripes_on(node) {
+            self.renew_needs_in(stripes, node_table, node, are_to_move);
+        }
+    }
+
+    /// Does the same for a set of stripes, with or without a home on the node.
+    fn renew_needs_in(
+        &mut self,
+        stripes: &StripeSet,
+        node_table: &NodeTable,
+        node: NodeNo,
+        are_to_move: bool,
+    )
+        requires { IsKept (states_in node_table.now) (rows_in self.old) }
+        ensures { AreRenewed (has stripes.now) (IsToMoveOn (states_in node_table.now).online node are_to_move) (rows_in self.old) (rows_in self.new) }
+    {
+        let mut left = stripes.members();
+        while let Some(stripe) = left.next_stripe() {
+            if let Some(row) = self.get(stripe) {
+                let fragments = self.fragments_on(stripe, node);
+                let losses = row.with_needs(node_table, stripe, fragments, are_to_move);
+                self.set_losses(stripe, losses);
+            }
+        }
+    }
+
+    /// The level of a stripe; `Whole` for a stripe that does not exist. The masks of the rows must
+    /// be kept.
+    pub fn level(&self, node_table: &NodeTable, stripe: StripeNo) -> Level
+        requires { IsKept (states_in node_table.now) (rows_in self.now) }
+        ensures { result ≡ level_in (rows_in (freshened (states_in node_table.now).online self.now) stripe) }
+    {
+        match self.get(stripe) {
+            Some(row) => row.losses_kept(node_table, stripe).level(),
+            None => Level::Whole,
+        }
+    }
+
+    /// The rank of a stripe with a missing fragment; `None` for any other. The masks of the rows
+    /// must be kept.
+    pub fn risk_rank(&self, node_table: &NodeTable, stripe: StripeNo) -> Option<u8>
+        requires { IsKept (states_in node_table.now) (rows_in self.now) }
+        ensures rank { (k : ℕ) → queued risk_rank (rows_in (freshened (states_in node_table.now).online self.now)) k stripe ≡ is_at k result }
+        ensures few { IfSome result (λ k. k ≤ 4) }
+    {
+        let row = self.get(stripe)?;
+        row.losses_kept(node_table, stripe).risk_rank()
+    }
+
+    /// Whether a stripe has work.
+    pub fn has_work(&self) -> bool
+        ensures none { result ≡ false → (s : AnyStripe) → row_has_work (rows_in self.now s) ≡ false }
+        ensures some { result ≡ true → (s : AnyStripe) × (row_has_work (rows_in self.now s) ≡ true) }
+    {
+        !self.work.is_empty()
+    }
+
+    /// Adds the stripes that have work to a set.
+    pub fn join_work(&self, set: &mut StripeSet)
+        ensures { has set.new ≡ λ s. has set.old s || row_has_work (rows_in self.now s) }
+    {
+        self.work.join(set);
+    }
+
+    /// The stripes that have work, in the order of repair.
+    pub fn work(&self) -> Work<'_>
+        ensures { result ≡ queue_from (queued work_rank (rows_in self.now)) 0 0 }
+    {
+        self.work.walk(Position { rank: 0, from: 0 })
+    }
+
+    /// The stripes that have work from this one on, which has work itself, in the order of repair.
+    pub fn work_from(&self, first: StripeNo) -> Work<'_>
+        ensures { (k : ℕ) → IsTrue (queued work_rank (rows_in self.now) k first) → result ≡ queue_from (queued work_rank (rows_in self.now)) k first.value }
+    {
+        match self.work.rank(first) {
+            Some(rank) => self.work.walk(Position {
+                rank: rank as usize,
+                from: first.value as usize,
+            }),
+            None => self.work(),
+        }
+    }
+}
+
+/// `count` missing rows.
+fn none(alloc: Global, count: usize) -> Result<Vec<Option<Row>>, AllocError>
+    ensures { IfOk result (λ v. v.items ≡ replicate count None) }
+{
+    let mut rows = Vec::with_capacity(alloc, count)?;
+    for _ in 0..count {
+        rows.push(None)?;
+    }
+    Ok(rows)
+}
+
+/// `count` zeros.
+fn zeros(alloc: Global, count: usize) -> Result<Vec<u16>, AllocError>
+    ensures { IfOk result (λ v. v.items ≡ replicate count 0) }
+{
+    vec![in alloc; 0; count]
+}
+
+/// Sets whether these fragments are missing, if there is a row.
+fn put_missing(row: &mut Option<Row>, fragments: LossMask, are_missing: bool)
+    ensures { IsRenewed (IsWithMissing fragments are_missing) row.old row.new }
+{
+    if let Some(row) = row {
+        row.losses.missing = masks::put(row.losses.missing, fragments, are_missing);
+    }
+}
+
+/// Sets the losses, if there is a row.
+fn put_losses(row: &mut Option<Row>, losses: Losses)
+    ensures { IsRenewed (IsWithLosses losses) row.old row.new }
+{
+    if let Some(row) = row {
+        row.losses = losses;
+    }
+}
+
+/// Sets or clears the home of a fragment and sets the losses, if there is a row.
+fn put_home(row: &mut Option<Row>, fragment: Fragment, home: Option<Seat>, losses: Losses)
+    ensures { IsRenewed (IsRehomed fragment.value home losses) row.old row.new }
+{
+    if let Some(row) = row {
+        row.homes.put(fragment, home);
+        row.losses = losses;
+    }
+}
+
+/// The fragments that need a lease, as bits; 0 without a row.
+fn needs_of(row: Option<&Row>) -> u16
+    ensures { result ≡ needs_of (option_copied row.entry) }
+{
+    match row {
+        Some(row) => row.losses.needs.bits,
+        None => 0,
+    }
+}
+
+/// The rank of the row; `None` without a row or without work.
+fn work_rank(row: Option<&Row>) -> Option<u8>
+    ensures value { result ≡ option_and_then (λ r. work_rank r.losses) (option_copied row.entry) }
+    ensures few { IfSome result (λ k. k ≤ 4) }
+{
+    row?.losses.work_rank()
+}

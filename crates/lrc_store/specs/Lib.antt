@@ -1,0 +1,14 @@
+pub use Rattle.lrc_code.specs.Codes
+pub use Rattle.lrc_code.specs.Losses
+pub use Rattle.lrc_topology.specs.Nodes
+pub use Rattle.lrc_slots.specs.Slots
+pub use Rattle.lrc_slots.specs.Barred
+pub use Rattle.lrc_slots.specs.Next
+pub use Rattle.lrc_terms.specs.Levels
+pub use Rattle.lrc_stripes.specs.Stored
+pub use Rattle.lrc_terms.specs.Leased
+pub use Rattle.lrc_bars.specs.Ties
+pub mod Stores
+pub mod Repairing
+pub mod Reports
+pub mod Dropping

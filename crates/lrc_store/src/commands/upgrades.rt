@@ -1,0 +1,68 @@
+//! Commands on upgrade domains.
+
+ghost use Rattle.std.specs.Prelude.{◌≡◌};
+ghost use Rattle.lrc_rules.specs.declared.reply.Reply.TheVariants.{Changed};
+ghost use Rattle.lrc_answers.specs.Answers.{told};
+ghost use Rattle.lrc_rules.specs.States.{State};
+ghost use Rattle.lrc_rules.specs.Steps.{upgrade_outcome, upgraded_outcome, with_upgrading, without_upgrading};
+ghost use Rattle.lrc_store.specs.Stores.{IsOf};
+
+use lrc_answers::Answer;
+use lrc_code::UpgradeNo;
+use lrc_rules::Refusal;
+use crate::store::Store;
+
+impl Store {
+    #[inline(never)]
+    pub(crate) fn upgrade_reply(&self, domain: UpgradeNo) -> Answer
+        ensures { (st : State) → IsOf st self.now → told result ≡ (upgrade_outcome self.now.topology st domain).0 }
+    {
+        if !self.topology.has_upgrade_domain(domain) {
+            return Answer::Refused(Refusal::UnknownDomain);
+        }
+        if let Some(upgrading) = self.upgrading {
+            return Answer::Refused(Refusal::UpgradeRunning(upgrading));
+        }
+        match self.stripes.would_lose_short(domain) {
+            Some(stripe) => Answer::Refused(Refusal::WouldLose(stripe)),
+            None => Answer::Changed,
+        }
+    }
+
+    /// Takes the nodes of an upgrade domain offline.
+    pub(crate) fn upgrade(&mut self, domain: UpgradeNo)
+        ghost st: { State }
+        requires kept { IsOf st self.old }
+        requires told { (upgrade_outcome self.old.topology st domain).0 ≡ Changed }
+        ensures nodes { self.new.topology ≡ self.old.topology }
+        ensures kept { IsOf (with_upgrading st domain) self.new }
+    {
+        self.upgrading = Some(domain);
+        self.stripes.set_upgrading_in(domain, true);
+    }
+
+    #[inline(never)]
+    pub(crate) fn upgraded_reply(&self, domain: UpgradeNo) -> Answer
+        ensures { (st : State) → IsOf st self.now → told result ≡ (upgraded_outcome self.now.topology st domain).0 }
+    {
+        if !self.topology.has_upgrade_domain(domain) {
+            return Answer::Refused(Refusal::UnknownDomain);
+        }
+        if self.upgrading != Some(domain) {
+            return Answer::Refused(Refusal::NotUpgrading);
+        }
+        Answer::Changed
+    }
+
+    /// Brings the nodes of the upgrade domain back, but for those that are down or out of the store.
+    pub(crate) fn upgraded(&mut self, domain: UpgradeNo)
+        ghost st: { State }
+        requires kept { IsOf st self.old }
+        requires told { (upgraded_outcome self.old.topology st domain).0 ≡ Changed }
+        ensures nodes { self.new.topology ≡ self.old.topology }
+        ensures kept { IsOf (without_upgrading st) self.new }
+    {
+        self.upgrading = None;
+        self.stripes.set_upgrading_in(domain, false);
+    }
+}

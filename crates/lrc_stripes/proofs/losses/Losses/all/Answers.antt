@@ -1,4 +1,0 @@
-use Rattle.lrc_stripes.proofs.losses.Losses.all.Goals as goal
-
-pub returns-clause-all : goal.returns-clause-all
-returns-clause-all c = record { homeless = c.all_of-all.ensures; missing = c.all_of-all.ensures; needs = c.all_of-all.ensures }

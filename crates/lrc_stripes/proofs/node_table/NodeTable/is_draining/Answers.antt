@@ -1,6 +1,0 @@
-use Rattle.lrc_stripes.specs.NodeStates.{states_in}
-use Rattle.lrc_stripes.proofs.node_table.NodeTable.is_draining.Goals as goal
-
-pub returns : goal.returns
-unfolding states_in
-returns c = rw (← c.self.view_is) c.is_draining.ensures

@@ -1,4 +1,0 @@
-use Rattle.lrc_stripes.proofs.node_table.NodeTable.mode.Goals as goal
-
-pub returns : goal.returns
-returns c = rw (← c.self.view_is) c.mode.ensures

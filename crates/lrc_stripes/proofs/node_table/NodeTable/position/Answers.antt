@@ -1,5 +1,0 @@
-use Rattle.lrc_stripes.proofs.NodeLemmas.{positioned}
-use Rattle.lrc_stripes.proofs.node_table.NodeTable.position.Goals as goal
-
-pub returns : goal.returns
-returns c = rw (← c.self.view_is) (positioned c.self.inside.nodes c.self.inside.stripes.items c.args.number c.self.invariant.long c.position.result c.position.ensures)
