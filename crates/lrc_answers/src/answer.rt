@@ -7,9 +7,9 @@ ghost use Rattle.lrc_answers.specs.Answers.{told, lent};
 ghost use Rattle.lrc_rules.specs.Changes.{changed_by};
 ghost use Rattle.lrc_rules.specs.Leases.{is_grant};
 
+use crate::ReplyRef;
 use lrc_code::{FRAGMENTS, NARROW_FRAGMENTS, NodeNo};
 use lrc_rules::{Kind, Lease, Refusal, Reply, Seat};
-use crate::ReplyRef;
 
 /// A seat that is to be overwritten.
 pub const NO_SEAT: Seat = Seat {

@@ -9,12 +9,12 @@ ghost use Rattle.lrc_rules.specs.Served.{IsServed};
 ghost use Rattle.lrc_book.specs.Books.{world_of, state_of, FaultFits};
 ghost use Rattle.lrc_store.specs.Stores.{IsOf};
 
+use crate::{Command, Lease, Level, Mode, Record, Reply, Seat};
 use lrc_code::{Code, FRAGMENTS, Fault, Fragment, LossMask, NodeNo, SessionNo, StripeNo};
 use lrc_images::Image;
 use lrc_leases::Grants;
 use lrc_store::Store;
 use lrc_topology::Topology;
-use crate::{Command, Lease, Level, Mode, Record, Reply, Seat};
 use std::alloc::Global;
 use std::marker::Model;
 

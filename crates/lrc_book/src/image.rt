@@ -17,11 +17,11 @@ ghost use Rattle.lrc_images.specs.Rows.{node_row, node_rows, stripe_row, stripe_
 ghost use Rattle.lrc_book.specs.Books.{state_of, IsSpent};
 ghost use Rattle.lrc_store.specs.Stores.{IsOf, AreGrantsOf};
 
+use crate::{Book, Mode};
 use lrc_code::{FRAGMENTS, Fault, Fragment, NodeNo, STRIPES, StripeNo};
 use lrc_images::{GrantRow, Image, LeaseRow, NodeRow, StripeRow};
 use lrc_leases::Grants;
 use lrc_store::Store;
-use crate::{Book, Mode};
 use std::alloc::Global;
 
 /// The number of stripe numbers.

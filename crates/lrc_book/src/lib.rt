@@ -10,7 +10,7 @@ mod record;
 mod step;
 
 pub use book::{Book, HISTORY_LIMIT};
-pub use lrc_images::{GrantRow, Image, LeaseRow, NodeRow, StripeRow};
 pub use lrc_answers::ReplyRef;
+pub use lrc_images::{GrantRow, Image, LeaseRow, NodeRow, StripeRow};
 pub use lrc_rules::{Command, Entry, Held, Kind, Lease, Level, Mode, Refusal, Reply, Seat};
 pub use record::Record;

@@ -1,9 +1,9 @@
 ghost use Rattle.std.specs.Prelude.{◌≡◌};
 ghost use Rattle.lrc_answers.specs.Answers.{told, lent};
 
+use crate::{Command, Entry, Reply, ReplyRef};
 use lrc_answers::Answer;
 use lrc_code::SessionNo;
-use crate::{Command, Entry, Reply, ReplyRef};
 use std::marker::Model;
 
 /// An entry as the history keeps it: seats take memory only in the entries that have some.

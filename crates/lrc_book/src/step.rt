@@ -9,12 +9,12 @@ ghost use Rattle.lrc_book.specs.Books.{IsStep, world_of, base_world};
 ghost use Rattle.lrc_store.specs.Stores.{IsOf, AreFew, has_room};
 ghost use Rattle.lrc_book.specs.Kept.{IsKept};
 
+use crate::{Book, Command, Entry, Record, Reply, Seat};
 use lrc_answers::{Answer, NO_SEAT};
 use lrc_code::{FRAGMENTS, Fault, SessionNo, StripeNo};
 use lrc_images::Image;
 use lrc_leases::Grants;
 use lrc_store::{Store, count_grant};
-use crate::{Book, Command, Entry, Record, Reply, Seat};
 use std::alloc::{AllocError, Global};
 
 impl Book {

@@ -3,9 +3,9 @@ ghost use Rattle.lrc_code.specs.Losses.{bits_set};
 ghost use Rattle.lrc_terms.specs.Levels.{level_by};
 ghost use Rattle.lrc_homes.specs.Masks.{AreAll, IsPut, level_of, rank_of, work_rank, risk_rank};
 
+use crate::masks;
 use lrc_code::{Code, Fragment, LossMask};
 use lrc_terms::Level;
-use crate::masks;
 
 /// The code of a stripe, and its fragments that have no home, that are missing, and that need a lease.
 #[derive(Clone, Copy)]

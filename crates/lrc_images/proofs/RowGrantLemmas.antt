@@ -79,12 +79,12 @@ module _ (s : StripeNo) (f : Fragment) where
       let fragment_entries = λ (g : Fragment). replicate (get_or r.granted g.value 0) (some_grant r.stripe g) in
       joined fragment_entries (fragments Wide)
       ∙ sum-one (λ g. grants (fragment_entries g) s f) (fragments Wide) f
-        (f.value, f.in_range, equal_fragments (get_or (fragments Wide) f.value f) f (fragment-number f.value f f.in_range)) (fragments-distinct Wide)
-        (λ g other. copies (some_grant r.stripe g) false
-        (ap (λ b. same_stripe r.stripe s && b) (ne_eqb g.value f.value (λ e. other (equal_fragments g f e))) ∙ and-none (same_stripe r.stripe s))
-        (get_or r.granted g.value 0))
+      (f.value, f.in_range, equal_fragments (get_or (fragments Wide) f.value f) f (fragment-number f.value f f.in_range)) (fragments-distinct Wide)
+      (λ g other. copies (some_grant r.stripe g) false
+      (ap (λ b. same_stripe r.stripe s && b) (ne_eqb g.value f.value (λ e. other (equal_fragments g f e))) ∙ and-none (same_stripe r.stripe s))
+      (get_or r.granted g.value 0))
       ∙ copies (some_grant r.stripe f) (same_stripe r.stripe s)
-        (ap (λ b. same_stripe r.stripe s && b) (eq-eqb f.value f.value refl) ∙ and-some (same_stripe r.stripe s)) (get_or r.granted f.value 0)
+      (ap (λ b. same_stripe r.stripe s && b) (eq-eqb f.value f.value refl) ∙ and-some (same_stripe r.stripe s)) (get_or r.granted f.value 0)
 
   -- the grants of the row of a stripe number
   module _ (past : List Entry) where
@@ -131,7 +131,7 @@ module _ (s : StripeNo) (f : Fragment) where
     rows-count count below apart =
         all-rows (map stripe_at (range_with_len 0 count))
         ∙ sum-one (λ t. grants (earlier (listed t)) s f) (map stripe_at (range_with_len 0 count)) s (stripes-listed count s below) apart
-          (λ t other. other-by t (list_any (nat_lt 0) (granted_of past t)) other)
+        (λ t other. other-by t (list_any (nat_lt 0) (granted_of past t)) other)
         ∙ own-row
 
 -- the rows of the grants count just these

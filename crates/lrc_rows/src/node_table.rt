@@ -19,14 +19,14 @@ ghost use Rattle.lrc_homes.specs.Masks.{AreLosses};
 
 mod offline;
 
+use crate::row::Row;
+use crate::rows::Rows;
 use lrc_code::{Code, Fault, Fragment, LossMask, NodeNo, StripeNo, UpgradeNo};
 use lrc_homes::{HomeDomains, Losses, masks};
 use lrc_nodes::Nodes;
 use lrc_ranks::StripeSet;
 use lrc_terms::Mode;
 use lrc_topology::{NodeInfo, Seat, Topology};
-use crate::row::Row;
-use crate::rows::Rows;
 use std::alloc::{AllocError, Global};
 use std::marker::Model;
 

@@ -7,10 +7,10 @@ ghost use Rattle.lrc_rows.specs.NodeStates.{states_in};
 ghost use Rattle.lrc_homes.specs.Masks.{AreAll, AreKept, renewed, missing_of};
 ghost use Rattle.lrc_code.specs.declared.numbers.NodeNo.{NodeNo as AnyNode};
 
+use crate::node_table::NodeTable;
 use lrc_code::{Code, Fragment, LossMask, StripeNo};
 use lrc_homes::{Homes, Losses, masks};
 use lrc_topology::Seat;
-use crate::node_table::NodeTable;
 
 /// The homes of the fragments of a stripe, and the masks that follow from them.
 #[derive(Drop)]

@@ -15,13 +15,13 @@ ghost use Rattle.lrc_rows.specs.Listed.{rows_in};
 
 mod following;
 
+use crate::node_table::NodeTable;
+use crate::row::Row;
 use lrc_code::{Fault, Fragment, LossMask, NodeNo, STRIPES, StripeNo};
 use lrc_homes::{Losses, masks};
 use lrc_ranks::{Position, Queue, StripeSet, Work};
 use lrc_terms::Level;
 use lrc_topology::Seat;
-use crate::node_table::NodeTable;
-use crate::row::Row;
 use std::alloc::{AllocError, Global};
 use std::marker::Model;
 

@@ -23,11 +23,11 @@ ghost use Rattle.lrc_store.specs.Stores.{IsOf, IsTied};
 ghost use Rattle.lrc_bars.specs.Planning.{AreBarsOf, row_seat};
 ghost use Rattle.lrc_bars.specs.Neighbouring.{barred_by};
 
+use crate::store::Store;
 use lrc_bars::{ClassBars, Neighbours};
 use lrc_code::{Class, Code, Fragment, LossMask, StripeNo};
 use lrc_rules::Seat;
 use lrc_slots::{BarredDomains, OpenRow};
-use crate::store::Store;
 
 impl Store {
     /// Bars the upgrading domain, if there is one, for all fragments of a new stripe.

@@ -8,11 +8,12 @@ ghost use Rattle.lrc_answers.specs.Answers.{told, is_place};
 ghost use Rattle.lrc_rules.specs.Changes.{IsAnswer, changed_by, grants_lease};
 ghost use Rattle.lrc_store.specs.Stores.{IsOf, IsTied, AreGrantsOf, AreFew, has_room};
 ghost use Rattle.lrc_store.specs.Repairing.{IsRepairCursor, HasRepairCursor};
+
+use crate::store::Store;
 use lrc_answers::Answer;
 use lrc_code::{Code, FRAGMENTS, NARROW_FRAGMENTS, SessionNo, StripeNo};
 use lrc_leases::Grants;
 use lrc_rules::{Command, Entry, NodeCommand, Reply, Seat};
-use crate::store::Store;
 
 impl Store {
     /// Returns the reply to a command after entries with these grants. Requires the store of a

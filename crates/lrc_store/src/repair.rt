@@ -14,12 +14,12 @@ ghost use Rattle.lrc_rules.specs.States.{State, code_of};
 ghost use Rattle.lrc_store.specs.Repairing.{repair_or_refusal};
 ghost use Rattle.lrc_store.specs.Stores.{IsOf, IsTied, AreFew, AreGrantsOf, repair_of};
 
+use crate::clock::Clock;
+use crate::store::Store;
 use lrc_answers::Answer;
 use lrc_code::{Code, Fragment, LossMask, SessionNo, StripeNo};
 use lrc_leases::Grants;
 use lrc_rules::{Kind, Lease, Refusal, Seat};
-use crate::clock::Clock;
-use crate::store::Store;
 
 /// What a lease is granted for: a fragment, how it is rebuilt, and its new seat.
 #[derive(Clone, Copy)]

@@ -10,11 +10,11 @@ ghost use Rattle.lrc_stripes.specs.Tables.{stored_in};
 
 mod queries;
 
+use crate::{HomeDomains, Seat};
 use lrc_code::{Code, Fault, Fragment, NodeNo, STRIPES, StripeNo, UpgradeNo};
 use lrc_rows::{NodeTable, Row, Rows};
 use lrc_terms::Mode;
 use lrc_topology::Topology;
-use crate::{HomeDomains, Seat};
 use std::alloc::Global;
 use std::marker::Model;
 

@@ -15,12 +15,7 @@ use lrc_code::{NodeNo, UpgradeNo};
 
 impl Rows {
     /// Makes the masks follow whether a node is draining, before the table of nodes does.
-    pub fn follow_draining(
-        &mut self,
-        node_table: &NodeTable,
-        node: NodeNo,
-        is_draining: bool,
-    )
+    pub fn follow_draining(&mut self, node_table: &NodeTable, node: NodeNo, is_draining: bool)
         requires { IsKept (states_in node_table.now) (rows_in self.old) }
         ensures kept { IsKept (record (states_in node_table.now) { draining = λ m. if same_node node m then is_draining else (states_in node_table.now).draining m }) (rows_in self.new) }
         ensures same { AreSameStripes (rows_in self.old) (rows_in self.new) }

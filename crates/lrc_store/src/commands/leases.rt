@@ -10,11 +10,11 @@ ghost use Rattle.lrc_rules.specs.Changes.{with_done};
 ghost use Rattle.lrc_store.specs.Reports.{reported};
 ghost use Rattle.lrc_store.specs.Stores.{IsOf, IsTied, IsGrant, AreGrantsOf, AreFew, has_room};
 
+use crate::store::Store;
 use lrc_answers::Answer;
 use lrc_code::{Fragment, SessionNo, StripeNo};
 use lrc_leases::Grants;
 use lrc_rules::{Lease, Refusal};
-use crate::store::Store;
 
 impl Store {
     #[inline(never)]

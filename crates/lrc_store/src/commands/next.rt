@@ -14,12 +14,12 @@ ghost use Rattle.lrc_answers.specs.Answers.{told};
 ghost use Rattle.lrc_store.specs.Stores.{IsOf, IsTied, AreGrantsOf, AreFew};
 ghost use Rattle.lrc_store.specs.Repairing.{is_waiting, fragment_of, IsRepair, IsRepairCursor, HasRepairCursor, HaveGrantable};
 
+use crate::repair::Repair;
+use crate::store::Store;
 use lrc_answers::Answer;
 use lrc_code::{Fragment, LossMask, SessionNo, StripeNo};
 use lrc_leases::Grants;
 use lrc_stripes::Work;
-use crate::repair::Repair;
-use crate::store::Store;
 
 impl Store {
     #[inline(always)] // a step without work then makes no call here

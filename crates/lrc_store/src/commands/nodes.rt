@@ -11,10 +11,10 @@ ghost use Rattle.lrc_rules.specs.Changes.{without_targets};
 ghost use Rattle.lrc_answers.specs.Answers.{told};
 ghost use Rattle.lrc_store.specs.Stores.{IsOf, IsTied};
 
+use crate::store::Store;
 use lrc_answers::Answer;
 use lrc_code::{NodeNo, StripeNo};
 use lrc_rules::{Mode, NodeCommand, Refusal};
-use crate::store::Store;
 
 impl Store {
     /// The reply to a command on a node.

@@ -14,11 +14,11 @@ ghost use Rattle.lrc_store.specs.Dropping.{unleased, homeless};
 ghost use Rattle.lrc_store.specs.Stores.{IsOf, has_room};
 ghost use Rattle.lrc_bars.specs.Ties.{kept_table};
 
+use crate::store::Store;
 use lrc_answers::{Answer, NO_SEAT};
 use lrc_bars::ClassBars;
 use lrc_code::{Code, FRAGMENTS, Fragment, NARROW_FRAGMENTS, StripeNo};
 use lrc_rules::{Refusal, Reply, Seat};
-use crate::store::Store;
 
 impl Store {
     pub(crate) fn place_reply(&self, code: Code, stripe: StripeNo) -> Reply

@@ -7,8 +7,8 @@ ghost use Rattle.lrc_rules.specs.Leases.{ticked, without_ending, tick_outcome};
 ghost use Rattle.lrc_answers.specs.Answers.{told};
 ghost use Rattle.lrc_store.specs.Stores.{IsOf, IsTied};
 
-use lrc_answers::Answer;
 use crate::store::Store;
+use lrc_answers::Answer;
 
 impl Store {
     /// Reports the number of ticks with the next one, and of the leases that end at it.

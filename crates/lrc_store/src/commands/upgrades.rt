@@ -7,10 +7,10 @@ ghost use Rattle.lrc_rules.specs.States.{State};
 ghost use Rattle.lrc_rules.specs.Steps.{upgrade_outcome, upgraded_outcome, with_upgrading, without_upgrading};
 ghost use Rattle.lrc_store.specs.Stores.{IsOf};
 
+use crate::store::Store;
 use lrc_answers::Answer;
 use lrc_code::UpgradeNo;
 use lrc_rules::Refusal;
-use crate::store::Store;
 
 impl Store {
     #[inline(never)]
