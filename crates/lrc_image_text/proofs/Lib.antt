@@ -1,1 +1,4 @@
+pub mod WordLemmas
+pub mod SpacedLemmas
 pub mod TextLemmas
+pub mod NumberLemmas

@@ -1,11 +1,12 @@
 -- Internal: no public clause reaches these definitions.
 -- What a text starts with.
-use Rattle.std.specs.Prelude.{◌≡◌, ◌≢◌, ℕ, ◌+◌, ◌≤◌, Bool, true, false, List, [], ◌∷◌, ◌++◌, length, map, All, Option, Some, None}
+use Rattle.std.specs.Prelude.{◌≡◌, ◌≢◌, ℕ, ◌+◌, ◌≤◌, ◌<◌, ◌^◌, Bool, true, false, List, [], ◌∷◌, ◌++◌, length, map, All, Option, Some, None}
 use Rattle.lrc_code.specs.declared.numbers.UpgradeNo.{UpgradeNo}
 use Rattle.lrc_rules.specs.declared.mode.Mode.{Mode}
 use Rattle.lrc_rules.specs.declared.mode.Mode.TheVariants.{Active}
-use Rattle.lrc_image_text.specs.Lines.{Line, Upgrading, first_word, other_words, lines_text, IsReadable}
-use Rattle.lrc_image_text.specs.Texts.{upgrading_lines, may_come, after_lines}
+use Rattle.lrc_images.specs.declared.image.Image.{Image}
+use Rattle.lrc_image_text.specs.Lines.{Line, Version, Before, Clock, Upgrading, Node, Stripe, Grants, Lease, first_word, other_words, lines_text, IsReadable}
+use Rattle.lrc_image_text.specs.Texts.{upgrading_lines}
 
 -- the byte behind a word, which is the last of its line or not
 abbrev pub end_byte : Bool → ℕ
@@ -47,10 +48,22 @@ pub record StartsWithUpgrading (text : List ℕ) (upgrading : Option UpgradeNo) 
 abbrev pub HasLine : Mode → Bool → Type 0
 HasLine mode is_down = mode ≡ Active → is_down ≡ true
 
--- The text starts with these lines, which may begin an image, and this is left. No line that may come is one of the sections
--- before this one.
-pub record IsReadTo (section_end : ℕ) (text : List ℕ) (lines : List Line) (left : List ℕ) : Type 0 where
-  pub first : ℕ
-  pub text_is : text ≡ lines_text lines ++ left
-  pub readable : All IsReadable lines
-  pub may_begin : after_lines (Some 0) lines ≡ Some first
+-- the text starts with the lines of the image after its third one, and this is left
+pub record IsBody (before clock : ℕ) (text : List ℕ) (i : Image) (left : List ℕ) : Type 0 where
+  pub before_is : i.before ≡ before
+  pub clock_is : i.clock ≡ clock
+  pub behind_upgrading : List ℕ
+  pub behind_nodes : List ℕ
+  pub behind_stripes : List ℕ
+  pub behind_grants : List ℕ
+  pub upgrading : StartsWithUpgrading text i.upgrading behind_upgrading
+  pub nodes : StartsWithRows Node behind_upgrading i.nodes.items behind_nodes
+  pub stripes : StartsWithRows Stripe behind_nodes i.stripes.items behind_stripes
+  pub grants : StartsWithRows Grants behind_stripes i.grants.items behind_grants
+  pub leases : StartsWithRows Lease behind_grants i.leases.items left
+
+-- the numbers of an image's first three lines, and the text behind them
+pub record IsHead (text : List ℕ) (before clock : ℕ) (left : List ℕ) : Type 0 where
+  pub before_fits : before < 2 ^ 64
+  pub clock_fits : clock < 4294967296
+  pub text_is : text ≡ lines_text (Version ∷ Before before ∷ Clock clock ∷ []) ++ left

@@ -2,6 +2,8 @@
 use Rattle.std.specs.Prelude.{◌≡◌, ◌≢◌, ℕ, ◌+◌, Bool, true, if◌then◌else◌, nat_lt, nat_le, nat_eq, List, [], ◌∷◌, ◌++◌, length, map, fold, All, Option, Some, None}
 use Rattle.lrc_code.specs.declared.numbers.UpgradeNo.{UpgradeNo}
 use Rattle.lrc_images.specs.declared.image.Image.{Image}
+use Rattle.lrc_image_text.specs.declared.error.ImageTextError.{ImageTextError}
+use Rattle.lrc_image_text.specs.declared.error.ImageTextError.TheVariants.{BadLine, OutOfMemory}
 use Rattle.lrc_image_text.specs.Lines.{Line, Version, Before, Clock, Upgrading, Node, Stripe, Grants, Lease, End, line_text, lines_text, IsReadable}
 
 -- ---- the text of an image
@@ -79,3 +81,8 @@ pub record IsBadLine (text : List ℕ) (number : ℕ) : Type 0 where
   pub numbered : number ≡ length before + 1
   pub bad : (line : Line) (rest : List ℕ) → IsReadable line → may_come first line ≡ true → left ≢ line_text line ++ rest
   pub more : first ≡ 9 → left ≢ []
+
+-- the error tells the bad line, or that there is no memory
+abbrev pub IsRefused : List ℕ → ImageTextError → Type 0
+IsRefused text (BadLine number) = IsBadLine text number
+IsRefused text OutOfMemory = Unit {0}

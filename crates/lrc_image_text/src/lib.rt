@@ -4,8 +4,11 @@
 //! has, and which line of another text is bad.
 #![tactic(auto)]
 
+mod error;
+mod number;
 mod row;
 mod word;
 mod write;
 
+pub use error::ImageTextError;
 pub use write::push_image;
