@@ -42,3 +42,24 @@ module _ {X : Type 0} (word : X → List ℕ) where
         here = ap (drop 1) (is ∙ ap (λ xs. spaced_on (map word xs) (10 ∷ more)) (drop_more ws at d within)) ∙ ap (λ t. word (get_or ws at d) ++ t) behind;
         behind = behind;
       }
+
+  -- what is left behind the word is what was read behind it
+  pub only_next : (fits : X → Type 0) (rest next : List ℕ) (ws : List X) (at n : ℕ) (d : X) (more : List ℕ) → at < length ws → length ws ≡ n → All fits ws
+      → ((v : X) (r : List ℕ) → fits v → rest ≡ word v ++ end_byte (nat_eq (at + 1) n) ∷ r → r ≡ next)
+      → 32 ∷ rest ≡ spaced_on (map word (drop at ws)) (10 ∷ more) → end_byte (nat_eq (at + 1) n) ∷ next ≡ spaced_on (map word (drop (at + 1) ws)) (10 ∷ more)
+  only_next fits rest next ws at n d more within long all only is =
+      let t = there ws at rest more d within is in
+      let here = t.here ∙ ap (λ m. word (get_or ws at d) ++ end_byte (nat_eq (at + 1) m) ∷ t.tail) long in
+      sym (t.behind ∙ ap (λ m. end_byte (nat_eq (at + 1) m) ∷ t.tail) long ∙ ap (λ r. end_byte (nat_eq (at + 1) n) ∷ r) (only (get_or ws at d) t.tail (all at d within) here))
+
+  -- there is no word where none is read
+  pub none_there : (fits : X → Type 0) (rest : List ℕ) (ws : List X) (at n : ℕ) (d : X) (more : List ℕ) → at < length ws → length ws ≡ n → All fits ws
+      → ((v : X) (r : List ℕ) → fits v → rest ≢ word v ++ end_byte (nat_eq (at + 1) n) ∷ r)
+      → 32 ∷ rest ≢ spaced_on (map word (drop at ws)) (10 ∷ more)
+  none_there fits rest ws at n d more within long all none is =
+      let t = there ws at rest more d within is in
+      none (get_or ws at d) t.tail (all at d within) (t.here ∙ ap (λ m. word (get_or ws at d) ++ end_byte (nat_eq (at + 1) m) ∷ t.tail) long)
+
+-- a word that is not the last is before a space
+pub inner : (at n : ℕ) → at < n → end_byte (nat_eq at n) ≡ 32
+inner at n within = ap end_byte (ne_eqb at n (omega (arith, within)))

@@ -125,16 +125,32 @@ pub(crate) fn words_to_end<'a, W: Word>(text: &'a [u8], words: &mut [W]) -> Opti
     let mut rest = text;
     let mut at = 0;
     while at < words.len() {
-        match W::in_front(rest, at + 1 == words.len()) {
-            Some((word, behind)) => {
-                words[at] = word;
-                rest = behind;
-                at += 1;
-            }
+        let is_last = at + 1 == words.len();
+        match read_word(rest, is_last, &mut words[at]) {
+            Some(behind) => rest = behind,
             None => return None,
         }
+        at += 1;
     }
     Some(rest)
+}
+
+/// Reads one of them.
+fn read_word<'a, W: Word>(text: &'a [u8], is_last: bool, word: &mut W) -> Option<&'a [u8]>
+    ensures some { IfSome result (λ rest. W.fits word.new
+        × (text.now ≡ W.word word.new ++ end_byte is_last ∷ rest.now)) }
+    ensures only { IfSome result (λ left. (w : W) (rest : List ℕ) → W.fits w
+        → text.now ≡ W.word w ++ end_byte is_last ∷ rest → rest ≡ left.now) }
+    ensures none { IfNone result ((w : W) (rest : List ℕ) → W.fits w
+        → text.now ≢ W.word w ++ end_byte is_last ∷ rest) }
+{
+    match W::in_front(text, is_last) {
+        Some((read, rest)) => {
+            *word = read;
+            Some(rest)
+        }
+        None => None,
+    }
 }
 
 /// Adds a number to a text.
