@@ -2,3 +2,4 @@ pub mod WordLemmas
 pub mod SpacedLemmas
 pub mod TextLemmas
 pub mod NumberLemmas
+pub mod RowLemmas

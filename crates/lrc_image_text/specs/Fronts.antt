@@ -1,6 +1,7 @@
 -- Internal: no public clause reaches these definitions.
 -- What a text starts with.
 use Rattle.std.specs.Prelude.{◌≡◌, ◌≢◌, ℕ, ◌+◌, ◌≤◌, ◌<◌, ◌^◌, Bool, true, false, List, [], ◌∷◌, ◌++◌, length, map, All, Option, Some, None}
+use Rattle.std.specs.Borrow.{Bor}
 use Rattle.lrc_code.specs.declared.numbers.UpgradeNo.{UpgradeNo}
 use Rattle.lrc_rules.specs.declared.mode.Mode.{Mode}
 use Rattle.lrc_rules.specs.declared.mode.Mode.TheVariants.{Active}
@@ -67,3 +68,8 @@ pub record IsHead (text : List ℕ) (before clock : ℕ) (left : List ℕ) : Typ
   pub before_fits : before < 2 ^ 64
   pub clock_fits : clock < 4294967296
   pub text_is : text ≡ lines_text (Version ∷ Before before ∷ Clock clock ∷ []) ++ left
+
+-- a row more is read and this is left, or the text starts with no row
+abbrev pub IsRowRead : {X : Type 0} → (X → Line) → List ℕ → List X → List X → Option (Bor (List ℕ)) → Type 0
+IsRowRead {X} line text old new (Some left) = (row : X) × IsReadable (line row) × (text ≡ line_on (line row) left.now) × (new ≡ old ++ row ∷ [])
+IsRowRead line text old new None = (new ≡ old) × HasNone line text

@@ -6,9 +6,12 @@
 
 mod error;
 mod number;
+mod part;
+mod read;
 mod row;
 mod word;
 mod write;
 
 pub use error::ImageTextError;
+pub use read::read_image;
 pub use write::push_image;

@@ -1,10 +1,15 @@
 //! The lines of rows.
 
-ghost use Rattle.std.specs.Prelude.{◌≡◌, [], ◌∷◌, ◌++◌, OnOk, codes, decimal, map};
-ghost use Rattle.lrc_image_text.specs.Lines.{Line, Node, Stripe, Grants, Lease, line_text, lines_text, code_word, spaced, standing_words};
+ghost use Rattle.std.specs.Prelude.{◌≡◌, [], ◌∷◌, ◌++◌, OnOk, IfSome, IfNone, codes, decimal, map};
+ghost use Rattle.lrc_image_text.specs.Lines.{Line, Node, Stripe, Grants, Lease, line_text, lines_text, code_word, spaced, standing_words, IsReadable};
+ghost use Rattle.lrc_image_text.specs.Fronts.{line_on, HasNone};
 
-use crate::word::{push_number, push_words};
-use lrc_code::Code;
+use crate::number::number_behind;
+use crate::part::{
+    lease_place, lease_terms, standing_to_end, stripe_behind, stripe_line_in_front,
+};
+use crate::word::{NODE_BOUND, push_number, push_words, words_to_end};
+use lrc_code::{Code, FRAGMENTS, NodeNo};
 use lrc_images::{GrantRow, LeaseRow, NodeRow, StripeRow};
 use lrc_rules::Mode;
 use std::alloc::AllocError;
@@ -13,6 +18,12 @@ use std::alloc::AllocError;
 pub(crate) trait Row: Copy {
     ghost line: { Self → Line };
 
+    /// Reads the line of a row at the start of a text. Returns the row and the rest of the text, or `None` if the text does
+    /// not start so.
+    fn in_front(text: &[u8]) -> Option<(Self, &[u8])>
+        ensures some { IfSome result (λ r. IsReadable (line r.0) × (text.now ≡ line_on (line r.0) r.1.now)) }
+        ensures none { IfNone result (HasNone line text.now) };
+
     /// Adds the line of the row to a text.
     fn push_to(&self, out: &mut Vec<u8>) -> Result<(), AllocError>
         ensures { OnOk result (out.new.items ≡ out.old.items ++ line_text (line self.now)) };
@@ -20,6 +31,26 @@ pub(crate) trait Row: Copy {
 
 impl Row for NodeRow {
     ghost line = { Node };
+
+    fn in_front(text: &[u8]) -> Option<(NodeRow, &[u8])> {
+        match number_behind(text, b"node ", NODE_BOUND, b' ') {
+            Some((number, rest)) => match standing_to_end(rest) {
+                Some((mode, is_down, rest)) => {
+                    let node = NodeNo { value: number as u16 };
+                    Some((
+                        NodeRow {
+                            node,
+                            mode,
+                            is_down,
+                        },
+                        rest,
+                    ))
+                }
+                None => None,
+            },
+            None => None,
+        }
+    }
 
     fn push_to(&self, out: &mut Vec<u8>) -> Result<(), AllocError> {
         out.extend_from_slice(b"node ")?;
@@ -30,6 +61,13 @@ impl Row for NodeRow {
 
 impl Row for StripeRow {
     ghost line = { Stripe };
+
+    fn in_front(text: &[u8]) -> Option<(StripeRow, &[u8])> {
+        match stripe_line_in_front(text, Code::Wide) {
+            Some((row, rest)) => Some((row, rest)),
+            None => stripe_line_in_front(text, Code::Narrow),
+        }
+    }
 
     fn push_to(&self, out: &mut Vec<u8>) -> Result<(), AllocError> {
         out.extend_from_slice(code_word(self.code))?;
@@ -42,6 +80,17 @@ impl Row for StripeRow {
 impl Row for GrantRow {
     ghost line = { Grants };
 
+    fn in_front(text: &[u8]) -> Option<(GrantRow, &[u8])> {
+        let mut granted = [0; FRAGMENTS];
+        match stripe_behind(text, b"granted ") {
+            Some((stripe, rest)) => match words_to_end(rest, granted.as_mut_slice()) {
+                Some(rest) => Some((GrantRow { stripe, granted }, rest)),
+                None => None,
+            },
+            None => None,
+        }
+    }
+
     fn push_to(&self, out: &mut Vec<u8>) -> Result<(), AllocError> {
         out.extend_from_slice(b"granted ")?;
         push_number(out, u64::from(self.stripe.value))?;
@@ -52,6 +101,25 @@ impl Row for GrantRow {
 
 impl Row for LeaseRow {
     ghost line = { Lease };
+
+    fn in_front(text: &[u8]) -> Option<(LeaseRow, &[u8])> {
+        match lease_place(text) {
+            Some((stripe, fragment, rest)) => match lease_terms(rest) {
+                Some((holder, target, expiry, rest)) => Some((
+                    LeaseRow {
+                        stripe,
+                        fragment,
+                        holder,
+                        target,
+                        expiry,
+                    },
+                    rest,
+                )),
+                None => None,
+            },
+            None => None,
+        }
+    }
 
     fn push_to(&self, out: &mut Vec<u8>) -> Result<(), AllocError> {
         push_lease_numbers(out, self)?;

@@ -2,7 +2,7 @@
 
 ghost use Rattle.std.specs.Prelude.{◌≡◌, ◌≢◌, ◌<◌, List, ℕ, [], ◌∷◌, ◌++◌, length, All, OnOk, false, IfSome, IfNone, codes, decimal, map};
 ghost use Rattle.std.specs.Char.{is_ascii_digit};
-ghost use Rattle.lrc_topology.specs.declared.seat.Seat.{Seat as SeatRecord};
+ghost use Rattle.lrc_topology.specs.declared.seat.Seat.{Seat};
 ghost use Rattle.lrc_image_text.specs.Lines.{home_word, seat_word, IsSeat, IsHome, spaced};
 ghost use Rattle.lrc_image_text.specs.Fronts.{end_byte, words_on};
 
@@ -96,7 +96,7 @@ fn no_home(is_last: bool) -> &'static [u8]
 pub(crate) fn seat_to(text: &[u8], end: u8) -> Option<(Seat, &[u8])>
     requires { is_ascii_digit end ≡ false }
     ensures some { IfSome result (λ r. IsSeat r.0 × (text.now ≡ seat_word r.0 ++ end ∷ r.1.now)) }
-    ensures none { IfNone result ((seat : SeatRecord) (rest : List ℕ) → IsSeat seat
+    ensures none { IfNone result ((seat : Seat) (rest : List ℕ) → IsSeat seat
         → text.now ≢ seat_word seat ++ end ∷ rest) }
 {
     match number_to(text, NODE_BOUND, b':') {
