@@ -1,11 +1,15 @@
 -- The parts of a row's line, one behind the other.
-use Rattle.std.proofs.Common.{◌≡◌, ◌≢◌, ℕ, ◌^◌, ◌<◌, Bool, true, false, List, [], ◌∷◌, ◌++◌, length, map, drop, codes, decimal, refl, sym, ap, ◌∙◌, append_assoc, arith}
+use Rattle.std.proofs.Common.{◌≡◌, ◌≢◌, ℕ, ◌^◌, ◌<◌, ◌≤◌, ◌⊎◌, inl, inr, Bool, true, false, List, [], ◌∷◌, ◌++◌, length, map, take, drop, codes, decimal, refl, sym, ap, ◌∙◌, append_assoc, length-take, arith}
 use Rattle.std.proofs.lemmas.Bool.{true≢false}
-use Rattle.std.proofs.lemmas.List.{append_cancel_left}
+use Rattle.std.proofs.lemmas.List.{append_cancel_left, length-map}
+use Rattle.lrc_code.specs.declared.codes.Code.{Code}
+use Rattle.lrc_code.specs.declared.codes.Code.TheVariants.{Wide, Narrow}
+use Rattle.lrc_code.specs.Codes.{fragment_count}
+use Rattle.lrc_images.specs.declared.image.StripeRow.{StripeRow}
 use Rattle.lrc_rules.specs.declared.mode.Mode.{Mode}
 use Rattle.lrc_rules.specs.declared.mode.Mode.TheVariants.{Active, Draining, Gone}
-use Rattle.lrc_image_text.specs.Lines.{standing_words}
-use Rattle.lrc_image_text.specs.Fronts.{words_on, HasLine}
+use Rattle.lrc_image_text.specs.Lines.{Stripe, standing_words, code_word, home_word, IsStripe}
+use Rattle.lrc_image_text.specs.Fronts.{words_on, line_on, HasLine, HasNone}
 use Rattle.lrc_image_text.proofs.WordLemmas.{same_number}
 
 -- ---- numbers behind a word
@@ -47,3 +51,36 @@ module _ (text : List ℕ) where
   no_standing a b c d e Draining true rest has is = c rest (ap (drop 1) is)
   no_standing a b c d e Gone false rest has is = d rest (ap (drop 1) is)
   no_standing a b c d e Gone true rest has is = e rest (ap (drop 1) is)
+
+-- ---- words of the same kind
+
+pub some_words : {X : Type 0} (word : X → List ℕ) (xs : List X) (n : ℕ) → length xs ≡ n → 0 < n → 0 < length (map word xs)
+some_words word xs n size some = omega (arith, length-map xs word, size, some)
+
+-- the fragments that a code has
+pub coded : {X : Type 0} (code : Code) (xs : List X) → length xs ≡ 16 → (length (take (fragment_count code) xs) ≡ fragment_count code) × (0 < fragment_count code)
+coded Wide xs size = (omega (arith, length-take 16 xs, size), omega arith)
+coded Narrow xs size = (omega (arith, length-take 10 xs, size), omega arith)
+
+pub sized : {X : Type 0} (n m : ℕ) (xs : List X) → length xs ≡ 16 → m ≡ n → n ≤ 16 → n ≡ length (take m xs)
+sized n m xs size same few = omega (arith, length-take m xs, size, same, few)
+
+pub stripe_on : (row : StripeRow) (code : Code) → row.code ≡ code → (rest : List ℕ) → line_on (Stripe row) rest
+    ≡ (code_word code ++ codes " ") ++ (decimal row.stripe.value ++ words_on (map home_word (take (fragment_count code) row.homes)) rest)
+stripe_on row code same rest =
+    ap (λ c. code_word c ++ 32 ∷ (decimal row.stripe.value ++ words_on (map home_word (take (fragment_count c) row.homes)) rest)) same
+    ∙ sym (append_assoc (code_word code) (32 ∷ []) (decimal row.stripe.value ++ words_on (map home_word (take (fragment_count code) row.homes)) rest))
+
+code_cases : (code : Code) → (code ≡ Wide) ⊎ (code ≡ Narrow)
+code_cases Wide = inl refl
+code_cases Narrow = inr refl
+
+abbrev pub HasNoStripe : List ℕ → Code → Type 0
+HasNoStripe text code = (row : StripeRow) (rest : List ℕ) → row.code ≡ code → IsStripe row → text ≢ line_on (Stripe row) rest
+
+-- no stripe of either code
+pub no_stripe : (text : List ℕ) → HasNoStripe text Wide → HasNoStripe text Narrow → HasNone Stripe text
+no_stripe text wide narrow row rest readable is = elim (code_cases row.code) [
+  | inl same ↦ wide row rest same readable is
+  | inr same ↦ narrow row rest same readable is
+]

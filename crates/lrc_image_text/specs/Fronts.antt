@@ -1,6 +1,6 @@
 -- Internal: no public clause reaches these definitions.
 -- What a text starts with.
-use Rattle.std.specs.Prelude.{◌≡◌, ◌≢◌, ℕ, ◌+◌, ◌≤◌, ◌<◌, ◌^◌, Bool, true, false, List, [], ◌∷◌, ◌++◌, length, map, All, Option, Some, None}
+use Rattle.std.specs.Prelude.{◌≡◌, ◌≢◌, ℕ, ◌<◌, ◌^◌, Bool, true, false, List, [], ◌∷◌, ◌++◌, map, All, Option, Some, None}
 use Rattle.std.specs.Borrow.{Bor}
 use Rattle.lrc_code.specs.declared.numbers.UpgradeNo.{UpgradeNo}
 use Rattle.lrc_rules.specs.declared.mode.Mode.{Mode}
@@ -36,14 +36,12 @@ pub record StartsWithRows {X : Type 0} (line : X → Line) (text : List ℕ) (ro
   pub text_is : text ≡ lines_text (map line rows) ++ left
   pub readable : All (λ row. IsReadable (line row)) rows
   pub no_more : HasNone line left
-  pub within : length rows + length left ≤ length text
 
 -- the text starts with the line of the upgrade domain that is upgrading, if there is one, and this is left
 pub record StartsWithUpgrading (text : List ℕ) (upgrading : Option UpgradeNo) (left : List ℕ) : Type 0 where
   pub text_is : text ≡ lines_text (upgrading_lines upgrading) ++ left
   pub readable : All IsReadable (upgrading_lines upgrading)
-  pub no_more : HasNone Upgrading left
-  pub within : length (upgrading_lines upgrading) + length left ≤ length text
+  pub no_more : upgrading ≡ None → HasNone Upgrading left
 
 -- a node that stands so has a line
 abbrev pub HasLine : Mode → Bool → Type 0

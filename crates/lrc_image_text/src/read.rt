@@ -1,7 +1,7 @@
 //! Reads the text of an image.
 
-ghost use Rattle.std.specs.Prelude.{◌≡◌, ◌≢◌, ℕ, ◌^◌, ◌<◌, ◌∷◌, ◌++◌, List, length, codes, decimal, IfOk, IfErr, IfSome, IfNone};
-ghost use Rattle.lrc_image_text.specs.Texts.{begun_lines, image_text, IsWritten, IsBadLine, IsRefused};
+ghost use Rattle.std.specs.Prelude.{◌≡◌, ◌≢◌, ℕ, ◌+◌, ◌^◌, ◌<◌, ◌∷◌, ◌++◌, List, length, codes, decimal, IfOk, IfErr, IfSome, IfNone};
+ghost use Rattle.lrc_image_text.specs.Texts.{upgrading_lines, begun_lines, image_text, IsWritten, IsBadLine, IsRefused};
 ghost use Rattle.lrc_image_text.specs.Fronts.{IsHead, IsBody, StartsWithRows, StartsWithUpgrading, IsRowRead};
 ghost use Rattle.lrc_image_text.specs.declared.error.ImageTextError.TheVariants.{OutOfMemory};
 
@@ -16,9 +16,6 @@ use std::alloc::Global;
 
 /// The bound of the numbers of upgrade domains.
 const UPGRADE_BOUND: u64 = 256;
-
-/// The number of lines before that of the upgrade domain.
-const HEAD_LINES: usize = 3;
 
 /// Reads the text of an image. A text is read exactly if `push_image` writes it for an image in which no node row is both
 /// active and up, and no stripe has a home of a fragment that its code lacks.
@@ -53,10 +50,15 @@ fn count_lines(image: &Image) -> u64
     requires { length (begun_lines image.now) < 2 ^ 63 }
     ensures { result ≡ length (begun_lines image.now) }
 {
-    let upgrading = if image.upgrading.is_some() { 1 } else { 0 };
-    let nodes = image.nodes.len();
-    let rows = image.stripes.len() + image.grants.len() + image.leases.len();
-    (HEAD_LINES + upgrading + nodes + rows) as u64
+    let rows = image.nodes.len() + image.stripes.len() + image.grants.len() + image.leases.len();
+    (count_first_lines(image.upgrading) + rows) as u64
+}
+
+/// Returns the number of lines before those of rows.
+fn count_first_lines(upgrading: Option<UpgradeNo>) -> usize
+    ensures { result ≡ 3 + length (upgrading_lines upgrading) }
+{
+    if upgrading.is_some() { 4 } else { 3 }
 }
 
 // ---- the first lines
