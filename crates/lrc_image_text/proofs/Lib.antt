@@ -5,3 +5,5 @@ pub mod NumberLemmas
 pub mod RowLemmas
 pub mod LineLemmas
 pub mod HeadLemmas
+pub mod ReachLemmas
+pub mod EndLemmas

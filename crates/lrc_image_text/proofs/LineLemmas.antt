@@ -1,5 +1,6 @@
 -- Lines of a text, one behind the other.
 use Rattle.std.proofs.Common.{◌≡◌, ◌≢◌, ℕ, ◌+◌, ◌<◌, ◌≤◌, true, false, Some, List, [], ◌∷◌, ◌++◌, length, map, codes, refl, sym, ap, ◌∙◌, append-nil, append_assoc, length-append, arith}
+use Rattle.std.specs.Borrow.{Bor}
 use Rattle.std.specs.List.{All}
 use Rattle.std.proofs.lemmas.List.{map-append}
 use Rattle.std.proofs.lemmas.List.Elements.{All-nil, All-cons, All-push}
@@ -55,6 +56,13 @@ IsReadSoFar-next line text left next rows row so_far readable is = record {
       ∙ ap (λ ls. lines_text ls ++ next) (sym (map-append line rows (row ∷ [])));
   readable = All-push (λ r. IsReadable (line r)) rows row so_far.readable readable;
 }
+
+-- a row is read
+pub IsReadSoFar-row : {X : Type 0} (line : X → Line) (text mid : List ℕ) (old new : List X) (left : Bor (List ℕ)) → IsReadSoFar line text old mid → IsRowRead line mid old new (Some left) → IsReadSoFar line text new left.now
+IsReadSoFar-row line text mid old new left so_far read = rw read.3 (IsReadSoFar-next line text mid left.now old read.0 so_far read.1 read.2)
+
+pub row_smaller : {X : Type 0} (line : X → Line) (text : List ℕ) (old new : List X) (left : Bor (List ℕ)) → IsRowRead line text old new (Some left) → length left.now < length text
+row_smaller line text old new left read = omega (arith, line_longer (line read.0) left.now, ap length read.2)
 
 -- ---- bad lines
 
