@@ -87,7 +87,7 @@ module _ (text left : List ℕ) where
     more_left lines number count read some =
         let long : length (lines ++ End ∷ []) + 1 ≡ number + 2 = omega (arith, length-append lines (End ∷ []), count) in
         subst (IsBadLine text) long (bad_line text (lines ++ End ∷ []) rest 9 (ended lines read) (All-push IsReadable lines End read.readable tt)
-            (fold-append after_line (Some 0) lines (End ∷ []) ∙ ap (λ o. after_lines o (End ∷ [])) read.may_begin
-            ∙ ap (λ b. if b then Some 9 else None) (may_come-later read.first End read.many read.low))
-            (λ line more can may is'. omega (arith, later-may_come 9 line (omega arith) may, section_low line))
-            (λ last none. some (ap length none)))
+        (fold-append after_line (Some 0) lines (End ∷ []) ∙ ap (λ o. after_lines o (End ∷ [])) read.may_begin
+        ∙ ap (λ b. if b then Some 9 else None) (may_come-later read.first End read.many read.low))
+        (λ line more can may is'. omega (arith, later-may_come 9 line (omega arith) may, section_low line))
+        (λ last none. some (ap length none)))

@@ -7,3 +7,5 @@ pub mod LineLemmas
 pub mod HeadLemmas
 pub mod ReachLemmas
 pub mod EndLemmas
+pub mod SameLemmas
+pub mod OnceLemmas

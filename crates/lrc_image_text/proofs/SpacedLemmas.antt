@@ -19,7 +19,7 @@ module _ {X : Type 0} (word : X → List ℕ) where
       is ∙ ap (λ t. spaced_on (map word (take at ws)) (32 ∷ t)) read ∙ sym (spaced_on-more (take at ws) w (end ∷ more))
       ∙ ap (λ xs. spaced_on (map word xs) (end ∷ more)) (sym (take_more_set ws at w within))
 
-  ends : (xs : List X) (more : List ℕ) → (tail : List ℕ) × (spaced_on (map word xs) (10 ∷ more) ≡ end_byte (nat_eq (length xs) 0) ∷ tail)
+  pub ends : (xs : List X) (more : List ℕ) → (tail : List ℕ) × (spaced_on (map word xs) (10 ∷ more) ≡ end_byte (nat_eq (length xs) 0) ∷ tail)
   ends [] more = (more, refl)
   ends (x ∷ xs) more = (word x ++ spaced_on (map word xs) (10 ∷ more), ap (λ b. end_byte b ∷ (word x ++ spaced_on (map word xs) (10 ∷ more))) (sym (ne_eqb (suc (length xs)) 0 (omega arith))))
 

@@ -53,7 +53,7 @@ seat_on s end rest = append_assoc (decimal s.node.value) (58 ∷ decimal s.slot)
 pub same_seat : (s t : Seat) (end : ℕ) (rest more : List ℕ) → IsSeat s → IsSeat t → is_ascii_digit end ≡ false → seat_word s ++ end ∷ rest ≡ seat_word t ++ end ∷ more → (s ≡ t) × (rest ≡ more)
 same_seat s t end rest more fits fits' other is =
     let first = same_number s.node.value t.node.value 58 (decimal s.slot ++ end ∷ rest) (decimal t.slot ++ end ∷ more) (omega (arith, fits.0)) (omega (arith, fits'.0)) refl
-        (sym (seat_on s end rest) ∙ is ∙ seat_on t end more) in
+    (sym (seat_on s end rest) ∙ is ∙ seat_on t end more) in
     let second = same_number s.slot t.slot end rest more (omega (arith, fits.1)) (omega (arith, fits'.1)) other first.1 in
     (seats_are s t first.0 second.0, second.1)
 

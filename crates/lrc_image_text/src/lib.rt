@@ -5,6 +5,7 @@
 #![tactic(auto)]
 
 mod error;
+pub mod laws;
 mod number;
 mod part;
 mod read;

@@ -56,7 +56,11 @@ pub(crate) fn long_number_to_end(text: &[u8]) -> Option<(u64, &[u8])>
         number = number * 10 + u128::from(text[at] - b'0');
         at += 1;
     }
-    if at == 0 || text[at] != b'\n' || (at > 1 && text[0] == b'0') || number > u128::from(u64::MAX) {
+    if at == 0
+        || text[at] != b'\n'
+        || (at > 1 && text[0] == b'0')
+        || number > u128::from(u64::MAX)
+    {
         return None;
     }
     Some((number as u64, &text[at + 1..]))

@@ -64,7 +64,10 @@ pub(crate) fn stripe_line_in_front(text: &[u8], code: Code) -> Option<(StripeRow
 {
     let mut homes = [None; FRAGMENTS];
     match stripe_behind(text, code_word(code)) {
-        Some((stripe, rest)) => match words_to_end(rest, &mut homes[..usize::from(code.fragments())]) {
+        Some((stripe, rest)) => match words_to_end(
+            rest,
+            &mut homes[..usize::from(code.fragments())],
+        ) {
             Some(rest) => Some((
                 StripeRow {
                     stripe,
@@ -87,11 +90,7 @@ pub(crate) fn lease_place(text: &[u8]) -> Option<(StripeNo, Fragment, &[u8])>
 {
     match stripe_behind(text, b"lease ") {
         Some((stripe, rest)) => match number_to(rest, FRAGMENTS as u64, b' ') {
-            Some((number, rest)) => Some((
-                stripe,
-                Fragment::new(number as u8).unwrap(),
-                rest,
-            )),
+            Some((number, rest)) => Some((stripe, Fragment::new(number as u8).unwrap(), rest)),
             None => None,
         },
         None => None,

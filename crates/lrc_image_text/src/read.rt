@@ -130,7 +130,12 @@ fn read_upgrading(text: &[u8]) -> (Option<UpgradeNo>, &[u8])
     ensures { StartsWithUpgrading text.now result.0 result.1.now }
 {
     match number_behind(text, b"upgrading ", UPGRADE_BOUND, b'\n') {
-        Some((number, rest)) => (Some(UpgradeNo { value: number as u8 }), rest),
+        Some((number, rest)) => (
+            Some(UpgradeNo {
+                value: number as u8,
+            }),
+            rest,
+        ),
         None => (None, text),
     }
 }

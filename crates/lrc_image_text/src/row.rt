@@ -5,9 +5,7 @@ ghost use Rattle.lrc_image_text.specs.Lines.{Line, Node, Stripe, Grants, Lease, 
 ghost use Rattle.lrc_image_text.specs.Fronts.{line_on, HasNone};
 
 use crate::number::number_behind;
-use crate::part::{
-    lease_place, lease_terms, standing_to_end, stripe_behind, stripe_line_in_front,
-};
+use crate::part::{lease_place, lease_terms, standing_to_end, stripe_behind, stripe_line_in_front};
 use crate::word::{NODE_BOUND, push_number, push_words, words_to_end};
 use lrc_code::{Code, FRAGMENTS, NodeNo};
 use lrc_images::{GrantRow, LeaseRow, NodeRow, StripeRow};
@@ -36,7 +34,9 @@ impl Row for NodeRow {
         match number_behind(text, b"node ", NODE_BOUND, b' ') {
             Some((number, rest)) => match standing_to_end(rest) {
                 Some((mode, is_down, rest)) => {
-                    let node = NodeNo { value: number as u16 };
+                    let node = NodeNo {
+                        value: number as u16,
+                    };
                     Some((
                         NodeRow {
                             node,

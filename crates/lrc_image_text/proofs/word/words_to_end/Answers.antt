@@ -21,7 +21,7 @@ loop-at-preserved g c =
       fits = rw (take_more_set words at c.read_word.new.word within) (All-push g.W.Word.fits (take at words) c.read_word.new.word before.fits read.0);
       text_is = subst (λ n. 32 ∷ c.args.text.now ≡ spaced_on (map word (take (at + 1) (set words at c.read_word.new.word))) (end_byte (nat_eq (at + 1) n) ∷ c.in-Some.behind.now)) (sym long)
           (spaced_on-next word c.args.text.now c.loop-at.rest.now c.in-Some.behind.now words at c.read_word.new.word (end_byte (nat_eq (at + 1) (length words))) within
-              (before.text_is ∙ ap (λ t. spaced_on (map word (take at words)) t) space) read.1);
+          (before.text_is ∙ ap (λ t. spaced_on (map word (take at words)) t) space) read.1);
       only = λ ws more size all is.
           only_next word g.W.Word.fits c.loop-at.rest.now c.in-Some.behind.now ws at (length (set words at c.read_word.new.word)) c.read_word.new.word more (omega (arith, within, size, long)) size all
           (subst (λ n. (v : g.row.W.Denot) (r : List ℕ) → g.W.Word.fits v → c.loop-at.rest.now ≡ word v ++ end_byte (nat_eq (at + 1) n) ∷ r → r ≡ c.in-Some.behind.now) (sym long) c.in-Some.ensures.only)
