@@ -1,0 +1,11 @@
+pub mod WordLemmas
+pub mod SpacedLemmas
+pub mod TextLemmas
+pub mod NumberLemmas
+pub mod RowLemmas
+pub mod LineLemmas
+pub mod HeadLemmas
+pub mod ReachLemmas
+pub mod EndLemmas
+pub mod SameLemmas
+pub mod OnceLemmas
