@@ -6,8 +6,8 @@ use Rattle.lrc_code.specs.declared.codes.Code.{Code}
 use Rattle.lrc_code.specs.declared.codes.Code.TheVariants.{Wide, Narrow}
 use Rattle.lrc_code.specs.Codes.{fragment_count}
 use Rattle.lrc_images.specs.declared.image.StripeRow.{StripeRow}
-use Rattle.lrc_rules.specs.declared.mode.Mode.{Mode}
-use Rattle.lrc_rules.specs.declared.mode.Mode.TheVariants.{Active, Draining, Gone}
+use Rattle.lrc_terms.specs.declared.mode.Mode.{Mode}
+use Rattle.lrc_terms.specs.declared.mode.Mode.TheVariants.{Active, Draining, Gone}
 use Rattle.lrc_image_text.specs.Lines.{Stripe, standing_words, code_word, home_word, IsStripe}
 use Rattle.lrc_image_text.specs.Fronts.{words_on, line_on, HasLine, HasNone}
 use Rattle.lrc_image_text.proofs.WordLemmas.{same_number}

@@ -7,8 +7,8 @@ use Rattle.lrc_code.specs.declared.codes.Code.{Code}
 use Rattle.lrc_code.specs.declared.codes.Code.TheVariants.{Wide, Narrow}
 use Rattle.lrc_code.specs.Codes.{fragment_count}
 use Rattle.lrc_topology.specs.declared.seat.Seat.{Seat}
-use Rattle.lrc_rules.specs.declared.mode.Mode.{Mode}
-use Rattle.lrc_rules.specs.declared.mode.Mode.TheVariants.{Active, Draining, Gone}
+use Rattle.lrc_terms.specs.declared.mode.Mode.{Mode}
+use Rattle.lrc_terms.specs.declared.mode.Mode.TheVariants.{Active, Draining, Gone}
 use Rattle.lrc_image_text.specs.Lines.{home_word, code_word, standing_words, IsHome}
 use Rattle.lrc_image_text.specs.Fronts.{end_byte, spaced_on, words_on, HasLine}
 use Rattle.lrc_image_text.proofs.WordLemmas.{same_number, same_home, end_other}

@@ -5,7 +5,7 @@ ghost use Rattle.lrc_code.specs.declared.numbers.StripeNo.{StripeNo};
 ghost use Rattle.lrc_code.specs.declared.numbers.Fragment.{Fragment};
 ghost use Rattle.lrc_code.specs.declared.numbers.SessionNo.{SessionNo};
 ghost use Rattle.lrc_topology.specs.declared.seat.Seat.{Seat};
-ghost use Rattle.lrc_rules.specs.declared.mode.Mode.{Mode};
+ghost use Rattle.lrc_terms.specs.declared.mode.Mode.{Mode};
 ghost use Rattle.lrc_images.specs.declared.image.StripeRow.{StripeRow};
 ghost use Rattle.lrc_image_text.specs.Lines.{Stripe, seat_word, standing_words, IsSeat, IsStripe};
 ghost use Rattle.lrc_image_text.specs.Fronts.{words_on, line_on, HasLine};
