@@ -218,6 +218,7 @@ static void closed(void) {
         lrc_risk rows[2];
         size_t number;
         uint64_t wide;
+        uint8_t text[2];
         lrc_entry entry;
     } found = {.entry = pattern.entry};
     lrc_command command = {.kind = LRC_NEXT};
@@ -240,6 +241,7 @@ static void closed(void) {
     WANT(lrc_embed_clock(&handle, &found.load) == LRC_IS_CLOSED);
     WANT(lrc_embed_before(&handle, &found.wide) == LRC_IS_CLOSED);
     WANT(lrc_embed_forget(&handle) == LRC_IS_CLOSED);
+    WANT(lrc_embed_image(&handle, found.text, 2, &number) == LRC_IS_CLOSED);
     WANT(lrc_embed_entry(&handle, 0, &found.entry) == LRC_IS_CLOSED);
     WANT(number == 99 && memcmp(&found, pattern.bytes, sizeof pattern.bytes) == 0);
     WANT(lrc_embed_close(&handle) == LRC_DONE);
@@ -517,6 +519,27 @@ static void forget(void) {
     WANT(memcmp(&before, &after, sizeof before) == 0);
 }
 
+// The image of a book is the same text before and after it forgets, with each size of buffer.
+static void image(const char *wanted) {
+    static uint8_t text[4096];
+    size_t needed = 99, length = strlen(wanted);
+    uint32_t status;
+    memset(text, 9, sizeof text);
+    STATUS(status, lrc_embed_image(&handle, text, length - 1, &needed));
+    WANT(status == LRC_SHORT && needed == length && text[0] == 9);
+    STATUS(status, lrc_embed_image(&handle, text, length, &needed));
+    WANT(status == LRC_DONE && needed == length && memcmp(text, wanted, length) == 0 && text[length] == 9);
+    memset(text, 9, sizeof text);
+    WANT(lrc_embed_image(&handle, text, sizeof text, &needed) == LRC_DONE && needed == length);
+    WANT(memcmp(text, wanted, length) == 0 && text[length] == 9);
+}
+
+static const char *image_of_leased =
+    "image 1\nbefore 8\nclock 1\nupgrading 8\nnode 3 gone\nnode 5 draining\nnode 7 down\n"
+    "stripe 1 0:0 1:0 2:0 - 4:0 5:0 6:0 7:0 8:0 9:0 10:0 11:0 16:0 12:0 13:0 14:0\n"
+    "stripe6 2 15:0 17:0 18:0 19:0 0:1 1:1 2:1 - 4:1 5:1\n"
+    "granted 1 0 0 0 1 0 0 0 0 0 0 0 0 0 0 0 0\nlease 1 3 2 17:1 4\nend\n";
+
 static void forgets(void) {
     lrc_lease lease;
     WANT(lrc_embed_close(&handle) == LRC_DONE);
@@ -530,7 +553,9 @@ static void forgets(void) {
     WANT(MAKE(1, .kind = LRC_UPGRADE, .domain = 8).kind == LRC_CHANGED);
     WANT(MAKE(1, .kind = LRC_TICK).kind == LRC_TICKED);
     WANT(MAKE(2, .kind = LRC_LEASE, .stripe = 1, .fragment = 3).lease.epoch == 1);
+    image(image_of_leased);
     forget();
+    image(image_of_leased);
     WANT(lrc_embed_lease(&handle, 1, 3, &lease) == LRC_DONE && lease.epoch == 1 && lease.holder == 2 && lease.expiry == 4);
     WANT(MAKE(1, .kind = LRC_REVOKE, .stripe = 1, .fragment = 3).kind == LRC_ENDED);
     WANT(MAKE(1, .kind = LRC_LEASE, .stripe = 1, .fragment = 3).lease.epoch == 2);

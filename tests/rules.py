@@ -495,6 +495,27 @@ class Store:
             online = "yes" if self.is_online(number) else "no"
             yield f"{number},{self.mode[number]},{online},{len(slots)},{node.slots}"
 
+    def image(self, before):
+        """The text of the image of the state, after so many entries of the store."""
+        lines = ["image 1", f"before {before}", f"clock {self.clock}"]
+        if self.upgrading is not None:
+            lines.append(f"upgrading {self.upgrading}")
+        for node in sorted(self.nodes):
+            words = [] if self.mode[node] == "active" else [self.mode[node]]
+            words += ["down"] if node in self.down else []
+            if words:
+                lines.append(" ".join(["node", str(node), *words]))
+        for stripe, code in sorted(self.stripes.items()):
+            homes = [self.homes.get((stripe, fragment)) for fragment in code.fragments]
+            words = ["%d:%d" % home if home else "-" for home in homes]
+            lines.append(" ".join(["stripe" if code is WIDE else "stripe6", str(stripe), *words]))
+        for stripe in sorted({key[0] for key, count in self.grants.items() if count}):
+            counts = [self.grants[stripe, fragment] for fragment in FRAGMENTS]
+            lines.append(" ".join(["granted", str(stripe), *map(str, counts)]))
+        for key, lease in sorted(self.leases.items()):
+            lines.append("lease %d %d %d %d:%d %d" % (*key, lease.holder, *lease.target, lease.expiry))
+        return "\n".join([*lines, "end", ""])
+
     def tables(self):
         """The lines of an output after its replies."""
         return ["risk", RISK_HEADER, *self.risk_rows(), "load", LOAD_HEADER, *self.load_rows()]

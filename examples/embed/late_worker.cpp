@@ -61,6 +61,18 @@ class Book {
         done("before", lrc_embed_before(&handle, &before));
         return before;
     }
+    // The text of the image of the state.
+    std::string image() {
+        std::string text;
+        std::size_t length = 0;
+        for (;;) {
+            auto room = reinterpret_cast<std::uint8_t *>(text.data());
+            auto status = lrc_embed_image(&handle, room, text.size(), &length);
+            if (status != LRC_SHORT) done("image", status);
+            text.resize(length);
+            if (status == LRC_DONE) return text;
+        }
+    }
     // Forgets the entries, which the log has.
     void forget() { done("forget", lrc_embed_forget(&handle)); }
     lrc_entry entry(std::size_t index) {

@@ -249,6 +249,18 @@ class Book:
         """Forgets the entries, which the log has. All looks but those at the history return what they returned before."""
         self.done("forget")
 
+    def image(self):
+        """The text of the image of the state."""
+        text, length = (c_uint8 * 0)(), c_size_t()
+        while True:
+            try:
+                self.done("image", text, c_size_t(len(text)), ctypes.byref(length))
+                return bytes(text[:length.value]).decode()
+            except Fault as fault:
+                if fault.status != Status.SHORT:
+                    raise
+                text = (c_uint8 * length.value)()
+
     def entry(self, index):
         return self.result_of("entry", Entry(), c_size_t(within("index", index)))
 

@@ -287,6 +287,10 @@ uint32_t lrc_embed_clock(lrc_handle *handle, uint32_t *clock);
 // The stripes that are not whole, in the order of repair. DONE, with `*count` rows; IS_CLOSED, OUT_OF_MEMORY, or SHORT if
 // there are more than `length`, which cannot be with LRC_STRIPES rows.
 uint32_t lrc_embed_risk(lrc_handle *handle, lrc_risk *rows, size_t length, size_t *count);
+// The image of the book's state as a text, whose lines docs/FORMATS.md describes. Books in the same state after as many
+// entries have the same text, whatever led there. DONE, with `*length` bytes; IS_CLOSED, OUT_OF_MEMORY; SHORT if there is
+// room for less, and then only `length` is written: the bytes that it needs; or FULL, as lrc_embed_forget.
+uint32_t lrc_embed_image(lrc_handle *handle, uint8_t *text, size_t room, size_t *length);
 // The number of entries of the history: DONE or IS_CLOSED.
 uint32_t lrc_embed_count(lrc_handle *handle, size_t *count);
 // The number of entries that were forgotten, so that the entry at an index is number `before` + index + 1 of the store: DONE

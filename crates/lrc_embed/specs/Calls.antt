@@ -12,6 +12,9 @@ use Rattle.lrc_rules.specs.declared.entry.Entry.{Entry}
 use Rattle.lrc_rules.specs.Leases.{grants}
 use Rattle.lrc_rules.specs.Alike.{AreAlike}
 use Rattle.lrc_rules.specs.Histories.{World, first_world, outcome_in}
+use Rattle.lrc_images.specs.declared.image.Image.{Image}
+use Rattle.lrc_images.specs.Rows.{IsImageOf}
+use Rattle.lrc_image_text.specs.Texts.{image_text}
 use Rattle.lrc_book.specs.Books.{BookView, world_of, state_of}
 use Rattle.lrc_embed.specs.declared.command.LrcCommand.{LrcCommand}
 use Rattle.lrc_embed.specs.declared.reply.LrcReply.{LrcReply}
@@ -64,6 +67,11 @@ IsForgotten b after =
     (after.history ≡ []) × (after.before ≡ b.before + length b.history) × AreAlike (state_of b) (state_of after)
     × ((s : StripeNo) (f : Fragment) → grants after.base.past s f ≡ grants (b.base.past ++ b.history) s f)
     × (after.nodes ≡ b.nodes) × (after.limit ≡ b.limit)
+
+-- the text is that of the image of the book's state, after all entries of the store so far
+abbrev pub IsImageText : BookView → List ℕ → Type 0
+IsImageText b text =
+    (i : Image) × IsImageOf b.nodes (b.base.past ++ b.history) (state_of b) (b.before + length b.history) i × (text ≡ image_text i)
 
 -- the stripe of a number that is in its range
 abbrev pub AtStripe : ℕ → (StripeNo → Type 0) → Type 0

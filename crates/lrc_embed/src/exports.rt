@@ -4,6 +4,7 @@
 mod call;
 mod forget;
 mod history;
+mod image;
 mod looks;
 mod open;
 mod replay;

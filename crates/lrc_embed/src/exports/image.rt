@@ -1,0 +1,61 @@
+ghost use Rattle.std.specs.Prelude.{◌≡◌, ◌≢◌, ◌≤◌, ◌<◌, ◌+◌, ◌++◌, ◌⊎◌, List, ℕ, true, is_some, None, length, drop, IfOk, IfErr};
+ghost use Rattle.lrc_code.specs.declared.fault.Fault.TheVariants as fault;
+ghost use Rattle.lrc_book.specs.Books.{IsSpent};
+ghost use Rattle.lrc_embed.specs.Calls.{Of, IsImageText};
+
+use crate::LrcHandle;
+use crate::status::{DONE, FULL, IS_CLOSED, OUT_OF_MEMORY, SHORT};
+use lrc_book::Book;
+use lrc_code::Fault;
+use lrc_image_text::push_image;
+use std::alloc::Global;
+
+/// The image of the book as a text. It fills the first `length` bytes. If there is less room, nothing is written but
+/// the `length` that it needs.
+#[unsafe(no_mangle)]
+pub extern "C" fn lrc_embed_image(
+    alloc: Global,
+    handle: &mut LrcHandle,
+    text: &mut [u8],
+    needed: &mut usize,
+) -> u32
+    ensures same { handle.new.owned.book ≡ handle.old.owned.book }
+    ensures done { (result ≡ 0) → Of handle.old.owned.book (λ b. (image : List ℕ) × IsImageText b image × (needed.new ≡ length image) × (text.new ≡ image ++ drop (length image) text.old)) }
+    ensures short { (result ≡ 7) → Of handle.old.owned.book (λ b. (image : List ℕ) × IsImageText b image × (needed.new ≡ length image) × (length text.old < length image)) }
+    ensures full { (result ≡ 5) → Of handle.old.owned.book IsSpent }
+    ensures closed { (result ≡ 1) → handle.old.owned.book ≡ None }
+    // A closed handle returns 1, without a request for memory.
+    ensures memory { (result ≡ 6) → is_some handle.old.owned.book ≡ true }
+    ensures statuses { (result ≡ 0) ⊎ (result ≡ 1) ⊎ (result ≡ 5) ⊎ (result ≡ 6) ⊎ (result ≡ 7) }
+    ensures unwritten { (result ≢ 0) → text.new ≡ text.old }
+    ensures unneeded { (result ≢ 0) → (result ≢ 7) → needed.new ≡ needed.old }
+{
+    let Some(book) = handle.take(alloc) else {
+        return IS_CLOSED;
+    };
+    let image = image_text(alloc, &book);
+    handle.put(book);
+    match image {
+        Ok(image) => {
+            *needed = image.len();
+            if image.len() > text.len() {
+                return SHORT;
+            }
+            text[..image.len()].copy_from_slice(&image);
+            DONE
+        }
+        Err(Fault::HistoryFull) => FULL,
+        Err(Fault::OutOfMemory) => OUT_OF_MEMORY,
+    }
+}
+
+/// The text of the image of a book.
+fn image_text(alloc: Global, book: &Book) -> Result<Vec<u8>, Fault>
+    ensures value { IfOk result (λ text. IsImageText book.now text.items) }
+    ensures err { IfErr result (λ e. (e ≡ fault.OutOfMemory) ⊎ ((e ≡ fault.HistoryFull) × IsSpent book.now)) }
+{
+    let image = book.image(alloc)?;
+    let mut text = Vec::new(alloc);
+    push_image(&mut text, &image)?;
+    Ok(text)
+}
