@@ -1,71 +1,68 @@
--- A book that forgets its history into the image of its state.
-use Rattle.std.proofs.Common.{[], ◌≡◌, ◌<◌, ◌↔◌, ◌+◌, ℕ, true, false, not, ◌&&◌, inl, inr, List, ◌++◌, length, Option, Some, None, IsSome, append-nil, refl, sym, ap, ◌∙◌, arith}
+-- The image of a book, and a book that forgets its history into it.
+use Rattle.std.proofs.Common.{[], ◌≡◌, ◌<◌, ◌≤◌, ◌↔◌, ◌+◌, ℕ, inl, inr, List, ◌++◌, length, Option, None, append-nil, sym, ap, subst, ◌∙◌, arith}
 use Rattle.std.specs.Prelude.{IsNone}
-use Rattle.std.specs.Option.{SomeIff}
 use Rattle.std.proofs.lemmas.Bool.{cases_order}
 use Rattle.lrc_code.specs.declared.numbers.StripeNo.{StripeNo}
 use Rattle.lrc_code.specs.declared.numbers.Fragment.{Fragment}
 use Rattle.lrc_topology.specs.declared.NodeInfo.{NodeInfo}
-use Rattle.lrc_topology.specs.Nodes.{node_at}
 use Rattle.lrc_rules.specs.declared.entry.Entry.{Entry}
-use Rattle.lrc_rules.specs.States.{State, has_number, mode_of, is_down}
-use Rattle.lrc_terms.specs.Modes.{is_active}
+use Rattle.lrc_rules.specs.States.{State}
 use Rattle.lrc_rules.specs.Leases.{grants}
-use Rattle.lrc_rules.specs.Histories.{World, first_world, world_from, state_from}
+use Rattle.lrc_rules.specs.Histories.{World, first_world, state_from}
 use Rattle.lrc_rules.specs.Alike.{AreAlike}
+use Rattle.lrc_rules.specs.Futures.{HaveSameGrants}
 use Rattle.lrc_rules.proofs.GoodLemmas.{state_from-good, opening-good}
-use Rattle.lrc_rules.proofs.JoinedLemmas.{worlds-apart}
-use Rattle.lrc_rules.proofs.KnownNodesLemmas.{worlds-known, first-known}
+use Rattle.lrc_rules.proofs.TidyLemmas.{worlds-tidy, opening-tidy}
 use Rattle.lrc_images.specs.declared.image.Image.{Image}
 use Rattle.lrc_images.specs.Images.{image_world, image_state}
+use Rattle.lrc_images.specs.Rising.{AreRising}
+use Rattle.lrc_images.specs.Causes.{most_grants, most_ticks, most_entries, first_cause}
+use Rattle.lrc_images.specs.Bases.{IsBase}
 use Rattle.lrc_images.specs.Rows.{IsImageOf}
-use Rattle.lrc_images.proofs.AlikeLemmas.{alike-number, alike-mode, alike-good}
+use Rattle.lrc_images.proofs.StateRowLemmas.{image-rising}
 use Rattle.lrc_images.proofs.AlikeRowLemmas.{image-alike, image-grants}
-use Rattle.lrc_images.proofs.DistinctLemmas.{image-distinct}
+use Rattle.lrc_images.proofs.ImageLemmas.{alike-base}
+use Rattle.lrc_images.proofs.TakenLemmas.{base-taken}
+use Rattle.lrc_images.proofs.LawfulLemmas.{cause-lawful}
+use Rattle.lrc_images.proofs.SeatedRowsLemmas.{lawful-base}
 use Rattle.lrc_store.specs.declared.store.Store.{Store}
+use Rattle.lrc_store.specs.Stores.{IsOf, AreGrantsOf}
 use Rattle.lrc_book.specs.Books.{BookView, state_of, IsSpent}
-use Rattle.lrc_book.specs.Kept.{IsBase, IsKept}
+use Rattle.lrc_book.specs.Kept.{IsKept}
 use Rattle.lrc_book.proofs.AlikeKeptLemmas.{alike-kept}
 
 -- ---- the ends of the numbers
 
+-- a number that does not come after another
+not-after : (n m : ℕ) → (m < n → ⊥) → n ≤ m
+not-after n m free = elim (cases_order n m) [
+  | inl same ↦ omega (arith, same)
+  | inr (inl below) ↦ omega (arith, below)
+  | inr (inr above) ↦ absurd (free above)
+]
+
 module _ (b : BookView) where
-  abbrev AreLow : Type 0
-  AreLow = (s : StripeNo) (f : Fragment) → grants (b.base.past ++ b.history) s f < 4293967295
-
-  -- a sum that is checked is none exactly where the book is spent
-  pub spent-by : (o : Option ℕ) (n m : ℕ) → SomeIff o (n + m < 18446744073709551616) (n + m) → n ≡ b.before → m ≡ length b.history → AreLow
-      → (state_of b).clock < 4293967292 → IsNone o ↔ IsSpent b
-  spent-by None n m over before count low early = (
-    λ _. elim (cases_order (n + m) 18446744073709551616) [
-      | inl same ↦ inr (inr (omega (arith, same, before, count)))
-      | inr (inl below) ↦ absurd (over below)
-      | inr (inr above) ↦ inr (inr (omega (arith, above, before, count)))
-    ],
-    λ _. refl,
-  )
-  spent-by (Some x) n m sum before count low early = (
-    λ none. absurd (let no : true ≡ false = none in cc),
+  -- no book can begin in the state exactly where there are too many entries, if all else is low
+  pub spent-by : (o : Option ℕ) → IsNone o ↔ (most_entries < b.before + length b.history)
+      → ((s : StripeNo) (f : Fragment) → grants (b.base.past ++ b.history) s f ≤ most_grants) → (state_of b).clock ≤ most_ticks → IsNone o ↔ IsSpent b
+  spent-by o many low early = (
+    λ none. inr (inr (many.0 none)),
     λ spent. elim spent [
-      | inl high ↦ let few = low high.0 high.1 in let many = high.2 in absurd (omega (arith, few, many))
+      | inl high ↦ let few = low high.0 high.1 in let more = high.2 in absurd (omega (arith, few, more))
       | inr (inl late) ↦ absurd (omega (arith, late, early))
-      | inr (inr many) ↦ let few = sum.0 in absurd (omega (arith, few, many, before, count))
+      | inr (inr more) ↦ many.1 more
     ],
   )
 
-  pub unspent : (IsSpent b → ⊥) → AreLow × ((state_of b).clock < 4293967292)
-  unspent free = (
-    λ s f. elim (cases_order (grants (b.base.past ++ b.history) s f) 4293967295) [
-      | inl same ↦ absurd (free (inl (s, f, omega (arith, same))))
-      | inr (inl below) ↦ below
-      | inr (inr above) ↦ absurd (free (inl (s, f, omega (arith, above))))
-    ],
-    elim (cases_order (state_of b).clock 4293967292) [
-      | inl same ↦ absurd (free (inr (inl (omega (arith, same)))))
-      | inr (inl below) ↦ below
-      | inr (inr above) ↦ absurd (free (inr (inl (omega (arith, above)))))
-    ],
-  )
+  module _ (free : IsSpent b → ⊥) where
+    pub unspent-counts : (s : StripeNo) (f : Fragment) → grants (b.base.past ++ b.history) s f ≤ most_grants
+    unspent-counts s f = not-after (grants (b.base.past ++ b.history) s f) most_grants (λ high. free (inl (s, f, high)))
+
+    pub unspent-ticks : (state_of b).clock ≤ most_ticks
+    unspent-ticks = not-after (state_of b).clock most_ticks (λ late. free (inr (inl late)))
+
+    pub unspent-entries : b.before + length b.history ≤ most_entries
+    unspent-entries = not-after (b.before + length b.history) most_entries (λ many. free (inr (inr many)))
 
 -- ---- the first world
 
@@ -73,50 +70,58 @@ module _ (b : BookView) where
 pub first-base : (nodes : List NodeInfo) → IsBase nodes first_world
 first-base nodes = record {
   good = opening-good nodes;
-  apart = λ n gone. absurd (let never : false ≡ true = gone in cc);
-  known = first-known nodes;
+  tidy = opening-tidy nodes;
   counts = λ s f. omega arith;
-  clock = omega arith;
+  ticks = omega arith;
 }
 
--- ---- a book that forgets
+-- ---- the image of a book
 
-module _ (k : Store) (counts : List ℕ) (cursor : Option StripeNo) (limit : ℕ) (base : World) (h : List Entry) (kept : IsKept k counts cursor limit base h)
-    (before : ℕ) (i : Image) (is : IsImageOf k.topology (base.past ++ h) (state_from k.topology base h) before i) where
+module _ (k : Store) (counts : List ℕ) (cursor : Option StripeNo) (limit : ℕ) (base : World) (h : List Entry) (kept : IsKept k counts cursor limit base h) where
   abbrev st : State
   st = state_from k.topology base h
 
-  -- the image is alike the state of the book
-  pub kept-alike : AreAlike st (image_state i)
-  kept-alike =
-      image-alike k.topology (base.past ++ h) st before i is kept.store_is.known
-      (state_from-good k.topology kept.store_is.known base h kept.legal kept.based.good)
-      (worlds-apart k.topology base h kept.based.apart) (worlds-known k.topology base h kept.based.known)
+  -- a book can begin in the world of a book that is not spent
+  kept-base : ((s : StripeNo) (f : Fragment) → grants (base.past ++ h) s f ≤ most_grants) → st.clock ≤ most_ticks
+      → IsBase k.topology (record { past = base.past ++ h; state = st })
+  kept-base few early = record {
+    good = state_from-good k.topology kept.store_is.known base h kept.legal kept.based.good;
+    tidy = worlds-tidy k.topology base h kept.based.tidy;
+    counts = few;
+    ticks = early;
+  }
+
+  module _ (before : ℕ) (i : Image) (made : (st : State) (past : List Entry) → IsOf st k → AreGrantsOf past counts → IsImageOf k.topology past st before i) where
+    is : IsImageOf k.topology (base.past ++ h) st before i
+    is = made st (base.past ++ h) kept.store_is kept.counted
+
+    pub kept-rising : AreRising i
+    kept-rising = image-rising k.topology (base.past ++ h) st before i is
+
+    pub kept-grants : HaveSameGrants (base.past ++ h) (image_world i).past
+    kept-grants = image-grants k.topology (base.past ++ h) st before i is
+
+    pub kept-alike : AreAlike st (image_state i)
+    kept-alike =
+        image-alike k.topology (base.past ++ h) st before i is kept.store_is.known
+        (state_from-good k.topology kept.store_is.known base h kept.legal kept.based.good) (worlds-tidy k.topology base h kept.based.tidy)
+
+    pub kept-taken : ((s : StripeNo) (f : Fragment) → grants (base.past ++ h) s f ≤ most_grants) → st.clock ≤ most_ticks → before ≤ most_entries
+        → first_cause k.topology i ≡ None
+    kept-taken few early entries =
+        base-taken k.topology i kept-rising
+        (alike-base k.topology (record { past = base.past ++ h; state = st }) i (kept-base few early) kept-rising kept-alike kept-grants)
+        (subst (λ (n : ℕ). n ≤ most_entries) (sym is.before_is) entries)
 
   -- what the book keeps is kept after an empty history from the image on
-  pub forgotten : ((s : StripeNo) (f : Fragment) → grants (base.past ++ h) s f < 4293967295) → st.clock < 4293967292 → IsKept k counts None limit (image_world i) []
-  forgotten few early =
-      let nodes = k.topology in
-      let v = image_state i in
-      let alike = kept-alike in
-      let distinct = image-distinct nodes (base.past ++ h) st before i is in
-      let same = image-grants nodes (base.past ++ h) st before i is in
+  pub forgotten : (i : Image) → AreAlike st (image_state i) → HaveSameGrants (base.past ++ h) (image_world i).past → first_cause k.topology i ≡ None
+      → IsKept k counts None limit (image_world i) []
+  forgotten i alike same taken =
+      let based = lawful-base k.topology kept.store_is.known i (cause-lawful k.topology i taken) in
       record {
-        based = record {
-          good = alike-good nodes (base.past ++ h) (image_world i).past st v alike distinct same
-              (state_from-good nodes kept.store_is.known base h kept.legal kept.based.good);
-          apart = λ n gone.
-              let m = alike-number nodes st v alike n in
-              sym m.draining ∙ worlds-apart nodes base h kept.based.apart n (m.gone ∙ gone);
-          known = λ n listed.
-              let mode = alike-mode nodes st v alike n in
-              let down = (alike-number nodes st v alike n).down in
-              worlds-known nodes base h kept.based.known n ((λ j. is_active (mode j) && not (down j)) ∙ listed);
-          counts = λ s f. let a = same s f in let b = few s f in omega (arith, a, b);
-          clock = let c = alike.clock in omega (arith, c, early);
-        };
-        store_is = alike-kept st v k alike distinct kept.store_is;
-        counted = λ s f. kept.counted s f ∙ sym (same s f) ∙ ap (λ (past : List Entry). grants past s f) (sym (append-nil (image_world i).past));
+        based = based;
+        store_is = alike-kept st (image_state i) k alike based.good.seated kept.store_is;
+        counted = λ s f. kept.counted s f ∙ same s f ∙ ap (λ (past : List Entry). grants past s f) (sym (append-nil (image_world i).past));
         cursor_is = tt;
         legal = tt;
         few = omega arith;

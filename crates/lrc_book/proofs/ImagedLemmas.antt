@@ -1,30 +1,28 @@
 -- The walk that makes the rows of an image.
-use Rattle.std.proofs.Common.{[], ◌≡◌, ◌≢◌, ℕ, ◌+◌, ◌<◌, ◌≤◌, inl, inr, Bool, true, false, if◌then◌else◌, List, ◌∷◌, ◌++◌, length, get_or, set, take, map, flat_map, Option, Some, None, refl, sym, ap, subst, ◌∙◌, append_assoc, append-nil, arith, lit<}
+use Rattle.std.proofs.Common.{[], ◌≡◌, ℕ, ◌+◌, ◌<◌, Bool, true, false, if◌then◌else◌, List, ◌∷◌, ◌++◌, length, get_or, take, map, flat_map, Option, Some, None, refl, sym, ap, ◌∙◌, append_assoc, append-nil, arith, lit<}
 use Rattle.std.specs.Prelude.{option_map, option_to_list, Result, Ok, Err, IfOk, nat_lt}
 use Rattle.std.specs.List.{list_any}
-use Rattle.std.proofs.Math.ListN.{length-set}
-use Rattle.std.proofs.lemmas.Bool.{cases_eq}
-use Rattle.std.proofs.lemmas.List.{ext_get_or, get_or-map, get_or-set_same, get_or-set_other, take_more, length-map}
+use Rattle.std.proofs.lemmas.List.{ext_get_or, get_or-map, take_more}
 use Rattle.std.proofs.lemmas.List.Concat.{flat_map-append}
 use Rattle.lrc_code.specs.declared.codes.Code.TheVariants.{Wide}
 use Rattle.lrc_code.specs.declared.numbers.StripeNo.{StripeNo}
 use Rattle.lrc_code.specs.declared.numbers.Fragment.{Fragment}
 use Rattle.lrc_code.specs.Codes.{fragments}
-use Rattle.lrc_code.proofs.NumbersLemmas.{equal_fragments, equal_stripes}
+use Rattle.lrc_code.proofs.NumbersLemmas.{equal_fragments}
 use Rattle.lrc_topology.specs.declared.seat.Seat.{Seat}
 use Rattle.lrc_terms.specs.Levels.{homes_of, homes_if}
-use Rattle.lrc_terms.specs.Stripes.{stripe_at}
 use Rattle.lrc_terms.specs.declared.lease.Lease.{Lease}
 use Rattle.lrc_terms.proofs.CodeListLemmas.{fragment-number}
 use Rattle.lrc_rules.specs.declared.entry.Entry.{Entry}
 use Rattle.lrc_leases.specs.Granted.{granted_in}
 use Rattle.lrc_store.specs.Stores.{AreGrantsOf}
 use Rattle.lrc_rules.specs.States.{State, has_stripe, code_of, lease_of}
+use Rattle.lrc_rules.specs.Leases.{grants}
 use Rattle.lrc_images.specs.declared.image.LeaseRow.{LeaseRow}
 use Rattle.lrc_images.specs.declared.image.StripeRow.{StripeRow}
 use Rattle.lrc_images.specs.declared.image.GrantRow.{GrantRow}
-use Rattle.lrc_images.specs.Rows.{stripe_row, granted_of, grant_row, lease_row, stripe_leases}
-use Rattle.lrc_images.proofs.RowLemmas.{own-number}
+use Rattle.lrc_images.specs.Rising.{tells_grants}
+use Rattle.lrc_images.specs.Rows.{stripe_row, row_of_grants, grant_row, lease_row, stripe_leases}
 
 -- ---- fragments by number
 
@@ -69,20 +67,28 @@ module _ (st : State) (s : StripeNo) where
   unfolding homes_if
   stripe-none is = none-by (has_stripe st s) is
 
+any-told : (value : Fragment → ℕ) → list_any (λ f. nat_lt 0 (get_or (map value (fragments Wide)) f.value 0)) (fragments Wide) ≡ list_any (nat_lt 0) (map value (fragments Wide))
+any-told value = refl
+
 module _ (past : List Entry) (kept : List ℕ) (s : StripeNo) (granted : List ℕ) (is : granted ≡ map (λ f. granted_in kept s f) (fragments Wide)) (counted : AreGrantsOf past kept) where
-  same-granted : granted ≡ granted_of past s
+  same-granted : granted ≡ (row_of_grants past s).granted
   same-granted = is ∙ (λ i. map (λ f. counted s f i) (fragments Wide))
 
   abbrev grant_with : List ℕ → GrantRow
   grant_with counts = record { stripe = s; granted = counts }
 
+  -- the row tells something exactly where a count is not 0
+  tells : tells_grants (row_of_grants past s) ≡ list_any (nat_lt 0) granted
+  tells = any-told (grants past s) ∙ ap (list_any (nat_lt 0)) (sym same-granted)
+
+  abbrev told_by : Bool → Option GrantRow
+  told_by b = if b then Some (row_of_grants past s) else None
+
   pub grant-some : list_any (nat_lt 0) granted ≡ true → Some (grant_with granted) ≡ grant_row past s
-  grant-some hit =
-      ap (λ (counts : List ℕ). Some (grant_with counts)) same-granted
-      ∙ sym (ap (λ b. if b then Some (grant_with (granted_of past s)) else None) (ap (list_any (nat_lt 0)) (sym same-granted) ∙ hit))
+  grant-some hit = ap (λ (counts : List ℕ). Some (grant_with counts)) same-granted ∙ sym (ap told_by (tells ∙ hit))
 
   pub grant-none : list_any (nat_lt 0) granted ≡ false → None ≡ grant_row past s
-  grant-none miss = sym (ap (λ b. if b then Some (grant_with (granted_of past s)) else None) (ap (list_any (nat_lt 0)) (sym same-granted) ∙ miss))
+  grant-none miss = sym (ap told_by (tells ∙ miss))
 
 -- a clause of a result that is no error
 pub if-ok : {T E : Type 0} {P Q : T → Type 0} (r : Result T E) → ((t : T) → P t → Q t) → IfOk r P → IfOk r Q

@@ -1,34 +1,29 @@
 -- Worlds and legal histories, as entries are added.
-use Rattle.std.proofs.Common.{[], ◌≡◌, ℕ, ◌<◌, List, ◌∷◌, ◌++◌, length, fold, Option, sym, ap, subst, ◌∙◌, length-append, append_assoc, arith}
-use Rattle.std.proofs.lemmas.List.Sums.{fold-append, count_by-le-length}
+use Rattle.std.proofs.Common.{[], ◌≡◌, ℕ, ◌<◌, List, ◌∷◌, ◌++◌, length, Option, sym, ap, subst, ◌∙◌, length-append, append_assoc, arith}
+use Rattle.std.proofs.lemmas.List.Sums.{count_by-le-length}
 use Rattle.lrc_code.specs.declared.numbers.StripeNo.{StripeNo}
 use Rattle.lrc_topology.specs.declared.NodeInfo.{NodeInfo}
 use Rattle.lrc_rules.specs.declared.entry.Entry.{Entry}
 use Rattle.lrc_rules.specs.States.{State}
-use Rattle.lrc_rules.specs.Histories.{World, outcome_in, next_world, world_from, state_from, IsLegalFrom}
+use Rattle.lrc_rules.specs.Histories.{World, outcome_in, world_from, state_from, IsLegalFrom}
 use Rattle.lrc_store.specs.Repairing.{IsRepairCursor}
-use Rattle.lrc_book.specs.Kept.{IsBase, IsKept}
+use Rattle.lrc_images.specs.Bases.{IsBase}
+use Rattle.lrc_book.specs.Kept.{IsKept}
 use Rattle.lrc_store.specs.declared.store.Store.{Store}
 use Rattle.lrc_store.specs.Stores.{IsOf, AreGrantsOf}
 use Rattle.lrc_rules.specs.Changes.{changed_by}
 use Rattle.lrc_rules.proofs.StepLemmas.{step-changed}
 use Rattle.lrc_rules.specs.Leases.{is_tick}
 use Rattle.lrc_rules.proofs.ClockLemmas.{worlds-clock}
-
-pub world_push : (nodes : List NodeInfo) (base : World) (h : List Entry) (e : Entry) → world_from nodes base (h ++ e ∷ []) ≡ next_world nodes (world_from nodes base h) e
-world_push nodes base h e = fold-append (next_world nodes) base h (e ∷ [])
-
-pub legal_append : (nodes : List NodeInfo) (w : World) (xs ys : List Entry) → IsLegalFrom nodes w xs → IsLegalFrom nodes (fold (next_world nodes) w xs) ys → IsLegalFrom nodes w (xs ++ ys)
-legal_append nodes w [] ys a b = b
-legal_append nodes w (x ∷ xs) ys a b = (a.0, legal_append nodes (next_world nodes w x) xs ys a.1 b)
+use Rattle.lrc_rules.proofs.AlikeWorldLemmas.{world_from-append, legal-append}
 
 pub legal_push : (nodes : List NodeInfo) (base : World) (h : List Entry) (e : Entry) → IsLegalFrom nodes base h → (outcome_in nodes (world_from nodes base h) e.session e.command).0 ≡ e.reply → IsLegalFrom nodes base (h ++ e ∷ [])
-legal_push nodes base h e legal is = legal_append nodes base h (e ∷ []) legal (is, tt)
+legal_push nodes base h e legal is = (legal-append nodes base h (e ∷ [])).1 (legal, (is, tt))
 
 -- the state after one more entry is what its command changed
 pub state_push : (nodes : List NodeInfo) (base : World) (h : List Entry) (e : Entry) → (outcome_in nodes (world_from nodes base h) e.session e.command).0 ≡ e.reply → state_from nodes base (h ++ e ∷ []) ≡ changed_by (state_from nodes base h) e.command e.reply
 state_push nodes base h e is =
-    ap (λ (w : World). w.state) (world_push nodes base h e) ∙ step-changed nodes (world_from nodes base h).past (state_from nodes base h) e.session e.command ∙ ap (changed_by (state_from nodes base h) e.command) is
+    ap (λ (w : World). w.state) (world_from-append nodes base h (e ∷ [])) ∙ step-changed nodes (world_from nodes base h).past (state_from nodes base h) e.session e.command ∙ ap (changed_by (state_from nodes base h) e.command) is
 
 -- a step that is made and recorded keeps what is kept
 pub kept_push : (k next : Store) (counts counts_next : List ℕ) (cursor cursor_next : Option StripeNo) (limit : ℕ) (base : World) (h : List Entry) (e : Entry)
@@ -65,4 +60,4 @@ kept_room k next counts cursor limit base h same_h kept entries same rest =
 pub clock-early : (store : Store) (counts : List ℕ) (cursor : Option StripeNo) (limit : ℕ) (base : World) (h : List Entry) → IsKept store counts cursor limit base h
     → length h < limit → store.clock.value < 4294967292
 clock-early store counts cursor limit base h kept room =
-    omega (arith, kept.store_is.clock_is, worlds-clock store.topology base h, kept.based.clock, count_by-le-length (λ (e : Entry). is_tick e.command) h, room, kept.limited)
+    omega (arith, kept.store_is.clock_is, worlds-clock store.topology base h, kept.based.ticks, count_by-le-length (λ (e : Entry). is_tick e.command) h, room, kept.limited)

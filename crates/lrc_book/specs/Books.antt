@@ -1,5 +1,5 @@
 -- What contracts see of a book.
-use Rattle.std.specs.Prelude.{◌≡◌, ℕ, ◌+◌, ◌<◌, ◌≤◌, ◌⊎◌, ◌++◌, Bool, List, length, Option, Some, None}
+use Rattle.std.specs.Prelude.{◌≡◌, ℕ, ◌+◌, ◌<◌, ◌⊎◌, ◌++◌, Bool, List, length, Option, Some, None}
 use Rattle.std.specs.Global.{Box}
 use Rattle.lrc_code.specs.declared.fault.Fault.{Fault}
 use Rattle.lrc_code.specs.declared.numbers.StripeNo.{StripeNo}
@@ -12,6 +12,7 @@ use Rattle.lrc_rules.specs.Leases.{grants}
 use Rattle.lrc_rules.specs.Histories.{World, first_world, outcome_in, world_from, state_from}
 use Rattle.lrc_images.specs.declared.image.Image.{Image}
 use Rattle.lrc_images.specs.Images.{image_world}
+use Rattle.lrc_images.specs.Causes.{most_grants, most_ticks, most_entries}
 
 -- a book over these nodes that began in the world `base`, with at most `limit` entries since; `before`: the number of
 -- entries of the store before `base`; `ready`: it has room for one more command of any kind
@@ -58,6 +59,6 @@ IsStep b e = (outcome_in b.nodes (world_of b) e.session e.command).0 ≡ e.reply
 -- could come to the end of its numbers
 abbrev pub IsSpent : BookView → Type 0
 IsSpent b =
-    ((s : StripeNo) × (f : Fragment) × (4293967295 ≤ grants (b.base.past ++ b.history) s f))
-    ⊎ (4293967292 ≤ (state_of b).clock)
-    ⊎ (18446744073709551616 ≤ b.before + length b.history)
+    ((s : StripeNo) × (f : Fragment) × (most_grants < grants (b.base.past ++ b.history) s f))
+    ⊎ (most_ticks < (state_of b).clock)
+    ⊎ (most_entries < b.before + length b.history)

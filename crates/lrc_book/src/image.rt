@@ -1,6 +1,6 @@
 //! The image of a book, and a book that forgets its history into one.
 
-ghost use Rattle.std.specs.Prelude.{◌≡◌, ◌+◌, ◌<◌, ◌≤◌, ◌↔◌, ◌++◌, [], true, nat_lt, length, List, map, IsTrue, IsFalse, IsNone, IfOk, IfErr, IfSome, OnOk, OnErr, IsErrOf};
+ghost use Rattle.std.specs.Prelude.{◌≡◌, ◌+◌, ◌<◌, ◌≤◌, ◌↔◌, ◌++◌, [], true, nat_lt, length, List, map, None, IsTrue, IsFalse, IsNone, IfOk, IfErr, IfSome, OnOk, OnErr, IsErrOf};
 ghost use Rattle.std.specs.List.{list_any};
 ghost use Rattle.lrc_code.specs.declared.fault.Fault.TheVariants as fault;
 ghost use Rattle.lrc_code.specs.declared.codes.Code.TheVariants.{Wide};
@@ -10,9 +10,11 @@ ghost use Rattle.lrc_code.specs.Codes.{fragments};
 ghost use Rattle.lrc_leases.specs.Granted.{granted_in};
 ghost use Rattle.lrc_rules.specs.declared.entry.Entry.{Entry};
 ghost use Rattle.lrc_rules.specs.States.{State};
-ghost use Rattle.lrc_rules.specs.Leases.{grants};
 ghost use Rattle.lrc_rules.specs.Alike.{AreAlike};
+ghost use Rattle.lrc_rules.specs.Futures.{HaveSameGrants};
 ghost use Rattle.lrc_images.specs.Images.{image_world, image_state};
+ghost use Rattle.lrc_images.specs.Rising.{AreRising};
+ghost use Rattle.lrc_images.specs.Causes.{most_grants, most_entries, first_cause};
 ghost use Rattle.lrc_images.specs.Rows.{node_row, node_rows, stripe_row, stripe_rows, grant_row, grant_rows, stripe_leases, lease_rows, IsImageOf};
 ghost use Rattle.lrc_book.specs.Books.{state_of, IsSpent};
 ghost use Rattle.lrc_store.specs.Stores.{IsOf, AreGrantsOf};
@@ -30,11 +32,14 @@ const STRIPE_NUMBERS: u16 = STRIPES as u16;
 /// The number of node numbers.
 const NODE_NUMBERS: u32 = 65_536;
 
-/// A book can begin with counts of grants below this: a history has at most 1,000,000 entries.
-const GRANT_BOUND: u32 = 4_293_967_295;
+/// The most grants of a fragment with which a book can begin: a history has at most 1,000,000 entries.
+const MOST_GRANTS: u32 = 4_293_967_294;
 
-/// A book can begin with a clock below this.
-const CLOCK_BOUND: u32 = 4_293_967_292;
+/// The most ticks with which a book can begin.
+const MOST_TICKS: u32 = 4_293_967_291;
+
+/// The most entries after which a book can begin.
+const MOST_ENTRIES: u64 = 9_223_372_036_854_775_808;
 
 impl Book {
     /// The image of the state, in which a book can begin.
@@ -45,8 +50,10 @@ impl Book {
     /// it; else only `Fault::OutOfMemory`.
     pub fn image(&self, alloc: Global) -> Result<Image, Fault>
         ensures rows { IfOk result (λ i. IsImageOf self.now.nodes (self.now.base.past ++ self.now.history) (state_of self.now) (self.now.before + length self.now.history) i) }
+        ensures rising { IfOk result AreRising }
+        ensures taken { IfOk result (λ i. first_cause self.now.nodes i ≡ None) }
         ensures alike { IfOk result (λ i. AreAlike (state_of self.now) (image_state i)) }
-        ensures counts { IfOk result (λ i. (s : StripeNo) (f : Fragment) → grants (image_world i).past s f ≡ grants (self.now.base.past ++ self.now.history) s f) }
+        ensures counts { IfOk result (λ i. HaveSameGrants (self.now.base.past ++ self.now.history) (image_world i).past) }
         ensures full { IsErrOf result fault.HistoryFull ↔ IsSpent self.now }
     {
         let Some(before) = self.entries_so_far() else {
@@ -66,7 +73,7 @@ impl Book {
         ensures ready { self.old.ready ≡ true → self.new.ready ≡ true }
         ensures history { OnOk result (self.new.history ≡ []) }
         ensures alike { OnOk result (AreAlike (state_of self.old) (state_of self.new)) }
-        ensures counts { OnOk result ((s : StripeNo) (f : Fragment) → grants self.new.base.past s f ≡ grants (self.old.base.past ++ self.old.history) s f) }
+        ensures counts { OnOk result (HaveSameGrants (self.old.base.past ++ self.old.history) self.new.base.past) }
         ensures before { OnOk result (self.new.before ≡ self.old.before + length self.old.history) }
         ensures full { IsErrOf result fault.HistoryFull ↔ IsSpent self.old }
         ensures err { OnErr result ((self.new.history ≡ self.old.history) × (self.new.base ≡ self.old.base) × (self.new.before ≡ self.old.before)) }
@@ -85,20 +92,32 @@ impl Book {
         ensures value { IfSome result (λ n. n ≡ self.now.before + length self.now.history) }
         ensures spent { IsNone result ↔ IsSpent self.now }
     {
-        if self.store.clock.get() >= CLOCK_BOUND {
+        if self.store.clock.get() > MOST_TICKS {
             return None;
         }
         if !are_low(&self.grants) {
             return None;
         }
-        self.before().checked_add(self.history.len() as u64)
+        entries_after(self.before(), self.history.len() as u64)
     }
+}
+
+/// The number of entries after some more; `None` where no book can begin after so many.
+fn entries_after(before: u64, more: u64) -> Option<u64>
+    ensures value { IfSome result (λ n. n ≡ before + more) }
+    ensures many { IsNone result ↔ (most_entries < before + more) }
+{
+    let entries = before.saturating_add(more);
+    if entries > MOST_ENTRIES {
+        return None;
+    }
+    Some(entries)
 }
 
 /// Whether a book can begin with these counts of grants.
 fn are_low(grants: &Grants) -> bool
-    ensures all { IsTrue result → (s : StripeNo) (f : Fragment) → granted_in grants.now s f < 4293967295 }
-    ensures some { IsFalse result → (s : StripeNo) × (f : Fragment) × (4293967295 ≤ granted_in grants.now s f) }
+    ensures all { IsTrue result → (s : StripeNo) (f : Fragment) → granted_in grants.now s f ≤ most_grants }
+    ensures some { IsFalse result → (s : StripeNo) × (f : Fragment) × (most_grants < granted_in grants.now s f) }
 {
     for number in 0..STRIPE_NUMBERS {
         let stripe = StripeNo::new(number).unwrap();
@@ -111,11 +130,11 @@ fn are_low(grants: &Grants) -> bool
 
 /// Whether a book can begin with the counts of a stripe number.
 fn are_low_of(grants: &Grants, stripe: StripeNo) -> bool
-    ensures all { IsTrue result → (f : Fragment) → granted_in grants.now stripe f < 4293967295 }
-    ensures some { IsFalse result → (f : Fragment) × (4293967295 ≤ granted_in grants.now stripe f) }
+    ensures all { IsTrue result → (f : Fragment) → granted_in grants.now stripe f ≤ most_grants }
+    ensures some { IsFalse result → (f : Fragment) × (most_grants < granted_in grants.now stripe f) }
 {
     for fragment in Fragment::all() {
-        if grants.count(stripe, fragment) >= GRANT_BOUND {
+        if grants.count(stripe, fragment) > MOST_GRANTS {
             return false;
         }
     }

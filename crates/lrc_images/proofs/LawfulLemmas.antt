@@ -1,6 +1,6 @@
 -- What it says of an image that no row is wrong, row by row.
 use Rattle.std.proofs.Common.{[], ◌≡◌, ◌≢◌, ◌+◌, ◌<◌, ◌≤◌, ℕ, Bool, true, false, not, ◌&&◌, nat_lt, nat_le, nat_eq, List, length, get_or, Option, Some, None, option_map, IfSome, IsSome, IsTrue, is_none, refl, sym, ap, ◌∙◌, subst, arith}
-use Rattle.std.specs.List.{All, AllPairs, list_any}
+use Rattle.std.specs.List.{All, list_any}
 use Rattle.std.specs.Option.{option_map_or}
 use Rattle.std.proofs.lemmas.Bool.{ltb-true, ltb-false, leb-true, eqb-false, and_parts, and_from}
 use Rattle.std.proofs.lemmas.List.Elements.{All-contains}
@@ -29,6 +29,7 @@ use Rattle.lrc_images.specs.Rising.{node_first, stripe_first, grant_first, lease
 use Rattle.lrc_images.specs.Causes.{most_grants, most_ticks, most_entries, first_answer, at_place, is_out_of_order, head_cause, node_cause, homes_cause, stripe_cause, grant_cause, seat_cause, with_leases, lease_cause, first_cause}
 use Rattle.lrc_images.proofs.EarlierLemmas.{wide-fragment, grants-earlier, few-counted}
 use Rattle.lrc_images.proofs.AnswerLemmas.{if-none, or-none, map-none, none-or, none-map, IsClear, none-clear, clear-none, clear-all, clear-pairs, place-clear, clear-place, comes-after}
+use Rattle.lrc_images.proofs.RowLemmas.{pairs-none}
 use Rattle.lrc_images.proofs.RisingLemmas.{node-row, number-row, one-node}
 
 -- no row of the image is wrong
@@ -181,20 +182,17 @@ module _ (nodes : List NodeInfo) (i : Image) (lawful : IsLawful nodes i) where
   pub lawful-ticks : i.clock ≤ most_ticks
   lawful-ticks = (head_is nodes i lawful.head).ticks
 
-  no-pairs : {X : Type 0} (R : X → X → Type 0) → AllPairs R []
-  no-pairs R = λ i j d below within. absurd (omega arith)
-
   pub lawful-rising : AreRising i
   lawful-rising = record {
     nodes = clear-pairs (node_cause nodes) (λ a b. node_first a b ≡ true) (λ before r e. (node-row_is nodes before r e).after) [] i.nodes.items
-        (no-pairs (λ a b. node_first a b ≡ true)) lawful.node_rows;
+        (pairs-none (λ a b. node_first a b ≡ true)) lawful.node_rows;
     stripes = clear-pairs (stripe_cause nodes i) (λ a b. stripe_first a b ≡ true)
         (λ before r e. comes-after stripe_first before r (if-none (is_out_of_order stripe_first before r) cause.OutOfOrder (homes_cause nodes i before r) e).0)
-        [] i.stripes.items (no-pairs (λ a b. stripe_first a b ≡ true)) lawful.stripe_rows;
+        [] i.stripes.items (pairs-none (λ a b. stripe_first a b ≡ true)) lawful.stripe_rows;
     grants = clear-pairs grant_cause (λ a b. grant_first a b ≡ true) (λ before r e. (grant-row_is before r e).after) [] i.grants.items
-        (no-pairs (λ a b. grant_first a b ≡ true)) lawful.grant_rows;
+        (pairs-none (λ a b. grant_first a b ≡ true)) lawful.grant_rows;
     leases = clear-pairs (lease_cause nodes i) (λ a b. lease_first a b ≡ true) (λ before r e. (lease-row nodes i before r e).after) [] i.leases.items
-        (no-pairs (λ a b. lease_first a b ≡ true)) lawful.lease_rows;
+        (pairs-none (λ a b. lease_first a b ≡ true)) lawful.lease_rows;
     telling_nodes = clear-all (node_cause nodes) (λ r. tells_node r ≡ true) (λ before r e. (node-row_is nodes before r e).tells) [] i.nodes.items lawful.node_rows;
     telling_grants = clear-all grant_cause (λ r. tells_grants r ≡ true) (λ before r e. (grant-row_is before r e).tells) [] i.grants.items lawful.grant_rows;
   }

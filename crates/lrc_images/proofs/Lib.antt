@@ -1,3 +1,4 @@
+pub mod RowLemmas
 pub mod EarlierLemmas
 pub mod AnswerLemmas
 pub mod SeatCauseLemmas
@@ -7,9 +8,5 @@ pub mod SeatedRowsLemmas
 pub mod TakenLemmas
 pub mod ImageLemmas
 pub mod SameRowsLemmas
-pub mod RowLemmas
-pub mod SameLemmas
-pub mod RowGrantLemmas
-pub mod AlikeLemmas
+pub mod StateRowLemmas
 pub mod AlikeRowLemmas
-pub mod DistinctLemmas

@@ -1,6 +1,6 @@
 -- Images whose rows rise: no stripe is there twice, and each fragment has at most one home and one lease.
 use Rattle.std.proofs.Common.{[], ◌≡◌, ◌≢◌, inl, inr, Bool, true, false, if◌then◌else◌, nat_lt, List, ◌∷◌, map, filter, flat_map, get_or, Option, Some, None, refl, sym, ap, ◌∙◌, subst, arith}
-use Rattle.std.specs.List.{All, AllPairs, Contains, list_any}
+use Rattle.std.specs.List.{AllPairs, Contains, list_any}
 use Rattle.std.proofs.lemmas.Bool.{cases_Bool, eqb-true, eq-eqb, ltb-true, or_cases, and_parts, false_from_ne_true}
 use Rattle.std.proofs.lemmas.List.Elements.{All-contains}
 use Rattle.lrc_code.specs.declared.codes.Code.{Code}
@@ -21,9 +21,8 @@ use Rattle.lrc_terms.specs.declared.mode.Mode.TheVariants.{Active, Draining, Gon
 use Rattle.lrc_rules.specs.States.{State, code_of, has_number}
 use Rattle.lrc_terms.specs.Modes.{is_gone, is_draining}
 use Rattle.lrc_rules.specs.Alike.{AreDistinct}
-use Rattle.lrc_rules.proofs.MemberLemmas.{All-members, AllPairs-head, AllPairs-tail, Contains-cases, not-Contains-nil, filter-member, member-filter, list_any-member, member-list_any, map-member}
+use Rattle.lrc_rules.proofs.MemberLemmas.{AllPairs-head, AllPairs-tail, Contains-cases, not-Contains-nil, filter-member, member-filter, list_any-member, member-list_any, map-member}
 use Rattle.lrc_rules.proofs.TakenLemmas.{member-map}
-use Rattle.lrc_rules.proofs.PairLemmas.{pairs-join}
 use Rattle.lrc_rules.proofs.SeatingLists.{pairs-map}
 use Rattle.lrc_rules.proofs.SeatingLemmas.{fragments-distinct}
 use Rattle.lrc_rules.proofs.AlikeListLemmas.{flat-member}
@@ -33,6 +32,7 @@ use Rattle.lrc_images.specs.declared.image.LeaseRow.{LeaseRow}
 use Rattle.lrc_images.specs.declared.image.Image.{Image}
 use Rattle.lrc_images.specs.Images.{is_narrow, home_list, row_homes, row_lease, nodes_where, image_state, image_world}
 use Rattle.lrc_images.specs.Rising.{node_first, stripe_first, lease_first, IsRising, AreRising}
+use Rattle.lrc_images.proofs.RowLemmas.{pairs-none, pairs-flat}
 
 -- ---- rising lists
 
@@ -52,15 +52,6 @@ module _ {X : Type 0} (first : X → X → Bool) where
           | inr both ↦ rising-one xs (AllPairs-tail (λ a b. first a b ≡ true) x xs rising) a b more both ahead behind
         ]
       ]
-
--- pairs of lists that are appended
-pairs-flat : {X Y : Type 0} (R : Y → Y → Type 0) (S : X → X → Type 0) (f : X → List Y) → ((x : X) → AllPairs R (f x))
-    → ((x z : X) (y u : Y) → S x z → Contains (f x) y → Contains (f z) u → R y u) → (xs : List X) → AllPairs S xs → AllPairs R (flat_map f xs)
-pairs-flat R S f own across [] pairs = λ i j d below within. absurd (omega arith)
-pairs-flat R S f own across (x ∷ xs) pairs =
-    pairs-join R (f x) (flat_map f xs) (own x) (pairs-flat R S f own across xs (AllPairs-tail S x xs pairs))
-    (All-members (λ y. All (R y) (flat_map f xs)) (f x) (λ y here. All-members (R y) (flat_map f xs) (λ u there.
-    let m = flat-member f xs u there in across x m.0 y u (All-contains (S x) xs m.0 (AllPairs-head S x xs pairs) m.1) here m.2)))
 
 pairs-weaker : {X : Type 0} (R S : X → X → Type 0) → ((x y : X) → R x y → S x y) → (xs : List X) → AllPairs R xs → AllPairs S xs
 pairs-weaker R S so xs pairs = λ i j d below within. so (get_or xs i d) (get_or xs j d) (pairs i j d below within)
@@ -113,15 +104,17 @@ stripes-distinct rows rising =
 abbrev pub AreOneHome : Held → Held → Type 0
 AreOneHome h g = h.stripe ≡ g.stripe → h.fragment ≢ g.fragment
 
-pub home-own : (s : StripeNo) (f : Fragment) (o : Option Seat) (h : Held) → Contains (home_list s f o) h → (h.stripe ≡ s) × (h.fragment ≡ f)
+-- what a list with the home of a fragment says of a home in it
+pub home-own : (s : StripeNo) (f : Fragment) (o : Option Seat) (h : Held) → Contains (home_list s f o) h
+    → (h.stripe ≡ s) × (h.fragment ≡ f) × (o ≡ Some h.seat)
 home-own s f None h here = absurd (not-Contains-nil h here)
 home-own s f (Some seat) h here = elim (Contains-cases (record { stripe = s; fragment = f; seat = seat }) h [] here) [
-  | inl same ↦ (ap (λ (g : Held). g.stripe) (sym same), ap (λ (g : Held). g.fragment) (sym same))
+  | inl same ↦ (ap (λ (g : Held). g.stripe) (sym same), ap (λ (g : Held). g.fragment) (sym same), ap (λ (g : Held). Some g.seat) same)
   | inr more ↦ absurd (not-Contains-nil h more)
 ]
 
 home-single : (R : Held → Held → Type 0) (s : StripeNo) (f : Fragment) (o : Option Seat) → AllPairs R (home_list s f o)
-home-single R s f None = λ i j d below within. absurd (omega arith)
+home-single R s f None = pairs-none R
 home-single R s f (Some seat) = λ i j d below within. absurd (omega (arith, below, within))
 
 module _ (r : StripeRow) where

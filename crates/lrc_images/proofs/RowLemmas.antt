@@ -1,16 +1,17 @@
 -- Rows of numbers in ascending order.
-use Rattle.std.proofs.Common.{[], ◌≡◌, ◌≢◌, ℕ, ◌+◌, ◌<◌, ◌≤◌, inl, inr, Bool, true, false, if◌then◌else◌, List, ◌∷◌, ◌++◌, length, get_or, map, flat_map, Option, Some, None, refl, sym, ap, subst, ◌∙◌, append-nil, zero-add, arith}
+use Rattle.std.proofs.Common.{[], ◌≡◌, ℕ, ◌+◌, ◌<◌, ◌≤◌, inl, inr, Bool, true, false, if◌then◌else◌, List, ◌∷◌, ◌++◌, get_or, map, flat_map, Option, Some, None, refl, sym, ap, subst, ◌∙◌, append-nil, zero-add, arith}
 use Rattle.std.specs.Prelude.{option_to_list}
 use Rattle.std.specs.List.{All, AllPairs, Contains, range_with_len}
-use Rattle.std.proofs.lemmas.List.Elements.{All-nil, Contains-append_left, Contains-append_right, Contains-append_cases}
+use Rattle.std.proofs.lemmas.List.Elements.{All-contains}
 use Rattle.std.proofs.lemmas.List.Concat.{flat_map-append}
 use Rattle.std.proofs.lemmas.List.FromFn.{length-map-range_with_len, get_or-map-range_with_len, map-range_with_len_more}
 use Rattle.std.proofs.Math.Nat.{mod-eq_of_lt}
 use Rattle.lrc_code.specs.declared.numbers.StripeNo.{StripeNo}
 use Rattle.lrc_code.proofs.NumbersLemmas.{equal_stripes}
 use Rattle.lrc_terms.specs.Stripes.{stripe_at}
-use Rattle.lrc_rules.proofs.MemberLemmas.{Contains-here, Contains-later, not-Contains-nil, Contains-cases, All-members, AllPairs-head, AllPairs-tail}
+use Rattle.lrc_rules.proofs.MemberLemmas.{Contains-here, not-Contains-nil, Contains-cases, All-members, AllPairs-head, AllPairs-tail}
 use Rattle.lrc_rules.proofs.PairLemmas.{pairs-join}
+use Rattle.lrc_rules.proofs.AlikeListLemmas.{flat-member, member-flat}
 use Rattle.lrc_images.specs.Rows.{rows_below}
 
 -- ---- members
@@ -30,37 +31,19 @@ pub some-if : {X : Type 0} (b : Bool) (row x : X) → (if b then Some row else N
 some-if true row x is = (refl, (let same : Some row ≡ Some x = is in cc))
 some-if false row x is = absurd (let never : ◌≡◌ {A = Option _} None (Some x) = is in cc)
 
-module _ {X Y : Type 0} (f : X → List Y) where
-  pub flat_map-member : (xs : List X) (y : Y) → Contains (flat_map f xs) y → (x : X) × Contains xs x × Contains (f x) y
-  flat_map-member [] y here = absurd (not-Contains-nil y here)
-  flat_map-member (x ∷ xs) y here = elim (Contains-append_cases (f x) (flat_map f xs) y here) [
-    | inl first ↦ (x, Contains-here x xs, first)
-    | inr later ↦ let m = flat_map-member xs y later in (m.0, Contains-later x m.0 xs m.1, m.2)
-  ]
-
-  pub member-flat_map : (xs : List X) (x : X) (y : Y) → Contains xs x → Contains (f x) y → Contains (flat_map f xs) y
-  member-flat_map [] x y here within = absurd (not-Contains-nil x here)
-  member-flat_map (z ∷ zs) x y here within = elim (Contains-cases z x zs here) [
-    | inl same ↦ Contains-append_left (f z) (flat_map f zs) y (subst (λ w. Contains (f w) y) (sym same) within)
-    | inr later ↦ Contains-append_right (f z) (flat_map f zs) y (member-flat_map zs x y later within)
-  ]
-
-  -- pairs of the joined lists
-  pub pairs-flat_map : (R : Y → Y → Type 0) (S : X → X → Type 0) → ((x : X) → AllPairs R (f x))
-      → ((x z : X) (y w : Y) → S x z → Contains (f x) y → Contains (f z) w → R y w)
-      → (xs : List X) → AllPairs S xs → AllPairs R (flat_map f xs)
-  pairs-flat_map R S own across [] pairs = λ i j d below within. absurd (omega arith)
-  pairs-flat_map R S own across (x ∷ xs) pairs =
-      pairs-join R (f x) (flat_map f xs) (own x) (pairs-flat_map R S own across xs (AllPairs-tail S x xs pairs))
-      (All-members (λ y. All (R y) (flat_map f xs)) (f x) (λ y here. All-members (R y) (flat_map f xs) (λ w there.
-      let m = flat_map-member xs w there in
-      across x m.0 y w (All-at S x xs pairs m.0 m.1) here m.2)))
-    where
-      All-at : (S : X → X → Type 0) (x : X) (xs : List X) → AllPairs S (x ∷ xs) → (z : X) → Contains xs z → S x z
-      All-at S x xs pairs z there = subst (S x) there.2 (AllPairs-head S x xs pairs there.0 z there.1)
+-- ---- pairs
 
 pub pairs-none : {X : Type 0} (R : X → X → Type 0) → AllPairs R []
 pairs-none R = λ i j d below within. absurd (omega arith)
+
+-- pairs of lists that are appended
+pub pairs-flat : {X Y : Type 0} (R : Y → Y → Type 0) (S : X → X → Type 0) (f : X → List Y) → ((x : X) → AllPairs R (f x))
+    → ((x z : X) (y u : Y) → S x z → Contains (f x) y → Contains (f z) u → R y u) → (xs : List X) → AllPairs S xs → AllPairs R (flat_map f xs)
+pairs-flat R S f own across [] pairs = pairs-none R
+pairs-flat R S f own across (x ∷ xs) pairs =
+    pairs-join R (f x) (flat_map f xs) (own x) (pairs-flat R S f own across xs (AllPairs-tail S x xs pairs))
+    (All-members (λ y. All (R y) (flat_map f xs)) (f x) (λ y here. All-members (R y) (flat_map f xs) (λ u there.
+    let m = flat-member f xs u there in across x m.0 y u (All-contains (S x) xs m.0 (AllPairs-head S x xs pairs) m.1) here m.2)))
 
 pub pairs-option : {X : Type 0} (R : X → X → Type 0) (o : Option X) → AllPairs R (option_to_list o)
 pairs-option R None = pairs-none R
@@ -83,23 +66,46 @@ module _ {X Y : Type 0} (at : ℕ → Y) (rows : Y → List X) where
   pub member-rows : (count k : ℕ) (y : Y) (x : X) → k < count → at k ≡ y → Contains (rows y) x → Contains (rows_below at rows count) x
   unfolding rows_below
   member-rows count k y x below is here =
-      member-flat_map rows (map at (range_with_len 0 count)) (at k) x
+      member-flat rows (map at (range_with_len 0 count)) (at k) x
       (k, omega (arith, below, length-map-range_with_len at 0 count), get_or-map-range_with_len at 0 count k k (at k) below (zero-add k))
       (subst (λ z. Contains (rows z) x) (sym is) here)
 
   pub rows-member : (count : ℕ) (x : X) → Contains (rows_below at rows count) x → (y : Y) × Contains (rows y) x
   unfolding rows_below
-  rows-member count x here = let m = flat_map-member rows (map at (range_with_len 0 count)) x here in (m.0, m.2)
+  rows-member count x here = let m = flat-member rows (map at (range_with_len 0 count)) x here in (m.0, m.2)
 
   pub pairs-rows : (R : X → X → Type 0) (S : Y → Y → Type 0) (count : ℕ) → ((i j : ℕ) → i < j → j < count → S (at i) (at j)) → ((y : Y) → AllPairs R (rows y))
       → ((y z : Y) (x w : X) → S y z → Contains (rows y) x → Contains (rows z) w → R x w) → AllPairs R (rows_below at rows count)
   unfolding rows_below
   pairs-rows R S count rising own across =
-      pairs-flat_map rows R S own across (map at (range_with_len 0 count)) (λ i j d below within.
+      pairs-flat R S rows own across (map at (range_with_len 0 count)) (λ i j d below within.
       let long = length-map-range_with_len at 0 count in
       let last : j < count = omega (arith, within, long) in
       subst (λ y. S y (get_or (map at (range_with_len 0 count)) j d)) (sym (get_or-map-range_with_len at 0 count i i d (omega (arith, below, last)) (zero-add i)))
       (subst (S (at i)) (sym (get_or-map-range_with_len at 0 count j j d last (zero-add j))) (rising i j below last)))
+
+-- rows of which each is that of one number, if this number passes a test
+module _ {X Y : Type 0} (at : ℕ → Y) (of : Y → X) (test : Y → Bool) (count : ℕ) where
+  abbrev own_row : Y → Option X
+  own_row y = if test y then Some (of y) else None
+
+  pub row-there : (k : ℕ) (y : Y) → k < count → at k ≡ y → test y ≡ true → Contains (rows_below at (λ y. option_to_list (own_row y)) count) (of y)
+  row-there k y below is hit =
+      member-rows at (λ y. option_to_list (own_row y)) count k y (of y) below is
+      (listed-some (own_row y) (of y) (ap (λ b. if b then Some (of y) else None) hit))
+
+  pub there-row : (x : X) → Contains (rows_below at (λ y. option_to_list (own_row y)) count) x → (y : Y) × (test y ≡ true) × (of y ≡ x)
+  there-row x here =
+      let m = rows-member at (λ y. option_to_list (own_row y)) count x here in
+      let own = some-if (test m.0) (of m.0) x (some-listed (own_row m.0) x m.1) in (m.0, own.0, own.1)
+
+  pub pairs-single : (R : X → X → Type 0) (S : Y → Y → Type 0) → ((i j : ℕ) → i < j → j < count → S (at i) (at j)) → ((y z : Y) → S y z → R (of y) (of z))
+      → AllPairs R (rows_below at (λ y. option_to_list (own_row y)) count)
+  pairs-single R S rising related =
+      pairs-rows at (λ y. option_to_list (own_row y)) R S count rising (λ y. pairs-option R (own_row y)) (λ y z x w apart here there.
+      let first = some-if (test y) (of y) x (some-listed (own_row y) x here) in
+      let second = some-if (test z) (of z) w (some-listed (own_row z) w there) in
+      subst (R x) second.1 (subst (λ v. R v (of z)) first.1 (related y z apart)))
 
 -- one more row, if there is one
 module _ {X Y : Type 0} (at : ℕ → Y) (row : Y → Option X) (n : ℕ) (y : Y) (items : List X) (is : at n ≡ y)
@@ -117,26 +123,13 @@ module _ {X Y : Type 0} (at : ℕ → Y) (row : Y → Option X) (n : ℕ) (y : Y
 
 -- ---- stripe numbers
 
-pub at-number : (k : ℕ) → k < 4096 → (stripe_at k).value ≡ k
+at-number : (k : ℕ) → k < 4096 → (stripe_at k).value ≡ k
 at-number k below = mod-eq_of_lt below
 
 pub own-number : (s : StripeNo) → stripe_at s.value ≡ s
 own-number s = equal_stripes (stripe_at s.value) s (mod-eq_of_lt s.in_range)
 
-pub stripes-listed : (count : ℕ) (s : StripeNo) → s.value < count → Contains (map stripe_at (range_with_len 0 count)) s
-stripes-listed count s below =
-    subst (Contains (map stripe_at (range_with_len 0 count))) (own-number s)
-    (s.value, omega (arith, below, length-map-range_with_len stripe_at 0 count), get_or-map-range_with_len stripe_at 0 count s.value s.value (stripe_at s.value) below (zero-add s.value))
-
 pub stripes-rise : (count : ℕ) → count ≤ 4096 → (i j : ℕ) → i < j → j < count → (stripe_at i).value < (stripe_at j).value
 stripes-rise count few i j below within =
     let first = at-number i (omega (arith, below, within, few)) in
     let second = at-number j (omega (arith, within, few)) in omega (arith, first, second, below)
-
-pub stripes-distinct : (count : ℕ) → count ≤ 4096 → AllPairs (λ s t. s ≢ t) (map stripe_at (range_with_len 0 count))
-stripes-distinct count few i j d below within same =
-    let long = length-map-range_with_len stripe_at 0 count in
-    let first = get_or-map-range_with_len stripe_at 0 count i i d (omega (arith, below, within, long)) (zero-add i) in
-    let second = get_or-map-range_with_len stripe_at 0 count j j d (omega (arith, within, long)) (zero-add j) in
-    let rise = stripes-rise count few i j below (omega (arith, within, long)) in
-    let value = ap (λ (s : StripeNo). s.value) (sym first ∙ same ∙ second) in absurd (omega (arith, rise, value))

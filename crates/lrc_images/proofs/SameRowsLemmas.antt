@@ -12,7 +12,6 @@ use Rattle.lrc_code.specs.Numbers.{same_stripe}
 use Rattle.lrc_code.specs.Codes.{fragments, fragment}
 use Rattle.lrc_code.proofs.NumbersLemmas.{equal_stripes}
 use Rattle.lrc_topology.specs.declared.seat.Seat.{Seat}
-use Rattle.lrc_topology.specs.declared.seat.Held.{Held}
 use Rattle.lrc_terms.specs.Levels.{Homes, homes_of}
 use Rattle.lrc_terms.specs.declared.lease.Lease.{Lease}
 use Rattle.lrc_terms.proofs.ListLemmas.{same_rising}
@@ -24,7 +23,7 @@ use Rattle.lrc_terms.specs.Modes.{is_gone, is_draining}
 use Rattle.lrc_rules.specs.Leases.{grants}
 use Rattle.lrc_rules.specs.Alike.{HaveSame, AreAlike}
 use Rattle.lrc_rules.specs.Futures.{HaveSameGrants}
-use Rattle.lrc_rules.proofs.MemberLemmas.{Contains-here, Contains-cases, not-Contains-nil, map-member, member-list_any, All-list_any}
+use Rattle.lrc_rules.proofs.MemberLemmas.{Contains-here, map-member, member-list_any, All-list_any}
 use Rattle.lrc_rules.proofs.TakenLemmas.{member-map}
 use Rattle.lrc_rules.proofs.StateLemmas.{held_on, found-home, home-found}
 use Rattle.lrc_rules.proofs.AlikeListLemmas.{into, back, flat-member, member-flat}
@@ -85,13 +84,6 @@ one-stripe rows rising a b here there same =
     (λ ahead. let less = ltb-true a.stripe.value b.stripe.value ahead in omega (arith, number, less))
     (λ behind. let less = ltb-true b.stripe.value a.stripe.value behind in omega (arith, number, less))
 
-listed-seat : (s : StripeNo) (f : Fragment) (o : Option Seat) (h : Held) → Contains (home_list s f o) h → o ≡ Some h.seat
-listed-seat s f None h here = absurd (not-Contains-nil h here)
-listed-seat s f (Some seat) h here = elim (Contains-cases (record { stripe = s; fragment = f; seat = seat }) h [] here) [
-  | inl same ↦ ap (λ (g : Held). Some g.seat) same
-  | inr more ↦ absurd (not-Contains-nil h more)
-]
-
 -- the home that is found for a fragment is that of its row
 row-home : (rows : List StripeRow) → IsRising stripe_first rows → (r : StripeRow) → Contains rows r → (f : Fragment)
     → homes_of (homes_in rows) r.stripe f.value ≡ get_or r.homes f.value None
@@ -103,8 +95,8 @@ row-home rows rising r here f = same_answers (homes_of (homes_in rows) r.stripe 
         let m = flat-member row_homes rows h (found-home (homes_in rows) r.stripe f seat is) in
         let same = one-stripe rows rising m.0 r m.1 here (sym (row-stripe m.0 h m.2)) in
         let k = flat-member (homes_at r) (fragments Wide) h (subst (λ (r : StripeRow). Contains (row_homes r) h) same m.2) in
-        let own = (home-own r.stripe k.0 (get_or r.homes k.0.value None) h k.2).1 in
-        ap (λ (g : Fragment). get_or r.homes g.value None) own ∙ listed-seat r.stripe k.0 (get_or r.homes k.0.value None) h k.2
+        let own = home-own r.stripe k.0 (get_or r.homes k.0.value None) h k.2 in
+        ap (λ (g : Fragment). get_or r.homes g.value None) own.1 ∙ own.2
 
     home : (seat : Seat) → get_or r.homes f.value None ≡ Some seat → homes_of (homes_in rows) r.stripe f.value ≡ Some seat
     home seat is =

@@ -1,5 +1,5 @@
 -- The world that an image stands for: the grants before it, and its state.
-use Rattle.std.specs.Prelude.{ℕ, Bool, true, false, List, [], ◌∷◌, map, filter, flat_map, replicate, get_or, Option, Some, None}
+use Rattle.std.specs.Prelude.{Bool, true, false, List, [], ◌∷◌, map, filter, flat_map, replicate, get_or, Option, Some, None}
 use Rattle.std.proofs.Common.{lit≤}
 use Rattle.lrc_code.specs.declared.codes.Code.{Code}
 use Rattle.lrc_code.specs.declared.codes.Code.TheVariants.{Wide, Narrow}

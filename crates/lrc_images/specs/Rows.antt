@@ -1,25 +1,24 @@
 -- The rows of the image of a state, in rising order.
-use Rattle.std.specs.Prelude.{◌≡◌, ◌<◌, ℕ, Bool, not, ◌&&◌, if◌then◌else◌, nat_lt, List, map, flat_map, Option, Some, None, is_some, option_map, option_to_list, IsTrue, AllPairs}
-use Rattle.std.specs.List.{list_any, range_with_len}
+use Rattle.std.specs.Prelude.{◌≡◌, ℕ, ◌&&◌, if◌then◌else◌, List, map, flat_map, Option, Some, None, is_some, option_map, option_to_list}
+use Rattle.std.specs.List.{range_with_len}
 use Rattle.lrc_code.specs.declared.numbers.StripeNo.{StripeNo}
 use Rattle.lrc_code.specs.declared.numbers.NodeNo.{NodeNo}
-use Rattle.lrc_code.specs.declared.numbers.Fragment.{Fragment}
 use Rattle.lrc_code.specs.declared.codes.Code.TheVariants.{Wide}
 use Rattle.lrc_code.specs.Codes.{fragments}
 use Rattle.lrc_topology.specs.declared.NodeInfo.{NodeInfo}
 use Rattle.lrc_topology.specs.Nodes.{node_at}
 use Rattle.lrc_terms.specs.Levels.{homes_of}
-use Rattle.lrc_terms.specs.Stripes.{stripe_at, comes_before}
+use Rattle.lrc_terms.specs.Stripes.{stripe_at}
 use Rattle.lrc_terms.specs.declared.lease.Lease.{Lease}
 use Rattle.lrc_rules.specs.declared.entry.Entry.{Entry}
 use Rattle.lrc_rules.specs.States.{State, has_stripe, code_of, lease_of, mode_of, is_down}
-use Rattle.lrc_terms.specs.Modes.{is_active}
 use Rattle.lrc_rules.specs.Leases.{grants}
 use Rattle.lrc_images.specs.declared.image.NodeRow.{NodeRow}
 use Rattle.lrc_images.specs.declared.image.StripeRow.{StripeRow}
 use Rattle.lrc_images.specs.declared.image.GrantRow.{GrantRow}
 use Rattle.lrc_images.specs.declared.image.LeaseRow.{LeaseRow}
 use Rattle.lrc_images.specs.declared.image.Image.{Image}
+use Rattle.lrc_images.specs.Rising.{tells_node, tells_grants}
 
 -- the rows for each of the first `count` numbers, in ascending order
 unfoldable pub rows_below : {X Y : Type 0} → (ℕ → Y) → (Y → List X) → ℕ → List X
@@ -31,14 +30,13 @@ rows_below at rows count = flat_map rows (map at (range_with_len 0 count))
 abbrev pub node_no : ℕ → NodeNo
 node_no k = record { value = k }
 
--- the node is active and not down
-abbrev pub is_active_and_up : State → NodeNo → Bool
-is_active_and_up st n = is_active (mode_of st n) && not (is_down st n)
+-- a node with its mode, and whether it is down
+abbrev pub row_of_node : State → NodeNo → NodeRow
+row_of_node st n = record { node = n; mode = mode_of st n; is_down = is_down st n }
 
 -- the row of a node; none if the node is active and not down, or not in the store
 abbrev pub node_row : List NodeInfo → State → NodeNo → Option NodeRow
-node_row nodes st n =
-    if is_some (node_at nodes n) && not (is_active_and_up st n) then Some (record { node = n; mode = mode_of st n; is_down = is_down st n }) else None
+node_row nodes st n = if is_some (node_at nodes n) && tells_node (row_of_node st n) then Some (row_of_node st n) else None
 
 -- the rows of the nodes
 abbrev pub node_rows : List NodeInfo → State → List NodeRow
@@ -46,10 +44,13 @@ node_rows nodes st = rows_below node_no (λ n. option_to_list (node_row nodes st
 
 -- ---- stripes
 
+-- a stripe with its code and homes
+abbrev pub row_of_stripe : State → StripeNo → StripeRow
+row_of_stripe st s = record { stripe = s; code = code_of st s; homes = map (λ f. homes_of st.homes s f.value) (fragments Wide) }
+
 -- the row of a stripe; none if the store has no such stripe
 abbrev pub stripe_row : State → StripeNo → Option StripeRow
-stripe_row st s =
-    if has_stripe st s then Some (record { stripe = s; code = code_of st s; homes = map (λ f. homes_of st.homes s f.value) (fragments Wide) }) else None
+stripe_row st s = if has_stripe st s then Some (row_of_stripe st s) else None
 
 -- the rows of the stripes
 abbrev pub stripe_rows : State → List StripeRow
@@ -57,13 +58,13 @@ stripe_rows st = rows_below stripe_at (λ s. option_to_list (stripe_row st s)) 4
 
 -- ---- grants
 
--- the number of leases granted for each fragment of a stripe number
-abbrev pub granted_of : List Entry → StripeNo → List ℕ
-granted_of past s = map (λ f. grants past s f) (fragments Wide)
+-- a stripe number with the number of leases granted for each fragment
+abbrev pub row_of_grants : List Entry → StripeNo → GrantRow
+row_of_grants past s = record { stripe = s; granted = map (λ f. grants past s f) (fragments Wide) }
 
 -- the row of a stripe number; none if no lease was granted for it
 abbrev pub grant_row : List Entry → StripeNo → Option GrantRow
-grant_row past s = if list_any (nat_lt 0) (granted_of past s) then Some (record { stripe = s; granted = granted_of past s }) else None
+grant_row past s = if tells_grants (row_of_grants past s) then Some (row_of_grants past s) else None
 
 -- the rows of the grants
 abbrev pub grant_rows : List Entry → List GrantRow

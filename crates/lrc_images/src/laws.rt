@@ -1,7 +1,7 @@
 //! Laws of images: what rising rows say, and which images are worlds that a book can begin in.
 
 ghost use Rattle.std.specs.Prelude.{◌≡◌, ◌≢◌, ◌≤◌, IsTrue, IsFalse, AllPairs, Contains};
-ghost use Rattle.std.specs.Prelude.{List, get_or, None};
+ghost use Rattle.std.specs.Prelude.{ℕ, List, get_or, None};
 ghost use Rattle.lrc_code.specs.declared.numbers.StripeNo.{StripeNo};
 ghost use Rattle.lrc_code.specs.declared.numbers.NodeNo.{NodeNo};
 ghost use Rattle.lrc_code.specs.declared.numbers.Fragment.{Fragment};
@@ -11,6 +11,8 @@ ghost use Rattle.lrc_terms.specs.Leased.{AreOneEach};
 ghost use Rattle.lrc_rules.specs.States.{has_number};
 ghost use Rattle.lrc_rules.specs.Leases.{grants};
 ghost use Rattle.lrc_rules.specs.Histories.{World};
+ghost use Rattle.lrc_rules.specs.Goodness.{IsGood};
+ghost use Rattle.lrc_rules.specs.Tidiness.{IsTidy};
 ghost use Rattle.lrc_rules.specs.Alike.{AreAlike, AreDistinct};
 ghost use Rattle.lrc_rules.specs.Futures.{HaveSameGrants};
 ghost use Rattle.lrc_images.specs.declared.image.GrantRow.{GrantRow};
@@ -19,6 +21,7 @@ ghost use Rattle.lrc_images.specs.Images.{image_state, image_world};
 ghost use Rattle.lrc_images.specs.Rising.{grant_first, IsRising, AreRising, HaveAllFragments};
 ghost use Rattle.lrc_images.specs.Causes.{most_entries, first_cause};
 ghost use Rattle.lrc_images.specs.Bases.{IsBase};
+ghost use Rattle.lrc_images.specs.Rows.{IsImageOf};
 
 /// If the rows of an image rise, no list of its state has an element twice, each fragment has at
 /// most one home and one lease, and no node is both gone and draining.
@@ -92,4 +95,17 @@ pub fn images_of_bases_are_bases()
         → IsBase nodes w → AreRising i
         → AreAlike w.state (image_state i) → HaveSameGrants w.past (image_world i).past
         → i.before ≤ most_entries → first_cause nodes i ≡ None }
+{}
+
+/// The image of a state, row by row, has rows that rise. As many leases of each fragment were
+/// granted before it. If the state is good and tidy, the state of the image is alike.
+pub fn images_are_alike()
+    ensures rising { (nodes : List NodeInfo) (w : World) (before : ℕ) (i : Image)
+        → IsImageOf nodes w.past w.state before i → AreRising i }
+    ensures grants { (nodes : List NodeInfo) (w : World) (before : ℕ) (i : Image)
+        → IsImageOf nodes w.past w.state before i
+        → HaveSameGrants w.past (image_world i).past }
+    ensures alike { (nodes : List NodeInfo) (w : World) (before : ℕ) (i : Image)
+        → AreNodes nodes → IsGood nodes w.past w.state → IsTidy nodes w.state
+        → IsImageOf nodes w.past w.state before i → AreAlike w.state (image_state i) }
 {}

@@ -37,7 +37,7 @@ use Rattle.lrc_rules.proofs.AlikeReadLemmas.{alike-code, alike-mode, alike-onlin
 module _ (nodes : List NodeInfo) (w v : State) (alike : AreAlike w v) (seated : AreSeated nodes w) (seated' : AreSeated nodes v) where
   -- ---- seats
 
-  same-taken : is_taken (taken_seats w) ≡ is_taken (taken_seats v)
+  pub same-taken : is_taken (taken_seats w) ≡ is_taken (taken_seats v)
   same-taken =
       let same = alike-taken w v alike in
       taken-same (taken_seats w) (taken_seats v) (into (taken_seats w) (taken_seats v) same) (back (taken_seats w) (taken_seats v) same)

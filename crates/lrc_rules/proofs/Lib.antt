@@ -37,7 +37,6 @@ pub mod PlacedHomesLemmas
 pub mod StayingLemmas
 pub mod NodeWordsLemmas
 pub mod JoinedLemmas
-pub mod KnownNodesLemmas
 pub mod OnlineLemmas
 pub mod OtherModesLemmas
 pub mod FailedLemmas

@@ -1,7 +1,6 @@
-use Rattle.std.proofs.Common.{List, Option, Some, sym, ap, ◌∙◌}
+use Rattle.std.proofs.Common.{Some, sym, ap, ◌∙◌}
 use Rattle.lrc_code.specs.declared.codes.Code.{Code}
 use Rattle.lrc_stripes.specs.Stored.{Stored, homes_shown}
-use Rattle.lrc_images.specs.declared.image.StripeRow.{StripeRow}
 use Rattle.lrc_book.proofs.ImagedLemmas.{row_with, stripe-some, stripe-none}
 use Rattle.lrc_book.proofs.image.stripe_row_of.Goals as goal
 

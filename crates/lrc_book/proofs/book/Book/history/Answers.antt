@@ -1,4 +1,4 @@
-use Rattle.std.proofs.Common.{◌≡◌, ◌++◌, subst, sym, ◌∙◌, ap}
+use Rattle.std.proofs.Common.{◌≡◌, ◌++◌, subst}
 use Rattle.lrc_rules.specs.Goodness.{IsGood}
 use Rattle.lrc_rules.specs.Histories.{World, first_world, IsLegalFrom}
 use Rattle.lrc_rules.specs.Served.{IsServed}
