@@ -45,7 +45,7 @@ body_read text rest left before clock i head body =
 
 -- ---- the last line
 
-section_low : (line : Line) → section line ≤ 8
+pub section_low : (line : Line) → section line ≤ 8
 section_low Version = omega arith
 section_low (Before n) = omega arith
 section_low (Clock n) = omega arith

@@ -9,3 +9,4 @@ pub mod ReachLemmas
 pub mod EndLemmas
 pub mod SameLemmas
 pub mod OnceLemmas
+pub mod ImageLemmas

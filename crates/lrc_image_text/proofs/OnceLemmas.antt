@@ -196,10 +196,10 @@ same_lines from (l ∷ ls) (k ∷ ms) a b n m goes goes' can can' stop stop' is 
 
 -- ---- bad lines
 
-some_same : (m n : ℕ) → Some m ≡ Some n → m ≡ n
+pub some_same : (m n : ℕ) → Some m ≡ Some n → m ≡ n
 some_same m n is = cc
 
-stopped : (text : List ℕ) (n : ℕ) (bad : IsBadLine text n) → IsStopped (Some 0) bad.before bad.left
+pub stopped : (text : List ℕ) (n : ℕ) (bad : IsBadLine text n) → IsStopped (Some 0) bad.before bad.left
 stopped text n bad first line rest to may can is =
     let same : bad.first ≡ first = some_same bad.first first (sym bad.may_begin ∙ to) in
     bad.bad line rest can (subst (λ f. may_come f line ≡ true) (sym same) may) is

@@ -82,7 +82,7 @@ module _ {X : Type 0} (mk : X → Line) (end : ℕ) (of : (x : X) → section (m
   after_row first row many low =
       ap (λ b. if b then Some (next_section (mk row)) else None) (may_come-later first (mk row) many (omega (arith, of row, low))) ∙ ap (λ n. Some n) (next row)
 
-  after_rows : (first : ℕ) (row : X) (rows : List X) → 3 ≤ first → first ≤ end → after_lines (Some first) (map mk (row ∷ rows)) ≡ Some end
+  pub after_rows : (first : ℕ) (row : X) (rows : List X) → 3 ≤ first → first ≤ end → after_lines (Some first) (map mk (row ∷ rows)) ≡ Some end
   after_rows first row [] many low = after_row first row many low
   after_rows first row (r ∷ rs) many low =
       ap (λ o. after_lines o (map mk (r ∷ rs))) (after_row first row many low) ∙ after_rows end r rs (omega (arith, many, low)) (omega arith)
