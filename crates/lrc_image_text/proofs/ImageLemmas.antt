@@ -64,7 +64,7 @@ whole_stopped i first line rest to may can is =
 pub no_bad : (i : Image) (n : ℕ) → IsWritten i → IsBadLine (image_text i) n → ⊥
 no_bad i n written bad =
     let parts = same_lines 0 (image_lines i) bad.before [] bad.left 9 bad.first (whole_placed i) bad.may_begin written bad.readable (whole_stopped i) (stopped (image_text i) n bad)
-        (append-nil (image_text i) ∙ bad.text_is) in
+    (append-nil (image_text i) ∙ bad.text_is) in
     let last = some_same bad.first 9 (sym bad.may_begin ∙ ap (after_lines (Some 0)) (sym parts.0) ∙ whole_placed i) in
     bad.more last (sym parts.1)
 

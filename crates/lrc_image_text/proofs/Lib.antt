@@ -10,3 +10,7 @@ pub mod EndLemmas
 pub mod SameLemmas
 pub mod OnceLemmas
 pub mod ImageLemmas
+pub mod DecideLemmas
+pub mod DecideLineLemmas
+pub mod TotalLemmas
+mod Rows

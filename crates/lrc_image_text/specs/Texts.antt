@@ -96,3 +96,10 @@ pub record HaveSameRows (i j : Image) : Type 0 where
   pub stripes : i.stripes.items ≡ j.stripes.items
   pub grants : i.grants.items ≡ j.grants.items
   pub leases : i.leases.items ≡ j.leases.items
+
+-- the text consists of lines that can be read, and they are all that an image has
+pub record IsImageText (text : List ℕ) : Type 0 where
+  pub lines : List Line
+  pub readable : All IsReadable lines
+  pub whole : after_lines (Some 0) lines ≡ Some 9
+  pub text_is : text ≡ lines_text lines

@@ -1,8 +1,8 @@
 //! Laws of the definitions. Each is the contract of a function that does nothing.
 
-ghost use Rattle.std.specs.Prelude.{◌≡◌, ℕ, List};
+ghost use Rattle.std.specs.Prelude.{◌≡◌, ℕ, ◌⊎◌, List};
 ghost use Rattle.lrc_images.specs.declared.image.Image.{Image};
-ghost use Rattle.lrc_image_text.specs.Texts.{image_text, IsWritten, IsBadLine, HaveSameRows};
+ghost use Rattle.lrc_image_text.specs.Texts.{image_text, IsWritten, IsImageText, IsBadLine, HaveSameRows};
 
 /// A text stands for one image: two images that can be read have the same rows if they have the same text.
 pub fn one_image()
@@ -13,4 +13,9 @@ pub fn one_image()
 pub fn one_bad_line()
     ensures one { (text : List ℕ) (m n : ℕ) → IsBadLine text m → IsBadLine text n → m ≡ n }
     ensures none { (i : Image) (n : ℕ) → IsWritten i → IsBadLine (image_text i) n → ⊥ }
+{}
+
+/// Each text consists of the lines of an image or has a bad line.
+pub fn every_text()
+    ensures { (text : List ℕ) → IsImageText text ⊎ ((n : ℕ) × IsBadLine text n) }
 {}
