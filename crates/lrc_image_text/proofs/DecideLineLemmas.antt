@@ -1,5 +1,5 @@
 -- Whether a text starts with a line that can be read.
-use Rattle.std.proofs.Common.{◌≡◌, ◌≢◌, ℕ, ◌+◌, ◌-◌, ◌^◌, ◌<◌, ◌≤◌, ◌⊎◌, inl, inr, Bool, true, false, Option, Some, None, List, [], ◌∷◌, ◌++◌, length, map, take, drop, codes, decimal, lit<, lit≤, refl, sym, ap, subst, ◌∙◌, append_assoc, length-append, length-drop, arith}
+use Rattle.std.proofs.Common.{◌≡◌, ◌≢◌, ℕ, ◌+◌, ◌^◌, ◌<◌, ◌≤◌, ◌⊎◌, inl, inr, Bool, true, false, Option, Some, None, List, [], ◌∷◌, ◌++◌, length, map, take, drop, codes, decimal, refl, sym, ap, subst, ◌∙◌, length-append, length-drop, arith}
 use Rattle.std.specs.List.{All}
 use Rattle.std.specs.Char.{is_ascii_digit}
 use Rattle.std.proofs.Math.Seq.{drop-append_seam}
@@ -20,7 +20,7 @@ use Rattle.lrc_image_text.specs.Fronts.{end_byte, words_on, line_on, HasLine, Ha
 use Rattle.lrc_image_text.proofs.WordLemmas.{same_number, same_seat, seat_on, end_other, no_home-or_seat}
 use Rattle.lrc_image_text.proofs.RowLemmas.{behind_number, behind_words, words_space, some_words, coded, stripe_on, no_standing, standing_space, no_stripe}
 use Rattle.lrc_image_text.proofs.SameLemmas.{one_count, one_home}
-use Rattle.lrc_image_text.proofs.DecideLemmas.{decide_word, HasNumber, HasNoNumber, decide_number, decide_behind, HasWord, HasNoWord, HasWords, HasNoWords, decide_words}
+use Rattle.lrc_image_text.proofs.DecideLemmas.{decide_word, HasNumber, decide_number, decide_behind, HasWord, HasNoWord, HasWords, HasNoWords, decide_words}
 
 -- ---- words
 

@@ -1,6 +1,5 @@
 -- The lines of an image are all that its text has.
-use Rattle.std.proofs.Common.{◌≡◌, ◌≢◌, ℕ, ◌+◌, ◌<◌, ◌≤◌, true, if◌then◌else◌, Option, Some, None, List, [], ◌∷◌, ◌++◌, length, map, refl, sym, ap, ◌∙◌, append-nil, arith}
-use Rattle.std.specs.List.{All}
+use Rattle.std.proofs.Common.{◌≡◌, ℕ, ◌≤◌, if◌then◌else◌, Option, Some, None, List, [], ◌∷◌, ◌++◌, map, refl, sym, ap, ◌∙◌, append-nil, arith}
 use Rattle.std.proofs.lemmas.List.Sums.{fold-append}
 use Rattle.lrc_code.specs.declared.numbers.UpgradeNo.{UpgradeNo}
 use Rattle.lrc_images.specs.declared.image.Image.{Image}
@@ -8,8 +7,8 @@ use Rattle.lrc_images.specs.declared.image.NodeRow.{NodeRow}
 use Rattle.lrc_images.specs.declared.image.StripeRow.{StripeRow}
 use Rattle.lrc_images.specs.declared.image.GrantRow.{GrantRow}
 use Rattle.lrc_images.specs.declared.image.LeaseRow.{LeaseRow}
-use Rattle.lrc_image_text.specs.Lines.{Line, Version, Before, Clock, Upgrading, Node, Stripe, Grants, Lease, End, lines_text, IsReadable}
-use Rattle.lrc_image_text.specs.Texts.{section, next_section, may_come, after_line, after_lines, upgrading_lines, begun_lines, image_lines, image_text, IsWritten, IsBadLine, HaveSameRows}
+use Rattle.lrc_image_text.specs.Lines.{Line, Version, Before, Clock, Upgrading, Node, Stripe, Grants, Lease, End}
+use Rattle.lrc_image_text.specs.Texts.{section, next_section, after_line, after_lines, upgrading_lines, begun_lines, image_lines, image_text, IsWritten, IsBadLine, HaveSameRows}
 use Rattle.lrc_image_text.proofs.ReachLemmas.{may_come-later, later-may_come, after_rows, node_of, stripe_of, grants_of, lease_of}
 use Rattle.lrc_image_text.proofs.EndLemmas.{section_low}
 use Rattle.lrc_image_text.proofs.OnceLemmas.{IsStopped, some_same, stopped, same_lines}

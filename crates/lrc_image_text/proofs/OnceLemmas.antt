@@ -13,8 +13,8 @@ use Rattle.lrc_images.specs.declared.image.NodeRow.{NodeRow}
 use Rattle.lrc_images.specs.declared.image.StripeRow.{StripeRow}
 use Rattle.lrc_images.specs.declared.image.GrantRow.{GrantRow}
 use Rattle.lrc_images.specs.declared.image.LeaseRow.{LeaseRow}
-use Rattle.lrc_image_text.specs.Lines.{Line, Version, Before, Clock, Upgrading, Node, Stripe, Grants, Lease, End, home_word, seat_word, code_word, standing_words, line_text, lines_text, IsReadable, IsStripe}
-use Rattle.lrc_image_text.specs.Texts.{section, next_section, may_come, after_line, after_lines, IsBadLine}
+use Rattle.lrc_image_text.specs.Lines.{Line, Version, Before, Clock, Upgrading, Node, Stripe, Grants, Lease, End, home_word, code_word, line_text, lines_text, IsReadable, IsStripe}
+use Rattle.lrc_image_text.specs.Texts.{section, next_section, may_come, after_lines, IsBadLine}
 use Rattle.lrc_image_text.specs.Fronts.{words_on, line_on}
 use Rattle.lrc_image_text.proofs.WordLemmas.{same_number, same_seat}
 use Rattle.lrc_image_text.proofs.RowLemmas.{words_space, some_words, coded, stripe_on, standing_space}

@@ -1,16 +1,13 @@
 -- A line that is in front of a text is the only one.
-use Rattle.std.proofs.Common.{◌≡◌, ◌≢◌, ℕ, suc, ◌+◌, ◌^◌, ◌<◌, ◌≤◌, Bool, true, false, nat_eq, if◌then◌else◌, Option, Some, None, List, [], ◌∷◌, ◌++◌, length, map, get_or, take, drop, codes, decimal, refl, sym, ap, subst, ◌∙◌, append_assoc, length-take, length-drop, arith}
+use Rattle.std.proofs.Common.{◌≡◌, ℕ, ◌<◌, Bool, true, false, nat_eq, if◌then◌else◌, Option, None, List, [], ◌∷◌, ◌++◌, length, map, get_or, take, drop, decimal, refl, sym, ap, ◌∙◌, length-take, length-drop, arith}
 use Rattle.std.specs.List.{All}
-use Rattle.std.proofs.lemmas.List.{append_cancel_left, take-append-drop}
+use Rattle.std.proofs.lemmas.List.{take-append-drop}
 use Rattle.std.proofs.lemmas.List.Elements.{All-head, All-tail, All-take}
-use Rattle.lrc_code.specs.declared.codes.Code.{Code}
-use Rattle.lrc_code.specs.declared.codes.Code.TheVariants.{Wide, Narrow}
-use Rattle.lrc_code.specs.Codes.{fragment_count}
 use Rattle.lrc_topology.specs.declared.seat.Seat.{Seat}
 use Rattle.lrc_rules.specs.declared.mode.Mode.{Mode}
 use Rattle.lrc_rules.specs.declared.mode.Mode.TheVariants.{Active, Draining, Gone}
-use Rattle.lrc_image_text.specs.Lines.{home_word, code_word, standing_words, IsHome}
-use Rattle.lrc_image_text.specs.Fronts.{end_byte, spaced_on, words_on, HasLine}
+use Rattle.lrc_image_text.specs.Lines.{home_word, standing_words, IsHome}
+use Rattle.lrc_image_text.specs.Fronts.{end_byte, words_on, HasLine}
 use Rattle.lrc_image_text.proofs.WordLemmas.{same_number, same_home, end_other}
 use Rattle.lrc_image_text.proofs.SpacedLemmas.{ends}
 
