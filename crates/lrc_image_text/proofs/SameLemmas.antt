@@ -4,17 +4,10 @@ use Rattle.std.specs.List.{All}
 use Rattle.std.proofs.lemmas.List.{take-append-drop}
 use Rattle.std.proofs.lemmas.List.Elements.{All-head, All-tail, All-take}
 use Rattle.lrc_topology.specs.declared.seat.Seat.{Seat}
-<<<<<<< HEAD
-use Rattle.lrc_terms.specs.declared.mode.Mode.{Mode}
-use Rattle.lrc_terms.specs.declared.mode.Mode.TheVariants.{Active, Draining, Gone}
-use Rattle.lrc_image_text.specs.Lines.{home_word, code_word, standing_words, IsHome}
-use Rattle.lrc_image_text.specs.Fronts.{end_byte, spaced_on, words_on, HasLine}
-=======
 use Rattle.lrc_terms.specs.declared.mode.Mode.{Mode}
 use Rattle.lrc_terms.specs.declared.mode.Mode.TheVariants.{Active, Draining, Gone}
 use Rattle.lrc_image_text.specs.Lines.{home_word, standing_words, IsHome}
 use Rattle.lrc_image_text.specs.Fronts.{end_byte, words_on, HasLine}
->>>>>>> imagetext
 use Rattle.lrc_image_text.proofs.WordLemmas.{same_number, same_home, end_other}
 use Rattle.lrc_image_text.proofs.SpacedLemmas.{ends}
 

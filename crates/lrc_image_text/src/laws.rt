@@ -4,7 +4,8 @@ ghost use Rattle.std.specs.Prelude.{◌≡◌, ℕ, ◌⊎◌, List};
 ghost use Rattle.lrc_images.specs.declared.image.Image.{Image};
 ghost use Rattle.lrc_image_text.specs.Texts.{image_text, IsWritten, IsImageText, IsBadLine, HaveSameRows};
 
-/// A text stands for one image: two images that can be read have the same rows if they have the same text.
+/// A text stands for one image: two images that can be read have the same rows if they have the
+/// same text.
 pub fn one_image()
     ensures { (i j : Image) → IsWritten i → IsWritten j → image_text i ≡ image_text j → HaveSameRows i j }
 {}
