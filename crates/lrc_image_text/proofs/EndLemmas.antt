@@ -1,12 +1,11 @@
 -- The end of an image's text.
-use Rattle.std.proofs.Common.{◌≡◌, ◌≢◌, ℕ, ◌+◌, ◌<◌, ◌≤◌, inl, inr, true, if◌then◌else◌, Some, None, List, [], ◌∷◌, ◌++◌, length, map, codes, refl, sym, ap, subst, ◌∙◌, append-nil, append_assoc, length-append, arith}
-use Rattle.std.specs.List.{All}
+use Rattle.std.proofs.Common.{◌≡◌, ◌≢◌, ℕ, ◌+◌, ◌≤◌, inl, inr, if◌then◌else◌, Some, None, List, [], ◌∷◌, ◌++◌, length, map, codes, refl, sym, ap, subst, ◌∙◌, append-nil, append_assoc, length-append, arith}
 use Rattle.std.proofs.lemmas.Bool.{cases_lt}
 use Rattle.std.proofs.lemmas.List.Sums.{fold-append}
 use Rattle.std.proofs.lemmas.List.Elements.{All-nil, All-cons, All-push}
 use Rattle.lrc_images.specs.declared.image.Image.{Image}
 use Rattle.lrc_image_text.specs.Lines.{Line, Version, Before, Clock, Upgrading, Node, Stripe, Grants, Lease, End, lines_text, IsReadable}
-use Rattle.lrc_image_text.specs.Texts.{section, may_come, after_line, after_lines, upgrading_lines, begun_lines, image_text, IsWritten, IsBadLine}
+use Rattle.lrc_image_text.specs.Texts.{section, after_line, after_lines, upgrading_lines, begun_lines, image_text, IsWritten, IsBadLine}
 use Rattle.lrc_image_text.specs.Fronts.{line_on, IsHead, IsBody}
 use Rattle.lrc_image_text.proofs.TextLemmas.{head_lines}
 use Rattle.lrc_image_text.proofs.LineLemmas.{lines_on, bad_line}
@@ -45,7 +44,7 @@ body_read text rest left before clock i head body =
 
 -- ---- the last line
 
-section_low : (line : Line) → section line ≤ 8
+pub section_low : (line : Line) → section line ≤ 8
 section_low Version = omega arith
 section_low (Before n) = omega arith
 section_low (Clock n) = omega arith

@@ -9,3 +9,8 @@ pub mod ReachLemmas
 pub mod EndLemmas
 pub mod SameLemmas
 pub mod OnceLemmas
+pub mod ImageLemmas
+pub mod DecideLemmas
+pub mod DecideLineLemmas
+pub mod TotalLemmas
+mod Rows

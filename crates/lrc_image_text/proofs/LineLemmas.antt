@@ -1,12 +1,12 @@
 -- Lines of a text, one behind the other.
-use Rattle.std.proofs.Common.{◌≡◌, ◌≢◌, ℕ, ◌+◌, ◌<◌, ◌≤◌, true, false, Some, List, [], ◌∷◌, ◌++◌, length, map, codes, refl, sym, ap, ◌∙◌, append-nil, append_assoc, length-append, arith}
+use Rattle.std.proofs.Common.{◌≡◌, ◌≢◌, ℕ, ◌+◌, ◌<◌, ◌≤◌, true, Some, List, [], ◌∷◌, ◌++◌, length, map, codes, refl, sym, ap, ◌∙◌, append-nil, append_assoc, length-append, arith}
 use Rattle.std.specs.Borrow.{Bor}
 use Rattle.std.specs.List.{All}
 use Rattle.std.proofs.lemmas.List.{map-append}
-use Rattle.std.proofs.lemmas.List.Elements.{All-nil, All-cons, All-push}
+use Rattle.std.proofs.lemmas.List.Elements.{All-nil, All-push}
 use Rattle.lrc_image_text.specs.Lines.{Line, spaced, first_word, other_words, line_text, lines_text, IsReadable}
 use Rattle.lrc_image_text.specs.Texts.{may_come, after_lines, IsBadLine}
-use Rattle.lrc_image_text.specs.Fronts.{spaced_on, words_on, line_on, HasNone, IsRowRead}
+use Rattle.lrc_image_text.specs.Fronts.{words_on, line_on, IsRowRead}
 use Rattle.lrc_image_text.proofs.TextLemmas.{lines_text-append}
 
 words_text : (ws : List (List ℕ)) (rest : List ℕ) → (spaced ws ++ codes "\n") ++ rest ≡ words_on ws rest

@@ -13,8 +13,8 @@ use Rattle.lrc_images.specs.declared.image.NodeRow.{NodeRow}
 use Rattle.lrc_images.specs.declared.image.StripeRow.{StripeRow}
 use Rattle.lrc_images.specs.declared.image.GrantRow.{GrantRow}
 use Rattle.lrc_images.specs.declared.image.LeaseRow.{LeaseRow}
-use Rattle.lrc_image_text.specs.Lines.{Line, Version, Before, Clock, Upgrading, Node, Stripe, Grants, Lease, End, home_word, seat_word, code_word, standing_words, line_text, lines_text, IsReadable, IsStripe}
-use Rattle.lrc_image_text.specs.Texts.{section, next_section, may_come, after_line, after_lines, IsBadLine}
+use Rattle.lrc_image_text.specs.Lines.{Line, Version, Before, Clock, Upgrading, Node, Stripe, Grants, Lease, End, home_word, code_word, line_text, lines_text, IsReadable, IsStripe}
+use Rattle.lrc_image_text.specs.Texts.{section, next_section, may_come, after_lines, IsBadLine}
 use Rattle.lrc_image_text.specs.Fronts.{words_on, line_on}
 use Rattle.lrc_image_text.proofs.WordLemmas.{same_number, same_seat}
 use Rattle.lrc_image_text.proofs.RowLemmas.{words_space, some_words, coded, stripe_on, standing_space}
@@ -43,7 +43,7 @@ equal_sessions a b e =
 same_front : (word : List ℕ) (n m : ℕ) (after after' tail tail' : List ℕ) → n < 2 ^ 64 → m < 2 ^ 64 → after ≡ 32 ∷ tail → after' ≡ 32 ∷ tail' → word ++ (decimal n ++ after) ≡ word ++ (decimal m ++ after') → (n ≡ m) × (after ≡ after')
 same_front word n m after after' tail tail' low low' starts starts' is =
     let parts = same_number n m 32 tail tail' low low' refl
-        (ap (λ t. decimal n ++ t) (sym starts) ∙ append_cancel_left word (decimal n ++ after) (decimal m ++ after') is ∙ ap (λ t. decimal m ++ t) starts') in
+    (ap (λ t. decimal n ++ t) (sym starts) ∙ append_cancel_left word (decimal n ++ after) (decimal m ++ after') is ∙ ap (λ t. decimal m ++ t) starts') in
     (parts.0, starts ∙ ap (λ t. 32 ∷ t) parts.1 ∙ sym starts')
 
 -- a number alone
@@ -86,7 +86,7 @@ same_stripe_lines r q a b can can' is =
     let low = r.stripe.in_range in
     let low' = q.stripe.in_range in
     let code = code_told r.code (decimal r.stripe.value ++ words_on (map home_word (take (fragment_count r.code) r.homes)) a) ∙ ap code_in is
-        ∙ sym (code_told q.code (decimal q.stripe.value ++ words_on (map home_word (take (fragment_count q.code) q.homes)) b)) in
+    ∙ sym (code_told q.code (decimal q.stripe.value ++ words_on (map home_word (take (fragment_count q.code) q.homes)) b)) in
     let is' = sym (stripe_on r r.code refl a) ∙ is ∙ stripe_on q r.code (sym code) b in
     let size = coded r.code r.homes can.all in
     let size' = coded r.code q.homes can'.all in
@@ -152,7 +152,7 @@ once_of (Lease r) (Lease q) a b same can can' is = same_lease_lines r q a b can 
 once_of End End a b same can can' is = (refl, ap (drop 4) is)
 once_of l m a b same can can' is = absurd (omega (arith, same))
 
-once : (l m : Line) (a b : List ℕ) → IsReadable l → IsReadable m → line_text l ++ a ≡ line_text m ++ b → IsOnce l m a b
+pub once : (l m : Line) (a b : List ℕ) → IsReadable l → IsReadable m → line_text l ++ a ≡ line_text m ++ b → IsOnce l m a b
 once l m a b can can' is =
     let is' = sym (line_on-text l a) ∙ is ∙ line_on-text m b in
     once_of l m a b (section_told l a ∙ ap section_in is' ∙ sym (section_told m b)) can can' is'
@@ -185,21 +185,21 @@ same_lines from (l ∷ ls) [] a b n m goes goes' can can' stop stop' is =
     absurd (stop' from l (lines_text ls ++ a) refl (first_may (may_come from l) (next_section l) ls n goes) (All-head IsReadable l ls can) (sym is ∙ append_assoc (line_text l) (lines_text ls) a))
 same_lines from (l ∷ ls) (k ∷ ms) a b n m goes goes' can can' stop stop' is =
     let parts = once l k (lines_text ls ++ a) (lines_text ms ++ b) (All-head IsReadable l ls can) (All-head IsReadable k ms can')
-        (sym (append_assoc (line_text l) (lines_text ls) a) ∙ is ∙ append_assoc (line_text k) (lines_text ms) b) in
+    (sym (append_assoc (line_text l) (lines_text ls) a) ∙ is ∙ append_assoc (line_text k) (lines_text ms) b) in
     let here = first_may (may_come from l) (next_section l) ls n goes in
     let here' = first_may (may_come from k) (next_section k) ms m goes' in
     let step = ap (λ t. if t then Some (next_section l) else None) here in
     let step' = ap (λ t. if t then Some (next_section k) else None) here' ∙ ap (λ x. Some (next_section x)) (sym parts.0) in
     let others = same_lines (next_section l) ls ms a b n m (ap (λ o. after_lines o ls) (sym step) ∙ goes) (ap (λ o. after_lines o ms) (sym step') ∙ goes') (All-tail IsReadable l ls can) (All-tail IsReadable k ms can')
-        (λ first line rest to. stop first line rest (ap (λ o. after_lines o ls) step ∙ to)) (λ first line rest to. stop' first line rest (ap (λ o. after_lines o ms) step' ∙ to)) parts.1 in
+    (λ first line rest to. stop first line rest (ap (λ o. after_lines o ls) step ∙ to)) (λ first line rest to. stop' first line rest (ap (λ o. after_lines o ms) step' ∙ to)) parts.1 in
     (ap (λ x. x ∷ ls) parts.0 ∙ ap (λ xs. k ∷ xs) others.0, others.1)
 
 -- ---- bad lines
 
-some_same : (m n : ℕ) → Some m ≡ Some n → m ≡ n
+pub some_same : (m n : ℕ) → Some m ≡ Some n → m ≡ n
 some_same m n is = cc
 
-stopped : (text : List ℕ) (n : ℕ) (bad : IsBadLine text n) → IsStopped (Some 0) bad.before bad.left
+pub stopped : (text : List ℕ) (n : ℕ) (bad : IsBadLine text n) → IsStopped (Some 0) bad.before bad.left
 stopped text n bad first line rest to may can is =
     let same : bad.first ≡ first = some_same bad.first first (sym bad.may_begin ∙ to) in
     bad.bad line rest can (subst (λ f. may_come f line ≡ true) (sym same) may) is

@@ -1,5 +1,5 @@
 -- How far an image's text is read, section by section.
-use Rattle.std.proofs.Common.{◌≡◌, ◌≢◌, ℕ, ◌+◌, ◌<◌, ◌≤◌, inl, inr, true, false, nat_lt, nat_le, nat_eq, if◌then◌else◌, Option, Some, None, List, [], ◌∷◌, ◌++◌, length, map, codes, refl, sym, ap, subst, ◌∙◌, append-nil, append_assoc, arith}
+use Rattle.std.proofs.Common.{◌≡◌, ◌≢◌, ℕ, ◌+◌, ◌<◌, ◌≤◌, inl, inr, true, nat_le, nat_eq, if◌then◌else◌, Option, Some, None, List, [], ◌∷◌, ◌++◌, map, refl, sym, ap, subst, ◌∙◌, append-nil, append_assoc, arith}
 use Rattle.std.specs.List.{All}
 use Rattle.std.proofs.lemmas.Bool.{le-ltb, leb-true, cases_lt}
 use Rattle.std.proofs.lemmas.Bool.Decides.{nat_tests}
@@ -10,7 +10,7 @@ use Rattle.lrc_images.specs.declared.image.NodeRow.{NodeRow}
 use Rattle.lrc_images.specs.declared.image.StripeRow.{StripeRow}
 use Rattle.lrc_images.specs.declared.image.GrantRow.{GrantRow}
 use Rattle.lrc_images.specs.declared.image.LeaseRow.{LeaseRow}
-use Rattle.lrc_image_text.specs.Lines.{Line, Version, Before, Clock, Upgrading, Node, Stripe, Grants, Lease, End, lines_text, IsReadable}
+use Rattle.lrc_image_text.specs.Lines.{Line, Upgrading, Node, Stripe, Grants, Lease, lines_text, IsReadable}
 use Rattle.lrc_image_text.specs.Texts.{section, next_section, may_come, after_line, after_lines, upgrading_lines}
 use Rattle.lrc_image_text.specs.Fronts.{line_on, StartsWithRows, StartsWithUpgrading}
 use Rattle.lrc_image_text.proofs.TextLemmas.{lines_text-append}
@@ -82,7 +82,7 @@ module _ {X : Type 0} (mk : X → Line) (end : ℕ) (of : (x : X) → section (m
   after_row first row many low =
       ap (λ b. if b then Some (next_section (mk row)) else None) (may_come-later first (mk row) many (omega (arith, of row, low))) ∙ ap (λ n. Some n) (next row)
 
-  after_rows : (first : ℕ) (row : X) (rows : List X) → 3 ≤ first → first ≤ end → after_lines (Some first) (map mk (row ∷ rows)) ≡ Some end
+  pub after_rows : (first : ℕ) (row : X) (rows : List X) → 3 ≤ first → first ≤ end → after_lines (Some first) (map mk (row ∷ rows)) ≡ Some end
   after_rows first row [] many low = after_row first row many low
   after_rows first row (r ∷ rs) many low =
       ap (λ o. after_lines o (map mk (r ∷ rs))) (after_row first row many low) ∙ after_rows end r rs (omega (arith, many, low)) (omega arith)

@@ -1,16 +1,13 @@
 -- A line that is in front of a text is the only one.
-use Rattle.std.proofs.Common.{◌≡◌, ◌≢◌, ℕ, suc, ◌+◌, ◌^◌, ◌<◌, ◌≤◌, Bool, true, false, nat_eq, if◌then◌else◌, Option, Some, None, List, [], ◌∷◌, ◌++◌, length, map, get_or, take, drop, codes, decimal, refl, sym, ap, subst, ◌∙◌, append_assoc, length-take, length-drop, arith}
+use Rattle.std.proofs.Common.{◌≡◌, ℕ, ◌<◌, Bool, true, false, nat_eq, if◌then◌else◌, Option, None, List, [], ◌∷◌, ◌++◌, length, map, get_or, take, drop, decimal, refl, sym, ap, ◌∙◌, length-take, length-drop, arith}
 use Rattle.std.specs.List.{All}
-use Rattle.std.proofs.lemmas.List.{append_cancel_left, take-append-drop}
+use Rattle.std.proofs.lemmas.List.{take-append-drop}
 use Rattle.std.proofs.lemmas.List.Elements.{All-head, All-tail, All-take}
-use Rattle.lrc_code.specs.declared.codes.Code.{Code}
-use Rattle.lrc_code.specs.declared.codes.Code.TheVariants.{Wide, Narrow}
-use Rattle.lrc_code.specs.Codes.{fragment_count}
 use Rattle.lrc_topology.specs.declared.seat.Seat.{Seat}
 use Rattle.lrc_terms.specs.declared.mode.Mode.{Mode}
 use Rattle.lrc_terms.specs.declared.mode.Mode.TheVariants.{Active, Draining, Gone}
-use Rattle.lrc_image_text.specs.Lines.{home_word, code_word, standing_words, IsHome}
-use Rattle.lrc_image_text.specs.Fronts.{end_byte, spaced_on, words_on, HasLine}
+use Rattle.lrc_image_text.specs.Lines.{home_word, standing_words, IsHome}
+use Rattle.lrc_image_text.specs.Fronts.{end_byte, words_on, HasLine}
 use Rattle.lrc_image_text.proofs.WordLemmas.{same_number, same_home, end_other}
 use Rattle.lrc_image_text.proofs.SpacedLemmas.{ends}
 
@@ -28,9 +25,9 @@ module _ {X : Type 0} (word : X → List ℕ) (fits : X → Type 0)
       let sizes : length ys ≡ length xs = omega (arith, size) in
       let right_is = right.1 ∙ ap (λ n. end_byte (nat_eq n 0) ∷ right.0) sizes in
       let first = one x y (nat_eq (length xs) 0) left.0 right.0 (All-head fits x xs f) (All-head fits y ys g)
-          (ap (λ t. word x ++ t) (sym left.1) ∙ ap (drop 1) is ∙ ap (λ t. word y ++ t) right_is) in
+      (ap (λ t. word x ++ t) (sym left.1) ∙ ap (drop 1) is ∙ ap (λ t. word y ++ t) right_is) in
       let others = same_words xs ys a b (sym sizes) (All-tail fits x xs f) (All-tail fits y ys g)
-          (left.1 ∙ ap (λ t. end_byte (nat_eq (length xs) 0) ∷ t) first.1 ∙ sym right_is) in
+      (left.1 ∙ ap (λ t. end_byte (nat_eq (length xs) 0) ∷ t) first.1 ∙ sym right_is) in
       (ap (λ z. z ∷ xs) first.0 ∙ ap (λ zs. y ∷ zs) others.0, others.1)
 
 pub one_count : (x y : ℕ) (last : Bool) (r q : List ℕ) → x < 4294967296 → y < 4294967296 → decimal x ++ end_byte last ∷ r ≡ decimal y ++ end_byte last ∷ q → (x ≡ y) × (r ≡ q)
@@ -58,7 +55,6 @@ same_homes n xs ys a b size size' fits fits' none none' is =
     (sym (take-append-drop n xs) ∙ ap (λ t. t ++ drop n xs) taken.0 ∙ ap (λ t. take n ys ++ t) left ∙ take-append-drop n ys, taken.1)
 
 -- ---- how a node stands
-
 
 abbrev is_down_at : ℕ → List ℕ → Bool
 is_down_at n t = nat_eq (get_or t n 0) 32

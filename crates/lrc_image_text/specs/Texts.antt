@@ -86,3 +86,20 @@ pub record IsBadLine (text : List ℕ) (number : ℕ) : Type 0 where
 abbrev pub IsRefused : List ℕ → ImageTextError → Type 0
 IsRefused text (BadLine number) = IsBadLine text number
 IsRefused text OutOfMemory = Unit {0}
+
+-- the two images have the same rows
+pub record HaveSameRows (i j : Image) : Type 0 where
+  pub before : i.before ≡ j.before
+  pub clock : i.clock ≡ j.clock
+  pub upgrading : i.upgrading ≡ j.upgrading
+  pub nodes : i.nodes.items ≡ j.nodes.items
+  pub stripes : i.stripes.items ≡ j.stripes.items
+  pub grants : i.grants.items ≡ j.grants.items
+  pub leases : i.leases.items ≡ j.leases.items
+
+-- the text consists of lines that can be read, and they are all that an image has
+pub record IsImageText (text : List ℕ) : Type 0 where
+  pub lines : List Line
+  pub readable : All IsReadable lines
+  pub whole : after_lines (Some 0) lines ≡ Some 9
+  pub text_is : text ≡ lines_text lines

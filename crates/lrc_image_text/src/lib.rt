@@ -1,7 +1,8 @@
-//! The text of an image, written and read. Each image has one text, and a text is that of one image.
+//! The text of an image, written and read. Each image has one text, and a text is that of one
+//! image.
 //!
-//! A text has lines of words, each ended by LF. `specs/Lines` says what a line is, and `specs/Texts` which lines an image
-//! has, and which line of another text is bad.
+//! A text has lines of words, each ended by LF. `specs/Lines` says what a line is, and
+//! `specs/Texts` which lines an image has, and which line of another text is bad.
 #![tactic(auto)]
 
 mod error;

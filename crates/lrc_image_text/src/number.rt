@@ -11,8 +11,8 @@ const DIGITS: usize = 10;
 /// The most digits of a number of 64 bits.
 const LONG_DIGITS: usize = 20;
 
-/// Reads a number below `bound` and the byte `end` at the start of a text. Returns the number and the rest of the text, or
-/// `None` if the text does not start so.
+/// Reads a number below `bound` and the byte `end` at the start of a text. Returns the number and
+/// the rest of the text, or `None` if the text does not start so.
 pub(crate) fn number_to(text: &[u8], bound: u64, end: u8) -> Option<(u64, &[u8])>
     requires { (bound ≤ 4294967296) × (is_ascii_digit end ≡ false) }
     ensures some { IfSome result (λ r. (r.0 < bound) × (text.now ≡ decimal r.0 ++ end ∷ r.1.now)) }

@@ -97,7 +97,8 @@ pub(crate) fn lease_place(text: &[u8]) -> Option<(StripeNo, Fragment, &[u8])>
     }
 }
 
-/// Reads the other words of a lease's line: its holder, its target and its expiry, and the end of the line.
+/// Reads the other words of a lease's line: its holder, its target and its expiry, and the end of
+/// the line.
 pub(crate) fn lease_terms(text: &[u8]) -> Option<(SessionNo, Seat, u32, &[u8])>
     ensures fits { IfSome result (λ r. IsSeat r.1 × (r.2 < 4294967296)) }
     ensures some { IfSome result (λ r. text.now ≡ decimal r.0.value ++ 32 ∷ (seat_word r.1 ++ 32 ∷ (decimal r.2 ++ 10 ∷ r.3.now))) }

@@ -17,12 +17,14 @@ use std::alloc::Global;
 /// The bound of the numbers of upgrade domains.
 const UPGRADE_BOUND: u64 = 256;
 
-/// Reads the text of an image. A text is read exactly if `push_image` writes it for an image in which no node row is both
-/// active and up, and no stripe has a home of a fragment that its code lacks.
+/// Reads the text of an image. A text is read exactly if `push_image` writes it for an image in
+/// which no node row is both active and up, and no stripe has a home of a fragment that its code
+/// lacks.
 ///
 /// # Errors
 ///
-/// `BadLine` with the number of the first line that may not come where it stands, and `OutOfMemory`.
+/// `BadLine` with the number of the first line that may not come where it stands, and
+/// `OutOfMemory`.
 pub fn read_image(alloc: Global, text: &[u8]) -> Result<Image, ImageTextError>
     ensures read { IfOk result (λ i. IsWritten i × (text.now ≡ image_text i)) }
     ensures refused { IfErr result (IsRefused text.now) }
@@ -63,7 +65,8 @@ fn count_first_lines(upgrading: Option<UpgradeNo>) -> usize
 
 // ---- the first lines
 
-/// Reads the first three lines. Returns the number of entries before the image, its clock and the rest of the text.
+/// Reads the first three lines. Returns the number of entries before the image, its clock and the
+/// rest of the text.
 ///
 /// # Errors
 ///
@@ -97,8 +100,8 @@ fn before_in_front(text: &[u8]) -> Option<(u64, &[u8])>
 
 // ---- the other lines
 
-/// Reads the lines behind the first three and before the last one. Returns the image with these numbers, and the rest of the
-/// text.
+/// Reads the lines behind the first three and before the last one. Returns the image with these
+/// numbers, and the rest of the text.
 fn read_body(
     alloc: Global,
     before: u64,
@@ -153,8 +156,8 @@ fn read_rows<R: Row>(alloc: Global, text: &[u8]) -> Result<(Vec<R>, &[u8]), Imag
     Ok((rows, left))
 }
 
-/// Reads the line of a row at the start of a text, and adds the row. Returns the rest of the text, or `None` if the text does
-/// not start so.
+/// Reads the line of a row at the start of a text, and adds the row. Returns the rest of the text,
+/// or `None` if the text does not start so.
 fn read_row<'a, R: Row>(
     rows: &mut Vec<R>,
     text: &'a [u8],

@@ -16,8 +16,8 @@ use std::alloc::AllocError;
 pub(crate) trait Row: Copy {
     ghost line: { Self → Line };
 
-    /// Reads the line of a row at the start of a text. Returns the row and the rest of the text, or `None` if the text does
-    /// not start so.
+    /// Reads the line of a row at the start of a text. Returns the row and the rest of the text, or
+    /// `None` if the text does not start so.
     fn in_front(text: &[u8]) -> Option<(Self, &[u8])>
         ensures some { IfSome result (λ r. IsReadable (line r.0) × (text.now ≡ line_on (line r.0) r.1.now)) }
         ensures none { IfNone result (HasNone line text.now) };
@@ -142,7 +142,8 @@ fn push_lease_numbers(out: &mut Vec<u8>, row: &LeaseRow) -> Result<(), AllocErro
     push_words(out, numbers.as_slice())
 }
 
-/// Returns the words of a node's row after its number, with a space before each, and the end of the line.
+/// Returns the words of a node's row after its number, with a space before each, and the end of the
+/// line.
 fn standing_words(mode: Mode, is_down: bool) -> &'static [u8]
     ensures { result.now ≡ spaced (standing_words mode is_down) ++ codes "\n" }
 {

@@ -17,8 +17,8 @@ pub(crate) trait Word: Copy {
 
     ghost fits: { Self → Type 0 };
 
-    /// Reads a word and the byte behind it at the start of a text. Returns the word and the rest of the text, or `None` if
-    /// the text does not start so.
+    /// Reads a word and the byte behind it at the start of a text. Returns the word and the rest of
+    /// the text, or `None` if the text does not start so.
     fn in_front(text: &[u8], is_last: bool) -> Option<(Self, &[u8])>
         ensures some { IfSome result (λ r. fits r.0 × (text.now ≡ word r.0 ++ end_byte is_last ∷ r.1.now)) }
         ensures only { IfSome result (λ r. (w : Self) (rest : List ℕ) → fits w
@@ -91,8 +91,8 @@ fn no_home(is_last: bool) -> &'static [u8]
     if is_last { b"-\n" } else { b"- " }
 }
 
-/// Reads a seat and the byte `end` at the start of a text. Returns the seat and the rest of the text, or `None` if the text
-/// does not start so.
+/// Reads a seat and the byte `end` at the start of a text. Returns the seat and the rest of the
+/// text, or `None` if the text does not start so.
 pub(crate) fn seat_to(text: &[u8], end: u8) -> Option<(Seat, &[u8])>
     requires { is_ascii_digit end ≡ false }
     ensures some { IfSome result (λ r. IsSeat r.0 × (text.now ≡ seat_word r.0 ++ end ∷ r.1.now)) }
@@ -112,8 +112,8 @@ pub(crate) fn seat_to(text: &[u8], end: u8) -> Option<(Seat, &[u8])>
     }
 }
 
-/// Reads as many words as there is room for, and the end of their line, behind the space before the first word. Returns the
-/// rest of the text, or `None` if the text does not start so.
+/// Reads as many words as there is room for, and the end of their line, behind the space before the
+/// first word. Returns the rest of the text, or `None` if the text does not start so.
 pub(crate) fn words_to_end<'a, W: Word>(text: &'a [u8], words: &mut [W]) -> Option<&'a [u8]>
     requires { 0 < length words.old }
     ensures size { length words.new ≡ length words.old }

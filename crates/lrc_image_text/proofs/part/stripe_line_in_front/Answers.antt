@@ -1,4 +1,4 @@
-use Rattle.std.proofs.Common.{rules, arith, codes, map, take, ◌≡◌, ◌<◌, ◌∙◌, ◌∷◌, ◌++◌, length, decimal, refl, sym, ap}
+use Rattle.std.proofs.Common.{arith, codes, map, take, ◌∙◌, ◌∷◌, ◌++◌, decimal, refl, ap}
 use Rattle.std.proofs.lemmas.List.Elements.{All-take}
 use Rattle.lrc_code.specs.Codes.{fragment_count}
 use Rattle.lrc_image_text.specs.Lines.{home_word, IsHome, code_word}

@@ -1,4 +1,4 @@
-use Rattle.std.proofs.Common.{◌∙◌, ◌≡◌, ◌∷◌, [], ◌++◌, sym}
+use Rattle.std.proofs.Common.{◌∙◌, [], sym}
 use Rattle.std.proofs.lemmas.List.Elements.{All-nil, All-cons}
 use Rattle.lrc_image_text.specs.Lines.{Upgrading, IsReadable}
 use Rattle.lrc_image_text.proofs.LineLemmas.{lines_on}

@@ -1,4 +1,4 @@
-use Rattle.std.proofs.Common.{rules, ◌≡◌, ◌∙◌, ◌+◌, ◌<◌, nat_eq, ℕ, List, ◌∷◌, ◌++◌, length, map, take, set, get_or, sym, ap, subst, arith}
+use Rattle.std.proofs.Common.{◌≡◌, ◌∙◌, ◌+◌, ◌<◌, nat_eq, ℕ, List, ◌∷◌, ◌++◌, length, map, take, set, sym, ap, subst, arith}
 use Rattle.std.proofs.lemmas.List.{take_more_set, length-set}
 use Rattle.std.proofs.lemmas.List.Elements.{All-push}
 use Rattle.lrc_image_text.specs.Fronts.{end_byte, spaced_on}

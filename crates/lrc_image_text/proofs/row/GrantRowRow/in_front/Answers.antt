@@ -1,4 +1,4 @@
-use Rattle.std.proofs.Common.{rules, arith, codes, map, decimal, ◌∙◌, sym, ap, length}
+use Rattle.std.proofs.Common.{arith, codes, map, decimal, ◌∙◌, sym, ap, length}
 use Rattle.lrc_image_text.specs.Fronts.{words_on}
 use Rattle.lrc_image_text.proofs.RowLemmas.{behind_words, words_space, some_words}
 use Rattle.lrc_image_text.proofs.row.GrantRowRow.in_front.Goals as goal

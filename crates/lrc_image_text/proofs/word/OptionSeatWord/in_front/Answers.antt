@@ -1,5 +1,5 @@
-use Rattle.std.proofs.Common.{rules, ◌≡◌, ◌∙◌, ◌++◌, ◌∷◌, [], Some, None, codes, sym, ap}
-use Rattle.lrc_image_text.specs.Lines.{home_word, seat_word}
+use Rattle.std.proofs.Common.{◌∙◌, ◌++◌, ◌∷◌, Some, None, sym, ap}
+use Rattle.lrc_image_text.specs.Lines.{seat_word}
 use Rattle.lrc_image_text.specs.Fronts.{end_byte}
 use Rattle.lrc_image_text.proofs.WordLemmas.{same_home, no_home-or_seat, end_other}
 use Rattle.lrc_image_text.proofs.word.OptionSeatWord.in_front.Goals as goal

@@ -1,4 +1,4 @@
-use Rattle.std.proofs.Common.{rules, ◌≡◌, ◌∙◌, ◌++◌, ◌∷◌, decimal, sym, ap, arith}
+use Rattle.std.proofs.Common.{◌∙◌, ◌++◌, ◌∷◌, decimal, sym, ap, arith}
 use Rattle.lrc_image_text.specs.Fronts.{end_byte}
 use Rattle.lrc_image_text.proofs.WordLemmas.{same_number, end_other}
 use Rattle.lrc_image_text.proofs.word.U32Word.in_front.Goals as goal
