@@ -18,7 +18,8 @@
 //! 2. `States`: the state of the store, and what can be read from it. `Outcomes`: a reply with the next state.
 //! 3. `Steps`, `Leases`, `Placement`, `Repairs` and `Urgency`: the reply to each command, and the state after it.
 //! 4. `Histories` and `Sessions`: legal histories, and the state after one.
-//! 5. `Goodness`: what holds after each legal history.
+//! 5. `Goodness` and `Tidiness`: what holds after each legal history.
+//! 6. `Alike` and `Futures`: states that differ at most in the order of their lists, and what they have in common.
 //!
 //! `Choices`, `Granting`, `Upgrading`, `Reporting`, `Endings`, `Touching` and `Boards` hold words of the laws. `Changes` says
 //! once more what a command changes, for proofs alone.
