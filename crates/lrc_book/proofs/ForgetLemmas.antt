@@ -4,15 +4,14 @@ use Rattle.std.specs.Prelude.{IsNone}
 use Rattle.std.proofs.lemmas.Bool.{cases_order}
 use Rattle.lrc_code.specs.declared.numbers.StripeNo.{StripeNo}
 use Rattle.lrc_code.specs.declared.numbers.Fragment.{Fragment}
-use Rattle.lrc_topology.specs.declared.NodeInfo.{NodeInfo}
 use Rattle.lrc_rules.specs.declared.entry.Entry.{Entry}
 use Rattle.lrc_rules.specs.States.{State}
 use Rattle.lrc_rules.specs.Leases.{grants}
-use Rattle.lrc_rules.specs.Histories.{World, first_world, state_from}
+use Rattle.lrc_rules.specs.Histories.{World, state_from}
 use Rattle.lrc_rules.specs.Alike.{AreAlike}
 use Rattle.lrc_rules.specs.Futures.{HaveSameGrants}
-use Rattle.lrc_rules.proofs.GoodLemmas.{state_from-good, opening-good}
-use Rattle.lrc_rules.proofs.TidyLemmas.{worlds-tidy, opening-tidy}
+use Rattle.lrc_rules.proofs.GoodLemmas.{state_from-good}
+use Rattle.lrc_rules.proofs.TidyLemmas.{worlds-tidy}
 use Rattle.lrc_images.specs.declared.image.Image.{Image}
 use Rattle.lrc_images.specs.Images.{image_world, image_state}
 use Rattle.lrc_images.specs.Rising.{AreRising}
@@ -63,17 +62,6 @@ module _ (b : BookView) where
 
     pub unspent-entries : b.before + length b.history ≤ most_entries
     unspent-entries = not-after (b.before + length b.history) most_entries (λ many. free (inr (inr many)))
-
--- ---- the first world
-
--- a book can begin in the first world
-pub first-base : (nodes : List NodeInfo) → IsBase nodes first_world
-first-base nodes = record {
-  good = opening-good nodes;
-  tidy = opening-tidy nodes;
-  counts = λ s f. omega arith;
-  ticks = omega arith;
-}
 
 -- ---- the image of a book
 

@@ -265,7 +265,8 @@ uint32_t lrc_embed_replay(lrc_handle *handle, const lrc_entry *entries, size_t c
 
 // Forgets the entries: the history is empty then, and takes LRC_HISTORY_LIMIT more. The looks return what they returned
 // before, but for those at the history; epochs go on where they were. DONE, IS_CLOSED, OUT_OF_MEMORY; or FULL, if a
-// fragment was leased 4,293,967,295 times, or the clock is 4,293,967,292. With another status than DONE nothing changes.
+// fragment was leased 4,293,967,295 times, the clock is 4,293,967,292, or the log has more than 9,223,372,036,854,775,808
+// entries. With another status than DONE nothing changes.
 // Forget only what the log has, since an entry that is forgotten can't be read any more.
 uint32_t lrc_embed_forget(lrc_handle *handle);
 

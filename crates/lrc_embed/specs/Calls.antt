@@ -9,8 +9,8 @@ use Rattle.lrc_topology.specs.declared.error.TopologyError.{TopologyError}
 use Rattle.lrc_topology.specs.Documents.{IsTopologyOf, IsRefusedBy}
 use Rattle.lrc_rules.specs.declared.command.Command.{Command}
 use Rattle.lrc_rules.specs.declared.entry.Entry.{Entry}
-use Rattle.lrc_rules.specs.Leases.{grants}
 use Rattle.lrc_rules.specs.Alike.{AreAlike}
+use Rattle.lrc_rules.specs.Futures.{HaveSameGrants}
 use Rattle.lrc_rules.specs.Histories.{World, first_world, outcome_in}
 use Rattle.lrc_images.specs.declared.image.Image.{Image}
 use Rattle.lrc_images.specs.Rows.{IsImageOf}
@@ -65,7 +65,7 @@ IsCall number c reply b after =
 abbrev pub IsForgotten : BookView → BookView → Type 0
 IsForgotten b after =
     (after.history ≡ []) × (after.before ≡ b.before + length b.history) × AreAlike (state_of b) (state_of after)
-    × ((s : StripeNo) (f : Fragment) → grants after.base.past s f ≡ grants (b.base.past ++ b.history) s f)
+    × HaveSameGrants (b.base.past ++ b.history) after.base.past
     × (after.nodes ≡ b.nodes) × (after.limit ≡ b.limit)
 
 -- the text is that of the image of the book's state, after all entries of the store so far

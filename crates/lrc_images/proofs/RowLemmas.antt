@@ -16,7 +16,7 @@ use Rattle.lrc_images.specs.Rows.{rows_below}
 
 -- ---- members
 
-pub some-listed : {X : Type 0} (o : Option X) (x : X) → Contains (option_to_list o) x → o ≡ Some x
+some-listed : {X : Type 0} (o : Option X) (x : X) → Contains (option_to_list o) x → o ≡ Some x
 some-listed None x here = absurd (not-Contains-nil x here)
 some-listed (Some y) x here = elim (Contains-cases y x [] here) [
   | inl same ↦ ap (λ z. Some z) same
@@ -27,7 +27,7 @@ pub listed-some : {X : Type 0} (o : Option X) (x : X) → o ≡ Some x → Conta
 listed-some o x is = subst (λ p. Contains (option_to_list p) x) (sym is) (Contains-here x [])
 
 -- what is chosen by a test is there only if the test holds
-pub some-if : {X : Type 0} (b : Bool) (row x : X) → (if b then Some row else None) ≡ Some x → (b ≡ true) × (row ≡ x)
+some-if : {X : Type 0} (b : Bool) (row x : X) → (if b then Some row else None) ≡ Some x → (b ≡ true) × (row ≡ x)
 some-if true row x is = (refl, (let same : Some row ≡ Some x = is in cc))
 some-if false row x is = absurd (let never : ◌≡◌ {A = Option _} None (Some x) = is in cc)
 

@@ -50,7 +50,7 @@ module _ (nodes : List NodeInfo) (st : State) where
 abbrev IsLower : StripeNo → StripeNo → Type 0
 IsLower s t = s.value < t.value
 
-pub rows-rise : (st : State) → IsRising stripe_first (stripe_rows st)
+rows-rise : (st : State) → IsRising stripe_first (stripe_rows st)
 rows-rise st =
     pairs-single stripe_at (row_of_stripe st) (has_stripe st) 4096 (λ a b. stripe_first a b ≡ true) IsLower (stripes-rise 4096 (omega arith))
     (λ s t less. lt-ltb s.value t.value less)
