@@ -7,7 +7,7 @@ use Rattle.lrc_topology.specs.declared.NodeInfo.{NodeInfo}
 use Rattle.lrc_rules.specs.declared.entry.Entry.{Entry}
 use Rattle.lrc_rules.specs.Histories.{World, outcome_in, next_world, world_from}
 use Rattle.lrc_book.specs.Books.{BookView, world_of}
-use Rattle.lrc_book.proofs.WorldLemmas.{legal_append}
+use Rattle.lrc_rules.proofs.AlikeWorldLemmas.{legal-append}
 use Rattle.lrc_embed.specs.declared.entry.LrcEntry.{LrcEntry}
 use Rattle.lrc_embed.specs.Replays.{IsEntry, AreEntries, IsReplay, IsRepeat, StopsAt}
 
@@ -32,7 +32,7 @@ replay_push cs c b mid after r s =
     let replied = subst (λ (ns : List NodeInfo). (outcome_in ns (world_of mid) e.session e.command).0 ≡ e.reply) nodes s.2 in (
       es ++ e ∷ [],
       entries_push cs es c e r.1 s.1,
-      legal_append b.nodes (world_of b) es (e ∷ []) r.2 (subst (λ (w : World). (outcome_in b.nodes w e.session e.command).0 ≡ e.reply) at replied, tt),
+      (legal-append b.nodes (world_of b) es (e ∷ [])).1 (r.2, (subst (λ (w : World). (outcome_in b.nodes w e.session e.command).0 ≡ e.reply) at replied, tt)),
       s.3 ∙ ap (λ (h : List Entry). h ++ e ∷ []) r.3 ∙ append_assoc b.history es (e ∷ []),
       s.4 ∙ r.4,
       s.5 ∙ r.5,
