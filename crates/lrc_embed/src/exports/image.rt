@@ -36,17 +36,25 @@ pub extern "C" fn lrc_embed_image(
     let image = image_text(alloc, &book);
     handle.put(book);
     match image {
-        Ok(image) => {
-            *needed = image.len();
-            if image.len() > text.len() {
-                return SHORT;
-            }
-            text[..image.len()].copy_from_slice(&image);
-            DONE
-        }
+        Ok(image) => put_text(&image, text, needed),
         Err(Fault::HistoryFull) => FULL,
         Err(Fault::OutOfMemory) => OUT_OF_MEMORY,
     }
+}
+
+/// Writes a text into the first bytes of a buffer, if it has room for it, and the length of the text.
+fn put_text(image: &[u8], text: &mut [u8], needed: &mut usize) -> u32
+    ensures needed { needed.new ≡ length image.now }
+    ensures done { (result ≡ 0) → text.new ≡ image.now ++ drop (length image.now) text.old }
+    ensures short { (result ≡ 7) → (text.new ≡ text.old) × (length text.old < length image.now) }
+    ensures statuses { (result ≡ 0) ⊎ (result ≡ 7) }
+{
+    *needed = image.len();
+    if image.len() > text.len() {
+        return SHORT;
+    }
+    text[..image.len()].copy_from_slice(image);
+    DONE
 }
 
 /// The text of the image of a book.
