@@ -1,4 +1,4 @@
-ghost use Rattle.std.specs.Prelude.{◌≡◌, ◌≢◌, ◌≤◌, ◌<◌, ◌+◌, ◌++◌, ◌⊎◌, List, ℕ, true, is_some, None, length, drop, IfOk, IfErr};
+ghost use Rattle.std.specs.Prelude.{◌≡◌, ◌≢◌, ◌≤◌, ◌<◌, ◌+◌, ◌++◌, ◌⊎◌, List, ℕ, true, is_some, None, length, drop, IfOk, IsErrOf};
 ghost use Rattle.lrc_code.specs.declared.fault.Fault.TheVariants as fault;
 ghost use Rattle.lrc_book.specs.Books.{IsSpent};
 ghost use Rattle.lrc_embed.specs.Calls.{Of, IsImageText};
@@ -33,9 +33,21 @@ pub extern "C" fn lrc_embed_image(
     let Some(book) = handle.take(alloc) else {
         return IS_CLOSED;
     };
-    let image = image_text(alloc, &book);
+    let status = write_image(alloc, &book, text, needed);
     handle.put(book);
-    match image {
+    status
+}
+
+/// Writes the text of the image of a book into the first bytes of a buffer, if it has room for it.
+fn write_image(alloc: Global, book: &Book, text: &mut [u8], needed: &mut usize) -> u32
+    ensures done { (result ≡ 0) → (image : List ℕ) × IsImageText book.now image × (needed.new ≡ length image) × (text.new ≡ image ++ drop (length image) text.old) }
+    ensures short { (result ≡ 7) → (image : List ℕ) × IsImageText book.now image × (needed.new ≡ length image) × (length text.old < length image) }
+    ensures full { (result ≡ 5) → IsSpent book.now }
+    ensures statuses { (result ≡ 0) ⊎ (result ≡ 5) ⊎ (result ≡ 6) ⊎ (result ≡ 7) }
+    ensures unwritten { (result ≢ 0) → text.new ≡ text.old }
+    ensures unneeded { (result ≢ 0) → (result ≢ 7) → needed.new ≡ needed.old }
+{
+    match image_text(alloc, book) {
         Ok(image) => put_text(&image, text, needed),
         Err(Fault::HistoryFull) => FULL,
         Err(Fault::OutOfMemory) => OUT_OF_MEMORY,
@@ -60,7 +72,7 @@ fn put_text(image: &[u8], text: &mut [u8], needed: &mut usize) -> u32
 /// The text of the image of a book.
 fn image_text(alloc: Global, book: &Book) -> Result<Vec<u8>, Fault>
     ensures value { IfOk result (λ text. IsImageText book.now text.items) }
-    ensures err { IfErr result (λ e. (e ≡ fault.OutOfMemory) ⊎ ((e ≡ fault.HistoryFull) × IsSpent book.now)) }
+    ensures full { IsErrOf result fault.HistoryFull → IsSpent book.now }
 {
     let image = book.image(alloc)?;
     let mut text = Vec::new(alloc);
