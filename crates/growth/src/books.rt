@@ -1,6 +1,7 @@
 //! Calls of a book.
 
 ghost use Rattle.std.specs.Prelude.{◌≡◌, [], IfOk};
+ghost use Rattle.lrc_rules.specs.Histories.{first_world};
 
 use crate::host::{Call, FIRST, Host, Stop, Trial, begin, end};
 use lrc_book::{Book, Command};
@@ -9,7 +10,7 @@ use lrc_samples::twenty_nodes;
 
 /// Makes a book over twenty nodes.
 pub(crate) fn new_book(rt: &impl Host) -> Result<Book, Stop>
-    ensures { IfOk result (λ b. b.history ≡ []) }
+    ensures { IfOk result (λ b. (b.history ≡ []) × (b.base ≡ first_world)) }
 {
     let nodes = twenty_nodes(rt.alloc())?;
     match Book::new(rt.alloc(), nodes) {

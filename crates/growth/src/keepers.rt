@@ -1,6 +1,7 @@
 //! Calls of a keeper and a viewer.
 
 ghost use Rattle.std.specs.Prelude.{◌≡◌, []};
+ghost use Rattle.lrc_rules.specs.Histories.{first_world};
 
 use crate::books::{close, look, new_book};
 use crate::host::{Call, FIRST, Host, Looked, NODE, ONE, Risk, Stop, Trial, begin, end};
@@ -16,7 +17,7 @@ pub(crate) fn open_once(rt: &impl Host) -> Result<bool, Stop> {
 }
 
 fn open_over<N: ViewNaming, R: Host>(rt: &R, book: Book, log: NewLog) -> Result<bool, Stop>
-    requires book { (book.history ≡ []) × (book.nodes ≡ N.topology) × (book.limit ≡ N.limit) }
+    requires book { (book.history ≡ []) × (book.nodes ≡ N.topology) × (book.limit ≡ N.limit) × (book.base ≡ first_world) }
     requires log { (log.prefix.book ≡ N.log) × (log.permit.nib.key ≡ N.start) }
 {
     begin(rt);
@@ -41,7 +42,7 @@ fn try_over<N: ViewNaming, R: Host>(
     log: NewLog,
     trial: &Trial,
 ) -> Result<(), Stop>
-    requires book { (book.history ≡ []) × (book.nodes ≡ N.topology) × (book.limit ≡ N.limit) }
+    requires book { (book.history ≡ []) × (book.nodes ≡ N.topology) × (book.limit ≡ N.limit) × (book.base ≡ first_world) }
     requires log { (log.prefix.book ≡ N.log) × (log.permit.nib.key ≡ N.start) }
 {
     let (mut keeper, viewers) = Keeper::<N>::open(rt.alloc(), rt, book, log, 1)?;

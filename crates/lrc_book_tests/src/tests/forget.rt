@@ -73,7 +73,17 @@ fn expect_rows(rt: &impl Abort, image: &Image) {
         is_down: false,
     };
     assert!(rt; image.nodes.as_slice() == [gone].as_slice());
-    assert_eq!(rt; (image.stripes.len(), image.stripes[0].homes[3]), (1, None));
-    assert_eq!(rt; (image.grants.len(), image.grants[0].granted[3]), (1, 1));
-    assert_eq!(rt; (image.leases.len(), image.leases[0].expiry), (1, 3));
+    assert_eq!(rt;
+        (image.stripes.len(), image.grants.len(), image.leases.len()),
+        (1, 1, 1)
+    );
+    for row in image.stripes.iter() {
+        assert_eq!(rt; row.homes[3], None);
+    }
+    for row in image.grants.iter() {
+        assert_eq!(rt; row.granted[3], 1);
+    }
+    for row in image.leases.iter() {
+        assert_eq!(rt; row.expiry, 3);
+    }
 }

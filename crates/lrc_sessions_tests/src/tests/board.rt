@@ -1,6 +1,7 @@
 //! A keeper over twenty nodes: what viewers see of two calls.
 
 ghost use Rattle.std.specs.Prelude.{◌≡◌, [], IfOk};
+ghost use Rattle.lrc_rules.specs.Histories.{first_world};
 
 use super::{ONE, nodes};
 use lrc_board::{Keeper, NewLog, ViewNaming, Viewer};
@@ -13,7 +14,7 @@ use std::sync::Wait;
 use std::test::Fail;
 
 fn book(alloc: Global) -> Result<Book, Fail>
-    ensures { IfOk result (λ b. b.history ≡ []) }
+    ensures { IfOk result (λ b. (b.history ≡ []) × (b.base ≡ first_world)) }
 {
     Ok(Book::new(alloc, nodes(alloc)?)?)
 }
@@ -27,7 +28,7 @@ fn a_viewer_sees_what_it_was_shown(rt: HostRuntime) -> Result<(), Fail> {
 
 /// Of two viewers one is shown two calls, and the other nothing.
 fn watch<N: ViewNaming, R: Wait + Abort>(rt: &R, alloc: Global, book: Book, log: NewLog)
-    requires book { (book.history ≡ []) × (book.nodes ≡ N.topology) × (book.limit ≡ N.limit) }
+    requires book { (book.history ≡ []) × (book.nodes ≡ N.topology) × (book.limit ≡ N.limit) × (book.base ≡ first_world) }
     requires log { (log.prefix.book ≡ N.log) × (log.permit.nib.key ≡ N.start) }
 {
     let Ok((mut keeper, mut viewers)) = Keeper::<N>::open(alloc, rt, book, log, 2) else {
