@@ -530,7 +530,8 @@ static void image(const char *wanted) {
     STATUS(status, lrc_embed_image(&handle, text, length, &needed));
     WANT(status == LRC_DONE && needed == length && memcmp(text, wanted, length) == 0 && text[length] == 9);
     memset(text, 9, sizeof text);
-    WANT(lrc_embed_image(&handle, text, sizeof text, &needed) == LRC_DONE && needed == length);
+    STATUS(status, lrc_embed_image(&handle, text, sizeof text, &needed));
+    WANT(status == LRC_DONE && needed == length);
     WANT(memcmp(text, wanted, length) == 0 && text[length] == 9);
 }
 
