@@ -2,45 +2,31 @@
 
 /// The call was done.
 pub(crate) const DONE: u32 = 0;
-
 /// The handle is closed.
 pub(crate) const IS_CLOSED: u32 = 1;
-
 /// The handle to be opened is open.
 pub(crate) const IS_OPEN: u32 = 2;
-
 /// A number of a command, session, stripe or fragment is out of its range.
 pub(crate) const OUT_OF_RANGE: u32 = 3;
-
 /// There is no such stripe, lease, node or entry.
 pub(crate) const UNKNOWN: u32 = 4;
-
 /// The history is full.
 pub(crate) const FULL: u32 = 5;
-
 /// Memory was refused.
 pub(crate) const OUT_OF_MEMORY: u32 = 6;
-
 /// The buffer has no room for all rows.
 pub(crate) const SHORT: u32 = 7;
-
 /// The reply is not that of the entry.
 pub(crate) const DIFFERENT: u32 = 8;
-
 /// The text is not TOML 1.1 in UTF-8.
 pub(crate) const SYNTAX: u32 = 16;
-
 /// The text lists no nodes.
 pub(crate) const NO_NODES: u32 = 17;
-
 /// The entry of `node` at this position lacks a whole number at one of its four keys.
 pub(crate) const BAD_FIELD: u32 = 18;
-
 /// The entry of `node` at this position has a number out of its range.
 pub(crate) const NODE_OUT_OF_RANGE: u32 = 19;
-
 /// The text has this node number twice.
 pub(crate) const DOUBLE_NODE: u32 = 20;
-
 /// The text lists more than 512 nodes.
 pub(crate) const TOO_MANY: u32 = 21;

@@ -1,4 +1,4 @@
-ghost use Rattle.std.specs.Prelude.{◌≡◌, ◌≢◌, ◌≤◌, ◌<◌, ◌+◌, ◌++◌, ◌⊎◌, List, ℕ, true, is_some, None, length, drop, IfOk, IsErrOf};
+ghost use Rattle.std.specs.Prelude.{◌≡◌, ◌≢◌, ◌≤◌, ◌<◌, ◌+◌, ◌++◌, ◌⊎◌, ◌↔◌, List, ℕ, true, is_some, None, length, drop, IfOk, IsErrOf};
 ghost use Rattle.lrc_code.specs.declared.fault.Fault.TheVariants as fault;
 ghost use Rattle.lrc_book.specs.Books.{IsSpent};
 ghost use Rattle.lrc_embed.specs.Calls.{Of, IsImageText};
@@ -22,7 +22,7 @@ pub extern "C" fn lrc_embed_image(
     ensures same { handle.new.owned.book ≡ handle.old.owned.book }
     ensures done { (result ≡ 0) → Of handle.old.owned.book (λ b. (image : List ℕ) × IsImageText b image × (needed.new ≡ length image) × (text.new ≡ image ++ drop (length image) text.old)) }
     ensures short { (result ≡ 7) → Of handle.old.owned.book (λ b. (image : List ℕ) × IsImageText b image × (needed.new ≡ length image) × (length text.old < length image)) }
-    ensures full { (result ≡ 5) → Of handle.old.owned.book IsSpent }
+    ensures full { (result ≢ 1) → Of handle.old.owned.book (λ b. (result ≡ 5) ↔ IsSpent b) }
     ensures closed { (result ≡ 1) → handle.old.owned.book ≡ None }
     // A closed handle returns 1, without a request for memory.
     ensures memory { (result ≡ 6) → is_some handle.old.owned.book ≡ true }
@@ -42,7 +42,7 @@ pub extern "C" fn lrc_embed_image(
 fn write_image(alloc: Global, book: &Book, text: &mut [u8], needed: &mut usize) -> u32
     ensures done { (result ≡ 0) → (image : List ℕ) × IsImageText book.now image × (needed.new ≡ length image) × (text.new ≡ image ++ drop (length image) text.old) }
     ensures short { (result ≡ 7) → (image : List ℕ) × IsImageText book.now image × (needed.new ≡ length image) × (length text.old < length image) }
-    ensures full { (result ≡ 5) → IsSpent book.now }
+    ensures full { (result ≡ 5) ↔ IsSpent book.now }
     ensures statuses { (result ≡ 0) ⊎ (result ≡ 5) ⊎ (result ≡ 6) ⊎ (result ≡ 7) }
     ensures unwritten { (result ≢ 0) → text.new ≡ text.old }
     ensures unneeded { (result ≢ 0) → (result ≢ 7) → needed.new ≡ needed.old }
@@ -72,7 +72,7 @@ fn put_text(image: &[u8], text: &mut [u8], needed: &mut usize) -> u32
 /// The text of the image of a book.
 fn image_text(alloc: Global, book: &Book) -> Result<Vec<u8>, Fault>
     ensures value { IfOk result (λ text. IsImageText book.now text.items) }
-    ensures full { IsErrOf result fault.HistoryFull → IsSpent book.now }
+    ensures full { IsErrOf result fault.HistoryFull ↔ IsSpent book.now }
 {
     let image = book.image(alloc)?;
     let mut text = Vec::new(alloc);

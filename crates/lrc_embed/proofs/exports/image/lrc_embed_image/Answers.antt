@@ -1,4 +1,4 @@
-use Rattle.std.proofs.Common.{◌≡◌, ◌++◌, ◌<◌, List, ℕ, length, drop, subst}
+use Rattle.std.proofs.Common.{◌≡◌, ◌↔◌, ◌++◌, ◌<◌, List, ℕ, length, drop, subst}
 use Rattle.lrc_book.specs.Books.{BookView, IsSpent}
 use Rattle.lrc_embed.specs.Calls.{IsImageText}
 use Rattle.lrc_embed.proofs.OfLemmas.{of_some}
@@ -13,4 +13,5 @@ returns-clause-short c = λ short. of_some _ c.in-Some.ensures.book
     (let w = c.write_image-status.ensures.short short in (w.0, subst (λ (b : BookView). IsImageText b w.0) c.deref.ensures w.1, w.2, w.3))
 
 pub returns-clause-full : goal.returns-clause-full
-returns-clause-full c = λ full. of_some _ c.in-Some.ensures.book (subst IsSpent c.deref.ensures (c.write_image-status.ensures.full full))
+returns-clause-full c = λ _. of_some _ c.in-Some.ensures.book
+    (subst (λ (b : BookView). (c.write_image-status.result ≡ 5) ↔ IsSpent b) c.deref.ensures c.write_image-status.ensures.full)
