@@ -15,3 +15,4 @@ pub mod BarredNodesLemmas
 pub mod WalkLemmas
 pub mod WriteLemmas
 pub mod OrdinalWordLemmas
+pub mod OpenSlotLemmas

@@ -65,13 +65,6 @@ module _ (node : NodeInfo) (eligible : Bool) (load : ℕ) (marks : List Bool) (h
     | inr past ↦ absurd (let none = rw (least_free-past node eligible marks k first past) at room in cc)
   ]
 
--- the lowest free slot is one of the node, and is free
-pub free-found : (node : NodeInfo) (load : ℕ) (marks : List Bool) → AreMarks node load marks → (eligible : Bool) (k : ℕ)
-    → least_free (alone (row_of node eligible marks)) node ≡ Some k → (k < node.slots) × (get_or (take node.slots marks) k false ≡ false)
-free-found node load marks h eligible k e =
-    let found = first_slot-found (is_marked (row_of node eligible marks)) 0 node.slots k e in
-    (omega (arith, found.1), found.2)
-
 -- ---- writing a mark
 
 -- one mark is written, the others stay

@@ -1,13 +1,15 @@
 -- The row that is read at the position of its node, its ordinal, and what a write to it changes.
-use Rattle.std.proofs.Common.{◌≡◌, ℕ, ◌<◌, Bool, true, false, cond, eqb, List, length, get_or, set, Some, sym, ap, ◌∙◌}
+use Rattle.std.proofs.Common.{◌≡◌, ℕ, ◌<◌, Bool, true, false, cond, eqb, List, length, get_or, set, Some, IsSomeAnd, sym, ap, ◌∙◌, subst}
 use Rattle.std.proofs.lemmas.List.{get_or_default}
 use Rattle.lrc_code.specs.declared.numbers.NodeNo.{NodeNo}
+use Rattle.lrc_topology.specs.declared.NodeInfo.{NodeInfo}
+use Rattle.lrc_topology.specs.Nodes.{node_at}
 use Rattle.lrc_slots.specs.declared.listing.Listing.{Listing}
 use Rattle.lrc_slots.specs.Slots.{least_free, least_free_at, with_taken, with_free, with_eligible}
 use Rattle.lrc_slots.specs.Tables.{Row, Table, row_at, is_marked, slots_of}
 use Rattle.lrc_slots.specs.Rows.{position_of, alone}
 use Rattle.lrc_slots.specs.Indexes.{listed, is_listing_of, is_listed, AreIndexed}
-use Rattle.lrc_slots.proofs.TableLemmas.{row_at-position, row-position_of, least_free-alone, taken-alone, taken-within, slots_of-taken, slots_of-free, slots_of-eligible}
+use Rattle.lrc_slots.proofs.TableLemmas.{row_at-position, row-position_of, least_free-alone, node-alone, taken-alone, taken-within, slots_of-taken, slots_of-free, slots_of-eligible}
 use Rattle.lrc_slots.proofs.IndexLemmas.{indexed-set}
 
 module _ {rows now : Table} (view : rows ≡ now) (n : NodeNo) (i : ℕ) (is_at : position_of now n ≡ Some i)
@@ -27,6 +29,17 @@ module _ {rows now : Table} (view : rows ≡ now) (n : NodeNo) (i : ℕ) (is_at 
   -- the lowest free slot of the row is that of the node
   pub least_free-read : least_free_at (slots_of now) n ≡ least_free (alone x) x.node
   least_free-read = rw (← view) (least_free-alone rows n x found)
+
+  -- a slot of the node is one of the row
+  pub slot-read : (k : ℕ) → IsSomeAnd (node_at (slots_of now).nodes n) (λ m. k < m.slots) → k < x.node.slots
+  slot-read k within =
+      subst (λ o. IsSomeAnd o (λ (m : NodeInfo). k < m.slots)) (node-alone rows n x found) (rw (← view) at within)
+
+  -- a free slot of the node is not marked there
+  pub free-read : (k : ℕ) → (slots_of now).taken n k ≡ false → is_marked x k ≡ false
+  free-read k free =
+      let old : (slots_of rows).taken n k ≡ false = rw (← view) at free in
+      ap (λ (taken : ℕ → Bool). taken k) (sym (taken-alone rows n x found)) ∙ old
 
   -- a taken slot of the node is one of the row
   pub taken-low : (k : ℕ) → (slots_of now).taken n k ≡ true → k < length x.taken

@@ -155,9 +155,10 @@ impl NodeSlots {
         }
     }
 
-    /// Takes the slot, which must be the lowest free one.
+    /// Takes the slot, which must be free and one of the node's.
     pub(crate) fn take(&mut self, slot: u16)
-        requires { least_free (alone self.old) self.old.node ≡ Some slot }
+        requires within { slot < self.old.node.slots }
+        requires free { is_marked self.old slot ≡ false }
         ensures within { slot < length self.old.taken }
         ensures taken { self.new ≡ record self.old { taken = slice_set self.old.taken slot true } }
     {

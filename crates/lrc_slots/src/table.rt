@@ -1,4 +1,4 @@
-ghost use Rattle.std.specs.Prelude.{◌≡◌, ◌≤◌, ◌<◌, length, IsSome, IsSomeAnd, IsTrue, IfSome, IfOk, IfErr, map, filter, option_copied, option_map, is_some, Some, All, Contains};
+ghost use Rattle.std.specs.Prelude.{◌≡◌, ◌≤◌, ◌<◌, length, IsSome, IsSomeAnd, IsTrue, IsFalse, IfSome, IfOk, IfErr, map, filter, option_copied, option_map, is_some, Some, All, Contains};
 ghost use Rattle.lrc_code.specs.declared.fault.Fault.TheVariants.{OutOfMemory};
 ghost use Rattle.lrc_code.specs.Order.{least};
 ghost use Rattle.lrc_topology.specs.Nodes.{AreNodes, node_at};
@@ -126,11 +126,11 @@ impl SlotTable {
         Some(slot)
     }
 
-    /// Takes the lowest free slot of a node, which the caller got from `first_free`.
+    /// Takes a slot of a node, which must be free; `is_taken` is the test.
     #[inline(always)]
     pub fn take_slot(&mut self, node: NodeNo, slot: u16)
-        requires known { IsSome (node_at (slots_of self.old).nodes node) }
-        requires least { least_free_at (slots_of self.old) node ≡ Some slot }
+        requires within { IsSomeAnd (node_at (slots_of self.old).nodes node) (λ n. slot < n.slots) }
+        requires free { IsFalse ((slots_of self.old).taken node slot) }
         ensures { slots_of self.new ≡ with_taken (slots_of self.old) node (Some slot) }
     {
         let position = self.known_position(node);

@@ -1,20 +1,32 @@
-use Rattle.std.proofs.Common.{refl, sym, ◌∙◌, ap}
-use Rattle.lrc_slots.specs.Tables.{Row}
-use Rattle.lrc_slots.proofs.WriteLemmas.{least_free-read, taken-written, ordinal-low, ordinal-shown, row-replaced}
+use Rattle.std.proofs.Common.{ap}
+use Rattle.lrc_topology.specs.Nodes.{node_at}
+use Rattle.lrc_slots.specs.Tables.{Row, slots_of}
+use Rattle.lrc_slots.specs.Rows.{alone}
+use Rattle.lrc_slots.proofs.OpenSlotLemmas.{known-slot, open-least}
+use Rattle.lrc_slots.proofs.WriteLemmas.{slot-read, free-read, taken-written, ordinal-low, ordinal-shown, row-replaced}
 use Rattle.lrc_slots.proofs.table.SlotTable.take_slot.Goals as goal
 
+pub known_position-position-requires : goal.known_position-position-requires
+known_position-position-requires c = known-slot (node_at (slots_of c.args.self.now).nodes c.args.node) c.args.slot c.requires.within
+
 pub take-requires : goal.take-requires
-take-requires c =
-    sym (least_free-read c.self.view_is c.args.node c.known_position-position.result c.known_position-position.ensures.value c.index_mut-row.result.now
-    c.index_mut-row.ensures.value)
-    ∙ c.requires.least
+take-requires c = record {
+  within = slot-read c.self.view_is c.args.node c.known_position-position.result c.known_position-position.ensures.value c.index_mut-row.result.now
+      c.index_mut-row.ensures.value
+      c.args.slot c.requires.within;
+  free = free-read c.self.view_is c.args.node c.known_position-position.result c.known_position-position.ensures.value c.index_mut-row.result.now
+      c.index_mut-row.ensures.value
+      c.args.slot c.requires.free;
+}
 
 pub listing_with_room-lighter-requires : goal.listing_with_room-lighter-requires
 listing_with_room-lighter-requires c =
-    let least = sym (least_free-read c.self.view_is c.args.node c.known_position-position.result c.known_position-position.ensures.value c.index_mut-row.result.now
-    c.index_mut-row.ensures.value)
-    ∙ c.requires.least in
-    rw least refl
+    let x = c.index_mut-row.result.now in
+    open-least (alone x) x.node c.args.slot
+    (slot-read c.self.view_is c.args.node c.known_position-position.result c.known_position-position.ensures.value c.index_mut-row.result.now
+    c.index_mut-row.ensures.value c.args.slot c.requires.within)
+    (free-read c.self.view_is c.args.node c.known_position-position.result c.known_position-position.ensures.value c.index_mut-row.result.now
+    c.index_mut-row.ensures.value c.args.slot c.requires.free)
 
 pub relist-requires-clause-ordinal : goal.relist-requires-clause-ordinal
 relist-requires-clause-ordinal c =
