@@ -86,13 +86,13 @@ some-of (Some x) e = refl
 some-of None e = absurd (let never : true ≡ false = e in cc)
 
 -- what is said of a node's row
-record IsNodeRow (nodes : List NodeInfo) (before : List NodeRow) (r : NodeRow) : Type 0 where
-  after : All (λ b. node_first b r ≡ true) before
-  tells : tells_node r ≡ true
-  found : IsSome (node_at nodes r.node)
-  up : (is_gone r.mode && r.is_down) ≡ false
+pub record IsNodeRow (nodes : List NodeInfo) (before : List NodeRow) (r : NodeRow) : Type 0 where
+  pub after : All (λ b. node_first b r ≡ true) before
+  pub tells : tells_node r ≡ true
+  pub found : IsSome (node_at nodes r.node)
+  pub up : (is_gone r.mode && r.is_down) ≡ false
 
-node-row_is : (nodes : List NodeInfo) (before : List NodeRow) (r : NodeRow) → node_cause nodes before r ≡ None → IsNodeRow nodes before r
+pub node-row_is : (nodes : List NodeInfo) (before : List NodeRow) (r : NodeRow) → node_cause nodes before r ≡ None → IsNodeRow nodes before r
 node-row_is nodes before r none =
     let order = if-none (is_out_of_order node_first before r) cause.OutOfOrder _ none in
     let telling = if-none (not (tells_node r)) cause.SaysNothing _ order.1 in

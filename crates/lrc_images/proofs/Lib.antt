@@ -10,3 +10,6 @@ pub mod ImageLemmas
 pub mod SameRowsLemmas
 pub mod StateRowLemmas
 pub mod AlikeRowLemmas
+pub mod OneImageLemmas
+pub mod BaseLemmas
+pub mod BaseLeaseLemmas

@@ -49,7 +49,8 @@ homes_in rows = flat_map row_homes rows
 abbrev narrow_in : List StripeRow → List StripeNo
 narrow_in rows = map (λ r. r.stripe) (filter (λ r. is_narrow r.code) rows)
 
-homes-more : (before : List StripeRow) (r : StripeRow) → homes_in (before ++ r ∷ []) ≡ homes_in before ++ row_homes r
+-- the homes of one row more
+pub homes-more : (before : List StripeRow) (r : StripeRow) → homes_in (before ++ r ∷ []) ≡ homes_in before ++ row_homes r
 homes-more before r = flat_map-append row_homes before (r ∷ []) ∙ ap (λ (hs : List Held). homes_in before ++ hs) (append-nil (row_homes r))
 
 keep-all : (s : StripeNo) (xs : List StripeNo) → All (λ t. t ≢ s) xs → filter (is_other s) xs ≡ xs
@@ -76,12 +77,14 @@ module _ (before : List StripeRow) (r : StripeRow) (apart : All (λ b. b.stripe 
       ∙ map-append (λ (b : StripeRow). b.stripe) (filter (λ b. is_narrow b.code) before) (filter (λ b. is_narrow b.code) (r ∷ [])))
 
   module _ (i : Image) (homes : List Held) where
-    row-absent : has_stripe (with_homes i before homes) r.stripe ≡ false
+    -- no earlier row has the stripe
+    pub row-absent : has_stripe (with_homes i before homes) r.stripe ≡ false
     row-absent = stripe-absent (with_homes i before homes) r.stripe (λ here.
         let m = member-map (λ (b : StripeRow). b.stripe) before r.stripe here in
         All-contains (λ (b : StripeRow). b.stripe ≢ r.stripe) before m.0 apart m.1 m.2)
 
-    row-is : with_stripe (with_homes i before homes) r.code r.stripe ≡ with_homes i (before ++ r ∷ []) homes
+    -- and with it added, the rows are one more
+    pub row-is : with_stripe (with_homes i before homes) r.code r.stripe ≡ with_homes i (before ++ r ∷ []) homes
     row-is =
         ap₂ (λ (stripes narrow : List StripeNo). record (image_state i) { stripes = stripes; narrow = narrow; homes = homes; leases = [] })
         (sym (map-append (λ (b : StripeRow). b.stripe) before (r ∷ []))) narrow-more

@@ -23,7 +23,7 @@ use Rattle.lrc_images.specs.declared.image.Image.{Image}
 use Rattle.lrc_images.specs.Images.{earlier, is_narrow, row_homes, row_lease, image_state}
 use Rattle.lrc_images.specs.Rising.{node_first, stripe_first, grant_first, lease_first, tells_node, tells_grants}
 
--- ---- the largest numbers that leave room for a history of 1,000,000 entries
+-- ---- the most with which a book can begin, so that there is room for a history of 1,000,000 entries
 
 -- of grants of a fragment
 abbrev pub most_grants : ℕ

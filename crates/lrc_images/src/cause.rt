@@ -3,9 +3,9 @@
 pub enum Cause {
     /// No node is in the upgrade domain that is upgrading.
     UnknownDomain,
-    /// The number of entries before the image is too large.
+    /// The number of entries before the image is too large to leave room for a history.
     TooManyEntries,
-    /// The number of ticks is too large: an expiry would pass its largest value.
+    /// The number of ticks is too large to leave room for a history.
     TooManyTicks,
     /// The row does not come after every earlier row of its list.
     OutOfOrder,

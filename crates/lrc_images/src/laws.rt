@@ -1,4 +1,7 @@
 //! Laws of images: what rising rows say, and which images are worlds that a book can begin in.
+//! `bases` has laws of the histories that begin in such a world.
+
+pub mod bases;
 
 ghost use Rattle.std.specs.Prelude.{◌≡◌, ◌≢◌, ◌≤◌, IsTrue, IsFalse, AllPairs, Contains};
 ghost use Rattle.std.specs.Prelude.{ℕ, List, get_or, None};
@@ -11,7 +14,7 @@ ghost use Rattle.lrc_terms.specs.Leased.{AreOneEach};
 ghost use Rattle.lrc_rules.specs.States.{has_number};
 ghost use Rattle.lrc_rules.specs.Leases.{grants};
 ghost use Rattle.lrc_rules.specs.Histories.{World};
-ghost use Rattle.lrc_rules.specs.Goodness.{IsGood};
+ghost use Rattle.lrc_rules.specs.Goodness.{AreSeated, IsGood};
 ghost use Rattle.lrc_rules.specs.Tidiness.{IsTidy};
 ghost use Rattle.lrc_rules.specs.Alike.{AreAlike, AreDistinct};
 ghost use Rattle.lrc_rules.specs.Futures.{HaveSameGrants};
@@ -108,4 +111,14 @@ pub fn images_are_alike()
     ensures alike { (nodes : List NodeInfo) (w : World) (before : ℕ) (i : Image)
         → AreNodes nodes → IsGood nodes w.past w.state → IsTidy nodes w.state
         → IsImageOf nodes w.past w.state before i → AreAlike w.state (image_state i) }
+{}
+
+/// An image of a state is an image of each state that is alike, if both meet `AreSeated` and as many
+/// leases of each fragment were granted. So replicas have one image, and a book that begins in an
+/// image has it.
+pub fn alike_states_have_one_image()
+    ensures { (nodes : List NodeInfo) (w v : World) (before : ℕ) (i : Image)
+        → AreSeated nodes w.state → AreSeated nodes v.state
+        → AreAlike w.state v.state → HaveSameGrants w.past v.past
+        → IsImageOf nodes w.past w.state before i → IsImageOf nodes v.past v.state before i }
 {}

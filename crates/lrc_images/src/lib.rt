@@ -10,6 +10,8 @@
 mod cause;
 mod image;
 pub mod laws;
+mod limits;
 
 pub use cause::Cause;
 pub use image::{GrantRow, Image, LeaseRow, NodeRow, StripeRow};
+pub use limits::{MOST_ENTRIES, MOST_GRANTS, MOST_TICKS};
