@@ -5,8 +5,8 @@ use Rattle.std.proofs.lemmas.List.Sums.{fold-append}
 use Rattle.std.proofs.lemmas.List.Elements.{All-nil, All-cons, All-push}
 use Rattle.lrc_images.specs.declared.image.Image.{Image}
 use Rattle.lrc_image_text.specs.Lines.{Line, Version, Before, Clock, Upgrading, Node, Stripe, Grants, Lease, End, lines_text, IsReadable}
-use Rattle.lrc_image_text.specs.Texts.{section, after_line, after_lines, upgrading_lines, begun_lines, image_text, IsWritten, IsBadLine}
-use Rattle.lrc_image_text.specs.Fronts.{line_on, IsHead, IsBody}
+use Rattle.lrc_image_text.specs.Texts.{section, after_line, after_lines, upgrading_lines, begun_lines, image_text, IsWritten, IsBadLine, IsHead}
+use Rattle.lrc_image_text.specs.Fronts.{line_on, IsBody}
 use Rattle.lrc_image_text.proofs.TextLemmas.{head_lines}
 use Rattle.lrc_image_text.proofs.LineLemmas.{lines_on, bad_line}
 use Rattle.lrc_image_text.proofs.ReachLemmas.{IsReadTo, may_come-later, later-may_come, IsReadTo-upgrading, IsReadTo-rows, node_of, stripe_of, grants_of, lease_of}

@@ -3,8 +3,8 @@ use Rattle.std.proofs.Common.{◌≡◌, ◌≢◌, ℕ, ◌^◌, ◌<◌, true,
 use Rattle.std.proofs.lemmas.Bool.{true≢false}
 use Rattle.std.proofs.lemmas.List.Elements.{All-nil, All-cons}
 use Rattle.lrc_image_text.specs.Lines.{Line, Version, Before, Clock, lines_text, IsReadable}
-use Rattle.lrc_image_text.specs.Texts.{may_come, IsBadLine}
-use Rattle.lrc_image_text.specs.Fronts.{line_on, IsHead}
+use Rattle.lrc_image_text.specs.Texts.{may_come, IsBadLine, IsHead}
+use Rattle.lrc_image_text.specs.Fronts.{line_on}
 use Rattle.lrc_image_text.proofs.LineLemmas.{lines_on, bad_line}
 
 not_first : (left : List ℕ) → ((rest : List ℕ) → left ≢ codes "image 1\n" ++ rest) → (line : Line) (rest : List ℕ) → IsReadable line → may_come 0 line ≡ true → left ≢ line_on line rest

@@ -1,12 +1,12 @@
 -- Internal: no public clause reaches these definitions.
 -- What a text starts with.
-use Rattle.std.specs.Prelude.{◌≡◌, ◌≢◌, ℕ, ◌<◌, ◌^◌, Bool, true, false, List, [], ◌∷◌, ◌++◌, map, All, Option, Some, None}
+use Rattle.std.specs.Prelude.{◌≡◌, ◌≢◌, ℕ, Bool, true, false, List, [], ◌∷◌, ◌++◌, map, All, Option, Some, None}
 use Rattle.std.specs.Borrow.{Bor}
 use Rattle.lrc_code.specs.declared.numbers.UpgradeNo.{UpgradeNo}
 use Rattle.lrc_terms.specs.declared.mode.Mode.{Mode}
 use Rattle.lrc_terms.specs.declared.mode.Mode.TheVariants.{Active}
 use Rattle.lrc_images.specs.declared.image.Image.{Image}
-use Rattle.lrc_image_text.specs.Lines.{Line, Version, Before, Clock, Upgrading, Node, Stripe, Grants, Lease, first_word, other_words, lines_text, IsReadable}
+use Rattle.lrc_image_text.specs.Lines.{Line, Upgrading, Node, Stripe, Grants, Lease, first_word, other_words, lines_text, IsReadable}
 use Rattle.lrc_image_text.specs.Texts.{upgrading_lines}
 
 -- the byte behind a word, which is the last of its line or not
@@ -60,12 +60,6 @@ pub record IsBody (before clock : ℕ) (text : List ℕ) (i : Image) (left : Lis
   pub stripes : StartsWithRows Stripe behind_nodes i.stripes.items behind_stripes
   pub grants : StartsWithRows Grants behind_stripes i.grants.items behind_grants
   pub leases : StartsWithRows Lease behind_grants i.leases.items left
-
--- the numbers of an image's first three lines, and the text behind them
-pub record IsHead (text : List ℕ) (before clock : ℕ) (left : List ℕ) : Type 0 where
-  pub before_fits : before < 2 ^ 64
-  pub clock_fits : clock < 4294967296
-  pub text_is : text ≡ lines_text (Version ∷ Before before ∷ Clock clock ∷ []) ++ left
 
 -- a row more is read and this is left, or the text starts with no row
 abbrev pub IsRowRead : {X : Type 0} → (X → Line) → List ℕ → List X → List X → Option (Bor (List ℕ)) → Type 0

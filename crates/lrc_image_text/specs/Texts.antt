@@ -1,5 +1,5 @@
 -- The text of an image, and the bad line of a text that is none.
-use Rattle.std.specs.Prelude.{◌≡◌, ◌≢◌, ℕ, ◌+◌, Bool, true, if◌then◌else◌, nat_lt, nat_le, nat_eq, List, [], ◌∷◌, ◌++◌, length, map, fold, All, Option, Some, None}
+use Rattle.std.specs.Prelude.{◌≡◌, ◌≢◌, ℕ, ◌+◌, ◌<◌, ◌^◌, Bool, true, if◌then◌else◌, nat_lt, nat_le, nat_eq, List, [], ◌∷◌, ◌++◌, length, map, fold, All, Option, Some, None}
 use Rattle.lrc_code.specs.declared.numbers.UpgradeNo.{UpgradeNo}
 use Rattle.lrc_images.specs.declared.image.Image.{Image}
 use Rattle.lrc_image_text.specs.declared.error.ImageTextError.{ImageTextError}
@@ -82,10 +82,24 @@ pub record IsBadLine (text : List ℕ) (number : ℕ) : Type 0 where
   pub bad : (line : Line) (rest : List ℕ) → IsReadable line → may_come first line ≡ true → left ≢ line_text line ++ rest
   pub more : first ≡ 9 → left ≢ []
 
--- the error tells the bad line, or that there is no memory
+-- ---- refused texts
+
+-- the text begins with the first three lines of an image, with these numbers, and this is left
+pub record IsHead (text : List ℕ) (before clock : ℕ) (left : List ℕ) : Type 0 where
+  pub before_fits : before < 2 ^ 64
+  pub clock_fits : clock < 4294967296
+  pub text_is : text ≡ lines_text (Version ∷ Before before ∷ Clock clock ∷ []) ++ left
+
+-- the first three lines of the text can be read
+abbrev pub HasHead : List ℕ → Type 0
+HasHead text = (before : ℕ) × (clock : ℕ) × (left : List ℕ) × IsHead text before clock left
+
+-- the error tells the bad line, or that there is no memory for the lines after the third one
 abbrev pub IsRefused : List ℕ → ImageTextError → Type 0
 IsRefused text (BadLine number) = IsBadLine text number
-IsRefused text OutOfMemory = Unit {0}
+IsRefused text OutOfMemory = HasHead text
+
+-- ---- rows
 
 -- the two images have the same rows
 pub record HaveSameRows (i j : Image) : Type 0 where

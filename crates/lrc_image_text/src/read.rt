@@ -1,8 +1,8 @@
 //! Reads the text of an image.
 
 ghost use Rattle.std.specs.Prelude.{◌≡◌, ◌≢◌, ℕ, ◌+◌, ◌^◌, ◌<◌, ◌∷◌, ◌++◌, List, length, codes, decimal, IfOk, IfErr, IfSome, IfNone};
-ghost use Rattle.lrc_image_text.specs.Texts.{upgrading_lines, begun_lines, image_text, IsWritten, IsBadLine, IsRefused};
-ghost use Rattle.lrc_image_text.specs.Fronts.{IsHead, IsBody, StartsWithRows, StartsWithUpgrading, IsRowRead};
+ghost use Rattle.lrc_image_text.specs.Texts.{upgrading_lines, begun_lines, image_text, IsWritten, IsBadLine, IsHead, IsRefused};
+ghost use Rattle.lrc_image_text.specs.Fronts.{IsBody, StartsWithRows, StartsWithUpgrading, IsRowRead};
 ghost use Rattle.lrc_image_text.specs.declared.error.ImageTextError.TheVariants.{OutOfMemory};
 
 use crate::ImageTextError;
@@ -24,7 +24,7 @@ const UPGRADE_BOUND: u64 = 256;
 /// # Errors
 ///
 /// `BadLine` with the number of the first line that may not come where it stands, and
-/// `OutOfMemory`.
+/// `OutOfMemory` only if the first three lines can be read.
 pub fn read_image(alloc: Global, text: &[u8]) -> Result<Image, ImageTextError>
     ensures read { IfOk result (λ i. IsWritten i × (text.now ≡ image_text i)) }
     ensures refused { IfErr result (IsRefused text.now) }
