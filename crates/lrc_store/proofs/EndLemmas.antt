@@ -2,7 +2,7 @@
 use Rattle.std.proofs.Common.{[], ◌≡◌, ◌≢◌, ℕ, is_some, IsSomeAnd, lt-ltb, ◌-◌, ◌<◌, Bool, true, false, not, nat_lt, List, ◌∷◌, map, filter, find, Option, Some, None, IsTrue, refl, sym, ap, ◌∙◌, subst, inl, inr}
 use Rattle.std.specs.List.{All, Contains}
 use Rattle.std.specs.Option.{option_map_or}
-use Rattle.std.proofs.lemmas.Bool.{cases_Bool}
+use Rattle.std.proofs.lemmas.Bool.{cases_Bool, false_from_ne_true}
 use Rattle.std.proofs.lemmas.List.Elements.{All-contains, Contains-append_left, Contains-push, Contains-push_cases}
 use Rattle.lrc_code.specs.declared.numbers.StripeNo.{StripeNo}
 use Rattle.lrc_code.specs.declared.numbers.NodeNo.{NodeNo}
@@ -11,6 +11,7 @@ use Rattle.lrc_code.specs.Codes.{has_fragment}
 use Rattle.lrc_topology.specs.declared.NodeInfo.{NodeInfo}
 use Rattle.lrc_topology.specs.declared.seat.Held.{Held}
 use Rattle.lrc_topology.specs.Nodes.{node_at}
+use Rattle.lrc_topology.specs.Seats.{is_taken}
 use Rattle.lrc_slots.specs.Slots.{Slots, with_taken, with_free}
 use Rattle.lrc_slots.specs.Tables.{slots_of}
 use Rattle.lrc_nodes.specs.States.{infos_in}
@@ -23,22 +24,22 @@ use Rattle.lrc_code.specs.Losses.{bits_set}
 use Rattle.lrc_leases.specs.Tables.{leased_in}
 use Rattle.lrc_terms.proofs.LeaseLemmas.{leased_of-less, leased_of-append}
 use Rattle.lrc_store.specs.declared.store.Store.{Store}
-use Rattle.lrc_rules.specs.States.{State, held_by, taken_seats, lease_of}
+use Rattle.lrc_rules.specs.States.{State, held_by, seats_of, taken_seats, lease_of}
 use Rattle.lrc_rules.specs.Leases.{with_lease, without_lease, without_home, moved_in}
 use Rattle.lrc_rules.specs.Goodness.{AreSeated, IsStanding}
 use Rattle.lrc_bars.specs.Ties.{table_of, kept_table}
 use Rattle.lrc_store.specs.Dropping.{unleased}
 use Rattle.lrc_rules.specs.Steps.{without_upgrading}
-use Rattle.lrc_store.specs.Stores.{IsOf, IsGrant}
+use Rattle.lrc_store.specs.Stores.{IsOf, IsGrant, MayLease}
 use Rattle.lrc_store.proofs.NodeStateLemmas.{infos-kept}
 use Rattle.lrc_bars.proofs.ClosedLemmas.{settled-seated}
 use Rattle.lrc_rules.proofs.MemberLemmas.{map-member, filter-member, member-filter}
-use Rattle.lrc_rules.proofs.NodeLemmas.{member-taken}
+use Rattle.lrc_rules.proofs.NodeLemmas.{member-taken, taken-member}
 use Rattle.lrc_rules.proofs.PairLemmas.{pairs-across, pairs-right, pairs-members}
 use Rattle.lrc_rules.proofs.SeatingLists.{pairs-unmap}
-use Rattle.lrc_rules.proofs.SeatingLemmas.{held-single}
-use Rattle.lrc_rules.proofs.LeaseGoodLemmas.{granted-seated, ended-seated, moved-seated}
-use Rattle.lrc_rules.proofs.TakenLemmas.{taken-cases, home-seat, target-seat, taken-same}
+use Rattle.lrc_rules.proofs.SeatingLemmas.{MayStand, held-single, leased-seated, choice-stands}
+use Rattle.lrc_rules.proofs.LeaseGoodLemmas.{ended-seated, moved-seated}
+use Rattle.lrc_rules.proofs.TakenLemmas.{taken-cases, home-seat, target-seat, taken-same, member-map}
 use Rattle.lrc_store.proofs.StoredLemmas.{stored-put, stored-free, own-spare}
 use Rattle.lrc_store.proofs.PlacingLemmas.{chosen-here}
 use Rattle.lrc_bars.proofs.SlotTableLemmas.{table-more, table-less}
@@ -220,14 +221,32 @@ module _ (st : State) (k : Store) (kept : IsOf st k) (s : StripeNo) (f : Fragmen
     clock_is = kept.clock_is;
   }
 
--- ---- what is kept when one is granted
+-- ---- what is kept when one is added
 
-module _ (st : State) (k : Store) (kept : IsOf st k) (l : Lease) (told : IsGrant k.topology st l) where
+within-of : (slot : ℕ) (P : Type 0) (o : Option NodeInfo) → IsSomeAnd o (λ n. (slot < n.slots) × P) → IsSomeAnd o (λ n. slot < n.slots)
+within-of slot P (Some n) both = both.0
+within-of slot P None both = absurd both
+
+module _ (st : State) (k : Store) (kept : IsOf st k) (l : Lease) (may : MayLease k.topology st l) where
   abbrev pub next : State
   next = with_lease st l
 
-  pub grant-table : with_taken (kept_table k.topology st) l.target.node (Some l.target.slot) ≡ kept_table k.topology (with_lease st l)
-  grant-table = table-more k.topology (without_upgrading st) l.target (taken_seats next) (target-seat next l (Contains-push st.leases l))
+  -- its target is a slot of a node
+  pub target-within : IsSomeAnd (node_at (slots_of k.table).nodes l.target.node) (λ n. l.target.slot < n.slots)
+  target-within =
+      subst (λ (t : Slots). IsSomeAnd (node_at t.nodes l.target.node) (λ n. l.target.slot < n.slots)) (sym kept.table_is)
+      (within-of l.target.slot _ (node_at k.topology l.target.node) may.standing)
+
+  -- and free
+  pub target-free : (slots_of k.table).taken l.target.node l.target.slot ≡ false
+  target-free =
+      ap (λ (t : Slots). t.taken l.target.node l.target.slot) kept.table_is
+      ∙ false_from_ne_true (is_taken (taken_seats st) l.target.node l.target.slot) (λ hit.
+      let m = member-map (λ (h : Held). h.seat) (seats_of st) l.target (taken-member (taken_seats st) l.target.node l.target.slot hit) in
+      All-contains (λ h. h.seat ≢ l.target) (seats_of st) m.0 may.others m.1 m.2)
+
+  add-table : with_taken (kept_table k.topology st) l.target.node (Some l.target.slot) ≡ kept_table k.topology (with_lease st l)
+  add-table = table-more k.topology (without_upgrading st) l.target (taken_seats next) (target-seat next l (Contains-push st.leases l))
       (λ b here. elim (taken-cases st b here) [
         | inl (h, at, e) ↦ subst (Contains (taken_seats next)) e (home-seat next h at)
         | inr (m, at, e) ↦ subst (Contains (taken_seats next)) e (target-seat next m (Contains-append_left st.leases (l ∷ []) m at))
@@ -240,20 +259,43 @@ module _ (st : State) (k : Store) (kept : IsOf st k) (l : Lease) (told : IsGrant
         ]
       ])
 
-  pub grant-kept : (table : slot_tables.Table) (leases : lease_tables.Table)
+  may-stand : MayStand k.topology st (held_by l)
+  may-stand = record {
+    standing = may.standing;
+    others = may.others;
+    apart = may.apart;
+    there = stripe-there st l.stripe may.there;
+    within = may.own;
+  }
+
+  pub add-kept : (table : slot_tables.Table) (leases : lease_tables.Table)
       → slots_of table ≡ with_taken (slots_of k.table) l.target.node (Some l.target.slot) → leased_in leases ≡ leased.with_lease (leased_in k.leases) l
       → IsOf (with_lease st l) (record k { table = table; leases = leases })
-  grant-kept table leases taken added = record {
+  add-kept table leases taken added = record {
     known = kept.known;
-    seated = granted-seated k.topology kept.known st l kept.seated (chosen-here st k kept l.stripe l.fragment l.target told.chosen_is) (stripe-there st l.stripe told.there) told.own told.new;
-    table_is = taken ∙ ap (λ (t : Slots). with_taken t l.target.node (Some l.target.slot)) kept.table_is ∙ grant-table;
+    seated = leased-seated k.topology st kept.seated l may-stand may.new;
+    table_is = taken ∙ ap (λ (t : Slots). with_taken t l.target.node (Some l.target.slot)) kept.table_is ∙ add-table;
     stripes_is = kept.stripes_is;
     leases_is = own-room (with_lease st l).leases (leased_in leases) ((leased_in k.leases).spare - 1)
-        (added ∙ ap (λ (t : Leased). leased.with_lease t l) kept.leases_is ∙ sym (leased_of-append st.leases l (leased_in k.leases).spare told.new));
+        (added ∙ ap (λ (t : Leased). leased.with_lease t l) kept.leases_is ∙ sym (leased_of-append st.leases l (leased_in k.leases).spare may.new));
     apart = kept.apart;
     upgrading_is = kept.upgrading_is;
     clock_is = kept.clock_is;
   }
+
+-- a lease that is granted may be added
+pub grant-may : (st : State) (k : Store) → IsOf st k → (l : Lease) → IsGrant k.topology st l → MayLease k.topology st l
+grant-may st k kept l told =
+    let may = choice-stands k.topology kept.known st l.stripe l.fragment l.target (chosen-here st k kept l.stripe l.fragment l.target told.chosen_is)
+    (stripe-there st l.stripe told.there) told.own in
+    record {
+      there = told.there;
+      own = told.own;
+      new = told.new;
+      standing = may.standing;
+      others = may.others;
+      apart = may.apart;
+    }
 
 -- ---- a stripe without leases
 

@@ -90,16 +90,16 @@ module _ (nodes : List NodeInfo) (n : NodeNo) (was : State) (gone draining down 
 -- with all told, what is kept is that of the state
 pub state-kept : (n : NodeNo) (was : State) (gone draining down : List NodeNo) (k : Store) → IsOf was k
     → (let st = record was { gone = gone; draining = draining; down = down } in AreSeated k.topology st → NoneBoth st → IsSome (node_at k.topology n)
-    → ((m : NodeNo) → same_node n m ≡ false → IsAsItWas was m st) → (mode : Mode) (b takes : Bool) → mode ≡ mode_of st n → b ≡ is_down st n → takes ≡ (is_active mode && not b)
-    → (table : slots.Table) (stripes : tables.Table) → slots_of table ≡ with_eligible (slots_of k.table) n takes → stored_in stripes ≡ stored.with_state (stored_in k.stripes) n mode b
+    → ((m : NodeNo) → same_node n m ≡ false → IsAsItWas was m st) → (mode : Mode) (b : Bool) → mode ≡ mode_of st n → b ≡ is_down st n
+    → (table : slots.Table) (stripes : tables.Table) → slots_of table ≡ with_eligible (slots_of k.table) n (is_active mode && not b) → stored_in stripes ≡ stored.with_state (stored_in k.stripes) n mode b
     → IsOf st (record k { table = table; stripes = stripes }))
-state-kept n was gone draining down k kept seated apart there others mode b takes mode_is down_is takes_is table stripes set set_too =
+state-kept n was gone draining down k kept seated apart there others mode b mode_is down_is table stripes set set_too =
     let st : State = record was { gone = gone; draining = draining; down = down } in
     record {
       known = kept.known;
       seated = seated;
       apart = apart;
-      table_is = set ∙ ap₂ (λ (t : Slots) (c : Bool). with_eligible t n c) kept.table_is (takes_is ∙ ap₂ (λ (m : Mode) (d : Bool). is_active m && not d) mode_is down_is)
+      table_is = set ∙ ap₂ (λ (t : Slots) (c : Bool). with_eligible t n c) kept.table_is (ap₂ (λ (m : Mode) (d : Bool). is_active m && not d) mode_is down_is)
           ∙ table-set k.topology n was gone draining down others there;
       stripes_is = own-spare k.topology st (stored_in stripes) (stored_in k.stripes).spare
           (set_too ∙ ap (λ (t : Stored). stored.with_state t n mode b) kept.stripes_is ∙ stored-set k.topology n was gone draining down others mode b mode_is down_is (stored_in k.stripes).spare);

@@ -74,10 +74,10 @@ apart-emptied _ st n apart = apart
 
 -- with the state of the node told, what is kept is that of the state that the command leaves
 pub command-kept : (command : NodeCommand) (st : State) (n : NodeNo) (k : Store) → IsOf (emptied_if command st n) k → NoneBoth st → (node_outcome k.topology st command n).0 ≡ Changed
-    → (mode : Mode) (b takes : Bool) → mode ≡ mode_of (changed_on command st n) n → b ≡ is_down (changed_on command st n) n → takes ≡ (is_active mode && not b)
-    → (table : slots.Table) (stripes : tables.Table) → slots_of table ≡ with_eligible (slots_of k.table) n takes → stored_in stripes ≡ stored.with_state (stored_in k.stripes) n mode b
+    → (mode : Mode) (b : Bool) → mode ≡ mode_of (changed_on command st n) n → b ≡ is_down (changed_on command st n) n
+    → (table : slots.Table) (stripes : tables.Table) → slots_of table ≡ with_eligible (slots_of k.table) n (is_active mode && not b) → stored_in stripes ≡ stored.with_state (stored_in k.stripes) n mode b
     → IsOf (changed_on command st n) (record k { table = table; stripes = stripes })
-command-kept command st n k kept apart told mode b takes mode_is down_is takes_is table stripes set set_too =
+command-kept command st n k kept apart told mode b mode_is down_is table stripes set set_too =
     let allowed = done-allowed k.topology st command n told in
     let was = emptied_if command st n in
     let next = changed_on command st n in
@@ -87,5 +87,5 @@ command-kept command st n k kept apart told mode b takes mode_is down_is takes_i
     (state-kept n was next.gone next.draining next.down k kept
     (subst (AreSeated k.topology) (sym same) (mode-seated k.topology st n command kept.seated allowed))
     (subst NoneBoth (sym same) (command-both st apart command n allowed.right)) allowed.known
-    (λ m other. subst (IsAsItWas was m) (sym same) (mode-apart was n m other command)) mode b takes
-    (mode_is ∙ ap (λ (x : State). mode_of x n) (sym same)) (down_is ∙ ap (λ (x : State). is_down x n) (sym same)) takes_is table stripes set set_too)
+    (λ m other. subst (IsAsItWas was m) (sym same) (mode-apart was n m other command)) mode b
+    (mode_is ∙ ap (λ (x : State). mode_of x n) (sym same)) (down_is ∙ ap (λ (x : State). is_down x n) (sym same)) table stripes set set_too)

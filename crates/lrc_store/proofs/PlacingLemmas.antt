@@ -1,5 +1,5 @@
 -- A home that is given, and a stripe's fragments placed one after the other.
-use Rattle.std.proofs.Common.{[], ◌≡◌, inl, inr, lt-ltb, ℕ, ◌+◌, ◌-◌, ◌<◌, ◌≤◌, true, false, nat_lt, List, ◌∷◌, ◌++◌, length, take, drop, get_or, Option, Some, IsSome, refl, sym, ap, ◌∙◌, subst, append_assoc, append-nil, arith}
+use Rattle.std.proofs.Common.{[], ◌≡◌, inl, inr, lt-ltb, ℕ, ◌+◌, ◌-◌, ◌<◌, ◌≤◌, true, false, nat_lt, List, ◌∷◌, ◌++◌, length, take, drop, get_or, Option, Some, sym, ap, ◌∙◌, subst, append_assoc, append-nil, arith}
 use Rattle.std.specs.Option.{option_map_or}
 use Rattle.std.specs.List.{All, Contains}
 use Rattle.std.proofs.lemmas.List.{drop_more, take_more, take_all}
@@ -46,10 +46,6 @@ use Rattle.lrc_bars.proofs.SlotTableLemmas.{table-more}
 module _ (st : State) (k : Store) (kept : IsOf st k) (s : StripeNo) (f : Fragment) (seat : Seat) (chosen_is : chosen k.topology st s f ≡ Some seat) where
   pub chosen-here : IsChoice k.topology st s f seat
   chosen-here = chosen-choice k.topology st s f seat kept.known chosen_is
-
-  -- the seat's node is one of the nodes
-  pub chosen-known : IsSome (node_at (slots_of k.table).nodes seat.node)
-  chosen-known = rw (kept.table_is, chosen-here.on, node_at-member k.topology kept.known chosen-here.node chosen-here.fitting.known) refl
 
   -- the slot that is taken is the seat's
   pub chosen-taken : least_free_at (slots_of k.table) seat.node ≡ Some seat.slot
@@ -122,11 +118,7 @@ module _ (nodes : List NodeInfo) (known : AreNodes nodes) (st : State) (code : C
     found : node_at nodes seat.node ≡ Some choice.node
     found = ap (node_at nodes) choice.on ∙ node_at-member nodes known choice.node choice.fitting.known
 
-    -- the next seat is on one of the nodes
-    pub taken-known : IsSome (node_at table.nodes seat.node)
-    taken-known = rw (p.table_is, found) refl
-
-    -- and its slot is the least free one there
+    -- the slot of the next seat is the least free one there
     pub taken-least : least_free_at table seat.node ≡ Some seat.slot
     taken-least = ap (λ (t : Slots). least_free_at t seat.node) p.table_is ∙ chosen-first_free nodes now s f seat known rest.0
 

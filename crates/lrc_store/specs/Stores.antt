@@ -1,5 +1,5 @@
 -- What a book keeps of a state, and the room that it has.
-use Rattle.std.specs.Prelude.{◌≡◌, ◌<◌, ℕ, Bool, ◌&&◌, true, false, if◌then◌else◌, nat_le, List, map, Option, Some, None, IsTrue}
+use Rattle.std.specs.Prelude.{◌≡◌, ◌≢◌, ◌<◌, ℕ, Bool, ◌&&◌, true, false, if◌then◌else◌, nat_le, List, map, All, Option, Some, None, IsTrue}
 use Rattle.lrc_code.specs.declared.numbers.StripeNo.{StripeNo}
 use Rattle.lrc_code.specs.declared.numbers.NodeNo.{NodeNo}
 use Rattle.lrc_code.specs.declared.numbers.Fragment.{Fragment}
@@ -17,12 +17,12 @@ use Rattle.lrc_leases.specs.Tables.{leased_in}
 use Rattle.lrc_leases.specs.Granted.{granted_in}
 use Rattle.lrc_rules.specs.declared.entry.Entry.{Entry}
 use Rattle.lrc_store.specs.declared.store.Store.{Store}
-use Rattle.lrc_rules.specs.States.{State, has_stripe, lease_of, code_of, has_number, mode_of, is_down, is_upgrading}
+use Rattle.lrc_rules.specs.States.{State, has_stripe, lease_of, code_of, held_by, seats_of, has_number, mode_of, is_down, is_upgrading}
 use Rattle.lrc_rules.specs.Placement.{chosen}
 use Rattle.lrc_rules.specs.declared.kind.Kind.{Kind}
 use Rattle.lrc_rules.specs.Repairs.{kind, is_beyond_repair}
 use Rattle.lrc_rules.specs.Leases.{grants}
-use Rattle.lrc_rules.specs.Goodness.{AreSeated}
+use Rattle.lrc_rules.specs.Goodness.{AreSeated, IsStanding, KeepApart}
 use Rattle.lrc_bars.specs.Ties.{kept_table}
 
 -- a node with its state
@@ -65,6 +65,16 @@ pub record IsGrant (nodes : List NodeInfo) (st : State) (lease : Lease) : Type 0
   pub own : IsTrue (has_fragment (code_of st lease.stripe) lease.fragment.value)
   pub new : lease_of st lease.stripe lease.fragment ≡ None
   pub chosen_is : chosen nodes st lease.stripe lease.fragment ≡ Some lease.target
+
+-- The lease may be added: the stripe is there, and its code has the fragment, which has no lease. The target is a free
+-- slot of a node that is not gone, apart from the seats of the stripe's other fragments.
+pub record MayLease (nodes : List NodeInfo) (st : State) (lease : Lease) : Type 0 where
+  pub there : has_stripe st lease.stripe ≡ true
+  pub own : IsTrue (has_fragment (code_of st lease.stripe) lease.fragment.value)
+  pub new : lease_of st lease.stripe lease.fragment ≡ None
+  pub standing : IsStanding nodes st lease.target
+  pub others : All (λ h. h.seat ≢ lease.target) (seats_of st)
+  pub apart : All (λ h. KeepApart nodes st h (held_by lease)) (seats_of st)
 
 -- how a fragment is rebuilt, if it can be
 abbrev pub repair_of : List NodeInfo → State → StripeNo → Fragment → Option Kind

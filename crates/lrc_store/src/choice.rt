@@ -1,7 +1,7 @@
 //! The choice of a seat, from the slot table and the seats of the stripe's other fragments.
 
 ghost use Rattle.std.specs.Prelude.{◌≡◌, ◌++◌, ◌∷◌, [], true, false, IsTrue, IfSome, IsSome, List, Some, None, map, option_map, is_some};
-ghost use Rattle.std.specs.List.{All};
+ghost use Rattle.std.specs.List.{All, list_any};
 ghost use Rattle.lrc_code.specs.declared.codes.Code.{Code as AnyCode};
 ghost use Rattle.lrc_code.specs.declared.numbers.StripeNo.{StripeNo};
 ghost use Rattle.lrc_code.specs.declared.numbers.Fragment.{Fragment};
@@ -15,8 +15,8 @@ ghost use Rattle.lrc_slots.specs.Tables.{slots_of, barred};
 ghost use Rattle.lrc_stripes.specs.Tables.{stored_in};
 ghost use Rattle.lrc_terms.specs.Leased.{leased_at};
 ghost use Rattle.lrc_leases.specs.Tables.{leased_in};
-ghost use Rattle.lrc_rules.specs.States.{State, has_stripe, held_by};
-ghost use Rattle.lrc_rules.specs.Placement.{chosen, is_beside};
+ghost use Rattle.lrc_rules.specs.States.{State, has_stripe, held_by, seats_of};
+ghost use Rattle.lrc_rules.specs.Placement.{chosen, bars, is_beside};
 ghost use Rattle.lrc_rules.specs.Steps.{with_stripe};
 ghost use Rattle.lrc_bars.specs.Ties.{table_of, bars_in, next_seat, with_homes, closed, with_seat, AreClassMembers};
 ghost use Rattle.lrc_store.specs.Stores.{IsOf, IsTied};
@@ -27,7 +27,8 @@ use crate::store::Store;
 use lrc_bars::{ClassBars, Neighbours};
 use lrc_code::{Class, Code, Fragment, LossMask, StripeNo};
 use lrc_rules::Seat;
-use lrc_slots::{BarredDomains, OpenRow};
+use lrc_slots::{BarredDomains, Barring, OpenRow};
+use lrc_topology::NodeInfo;
 
 impl Store {
     /// Bars the upgrading domain, if there is one, for all fragments of a new stripe.
@@ -85,6 +86,19 @@ impl Store {
         self.bar_targets(&mut more, stripe, fragment, members);
         self.bar_upgrading(&mut more);
         self.next_beside(&self.neighbours(stripe, fragment, members, &more))
+    }
+
+    /// Whether the seats of a stripe's other fragments rule a node out for a fragment. The stripe must be there.
+    pub fn rules_out(&self, stripe: StripeNo, fragment: Fragment, node: &NodeInfo) -> bool
+        requires tied { IsTied self.now }
+        requires there { IsTrue ((stored_in self.now.stripes).stripes stripe) }
+        ensures { (st : State) → IsOf st self.now → result ≡ list_any (bars self.now.topology st stripe fragment node.now) (seats_of st) }
+    {
+        let members = class_members(self.code_of(stripe), fragment);
+        let mut targets = BarredDomains::new();
+        self.bar_targets(&mut targets, stripe, fragment, members);
+        self.neighbours(stripe, fragment, members, &targets)
+            .bars(node)
     }
 
     /// Bars the upgrading domain too, if there is one.

@@ -19,6 +19,14 @@ impl Clock {
         Clock { value: 0 }
     }
 
+    /// After this number of ticks.
+    pub fn at(value: u32) -> Clock
+        requires { value ≤ 4294967292 }
+        ensures { result.value ≡ value }
+    {
+        Clock { value }
+    }
+
     /// The number of ticks.
     pub fn get(self) -> u32
         ensures { result ≡ self.value }
@@ -34,7 +42,7 @@ impl Clock {
     }
 
     /// The end of a lease that is granted now.
-    pub(crate) fn end_of_term(self) -> u32
+    pub fn end_of_term(self) -> u32
         ensures { result ≡ self.value + term }
     {
         self.value + TERM

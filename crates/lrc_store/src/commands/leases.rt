@@ -1,14 +1,15 @@
 //! Commands of repair leases.
 
-ghost use Rattle.std.specs.Prelude.{◌≡◌, ◌++◌, ◌∷◌, [], true, List, IsSome};
+ghost use Rattle.std.specs.Prelude.{◌≡◌, ◌≤◌, ◌++◌, ◌∷◌, [], true, List, IsSome};
 ghost use Rattle.lrc_rules.specs.declared.entry.Entry.{Entry};
 ghost use Rattle.lrc_code.specs.declared.numbers.Fragment.{Fragment};
 ghost use Rattle.lrc_rules.specs.States.{State, has_stripe, lease_of};
 ghost use Rattle.lrc_rules.specs.Leases.{lease_outcome, done_outcome, abandon_outcome, revoke_outcome, at_epoch, with_lease};
 ghost use Rattle.lrc_answers.specs.Answers.{told};
+ghost use Rattle.lrc_leases.specs.Tables.{leased_in};
 ghost use Rattle.lrc_rules.specs.Changes.{with_done};
 ghost use Rattle.lrc_store.specs.Reports.{reported};
-ghost use Rattle.lrc_store.specs.Stores.{IsOf, IsTied, IsGrant, AreGrantsOf, AreFew, has_room};
+ghost use Rattle.lrc_store.specs.Stores.{IsOf, IsTied, IsGrant, MayLease, AreGrantsOf, AreFew, has_room};
 
 use crate::store::Store;
 use lrc_answers::Answer;
@@ -55,6 +56,17 @@ impl Store {
         requires told { IsGrant self.old.topology st lease.now }
         ensures nodes { self.new.topology ≡ self.old.topology }
         ensures kept { IsOf (with_lease st lease.now) self.new }
+    {
+        self.add_lease(lease);
+    }
+
+    /// Adds the lease of a fragment that has none, and takes its target, which the fragment must be able to hold. Requires room.
+    #[inline(always)]
+    pub fn add_lease(&mut self, lease: &Lease)
+        requires room { 1 ≤ (leased_in self.old.leases).spare }
+        requires may { (st : State) × IsOf st self.old × MayLease self.old.topology st lease.now }
+        ensures nodes { self.new.topology ≡ self.old.topology }
+        ensures kept { (st : State) → IsOf st self.old → MayLease self.old.topology st lease.now → IsOf (with_lease st lease.now) self.new }
     {
         self.table.take_slot(lease.target.node, lease.target.slot);
         self.leases.add(*lease);

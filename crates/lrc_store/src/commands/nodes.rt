@@ -1,7 +1,12 @@
 //! Commands on nodes.
 
-ghost use Rattle.std.specs.Prelude.{◌≡◌, true, false, IsSome};
+ghost use Rattle.std.specs.Prelude.{◌≡◌, ◌&&◌, true, false, not, IsSome};
 ghost use Rattle.lrc_topology.specs.Nodes.{node_at};
+ghost use Rattle.lrc_slots.specs.Slots.{with_eligible};
+ghost use Rattle.lrc_slots.specs.Tables.{slots_of};
+ghost use Rattle.lrc_terms.specs.Modes.{is_active};
+ghost use Rattle.lrc_stripes.specs.Stored.{with_state};
+ghost use Rattle.lrc_stripes.specs.Tables.{stored_in};
 ghost use Rattle.lrc_rules.specs.declared.reply.Reply.TheVariants.{Changed};
 ghost use Rattle.lrc_code.specs.declared.numbers.NodeNo.{NodeNo as AnyNode};
 ghost use Rattle.lrc_rules.specs.States.{State, has_number, mode_of, is_down};
@@ -80,6 +85,17 @@ impl Store {
         self.empty_if_failed(command, node);
         let was_down = self.stripes.is_down(node);
         let (mode, is_down) = next_state(command, self.mode(node), was_down);
+        self.set_state(node, mode, is_down);
+    }
+
+    /// Sets the mode of a node, and whether it is down. The seats on it stay.
+    pub fn set_state(&mut self, node: NodeNo, mode: Mode, is_down: bool)
+        requires tied { IsTied self.old }
+        requires known { IsSome (node_at self.old.topology node) }
+        ensures rest { self.new ≡ record self.old { table = self.new.table; stripes = self.new.stripes } }
+        ensures table { slots_of self.new.table ≡ with_eligible (slots_of self.old.table) node (is_active mode && not is_down) }
+        ensures stripes { stored_in self.new.stripes ≡ with_state (stored_in self.old.stripes) node mode is_down }
+    {
         let is_eligible = mode.is_active() && !is_down;
         self.table.set_eligible(node, is_eligible);
         self.stripes.set_state(node, mode, is_down);

@@ -1,6 +1,6 @@
 //! Commands on upgrade domains.
 
-ghost use Rattle.std.specs.Prelude.{◌≡◌};
+ghost use Rattle.std.specs.Prelude.{◌≡◌, None};
 ghost use Rattle.lrc_rules.specs.declared.reply.Reply.TheVariants.{Changed};
 ghost use Rattle.lrc_answers.specs.Answers.{told};
 ghost use Rattle.lrc_rules.specs.States.{State};
@@ -29,13 +29,11 @@ impl Store {
         }
     }
 
-    /// Takes the nodes of an upgrade domain offline.
-    pub(crate) fn upgrade(&mut self, domain: UpgradeNo)
-        ghost st: { State }
-        requires kept { IsOf st self.old }
-        requires told { (upgrade_outcome self.old.topology st domain).0 ≡ Changed }
+    /// Takes the nodes of an upgrade domain offline. No domain may be upgrading.
+    pub fn upgrade(&mut self, domain: UpgradeNo)
+        requires { self.old.upgrading ≡ None }
         ensures nodes { self.new.topology ≡ self.old.topology }
-        ensures kept { IsOf (with_upgrading st domain) self.new }
+        ensures kept { (st : State) → IsOf st self.old → IsOf (with_upgrading st domain) self.new }
     {
         self.upgrading = Some(domain);
         self.stripes.set_upgrading_in(domain, true);

@@ -12,9 +12,6 @@ ghost-change_node g a = g.st
 abbrev pub ghost-move_in : goal.ghost-move_in
 ghost-move_in g a = g.st
 
-abbrev pub ghost-upgrade : goal.ghost-upgrade
-ghost-upgrade g a = g.st
-
 abbrev pub ghost-upgraded : goal.ghost-upgraded
 ghost-upgraded g a = g.st
 

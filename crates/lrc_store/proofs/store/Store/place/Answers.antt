@@ -1,4 +1,4 @@
-use Rattle.std.proofs.Common.{◌≡◌, ◌<◌, ◌≤◌, nat_le, true, lit<, List, length, take, refl, sym, ap, subst, ◌∙◌, arith}
+use Rattle.std.proofs.Common.{◌≡◌, ◌<◌, ◌≤◌, nat_le, true, lit<, List, length, take, get_or, refl, sym, ap, subst, ◌∙◌, arith}
 use Rattle.std.specs.List.{All}
 use Rattle.std.proofs.lemmas.Bool.{and_parts, leb-true}
 use Rattle.std.proofs.lemmas.List.{take_all}
@@ -7,6 +7,7 @@ use Rattle.lrc_code.specs.Codes.{fragments}
 use Rattle.lrc_topology.specs.declared.seat.Seat.{Seat}
 use Rattle.lrc_topology.specs.declared.NodeInfo.{NodeInfo}
 use Rattle.lrc_slots.specs.Tables.{slots_of}
+use Rattle.lrc_slots.proofs.OpenSlotLemmas.{least-open}
 use Rattle.lrc_nodes.specs.States.{infos_in}
 use Rattle.lrc_stripes.specs.Stored as stored
 use Rattle.lrc_stripes.specs.Stored.{Stored, has_slot}
@@ -18,7 +19,7 @@ use Rattle.lrc_rules.specs.Changes.{with_placed}
 use Rattle.lrc_store.specs.Stores.{IsOf}
 use Rattle.lrc_rules.proofs.LawLemmas.{chosen-length}
 use Rattle.lrc_store.proofs.NodeStateLemmas.{infos-kept}
-use Rattle.lrc_store.proofs.PlacingLemmas.{taken-start, taken-known, taken-least, taken-more, placed-kept}
+use Rattle.lrc_store.proofs.PlacingLemmas.{taken-start, taken-least, taken-more, placed-kept}
 use Rattle.lrc_rules.proofs.ToldLemmas.{place-told}
 use Rattle.lrc_store.proofs.store.Store.place.Goals as goal
 
@@ -45,11 +46,12 @@ take_slot-requires g c =
     let code = c.args.code in
     let there : c.loop-seat.seat-index < length c.args.seats.now = omega arith in
     let low : c.loop-seat.seat-index < length (fragments code) = omega (arith, there, c.loop-seat.invariant.all) in
-    record {
-      known = taken-known c.args.self.now.topology c.requires.0.known g.st code c.args.stripe c.args.seats.now c.loop-seat.seat-index first zero_seat low there
-          (slots_of c.loop-seat.self.table) c.loop-seat.invariant.taken;
-      least = taken-least c.args.self.now.topology c.requires.0.known g.st code c.args.stripe c.args.seats.now c.loop-seat.seat-index first zero_seat low there
-          (slots_of c.loop-seat.self.table) c.loop-seat.invariant.taken;
+    let seat = get_or c.args.seats.now c.loop-seat.seat-index zero_seat in
+    let least = taken-least c.args.self.now.topology c.requires.0.known g.st code c.args.stripe c.args.seats.now c.loop-seat.seat-index first zero_seat low there
+    (slots_of c.loop-seat.self.table) c.loop-seat.invariant.taken in
+    let free = least-open (slots_of c.loop-seat.self.table) seat.node seat.slot least in record {
+      within = free.0;
+      free = free.1;
     }
 
 pub loop-seat-preserved : goal.loop-seat-preserved

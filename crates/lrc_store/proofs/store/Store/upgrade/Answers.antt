@@ -1,14 +1,12 @@
-use Rattle.std.proofs.Common.{true, Some, ap, ◌∙◌}
+use Rattle.std.proofs.Common.{true, Some, sym, ap, ◌∙◌}
 use Rattle.lrc_stripes.specs.Stored.{Stored, with_upgrading_in}
 use Rattle.lrc_stripes.specs.Tables.{stored_in}
 use Rattle.lrc_store.proofs.DomainLemmas.{domain-out, domain-kept}
-use Rattle.lrc_rules.proofs.ToldLemmas.{upgrade-told}
 use Rattle.lrc_store.proofs.store.Store.upgrade.Goals as goal
 
 pub returns-clause-kept : goal.returns-clause-kept
-returns-clause-kept g c =
-    let kept = c.requires.0 in
+returns-clause-kept c = λ st kept.
     let nodes = c.args.self.now.topology in
-    domain-kept g.st (Some c.args.domain) c.args.self.now c.set_upgrading_in.new.self kept
+    domain-kept st (Some c.args.domain) c.args.self.now c.set_upgrading_in.new.self kept
     (c.set_upgrading_in.ensures ∙ ap (λ (t : Stored). with_upgrading_in t c.args.domain true) kept.stripes_is
-    ∙ domain-out nodes g.st c.args.domain (upgrade-told nodes g.st c.args.domain c.requires.1) (stored_in c.args.self.now.stripes).spare)
+    ∙ domain-out nodes st c.args.domain (sym kept.upgrading_is ∙ c.requires) (stored_in c.args.self.now.stripes).spare)
