@@ -1,0 +1,93 @@
+-- The first row of an image with a cause refuses it.
+use Rattle.std.proofs.Common.{◌≡◌, ◌∙◌, sym, ap, ℕ, List, Option, Some, None, option_map}
+use Rattle.std.specs.Prelude.{Result, Ok, Err, IfErr}
+use Rattle.std.specs.Option.{option_or}
+use Rattle.lrc_topology.specs.declared.NodeInfo.{NodeInfo}
+use Rattle.lrc_images.specs.declared.cause.Cause.{Cause}
+use Rattle.lrc_images.specs.declared.image.Image.{Image}
+use Rattle.lrc_images.specs.Causes.{first_cause}
+use Rattle.lrc_restore.specs.declared.error.BeginError.{BeginError}
+use Rattle.lrc_restore.specs.declared.error.BeginError.TheVariants.{Refused, OutOfMemory}
+use Rattle.lrc_restore.specs.Stages.{head_refusal, nodes_refusal, stripes_refusal, grants_refusal, leases_refusal, IsRefusedBy, IsRefusedAt}
+
+-- ---- a row
+
+-- the cause of the row is the first
+pub refused-here : (o : Option Cause) (rest : Option (ℕ × Cause)) (here position : ℕ) (e : BeginError) → position ≡ here
+    → IsRefusedAt position o e → IsRefusedBy (option_or (option_map (λ c. (here, c)) o) rest) e
+refused-here o rest here position OutOfMemory same by = tt
+refused-here None rest here position (Refused p cause) same by = absurd (cc)
+refused-here (Some c) rest here position (Refused p cause) same by = ap (λ k. Some (k, c)) (sym same) ∙ by
+
+-- the cause of the home is the first of its row
+pub refused-home : (o rest : Option Cause) (position : ℕ) (e : BeginError) → IsRefusedAt position o e → IsRefusedAt position (option_or o rest) e
+refused-home o rest position OutOfMemory by = tt
+refused-home None rest position (Refused p cause) by = absurd (cc)
+refused-home (Some c) rest position (Refused p cause) by = by
+
+-- ---- a part of the image
+
+-- a position with a cause
+abbrev Found : Type 0
+Found = Option (ℕ × Cause)
+
+-- the first of two is that of the first one, if it has one, and else that of the second
+pub first-refused : (first later : Found) (e : BeginError) → IsRefusedBy first e → IsRefusedBy (option_or first later) e
+first-refused first later OutOfMemory refused = tt
+first-refused first later (Refused position cause) refused = ap (λ (o : Found). option_or o later) refused
+
+pub later-refused : (first later : Found) (e : BeginError) → first ≡ None → IsRefusedBy later e → IsRefusedBy (option_or first later) e
+later-refused first later OutOfMemory none refused = tt
+later-refused first later (Refused position cause) none refused = ap (λ (o : Found). option_or o later) none ∙ refused
+
+pub if-err : {T : Type 0} (r : Result T BeginError) (P Q : BeginError → Type 0) → ((e : BeginError) → P e → Q e) → IfErr r P → IfErr r Q
+if-err (Ok t) P Q so p = tt
+if-err (Err e) P Q so p = so e p
+
+module _ (nodes : List NodeInfo) (i : Image) where
+  abbrev from_grants : Found
+  from_grants = option_or (grants_refusal i) (leases_refusal nodes i)
+
+  abbrev from_stripes : Found
+  from_stripes = option_or (stripes_refusal nodes i) from_grants
+
+  abbrev from_nodes : Found
+  from_nodes = option_or (nodes_refusal nodes i) from_stripes
+
+  pub head-first : (e : BeginError) → IsRefusedBy (head_refusal nodes i) e → IsRefusedBy (first_cause nodes i) e
+  unfolding first_cause
+  head-first e refused = first-refused (head_refusal nodes i) from_nodes e refused
+
+  module _ (head : head_refusal nodes i ≡ None) where
+    pub nodes-first : (e : BeginError) → IsRefusedBy (nodes_refusal nodes i) e → IsRefusedBy (first_cause nodes i) e
+    unfolding first_cause
+    nodes-first e refused = later-refused (head_refusal nodes i) from_nodes e head (first-refused (nodes_refusal nodes i) from_stripes e refused)
+
+    module _ (node_rows : nodes_refusal nodes i ≡ None) where
+      pub stripes-first : (e : BeginError) → IsRefusedBy (stripes_refusal nodes i) e → IsRefusedBy (first_cause nodes i) e
+      unfolding first_cause
+      stripes-first e refused =
+          later-refused (head_refusal nodes i) from_nodes e head (later-refused (nodes_refusal nodes i) from_stripes e node_rows
+          (first-refused (stripes_refusal nodes i) from_grants e refused))
+
+      module _ (stripe_rows : stripes_refusal nodes i ≡ None) where
+        pub grants-first : (e : BeginError) → IsRefusedBy (grants_refusal i) e → IsRefusedBy (first_cause nodes i) e
+        unfolding first_cause
+        grants-first e refused =
+            later-refused (head_refusal nodes i) from_nodes e head (later-refused (nodes_refusal nodes i) from_stripes e node_rows
+            (later-refused (stripes_refusal nodes i) from_grants e stripe_rows (first-refused (grants_refusal i) (leases_refusal nodes i) e refused)))
+
+        module _ (grant_rows : grants_refusal i ≡ None) where
+          -- only the leases are left
+          left : first_cause nodes i ≡ leases_refusal nodes i
+          unfolding first_cause
+          left =
+              ap (λ (o : Found). option_or o from_nodes) head ∙ ap (λ (o : Found). option_or o from_stripes) node_rows
+              ∙ ap (λ (o : Found). option_or o from_grants) stripe_rows ∙ ap (λ (o : Found). option_or o (leases_refusal nodes i)) grant_rows
+
+          pub leases-first : (e : BeginError) → IsRefusedBy (leases_refusal nodes i) e → IsRefusedBy (first_cause nodes i) e
+          leases-first OutOfMemory refused = tt
+          leases-first (Refused position cause) refused = left ∙ refused
+
+          pub all-lawful : leases_refusal nodes i ≡ None → first_cause nodes i ≡ None
+          all-lawful none = left ∙ none

@@ -1,0 +1,64 @@
+use Rattle.std.proofs.Common.{[], ◌≡◌, ◌+◌, ◌<◌, ◌∷◌, ◌++◌, List, length, take, get_or, None, sym, ap, subst, ◌∙◌}
+use Rattle.std.proofs.lemmas.List.{take_more}
+use Rattle.lrc_topology.specs.declared.NodeInfo.{NodeInfo}
+use Rattle.lrc_terms.specs.declared.lease.Lease.{Lease}
+use Rattle.lrc_rules.specs.States.{State}
+use Rattle.lrc_rules.specs.Leases.{with_lease}
+use Rattle.lrc_images.specs.declared.cause.Cause.{Cause}
+use Rattle.lrc_images.specs.declared.image.LeaseRow.{LeaseRow}
+use Rattle.lrc_images.specs.Images.{earlier, row_lease}
+use Rattle.lrc_images.specs.Rising.{lease_first}
+use Rattle.lrc_images.specs.Causes.{at_place, lease_cause, with_leases}
+use Rattle.lrc_images.proofs.AnswerLemmas.{none-map}
+use Rattle.lrc_store.specs.Stores.{IsOf, MayLease}
+use Rattle.lrc_restore.proofs.WalkLemmas.{from-next, rising-next}
+use Rattle.lrc_restore.proofs.LeaseLemmas.{lease-ordered, row-may, row-more}
+use Rattle.lrc_restore.proofs.leases.restore_leases.Goals as goal
+
+pub add_lease-requires-clause-may : goal.add_lease-requires-clause-may
+add_lease-requires-clause-may c =
+    let image = c.args.image.now in
+    let past = earlier image.grants.items in
+    let before = take c.loop-index.index c.as_slice-rows.result.now in
+    let row = c.index-rows-index.result in
+    let st = with_leases image before in
+    let kept = c.loop-index.invariant.kept in
+    let none = sym (c.lease_cause.ensures image kept c.requires.grants) ∙ c.in_default.is in (
+      st,
+      c.in_ok-reserve.ensures.same st kept,
+      subst (λ (l : Lease). MayLease c.reserve.new.self.topology st l) (sym (c.lease_of.ensures past c.requires.grants))
+          (subst (λ (ns : List NodeInfo). MayLease ns st (row_lease past row)) (sym c.in_ok-reserve.ensures.nodes)
+          (row-may c.loop-index.store.topology image before row none)),
+    )
+
+pub loop-index-preserved : goal.loop-index-preserved
+loop-index-preserved c =
+    let image = c.args.image.now in
+    let nodes = c.args.store.now.topology in
+    let past = earlier image.grants.items in
+    let rows = c.as_slice-rows.result.now in
+    let i = c.loop-index.index in
+    let before = take i rows in
+    let row = c.index-rows-index.result in
+    let st = with_leases image before in
+    let was = c.loop-index.invariant in
+    let place = 1 + length image.nodes.items + length image.stripes.items + length image.grants.items in
+    let within : i < length rows = c.loop-index-test.true in
+    let is = c.index-rows-index.is in
+    let now = sym (c.lease_cause.ensures image was.kept c.requires.grants) ∙ c.in_default.is in
+    let none = subst (λ (ns : List NodeInfo). lease_cause ns image before row ≡ None) was.nodes now in
+    let here : lease_cause nodes image before (get_or rows i row) ≡ None = ap (lease_cause nodes image before) (sym is) ∙ none in
+    let lease = c.lease_of.ensures past c.requires.grants in
+    let may = subst (λ (l : Lease). MayLease c.reserve.new.self.topology st l) (sym lease)
+    (subst (λ (ns : List NodeInfo). MayLease ns st (row_lease past row)) (sym c.in_ok-reserve.ensures.nodes) (row-may c.loop-index.store.topology image before row now)) in
+    record {
+      nodes = c.add_lease.ensures.nodes ∙ c.in_ok-reserve.ensures.nodes ∙ was.nodes;
+      from = from-next (at_place place (lease_cause nodes image)) rows i row within
+          (none-map (λ (k : Cause). (place + length before, k)) (lease_cause nodes image before (get_or rows i row)) here) was.from;
+      rising = rising-next lease_first rows i row within was.rising (lease-ordered nodes image before (get_or rows i row) here);
+      kept = subst (λ (xs : List LeaseRow). IsOf (with_leases image xs) c.add_lease.new.self)
+          (ap (λ (r : LeaseRow). before ++ r ∷ []) is ∙ sym (take_more rows i row within))
+          (subst (λ (s : State). IsOf s c.add_lease.new.self) (row-more nodes image before row)
+          (subst (λ (l : Lease). IsOf (with_lease st l) c.add_lease.new.self) lease
+          (c.add_lease.ensures.kept st (c.in_ok-reserve.ensures.same st was.kept) may)));
+    }

@@ -1,0 +1,121 @@
+ghost use Rattle.std.specs.Prelude.{◌≡◌, ◌+◌, ◌&&◌, nat_lt, nat_le, length, List, [], None, Some, IfErr, OnOk, IsOk, IfSome};
+ghost use Rattle.lrc_rules.specs.Leases.{term};
+ghost use Rattle.lrc_images.specs.declared.image.Image.{Image};
+ghost use Rattle.lrc_images.specs.Images.{earlier, image_state, row_lease};
+ghost use Rattle.lrc_images.specs.Rising.{lease_first, IsRising};
+ghost use Rattle.lrc_images.specs.Causes.{is_out_of_order, lease_cause, with_leases};
+ghost use Rattle.lrc_rules.specs.declared.entry.Entry.{Entry};
+ghost use Rattle.lrc_store.specs.Stores.{IsOf, IsTied, AreGrantsOf};
+ghost use Rattle.lrc_restore.specs.Stages.{leases_refusal, IsRefusedBy};
+
+use crate::BeginError;
+use crate::seats::seat_refusal;
+use lrc_images::{Cause, Image, LeaseRow};
+use lrc_leases::Grants;
+use lrc_rules::Lease;
+use lrc_store::Store;
+
+/// Adds the leases of an image. Their epochs are these counts.
+pub(crate) fn restore_leases(
+    store: &mut Store,
+    grants: &Grants,
+    image: &Image,
+) -> Result<(), BeginError>
+    requires kept { IsOf (with_leases image.now []) store.old }
+    requires grants { AreGrantsOf (earlier image.now.grants.items) grants.now }
+    ensures nodes { store.new.topology ≡ store.old.topology }
+    ensures kept { OnOk result (IsOf (image_state image.now) store.new) }
+    ensures lawful { IsOk result → leases_refusal store.old.topology image.now ≡ None }
+    ensures refused { IfErr result (IsRefusedBy (leases_refusal store.old.topology image.now)) }
+{
+    let rows = image.leases.as_slice();
+    for (index, row) in rows.iter().enumerate() {
+        if let Some(cause) = lease_cause(store, grants, &rows[..index], row) {
+            return Err(refused(image, index, cause));
+        }
+        store.reserve()?;
+        store.add_lease(&lease_of(grants, row));
+    }
+    Ok(())
+}
+
+/// Returns why the lease of a row can't come after those of these rows, which rise; `None` if it can.
+fn lease_cause(store: &Store, grants: &Grants, before: &[LeaseRow], row: &LeaseRow) -> Option<Cause>
+    requires tied { IsTied store.now }
+    requires rising { IsRising lease_first before.now }
+    ensures { (i : Image) → IsOf (with_leases i before.now) store.now → AreGrantsOf (earlier i.grants.items) grants.now
+        → result ≡ lease_cause store.now.topology i before.now row.now }
+{
+    if is_out_of_order(before, row) {
+        return Some(Cause::OutOfOrder);
+    }
+    if !store.stripes.contains(row.stripe) {
+        return Some(Cause::UnknownStripe);
+    }
+    if grants.count(row.stripe, row.fragment) == 0 {
+        return Some(Cause::NeverGranted);
+    }
+    if !is_running(store, row.expiry) {
+        return Some(Cause::WrongExpiry);
+    }
+    seat_refusal(store, row.stripe, row.fragment, row.target)
+}
+
+/// Whether a lease with this end has not ended yet, and ends within a term.
+fn is_running(store: &Store, expiry: u32) -> bool
+    ensures { result ≡ (nat_lt store.now.clock.value expiry && nat_le expiry (store.now.clock.value + term)) }
+{
+    store.clock.get() < expiry && expiry <= store.clock.end_of_term()
+}
+
+/// Whether a row does not come after these rows, which rise.
+fn is_out_of_order(before: &[LeaseRow], row: &LeaseRow) -> bool
+    requires { IsRising lease_first before.now }
+    ensures { result ≡ is_out_of_order lease_first before.now row.now }
+{
+    match before.last() {
+        Some(last) => !comes_before(last, row),
+        None => false,
+    }
+}
+
+/// Whether a row comes before another one.
+fn comes_before(row: &LeaseRow, other: &LeaseRow) -> bool
+    ensures { result ≡ lease_first row.now other.now }
+{
+    row.stripe.value < other.stripe.value
+        || row.stripe.value == other.stripe.value && row.fragment.value < other.fragment.value
+}
+
+/// The lease of a row. Its epoch is the count of its fragment.
+fn lease_of(grants: &Grants, row: &LeaseRow) -> Lease
+    ensures { (past : List Entry) → AreGrantsOf past grants.now → result ≡ row_lease past row.now }
+{
+    Lease {
+        stripe: row.stripe,
+        fragment: row.fragment,
+        holder: row.holder,
+        target: row.target,
+        epoch: grants.count(row.stripe, row.fragment),
+        expiry: row.expiry,
+    }
+}
+
+/// Refuses the row of a lease at an index.
+fn refused(image: &Image, index: usize, cause: Cause) -> BeginError
+    ensures { IsRefusedBy (Some (1 + length image.now.nodes.items + length image.now.stripes.items + length image.now.grants.items + index, cause)) result }
+{
+    match position(image, index) {
+        Some(position) => BeginError::Refused(position, cause),
+        None => BeginError::OutOfMemory,
+    }
+}
+
+/// The position of the row of a lease at an index; `None` if it is no `usize`.
+fn position(image: &Image, index: usize) -> Option<usize>
+    ensures { IfSome result (λ p. p ≡ 1 + length image.now.nodes.items + length image.now.stripes.items + length image.now.grants.items + index) }
+{
+    let before = image.nodes.len().checked_add(image.stripes.len())?;
+    let before = before.checked_add(image.grants.len())?;
+    before.checked_add(index)?.checked_add(1)
+}
