@@ -4,3 +4,4 @@ pub mod GrantedLemmas
 pub mod AlikeKeptLemmas
 pub mod ForgetLemmas
 pub mod ImagedLemmas
+pub mod BeginLemmas

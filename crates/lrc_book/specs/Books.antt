@@ -1,18 +1,21 @@
 -- What contracts see of a book.
-use Rattle.std.specs.Prelude.{◌≡◌, ℕ, ◌+◌, ◌<◌, ◌⊎◌, ◌++◌, Bool, List, length, Option, Some, None}
+use Rattle.std.specs.Prelude.{◌≡◌, ℕ, ◌+◌, ◌<◌, ◌⊎◌, ◌++◌, Bool, List, [], length, Option, Some, None}
 use Rattle.std.specs.Global.{Box}
 use Rattle.lrc_code.specs.declared.fault.Fault.{Fault}
 use Rattle.lrc_code.specs.declared.numbers.StripeNo.{StripeNo}
 use Rattle.lrc_code.specs.declared.numbers.Fragment.{Fragment}
 use Rattle.lrc_code.specs.declared.fault.Fault.TheVariants.{OutOfMemory, HistoryFull}
 use Rattle.lrc_topology.specs.declared.NodeInfo.{NodeInfo}
+use Rattle.lrc_topology.specs.Nodes.{AreNodes}
 use Rattle.lrc_rules.specs.declared.entry.Entry.{Entry}
 use Rattle.lrc_rules.specs.States.{State}
 use Rattle.lrc_rules.specs.Leases.{grants}
-use Rattle.lrc_rules.specs.Histories.{World, first_world, outcome_in, world_from, state_from}
+use Rattle.lrc_rules.specs.Histories.{World, first_world, outcome_in, world_from, state_from, IsLegalFrom}
 use Rattle.lrc_images.specs.declared.image.Image.{Image}
 use Rattle.lrc_images.specs.Images.{image_world}
 use Rattle.lrc_images.specs.Causes.{most_grants, most_ticks, most_entries}
+use Rattle.lrc_images.specs.Bases.{IsBase}
+use Rattle.lrc_images.specs.Rows.{IsImageOf}
 
 -- a book over these nodes that began in the world `base`, with at most `limit` entries since; `before`: the number of
 -- entries of the store before `base`; `ready`: it has room for one more command of any kind
@@ -55,10 +58,30 @@ FaultFits b HistoryFull = length b.history ≡ b.limit
 abbrev pub IsStep : BookView → Entry → Type 0
 IsStep b e = (outcome_in b.nodes (world_of b) e.session e.command).0 ≡ e.reply
 
--- no book can begin in the state: after 1,000,000 more entries a count of grants, the clock or the number of entries
--- could come to the end of its numbers
+-- no book can begin in the state: a count of grants, the clock or the number of entries is above the most with which one
+-- can
 abbrev pub IsSpent : BookView → Type 0
 IsSpent b =
     ((s : StripeNo) × (f : Fragment) × (most_grants < grants (b.base.past ++ b.history) s f))
     ⊎ (most_ticks < (state_of b).clock)
     ⊎ (most_entries < b.before + length b.history)
+
+-- ---- books and images
+
+-- What the clauses of `Book::history` say of each book: its nodes make a store, it began in a base, and its history is
+-- legal from there.
+pub record IsBook (b : BookView) : Type 0 where
+  pub nodes : AreNodes b.nodes
+  pub based : IsBase b.nodes b.base
+  pub legal : IsLegalFrom b.nodes b.base b.history
+
+-- the image is the book's, as `Book::image` returns it
+abbrev pub IsImageOfBook : BookView → Image → Type 0
+IsImageOfBook b i = IsImageOf b.nodes (b.base.past ++ b.history) (state_of b) (b.before + length b.history) i
+
+-- The book has just begun in the image over these nodes, as `Book::begin` returns it.
+pub record HasBegun (nodes : List NodeInfo) (i : Image) (b : BookView) : Type 0 where
+  pub nodes_are : b.nodes ≡ nodes
+  pub base_is : b.base ≡ image_world i
+  pub before_is : b.before ≡ i.before
+  pub empty : b.history ≡ []

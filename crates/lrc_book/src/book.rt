@@ -6,6 +6,7 @@ ghost use Rattle.lrc_rules.specs.Urgency.{risk};
 ghost use Rattle.lrc_rules.specs.Histories.{first_world, outcome_in, IsLegalFrom};
 ghost use Rattle.lrc_rules.specs.Goodness.{IsGood};
 ghost use Rattle.lrc_rules.specs.Served.{IsServed};
+ghost use Rattle.lrc_images.specs.Bases.{IsBase};
 ghost use Rattle.lrc_book.specs.Books.{world_of, state_of, FaultFits};
 ghost use Rattle.lrc_store.specs.Stores.{IsOf};
 
@@ -108,6 +109,7 @@ impl Book {
         ensures few { length self.now.history ≤ self.now.limit }
         ensures limit { self.now.limit ≤ 1000000 }
         ensures nodes { AreNodes self.now.nodes }
+        ensures based { IsBase self.now.nodes self.now.base }
         ensures good { IsGood self.now.nodes (self.now.base.past ++ self.now.history) (state_of self.now) }
         ensures served { self.now.base ≡ first_world → IsServed self.now.nodes self.now.history }
     {

@@ -21,7 +21,9 @@ ghost use Rattle.lrc_store.specs.Stores.{IsOf, AreGrantsOf};
 
 use crate::{Book, Mode};
 use lrc_code::{FRAGMENTS, Fault, Fragment, NodeNo, STRIPES, StripeNo};
-use lrc_images::{GrantRow, Image, LeaseRow, NodeRow, StripeRow};
+use lrc_images::{
+    GrantRow, Image, LeaseRow, MOST_ENTRIES, MOST_GRANTS, MOST_TICKS, NodeRow, StripeRow,
+};
 use lrc_leases::Grants;
 use lrc_store::Store;
 use std::alloc::Global;
@@ -31,15 +33,6 @@ const STRIPE_NUMBERS: u16 = STRIPES as u16;
 
 /// The number of node numbers.
 const NODE_NUMBERS: u32 = 65_536;
-
-/// The most grants of a fragment with which a book can begin: a history has at most 1,000,000 entries.
-const MOST_GRANTS: u32 = 4_293_967_294;
-
-/// The most ticks with which a book can begin.
-const MOST_TICKS: u32 = 4_293_967_291;
-
-/// The most entries after which a book can begin.
-const MOST_ENTRIES: u64 = 9_223_372_036_854_775_808;
 
 impl Book {
     /// The image of the state, in which a book can begin.

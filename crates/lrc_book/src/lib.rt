@@ -4,13 +4,16 @@
 //! A `Record` is an entry as the history keeps it, with its reply as an `Answer`.
 #![tactic(auto)]
 
+mod begin;
 mod book;
 mod image;
+pub mod laws;
 mod record;
 mod step;
 
 pub use book::{Book, HISTORY_LIMIT};
 pub use lrc_answers::ReplyRef;
-pub use lrc_images::{GrantRow, Image, LeaseRow, NodeRow, StripeRow};
+pub use lrc_images::{Cause, GrantRow, Image, LeaseRow, NodeRow, StripeRow};
+pub use lrc_restore::BeginError;
 pub use lrc_rules::{Command, Entry, Held, Kind, Lease, Level, Mode, Refusal, Reply, Seat};
 pub use record::Record;

@@ -10,6 +10,7 @@ macro_rules! on_book {
     }};
 }
 
+mod begin;
 mod forget;
 mod leases;
 mod limits;
