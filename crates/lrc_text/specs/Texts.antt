@@ -1,5 +1,5 @@
 -- The texts of replies, of scripts, and of a whole run.
-use Rattle.std.specs.Prelude.{ℕ, ◌+◌, List, [], ◌∷◌, ◌++◌, codes, decimal, map, flat_map}
+use Rattle.std.specs.Prelude.{ℕ, ◌+◌, List, [], ◌∷◌, ◌++◌, codes, decimal, map, filter, flat_map}
 use Rattle.lrc_topology.specs.declared.NodeInfo.{NodeInfo}
 use Rattle.lrc_topology.specs.declared.seat.Seat.{Seat}
 use Rattle.lrc_book.specs.declared.Lease.{Lease}
@@ -10,8 +10,8 @@ use Rattle.lrc_rules.specs.declared.reply.Reply.{Reply}
 use Rattle.lrc_rules.specs.declared.reply.Reply.TheVariants.{Placed, Placed6, Dropped, Granted, Idle, Ended, Changed, Refused, Ticked}
 use Rattle.lrc_rules.specs.declared.refusal.Refusal.{Refusal}
 use Rattle.lrc_rules.specs.declared.refusal.Refusal.TheVariants as refusal
-use Rattle.lrc_rules.specs.Histories.{state_after}
-use Rattle.lrc_rules.specs.Sessions.{entries_of, sessions}
+use Rattle.lrc_rules.specs.Histories.{World, first_world, state_from}
+use Rattle.lrc_rules.specs.Sessions.{NumberedEntry, numbered_from, is_of, sessions}
 use Rattle.lrc_text.specs.Tables.{tables_text}
 
 -- ---- replies
@@ -80,14 +80,30 @@ lines_from number (e ∷ es) = reply_line number e.reply ++ lines_from (number +
 abbrev pub script_line : ℕ → List ℕ
 script_line script = codes "script " ++ decimal script ++ codes "\n"
 
--- what is printed of a script, whose number is that of its session: a line for each entry of the session
-abbrev pub script_text : List Entry → ℕ → List ℕ
-script_text history script = script_line script ++ flat_map (λ e. reply_line e.place e.entry.reply) (entries_of script history)
+-- the entries of a session with their positions, in a history that has `before` entries of the store before it
+abbrev pub entries_behind : ℕ → ℕ → List Entry → List NumberedEntry
+entries_behind before session history = filter (λ e. is_of session e.entry) (numbered_from (before + 1) history)
+
+-- what is printed of a script, whose number is that of its session: a line for each entry of the session, with the number
+-- that it has in the store, which had `before` entries
+abbrev pub script_text_behind : ℕ → List Entry → ℕ → List ℕ
+script_text_behind before history script = script_line script ++ flat_map (λ e. reply_line e.place e.entry.reply) (entries_behind before script history)
 
 -- what is printed of `count` scripts that made this history
-abbrev pub replies_text : ℕ → List Entry → List ℕ
-replies_text count history = flat_map (script_text history) (sessions count)
+abbrev pub replies_text_behind : ℕ → ℕ → List Entry → List ℕ
+replies_text_behind before count history = flat_map (script_text_behind before history) (sessions count)
 
--- the same, and then the tables of the state of these nodes after the history
+-- the same, and then the tables of the state of these nodes after the history, which begins in this world
+abbrev pub output_text_from : List NodeInfo → World → ℕ → ℕ → List Entry → List ℕ
+output_text_from nodes base before count history = replies_text_behind before count history ++ tables_text nodes (state_from nodes base history)
+
+-- ---- the same for a history of a store that was empty
+
+abbrev pub script_text : List Entry → ℕ → List ℕ
+script_text history script = script_text_behind 0 history script
+
+abbrev pub replies_text : ℕ → List Entry → List ℕ
+replies_text count history = replies_text_behind 0 count history
+
 abbrev pub output_text : List NodeInfo → ℕ → List Entry → List ℕ
-output_text nodes count history = replies_text count history ++ tables_text nodes (state_after nodes history)
+output_text nodes count history = output_text_from nodes first_world 0 count history

@@ -7,10 +7,10 @@ use Rattle.lrc_topology.specs.declared.NodeInfo.{NodeInfo}
 use Rattle.lrc_rules.specs.declared.command.Command.{Command}
 use Rattle.lrc_rules.specs.declared.entry.Entry.{Entry}
 use Rattle.lrc_rules.specs.declared.reply.Reply.{Reply}
-use Rattle.lrc_rules.specs.Histories.{World, first_world, outcome_in, next_world, IsLegalFrom}
+use Rattle.lrc_rules.specs.Histories.{World, outcome_in, next_world, IsLegalFrom}
 use Rattle.lrc_rules.specs.Sessions.{commands_of, commands_of_each}
-use Rattle.lrc_text.specs.Texts.{output_text}
-use Rattle.lrc_tool.specs.Outputs.{IsPlayed}
+use Rattle.lrc_text.specs.Texts.{output_text_from}
+use Rattle.lrc_tool.specs.Outputs.{IsPlayedFrom}
 use Rattle.lrc_tool.proofs.SessionLemmas.{IsFirst, commands_alone}
 
 abbrev pub session : (n : ℕ) → (1 ≤ n) × (n ≤ 8) → SessionNo
@@ -56,8 +56,16 @@ all_made (commands ∷ []) few h within made =
     sym (commands_alone h (all_first (commands ∷ []) few h within)) ∙ only ∙ sym (append-nil commands)
 all_made (commands ∷ others ∷ more) few h within made = absurd (omega (arith, few))
 
-pub same_play : (nodes : List NodeInfo) (scripts : List (List Command)) (t u : List ℕ) → length scripts ≤ 1 → IsPlayed nodes scripts t → IsPlayed nodes scripts u → t ≡ u
-same_play nodes scripts t u few p q =
-    let made = all_made scripts few p.history p.alone p.made ∙ sym (all_made scripts few q.history q.alone q.made) in
-    let same = same_history nodes first_world p.history q.history p.legal q.legal made (all_first scripts few p.history p.alone) (all_first scripts few q.history q.alone) in
-    p.printed ∙ ap (output_text nodes (length scripts)) same ∙ sym q.printed
+-- at most one script has one history from a world on
+pub only_history : (nodes : List NodeInfo) (base : World) (scripts : List (List Command)) → length scripts ≤ 1 → (h g : List Entry) → IsLegalFrom nodes base h → IsLegalFrom nodes base g
+    → commands_of_each (length scripts) h ≡ scripts → commands_of_each (length scripts) g ≡ scripts → All (λ e. e.session.value ≤ length scripts) h
+    → All (λ e. e.session.value ≤ length scripts) g → h ≡ g
+only_history nodes base scripts few h g legal legal' made made' within within' =
+    let same = all_made scripts few h within made ∙ sym (all_made scripts few g within' made') in
+    same_history nodes base h g legal legal' same (all_first scripts few h within) (all_first scripts few g within')
+
+pub same_play : (nodes : List NodeInfo) (base : World) (before : ℕ) (scripts : List (List Command)) (t u : List ℕ) → length scripts ≤ 1 → IsPlayedFrom nodes base before scripts t
+    → IsPlayedFrom nodes base before scripts u → t ≡ u
+same_play nodes base before scripts t u few p q =
+    let same = only_history nodes base scripts few p.history q.history p.legal q.legal p.made q.made p.alone q.alone in
+    p.printed ∙ ap (output_text_from nodes base before (length scripts)) same ∙ sym q.printed

@@ -11,3 +11,6 @@ pub mod CheckLemmas
 pub mod ReadLemmas
 mod RowsOfSessions
 mod RowsOfMasks
+pub mod SequelLemmas
+pub mod ImageSameLemmas
+pub mod OneSequelLemmas

@@ -5,9 +5,10 @@ use Rattle.std.proofs.lemmas.List.Elements.{All-append, All-push}
 use Rattle.lrc_code.specs.declared.numbers.SessionNo.{SessionNo}
 use Rattle.lrc_rules.specs.declared.command.Command.{Command}
 use Rattle.lrc_rules.specs.declared.entry.Entry.{Entry}
+use Rattle.lrc_rules.specs.Sessions.{commands_of_each}
 use Rattle.lrc_text.specs.Texts.{lines_from}
 use Rattle.lrc_tool.specs.Plays.{AreMadeBehind}
-use Rattle.lrc_tool.proofs.SessionLemmas.{IsFirst}
+use Rattle.lrc_tool.proofs.SessionLemmas.{IsFirst, commands_alone}
 
 -- ---- commands after a history
 
@@ -62,10 +63,24 @@ module _ (commands : List Command) (n few : ℕ) (session : SessionNo) (before a
   pub begun : take n after ≡ before
   begun = rw part.behind (take_at before part.added n as_many)
 
+-- ---- an only script
+
+module _ (session : SessionNo) (commands : List Command) (history : List Entry) (first : session.value ≡ 1) (made : AreMadeBehind [] session commands history) where
+  all_first : All IsFirst history
+  all_first =
+      let added : All IsFirst made.added = λ k d inside. ap (λ (s : SessionNo). s.value) (made.alone k d inside) ∙ first in
+      subst (All IsFirst) (sym made.behind) added
+
+  pub alone_made : commands_of_each 1 history ≡ commands ∷ []
+  alone_made = ap (λ cs. cs ∷ []) (commands_alone history all_first ∙ ap (map (λ (e : Entry). e.command)) made.behind ∙ made.made)
+
+  pub alone_only : All (λ e. e.session.value ≤ 1) history
+  alone_only = λ k d inside. omega (arith, all_first k d inside)
+
 -- ---- what is printed
 
--- what is printed of a history's entries from the `n`th on, cut from it
-pub tail_told : (now h : List Entry) (n : ℕ) (text new : List ℕ) → now ≡ h → new ≡ text ++ lines_from (n + 1) (take (length now - n) (drop n now)) → new ≡ text ++ lines_from (n + 1) (drop n h)
-tail_told now h n text new same next =
+-- what is printed of a history's entries from the `n`th on, cut from it; the first of them has this number
+pub tail_told : (now h : List Entry) (n first : ℕ) (text new : List ℕ) → now ≡ h → new ≡ text ++ lines_from first (take (length now - n) (drop n now)) → new ≡ text ++ lines_from first (drop n h)
+tail_told now h n first text new same next =
     let all : length (drop n now) ≤ length now - n = omega (arith, length-drop n now) in
-    next ∙ ap (λ es. text ++ lines_from (n + 1) es) (take_all (length now - n) (drop n now) all) ∙ ap (λ x. text ++ lines_from (n + 1) (drop n x)) same
+    next ∙ ap (λ es. text ++ lines_from first es) (take_all (length now - n) (drop n now) all) ∙ ap (λ x. text ++ lines_from first (drop n x)) same

@@ -10,12 +10,12 @@ use Rattle.lrc_code.specs.declared.numbers.SessionNo.{SessionNo}
 use Rattle.lrc_topology.specs.declared.NodeInfo.{NodeInfo}
 use Rattle.lrc_rules.specs.declared.command.Command.{Command}
 use Rattle.lrc_rules.specs.declared.entry.Entry.{Entry}
-use Rattle.lrc_rules.specs.Histories.{World, first_world, outcome_in, next_world, state_after, IsLegalFrom}
+use Rattle.lrc_rules.specs.Histories.{World, outcome_in, next_world, state_from, IsLegalFrom}
 use Rattle.lrc_rules.specs.Sessions.{numbered_from, is_of, commands_of}
 use Rattle.lrc_text.specs.Tables.{tables_text}
-use Rattle.lrc_text.specs.Texts.{replies_text}
-use Rattle.lrc_tool.specs.Outputs.{IsPlayed}
-use Rattle.lrc_tool.specs.Plays.{AreMade}
+use Rattle.lrc_text.specs.Texts.{replies_text_behind}
+use Rattle.lrc_tool.specs.Outputs.{IsPlayedFrom}
+use Rattle.lrc_tool.specs.Plays.{AreMadeFrom}
 use Rattle.lrc_tool.proofs.SessionLemmas.{played_with_tables}
 use Rattle.lrc_tool.proofs.HistoryLemmas.{session, entry}
 
@@ -141,26 +141,27 @@ module _ (nodes : List NodeInfo) where
       All-cons (λ e. e.session.value ≤ count) (next_entry w c) (history_of w' cs) (All-head (IsWithin count) c cs all)
       (is_within count w' cs (All-tail (IsWithin count) c cs all))
 
-  -- the calls, and what is printed of their replies
-  some_made : (scripts : List (List Command)) → length scripts ≤ 8 → (history : List Entry) × AreMade nodes scripts history (replies_text (length scripts) history)
-  some_made scripts few =
+  -- the calls from a world on, and what is printed of their replies
+  some_made : (base : World) (before : ℕ) (scripts : List (List Command)) → length scripts ≤ 8
+      → (history : List Entry) × AreMadeFrom nodes base before scripts history (replies_text_behind before (length scripts) history)
+  some_made base before scripts few =
       let low : 1 ≤ 1 = lit≤ tt in
       let high : 1 + length scripts ≤ 9 = omega (arith, few) in
       let cs = calls_from 1 scripts low high in
-      let h = history_of first_world cs in
-      let each = map_range-same (λ k. commands_of k h) (λ k. asked k cs) 1 (length scripts) (λ k above. has_asked k 1 first_world cs) in (
+      let h = history_of base cs in
+      let each = map_range-same (λ k. commands_of k h) (λ k. asked k cs) 1 (length scripts) (λ k above. has_asked k 1 base cs) in (
         h,
         record {
-          legal = is_legal first_world cs;
+          legal = is_legal base cs;
           made = each ∙ asked_all 1 scripts low high;
-          alone = is_within (length scripts) first_world cs (all_within (length scripts) 1 scripts low high (omega arith));
+          alone = is_within (length scripts) base cs (all_within (length scripts) 1 scripts low high (omega arith));
           printed = refl;
         },
       )
 
-  pub some_play : (scripts : List (List Command)) → length scripts ≤ 8 → (text : List ℕ) × IsPlayed nodes scripts text
-  some_play scripts few =
-      let (h, made) = some_made scripts few in
-      let text = replies_text (length scripts) h in
-      let whole = text ++ tables_text nodes (state_after nodes h) in
-      (whole, played_with_tables nodes nodes scripts h text whole made refl refl)
+  pub some_play : (base : World) (before : ℕ) (scripts : List (List Command)) → length scripts ≤ 8 → (text : List ℕ) × IsPlayedFrom nodes base before scripts text
+  some_play base before scripts few =
+      let (h, made) = some_made base before scripts few in
+      let text = replies_text_behind before (length scripts) h in
+      let whole = text ++ tables_text nodes (state_from nodes base h) in
+      (whole, played_with_tables nodes nodes base before scripts h text whole made refl refl)

@@ -17,3 +17,5 @@ pub mod Plays
 pub mod Judged
 pub mod Recoveries
 pub mod Checks
+pub mod Sequels
+pub mod Begun

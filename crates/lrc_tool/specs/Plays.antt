@@ -5,18 +5,22 @@ use Rattle.lrc_code.specs.declared.numbers.SessionNo.{SessionNo}
 use Rattle.lrc_topology.specs.declared.NodeInfo.{NodeInfo}
 use Rattle.lrc_rules.specs.declared.command.Command.{Command}
 use Rattle.lrc_rules.specs.declared.entry.Entry.{Entry}
-use Rattle.lrc_rules.specs.Histories.{IsLegal}
+use Rattle.lrc_rules.specs.Histories.{World, first_world, IsLegalFrom}
 use Rattle.lrc_rules.specs.Sessions.{commands_of_each}
 use Rattle.lrc_board.specs.declared.receipt.Receipt.{Receipt}
 use Rattle.lrc_sessions.specs.declared.track.Track.{Track}
-use Rattle.lrc_text.specs.Texts.{reply_line, script_line, replies_text}
+use Rattle.lrc_text.specs.Texts.{reply_line, script_line, replies_text_behind}
 
--- the sessions made the commands of their scripts, in order, and no others, in this legal history, of whose replies this is printed
-pub record AreMade (nodes : List NodeInfo) (scripts : List (List Command)) (history : List Entry) (text : List ℕ) : Type 0 where
-  pub legal : IsLegal nodes history
+-- the sessions made the commands of their scripts, in order, and no others, in this history, which is legal from this world on, and of whose replies this is printed
+pub record AreMadeFrom (nodes : List NodeInfo) (base : World) (before : ℕ) (scripts : List (List Command)) (history : List Entry) (text : List ℕ) : Type 0 where
+  pub legal : IsLegalFrom nodes base history
   pub made : commands_of_each (length scripts) history ≡ scripts
   pub alone : All (λ e. e.session.value ≤ length scripts) history
-  pub printed : text ≡ replies_text (length scripts) history
+  pub printed : text ≡ replies_text_behind before (length scripts) history
+
+-- the same from the empty store on
+abbrev pub AreMade : List NodeInfo → List (List Command) → List Entry → List ℕ → Type 0
+AreMade nodes scripts history text = AreMadeFrom nodes first_world 0 scripts history text
 
 -- these commands were made after these entries, all by this session
 pub record AreMadeBehind (before : List Entry) (session : SessionNo) (commands : List Command) (after : List Entry) : Type 0 where

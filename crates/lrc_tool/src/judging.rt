@@ -2,10 +2,10 @@
 
 ghost use Rattle.std.specs.Prelude.{◌≡◌, ◌≤◌, ◌+◌, All, length, IfOk, IfErr};
 ghost use Rattle.lrc_script.specs.Scripts.{IsFirstBad};
-ghost use Rattle.lrc_tool.specs.Judged.{lists_of, first_bad_in, AreParsed, IsJudged};
+ghost use Rattle.lrc_tool.specs.Judged.{lists_of, first_bad_in, shifted, AreParsed, IsJudged, IsJudgedBehind};
 ghost use Rattle.lrc_tool.specs.declared.streams.RunFault.TheVariants as fault;
 
-use crate::limits::{BUNDLE_LIMIT, SCRIPT_LIMIT};
+use crate::limits::{BUNDLE_LIMIT, SCRIPT_LIMIT, SEQUEL_LIMIT};
 use crate::output::{Output, bad_line, refused, refused_topology};
 use crate::streams::RunFault;
 use lrc_book::Command;
@@ -26,15 +26,30 @@ pub(crate) enum Judged {
     },
 }
 
-/// Checks a bundle.
+/// Checks a bundle that stands alone.
 pub(crate) fn judge(alloc: Global, bundle: &[u8]) -> Result<Judged, RunFault>
     ensures judged { IfOk result (IsJudged bundle.now) }
+    ensures err { IfErr result (λ e. e ≡ fault.OutOfMemory) }
+{
+    judge_behind(alloc, bundle, SCRIPT_LIMIT, 0)
+}
+
+/// Checks a bundle that has at most `most` scripts and stands behind `passed` lines.
+pub(crate) fn judge_behind(
+    alloc: Global,
+    bundle: &[u8],
+    most: usize,
+    passed: u64,
+) -> Result<Judged, RunFault>
+    requires few { most ≤ SCRIPT_LIMIT }
+    requires passed { passed ≤ SEQUEL_LIMIT }
+    ensures judged { IfOk result (IsJudgedBehind most passed bundle.now) }
     ensures err { IfErr result (λ e. e ≡ fault.OutOfMemory) }
 {
     if bundle.len() > BUNDLE_LIMIT {
         return Ok(Judged::Refused(refused(alloc, "bundle 1\n")?));
     }
-    let parts = match split_bundle(alloc, bundle, SCRIPT_LIMIT) {
+    let parts = match split_bundle(alloc, bundle, most) {
         Ok(parts) => parts,
         Err(BundleError::TooManyScripts) => {
             return Ok(Judged::Refused(refused(alloc, "bundle 2\n")?));
@@ -46,7 +61,7 @@ pub(crate) fn judge(alloc: Global, bundle: &[u8]) -> Result<Judged, RunFault>
         Err(TopologyError::OutOfMemory) => return Err(RunFault::OutOfMemory),
         Err(error) => return Ok(Judged::Refused(refused_topology(alloc, error)?)),
     };
-    match parse_scripts(alloc, parts.scripts.as_slice()) {
+    match parse_scripts(alloc, parts.scripts.as_slice(), passed) {
         Ok(scripts) => Ok(Judged::Good { topology, scripts }),
         Err(ScriptError::Bad { line, cause }) => {
             Ok(Judged::Refused(bad_line(alloc, line, cause)?))
@@ -55,16 +70,21 @@ pub(crate) fn judge(alloc: Global, bundle: &[u8]) -> Result<Judged, RunFault>
     }
 }
 
-/// Returns the commands of each script, if none has a bad line.
-fn parse_scripts(alloc: Global, scripts: &[ScriptText]) -> Result<Vec<Vec<Command>>, ScriptError>
+/// Returns the commands of each script, if none has a bad line. Lines are counted behind `passed` others.
+fn parse_scripts(
+    alloc: Global,
+    scripts: &[ScriptText],
+    passed: u64,
+) -> Result<Vec<Vec<Command>>, ScriptError>
     // The scripts are parts of a bundle.
-    requires { All (λ s. s.first_line + length s.text.now ≤ BUNDLE_LIMIT) scripts.now }
+    requires parts { All (λ s. s.first_line + length s.text.now ≤ BUNDLE_LIMIT) scripts.now }
+    requires passed { passed ≤ SEQUEL_LIMIT }
     ensures parsed { IfOk result (λ v. AreParsed scripts.now (lists_of v.items)) }
-    ensures bad { IfErr result (IsFirstBad (first_bad_in scripts.now)) }
+    ensures bad { IfErr result (IsFirstBad (shifted passed (first_bad_in scripts.now))) }
 {
     let mut parsed = Vec::new(alloc);
     for script in scripts {
-        let commands = parse_script(alloc, script.text, script.first_line)?;
+        let commands = parse_script(alloc, script.text, passed + script.first_line)?;
         parsed.push(commands)?;
     }
     Ok(parsed)

@@ -8,6 +8,7 @@ ghost use Rattle.lrc_tool.specs.declared.status.Status.{Status};
 ghost use Rattle.lrc_tool.specs.declared.status.Status.TheVariants.{Done};
 ghost use Rattle.lrc_tool.specs.Outputs.{IsOutput};
 ghost use Rattle.lrc_tool.specs.Checks.{command_count, IsCheck};
+ghost use Rattle.lrc_tool.specs.Sequels.{IsResumed, IsImagedAs};
 
 /// Each bundle has an output of a run.
 pub fn some_output()
@@ -41,4 +42,16 @@ pub fn checks_refuse_as_runs()
 pub fn counted_commands()
     ensures { (script : Script) (commands : List Command)
         → IsScript script.lines commands → length commands ≡ command_count script }
+{}
+
+/// Each sequel has at most one output of `resume`.
+pub fn one_resumed()
+    ensures { (sequel text other : List ℕ) (status another : Status)
+        → IsResumed sequel text status → IsResumed sequel other another → (text ≡ other) × (status ≡ another) }
+{}
+
+/// Each sequel has at most one output of `image`.
+pub fn one_imaged()
+    ensures { (sequel text other : List ℕ) (status another : Status)
+        → IsImagedAs sequel text status → IsImagedAs sequel other another → (text ≡ other) × (status ≡ another) }
 {}

@@ -1,6 +1,7 @@
-//! The functions of the program: running, checking and recovering, from bytes to bytes.
+//! The functions of the program: running, going on, checking and recovering, from bytes to bytes.
 #![tactic(auto)]
 
+mod begin;
 mod checking;
 mod judging;
 pub mod laws;
@@ -9,6 +10,7 @@ mod output;
 mod play;
 mod program;
 mod recovery;
+mod sequel;
 mod status;
 mod streams;
 mod together;
@@ -17,5 +19,6 @@ pub use checking::check;
 pub use lrc_script::{Cause, ScriptError, parse_script};
 pub use program::run;
 pub use recovery::{recover, recover_narrow};
+pub use sequel::{image, resume};
 pub use status::Status;
 pub use streams::{Plain, RunFault, Sink, Source};

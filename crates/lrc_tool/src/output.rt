@@ -1,10 +1,13 @@
-ghost use Rattle.std.specs.Prelude.{◌≡◌, ◌++◌, string_bytes, IfOk, IfErr, OnOk};
-ghost use Rattle.lrc_tool.specs.Refusals.{topology_line, cause_number, bad_line_text};
+ghost use Rattle.std.specs.Prelude.{◌≡◌, ◌++◌, codes, decimal, string_bytes, IfOk, IfErr, OnOk};
+ghost use Rattle.lrc_images.specs.declared.cause.Cause.{Cause as RowCause};
+ghost use Rattle.lrc_tool.specs.Refusals.{topology_line, cause_number, bad_line_text, bad_image_text, row_cause_number, head_line, row_line, refused_row_text};
 ghost use Rattle.lrc_tool.specs.declared.status.Status.TheVariants as ended;
 ghost use Rattle.lrc_tool.specs.declared.streams.RunFault.TheVariants as fault;
 
 use crate::status::Status;
 use crate::streams::RunFault;
+use lrc_book::Cause as RowCause;
+use lrc_code::UpgradeNo;
 use lrc_script::Cause;
 use lrc_topology::TopologyError;
 use std::alloc::{AllocError, Global};
@@ -39,6 +42,41 @@ pub(crate) fn refused_topology(alloc: Global, error: TopologyError) -> Result<Ou
 {
     let mut text = String::new(alloc);
     push_topology_line(&mut text, error)?;
+    let status = Status::Refused;
+    Ok(Output {
+        text: text.into_bytes(),
+        status,
+    })
+}
+
+/// The output for an image whose text has this bad line.
+pub(crate) fn bad_image(alloc: Global, line: u64) -> Result<Output, RunFault>
+    ensures text { IfOk result (λ o. o.text.items ≡ bad_image_text line) }
+    ensures status { IfOk result (λ o. o.status ≡ ended.Refused) }
+    ensures err { IfErr result (λ e. e ≡ fault.OutOfMemory) }
+{
+    let mut text = String::new(alloc);
+    push_bad_image(&mut text, line)?;
+    let status = Status::Refused;
+    Ok(Output {
+        text: text.into_bytes(),
+        status,
+    })
+}
+
+/// The output for an image with this upgrading domain, whose row at this position is refused.
+pub(crate) fn refused_row(
+    alloc: Global,
+    upgrading: Option<UpgradeNo>,
+    position: usize,
+    cause: RowCause,
+) -> Result<Output, RunFault>
+    ensures text { IfOk result (λ o. o.text.items ≡ refused_row_text upgrading (position, cause)) }
+    ensures status { IfOk result (λ o. o.status ≡ ended.Refused) }
+    ensures err { IfErr result (λ e. e ≡ fault.OutOfMemory) }
+{
+    let mut text = String::new(alloc);
+    push_refused_row(&mut text, row_line(upgrading, position, cause), cause)?;
     let status = Status::Refused;
     Ok(Output {
         text: text.into_bytes(),
@@ -84,4 +122,39 @@ fn push_bad_line(out: &mut String, line: u64, cause: Cause) -> Result<(), AllocE
 {
     let number = cause as u8;
     write!(out, "line {line} cause {number}\n")
+}
+
+fn push_bad_image(out: &mut String, line: u64) -> Result<(), AllocError>
+    ensures { OnOk result (string_bytes out.new ≡ string_bytes out.old ++ bad_image_text line) }
+{
+    write!(out, "image {line}\n")
+}
+
+fn push_refused_row(out: &mut String, line: u128, cause: RowCause) -> Result<(), AllocError>
+    ensures { OnOk result (string_bytes out.new ≡ string_bytes out.old ++ (codes "image " ++ decimal line ++ codes " cause " ++ decimal (row_cause_number cause) ++ codes "\n")) }
+{
+    let number = cause as u8 + 1;
+    write!(out, "image {line} cause {number}\n")
+}
+
+/// The line of a row's position in the text of an image with this upgrading domain. A `u128`, since a position is any `usize`.
+fn row_line(upgrading: Option<UpgradeNo>, position: usize, cause: RowCause) -> u128
+    ensures { result ≡ row_line upgrading position cause }
+{
+    if position == 0 {
+        return head_line(cause);
+    }
+    let first_lines = if upgrading.is_some() { 4 } else { 3 };
+    first_lines + position as u128
+}
+
+/// The line of the number that a cause is of.
+fn head_line(cause: RowCause) -> u128
+    ensures { result ≡ head_line cause }
+{
+    match cause {
+        RowCause::TooManyEntries => 2,
+        RowCause::TooManyTicks => 3,
+        _ => 4,
+    }
 }

@@ -1,8 +1,10 @@
-ghost use Rattle.std.specs.Prelude.{◌≡◌, ◌+◌, ◌≤◌, [], ◌∷◌, length, IfOk, OnOk, IfErr};
-ghost use Rattle.lrc_rules.specs.Histories.{first_world};
+ghost use Rattle.std.specs.Prelude.{◌≡◌, ◌+◌, ◌≤◌, [], ◌∷◌, length, All, IfOk, OnOk, IfErr};
+ghost use Rattle.lrc_rules.specs.Histories.{IsLegalFrom};
+ghost use Rattle.lrc_rules.specs.Sessions.{commands_of_each};
+ghost use Rattle.lrc_images.specs.Causes.{most_entries};
 ghost use Rattle.lrc_tool.specs.Judged.{lists_of, AreFew};
-ghost use Rattle.lrc_tool.specs.Plays.{AreMade, AreMadeBehind};
-ghost use Rattle.lrc_tool.specs.Outputs.{IsPlayed};
+ghost use Rattle.lrc_tool.specs.Plays.{AreMadeFrom, AreMadeBehind};
+ghost use Rattle.lrc_tool.specs.Outputs.{IsPlayed, IsPlayedFrom};
 ghost use Rattle.lrc_tool.specs.declared.streams.RunFault.TheVariants as fault;
 
 use crate::streams::RunFault;
@@ -32,8 +34,25 @@ pub(crate) fn play(
     ensures err { IfErr result (λ e. e ≡ fault.OutOfMemory) }
 {
     let mut book = Book::new(alloc, topology)?;
-    let replies = play_scripts(&mut book, scripts, room)?;
-    let whole = with_tables(alloc, replies, &book)?;
+    play_on(alloc, &mut book, scripts, room)
+}
+
+/// Runs the only script, if there is one, on a book without entries, and returns the output: the replies and both tables.
+pub(crate) fn play_on(
+    alloc: Global,
+    book: &mut Book,
+    scripts: &[Vec<Command>],
+    room: Vec<u8>,
+) -> Result<Vec<u8>, RunFault>
+    requires fresh { (book.old.history ≡ []) × (book.old.limit ≡ HISTORY_LIMIT) × (book.old.before ≤ most_entries) }
+    requires few { AreFew scripts.now }
+    requires alone { length scripts.now ≤ 1 }
+    requires empty { room.items ≡ [] }
+    ensures played { IfOk result (λ text. IsPlayedFrom book.old.nodes book.old.base book.old.before (lists_of scripts.now) text.items) }
+    ensures err { IfErr result (λ e. e ≡ fault.OutOfMemory) }
+{
+    let replies = play_scripts(book, scripts, room)?;
+    let whole = with_tables(alloc, replies, book)?;
     Ok(whole)
 }
 
@@ -43,13 +62,12 @@ fn play_scripts(
     scripts: &[Vec<Command>],
     room: Vec<u8>,
 ) -> Result<Vec<u8>, RunFault>
-    requires fresh { (book.old.history ≡ []) × (book.old.limit ≡ HISTORY_LIMIT) × (book.old.base ≡ first_world) }
+    requires fresh { (book.old.history ≡ []) × (book.old.limit ≡ HISTORY_LIMIT) × (book.old.before ≤ most_entries) }
     requires few { AreFew scripts.now }
     requires alone { length scripts.now ≤ 1 }
     requires empty { room.items ≡ [] }
-    ensures made { IfOk result (λ text. AreMade book.old.nodes (lists_of scripts.now) book.new.history text.items) }
-    ensures nodes { OnOk result (book.new.nodes ≡ book.old.nodes) }
-    ensures base { OnOk result (book.new.base ≡ first_world) }
+    ensures made { IfOk result (λ text. AreMadeFrom book.old.nodes book.old.base book.old.before (lists_of scripts.now) book.new.history text.items) }
+    ensures same { OnOk result ((book.new.nodes ≡ book.old.nodes) × (book.new.base ≡ book.old.base)) }
     ensures err { IfErr result (λ e. e ≡ fault.OutOfMemory) }
 {
     match scripts {
@@ -60,16 +78,16 @@ fn play_scripts(
 
 /// Runs the commands of the only script by session 1, and returns the lines of their replies.
 fn play_alone(book: &mut Book, commands: &[Command], empty: Vec<u8>) -> Result<Vec<u8>, RunFault>
-    requires fresh { (book.old.history ≡ []) × (book.old.limit ≡ HISTORY_LIMIT) × (book.old.base ≡ first_world) }
+    requires fresh { (book.old.history ≡ []) × (book.old.limit ≡ HISTORY_LIMIT) × (book.old.before ≤ most_entries) }
     // The history has room for them.
     requires few { length commands.now ≤ HISTORY_LIMIT }
     requires empty { empty.items ≡ [] }
-    ensures made { IfOk result (λ text. AreMade book.old.nodes (commands.now ∷ []) book.new.history text.items) }
-    ensures nodes { OnOk result (book.new.nodes ≡ book.old.nodes) }
-    ensures base { OnOk result (book.new.base ≡ first_world) }
+    ensures made { IfOk result (λ text. AreMadeFrom book.old.nodes book.old.base book.old.before (commands.now ∷ []) book.new.history text.items) }
+    ensures same { OnOk result ((book.new.nodes ≡ book.old.nodes) × (book.new.base ≡ book.old.base)) }
     ensures err { IfErr result (λ e. e ≡ fault.OutOfMemory) }
 {
     let session = SessionNo::new(1).unwrap();
+    let first = book.before() as usize + 1;
     let mut text = empty;
     push_script_line(&mut text, session)?;
     let mut room = [0u8; LINES_ROOM];
@@ -77,10 +95,43 @@ fn play_alone(book: &mut Book, commands: &[Command], empty: Vec<u8>) -> Result<V
     while made < commands.len() {
         let few = LINES.min(commands.len() - made);
         make_all(book, session, &commands[made..made + few])?;
-        push_lines(&mut text, &book.history()[made..], made + 1, &mut room)?;
+        push_lines(&mut text, &book.history()[made..], first + made, &mut room)?;
         made += few;
     }
     Ok(text)
+}
+
+/// Runs the commands of the only script, if there is one, by session 1.
+pub(crate) fn make_scripts(book: &mut Book, scripts: &[Vec<Command>]) -> Result<(), RunFault>
+    requires fresh { (book.old.history ≡ []) × (book.old.limit ≡ HISTORY_LIMIT) }
+    requires few { AreFew scripts.now }
+    requires alone { length scripts.now ≤ 1 }
+    ensures legal { OnOk result (IsLegalFrom book.old.nodes book.old.base book.new.history) }
+    ensures made { OnOk result (commands_of_each (length scripts.now) book.new.history ≡ lists_of scripts.now) }
+    ensures only { OnOk result (All (λ e. e.session.value ≤ length scripts.now) book.new.history) }
+    ensures same { OnOk result ((book.new.nodes ≡ book.old.nodes) × (book.new.base ≡ book.old.base) × (book.new.before ≡ book.old.before)) }
+    ensures err { IfErr result (λ e. e ≡ fault.OutOfMemory) }
+{
+    match scripts {
+        [] => Ok(()),
+        [script, ..] => make_alone(book, script.as_slice()),
+    }
+}
+
+/// Runs the commands of the only script by session 1.
+fn make_alone(book: &mut Book, commands: &[Command]) -> Result<(), RunFault>
+    requires fresh { (book.old.history ≡ []) × (book.old.limit ≡ HISTORY_LIMIT) }
+    // The history has room for them.
+    requires few { length commands.now ≤ HISTORY_LIMIT }
+    ensures legal { OnOk result (IsLegalFrom book.old.nodes book.old.base book.new.history) }
+    ensures made { OnOk result (commands_of_each 1 book.new.history ≡ commands.now ∷ []) }
+    ensures only { OnOk result (All (λ e. e.session.value ≤ 1) book.new.history) }
+    ensures same { OnOk result ((book.new.nodes ≡ book.old.nodes) × (book.new.base ≡ book.old.base) × (book.new.before ≡ book.old.before)) }
+    ensures err { IfErr result (λ e. e ≡ fault.OutOfMemory) }
+{
+    let only = SessionNo::new(1).unwrap();
+    make_all(book, only, commands)?;
+    Ok(())
 }
 
 /// Runs commands in order, all by one session.
@@ -88,7 +139,8 @@ fn make_all(book: &mut Book, session: SessionNo, commands: &[Command]) -> Result
     // The history has room for them.
     requires few { length book.old.history + length commands.now ≤ book.old.limit }
     ensures made { OnOk result (AreMadeBehind book.old.history session commands.now book.new.history) }
-    ensures same { OnOk result ((book.new.nodes ≡ book.old.nodes) × (book.new.limit ≡ book.old.limit) × (book.new.base ≡ book.old.base)) }
+    ensures legal { OnOk result (IsLegalFrom book.old.nodes book.old.base book.old.history → IsLegalFrom book.old.nodes book.old.base book.new.history) }
+    ensures same { OnOk result ((book.new.nodes ≡ book.old.nodes) × (book.new.limit ≡ book.old.limit) × (book.new.base ≡ book.old.base) × (book.new.before ≡ book.old.before)) }
     ensures err { IfErr result (λ e. e ≡ fault.OutOfMemory) }
 {
     for command in commands.iter() {

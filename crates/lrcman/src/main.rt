@@ -10,7 +10,7 @@ mod stop;
 
 use crate::stop::Stop;
 use clap::{Arg, ArgAction, ArgMatches, Command};
-use lrc_tool::{Plain, RunFault, Status, check, recover, recover_narrow, run};
+use lrc_tool::{Plain, RunFault, Status, check, image, recover, recover_narrow, resume, run};
 use std::alloc::{AllocError, Global};
 use std::process::ExitCode;
 use std::sync::Wait;
@@ -22,6 +22,8 @@ use std::{env, io};
 enum Request<'a> {
     Run,
     Check,
+    Image,
+    Resume,
     Recover { mask: &'a str },
     Recover6 { mask: &'a str },
 }
@@ -33,7 +35,9 @@ fn command_line<'a>(alloc: Global) -> Result<Command<'a>, AllocError> {
     let recover6 = of_mask(alloc, "recover6")?;
     let command = command.subcommand(recover6)?;
     let command = command.subcommand(Command::new(alloc, "run"))?;
-    command.subcommand(Command::new(alloc, "check"))
+    let command = command.subcommand(Command::new(alloc, "check"))?;
+    let command = command.subcommand(Command::new(alloc, "image"))?;
+    command.subcommand(Command::new(alloc, "resume"))
 }
 
 /// The command line of a word and a mask.
@@ -54,6 +58,8 @@ fn request_in<'a>(matches: &ArgMatches<'a>) -> Result<Request<'a>, Stop> {
     match matches.subcommand() {
         Some(("run", _)) => Ok(Request::Run),
         Some(("check", _)) => Ok(Request::Check),
+        Some(("image", _)) => Ok(Request::Image),
+        Some(("resume", _)) => Ok(Request::Resume),
         Some(("recover", found)) => Ok(Request::Recover {
             mask: mask_in(found)?,
         }),
@@ -83,6 +89,8 @@ fn serve<T: Threads + Wait + Sync>(
     match request {
         Request::Run => run_input(rt, threads),
         Request::Check => check_input(rt),
+        Request::Image => image_input(rt),
+        Request::Resume => resume_input(rt),
         Request::Recover { mask } => recover(rt.alloc(), mask, &mut Plain::new(io::writer(rt))),
         Request::Recover6 { mask } => {
             recover_narrow(rt.alloc(), mask, &mut Plain::new(io::writer(rt)))
@@ -100,6 +108,18 @@ fn check_input(rt: &HostRuntime) -> Result<Status, RunFault> {
     let mut source = Plain::new(rt.reader());
     let mut sink = Plain::new(io::writer(rt));
     check(rt.alloc(), &mut source, &mut sink)
+}
+
+fn image_input(rt: &HostRuntime) -> Result<Status, RunFault> {
+    let mut source = Plain::new(rt.reader());
+    let mut sink = Plain::new(io::writer(rt));
+    image(rt.alloc(), &mut source, &mut sink)
+}
+
+fn resume_input(rt: &HostRuntime) -> Result<Status, RunFault> {
+    let mut source = Plain::new(rt.reader());
+    let mut sink = Plain::new(io::writer(rt));
+    resume(rt.alloc(), &mut source, &mut sink)
 }
 
 /// The exit status for how a command ended, or for why the program stopped.

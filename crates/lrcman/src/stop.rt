@@ -12,7 +12,7 @@ use std::io;
 #[derive(Clone, Copy, Debug, thiserror::Error)]
 pub(crate) enum Stop {
     /// The command line is refused.
-    #[error("usage: lrcman run < BUNDLE | lrcman check < BUNDLE | lrcman recover MASK | lrcman recover6 MASK (four hexadecimal digits)")]
+    #[error("usage: lrcman run < BUNDLE | lrcman check < BUNDLE | lrcman image < SEQUEL | lrcman resume < SEQUEL | lrcman recover MASK | lrcman recover6 MASK (four hexadecimal digits)")]
     Usage,
     #[error("lrcman: {0}")]
     Fault(RunFault),

@@ -1,4 +1,5 @@
 use Rattle.std.proofs.Common.{◌≡◌, take}
+use Rattle.lrc_rules.specs.Histories.{IsLegalFrom}
 use Rattle.lrc_tool.specs.Plays.{AreMadeBehind}
 use Rattle.lrc_tool.proofs.play.make_all.Given as goal
 
@@ -7,5 +8,7 @@ invariant-loop-command l = record {
   nodes : l.book.nodes ≡ l.fn.book.nodes;
   limit : l.book.limit ≡ l.fn.book.limit;
   base : l.book.base ≡ l.fn.book.base;
+  before : l.book.before ≡ l.fn.book.before;
   made : AreMadeBehind l.fn.book.history l.session (take l.command-index l.commands) l.book.history;
+  legal : IsLegalFrom l.fn.book.nodes l.fn.book.base l.fn.book.history → IsLegalFrom l.fn.book.nodes l.fn.book.base l.book.history;
 }

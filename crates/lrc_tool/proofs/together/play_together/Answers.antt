@@ -1,6 +1,6 @@
 use Rattle.std.proofs.Common.{◌≡◌, ◌++◌, ℕ, List, ap, subst, sym, ◌∙◌}
 use Rattle.lrc_topology.specs.declared.NodeInfo.{NodeInfo}
-use Rattle.lrc_rules.specs.Histories.{World, state_from}
+use Rattle.lrc_rules.specs.Histories.{World, first_world, state_from}
 use Rattle.lrc_text.specs.Tables.{tables_text}
 use Rattle.lrc_tool.specs.Judged.{lists_of}
 use Rattle.lrc_tool.specs.Plays.{AreMade, tracks_text}
@@ -20,4 +20,4 @@ returns-clause-played g c =
     let made = subst (λ (t : List ℕ). AreMade nodes lists book.history t) (sym printed) on_nodes in
     let whole = c.in_ok-whole.whole.items in
     let shown = subst (λ (w : World). whole ≡ text ++ tables_text book.nodes (state_from book.nodes w book.history)) c.in_ok-played.ensures.base c.in_ok-whole.ensures.text in
-    played_with_tables nodes book.nodes lists book.history text whole made (c.in_ok-played.ensures.nodes ∙ same) shown
+    played_with_tables nodes book.nodes first_world 0 lists book.history text whole made (c.in_ok-played.ensures.nodes ∙ same) shown
