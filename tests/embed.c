@@ -145,13 +145,18 @@ static uint32_t open_text(const char *text, size_t *detail) {
     return status;
 }
 
-static void open_twenty(void) {
+static const char *twenty(void) {
     static char text[2048];
-    size_t length = 0, detail = 99;
+    size_t length = 0;
     for (int i = 0; i < 20; i++)
         length += (size_t)snprintf(text + length, sizeof text - length,
                                    "[[node]]\nnumber = %d\nfault = %d\nupgrade = %d\nslots = 4\n", i, i, i % 10);
-    WANT(open_text(text, &detail) == LRC_DONE && detail == 99);
+    return text;
+}
+
+static void open_twenty(void) {
+    size_t detail = 99;
+    WANT(open_text(twenty(), &detail) == LRC_DONE && detail == 99);
 }
 
 static lrc_reply peek(uint8_t session, lrc_command command) {
@@ -567,6 +572,174 @@ static void forgets(void) {
     WANT(after.before == 10 && after.count == 0);
 }
 
+static uint32_t open_image(const char *nodes, const char *text, size_t *detail, uint32_t *cause) {
+    uint32_t status;
+    STATUS(status, lrc_embed_open_image(&handle, (const uint8_t *)nodes, strlen(nodes), (const uint8_t *)text,
+                                        strlen(text), detail, cause));
+    return status;
+}
+
+// The image with another text in the place of a part of it.
+static const char *with(const char *part, const char *other) {
+    static char text[4096];
+    const char *at = strstr(image_of_leased, part);
+    WANT(at != 0);
+    snprintf(text, sizeof text, "%.*s%s%s", (int)(at - image_of_leased), image_of_leased, other, at + strlen(part));
+    return text;
+}
+
+// A handle is opened with an image: the book has its state, and calls go on from there. Each way to be refused leaves the
+// handle as it was.
+static void begins(void) {
+    size_t detail = 99;
+    uint32_t cause = 99, status;
+    lrc_lease lease;
+    lrc_homes homes;
+    WANT(open_image("", image_of_leased, &detail, &cause) == LRC_IS_OPEN && detail == 99);
+    WANT(lrc_embed_close(&handle) == LRC_DONE);
+    WANT(open_image("", image_of_leased, &detail, &cause) == LRC_NO_NODES && detail == 0);
+    STATUS(status, lrc_embed_open_image(&handle, 0, 0, 0, 0, &detail, &cause)); // as any text without bytes
+    WANT(status == LRC_NO_NODES && detail == 0);
+    WANT(open_image("node = [", "", &detail, &cause) == LRC_SYNTAX && detail == 0);
+    WANT(open_image(twenty(), "image 1\nbefore 8\n", &detail, &cause) == LRC_BAD_LINE && detail == 3);
+    WANT(open_image(twenty(), "", &detail, &cause) == LRC_BAD_LINE && detail == 1 && cause == 99);
+    WANT(open_image(twenty(), with("17:1", "17:0"), &detail, &cause) == LRC_INVALID_IMAGE);
+    WANT(detail == 11 && cause == LRC_CAUSE_SEAT_TAKEN);
+    WANT(open_image(twenty(), with("upgrading 8", "upgrading 10"), &detail, &cause) == LRC_INVALID_IMAGE);
+    WANT(detail == 4 && cause == LRC_CAUSE_UNKNOWN_DOMAIN);
+    detail = 99, cause = 99;
+    WANT(open_image(twenty(), image_of_leased, &detail, &cause) == LRC_DONE && detail == 99 && cause == 99);
+    image(image_of_leased);
+    look(&after);
+    WANT(after.before == 8 && after.count == 0 && after.clock == 1);
+    WANT(lrc_embed_lease(&handle, 1, 3, &lease) == LRC_DONE && lease.epoch == 1 && lease.holder == 2 && lease.expiry == 4);
+    forget();
+    image(image_of_leased);
+    WANT(is_refused(MAKE(3, .kind = LRC_REPORT, .stripe = 1, .fragment = 3, .epoch = 1), LRC_NOT_HOLDER, 2));
+    WANT(MAKE(2, .kind = LRC_REPORT, .stripe = 1, .fragment = 3, .epoch = 1).kind == LRC_ENDED);
+    WANT(lrc_embed_homes(&handle, 1, &homes) == LRC_DONE);
+    WANT(homes.homes[3].is_there == 1 && homes.homes[3].seat.node == 17 && homes.homes[3].seat.slot == 1);
+    WANT(is_refused(MAKE(1, .kind = LRC_PLACE, .stripe = 2), LRC_STRIPE_EXISTS, 0));
+    forget();
+    look(&after);
+    WANT(after.before == 11 && after.count == 0);
+    WANT(open_image(twenty(), image_of_leased, &detail, &cause) == LRC_IS_OPEN && detail == 99 && cause == 99);
+}
+
+// Each part of the image that is replaced here makes one line of it wrong.
+static const struct {
+    const char *part, *other;
+    uint32_t status;
+    size_t line;
+    uint32_t cause;
+} changes[] = {
+    {"image 1", "image 2", LRC_BAD_LINE, 1, 0},
+    {"before 8", "before 08", LRC_BAD_LINE, 2, 0},
+    {"before 8", "before 18446744073709551616", LRC_BAD_LINE, 2, 0},
+    {"clock 1\n", "", LRC_BAD_LINE, 3, 0},
+    {"clock 1", "clock 4294967296", LRC_BAD_LINE, 3, 0},
+    {"upgrading 8", "upgrading 256", LRC_BAD_LINE, 4, 0},
+    {"node 3 gone", "node 3", LRC_BAD_LINE, 5, 0},
+    {"node 5 draining", "node 5 draining ", LRC_BAD_LINE, 6, 0},
+    {"stripe 1 0:0", "stripe 1", LRC_BAD_LINE, 8, 0},
+    {"stripe 1 0:0", "stripe 1 0:0 3:0", LRC_BAD_LINE, 8, 0},
+    {"stripe6 2 15:0", "stripe6 2 15:0 3:0", LRC_BAD_LINE, 9, 0},
+    {"stripe6 2", "node 2 down\nstripe6 2", LRC_BAD_LINE, 9, 0},
+    {"lease 1 3 2", "lease 1 3 9", LRC_BAD_LINE, 11, 0},
+    {"lease 1 3 2", "lease 1 16 2", LRC_BAD_LINE, 11, 0},
+    {"lease 1 3 2", "lease 4096 3 2", LRC_BAD_LINE, 11, 0},
+    {"end\n", "", LRC_BAD_LINE, 12, 0},
+    {"end\n", "end", LRC_BAD_LINE, 12, 0},
+    {"end\n", "end\r\n", LRC_BAD_LINE, 12, 0},
+    {"end\n", "end\nend\n", LRC_BAD_LINE, 13, 0},
+    {"upgrading 8", "upgrading 10", LRC_INVALID_IMAGE, 4, LRC_CAUSE_UNKNOWN_DOMAIN},
+    {"before 8\nclock 1\nupgrading 8", "before 9223372036854775809\nclock 1\nupgrading 10", LRC_INVALID_IMAGE, 4,
+     LRC_CAUSE_UNKNOWN_DOMAIN},
+    {"before 8\nclock 1\n", "before 9223372036854775809\nclock 4293967292\n", LRC_INVALID_IMAGE, 2,
+     LRC_CAUSE_TOO_MANY_ENTRIES},
+    {"clock 1", "clock 4293967292", LRC_INVALID_IMAGE, 3, LRC_CAUSE_TOO_MANY_TICKS},
+    {"node 5 draining", "node 3 draining", LRC_INVALID_IMAGE, 6, LRC_CAUSE_OUT_OF_ORDER},
+    {"node 5 draining", "node 2 draining", LRC_INVALID_IMAGE, 6, LRC_CAUSE_OUT_OF_ORDER},
+    {"stripe6 2", "stripe6 1", LRC_INVALID_IMAGE, 9, LRC_CAUSE_OUT_OF_ORDER},
+    {"lease 1 3", "granted 0 1 0 0 0 0 0 0 0 0 0 0 0 0 0 0 0\nlease 1 3", LRC_INVALID_IMAGE, 11, LRC_CAUSE_OUT_OF_ORDER},
+    {"end", "lease 1 3 2 17:2 4\nend", LRC_INVALID_IMAGE, 12, LRC_CAUSE_OUT_OF_ORDER},
+    {"granted 1 0 0 0 1", "granted 1 0 0 0 0", LRC_INVALID_IMAGE, 10, LRC_CAUSE_SAYS_NOTHING},
+    {"node 7 down", "node 20 down", LRC_INVALID_IMAGE, 7, LRC_CAUSE_UNKNOWN_NODE},
+    {"stripe 1 0:0", "stripe 1 20:0", LRC_INVALID_IMAGE, 8, LRC_CAUSE_UNKNOWN_NODE},
+    {"node 3 gone", "node 3 gone down", LRC_INVALID_IMAGE, 5, LRC_CAUSE_GONE_AND_DOWN},
+    {"upgrading 8\nnode 3 gone", "node 3 gone down", LRC_INVALID_IMAGE, 4, LRC_CAUSE_GONE_AND_DOWN},
+    {"lease 1 3 2", "granted 2 0 0 0 0 0 0 0 0 0 0 0 0 1 0 0 0\nlease 2 12 2", LRC_INVALID_IMAGE, 12,
+     LRC_CAUSE_UNKNOWN_FRAGMENT},
+    {"stripe 1 0:0", "stripe 1 0:4", LRC_INVALID_IMAGE, 8, LRC_CAUSE_UNKNOWN_SLOT},
+    {"stripe 1 0:0 1:0 2:0 -", "stripe 1 0:0 1:0 2:0 3:0", LRC_INVALID_IMAGE, 8, LRC_CAUSE_NODE_GONE},
+    {"17:1 4", "3:0 4", LRC_INVALID_IMAGE, 11, LRC_CAUSE_NODE_GONE},
+    {"stripe 1 0:0 1:0", "stripe 1 0:0 0:0", LRC_INVALID_IMAGE, 8, LRC_CAUSE_SEAT_TAKEN},
+    {"stripe6 2 15:0", "stripe6 2 14:0", LRC_INVALID_IMAGE, 9, LRC_CAUSE_SEAT_TAKEN},
+    {"stripe 1 0:0 1:0", "stripe 1 0:0 0:1", LRC_INVALID_IMAGE, 8, LRC_CAUSE_NOT_LAWFUL},    // the fault domain
+    {"stripe 1 0:0 1:0", "stripe 1 0:0 10:1", LRC_INVALID_IMAGE, 8, LRC_CAUSE_NOT_LAWFUL},   // the upgrade domain
+    {"17:1 4", "0:2 4", LRC_INVALID_IMAGE, 11, LRC_CAUSE_NOT_LAWFUL},
+    {"granted 1 0 0 0 1", "granted 1 0 0 0 4293967295", LRC_INVALID_IMAGE, 10, LRC_CAUSE_TOO_MANY_GRANTS},
+    {"lease 1 3 2", "lease 3 3 2", LRC_INVALID_IMAGE, 11, LRC_CAUSE_UNKNOWN_STRIPE},
+    {"lease 1 3 2", "lease 1 4 2", LRC_INVALID_IMAGE, 11, LRC_CAUSE_NEVER_GRANTED},
+    {"17:1 4", "17:1 1", LRC_INVALID_IMAGE, 11, LRC_CAUSE_WRONG_EXPIRY},
+    {"17:1 4", "17:1 5", LRC_INVALID_IMAGE, 11, LRC_CAUSE_WRONG_EXPIRY},
+};
+
+// The status of a closed handle that is opened with an image over the twenty nodes, without a count of its requests.
+static uint32_t try_image(const char *text, size_t *detail, uint32_t *cause) {
+    const char *nodes = twenty();
+    is_looking = true;
+    uint32_t status = lrc_embed_open_image(&handle, (const uint8_t *)nodes, strlen(nodes), (const uint8_t *)text,
+                                           strlen(text), detail, cause);
+    is_looking = false;
+    return status;
+}
+
+static void refused_images(void) {
+    WANT(lrc_embed_close(&handle) == LRC_DONE);
+    for (size_t i = 0; i < sizeof changes / sizeof *changes; i++) {
+        size_t detail = 99;
+        uint32_t cause = 99;
+        uint32_t status = try_image(with(changes[i].part, changes[i].other), &detail, &cause);
+        uint32_t wanted = changes[i].cause ? changes[i].cause : 99;
+        if (status != changes[i].status || detail != changes[i].line || cause != wanted)
+            fprintf(stderr, "%s: status %u, line %zu, cause %u\n", changes[i].other, status, detail, cause);
+        WANT(status == changes[i].status && detail == changes[i].line && cause == wanted);
+        WANT(lrc_embed_count(&handle, &detail) == LRC_IS_CLOSED);
+    }
+}
+
+// A book begins in an image, whose text it has.
+static void begin_in(const char *text) {
+    size_t detail = 99;
+    uint32_t cause = 99;
+    WANT(lrc_embed_close(&handle) == LRC_DONE);
+    WANT(try_image(text, &detail, &cause) == LRC_DONE && detail == 99 && cause == 99);
+    image(text);
+}
+
+// No image is made, and nothing is forgotten.
+static bool is_spent(void) {
+    uint8_t text[1];
+    size_t needed = 99;
+    WANT(lrc_embed_image(&handle, text, sizeof text, &needed) == LRC_FULL && needed == 99);
+    look(&before);
+    WANT(lrc_embed_forget(&handle) == LRC_FULL);
+    return is_as_before();
+}
+
+// The largest numbers of an image are taken, and the book that has gone further makes none.
+static void largest_numbers(void) {
+    begin_in("image 1\nbefore 0\nclock 0\nend\n");
+    begin_in("image 1\nbefore 9223372036854775808\nclock 4293967291\nend\n");
+    WANT(MAKE(1, .kind = LRC_TICK).clock == 4293967292 && is_spent());
+    begin_in("image 1\nbefore 9223372036854775808\nclock 0\nend\n");
+    WANT(MAKE(1, .kind = LRC_UP, .node = 1).kind == LRC_REFUSED && is_spent());
+    begin_in("image 1\nbefore 0\nclock 0\nstripe6 2 15:0 17:0 18:0 19:0 0:1 1:1 2:1 - 4:1 5:1\n"
+             "granted 2 0 0 0 0 0 0 0 4293967294 0 0 0 0 0 0 0 0\nend\n");
+    WANT(MAKE(1, .kind = LRC_LEASE, .stripe = 2, .fragment = 7).lease.epoch == 4293967295 && is_spent());
+}
+
 static void fill(void) {
     lrc_command command = {.kind = LRC_UP, .node = 1};
     lrc_reply reply = {0};
@@ -624,6 +797,11 @@ int main(int argc, char **argv) {
     narrow();
     replays();
     forgets();
+    begins();
+    if (argc > 1) { // once, and not for each request that is refused
+        refused_images();
+        largest_numbers();
+    }
     if (argc > 1 && strcmp(argv[1], "full") == 0) fill();
     WANT(lrc_embed_close(&handle) == LRC_DONE);
     closed();

@@ -7,13 +7,15 @@
 #include <utility>
 #include <vector>
 
-// A status other than LRC_DONE.
+// A status other than LRC_DONE, the position or line of the fault in the input, and the lrc_cause of LRC_INVALID_IMAGE.
 class Fault : public std::runtime_error {
   public:
-    Fault(const std::string &what, std::uint32_t status, std::size_t position = 0)
-        : std::runtime_error(what + ": status " + std::to_string(status)), status(status), position(position) {}
+    Fault(const std::string &what, std::uint32_t status, std::size_t position = 0, std::uint32_t cause = 0)
+        : std::runtime_error(what + ": status " + std::to_string(status)), status(status), position(position),
+          cause(cause) {}
     const std::uint32_t status;
     const std::size_t position;
+    const std::uint32_t cause;
 };
 
 // A book. It may be moved and not copied, and one thread at a time may use it.
@@ -21,9 +23,18 @@ class Book {
   public:
     explicit Book(const std::string &nodes) {
         std::size_t detail = 0;
-        auto text = reinterpret_cast<const std::uint8_t *>(nodes.data());
-        auto status = lrc_embed_open(&handle, text, nodes.size(), &detail);
+        auto status = lrc_embed_open(&handle, bytes_of(nodes), nodes.size(), &detail);
         if (status != LRC_DONE) throw Fault("open", status, detail);
+    }
+    // A book that begins in an image, with an empty history.
+    static Book from_image(const std::string &nodes, const std::string &image) {
+        Book book;
+        std::size_t detail = 0;
+        std::uint32_t cause = 0;
+        auto status = lrc_embed_open_image(&book.handle, bytes_of(nodes), nodes.size(), bytes_of(image), image.size(),
+                                           &detail, &cause);
+        if (status != LRC_DONE) throw Fault("open_image", status, detail, cause);
+        return book;
     }
     Book(const std::string &nodes, const std::vector<lrc_entry> &log) : Book(nodes) {
         std::size_t position = 0;
@@ -55,7 +66,7 @@ class Book {
         done("count", lrc_embed_count(&handle, &count));
         return count;
     }
-    // The number of entries that were forgotten.
+    // The number of entries of the store before the history.
     std::uint64_t before() {
         std::uint64_t before = 0;
         done("before", lrc_embed_before(&handle, &before));
@@ -89,6 +100,10 @@ class Book {
     }
 
   private:
+    Book() = default;
+    static const std::uint8_t *bytes_of(const std::string &text) {
+        return reinterpret_cast<const std::uint8_t *>(text.data());
+    }
     static void done(const char *what, std::uint32_t status) {
         if (status != LRC_DONE) throw Fault(what, status);
     }
@@ -169,6 +184,9 @@ int main() {
 
     Book again(twenty_nodes(), log);
     std::printf("replayed %zu\n", again.count());
+    // a book that begins in the image has its state, and the entries are those before it
+    Book begun = Book::from_image(twenty_nodes(), book.image());
+    if (begun.image() != book.image() || begun.before() != log.size() || begun.count() != 0) return 1;
     Book moved = std::move(again);
     log[4].reply.lease.epoch = 1;
     try {

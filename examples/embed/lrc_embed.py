@@ -10,7 +10,13 @@ VERSION, STRIPES, FRAGMENTS, NARROW_FRAGMENTS, SESSIONS, HISTORY_LIMIT = 1, 4096
 
 class Status(IntEnum):
     DONE, IS_CLOSED, IS_OPEN, OUT_OF_RANGE, UNKNOWN, FULL, OUT_OF_MEMORY, SHORT, DIFFERENT = range(9)
-    SYNTAX, NO_NODES, BAD_FIELD, NODE_OUT_OF_RANGE, DOUBLE_NODE, TOO_MANY = range(16, 22)
+    SYNTAX, NO_NODES, BAD_FIELD, NODE_OUT_OF_RANGE, DOUBLE_NODE, TOO_MANY, BAD_LINE, INVALID_IMAGE = range(16, 24)
+
+
+class Cause(IntEnum):
+    UNKNOWN_DOMAIN, TOO_MANY_ENTRIES, TOO_MANY_TICKS, OUT_OF_ORDER, SAYS_NOTHING, UNKNOWN_NODE = range(1, 7)
+    GONE_AND_DOWN, UNKNOWN_FRAGMENT, UNKNOWN_SLOT, NODE_GONE, SEAT_TAKEN, NOT_LAWFUL = range(7, 13)
+    TOO_MANY_GRANTS, UNKNOWN_STRIPE, NEVER_GRANTED, WRONG_EXPIRY = range(13, 17)
 
 
 class CommandKind(IntEnum):
@@ -150,34 +156,53 @@ class Mode(ctypes.Structure):
     _fields_ = [("mode", c_uint8), ("is_online", c_uint8), ("reserved", c_uint8 * 2)]
 
 
-class Fault(Exception):
-    """A status other than done, and the position of the fault in the input."""
+def text_of(text):
+    """A text as C takes it: its bytes and their number."""
+    data = text.encode()
+    return data, c_size_t(len(data))
 
-    def __init__(self, name, status, position):
+
+class Fault(Exception):
+    """A status other than done, the position of the fault in the input, or its line in an image, and why an image is invalid."""
+
+    def __init__(self, name, status, position=None, cause=None):
         super().__init__(f"{name}: {Status(status).name}")
         self.status, self.position = Status(status), position
+        self.cause = Cause(cause) if status == Status.INVALID_IMAGE else None
 
 
 class Book:
-    """A book over the nodes of a text, after the calls of a log: a sequence of entries, or their bytes. One thread at a time
-    may use it. It is closed at the end of a `with`, by `close`, or when nothing refers to it any more."""
+    """A book over the nodes of a text, after the calls of a log: a sequence of entries, or their bytes. It begins in the image
+    of a text, if there is one, and else empty. One thread at a time may use it. It is closed at the end of a `with`, by
+    `close`, or when nothing refers to it any more."""
 
-    def __init__(self, library, nodes, log=()):
+    def __init__(self, library, nodes, log=(), image=None):
         self.library, self.handle = library, Handle()
         if library.lrc_embed_version() != VERSION:
             raise RuntimeError("another version of liblrc_embed")
         # A closed handle stays closed, so this may come again. At the end of the program its memory goes anyway.
         self.finalizer = weakref.finalize(self, library.lrc_embed_close, ctypes.byref(self.handle))
         self.finalizer.atexit = False
-        text, detail = nodes.encode(), c_size_t()
-        self.done("open", text, c_size_t(len(text)), ctypes.byref(detail), where=detail)
+        if image is None:
+            self.open(nodes)
+        else:
+            self.open_image(nodes, image)
         self.replay(log)
 
-    def done(self, name, *given, where=None):
+    def open(self, nodes):
+        detail = c_size_t()
+        self.done("open", *text_of(nodes), ctypes.byref(detail), where=detail)
+
+    def open_image(self, nodes, image):
+        detail, cause = c_size_t(), c_uint32()
+        texts = *text_of(nodes), *text_of(image)
+        self.done("open_image", *texts, ctypes.byref(detail), ctypes.byref(cause), where=detail, why=cause)
+
+    def done(self, name, *given, where=None, why=None):
         """Makes a call, which has to be done."""
         status = getattr(self.library, f"lrc_embed_{name}")(ctypes.byref(self.handle), *given)
         if status != Status.DONE:
-            raise Fault(name, status, None if where is None else where.value)
+            raise Fault(name, status, None if where is None else where.value, None if why is None else why.value)
 
     def result_of(self, name, result, *given):
         """Makes a call, and returns the result that it wrote; None if it is unknown."""
@@ -242,7 +267,7 @@ class Book:
         return self.result_of("count", c_size_t()).value
 
     def before(self):
-        """The number of entries that were forgotten."""
+        """The number of entries of the store before the history."""
         return self.result_of("before", c_uint64()).value
 
     def forget(self):
@@ -250,7 +275,7 @@ class Book:
         self.done("forget")
 
     def image(self):
-        """The text of the image of the state."""
+        """The text of the image of the state, in which a book can begin."""
         text, length = (c_uint8 * 0)(), c_size_t()
         while True:
             try:

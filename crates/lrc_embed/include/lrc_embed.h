@@ -1,11 +1,13 @@
 // The calls of liblrc_embed: a proved book of erasure-coded stripes, for a program that keeps its own lock and its own log.
 //
-// A handle owns one book. lrc_embed_open makes a book from a list of nodes. lrc_embed_call makes one command of one session
-// and returns its reply; lrc_embed_peek returns that reply and changes nothing. The looks read the book, and
-// lrc_embed_close frees it. docs/RULES.md says what each command does, and docs/EMBEDDING.md how a store uses this.
+// A handle owns one book. lrc_embed_open makes a book from a list of nodes, and lrc_embed_open_image from a list of nodes and
+// a saved state. lrc_embed_call makes one command of one session and returns its reply; lrc_embed_peek returns that reply and
+// changes nothing. The looks read the book, and lrc_embed_close frees it. docs/RULES.md says what each command does, and
+// docs/EMBEDDING.md how a store uses this.
 //
 // Every function but lrc_embed_version returns a status. It writes its results only if the status is LRC_DONE.
-// lrc_embed_open and lrc_embed_replay also write where they stopped, as their comments say. Nothing else is written.
+// lrc_embed_open, lrc_embed_open_image and lrc_embed_replay also write where they stopped, as their comments say. Nothing
+// else is written.
 //
 // What the caller owes, since nothing checks C:
 // - A handle begins as LRC_CLOSED. After that only these functions write it. Do not copy an open handle, since two copies
@@ -60,13 +62,38 @@ enum lrc_status {
     LRC_SHORT = 7,         // the buffer has no room for all rows
     LRC_DIFFERENT = 8,     // lrc_embed_replay: a call has another reply than its entry
 
-    // lrc_embed_open: why the text is not a list of nodes
+    // lrc_embed_open and lrc_embed_open_image: why the text is not a list of nodes
     LRC_SYNTAX = 16,            // not TOML 1.1 in UTF-8
     LRC_NO_NODES = 17,          // `node` is absent, not an array, or empty
     LRC_BAD_FIELD = 18,         // an entry of `node` lacks a whole number at one of its four keys; detail: its position
     LRC_NODE_OUT_OF_RANGE = 19, // an entry has a number out of its range; detail: its position, from 0
     LRC_DOUBLE_NODE = 20,       // two entries have the same number; detail: this number
     LRC_TOO_MANY = 21,          // more than 512 nodes
+
+    // lrc_embed_open_image: why no book begins in the image; detail: the number of a line of its text, from 1
+    LRC_BAD_LINE = 22,      // the first line that may not come where it stands, or is missing
+    LRC_INVALID_IMAGE = 23, // the first line that the nodes or the lines before it do not allow; cause: an lrc_cause
+};
+
+// Why the nodes or the lines before it do not allow a line of an image. docs/EMBEDDING.md has the order in which they are
+// asked.
+enum lrc_cause {
+    LRC_CAUSE_UNKNOWN_DOMAIN = 1,   // `upgrading`: no node is in this domain
+    LRC_CAUSE_TOO_MANY_ENTRIES = 2, // `before`: more than 9,223,372,036,854,775,808
+    LRC_CAUSE_TOO_MANY_TICKS = 3,   // `clock`: more than 4,293,967,291
+    LRC_CAUSE_OUT_OF_ORDER = 4,     // a line of its section with this number, or a higher one, stands before it
+    LRC_CAUSE_SAYS_NOTHING = 5,     // `granted`: all counts are 0
+    LRC_CAUSE_UNKNOWN_NODE = 6,     // there is no such node
+    LRC_CAUSE_GONE_AND_DOWN = 7,    // `node`: a node that is gone is not down
+    LRC_CAUSE_UNKNOWN_FRAGMENT = 8, // `lease`: a narrow stripe lacks the fragment
+    LRC_CAUSE_UNKNOWN_SLOT = 9,     // the node has no such slot
+    LRC_CAUSE_NODE_GONE = 10,       // the seat is on a node that is gone
+    LRC_CAUSE_SEAT_TAKEN = 11,      // the seat is held already
+    LRC_CAUSE_NOT_LAWFUL = 12,      // another fragment of the stripe rules out the node, by the placement rules
+    LRC_CAUSE_TOO_MANY_GRANTS = 13, // `granted`: a count is more than 4,293,967,294
+    LRC_CAUSE_UNKNOWN_STRIPE = 14,  // `lease`: the image has no such stripe
+    LRC_CAUSE_NEVER_GRANTED = 15,   // `lease`: the count of its fragment is 0
+    LRC_CAUSE_WRONG_EXPIRY = 16,    // `lease`: the expiry is not one of the three numbers after the clock
 };
 
 // A handle. All zeros is a closed one. Do not read its fields.
@@ -246,6 +273,13 @@ uint32_t lrc_embed_version(void);
 // 16 to 21, which also write `detail`. The text is not needed after the call.
 uint32_t lrc_embed_open(lrc_handle *handle, const uint8_t *text, size_t length, size_t *detail);
 
+// Opens a closed handle with a book over the nodes of one text that begins in the image of the other, with an empty history.
+// The image may be one of lrc_embed_image, also over other nodes, or written by another program. DONE, IS_OPEN,
+// OUT_OF_MEMORY, or one of 16 to 23, which also write `detail`; INVALID_IMAGE writes `cause` too. The nodes are checked
+// first, then the form of the image, then its lines over the nodes. The texts are not needed after the call.
+uint32_t lrc_embed_open_image(lrc_handle *handle, const uint8_t *nodes, size_t nodes_length, const uint8_t *image,
+                              size_t image_length, size_t *detail, uint32_t *cause);
+
 // Makes one command. DONE, also if the reply is a refusal; IS_CLOSED, OUT_OF_RANGE, FULL or OUT_OF_MEMORY, and then the
 // history is as it was. After DONE the history has one more entry: this session, command and reply. To save it, take it
 // from lrc_embed_entry, at the count less 1: the command that was passed may differ from it in bytes.
@@ -289,13 +323,14 @@ uint32_t lrc_embed_clock(lrc_handle *handle, uint32_t *clock);
 // there are more than `length`, which cannot be with LRC_STRIPES rows.
 uint32_t lrc_embed_risk(lrc_handle *handle, lrc_risk *rows, size_t length, size_t *count);
 // The image of the book's state as a text, whose lines docs/FORMATS.md describes. Books in the same state after as many
-// entries have the same text, whatever led there. DONE, with `*length` bytes; IS_CLOSED, OUT_OF_MEMORY; SHORT if there is
-// room for less, and then only `length` is written: the bytes that it needs; or FULL, as lrc_embed_forget.
+// entries and grants have the same text, whatever led there, and lrc_embed_open_image begins in it. DONE, with `*length` bytes;
+// IS_CLOSED, OUT_OF_MEMORY; SHORT if there is room for less, and then only `length` is written: the bytes that it needs; or
+// FULL, as lrc_embed_forget.
 uint32_t lrc_embed_image(lrc_handle *handle, uint8_t *text, size_t room, size_t *length);
 // The number of entries of the history: DONE or IS_CLOSED.
 uint32_t lrc_embed_count(lrc_handle *handle, size_t *count);
-// The number of entries that were forgotten, so that the entry at an index is number `before` + index + 1 of the store: DONE
-// or IS_CLOSED.
+// The number of entries of the store before the history: those before the image that the book began in, and those that were
+// forgotten. So the entry at an index is number `before` + index + 1 of the store. DONE or IS_CLOSED.
 uint32_t lrc_embed_before(lrc_handle *handle, uint64_t *before);
 // The entry at an index, from 0: DONE, IS_CLOSED or UNKNOWN.
 uint32_t lrc_embed_entry(lrc_handle *handle, size_t index, lrc_entry *entry);

@@ -1,6 +1,7 @@
 pub mod FilledLemmas
 pub mod LookLemmas
 pub mod OfLemmas
+pub mod PositionLemmas
 pub mod ReplayLemmas
 pub mod Rows
 pub mod SameLemmas

@@ -7,5 +7,7 @@ pub mod Handles
 pub mod Commands
 pub mod Replies
 pub mod Looks
+pub mod Begun
+pub mod Unopened
 pub mod Calls
 pub mod Replays

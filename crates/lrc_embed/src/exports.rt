@@ -1,5 +1,5 @@
 //! The functions that C calls. Each returns a status, and writes its result only if that is 0. With another status
-//! `lrc_embed_open` and `lrc_embed_replay` may write where a text or an entry was refused.
+//! `lrc_embed_open`, `lrc_embed_open_image` and `lrc_embed_replay` may write where a text or an entry was refused.
 
 mod call;
 mod forget;
@@ -7,4 +7,5 @@ mod history;
 mod image;
 mod looks;
 mod open;
+mod open_image;
 mod replay;

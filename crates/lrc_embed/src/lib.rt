@@ -1,8 +1,10 @@
 //! The book for programs in other languages: a static library whose functions take a handle.
 #![tactic(auto)]
 
+mod cause;
 mod command;
 mod entry;
+mod error;
 mod exports;
 mod handle;
 mod home;

@@ -30,3 +30,7 @@ pub(crate) const NODE_OUT_OF_RANGE: u32 = 19;
 pub(crate) const DOUBLE_NODE: u32 = 20;
 /// The text lists more than 512 nodes.
 pub(crate) const TOO_MANY: u32 = 21;
+/// The line of this number is not one that may come there in the text of an image.
+pub(crate) const BAD_LINE: u32 = 22;
+/// The nodes, or the lines before it, do not allow the line of this number.
+pub(crate) const INVALID_IMAGE: u32 = 23;

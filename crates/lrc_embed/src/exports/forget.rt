@@ -39,7 +39,8 @@ fn forget(book: &mut Book) -> u32
     }
 }
 
-/// The number of entries of the store before those of the history: the entries that were forgotten.
+/// The number of entries of the store before those of the history: those before the image that the book began in, and
+/// those that were forgotten.
 #[unsafe(no_mangle)]
 pub extern "C" fn lrc_embed_before(alloc: Global, handle: &mut LrcHandle, before: &mut u64) -> u32
     ensures same { handle.new.owned.book ≡ handle.old.owned.book }

@@ -63,7 +63,7 @@ pub extern "C" fn lrc_embed_open(
 }
 
 /// The status of a refused topology, and its position or number.
-fn refusal_of(error: TopologyError) -> (u32, usize)
+pub(super) fn refusal_of(error: TopologyError) -> (u32, usize)
     ensures { result ≡ topology_status error }
 {
     match error {

@@ -1,0 +1,139 @@
+ghost use Rattle.std.specs.Prelude.{◌≡◌, ◌≢◌, ◌≤◌, ◌<◌, ◌^◌, ◌↔◌, ◌⊎◌, [], None, true, is_some, IfOk, IfErr, IsOk};
+ghost use Rattle.lrc_topology.specs.declared.error.TopologyError.{TopologyError};
+ghost use Rattle.lrc_images.specs.declared.cause.Cause.{Cause};
+ghost use Rattle.lrc_images.specs.Images.{image_world};
+ghost use Rattle.lrc_images.specs.Causes.{first_cause};
+ghost use Rattle.lrc_restore.specs.Stages.{IsRefusedBy};
+ghost use Rattle.lrc_image_text.specs.declared.error.ImageTextError.TheVariants.{BadLine};
+ghost use Rattle.lrc_embed.specs.Calls.{Of, IsRefused};
+ghost use Rattle.lrc_embed.specs.Begun.{IsBegun, IsBadImage, IsInvalidImage, lines_before_rows, line_at, cause_number};
+ghost use Rattle.lrc_embed.specs.Looks.{topology_status};
+ghost use Rattle.lrc_embed.specs.Unopened.{IsUnopened, row_count};
+ghost use Rattle.lrc_embed.specs.declared.error.OpenError.TheVariants.{Nodes, Text, Line};
+
+use crate::LrcHandle;
+use crate::cause::number_of;
+use crate::error::OpenError;
+use crate::exports::open::refusal_of;
+use crate::status::{BAD_LINE, DONE, INVALID_IMAGE, IS_OPEN, OUT_OF_MEMORY};
+use lrc_book::{BeginError, Book, Cause, Image};
+use lrc_image_text::{ImageTextError, read_image};
+use lrc_topology::{Topology, TopologyError};
+use std::alloc::Global;
+
+/// Opens a closed handle with a book over the nodes of one text that begins in the image of the other. Statuses 16 to 21
+/// are the refusals of the nodes. 22 and 23 are those of the image: `detail` is then the number of the line, and with 23
+/// `cause` is why.
+#[unsafe(no_mangle)]
+pub extern "C" fn lrc_embed_open_image(
+    alloc: Global,
+    handle: &mut LrcHandle,
+    nodes: &[u8],
+    image: &[u8],
+    detail: &mut usize,
+    cause: &mut u32,
+) -> u32
+    ensures opened { (result ≡ 0) → Of handle.new.owned.book (IsBegun nodes.now image.now) }
+    ensures unchanged { (result ≢ 0) → handle.new.owned.book ≡ handle.old.owned.book }
+    ensures refused { (16 ≤ result) → (result ≤ 21) → IsRefused nodes.now result detail.new }
+    ensures bad_line { (result ≡ 22) → IsBadImage nodes.now image.now detail.new }
+    ensures invalid { (result ≡ 23) → IsInvalidImage nodes.now image.now detail.new cause.new }
+    ensures open { (result ≡ 2) ↔ (is_some handle.old.owned.book ≡ true) }
+    ensures statuses { (result ≡ 0) ⊎ (result ≡ 2) ⊎ (result ≡ 6) ⊎ ((16 ≤ result) × (result ≤ 23)) }
+    ensures unwritten { (result < 16) → detail.new ≡ detail.old }
+    ensures no_cause { (result ≢ 23) → cause.new ≡ cause.old }
+{
+    if handle.is_open() {
+        return IS_OPEN;
+    }
+    match begin(alloc, nodes, image) {
+        Ok(book) => {
+            handle.put(book);
+            DONE
+        }
+        Err(error) => report(error, detail, cause),
+    }
+}
+
+/// Begins a book over the nodes of one text in the image of the other.
+fn begin(alloc: Global, nodes: &[u8], text: &[u8]) -> Result<Box<Book>, OpenError>
+    ensures begun { IfOk result (λ b. IsBegun nodes.now text.now b.value) }
+    ensures refused { IfErr result (IsUnopened nodes.now text.now) }
+{
+    let topology = Topology::read(alloc, nodes)?;
+    let image = read_image(alloc, text)?;
+    let before_rows = count_first_lines(&image);
+    match begin_boxed(alloc, topology, image) {
+        Ok(book) => Ok(book),
+        Err(BeginError::Refused(position, cause)) => {
+            Err(OpenError::Line(line_of(before_rows, position, cause), cause))
+        }
+        Err(BeginError::OutOfMemory) => Err(OpenError::OutOfMemory),
+    }
+}
+
+/// Begins a book in an image, in a box.
+fn begin_boxed(alloc: Global, topology: Topology, image: Image) -> Result<Box<Book>, BeginError>
+    ensures value { IfOk result (λ b. (b.value.nodes ≡ topology) × (b.value.limit ≡ 1000000) × (b.value.history ≡ []) × (b.value.base ≡ image_world image) × (b.value.before ≡ image.before)) }
+    ensures lawful { IsOk result → first_cause topology image ≡ None }
+    ensures refused { IfErr result (IsRefusedBy (first_cause topology image)) }
+{
+    let book = Book::begin(alloc, topology, image)?;
+    Ok(Box::new(alloc, book)?)
+}
+
+/// The number of lines of an image's text before those of its rows.
+fn count_first_lines(image: &Image) -> usize
+    requires room { row_count image.now < 2 ^ 63 }
+    ensures value { result ≡ lines_before_rows image.now }
+    ensures few { result ≤ 4 }
+    ensures room { row_count image.now < 2 ^ 63 }
+{
+    if image.upgrading.is_some() { 4 } else { 3 }
+}
+
+/// The line at the position of a cause.
+fn line_of(before_rows: usize, position: usize, cause: Cause) -> usize
+    requires few { before_rows ≤ 4 }
+    requires room { position < 2 ^ 63 }
+    ensures { result ≡ line_at before_rows position cause }
+{
+    if position > 0 {
+        return before_rows + position;
+    }
+    match cause {
+        Cause::TooManyEntries => 2,
+        Cause::TooManyTicks => 3,
+        _ => 4,
+    }
+}
+
+/// Writes why no book began, and returns the status.
+fn report(error: OpenError, detail: &mut usize, cause: &mut u32) -> u32
+    ensures nodes { (16 ≤ result) → (result ≤ 21) → (e : TopologyError) × (error ≡ Nodes e) × (topology_status e ≡ (result, detail.new)) }
+    ensures bad_line { (result ≡ 22) → error ≡ Text (BadLine detail.new) }
+    ensures invalid { (result ≡ 23) → (why : Cause) × (error ≡ Line detail.new why) × (cause.new ≡ cause_number why) }
+    ensures statuses { (result ≡ 6) ⊎ ((16 ≤ result) × (result ≤ 23)) }
+    ensures unwritten { (result < 16) → detail.new ≡ detail.old }
+    ensures no_cause { (result ≢ 23) → cause.new ≡ cause.old }
+{
+    match error {
+        OpenError::Nodes(TopologyError::OutOfMemory) => OUT_OF_MEMORY,
+        OpenError::Nodes(error) => {
+            let (status, position) = refusal_of(error);
+            *detail = position;
+            status
+        }
+        OpenError::Text(ImageTextError::BadLine(line)) => {
+            *detail = line as usize;
+            BAD_LINE
+        }
+        OpenError::Text(ImageTextError::OutOfMemory) => OUT_OF_MEMORY,
+        OpenError::Line(line, why) => {
+            *detail = line;
+            *cause = number_of(why);
+            INVALID_IMAGE
+        }
+        OpenError::OutOfMemory => OUT_OF_MEMORY,
+    }
+}
