@@ -9,7 +9,7 @@
 #include <string.h>
 #include <time.h>
 
-enum { MOST_ROUNDS = 1001, MOST_ENTRIES = 400000, CYCLES = 20, BATCH = 256, MANY = 1000, LOOKS = 100000 };
+enum { MOST_ROUNDS = 1001, MOST_ENTRIES = 400000, CYCLES = 20, BATCH = 256, MANY = 1000, LOOKS = 100000, IMAGES = 4 };
 
 // The kinds of calls, each made in runs of its own.
 enum kind { FILL, REFUSED, IDLE, PLACE, DROP, NEXT, REPORT, OTHER, KINDS };
@@ -19,6 +19,8 @@ static const char *const names[KINDS] = {[REFUSED] = "refused", [IDLE] = "idle",
 static lrc_handle handle = LRC_CLOSED;
 static unsigned nodes, stripes, rounds;
 static lrc_entry entries[MOST_ENTRIES];
+static char topology[512 * 80];
+static size_t topology_length;
 static uint8_t kinds[MOST_ENTRIES];
 static size_t entries_count;
 static double called[KINDS][MOST_ROUNDS], own[KINDS][MOST_ROUNDS], more[KINDS][MOST_ROUNDS], replayed[KINDS][MOST_ROUNDS];
@@ -63,17 +65,19 @@ static double median(double *numbers) {
     return numbers[rounds / 2];
 }
 
-// A book of the nodes that bench/run has: 256 slots each, in 32 fault domains and 16 upgrade domains.
+// The nodes that bench/run has: 256 slots each, in 32 fault domains and 16 upgrade domains.
+static void write_topology(void) {
+    for (unsigned i = 0; i < nodes; i++)
+        topology_length += (size_t)snprintf(topology + topology_length, sizeof topology - topology_length,
+                                            "[[node]]\nnumber = %u\nfault = %u\nupgrade = %u\nslots = 256\n", i, i % 32,
+                                            (i / 32 + i) % 16);
+}
+
+// A book of these nodes.
 static void open_new(void) {
-    static char text[512 * 80];
-    static size_t length;
-    for (unsigned i = length ? nodes : 0; i < nodes; i++)
-        length += (size_t)snprintf(text + length, sizeof text - length,
-                                   "[[node]]\nnumber = %u\nfault = %u\nupgrade = %u\nslots = 256\n", i, i % 32,
-                                   (i / 32 + i) % 16);
     size_t detail;
     WANT(lrc_embed_close(&handle) == LRC_DONE);
-    WANT(lrc_embed_open(&handle, (const uint8_t *)text, length, &detail) == LRC_DONE);
+    WANT(lrc_embed_open(&handle, (const uint8_t *)topology, topology_length, &detail) == LRC_DONE);
 }
 
 // The calls that are measured. Each is made once here, so that those that follow it can go by its reply.
@@ -181,20 +185,21 @@ static void time_runs(void (*run)(size_t, size_t), double (*times)[MOST_ROUNDS],
 
 // Looks, and calls that do next to nothing.
 
-enum look { VERSION, COUNT, CLOSED, FULL, LOAD, MODE, LEVEL, MISSING, HOMES, PEEK, ALL_LOOKS };
-static const char *const look_names[ALL_LOOKS] = {"version", "count",   "closed", "full", "load", "mode",
-                                                  "level",   "missing", "homes",  "peek"};
+enum look { VERSION, COUNT, CLOSED, FULL, LOAD, MODE, LEVEL, MISSING, HOMES, PEEK, IMAGE, OPEN_IMAGE, ALL_LOOKS };
+static const char *const look_names[ALL_LOOKS] = {"version", "count", "closed", "full",  "load",       "mode", "level",
+                                                  "missing", "homes", "peek",   "image", "open_image"};
 static double looked[ALL_LOOKS][MOST_ROUNDS];
 
-// What a call takes that answers this status.
-#define TIME(look, status, call)                                                                                       \
+// What a call takes that answers this status, if it is made so often.
+#define TIME_OF(times, look, status, call)                                                                             \
     do {                                                                                                               \
         uint32_t wrong = 0;                                                                                            \
         double begun = now();                                                                                          \
-        for (unsigned i = 0; i < LOOKS; i++) wrong |= (call) ^ (status);                                               \
-        looked[look][round] = (now() - begun) / LOOKS;                                                                 \
+        for (unsigned i = 0; i < (times); i++) wrong |= (call) ^ (status);                                             \
+        looked[look][round] = (now() - begun) / (times);                                                               \
         WANT(wrong == 0);                                                                                              \
     } while (0)
+#define TIME(look, status, call) TIME_OF(LOOKS, look, status, call)
 
 static void time_looks(unsigned round) {
     static uint16_t some_nodes[1024], some_stripes[1024];
@@ -215,6 +220,26 @@ static void time_looks(unsigned round) {
     TIME(MISSING, LRC_DONE, lrc_embed_missing(&handle, some_stripes[i % 1024], &missing));
     TIME(HOMES, LRC_DONE, lrc_embed_homes(&handle, some_stripes[i % 1024], &homes));
     TIME(PEEK, LRC_DONE, lrc_embed_peek(&handle, 1, &next, &reply));
+}
+
+// The image of the book, and books that begin in it, the first of which has the same image.
+static void time_images(unsigned round) {
+    static lrc_handle others[IMAGES];
+    static uint8_t *text, *again;
+    static size_t room;
+    size_t length = 0, detail;
+    uint32_t cause;
+    WANT(lrc_embed_image(&handle, text, 0, &length) == LRC_SHORT);
+    if (room < length) {
+        room = length;
+        WANT((text = realloc(text, room)) && (again = realloc(again, room)));
+    }
+    TIME_OF(IMAGES, IMAGE, LRC_DONE, lrc_embed_image(&handle, text, room, &length));
+    const uint8_t *of_nodes = (const uint8_t *)topology;
+    TIME_OF(IMAGES, OPEN_IMAGE, LRC_DONE,
+            lrc_embed_open_image(&others[i], of_nodes, topology_length, text, length, &detail, &cause));
+    WANT(lrc_embed_image(&others[0], again, room, &detail) == LRC_DONE && detail == length && memcmp(again, text, length) == 0);
+    for (unsigned i = 0; i < IMAGES; i++) WANT(lrc_embed_close(&others[i]) == LRC_DONE);
 }
 
 // A book whose history is full answers so before it looks at the command, and one that is closed is no book.
@@ -240,6 +265,7 @@ int main(int argc, char **argv) {
     nodes = number(argv[1], 32, 512), stripes = number(argv[2], BATCH, LRC_STRIPES), rounds = number(argv[3], 1, MOST_ROUNDS);
     // (so that the books of later rounds get memory that was touched)
     WANT(mallopt(M_MMAP_THRESHOLD, 1 << 30) && mallopt(M_TRIM_THRESHOLD, 1 << 30));
+    write_topology();
     make_all();
     bool has_own = bench_book_add;
     read_all();
@@ -249,6 +275,7 @@ int main(int argc, char **argv) {
         for (int kind = 0; kind < KINDS; kind++) more[kind][round] = called[kind][round] - own[kind][round];
         time_runs(replay_run, replayed, round);
         time_looks(round);
+        time_images(round);
     }
     time_full();
     for (int look = 0; look < ALL_LOOKS; look++) printf("%s %.1f\n", look_names[look], median(looked[look]));

@@ -168,6 +168,8 @@ class Store(rules.Store):
     def add_stripe(self, stripe, code):
         super().add_stripe(stripe, code)
         self.of_stripe[stripe] = Fragments()
+        self.of_stripe[stripe].stale = code.all
+        self.stale.add(stripe)
 
     def remove_stripe(self, stripe):
         super().remove_stripe(stripe)

@@ -1,6 +1,6 @@
 """What the Python module of examples/embed does beside the calls: it refuses numbers that a field would cut down, closes a
-book that nothing refers to, and replays a log in pieces, from entries and from bytes, also one that an earlier library
-saved."""
+book that nothing refers to, replays a log in pieces, from entries and from bytes, also one that an earlier library saved,
+and reports why a book does not begin in an image."""
 import ctypes
 import gc
 import struct
@@ -8,7 +8,7 @@ from itertools import islice
 
 from harness import nodes_in_order, topology_of
 from library import command_of
-from lrc_embed import Book, Code, Command, CommandKind, Entry, Fault, ModeKind, Status
+from lrc_embed import Book, Cause, Code, Command, CommandKind, Entry, Fault, ModeKind, Status
 
 TWENTY = topology_of(nodes_in_order(20, 4))
 SCRIPT = ("place 1", "place 2", "fail 3", "next", "lease 2 7", "done 1 3 1", "next", "upgrade 0", "upgraded 0")
@@ -212,7 +212,25 @@ def test_saved(count, library):
         count.check("the module: a lease of a log before ticks has its end", (book.lease(1, 3).expiry, book.clock()) == (3, 0))
 
 
+def test_faults(count, library):
+    """What a book that can't be opened reports: a status, a position or a line, and a cause where the image is invalid."""
+    head, down = "image 1\nbefore 0\nclock 0\n", "node 99 down\n"
+    for nodes, image, right in (
+        (TWENTY, "", (Status.BAD_LINE, 1, None)),
+        (TWENTY, head, (Status.BAD_LINE, 4, None)),
+        (TWENTY, f"{head}{down}end\n", (Status.INVALID_IMAGE, 4, Cause.UNKNOWN_NODE)),
+        ("", f"{head}{down}end\n", (Status.NO_NODES, 0, None)),
+    ):
+        try:
+            Book(library, nodes, image=image)
+            found = None
+        except Fault as fault:
+            found = fault.status, fault.position, fault.cause
+        count.check(f"the module: a book that is not opened: {found}, and not {right}", found == right)
+
+
 def test(count, library):
+    test_faults(count, library)
     test_numbers(count, library)
     test_dropped(count, library)
     test_pieces(count, library)

@@ -5,11 +5,15 @@ questions above it, which search all homes and leases: nothing is stored beside 
 bench/store.py answers the same questions from indexes. A set of nodes, stripes or fragments is a whole number with a bit
 for each member."""
 from collections import Counter, namedtuple
+from enum import IntEnum
 from functools import cache
+
+import image_text
 
 FRAGMENTS = range(16)  # what a command may name, whatever the code of its stripe
 MOST_STRIPES, MOST_SLOTS, MOST_BYTES = 4096, 256, 4_194_304
 TERM = 3  # a lease ends this many ticks after its grant
+MOST_ENTRIES, MOST_TICKS, MOST_GRANTS = 2**63, 4_293_967_291, 4_293_967_294  # of an image
 RANKS = 5  # the margins from 0 to 3, and 4 for a stripe that is not recoverable
 RISK_HEADER, LOAD_HEADER = "stripe,level,margin,missing", "node,mode,online,load,slots"
 
@@ -19,6 +23,32 @@ Lease = namedtuple("Lease", "holder target epoch expiry")
 
 class Refused(Exception):
     """A command is refused, with the number of the refusal and its detail."""
+
+
+class Cause(IntEnum):
+    """Why a line of an image is wrong."""
+
+    UNKNOWN_DOMAIN, TOO_MANY_ENTRIES, TOO_MANY_TICKS, OUT_OF_ORDER, SAYS_NOTHING, UNKNOWN_NODE, GONE_AND_DOWN = range(1, 8)
+    UNKNOWN_FRAGMENT, UNKNOWN_SLOT, NODE_GONE, SEAT_TAKEN, NOT_LAWFUL, TOO_MANY_GRANTS = range(8, 14)
+    UNKNOWN_STRIPE, NEVER_GRANTED, WRONG_EXPIRY = range(14, 17)
+
+
+class WrongLine(Exception):
+    """A line of an image that the nodes or the lines before it do not allow: its number, from 1, and the cause."""
+
+
+def allow(is_right, line, cause):
+    if not is_right:
+        raise WrongLine(line, cause)
+
+
+def in_order(rows, place_of):
+    """Rows of an image, each of which has to come after the one before it."""
+    last = None
+    for row in rows:
+        allow(last is None or last < place_of(row), row.line, Cause.OUT_OF_ORDER)
+        last = place_of(row)
+        yield row
 
 
 # Sets.
@@ -55,6 +85,7 @@ class Code:
 WIDE = Code("wide", set_of([0, 1, 2, 3, 4, 5, 12]), set_of([6, 7, 8, 9, 10, 11, 13]), set_of([14, 15]))
 NARROW = Code("narrow", set_of([0, 1, 2, 6]), set_of([3, 4, 5, 7]), set_of([8, 9]))
 PLACES = {"place": WIDE, "place6": NARROW}
+CODES = {"stripe": WIDE, "stripe6": NARROW}  # by the first word of a line of an image
 
 
 @cache
@@ -257,7 +288,6 @@ class Store:
         self.homes.pop(key, None)
 
     def set_lease(self, key, lease):
-        self.grants[key] += 1
         self.leases[key] = lease
 
     def end_lease(self, key):
@@ -335,7 +365,8 @@ class Store:
         return local_repair(code, fragment)
 
     def grant(self, session, key, target, kind):
-        lease = Lease(session, target, self.grants[key] + 1, self.clock + TERM)
+        self.grants[key] += 1
+        lease = Lease(session, target, self.grants[key], self.clock + TERM)
         self.set_lease(key, lease)
         return "granted %d %d %d:%d epoch %d %s" % (*key, *target, lease.epoch, kind)
 
@@ -515,6 +546,73 @@ class Store:
         for key, lease in sorted(self.leases.items()):
             lines.append("lease %d %d %d %d:%d %d" % (*key, lease.holder, *lease.target, lease.expiry))
         return "\n".join([*lines, "end", ""])
+
+    def is_spent(self, before):
+        """Whether a number of the state after so many entries is at its end, so that there is no image of it."""
+        counts = self.grants.values()
+        return before > MOST_ENTRIES or self.clock > MOST_TICKS or any(count > MOST_GRANTS for count in counts)
+
+    # The beginning in an image, row by row. Each row is judged beside the nodes and the rows before it.
+
+    @classmethod
+    def begin(cls, nodes, text):
+        """The store of the text of an image, and the number of entries before it. Raises image_text.BadLine; or WrongLine
+        with the first line that is wrong, and the first cause why."""
+        image, store = image_text.read(text), cls(nodes)
+        store.begin_head(image)
+        for row in in_order(image.nodes, lambda row: row.node):
+            store.begin_node(row)
+        for row in in_order(image.stripes, lambda row: row.stripe):
+            store.begin_stripe(row)
+        for row in in_order(image.grants, lambda row: row.stripe):
+            store.begin_grants(row)
+        for row in in_order(image.leases, lambda row: (row.stripe, row.fragment)):
+            store.begin_lease(row)
+        return store, image.before
+
+    def begin_head(self, image):
+        # (the domain is on line 4, but it is looked at first)
+        allow(image.upgrading is None or image.upgrading in self.in_upgrade, 4, Cause.UNKNOWN_DOMAIN)
+        allow(image.before <= MOST_ENTRIES, 2, Cause.TOO_MANY_ENTRIES)
+        allow(image.clock <= MOST_TICKS, 3, Cause.TOO_MANY_TICKS)
+        self.set_upgrading(image.upgrading)
+        self.clock = image.clock
+
+    def begin_node(self, row):
+        # (a node that is active and up has no line)
+        allow(row.node in self.nodes, row.line, Cause.UNKNOWN_NODE)
+        allow(row.mode != "gone" or not row.is_down, row.line, Cause.GONE_AND_DOWN)
+        self.set_mode(row.node, row.mode, row.is_down)
+
+    def expect_seat(self, line, key, seat):
+        """A seat that a fragment of a stripe may hold."""
+        node, slot = seat
+        allow(key[1] in self.fragments(key[0]), line, Cause.UNKNOWN_FRAGMENT)
+        allow(node in self.nodes, line, Cause.UNKNOWN_NODE)
+        allow(slot < self.nodes[node].slots, line, Cause.UNKNOWN_SLOT)
+        allow(self.mode[node] != "gone", line, Cause.NODE_GONE)
+        allow(all(seat != other for _, other in self.held()), line, Cause.SEAT_TAKEN)
+        allow(not self.barred(key) >> node & 1, line, Cause.NOT_LAWFUL)
+
+    def begin_stripe(self, row):
+        self.add_stripe(row.stripe, CODES[row.word])
+        for fragment, seat in enumerate(row.homes):
+            if seat is not None:
+                self.expect_seat(row.line, (row.stripe, fragment), seat)
+                self.set_home((row.stripe, fragment), seat)
+
+    def begin_grants(self, row):
+        allow(any(row.counts), row.line, Cause.SAYS_NOTHING)
+        allow(max(row.counts) <= MOST_GRANTS, row.line, Cause.TOO_MANY_GRANTS)
+        self.grants.update({(row.stripe, fragment): count for fragment, count in enumerate(row.counts) if count})
+
+    def begin_lease(self, row):
+        key = row.stripe, row.fragment
+        allow(row.stripe in self.stripes, row.line, Cause.UNKNOWN_STRIPE)
+        allow(self.grants[key] > 0, row.line, Cause.NEVER_GRANTED)
+        allow(self.clock < row.expiry <= self.clock + TERM, row.line, Cause.WRONG_EXPIRY)
+        self.expect_seat(row.line, key, row.target)
+        self.set_lease(key, Lease(row.holder, row.target, self.grants[key], row.expiry))
 
     def tables(self):
         """The lines of an output after its replies."""

@@ -4,6 +4,7 @@ use crate::host::{Host, ONE, Stop, begin, end};
 use crate::{keepers, managers};
 use lrc_book::Book;
 use lrc_code::StripeNo;
+use lrc_image_text::read_image;
 use lrc_samples::twenty_nodes;
 use lrc_script::parse_script;
 use lrc_sessions::Parts;
@@ -23,6 +24,7 @@ pub(crate) fn try_call(rt: &impl Host, call: &str, text: &str) -> Result<(), Sto
 fn try_once(rt: &impl Host, call: &str, text: &str) -> Result<bool, Stop> {
     match call {
         "Stripes::reserve" => make_room(rt),
+        "Book::begin" => begin_book(rt, text),
         "Keeper::open" => keepers::open_once(rt),
         "Manager::open" => managers::open_once(rt),
         _ => make_once(rt, call, text),
@@ -45,6 +47,17 @@ fn make_once(rt: &impl Host, call: &str, text: &str) -> Result<bool, Stop> {
         "Parts::with_limit" => end(rt, &Parts::with_limit(alloc, nodes, 2, 2).and(Ok(()))),
         _ => Err(Stop),
     }
+}
+
+/// Makes a book that begins in the image of a text, and returns whether an allocation failed.
+fn begin_book(rt: &impl Host, text: &str) -> Result<bool, Stop> {
+    let alloc = rt.alloc();
+    let nodes = twenty_nodes(alloc)?;
+    let Ok(image) = read_image(alloc, text.as_bytes()) else {
+        return Err(Stop);
+    };
+    begin(rt);
+    end(rt, &Book::begin(alloc, nodes, image).and(Ok(())))
 }
 
 /// Reserves memory for stripes beside one without homes, and returns whether an allocation failed.

@@ -1,0 +1,132 @@
+"""A book of the library beside a store of the model in tests/rules.py: what both report, and the calls that both make."""
+import harness
+import image_text
+import library
+import rules
+from library import lrc_embed
+
+FRAGMENTS = range(lrc_embed.FRAGMENTS)
+STRIPES = 24
+# The kind of a reply by the number of its seats, and the repair by the number of its sources.
+PLACED, LOCAL = {16: 1, 10: 9}, {6: 1, 3: 4}
+
+
+class Differs(Exception):
+    """The book and the model differ."""
+
+
+# What a book and a model report of a stripe and of the whole store.
+
+
+def stripe_in_book(book, stripe):
+    """The code, the level, the missing fragments, the homes and the leases of a stripe, or None."""
+    code, level, missing, homes = book.code(stripe), book.level(stripe), book.missing(stripe), book.homes(stripe)
+    leases = [book.lease(stripe, fragment) for fragment in FRAGMENTS]
+    if level is None:
+        if (code, missing, homes) != (None, None, None) or any(leases):
+            raise Differs(f"stripe {stripe} is known to some calls alone")
+        return None
+    seats = [str(home.seat) if home.is_there else None for home in homes.homes]
+    held = [(lease.holder, str(lease.target), lease.epoch, lease.expiry) if lease else None for lease in leases]
+    return library.code_word(code), library.level_words(level), missing.value, seats, held
+
+
+def lease_in_model(store, key):
+    lease = store.leases.get(key)
+    return lease and (lease.holder, "%d:%d" % lease.target, lease.epoch, lease.expiry)
+
+
+def stripe_in_model(store, stripe):
+    if stripe not in store.stripes:
+        return None
+    level = store.level(stripe)
+    words = level and (level, str(store.margin(stripe)) if level == "risk" else "-")
+    homes = [store.homes.get((stripe, fragment)) for fragment in FRAGMENTS]
+    seats = [home and "%d:%d" % home for home in homes]
+    leases = [lease_in_model(store, (stripe, fragment)) for fragment in FRAGMENTS]
+    return store.stripes[stripe].name, words, store.missing(stripe), seats, leases
+
+
+def expect(name, found, right):
+    if found != right:
+        raise Differs(f"{name}: {found}, and not {right}")
+
+
+def image_in_book(book):
+    """The text of the image of a book, or None where its numbers are at their end."""
+    try:
+        return book.image()
+    except lrc_embed.Fault as fault:
+        if fault.status != lrc_embed.Status.FULL:
+            raise
+        return None
+
+
+def compare(book, store, count):
+    """Compares everything that a book reports."""
+    expect("count", book.before() + book.count(), count)
+    expect("clock", book.clock(), store.clock)
+    for stripe in range(STRIPES + 1):
+        expect(f"stripe {stripe}", stripe_in_book(book, stripe), stripe_in_model(store, stripe))
+    expect("loads", list(library.load_rows(book, store.nodes)), list(store.load_rows()))
+    expect("risk", list(library.risk_rows(book)), list(store.risk_rows()))
+    expect("image", image_in_book(book), None if store.is_spent(count) else store.image(count))
+
+
+def compare_code(found, right):
+    """A reply has the kind and the repair of its code, and 0 after its seats and its sources."""
+    words = right.split(" ")
+    seats = len(words) - 1 if words[0] == "placed" else 0
+    sources = len(words) - 7 if words[6:7] == ["local"] else 0
+    if seats:
+        expect("kind of the reply", found.kind, PLACED[seats])
+    if sources:
+        expect("repair of the reply", found.repair, LOCAL[sources])
+    expect("after the seats", [str(seat) for seat in found.seats[seats:]], ["0:0"] * (len(found.seats) - seats))
+    expect("after the sources", list(found.sources[sources:]), [0] * (len(found.sources) - sources))
+
+
+def make(book, store, session, line, count, looks=False):
+    """Makes a call on both, after `count` calls, and returns its reply. Before it a peek returns the reply. It changes
+    nothing, which `looks` compares."""
+    command = library.command_of(line)
+    peeked = book.peek(session, command)
+    if looks:
+        compare(book, store, count)
+    found, right = book.call(session, command), store.call(session, line)
+    expect("reply", str(found), right)
+    expect("reply that a peek reports", bytes(peeked), bytes(found))
+    compare_code(found, right)
+    # (only a look has the expiry of a lease: in replies it stays 0, as in earlier logs)
+    expect("expiry in the reply", found.lease.expiry, 0)
+    entry = book.entry(book.count() - 1)
+    expect("session of the entry", entry.session, session)
+    expect("command of the entry", bytes(entry.command), bytes(command))
+    expect("reply of the entry", bytes(entry.reply), bytes(found))
+    return right
+
+
+# Books and stores that begin in an image.
+
+
+def begun_in_model(nodes, text, kind=rules.Store):
+    """The fault of an image: None, the number of its bad line, or that of a line that is wrong and the cause. Where it has
+    none, the store that begins in it too, and the number of entries before it."""
+    try:
+        return None, *kind.begin(nodes, text)
+    except image_text.BadLine as bad:
+        return bad.args[0], None, None
+    except rules.WrongLine as wrong:
+        return wrong.args, None, None
+
+
+def begun_in_book(shared, nodes, text):
+    """The same fault as the library reports it; and where there is none, the book."""
+    try:
+        return None, lrc_embed.Book(shared, harness.topology_of(nodes), image=text)
+    except lrc_embed.Fault as fault:
+        if fault.status == lrc_embed.Status.BAD_LINE:
+            return fault.position, None
+        if fault.status == lrc_embed.Status.INVALID_IMAGE:
+            return (fault.position, fault.cause), None
+        raise
