@@ -1,7 +1,7 @@
 -- Each live lease was granted to its holder.
-use Rattle.std.proofs.Common.{[], ◌≡◌, inl, inr, true, List, ◌∷◌, ◌++◌, fold, Option, Some, None, refl, sym, ap, ◌∙◌, subst}
+use Rattle.std.proofs.Common.{[], ◌≡◌, ◌⊎◌, inl, inr, true, List, ◌∷◌, Option, Some, None, refl, sym, ap, ◌∙◌, subst}
 use Rattle.std.specs.List.{Contains}
-use Rattle.std.proofs.lemmas.List.Elements.{Contains-append_left, Contains-push, Contains-push_cases}
+use Rattle.std.proofs.lemmas.List.Elements.{Contains-push_cases}
 use Rattle.lrc_code.specs.declared.numbers.SessionNo.{SessionNo}
 use Rattle.lrc_topology.specs.declared.NodeInfo.{NodeInfo}
 use Rattle.lrc_terms.specs.declared.lease.Lease.{Lease as LeaseRecord}
@@ -18,12 +18,11 @@ use Rattle.lrc_terms.specs.Stripes.{StripeFragment}
 use Rattle.lrc_rules.specs.Leases.{next_answer, next_outcome}
 use Rattle.lrc_rules.specs.Steps.{step}
 use Rattle.lrc_rules.specs.Changes.{asks_for_lease, can_get}
-use Rattle.lrc_rules.specs.Histories.{World, first_world, outcome_in, next_world, state_after, IsLegalFrom, IsLegal}
-use Rattle.lrc_rules.proofs.MemberLemmas.{not-Contains-nil}
+use Rattle.lrc_rules.specs.Histories.{World, first_world, outcome_in, next_world, state_from, state_after, IsLegalFrom, IsLegal}
+use Rattle.lrc_rules.proofs.MemberLemmas.{not-Contains-nil, Contains-here, Contains-later}
 use Rattle.lrc_rules.proofs.LeaseLawLemmas.{lease-new}
 use Rattle.lrc_rules.proofs.ReplyLemmas.{step-gets}
 use Rattle.lrc_rules.proofs.LeaseCountLemmas.{step-follows}
-use Rattle.lrc_rules.proofs.GoodLemmas.{past-after}
 
 -- ---- only Lease and Next grant
 
@@ -68,36 +67,35 @@ module _ (l : LeaseRecord) (k : Kind) where
 
 -- the lease was granted in one of the entries
 abbrev Earned : List Entry → LeaseRecord → Type 0
-Earned past l = (c : Command) × (k : Kind) × AsksFor l c × Contains past (grant_of l k c)
+Earned history l = (c : Command) × (k : Kind) × AsksFor l c × Contains history (grant_of l k c)
 
-abbrev AllEarned : World → Type 0
-AllEarned w = (l : LeaseRecord) → Contains w.state.leases l → Earned w.past l
-
-later-earned : (past : List Entry) (x : Entry) (l : LeaseRecord) → Earned past l → Earned (past ++ x ∷ []) l
-later-earned past x l old = (old.0, old.1, old.2, Contains-append_left past (x ∷ []) (grant_of l old.1 old.0) old.3)
-
-next-earned : (nodes : List NodeInfo) (w : World) (x : Entry) → (outcome_in nodes w x.session x.command).0 ≡ x.reply → AllEarned w
-    → AllEarned (next_world nodes w x)
-next-earned nodes w x told all l here = elim (step-follows nodes w.past w.state x.session x.command) [
-  | inr none ↦ later-earned w.past x l (all l (none.fewer l here))
+-- a lease that is live after an entry was live before it, or is granted by it
+first-earned : (nodes : List NodeInfo) (w : World) (x : Entry) (xs : List Entry) (l : LeaseRecord) → (outcome_in nodes w x.session x.command).0 ≡ x.reply
+    → Contains (next_world nodes w x).state.leases l → Contains w.state.leases l ⊎ Earned (x ∷ xs) l
+first-earned nodes w x xs l told here = elim (step-follows nodes w.past w.state x.session x.command) [
+  | inr none ↦ inl (none.fewer l here)
   | inl grant ↦ elim (Contains-push_cases w.state.leases grant.lease l (subst (λ (ls : List LeaseRecord). Contains ls l) grant.leases here)) [
-    | inl before ↦ later-earned w.past x l (all l before)
+    | inl before ↦ inl before
     | inr new ↦
-        let own = entry-is grant.lease grant.from nodes w x told (sym told ∙ grant.told) in
-        subst (Earned (w.past ++ x ∷ [])) new (x.command, grant.from, own.0, subst (Contains (w.past ++ x ∷ [])) own.1 (Contains-push w.past x))
+        let reply = sym told ∙ grant.told ∙ ap (λ (m : LeaseRecord). Granted m grant.from) new in
+        let own = entry-is l grant.from nodes w x told reply in
+        inr (x.command, grant.from, own.0, subst (Contains (x ∷ xs)) own.1 (Contains-here x xs))
   ]
 ]
 
-worlds-earned : (nodes : List NodeInfo) (w : World) (history : List Entry) → IsLegalFrom nodes w history → AllEarned w
-    → AllEarned (fold (next_world nodes) w history)
-worlds-earned nodes w [] legal all = all
-worlds-earned nodes w (x ∷ xs) legal all = worlds-earned nodes (next_world nodes w x) xs legal.1 (next-earned nodes w x legal.0 all)
+-- a lease that is live after a history was live before it, or is granted in it
+pub earned-since : (nodes : List NodeInfo) (w : World) (history : List Entry) → IsLegalFrom nodes w history → (l : LeaseRecord)
+    → Contains (state_from nodes w history).leases l → Contains w.state.leases l ⊎ Earned history l
+earned-since nodes w [] legal l here = inl here
+earned-since nodes w (x ∷ xs) legal l here = elim (earned-since nodes (next_world nodes w x) xs legal.1 l here) [
+  | inl there ↦ first-earned nodes w x xs l legal.0 there
+  | inr later ↦ inr (later.0, later.1, later.2, Contains-later x (grant_of l later.1 later.0) xs later.3)
+]
 
-first-earned : AllEarned first_world
-first-earned l here = absurd (not-Contains-nil l here)
-
--- after a legal history each live lease was granted in it to its holder
+-- after a legal history from the start each live lease was granted in it to its holder
 pub history-earned : (nodes : List NodeInfo) (history : List Entry) → IsLegal nodes history → (l : LeaseRecord)
     → Contains (state_after nodes history).leases l → Earned history l
-history-earned nodes history legal l here =
-    subst (λ (past : List Entry). Earned past l) (past-after nodes history) (worlds-earned nodes first_world history legal first-earned l here)
+history-earned nodes history legal l here = elim (earned-since nodes first_world history legal l here) [
+  | inl before ↦ absurd (not-Contains-nil l before)
+  | inr earned ↦ earned
+]

@@ -1,7 +1,7 @@
 -- No node is both gone and draining, and what holds for a node that joins.
 use Rattle.std.proofs.Common.{[], ◌≡◌, ◌≢◌, inl, inr, Bool, true, false, not, eqb, List, ◌∷◌, Option, Some, None, refl, sym, ap, ◌∙◌, subst}
 use Rattle.std.specs.List.{All}
-use Rattle.std.proofs.lemmas.Bool.{cases_Bool, eqb-true, eq-eqb}
+use Rattle.std.proofs.lemmas.Bool.{cases_Bool, true≢false, false_from_ne_true, eqb-true, eq-eqb}
 use Rattle.lrc_code.specs.declared.numbers.StripeNo.{StripeNo}
 use Rattle.lrc_code.specs.declared.numbers.NodeNo.{NodeNo}
 use Rattle.lrc_code.specs.declared.numbers.SessionNo.{SessionNo}
@@ -90,18 +90,14 @@ state_after-apart : (nodes : List NodeInfo) (history : List Entry) → NoneBoth 
 state_after-apart nodes history = worlds-apart nodes first_world history (λ m gone. refl)
 
 -- so each node in the list `draining` has the mode Draining
+pub draining-modes : (st : State) → NoneBoth st → All (λ (n : NodeNo). mode_of st n ≡ Draining) st.draining
+draining-modes st apart = All-members (λ (n : NodeNo). mode_of st n ≡ Draining) st.draining (λ n here.
+    let noted : has_number st.draining n ≡ true = list_any-member (same_node n) st.draining n here (eq-eqb n.value n.value refl) in
+    let there = false_from_ne_true (has_number st.gone n) (λ gone. true≢false (sym noted ∙ apart n gone)) in rw (there, noted) refl)
+
 pub all-draining : (nodes : List NodeInfo) (history : List Entry)
     → All (λ (n : NodeNo). mode_of (state_after nodes history) n ≡ Draining) (state_after nodes history).draining
-all-draining nodes history =
-    let st = state_after nodes history in
-    All-members (λ (n : NodeNo). mode_of st n ≡ Draining) st.draining (λ n here.
-    let noted : has_number st.draining n ≡ true = list_any-member (same_node n) st.draining n here (eq-eqb n.value n.value refl) in
-    let there : has_number st.gone n ≡ false = not-both st n (state_after-apart nodes history) noted (has_number st.gone n) refl in
-    rw (there, noted) refl)
-  where
-    not-both : (st : State) (n : NodeNo) → NoneBoth st → has_number st.draining n ≡ true → (b : Bool) → has_number st.gone n ≡ b → b ≡ false
-    not-both st n apart noted false is = refl
-    not-both st n apart noted true is = absurd (never-both (has_number st.draining n) noted (apart n is))
+all-draining nodes history = draining-modes (state_after nodes history) (state_after-apart nodes history)
 
 -- ---- a node that joins
 
@@ -111,27 +107,24 @@ pub record IsJoined (n : NodeNo) (next : State) : Type 0 where
   pub up : is_down next n ≡ false
   pub none : All (λ (seat : Seat). seat.node ≢ n) (taken_seats next)
 
-module _ (nodes : List NodeInfo) (st : State) (n : NodeNo) (seated : AreSeated nodes st) (apart : NoneBoth st)
-    (gone : has_number st.gone n ≡ true) where
-  up-by : (b : Bool) → has_number st.down n ≡ b → b ≡ false
-  up-by false is = refl
-  up-by true is =
-      let m = member-list_any (same_node n) st.down is in
-      let number : n ≡ m.0 = equal_nodes n m.0 (eqb-true n.value m.0.value m.2) in
-      absurd (never-both (has_number st.gone n) gone (ap (has_number st.gone) number ∙ down-present nodes st n seated m.0 m.1))
-
-  joined-state : IsJoined n (without_gone st n)
-  joined-state = record {
+module _ (nodes : List NodeInfo) (st : State) (n : NodeNo) (seated : AreSeated nodes st) (apart : NoneBoth st) where
+  -- a node that is gone is active after it joined, not down, and has no held seat
+  gone-joined : has_number st.gone n ≡ true → IsJoined n (without_gone st n)
+  gone-joined gone = record {
     active = joined-here st n (apart n gone);
-    up = up-by (has_number st.down n) refl;
+    up = false_from_ne_true (has_number st.down n) (λ down.
+        let m = member-list_any (same_node n) st.down down in
+        let number : n ≡ m.0 = equal_nodes n m.0 (eqb-true n.value m.0.value m.2) in
+        true≢false (sym gone ∙ ap (has_number st.gone) number ∙ down-present nodes st n seated m.0 m.1));
     none = All-members (λ (seat : Seat). seat.node ≢ n) (taken_seats st) (λ seat here same.
-        never-both (has_number st.gone n) gone (ap (has_number st.gone) (sym same) ∙ seat-present nodes st n seated seat here));
+        true≢false (sym gone ∙ ap (has_number st.gone) (sym same) ∙ seat-present nodes st n seated seat here));
   }
+
+  pub joined-in : (node_outcome nodes st command.Join n).0 ≡ Changed → IsJoined n (node_outcome nodes st command.Join n).1
+  joined-in told = after-node nodes st command.Join n (IsJoined n) (λ allowed.
+      gone-joined (gone-there (has_number st.gone n) (has_number st.draining n) (gone-mode (mode_of st n) (flips-false (is_gone (mode_of st n)) allowed.right)))) told
 
 pub joined-after : (nodes : List NodeInfo) (history : List Entry) (n : NodeNo) → AreNodes nodes → IsLegal nodes history
     → (node_outcome nodes (state_after nodes history) command.Join n).0 ≡ Changed → IsJoined n (node_outcome nodes (state_after nodes history) command.Join n).1
 joined-after nodes history n known legal told =
-    let st = state_after nodes history in
-    after-node nodes st command.Join n (IsJoined n) (λ allowed.
-    joined-state nodes st n (state_after-good nodes known history legal).seated (state_after-apart nodes history)
-    (gone-there (has_number st.gone n) (has_number st.draining n) (gone-mode (mode_of st n) (flips-false (is_gone (mode_of st n)) allowed.right)))) told
+    joined-in nodes (state_after nodes history) n (state_after-good nodes known history legal).seated (state_after-apart nodes history) told

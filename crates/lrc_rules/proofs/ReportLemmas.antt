@@ -1,38 +1,34 @@
--- At most one Done of each epoch of a fragment is accepted.
-use Rattle.std.proofs.Common.{[], ◌≡◌, ◌≢◌, ◌⊎◌, ℕ, ◌+◌, ◌≤◌, inl, inr, Bool, true, false, not, ◌&&◌, cond, List, ◌∷◌, ◌++◌, filter, fold, Option, Some, None, refl, sym, ap, ◌∙◌, subst, arith}
+-- At most one Done of each epoch of a fragment is accepted, in a legal history from any good world.
+use Rattle.std.proofs.Common.{[], ◌≡◌, ◌≢◌, ◌⊎◌, ℕ, ◌+◌, ◌≤◌, inl, inr, Bool, true, ◌&&◌, cond, List, ◌∷◌, refl, sym, ap, ◌∙◌, subst, arith, None}
 use Rattle.std.specs.List.{Contains}
-use Rattle.std.proofs.lemmas.Bool.{cases_Bool, eqb-true, and_parts, not-true}
+use Rattle.std.proofs.lemmas.Bool.{cases_Bool, true≢false, eqb-true, and_parts}
 use Rattle.std.proofs.lemmas.List.Elements.{Contains-push_cases}
-use Rattle.std.proofs.lemmas.List.Sums.{sum_by-append, sum_by-cons}
+use Rattle.std.proofs.lemmas.List.Sums.{sum_by-cons}
 use Rattle.lrc_code.specs.declared.numbers.StripeNo.{StripeNo}
-use Rattle.lrc_code.specs.declared.numbers.SessionNo.{SessionNo}
 use Rattle.lrc_code.specs.declared.numbers.Fragment.{Fragment}
 use Rattle.lrc_code.proofs.NumbersLemmas.{equal_stripes, equal_fragments}
 use Rattle.lrc_topology.specs.declared.NodeInfo.{NodeInfo}
 use Rattle.lrc_topology.specs.Nodes.{AreNodes}
 use Rattle.lrc_terms.specs.declared.lease.Lease.{Lease as LeaseRecord}
 use Rattle.lrc_terms.specs.Leased.{is_of}
-use Rattle.lrc_terms.proofs.LeaseLemmas.{is_of-parts, find-some}
+use Rattle.lrc_terms.proofs.LeaseLemmas.{is_of-parts, find-some, find-none}
 use Rattle.lrc_rules.specs.declared.command.Command.{Command}
 use Rattle.lrc_rules.specs.declared.command.Command.TheVariants.{Done}
 use Rattle.lrc_rules.specs.declared.reply.Reply.{Reply}
-use Rattle.lrc_rules.specs.declared.reply.Reply.TheVariants.{Ended, Refused}
-use Rattle.lrc_rules.specs.declared.refusal.Refusal.{Refusal}
-use Rattle.lrc_rules.specs.declared.refusal.Refusal.TheVariants as refusal
+use Rattle.lrc_rules.specs.declared.reply.Reply.TheVariants.{Ended}
 use Rattle.lrc_rules.specs.declared.entry.Entry.{Entry}
-use Rattle.lrc_rules.specs.States.{State, has_stripe, lease_of, online_at}
-use Rattle.lrc_rules.specs.Outcomes.{Outcome}
-use Rattle.lrc_rules.specs.Leases.{grants, at_epoch, is_held_by, moved_in, done_answer, done_outcome, is_report, is_ended, reports_taken}
+use Rattle.lrc_rules.specs.States.{lease_of}
+use Rattle.lrc_rules.specs.Leases.{grants, done_outcome, is_report, is_ended, reports_taken}
+use Rattle.lrc_rules.specs.Reporting.{IsReported}
 use Rattle.lrc_rules.specs.Steps.{step}
 use Rattle.lrc_rules.specs.Histories.{World, first_world, outcome_in, next_world, IsLegalFrom, IsLegal}
-use Rattle.lrc_rules.proofs.MemberLemmas.{filter-member}
-use Rattle.lrc_rules.proofs.OutcomeLemmas.{when-told}
-use Rattle.lrc_rules.proofs.LeaseStepLemmas.{at_epoch-some}
-use Rattle.lrc_rules.proofs.LeaseCountLemmas.{Follows, grants-push, step-follows}
-use Rattle.lrc_rules.proofs.GoodLemmas.{IsGoodIn, opening-good, next-good, past-after}
+use Rattle.lrc_rules.proofs.GoodLemmas.{IsGoodIn, opening-good, next-good}
+use Rattle.lrc_rules.proofs.LeaseCountLemmas.{grants-push, step-follows}
 use Rattle.lrc_rules.proofs.LeaseLawLemmas.{live-epoch}
+use Rattle.lrc_rules.proofs.MovedLemmas.{moved-lease}
+use Rattle.lrc_rules.proofs.ReportedLemmas.{done-told}
 
--- ---- which Done is accepted
+-- ---- accepted Done commands
 
 report-is : (s : StripeNo) (f : Fragment) (e : ℕ) (c : Command) → is_report s f e c ≡ true → c ≡ Done s f e
 report-is s f e (Done t g d) hit =
@@ -46,128 +42,93 @@ ended-is : (r : Reply) → is_ended r ≡ true → r ≡ Ended
 ended-is Ended hit = refl
 ended-is _ hit = absurd (cc)
 
--- an accepted Done had a live lease with its epoch, and keeps the other leases
-record IsTaken (st : State) (s : StripeNo) (f : Fragment) (e : ℕ) (next : State) : Type 0 where
-  pub lease : LeaseRecord
-  pub live : lease_of st s f ≡ Some lease
-  pub epoch : lease.epoch ≡ e
-  pub left : next.leases ≡ filter (λ l. not (is_of s f.value l)) st.leases
+module _ (nodes : List NodeInfo) (s : StripeNo) (f : Fragment) (e : ℕ) where
+  -- the entry is an accepted Done of the fragment with this epoch
+  abbrev is_taken_report : Entry → Bool
+  is_taken_report x = is_report s f e x.command && is_ended x.reply
 
-not_refused : (r : Refusal) → Refused r ≢ Ended
-not_refused r e = cc
+  reports-cons : (x : Entry) (xs : List Entry) → reports_taken (x ∷ xs) s f e ≡ cond (is_taken_report x) 1 0 + reports_taken xs s f e
+  reports-cons x xs = sum_by-cons (λ (y : Entry). cond (is_taken_report y) 1 0) x xs
 
-module _ (nodes : List NodeInfo) (st : State) (session : SessionNo) (s : StripeNo) (f : Fragment) (e : ℕ) where
-  abbrev TakenIn : Outcome → Type 0
-  TakenIn o = IsTaken st s f e o.1
+  -- the epoch was granted, and no live lease of the fragment has it
+  record IsOver (w : World) : Type 0 where
+    pub granted : e ≤ grants w.past s f
+    pub none : (l : LeaseRecord) → Contains w.state.leases l → is_of s f.value l ≡ true → l.epoch ≢ e
 
-  done-by : (o : Option LeaseRecord) → at_epoch e (lease_of st s f) ≡ o → (done_answer nodes st session s f o).0 ≡ Ended
-      → TakenIn (done_answer nodes st session s f o)
-  done-by None is told = absurd (let never : Refused refusal.Stale ≡ Ended = told in cc)
-  done-by (Some l) is told =
-      let live = at_epoch-some e (lease_of st s f) l is in
-      when-told Ended not_refused TakenIn (not (is_held_by session l)) (refusal.NotHolder l.holder) st _
-      (when-told Ended not_refused TakenIn (not (online_at nodes st l.target.node)) (refusal.TargetOffline l.target.node) st
-      (Ended, moved_in st s f l.target)
-      (λ ended. record { lease = l; live = live.0; epoch = live.1; left = refl })) told
-
-  done-taken : (done_outcome nodes st session s f e).0 ≡ Ended → TakenIn (done_outcome nodes st session s f e)
-  unfolding done_outcome
-  done-taken told =
-      when-told Ended not_refused TakenIn (not (has_stripe st s)) refusal.UnknownStripe st _ (done-by (at_epoch e (lease_of st s f)) refl) told
-
--- ---- at most one
-
-abbrev is_taken_report : StripeNo → Fragment → ℕ → Entry → Bool
-is_taken_report s f e x = is_report s f e x.command && is_ended x.reply
-
-reports-push : (past : List Entry) (x : Entry) (s : StripeNo) (f : Fragment) (e : ℕ)
-    → reports_taken (past ++ x ∷ []) s f e ≡ reports_taken past s f e + cond (is_taken_report s f e x) 1 0
-reports-push past x s f e =
-    let one = λ (y : Entry). cond (is_taken_report s f e y) 1 0 in
-    sum_by-append one past (x ∷ []) ∙ ap (λ (n : ℕ). reports_taken past s f e + n) (sum_by-cons one x [] ∙ omega arith)
-
--- one Done was accepted, the epoch was granted, and no live lease of the fragment has it
-record IsSpent (past : List Entry) (st : State) (s : StripeNo) (f : Fragment) (e : ℕ) : Type 0 where
-  pub one : reports_taken past s f e ≡ 1
-  pub granted : e ≤ grants past s f
-  pub none : (l : LeaseRecord) → Contains st.leases l → is_of s f.value l ≡ true → l.epoch ≢ e
-
-abbrev AtMostOne : List Entry → State → StripeNo → Fragment → ℕ → Type 0
-AtMostOne past st s f e = (reports_taken past s f e ≡ 0) ⊎ IsSpent past st s f e
-
-module _ (s : StripeNo) (f : Fragment) (e : ℕ) where
-  more-grants : (past : List Entry) (x : Entry) → e ≤ grants past s f → e ≤ grants (past ++ x ∷ []) s f
-  more-grants past x low = let push = grants-push past x s f in omega (arith, low, push)
-
-  -- no live lease gets the epoch again
-  none-again : (past : List Entry) (st : State) (o : Outcome) → Follows past st o → e ≤ grants past s f
-      → ((l : LeaseRecord) → Contains st.leases l → is_of s f.value l ≡ true → l.epoch ≢ e)
-      → (l : LeaseRecord) → Contains o.1.leases l → is_of s f.value l ≡ true → l.epoch ≢ e
-  none-again past st o (inr same) low none l here own = none l (same.fewer l here) own
-  none-again past st o (inl grant) low none l here own =
-      elim (Contains-push_cases st.leases grant.lease l (subst (λ (ls : List LeaseRecord). Contains ls l) grant.leases here)) [
-        | inl old ↦ none l old own
+  -- later grants have other epochs
+  next-over : (w : World) (x : Entry) → IsOver w → IsOver (next_world nodes w x)
+  next-over w x over = record {
+    granted = let push = grants-push w.past x s f in let low = over.granted in omega (arith, low, push);
+    none = λ l here own. elim (step-follows nodes w.past w.state x.session x.command) [
+      | inr same ↦ over.none l (same.fewer l here) own
+      | inl grant ↦ elim (Contains-push_cases w.state.leases grant.lease l (subst (λ (ls : List LeaseRecord). Contains ls l) grant.leases here)) [
+        | inl old ↦ over.none l old own
         | inr new ↦ λ same.
             let parts = is_of-parts s f.value l own in
-            let epoch : l.epoch ≡ grants past l.stripe l.fragment + 1 = subst
-            (λ (k : LeaseRecord). k.epoch ≡ grants past k.stripe k.fragment + 1) new grant.epoch in
-            let pair : grants past l.stripe l.fragment ≡ grants past s f =
-            ap (λ (r : StripeNo). grants past r l.fragment) (equal_stripes l.stripe s parts.0) ∙ ap (grants past s)
+            let epoch : l.epoch ≡ grants w.past l.stripe l.fragment + 1 = subst
+            (λ (k : LeaseRecord). k.epoch ≡ grants w.past k.stripe k.fragment + 1) new grant.epoch in
+            let pair : grants w.past l.stripe l.fragment ≡ grants w.past s f =
+            ap (λ (r : StripeNo). grants w.past r l.fragment) (equal_stripes l.stripe s parts.0) ∙ ap (grants w.past s)
             (equal_fragments l.fragment f parts.1) in
-            absurd (omega (arith, low, epoch, pair, same))
+            let low = over.granted in absurd (omega (arith, low, epoch, pair, same))
+      ]
+    ];
+  }
+
+  module _ (w : World) (x : Entry) (told : (outcome_in nodes w x.session x.command).0 ≡ x.reply) (hit : is_taken_report x ≡ true) where
+    command-is : x.command ≡ Done s f e
+    command-is = report-is s f e x.command (and_parts (is_report s f e x.command) (is_ended x.reply) hit).0
+
+    done-ended : (done_outcome nodes w.state x.session s f e).0 ≡ Ended
+    done-ended =
+        subst (λ (c : Command). (step nodes w.past w.state x.session c).0 ≡ Ended) command-is
+        (told ∙ ended-is x.reply (and_parts (is_report s f e x.command) (is_ended x.reply) hit).1)
+
+    -- an accepted Done names the live lease of the fragment,
+    taken-lease : (l : LeaseRecord) × IsReported w.state s f e l
+    taken-lease = let says = done-told nodes w.state x.session s f e Ended done-ended in (says.0, says.1)
+
+    -- which is over then
+    taken-over : IsGoodIn nodes w → IsOver (next_world nodes w x)
+    taken-over good =
+        let l = taken-lease.0 in
+        let own = taken-lease.1 in
+        let none = subst (λ (c : Command). lease_of (step nodes w.past w.state x.session c).1 s f ≡ None) (sym command-is)
+        (moved-lease nodes w.state x.session s f e l own.live done-ended) in
+        record {
+          granted =
+              let last = live-epoch nodes w.past w.state s f l good own.live in
+              let epoch = own.epoch in let push = grants-push w.past x s f in omega (arith, last, epoch, push);
+          none = λ k here is same. true≢false (sym is ∙ find-none (is_of s f.value) (next_world nodes w x).state.leases k none here);
+        }
+
+  none-later : (w : World) (history : List Entry) → IsLegalFrom nodes w history → IsOver w → reports_taken history s f e ≡ 0
+  none-later w [] legal over = refl
+  none-later w (x ∷ xs) legal over = elim (cases_Bool (is_taken_report x)) [
+    | inl hit ↦
+        let l = taken-lease w x legal.0 hit in
+        let found = find-some (is_of s f.value) w.state.leases l.0 l.1.live in absurd (over.none l.0 found.0 found.1 l.1.epoch)
+    | inr miss ↦
+        let parts = reports-cons x xs in
+        let own : ◌≡◌ {A = ℕ} (cond (is_taken_report x) 1 0) 0 = rw miss refl in
+        let rest = none-later (next_world nodes w x) xs legal.1 (next-over w x over) in omega (arith, parts, own, rest)
+  ]
+
+  -- of the entries of the history, at most one is an accepted Done with this epoch
+  pub most-reports : AreNodes nodes → (w : World) (history : List Entry) → IsLegalFrom nodes w history → IsGoodIn nodes w
+      → reports_taken history s f e ≤ 1
+  most-reports known w [] legal good = omega arith
+  most-reports known w (x ∷ xs) legal good =
+      let parts = reports-cons x xs in elim (cases_Bool (is_taken_report x)) [
+        | inl hit ↦
+            let own : ◌≡◌ {A = ℕ} (cond (is_taken_report x) 1 0) 1 = rw hit refl in
+            let rest = none-later (next_world nodes w x) xs legal.1 (taken-over w x legal.0 hit good) in omega (arith, parts, own, rest)
+        | inr miss ↦
+            let own : ◌≡◌ {A = ℕ} (cond (is_taken_report x) 1 0) 0 = rw miss refl in
+            let rest = most-reports known (next_world nodes w x) xs legal.1 (next-good nodes known w x legal.0 good) in
+            omega (arith, parts, own, rest)
       ]
 
-  module _ (nodes : List NodeInfo) (w : World) (x : Entry) (good : IsGoodIn nodes w)
-      (told : (outcome_in nodes w x.session x.command).0 ≡ x.reply) where
-    abbrev after : Outcome
-    after = outcome_in nodes w x.session x.command
-
-    other-entry : is_taken_report s f e x ≡ false → AtMostOne w.past w.state s f e → AtMostOne (w.past ++ x ∷ []) after.1 s f e
-    other-entry miss (inl zero_taken) =
-        inl (reports-push w.past x s f e ∙ ap (λ (b : Bool). reports_taken w.past s f e + cond b 1 0) miss ∙ omega (arith, zero_taken))
-    other-entry miss (inr spent) = inr (record {
-      one = reports-push w.past x s f e ∙ ap (λ (b : Bool). reports_taken w.past s f e + cond b 1 0) miss ∙ omega (arith, spent.one);
-      granted = more-grants w.past x spent.granted;
-      none = none-again w.past w.state after (step-follows nodes w.past w.state x.session x.command) spent.granted spent.none;
-    })
-
-    taken-now : is_taken_report s f e x ≡ true → IsTaken w.state s f e after.1
-    taken-now hit =
-        let parts = and_parts (is_report s f e x.command) (is_ended x.reply) hit in
-        let command = report-is s f e x.command parts.0 in
-        let reply = told ∙ ended-is x.reply parts.1 in
-        subst (λ (c : Command). IsTaken w.state s f e (step nodes w.past w.state x.session c).1) (sym command)
-        (done-taken nodes w.state x.session s f e (subst (λ (c : Command). (step nodes w.past w.state x.session c).0 ≡ Ended) command reply))
-
-    this-entry : is_taken_report s f e x ≡ true → IsTaken w.state s f e after.1 → AtMostOne w.past w.state s f e
-        → AtMostOne (w.past ++ x ∷ []) after.1 s f e
-    this-entry hit taken (inr spent) =
-        let found = find-some (is_of s f.value) w.state.leases taken.lease taken.live in
-        absurd (spent.none taken.lease found.0 found.1 taken.epoch)
-    this-entry hit taken (inl zero_taken) = inr (record {
-      one = reports-push w.past x s f e ∙ ap (λ (b : Bool). reports_taken w.past s f e + cond b 1 0) hit ∙ omega (arith, zero_taken);
-      granted =
-          more-grants w.past x (let last = live-epoch nodes w.past w.state s f taken.lease good taken.live in let epoch = taken.epoch in
-          omega (arith, last, epoch));
-      none = λ l here own same. (
-          let out = not-true _ (filter-member (λ k. not (is_of s f.value k)) w.state.leases l
-          (subst (λ (ls : List LeaseRecord). Contains ls l) taken.left here)).1 in
-          let both : true ≡ false = sym own ∙ out in cc);
-    })
-
-    entry-most : AtMostOne w.past w.state s f e → AtMostOne (next_world nodes w x).past (next_world nodes w x).state s f e
-    entry-most most = elim (cases_Bool (is_taken_report s f e x)) [ inl hit ↦ this-entry hit (taken-now hit) most | inr miss ↦ other-entry miss most ]
-
-  worlds-most : (nodes : List NodeInfo) → AreNodes nodes → (w : World) (history : List Entry) → IsLegalFrom nodes w history → IsGoodIn nodes w
-      → AtMostOne w.past w.state s f e
-      → reports_taken (fold (next_world nodes) w history).past s f e ≤ 1
-  worlds-most nodes known w [] legal good (inl zero_taken) = omega (arith, zero_taken)
-  worlds-most nodes known w [] legal good (inr spent) = let one = spent.one in omega (arith, one)
-  worlds-most nodes known w (x ∷ xs) legal good most =
-      worlds-most nodes known (next_world nodes w x) xs legal.1 (next-good nodes known w x legal.0 good) (entry-most nodes w x good legal.0 most)
-
-  -- In a legal history at most one Done of the epoch was accepted.
-  pub one_report : (nodes : List NodeInfo) → AreNodes nodes → (history : List Entry) → IsLegal nodes history → reports_taken history s f e ≤ 1
-  one_report nodes known history legal =
-      subst (λ (past : List Entry). reports_taken past s f e ≤ 1) (past-after nodes history)
-      (worlds-most nodes known first_world history legal (opening-good nodes) (inl refl))
+  -- and so of those of a legal history from the start
+  pub one_report : AreNodes nodes → (history : List Entry) → IsLegal nodes history → reports_taken history s f e ≤ 1
+  one_report known history legal = most-reports known first_world history legal (opening-good nodes)

@@ -19,12 +19,12 @@ use Rattle.lrc_rules.specs.States.{State, lease_of}
 use Rattle.lrc_rules.specs.Outcomes.{Outcome}
 use Rattle.lrc_rules.specs.Leases.{is_grant, is_tick, ticks, term, tick_outcome}
 use Rattle.lrc_rules.specs.Steps.{step}
-use Rattle.lrc_rules.specs.Histories.{World, first_world, outcome_in, next_world, world_after, state_after, IsLegalFrom, IsLegal}
+use Rattle.lrc_rules.specs.Histories.{World, first_world, outcome_in, next_world, world_from, state_from, world_after, state_after, IsLegalFrom, IsLegal}
 use Rattle.lrc_rules.specs.Endings.{CanEnd, IsLeftAlone}
 use Rattle.lrc_rules.proofs.ClockLemmas.{tick-is, step-clock, other-clock, worlds-clock}
 use Rattle.lrc_rules.proofs.EndingLemmas.{lease-lasts-by}
 use Rattle.lrc_rules.proofs.LeaseCountLemmas.{Follows, step-follows}
-use Rattle.lrc_rules.proofs.GoodLemmas.{state_after-good}
+use Rattle.lrc_rules.proofs.GoodLemmas.{IsGoodIn, opening-good, state_from-good}
 
 -- ---- a grant
 
@@ -88,15 +88,16 @@ no-tick-grants : (nodes : List NodeInfo) (past : List Entry) (st : State) (sessi
 unfolding tick_outcome
 no-tick-grants nodes past st session l k told = absurd (cc)
 
-module _ (nodes : List NodeInfo) (known : AreNodes nodes) (history : List Entry) (e : Entry) (es : List Entry) (legal : IsLegal nodes (history ++ e ∷ es)) (l : LeaseRecord) (k : Kind) (told : e.reply ≡ Granted l k) where
+module _ (nodes : List NodeInfo) (known : AreNodes nodes) (base : World) (good : IsGoodIn nodes base) (history : List Entry) (e : Entry) (es : List Entry)
+    (legal : IsLegalFrom nodes base (history ++ e ∷ es)) (l : LeaseRecord) (k : Kind) (told : e.reply ≡ Granted l k) where
   abbrev before : World
-  before = world_after nodes history
+  before = world_from nodes base history
 
   abbrev after : World
   after = next_world nodes before e
 
   reply : (outcome_in nodes before e.session e.command).0 ≡ Granted l k
-  reply = legal-at nodes first_world history e es legal ∙ told
+  reply = legal-at nodes base history e es legal ∙ told
 
   fresh : IsFresh before.state l (outcome_in nodes before e.session e.command)
   fresh = granted-fresh nodes before.past before.state e.session e.command l k reply
@@ -108,11 +109,11 @@ module _ (nodes : List NodeInfo) (known : AreNodes nodes) (history : List Entry)
         (subst (λ (c : Command). (step nodes before.past before.state e.session c).0 ≡ Granted l k) (tick-is e.command hit) reply))
   ]
 
-  ended : world_after nodes (history ++ e ∷ es) ≡ fold (next_world nodes) after es
-  ended = fold-append (next_world nodes) first_world history (e ∷ es)
+  ended : world_from nodes base (history ++ e ∷ es) ≡ fold (next_world nodes) after es
+  ended = fold-append (next_world nodes) base history (e ∷ es)
 
   -- the lease expires after its term less the ticks since the grant
-  left : (state_after nodes (history ++ e ∷ es)).clock + term ≡ l.expiry + ticks es
+  left : (state_from nodes base (history ++ e ∷ es)).clock + term ≡ l.expiry + ticks es
   left =
       let there = ap (λ (w : World). w.state.clock) ended in
       let moved = worlds-clock nodes after es in
@@ -120,18 +121,24 @@ module _ (nodes : List NodeInfo) (known : AreNodes nodes) (history : List Entry)
       let end = fresh.expiry in
       omega (arith, there, moved, own, end)
 
-  pub live-in-term : IsLeftAlone nodes l (world_after nodes (history ++ e ∷ [])) es
-      → (lease_of (state_after nodes (history ++ e ∷ es)) l.stripe l.fragment ≡ Some l) ↔ (ticks es < 3)
-  live-in-term alone =
-      let good = state_after-good nodes known (history ++ e ∷ es) legal in
-      let now = state_after nodes (history ++ e ∷ es) in
-      let own : IsLeftAlone nodes l after es = subst (λ (w : World). IsLeftAlone nodes l w es) (fold-append (next_world nodes) first_world history (e ∷ [])) alone in (
+  pub live-since : IsLeftAlone nodes l (world_from nodes base (history ++ e ∷ [])) es
+      → (lease_of (state_from nodes base (history ++ e ∷ es)) l.stripe l.fragment ≡ Some l) ↔ (ticks es < 3)
+  live-since alone =
+      let ok = state_from-good nodes known base (history ++ e ∷ es) legal good in
+      let now = state_from nodes base (history ++ e ∷ es) in
+      let own : IsLeftAlone nodes l after es = subst (λ (w : World). IsLeftAlone nodes l w es) (fold-append (next_world nodes) base history (e ∷ [])) alone in (
         (λ live.
             let here = leases_in-contains now.leases l.stripe l.fragment.value l live in
-            let runs = All-contains (λ (m : LeaseRecord). now.clock < m.expiry) now.leases l good.running here in
+            let runs = All-contains (λ (m : LeaseRecord). now.clock < m.expiry) now.leases l ok.running here in
             omega (arith, left, runs)),
         (λ few.
             let clock = ap (λ (w : World). w.state.clock) ended in
             subst (λ (w : World). IsLive nodes l w) (sym ended)
             (lives nodes l after es own (omega (arith, left, clock, few)) fresh.live)),
       )
+
+-- in a history from the start
+pub live-in-term : (nodes : List NodeInfo) → AreNodes nodes → (history : List Entry) (e : Entry) (es : List Entry) → IsLegal nodes (history ++ e ∷ es)
+    → (l : LeaseRecord) (k : Kind) → e.reply ≡ Granted l k → IsLeftAlone nodes l (world_after nodes (history ++ e ∷ [])) es
+    → (lease_of (state_after nodes (history ++ e ∷ es)) l.stripe l.fragment ≡ Some l) ↔ (ticks es < 3)
+live-in-term nodes known history e es legal l k told alone = live-since nodes known first_world (opening-good nodes) history e es legal l k told alone
