@@ -1,64 +1,28 @@
 -- What holds after each legal history from a base.
-use Rattle.std.proofs.Common.{◌≡◌, ◌≢◌, ◌+◌, ◌<◌, ◌≤◌, true, ◌++◌, List, length, cond, refl, sym, ap, ◌∙◌, arith}
+use Rattle.std.proofs.Common.{◌≡◌, ◌+◌, ◌<◌, ◌≤◌, ◌++◌, List, length, cond, arith}
 use Rattle.std.specs.List.{All}
-use Rattle.std.proofs.lemmas.Bool.{true≢false, false_from_ne_true, eqb-true, eq-eqb}
 use Rattle.std.proofs.lemmas.List.Elements.{All-weaker}
 use Rattle.std.proofs.lemmas.List.Sums.{sum_by-append, count_by-le-length}
 use Rattle.lrc_code.specs.declared.numbers.StripeNo.{StripeNo}
 use Rattle.lrc_code.specs.declared.numbers.NodeNo.{NodeNo}
 use Rattle.lrc_code.specs.declared.numbers.Fragment.{Fragment}
-use Rattle.lrc_code.specs.Numbers.{same_node}
-use Rattle.lrc_code.proofs.NumbersLemmas.{equal_nodes}
 use Rattle.lrc_topology.specs.declared.NodeInfo.{NodeInfo}
-use Rattle.lrc_topology.specs.declared.seat.Seat.{Seat}
 use Rattle.lrc_topology.specs.Nodes.{AreNodes}
 use Rattle.lrc_terms.specs.declared.lease.Lease.{Lease}
 use Rattle.lrc_terms.specs.declared.mode.Mode.TheVariants.{Draining}
-use Rattle.lrc_terms.specs.Modes.{is_gone}
 use Rattle.lrc_rules.specs.declared.node_command.NodeCommand.TheVariants as command
 use Rattle.lrc_rules.specs.declared.reply.Reply.TheVariants.{Changed}
 use Rattle.lrc_rules.specs.declared.entry.Entry.{Entry}
-use Rattle.lrc_rules.specs.States.{State, has_number, mode_of, taken_seats}
+use Rattle.lrc_rules.specs.States.{mode_of}
 use Rattle.lrc_rules.specs.Leases.{is_grant, grants, term, is_tick}
-use Rattle.lrc_rules.specs.Steps.{without_gone, node_outcome}
+use Rattle.lrc_rules.specs.Steps.{node_outcome}
 use Rattle.lrc_rules.specs.Histories.{World, state_from, IsLegalFrom}
-use Rattle.lrc_rules.specs.Goodness.{AreSeated, IsGood}
-use Rattle.lrc_rules.proofs.MemberLemmas.{All-members, list_any-member, member-list_any}
-use Rattle.lrc_rules.proofs.SeatedLemmas.{seat-present, down-present}
-use Rattle.lrc_rules.proofs.NodeCommandLemmas.{after-node}
-use Rattle.lrc_rules.proofs.NodeWordsLemmas.{flips-false, gone-mode, gone-there, joined-here}
-use Rattle.lrc_rules.proofs.JoinedLemmas.{NoneBoth, IsJoined}
+use Rattle.lrc_rules.specs.Goodness.{IsGood}
+use Rattle.lrc_rules.proofs.JoinedLemmas.{NoneBoth, IsJoined, draining-modes, joined-in}
 use Rattle.lrc_rules.proofs.ClockLemmas.{worlds-clock}
 use Rattle.lrc_rules.proofs.GoodLemmas.{state_from-good}
 use Rattle.lrc_rules.proofs.TidyLemmas.{worlds-tidy}
 use Rattle.lrc_images.specs.Bases.{IsBase}
-
--- ---- nodes
-
-module _ (st : State) (apart : NoneBoth st) where
-  -- each node of the list `draining` has the mode Draining
-  all-draining : All (λ (n : NodeNo). mode_of st n ≡ Draining) st.draining
-  all-draining = All-members (λ (n : NodeNo). mode_of st n ≡ Draining) st.draining (λ n here.
-      let noted : has_number st.draining n ≡ true = list_any-member (same_node n) st.draining n here (eq-eqb n.value n.value refl) in
-      let there = false_from_ne_true (has_number st.gone n) (λ gone. true≢false (sym noted ∙ apart n gone)) in rw (there, noted) refl)
-
-  -- a node that is gone is active after it joined, not down, and has no held seat
-  gone-joined : (nodes : List NodeInfo) (n : NodeNo) → AreSeated nodes st → has_number st.gone n ≡ true → IsJoined n (without_gone st n)
-  gone-joined nodes n seated gone = record {
-    active = joined-here st n (apart n gone);
-    up = false_from_ne_true (has_number st.down n) (λ down.
-        let m = member-list_any (same_node n) st.down down in
-        let number : n ≡ m.0 = equal_nodes n m.0 (eqb-true n.value m.0.value m.2) in
-        true≢false (sym gone ∙ ap (has_number st.gone) number ∙ down-present nodes st n seated m.0 m.1));
-    none = All-members (λ (seat : Seat). seat.node ≢ n) (taken_seats st) (λ seat here same.
-        true≢false (sym gone ∙ ap (has_number st.gone) (sym same) ∙ seat-present nodes st n seated seat here));
-  }
-
-  joined-after : (nodes : List NodeInfo) (n : NodeNo) → AreSeated nodes st → (node_outcome nodes st command.Join n).0 ≡ Changed
-      → IsJoined n (node_outcome nodes st command.Join n).1
-  joined-after nodes n seated told = after-node nodes st command.Join n (IsJoined n) (λ allowed.
-      gone-joined nodes n seated
-      (gone-there (has_number st.gone n) (has_number st.draining n) (gone-mode (mode_of st n) (flips-false (is_gone (mode_of st n)) allowed.right)))) told
 
 -- ---- from a base
 
@@ -70,12 +34,12 @@ module _ (nodes : List NodeInfo) (base : World) (history : List Entry) (is : IsB
   based-apart = (worlds-tidy nodes base history is.tidy).apart
 
   pub based-draining : All (λ (n : NodeNo). mode_of (state_from nodes base history) n ≡ Draining) (state_from nodes base history).draining
-  based-draining = all-draining (state_from nodes base history) based-apart
+  based-draining = draining-modes (state_from nodes base history) based-apart
 
   pub based-joined : (n : NodeNo) → AreNodes nodes → IsLegalFrom nodes base history
       → (node_outcome nodes (state_from nodes base history) command.Join n).0 ≡ Changed
       → IsJoined n (node_outcome nodes (state_from nodes base history) command.Join n).1
-  based-joined n known legal told = joined-after (state_from nodes base history) based-apart nodes n (based-good known legal).seated told
+  based-joined n known legal told = joined-in nodes (state_from nodes base history) n (based-good known legal).seated based-apart told
 
   -- each entry adds at most one grant,
   pub based-counts : (s : StripeNo) (f : Fragment) → length history ≤ 1000000 → grants (base.past ++ history) s f < 4294967295

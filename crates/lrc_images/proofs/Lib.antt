@@ -12,4 +12,8 @@ pub mod StateRowLemmas
 pub mod AlikeRowLemmas
 pub mod OneImageLemmas
 pub mod BaseLemmas
-pub mod BaseLeaseLemmas
+pub mod PlaceLemmas
+pub mod CutLemmas
+pub mod SeatFaultLemmas
+pub mod FaultLemmas
+pub mod CausedRowLemmas

@@ -1,7 +1,9 @@
 //! Laws of images: what rising rows say, and which images are worlds that a book can begin in.
-//! `bases` has laws of the histories that begin in such a world.
+//! `bases` has laws of the histories that begin in such a world, and `causes` says which row is the
+//! first that is wrong, and why.
 
 pub mod bases;
+pub mod causes;
 
 ghost use Rattle.std.specs.Prelude.{◌≡◌, ◌≢◌, ◌≤◌, IsTrue, IsFalse, AllPairs, Contains};
 ghost use Rattle.std.specs.Prelude.{ℕ, List, get_or, None};

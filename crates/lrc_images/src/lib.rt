@@ -3,6 +3,7 @@
 //!
 //! `specs/Images` says which state an image stands for, `specs/Rising` which rows are in order, and
 //! `specs/Causes` which row of an image is the first that is wrong in a store with given nodes.
+//! `specs/Cuts` counts the rows, and `specs/Faults` says in words what can be wrong with each.
 //! `specs/Bases` says in which worlds a book can begin. The functions of `laws` do nothing. Their
 //! contracts are theorems about these definitions.
 #![tactic(auto)]

@@ -1,8 +1,8 @@
 //! Laws of histories that begin in a base, a world that a book can begin in. Each law of `lrc_rules`
-//! on legal histories has its like here but two: `legal_histories_are_served`, which speaks of the
-//! empty store, and clause `live` of `leases_last_three_ticks`, whose other clauses speak of any state.
+//! on legal histories has its like here but `legal_histories_are_served`, which speaks of the empty
+//! store. Clauses that speak of any state are not said again.
 
-ghost use Rattle.std.specs.Prelude.{◌≡◌, ◌≢◌, ◌⊎◌, ◌+◌, ℕ, ◌<◌, ◌≤◌, if◌then◌else◌, IsFalse, List, ◌++◌, All, Contains, length};
+ghost use Rattle.std.specs.Prelude.{◌≡◌, ◌≢◌, ◌⊎◌, ◌↔◌, ◌+◌, ℕ, ◌<◌, ◌≤◌, if◌then◌else◌, IsFalse, List, [], ◌∷◌, ◌++◌, All, Contains, Some, length};
 ghost use Rattle.lrc_code.specs.declared.numbers.StripeNo.{StripeNo};
 ghost use Rattle.lrc_code.specs.declared.numbers.NodeNo.{NodeNo};
 ghost use Rattle.lrc_code.specs.declared.numbers.UpgradeNo.{UpgradeNo};
@@ -20,10 +20,11 @@ ghost use Rattle.lrc_rules.specs.declared.reply.Reply.TheVariants.{Granted, Chan
 ghost use Rattle.lrc_rules.specs.declared.refusal.Refusal.TheVariants as refusal;
 ghost use Rattle.lrc_rules.specs.declared.kind.Kind.{Kind};
 ghost use Rattle.lrc_rules.specs.declared.entry.Entry.{Entry};
-ghost use Rattle.lrc_rules.specs.States.{has_stripe, code_of, taken_seats, mode_of, is_down, missing, level};
+ghost use Rattle.lrc_rules.specs.States.{has_stripe, lease_of, code_of, taken_seats, mode_of, is_down, missing, level};
 ghost use Rattle.lrc_rules.specs.Outcomes.{refused};
 ghost use Rattle.lrc_rules.specs.Leases.{grants, reports_taken, ticks};
 ghost use Rattle.lrc_rules.specs.Granting.{AsksFor};
+ghost use Rattle.lrc_rules.specs.Endings.{IsLeftAlone};
 ghost use Rattle.lrc_rules.specs.Histories.{World, IsLegalFrom, outcome_in, world_from, state_from};
 ghost use Rattle.lrc_rules.specs.Goodness.{IsGood};
 ghost use Rattle.lrc_images.specs.Bases.{IsBase};
@@ -117,6 +118,15 @@ pub fn draining_nodes_are_not_gone_from_any_base()
 pub fn ticks_count_from_any_base()
     ensures { (nodes : List NodeInfo) (base : World) (history : List Entry)
         → (state_from nodes base history).clock ≡ base.state.clock + ticks history }
+{}
+
+/// A lease that was granted in an entry of a legal history from a base, and that no command but Tick
+/// ends, is live until the third tick after its grant, and no longer.
+pub fn leases_last_three_ticks_from_any_base()
+    ensures { (nodes : List NodeInfo) (base : World) (history : List Entry) (e : Entry) (es : List Entry) (l : LeaseRecord) (k : Kind)
+        → AreNodes nodes → IsBase nodes base → IsLegalFrom nodes base (history ++ e ∷ es) → e.reply ≡ Granted l k
+        → IsLeftAlone nodes l (world_from nodes base (history ++ e ∷ [])) es
+        → (lease_of (state_from nodes base (history ++ e ∷ es)) l.stripe l.fragment ≡ Some l) ↔ (ticks es < 3) }
 {}
 
 /// A base leaves room for a history of 1,000,000 entries. Up to its end no fragment has been granted

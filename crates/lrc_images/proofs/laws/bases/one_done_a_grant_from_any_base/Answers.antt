@@ -1,4 +1,4 @@
-use Rattle.lrc_images.proofs.BaseLeaseLemmas.{most-reports}
+use Rattle.lrc_rules.proofs.ReportLemmas.{most-reports}
 use Rattle.lrc_images.proofs.laws.bases.one_done_a_grant_from_any_base.Goals as goal
 
 pub returns : goal.returns
