@@ -4,6 +4,7 @@ pub mod TextLemmas
 pub mod NumberLemmas
 pub mod RowLemmas
 pub mod LineLemmas
+pub mod RowLineLemmas
 pub mod HeadLemmas
 pub mod ReachLemmas
 pub mod EndLemmas

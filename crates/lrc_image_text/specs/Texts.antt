@@ -1,6 +1,8 @@
 -- The text of an image, and the bad line of a text that is none.
-use Rattle.std.specs.Prelude.{◌≡◌, ◌≢◌, ℕ, ◌+◌, ◌<◌, ◌^◌, Bool, true, if◌then◌else◌, nat_lt, nat_le, nat_eq, List, [], ◌∷◌, ◌++◌, length, map, fold, All, Option, Some, None}
+use Rattle.std.specs.Prelude.{◌≡◌, ◌≢◌, ℕ, zero, suc, ◌+◌, ◌<◌, ◌^◌, Bool, true, if◌then◌else◌, nat_lt, nat_le, nat_eq, List, [], ◌∷◌, ◌++◌, length, map, fold, All, Option, Some, None}
 use Rattle.lrc_code.specs.declared.numbers.UpgradeNo.{UpgradeNo}
+use Rattle.lrc_images.specs.declared.cause.Cause.{Cause}
+use Rattle.lrc_images.specs.declared.cause.Cause.TheVariants as cause
 use Rattle.lrc_images.specs.declared.image.Image.{Image}
 use Rattle.lrc_image_text.specs.declared.error.ImageTextError.{ImageTextError}
 use Rattle.lrc_image_text.specs.declared.error.ImageTextError.TheVariants.{BadLine, OutOfMemory}
@@ -12,11 +14,13 @@ abbrev pub upgrading_lines : Option UpgradeNo → List Line
 upgrading_lines None = []
 upgrading_lines (Some u) = Upgrading u ∷ []
 
+-- the lines of the rows of an image, in the order of their positions
+abbrev pub lines_of_rows : Image → List Line
+lines_of_rows i = map Node i.nodes.items ++ (map Stripe i.stripes.items ++ (map Grants i.grants.items ++ map Lease i.leases.items))
+
 -- the lines of an image but the last
 abbrev pub begun_lines : Image → List Line
-begun_lines i =
-    Version ∷ Before i.before ∷ Clock i.clock
-    ∷ (upgrading_lines i.upgrading ++ (map Node i.nodes.items ++ (map Stripe i.stripes.items ++ (map Grants i.grants.items ++ map Lease i.leases.items))))
+begun_lines i = Version ∷ Before i.before ∷ Clock i.clock ∷ (upgrading_lines i.upgrading ++ lines_of_rows i)
 
 abbrev pub image_lines : Image → List Line
 image_lines i = begun_lines i ++ End ∷ []
@@ -98,6 +102,21 @@ HasHead text = (before : ℕ) × (clock : ℕ) × (left : List ℕ) × IsHead te
 abbrev pub IsRefused : List ℕ → ImageTextError → Type 0
 IsRefused text (BadLine number) = IsBadLine text number
 IsRefused text OutOfMemory = HasHead text
+
+-- ---- lines of rows
+
+-- the line of what an image says beside its rows: the number of entries, the number of ticks or the upgrading domain, whichever
+-- the cause is of
+abbrev pub head_line : Cause → ℕ
+head_line cause.TooManyEntries = 2
+head_line cause.TooManyTicks = 3
+head_line _ = 4
+
+-- The number of the line at the position of a cause, counted from 1, in the text of an image with this upgrading domain or
+-- none. The row at a position has a line of its own.
+abbrev pub row_line : Option UpgradeNo → ℕ → Cause → ℕ
+row_line upgrading zero cause = head_line cause
+row_line upgrading (suc n) cause = 3 + length (upgrading_lines upgrading) + suc n
 
 -- ---- rows
 

@@ -1,8 +1,10 @@
 //! Laws of the definitions. Each is the contract of a function that does nothing.
 
-ghost use Rattle.std.specs.Prelude.{◌≡◌, ℕ, ◌⊎◌, List};
+ghost use Rattle.std.specs.Prelude.{◌≡◌, ℕ, ◌+◌, ◌⊎◌, List, [], ◌∷◌, ◌++◌, drop};
+ghost use Rattle.lrc_images.specs.declared.cause.Cause.{Cause};
 ghost use Rattle.lrc_images.specs.declared.image.Image.{Image};
-ghost use Rattle.lrc_image_text.specs.Texts.{image_text, IsWritten, IsImageText, IsBadLine, HaveSameRows};
+ghost use Rattle.lrc_image_text.specs.Lines.{End};
+ghost use Rattle.lrc_image_text.specs.Texts.{image_lines, image_text, lines_of_rows, row_line, IsWritten, IsImageText, IsBadLine, HaveSameRows};
 
 /// A text stands for one image: two images that can be read have the same rows if they have the
 /// same text.
@@ -19,4 +21,11 @@ pub fn one_bad_line()
 /// Each text consists of the lines of an image or has a bad line.
 pub fn every_text()
     ensures { (text : List ℕ) → IsImageText text ⊎ ((n : ℕ) × IsBadLine text n) }
+{}
+
+/// A row at a position from 1 on has a line of its own: the one of the number `row_line`. From it on
+/// a text has the lines of the rows from that position on, and the last line.
+pub fn rows_have_lines()
+    ensures { (i : Image) (n : ℕ) (c : Cause) (before : ℕ) → row_line i.upgrading (n + 1) c ≡ before + 1
+        → drop before (image_lines i) ≡ drop n (lines_of_rows i ++ End ∷ []) }
 {}

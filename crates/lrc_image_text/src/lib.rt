@@ -2,11 +2,13 @@
 //! image.
 //!
 //! A text has lines of words, each ended by LF. `specs/Lines` says what a line is, and
-//! `specs/Texts` which lines an image has, and which line of another text is bad.
+//! `specs/Texts` which lines an image has, which line is that of a row, and which line of another
+//! text is bad.
 #![tactic(auto)]
 
 mod error;
 pub mod laws;
+mod line;
 mod number;
 mod part;
 mod read;
@@ -15,5 +17,6 @@ mod word;
 mod write;
 
 pub use error::ImageTextError;
+pub use line::row_line;
 pub use read::read_image;
 pub use write::push_image;

@@ -1,11 +1,12 @@
 //! Reads the text of an image.
 
-ghost use Rattle.std.specs.Prelude.{◌≡◌, ◌≢◌, ℕ, ◌+◌, ◌^◌, ◌<◌, ◌∷◌, ◌++◌, List, length, codes, decimal, IfOk, IfErr, IfSome, IfNone};
-ghost use Rattle.lrc_image_text.specs.Texts.{upgrading_lines, begun_lines, image_text, IsWritten, IsBadLine, IsHead, IsRefused};
+ghost use Rattle.std.specs.Prelude.{◌≡◌, ◌≢◌, ℕ, ◌^◌, ◌<◌, ◌∷◌, ◌++◌, List, length, codes, decimal, IfOk, IfErr, IfSome, IfNone};
+ghost use Rattle.lrc_image_text.specs.Texts.{begun_lines, image_text, IsWritten, IsBadLine, IsHead, IsRefused};
 ghost use Rattle.lrc_image_text.specs.Fronts.{IsBody, StartsWithRows, StartsWithUpgrading, IsRowRead};
 ghost use Rattle.lrc_image_text.specs.declared.error.ImageTextError.TheVariants.{OutOfMemory};
 
 use crate::ImageTextError;
+use crate::line::count_first_lines;
 use crate::number::{long_number_to_end, number_behind};
 use crate::row::Row;
 use crate::word::COUNT_BOUND;
@@ -54,13 +55,6 @@ fn count_lines(image: &Image) -> u64
 {
     let rows = image.nodes.len() + image.stripes.len() + image.grants.len() + image.leases.len();
     (count_first_lines(image.upgrading) + rows) as u64
-}
-
-/// Returns the number of lines before those of rows.
-fn count_first_lines(upgrading: Option<UpgradeNo>) -> usize
-    ensures { result ≡ 3 + length (upgrading_lines upgrading) }
-{
-    if upgrading.is_some() { 4 } else { 3 }
 }
 
 // ---- the first lines
