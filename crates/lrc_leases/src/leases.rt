@@ -112,6 +112,7 @@ impl Leases {
     }
 
     /// Adds the lease of a fragment that has none. There must be room for it.
+    #[inline(always)] // so that a grant makes no second call
     pub fn add(&mut self, lease: Lease)
         requires absent { (leased_in self.old).leases lease.stripe lease.fragment.value ≡ None }
         requires room { 1 ≤ (leased_in self.old).spare }

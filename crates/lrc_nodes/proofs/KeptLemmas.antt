@@ -172,7 +172,7 @@ module _ (nodes : List NodeInfo) (bits : StateBits) (t : List NodeState) (view :
     )
 
   module _ (states : AreStates nodes bits) where
-    drain-bit : (p : ℕ) (x : NodeState) → p < length nodes → is_node_draining (get_or t p x) ≡ get_or bits.draining p false
+    pub drain-bit : (p : ℕ) (x : NodeState) → p < length nodes → is_node_draining (get_or t p x) ≡ get_or bits.draining p false
     drain-bit p x within = ap is_node_draining (sym (seen-at p x x.node within)) ∙ said-draining (get_or bits.gone p false) (get_or bits.draining p false) (states.one_mode p)
 
     pub seen-draining : (((k : ℕ) → get_or bits.draining k false ≡ false) → All (λ x. is_node_draining x ≡ false) t) × (All (λ x. is_node_draining x ≡ false) t → (k : ℕ) → get_or bits.draining k false ≡ false)

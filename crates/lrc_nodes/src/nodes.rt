@@ -112,6 +112,14 @@ impl Nodes {
         self.offline.contains(position)
     }
 
+    /// Reports whether the node at a position in the list is draining.
+    pub fn is_draining_at(&self, position: usize) -> bool
+        requires { position < length self.now }
+        ensures { (d : AnyState) → result ≡ is_node_draining (get_or self.now position d) }
+    {
+        self.draining.contains(position)
+    }
+
     /// Returns the first position from this one on whose node is offline.
     pub fn first_offline_from(&self, position: usize) -> Option<usize>
         ensures { FindsFrom (map is_node_offline self.now) position result }

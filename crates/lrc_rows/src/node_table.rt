@@ -258,9 +258,11 @@ impl NodeTable {
     {
         match home {
             Some(seat) => {
+                let position = self.position_of(seat.node);
+                let is_offline = self.nodes.is_offline_at(position);
+                let is_draining = self.nodes.is_draining_at(position);
                 self.enter_one(stripe, fragment, seat.node, domains);
-                let is_missing = !self.is_online(seat.node);
-                losses.put(fragment, false, is_missing, self.is_draining(seat.node))
+                losses.put(fragment, false, is_offline, is_draining)
             }
             None => losses.put(fragment, true, true, true),
         }

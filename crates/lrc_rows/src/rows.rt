@@ -98,6 +98,7 @@ impl Rows {
     }
 
     /// Adds or replaces the row of a stripe.
+    #[inline(always)] // so that the row of a new stripe is made where it is stored
     pub fn add(&mut self, stripe: StripeNo, row: Row)
         ensures { rows_in self.new ≡ λ s. if same_stripe stripe s then Some row else rows_in self.old s }
     {

@@ -1,9 +1,43 @@
-use Rattle.std.proofs.Common.{cond, nat_eq, Option, sym, subst}
+use Rattle.std.proofs.Common.{not, cond, nat_eq, get_or, Option, sym, ap, subst, ◌∙◌}
+use Rattle.std.proofs.lemmas.List.{get_or_default}
 use Rattle.lrc_topology.specs.declared.seat.Seat.{Seat}
+use Rattle.lrc_nodes.proofs.StateLemmas.{no_state}
 use Rattle.lrc_homes.specs.Domains.{AreDomainsOf}
+use Rattle.lrc_homes.specs.Masks.{IsPut}
 use Rattle.lrc_rows.specs.NodeStates.{states_in}
+use Rattle.lrc_rows.specs.Kept.{AreWith}
 use Rattle.lrc_rows.proofs.DomainLemmas.{domains-with, domains-without}
+use Rattle.lrc_rows.proofs.NodeStateLemmas.{found, found-online, found-draining}
 use Rattle.lrc_rows.proofs.node_table.NodeTable.seat.Goals as goal
+
+pub is_offline_at-is_offline-requires : goal.is_offline_at-is_offline-requires
+is_offline_at-is_offline-requires c =
+    (found c.self.inside.nodes c.self.inside.stripes.items c.args.self.now c.self.view_is c.in-Some.seat.node c.position_of-position.result c.position_of-position.ensures).1
+
+pub is_draining_at-is_draining-requires : goal.is_draining_at-is_draining-requires
+is_draining_at-is_draining-requires c =
+    (found c.self.inside.nodes c.self.inside.stripes.items c.args.self.now c.self.view_is c.in-Some.seat.node c.position_of-position.result c.position_of-position.ensures).1
+
+pub returns-in-Some-clause-losses : goal.returns-in-Some-clause-losses
+returns-in-Some-clause-losses c =
+    let states = c.self.inside.nodes in
+    let sets = c.self.inside.stripes.items in
+    let z = states_in c.args.self.now in
+    let n = c.in-Some.seat.node in
+    let p = c.position_of-position.result in
+    let at = c.position_of-position.ensures in
+    let x = get_or states p no_state in
+    let here = sym (get_or_default states p x no_state (found states sets c.args.self.now c.self.view_is n p at).1) in
+    let off = c.is_offline_at-is_offline.ensures no_state ∙ ap not (found-online states sets c.args.self.now c.self.view_is n p at x here) in
+    let drains = c.is_draining_at-is_draining.ensures no_state ∙ found-draining states sets c.args.self.now c.self.view_is n p at x here in
+    let put = c.put.ensures in
+    let f = c.args.fragment.value in
+    subst (λ (o : Option Seat). AreWith z f o c.args.losses c.put.result) (sym c.in-Some.is) (record {
+      code = put.code;
+      homeless = put.homeless;
+      missing = subst (λ b. IsPut f b c.args.losses.missing c.put.result.missing) off put.missing;
+      needs = subst (λ b. IsPut f b c.args.losses.needs c.put.result.needs) drains put.needs;
+    })
 
 pub returns-in-Some-clause-domains : goal.returns-in-Some-clause-domains
 returns-in-Some-clause-domains c = λ homes are.
