@@ -1,5 +1,5 @@
 -- The leases of an image, row by row.
-use Rattle.std.proofs.Common.{[], ◌≡◌, ℕ, ◌+◌, Bool, true, false, ◌&&◌, nat_lt, nat_le, List, ◌∷◌, ◌++◌, Option, Some, None, refl, sym, ap, ◌∙◌}
+use Rattle.std.proofs.Common.{[], ◌≡◌, ℕ, ◌+◌, true, false, ◌&&◌, nat_lt, nat_le, List, ◌∷◌, ◌++◌, None, sym, ap, ◌∙◌}
 use Rattle.std.proofs.lemmas.List.{map-append}
 use Rattle.std.proofs.lemmas.List.Elements.{All-contains}
 use Rattle.lrc_code.specs.declared.numbers.StripeNo.{StripeNo}
@@ -13,29 +13,18 @@ use Rattle.lrc_rules.specs.Leases.{with_lease, term}
 use Rattle.lrc_rules.proofs.TakenLemmas.{member-map}
 use Rattle.lrc_rules.proofs.LookUpLemmas.{stripe-there}
 use Rattle.lrc_rules.proofs.StateLemmas.{lease-none}
-use Rattle.lrc_images.specs.declared.cause.Cause.{Cause}
 use Rattle.lrc_images.specs.declared.cause.Cause.TheVariants as cause
 use Rattle.lrc_images.specs.declared.image.LeaseRow.{LeaseRow}
 use Rattle.lrc_images.specs.declared.image.Image.{Image}
 use Rattle.lrc_images.specs.Images.{earlier, row_lease, image_state}
 use Rattle.lrc_images.specs.Rising.{lease_first}
-use Rattle.lrc_images.specs.Causes.{cause_if, is_out_of_order, lease_cause, with_leases}
+use Rattle.lrc_images.specs.Causes.{is_out_of_order, lease_cause, with_leases}
 use Rattle.lrc_images.proofs.AnswerLemmas.{if-none}
 use Rattle.lrc_images.proofs.RisingLemmas.{other-lease}
 use Rattle.lrc_images.proofs.LawfulLemmas.{lease-row}
 use Rattle.lrc_images.proofs.SeatCauseLemmas.{seat-may}
 use Rattle.lrc_store.specs.declared.store.Store.{Store}
 use Rattle.lrc_store.specs.Stores.{IsOf, MayLease}
-
--- ---- the tests of a row
-
-pub skip : (met : Bool) (c : Cause) (next : Option Cause) → met ≡ false → cause_if met c next ≡ next
-skip false c next miss = refl
-skip true c next miss = absurd (let never : true ≡ false = miss in cc)
-
-pub stop : (met : Bool) (c : Cause) (next : Option Cause) → met ≡ true → cause_if met c next ≡ Some c
-stop true c next hit = refl
-stop false c next hit = absurd (let never : false ≡ true = hit in cc)
 
 -- the stripes and the clock that are kept are those of the image
 module _ (i : Image) (before : List LeaseRow) (k : Store) (kept : IsOf (with_leases i before) k) where

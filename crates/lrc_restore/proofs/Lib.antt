@@ -1,4 +1,3 @@
-pub mod OrderLemmas
 pub mod WalkLemmas
 pub mod RefusalLemmas
 pub mod SeatLemmas

@@ -1,9 +1,7 @@
 -- A store without stripes takes the row of one more node.
-use Rattle.std.proofs.Common.{[], ◌≡◌, ◌≢◌, ◌||◌, ◌&&◌, inl, inr, Bool, true, false, if◌then◌else◌, cond, not, nat_lt, nat_eq, ℕ, List, ◌∷◌, ◌++◌, map, filter, None, refl, sym, ap, ap₂, ◌∙◌, subst, arith}
+use Rattle.std.proofs.Common.{[], ◌≡◌, ◌≢◌, ◌||◌, ◌&&◌, inl, inr, Bool, true, false, if◌then◌else◌, not, List, ◌∷◌, ◌++◌, map, filter, None, refl, sym, ap, ap₂, ◌∙◌, subst, arith}
 use Rattle.std.specs.List.{All, Contains}
-use Rattle.std.specs.Ordering.{nat_cmp, is_lt}
-use Rattle.std.specs.declared.cmp.Ordering.TheVariants.{Less, Equal, Greater}
-use Rattle.std.proofs.lemmas.Bool.{cases_Bool, eqb-true, eq-eqb, ltb-true, lt-ltb, and_from, false_from_ne_true}
+use Rattle.std.proofs.lemmas.Bool.{cases_Bool, eqb-true, eq-eqb, ltb-true, and_from, false_from_ne_true}
 use Rattle.std.proofs.lemmas.List.{map-append}
 use Rattle.std.proofs.lemmas.List.Elements.{All-nil, All-contains, filter-append}
 use Rattle.std.proofs.lemmas.List.Folds.{list_any-append}
@@ -41,19 +39,6 @@ use Rattle.lrc_store.proofs.ModeLemmas.{state-kept}
 use Rattle.lrc_restore.specs.Stages.{with_nodes}
 
 -- ---- order
-
--- the comparison of two numbers
-pub less-than : (a b : ℕ) → is_lt (nat_cmp a b) ≡ nat_lt a b
-less-than a b = by (nat_lt a b) (nat_eq a b) where
-  by : (less same : Bool) → is_lt (cond less Less (cond same Equal Greater)) ≡ less
-  by true same = refl
-  by false true = refl
-  by false false = refl
-
-pub nodes-join : (a b c : NodeRow) → node_first a b ≡ true → node_first b c ≡ true → node_first a c ≡ true
-nodes-join a b c ahead later =
-    let one = ltb-true a.node.value b.node.value ahead in
-    let two = ltb-true b.node.value c.node.value later in lt-ltb a.node.value c.node.value (omega (arith, one, two))
 
 pub in-order : (nodes : List NodeInfo) (before : List NodeRow) (r : NodeRow) → node_cause nodes before r ≡ None → is_out_of_order node_first before r ≡ false
 in-order nodes before r none = (if-none (is_out_of_order node_first before r) cause.OutOfOrder _ none).0

@@ -1,14 +1,24 @@
 -- The first row of an image with a cause refuses it.
-use Rattle.std.proofs.Common.{◌≡◌, ◌∙◌, sym, ap, ℕ, List, Option, Some, None, option_map}
+use Rattle.std.proofs.Common.{◌≡◌, ◌∙◌, refl, sym, ap, ℕ, Bool, true, false, List, Option, Some, None, option_map}
 use Rattle.std.specs.Prelude.{Result, Ok, Err, IfErr}
 use Rattle.std.specs.Option.{option_or}
 use Rattle.lrc_topology.specs.declared.NodeInfo.{NodeInfo}
 use Rattle.lrc_images.specs.declared.cause.Cause.{Cause}
 use Rattle.lrc_images.specs.declared.image.Image.{Image}
-use Rattle.lrc_images.specs.Causes.{first_cause}
+use Rattle.lrc_images.specs.Causes.{cause_if, first_cause}
 use Rattle.lrc_restore.specs.declared.error.BeginError.{BeginError}
 use Rattle.lrc_restore.specs.declared.error.BeginError.TheVariants.{Refused, OutOfMemory}
 use Rattle.lrc_restore.specs.Stages.{head_refusal, nodes_refusal, stripes_refusal, grants_refusal, leases_refusal, IsRefusedBy, IsRefusedAt}
+
+-- ---- the tests of a row
+
+pub skip : (met : Bool) (c : Cause) (next : Option Cause) → met ≡ false → cause_if met c next ≡ next
+skip false c next miss = refl
+skip true c next miss = absurd (let never : true ≡ false = miss in cc)
+
+pub stop : (met : Bool) (c : Cause) (next : Option Cause) → met ≡ true → cause_if met c next ≡ Some c
+stop true c next hit = refl
+stop false c next hit = absurd (let never : false ≡ true = hit in cc)
 
 -- ---- a row
 
@@ -18,12 +28,6 @@ pub refused-here : (o : Option Cause) (rest : Option (ℕ × Cause)) (here posit
 refused-here o rest here position OutOfMemory same by = tt
 refused-here None rest here position (Refused p cause) same by = absurd (cc)
 refused-here (Some c) rest here position (Refused p cause) same by = ap (λ k. Some (k, c)) (sym same) ∙ by
-
--- the cause of the home is the first of its row
-pub refused-home : (o rest : Option Cause) (position : ℕ) (e : BeginError) → IsRefusedAt position o e → IsRefusedAt position (option_or o rest) e
-refused-home o rest position OutOfMemory by = tt
-refused-home None rest position (Refused p cause) by = absurd (cc)
-refused-home (Some c) rest position (Refused p cause) by = by
 
 -- ---- a part of the image
 

@@ -1,12 +1,10 @@
 -- The stripes of an image, added one after the other, and the homes of one of them.
-use Rattle.std.proofs.Common.{[], ◌≡◌, ◌≢◌, ℕ, ◌+◌, ◌-◌, ◌<◌, ◌≤◌, inl, inr, Bool, true, false, not, nat_le, List, ◌∷◌, ◌++◌, flat_map, length, take, drop, get_or, Option, Some, None, IsFalse, sym, ap, ◌∙◌, subst, append_assoc, append-nil, arith}
+use Rattle.std.proofs.Common.{[], ◌≡◌, ◌≢◌, ℕ, ◌+◌, ◌-◌, ◌<◌, ◌≤◌, inl, inr, true, false, List, ◌∷◌, ◌++◌, flat_map, length, take, drop, get_or, Option, Some, None, IsFalse, sym, ap, ◌∙◌, subst, append_assoc, append-nil}
 use Rattle.std.specs.Option.{option_or}
-use Rattle.std.specs.List.{All, AllPairs, Contains, slice_get}
-use Rattle.std.proofs.lemmas.Bool.{cases_Bool, cases_eq, ltb-true, ltb-false, lt-ltb, lt-leb, le-leb, not_from_false}
-use Rattle.std.proofs.lemmas.Option.{slice_get_within, get_or_from_slice_get}
+use Rattle.std.specs.List.{All, AllPairs, Contains}
 use Rattle.std.proofs.lemmas.List.{take_more, drop_more, take_all, drop_all, take-append-drop}
 use Rattle.std.proofs.lemmas.List.Concat.{flat_map-append}
-use Rattle.std.proofs.lemmas.List.Elements.{All-contains, All-weaker, Contains-get_or, Contains-append_cases}
+use Rattle.std.proofs.lemmas.List.Elements.{All-contains, All-weaker, Contains-append_cases}
 use Rattle.lrc_code.specs.declared.codes.Code.{Code}
 use Rattle.lrc_code.specs.declared.codes.Code.TheVariants.{Wide}
 use Rattle.lrc_code.specs.declared.numbers.StripeNo.{StripeNo}
@@ -23,7 +21,6 @@ use Rattle.lrc_stripes.specs.Tables.{stored_in}
 use Rattle.lrc_rules.specs.States.{State, has_stripe}
 use Rattle.lrc_rules.specs.Placement.{with_home}
 use Rattle.lrc_rules.specs.Steps.{with_stripe}
-use Rattle.lrc_rules.proofs.MemberLemmas.{list_any-member}
 use Rattle.lrc_rules.proofs.AlikeListLemmas.{flat-member}
 use Rattle.lrc_rules.proofs.StateLemmas.{held_on, home-none, none-home}
 use Rattle.lrc_rules.proofs.SeatingLemmas.{fragments-distinct}
@@ -33,56 +30,14 @@ use Rattle.lrc_images.specs.declared.image.StripeRow.{StripeRow}
 use Rattle.lrc_images.specs.declared.image.Image.{Image}
 use Rattle.lrc_images.specs.declared.cause.Cause.{Cause}
 use Rattle.lrc_images.specs.Images.{home_list, row_homes}
-use Rattle.lrc_images.specs.Rising.{stripe_first, IsRising}
+use Rattle.lrc_images.specs.Rising.{stripe_first}
 use Rattle.lrc_images.specs.Causes.{first_answer, is_out_of_order, seat_cause, with_homes}
-use Rattle.lrc_images.proofs.AnswerLemmas.{comes-after, after-comes, earlier-pairs}
+use Rattle.lrc_images.proofs.AnswerLemmas.{comes-after, earlier-pairs}
 use Rattle.lrc_images.proofs.RisingLemmas.{other-stripe, homes_at, home-own}
 use Rattle.lrc_images.proofs.SeatedRowsLemmas.{homes_in, row-absent, row-is}
 use Rattle.lrc_store.specs.declared.store.Store.{Store}
 use Rattle.lrc_store.specs.Stores.{IsOf}
 use Rattle.lrc_store.proofs.StoredLemmas.{own-spare, stored-stripe}
-use Rattle.lrc_restore.specs.declared.error.BeginError.{BeginError}
-use Rattle.lrc_restore.specs.Stages.{IsRefusedAt}
-use Rattle.lrc_restore.proofs.RefusalLemmas.{refused-home}
-
--- ---- the order of the rows
-
--- the last of rising rows
-module _ (before : List StripeRow) (last r : StripeRow) (rising : IsRising stripe_first before) (is : slice_get before (length before - 1) ≡ Some last) where
-  -- its position
-  abbrev final : ℕ
-  final = length before - 1
-
-  within : length before - 1 < length before
-  within = slice_get_within before final last is
-
-  here : (d : StripeRow) → get_or before final d ≡ last
-  here d = get_or_from_slice_get before final last d is
-
-  -- a row that comes after it comes after each
-  each-first : stripe_first last r ≡ true → All (λ b. stripe_first b r ≡ true) before
-  each-first hit = λ k d low. elim (cases_eq k final) [
-    | inl same ↦ rw (same, here d) hit
-    | inr other ↦
-        let more : stripe_first (get_or before k d) last ≡ true = rw (here d) at (rising k final d (omega (arith, low, other, within)) within) in
-        let one = ltb-true (get_or before k d).stripe.value last.stripe.value more in
-        let two = ltb-true last.stripe.value r.stripe.value hit in
-        lt-ltb (get_or before k d).stripe.value r.stripe.value (omega (arith, one, two))
-  ]
-
-  last-there : Contains before last
-  last-there = subst (Contains before) (here last) (Contains-get_or before final last within)
-
-  -- a row is out of order exactly if it does not come after the last
-  pub order-last : is_out_of_order stripe_first before r ≡ nat_le r.stripe.value last.stripe.value
-  order-last = elim (cases_Bool (stripe_first last r)) [
-    | inl hit ↦
-        after-comes stripe_first before r (each-first hit)
-        ∙ sym (lt-leb r.stripe.value last.stripe.value (ltb-true last.stripe.value r.stripe.value hit))
-    | inr miss ↦
-        list_any-member (λ b. not (stripe_first b r)) before last last-there (not_from_false (stripe_first last r) miss)
-        ∙ sym (le-leb r.stripe.value last.stripe.value (ltb-false last.stripe.value r.stripe.value miss))
-  ]
 
 -- ---- a new stripe
 
@@ -191,12 +146,9 @@ module _ (r : StripeRow) (i : ℕ) (d : Fragment) (low : i < length (fragments W
           some-here ∙ ap (λ (o : Option Cause). option_or o others) none
           ∙ ap (λ (hs : List Held). first_answer asks hs (homes_from r (i + 1))) (sym some-to)
 
-      -- what is refused by its cause is refused by the first
-      pub some-refused : (position : ℕ) (e : BeginError) → IsRefusedAt position (asks (homes_to r i) (held_on r.stripe f seat)) e
-          → IsRefusedAt position (first_answer asks [] (row_homes r)) e
-      some-refused position e by =
-          subst (λ (o : Option Cause). IsRefusedAt position o e) (sym some-here)
-          (refused-home (asks (homes_to r i) (held_on r.stripe f seat)) others position e by)
+      -- its cause is the first, if it has one
+      pub some-first : (cause : Cause) → asks (homes_to r i) (held_on r.stripe f seat) ≡ Some cause → first_answer asks [] (row_homes r) ≡ Some cause
+      some-first cause some = some-here ∙ ap (λ (o : Option Cause). option_or o others) some
 
   -- no home of the first fragments is the next one's
   to-other : (seat : Seat) → ¬ (Contains (homes_to r i) (held_on r.stripe f seat))

@@ -23,6 +23,17 @@ with_nodes i rows =
       clock = i.clock;
     }
 
+-- ---- the positions of the first rows of the lists; those of the nodes are counted from 1
+
+abbrev pub stripes_from : Image → ℕ
+stripes_from i = 1 + length i.nodes.items
+
+abbrev pub grants_from : Image → ℕ
+grants_from i = stripes_from i + length i.stripes.items
+
+abbrev pub leases_from : Image → ℕ
+leases_from i = grants_from i + length i.grants.items
+
 -- ---- the first cause of each part, with the position of its row
 
 abbrev pub head_refusal : List NodeInfo → Image → Option (ℕ × Cause)
@@ -32,14 +43,13 @@ abbrev pub nodes_refusal : List NodeInfo → Image → Option (ℕ × Cause)
 nodes_refusal nodes i = first_answer (at_place 1 (node_cause nodes)) [] i.nodes.items
 
 abbrev pub stripes_refusal : List NodeInfo → Image → Option (ℕ × Cause)
-stripes_refusal nodes i = first_answer (at_place (1 + length i.nodes.items) (stripe_cause nodes i)) [] i.stripes.items
+stripes_refusal nodes i = first_answer (at_place (stripes_from i) (stripe_cause nodes i)) [] i.stripes.items
 
 abbrev pub grants_refusal : Image → Option (ℕ × Cause)
-grants_refusal i = first_answer (at_place (1 + length i.nodes.items + length i.stripes.items) grant_cause) [] i.grants.items
+grants_refusal i = first_answer (at_place (grants_from i) grant_cause) [] i.grants.items
 
 abbrev pub leases_refusal : List NodeInfo → Image → Option (ℕ × Cause)
-leases_refusal nodes i =
-    first_answer (at_place (1 + length i.nodes.items + length i.stripes.items + length i.grants.items) (lease_cause nodes i)) [] i.leases.items
+leases_refusal nodes i = first_answer (at_place (leases_from i) (lease_cause nodes i)) [] i.leases.items
 
 -- this row and this cause are the first; of want of memory nothing is said
 abbrev pub IsRefusedBy : Option (ℕ × Cause) → BeginError → Type 0

@@ -11,6 +11,24 @@ pub enum BeginError {
     OutOfMemory,
 }
 
+/// The first row that is wrong, by its position, and why.
+#[derive(Clone, Copy)]
+pub(crate) struct RefusedRow {
+    pub(crate) position: usize,
+    pub(crate) cause: Cause,
+}
+
+impl From<RefusedRow> for BeginError {
+    ghost use Rattle.std.specs.Prelude.{◌≡◌};
+    ghost use Rattle.lrc_restore.specs.declared.error.BeginError.TheVariants.{Refused};
+
+    ghost from_gives = { λ row e. e ≡ Refused row.position row.cause };
+
+    fn from(row: RefusedRow) -> BeginError {
+        BeginError::Refused(row.position, row.cause)
+    }
+}
+
 impl From<AllocError> for BeginError {
     ghost use Rattle.std.specs.Prelude.{◌≡◌};
     ghost use Rattle.lrc_restore.specs.declared.error.BeginError.TheVariants.{OutOfMemory};

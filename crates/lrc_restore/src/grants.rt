@@ -1,4 +1,4 @@
-ghost use Rattle.std.specs.Prelude.{◌≡◌, ◌+◌, ℕ, length, get_or, if◌then◌else◌, nat_lt, None, Some, IfErr, OnOk, IsOk, IfSome};
+ghost use Rattle.std.specs.Prelude.{◌≡◌, get_or, if◌then◌else◌, nat_lt, None, Some, IfErr, OnOk, IsOk};
 ghost use Rattle.std.specs.List.{list_any};
 ghost use Rattle.lrc_code.specs.declared.codes.Code.TheVariants.{Wide};
 ghost use Rattle.lrc_code.specs.declared.numbers.StripeNo.{StripeNo};
@@ -8,26 +8,29 @@ ghost use Rattle.lrc_code.specs.Codes.{fragments};
 ghost use Rattle.lrc_leases.specs.Granted.{none_granted, granted_in};
 ghost use Rattle.lrc_images.specs.Images.{earlier};
 ghost use Rattle.lrc_images.specs.Rising.{grant_first, IsRising};
-ghost use Rattle.lrc_images.specs.Causes.{is_out_of_order, grant_cause};
+ghost use Rattle.lrc_images.specs.Causes.{grant_cause};
 ghost use Rattle.lrc_store.specs.Stores.{AreGrantsOf};
-ghost use Rattle.lrc_restore.specs.Stages.{grants_refusal, IsRefusedBy};
+ghost use Rattle.lrc_restore.specs.Stages.{grants_refusal};
 
-use crate::BeginError;
+use crate::error::RefusedRow;
+use crate::order::{Ordered, is_out_of_order};
+use crate::position::grants_from;
 use lrc_code::{FRAGMENTS, Fragment};
 use lrc_images::{Cause, GrantRow, Image, MOST_GRANTS};
 use lrc_leases::Grants;
 
 /// Sets the counts of an image.
-pub(crate) fn restore_grants(grants: &mut Grants, image: &Image) -> Result<(), BeginError>
+pub(crate) fn restore_grants(grants: &mut Grants, image: &Image) -> Result<(), RefusedRow>
     requires { granted_in grants.old ≡ none_granted }
     ensures kept { OnOk result (AreGrantsOf (earlier image.now.grants.items) grants.new) }
     ensures lawful { IsOk result → grants_refusal image.now ≡ None }
-    ensures refused { IfErr result (IsRefusedBy (grants_refusal image.now)) }
+    ensures refused { IfErr result (λ r. grants_refusal image.now ≡ Some (r.position, r.cause)) }
 {
     let rows = image.grants.as_slice();
     for (index, row) in rows.iter().enumerate() {
         if let Some(cause) = grant_cause(&rows[..index], row) {
-            return Err(refused(image, index, cause));
+            let position = grants_from(image) + index;
+            return Err(RefusedRow { position, cause });
         }
         set_counts(grants, row);
     }
@@ -51,15 +54,17 @@ fn grant_cause(before: &[GrantRow], row: &GrantRow) -> Option<Cause>
     None
 }
 
-/// Whether a row does not come after these rows, which rise.
-fn is_out_of_order(before: &[GrantRow], row: &GrantRow) -> bool
-    requires { IsRising grant_first before.now }
-    ensures { result ≡ is_out_of_order grant_first before.now row.now }
-{
-    match before.last() {
-        Some(last) => last.stripe >= row.stripe,
-        None => false,
+impl Ordered for GrantRow {
+    ghost use Rattle.std.proofs.Common.{rules};
+    ghost use Rattle.std.proofs.lemmas.Grind.{common_steps};
+
+    ghost first = { grant_first };
+
+    fn comes_before(&self, other: &GrantRow) -> bool {
+        self.stripe.value < other.stripe.value
     }
+
+    ghost joins = { Prim.search (rules, common_steps) };
 }
 
 /// Whether a count is above a bound.
@@ -79,22 +84,4 @@ fn set_counts(grants: &mut Grants, row: &GrantRow)
     for fragment in Fragment::all() {
         grants.set(row.stripe, fragment, row.granted[fragment.value as usize]);
     }
-}
-
-/// Refuses the row of grants at an index.
-fn refused(image: &Image, index: usize, cause: Cause) -> BeginError
-    ensures { IsRefusedBy (Some (1 + length image.now.nodes.items + length image.now.stripes.items + index, cause)) result }
-{
-    match position(image, index) {
-        Some(position) => BeginError::Refused(position, cause),
-        None => BeginError::OutOfMemory,
-    }
-}
-
-/// The position of the row of grants at an index; `None` if it is no `usize`.
-fn position(image: &Image, index: usize) -> Option<usize>
-    ensures { IfSome result (λ p. p ≡ 1 + length image.now.nodes.items + length image.now.stripes.items + index) }
-{
-    let before = image.nodes.len().checked_add(image.stripes.len())?;
-    before.checked_add(index)?.checked_add(1)
 }

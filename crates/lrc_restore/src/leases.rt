@@ -1,14 +1,16 @@
-ghost use Rattle.std.specs.Prelude.{◌≡◌, ◌+◌, ◌&&◌, nat_lt, nat_le, length, List, [], None, Some, IfErr, OnOk, IsOk, IfSome};
+ghost use Rattle.std.specs.Prelude.{◌≡◌, ◌+◌, ◌&&◌, nat_lt, nat_le, List, [], None, IfErr, OnOk, IsOk};
 ghost use Rattle.lrc_rules.specs.Leases.{term};
 ghost use Rattle.lrc_images.specs.declared.image.Image.{Image};
 ghost use Rattle.lrc_images.specs.Images.{earlier, image_state, row_lease};
 ghost use Rattle.lrc_images.specs.Rising.{lease_first, IsRising};
-ghost use Rattle.lrc_images.specs.Causes.{is_out_of_order, lease_cause, with_leases};
+ghost use Rattle.lrc_images.specs.Causes.{lease_cause, with_leases};
 ghost use Rattle.lrc_rules.specs.declared.entry.Entry.{Entry};
 ghost use Rattle.lrc_store.specs.Stores.{IsOf, IsTied, AreGrantsOf};
 ghost use Rattle.lrc_restore.specs.Stages.{leases_refusal, IsRefusedBy};
 
 use crate::BeginError;
+use crate::order::{Ordered, is_out_of_order};
+use crate::position::leases_from;
 use crate::seats::seat_refusal;
 use lrc_images::{Cause, Image, LeaseRow};
 use lrc_leases::Grants;
@@ -31,7 +33,8 @@ pub(crate) fn restore_leases(
     let rows = image.leases.as_slice();
     for (index, row) in rows.iter().enumerate() {
         if let Some(cause) = lease_cause(store, grants, &rows[..index], row) {
-            return Err(refused(image, index, cause));
+            let position = leases_from(image) + index;
+            return Err(BeginError::Refused(position, cause));
         }
         store.reserve()?;
         store.add_lease(&lease_of(grants, row));
@@ -68,23 +71,18 @@ fn is_running(store: &Store, expiry: u32) -> bool
     store.clock.get() < expiry && expiry <= store.clock.end_of_term()
 }
 
-/// Whether a row does not come after these rows, which rise.
-fn is_out_of_order(before: &[LeaseRow], row: &LeaseRow) -> bool
-    requires { IsRising lease_first before.now }
-    ensures { result ≡ is_out_of_order lease_first before.now row.now }
-{
-    match before.last() {
-        Some(last) => !comes_before(last, row),
-        None => false,
-    }
-}
+impl Ordered for LeaseRow {
+    ghost use Rattle.std.proofs.Common.{rules};
+    ghost use Rattle.std.proofs.lemmas.Grind.{common_steps};
 
-/// Whether a row comes before another one.
-fn comes_before(row: &LeaseRow, other: &LeaseRow) -> bool
-    ensures { result ≡ lease_first row.now other.now }
-{
-    row.stripe.value < other.stripe.value
-        || row.stripe.value == other.stripe.value && row.fragment.value < other.fragment.value
+    ghost first = { lease_first };
+
+    fn comes_before(&self, other: &LeaseRow) -> bool {
+        self.stripe.value < other.stripe.value
+            || self.stripe.value == other.stripe.value && self.fragment.value < other.fragment.value
+    }
+
+    ghost joins = { Prim.search (rules, common_steps) };
 }
 
 /// The lease of a row. Its epoch is the count of its fragment.
@@ -99,23 +97,4 @@ fn lease_of(grants: &Grants, row: &LeaseRow) -> Lease
         epoch: grants.count(row.stripe, row.fragment),
         expiry: row.expiry,
     }
-}
-
-/// Refuses the row of a lease at an index.
-fn refused(image: &Image, index: usize, cause: Cause) -> BeginError
-    ensures { IsRefusedBy (Some (1 + length image.now.nodes.items + length image.now.stripes.items + length image.now.grants.items + index, cause)) result }
-{
-    match position(image, index) {
-        Some(position) => BeginError::Refused(position, cause),
-        None => BeginError::OutOfMemory,
-    }
-}
-
-/// The position of the row of a lease at an index; `None` if it is no `usize`.
-fn position(image: &Image, index: usize) -> Option<usize>
-    ensures { IfSome result (λ p. p ≡ 1 + length image.now.nodes.items + length image.now.stripes.items + length image.now.grants.items + index) }
-{
-    let before = image.nodes.len().checked_add(image.stripes.len())?;
-    let before = before.checked_add(image.grants.len())?;
-    before.checked_add(index)?.checked_add(1)
 }

@@ -10,7 +10,9 @@ mod grants;
 mod head;
 mod leases;
 mod nodes;
+mod order;
 mod parts;
+mod position;
 mod seats;
 mod stripes;
 

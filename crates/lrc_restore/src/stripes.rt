@@ -1,6 +1,6 @@
 //! The stripes of an image.
 
-ghost use Rattle.std.specs.Prelude.{◌≡◌, ℕ, ◌∷◌, ◌++◌, [], flat_map, None, IfErr, OnOk, IsOk, IsTrue, IsFalse};
+ghost use Rattle.std.specs.Prelude.{◌≡◌, ℕ, ◌∷◌, ◌++◌, [], flat_map, Some, None, IfErr, OnOk, IsOk, IsTrue, IsFalse};
 ghost use Rattle.lrc_stripes.specs.Tables.{stored_in};
 ghost use Rattle.lrc_rules.specs.States.{State};
 ghost use Rattle.lrc_rules.specs.Placement.{with_home};
@@ -9,12 +9,13 @@ ghost use Rattle.lrc_bars.specs.Ties.{with_homes as with_more};
 ghost use Rattle.lrc_images.specs.declared.image.Image.{Image as AnyImage};
 ghost use Rattle.lrc_images.specs.Images.{row_homes};
 ghost use Rattle.lrc_images.specs.Rising.{stripe_first, IsRising};
-ghost use Rattle.lrc_images.specs.Causes as causes;
 ghost use Rattle.lrc_images.specs.Causes.{first_answer, seat_cause, stripe_cause, with_homes};
 ghost use Rattle.lrc_store.specs.Stores.{IsOf, IsTied};
 ghost use Rattle.lrc_restore.specs.Stages.{stripes_refusal, IsRefusedBy, IsRefusedAt};
 
 use crate::BeginError;
+use crate::order::{Ordered, is_out_of_order};
+use crate::position::stripes_from;
 use crate::seats::seat_refusal;
 use lrc_code::{Code, Fragment, StripeNo};
 use lrc_images::{Cause, Image, StripeRow};
@@ -31,7 +32,7 @@ pub(crate) fn restore_stripes(store: &mut Store, image: &Image) -> Result<(), Be
 {
     let rows = image.stripes.as_slice();
     for (i, row) in rows.iter().enumerate() {
-        let position = 1 + image.nodes.len() + i;
+        let position = stripes_from(image) + i;
         restore_stripe(store, &rows[..i], row, position)?;
     }
     Ok(())
@@ -58,18 +59,23 @@ fn restore_stripe(
         return Err(BeginError::Refused(position, Cause::OutOfOrder));
     }
     add_stripe(store, row.code, row.stripe)?;
-    restore_homes(store, row, position)
+    match restore_homes(store, row) {
+        Ok(()) => Ok(()),
+        Err(cause) => Err(BeginError::Refused(position, cause)),
+    }
 }
 
-/// Reports whether a row does not come after all rows before it. These are in order.
-fn is_out_of_order(before: &[StripeRow], row: &StripeRow) -> bool
-    requires { IsRising stripe_first before.now }
-    ensures { result ≡ causes.is_out_of_order stripe_first before.now row.now }
-{
-    match before.last() {
-        Some(last) => last.stripe.value >= row.stripe.value,
-        None => false,
+impl Ordered for StripeRow {
+    ghost use Rattle.std.proofs.Common.{rules};
+    ghost use Rattle.std.proofs.lemmas.Grind.{common_steps};
+
+    ghost first = { stripe_first };
+
+    fn comes_before(&self, other: &StripeRow) -> bool {
+        self.stripe.value < other.stripe.value
     }
+
+    ghost joins = { Prim.search (rules, common_steps) };
 }
 
 /// Adds a stripe without homes. The store must not have it.
@@ -91,7 +97,7 @@ fn add_stripe(store: &mut Store, code: Code, stripe: StripeNo) -> Result<(), Beg
 }
 
 /// Gives the fragments of a row their homes. The store must have the stripe, without homes.
-fn restore_homes(store: &mut Store, row: &StripeRow, position: usize) -> Result<(), BeginError>
+fn restore_homes(store: &mut Store, row: &StripeRow) -> Result<(), Cause>
     requires tied { IsTied store.old }
     requires there { IsTrue ((stored_in store.old.stripes).stripes row.now.stripe) }
     requires bare { (f : ℕ) → (stored_in store.old.stripes).homes row.now.stripe f ≡ None }
@@ -100,11 +106,11 @@ fn restore_homes(store: &mut Store, row: &StripeRow, position: usize) -> Result<
     ensures lawful { IsOk result → (st : State) → IsOf st store.old
         → first_answer (λ homes h. seat_cause store.old.topology (with_more st homes) h) [] (row_homes row.now) ≡ None }
     ensures refused { IfErr result (λ e. (st : State) → IsOf st store.old
-        → IsRefusedAt position (first_answer (λ homes h. seat_cause store.old.topology (with_more st homes) h) [] (row_homes row.now)) e) }
+        → first_answer (λ homes h. seat_cause store.old.topology (with_more st homes) h) [] (row_homes row.now) ≡ Some e) }
 {
     for fragment in Fragment::all().iter() {
         if let Some(seat) = row.homes[fragment.value as usize] {
-            restore_home(store, row.stripe, *fragment, seat, position)?;
+            restore_home(store, row.stripe, *fragment, seat)?;
         }
     }
     Ok(())
@@ -116,8 +122,7 @@ fn restore_home(
     stripe: StripeNo,
     fragment: Fragment,
     seat: Seat,
-    position: usize,
-) -> Result<(), BeginError>
+) -> Result<(), Cause>
     requires tied { IsTied store.old }
     requires there { IsTrue ((stored_in store.old.stripes).stripes stripe) }
     requires homeless { (stored_in store.old.stripes).homes stripe fragment.value ≡ None }
@@ -126,10 +131,10 @@ fn restore_home(
     ensures lawful { IsOk result → (st : State) → IsOf st store.old
         → seat_cause store.old.topology st (record { stripe = stripe; fragment = fragment; seat = seat }) ≡ None }
     ensures refused { IfErr result (λ e. (st : State) → IsOf st store.old
-        → IsRefusedAt position (seat_cause store.old.topology st (record { stripe = stripe; fragment = fragment; seat = seat })) e) }
+        → seat_cause store.old.topology st (record { stripe = stripe; fragment = fragment; seat = seat }) ≡ Some e) }
 {
     if let Some(cause) = seat_refusal(store, stripe, fragment, seat) {
-        return Err(BeginError::Refused(position, cause));
+        return Err(cause);
     }
     store.table.take_slot(seat.node, seat.slot);
     store.stripes.set_home(stripe, fragment, seat);

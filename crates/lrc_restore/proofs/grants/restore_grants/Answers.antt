@@ -7,7 +7,7 @@ use Rattle.lrc_images.specs.Rising.{grant_first}
 use Rattle.lrc_images.specs.Causes.{first_answer, at_place, grant_cause}
 use Rattle.lrc_images.proofs.AnswerLemmas.{none-map}
 use Rattle.lrc_store.specs.Stores.{AreGrantsOf}
-use Rattle.lrc_restore.specs.Stages.{IsRefusedBy}
+use Rattle.lrc_restore.specs.Stages.{grants_from}
 use Rattle.lrc_restore.proofs.WalkLemmas.{from-next, from-found, rising-next}
 use Rattle.lrc_restore.proofs.GrantLemmas.{grant-ordered, grants-more}
 use Rattle.lrc_restore.proofs.grants.restore_grants.Goals as goal
@@ -18,7 +18,7 @@ returns-in-Some-clause-refused c =
     let rows = c.as_slice-rows.result.now in
     let i = c.loop-index.index in
     let row = c.index-rows-index.result in
-    let place = 1 + length image.nodes.items + length image.stripes.items in
+    let place = grants_from image in
     let within : i < length rows = c.loop-index-test.true in
     let cause : grant_cause (take i rows) (get_or rows i row) ≡ Some c.in-Some.cause =
     ap (grant_cause (take i rows)) (sym c.index-rows-index.is) ∙ sym c.grant_cause.ensures ∙ c.in-Some.is in
@@ -26,8 +26,8 @@ returns-in-Some-clause-refused c =
     ap (option_map (λ (k : Cause). (place + length (take i rows), k))) cause
     ∙ ap (λ n. Some (place + n, c.in-Some.cause)) (length-take-le i rows (omega (arith, within))) in
     let found = from-found (at_place place grant_cause) rows i row within (place + i, c.in-Some.cause) some c.loop-index.invariant.from in
-    subst (λ o. IsRefusedBy o c.refused.result)
-    (sym found ∙ ap (first_answer (at_place place grant_cause) []) c.as_slice-rows.ensures.value) c.refused.ensures
+    sym (ap (first_answer (at_place place grant_cause) []) c.as_slice-rows.ensures.value) ∙ found
+    ∙ ap (λ n. Some (n + i, c.in-Some.cause)) (sym c.grants_from.ensures.is)
 
 pub loop-index-preserved : goal.loop-index-preserved
 loop-index-preserved c =
@@ -37,7 +37,7 @@ loop-index-preserved c =
     let before = take i rows in
     let row = c.index-rows-index.result in
     let was = c.loop-index.invariant in
-    let place = 1 + length image.nodes.items + length image.stripes.items in
+    let place = grants_from image in
     let within : i < length rows = c.loop-index-test.true in
     let is = c.index-rows-index.is in
     let none = sym c.grant_cause.ensures ∙ c.in_default.is in

@@ -6,7 +6,8 @@ use Rattle.lrc_images.specs.declared.cause.Cause.TheVariants as cause
 use Rattle.lrc_images.specs.Images.{earlier, image_state}
 use Rattle.lrc_images.specs.Rising.{lease_first}
 use Rattle.lrc_images.specs.Causes.{is_out_of_order, with_leases}
-use Rattle.lrc_restore.proofs.LeaseLemmas.{skip, stop, there-is, running-is}
+use Rattle.lrc_restore.proofs.RefusalLemmas.{skip, stop}
+use Rattle.lrc_restore.proofs.LeaseLemmas.{there-is, running-is}
 use Rattle.lrc_restore.proofs.leases.lease_cause.Goals as goal
 
 pub returns-then-count-eq0 : goal.returns-then-count-eq0

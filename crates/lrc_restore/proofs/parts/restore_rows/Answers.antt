@@ -1,6 +1,7 @@
 use Rattle.std.proofs.Common.{◌≡◌, List, None, refl, subst, ◌∙◌}
 use Rattle.std.proofs.lemmas.Result.{err_from_is_err_and}
 use Rattle.lrc_topology.specs.declared.NodeInfo.{NodeInfo}
+use Rattle.lrc_restore.specs.declared.error.BeginError.TheVariants.{Refused}
 use Rattle.lrc_restore.specs.Stages.{nodes_refusal, stripes_refusal, leases_refusal, IsRefusedBy}
 use Rattle.lrc_images.specs.Causes.{first_cause}
 use Rattle.lrc_restore.proofs.RefusalLemmas.{head-first, nodes-first, stripes-first, grants-first, leases-first, all-lawful, if-err}
@@ -11,7 +12,8 @@ returns-in_err-restore_head-clause-refused c =
     let nodes = c.args.store.now.topology in
     let i = c.args.image.now in
     let p = err_from_is_err_and c.from_residual.result c.from_residual.ensures.1 in
-    let e = c.in_err-restore_head.field-0.0 in
+    let row = c.in_err-restore_head.field-0.0 in
+    let e = Refused row.position row.cause in
     rw (p.1, p.2) (head-first nodes i e c.in_err-restore_head.ensures.refused)
 
 pub returns-in_err-restore_nodes-clause-refused : goal.returns-in_err-restore_nodes-clause-refused
@@ -21,7 +23,8 @@ returns-in_err-restore_nodes-clause-refused c =
     let head = c.in_ok-restore_head.ensures.lawful refl in
     let one = c.restore_head.ensures.nodes in
     let p = err_from_is_err_and c.from_residual-in_err-restore_nodes.result c.from_residual-in_err-restore_nodes.ensures.1 in
-    let e = c.in_err-restore_nodes.field-0.0 in
+    let row = c.in_err-restore_nodes.field-0.0 in
+    let e = Refused row.position row.cause in
     rw (p.1, p.2) (nodes-first nodes i head e (subst (λ (ns : List NodeInfo). IsRefusedBy (nodes_refusal ns i) e) one c.in_err-restore_nodes.ensures.refused))
 
 pub returns-in_err-restore_stripes-clause-refused : goal.returns-in_err-restore_stripes-clause-refused
@@ -46,7 +49,8 @@ returns-in_err-restore_grants-clause-refused c =
     let two = c.restore_nodes.ensures.nodes ∙ one in
     let stripe_rows = subst (λ (ns : List NodeInfo). stripes_refusal ns i ≡ None) two (c.in_ok-restore_stripes.ensures.lawful refl) in
     let p = err_from_is_err_and c.from_residual-in_err-restore_grants.result c.from_residual-in_err-restore_grants.ensures.1 in
-    let e = c.in_err-restore_grants.field-0.0 in
+    let row = c.in_err-restore_grants.field-0.0 in
+    let e = Refused row.position row.cause in
     rw (p.1, p.2) (grants-first nodes i head node_rows stripe_rows e c.in_err-restore_grants.ensures.refused)
 
 pub returns-clause-lawful : goal.returns-clause-lawful

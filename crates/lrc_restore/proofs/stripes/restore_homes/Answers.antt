@@ -14,8 +14,7 @@ use Rattle.lrc_bars.specs.Ties.{with_homes as with_more}
 use Rattle.lrc_images.specs.Causes.{seat_cause}
 use Rattle.lrc_store.specs.declared.store.Store.{Store}
 use Rattle.lrc_store.specs.Stores.{IsOf}
-use Rattle.lrc_restore.specs.Stages.{IsRefusedAt}
-use Rattle.lrc_restore.proofs.StripeLemmas.{homes_to, next-bare, none-to, none-clear, some-state, some-clear, some-refused, done-to, done-clear}
+use Rattle.lrc_restore.proofs.StripeLemmas.{homes_to, next-bare, none-to, none-clear, some-state, some-clear, some-first, done-to, done-clear}
 use Rattle.lrc_restore.proofs.stripes.restore_homes.Goals as goal
 use Rattle.lrc_restore.proofs.stripes.restore_homes.Goals.{in-Some+in_ok-restore_home, in_default}
 
@@ -43,9 +42,9 @@ returns-in_err-restore_home-clause-refused c =
     let e = c.in_err-restore_home.field-0.0 in
     let p = err_from_is_err_and c.from_residual.result c.from_residual.ensures.1 in
     rw (p.1, p.2) (λ st kept.
-    some-refused r i d c.loop-fragment-test.true seat some nodes st (so_far.clear st kept) c.args.position e
-    (subst (λ (fs : List Fragment). IsRefusedAt c.args.position (seat_cause nodes (with_more st (homes_to r i)) (held_on r.stripe (get_or fs i d) seat)) e) so_far.all
-    (subst (λ (ns : List NodeInfo). IsRefusedAt c.args.position (seat_cause ns (with_more st (homes_to r i)) (held_on r.stripe (get_or c.all.result i d) seat)) e) so_far.nodes
+    some-first r i d c.loop-fragment-test.true seat some nodes st (so_far.clear st kept) e
+    (subst (λ (fs : List Fragment). seat_cause nodes (with_more st (homes_to r i)) (held_on r.stripe (get_or fs i d) seat) ≡ Some e) so_far.all
+    (subst (λ (ns : List NodeInfo). seat_cause ns (with_more st (homes_to r i)) (held_on r.stripe (get_or c.all.result i d) seat) ≡ Some e) so_far.nodes
     (c.in_err-restore_home.ensures.refused (with_more st (homes_to r i)) (so_far.kept st kept)))))
 
 pub loop-fragment-preserved : goal.loop-fragment-preserved

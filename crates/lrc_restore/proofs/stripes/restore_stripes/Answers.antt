@@ -10,7 +10,7 @@ use Rattle.lrc_images.specs.Rising.{stripe_first}
 use Rattle.lrc_images.specs.Causes.{first_answer, at_place, is_out_of_order, homes_cause, stripe_cause, with_homes}
 use Rattle.lrc_images.proofs.AnswerLemmas.{if-none, none-map}
 use Rattle.lrc_store.specs.Stores.{IsOf}
-use Rattle.lrc_restore.specs.Stages.{IsRefusedBy, IsRefusedAt}
+use Rattle.lrc_restore.specs.Stages.{stripes_from, IsRefusedBy, IsRefusedAt}
 use Rattle.lrc_restore.proofs.WalkLemmas.{from-here, from-next, rising-next}
 use Rattle.lrc_restore.proofs.RefusalLemmas.{refused-here}
 use Rattle.lrc_restore.proofs.stripes.restore_stripes.Goals as goal
@@ -24,18 +24,19 @@ returns-in_err-restore_stripe-clause-refused c =
     let within = c.loop-i-test.true in
     let nodes = c.args.store.now.topology in
     let image = c.args.image.now in
-    let place = 1 + length image.nodes.items in
+    let place = stripes_from image in
     let ask = at_place place (stripe_cause nodes image) in
     let e = c.in_err-restore_stripe.field-0.0 in
     let long = length-take-le i rows (omega arith) in
-    let same : 1 + c.len.result + i ≡ place + length (take i rows) = omega (arith, long, c.len.ensures) in
+    let position = c.stripes_from.result + i in
+    let same : position ≡ place + length (take i rows) = omega (arith, long, c.stripes_from.ensures.is) in
     let p = err_from_is_err_and c.from_residual.result c.from_residual.ensures.1 in
     rw (p.1, p.2)
     (subst (λ (xs : List StripeRow). IsRefusedBy (first_answer ask [] xs) e) c.as_slice-rows.ensures.value
     (subst (λ (o : Option (ℕ × Cause)). IsRefusedBy o e) (sym (from-here ask rows i d within so_far.clear))
-    (refused-here (stripe_cause nodes image (take i rows) (get_or rows i d)) _ (place + length (take i rows)) (1 + c.len.result + i) e same
-    (subst (λ (ns : List NodeInfo). IsRefusedAt (1 + c.len.result + i) (stripe_cause ns image (take i rows) (get_or rows i d)) e) so_far.nodes
-    (subst (λ (r : StripeRow). IsRefusedAt (1 + c.len.result + i) (stripe_cause c.loop-i.store.topology image (take i rows) r) e) c.index-rows-i.is
+    (refused-here (stripe_cause nodes image (take i rows) (get_or rows i d)) _ (place + length (take i rows)) position e same
+    (subst (λ (ns : List NodeInfo). IsRefusedAt position (stripe_cause ns image (take i rows) (get_or rows i d)) e) so_far.nodes
+    (subst (λ (r : StripeRow). IsRefusedAt position (stripe_cause c.loop-i.store.topology image (take i rows) r) e) c.index-rows-i.is
     (c.in_err-restore_stripe.ensures.refused image so_far.kept))))))
 
 pub loop-i-preserved : goal.loop-i-preserved
@@ -48,7 +49,7 @@ loop-i-preserved c =
     let within = c.loop-i-test.true in
     let nodes = c.args.store.now.topology in
     let image = c.args.image.now in
-    let place = 1 + length image.nodes.items in
+    let place = stripes_from image in
     let none = subst (λ (ns : List NodeInfo). stripe_cause ns image (take i rows) r ≡ None) so_far.nodes
     (subst (λ (x : StripeRow). stripe_cause c.loop-i.store.topology image (take i rows) x ≡ None) c.index-rows-i.is (c.in_ok-restore_stripe.ensures.lawful refl image so_far.kept)) in
     let order = (if-none (is_out_of_order stripe_first (take i rows) r) cause.OutOfOrder (homes_cause nodes image (take i rows) r) none).0 in
