@@ -5,3 +5,4 @@ pub mod AlikeKeptLemmas
 pub mod ForgetLemmas
 pub mod ImagedLemmas
 pub mod BeginLemmas
+pub mod LookLemmas

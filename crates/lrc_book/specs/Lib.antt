@@ -4,3 +4,4 @@ pub use Rattle.lrc_terms.specs.Levels
 pub use Rattle.lrc_answers.specs.Answers
 pub mod Books
 pub mod Kept
+pub mod Looks

@@ -95,7 +95,7 @@ impl Book {
     }
 
     /// The store of the book.
-    fn store(&self) -> &Store
+    pub(crate) fn store(&self) -> &Store
         ensures nodes { result.now.topology ≡ self.now.nodes }
         ensures kept { IsOf (state_of self.now) result.now }
     {
@@ -237,6 +237,7 @@ impl Book {
     /// # Errors
     ///
     /// As `call`.
+    #[inline(always)] // so that a loop over commands makes no call for one that changes nothing
     pub fn add(&mut self, session: SessionNo, command: Command) -> Result<(), Fault>
         ensures entry { OnOk result (self.new.history ≡ self.old.history ++ record { session = session; command = command; reply = (outcome_in self.old.nodes (world_of self.old) session command).0 } ∷ []) }
         ensures same { (self.new.nodes ≡ self.old.nodes) × (self.new.limit ≡ self.old.limit) × (self.new.base ≡ self.old.base) × (self.new.before ≡ self.old.before) }

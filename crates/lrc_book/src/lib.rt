@@ -8,6 +8,7 @@ mod begin;
 mod book;
 mod image;
 pub mod laws;
+mod looks;
 mod record;
 mod step;
 

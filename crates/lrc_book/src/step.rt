@@ -63,6 +63,7 @@ impl Book {
     }
 
     /// Makes the step of a session's command, in a book that has room for it.
+    #[inline(always)] // as `Book::add`
     pub(crate) fn make_call(&mut self, session: SessionNo, command: Command)
         requires ready { self.old.ready ≡ true }
         requires room { length self.old.history < self.old.limit }

@@ -123,6 +123,7 @@ impl Store {
 
     /// Collects what bars nodes for a fragment: the homes of the stripe's other fragments, and `more`. `members` are the
     /// fragments of its class.
+    #[inline(always)] // as `bar_targets`
     fn neighbours<'a>(
         &'a self,
         stripe: StripeNo,
@@ -146,6 +147,7 @@ impl Store {
 
     /// Bars the domains of the lease targets of the stripe's other fragments. `members` are the fragments of the class of
     /// `fragment`.
+    #[inline(always)] // so that a stripe without leases makes no call here
     fn bar_targets(
         &self,
         bars: &mut BarredDomains,
@@ -208,6 +210,7 @@ impl Store {
 }
 
 /// Returns the fragments of a fragment's class, itself included; none if the code has no such fragment.
+#[inline(always)] // as `bar_targets`
 fn class_members(code: Code, fragment: Fragment) -> LossMask
     ensures { AreClassMembers code fragment result }
 {

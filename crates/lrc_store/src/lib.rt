@@ -12,4 +12,5 @@ mod store;
 
 pub use clock::Clock;
 pub use commands::leases::count_grant;
+pub use repair::Repair;
 pub use store::Store;

@@ -23,11 +23,11 @@ use lrc_rules::{Kind, Lease, Refusal, Seat};
 
 /// What a lease is granted for: a fragment, how it is rebuilt, and its new seat.
 #[derive(Clone, Copy)]
-pub(crate) struct Repair {
-    pub(crate) stripe: StripeNo,
-    pub(crate) fragment: Fragment,
-    pub(crate) kind: Kind,
-    pub(crate) target: Seat,
+pub struct Repair {
+    pub stripe: StripeNo,
+    pub fragment: Fragment,
+    pub kind: Kind,
+    pub target: Seat,
 }
 
 impl Repair {
@@ -83,7 +83,7 @@ impl Store {
 
     /// Returns how a fragment is rebuilt; `None` if it can't be. The stripe must exist, and its code must have the fragment.
     #[inline(always)] // so that a grant copies its kind once less
-    fn repair_kind(&self, stripe: StripeNo, fragment: Fragment) -> Option<Kind>
+    pub fn repair_kind(&self, stripe: StripeNo, fragment: Fragment) -> Option<Kind>
         requires { IsTrue ((stored_in self.now.stripes).stripes stripe) }
         ensures { (st : State) → IsOf st self.now → IsTrue (has_fragment (code_of st stripe) fragment.value)
             → result ≡ repair_of self.now.topology st stripe fragment }

@@ -112,7 +112,7 @@ impl Store {
 
     /// Returns the repair of a fragment if its lease would be granted. `waiting` are the waiting fragments of the stripe,
     /// which must exist.
-    fn waiting_repair(
+    pub fn waiting_repair(
         &self,
         waiting: LossMask,
         stripe: StripeNo,
@@ -135,7 +135,7 @@ impl Store {
     }
 
     /// Returns the fragments of a stripe that need a lease and have none. The stripe must exist.
-    fn waiting(&self, stripe: StripeNo) -> LossMask
+    pub fn waiting(&self, stripe: StripeNo) -> LossMask
         requires { IsTrue ((stored_in self.now.stripes).stripes stripe) }
         ensures { (st : State) (f : Fragment) → IsOf st self.now
             → bits_set result.bits f.value ≡ is_waiting self.now.topology st stripe f }
