@@ -1,13 +1,19 @@
 // Each function of lrc_embed.h with each of its statuses, from C. tests/embed builds and runs it, also where memory is
 // refused: a call that memory was refused to has changed nothing that the looks show, and is made again. Before each call a
 // peek reports its reply, requests no memory, and changes nothing that the looks show.
-// Usage: embed [full], with `full` also until the history is full. It prints how many requests for memory there were. With
-// REFUSE=N in the environment the Nth of them is refused, from 1, and with REFUSE_FROM=N the Nth and all later ones.
+// Usage: embed [images | full | alone | onward]. It prints how many requests for memory there were. With `images` books also
+// begin in images that are wrong or have the largest numbers, and with `full` a history is filled besides. With `alone` each
+// request is refused in a copy of the process that made those before it, and with `onward` it and all that follow: it is
+// reported which copies did not end as they have to. To see one of them again, with REFUSE=N in the environment the Nth
+// request is refused, from 1, and with REFUSE_FROM=N the Nth and all later ones.
+#define _POSIX_C_SOURCE 200809L
 #include "lrc_embed.h"
 
 #include <stdio.h>
 #include <stdlib.h>
 #include <string.h>
+#include <sys/wait.h>
+#include <unistd.h>
 
 // The linker puts these between the library and the C library (--wrap), to count the blocks that are held and to refuse
 // requests.
@@ -19,13 +25,31 @@ void *__wrap_realloc(void *, size_t);
 void __wrap_free(void *);
 
 static long held;
-static unsigned long requests, refuse, refuse_from;
+static unsigned long requests, refuse, refuse_from, wrong_copies;
+// Which of `refuse` and `refuse_from` a copy of the process sets at each request, if there are to be copies.
+static unsigned long *set_in_copy;
+static bool is_copy;
 // What is asked of a book between the calls that are tried is neither counted nor refused.
 static bool is_looking;
+
+// Makes a copy of the process, to which this request is refused, and waits until it ends.
+static void refuse_in_copy(void) {
+    int status = 0, wanted = set_in_copy == &refuse ? 0 : 3;
+    pid_t copy = fork();
+    if (copy == 0) {
+        alarm(60);
+        *set_in_copy = requests;
+        set_in_copy = 0, wrong_copies = 0, is_copy = true;
+    } else if (copy < 0 || waitpid(copy, &status, 0) != copy || !WIFEXITED(status) || WEXITSTATUS(status) != wanted) {
+        fprintf(stderr, "request %lu: status %d\n", requests, status);
+        wrong_copies++;
+    }
+}
 
 static bool refuses_this(void) {
     if (is_looking) return false;
     requests++;
+    if (set_in_copy) refuse_in_copy();
     return requests == refuse || (refuse_from != 0 && requests >= refuse_from);
 }
 
@@ -779,7 +803,11 @@ static unsigned long asked(const char *name) {
 }
 
 int main(int argc, char **argv) {
+    const char *word = argc > 1 ? argv[1] : "";
+    bool is_full = strcmp(word, "full") == 0;
     refuse = asked("REFUSE"), refuse_from = asked("REFUSE_FROM");
+    if (strcmp(word, "alone") == 0) set_in_copy = &refuse;
+    if (strcmp(word, "onward") == 0) set_in_copy = &refuse_from;
     WANT(lrc_embed_version() == LRC_EMBED_VERSION);
     texts();
     closed();
@@ -798,14 +826,14 @@ int main(int argc, char **argv) {
     replays();
     forgets();
     begins();
-    if (argc > 1) { // once, and not for each request that is refused
+    if (is_full || strcmp(word, "images") == 0) { // once, and not for each request that is refused
         refused_images();
         largest_numbers();
     }
-    if (argc > 1 && strcmp(argv[1], "full") == 0) fill();
+    if (is_full) fill();
     WANT(lrc_embed_close(&handle) == LRC_DONE);
     closed();
     WANT(held == 0);
-    printf("%lu\n", requests);
-    return 0;
+    if (!is_copy) printf("%lu\n", requests);
+    return wrong_copies != 0;
 }

@@ -8,7 +8,7 @@ use Rattle.lrc_rules.specs.declared.entry.Entry.{Entry}
 use Rattle.lrc_rules.specs.Histories.{World, outcome_in, next_world, world_from}
 use Rattle.lrc_book.specs.Books.{BookView, world_of}
 use Rattle.lrc_rules.proofs.AlikeWorldLemmas.{legal-append}
-use Rattle.lrc_embed.specs.declared.entry.LrcEntry.{LrcEntry}
+use Rattle.lrc_records.specs.declared.entry.LrcEntry.{LrcEntry}
 use Rattle.lrc_embed.specs.Replays.{IsEntry, AreEntries, IsReplay, IsRepeat, StopsAt}
 
 entries_push : (cs : List LrcEntry) (es : List Entry) (c : LrcEntry) (e : Entry) → AreEntries cs es → IsEntry c e

@@ -1,13 +1,13 @@
 -- The book that begins in the image of a text, and why none does.
-use Rattle.std.specs.Prelude.{◌≡◌, ℕ, ◌+◌, if◌then◌else◌, nat_eq, List, [], length, Some, None}
+use Rattle.std.specs.Prelude.{◌≡◌, ℕ, List, [], Some, None}
 use Rattle.lrc_topology.specs.declared.NodeInfo.{NodeInfo}
 use Rattle.lrc_topology.specs.Documents.{IsTopologyOf}
 use Rattle.lrc_images.specs.declared.cause.Cause.{Cause}
-use Rattle.lrc_images.specs.declared.cause.Cause.TheVariants as cause
 use Rattle.lrc_images.specs.declared.image.Image.{Image}
 use Rattle.lrc_images.specs.Images.{image_world}
 use Rattle.lrc_images.specs.Causes.{first_cause}
-use Rattle.lrc_image_text.specs.Texts.{image_text, upgrading_lines, IsWritten, IsBadLine}
+use Rattle.lrc_images.specs.CauseNumbers.{row_cause_number}
+use Rattle.lrc_image_text.specs.Texts.{image_text, IsWritten, IsBadLine, row_line}
 use Rattle.lrc_book.specs.Books.{BookView}
 
 -- the text is that of an image whose every line can be read
@@ -31,39 +31,6 @@ pub record IsBegun (nodes text : List ℕ) (b : BookView) : Type 0 where
 abbrev pub IsBadImage : List ℕ → List ℕ → ℕ → Type 0
 IsBadImage nodes text line = ((topology : List NodeInfo) × IsTopologyOf nodes topology) × IsBadLine text line
 
--- the number of lines before those of the rows
-abbrev pub lines_before_rows : Image → ℕ
-lines_before_rows i = 3 + length (upgrading_lines i.upgrading)
-
--- the line of what an image says beside its rows: the entries, the clock or the domain that is upgrading
-abbrev pub head_line : Cause → ℕ
-head_line cause.TooManyEntries = 2
-head_line cause.TooManyTicks = 3
-head_line _ = 4
-
--- The line at the position of a cause, counted from 1. The row at a position has a line of its own.
-abbrev pub line_at : ℕ → ℕ → Cause → ℕ
-line_at before_rows position c = if nat_eq position 0 then head_line c else before_rows + position
-
--- the number of a cause
-abbrev pub cause_number : Cause → ℕ
-cause_number cause.UnknownDomain = 1
-cause_number cause.TooManyEntries = 2
-cause_number cause.TooManyTicks = 3
-cause_number cause.OutOfOrder = 4
-cause_number cause.SaysNothing = 5
-cause_number cause.UnknownNode = 6
-cause_number cause.GoneAndDown = 7
-cause_number cause.UnknownFragment = 8
-cause_number cause.UnknownSlot = 9
-cause_number cause.NodeGone = 10
-cause_number cause.SeatTaken = 11
-cause_number cause.NotLawful = 12
-cause_number cause.TooManyGrants = 13
-cause_number cause.UnknownStripe = 14
-cause_number cause.NeverGranted = 15
-cause_number cause.WrongExpiry = 16
-
 -- Both texts can be read. The line of this number is at the first position of the image that the nodes or the rows before
 -- it do not allow, for this cause.
 pub record IsInvalid (nodes text : List ℕ) (line : ℕ) (why : Cause) : Type 0 where
@@ -73,8 +40,8 @@ pub record IsInvalid (nodes text : List ℕ) (line : ℕ) (why : Cause) : Type 0
   pub nodes_are : IsTopologyOf nodes topology
   pub text_is : IsTextOf image text
   pub first : first_cause topology image ≡ Some (position, why)
-  pub line_is : line ≡ line_at (lines_before_rows image) position why
+  pub line_is : line ≡ row_line image.upgrading position why
 
 -- the same, of the cause that has this number
 abbrev pub IsInvalidImage : List ℕ → List ℕ → ℕ → ℕ → Type 0
-IsInvalidImage nodes text line number = (why : Cause) × IsInvalid nodes text line why × (number ≡ cause_number why)
+IsInvalidImage nodes text line number = (why : Cause) × IsInvalid nodes text line why × (number ≡ row_cause_number why)

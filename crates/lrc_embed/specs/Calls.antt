@@ -16,11 +16,11 @@ use Rattle.lrc_images.specs.declared.image.Image.{Image}
 use Rattle.lrc_images.specs.Rows.{IsImageOf}
 use Rattle.lrc_image_text.specs.Texts.{image_text}
 use Rattle.lrc_book.specs.Books.{BookView, world_of, state_of}
-use Rattle.lrc_embed.specs.declared.command.LrcCommand.{LrcCommand}
-use Rattle.lrc_embed.specs.declared.reply.LrcReply.{LrcReply}
-use Rattle.lrc_embed.specs.declared.risk.LrcRisk.{LrcRisk}
-use Rattle.lrc_embed.specs.Commands.{IsCommand}
-use Rattle.lrc_embed.specs.Replies.{encoded_reply}
+use Rattle.lrc_records.specs.declared.command.LrcCommand.{LrcCommand}
+use Rattle.lrc_records.specs.declared.reply.LrcReply.{LrcReply}
+use Rattle.lrc_records.specs.declared.risk.LrcRisk.{LrcRisk}
+use Rattle.lrc_records.specs.Commands.{IsCommand}
+use Rattle.lrc_records.specs.Replies.{encoded_reply}
 use Rattle.lrc_embed.specs.Looks.{topology_status}
 
 -- there is a book, and this holds of it

@@ -3,9 +3,10 @@ pub use Rattle.lrc_rules.specs.States
 pub use Rattle.lrc_rules.specs.Urgency
 pub use Rattle.lrc_rules.specs.Histories
 pub use Rattle.lrc_book.specs.Books
+pub use Rattle.lrc_records.specs.Commands
+pub use Rattle.lrc_records.specs.Replies
+pub use Rattle.lrc_records.specs.Shown
 pub mod Handles
-pub mod Commands
-pub mod Replies
 pub mod Looks
 pub mod Begun
 pub mod Unopened

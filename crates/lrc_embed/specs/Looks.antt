@@ -1,56 +1,14 @@
--- What the book shows, as structs and numbers.
-use Rattle.std.specs.Prelude.{ℕ, Bool, if◌then◌else◌, List, map, replicate, Option, Some, None}
+-- The numbers of a code and of a refused topology.
+use Rattle.std.specs.Prelude.{ℕ}
 use Rattle.lrc_code.specs.declared.codes.Code.{Code}
 use Rattle.lrc_code.specs.declared.codes.Code.TheVariants.{Wide, Narrow}
-use Rattle.lrc_code.specs.declared.numbers.StripeNo.{StripeNo}
-use Rattle.lrc_topology.specs.declared.seat.Seat.{Seat}
 use Rattle.lrc_topology.specs.declared.error.TopologyError.{TopologyError}
 use Rattle.lrc_topology.specs.declared.error.TopologyError.TheVariants as topology
-use Rattle.lrc_terms.specs.declared.level.Level.{Level}
-use Rattle.lrc_terms.specs.declared.level.Level.TheVariants as level
-use Rattle.lrc_terms.specs.declared.mode.Mode.{Mode}
-use Rattle.lrc_terms.specs.declared.mode.Mode.TheVariants.{Active, Draining, Gone}
-use Rattle.lrc_embed.specs.Replies.{encoded_seat, no_seat}
-use Rattle.lrc_embed.specs.declared.home.LrcHome.{LrcHome}
-use Rattle.lrc_embed.specs.declared.home.LrcHomes.{LrcHomes}
-use Rattle.lrc_embed.specs.declared.level.LrcLevel.{LrcLevel}
-use Rattle.lrc_embed.specs.declared.mode.LrcMode.{LrcMode}
-use Rattle.lrc_embed.specs.declared.risk.LrcRisk.{LrcRisk}
-
--- 1 for true
-abbrev pub flag : Bool → ℕ
-flag b = if b then 1 else 0
 
 -- the number of a code
 abbrev pub encoded_code : Code → ℕ
 encoded_code Wide = 1
 encoded_code Narrow = 2
-
--- a home, or none
-abbrev pub encoded_home : Option Seat → LrcHome
-encoded_home (Some seat) = record { seat = encoded_seat seat; is_there = 1; reserved = replicate 3 0 }
-encoded_home None = record { seat = no_seat; is_there = 0; reserved = replicate 3 0 }
-
-abbrev pub encoded_homes : List (Option Seat) → LrcHomes
-encoded_homes homes = record { homes = map encoded_home homes }
-
-abbrev pub encoded_level : Level → LrcLevel
-encoded_level level.Whole = record { kind = 1; margin = 0; reserved = replicate 2 0 }
-encoded_level (level.AtRisk m) = record { kind = 2; margin = m; reserved = replicate 2 0 }
-encoded_level level.Unavailable = record { kind = 3; margin = 0; reserved = replicate 2 0 }
-encoded_level level.Lost = record { kind = 4; margin = 0; reserved = replicate 2 0 }
-
-abbrev pub encoded_risk : StripeNo × Level → LrcRisk
-encoded_risk row = record { stripe = row.0.value; reserved = replicate 2 0; level = encoded_level row.1 }
-
--- the number of a mode
-abbrev pub mode_number : Mode → ℕ
-mode_number Active = 1
-mode_number Draining = 2
-mode_number Gone = 3
-
-abbrev pub encoded_mode : Mode × Bool → LrcMode
-encoded_mode shown = record { mode = mode_number shown.0; is_online = flag shown.1; reserved = replicate 2 0 }
 
 -- the status of a refused topology, and its position, its number or 0
 abbrev pub topology_status : TopologyError → ℕ × ℕ

@@ -6,9 +6,9 @@ use Rattle.lrc_rules.specs.declared.command.Command.{Command}
 use Rattle.lrc_rules.specs.declared.entry.Entry.{Entry}
 use Rattle.lrc_rules.specs.Histories.{outcome_in, IsLegalFrom}
 use Rattle.lrc_book.specs.Books.{BookView, world_of}
-use Rattle.lrc_embed.specs.declared.entry.LrcEntry.{LrcEntry}
-use Rattle.lrc_embed.specs.Commands.{IsCommand, is_command}
-use Rattle.lrc_embed.specs.Replies.{encoded_reply}
+use Rattle.lrc_records.specs.declared.entry.LrcEntry.{LrcEntry}
+use Rattle.lrc_records.specs.Commands.{IsCommand, is_command}
+use Rattle.lrc_records.specs.Replies.{encoded_reply}
 use Rattle.lrc_embed.specs.Calls.{IsOutside}
 
 -- the session and the command that the struct is read as

@@ -1,16 +1,11 @@
 -- Internal: no public clause reaches these definitions.
 -- What an error says of the texts from which no book began.
-use Rattle.std.specs.Prelude.{ℕ, ◌+◌, List, length}
+use Rattle.std.specs.Prelude.{ℕ, List}
 use Rattle.lrc_topology.specs.Documents.{IsRefusedBy}
-use Rattle.lrc_images.specs.declared.image.Image.{Image}
 use Rattle.lrc_image_text.specs.declared.error.ImageTextError.TheVariants as text
 use Rattle.lrc_embed.specs.Begun.{IsBadImage, IsInvalid}
 use Rattle.lrc_embed.specs.declared.error.OpenError.{OpenError}
 use Rattle.lrc_embed.specs.declared.error.OpenError.TheVariants.{Nodes, Text, Line, OutOfMemory}
-
--- the number of rows of all lists
-abbrev pub row_count : Image → ℕ
-row_count i = length i.nodes.items + length i.stripes.items + length i.grants.items + length i.leases.items
 
 -- this is why no book begins from these texts
 abbrev pub IsUnopened : List ℕ → List ℕ → OpenError → Type 0

@@ -1,13 +1,14 @@
 ghost use Rattle.std.specs.Prelude.{◌≡◌, ◌≢◌, ◌↔◌, ◌⊎◌, ◌++◌, ◌∷◌, [], false, List, Some, None, length};
 ghost use Rattle.lrc_rules.specs.declared.entry.Entry.{Entry};
+ghost use Rattle.lrc_records.specs.Commands.{is_command};
+ghost use Rattle.lrc_records.specs.Replies.{encoded_reply};
 ghost use Rattle.lrc_embed.specs.Calls.{Of, contents, IsCall, IsStepOf, IsPeek, IsReplyOf, IsOutside};
-ghost use Rattle.lrc_embed.specs.Commands.{is_command};
-ghost use Rattle.lrc_embed.specs.Replies.{encoded_reply};
 
+use crate::LrcHandle;
 use crate::status::{DONE, FULL, IS_CLOSED, OUT_OF_MEMORY, OUT_OF_RANGE};
-use crate::{LrcCommand, LrcHandle, LrcReply};
 use lrc_book::{Book, Command};
 use lrc_code::{Fault, SessionNo};
+use lrc_records::{LrcCommand, LrcReply};
 use std::alloc::Global;
 
 /// Makes one step of the book, and writes its reply.

@@ -1,11 +1,12 @@
 ghost use Rattle.std.specs.Prelude.{◌≡◌, ◌≢◌, ◌⊎◌, None, option_map, length, slice_get};
+ghost use Rattle.lrc_records.specs.Replies.{encoded_entry};
 ghost use Rattle.lrc_embed.specs.Calls.{Of, IsLook};
-ghost use Rattle.lrc_embed.specs.Replies.{encoded_entry};
 
+use crate::LrcHandle;
 use crate::exports::looks::look;
 use crate::status::{DONE, IS_CLOSED};
-use crate::{LrcEntry, LrcHandle};
 use lrc_book::{Book, Entry};
+use lrc_records::LrcEntry;
 use std::alloc::Global;
 
 /// The number of entries of the history.

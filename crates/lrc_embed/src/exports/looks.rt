@@ -3,14 +3,16 @@ ghost use Rattle.std.specs.Fn.{FnOnceReturnsAt};
 ghost use Rattle.lrc_book.specs.Books.{state_of};
 ghost use Rattle.lrc_rules.specs.States.{code_shown, homes_shown, level_shown, missing_shown, lease_of, load_shown, mode_shown};
 ghost use Rattle.lrc_rules.specs.Urgency.{risk};
+ghost use Rattle.lrc_records.specs.Replies.{encoded_lease};
+ghost use Rattle.lrc_records.specs.Shown.{encoded_homes, encoded_level, encoded_risk, encoded_mode};
 ghost use Rattle.lrc_embed.specs.Calls.{Of, AtFragment, IsLook, IsStripeLook, AreFirstRows, node_no};
-ghost use Rattle.lrc_embed.specs.Replies.{encoded_lease};
-ghost use Rattle.lrc_embed.specs.Looks.{encoded_code, encoded_homes, encoded_level, encoded_risk, encoded_mode};
+ghost use Rattle.lrc_embed.specs.Looks.{encoded_code};
 
+use crate::LrcHandle;
 use crate::status::{DONE, IS_CLOSED, OUT_OF_MEMORY, OUT_OF_RANGE, SHORT, UNKNOWN};
-use crate::{LrcHandle, LrcHomes, LrcLease, LrcLevel, LrcMode, LrcRisk};
 use lrc_book::{Book, Level};
 use lrc_code::{Code, Fragment, NodeNo, StripeNo};
+use lrc_records::{LrcHomes, LrcLease, LrcLevel, LrcMode, LrcRisk};
 use std::alloc::Global;
 
 /// Writes what is found in the book of an open handle, if something is.

@@ -3,21 +3,24 @@ ghost use Rattle.lrc_topology.specs.declared.error.TopologyError.{TopologyError}
 ghost use Rattle.lrc_images.specs.declared.cause.Cause.{Cause};
 ghost use Rattle.lrc_images.specs.Images.{image_world};
 ghost use Rattle.lrc_images.specs.Causes.{first_cause};
+ghost use Rattle.lrc_images.specs.Cuts.{row_count};
+ghost use Rattle.lrc_images.specs.CauseNumbers.{row_cause_number};
 ghost use Rattle.lrc_restore.specs.Stages.{IsRefusedBy};
 ghost use Rattle.lrc_image_text.specs.declared.error.ImageTextError.TheVariants.{BadLine};
+ghost use Rattle.lrc_image_text.specs.Texts.{row_line};
 ghost use Rattle.lrc_embed.specs.Calls.{Of, IsRefused};
-ghost use Rattle.lrc_embed.specs.Begun.{IsBegun, IsBadImage, IsInvalidImage, lines_before_rows, line_at, cause_number};
+ghost use Rattle.lrc_embed.specs.Begun.{IsBegun, IsBadImage, IsInvalidImage};
 ghost use Rattle.lrc_embed.specs.Looks.{topology_status};
-ghost use Rattle.lrc_embed.specs.Unopened.{IsUnopened, row_count};
+ghost use Rattle.lrc_embed.specs.Unopened.{IsUnopened};
 ghost use Rattle.lrc_embed.specs.declared.error.OpenError.TheVariants.{Nodes, Text, Line};
 
 use crate::LrcHandle;
-use crate::cause::number_of;
 use crate::error::OpenError;
 use crate::exports::open::refusal_of;
 use crate::status::{BAD_LINE, DONE, INVALID_IMAGE, IS_OPEN, OUT_OF_MEMORY};
 use lrc_book::{BeginError, Book, Cause, Image};
-use lrc_image_text::{ImageTextError, read_image};
+use lrc_code::UpgradeNo;
+use lrc_image_text::{ImageTextError, read_image, row_line};
 use lrc_topology::{Topology, TopologyError};
 use std::alloc::Global;
 
@@ -62,11 +65,11 @@ fn begin(alloc: Global, nodes: &[u8], text: &[u8]) -> Result<Box<Book>, OpenErro
 {
     let topology = Topology::read(alloc, nodes)?;
     let image = read_image(alloc, text)?;
-    let before_rows = count_first_lines(&image);
+    let upgrading = upgrading_in(&image);
     match begin_boxed(alloc, topology, image) {
         Ok(book) => Ok(book),
         Err(BeginError::Refused(position, cause)) => {
-            Err(OpenError::Line(line_of(before_rows, position, cause), cause))
+            Err(OpenError::Line(line_of(upgrading, position, cause), cause))
         }
         Err(BeginError::OutOfMemory) => Err(OpenError::OutOfMemory),
     }
@@ -82,37 +85,28 @@ fn begin_boxed(alloc: Global, topology: Topology, image: Image) -> Result<Box<Bo
     Ok(Box::new(alloc, book)?)
 }
 
-/// The number of lines of an image's text before those of its rows.
-fn count_first_lines(image: &Image) -> usize
+/// The upgrade domain that is upgrading in an image. The rows of an image in memory are few.
+fn upgrading_in(image: &Image) -> Option<UpgradeNo>
     requires room { row_count image.now < 2 ^ 63 }
-    ensures value { result ≡ lines_before_rows image.now }
-    ensures few { result ≤ 4 }
+    ensures value { result ≡ image.now.upgrading }
     ensures room { row_count image.now < 2 ^ 63 }
 {
-    if image.upgrading.is_some() { 4 } else { 3 }
+    image.upgrading
 }
 
 /// The line at the position of a cause.
-fn line_of(before_rows: usize, position: usize, cause: Cause) -> usize
-    requires few { before_rows ≤ 4 }
+fn line_of(upgrading: Option<UpgradeNo>, position: usize, cause: Cause) -> usize
     requires room { position < 2 ^ 63 }
-    ensures { result ≡ line_at before_rows position cause }
+    ensures { result ≡ row_line upgrading position cause }
 {
-    if position > 0 {
-        return before_rows + position;
-    }
-    match cause {
-        Cause::TooManyEntries => 2,
-        Cause::TooManyTicks => 3,
-        _ => 4,
-    }
+    row_line(upgrading, position, cause) as usize
 }
 
 /// Writes why no book began, and returns the status.
 fn report(error: OpenError, detail: &mut usize, cause: &mut u32) -> u32
     ensures nodes { (16 ≤ result) → (result ≤ 21) → (e : TopologyError) × (error ≡ Nodes e) × (topology_status e ≡ (result, detail.new)) }
     ensures bad_line { (result ≡ 22) → error ≡ Text (BadLine detail.new) }
-    ensures invalid { (result ≡ 23) → (why : Cause) × (error ≡ Line detail.new why) × (cause.new ≡ cause_number why) }
+    ensures invalid { (result ≡ 23) → (why : Cause) × (error ≡ Line detail.new why) × (cause.new ≡ row_cause_number why) }
     ensures statuses { (result ≡ 6) ⊎ ((16 ≤ result) × (result ≤ 23)) }
     ensures unwritten { (result < 16) → detail.new ≡ detail.old }
     ensures no_cause { (result ≢ 23) → cause.new ≡ cause.old }
@@ -131,7 +125,7 @@ fn report(error: OpenError, detail: &mut usize, cause: &mut u32) -> u32
         OpenError::Text(ImageTextError::OutOfMemory) => OUT_OF_MEMORY,
         OpenError::Line(line, why) => {
             *detail = line;
-            *cause = number_of(why);
+            *cause = why.number();
             INVALID_IMAGE
         }
         OpenError::OutOfMemory => OUT_OF_MEMORY,

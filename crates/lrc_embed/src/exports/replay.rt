@@ -2,10 +2,11 @@ ghost use Rattle.std.specs.Prelude.{◌≡◌, ◌≢◌, ◌⊎◌, None};
 ghost use Rattle.lrc_embed.specs.Calls.{Of};
 ghost use Rattle.lrc_embed.specs.Replays.{IsReplay, IsRepeat, StopsAt, IsUnreadable, IsFull, IsCallable, IsDifferent};
 
+use crate::LrcHandle;
 use crate::status::{DIFFERENT, DONE, FULL, IS_CLOSED, OUT_OF_MEMORY, OUT_OF_RANGE};
-use crate::{LrcEntry, LrcHandle, LrcReply};
 use lrc_book::Book;
 use lrc_code::{Fault, SessionNo};
+use lrc_records::LrcEntry;
 use std::alloc::Global;
 
 /// Repeats the calls of saved entries after the history that the book has, and compares each reply. If one cannot be made
@@ -57,7 +58,7 @@ fn repeat(book: &mut Book, entry: &LrcEntry) -> u32
         return OUT_OF_RANGE;
     };
     match book.call(session, command) {
-        Ok(reply) if LrcReply::of(&reply) == entry.reply => DONE,
+        Ok(reply) if entry.reply.is_of(&reply) => DONE,
         Ok(_) => DIFFERENT,
         Err(Fault::HistoryFull) => FULL,
         Err(Fault::OutOfMemory) => OUT_OF_MEMORY,

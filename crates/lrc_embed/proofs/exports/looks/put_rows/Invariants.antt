@@ -1,5 +1,5 @@
 use Rattle.std.proofs.Common.{◌≡◌, take, drop, map, length}
-use Rattle.lrc_embed.specs.Looks.{encoded_risk}
+use Rattle.lrc_records.specs.Shown.{encoded_risk}
 use Rattle.lrc_embed.proofs.exports.looks.put_rows.Given as goal
 
 abbrev pub invariant-loop-i : goal.invariant-loop-i

@@ -1,12 +1,12 @@
 use Rattle.std.proofs.Common.{refl, arith}
-use Rattle.lrc_embed.proofs.PositionLemmas.{within_rows}
+use Rattle.lrc_images.proofs.CutLemmas.{within_rows}
 use Rattle.lrc_embed.proofs.exports.open_image.begin.Goals as goal
 
-pub line_of-requires-clause-room : goal.line_of-requires-clause-room
-line_of-requires-clause-room c =
+pub line_of-requires : goal.line_of-requires
+line_of-requires c =
     let first = rw c.in-Err-Refused.field-0-is at c.in-Err-Refused.ensures.refused in
     let within = within_rows c.in_ok-topology.topology c.in_ok-image.image c.in-Err-Refused.position c.in-Err-Refused.cause first in
-    omega (arith, c.count_first_lines-before_rows.ensures.room, within)
+    omega (arith, c.upgrading_in-upgrading.ensures.room, within)
 
 pub returns-in-Ok-clause-begun : goal.returns-in-Ok-clause-begun
 returns-in-Ok-clause-begun c =
@@ -29,5 +29,5 @@ returns-in-Err-Refused-clause-refused c = record {
   nodes_are = c.in_ok-topology.ensures.ok;
   text_is = c.in_ok-image.ensures.read;
   first = rw c.in-Err-Refused.field-0-is at c.in-Err-Refused.ensures.refused;
-  line_is = rw (← c.count_first_lines-before_rows.ensures.value) c.line_of.ensures;
+  line_is = rw (← c.upgrading_in-upgrading.ensures.value) c.line_of.ensures;
 }

@@ -1,7 +1,6 @@
-use Rattle.std.proofs.Common.{rules, sym, ap, ◌∙◌}
+use Rattle.std.proofs.Common.{rules, refl, sym, ap, ◌∙◌}
 use Rattle.std.proofs.lemmas.Bool.Decides.{not_from_Decides}
-use Rattle.lrc_embed.specs.Replies.{encoded_reply}
-use Rattle.lrc_embed.proofs.SameLemmas.{reply-Decides}
+use Rattle.lrc_records.specs.Replies.{encoded_reply}
 use Rattle.lrc_embed.proofs.exports.replay.repeat.Goals as goal
 
 pub returns-in-Ok-clause-done : goal.returns-in-Ok-clause-done
@@ -9,7 +8,7 @@ returns-in-Ok-clause-done c = λ _. (
   record { session = c.in-Some.session; command = c.in-Some-read.command; reply = c.in-Ok.reply },
   (
     (c.in-Some.ensures.value, c.in-Some-read.ensures.value),
-    sym ((reply-Decides c.of.result c.args.entry.now.reply).0 (sym c.if-eq.ensures)) ∙ c.of.ensures,
+    c.if-is_of.ensures.0 refl,
   ),
   sym c.in-Ok.ensures.reply,
   c.in-Ok.ensures.entry,
@@ -24,8 +23,7 @@ returns-in-Ok-2-clause-different c = λ _. (
   c.in-Some.session,
   c.in-Some-read.command,
   (c.in-Some.ensures.value, c.in-Some-read.ensures.value),
-  λ e. not_from_Decides _ (reply-Decides c.of.result c.args.entry.now.reply) (sym c.if-eq.ensures)
-      (c.of.ensures ∙ ap encoded_reply c.in-Ok.ensures.reply ∙ sym e),
+  λ e. not_from_Decides _ c.if-is_of.ensures refl (e ∙ sym (ap encoded_reply c.in-Ok.ensures.reply)),
 )
 
 pub returns-in-Err-HistoryFull-clause-full : goal.returns-in-Err-HistoryFull-clause-full

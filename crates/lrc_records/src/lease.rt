@@ -1,0 +1,53 @@
+ghost use Rattle.std.specs.Prelude.{◌≡◌};
+ghost use Rattle.lrc_records.specs.Replies.{encoded_lease, lease_in_reply};
+
+use crate::LrcSeat;
+use lrc_rules::Lease;
+
+/// A lease of a fragment of a stripe. The holder is a session, the target the seat that the fragment gets. The expiry is the
+/// clock at which the lease ends, or 0 in a reply.
+#[repr(C)]
+#[derive(Clone, Copy, PartialEq, Eq)]
+pub struct LrcLease {
+    pub stripe: u16,
+    pub fragment: u8,
+    pub holder: u8,
+    pub target: LrcSeat,
+    pub epoch: u32,
+    pub expiry: u32,
+}
+
+impl LrcLease {
+    pub(crate) const NONE: LrcLease = LrcLease {
+        stripe: 0,
+        fragment: 0,
+        holder: 0,
+        target: LrcSeat::NONE,
+        epoch: 0,
+        expiry: 0,
+    };
+
+    /// The record of a live lease, with its expiry.
+    pub fn of(lease: &Lease) -> LrcLease
+        ensures { result ≡ encoded_lease lease.now }
+    {
+        LrcLease {
+            stripe: lease.stripe.value,
+            fragment: lease.fragment.value,
+            holder: lease.holder.value,
+            target: LrcSeat::of(lease.target),
+            epoch: lease.epoch,
+            expiry: lease.expiry,
+        }
+    }
+
+    /// A lease in a reply. Its expiry is 0, as in entries that were saved before leases had one.
+    pub(crate) fn in_reply(lease: &Lease) -> LrcLease
+        ensures { result ≡ lease_in_reply lease.now }
+    {
+        LrcLease {
+            expiry: 0,
+            ..LrcLease::of(lease)
+        }
+    }
+}

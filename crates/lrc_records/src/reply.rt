@@ -1,0 +1,147 @@
+ghost use Rattle.std.specs.Prelude.{◌≡◌, ◌↔◌, ◌-◌, ◌≤◌, ◌++◌, true, length, map, replicate};
+ghost use Rattle.lrc_records.specs.Replies.{encoded_repair, encoded_refusal, encoded_reply};
+
+use crate::{LrcLease, LrcSeat};
+use lrc_code::Fragment;
+use lrc_rules::{Kind, Refusal, Reply};
+
+/// A reply. `set` has the kinds, and `set_repair` those of a repair. A field that the kind does not use is 0.
+#[repr(C)]
+#[derive(Clone, Copy, PartialEq, Eq)]
+pub struct LrcReply {
+    pub kind: u8,
+    pub refusal: u8,
+    pub repair: u8,
+    pub sources: [u8; 6],
+    pub reserved: [u8; 3],
+    pub detail: u32,
+    pub clock: u32,
+    pub ended: u32,
+    pub reserved_number: u32,
+    pub lease: LrcLease,
+    pub seats: [LrcSeat; 16],
+}
+
+const BLANK: LrcReply = LrcReply {
+    kind: 0,
+    refusal: 0,
+    repair: 0,
+    sources: [0; 6],
+    reserved: [0; 3],
+    detail: 0,
+    clock: 0,
+    ended: 0,
+    reserved_number: 0,
+    lease: LrcLease::NONE,
+    seats: [LrcSeat::NONE; 16],
+};
+
+impl LrcReply {
+    /// The record of a reply.
+    pub fn of(reply: &Reply) -> LrcReply
+        ensures { result ≡ encoded_reply reply.now }
+    {
+        let mut encoded = BLANK;
+        encoded.set(reply);
+        encoded
+    }
+
+    /// Becomes the record of a reply, written in place: a copy of the whole struct takes as long as a small command.
+    pub fn set(&mut self, reply: &Reply)
+        ensures { self.new ≡ encoded_reply reply.now }
+    {
+        *self = BLANK;
+        match reply {
+            Reply::Placed(seats) => {
+                self.kind = 1;
+                self.seats = LrcSeat::of_all(seats);
+            }
+            Reply::Dropped => self.kind = 2,
+            Reply::Granted(lease, kind) => {
+                self.kind = 3;
+                self.lease = LrcLease::in_reply(lease);
+                self.set_repair(kind);
+            }
+            Reply::Idle => self.kind = 4,
+            Reply::Ended => self.kind = 5,
+            Reply::Changed => self.kind = 6,
+            Reply::Refused(refusal) => {
+                self.kind = 7;
+                (self.refusal, self.detail) = refusal_of(refusal);
+            }
+            Reply::Ticked { clock, ended } => {
+                self.kind = 8;
+                self.clock = *clock;
+                self.ended = *ended;
+            }
+            Reply::Placed6(seats) => {
+                self.kind = 9;
+                self.seats = LrcSeat::of_all(seats);
+            }
+        }
+    }
+
+    /// Returns whether this is the record of the reply, to the last byte.
+    #[inline]
+    pub fn is_of(&self, reply: &Reply) -> bool
+        ensures { (result ≡ true) ↔ (self.now ≡ encoded_reply reply.now) }
+    {
+        LrcReply::of(reply) == *self
+    }
+
+    /// Writes the number of a kind of repair, and the fragments that it reads. The sources are still 0.
+    fn set_repair(&mut self, kind: &Kind)
+        requires { self.old.sources ≡ replicate 6 0 }
+        ensures { self.new ≡ record self.old { repair = (encoded_repair kind.now).0; sources = (encoded_repair kind.now).1 } }
+    {
+        match kind {
+            Kind::Local(sources) => {
+                self.repair = 1;
+                self.sources = numbers_of(sources);
+            }
+            Kind::Global => self.repair = 2,
+            Kind::Move => self.repair = 3,
+            Kind::Local3(sources) => {
+                self.repair = 4;
+                self.sources = numbers_of(sources);
+            }
+        }
+    }
+}
+
+/// The numbers of the fragments, and 0 after them.
+fn numbers_of(fragments: &[Fragment]) -> [u8; 6]
+    requires few { length fragments.now ≤ 6 }
+    ensures { result ≡ map (λ f. f.value) fragments.now ++ replicate (6 - length fragments.now) 0 }
+{
+    let mut numbers = [0; 6];
+    for (i, fragment) in fragments.iter().enumerate() {
+        numbers[i] = fragment.value;
+    }
+    numbers
+}
+
+/// The number of a refusal, and the number that it names, or 0.
+fn refusal_of(refusal: &Refusal) -> (u8, u32)
+    ensures { result ≡ encoded_refusal refusal.now }
+{
+    match *refusal {
+        Refusal::UnknownStripe => (101, 0),
+        Refusal::StripeExists => (102, 0),
+        Refusal::NoLawfulNode(fragment) => (103, fragment.value as u32),
+        Refusal::UnknownNode => (104, 0),
+        Refusal::WrongMode => (105, 0),
+        Refusal::UnknownDomain => (106, 0),
+        Refusal::UpgradeRunning(domain) => (107, domain.value as u32),
+        Refusal::NotUpgrading => (108, 0),
+        Refusal::WouldLose(stripe) => (109, stripe.value as u32),
+        Refusal::AlreadyLeased(epoch) => (110, epoch),
+        Refusal::NotNeeded => (111, 0),
+        Refusal::Unrecoverable => (112, 0),
+        Refusal::Stale => (113, 0),
+        Refusal::NotHolder(session) => (114, session.value as u32),
+        Refusal::TargetOffline(node) => (115, node.value as u32),
+        Refusal::NoLease => (116, 0),
+        Refusal::NotEmpty(seats) => (117, seats),
+    }
+}
