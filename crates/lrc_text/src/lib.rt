@@ -9,5 +9,5 @@ mod tables;
 mod texts;
 
 pub use masks::{parse_mask, push_mask_line};
-pub use tables::with_tables;
+pub use tables::{level_word, mode_word, online_word, with_tables};
 pub use texts::{LINE_ROOM, push_lines, push_reply_line, push_script_line};

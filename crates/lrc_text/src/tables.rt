@@ -53,7 +53,8 @@ fn with_load_table(mut text: Vec<u8>, book: &Book) -> Result<Vec<u8>, Fault>
 
 // ---- words
 
-fn level_word(level: Level) -> &'static str
+/// The word for a level.
+pub fn level_word(level: Level) -> &'static str
     ensures { result.now ≡ level_text level }
 {
     match level {
@@ -64,7 +65,8 @@ fn level_word(level: Level) -> &'static str
     }
 }
 
-fn mode_word(mode: Mode) -> &'static str
+/// The word for a mode.
+pub fn mode_word(mode: Mode) -> &'static str
     ensures { result.now ≡ mode_text mode }
 {
     match mode {
@@ -74,7 +76,8 @@ fn mode_word(mode: Mode) -> &'static str
     }
 }
 
-fn online_word(online: bool) -> &'static str
+/// `yes` or `no`.
+pub fn online_word(online: bool) -> &'static str
     ensures { result.now ≡ online_text online }
 {
     if online { "yes" } else { "no" }

@@ -14,3 +14,6 @@ mod RowsOfMasks
 pub mod SequelLemmas
 pub mod ImageSameLemmas
 pub mod OneSequelLemmas
+pub mod SomeImageLemmas
+pub mod SomeSequelLemmas
+pub mod ApartLemmas

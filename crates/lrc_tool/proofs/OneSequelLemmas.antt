@@ -10,12 +10,15 @@ use Rattle.lrc_image_text.specs.Texts.{IsBadLine}
 use Rattle.lrc_image_text.proofs.OnceLemmas.{one_bad}
 use Rattle.lrc_image_text.proofs.ImageLemmas.{no_bad, same_rows}
 use Rattle.lrc_book.specs.Books.{BookView, state_of}
+use Rattle.lrc_show.specs.declared.view.View.{View}
 use Rattle.lrc_script.specs.Bundles.{Script}
+use Rattle.lrc_tool.specs.declared.sequel.Goal.{Goal}
+use Rattle.lrc_tool.specs.declared.sequel.Goal.TheVariants as to
 use Rattle.lrc_tool.specs.declared.status.Status.{Status}
 use Rattle.lrc_tool.specs.Limits.{sequel_limit}
 use Rattle.lrc_tool.specs.Refusals.{bad_image_text}
-use Rattle.lrc_tool.specs.Outputs.{IsAnsweredIn, IsPlayedFrom}
-use Rattle.lrc_tool.specs.Sequels.{image_part, bundle_part, lines_before, ReadsImage, Start, start_in, Going, IsBegunUnless, sequel_judging, IsToldAfter, IsToldUnless, IsTold, AreResumed, IsImaged, IsMadeFrom, AreImaged, IsResumed, IsImagedAs}
+use Rattle.lrc_tool.specs.Outputs.{IsAnsweredIn}
+use Rattle.lrc_tool.specs.Sequels.{image_part, bundle_part, lines_before, ReadsImage, Start, start_in, Going, IsBegunUnless, sequel_judging, IsToldAfter, IsToldUnless, IsTold, IsImaged, IsTable, IsMadeFrom, IsReached, going_to, IsSequelOutput}
 use Rattle.lrc_tool.proofs.CommandLemmas.{as_many_lists, same_lists}
 use Rattle.lrc_tool.proofs.HistoryLemmas.{only_history, same_play}
 use Rattle.lrc_tool.proofs.JudgedLemmas.{few_scripts}
@@ -62,28 +65,20 @@ module _ (going : Going) (one : IsOneGoing going) where
   one-told : (sequel t u : List ℕ) (s r : Status) → IsTold going sequel t s → IsTold going sequel u r → (t ≡ u) × (s ≡ r)
   one-told sequel t u s r h k = unless-one (nat_lt sequel_limit (length sequel)) sequel t u s r h k
 
--- ---- `resume`
+-- ---- the goals
 
-resumed-one : IsOneGoing AreResumed
-resumed-one nodes start scripts t u s r few h k =
-    let (lists, are, p) = h.0 in
-    let (others, too, q) = k.0 in
-    let same = same_lists scripts lists others are too in
-    let short = subst (λ n. n ≤ 1) (sym (as_many_lists scripts others too)) few in
-    (same_play nodes start.base start.before others t u short (subst (λ (ls : List (List Command)). IsPlayedFrom nodes start.base start.before ls t) same p) q, h.1 ∙ sym k.1)
-
-pub one_resumed : (sequel text other : List ℕ) (status another : Status) → IsResumed sequel text status → IsResumed sequel other another → (text ≡ other) × (status ≡ another)
-one_resumed = one-told AreResumed resumed-one
-
--- ---- `image`
-
-abbrev view : List NodeInfo → World → ℕ → List Entry → BookView
-view nodes base before history = record { nodes = nodes; base = base; before = before; limit = 0; history = history; ready = false }
+abbrev book_of : List NodeInfo → World → ℕ → List Entry → BookView
+book_of nodes base before history = record { nodes = nodes; base = base; before = before; limit = 0; history = history; ready = false }
 
 -- the image is that of the nodes, the base and the history
 same-imaged : (b c : BookView) → b.nodes ≡ c.nodes → b.base ≡ c.base → b.before ≡ c.before → b.history ≡ c.history → (t : List ℕ) (s : Status) → IsImaged b t s → IsImaged c t s
 same-imaged b c nodes base before history t s h =
-    subst (λ (v : BookView). IsImaged v t s) (λ k. view (nodes k) (base k) (before k) (history k)) h
+    subst (λ (v : BookView). IsImaged v t s) (λ k. book_of (nodes k) (base k) (before k) (history k)) h
+
+-- and so is each table
+same-table : (view : View) (b c : BookView) → b.nodes ≡ c.nodes → b.base ≡ c.base → b.before ≡ c.before → b.history ≡ c.history → (t : List ℕ) (s : Status) → IsTable view b t s → IsTable view c t s
+same-table view b c nodes base before history t s h =
+    subst (λ (v : BookView). IsTable view v t s) (λ k. book_of (nodes k) (base k) (before k) (history k)) h
 
 imaged-one : (b : BookView) (t u : List ℕ) (s r : Status) → IsImaged b t s → IsImaged b u r → (t ≡ u) × (s ≡ r)
 imaged-one b t u s r (inl (spent, p, e)) (inl (spent', q, f)) = (p ∙ sym q, e ∙ sym f)
@@ -92,21 +87,28 @@ imaged-one b t u s r (inr (free, e, i, is, p)) (inl (spent, q, f)) = absurd (fre
 imaged-one b t u s r (inr (free, e, i, is, p)) (inr (free', f, j, is', q)) =
     (p ∙ one-image b.nodes (b.base.past ++ b.history) (state_of b) (b.before + length b.history) i j is is' ∙ sym q, e ∙ sym f)
 
--- two books that began here have one history
-same-book : (nodes : List NodeInfo) (start : Start) (lists : List (List Command)) (b c : BookView) → length lists ≤ 1 → IsMadeFrom nodes start lists b → IsMadeFrom nodes start lists c
-    → (t : List ℕ) (s : Status) → IsImaged b t s → IsImaged c t s
-same-book nodes start lists b c few p q t s h =
-    let legal : IsLegalFrom nodes start.base b.history = subst (λ (w : World). IsLegalFrom nodes w b.history) p.begun (subst (λ (ns : List NodeInfo). IsLegalFrom ns b.base b.history) p.over p.legal) in
-    let legal' : IsLegalFrom nodes start.base c.history = subst (λ (w : World). IsLegalFrom nodes w c.history) q.begun (subst (λ (ns : List NodeInfo). IsLegalFrom ns c.base c.history) q.over q.legal) in
-    let history = only_history nodes start.base lists few b.history c.history legal legal' p.made q.made p.only q.only in
-    same-imaged b c (p.over ∙ sym q.over) (p.begun ∙ sym q.begun) (p.before ∙ sym q.before) history t s h
+module _ (nodes : List NodeInfo) (base : World) (before : ℕ) (lists : List (List Command)) (few : length lists ≤ 1) where
+  -- two books that began here have one history
+  same-history : (b c : BookView) → IsMadeFrom nodes base before lists b → IsMadeFrom nodes base before lists c → b.history ≡ c.history
+  same-history b c p q =
+      let legal : IsLegalFrom nodes base b.history = subst (λ (w : World). IsLegalFrom nodes w b.history) p.begun (subst (λ (ns : List NodeInfo). IsLegalFrom ns b.base b.history) p.over p.legal) in
+      let legal' : IsLegalFrom nodes base c.history = subst (λ (w : World). IsLegalFrom nodes w c.history) q.begun (subst (λ (ns : List NodeInfo). IsLegalFrom ns c.base c.history) q.over q.legal) in
+      only_history nodes base lists few b.history c.history legal legal' p.made q.made p.only q.only
 
-images-one : IsOneGoing AreImaged
-images-one nodes start scripts t u s r few (lists, are, b, p, h) (others, too, c, q, k) =
+  reached-one : (goal : Goal) (t u : List ℕ) (s r : Status) → IsReached goal nodes base before lists t s → IsReached goal nodes base before lists u r → (t ≡ u) × (s ≡ r)
+  reached-one to.Replies t u s r h k = (same_play nodes base before lists t u few h.0 k.0, h.1 ∙ sym k.1)
+  reached-one to.Image t u s r (b, p, h) (c, q, k) =
+      imaged-one c t u s r (same-imaged b c (p.over ∙ sym q.over) (p.begun ∙ sym q.begun) (p.before_is ∙ sym q.before_is) (same-history b c p q) t s h) k
+  reached-one (to.Table view) t u s r (b, p, h) (c, q, k) =
+      let same = same-table view b c (p.over ∙ sym q.over) (p.begun ∙ sym q.begun) (p.before_is ∙ sym q.before_is) (same-history b c p q) t s h in
+      (same.0 ∙ sym k.0, same.1 ∙ sym k.1)
+
+going-one : (goal : Goal) → IsOneGoing (going_to goal)
+going-one goal nodes start scripts t u s r few (lists, are, h) (others, too, k) =
     let same = same_lists scripts lists others are too in
     let short = subst (λ n. n ≤ 1) (sym (as_many_lists scripts others too)) few in
-    let made = subst (λ (ls : List (List Command)). IsMadeFrom nodes start ls b) same p in
-    imaged-one c t u s r (same-book nodes start others b c short made q t s h) k
+    reached-one nodes start.base start.before others short goal t u s r (subst (λ (ls : List (List Command)). IsReached goal nodes start.base start.before ls t s) same h) k
 
-pub one_imaged : (sequel text other : List ℕ) (status another : Status) → IsImagedAs sequel text status → IsImagedAs sequel other another → (text ≡ other) × (status ≡ another)
-one_imaged = one-told AreImaged images-one
+pub one_sequel_output : (goal : Goal) (sequel text other : List ℕ) (status another : Status) → IsSequelOutput goal sequel text status → IsSequelOutput goal sequel other another
+    → (text ≡ other) × (status ≡ another)
+one_sequel_output goal = one-told (going_to goal) (going-one goal)

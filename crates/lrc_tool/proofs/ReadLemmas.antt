@@ -22,7 +22,7 @@ bundles_alike answer a b text status p q h =
     (subst (λ (o : Option (List ℕ)). IsAnsweredUnless (run_judging answer) o a text status) (too_long a p) h)
 
 module _ (told : Telling) (limit : ℕ) (alike : TellsAlike limit told) where
-  told_to_read : (input read text : List ℕ) (status : Status) (left : Option (List ℕ)) → IsReadUpTo limit (Some input) left read → told read text status → told input text status
+  pub told_to_read : (input read text : List ℕ) (status : Status) (left : Option (List ℕ)) → IsReadUpTo limit (Some input) left read → told read text status → told input text status
   told_to_read input read text status None taken h = absurd taken.0
   told_to_read input read text status (Some rest) taken h =
       elim taken.1 [

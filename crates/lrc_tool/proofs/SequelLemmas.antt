@@ -20,15 +20,18 @@ use Rattle.lrc_script.specs.Scripts.{lines_of}
 use Rattle.lrc_script.specs.Bundles.{Script, scripts_of}
 use Rattle.lrc_script.specs.Cuts.{IsCut}
 use Rattle.lrc_script.proofs.CutLemmas.{pieces_behind, slice_split-cut}
+use Rattle.lrc_show.specs.declared.view.View.{View}
 use Rattle.lrc_tool.specs.declared.status.Status.{Status}
 use Rattle.lrc_tool.specs.declared.status.Status.TheVariants as ended
+use Rattle.lrc_tool.specs.declared.sequel.Goal.{Goal}
+use Rattle.lrc_tool.specs.declared.sequel.Goal.TheVariants as to
 use Rattle.lrc_tool.specs.declared.begin.Begun.{Begun}
 use Rattle.lrc_tool.specs.declared.begin.Begun.TheVariants.{Refused, Good}
 use Rattle.lrc_tool.specs.Limits.{sequel_limit}
 use Rattle.lrc_tool.specs.Refusals.{bad_line_text_behind, bad_image_text}
-use Rattle.lrc_tool.specs.Outputs.{IsAnsweredIn, IsPlayedFrom}
+use Rattle.lrc_tool.specs.Outputs.{IsAnsweredIn}
 use Rattle.lrc_tool.specs.Judged.{lists_of, NoEnding, IsRefusalIn, IsAccepted}
-use Rattle.lrc_tool.specs.Sequels.{bytes_to_end, is_end, image_part, bundle_part, lines_before, ReadsImage, Start, start_in, Going, IsBegunUnless, sequel_judging, IsToldAfter, IsToldUnless, IsTold, AreResumed, IsResumed, IsImaged, IsMadeFrom, AreImaged, IsImagedAs}
+use Rattle.lrc_tool.specs.Sequels.{bytes_to_end, is_end, image_part, bundle_part, lines_before, ReadsImage, Start, start_in, Going, IsBegunUnless, sequel_judging, IsToldAfter, IsToldUnless, IsTold, IsImaged, IsTable, IsMadeFrom, IsReached, going_to, IsSequelOutput}
 use Rattle.lrc_tool.specs.Begun.{IsBadImage, IsBegunOver, NotGoing, IsGoodIn, IsBegunIn, IsGoodSequel, IsBegunBy}
 use Rattle.lrc_tool.proofs.JudgedLemmas.{good_to_end, few_scripts, lists_many}
 use Rattle.lrc_tool.proofs.AnswerLemmas.{ends_other}
@@ -176,31 +179,41 @@ module _ (sequel part bundle : List ℕ) (passed : ℕ) (short : length sequel �
 
 -- ---- what is written
 
-pub resumed_by : (sequel text : List ℕ) (b : BookView) (scripts : List (Vec Command Global)) → IsGoodSequel sequel b scripts → IsPlayedFrom b.nodes b.base b.before (lists_of scripts) text
-    → IsResumed sequel text ended.Done
-resumed_by sequel text b scripts good played =
+pub reached_by : (goal : Goal) (sequel text : List ℕ) (status : Status) (b : BookView) (scripts : List (Vec Command Global)) → IsGoodSequel sequel b scripts
+    → IsReached goal b.nodes b.base b.before (lists_of scripts) text status → IsSequelOutput goal sequel text status
+reached_by goal sequel text status b scripts good reached =
     let start = start_in good.image in
     let lists = lists_of scripts in
-    let based = subst (λ (w : World). IsPlayedFrom b.nodes w b.before lists text) good.good.fresh.base played in
-    let behind = subst (λ n. IsPlayedFrom b.nodes start.base n lists text) good.good.fresh.before based in
-    good_told AreResumed sequel text ended.Done b scripts good ((lists, good.good.accepted.commands, behind), refl)
+    let based = subst (λ (w : World). IsReached goal b.nodes w b.before lists text status) good.good.fresh.base reached in
+    let behind = subst (λ n. IsReached goal b.nodes start.base n lists text status) good.good.fresh.before based in
+    good_told (going_to goal) sequel text status b scripts good (lists, good.good.accepted.commands, behind)
 
-pub imaged_by : (sequel text : List ℕ) (status : Status) (b after : BookView) (scripts : List (Vec Command Global)) → IsGoodSequel sequel b scripts → after.nodes ≡ b.nodes → after.base ≡ b.base
-    → after.before ≡ b.before → IsLegalFrom b.nodes b.base after.history → commands_of_each (length scripts) after.history ≡ lists_of scripts
-    → All (λ e. e.session.value ≤ length scripts) after.history → IsImaged after text status → IsImagedAs sequel text status
-imaged_by sequel text status b after scripts good over base before legal made only h =
+-- the book has made the commands of these scripts
+made_from : (b after : BookView) (scripts : List (Vec Command Global)) → after.nodes ≡ b.nodes → after.base ≡ b.base → after.before ≡ b.before
+    → IsLegalFrom b.nodes b.base after.history → commands_of_each (length scripts) after.history ≡ lists_of scripts → All (λ e. e.session.value ≤ length scripts) after.history
+    → IsMadeFrom b.nodes b.base b.before (lists_of scripts) after
+made_from b after scripts over base before legal made only =
     let lists = lists_of scripts in
     let many : length lists ≡ length scripts = length-map scripts (λ (v : Vec Command Global). v.items) in
     let on_nodes = subst (λ (ns : List NodeInfo). IsLegalFrom ns b.base after.history) (sym over) legal in
-    let from : IsMadeFrom b.nodes (start_in good.image) lists after = record {
+    record {
       over = over;
-      begun = base ∙ good.good.fresh.base;
-      before = before ∙ good.good.fresh.before;
+      begun = base;
+      before_is = before;
       legal = subst (λ (w : World). IsLegalFrom after.nodes w after.history) (sym base) on_nodes;
       made = subst (λ n. commands_of_each n after.history ≡ lists) (sym many) made;
       only = subst (λ n. All (λ e. e.session.value ≤ n) after.history) (sym many) only;
-    } in
-    good_told AreImaged sequel text status b scripts good (lists, good.good.accepted.commands, after, from, h)
+    }
+
+pub tabled_by : (view : View) (text : List ℕ) (status : Status) (b after : BookView) (scripts : List (Vec Command Global)) → after.nodes ≡ b.nodes → after.base ≡ b.base → after.before ≡ b.before
+    → IsLegalFrom b.nodes b.base after.history → commands_of_each (length scripts) after.history ≡ lists_of scripts → All (λ e. e.session.value ≤ length scripts) after.history
+    → IsTable view after text status → IsReached (to.Table view) b.nodes b.base b.before (lists_of scripts) text status
+tabled_by view text status b after scripts over base before legal made only h = (after, made_from b after scripts over base before legal made only, h)
+
+pub imaged_by : (text : List ℕ) (status : Status) (b after : BookView) (scripts : List (Vec Command Global)) → after.nodes ≡ b.nodes → after.base ≡ b.base → after.before ≡ b.before
+    → IsLegalFrom b.nodes b.base after.history → commands_of_each (length scripts) after.history ≡ lists_of scripts → All (λ e. e.session.value ≤ length scripts) after.history
+    → IsImaged after text status → IsReached to.Image b.nodes b.base b.before (lists_of scripts) text status
+imaged_by text status b after scripts over base before legal made only h = (after, made_from b after scripts over base before legal made only, h)
 
 -- the text of an image is not empty, so an error tells its bad line
 pub bad_image : (text : List ℕ) (e : ImageTextError) → text ≢ [] → IsRefused text e → IsBadImage text e

@@ -142,7 +142,7 @@ module _ (nodes : List NodeInfo) where
       (is_within count w' cs (All-tail (IsWithin count) c cs all))
 
   -- the calls from a world on, and what is printed of their replies
-  some_made : (base : World) (before : ℕ) (scripts : List (List Command)) → length scripts ≤ 8
+  pub some_made : (base : World) (before : ℕ) (scripts : List (List Command)) → length scripts ≤ 8
       → (history : List Entry) × AreMadeFrom nodes base before scripts history (replies_text_behind before (length scripts) history)
   some_made base before scripts few =
       let low : 1 ≤ 1 = lit≤ tt in

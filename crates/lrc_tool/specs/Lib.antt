@@ -19,3 +19,4 @@ pub mod Recoveries
 pub mod Checks
 pub mod Sequels
 pub mod Begun
+pub mod Apart

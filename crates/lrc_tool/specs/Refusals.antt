@@ -1,13 +1,13 @@
 -- The lines for refused topologies, for bad lines of scripts and for refused images.
-use Rattle.std.specs.Prelude.{ℕ, zero, suc, ◌+◌, List, [], ◌++◌, length, codes, decimal, Option}
+use Rattle.std.specs.Prelude.{ℕ, ◌+◌, List, [], ◌++◌, codes, decimal, Option}
 use Rattle.lrc_code.specs.declared.numbers.UpgradeNo.{UpgradeNo}
 use Rattle.lrc_topology.specs.declared.error.TopologyError.{TopologyError}
 use Rattle.lrc_topology.specs.declared.error.TopologyError.TheVariants.{Syntax, NoNodes, BadField, OutOfRange, DoubleNode, TooMany, OutOfMemory}
 use Rattle.lrc_script.specs.declared.script.Cause.{Cause}
 use Rattle.lrc_script.specs.declared.script.Cause.TheVariants as cause
 use Rattle.lrc_images.specs.declared.cause.Cause.{Cause as RowCause}
-use Rattle.lrc_images.specs.declared.cause.Cause.TheVariants as row
-use Rattle.lrc_image_text.specs.Texts.{upgrading_lines}
+use Rattle.lrc_images.specs.CauseNumbers.{row_cause_number}
+use Rattle.lrc_image_text.specs.Texts.{row_line}
 use Rattle.lrc_script.specs.Scripts.{BadLine}
 
 -- the line for a refused topology; `OutOfMemory` is no refusal and has none
@@ -41,36 +41,6 @@ bad_line_text_behind passed bad = bad_line_text (record { line = passed + bad.li
 -- the line for a bad line of an image's text
 abbrev pub bad_image_text : ℕ → List ℕ
 bad_image_text line = codes "image " ++ decimal line ++ codes "\n"
-
--- the number of a cause for which a row is refused
-abbrev pub row_cause_number : RowCause → ℕ
-row_cause_number row.UnknownDomain = 1
-row_cause_number row.TooManyEntries = 2
-row_cause_number row.TooManyTicks = 3
-row_cause_number row.OutOfOrder = 4
-row_cause_number row.SaysNothing = 5
-row_cause_number row.UnknownNode = 6
-row_cause_number row.GoneAndDown = 7
-row_cause_number row.UnknownFragment = 8
-row_cause_number row.UnknownSlot = 9
-row_cause_number row.NodeGone = 10
-row_cause_number row.SeatTaken = 11
-row_cause_number row.NotLawful = 12
-row_cause_number row.TooManyGrants = 13
-row_cause_number row.UnknownStripe = 14
-row_cause_number row.NeverGranted = 15
-row_cause_number row.WrongExpiry = 16
-
--- the line of an image's text that has the number of entries, the number of ticks or the upgrading domain, whichever the cause is of
-abbrev pub head_line : RowCause → ℕ
-head_line row.TooManyEntries = 2
-head_line row.TooManyTicks = 3
-head_line _ = 4
-
--- the line of the row at this position, in the text of an image with this upgrading domain or none
-abbrev pub row_line : Option UpgradeNo → ℕ → RowCause → ℕ
-row_line upgrading zero cause = head_line cause
-row_line upgrading (suc n) cause = 3 + length (upgrading_lines upgrading) + suc n
 
 -- the line for an image whose row at a position is refused for a cause
 abbrev pub refused_row_text : Option UpgradeNo → ℕ × RowCause → List ℕ

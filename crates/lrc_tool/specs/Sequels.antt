@@ -1,5 +1,5 @@
 -- What is written for a sequel, and how it ends: an image of a state, or none, and a bundle behind it.
-use Rattle.std.specs.Prelude.{◌≡◌, ◌≢◌, ◌⊎◌, ℕ, ◌+◌, ◌≤◌, min, Bool, true, false, if◌then◌else◌, nat_lt, nat_eq, List, [], ◌∷◌, ◌++◌, length, take, drop, count_by, All, codes, Option, Some, None, Result, Ok, Err}
+use Rattle.std.specs.Prelude.{◌≡◌, ◌≢◌, ◌⊎◌, ℕ, ◌+◌, ◌≤◌, min, Bool, true, false, if◌then◌else◌, nat_lt, nat_eq, List, [], ◌∷◌, length, take, drop, count_by, All, codes, Option, Some, None, Result, Ok, Err}
 use Rattle.std.specs.List.{starts_with}
 use Rattle.lrc_code.specs.declared.numbers.UpgradeNo.{UpgradeNo}
 use Rattle.lrc_topology.specs.declared.NodeInfo.{NodeInfo}
@@ -10,11 +10,14 @@ use Rattle.lrc_images.specs.declared.cause.Cause.{Cause}
 use Rattle.lrc_images.specs.declared.image.Image.{Image}
 use Rattle.lrc_images.specs.Images.{image_world}
 use Rattle.lrc_images.specs.Causes.{first_cause}
-use Rattle.lrc_images.specs.Rows.{IsImageOf}
 use Rattle.lrc_image_text.specs.Texts.{image_text, IsWritten, IsBadLine}
-use Rattle.lrc_book.specs.Books.{BookView, state_of, IsSpent}
+use Rattle.lrc_book.specs.Books.{BookView, state_of, IsSpent, IsImageOfBook}
+use Rattle.lrc_show.specs.declared.view.View.{View}
+use Rattle.lrc_show.specs.Shown.{view_text}
 use Rattle.lrc_script.specs.Scripts.{lines_of, same_text}
 use Rattle.lrc_script.specs.Bundles.{Script}
+use Rattle.lrc_tool.specs.declared.sequel.Goal.{Goal}
+use Rattle.lrc_tool.specs.declared.sequel.Goal.TheVariants as to
 use Rattle.lrc_tool.specs.declared.status.Status.{Status}
 use Rattle.lrc_tool.specs.declared.status.Status.TheVariants as ended
 use Rattle.lrc_tool.specs.Limits.{sequel_limit}
@@ -103,56 +106,50 @@ IsToldUnless going false sequel text status =
 abbrev pub IsTold : Going → List ℕ → List ℕ → Status → Type 0
 IsTold going sequel text status = IsToldUnless going (nat_lt sequel_limit (length sequel)) sequel text status
 
--- ---- `resume`
-
--- what `run` writes, with places after the entries of the store so far, and the tables after the last command
-abbrev pub AreResumed : Going
-AreResumed nodes start scripts text status =
-    ((lists : List (List Command)) × AreCommandsOf scripts lists × IsPlayedFrom nodes start.base start.before lists text) × (status ≡ ended.Done)
-
--- `resume` of this sequel writes this text and ends with this status
-abbrev pub IsResumed : List ℕ → List ℕ → Status → Type 0
-IsResumed sequel text status = IsTold AreResumed sequel text status
-
--- the output of `resume` for this sequel was written, whole, after what was written before
-abbrev pub WritesResumed : Option (List ℕ) → Option (List ℕ) → List ℕ → Status → Type 0
-WritesResumed old new sequel status = WritesTold IsResumed old new sequel status
-
--- a prefix of that output was written after what was written before
-abbrev pub WritesPartOfResumed : Option (List ℕ) → Option (List ℕ) → List ℕ → Type 0
-WritesPartOfResumed old new sequel = WritesPartOfTold IsResumed old new sequel
-
--- ---- `image`
+-- ---- the goals
 
 -- the text of the image of a book's state, unless no book can begin in it
 abbrev pub IsImaged : BookView → List ℕ → Status → Type 0
 IsImaged b text status =
     (IsSpent b × (text ≡ full_image_text) × (status ≡ ended.Refused))
-    ⊎ ((IsSpent b → ⊥) × (status ≡ ended.Done)
-    × (i : Image) × IsImageOf b.nodes (b.base.past ++ b.history) (state_of b) (b.before + length b.history) i × (text ≡ image_text i))
+    ⊎ ((IsSpent b → ⊥) × (status ≡ ended.Done) × (i : Image) × IsImageOfBook b i × (text ≡ image_text i))
+
+-- the table of a book's state that is asked for
+abbrev pub IsTable : View → BookView → List ℕ → Status → Type 0
+IsTable view b text status = (text ≡ view_text view b.nodes (state_of b) (b.before + length b.history)) × (status ≡ ended.Done)
 
 -- the book began here, and in its history the sessions made the commands of their scripts, in order, and it has no other entries
-pub record IsMadeFrom (nodes : List NodeInfo) (start : Start) (scripts : List (List Command)) (b : BookView) : Type 0 where
+pub record IsMadeFrom (nodes : List NodeInfo) (base : World) (before : ℕ) (scripts : List (List Command)) (b : BookView) : Type 0 where
   pub over : b.nodes ≡ nodes
-  pub begun : b.base ≡ start.base
-  pub before : b.before ≡ start.before
+  pub begun : b.base ≡ base
+  pub before_is : b.before ≡ before
   pub legal : IsLegalFrom b.nodes b.base b.history
   pub made : commands_of_each (length scripts) b.history ≡ scripts
   pub only : All (λ e. e.session.value ≤ length scripts) b.history
 
--- what is written of the state after the scripts
-abbrev pub AreImaged : Going
-AreImaged nodes start scripts text status =
-    (lists : List (List Command)) × AreCommandsOf scripts lists × (b : BookView) × IsMadeFrom nodes start lists b × IsImaged b text status
+-- What is written of scripts with these commands, from this world on, before which the store had `before` entries: what `run`
+-- writes, with places after those entries and the tables after the last command; or the image, or a table, of the state after the
+-- scripts.
+abbrev pub IsReached : Goal → List NodeInfo → World → ℕ → List (List Command) → List ℕ → Status → Type 0
+IsReached to.Replies nodes base before lists text status = IsPlayedFrom nodes base before lists text × (status ≡ ended.Done)
+IsReached to.Image nodes base before lists text status = (b : BookView) × IsMadeFrom nodes base before lists b × IsImaged b text status
+IsReached (to.Table view) nodes base before lists text status = (b : BookView) × IsMadeFrom nodes base before lists b × IsTable view b text status
 
--- `image` of this sequel writes this text and ends with this status
-abbrev pub IsImagedAs : List ℕ → List ℕ → Status → Type 0
-IsImagedAs sequel text status = IsTold AreImaged sequel text status
+-- the same of scripts with these lines, in a book that begins here
+abbrev pub going_to : Goal → Going
+going_to goal nodes start scripts text status =
+    (lists : List (List Command)) × AreCommandsOf scripts lists × IsReached goal nodes start.base start.before lists text status
 
--- the output of `image` for this sequel was written, whole, after what was written before
-abbrev pub WritesImaged : Option (List ℕ) → Option (List ℕ) → List ℕ → Status → Type 0
-WritesImaged old new sequel status = WritesTold IsImagedAs old new sequel status
+-- ---- what is written
+
+-- going on from this sequel to this goal writes this text and ends with this status
+abbrev pub IsSequelOutput : Goal → List ℕ → List ℕ → Status → Type 0
+IsSequelOutput goal sequel text status = IsTold (going_to goal) sequel text status
+
+-- the output for this sequel was written, whole, after what was written before
+abbrev pub WritesSequelOutput : Goal → Option (List ℕ) → Option (List ℕ) → List ℕ → Status → Type 0
+WritesSequelOutput goal old new sequel status = WritesTold (IsSequelOutput goal) old new sequel status
 
 -- a prefix of that output was written after what was written before
-abbrev pub WritesPartOfImaged : Option (List ℕ) → Option (List ℕ) → List ℕ → Type 0
-WritesPartOfImaged old new sequel = WritesPartOfTold IsImagedAs old new sequel
+abbrev pub WritesPartOfSequelOutput : Goal → Option (List ℕ) → Option (List ℕ) → List ℕ → Type 0
+WritesPartOfSequelOutput goal old new sequel = WritesPartOfTold (IsSequelOutput goal) old new sequel

@@ -12,6 +12,7 @@ ghost use Rattle.lrc_tool.specs.declared.streams.RunFault.TheVariants as fault;
 use crate::judging::{Judged, judge_behind};
 use crate::limits::SEQUEL_LIMIT;
 use crate::output::{Output, bad_image, refused, refused_row};
+use crate::reasons::TOO_LONG;
 use crate::streams::RunFault;
 use lrc_book::{BeginError, Book, Command, Image};
 use lrc_code::UpgradeNo;
@@ -39,7 +40,7 @@ pub(crate) fn begin(alloc: Global, sequel: &[u8]) -> Result<Begun, RunFault>
     ensures err { IfErr result (λ e. e ≡ fault.OutOfMemory) }
 {
     if sequel.len() > SEQUEL_LIMIT {
-        return Ok(Begun::Refused(refused(alloc, "bundle 1\n")?));
+        return Ok(Begun::Refused(refused(alloc, "bundle 1\n", TOO_LONG)?));
     }
     let size = image_size(sequel);
     let text = &sequel[..size];

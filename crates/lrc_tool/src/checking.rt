@@ -72,11 +72,7 @@ fn counted(alloc: Global, nodes: usize, scripts: &[Vec<Command>]) -> Result<Outp
     let commands = scripts.iter().map(|script| script.len()).sum();
     let mut text = String::new(alloc);
     push_counts(&mut text, nodes, scripts.len(), commands)?;
-    let status = Status::Done;
-    Ok(Output {
-        text: text.into_bytes(),
-        status,
-    })
+    Ok(Output::done(text.into_bytes()))
 }
 
 fn push_counts(

@@ -7,6 +7,7 @@ ghost use Rattle.lrc_tool.specs.declared.streams.RunFault.TheVariants as fault;
 
 use crate::limits::{BUNDLE_LIMIT, SCRIPT_LIMIT, SEQUEL_LIMIT};
 use crate::output::{Output, bad_line, refused, refused_topology};
+use crate::reasons::{TOO_LONG, TOO_MANY_SCRIPTS};
 use crate::streams::RunFault;
 use lrc_book::Command;
 use lrc_script::{BundleError, ScriptError, ScriptText, parse_script, split_bundle};
@@ -47,12 +48,12 @@ pub(crate) fn judge_behind(
     ensures err { IfErr result (λ e. e ≡ fault.OutOfMemory) }
 {
     if bundle.len() > BUNDLE_LIMIT {
-        return Ok(Judged::Refused(refused(alloc, "bundle 1\n")?));
+        return Ok(Judged::Refused(refused(alloc, "bundle 1\n", TOO_LONG)?));
     }
     let parts = match split_bundle(alloc, bundle, most) {
         Ok(parts) => parts,
         Err(BundleError::TooManyScripts) => {
-            return Ok(Judged::Refused(refused(alloc, "bundle 2\n")?));
+            return Ok(Judged::Refused(refused(alloc, "bundle 2\n", TOO_MANY_SCRIPTS)?));
         }
         Err(BundleError::OutOfMemory) => return Err(RunFault::OutOfMemory),
     };

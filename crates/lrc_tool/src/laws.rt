@@ -8,7 +8,8 @@ ghost use Rattle.lrc_tool.specs.declared.status.Status.{Status};
 ghost use Rattle.lrc_tool.specs.declared.status.Status.TheVariants.{Done};
 ghost use Rattle.lrc_tool.specs.Outputs.{IsOutput};
 ghost use Rattle.lrc_tool.specs.Checks.{command_count, IsCheck};
-ghost use Rattle.lrc_tool.specs.Sequels.{IsResumed, IsImagedAs};
+ghost use Rattle.lrc_tool.specs.declared.sequel.Goal.{Goal};
+ghost use Rattle.lrc_tool.specs.Sequels.{IsSequelOutput};
 
 /// Each bundle has an output of a run.
 pub fn some_output()
@@ -44,14 +45,14 @@ pub fn counted_commands()
         → IsScript script.lines commands → length commands ≡ command_count script }
 {}
 
-/// Each sequel has at most one output of `resume`.
-pub fn one_resumed()
-    ensures { (sequel text other : List ℕ) (status another : Status)
-        → IsResumed sequel text status → IsResumed sequel other another → (text ≡ other) × (status ≡ another) }
+/// Each sequel has an output for each goal.
+pub fn some_sequel_output()
+    ensures { (goal : Goal) (sequel : List ℕ) → (text : List ℕ) × (status : Status) × IsSequelOutput goal sequel text status }
 {}
 
-/// Each sequel has at most one output of `image`.
-pub fn one_imaged()
-    ensures { (sequel text other : List ℕ) (status another : Status)
-        → IsImagedAs sequel text status → IsImagedAs sequel other another → (text ≡ other) × (status ≡ another) }
+/// Each sequel has one output for each goal.
+pub fn one_sequel_output()
+    ensures { (goal : Goal) (sequel text other : List ℕ) (status another : Status)
+        → IsSequelOutput goal sequel text status → IsSequelOutput goal sequel other another
+        → (text ≡ other) × (status ≡ another) }
 {}

@@ -1,6 +1,7 @@
 //! The functions of the program: running, going on, checking and recovering, from bytes to bytes.
 #![tactic(auto)]
 
+mod apart;
 mod begin;
 mod checking;
 mod judging;
@@ -9,16 +10,19 @@ mod limits;
 mod output;
 mod play;
 mod program;
+mod reasons;
 mod recovery;
 mod sequel;
 mod status;
 mod streams;
 mod together;
 
+pub use apart::ask;
 pub use checking::check;
 pub use lrc_script::{Cause, ScriptError, parse_script};
+pub use lrc_show::View;
 pub use program::run;
 pub use recovery::{recover, recover_narrow};
-pub use sequel::{image, resume};
+pub use sequel::{Goal, go_on};
 pub use status::Status;
 pub use streams::{Plain, RunFault, Sink, Source};

@@ -1,13 +1,16 @@
 ghost use Rattle.std.specs.Prelude.{◌≡◌, ◌++◌, codes, decimal, string_bytes, IfOk, IfErr, OnOk};
 ghost use Rattle.lrc_images.specs.declared.cause.Cause.{Cause as RowCause};
-ghost use Rattle.lrc_tool.specs.Refusals.{topology_line, cause_number, bad_line_text, bad_image_text, row_cause_number, head_line, row_line, refused_row_text};
+ghost use Rattle.lrc_images.specs.CauseNumbers.{row_cause_number};
+ghost use Rattle.lrc_tool.specs.Refusals.{topology_line, cause_number, bad_line_text, bad_image_text, refused_row_text};
 ghost use Rattle.lrc_tool.specs.declared.status.Status.TheVariants as ended;
 ghost use Rattle.lrc_tool.specs.declared.streams.RunFault.TheVariants as fault;
 
+use crate::reasons::{line_reason, row_reason, topology_reason};
 use crate::status::Status;
 use crate::streams::RunFault;
 use lrc_book::Cause as RowCause;
 use lrc_code::UpgradeNo;
+use lrc_image_text::row_line;
 use lrc_script::Cause;
 use lrc_topology::TopologyError;
 use std::alloc::{AllocError, Global};
@@ -17,6 +20,37 @@ use std::alloc::{AllocError, Global};
 pub(crate) struct Output {
     pub text: Vec<u8>,
     pub status: Status,
+    /// Why the input is refused, in words; empty where it is not.
+    pub reason: &'static str,
+}
+
+impl Output {
+    /// An answer.
+    pub fn done(text: Vec<u8>) -> Output
+        ensures text { result.text.items ≡ text.items }
+        ensures status { result.status ≡ ended.Done }
+    {
+        let status = Status::Done;
+        let reason = "";
+        Output {
+            text,
+            status,
+            reason,
+        }
+    }
+
+    /// A refusal by this line, for a reason in words.
+    pub fn refusal(line: String, status: Status, reason: &'static str) -> Output
+        ensures text { result.text.items ≡ string_bytes line }
+        ensures status { result.status ≡ status }
+    {
+        let text = line.into_bytes();
+        Output {
+            text,
+            status,
+            reason,
+        }
+    }
 }
 
 /// The output for a bad line of a script.
@@ -27,11 +61,7 @@ pub(crate) fn bad_line(alloc: Global, line: u64, cause: Cause) -> Result<Output,
 {
     let mut text = String::new(alloc);
     push_bad_line(&mut text, line, cause)?;
-    let status = Status::BadLine;
-    Ok(Output {
-        text: text.into_bytes(),
-        status,
-    })
+    Ok(Output::refusal(text, Status::BadLine, line_reason(cause)))
 }
 
 /// The output for a refused topology.
@@ -42,11 +72,7 @@ pub(crate) fn refused_topology(alloc: Global, error: TopologyError) -> Result<Ou
 {
     let mut text = String::new(alloc);
     push_topology_line(&mut text, error)?;
-    let status = Status::Refused;
-    Ok(Output {
-        text: text.into_bytes(),
-        status,
-    })
+    Ok(Output::refusal(text, Status::Refused, topology_reason(error)))
 }
 
 /// The output for an image whose text has this bad line.
@@ -57,11 +83,11 @@ pub(crate) fn bad_image(alloc: Global, line: u64) -> Result<Output, RunFault>
 {
     let mut text = String::new(alloc);
     push_bad_image(&mut text, line)?;
-    let status = Status::Refused;
-    Ok(Output {
-        text: text.into_bytes(),
-        status,
-    })
+    Ok(Output::refusal(
+        text,
+        Status::Refused,
+        "this line can't stand here in an image",
+    ))
 }
 
 /// The output for an image with this upgrading domain, whose row at this position is refused.
@@ -77,25 +103,17 @@ pub(crate) fn refused_row(
 {
     let mut text = String::new(alloc);
     push_refused_row(&mut text, row_line(upgrading, position, cause), cause)?;
-    let status = Status::Refused;
-    Ok(Output {
-        text: text.into_bytes(),
-        status,
-    })
+    Ok(Output::refusal(text, Status::Refused, row_reason(cause)))
 }
 
-/// The output for a bundle that is refused by this line.
-pub(crate) fn refused(alloc: Global, line: &str) -> Result<Output, RunFault>
+/// The output for an input that is refused by this line, for a reason in words.
+pub(crate) fn refused(alloc: Global, line: &str, reason: &'static str) -> Result<Output, RunFault>
     ensures text { IfOk result (λ o. o.text.items ≡ line.now) }
     ensures status { IfOk result (λ o. o.status ≡ ended.Refused) }
     ensures err { IfErr result (λ e. e ≡ fault.OutOfMemory) }
 {
     let text = String::from_str(alloc, line)?;
-    let status = Status::Refused;
-    Ok(Output {
-        text: text.into_bytes(),
-        status,
-    })
+    Ok(Output::refusal(text, Status::Refused, reason))
 }
 
 /// Adds the line for a refused topology. `OutOfMemory` is no refusal and has no line.
@@ -133,28 +151,6 @@ fn push_bad_image(out: &mut String, line: u64) -> Result<(), AllocError>
 fn push_refused_row(out: &mut String, line: u128, cause: RowCause) -> Result<(), AllocError>
     ensures { OnOk result (string_bytes out.new ≡ string_bytes out.old ++ (codes "image " ++ decimal line ++ codes " cause " ++ decimal (row_cause_number cause) ++ codes "\n")) }
 {
-    let number = cause as u8 + 1;
+    let number = cause.number();
     write!(out, "image {line} cause {number}\n")
-}
-
-/// The line of a row's position in the text of an image with this upgrading domain. A `u128`, since a position is any `usize`.
-fn row_line(upgrading: Option<UpgradeNo>, position: usize, cause: RowCause) -> u128
-    ensures { result ≡ row_line upgrading position cause }
-{
-    if position == 0 {
-        return head_line(cause);
-    }
-    let first_lines = if upgrading.is_some() { 4 } else { 3 };
-    first_lines + position as u128
-}
-
-/// The line of the number that a cause is of.
-fn head_line(cause: RowCause) -> u128
-    ensures { result ≡ head_line cause }
-{
-    match cause {
-        RowCause::TooManyEntries => 2,
-        RowCause::TooManyTicks => 3,
-        _ => 4,
-    }
 }

@@ -135,6 +135,7 @@ fn make_alone(book: &mut Book, commands: &[Command]) -> Result<(), RunFault>
 }
 
 /// Runs commands in order, all by one session.
+#[inline(always)] // so that the session is a constant in the loop
 fn make_all(book: &mut Book, session: SessionNo, commands: &[Command]) -> Result<(), RunFault>
     // The history has room for them.
     requires few { length book.old.history + length commands.now ≤ book.old.limit }

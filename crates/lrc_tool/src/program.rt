@@ -74,8 +74,7 @@ fn output_of<T: Threads + Wait + Sync>(
         Judged::Good { topology, scripts } => {
             let room = emptied(bundle);
             let text = play_all(rt, alloc, topology, scripts.as_slice(), room)?;
-            let status = Status::Done;
-            Ok(Output { text, status })
+            Ok(Output::done(text))
         }
     }
 }

@@ -9,6 +9,7 @@ ghost use Rattle.lrc_tool.specs.Recoveries.{recovery_status};
 ghost use Rattle.lrc_tool.specs.declared.streams.RunFault.TheVariants as fault;
 
 use crate::output::Output;
+use crate::reasons::BAD_MASK;
 use crate::status::Status;
 use crate::streams::{RunFault, Sink, write_all};
 use lrc_code::Code;
@@ -95,12 +96,8 @@ fn recovery_of(alloc: Global, code: Code, word: &str) -> Result<Output, RunFault
     let mask = parse_mask(code, word);
     let mut text = String::new(alloc);
     push_mask_line(&mut text, code, mask)?;
-    let status = match mask {
-        Some(_) => Status::Done,
-        None => Status::Refused,
-    };
-    Ok(Output {
-        text: text.into_bytes(),
-        status,
+    Ok(match mask {
+        Some(_) => Output::done(text.into_bytes()),
+        None => Output::refusal(text, Status::Refused, BAD_MASK),
     })
 }

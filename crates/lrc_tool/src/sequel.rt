@@ -1,9 +1,11 @@
-//! Going on from an image: the output of a sequel's script, and the image after it.
+//! Going on from an image: the script of a sequel, and what is written after it.
 
-ghost use Rattle.std.specs.Prelude.{◌≡◌, ◌≢◌, ◌||◌, ◌⊎◌, ◌+◌, true, OnOk, IfOk, IfErr, IfSome, IsErrOf};
+ghost use Rattle.std.specs.Prelude.{◌≡◌, ◌≢◌, ◌||◌, ◌⊎◌, ◌+◌, ◌≤◌, true, [], length, OnOk, IfOk, IfErr, IfSome, IsErrOf};
 ghost use Rattle.std.specs.Io.KnownBytes.{Keeps};
+ghost use Rattle.lrc_images.specs.Causes.{most_entries};
 ghost use Rattle.lrc_tool.specs.Streams.{is_read_fault, is_write_fault, ConsumesAtMost};
-ghost use Rattle.lrc_tool.specs.Sequels.{IsImaged, IsResumed, WritesResumed, WritesPartOfResumed, IsImagedAs, WritesImaged, WritesPartOfImaged};
+ghost use Rattle.lrc_tool.specs.Judged.{lists_of, AreFew};
+ghost use Rattle.lrc_tool.specs.Sequels.{IsImaged, IsReached, IsSequelOutput, WritesSequelOutput, WritesPartOfSequelOutput};
 ghost use Rattle.lrc_tool.specs.declared.streams.RunFault.TheVariants as fault;
 
 use crate::begin::{Begun, begin};
@@ -12,28 +14,41 @@ use crate::output::{Output, refused};
 use crate::play::{make_scripts, play_on};
 use crate::status::Status;
 use crate::streams::{RunFault, Sink, Source, read_all, write_all};
-use lrc_book::Book;
+use lrc_book::{Book, Command, HISTORY_LIMIT};
 use lrc_code::Fault;
 use lrc_image_text::push_image;
+use lrc_show::{View, shown};
 use std::alloc::Global;
 
+/// What is written for a sequel that passes all checks.
+#[derive(Clone, Copy, Debug, PartialEq, Eq)]
+pub enum Goal {
+    /// The replies to its script and both tables, as `run` writes them.
+    Replies,
+    /// The image of the state after its script.
+    Image,
+    /// A table of the state after its script.
+    Table(View),
+}
+
 /// Runs the script of the sequel that the source holds, from its image on: reads it, runs the script, and then writes the whole
-/// output.
+/// output: what the goal says, or why the sequel is refused.
 ///
 /// # Errors
 ///
 /// `OutOfMemory`; `Read` if a read fails; `Write` if a write fails.
-pub fn resume<R: Source, W: Sink>(
+pub fn go_on<R: Source, W: Sink>(
     alloc: Global,
+    goal: Goal,
     source: &mut R,
     sink: &mut W,
 ) -> Result<Status, RunFault>
     // The output of the sequel was written, whole, if the bytes of the source are known.
-    ensures output { IfOk result (λ status. IfSome (R.left source.old) (λ sequel. WritesResumed (W.written sink.old) (W.written sink.new) sequel status)) }
+    ensures output { IfOk result (λ status. IfSome (R.left source.old) (λ sequel. WritesSequelOutput goal (W.written sink.old) (W.written sink.new) sequel status)) }
 
     // After an error nothing was written, or after a failed write a prefix of the output.
     ensures nothing { IfErr result (λ e. e ≢ fault.Write → Keeps (W.written sink.old) (W.written sink.new)) }
-    ensures part { IsErrOf result fault.Write → IfSome (R.left source.old) (λ sequel. WritesPartOfResumed (W.written sink.old) (W.written sink.new) sequel) }
+    ensures part { IsErrOf result fault.Write → IfSome (R.left source.old) (λ sequel. WritesPartOfSequelOutput goal (W.written sink.old) (W.written sink.new) sequel) }
 
     // After `Ok` the sink was flushed after its last write.
     ensures flushed { OnOk result (W.is_flushed sink.new ≡ true) }
@@ -47,70 +62,48 @@ pub fn resume<R: Source, W: Sink>(
     ensures err { IfErr result (λ e. (e ≡ fault.OutOfMemory) ⊎ (e ≡ fault.Read) ⊎ (e ≡ fault.Write)) }
 {
     let sequel = read_all(alloc, source, SEQUEL_LIMIT)?;
-    let output = resumed(alloc, sequel.as_slice())?;
+    let output = sequel_output(alloc, goal, sequel.as_slice())?;
     write_all(sink, output.text.as_slice())?;
     Ok(output.status)
 }
 
-/// Runs the script of the sequel that the source holds, and writes the image after it in place of the replies.
-///
-/// # Errors
-///
-/// The same as those of `resume`.
-pub fn image<R: Source, W: Sink>(
-    alloc: Global,
-    source: &mut R,
-    sink: &mut W,
-) -> Result<Status, RunFault>
-    // The image after the sequel was written, whole, if the bytes of the source are known.
-    ensures output { IfOk result (λ status. IfSome (R.left source.old) (λ sequel. WritesImaged (W.written sink.old) (W.written sink.new) sequel status)) }
-
-    // After an error nothing was written, or after a failed write a prefix of it.
-    ensures nothing { IfErr result (λ e. e ≢ fault.Write → Keeps (W.written sink.old) (W.written sink.new)) }
-    ensures part { IsErrOf result fault.Write → IfSome (R.left source.old) (λ sequel. WritesPartOfImaged (W.written sink.old) (W.written sink.new) sequel) }
-
-    // After `Ok` the sink was flushed after its last write.
-    ensures flushed { OnOk result (W.is_flushed sink.new ≡ true) }
-
-    // It reads at most one byte more than a sequel may have.
-    ensures most { ConsumesAtMost (SEQUEL_LIMIT + 1) (R.left source.old) (R.left source.new) }
-
-    // It returns `Read` exactly if a read failed, `Write` exactly if a write failed, and else only `OutOfMemory`.
-    ensures read { R.has_failed source.new ≡ (R.has_failed source.old || is_read_fault result) }
-    ensures write { W.has_failed sink.new ≡ (W.has_failed sink.old || is_write_fault result) }
-    ensures err { IfErr result (λ e. (e ≡ fault.OutOfMemory) ⊎ (e ≡ fault.Read) ⊎ (e ≡ fault.Write)) }
-{
-    let sequel = read_all(alloc, source, SEQUEL_LIMIT)?;
-    let output = imaged(alloc, sequel.as_slice())?;
-    write_all(sink, output.text.as_slice())?;
-    Ok(output.status)
-}
-
-/// The output of `resume` for this sequel.
-fn resumed(alloc: Global, sequel: &[u8]) -> Result<Output, RunFault>
-    ensures output { IfOk result (λ o. IsResumed sequel.now (o.text.items) o.status) }
+/// The output of `go_on` for this sequel.
+pub(crate) fn sequel_output(alloc: Global, goal: Goal, sequel: &[u8]) -> Result<Output, RunFault>
+    ensures output { IfOk result (λ o. IsSequelOutput goal sequel.now (o.text.items) o.status) }
     ensures err { IfErr result (λ e. e ≡ fault.OutOfMemory) }
 {
     match begin(alloc, sequel)? {
         Begun::Refused(output) => Ok(output),
-        Begun::Good { mut book, scripts } => {
-            let text = play_on(alloc, &mut book, scripts.as_slice(), Vec::new(alloc))?;
-            let status = Status::Done;
-            Ok(Output { text, status })
-        }
+        Begun::Good { mut book, scripts } => reach(alloc, goal, &mut book, scripts.as_slice()),
     }
 }
 
-/// The output of `image` for this sequel.
-fn imaged(alloc: Global, sequel: &[u8]) -> Result<Output, RunFault>
-    ensures output { IfOk result (λ o. IsImagedAs sequel.now (o.text.items) o.status) }
+/// The output for the only script, if there is one, on a book without entries.
+fn reach(
+    alloc: Global,
+    goal: Goal,
+    book: &mut Book,
+    scripts: &[Vec<Command>],
+) -> Result<Output, RunFault>
+    requires fresh { (book.old.history ≡ []) × (book.old.limit ≡ HISTORY_LIMIT) × (book.old.before ≤ most_entries) }
+    requires few { AreFew scripts.now }
+    requires alone { length scripts.now ≤ 1 }
+    ensures output { IfOk result (λ o. IsReached goal book.old.nodes book.old.base book.old.before (lists_of scripts.now) (o.text.items) o.status) }
     ensures err { IfErr result (λ e. e ≡ fault.OutOfMemory) }
 {
-    match begin(alloc, sequel)? {
-        Begun::Refused(output) => Ok(output),
-        Begun::Good { mut book, scripts } => {
-            make_scripts(&mut book, scripts.as_slice())?;
-            image_output(alloc, &book)
+    match goal {
+        Goal::Replies => {
+            let text = play_on(alloc, book, scripts, Vec::new(alloc))?;
+            Ok(Output::done(text))
+        }
+        Goal::Image => {
+            make_scripts(book, scripts)?;
+            image_output(alloc, book)
+        }
+        Goal::Table(view) => {
+            make_scripts(book, scripts)?;
+            let text = shown(alloc, book, view)?;
+            Ok(Output::done(text))
         }
     }
 }
@@ -124,10 +117,13 @@ fn image_output(alloc: Global, book: &Book) -> Result<Output, RunFault>
         Ok(image) => {
             let mut text = Vec::new(alloc);
             push_image(&mut text, &image)?;
-            let status = Status::Done;
-            Ok(Output { text, status })
+            Ok(Output::done(text))
         }
-        Err(Fault::HistoryFull) => refused(alloc, "image full\n"),
+        Err(Fault::HistoryFull) => refused(
+            alloc,
+            "image full\n",
+            "a number of the state is at its end",
+        ),
         Err(Fault::OutOfMemory) => Err(RunFault::OutOfMemory),
     }
 }

@@ -1,10 +1,25 @@
-/// How a run, a check or a recovery ended. The numbers are the program's exit statuses.
+ghost use Rattle.std.specs.Prelude.{◌≡◌};
+ghost use Rattle.lrc_tool.specs.Apart.{is_answer};
+
+/// How a call of the program ended. The numbers are the program's exit statuses.
 #[derive(Clone, Copy, Debug, PartialEq, Eq)]
 pub enum Status {
-    /// The commands were run, the bundle was checked, or the losses were reported.
+    /// The commands were run, the bundle was checked, or what was asked for was told.
     Done = 0,
     /// A line of a script is bad.
     BadLine = 1,
     /// The bundle, its topology or the mask is refused.
     Refused = 2,
+}
+
+impl Status {
+    /// Whether the input was answered, and not refused.
+    pub(crate) fn is_answer(self) -> bool
+        ensures { result ≡ is_answer self }
+    {
+        match self {
+            Status::Done => true,
+            Status::BadLine | Status::Refused => false,
+        }
+    }
 }

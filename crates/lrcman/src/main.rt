@@ -10,7 +10,9 @@ mod stop;
 
 use crate::stop::Stop;
 use clap::{Arg, ArgAction, ArgMatches, Command};
-use lrc_tool::{Plain, RunFault, Status, check, image, recover, recover_narrow, resume, run};
+use lrc_tool::{
+    Goal, Plain, RunFault, Status, View, ask, check, go_on, recover, recover_narrow, run,
+};
 use std::alloc::{AllocError, Global};
 use std::process::ExitCode;
 use std::sync::Wait;
@@ -22,30 +24,30 @@ use std::{env, io};
 enum Request<'a> {
     Run,
     Check,
-    Image,
-    Resume,
+    GoOn(Goal),
+    Ask(Goal),
     Recover { mask: &'a str },
     Recover6 { mask: &'a str },
 }
 
 /// The command lines that the program takes. Most steps hand their only command on, so that none is let go between.
 fn command_line<'a>(alloc: Global) -> Result<Command<'a>, AllocError> {
-    let recover = of_mask(alloc, "recover")?;
+    let recover = of_word(alloc, "recover", "mask")?;
     let command = Command::new(alloc, "lrcman").subcommand(recover)?;
-    let recover6 = of_mask(alloc, "recover6")?;
+    let recover6 = of_word(alloc, "recover6", "mask")?;
     let command = command.subcommand(recover6)?;
     let command = command.subcommand(Command::new(alloc, "run"))?;
     let command = command.subcommand(Command::new(alloc, "check"))?;
     let command = command.subcommand(Command::new(alloc, "image"))?;
-    command.subcommand(Command::new(alloc, "resume"))
+    let command = command.subcommand(Command::new(alloc, "resume"))?;
+    let show = of_word(alloc, "show", "what")?;
+    command.subcommand(show)
 }
 
-/// The command line of a word and a mask.
-fn of_mask<'a>(alloc: Global, word: &'a str) -> Result<Command<'a>, AllocError> {
-    let mask = Arg::new(alloc, "mask")
-        .required(true)
-        .action(ArgAction::Set);
-    Command::new(alloc, word).arg(mask)
+/// The command line of a word and an argument.
+fn of_word<'a>(alloc: Global, word: &'a str, name: &'a str) -> Result<Command<'a>, AllocError> {
+    let argument = Arg::new(alloc, name).required(true).action(ArgAction::Set);
+    Command::new(alloc, word).arg(argument)
 }
 
 fn parse_request<'a>(alloc: Global, words: &'a [String]) -> Result<Request<'a>, Stop> {
@@ -58,20 +60,32 @@ fn request_in<'a>(matches: &ArgMatches<'a>) -> Result<Request<'a>, Stop> {
     match matches.subcommand() {
         Some(("run", _)) => Ok(Request::Run),
         Some(("check", _)) => Ok(Request::Check),
-        Some(("image", _)) => Ok(Request::Image),
-        Some(("resume", _)) => Ok(Request::Resume),
+        Some(("image", _)) => Ok(Request::GoOn(Goal::Image)),
+        Some(("resume", _)) => Ok(Request::GoOn(Goal::Replies)),
         Some(("recover", found)) => Ok(Request::Recover {
             mask: mask_in(found)?,
         }),
         Some(("recover6", found)) => Ok(Request::Recover6 {
             mask: mask_in(found)?,
         }),
+        Some(("show", found)) => Ok(Request::Ask(Goal::Table(view_in(found)?))),
         _ => Err(Stop::Usage),
     }
 }
 
 fn mask_in<'a>(matches: &ArgMatches<'a>) -> Result<&'a str, Stop> {
     matches.get_str("mask").ok_or(Stop::Usage)
+}
+
+fn view_in(matches: &ArgMatches<'_>) -> Result<View, Stop> {
+    match matches.get_str("what") {
+        Some("status") => Ok(View::Status),
+        Some("stripes") => Ok(View::Stripes),
+        Some("nodes") => Ok(View::Nodes),
+        Some("leases") => Ok(View::Leases),
+        Some("work") => Ok(View::Work),
+        _ => Err(Stop::Usage),
+    }
 }
 
 /// Does what the command line asks for; scripts run on these threads.
@@ -89,8 +103,8 @@ fn serve<T: Threads + Wait + Sync>(
     match request {
         Request::Run => run_input(rt, threads),
         Request::Check => check_input(rt),
-        Request::Image => image_input(rt),
-        Request::Resume => resume_input(rt),
+        Request::GoOn(goal) => go_on_input(rt, goal),
+        Request::Ask(goal) => ask_input(rt, goal),
         Request::Recover { mask } => recover(rt.alloc(), mask, &mut Plain::new(io::writer(rt))),
         Request::Recover6 { mask } => {
             recover_narrow(rt.alloc(), mask, &mut Plain::new(io::writer(rt)))
@@ -110,16 +124,18 @@ fn check_input(rt: &HostRuntime) -> Result<Status, RunFault> {
     check(rt.alloc(), &mut source, &mut sink)
 }
 
-fn image_input(rt: &HostRuntime) -> Result<Status, RunFault> {
+fn go_on_input(rt: &HostRuntime, goal: Goal) -> Result<Status, RunFault> {
     let mut source = Plain::new(rt.reader());
     let mut sink = Plain::new(io::writer(rt));
-    image(rt.alloc(), &mut source, &mut sink)
+    go_on(rt.alloc(), goal, &mut source, &mut sink)
 }
 
-fn resume_input(rt: &HostRuntime) -> Result<Status, RunFault> {
+fn ask_input(rt: &HostRuntime, goal: Goal) -> Result<Status, RunFault> {
     let mut source = Plain::new(rt.reader());
     let mut sink = Plain::new(io::writer(rt));
-    resume(rt.alloc(), &mut source, &mut sink)
+    let stderr = rt.stderr();
+    let mut errors = Plain::new(io::writer(&stderr));
+    ask(rt.alloc(), goal, &mut source, &mut sink, &mut errors)
 }
 
 /// The exit status for how a command ended, or for why the program stopped.

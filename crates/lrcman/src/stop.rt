@@ -12,7 +12,16 @@ use std::io;
 #[derive(Clone, Copy, Debug, thiserror::Error)]
 pub(crate) enum Stop {
     /// The command line is refused.
-    #[error("usage: lrcman run < BUNDLE | lrcman check < BUNDLE | lrcman image < SEQUEL | lrcman resume < SEQUEL | lrcman recover MASK | lrcman recover6 MASK (four hexadecimal digits)")]
+    #[error("usage:
+  lrcman run < BUNDLE         run the scripts; print replies, stripes at risk and nodes
+  lrcman check < BUNDLE       check topology and scripts, and run nothing
+  lrcman resume < SEQUEL      run a script from an image on
+  lrcman image < SEQUEL       print the image after it
+  lrcman show WHAT < SEQUEL   print a table of the state after it: status, stripes, nodes, leases or work
+  lrcman recover MASK         can these losses of a wide stripe be recovered? (four hexadecimal digits)
+  lrcman recover6 MASK        the same of a narrow stripe
+status: 0 done, 1 a line of a script is bad, 2 input or command line refused, 3 fault
+manual page: lrcman(1); a bundle without an image is a sequel too")]
     Usage,
     #[error("lrcman: {0}")]
     Fault(RunFault),

@@ -14,8 +14,8 @@ returns-in_ok-text-in-Good-clause-output g c =
     let scripts = c.in-Good.scripts.items in
     let good : IsJudged bundle (Good topology c.in-Good.scripts) = rw (c.in-Good.is, c.as_slice.ensures.value) at c.in_ok-output.ensures.judged in
     let played = rw c.as_slice-in-Good.ensures.value at c.in_ok-text-in-Good.ensures.played in
-    good_to_any ArePrinted bundle c.in_ok-text-in-Good.text.items Done topology scripts good
-    (lists_of scripts, good.commands, played) refl
+    rw (c.done.ensures.text, c.done.ensures.status)
+    (good_to_any ArePrinted bundle c.in_ok-text-in-Good.text.items Done topology scripts good (lists_of scripts, good.commands, played) refl)
 
 pub returns-in_err-text-in-Good-clause-err : goal.returns-in_err-text-in-Good-clause-err
 returns-in_err-text-in-Good-clause-err g c =

@@ -1,0 +1,9 @@
+pub mod ListLemmas
+pub mod MaskLemmas
+pub mod StripeLemmas
+pub mod LeaseLemmas
+pub mod NodeLemmas
+pub mod StatusLemmas
+pub mod FieldLemmas
+pub mod RowLemmas
+pub mod WorkLemmas

@@ -1,0 +1,11 @@
+pub use Rattle.lrc_code.specs.Losses
+pub use Rattle.lrc_terms.specs.Levels
+pub use Rattle.lrc_rules.specs.States
+pub use Rattle.lrc_rules.specs.Repairs
+pub use Rattle.lrc_rules.specs.Urgency
+pub use Rattle.lrc_book.specs.Books
+pub use Rattle.lrc_book.specs.Looks
+pub use Rattle.lrc_text.specs.Tables
+pub use Rattle.lrc_text.specs.Texts
+pub mod Shown
+pub mod Facts
