@@ -1,0 +1,114 @@
+"""What `lrcman show` prints of a store of tests/rules.py, written once more after docs/FORMATS.md."""
+from collections import Counter
+
+import rules
+from rules import FRAGMENTS, members
+
+VIEWS = ("status", "stripes", "nodes", "leases", "work")
+HOMES = [f"home_{fragment}" for fragment in FRAGMENTS]
+HEADS = {
+    "status": ["name", "value"],
+    "stripes": ["stripe", "code", "level", "margin", "missing", "missing_fragments", "homeless", "homeless_fragments", *HOMES],
+    "nodes": ["node", "fault", "upgrade", "mode", "down", "upgrading", "online", "homes", "targets", "load", "slots"],
+    "leases": ["stripe", "fragment", "holder", "target", "epoch", "expiry"],
+    "work": ["stripe", "fragment", "kind", "sources", "standing", "holder", "epoch"],
+}
+
+
+def yes(flag):
+    return "yes" if flag else "no"
+
+
+def mask(fragments):
+    """A set of fragments as a mask that no program takes for a number, and as a list."""
+    return [f"0x{fragments:04x}", " ".join(map(str, members(fragments)))]
+
+
+def seat(home):
+    return "%d:%d" % home
+
+
+def level_of(store, stripe):
+    """The level of a stripe and its margin."""
+    margin = store.margin(stripe)
+    return [store.level(stripe) or "whole", "-" if margin is None else margin]
+
+
+def home_of(store, stripe, fragment):
+    home = store.homes.get((stripe, fragment))
+    if home:
+        return seat(home)
+    return "-" if fragment in store.fragments(stripe) else ""
+
+
+def stripes_rows(store):
+    for stripe in sorted(store.stripes):
+        yield [stripe, store.stripes[stripe].name, *level_of(store, stripe), *mask(store.missing(stripe)),
+               *mask(store.homeless(stripe)), *(home_of(store, stripe, fragment) for fragment in FRAGMENTS)]
+
+
+def nodes_rows(store):
+    for number, node in store.nodes.items():
+        flags = number in store.down, node.upgrade == store.upgrading, store.is_online(number)
+        yield [number, node.fault, node.upgrade, store.mode[number], *map(yes, flags), len(store.homes_on(number)),
+               len(store.targets_on(number)), store.load(number), node.slots]
+
+
+def leases_rows(store):
+    for key, lease in sorted(store.leases.items()):
+        yield [*key, lease.holder, seat(lease.target), lease.epoch, lease.expiry]
+
+
+def standing(store, key):
+    """Where the repair of a fragment stands, with the holder and the epoch of its lease."""
+    if key in store.leases:
+        lease = store.leases[key]
+        return ["leased", lease.holder, lease.epoch]
+    try:
+        store.lease_for(key)
+    except rules.Refused as refused:
+        return [{112: "unrecoverable", 103: "no_node"}[refused.args[0]], "", ""]
+    return ["open", "", ""]
+
+
+def work_rows(store):
+    for stripe in store.in_order():
+        for fragment in store.fragments(stripe):
+            key = stripe, fragment
+            if store.needs_lease(key):
+                kind, *sources = store.kind(key).split(" ")
+                yield [*key, kind, " ".join(sources), *standing(store, key)]
+
+
+def status_rows(store, entries):
+    levels = Counter()
+    for stripe in store.stripes:
+        level, margin = level_of(store, stripe)
+        levels[f"at_risk_margin_{margin}" if level == "risk" else level] += 1
+    yield ["stripes", len(store.stripes)]
+    for level in ("whole", "at_risk_margin_2", "at_risk_margin_1", "at_risk_margin_0", "unavailable", "lost"):
+        yield [level, levels.pop(level, 0)]
+    assert not levels, levels
+    yield ["missing_fragments", sum(store.missing(stripe).bit_count() for stripe in store.stripes)]
+    yield ["homeless_fragments", sum(store.homeless(stripe).bit_count() for stripe in store.stripes)]
+    yield ["leases", len(store.leases)]
+    yield ["held_seats", len(list(store.held()))]
+    yield ["slots", sum(node.slots for node in store.nodes.values())]
+    for mode in ("active", "draining", "gone"):
+        yield [f"nodes_{mode}", len(store.nodes_in(mode))]
+    yield ["nodes_down", len(store.down)]
+    yield ["nodes_online", sum(map(store.is_online, store.nodes))]
+    yield ["upgrading", "none" if store.upgrading is None else store.upgrading]
+    yield ["clock", store.clock]
+    yield ["entries", entries]
+
+
+def text_of(head, rows):
+    return "".join(",".join(map(str, row)) + "\n" for row in [head, *rows])
+
+
+def shown(view, store, entries):
+    """The table of a view, after so many entries."""
+    rows = {"status": lambda: status_rows(store, entries), "stripes": lambda: stripes_rows(store), "nodes": lambda: nodes_rows(store),
+            "leases": lambda: leases_rows(store), "work": lambda: work_rows(store)}
+    return text_of(HEADS[view], rows[view]())
