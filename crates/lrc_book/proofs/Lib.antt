@@ -6,3 +6,5 @@ pub mod ForgetLemmas
 pub mod ImagedLemmas
 pub mod BeginLemmas
 pub mod LookLemmas
+pub mod StripeLemmas
+pub mod MaskLemmas

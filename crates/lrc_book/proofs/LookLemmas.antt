@@ -1,6 +1,7 @@
 -- What a book shows besides what commands need, read off what it keeps.
 use Rattle.std.proofs.Common.{◌≡◌, ◌≢◌, ℕ, ◌<◌, ◌≤◌, Bool, true, false, not, ◌&&◌, if◌then◌else◌, List, map, filter, length, get_or, Option, Some, None, is_some, unwrap_or, option_map, refl, sym, ap, ap₂, ◌∙◌, subst, arith, zero-add}
-use Rattle.std.specs.List.{AllPairs, Contains, range_with_len}
+use Rattle.std.specs.List.{AllPairs, Contains, range_with_len, slice_get}
+use Rattle.std.specs.Iterator.{YieldsFirst}
 use Rattle.std.proofs.Math.Nat.{mod-eq_of_lt}
 use Rattle.std.proofs.lemmas.Bool.{and_parts, lt-ltb}
 use Rattle.std.proofs.lemmas.List.{length-map, get_or-map}
@@ -12,11 +13,10 @@ use Rattle.lrc_code.specs.declared.numbers.NodeNo.{NodeNo}
 use Rattle.lrc_code.specs.declared.numbers.Fragment.{Fragment}
 use Rattle.lrc_code.specs.Codes.{fragments, fragment_count}
 use Rattle.lrc_code.specs.Losses.{bits_set, bits_of}
-use Rattle.lrc_code.proofs.NumbersLemmas.{equal_stripes}
 use Rattle.lrc_topology.specs.declared.NodeInfo.{NodeInfo}
 use Rattle.lrc_topology.specs.Nodes.{node_at}
 use Rattle.lrc_terms.specs.Levels.{homes_of, needs_in, needs_if, has_some, comes_first}
-use Rattle.lrc_terms.specs.Stripes.{StripeFragment, stripe_at}
+use Rattle.lrc_terms.specs.Stripes.{StripeFragment, StripeLevel, stripe_at}
 use Rattle.lrc_terms.proofs.LevelLemmas.{has_some-true}
 use Rattle.lrc_terms.proofs.CodeListLemmas.{code-fragments, few-fragments}
 use Rattle.lrc_nodes.specs.States.{down_in}
@@ -37,6 +37,7 @@ use Rattle.lrc_store.specs.Stores.{IsOf, node_state, stored_of, repair_of}
 use Rattle.lrc_store.proofs.NodeStateLemmas.{down-known, rank-kept, needs-kept, work-kept}
 use Rattle.lrc_store.proofs.RepairLemmas.{needs-set}
 use Rattle.lrc_store.proofs.WorkLemmas.{has-work, fragments-strict}
+use Rattle.lrc_book.proofs.StripeLemmas.{every-number}
 use Rattle.lrc_book.specs.Looks.{down_shown, kind_shown, is_granted_now, stripe_numbers, places, is_home_on, homes_on}
 
 -- ---- nodes
@@ -163,15 +164,12 @@ module _ (n : ℕ) (few : n ≤ 4096) where
       let second = numbered-at j d high in
       lt-ltb _ _ (omega (arith, first, second, below))
 
-  numbered-all : (s : StripeNo) → s.value < n → Contains numbered s
-  numbered-all s within = (s.value, omega (arith, within, numbered-long), equal_stripes (get_or numbered s.value s) s (numbered-at s.value s within))
-
 -- all places are those of the fragments of the code Wide, which each stripe number has in the empty store
 places-strict : IsStrict (is_repaired_before one_rank) places
 places-strict = fragments-strict opening one_rank stripe_numbers (numbered-strict 4096 (omega arith))
 
 places-all : (p : StripeFragment) → Contains places p
-places-all p = fragments-from opening stripe_numbers p (lt-ltb p.1.value 16 p.1.in_range) (numbered-all 4096 (omega arith) p.0 p.0.in_range)
+places-all p = fragments-from opening stripe_numbers p (lt-ltb p.1.value 16 p.1.in_range) (every-number p.0)
 
 -- what is kept lists the homes on a node as the state does
 pub homes-is : (nodes : List NodeInfo) (st : State) (spare : ℕ) (n : NodeNo) (listed : List StripeFragment) → AreHomesOn (stored_of nodes st spare) n listed
@@ -183,3 +181,10 @@ homes-is nodes st spare n listed are =
     (AllPairs-filter (λ p q. is_repaired_before one_rank p q ≡ true) test places places-strict)
     (λ p here. member-filter test places p (places-all p) ((are.each p).0 here))
     (λ p here. (are.each p).1 (filter-member test places p here).1)
+
+-- ---- the stripe that is repaired first
+
+-- what an iterator yields first is the first of what is left
+pub first-left : (left rest : List StripeLevel) (r : Option StripeLevel) → YieldsFirst (λ (l : List StripeLevel). l) left r rest → r ≡ slice_get left 0
+first-left left rest None yields = sym (ap (λ (l : List StripeLevel). slice_get l 0) yields.0)
+first-left left rest (Some row) yields = sym (ap (λ (l : List StripeLevel). slice_get l 0) yields)

@@ -17,7 +17,7 @@ use Rattle.lrc_rules.specs.States.{State, has_stripe, is_down}
 use Rattle.lrc_rules.specs.Repairs.{needs, kind}
 use Rattle.lrc_rules.specs.Urgency.{is_grantable}
 
--- ---- nodes
+-- ---- stripes and nodes
 
 -- whether a node is down; none if the store has no such node
 abbrev pub down_shown : List NodeInfo → State → NodeNo → Option Bool
@@ -26,6 +26,10 @@ down_shown nodes st n = option_map (λ m. is_down st m.number) (node_at nodes n)
 -- every stripe number, in rising order
 abbrev pub stripe_numbers : List StripeNo
 stripe_numbers = map stripe_at (range_with_len 0 4096)
+
+-- the stripes of the store, in rising order
+unfoldable pub stripes_of : State → List StripeNo
+stripes_of st = filter (has_stripe st) stripe_numbers
 
 -- every fragment of every stripe number, in rising order of stripe and fragment
 abbrev pub places : List StripeFragment

@@ -9,6 +9,7 @@ mod book;
 mod image;
 pub mod laws;
 mod looks;
+mod masks;
 mod record;
 mod step;
 
@@ -17,4 +18,5 @@ pub use lrc_answers::ReplyRef;
 pub use lrc_images::{Cause, GrantRow, Image, LeaseRow, NodeRow, StripeRow};
 pub use lrc_restore::BeginError;
 pub use lrc_rules::{Command, Entry, Held, Kind, Lease, Level, Mode, Refusal, Reply, Seat};
+pub use masks::homeless_of;
 pub use record::Record;

@@ -1,14 +1,19 @@
-//! More looks: at the upgrade, at nodes, repairs and homes. No command needs them.
+//! More looks: at the upgrade, at stripes, nodes, repairs and homes. No command needs them.
 
-ghost use Rattle.std.specs.Prelude.{◌≡◌, IfOk, IfErr};
+ghost use Rattle.std.specs.Prelude.{◌≡◌, true, IfOk, IfErr};
+ghost use Rattle.std.specs.List.{AllByRecursion, slice_get};
 ghost use Rattle.lrc_code.specs.declared.fault.Fault.TheVariants as fault;
-ghost use Rattle.lrc_rules.specs.Urgency.{work};
+ghost use Rattle.lrc_rules.specs.States.{has_stripe};
+ghost use Rattle.lrc_rules.specs.Urgency.{work, risk};
 ghost use Rattle.lrc_book.specs.Books.{state_of};
-ghost use Rattle.lrc_book.specs.Looks.{down_shown, kind_shown, is_granted_now, homes_on};
+ghost use Rattle.lrc_book.specs.Looks.{down_shown, kind_shown, is_granted_now, stripes_of, homes_on};
 
-use crate::{Book, Kind};
-use lrc_code::{Fault, Fragment, NodeNo, StripeNo, UpgradeNo};
+use crate::{Book, Kind, Level};
+use lrc_code::{Fault, Fragment, NodeNo, STRIPES, StripeNo, UpgradeNo};
 use std::alloc::Global;
+
+/// The number of stripe numbers.
+const STRIPE_NUMBERS: u16 = STRIPES as u16;
 
 impl Book {
     /// The upgrade domain whose nodes are offline for an upgrade, if there is one.
@@ -28,6 +33,33 @@ impl Book {
             Some(_) => Some(store.stripes.is_down(node)),
             None => None,
         }
+    }
+
+    /// The stripes of the store, in rising order.
+    ///
+    /// # Errors
+    ///
+    /// Only `Fault::OutOfMemory`.
+    pub fn stripes(&self, alloc: Global) -> Result<Vec<StripeNo>, Fault>
+        ensures value { IfOk result (λ rows. rows.items ≡ stripes_of (state_of self.now)) }
+        ensures there { IfOk result (λ rows. AllByRecursion (λ s. has_stripe (state_of self.now) s ≡ true) rows.items) }
+        ensures err { IfErr result (λ e. e ≡ fault.OutOfMemory) }
+    {
+        let mut rows = Vec::new(alloc);
+        for number in 0..STRIPE_NUMBERS {
+            let stripe = StripeNo::new(number).unwrap();
+            if self.code(stripe).is_some() {
+                rows.push(stripe)?;
+            }
+        }
+        Ok(rows)
+    }
+
+    /// The first row of `risk`, which is most urgent; `None` where each stripe is whole. It requests no memory.
+    pub fn first_at_risk(&self) -> Option<(StripeNo, Level)>
+        ensures { result ≡ slice_get (risk self.now.nodes (state_of self.now)) 0 }
+    {
+        self.store().stripes.at_risk().next()
     }
 
     /// How a fragment that needs a lease is rebuilt; `None` where there is no such stripe, or the fragment needs no lease.

@@ -1,5 +1,4 @@
 pub mod ListLemmas
-pub mod MaskLemmas
 pub mod StripeLemmas
 pub mod LeaseLemmas
 pub mod NodeLemmas
@@ -7,3 +6,4 @@ pub mod StatusLemmas
 pub mod FieldLemmas
 pub mod RowLemmas
 pub mod WorkLemmas
+pub mod ForecastLemmas

@@ -1,5 +1,5 @@
 -- The rows of stripes.
-use Rattle.std.proofs.Common.{◌≡◌, ℕ, ◌+◌, ◌-◌, ◌<◌, ◌≤◌, Bool, true, false, cond, if◌then◌else◌, ◌&&◌, nat_le, nat_lt, List, [], ◌∷◌, ◌++◌, get_or, codes, decimal, map, filter, flat_map, Option, Some, None, refl, sym, ap, ◌∙◌, append_assoc, append-nil, zero-add, arith}
+use Rattle.std.proofs.Common.{◌≡◌, ℕ, ◌+◌, ◌-◌, ◌≤◌, Bool, true, false, cond, if◌then◌else◌, ◌&&◌, nat_le, nat_lt, List, [], ◌∷◌, ◌++◌, get_or, codes, decimal, map, filter, flat_map, Option, Some, None, refl, sym, ap, ◌∙◌, append_assoc, append-nil, zero-add, arith}
 use Rattle.std.specs.List.{range_with_len}
 use Rattle.std.proofs.lemmas.Bool.{ltb-true}
 use Rattle.std.proofs.lemmas.Option.{same_Some}
@@ -21,13 +21,13 @@ use Rattle.lrc_topology.specs.declared.seat.Seat.{Seat}
 use Rattle.lrc_terms.specs.Stripes.{stripe_at}
 use Rattle.lrc_terms.specs.declared.level.Level.{Level}
 use Rattle.lrc_terms.specs.Levels.{Homes, homes_of, homeless_in}
-use Rattle.lrc_rules.specs.States.{State, has_stripe, code_of, level, missing, code_shown, homes_shown, level_shown, missing_shown}
+use Rattle.lrc_rules.specs.States.{State, has_stripe, code_of, missing, code_shown, homes_shown, level_shown, missing_shown}
 use Rattle.lrc_rules.specs.Repairs.{is_safe}
-use Rattle.lrc_text.specs.Tables.{row_line, level_text, margin_field}
-use Rattle.lrc_show.specs.Shown.{code_text, hex_field, fragments_field, members_of, home_field, home_fields, stripe_line, stripe_row, stripes_of}
-use Rattle.lrc_show.specs.Facts.{stripes_below}
-use Rattle.lrc_show.proofs.FieldLemmas.{own_members, members-all}
-use Rattle.lrc_show.proofs.StripeLemmas.{code-told, level-told, mask-told, stripes-all}
+use Rattle.lrc_text.specs.Tables.{level_text, margin_field}
+use Rattle.lrc_show.specs.Shown.{code_text, hex_field, fragments_field, members_of, home_field, home_fields, stripe_line, stripe_row}
+use Rattle.lrc_book.specs.Looks.{stripes_of}
+use Rattle.lrc_show.proofs.FieldLemmas.{members-all}
+use Rattle.lrc_book.proofs.StripeLemmas.{stripes_below, code-told, level-told, mask-told, stripes-all}
 
 -- ---- the mask of a set has the members of the set
 

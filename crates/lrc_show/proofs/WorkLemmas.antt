@@ -1,5 +1,5 @@
 -- Rows of fragments that need a lease.
-use Rattle.std.proofs.Common.{◌≡◌, ℕ, ◌+◌, ◌<◌, ◌≤◌, Bool, true, false, if◌then◌else◌, ◌&&◌, List, [], ◌∷◌, ◌++◌, length, get_or, take, codes, decimal, flat_map, Option, Some, None, refl, sym, ap, subst, ◌∙◌, append_assoc, append-nil}
+use Rattle.std.proofs.Common.{◌≡◌, ℕ, ◌+◌, ◌<◌, ◌≤◌, Bool, true, false, if◌then◌else◌, ◌&&◌, List, [], ◌∷◌, ◌++◌, length, get_or, take, codes, decimal, flat_map, Option, Some, None, refl, sym, ap, subst, ◌∙◌, append_assoc}
 use Rattle.std.specs.List.{Contains}
 use Rattle.std.specs.Option.{option_map_or}
 use Rattle.std.proofs.lemmas.List.{take_all}
@@ -17,7 +17,7 @@ use Rattle.lrc_rules.proofs.ListedLemmas.{work-listed}
 use Rattle.lrc_book.specs.Looks.{kind_shown}
 use Rattle.lrc_text.specs.Tables.{row_line}
 use Rattle.lrc_show.specs.Shown.{kind_word, sources_of, fragments_field, standing_fields, work_row, work_rows}
-use Rattle.lrc_show.proofs.FieldLemmas.{own-all, text-added, texts-passing}
+use Rattle.lrc_show.proofs.FieldLemmas.{own-all, texts-passing}
 use Rattle.lrc_show.proofs.ListLemmas.{flat-more}
 use Rattle.lrc_show.proofs.RowLemmas.{some-if}
 

@@ -1,17 +1,15 @@
 -- Internal: no public clause reaches these definitions.
 -- What is read of each stripe and each node before it is counted or printed.
-use Rattle.std.specs.Prelude.{ℕ, List, [], ◌∷◌, ◌++◌, codes, decimal, length, map, filter, count_by, sum_by}
-use Rattle.std.specs.List.{range_with_len}
+use Rattle.std.specs.Prelude.{ℕ, List, [], ◌∷◌, ◌++◌, codes, decimal, length, count_by, sum_by}
 use Rattle.lrc_code.specs.declared.numbers.StripeNo.{StripeNo}
 use Rattle.lrc_code.specs.Numbers.{same_node}
 use Rattle.lrc_code.specs.Losses.{size_of}
 use Rattle.lrc_topology.specs.declared.NodeInfo.{NodeInfo}
-use Rattle.lrc_terms.specs.Stripes.{stripe_at}
 use Rattle.lrc_terms.specs.declared.level.Level.{Level}
 use Rattle.lrc_terms.specs.declared.level.Level.TheVariants.{Whole, AtRisk, Unavailable, Lost}
 use Rattle.lrc_terms.specs.declared.lease.Lease.{Lease}
 use Rattle.lrc_terms.specs.Modes.{is_active, is_draining, is_gone}
-use Rattle.lrc_rules.specs.States.{State, has_stripe, code_of, load, mode_of, is_down, is_upgrading, is_online, homeless, missing, level}
+use Rattle.lrc_rules.specs.States.{State, code_of, load, mode_of, is_down, is_upgrading, is_online, homeless, missing, level}
 use Rattle.lrc_book.specs.Looks.{homes_on}
 use Rattle.lrc_text.specs.Tables.{row_line, mode_text, online_text}
 use Rattle.lrc_show.specs.declared.nodes.NodeFacts.{NodeFacts}
@@ -19,10 +17,6 @@ use Rattle.lrc_show.specs.declared.stripe_facts.StripeFacts.{StripeFacts}
 use Rattle.lrc_show.specs.Shown.{is_level, value_row}
 
 -- ---- stripes
-
--- the stripes of the store with a number below `count`, in rising order
-unfoldable pub stripes_below : State → ℕ → List StripeNo
-stripes_below st count = filter (has_stripe st) (map stripe_at (range_with_len 0 count))
 
 -- what is read of a stripe
 abbrev pub stripe_facts : List NodeInfo → State → StripeNo → StripeFacts

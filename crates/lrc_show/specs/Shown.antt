@@ -8,7 +8,7 @@ use Rattle.lrc_code.specs.declared.numbers.UpgradeNo.{UpgradeNo}
 use Rattle.lrc_code.specs.declared.numbers.Fragment.{Fragment}
 use Rattle.lrc_code.specs.Numbers.{same_node}
 use Rattle.lrc_code.specs.Codes.{fragments, has_fragment}
-use Rattle.lrc_code.specs.Losses.{FragmentSet, margin_of, bits_of, size_of}
+use Rattle.lrc_code.specs.Losses.{FragmentSet, margin_of, bits_of, bits_set, size_of}
 use Rattle.lrc_topology.specs.declared.NodeInfo.{NodeInfo}
 use Rattle.lrc_topology.specs.declared.seat.Seat.{Seat}
 use Rattle.lrc_terms.specs.declared.lease.Lease.{Lease}
@@ -18,10 +18,11 @@ use Rattle.lrc_terms.specs.Levels.{Homes, homes_of, homeless_in}
 use Rattle.lrc_terms.specs.Modes.{is_active, is_draining, is_gone}
 use Rattle.lrc_rules.specs.declared.kind.Kind.{Kind}
 use Rattle.lrc_rules.specs.declared.kind.Kind.TheVariants.{Local, Local3, Global, Move}
-use Rattle.lrc_rules.specs.States.{State, has_stripe, code_of, lease_of, load, mode_of, is_down, is_upgrading, is_online, homeless, missing, level}
+use Rattle.lrc_rules.specs.States.{State, code_of, lease_of, load, mode_of, is_down, is_upgrading, is_online, homeless, missing, level}
 use Rattle.lrc_rules.specs.Repairs.{needs, kind, is_beyond_repair}
 use Rattle.lrc_rules.specs.Urgency.{work, is_grantable}
-use Rattle.lrc_book.specs.Looks.{stripe_numbers, homes_on}
+use Rattle.lrc_book.specs.Looks.{stripes_of, homes_on}
+use Rattle.lrc_forecast.specs.declared.outlook.Outlook.{Outlook}
 use Rattle.lrc_text.specs.Tables.{row_line, level_text, margin_field, mask_field, mode_text, online_text}
 use Rattle.lrc_text.specs.Texts.{seat_text, spaced}
 use Rattle.lrc_show.specs.declared.view.View.{View}
@@ -57,10 +58,6 @@ home_field code f (Some seat) = seat_text seat
 home_field code f None = if has_fragment code f.value then codes "-" else []
 
 -- ---- stripes
-
--- the stripes of the store, in rising order
-unfoldable pub stripes_of : State → List StripeNo
-stripes_of st = filter (has_stripe st) stripe_numbers
 
 -- the fields of a set of fragments: as a mask, and as a list
 abbrev pub set_fields : Code → FragmentSet → List (List ℕ)
@@ -227,6 +224,26 @@ time_values st entries = value_row (codes "upgrading") (domain_field st.upgradin
 -- the summary
 abbrev pub status_table : List NodeInfo → State → ℕ → List ℕ
 status_table nodes st entries = codes "name,value\n" ++ stripe_values nodes st ++ seat_values nodes st ++ node_values nodes st ++ time_values st entries
+
+-- ---- forecasts
+
+-- how many more losses a stripe of the level survives, whichever fragments are lost
+abbrev pub margin_at : Level → Option ℕ
+margin_at Whole = Some 3
+margin_at (AtRisk margin) = Some margin
+margin_at Unavailable = None
+margin_at Lost = None
+
+-- the row of a stripe
+unfoldable pub forecast_row : Outlook → List ℕ
+forecast_row o =
+    row_line (decimal o.stripe.value ∷ code_text o.code ∷ level_text o.before ∷ margin_field (margin_at o.before) ∷ level_text o.after ∷ margin_field (margin_at o.after)
+    ∷ hex_field o.missing.bits ∷ fragments_field (members_of o.code (bits_set o.missing.bits)) ∷ [])
+
+-- a row for each stripe
+abbrev pub forecast_text : List Outlook → List ℕ
+forecast_text rows =
+    codes "stripe,code,level_before,margin_before,level_after,margin_after,missing_after,missing_fragments_after\n" ++ flat_map forecast_row rows
 
 -- ---- the table that is asked for
 

@@ -5,7 +5,6 @@ ghost use Rattle.lrc_code.specs.declared.fault.Fault.TheVariants as fault;
 ghost use Rattle.lrc_book.specs.Books.{state_of};
 ghost use Rattle.lrc_show.specs.Shown.{lease_row, leases_of, all_leases, leases_table};
 
-use crate::stripe_facts::stripes_of;
 use lrc_book::{Book, Lease};
 use lrc_code::{Fault, Fragment, StripeNo};
 use std::alloc::{AllocError, Global};
@@ -15,7 +14,7 @@ pub(crate) fn leases_of(alloc: Global, book: &Book) -> Result<Vec<Lease>, Fault>
     ensures value { IfOk result (λ rows. rows.items ≡ all_leases (state_of book.now)) }
     ensures err { IfErr result (λ e. e ≡ fault.OutOfMemory) }
 {
-    let stripes = stripes_of(alloc, book)?;
+    let stripes = book.stripes(alloc)?;
     let mut rows = Vec::new(alloc);
     for stripe in stripes.as_slice() {
         gather_leases(&mut rows, book, *stripe)?;

@@ -1,8 +1,8 @@
-//! The tables that `lrcman show` prints.
+//! The tables that `lrcman show` and `lrcman forecast` print.
 #![tactic(auto)]
 
+mod forecast;
 mod leases;
-mod masks;
 mod nodes;
 mod status;
 mod stripe_facts;
@@ -11,4 +11,5 @@ mod view;
 mod words;
 mod work;
 
+pub use forecast::shown_forecast;
 pub use view::{View, shown};

@@ -1,21 +1,16 @@
-//! The stripes of a book, and what is read of each before it is counted.
+//! What is read of each stripe of a book before it is counted.
 
 ghost use Rattle.std.specs.Prelude.{◌≡◌, true, map, IfOk, IfErr};
-ghost use Rattle.std.specs.List.{AllByRecursion};
 ghost use Rattle.lrc_code.specs.declared.fault.Fault.TheVariants as fault;
 ghost use Rattle.lrc_code.specs.Losses.{size_of, bits_set};
 ghost use Rattle.lrc_rules.specs.States.{has_stripe};
 ghost use Rattle.lrc_book.specs.Books.{state_of};
-ghost use Rattle.lrc_show.specs.Shown.{stripes_of};
+ghost use Rattle.lrc_book.specs.Looks.{stripes_of};
 ghost use Rattle.lrc_show.specs.Facts.{stripe_facts};
 
-use crate::masks::homeless_of;
-use lrc_book::{Book, Level};
-use lrc_code::{Class, Code, Fault, LossMask, STRIPES, StripeNo};
+use lrc_book::{Book, Level, homeless_of};
+use lrc_code::{Class, Code, Fault, LossMask, StripeNo};
 use std::alloc::Global;
-
-/// The number of stripe numbers.
-const STRIPE_NUMBERS: u16 = STRIPES as u16;
 
 /// What is read of a stripe.
 #[derive(Clone, Copy)]
@@ -27,28 +22,12 @@ pub(crate) struct StripeFacts {
     pub(crate) homeless: u8,
 }
 
-/// The stripes of a book, in rising order.
-pub(crate) fn stripes_of(alloc: Global, book: &Book) -> Result<Vec<StripeNo>, Fault>
-    ensures value { IfOk result (λ rows. rows.items ≡ stripes_of (state_of book.now)) }
-    ensures there { IfOk result (λ rows. AllByRecursion (λ s. has_stripe (state_of book.now) s ≡ true) rows.items) }
-    ensures err { IfErr result (λ e. e ≡ fault.OutOfMemory) }
-{
-    let mut rows = Vec::new(alloc);
-    for number in 0..STRIPE_NUMBERS {
-        let stripe = StripeNo::new(number).unwrap();
-        if book.code(stripe).is_some() {
-            rows.push(stripe)?;
-        }
-    }
-    Ok(rows)
-}
-
 /// What is read of each stripe of a book, in rising order.
 pub(crate) fn facts_of_stripes(alloc: Global, book: &Book) -> Result<Vec<StripeFacts>, Fault>
     ensures value { IfOk result (λ rows. rows.items ≡ map (stripe_facts book.now.nodes (state_of book.now)) (stripes_of (state_of book.now))) }
     ensures err { IfErr result (λ e. e ≡ fault.OutOfMemory) }
 {
-    let stripes = stripes_of(alloc, book)?;
+    let stripes = book.stripes(alloc)?;
     let mut rows = Vec::new(alloc);
     for stripe in stripes.as_slice() {
         rows.push(facts_of(book, *stripe))?;

@@ -11,9 +11,8 @@ ghost use Rattle.lrc_book.specs.Books.{state_of};
 ghost use Rattle.lrc_text.specs.Tables.{level_text};
 ghost use Rattle.lrc_show.specs.Shown.{code_text, hex_field, fragments_field, members_of, home_field, stripe_line, stripe_row, stripes_table};
 
-use crate::masks::homeless_of;
 use crate::words::{code_word, push_margin, push_mask, push_members};
-use lrc_book::{Book, Level, Seat};
+use lrc_book::{Book, Level, Seat, homeless_of};
 use lrc_code::{Code, FRAGMENTS, Fault, Fragment, LossMask, STRIPES, StripeNo};
 use lrc_text::level_word;
 use std::alloc::AllocError;

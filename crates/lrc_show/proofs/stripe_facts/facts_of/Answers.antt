@@ -1,7 +1,8 @@
 use Rattle.std.proofs.Common.{rules, ◌≡◌, Some, refl, ◌∙◌}
 use Rattle.lrc_rules.specs.States.{code_shown, homes_shown, level_shown, missing_shown}
 use Rattle.lrc_book.specs.Books.{state_of}
-use Rattle.lrc_show.proofs.StripeLemmas.{level-told, mask-told, facts-told}
+use Rattle.lrc_book.proofs.StripeLemmas.{level-told, mask-told}
+use Rattle.lrc_show.proofs.StripeLemmas.{facts-told}
 use Rattle.lrc_show.proofs.stripe_facts.facts_of.Goals as goal
 
 pub unwrap-requires : goal.unwrap-requires

@@ -1,7 +1,7 @@
-use Rattle.std.proofs.Common.{rules, ◌≡◌, true, Some, refl, sym, ◌∙◌, string_bytes}
-use Rattle.lrc_rules.specs.States.{has_stripe, code_shown, homes_shown, level_shown, missing_shown}
+use Rattle.std.proofs.Common.{rules, ◌≡◌, Some, refl, sym, ◌∙◌, string_bytes}
+use Rattle.lrc_rules.specs.States.{homes_shown, level_shown, missing_shown}
 use Rattle.lrc_book.specs.Books.{state_of}
-use Rattle.lrc_show.proofs.StripeLemmas.{level-told, mask-told}
+use Rattle.lrc_book.proofs.StripeLemmas.{level-told, mask-told}
 use Rattle.lrc_show.proofs.RowLemmas.{code-some, stripe-told}
 use Rattle.lrc_show.proofs.stripes.push_stripe.Goals as goal
 

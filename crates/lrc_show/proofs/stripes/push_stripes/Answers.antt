@@ -3,7 +3,7 @@ use Rattle.lrc_code.specs.declared.numbers.StripeNo.{StripeNo}
 use Rattle.lrc_terms.specs.Stripes.{stripe_at}
 use Rattle.lrc_book.specs.Books.{state_of}
 use Rattle.lrc_show.specs.Shown.{stripe_row}
-use Rattle.lrc_show.proofs.StripeLemmas.{own-number, stripes-none}
+use Rattle.lrc_book.proofs.StripeLemmas.{own-number, stripes-none}
 use Rattle.lrc_show.proofs.RowLemmas.{rows-more, rows-all}
 use Rattle.lrc_show.proofs.stripes.push_stripes.Goals as goal
 

@@ -2,7 +2,7 @@ use Rattle.std.proofs.Common.{◌≡◌, ◌++◌, string_bytes}
 use Rattle.std.specs.Prelude.{flat_map}
 use Rattle.lrc_book.specs.Books.{state_of}
 use Rattle.lrc_show.specs.Shown.{stripe_row}
-use Rattle.lrc_show.specs.Facts.{stripes_below}
+use Rattle.lrc_book.proofs.StripeLemmas.{stripes_below}
 use Rattle.lrc_show.proofs.stripes.push_stripes.Given as goal
 
 -- the rows of the stripe numbers so far

@@ -1,7 +1,7 @@
 use Rattle.std.proofs.Common.{rules, ◌≡◌, Some, refl, ◌∙◌}
 use Rattle.lrc_rules.specs.States.{code_shown, missing_shown}
 use Rattle.lrc_book.specs.Books.{state_of}
-use Rattle.lrc_show.proofs.StripeLemmas.{mask-told}
+use Rattle.lrc_book.proofs.StripeLemmas.{mask-told}
 use Rattle.lrc_show.proofs.RowLemmas.{safe-told}
 use Rattle.lrc_show.proofs.work.is_recoverable.Goals as goal
 

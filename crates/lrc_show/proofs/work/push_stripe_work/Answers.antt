@@ -1,4 +1,4 @@
-use Rattle.std.proofs.Common.{◌≡◌, ◌++◌, List, ℕ, get_or, string_bytes, sym, ap, ◌∙◌, append-nil, arith}
+use Rattle.std.proofs.Common.{◌++◌, List, ℕ, get_or, string_bytes, sym, ap, ◌∙◌, append-nil, arith}
 use Rattle.lrc_code.specs.declared.numbers.Fragment.{Fragment}
 use Rattle.lrc_book.specs.Books.{state_of}
 use Rattle.lrc_show.proofs.FieldLemmas.{text-added}

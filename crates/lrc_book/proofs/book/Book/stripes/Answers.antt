@@ -5,16 +5,16 @@ use Rattle.lrc_code.specs.declared.numbers.StripeNo.{StripeNo}
 use Rattle.lrc_terms.specs.Stripes.{stripe_at}
 use Rattle.lrc_rules.specs.States.{has_stripe}
 use Rattle.lrc_book.specs.Books.{state_of}
-use Rattle.lrc_show.proofs.StripeLemmas.{own-number, code-there, stripes-none, stripe-push, stripe-pass, stripes-all, stripes-there}
-use Rattle.lrc_show.proofs.stripe_facts.stripes_of.Goals as goal
-use Rattle.lrc_show.proofs.stripe_facts.stripes_of.Goals.{then-is_some+in_ok-push, else-is_some}
+use Rattle.lrc_book.proofs.StripeLemmas.{own-number, code-there, stripes-none, stripe-push, stripe-pass, stripes-all, stripes-there}
+use Rattle.lrc_book.proofs.book.Book.stripes.Goals as goal
+use Rattle.lrc_book.proofs.book.Book.stripes.Goals.{then-is_some+in_ok-push, else-is_some}
 
 pub loop-number-init : goal.loop-number-init
-loop-number-init c = c.new-rows.ensures.items ∙ sym (stripes-none (state_of c.args.book.now))
+loop-number-init c = c.new-rows.ensures.items ∙ sym (stripes-none (state_of c.args.self.now))
 
 pub loop-number-preserved : goal.loop-number-preserved
 loop-number-preserved c =
-    let st = state_of c.args.book.now in
+    let st = state_of c.args.self.now in
     let number = c.loop-number.number in
     let stripe = c.unwrap-stripe.result in
     let is : stripe.value ≡ number = search rules in
@@ -32,9 +32,9 @@ loop-number-preserved c =
 
 pub returns-clause-value : goal.returns-clause-value
 returns-clause-value c =
-    c.loop-number.invariant ∙ stripes-all (state_of c.args.book.now) c.loop-number.number (omega (arith, c.loop-number-test.false, c.loop-number.auto.number-end))
+    c.loop-number.invariant ∙ stripes-all (state_of c.args.self.now) c.loop-number.number (omega (arith, c.loop-number-test.false, c.loop-number.auto.number-end))
 
 pub returns-clause-there : goal.returns-clause-there
 returns-clause-there c =
-    let st = state_of c.args.book.now in
+    let st = state_of c.args.self.now in
     subst (λ (l : List StripeNo). AllByRecursion (λ s. has_stripe st s ≡ true) l) (sym c.loop-number.invariant) (stripes-there st c.loop-number.number)

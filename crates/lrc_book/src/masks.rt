@@ -1,4 +1,4 @@
-//! The set of the fragments without a home.
+//! The set of the fragments without a home, by the homes that `Book::homes` returns.
 
 ghost use Rattle.std.specs.Prelude.{◌≡◌, map};
 ghost use Rattle.lrc_code.specs.declared.codes.Code.TheVariants.{Wide};
@@ -10,7 +10,7 @@ use lrc_code::{Code, FRAGMENTS, Fragment, LossMask};
 use lrc_topology::Seat;
 
 /// The fragments of a stripe without a home, by the home of each fragment number.
-pub(crate) fn homeless_of(code: Code, homes: &[Option<Seat>; FRAGMENTS]) -> LossMask
+pub fn homeless_of(code: Code, homes: &[Option<Seat>; FRAGMENTS]) -> LossMask
     ensures { (of : Homes) → homes.now ≡ map (λ f. of f.value) (fragments Wide) → result.bits ≡ bits_of code (homeless_in code of) }
 {
     let mut set = LossMask::from_bits(0);

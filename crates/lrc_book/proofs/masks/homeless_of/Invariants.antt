@@ -2,7 +2,7 @@ use Rattle.std.proofs.Common.{◌≡◌, ℕ, ◌&&◌, ltb, get_or, None}
 use Rattle.std.specs.Prelude.{is_none}
 use Rattle.lrc_code.specs.Codes.{has_fragment}
 use Rattle.lrc_code.specs.Losses.{bits_set}
-use Rattle.lrc_show.proofs.masks.homeless_of.Given as goal
+use Rattle.lrc_book.proofs.masks.homeless_of.Given as goal
 
 -- the homeless fragments so far
 abbrev pub invariant-loop-fragment : goal.invariant-loop-fragment

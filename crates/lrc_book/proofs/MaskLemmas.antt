@@ -17,7 +17,7 @@ use Rattle.lrc_terms.proofs.CodeListLemmas.{fragment-number, few-fragments}
 -- ---- the mask of a set that has only fragments of the code
 
 module _ (code : Code) (m : FragmentSet) (alone : (f : ℕ) → fragment_count code ≤ f → m f ≡ false) where
-  mask-set : (f : ℕ) → bits_set (bits_of code m) f ≡ m f
+  pub mask-set : (f : ℕ) → bits_set (bits_of code m) f ≡ m f
   mask-set f = elim (cases_lt f (fragment_count code)) [
     | inl within ↦ bits_set-bits_of code m f within
     | inr past ↦ ap (λ (b : ℕ). eqb b 1) (bit_at_above (bits_of code m) (fragment_count code) f (bits_of-below code m) past) ∙ sym (alone f past)
@@ -25,6 +25,12 @@ module _ (code : Code) (m : FragmentSet) (alone : (f : ℕ) → fragment_count c
 
   pub size-mask : size_of code (bits_set (bits_of code m)) ≡ size_of code m
   size-mask = λ i. size_of code (λ f. mask-set f i)
+
+  -- a mask with the members of the set is the mask of the set
+  pub mask-is : (bits : ℕ) → ((f : ℕ) → bits_set bits f ≡ m f) → bits ≡ bits_of code m
+  mask-is bits each =
+      let small : bits < 2 ^ fragment_count code = ltb-true bits (2 ^ fragment_count code) ((fits-within code bits).1 (λ f past. each f ∙ alone f past)) in
+      sym (bits_of-bits_set code bits small) ∙ (λ i. bits_of code (λ f. each f i))
 
 -- ---- a walk that marks the members of a set
 
@@ -57,31 +63,36 @@ module _ (m : FragmentSet) (i bits : ℕ) (so_far : (f : ℕ) → bits_set bits 
     | inr other ↦ so_far f ∙ ap (λ (b : Bool). b && m f) (sym (ltb-more f i other))
   ]
 
--- ---- homeless fragments
+-- ---- sets by the home of each fragment
+
+-- the fragments of the code whose home in the list passes the test
+abbrev pub tested : Code → (Option Seat → Bool) → List (Option Seat) → FragmentSet
+tested code test homes f = has_fragment code f && test (get_or homes f None)
 
 -- the fragments of the code without a home in the list
 abbrev pub unhomed : Code → List (Option Seat) → FragmentSet
-unhomed code homes f = has_fragment code f && is_none (get_or homes f None)
+unhomed code homes f = tested code is_none homes f
 
-module _ (code : Code) (homes : List (Option Seat)) (of : Homes) (are : homes ≡ map (λ f. of f.value) (fragments Wide)) (bits : ℕ)
-    (all : (f : ℕ) → bits_set bits f ≡ (ltb f 16 && unhomed code homes f)) where
+module _ (code : Code) (test : Option Seat → Bool) (homes : List (Option Seat)) (of : Homes) (are : homes ≡ map (λ f. of f.value) (fragments Wide)) (bits : ℕ)
+    (all : (f : ℕ) → bits_set bits f ≡ (ltb f 16 && tested code test homes f)) where
   home-at : (f : ℕ) → f < 16 → get_or homes f None ≡ of f
   home-at f within =
       let first : Fragment = record { value = 0; in_range = lit< tt } in
       ap (λ (l : List (Option Seat)). get_or l f None) are ∙ get_or-map (λ (g : Fragment). of g.value) (fragments Wide) f first None within
       ∙ ap of (fragment-number f first within)
 
-  each : (f : ℕ) → bits_set bits f ≡ homeless_in code of f
-  each f = elim (cases_lt f 16) [
-    | inl within ↦ all f ∙ ap (λ (b : Bool). b && unhomed code homes f) (lt-ltb f 16 within) ∙ ap (λ (o : Option Seat). has_fragment code f && is_none o) (home-at f within)
+  -- the marked fragments are those whose home passes
+  pub tested-set : (f : ℕ) → bits_set bits f ≡ (has_fragment code f && test (of f))
+  tested-set f = elim (cases_lt f 16) [
+    | inl within ↦ all f ∙ ap (λ (b : Bool). b && tested code test homes f) (lt-ltb f 16 within) ∙ ap (λ (o : Option Seat). has_fragment code f && test o) (home-at f within)
     | inr past ↦
         let few = few-fragments code in
-        all f ∙ ap (λ (b : Bool). b && unhomed code homes f) (le-ltb f 16 past)
-        ∙ sym (ap (λ (b : Bool). b && is_none (of f)) (le-ltb f (fragment_count code) (omega (arith, few, past))))
+        all f ∙ ap (λ (b : Bool). b && tested code test homes f) (le-ltb f 16 past)
+        ∙ sym (ap (λ (b : Bool). b && test (of f)) (le-ltb f (fragment_count code) (omega (arith, few, past))))
   ]
 
-  small : bits < 2 ^ fragment_count code
-  small = ltb-true bits (2 ^ fragment_count code) ((fits-within code bits).1 (λ f past. each f ∙ ap (λ (b : Bool). b && is_none (of f)) (le-ltb f (fragment_count code) past)))
-
-  pub homeless-mask : bits ≡ bits_of code (homeless_in code of)
-  homeless-mask = sym (bits_of-bits_set code bits small) ∙ (λ i. bits_of code (λ f. each f i))
+pub homeless-mask : (code : Code) (homes : List (Option Seat)) (of : Homes) → homes ≡ map (λ f. of f.value) (fragments Wide) → (bits : ℕ)
+    → ((f : ℕ) → bits_set bits f ≡ (ltb f 16 && unhomed code homes f)) → bits ≡ bits_of code (homeless_in code of)
+homeless-mask code homes of are bits all =
+    mask-is code (homeless_in code of) (λ f past. ap (λ (b : Bool). b && is_none (of f)) (le-ltb f (fragment_count code) past)) bits
+    (tested-set code is_none homes of are bits all)

@@ -6,9 +6,9 @@ use Rattle.lrc_code.specs.declared.numbers.Fragment.{Fragment}
 use Rattle.lrc_code.specs.Codes.{fragment_count, has_fragment}
 use Rattle.lrc_code.specs.Losses.{bits_set}
 use Rattle.lrc_book.proofs.ImagedLemmas.{item-number}
-use Rattle.lrc_show.proofs.MaskLemmas.{unhomed, and-false, set-hit, set-miss, homeless-mask}
-use Rattle.lrc_show.proofs.masks.homeless_of.Goals as goal
-use Rattle.lrc_show.proofs.masks.homeless_of.Goals.{then-fragment-fragments+then-is_none, else-fragment-fragments, else-fragment-fragments-via-then-fragment-fragments+else-is_none, else-fragment-fragments-via-else-fragment-fragments}
+use Rattle.lrc_book.proofs.MaskLemmas.{unhomed, and-false, set-hit, set-miss, homeless-mask}
+use Rattle.lrc_book.proofs.masks.homeless_of.Goals as goal
+use Rattle.lrc_book.proofs.masks.homeless_of.Goals.{then-fragment-fragments+then-is_none, else-fragment-fragments, else-fragment-fragments-via-then-fragment-fragments+else-is_none, else-fragment-fragments-via-else-fragment-fragments}
 
 pub loop-fragment-preserved : goal.loop-fragment-preserved
 loop-fragment-preserved c =

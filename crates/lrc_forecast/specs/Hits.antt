@@ -1,0 +1,19 @@
+-- Internal: no public clause reaches these definitions.
+-- The fragments with a home on one of some nodes.
+use Rattle.std.specs.Prelude.{◌≡◌, ◌≢◌, Bool, false, List, get_or, AllPairs, Option}
+use Rattle.std.specs.Option.{option_map_or}
+use Rattle.lrc_code.specs.declared.numbers.NodeNo.{NodeNo}
+use Rattle.lrc_topology.specs.declared.seat.Seat.{Seat}
+use Rattle.lrc_rules.specs.States.{State, has_number}
+
+-- the set, by node number, has these nodes and no others
+abbrev pub IsSetOf : List NodeNo → List Bool → Type 0
+IsSetOf ns set = (n : NodeNo) → get_or set n.value false ≡ has_number ns n
+
+-- the home is on a node of the set
+abbrev pub is_on_set : List Bool → Option Seat → Bool
+is_on_set set home = option_map_or (λ seat. get_or set seat.node.value false) home false
+
+-- each fragment has at most one home
+abbrev pub HaveOneHome : State → Type 0
+HaveOneHome st = AllPairs (λ h g. h.stripe ≡ g.stripe → h.fragment ≢ g.fragment) st.homes

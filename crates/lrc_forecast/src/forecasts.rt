@@ -1,0 +1,83 @@
+ghost use Rattle.std.specs.Prelude.{◌≡◌, true, List, IfOk, IfErr, length};
+ghost use Rattle.std.specs.List.{list_any};
+ghost use Rattle.lrc_code.specs.declared.fault.Fault.TheVariants as fault;
+ghost use Rattle.lrc_code.specs.declared.numbers.NodeNo.{NodeNo as AnyNode};
+ghost use Rattle.lrc_rules.specs.States.{has_stripe};
+ghost use Rattle.lrc_book.specs.Books.{state_of};
+ghost use Rattle.lrc_forecast.specs.Forecasts.{state_with, outlook, forecast, is_harmed, is_safe};
+ghost use Rattle.lrc_forecast.specs.Hits.{IsSetOf, HaveOneHome};
+
+use crate::hits::{NodeSet, fragments_on, joined, level_of, set_of};
+use crate::{Outage, Outlook};
+use lrc_book::{Book, homeless_of};
+use lrc_code::{Fault, NodeNo, StripeNo};
+use std::alloc::Global;
+
+/// The stripes that would not be whole if this happened to all these nodes at once, in rising order; also those that
+/// are not whole now. A node that the store lacks changes nothing, nor does one that is named twice. A node that is
+/// offline already changes nothing where it stops, but where it is lost, its homes are lost too.
+///
+/// # Errors
+///
+/// Only `Fault::OutOfMemory`.
+pub fn forecast(
+    alloc: Global,
+    book: &Book,
+    outage: Outage,
+    nodes: &[NodeNo],
+) -> Result<Vec<Outlook>, Fault>
+    ensures value { IfOk result (λ rows. rows.items ≡ forecast book.now.nodes (state_of book.now) outage nodes.now) }
+    ensures err { IfErr result (λ e. e ≡ fault.OutOfMemory) }
+{
+    book.history(); // so that its contract tells that each fragment has one home at most
+    let stripes = book.stripes(alloc)?;
+    let hit_nodes = set_of(nodes);
+    let mut rows = Vec::new(alloc);
+    for stripe in stripes.as_slice() {
+        let outlook = outlook_of(book, *stripe, outage, &hit_nodes);
+        if !outlook.after.is_whole() {
+            rows.push(outlook)?;
+        }
+    }
+    Ok(rows)
+}
+
+/// Whether no stripe becomes unavailable or lost.
+pub fn is_safe(rows: &[Outlook]) -> bool
+    ensures { result ≡ is_safe rows.now }
+{
+    !is_any_harmed(rows)
+}
+
+/// Whether a stripe becomes unavailable or lost.
+fn is_any_harmed(rows: &[Outlook]) -> bool
+    ensures { result ≡ list_any is_harmed rows.now }
+{
+    rows.iter().any(|row| row.is_harmed())
+}
+
+/// What becomes of a stripe that is there.
+fn outlook_of(book: &Book, stripe: StripeNo, outage: Outage, hit_nodes: &NodeSet) -> Outlook
+    requires there { has_stripe (state_of book.now) stripe ≡ true }
+    requires single { HaveOneHome (state_of book.now) }
+    requires long { length hit_nodes.now ≡ 65536 }
+    ensures { (ns : List AnyNode) → IsSetOf ns hit_nodes.now
+        → result ≡ outlook book.now.nodes (state_of book.now) (state_with outage (state_of book.now) ns) stripe }
+{
+    let code = book.code(stripe).unwrap();
+    let homes = book.homes(stripe).unwrap();
+    let hit = fragments_on(code, &homes, hit_nodes);
+    let missing = joined(book.missing(stripe).unwrap(), hit);
+    let homeless = homeless_of(code, &homes);
+    let homeless = match outage {
+        Outage::Stop => homeless,
+        Outage::Lose => joined(homeless, hit),
+    };
+    Outlook {
+        stripe,
+        code,
+        before: book.level(stripe).unwrap(),
+        after: level_of(code, homeless, missing),
+        missing,
+    }
+}

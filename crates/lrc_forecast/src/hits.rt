@@ -1,0 +1,76 @@
+//! The fragments with a home on one of some nodes.
+
+ghost use Rattle.std.specs.Prelude.{◌≡◌, ℕ, ◌&&◌, ◌||◌, map, length};
+ghost use Rattle.lrc_code.specs.declared.codes.Code.TheVariants.{Wide};
+ghost use Rattle.lrc_code.specs.Codes.{fragments, has_fragment};
+ghost use Rattle.lrc_code.specs.Losses.{bits_set};
+ghost use Rattle.lrc_terms.specs.Levels.{Homes, level_by};
+ghost use Rattle.lrc_forecast.specs.Hits.{IsSetOf, is_on_set};
+
+use lrc_bits::BitSet;
+use lrc_book::{Level, Seat};
+use lrc_code::{Code, FRAGMENTS, Fragment, LossMask, NodeNo};
+use lrc_homes::{Losses, masks};
+
+/// A set of node numbers, one bit for each `u16`.
+pub(crate) type NodeSet = BitSet<1024>;
+
+/// The set of these nodes.
+pub(crate) fn set_of(nodes: &[NodeNo]) -> NodeSet
+    ensures long { length result ≡ 65536 }
+    ensures each { IsSetOf nodes.now result }
+{
+    let mut set = BitSet::new();
+    for node in nodes {
+        set.insert(node.value as usize);
+    }
+    set
+}
+
+/// The fragments of the code with a home on a node of the set, by the home of each fragment number.
+pub(crate) fn fragments_on(
+    code: Code,
+    homes: &[Option<Seat>; FRAGMENTS],
+    nodes: &NodeSet,
+) -> LossMask
+    requires long { length nodes.now ≡ 65536 }
+    ensures { (of : Homes) → homes.now ≡ map (λ f. of f.value) (fragments Wide)
+        → (f : ℕ) → bits_set result.bits f ≡ (has_fragment code f && is_on_set nodes.now (of f)) }
+{
+    let mut set = LossMask::from_bits(0);
+    for fragment in Fragment::all() {
+        if fragment.value < code.fragments() && is_on(homes[fragment.value as usize], nodes) {
+            set = set.with(fragment);
+        }
+    }
+    set
+}
+
+/// Whether the home is on a node of the set.
+fn is_on(home: Option<Seat>, nodes: &NodeSet) -> bool
+    requires long { length nodes.now ≡ 65536 }
+    ensures { result ≡ is_on_set nodes.now home }
+{
+    match home {
+        Some(seat) => nodes.contains(seat.node.value as usize),
+        None => false,
+    }
+}
+
+/// The fragments of both sets.
+pub(crate) fn joined(set: LossMask, more: LossMask) -> LossMask
+    ensures { (f : ℕ) → bits_set result.bits f ≡ (bits_set set.bits f || bits_set more.bits f) }
+{
+    masks::put(set, more, true)
+}
+
+/// The level of a stripe of the code with these homeless and these missing fragments.
+pub(crate) fn level_of(code: Code, homeless: LossMask, missing: LossMask) -> Level
+    ensures { result ≡ level_by code (bits_set homeless.bits) (bits_set missing.bits) }
+{
+    // No level depends on what needs a lease.
+    let mut losses = Losses::none(code);
+    losses.homeless = homeless;
+    losses.missing = missing;
+    losses.level()
+}
