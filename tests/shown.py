@@ -1,4 +1,5 @@
-"""What `lrcman show` prints of a store of tests/rules.py, written once more after docs/FORMATS.md."""
+"""What `lrcman show`, `may-stop` and `may-lose` print of a store of tests/rules.py, written once more after docs/FORMATS.md."""
+import copy
 from collections import Counter
 
 import rules
@@ -13,6 +14,9 @@ HEADS = {
     "leases": ["stripe", "fragment", "holder", "target", "epoch", "expiry"],
     "work": ["stripe", "fragment", "kind", "sources", "standing", "holder", "epoch"],
 }
+
+REPORTS = {"may-stop": "down", "may-lose": "fail"}
+FORECAST = ["stripe", "code", "level_before", "margin_before", "level_after", "margin_after", "missing_after", "missing_fragments_after"]
 
 
 def yes(flag):
@@ -112,3 +116,23 @@ def shown(view, store, entries):
     rows = {"status": lambda: status_rows(store, entries), "stripes": lambda: stripes_rows(store), "nodes": lambda: nodes_rows(store),
             "leases": lambda: leases_rows(store), "work": lambda: work_rows(store)}
     return text_of(HEADS[view], rows[view]())
+
+
+def nodes_of(store, words):
+    """The nodes that the words after `may-stop` or `may-lose` name."""
+    if words[0] in ("fault", "upgrade"):
+        return [number for number, node in store.nodes.items() if getattr(node, words[0]) == int(words[1])]
+    return list(map(int, words))
+
+
+def forecast(word, store, nodes):
+    """The table of the stripes that are not whole after a report of each node, and whether none becomes unavailable or lost."""
+    later, is_safe, rows = copy.deepcopy(store), True, []
+    for node in nodes:
+        later.call(1, f"{REPORTS[word]} {node}")
+    for stripe in sorted(store.stripes):
+        before, after = level_of(store, stripe), level_of(later, stripe)
+        is_safe = is_safe and (after[0] == before[0] or after[0] not in ("unavailable", "lost"))
+        if after[0] != "whole":
+            rows.append([stripe, store.stripes[stripe].name, *before, *after, *mask(later.missing(stripe))])
+    return text_of(FORECAST, rows), is_safe

@@ -1,14 +1,26 @@
--- How many commands scripts have.
-use Rattle.std.proofs.Common.{◌≡◌, ℕ, List, [], ◌∷◌, length, sum_by, Vec, refl, sym, ap, ◌∙◌, arith}
+-- How many commands scripts have, and what is warned of.
+use Rattle.std.proofs.Common.{◌≡◌, ◌≢◌, inl, inr, ℕ, List, [], ◌∷◌, length, sum_by, codes, Option, Some, None, Result, Ok, Err, IfSome, Vec, refl, sym, ap, subst, ◌∙◌, arith}
+use Rattle.std.specs.Io.KnownBytes.{Appends, Keeps}
 use Rattle.std.proofs.lemmas.List.{length-map}
 use Rattle.std.proofs.lemmas.List.Sums.{sum_by-cons, sum-map}
+use Rattle.lrc_topology.specs.declared.NodeInfo.{NodeInfo}
+use Rattle.lrc_topology.specs.declared.error.TopologyError.{TopologyError}
 use Rattle.lrc_rules.specs.declared.command.Command.{Command}
-use Rattle.lrc_script.specs.Scripts.{command_line, IsScript}
-use Rattle.lrc_script.specs.Bundles.{Script}
-use Rattle.lrc_tool.specs.Outputs.{AreCommandsOf}
-use Rattle.lrc_tool.specs.Checks.{command_count, counts_line, counted_line}
-use Rattle.lrc_tool.specs.Judged.{lists_of}
+use Rattle.lrc_script.specs.Scripts.{command_line, IsScript, BadLine}
+use Rattle.lrc_script.specs.Bundles.{Script, scripts_of}
+use Rattle.lrc_streams.specs.Streams.{AppendsPart}
+use Rattle.lrc_streams.specs.Reads.{IsReadUpTo}
+use Rattle.lrc_warnings.specs.Warnings.{warnings}
+use Rattle.lrc_tool.specs.declared.status.Status.{Status}
+use Rattle.lrc_tool.specs.declared.status.Status.TheVariants as ended
+use Rattle.lrc_tool.specs.Limits.{bundle_limit, script_limit}
+use Rattle.lrc_tool.specs.Refusals.{bad_line_text}
+use Rattle.lrc_tool.specs.Apart.{Written}
+use Rattle.lrc_tool.specs.Outputs.{early_refusal, first_bad_of, AreCommandsOf, IsAnsweredOver, IsAnsweredAfter, IsAnsweredUnless, IsAnswered}
+use Rattle.lrc_tool.specs.Judged.{lists_of, NoEnding, IsRefusalIn, IsAccepted}
+use Rattle.lrc_tool.specs.Checks.{command_count, counts_line, counted_line, AreCounted, IsCheck, IsWarned, WritesPartOfCheck}
 use Rattle.lrc_tool.proofs.CommandLemmas.{as_many_lists}
+use Rattle.lrc_tool.proofs.ReadLemmas.{TellsAlike, too_long, bundles_alike, told_to_read, writes, writes_part}
 
 -- a script has as many commands as lines that are not passed over
 pub counted_commands : (s : Script) (commands : List Command) → IsScript s.lines commands → length commands ≡ command_count s
@@ -30,3 +42,69 @@ pub all_counted : {Z : Type 0} (nodes : ℕ) (scripts : List Script) (lists : Li
 all_counted {Z = Z} nodes scripts lists are =
     let many : length lists ≡ length scripts = sym (length-map lists (λ (v : Vec Command Z). v.items)) ∙ as_many_lists scripts (lists_of lists) are in
     ap (λ n. counts_line nodes n (sum_by (λ v. length v.items) lists)) many ∙ ap (counts_line nodes (length scripts)) (commands_in scripts lists are ∙ sym (sum-map command_count scripts))
+
+-- ---- what is warned of
+
+over_refused : (most : ℕ) (bad_text : BadLine → List ℕ) (nodes : List NodeInfo) (scripts : List Script) (found : Option BadLine) (text : List ℕ) (status : Status)
+    → IsAnsweredOver (record { most = most; bad_text = bad_text; ending = NoEnding }) nodes scripts found text status → status ≢ ended.Done
+over_refused most bad_text nodes scripts (Some bad) text status h done = let no : ended.Done ≡ ended.BadLine = sym done ∙ h.1 in cc
+over_refused most bad_text nodes scripts None text status h done = absurd h
+
+after_refused : (most : ℕ) (bad_text : BadLine → List ℕ) (o : Result (List NodeInfo) TopologyError) (scripts : List Script) (text : List ℕ) (status : Status)
+    → IsAnsweredAfter (record { most = most; bad_text = bad_text; ending = NoEnding }) o scripts text status → status ≢ ended.Done
+after_refused most bad_text (Err e) scripts text status h done = let no : ended.Done ≡ ended.Refused = sym done ∙ h.1 in cc
+after_refused most bad_text (Ok nodes) scripts text status h done = over_refused most bad_text nodes scripts (first_bad_of scripts) text status h done
+
+unless_refused : (most : ℕ) (bad_text : BadLine → List ℕ) (early : Option (List ℕ)) (bundle text : List ℕ) (status : Status)
+    → IsAnsweredUnless (record { most = most; bad_text = bad_text; ending = NoEnding }) early bundle text status → status ≢ ended.Done
+unless_refused most bad_text (Some line) bundle text status h done = let no : ended.Done ≡ ended.Refused = sym done ∙ h.1 in cc
+unless_refused most bad_text None bundle text status h done = after_refused most bad_text h.0 (scripts_of bundle) text status h.2 done
+
+warned_of_none : (bundle : List ℕ) (status : Status) → status ≢ ended.Done → IsWarned bundle [] status
+warned_of_none bundle ended.Done other = absurd (other refl)
+warned_of_none bundle ended.BadLine other = refl
+warned_of_none bundle ended.Refused other = refl
+warned_of_none bundle ended.Unsafe other = refl
+
+-- a refused bundle is warned of nothing
+pub refused_unwarned : (bundle text : List ℕ) (status : Status) → IsRefusalIn script_limit bad_line_text bundle text status → IsWarned bundle [] status
+refused_unwarned bundle text status h = warned_of_none bundle status (unless_refused script_limit bad_line_text (early_refusal bundle) bundle text status h)
+
+-- an accepted one is warned of what its nodes lack
+pub accepted_warned : {Z : Type 0} (bundle text : List ℕ) (status : Status) (nodes : List NodeInfo) (scripts : List (Vec Command Z)) → IsAccepted script_limit bundle nodes scripts
+    → text ≡ warnings nodes → status ≡ ended.Done → IsWarned bundle text status
+accepted_warned bundle text status nodes scripts good is done =
+    subst (IsWarned bundle text) (sym done) (nodes, record { early = good.early; read = good.read; no_bad = good.no_bad }, is)
+
+-- bundles that are too long are warned of the same
+pub warned_alike : TellsAlike bundle_limit IsWarned
+warned_alike a b text ended.Done p q h = absurd (let no : None ≡ Some (codes "bundle 1\n") = sym h.1.early ∙ too_long a p in cc)
+warned_alike a b text ended.BadLine p q h = h
+warned_alike a b text ended.Refused p q h = h
+warned_alike a b text ended.Unsafe p q h = h
+
+keeps_itself : (bytes : Option (List ℕ)) → Keeps bytes bytes
+keeps_itself None = tt
+keeps_itself (Some x) = refl
+
+module _ (after : Option (List ℕ)) (read read' text text' : List ℕ) (status : Status) (sink : Written) (same_read : read' ≡ read) (same_text : text' ≡ text) where
+  -- a prefix of the line was written
+  pub part_of_line : (errors before : Option (List ℕ)) → IsReadUpTo bundle_limit before after read → IsCheck read' text status → AppendsPart sink.old sink.new text'
+      → IfSome before (λ input. WritesPartOfCheck sink (record { old = errors; new = errors }) input)
+  part_of_line errors None taken line part = tt
+  part_of_line errors (Some input) taken line part =
+      inl
+      (writes_part (IsAnswered AreCounted) bundle_limit (bundles_alike AreCounted) after read read' text text' status sink.old sink.new same_read same_text (Some input) taken line part, keeps_itself errors)
+
+  -- the line was written whole, and a prefix of what is warned of
+  pub part_of_warnings : (warned warned' : List ℕ) (errors : Written) → warned' ≡ warned → (before : Option (List ℕ)) → IsReadUpTo bundle_limit before after read → IsCheck read' text status
+      → Appends sink.old sink.new text' → IsWarned read' warned status → AppendsPart errors.old errors.new warned' → IfSome before (λ input. WritesPartOfCheck sink errors input)
+  part_of_warnings warned warned' errors same None taken line written told part = tt
+  part_of_warnings warned warned' errors same (Some input) taken line written told part =
+      inr (record {
+        status = status;
+        line = writes (IsAnswered AreCounted) bundle_limit (bundles_alike AreCounted) after read read' text text' status sink.old sink.new same_read same_text (Some input) taken line written;
+        text = warned;
+        warned = told_to_read IsWarned bundle_limit warned_alike input read warned status after taken (subst (λ (b : List ℕ). IsWarned b warned status) same_read told);
+        part = subst (AppendsPart errors.old errors.new) same part;
+      })

@@ -1,4 +1,3 @@
-pub mod StreamLemmas
 pub mod CommandLemmas
 pub mod SessionLemmas
 pub mod HistoryLemmas
@@ -7,8 +6,8 @@ pub mod PlayLemmas
 pub mod TrackLemmas
 pub mod JudgedLemmas
 pub mod AnswerLemmas
-pub mod CheckLemmas
 pub mod ReadLemmas
+pub mod CheckLemmas
 mod RowsOfSessions
 mod RowsOfMasks
 pub mod SequelLemmas

@@ -10,6 +10,10 @@ use Rattle.lrc_image_text.specs.Texts.{IsBadLine}
 use Rattle.lrc_image_text.proofs.OnceLemmas.{one_bad}
 use Rattle.lrc_image_text.proofs.ImageLemmas.{no_bad, same_rows}
 use Rattle.lrc_book.specs.Books.{BookView, state_of}
+use Rattle.lrc_forecast.specs.declared.outlook.Outage.{Outage}
+use Rattle.lrc_groups.specs.declared.group.Group.{Group}
+use Rattle.lrc_groups.specs.declared.lacking.Lacking.{Lacking}
+use Rattle.lrc_groups.specs.Groups.{lacking_in}
 use Rattle.lrc_show.specs.declared.view.View.{View}
 use Rattle.lrc_script.specs.Bundles.{Script}
 use Rattle.lrc_tool.specs.declared.sequel.Goal.{Goal}
@@ -18,7 +22,7 @@ use Rattle.lrc_tool.specs.declared.status.Status.{Status}
 use Rattle.lrc_tool.specs.Limits.{sequel_limit}
 use Rattle.lrc_tool.specs.Refusals.{bad_image_text}
 use Rattle.lrc_tool.specs.Outputs.{IsAnsweredIn}
-use Rattle.lrc_tool.specs.Sequels.{image_part, bundle_part, lines_before, ReadsImage, Start, start_in, Going, IsBegunUnless, sequel_judging, IsToldAfter, IsToldUnless, IsTold, IsImaged, IsTable, IsMadeFrom, IsReached, going_to, IsSequelOutput}
+use Rattle.lrc_tool.specs.Sequels.{image_part, bundle_part, lines_before, ReadsImage, Start, start_in, Going, IsBegunUnless, sequel_judging, IsToldAfter, IsToldUnless, IsTold, IsImaged, IsTable, IsForecast, IsMadeFrom, IsForecastUnless, IsReached, going_to, IsSequelOutput}
 use Rattle.lrc_tool.proofs.CommandLemmas.{as_many_lists, same_lists}
 use Rattle.lrc_tool.proofs.HistoryLemmas.{only_history, same_play}
 use Rattle.lrc_tool.proofs.JudgedLemmas.{few_scripts}
@@ -80,6 +84,12 @@ same-table : (view : View) (b c : BookView) → b.nodes ≡ c.nodes → b.base �
 same-table view b c nodes base before history t s h =
     subst (λ (v : BookView). IsTable view v t s) (λ k. book_of (nodes k) (base k) (before k) (history k)) h
 
+-- and each forecast
+same-forecast : (outage : Outage) (group : Group) (b c : BookView) → b.nodes ≡ c.nodes → b.base ≡ c.base → b.before ≡ c.before → b.history ≡ c.history → (t : List ℕ) (s : Status) → IsForecast outage group b t s
+    → IsForecast outage group c t s
+same-forecast outage group b c nodes base before history t s h =
+    subst (λ (v : BookView). IsForecast outage group v t s) (λ k. book_of (nodes k) (base k) (before k) (history k)) h
+
 imaged-one : (b : BookView) (t u : List ℕ) (s r : Status) → IsImaged b t s → IsImaged b u r → (t ≡ u) × (s ≡ r)
 imaged-one b t u s r (inl (spent, p, e)) (inl (spent', q, f)) = (p ∙ sym q, e ∙ sym f)
 imaged-one b t u s r (inl (spent, p, e)) (inr (free, f, j, is', q)) = absurd (free spent)
@@ -95,6 +105,13 @@ module _ (nodes : List NodeInfo) (base : World) (before : ℕ) (lists : List (Li
       let legal' : IsLegalFrom nodes base c.history = subst (λ (w : World). IsLegalFrom nodes w c.history) q.begun (subst (λ (ns : List NodeInfo). IsLegalFrom ns c.base c.history) q.over q.legal) in
       only_history nodes base lists few b.history c.history legal legal' p.made q.made p.only q.only
 
+  forecast-one : (found : Option Lacking) (outage : Outage) (group : Group) (t u : List ℕ) (s r : Status) → IsForecastUnless found outage group nodes base before lists t s
+      → IsForecastUnless found outage group nodes base before lists u r → (t ≡ u) × (s ≡ r)
+  forecast-one (Some lacking) outage group t u s r h k = (h.0 ∙ sym k.0, h.1 ∙ sym k.1)
+  forecast-one None outage group t u s r (b, p, h) (c, q, k) =
+      let same = same-forecast outage group b c (p.over ∙ sym q.over) (p.begun ∙ sym q.begun) (p.before_is ∙ sym q.before_is) (same-history b c p q) t s h in
+      (same.0 ∙ sym k.0, same.1 ∙ sym k.1)
+
   reached-one : (goal : Goal) (t u : List ℕ) (s r : Status) → IsReached goal nodes base before lists t s → IsReached goal nodes base before lists u r → (t ≡ u) × (s ≡ r)
   reached-one to.Replies t u s r h k = (same_play nodes base before lists t u few h.0 k.0, h.1 ∙ sym k.1)
   reached-one to.Image t u s r (b, p, h) (c, q, k) =
@@ -102,6 +119,7 @@ module _ (nodes : List NodeInfo) (base : World) (before : ℕ) (lists : List (Li
   reached-one (to.Table view) t u s r (b, p, h) (c, q, k) =
       let same = same-table view b c (p.over ∙ sym q.over) (p.begun ∙ sym q.begun) (p.before_is ∙ sym q.before_is) (same-history b c p q) t s h in
       (same.0 ∙ sym k.0, same.1 ∙ sym k.1)
+  reached-one (to.Forecast outage group) t u s r h k = forecast-one (lacking_in nodes group) outage group t u s r h k
 
 going-one : (goal : Goal) → IsOneGoing (going_to goal)
 going-one goal nodes start scripts t u s r few (lists, are, h) (others, too, k) =

@@ -4,15 +4,16 @@ use Rattle.std.proofs.lemmas.Bool.{lt-ltb}
 use Rattle.std.specs.Io.KnownBytes.{Appends}
 use Rattle.lrc_tool.specs.declared.status.Status.{Status}
 use Rattle.lrc_tool.specs.Limits.{bundle_limit}
-use Rattle.lrc_tool.specs.Streams.{AppendsPart}
-use Rattle.lrc_tool.specs.Reads.{IsReadUpTo}
+use Rattle.lrc_streams.specs.Streams.{AppendsPart}
+use Rattle.lrc_streams.specs.Reads.{IsReadUpTo}
 use Rattle.lrc_tool.specs.Outputs.{early_refusal, Answer, run_judging, IsAnsweredUnless, IsAnswered, Telling, WritesTold, WritesPartOfTold}
 
 -- all inputs with more bytes than the limit are told the same
 abbrev pub TellsAlike : ℕ → Telling → Type 0
 TellsAlike limit told = (a b text : List ℕ) (status : Status) → limit < length a → limit < length b → told a text status → told b text status
 
-too_long : (bundle : List ℕ) → bundle_limit < length bundle → early_refusal bundle ≡ Some (codes "bundle 1\n")
+-- such a bundle is refused
+pub too_long : (bundle : List ℕ) → bundle_limit < length bundle → early_refusal bundle ≡ Some (codes "bundle 1\n")
 too_long bundle long = rw (lt-ltb bundle_limit (length bundle) long) refl
 
 -- bundles that are too long have one output

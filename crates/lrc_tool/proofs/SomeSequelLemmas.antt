@@ -13,7 +13,12 @@ use Rattle.lrc_images.specs.Causes.{most_grants, most_ticks, most_entries}
 use Rattle.lrc_image_text.specs.Texts.{image_text}
 use Rattle.lrc_image_text.proofs.TotalLemmas.{judged}
 use Rattle.lrc_book.specs.Books.{BookView, state_of, IsSpent}
-use Rattle.lrc_show.specs.Shown.{view_text}
+use Rattle.lrc_forecast.specs.declared.outlook.Outage.{Outage}
+use Rattle.lrc_forecast.specs.Forecasts.{is_safe}
+use Rattle.lrc_groups.specs.declared.group.Group.{Group}
+use Rattle.lrc_groups.specs.declared.lacking.Lacking.{Lacking}
+use Rattle.lrc_groups.specs.Groups.{lacking_in, lacking_line}
+use Rattle.lrc_show.specs.Shown.{view_text, forecast_text}
 use Rattle.lrc_script.specs.Bundles.{Script}
 use Rattle.lrc_tool.specs.declared.sequel.Goal.{Goal}
 use Rattle.lrc_tool.specs.declared.sequel.Goal.TheVariants as to
@@ -22,7 +27,7 @@ use Rattle.lrc_tool.specs.declared.status.Status.TheVariants as ended
 use Rattle.lrc_tool.specs.Limits.{sequel_limit}
 use Rattle.lrc_tool.specs.Refusals.{bad_image_text, refused_row_text, full_image_text}
 use Rattle.lrc_tool.specs.Outputs.{first_bad_of}
-use Rattle.lrc_tool.specs.Sequels.{image_size, image_part, bundle_part, lines_before, ReadsImage, Start, start_in, IsBegunUnless, sequel_judging, IsToldAfter, IsToldUnless, IsImaged, IsMadeFrom, IsReached, going_to, IsSequelOutput}
+use Rattle.lrc_tool.specs.Sequels.{image_size, image_part, bundle_part, lines_before, ReadsImage, Start, start_in, IsBegunUnless, sequel_judging, IsToldAfter, IsToldUnless, IsImaged, safety_status, forecast_of, IsMadeFrom, IsForecastUnless, IsReached, going_to, IsSequelOutput}
 use Rattle.lrc_tool.proofs.CommandLemmas.{as_many_lists, some_lists}
 use Rattle.lrc_tool.proofs.TurnLemmas.{some_made, some_play}
 use Rattle.lrc_tool.proofs.AnswerLemmas.{some_answer}
@@ -73,6 +78,13 @@ some-book nodes base before lists few =
     let b : BookView = record { nodes = nodes; base = base; before = before; limit = 0; history = history; ready = false } in
     (b, record { over = refl; begun = refl; before_is = refl; legal = made.legal; made = made.made; only = made.alone })
 
+some-forecast : (found : Option Lacking) (outage : Outage) (group : Group) (nodes : List NodeInfo) (base : World) (before : ℕ) (lists : List (List Command)) → length lists ≤ 8
+    → (text : List ℕ) × (status : Status) × IsForecastUnless found outage group nodes base before lists text status
+some-forecast (Some lacking) outage group nodes base before lists few = (lacking_line lacking, ended.Refused, (refl, refl))
+some-forecast None outage group nodes base before lists few =
+    let (b, from) = some-book nodes base before lists few in
+    (forecast_text (forecast_of outage group b), safety_status (is_safe (forecast_of outage group b)), (b, from, (refl, refl)))
+
 some-reached : (goal : Goal) (nodes : List NodeInfo) (base : World) (before : ℕ) (lists : List (List Command)) → length lists ≤ 8 → (text : List ℕ) × (status : Status) × IsReached goal nodes base before lists text status
 some-reached to.Replies nodes base before lists few = let one = some_play nodes base before lists few in (one.0, ended.Done, (one.1, refl))
 some-reached to.Image nodes base before lists few =
@@ -82,6 +94,7 @@ some-reached to.Image nodes base before lists few =
 some-reached (to.Table view) nodes base before lists few =
     let (b, from) = some-book nodes base before lists few in
     (view_text view b.nodes (state_of b) (b.before + length b.history), ended.Done, (b, from, (refl, refl)))
+some-reached (to.Forecast outage group) nodes base before lists few = some-forecast (lacking_in nodes group) outage group nodes base before lists few
 
 module _ (goal : Goal) where
   some-going : (nodes : List NodeInfo) (start : Start) (scripts : List Script) → length scripts ≤ 1 → first_bad_of scripts ≡ None → (text : List ℕ) × (status : Status) × going_to goal nodes start scripts text status

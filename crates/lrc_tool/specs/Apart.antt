@@ -1,10 +1,10 @@
 -- What is written where refusals are told apart from answers, in words.
-use Rattle.std.specs.Prelude.{◌≡◌, ℕ, ◌≤◌, Bool, true, false, List, ◌++◌, codes, length, take, Option}
+use Rattle.std.specs.Prelude.{◌≡◌, ℕ, Bool, true, false, List, ◌++◌, codes, Option}
 use Rattle.std.specs.Io.KnownBytes.{Appends, Keeps}
 use Rattle.lrc_tool.specs.declared.sequel.Goal.{Goal}
 use Rattle.lrc_tool.specs.declared.status.Status.{Status}
 use Rattle.lrc_tool.specs.declared.status.Status.TheVariants as ended
-use Rattle.lrc_tool.specs.Streams.{AppendsPart}
+use Rattle.lrc_streams.specs.Streams.{AppendsPart}
 use Rattle.lrc_tool.specs.Sequels.{IsSequelOutput}
 
 -- the input was answered, not refused
@@ -12,6 +12,7 @@ abbrev pub is_answer : Status → Bool
 is_answer ended.Done = true
 is_answer ended.BadLine = false
 is_answer ended.Refused = false
+is_answer ended.Unsafe = true
 
 -- a refusal in words, and behind them its line
 abbrev pub refusal_text : List ℕ → List ℕ → List ℕ

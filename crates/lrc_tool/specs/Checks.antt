@@ -1,9 +1,16 @@
 -- What a check of a bundle writes, and how it ends.
-use Rattle.std.specs.Prelude.{◌≡◌, ℕ, not, List, ◌++◌, length, map, sum, filter, codes, decimal, Option}
+use Rattle.std.specs.Prelude.{◌≡◌, ◌⊎◌, ℕ, not, List, [], ◌++◌, length, map, sum, filter, codes, decimal, Option, None}
+use Rattle.std.specs.Io.KnownBytes.{Keeps}
+use Rattle.lrc_topology.specs.declared.NodeInfo.{NodeInfo}
+use Rattle.lrc_topology.specs.Documents.{IsTopologyOf}
 use Rattle.lrc_tool.specs.declared.status.Status.{Status}
+use Rattle.lrc_tool.specs.declared.status.Status.TheVariants as ended
 use Rattle.lrc_script.specs.Scripts.{is_passed_over}
-use Rattle.lrc_script.specs.Bundles.{Script}
-use Rattle.lrc_tool.specs.Outputs.{Answer, IsAnswered, Writes, WritesPart}
+use Rattle.lrc_script.specs.Bundles.{Script, scripts_of, topology_of}
+use Rattle.lrc_streams.specs.Streams.{AppendsPart}
+use Rattle.lrc_warnings.specs.Warnings.{warnings}
+use Rattle.lrc_tool.specs.Apart.{Written}
+use Rattle.lrc_tool.specs.Outputs.{early_refusal, first_bad_of, Answer, IsAnswered, WritesTold, Writes, WritesPart}
 
 -- how many commands a script without a bad line has: one for each line that is not skipped
 abbrev pub command_count : Script → ℕ
@@ -29,6 +36,35 @@ IsCheck bundle text status = IsAnswered AreCounted bundle text status
 abbrev pub WritesCheck : Option (List ℕ) → Option (List ℕ) → List ℕ → Status → Type 0
 WritesCheck old new bundle status = Writes AreCounted old new bundle status
 
--- a prefix of that line was written after what was written before
-abbrev pub WritesPartOfCheck : Option (List ℕ) → Option (List ℕ) → List ℕ → Type 0
-WritesPartOfCheck old new bundle = WritesPart AreCounted old new bundle
+-- ---- warnings
+
+-- the bundle passes all checks, and has these nodes
+pub record Passes (bundle : List ℕ) (nodes : List NodeInfo) : Type 0 where
+  pub early : early_refusal bundle ≡ None
+  pub read : IsTopologyOf (topology_of bundle) nodes
+  pub no_bad : first_bad_of (scripts_of bundle) ≡ None
+
+-- this is what the check of a bundle warns of, if it ends with this status: nothing, unless the bundle passes all checks
+abbrev pub IsWarned : List ℕ → List ℕ → Status → Type 0
+IsWarned bundle text ended.Done = (nodes : List NodeInfo) × Passes bundle nodes × (text ≡ warnings nodes)
+IsWarned bundle text ended.BadLine = text ≡ []
+IsWarned bundle text ended.Refused = text ≡ []
+IsWarned bundle text ended.Unsafe = text ≡ []
+
+-- what it warns of was written, whole, after what was written before
+abbrev pub WritesWarnings : Option (List ℕ) → Option (List ℕ) → List ℕ → Status → Type 0
+WritesWarnings old new bundle status = WritesTold IsWarned old new bundle status
+
+-- ---- what was written before a write failed
+
+-- the line was written, whole, and a prefix of what is warned of
+pub record WritesPartOfWarnings (sink errors : Written) (bundle : List ℕ) : Type 0 where
+  pub status : Status
+  pub line : WritesCheck sink.old sink.new bundle status
+  pub text : List ℕ
+  pub warned : IsWarned bundle text status
+  pub part : AppendsPart errors.old errors.new text
+
+-- a prefix of the line, or the line and a prefix of what is warned of, was written after what was written before
+abbrev pub WritesPartOfCheck : Written → Written → List ℕ → Type 0
+WritesPartOfCheck sink errors bundle = (WritesPart AreCounted sink.old sink.new bundle × Keeps errors.old errors.new) ⊎ WritesPartOfWarnings sink errors bundle

@@ -7,10 +7,9 @@ pub use Rattle.lrc_script.specs.Bundles
 pub use Rattle.lrc_text.specs.Texts
 pub use Rattle.lrc_text.specs.Tables
 pub use Rattle.lrc_text.specs.Masks
+pub use Rattle.lrc_streams.specs.Streams
 pub mod Limits
 pub mod Refusals
-pub mod Streams
-pub mod Reads
 pub mod Faults
 pub mod Outputs
 pub mod Plays

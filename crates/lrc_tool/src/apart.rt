@@ -2,15 +2,15 @@
 
 ghost use Rattle.std.specs.Prelude.{◌≡◌, ◌≢◌, ◌||◌, ◌⊎◌, ◌+◌, OnOk, IfOk, IfErr, IfSome, IsErrOf};
 ghost use Rattle.std.specs.Io.KnownBytes.{Keeps};
-ghost use Rattle.lrc_tool.specs.Streams.{is_read_fault, is_write_fault, ConsumesAtMost};
+ghost use Rattle.lrc_streams.specs.Streams.{is_read_fault, is_write_fault, ConsumesAtMost};
 ghost use Rattle.lrc_tool.specs.Apart.{is_answer, refusal_text, AreWrittenApart, ArePartlyWrittenApart, IsFlushedApart, WritesApart, WritesPartApart};
-ghost use Rattle.lrc_tool.specs.declared.streams.RunFault.TheVariants as fault;
+ghost use Rattle.lrc_streams.specs.declared.streams.RunFault.TheVariants as fault;
 
 use crate::limits::SEQUEL_LIMIT;
 use crate::output::Output;
 use crate::sequel::{Goal, sequel_output};
 use crate::status::Status;
-use crate::streams::{RunFault, Sink, Source, read_all, write_all};
+use lrc_streams::{RunFault, Sink, Source, read_all, write_all};
 use std::alloc::{AllocError, Global};
 
 /// Does what `go_on` does, but writes a refusal to `errors`, with words before its line, and then nothing to `sink`.
@@ -21,19 +21,19 @@ use std::alloc::{AllocError, Global};
 #[tactic(auto, using(crate::proofs::ApartLemmas::writes_apart, crate::proofs::ApartLemmas::writes_part_apart))]
 pub fn ask<R: Source, W: Sink, E: Sink>(
     alloc: Global,
-    goal: Goal,
+    goal: Goal<'_>,
     source: &mut R,
     sink: &mut W,
     errors: &mut E,
 ) -> Result<Status, RunFault>
     // The output of the sequel was written, whole, if the bytes of the source are known.
     ensures output { IfOk result (λ status. IfSome (R.left source.old) (λ sequel.
-        WritesApart goal (record { old = W.written sink.old; new = W.written sink.new }) (record { old = E.written errors.old; new = E.written errors.new }) sequel status)) }
+        WritesApart goal.entry (record { old = W.written sink.old; new = W.written sink.new }) (record { old = E.written errors.old; new = E.written errors.new }) sequel status)) }
 
     // After an error nothing was written, or after a failed write a prefix of the output.
     ensures nothing { IfErr result (λ e. e ≢ fault.Write → Keeps (W.written sink.old) (W.written sink.new) × Keeps (E.written errors.old) (E.written errors.new)) }
     ensures part { IsErrOf result fault.Write → IfSome (R.left source.old) (λ sequel.
-        WritesPartApart goal (record { old = W.written sink.old; new = W.written sink.new }) (record { old = E.written errors.old; new = E.written errors.new }) sequel) }
+        WritesPartApart goal.entry (record { old = W.written sink.old; new = W.written sink.new }) (record { old = E.written errors.old; new = E.written errors.new }) sequel) }
 
     // After `Ok` what was written to was flushed after its last write.
     ensures flushed { IfOk result (λ status. IsFlushedApart (is_answer status) (W.is_flushed sink.new) (E.is_flushed errors.new)) }

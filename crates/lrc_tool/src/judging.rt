@@ -3,14 +3,14 @@
 ghost use Rattle.std.specs.Prelude.{◌≡◌, ◌≤◌, ◌+◌, All, length, IfOk, IfErr};
 ghost use Rattle.lrc_script.specs.Scripts.{IsFirstBad};
 ghost use Rattle.lrc_tool.specs.Judged.{lists_of, first_bad_in, shifted, AreParsed, IsJudged, IsJudgedBehind};
-ghost use Rattle.lrc_tool.specs.declared.streams.RunFault.TheVariants as fault;
+ghost use Rattle.lrc_streams.specs.declared.streams.RunFault.TheVariants as fault;
 
 use crate::limits::{BUNDLE_LIMIT, SCRIPT_LIMIT, SEQUEL_LIMIT};
 use crate::output::{Output, bad_line, refused, refused_topology};
-use crate::reasons::{TOO_LONG, TOO_MANY_SCRIPTS};
-use crate::streams::RunFault;
 use lrc_book::Command;
+use lrc_reasons::{TOO_LONG, TOO_MANY_SCRIPTS};
 use lrc_script::{BundleError, ScriptError, ScriptText, parse_script, split_bundle};
+use lrc_streams::RunFault;
 use lrc_topology::{Topology, TopologyError};
 use std::alloc::Global;
 

@@ -3,15 +3,15 @@ ghost use Rattle.lrc_images.specs.declared.cause.Cause.{Cause as RowCause};
 ghost use Rattle.lrc_images.specs.CauseNumbers.{row_cause_number};
 ghost use Rattle.lrc_tool.specs.Refusals.{topology_line, cause_number, bad_line_text, bad_image_text, refused_row_text};
 ghost use Rattle.lrc_tool.specs.declared.status.Status.TheVariants as ended;
-ghost use Rattle.lrc_tool.specs.declared.streams.RunFault.TheVariants as fault;
+ghost use Rattle.lrc_streams.specs.declared.streams.RunFault.TheVariants as fault;
 
-use crate::reasons::{line_reason, row_reason, topology_reason};
 use crate::status::Status;
-use crate::streams::RunFault;
 use lrc_book::Cause as RowCause;
 use lrc_code::UpgradeNo;
 use lrc_image_text::row_line;
+use lrc_reasons::{line_reason, row_reason, topology_reason};
 use lrc_script::Cause;
+use lrc_streams::RunFault;
 use lrc_topology::TopologyError;
 use std::alloc::{AllocError, Global};
 
@@ -30,7 +30,14 @@ impl Output {
         ensures text { result.text.items ≡ text.items }
         ensures status { result.status ≡ ended.Done }
     {
-        let status = Status::Done;
+        Output::answer(text, Status::Done)
+    }
+
+    /// An answer that ends with this status.
+    pub fn answer(text: Vec<u8>, status: Status) -> Output
+        ensures text { result.text.items ≡ text.items }
+        ensures status { result.status ≡ status }
+    {
         let reason = "";
         Output {
             text,

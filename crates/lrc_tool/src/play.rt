@@ -5,11 +5,11 @@ ghost use Rattle.lrc_images.specs.Causes.{most_entries};
 ghost use Rattle.lrc_tool.specs.Judged.{lists_of, AreFew};
 ghost use Rattle.lrc_tool.specs.Plays.{AreMadeFrom, AreMadeBehind};
 ghost use Rattle.lrc_tool.specs.Outputs.{IsPlayed, IsPlayedFrom};
-ghost use Rattle.lrc_tool.specs.declared.streams.RunFault.TheVariants as fault;
+ghost use Rattle.lrc_streams.specs.declared.streams.RunFault.TheVariants as fault;
 
-use crate::streams::RunFault;
 use lrc_book::{Book, Command, HISTORY_LIMIT};
 use lrc_code::SessionNo;
+use lrc_streams::RunFault;
 use lrc_text::{push_lines, push_script_line, with_tables};
 use lrc_topology::Topology;
 use std::alloc::Global;

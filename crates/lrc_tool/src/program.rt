@@ -2,19 +2,19 @@
 
 ghost use Rattle.std.specs.Prelude.{◌≡◌, ◌≢◌, ◌||◌, ◌⊎◌, ◌+◌, ◌<◌, true, [], length, OnOk, IfOk, IfErr, IfSome, IsErrOf};
 ghost use Rattle.std.specs.Io.KnownBytes.{Keeps};
-ghost use Rattle.lrc_tool.specs.Streams.{is_read_fault, is_write_fault, ConsumesAtMost};
+ghost use Rattle.lrc_streams.specs.Streams.{is_read_fault, is_write_fault, ConsumesAtMost};
 ghost use Rattle.lrc_tool.specs.Judged.{lists_of, AreFew};
 ghost use Rattle.lrc_tool.specs.Outputs.{RunsSeveral, IsPlayed, IsOutput, WritesOutput, WritesPartOfOutput};
-ghost use Rattle.lrc_tool.specs.declared.streams.RunFault.TheVariants as fault;
+ghost use Rattle.lrc_streams.specs.declared.streams.RunFault.TheVariants as fault;
 
 use crate::judging::{Judged, judge};
 use crate::limits::BUNDLE_LIMIT;
 use crate::output::Output;
 use crate::play::play;
 use crate::status::Status;
-use crate::streams::{RunFault, Sink, Source, read_all, write_all};
 use crate::together::play_together;
 use lrc_book::Command;
+use lrc_streams::{RunFault, Sink, Source, read_all, write_all};
 use lrc_topology::Topology;
 use std::alloc::Global;
 use std::sync::Wait;

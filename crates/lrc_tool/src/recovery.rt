@@ -3,16 +3,16 @@
 ghost use Rattle.std.specs.Prelude.{◌≡◌, ◌≢◌, ◌||◌, ◌⊎◌, true, OnOk, IfOk, IfErr, IsErrOf};
 ghost use Rattle.std.specs.Io.KnownBytes.{Appends, Keeps};
 ghost use Rattle.lrc_code.specs.declared.codes.Code.TheVariants.{Wide, Narrow};
-ghost use Rattle.lrc_tool.specs.Streams.{is_write_fault, AppendsPart};
+ghost use Rattle.lrc_streams.specs.Streams.{is_write_fault, AppendsPart};
 ghost use Rattle.lrc_text.specs.Masks.{recovery_text};
 ghost use Rattle.lrc_tool.specs.Recoveries.{recovery_status};
-ghost use Rattle.lrc_tool.specs.declared.streams.RunFault.TheVariants as fault;
+ghost use Rattle.lrc_streams.specs.declared.streams.RunFault.TheVariants as fault;
 
 use crate::output::Output;
-use crate::reasons::BAD_MASK;
 use crate::status::Status;
-use crate::streams::{RunFault, Sink, write_all};
 use lrc_code::Code;
+use lrc_reasons::BAD_MASK;
+use lrc_streams::{RunFault, Sink, write_all};
 use lrc_text::{parse_mask, push_mask_line};
 use std::alloc::Global;
 

@@ -3,32 +3,37 @@
 ghost use Rattle.std.specs.Prelude.{◌≡◌, ◌≢◌, ◌||◌, ◌⊎◌, ◌+◌, ◌≤◌, true, [], length, OnOk, IfOk, IfErr, IfSome, IsErrOf};
 ghost use Rattle.std.specs.Io.KnownBytes.{Keeps};
 ghost use Rattle.lrc_images.specs.Causes.{most_entries};
-ghost use Rattle.lrc_tool.specs.Streams.{is_read_fault, is_write_fault, ConsumesAtMost};
+ghost use Rattle.lrc_streams.specs.Streams.{is_read_fault, is_write_fault, ConsumesAtMost};
 ghost use Rattle.lrc_tool.specs.Judged.{lists_of, AreFew};
 ghost use Rattle.lrc_tool.specs.Sequels.{IsImaged, IsReached, IsSequelOutput, WritesSequelOutput, WritesPartOfSequelOutput};
-ghost use Rattle.lrc_tool.specs.declared.streams.RunFault.TheVariants as fault;
+ghost use Rattle.lrc_streams.specs.declared.streams.RunFault.TheVariants as fault;
 
 use crate::begin::{Begun, begin};
+use crate::forecasting::forecast_after;
 use crate::limits::SEQUEL_LIMIT;
 use crate::output::{Output, refused};
 use crate::play::{make_scripts, play_on};
 use crate::status::Status;
-use crate::streams::{RunFault, Sink, Source, read_all, write_all};
 use lrc_book::{Book, Command, HISTORY_LIMIT};
 use lrc_code::Fault;
+use lrc_forecast::Outage;
+use lrc_groups::Group;
 use lrc_image_text::push_image;
 use lrc_show::{View, shown};
+use lrc_streams::{RunFault, Sink, Source, read_all, write_all};
 use std::alloc::Global;
 
 /// What is written for a sequel that passes all checks.
 #[derive(Clone, Copy, Debug, PartialEq, Eq)]
-pub enum Goal {
+pub enum Goal<'a> {
     /// The replies to its script and both tables, as `run` writes them.
     Replies,
     /// The image of the state after its script.
     Image,
     /// A table of the state after its script.
     Table(View),
+    /// What would become of the stripes of that state if this happened to all nodes of the group at once.
+    Forecast(Outage, Group<'a>),
 }
 
 /// Runs the script of the sequel that the source holds, from its image on: reads it, runs the script, and then writes the whole
@@ -39,16 +44,16 @@ pub enum Goal {
 /// `OutOfMemory`; `Read` if a read fails; `Write` if a write fails.
 pub fn go_on<R: Source, W: Sink>(
     alloc: Global,
-    goal: Goal,
+    goal: Goal<'_>,
     source: &mut R,
     sink: &mut W,
 ) -> Result<Status, RunFault>
     // The output of the sequel was written, whole, if the bytes of the source are known.
-    ensures output { IfOk result (λ status. IfSome (R.left source.old) (λ sequel. WritesSequelOutput goal (W.written sink.old) (W.written sink.new) sequel status)) }
+    ensures output { IfOk result (λ status. IfSome (R.left source.old) (λ sequel. WritesSequelOutput goal.entry (W.written sink.old) (W.written sink.new) sequel status)) }
 
     // After an error nothing was written, or after a failed write a prefix of the output.
     ensures nothing { IfErr result (λ e. e ≢ fault.Write → Keeps (W.written sink.old) (W.written sink.new)) }
-    ensures part { IsErrOf result fault.Write → IfSome (R.left source.old) (λ sequel. WritesPartOfSequelOutput goal (W.written sink.old) (W.written sink.new) sequel) }
+    ensures part { IsErrOf result fault.Write → IfSome (R.left source.old) (λ sequel. WritesPartOfSequelOutput goal.entry (W.written sink.old) (W.written sink.new) sequel) }
 
     // After `Ok` the sink was flushed after its last write.
     ensures flushed { OnOk result (W.is_flushed sink.new ≡ true) }
@@ -68,8 +73,12 @@ pub fn go_on<R: Source, W: Sink>(
 }
 
 /// The output of `go_on` for this sequel.
-pub(crate) fn sequel_output(alloc: Global, goal: Goal, sequel: &[u8]) -> Result<Output, RunFault>
-    ensures output { IfOk result (λ o. IsSequelOutput goal sequel.now (o.text.items) o.status) }
+pub(crate) fn sequel_output(
+    alloc: Global,
+    goal: Goal<'_>,
+    sequel: &[u8],
+) -> Result<Output, RunFault>
+    ensures output { IfOk result (λ o. IsSequelOutput goal.entry sequel.now (o.text.items) o.status) }
     ensures err { IfErr result (λ e. e ≡ fault.OutOfMemory) }
 {
     match begin(alloc, sequel)? {
@@ -81,14 +90,14 @@ pub(crate) fn sequel_output(alloc: Global, goal: Goal, sequel: &[u8]) -> Result<
 /// The output for the only script, if there is one, on a book without entries.
 fn reach(
     alloc: Global,
-    goal: Goal,
+    goal: Goal<'_>,
     book: &mut Book,
     scripts: &[Vec<Command>],
 ) -> Result<Output, RunFault>
     requires fresh { (book.old.history ≡ []) × (book.old.limit ≡ HISTORY_LIMIT) × (book.old.before ≤ most_entries) }
     requires few { AreFew scripts.now }
     requires alone { length scripts.now ≤ 1 }
-    ensures output { IfOk result (λ o. IsReached goal book.old.nodes book.old.base book.old.before (lists_of scripts.now) (o.text.items) o.status) }
+    ensures output { IfOk result (λ o. IsReached goal.entry book.old.nodes book.old.base book.old.before (lists_of scripts.now) (o.text.items) o.status) }
     ensures err { IfErr result (λ e. e ≡ fault.OutOfMemory) }
 {
     match goal {
@@ -105,6 +114,7 @@ fn reach(
             let text = shown(alloc, book, view)?;
             Ok(Output::done(text))
         }
+        Goal::Forecast(outage, group) => forecast_after(alloc, book, scripts, outage, group),
     }
 }
 

@@ -4,12 +4,14 @@ ghost use Rattle.lrc_tool.specs.Apart.{is_answer};
 /// How a call of the program ended. The numbers are the program's exit statuses.
 #[derive(Clone, Copy, Debug, PartialEq, Eq)]
 pub enum Status {
-    /// The commands were run, the bundle was checked, or what was asked for was told.
+    /// The commands were run, the bundle was checked, or what was asked for was told. An outage is safe.
     Done = 0,
     /// A line of a script is bad.
     BadLine = 1,
     /// The bundle, its topology or the mask is refused.
     Refused = 2,
+    /// An outage is not safe: its forecast was told, and a stripe becomes unavailable or lost.
+    Unsafe = 4,
 }
 
 impl Status {
@@ -18,7 +20,7 @@ impl Status {
         ensures { result ≡ is_answer self }
     {
         match self {
-            Status::Done => true,
+            Status::Done | Status::Unsafe => true,
             Status::BadLine | Status::Refused => false,
         }
     }

@@ -3,18 +3,19 @@
 ghost use Rattle.std.specs.Prelude.{◌≡◌, ◌≢◌, ◌<◌, ◌≤◌, ◌⊎◌, ◌++◌, length, sum_by, All, Some, None, option_map, IfOk, OnOk, IfErr};
 ghost use Rattle.lrc_code.specs.declared.fault.Fault.TheVariants as book;
 ghost use Rattle.lrc_rules.specs.Histories.{first_world};
-ghost use Rattle.lrc_tool.specs.Faults.{run_fault, stop_fault, first_fault};
+ghost use Rattle.lrc_streams.specs.Faults.{run_fault};
+ghost use Rattle.lrc_tool.specs.Faults.{stop_fault, first_fault};
 ghost use Rattle.lrc_tool.specs.Judged.{lists_of, AreFew};
 ghost use Rattle.lrc_tool.specs.Plays.{AreMade, receipts_text, tracks_text};
 ghost use Rattle.lrc_tool.specs.Outputs.{IsPlayed};
-ghost use Rattle.lrc_tool.specs.declared.streams.RunFault.TheVariants as fault;
+ghost use Rattle.lrc_streams.specs.declared.streams.RunFault.TheVariants as fault;
 
-use crate::streams::RunFault;
 use lrc_book::{Book, Command};
 use lrc_code::SessionNo;
 use lrc_sessions::{
     FinishError, Manager, Naming, OpenError, OpenGate, Parts, Receipt, Stop, Track, run_sessions,
 };
+use lrc_streams::RunFault;
 use lrc_text::{push_reply_line, push_script_line, with_tables};
 use lrc_topology::Topology;
 use std::alloc::{AllocError, Global};

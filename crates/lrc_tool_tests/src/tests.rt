@@ -24,3 +24,9 @@ load
 node,mode,online,load,slots
 0,active,yes,0,4
 ";
+
+/// What a check of it warns of.
+const ONE_NODE_WARNINGS: &[u8] = b"\
+lrcman: no wide stripe can be placed: 1 of 16 fault domains, 1 of 7 upgrade domains
+lrcman: no narrow stripe can be placed: 1 of 10 fault domains, 1 of 4 upgrade domains
+";

@@ -3,15 +3,17 @@
 
 ghost use Rattle.std.specs.Prelude.{◌≡◌, Ok, Err};
 ghost use Rattle.lrc_tool.specs.declared.status.Status.TheVariants as status;
-ghost use Rattle.lrc_tool.specs.declared.streams.RunFault.{RunFault};
+ghost use Rattle.lrc_streams.specs.declared.streams.RunFault.{RunFault};
 ghost use Rattle.lrcman.specs.declared.stop.Stop.TheVariants as stop;
 
+mod named;
 mod stop;
 
+use crate::named::Named;
 use crate::stop::Stop;
 use clap::{Arg, ArgAction, ArgMatches, Command};
 use lrc_tool::{
-    Goal, Plain, RunFault, Status, View, ask, check, go_on, recover, recover_narrow, run,
+    Goal, Outage, Plain, RunFault, Status, View, ask, check, go_on, recover, recover_narrow, run,
 };
 use std::alloc::{AllocError, Global};
 use std::process::ExitCode;
@@ -20,12 +22,14 @@ use std::thread::Threads;
 use std::{env, io};
 
 /// What the command line asks for.
-#[derive(Clone, Copy)]
+#[derive(Drop)]
 enum Request<'a> {
     Run,
     Check,
-    GoOn(Goal),
-    Ask(Goal),
+    Resume,
+    Image,
+    Show(View),
+    Forecast(Outage, Named),
     Recover { mask: &'a str },
     Recover6 { mask: &'a str },
 }
@@ -41,7 +45,20 @@ fn command_line<'a>(alloc: Global) -> Result<Command<'a>, AllocError> {
     let command = command.subcommand(Command::new(alloc, "image"))?;
     let command = command.subcommand(Command::new(alloc, "resume"))?;
     let show = of_word(alloc, "show", "what")?;
-    command.subcommand(show)
+    let command = command.subcommand(show)?;
+    let stop = of_words(alloc, "may-stop", "nodes")?;
+    let command = command.subcommand(stop)?;
+    let lose = of_words(alloc, "may-lose", "nodes")?;
+    command.subcommand(lose)
+}
+
+/// The command line of a word and one argument or more.
+fn of_words<'a>(alloc: Global, word: &'a str, name: &'a str) -> Result<Command<'a>, AllocError> {
+    let arguments = Arg::new(alloc, name)
+        .required(true)
+        .num_args(1..)
+        .action(ArgAction::Set);
+    Command::new(alloc, word).arg(arguments)
 }
 
 /// The command line of a word and an argument.
@@ -52,29 +69,35 @@ fn of_word<'a>(alloc: Global, word: &'a str, name: &'a str) -> Result<Command<'a
 
 fn parse_request<'a>(alloc: Global, words: &'a [String]) -> Result<Request<'a>, Stop> {
     let matches = command_line(alloc)?.try_get_matches_from(words)?;
-    request_in(&matches)
+    request_in(alloc, &matches)
 }
 
 /// The request that the words were matched with.
-fn request_in<'a>(matches: &ArgMatches<'a>) -> Result<Request<'a>, Stop> {
+fn request_in<'a>(alloc: Global, matches: &ArgMatches<'a>) -> Result<Request<'a>, Stop> {
     match matches.subcommand() {
         Some(("run", _)) => Ok(Request::Run),
         Some(("check", _)) => Ok(Request::Check),
-        Some(("image", _)) => Ok(Request::GoOn(Goal::Image)),
-        Some(("resume", _)) => Ok(Request::GoOn(Goal::Replies)),
+        Some(("image", _)) => Ok(Request::Image),
+        Some(("resume", _)) => Ok(Request::Resume),
         Some(("recover", found)) => Ok(Request::Recover {
             mask: mask_in(found)?,
         }),
         Some(("recover6", found)) => Ok(Request::Recover6 {
             mask: mask_in(found)?,
         }),
-        Some(("show", found)) => Ok(Request::Ask(Goal::Table(view_in(found)?))),
+        Some(("show", found)) => Ok(Request::Show(view_in(found)?)),
+        Some(("may-stop", found)) => Ok(Request::Forecast(Outage::Stop, named_in(alloc, found)?)),
+        Some(("may-lose", found)) => Ok(Request::Forecast(Outage::Lose, named_in(alloc, found)?)),
         _ => Err(Stop::Usage),
     }
 }
 
 fn mask_in<'a>(matches: &ArgMatches<'a>) -> Result<&'a str, Stop> {
     matches.get_str("mask").ok_or(Stop::Usage)
+}
+
+fn named_in(alloc: Global, matches: &ArgMatches<'_>) -> Result<Named, Stop> {
+    Named::parse(alloc, matches.get_strs("nodes").ok_or(Stop::Usage)?)
 }
 
 fn view_in(matches: &ArgMatches<'_>) -> Result<View, Stop> {
@@ -92,19 +115,23 @@ fn view_in(matches: &ArgMatches<'_>) -> Result<View, Stop> {
 fn perform<T: Threads + Wait + Sync>(rt: &HostRuntime, threads: &T) -> Result<Status, Stop> {
     let words = env::args(rt)?.collect::<Vec<String>>(rt.alloc())?;
     let request = parse_request(rt.alloc(), words.as_slice())?;
-    Ok(serve(rt, threads, request)?)
+    Ok(serve(rt, threads, &request)?)
 }
 
 fn serve<T: Threads + Wait + Sync>(
     rt: &HostRuntime,
     threads: &T,
-    request: Request,
+    request: &Request,
 ) -> Result<Status, RunFault> {
     match request {
         Request::Run => run_input(rt, threads),
         Request::Check => check_input(rt),
-        Request::GoOn(goal) => go_on_input(rt, goal),
-        Request::Ask(goal) => ask_input(rt, goal),
+        Request::Resume => go_on_input(rt, Goal::Replies),
+        Request::Image => go_on_input(rt, Goal::Image),
+        Request::Show(view) => ask_input(rt, Goal::Table(*view)),
+        Request::Forecast(outage, named) => {
+            ask_input(rt, Goal::Forecast(*outage, named.group()))
+        }
         Request::Recover { mask } => recover(rt.alloc(), mask, &mut Plain::new(io::writer(rt))),
         Request::Recover6 { mask } => {
             recover_narrow(rt.alloc(), mask, &mut Plain::new(io::writer(rt)))
@@ -121,16 +148,18 @@ fn run_input<T: Threads + Wait + Sync>(rt: &HostRuntime, threads: &T) -> Result<
 fn check_input(rt: &HostRuntime) -> Result<Status, RunFault> {
     let mut source = Plain::new(rt.reader());
     let mut sink = Plain::new(io::writer(rt));
-    check(rt.alloc(), &mut source, &mut sink)
+    let stderr = rt.stderr();
+    let mut errors = Plain::new(io::writer(&stderr));
+    check(rt.alloc(), &mut source, &mut sink, &mut errors)
 }
 
-fn go_on_input(rt: &HostRuntime, goal: Goal) -> Result<Status, RunFault> {
+fn go_on_input(rt: &HostRuntime, goal: Goal<'_>) -> Result<Status, RunFault> {
     let mut source = Plain::new(rt.reader());
     let mut sink = Plain::new(io::writer(rt));
     go_on(rt.alloc(), goal, &mut source, &mut sink)
 }
 
-fn ask_input(rt: &HostRuntime, goal: Goal) -> Result<Status, RunFault> {
+fn ask_input(rt: &HostRuntime, goal: Goal<'_>) -> Result<Status, RunFault> {
     let mut source = Plain::new(rt.reader());
     let mut sink = Plain::new(io::writer(rt));
     let stderr = rt.stderr();
@@ -141,7 +170,7 @@ fn ask_input(rt: &HostRuntime, goal: Goal) -> Result<Status, RunFault> {
 /// The exit status for how a command ended, or for why the program stopped.
 fn exit_status(ended: &Result<Status, Stop>) -> u8
     ensures done { (ended.now ≡ Ok status.Done → result ≡ 0) × (ended.now ≡ Ok status.BadLine → result ≡ 1)
-        × (ended.now ≡ Ok status.Refused → result ≡ 2) }
+        × (ended.now ≡ Ok status.Refused → result ≡ 2) × (ended.now ≡ Ok status.Unsafe → result ≡ 4) }
     ensures stopped { (ended.now ≡ Err stop.Usage → result ≡ 2)
         × ((fault : RunFault) → ended.now ≡ Err (stop.Fault fault) → result ≡ 3) }
 {

@@ -1,11 +1,11 @@
 ghost use Rattle.std.specs.Prelude.{◌≡◌};
-ghost use Rattle.lrc_tool.specs.declared.streams.RunFault.{RunFault};
+ghost use Rattle.lrc_streams.specs.declared.streams.RunFault.{RunFault};
 ghost use Rattle.lrcman.specs.declared.stop.Stop.TheVariants as stop;
 
 use clap::Error;
 use clap::error::ErrorKind;
 use lrc_tool::RunFault;
-use std::alloc::AllocError;
+use std::alloc::{AllocError, AllocFailed};
 use std::io;
 
 /// Why the program ends without the status of its command: the line on standard error.
@@ -13,14 +13,16 @@ use std::io;
 pub(crate) enum Stop {
     /// The command line is refused.
     #[error("usage:
-  lrcman run < BUNDLE         run the scripts; print replies, stripes at risk and nodes
-  lrcman check < BUNDLE       check topology and scripts, and run nothing
-  lrcman resume < SEQUEL      run a script from an image on
-  lrcman image < SEQUEL       print the image after it
-  lrcman show WHAT < SEQUEL   print a table of the state after it: status, stripes, nodes, leases or work
-  lrcman recover MASK         can these losses of a wide stripe be recovered? (four hexadecimal digits)
-  lrcman recover6 MASK        the same of a narrow stripe
-status: 0 done, 1 a line of a script is bad, 2 input or command line refused, 3 fault
+  lrcman run < BUNDLE               run the scripts; print replies, stripes at risk and nodes
+  lrcman check < BUNDLE             check topology and scripts, and run nothing
+  lrcman resume < SEQUEL            run a script from an image on
+  lrcman image < SEQUEL             print the image after it
+  lrcman show WHAT < SEQUEL         print a table of the state after it: status, stripes, nodes, leases or work
+  lrcman may-stop NODE.. < SEQUEL   would any stripe be unavailable if these nodes stopped? (or: fault F, upgrade U)
+  lrcman may-lose NODE.. < SEQUEL   the same if they were lost
+  lrcman recover MASK               can these losses of a wide stripe be recovered? (four hexadecimal digits)
+  lrcman recover6 MASK              the same of a narrow stripe
+status: 0 done, 1 a line of a script is bad, 2 input or command line refused, 3 fault, 4 not safe
 manual page: lrcman(1); a bundle without an image is a sequel too")]
     Usage,
     #[error("lrcman: {0}")]
@@ -54,7 +56,7 @@ impl From<RunFault> for Stop {
 impl From<AllocError> for Stop {
     ghost use Rattle.std.specs.Prelude.{◌≡◌};
     ghost use Rattle.lrcman.specs.declared.stop.Stop.TheVariants as stop;
-    ghost use Rattle.lrc_tool.specs.declared.streams.RunFault.TheVariants.{OutOfMemory};
+    ghost use Rattle.lrc_streams.specs.declared.streams.RunFault.TheVariants.{OutOfMemory};
 
     ghost from_gives = { λ _ e. e ≡ stop.Fault OutOfMemory };
 
@@ -63,10 +65,22 @@ impl From<AllocError> for Stop {
     }
 }
 
+impl<T: Drop> From<AllocFailed<T>> for Stop {
+    ghost use Rattle.std.specs.Prelude.{◌≡◌};
+    ghost use Rattle.lrcman.specs.declared.stop.Stop.TheVariants as stop;
+    ghost use Rattle.lrc_streams.specs.declared.streams.RunFault.TheVariants.{OutOfMemory};
+
+    ghost from_gives = { λ _ e. e ≡ stop.Fault OutOfMemory };
+
+    fn from(_error: AllocFailed<T>) -> Stop {
+        Stop::Fault(RunFault::OutOfMemory)
+    }
+}
+
 impl From<io::Error> for Stop {
     ghost use Rattle.std.specs.Prelude.{◌≡◌, ◌≢◌};
     ghost use Rattle.lrcman.specs.declared.stop.Stop.TheVariants as stop;
-    ghost use Rattle.lrc_tool.specs.declared.streams.RunFault.TheVariants.{OutOfMemory};
+    ghost use Rattle.lrc_streams.specs.declared.streams.RunFault.TheVariants.{OutOfMemory};
     ghost use Rattle.std.specs.IoError.{error_kind};
     ghost use Rattle.std.specs.declared.io.ErrorKind.TheVariants as kind;
 
@@ -86,7 +100,7 @@ impl From<io::Error> for Stop {
 impl From<Error> for Stop {
     ghost use Rattle.std.specs.Prelude.{◌≡◌, ◌≢◌};
     ghost use Rattle.lrcman.specs.declared.stop.Stop.TheVariants as stop;
-    ghost use Rattle.lrc_tool.specs.declared.streams.RunFault.TheVariants.{OutOfMemory};
+    ghost use Rattle.lrc_streams.specs.declared.streams.RunFault.TheVariants.{OutOfMemory};
     ghost use Rattle.clap.specs.Values.{kind_of};
     ghost use Rattle.clap.specs.declared.error.kind.ErrorKind.TheVariants as kind;
 

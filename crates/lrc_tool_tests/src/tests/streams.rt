@@ -84,7 +84,13 @@ fn after_a_failed_read_nothing_is_written(rt: HostRuntime) {
 /// Returns how a check ends whose source fails at this call.
 fn checked(alloc: Global, fails_at: usize) -> Result<Status, RunFault> {
     let mut source = faltering(fails_at, io::ErrorKind::Interrupted);
-    check(alloc, &mut source, &mut Plain::new(Vec::new(alloc)))
+    let mut sink = Plain::new(Vec::new(alloc));
+    check(
+        alloc,
+        &mut source,
+        &mut sink,
+        &mut Plain::new(Vec::new(alloc)),
+    )
 }
 
 #[test]

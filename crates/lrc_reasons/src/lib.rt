@@ -1,21 +1,21 @@
 //! Why an input is refused, in words.
+#![tactic(auto)]
 
-use lrc_book::Cause as RowCause;
+use lrc_images::Cause as RowCause;
 use lrc_script::Cause;
 use lrc_topology::TopologyError;
 
 /// Why an input is refused that is too long.
-pub(crate) const TOO_LONG: &str = "the input has too many bytes";
+pub const TOO_LONG: &str = "the input has too many bytes";
 
 /// Why an input is refused that has too many scripts.
-pub(crate) const TOO_MANY_SCRIPTS: &str = "the input has too many scripts";
+pub const TOO_MANY_SCRIPTS: &str = "the input has too many scripts";
 
 /// Why a mask is refused.
-pub(crate) const BAD_MASK: &str =
-    "the mask is not four hexadecimal digits of fragments of the code";
+pub const BAD_MASK: &str = "the mask is not four hexadecimal digits of fragments of the code";
 
 /// Why a line of a script is bad.
-pub(crate) fn line_reason(cause: Cause) -> &'static str {
+pub fn line_reason(cause: Cause) -> &'static str {
     match cause {
         Cause::UnknownWord => "the first word is not a command",
         Cause::WordCount => "the command takes another number of words",
@@ -26,7 +26,7 @@ pub(crate) fn line_reason(cause: Cause) -> &'static str {
 }
 
 /// Why a topology is refused.
-pub(crate) fn topology_reason(error: TopologyError) -> &'static str {
+pub fn topology_reason(error: TopologyError) -> &'static str {
     match error {
         TopologyError::Syntax => "the topology is not TOML in UTF-8",
         TopologyError::NoNodes => "the topology has no nodes",
@@ -40,7 +40,7 @@ pub(crate) fn topology_reason(error: TopologyError) -> &'static str {
 }
 
 /// Why a row of an image is refused.
-pub(crate) fn row_reason(cause: RowCause) -> &'static str {
+pub fn row_reason(cause: RowCause) -> &'static str {
     match cause {
         RowCause::UnknownDomain => "no node is in the upgrading domain",
         RowCause::TooManyEntries => "the number of entries is too high",

@@ -3,9 +3,9 @@
 ghost use Rattle.std.specs.Prelude.{◌≡◌, ◌+◌, ◌≤◌, ◌⊎◌, ℕ, List, length, Option, Bool, true, false, ◌||◌, is_ok, is_err, IfOk, IfErr, OnOk, OnErr};
 ghost use Rattle.std.specs.Io.{ReadsAtMost, WritesAtMost};
 ghost use Rattle.std.specs.Io.KnownBytes.{ReadConsumes, WriteAppends, Appends, Keeps};
-ghost use Rattle.lrc_tool.specs.Streams.{is_failed_write, is_read_fault, ConsumesAtMost, AppendsPart};
-ghost use Rattle.lrc_tool.specs.Reads.{IsReadUpTo};
-ghost use Rattle.lrc_tool.specs.declared.streams.RunFault.TheVariants as fault;
+ghost use Rattle.lrc_streams.specs.Streams.{is_failed_write, is_read_fault, ConsumesAtMost, AppendsPart};
+ghost use Rattle.lrc_streams.specs.Reads.{IsReadUpTo};
+ghost use Rattle.lrc_streams.specs.declared.streams.RunFault.TheVariants as fault;
 
 use lrc_code::Fault;
 use std::alloc::{AllocError, Global};
@@ -30,7 +30,7 @@ pub enum RunFault {
 
 impl From<AllocError> for RunFault {
     ghost use Rattle.std.specs.Prelude.{◌≡◌};
-    ghost use Rattle.lrc_tool.specs.declared.streams.RunFault.TheVariants.{OutOfMemory};
+    ghost use Rattle.lrc_streams.specs.declared.streams.RunFault.TheVariants.{OutOfMemory};
 
     ghost from_gives = { λ _ e. e ≡ OutOfMemory };
 
@@ -41,7 +41,7 @@ impl From<AllocError> for RunFault {
 
 impl From<Fault> for RunFault {
     ghost use Rattle.std.specs.Prelude.{◌≡◌};
-    ghost use Rattle.lrc_tool.specs.Faults.{run_fault};
+    ghost use Rattle.lrc_streams.specs.Faults.{run_fault};
 
     ghost from_gives = { λ fault e. e ≡ run_fault fault };
 
@@ -177,11 +177,7 @@ impl<W: Write> Sink for Plain<W> {
 }
 
 /// Reads to the end, or until it has read one byte more than `limit`.
-pub(crate) fn read_all<R: Source>(
-    alloc: Global,
-    source: &mut R,
-    limit: usize,
-) -> Result<Vec<u8>, RunFault>
+pub fn read_all<R: Source>(alloc: Global, source: &mut R, limit: usize) -> Result<Vec<u8>, RunFault>
     ensures read { IfOk result (λ v. IsReadUpTo limit (R.left source.old) (R.left source.new) v.items) }
     ensures few { IfOk result (λ v. length v.items ≤ limit + 1) }
     ensures most { ConsumesAtMost (limit + 1) (R.left source.old) (R.left source.new) }
@@ -208,7 +204,7 @@ pub(crate) fn read_all<R: Source>(
 }
 
 /// Writes all of the bytes, and flushes after the last write.
-pub(crate) fn write_all<W: Sink>(sink: &mut W, bytes: &[u8]) -> Result<(), RunFault>
+pub fn write_all<W: Sink>(sink: &mut W, bytes: &[u8]) -> Result<(), RunFault>
     ensures written { OnOk result (Appends (W.written sink.old) (W.written sink.new) bytes.now) }
     ensures part { OnErr result (AppendsPart (W.written sink.old) (W.written sink.new) bytes.now) }
     ensures flushed { OnOk result (W.is_flushed sink.new ≡ true) }

@@ -1,4 +1,3 @@
--- Internal: no public clause reaches these definitions.
 -- What was read of a source, up to a limit.
 use Rattle.std.specs.Prelude.{ℕ, ◌<◌, ◌⊎◌, List, length, Option}
 use Rattle.std.specs.Io.KnownBytes.{Consumes, IsAtEnd}

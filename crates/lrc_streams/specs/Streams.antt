@@ -1,8 +1,8 @@
 -- What was read of a source and written to a sink, and when one of them has failed.
 use Rattle.std.specs.Prelude.{ℕ, ◌≤◌, Bool, true, false, ◌&&◌, nat_lt, nat_eq, List, length, take, Option, Result, Ok, Err}
 use Rattle.std.specs.Io.KnownBytes.{Consumes, Appends}
-use Rattle.lrc_tool.specs.declared.streams.RunFault.{RunFault}
-use Rattle.lrc_tool.specs.declared.streams.RunFault.TheVariants.{Read, Write}
+use Rattle.lrc_streams.specs.declared.streams.RunFault.{RunFault}
+use Rattle.lrc_streams.specs.declared.streams.RunFault.TheVariants.{Read, Write}
 
 -- a write failed: it returned an error, or took no byte of some
 abbrev pub is_failed_write : {E : Type 0} → Result ℕ E → List ℕ → Bool

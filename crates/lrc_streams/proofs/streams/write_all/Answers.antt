@@ -1,6 +1,6 @@
 use Rattle.std.proofs.Common.{◌∙◌}
-use Rattle.lrc_tool.proofs.StreamLemmas.{Appends-more, count_within, calm_more}
-use Rattle.lrc_tool.proofs.streams.write_all.Goals as goal
+use Rattle.lrc_streams.proofs.StreamLemmas.{Appends-more, count_within, calm_more}
+use Rattle.lrc_streams.proofs.streams.write_all.Goals as goal
 
 pub loop-at-preserved : goal.loop-at-preserved
 loop-at-preserved g c = record {

@@ -1,0 +1,2 @@
+pub use Rattle.lrc_topology.specs.Nodes
+pub mod Groups

@@ -1,0 +1,2 @@
+pub mod DifferentLemmas
+pub mod ApartLemmas
