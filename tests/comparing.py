@@ -3,6 +3,7 @@ import harness
 import image_text
 import library
 import rules
+import walked
 from library import lrc_embed
 
 FRAGMENTS = range(lrc_embed.FRAGMENTS)
@@ -71,6 +72,14 @@ def compare(book, store, count):
     expect("loads", list(library.load_rows(book, store.nodes)), list(store.load_rows()))
     expect("risk", list(library.risk_rows(book)), list(store.risk_rows()))
     expect("image", image_in_book(book), None if store.is_spent(count) else store.image(count))
+    asked = [*store.stripes, STRIPES]  # (a stripe that is not there needs no repair)
+    found = walked.rows_in_book(book, store.nodes, asked, 1 + count % 7)
+    for (name, rows), (_, right) in zip(found, walked.rows_in_model(store, asked), strict=True):
+        expect(name, rows, right)
+    outage = walked.drawn_outage(store, count)
+    expect(f"forecast {outage}", walked.forecast_in_book(book, *outage), walked.forecast_in_model(store, *outage))
+    last = range(max(0, book.count() - 5), book.count())
+    expect("the last entries", [bytes(entry) for entry in book.entries(last.start, 2)], [bytes(book.entry(i)) for i in last])
 
 
 def compare_code(found, right):
@@ -86,14 +95,25 @@ def compare_code(found, right):
     expect("after the sources", list(found.sources[sources:]), [0] * (len(found.sources) - sources))
 
 
+def status_of_call_at(book, place, session, command):
+    try:
+        book.call_at(place, session, command)
+    except lrc_embed.Fault as fault:
+        return fault.status
+    return lrc_embed.Status.DONE
+
+
 def make(book, store, session, line, count, looks=False):
     """Makes a call on both, after `count` calls, and returns its reply. Before it a peek returns the reply. It changes
     nothing, which `looks` compares."""
     command = library.command_of(line)
     peeked = book.peek(session, command)
     if looks:
+        expect("a call elsewhere", status_of_call_at(book, count + 1, session, command), lrc_embed.Status.MOVED)
         compare(book, store, count)
-    found, right = book.call(session, command), store.call(session, line)
+    # (in turn by the two ways of a call)
+    found = book.call_at(book.before() + book.count(), session, command) if looks else book.call(session, command)
+    right = store.call(session, line)
     expect("reply", str(found), right)
     expect("reply that a peek reports", bytes(peeked), bytes(found))
     compare_code(found, right)

@@ -82,6 +82,7 @@ static void want(bool holds, int line) {
 #define ENTRIES 100
 #define STRIPES 4
 #define NODES 21
+#define HOMES 8
 // All looks at a book: at its entries, at the stripes that are placed here and one that is not, and at its nodes and one
 // more; with each status.
 typedef struct {
@@ -96,9 +97,55 @@ typedef struct {
     lrc_lease leases[STRIPES][LRC_FRAGMENTS];
     uint32_t loads[NODES];
     lrc_mode modes[NODES];
-    lrc_risk rows[STRIPES];
-    uint32_t statuses[4 + ENTRIES + STRIPES * (4 + LRC_FRAGMENTS) + NODES * 2];
+    lrc_risk rows[STRIPES], first;
+    lrc_repair_plan plans[STRIPES][LRC_FRAGMENTS];
+    uint8_t downs[NODES], upgrading;
+    uint32_t statuses[6 + ENTRIES + STRIPES * (4 + 2 * LRC_FRAGMENTS) + NODES * 3];
 } looks_of_book;
+
+// The rows of all walks.
+static struct {
+    lrc_stripe stripes[STRIPES];
+    lrc_node nodes[NODES];
+    lrc_lease leases[STRIPES * LRC_FRAGMENTS];
+    lrc_entry entries[ENTRIES];
+    lrc_fragment homes[NODES][HOMES];
+    size_t stripe_count, node_count, lease_count, entry_count, home_counts[NODES];
+} walked;
+
+// The rows of walks are what the looks return.
+static void agree(const looks_of_book *it) {
+    size_t stripe = 0, lease = 0, homes[NODES] = {0};
+    WANT(lrc_embed_stripes(&handle, 0, walked.stripes, STRIPES, &walked.stripe_count) == LRC_DONE);
+    WANT(lrc_embed_nodes(&handle, 0, walked.nodes, NODES, &walked.node_count) == LRC_DONE);
+    WANT(lrc_embed_leases(&handle, 0, 0, walked.leases, STRIPES * LRC_FRAGMENTS, &walked.lease_count) == LRC_DONE);
+    WANT(lrc_embed_entries(&handle, 0, walked.entries, ENTRIES, &walked.entry_count) == LRC_DONE);
+    for (uint16_t s = 0; s < STRIPES; s++) {
+        lrc_stripe row = {.stripe = s, .missing = it->missing[s], .code = it->codes[s], .level = it->levels[s]};
+        if (it->codes[s] == 0) continue;
+        WANT(stripe < walked.stripe_count && memcmp(&row, &walked.stripes[stripe++], sizeof row) == 0);
+        for (uint8_t f = 0; f < LRC_FRAGMENTS; f++)
+            if (it->leases[s][f].epoch != 0)
+                WANT(memcmp(&it->leases[s][f], &walked.leases[lease++], sizeof walked.leases[0]) == 0);
+    }
+    WANT(stripe == walked.stripe_count && lease == walked.lease_count && walked.node_count == NODES - 1);
+    for (uint16_t n = 0; n < NODES - 1; n++) {
+        lrc_node row = {.number = n, .slots = 4, .load = it->loads[n], .fault = (uint8_t)n, .upgrade = n % 10,
+                        .mode = it->modes[n].mode, .is_online = it->modes[n].is_online, .is_down = it->downs[n]};
+        WANT(memcmp(&row, &walked.nodes[n], sizeof row) == 0);
+        WANT(lrc_embed_homes_on(&handle, n, 0, 0, walked.homes[n], HOMES, &walked.home_counts[n]) == LRC_DONE);
+    }
+    for (uint16_t s = 0; s < STRIPES; s++)
+        for (uint8_t f = 0; f < LRC_FRAGMENTS; f++) {
+            const lrc_home *home = &it->homes[s].homes[f];
+            lrc_fragment place = {.stripe = s, .fragment = f};
+            if (!home->is_there) continue;
+            WANT(memcmp(&place, &walked.homes[home->seat.node][homes[home->seat.node]++], sizeof place) == 0);
+        }
+    WANT(memcmp(homes, walked.home_counts, sizeof homes) == 0);
+    WANT(walked.entry_count == it->count && memcmp(it->entries, walked.entries, it->count * sizeof *it->entries) == 0);
+    WANT(it->at_risk == 0 || memcmp(&it->first, &it->rows[0], sizeof it->first) == 0);
+}
 
 static void look(looks_of_book *it) {
     uint32_t *status = it->statuses;
@@ -113,15 +160,21 @@ static void look(looks_of_book *it) {
         *status++ = lrc_embed_level(&handle, stripe, &it->levels[stripe]);
         *status++ = lrc_embed_missing(&handle, stripe, &it->missing[stripe]);
         *status++ = lrc_embed_code(&handle, stripe, &it->codes[stripe]);
-        for (uint8_t fragment = 0; fragment < LRC_FRAGMENTS; fragment++)
+        for (uint8_t fragment = 0; fragment < LRC_FRAGMENTS; fragment++) {
             *status++ = lrc_embed_lease(&handle, stripe, fragment, &it->leases[stripe][fragment]);
+            *status++ = lrc_embed_repair(&handle, stripe, fragment, &it->plans[stripe][fragment]);
+        }
     }
     for (uint16_t node = 0; node < NODES; node++) {
         *status++ = lrc_embed_load(&handle, node, &it->loads[node]);
         *status++ = lrc_embed_mode(&handle, node, &it->modes[node]);
+        *status++ = lrc_embed_is_down(&handle, node, &it->downs[node]);
     }
     *status++ = lrc_embed_risk(&handle, it->rows, STRIPES, &it->at_risk);
+    *status++ = lrc_embed_first_risk(&handle, &it->first);
+    *status++ = lrc_embed_upgrading(&handle, &it->upgrading);
     for (size_t i = 0; i < it->count; i++) *status++ = lrc_embed_entry(&handle, i, &it->entries[i]);
+    if (it->statuses[0] == LRC_DONE && !is_copy) agree(it); // (a walk takes longer than all looks)
     is_looking = false;
 }
 
@@ -245,6 +298,12 @@ static void closed(void) {
         uint32_t load;
         lrc_mode mode;
         lrc_risk rows[2];
+        lrc_repair_plan plan;
+        lrc_stripe stripes[2];
+        lrc_node nodes[2];
+        lrc_lease leases[2];
+        lrc_fragment fragments[2];
+        lrc_outlook outlooks[2];
         size_t number;
         uint64_t wide;
         uint8_t text[2];
@@ -252,6 +311,8 @@ static void closed(void) {
     } found = {.entry = pattern.entry};
     lrc_command command = {.kind = LRC_NEXT};
     size_t number = 99;
+    uint8_t is_safe = 99;
+    const uint16_t none = 0;
     WANT(lrc_embed_call(&handle, 1, &command, &found.reply) == LRC_IS_CLOSED);
     WANT(lrc_embed_call(&handle, 9, &command, &found.reply) == LRC_OUT_OF_RANGE);
     WANT(lrc_embed_peek(&handle, 1, &command, &found.reply) == LRC_IS_CLOSED);
@@ -266,13 +327,27 @@ static void closed(void) {
     WANT(lrc_embed_load(&handle, 1, &found.load) == LRC_IS_CLOSED);
     WANT(lrc_embed_mode(&handle, 1, &found.mode) == LRC_IS_CLOSED);
     WANT(lrc_embed_risk(&handle, found.rows, 2, &number) == LRC_IS_CLOSED);
+    WANT(lrc_embed_call_at(&handle, 0, 1, &command, &found.reply) == LRC_IS_CLOSED);
+    WANT(lrc_embed_call_at(&handle, 1, 9, &command, &found.reply) == LRC_OUT_OF_RANGE);
+    WANT(lrc_embed_repair(&handle, 1, 1, &found.plan) == LRC_IS_CLOSED);
+    WANT(lrc_embed_repair(&handle, 1, LRC_FRAGMENTS, &found.plan) == LRC_OUT_OF_RANGE);
+    WANT(lrc_embed_is_down(&handle, 1, &found.code) == LRC_IS_CLOSED);
+    WANT(lrc_embed_upgrading(&handle, &found.code) == LRC_IS_CLOSED);
+    WANT(lrc_embed_first_risk(&handle, found.rows) == LRC_IS_CLOSED);
+    WANT(lrc_embed_stripes(&handle, 0, found.stripes, 2, &number) == LRC_IS_CLOSED);
+    WANT(lrc_embed_nodes(&handle, 0, found.nodes, 2, &number) == LRC_IS_CLOSED);
+    WANT(lrc_embed_leases(&handle, 0, 0, found.leases, 2, &number) == LRC_IS_CLOSED);
+    WANT(lrc_embed_homes_on(&handle, 0, 0, 0, found.fragments, 2, &number) == LRC_IS_CLOSED);
+    WANT(lrc_embed_entries(&handle, 0, &found.entry, 1, &number) == LRC_IS_CLOSED);
+    WANT(lrc_embed_forecast(&handle, LRC_STOP, &none, 1, found.outlooks, 2, &number, &is_safe) == LRC_IS_CLOSED);
+    WANT(lrc_embed_forecast(&handle, 0, &none, 1, found.outlooks, 2, &number, &is_safe) == LRC_OUT_OF_RANGE);
     WANT(lrc_embed_count(&handle, &found.number) == LRC_IS_CLOSED);
     WANT(lrc_embed_clock(&handle, &found.load) == LRC_IS_CLOSED);
     WANT(lrc_embed_before(&handle, &found.wide) == LRC_IS_CLOSED);
     WANT(lrc_embed_forget(&handle) == LRC_IS_CLOSED);
     WANT(lrc_embed_image(&handle, found.text, 2, &number) == LRC_IS_CLOSED);
     WANT(lrc_embed_entry(&handle, 0, &found.entry) == LRC_IS_CLOSED);
-    WANT(number == 99 && memcmp(&found, pattern.bytes, sizeof pattern.bytes) == 0);
+    WANT(number == 99 && is_safe == 99 && memcmp(&found, pattern.bytes, sizeof pattern.bytes) == 0);
     WANT(lrc_embed_close(&handle) == LRC_DONE);
 }
 
@@ -293,12 +368,15 @@ static void ranges(void) {
     for (size_t i = 0; i < sizeof outside / sizeof *outside; i++) {
         WANT(lrc_embed_call(&handle, 1, &outside[i], &reply) == LRC_OUT_OF_RANGE);
         WANT(lrc_embed_peek(&handle, 1, &outside[i], &reply) == LRC_OUT_OF_RANGE);
+        WANT(lrc_embed_call_at(&handle, 0, 1, &outside[i], &reply) == LRC_OUT_OF_RANGE);
     }
     const lrc_command next = {.kind = LRC_NEXT, .stripe = 65535, .fragment = 255, .node = 65535};
     WANT(lrc_embed_call(&handle, 0, &next, &reply) == LRC_OUT_OF_RANGE);
     WANT(lrc_embed_call(&handle, LRC_SESSIONS + 1, &next, &reply) == LRC_OUT_OF_RANGE);
     WANT(lrc_embed_peek(&handle, 0, &next, &reply) == LRC_OUT_OF_RANGE);
     WANT(lrc_embed_peek(&handle, LRC_SESSIONS + 1, &next, &reply) == LRC_OUT_OF_RANGE);
+    WANT(lrc_embed_call_at(&handle, 0, 0, &next, &reply) == LRC_OUT_OF_RANGE);
+    WANT(lrc_embed_call_at(&handle, 0, LRC_SESSIONS + 1, &next, &reply) == LRC_OUT_OF_RANGE);
     WANT(reply.kind == 99 && count_of() == 0);
     WANT(make(LRC_SESSIONS, next).kind == LRC_IDLE);
     WANT(is_refused(MAKE(1, .kind = LRC_LEASE, .stripe = LRC_STRIPES - 1, .fragment = LRC_FRAGMENTS - 1),
@@ -310,6 +388,10 @@ static void ranges(void) {
     WANT(lrc_embed_lease(&handle, 1, LRC_FRAGMENTS, &lease) == LRC_OUT_OF_RANGE && lease.epoch == 99);
     WANT(lrc_embed_lease(&handle, LRC_STRIPES, 1, &lease) == LRC_OUT_OF_RANGE && lease.epoch == 99);
     WANT(lrc_embed_lease(&handle, 1, LRC_FRAGMENTS - 1, &lease) == LRC_UNKNOWN && lease.epoch == 99);
+    lrc_repair_plan plan = {.repair = 99};
+    WANT(lrc_embed_repair(&handle, 1, LRC_FRAGMENTS, &plan) == LRC_OUT_OF_RANGE && plan.repair == 99);
+    WANT(lrc_embed_repair(&handle, LRC_STRIPES, 1, &plan) == LRC_OUT_OF_RANGE && plan.repair == 99);
+    WANT(lrc_embed_repair(&handle, 1, 1, &plan) == LRC_UNKNOWN && plan.repair == 99);
 }
 
 static void leases(void) {
@@ -323,6 +405,9 @@ static void leases(void) {
     lease.expiry = 0;
     WANT(memcmp(&lease, &reply.lease, sizeof lease) == 0);
     WANT(lrc_embed_lease(&handle, 1, 4, &lease) == LRC_UNKNOWN);
+    lrc_repair_plan plan = {.repair = 99, .reserved = 99};
+    WANT(lrc_embed_repair(&handle, 1, 3, &plan) == LRC_DONE && plan.repair == LRC_LOCAL && plan.reserved == 0);
+    WANT(memcmp(plan.sources, reply.sources, sizeof plan.sources) == 0);
     WANT(is_refused(MAKE(1, .kind = LRC_LEASE, .stripe = 1, .fragment = 3), LRC_ALREADY_LEASED, 1));
     WANT(is_refused(MAKE(1, .kind = LRC_ABANDON, .stripe = 1, .fragment = 3, .epoch = 1), LRC_NOT_HOLDER, 2));
     WANT(MAKE(2, .kind = LRC_ABANDON, .stripe = 1, .fragment = 3, .epoch = 1).kind == LRC_ENDED);
@@ -352,6 +437,12 @@ static void nodes(void) {
     WANT(is_refused(MAKE(1, .kind = LRC_UNDRAIN, .node = 0), LRC_WRONG_MODE, 0));
     WANT(is_refused(MAKE(1, .kind = LRC_FAIL, .node = 20), LRC_UNKNOWN_NODE, 0));
     WANT(lrc_embed_mode(&handle, 20, &mode) == LRC_UNKNOWN && mode.mode == LRC_DRAINING);
+    uint8_t is_down = 99;
+    WANT(lrc_embed_is_down(&handle, 20, &is_down) == LRC_UNKNOWN && is_down == 99);
+    WANT(lrc_embed_is_down(&handle, 0, &is_down) == LRC_DONE && is_down == 0);
+    WANT(MAKE(1, .kind = LRC_DOWN, .node = 0).kind == LRC_CHANGED);
+    WANT(lrc_embed_is_down(&handle, 0, &is_down) == LRC_DONE && is_down == 1);
+    WANT(MAKE(1, .kind = LRC_UP, .node = 0).kind == LRC_CHANGED);
     WANT(lrc_embed_load(&handle, 20, &load) == LRC_UNKNOWN && load == 1);
     WANT(MAKE(1, .kind = LRC_DRAIN, .node = 3).kind == LRC_CHANGED);
     WANT(MAKE(1, .kind = LRC_RETIRE, .node = 3).kind == LRC_CHANGED);
@@ -392,8 +483,16 @@ static void ticks(void) {
 }
 
 static void upgrades(void) {
+    uint8_t domain = 99;
+    lrc_risk row = {.stripe = 77};
     WANT(MAKE(1, .kind = LRC_PLACE, .stripe = 2).kind == LRC_PLACED);
+    WANT(lrc_embed_upgrading(&handle, &domain) == LRC_UNKNOWN && domain == 99);
+    WANT(lrc_embed_first_risk(&handle, &row) == LRC_UNKNOWN && row.stripe == 77);
     WANT(MAKE(1, .kind = LRC_UPGRADE, .domain = 1).kind == LRC_CHANGED);
+    WANT(lrc_embed_upgrading(&handle, &domain) == LRC_DONE && domain == 1);
+    unsigned long requested = requests;
+    WANT(lrc_embed_first_risk(&handle, &row) == LRC_DONE && row.stripe < STRIPES && row.level.kind == LRC_AT_RISK);
+    WANT(requests == requested);
     WANT(is_refused(MAKE(1, .kind = LRC_UPGRADE, .domain = 2), LRC_UPGRADE_RUNNING, 1));
     WANT(is_refused(MAKE(1, .kind = LRC_UPGRADED, .domain = 2), LRC_NOT_UPGRADING, 0));
     WANT(is_refused(MAKE(1, .kind = LRC_UPGRADE, .domain = 10), LRC_UNKNOWN_DOMAIN, 0));
@@ -408,11 +507,11 @@ static void looks(void) {
     size_t count = 99;
     uint32_t status;
     STATUS(status, lrc_embed_risk(&handle, rows, 1, &count));
-    WANT(status == LRC_SHORT && count == 99 && rows[0].stripe == 77);
+    WANT(status == LRC_SHORT && count == 2 && rows[0].stripe == 77);
     STATUS(status, lrc_embed_risk(&handle, rows, 0, &count));
-    WANT(status == LRC_SHORT && count == 99 && rows[0].stripe == 77);
+    WANT(status == LRC_SHORT && count == 2 && rows[0].stripe == 77);
     STATUS(status, lrc_embed_risk(&handle, 0, 0, &count));
-    WANT(status == LRC_SHORT && count == 99);
+    WANT(status == LRC_SHORT && count == 2);
     STATUS(status, lrc_embed_risk(&handle, rows, 3, &count));
     WANT(status == LRC_DONE && count == 2 && rows[2].stripe == 77);
     for (size_t i = 0; i < count; i++) {
@@ -433,6 +532,185 @@ static void looks(void) {
     WANT(MAKE(1, .kind = LRC_UPGRADED, .domain = 1).kind == LRC_CHANGED);
     STATUS(status, lrc_embed_risk(&handle, 0, 0, &count));
     WANT(status == LRC_DONE && count == 0);
+}
+
+static void walk(const looks_of_book *it) {
+    is_looking = true;
+    agree(it);
+    is_looking = false;
+}
+
+// Walks with little room, from each place, which write no row behind the last one.
+static void walks(void) {
+    size_t count = 99;
+    uint32_t status;
+    unsigned long requested = requests;
+    lrc_stripe stripes[3];
+    lrc_node nodes[3];
+    lrc_lease leases[3];
+    lrc_entry entries[3];
+    lrc_fragment fragments[3], marked[3];
+    memset(marked, 0xa5, sizeof marked);
+    look(&after);
+    walk(&after);
+    for (unsigned from = 0; from < 65536; from += from < 8 ? 1 : 4094) {
+        size_t left = 0, at = STRIPES;
+        for (size_t i = walked.stripe_count; i-- > 0;)
+            if (walked.stripes[i].stripe >= from) left++, at = i;
+        for (size_t room = 0; room < 4; room++) {
+            size_t wanted = left < room ? left : room;
+            memset(stripes, 0xa5, sizeof stripes);
+            WANT(lrc_embed_stripes(&handle, (uint16_t)from, stripes, room, &count) == LRC_DONE && count == wanted);
+            WANT(memcmp(stripes, walked.stripes + at, wanted * sizeof *stripes) == 0);
+            for (size_t i = wanted; i < 3; i++) WANT(stripes[i].stripe == 0xa5a5);
+        }
+    }
+    for (size_t from = 0; from < NODES + 1; from++) {
+        size_t wanted = from + 3 < NODES ? 3 : from < NODES - 1 ? NODES - 1 - from : 0;
+        memset(nodes, 0xa5, sizeof nodes);
+        WANT(lrc_embed_nodes(&handle, from, nodes, 3, &count) == LRC_DONE && count == wanted);
+        if (wanted) WANT(memcmp(nodes, walked.nodes + from, wanted * sizeof *nodes) == 0);
+        for (size_t i = wanted; i < 3; i++) WANT(nodes[i].number == 0xa5a5);
+    }
+    for (unsigned place = 0; place < STRIPES * 18; place++) {
+        uint16_t stripe = (uint16_t)(place / 18);
+        uint8_t fragment = (uint8_t)(place % 18); // one and two more than the last as well
+        size_t left = 0, at = 0;
+        for (size_t i = walked.lease_count; i-- > 0;)
+            if (walked.leases[i].stripe * 18u + walked.leases[i].fragment >= place) left++, at = i;
+        WANT(lrc_embed_leases(&handle, stripe, fragment, leases, 3, &count) == LRC_DONE);
+        WANT(count == (left < 3 ? left : 3) && memcmp(leases, walked.leases + at, count * sizeof *leases) == 0);
+    }
+    for (size_t from = 0; from <= after.count + 1; from++) {
+        size_t left = from < after.count ? after.count - from : 0;
+        WANT(lrc_embed_entries(&handle, from, entries, 2, &count) == LRC_DONE && count == (left < 2 ? left : 2));
+        if (count) WANT(memcmp(entries, after.entries + from, count * sizeof *entries) == 0);
+    }
+    WANT(lrc_embed_stripes(&handle, 0, 0, 0, &count) == LRC_DONE && count == 0);
+    WANT(lrc_embed_nodes(&handle, SIZE_MAX, 0, 0, &count) == LRC_DONE && count == 0);
+    WANT(lrc_embed_leases(&handle, 65535, 255, 0, 0, &count) == LRC_DONE && count == 0);
+    WANT(lrc_embed_entries(&handle, SIZE_MAX, entries, 3, &count) == LRC_DONE && count == 0);
+    WANT(requests == requested); // none of these requests memory
+    count = 99;
+    memcpy(fragments, marked, sizeof marked);
+    WANT(lrc_embed_homes_on(&handle, 20, 0, 0, fragments, 3, &count) == LRC_UNKNOWN && requests == requested);
+    WANT(count == 99 && memcmp(fragments, marked, sizeof marked) == 0);
+    uint16_t node = 0;
+    while (walked.home_counts[node] < 2) node++;
+    STATUS(status, lrc_embed_homes_on(&handle, node, 0, 0, fragments, 1, &count));
+    WANT(status == LRC_DONE && count == 1 && memcmp(fragments + 1, marked, 2 * sizeof *marked) == 0);
+    uint16_t stripe = fragments[0].stripe;
+    uint8_t next = fragments[0].fragment + 1;
+    STATUS(status, lrc_embed_homes_on(&handle, node, stripe, next, fragments, 3, &count));
+    look(&after);
+    walk(&after);
+    WANT(status == LRC_DONE && count == walked.home_counts[node] - 1 && fragments[0].stripe > stripe);
+    WANT(memcmp(fragments, walked.homes[node] + 1, count * sizeof *fragments) == 0);
+    STATUS(status, lrc_embed_homes_on(&handle, node, 65535, 255, 0, 0, &count));
+    WANT(status == LRC_DONE && count == 0);
+}
+
+// A forecast is what the commands lead to, and only a node of the store is asked of.
+static void forecasts(void) {
+    lrc_outlook rows[STRIPES + 1];
+    const uint16_t unknown[2] = {1, 20};
+    size_t count = 99;
+    uint8_t is_safe = 99;
+    uint32_t status;
+    memset(rows, 0xa5, sizeof rows);
+    WANT(lrc_embed_forecast(&handle, 0, unknown, 1, rows, STRIPES, &count, &is_safe) == LRC_OUT_OF_RANGE);
+    WANT(lrc_embed_forecast(&handle, 3, unknown, 1, rows, STRIPES, &count, &is_safe) == LRC_OUT_OF_RANGE);
+    WANT(lrc_embed_forecast(&handle, LRC_LOSE, unknown, 2, rows, STRIPES, &count, &is_safe) == LRC_UNKNOWN);
+    WANT(count == 99 && is_safe == 99 && rows[0].stripe == 0xa5a5);
+    STATUS(status, lrc_embed_forecast(&handle, LRC_STOP, 0, 0, rows, STRIPES, &count, &is_safe));
+    WANT(status == LRC_DONE && count == 0 && is_safe == 1);
+    static const uint16_t stopped[4] = {2, 4, 6, 8};
+    static looks_of_book now;
+    look(&now);
+    for (size_t n = 1; n <= 4; n++) {
+        size_t found = 0, room;
+        memset(rows, 0xa5, sizeof rows);
+        STATUS(status, lrc_embed_forecast(&handle, LRC_STOP, stopped, n, rows, STRIPES, &count, &is_safe));
+        WANT(status == LRC_DONE && count > 0 && rows[count].stripe == 0xa5a5);
+        for (size_t i = 0; i < n; i++) WANT(MAKE(1, .kind = LRC_DOWN, .node = stopped[i]).kind == LRC_CHANGED);
+        look(&after);
+        bool is_harmed = false;
+        for (uint16_t s = 0; s < STRIPES; s++) {
+            lrc_outlook row = {.stripe = s, .missing = after.missing[s], .code = after.codes[s], .before = now.levels[s],
+                               .after = after.levels[s]};
+            if (row.code == 0 || row.after.kind == LRC_WHOLE) continue;
+            WANT(found < count && memcmp(&row, &rows[found++], sizeof row) == 0);
+            if (row.after.kind != LRC_AT_RISK) is_harmed = true;
+        }
+        WANT(found == count && is_safe == !is_harmed);
+        for (size_t i = 0; i < n; i++) WANT(MAKE(1, .kind = LRC_UP, .node = stopped[i]).kind == LRC_CHANGED);
+        room = count - 1, is_safe = 99, count = 99;
+        memset(rows, 0xa5, sizeof rows);
+        STATUS(status, lrc_embed_forecast(&handle, LRC_STOP, stopped, n, rows, room, &count, &is_safe));
+        WANT(status == LRC_SHORT && count == found && is_safe == !is_harmed && rows[0].stripe == 0xa5a5);
+    }
+}
+
+// A call is made only at the place that is expected.
+static void call_at_place(void) {
+    const lrc_command up = {.kind = LRC_UP, .node = 1};
+    lrc_reply reply = {.kind = 99};
+    uint64_t before_it = 0;
+    uint32_t status;
+    WANT(lrc_embed_before(&handle, &before_it) == LRC_DONE);
+    uint64_t place = before_it + count_of();
+    const uint64_t others[] = {0, place - 1, place + 1, before_it, UINT64_MAX};
+    for (size_t i = 0; i < sizeof others / sizeof *others; i++) {
+        if (others[i] == place) continue;
+        look(&before);
+        WANT(lrc_embed_call_at(&handle, others[i], 1, &up, &reply) == LRC_MOVED && is_as_before() && reply.kind == 99);
+    }
+    STATUS(status, lrc_embed_call_at(&handle, place, 1, &up, &reply));
+    WANT(status == LRC_DONE && is_refused(reply, LRC_WRONG_MODE, 0));
+    WANT(lrc_embed_call_at(&handle, place, 1, &up, &reply) == LRC_MOVED);
+}
+
+// The word for a number, where there is room for it and where there is not.
+static void has_name(uint32_t (*name_of)(uint32_t, uint8_t *, size_t, size_t *), uint32_t number, const char *word) {
+    uint8_t text[32];
+    size_t length = 99;
+    memset(text, '#', sizeof text);
+    if (!word) {
+        WANT(name_of(number, text, sizeof text, &length) == LRC_UNKNOWN && length == 99 && text[0] == '#');
+        return;
+    }
+    WANT(name_of(number, text, strlen(word) - 1, &length) == LRC_SHORT && length == strlen(word) && text[0] == '#');
+    length = 99;
+    WANT(name_of(number, 0, 0, &length) == LRC_SHORT && length == strlen(word));
+    WANT(name_of(number, text, strlen(word), &length) == LRC_DONE && length == strlen(word));
+    WANT(memcmp(text, word, length) == 0 && text[length] == '#');
+}
+
+static uint32_t reply_name(uint32_t kind, uint8_t *text, size_t room, size_t *length) {
+    return lrc_embed_reply_name((uint8_t)kind, text, room, length);
+}
+
+static uint32_t refusal_name(uint32_t refusal, uint8_t *text, size_t room, size_t *length) {
+    return lrc_embed_refusal_name((uint8_t)refusal, text, room, length);
+}
+
+static void names(void) {
+    static const char *const statuses[] = {
+        "done", "closed handle", "open handle", "out of range", "unknown", "full", "out of memory", "short buffer",
+        "different reply", "moved", 0, 0, 0, 0, 0, 0, "not TOML", "no nodes", "bad field", "node out of range",
+        "double node", "too many nodes", "bad line", "invalid image", 0};
+    static const char *const replies[] = {0, "placed", "dropped", "granted", "idle", "ended", "changed", "refused",
+                                          "ticked", "placed", 0};
+    static const char *const refusals[] = {
+        0, "unknown stripe", "stripe exists", "no lawful node", "unknown node", "wrong mode", "unknown domain",
+        "upgrade running", "not upgrading", "would lose", "already leased", "not needed", "unrecoverable", "stale",
+        "not holder", "target offline", "no lease", "not empty", 0};
+    for (uint32_t i = 0; i < sizeof statuses / sizeof *statuses; i++) has_name(lrc_embed_status_name, i, statuses[i]);
+    for (uint32_t i = 0; i < sizeof replies / sizeof *replies; i++) has_name(reply_name, i, replies[i]);
+    for (uint32_t i = 0; i < sizeof refusals / sizeof *refusals; i++) has_name(refusal_name, i + 100, refusals[i]);
+    has_name(lrc_embed_status_name, UINT32_MAX, 0);
+    has_name(reply_name, 255, 0);
+    has_name(refusal_name, 255, 0);
 }
 
 static bool has_code(uint16_t stripe, uint8_t code) {
@@ -808,7 +1086,7 @@ int main(int argc, char **argv) {
     refuse = asked("REFUSE"), refuse_from = asked("REFUSE_FROM");
     if (strcmp(word, "alone") == 0) set_in_copy = &refuse;
     if (strcmp(word, "onward") == 0) set_in_copy = &refuse_from;
-    WANT(lrc_embed_version() == LRC_EMBED_VERSION);
+    WANT(lrc_embed_version() == LRC_EMBED_VERSION && lrc_embed_rules_version() == LRC_RULES_VERSION);
     texts();
     closed();
     open_twenty();
@@ -821,6 +1099,10 @@ int main(int argc, char **argv) {
     ticks();
     upgrades();
     looks();
+    walks();
+    forecasts();
+    call_at_place();
+    names();
     WANT(MAKE(1, .kind = LRC_DROP, .stripe = 2).kind == LRC_DROPPED);
     narrow();
     replays();

@@ -4,21 +4,8 @@ import sys
 
 from harness import EXAMPLES
 
-sys.path.append(os.path.join(EXAMPLES, "embed"))
-import lrc_embed
-
-FIELDS = {
-    "upgrade": ["domain"], "upgraded": ["domain"], "next": [], "tick": [], "lease": ["stripe", "fragment"],
-    "revoke": ["stripe", "fragment"], "place": ["stripe"], "place6": ["stripe"], "drop": ["stripe"],
-    "done": ["stripe", "fragment", "epoch"], "abandon": ["stripe", "fragment", "epoch"],
-}
-
-
-def command_of(line):
-    """The struct of a command, from a line of a script."""
-    word, *numbers = line.split(" ")
-    kind = lrc_embed.CommandKind["REPORT" if word == "done" else word.upper()]
-    return lrc_embed.Command(kind, **dict(zip(FIELDS.get(word, ["node"]), map(int, numbers), strict=True)))
+sys.path.append(os.path.join(EXAMPLES, "stores"))
+from commands import FIELDS, command_of, lrc_embed  # noqa: F401
 
 
 def code_word(code):

@@ -8,7 +8,7 @@ from itertools import islice
 
 from harness import nodes_in_order, topology_of
 from library import command_of
-from lrc_embed import Book, Cause, Code, Command, CommandKind, Entry, Fault, ModeKind, Status
+from lrc_embed import Book, Cause, Code, Command, CommandKind, Entry, Fault, ModeKind, Outage, Status
 
 TWENTY = topology_of(nodes_in_order(20, 4))
 SCRIPT = ("place 1", "place 2", "fail 3", "next", "lease 2 7", "done 1 3 1", "next", "upgrade 0", "upgraded 0")
@@ -17,7 +17,16 @@ SIZE = ctypes.sizeof(Entry)
 SAVED = struct.Struct("<B3x BBB5xIHH BBB6s3xIII4x HBBHHI4x 32H")
 # As the header has them; an index is a size_t.
 RANGES = {"session": (1, 8), "kind": (1, 18), "stripe": (0, 4095), "fragment": (0, 15), "node": (0, 65535),
-          "domain": (0, 255), "epoch": (0, 4294967295), "index": (0, 18446744073709551615)}
+          "domain": (0, 255), "epoch": (0, 4294967295), "index": (0, 18446744073709551615),
+          "place": (0, 18446744073709551615), "outage": (1, 2)}
+
+
+def done_or_fault(call):
+    """A call that may also end with a status of its own."""
+    try:
+        return call()
+    except Fault:
+        return None
 
 
 def ways_of(book):
@@ -33,12 +42,16 @@ def ways_of(book):
                     lambda n: setattr(entry, "session", n), lambda n: book.peek(n, Command(CommandKind.NEXT))],
         "kind": [Command, lambda n: setattr(command, "kind", n)],
         "stripe": [*made_of(CommandKind.PLACE, "stripe"), book.homes, book.level, book.missing, book.code,
-                   lambda n: book.lease(n, 0)],
-        "fragment": [*made_of(CommandKind.LEASE, "fragment"), lambda n: book.lease(0, n)],
-        "node": [*made_of(CommandKind.FAIL, "node"), book.load, book.mode],
+                   lambda n: book.lease(n, 0), lambda n: book.repair(n, 0)],
+        "fragment": [*made_of(CommandKind.LEASE, "fragment"), lambda n: book.lease(0, n), lambda n: book.repair(0, n)],
+        "node": [*made_of(CommandKind.FAIL, "node"), book.load, book.mode, book.is_down,
+                 lambda n: done_or_fault(lambda: list(book.homes_on(n))),
+                 lambda n: done_or_fault(lambda: book.forecast(Outage.STOP, [n]))],
         "domain": [*made_of(CommandKind.UPGRADE, "domain")],
         "epoch": [*made_of(CommandKind.REPORT, "epoch")],
-        "index": [book.entry],
+        "index": [book.entry, lambda n: list(book.entries(n))],
+        "place": [lambda n: done_or_fault(lambda: book.call_at(n, 1, Command(CommandKind.NEXT)))],
+        "outage": [lambda n: book.forecast(n, [0])],
     }
 
 

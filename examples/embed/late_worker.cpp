@@ -1,18 +1,27 @@
 // The late worker of late_worker.c from C++, by a class that owns the handle.
 #include "lrc_embed.h"
 
+#include <cstddef>
 #include <cstdio>
+#include <optional>
 #include <stdexcept>
 #include <string>
 #include <utility>
 #include <vector>
 
+// The word for a number, by one of the three functions that return words.
+template <class Name, class Number> static std::string word_for(Name name, Number number) {
+    std::uint8_t text[24];
+    std::size_t length = 0;
+    return name(number, text, sizeof text, &length) == LRC_DONE ? std::string(text, text + length) : "no word";
+}
+
 // A status other than LRC_DONE, the position or line of the fault in the input, and the lrc_cause of LRC_INVALID_IMAGE.
 class Fault : public std::runtime_error {
   public:
     Fault(const std::string &what, std::uint32_t status, std::size_t position = 0, std::uint32_t cause = 0)
-        : std::runtime_error(what + ": status " + std::to_string(status)), status(status), position(position),
-          cause(cause) {}
+        : std::runtime_error(what + ": " + word_for(lrc_embed_status_name, status)), status(status),
+          position(position), cause(cause) {}
     const std::uint32_t status;
     const std::size_t position;
     const std::uint32_t cause;
@@ -53,6 +62,12 @@ class Book {
     lrc_reply call(std::uint8_t session, const lrc_command &command) {
         lrc_reply reply{};
         done("call", lrc_embed_call(&handle, session, &command, &reply));
+        return reply;
+    }
+    // The same, if the store has made `place` entries so far; else it throws, with LRC_MOVED.
+    lrc_reply call_at(std::uint64_t place, std::uint8_t session, const lrc_command &command) {
+        lrc_reply reply{};
+        done("call_at", lrc_embed_call_at(&handle, place, session, &command, &reply));
         return reply;
     }
     // The reply that a call would get now.
@@ -98,8 +113,80 @@ class Book {
         rows.resize(count);
         return rows;
     }
+    // The first row of `risk`, without memory; none if all stripes are whole.
+    std::optional<lrc_risk> first_risk() { return found<lrc_risk>("first_risk", lrc_embed_first_risk); }
+    // How a fragment that needs a lease is rebuilt; none if it needs none.
+    std::optional<lrc_repair_plan> repair(std::uint16_t stripe, std::uint8_t fragment) {
+        return found<lrc_repair_plan>("repair", lrc_embed_repair, stripe, fragment);
+    }
+    std::optional<bool> is_down(std::uint16_t node) {
+        auto is_down = found<std::uint8_t>("is_down", lrc_embed_is_down, node);
+        return is_down ? std::optional<bool>(*is_down == 1) : std::nullopt;
+    }
+    std::optional<std::uint8_t> upgrading() { return found<std::uint8_t>("upgrading", lrc_embed_upgrading); }
+
+    // The rows of walks, from the first one on.
+    std::vector<lrc_stripe> stripes() {
+        return walk<lrc_stripe>("stripes", [&](auto &rows, auto last, auto to, auto room, auto count) {
+            return lrc_embed_stripes(&handle, last ? std::uint16_t(rows.back().stripe + 1) : 0, to, room, count);
+        });
+    }
+    std::vector<lrc_node> nodes() {
+        return walk<lrc_node>("nodes", [&](auto &rows, auto, auto to, auto room, auto count) {
+            return lrc_embed_nodes(&handle, rows.size(), to, room, count);
+        });
+    }
+    std::vector<lrc_lease> leases() {
+        return walk<lrc_lease>("leases", [&](auto &rows, auto last, auto to, auto room, auto count) {
+            return lrc_embed_leases(&handle, last ? rows.back().stripe : 0, behind(rows), to, room, count);
+        });
+    }
+    std::vector<lrc_fragment> homes_on(std::uint16_t node) {
+        return walk<lrc_fragment>("homes_on", [&](auto &rows, auto last, auto to, auto room, auto count) {
+            return lrc_embed_homes_on(&handle, node, last ? rows.back().stripe : 0, behind(rows), to, room, count);
+        });
+    }
+    std::vector<lrc_entry> entries(std::size_t from = 0) {
+        return walk<lrc_entry>("entries", [&](auto &rows, auto, auto to, auto room, auto count) {
+            return lrc_embed_entries(&handle, from + rows.size(), to, room, count);
+        });
+    }
+
+    // The stripes that would not be whole after an outage of these nodes, and whether none becomes unavailable or lost.
+    std::pair<std::vector<lrc_outlook>, bool> forecast(lrc_outage outage, const std::vector<std::uint16_t> &nodes) {
+        std::vector<lrc_outlook> rows(LRC_STRIPES);
+        std::size_t count = 0;
+        std::uint8_t is_safe = 0;
+        static const std::uint16_t none = 0;
+        done("forecast", lrc_embed_forecast(&handle, outage, nodes.empty() ? &none : nodes.data(), nodes.size(), rows.data(),
+                                            rows.size(), &count, &is_safe));
+        rows.resize(count);
+        return {rows, is_safe == 1};
+    }
 
   private:
+    // The result of a look, if there is one.
+    template <class T, class Look, class... Numbers>
+    std::optional<T> found(const char *what, Look look, Numbers... numbers) {
+        T result{};
+        auto status = look(&handle, numbers..., &result);
+        if (status == LRC_UNKNOWN) return std::nullopt;
+        done(what, status);
+        return result;
+    }
+    // All rows of a table, a buffer at a time. `next` is told whether there is a last row.
+    template <class Row, class Next> std::vector<Row> walk(const char *what, Next next) {
+        std::vector<Row> rows, more(256);
+        std::size_t count = 0;
+        do {
+            done(what, next(rows, !rows.empty(), more.data(), more.size(), &count));
+            rows.insert(rows.end(), more.begin(), more.begin() + std::ptrdiff_t(count));
+        } while (count == more.size());
+        return rows;
+    }
+    template <class Row> static std::uint8_t behind(const std::vector<Row> &rows) {
+        return rows.empty() ? 0 : std::uint8_t(rows.back().fragment + 1);
+    }
     Book() = default;
     static const std::uint8_t *bytes_of(const std::string &text) {
         return reinterpret_cast<const std::uint8_t *>(text.data());
@@ -179,8 +266,19 @@ int main() {
     lrc_command next{};
     next.kind = LRC_NEXT;
     if (book.peek(1, next).kind != LRC_IDLE) return 1;
-    std::vector<lrc_entry> log;
-    for (std::size_t i = 0; i < book.count(); i++) log.push_back(book.entry(i));
+    std::vector<lrc_entry> log = book.entries();
+    // fragment 3 moved from node 3, which is gone, to node 17
+    if (book.stripes().size() != 1 || book.nodes().size() != 20 || !book.leases().empty()) return 1;
+    if (!book.homes_on(3).empty() || book.homes_on(17).size() != 1 || book.first_risk() || book.repair(1, 3)) return 1;
+    auto outlook = book.forecast(LRC_LOSE, {0, 1, 2, 4});
+    if (outlook.first.size() != 1 || outlook.first[0].before.kind != LRC_WHOLE) return 1;
+    // another call in the place of the last one is refused
+    try {
+        book.call_at(book.before() + log.size() - 1, 1, next);
+        return 1;
+    } catch (const Fault &fault) {
+        if (fault.status != LRC_MOVED) return 1;
+    }
 
     Book again(twenty_nodes(), log);
     std::printf("replayed %zu\n", again.count());

@@ -5,11 +5,12 @@ from ctypes import c_bool, c_size_t, c_uint8, c_uint16, c_uint32, c_uint64, c_vo
 from enum import IntEnum
 from operator import index as whole
 
-VERSION, STRIPES, FRAGMENTS, NARROW_FRAGMENTS, SESSIONS, HISTORY_LIMIT = 1, 4096, 16, 10, 8, 1_000_000
+VERSION, RULES_VERSION, STRIPES, FRAGMENTS, NARROW_FRAGMENTS, SESSIONS, HISTORY_LIMIT = 1, 1, 4096, 16, 10, 8, 1_000_000
+NODES, SLOTS = 512, 256
 
 
 class Status(IntEnum):
-    DONE, IS_CLOSED, IS_OPEN, OUT_OF_RANGE, UNKNOWN, FULL, OUT_OF_MEMORY, SHORT, DIFFERENT = range(9)
+    DONE, IS_CLOSED, IS_OPEN, OUT_OF_RANGE, UNKNOWN, FULL, OUT_OF_MEMORY, SHORT, DIFFERENT, MOVED = range(10)
     SYNTAX, NO_NODES, BAD_FIELD, NODE_OUT_OF_RANGE, DOUBLE_NODE, TOO_MANY, BAD_LINE, INVALID_IMAGE = range(16, 24)
 
 
@@ -50,6 +51,10 @@ class ModeKind(IntEnum):
     ACTIVE, DRAINING, GONE = range(1, 4)
 
 
+class Outage(IntEnum):
+    STOP, LOSE = range(1, 3)
+
+
 # The refusals that have a detail.
 DETAILED = {Refusal.NO_LAWFUL_NODE, Refusal.UPGRADE_RUNNING, Refusal.WOULD_LOSE, Refusal.ALREADY_LEASED,
             Refusal.NOT_HOLDER, Refusal.TARGET_OFFLINE, Refusal.NOT_EMPTY}
@@ -63,7 +68,7 @@ SOURCES = {Repair.LOCAL: 6, Repair.LOCAL3: 3}
 # The least and the greatest number of each name that is passed.
 RANGES = {"session": (1, SESSIONS), "kind": (1, len(CommandKind)), "stripe": (0, STRIPES - 1),
           "fragment": (0, FRAGMENTS - 1), "node": (0, 2**16 - 1), "domain": (0, 2**8 - 1), "epoch": (0, 2**32 - 1),
-          "index": (0, 2**64 - 1)}
+          "index": (0, 2**64 - 1), "place": (0, 2**64 - 1), "outage": (1, len(Outage))}
 
 
 def within(name, number):
@@ -101,6 +106,10 @@ class Seat(ctypes.Structure):
         return f"{self.node}:{self.slot}"
 
 
+class Fragment(ctypes.Structure):
+    _fields_ = [("stripe", c_uint16), ("fragment", c_uint8), ("reserved", c_uint8)]
+
+
 class Lease(ctypes.Structure):
     """A lease. From `Book.lease` it has its expiry, the clock at which it ends; in a reply that is 0."""
 
@@ -109,6 +118,10 @@ class Lease(ctypes.Structure):
 
     def __str__(self):
         return f"{self.stripe} {self.fragment} {self.target} epoch {self.epoch}"
+
+
+class RepairPlan(ctypes.Structure):
+    _fields_ = [("repair", c_uint8), ("sources", c_uint8 * 6), ("reserved", c_uint8)]
 
 
 class Reply(ctypes.Structure):
@@ -156,6 +169,26 @@ class Mode(ctypes.Structure):
     _fields_ = [("mode", c_uint8), ("is_online", c_uint8), ("reserved", c_uint8 * 2)]
 
 
+class Stripe(ctypes.Structure):
+    _fields_ = [("stripe", c_uint16), ("missing", c_uint16), ("code", c_uint8), ("reserved", c_uint8 * 3),
+                ("level", Level)]
+
+
+class Node(ctypes.Structure):
+    _fields_ = [("number", c_uint16), ("slots", c_uint16), ("load", c_uint32), ("fault", c_uint8), ("upgrade", c_uint8),
+                ("mode", c_uint8), ("is_online", c_uint8), ("is_down", c_uint8), ("reserved", c_uint8 * 3)]
+
+
+class Outlook(ctypes.Structure):
+    _fields_ = [("stripe", c_uint16), ("missing", c_uint16), ("code", c_uint8), ("reserved", c_uint8 * 3),
+                ("before", Level), ("after", Level)]
+
+
+def behind(_, row):
+    """The place after a fragment."""
+    return c_uint16(row.stripe), c_uint8(row.fragment + 1)
+
+
 def text_of(text):
     """A text as C takes it: its bytes and their number."""
     data = text.encode()
@@ -169,6 +202,14 @@ class Fault(Exception):
         super().__init__(f"{name}: {Status(status).name}")
         self.status, self.position = Status(status), position
         self.cause = Cause(cause) if status == Status.INVALID_IMAGE else None
+
+
+def name_of(library, table, number):
+    """The word for a number: of a `status`, of the kind of a `reply`, or of a `refusal`. None if it has none."""
+    text, length = (c_uint8 * 24)(), c_size_t()
+    call = getattr(library, f"lrc_embed_{table}_name")
+    status = (call((c_uint32 if table == "status" else c_uint8)(number), text, c_size_t(len(text)), ctypes.byref(length)))
+    return bytes(text[:length.value]).decode() if status == Status.DONE else None
 
 
 class Book:
@@ -198,20 +239,23 @@ class Book:
         texts = *text_of(nodes), *text_of(image)
         self.done("open_image", *texts, ctypes.byref(detail), ctypes.byref(cause), where=detail, why=cause)
 
+    def status_of(self, name, *given):
+        """Makes a call, and returns its status."""
+        return getattr(self.library, f"lrc_embed_{name}")(ctypes.byref(self.handle), *given)
+
     def done(self, name, *given, where=None, why=None):
         """Makes a call, which has to be done."""
-        status = getattr(self.library, f"lrc_embed_{name}")(ctypes.byref(self.handle), *given)
+        status = self.status_of(name, *given)
         if status != Status.DONE:
             raise Fault(name, status, None if where is None else where.value, None if why is None else why.value)
 
     def result_of(self, name, result, *given):
         """Makes a call, and returns the result that it wrote; None if it is unknown."""
-        try:
-            self.done(name, *given, ctypes.byref(result))
-        except Fault as fault:
-            if fault.status != Status.UNKNOWN:
-                raise
+        status = self.status_of(name, *given, ctypes.byref(result))
+        if status == Status.UNKNOWN:
             return None
+        if status != Status.DONE:
+            raise Fault(name, status)
         return result
 
     def replay(self, log):
@@ -228,6 +272,11 @@ class Book:
 
     def call(self, session, command):
         return self.result_of("call", Reply(), c_uint8(within("session", session)), ctypes.byref(command))
+
+    def call_at(self, place, session, command):
+        """The same, if the store has made `place` entries so far; else a fault, with the status MOVED."""
+        numbers = c_uint64(within("place", place)), c_uint8(within("session", session))
+        return self.result_of("call_at", Reply(), *numbers, ctypes.byref(command))
 
     def peek(self, session, command):
         """The reply that a call would get now. The book stays as it is."""
@@ -249,16 +298,73 @@ class Book:
         numbers = c_uint16(within("stripe", stripe)), c_uint8(within("fragment", fragment))
         return self.result_of("lease", Lease(), *numbers)
 
+    def repair(self, stripe, fragment):
+        """How a fragment that needs a lease is rebuilt; None if it needs none."""
+        numbers = c_uint16(within("stripe", stripe)), c_uint8(within("fragment", fragment))
+        return self.result_of("repair", RepairPlan(), *numbers)
+
     def load(self, node):
         return self.result_of("load", c_uint32(), c_uint16(within("node", node)))
 
     def mode(self, node):
         return self.result_of("mode", Mode(), c_uint16(within("node", node)))
 
+    def is_down(self, node):
+        return self.result_of("is_down", c_uint8(), c_uint16(within("node", node)))
+
+    def upgrading(self):
+        """The upgrade domain that is upgrading; None if none is."""
+        return self.result_of("upgrading", c_uint8())
+
     def risk(self):
         rows, count = (Risk * STRIPES)(), c_size_t()
         self.done("risk", rows, c_size_t(STRIPES), ctypes.byref(count))
         return rows[:count.value]
+
+    def first_risk(self):
+        return self.result_of("first_risk", Risk())
+
+    def walk(self, name, row, room, start, after):
+        """All rows of a table, a buffer of `room` rows at a time. `after` is the place to go on from after a row."""
+        place = start
+        while True:
+            rows, count = (row * room)(), c_size_t()
+            self.done(name, *place, rows, c_size_t(room), ctypes.byref(count))
+            yield from rows[:count.value]
+            if count.value < room:
+                return
+            place = after(place, rows[room - 1])
+
+    def stripes(self, room=256):
+        """The stripes of the store, in rising order."""
+        return self.walk("stripes", Stripe, room, (c_uint16(0),), lambda _, row: (c_uint16(row.stripe + 1),))
+
+    def nodes(self, room=256):
+        """The nodes, in the order of the text."""
+        return self.walk("nodes", Node, room, (c_size_t(0),), lambda place, _: (c_size_t(place[0].value + room),))
+
+    def leases(self, room=256):
+        """The live leases, in rising order of stripe and fragment."""
+        return self.walk("leases", Lease, room, (c_uint16(0), c_uint8(0)), behind)
+
+    def homes_on(self, node, room=256):
+        """The fragments with a home on a node, in rising order of stripe and fragment."""
+        number = c_uint16(within("node", node))
+        return self.walk("homes_on", Fragment, room, (number, c_uint16(0), c_uint8(0)),
+                         lambda place, row: (place[0], *behind(place, row)))
+
+    def entries(self, start=0, room=256):
+        """The entries of the history from an index on."""
+        first = (c_size_t(within("index", start)),)
+        return self.walk("entries", Entry, room, first, lambda place, _: (c_size_t(place[0].value + room),))
+
+    def forecast(self, outage, nodes):
+        """The stripes that would not be whole after an outage of these nodes, and whether none becomes unavailable or lost."""
+        rows, count, is_safe = (Outlook * STRIPES)(), c_size_t(), c_uint8()
+        numbers = (c_uint16 * len(nodes))(*(within("node", node) for node in nodes))
+        self.done("forecast", c_uint8(within("outage", outage)), numbers, c_size_t(len(nodes)), rows, c_size_t(STRIPES),
+                  ctypes.byref(count), ctypes.byref(is_safe))
+        return rows[:count.value], is_safe.value == 1
 
     def clock(self):
         return self.result_of("clock", c_uint32()).value

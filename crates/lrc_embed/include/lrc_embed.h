@@ -5,9 +5,9 @@
 // changes nothing. The looks read the book, and lrc_embed_close frees it. docs/RULES.md says what each command does, and
 // docs/EMBEDDING.md how a store uses this.
 //
-// Every function but lrc_embed_version returns a status. It writes its results only if the status is LRC_DONE.
-// lrc_embed_open, lrc_embed_open_image and lrc_embed_replay also write where they stopped, as their comments say. Nothing
-// else is written.
+// Every function but lrc_embed_version and lrc_embed_rules_version returns a status. It writes its results only if the
+// status is LRC_DONE. lrc_embed_open, lrc_embed_open_image and lrc_embed_replay also write where they stopped, and the
+// functions that return LRC_SHORT write how much room they need, as their comments say. Nothing else is written.
 //
 // What the caller owes, since nothing checks C:
 // - A handle begins as LRC_CLOSED. After that only these functions write it. Do not copy an open handle, since two copies
@@ -37,7 +37,11 @@ extern "C" {
 // kinds, and new numbers of replies use reserved fields, so that no struct changes its size.
 #define LRC_EMBED_VERSION 1
 
-// The number of stripe numbers, which are 0 to 4095. lrc_embed_risk never needs more rows.
+// The version of the rules: of what each command returns and changes. lrc_embed_rules_version() returns that of the library.
+// A log replays alike in all libraries of one version of the rules. In those of another one a reply may differ.
+#define LRC_RULES_VERSION 1
+
+// The number of stripe numbers, which are 0 to 4095. No table of stripes has more rows.
 #define LRC_STRIPES 4096
 // The number of fragment numbers, which are 0 to 15. A wide stripe has all of them: 0 to 5 and 12 are group A, 6 to 11 and
 // 13 are group B, 14 and 15 are global.
@@ -47,6 +51,9 @@ extern "C" {
 #define LRC_NARROW_FRAGMENTS 10
 // The number of sessions, which are 1 to 8. A session is whoever holds leases.
 #define LRC_SESSIONS 8
+// The most nodes of a text, and the most slots of a node.
+#define LRC_NODES 512
+#define LRC_SLOTS 256
 // The most entries of a history.
 #define LRC_HISTORY_LIMIT 1000000
 
@@ -54,13 +61,14 @@ enum lrc_status {
     LRC_DONE = 0,
     LRC_IS_CLOSED = 1,     // the handle is closed
     LRC_IS_OPEN = 2,       // the handle to be opened is open
-    LRC_OUT_OF_RANGE = 3,  // a session, a kind of command, a stripe or a fragment is out of its range
-    LRC_UNKNOWN = 4,       // there is no such stripe, lease, node or entry
+    LRC_OUT_OF_RANGE = 3,  // a session, a kind of command, a stripe, a fragment or an outage is out of its range
+    LRC_UNKNOWN = 4,       // there is no such stripe, lease, node, entry or name, or nothing of what is asked for
     LRC_FULL = 5,          // the history has LRC_HISTORY_LIMIT entries; of lrc_embed_forget: a number is at its end
     LRC_OUT_OF_MEMORY = 6, // memory was refused, and the history is as it was: the call may be repeated (but a replay
                            // has closed the handle)
-    LRC_SHORT = 7,         // the buffer has no room for all rows
+    LRC_SHORT = 7,         // the buffer has no room for all rows, or for the whole text
     LRC_DIFFERENT = 8,     // lrc_embed_replay: a call has another reply than its entry
+    LRC_MOVED = 9,         // lrc_embed_call_at: the store has made more or fewer entries than expected
 
     // lrc_embed_open and lrc_embed_open_image: why the text is not a list of nodes
     LRC_SYNTAX = 16,            // not TOML 1.1 in UTF-8
@@ -197,6 +205,13 @@ enum lrc_refusal {
     LRC_NOT_EMPTY = 117, // the number of seats on the node
 };
 
+// How a fragment is rebuilt.
+typedef struct {
+    uint8_t repair;     // an lrc_repair
+    uint8_t sources[6]; // the fragments that it reads, in rising order, and then 0
+    uint8_t reserved;
+} lrc_repair_plan;
+
 // What the kind does not use is 0.
 typedef struct {
     uint8_t kind;    // an lrc_reply_kind
@@ -258,6 +273,22 @@ typedef struct {
     lrc_level level;
 } lrc_risk;
 
+// A stripe with its missing fragments, of which fragment f is bit f.
+typedef struct {
+    uint16_t stripe;
+    uint16_t missing;
+    uint8_t code; // an lrc_code
+    uint8_t reserved[3];
+    lrc_level level;
+} lrc_stripe;
+
+// A fragment of a stripe.
+typedef struct {
+    uint16_t stripe;
+    uint8_t fragment;
+    uint8_t reserved;
+} lrc_fragment;
+
 enum lrc_mode_kind { LRC_ACTIVE = 1, LRC_DRAINING = 2, LRC_GONE = 3 };
 
 typedef struct {
@@ -266,8 +297,37 @@ typedef struct {
     uint8_t reserved[2];
 } lrc_mode;
 
-// The version of the library.
+typedef struct {
+    uint16_t number;
+    uint16_t slots;  // as the text has them, and so both domains
+    uint32_t load;   // the number of homes and of targets of leases on it
+    uint8_t fault;
+    uint8_t upgrade;
+    uint8_t mode;      // an lrc_mode_kind
+    uint8_t is_online; // 0 or 1
+    uint8_t is_down;   // 0 or 1
+    uint8_t reserved[3];
+} lrc_node;
+
+// What happens to nodes.
+enum lrc_outage {
+    LRC_STOP = 1, // they go offline, with what is on them, as by LRC_DOWN
+    LRC_LOSE = 2, // they are lost, with all that is on them, as by LRC_FAIL
+};
+
+// What becomes of a stripe.
+typedef struct {
+    uint16_t stripe;
+    uint16_t missing; // the fragments that are missing then; fragment f is bit f
+    uint8_t code;     // an lrc_code
+    uint8_t reserved[3];
+    lrc_level before; // its level now
+    lrc_level after;  // its level then
+} lrc_outlook;
+
+// The version of the library, and that of its rules.
 uint32_t lrc_embed_version(void);
+uint32_t lrc_embed_rules_version(void);
 
 // Opens a closed handle with a book of the nodes of the text and an empty history. DONE, IS_OPEN, OUT_OF_MEMORY, or one of
 // 16 to 21, which also write `detail`. The text is not needed after the call.
@@ -284,6 +344,11 @@ uint32_t lrc_embed_open_image(lrc_handle *handle, const uint8_t *nodes, size_t n
 // history is as it was. After DONE the history has one more entry: this session, command and reply. To save it, take it
 // from lrc_embed_entry, at the count less 1: the command that was passed may differ from it in bytes.
 uint32_t lrc_embed_call(lrc_handle *handle, uint8_t session, const lrc_command *command, lrc_reply *reply);
+
+// The same, if the store has made `place` entries so far: if lrc_embed_before plus lrc_embed_count is `place`, so that the entry
+// becomes number `place` + 1 of the store. Else MOVED, and nothing changes. So a caller that decided by what it read at
+// `place` makes the call only if nothing came between. Otherwise as lrc_embed_call.
+uint32_t lrc_embed_call_at(lrc_handle *handle, uint64_t place, uint8_t session, const lrc_command *command, lrc_reply *reply);
 
 // Returns the reply that lrc_embed_call would get now. Nothing changes, and no memory is requested. DONE, also if the reply
 // is a refusal; IS_CLOSED, OUT_OF_RANGE or FULL, exactly if the call would return it. The reply holds until the next entry.
@@ -314,14 +379,25 @@ uint32_t lrc_embed_missing(lrc_handle *handle, uint16_t stripe, uint16_t *missin
 uint32_t lrc_embed_code(lrc_handle *handle, uint16_t stripe, uint8_t *code);
 // The same, or UNKNOWN if the fragment has no live lease.
 uint32_t lrc_embed_lease(lrc_handle *handle, uint16_t stripe, uint8_t fragment, lrc_lease *lease);
+// How the fragment is rebuilt, if it needs a lease, whether or not it has one: what the next grant of it has as `repair` and
+// `sources`. It is LRC_GLOBAL too where the stripe is not recoverable. UNKNOWN if the fragment needs no lease.
+uint32_t lrc_embed_repair(lrc_handle *handle, uint16_t stripe, uint8_t fragment, lrc_repair_plan *plan);
 // DONE, IS_CLOSED, or UNKNOWN if there is no such node. The load counts homes and targets of leases.
 uint32_t lrc_embed_load(lrc_handle *handle, uint16_t node, uint32_t *load);
 uint32_t lrc_embed_mode(lrc_handle *handle, uint16_t node, lrc_mode *mode);
+// Whether the node is down, 0 or 1. A node that is not down may be offline all the same, since its domain upgrades or it is
+// gone.
+uint32_t lrc_embed_is_down(lrc_handle *handle, uint16_t node, uint8_t *is_down);
+// The upgrade domain that is upgrading: DONE, IS_CLOSED, or UNKNOWN if none is.
+uint32_t lrc_embed_upgrading(lrc_handle *handle, uint8_t *domain);
 // The number of ticks: DONE or IS_CLOSED.
 uint32_t lrc_embed_clock(lrc_handle *handle, uint32_t *clock);
-// The stripes that are not whole, in the order of repair. DONE, with `*count` rows; IS_CLOSED, OUT_OF_MEMORY, or SHORT if
-// there are more than `length`, which cannot be with LRC_STRIPES rows.
+// The stripes that are not whole, in the order of repair. DONE, with `*count` rows; IS_CLOSED, OUT_OF_MEMORY; or SHORT if
+// there are more than `length`, which cannot be with LRC_STRIPES rows, and then only `count` is written: the rows that it
+// needs.
 uint32_t lrc_embed_risk(lrc_handle *handle, lrc_risk *rows, size_t length, size_t *count);
+// The first of these rows, without a request for memory: DONE, IS_CLOSED, or UNKNOWN if all stripes are whole.
+uint32_t lrc_embed_first_risk(lrc_handle *handle, lrc_risk *row);
 // The image of the book's state as a text, whose lines docs/FORMATS.md describes. Books in the same state after as many
 // entries and grants have the same text, whatever led there, and lrc_embed_open_image begins in it. DONE, with `*length` bytes;
 // IS_CLOSED, OUT_OF_MEMORY; SHORT if there is room for less, and then only `length` is written: the bytes that it needs; or
@@ -334,6 +410,40 @@ uint32_t lrc_embed_count(lrc_handle *handle, size_t *count);
 uint32_t lrc_embed_before(lrc_handle *handle, uint64_t *before);
 // The entry at an index, from 0: DONE, IS_CLOSED or UNKNOWN.
 uint32_t lrc_embed_entry(lrc_handle *handle, size_t index, lrc_entry *entry);
+
+// The walks. Each writes `*count` rows from the start of the buffer: the first rows of its table from a place on, as many as
+// there is room for, whatever the numbers of the place are. If `*count` is less than `length`, the table ends there; else go
+// on from the place after the last row. DONE or IS_CLOSED, and no memory is requested, but by lrc_embed_homes_on. What
+// a walk tells holds until the next entry; a walk that goes on after one may miss a row or tell an old one.
+// The stripes from the number `from` on, in rising order.
+uint32_t lrc_embed_stripes(lrc_handle *handle, uint16_t from, lrc_stripe *rows, size_t length, size_t *count);
+// The nodes from a position on, in the order of the text; the first is at 0.
+uint32_t lrc_embed_nodes(lrc_handle *handle, size_t from, lrc_node *rows, size_t length, size_t *count);
+// The live leases in rising order of stripe and fragment, with their expiry, from the fragment `from_fragment` of the stripe
+// `from_stripe` on. After a row go on from its stripe, and its fragment plus 1.
+uint32_t lrc_embed_leases(lrc_handle *handle, uint16_t from_stripe, uint8_t from_fragment, lrc_lease *rows, size_t length,
+                          size_t *count);
+// The fragments with a home on a node, in the same order, from one on. UNKNOWN if there is no such node, OUT_OF_MEMORY. A node
+// has LRC_SLOTS of them at most.
+uint32_t lrc_embed_homes_on(lrc_handle *handle, uint16_t node, uint16_t from_stripe, uint8_t from_fragment,
+                            lrc_fragment *rows, size_t length, size_t *count);
+// The entries of the history from an index on.
+uint32_t lrc_embed_entries(lrc_handle *handle, size_t from, lrc_entry *rows, size_t length, size_t *count);
+
+// What would become of the stripes if all these nodes stopped at once, or were lost: `outage` is an lrc_outage. The rows are
+// the stripes that would not be whole then, in rising order, also those that are not whole now. `*is_safe` is 1 if no stripe
+// becomes unavailable or lost by it, else 0. A node that is offline changes nothing where it stops; where it is lost, its
+// homes are. Nothing changes. DONE, IS_CLOSED, OUT_OF_MEMORY; OUT_OF_RANGE if it is no outage; UNKNOWN if there is no such
+// node; or SHORT if there are more rows than `length`, which cannot be with LRC_STRIPES rows, and then only `count`, the rows
+// that it needs, and `is_safe` are written.
+uint32_t lrc_embed_forecast(lrc_handle *handle, uint8_t outage, const uint16_t *nodes, size_t nodes_length,
+                            lrc_outlook *rows, size_t length, size_t *count, uint8_t *is_safe);
+
+// A word for a status, a kind of reply or a refusal: ASCII letters and spaces, at most 24, with no zero at the end. DONE, with
+// `*length` bytes; UNKNOWN if the number has none; or SHORT if there is room for less, and then only `length` is written.
+uint32_t lrc_embed_status_name(uint32_t status, uint8_t *text, size_t room, size_t *length);
+uint32_t lrc_embed_reply_name(uint8_t kind, uint8_t *text, size_t room, size_t *length);
+uint32_t lrc_embed_refusal_name(uint8_t refusal, uint8_t *text, size_t room, size_t *length);
 
 // Closes the handle and frees its book. A closed handle stays closed. Always DONE.
 uint32_t lrc_embed_close(lrc_handle *handle);

@@ -3,3 +3,4 @@ pub mod OfLemmas
 pub mod ReplayLemmas
 pub mod Rows
 pub mod Values
+pub mod WalkLemmas

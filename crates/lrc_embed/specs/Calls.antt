@@ -1,8 +1,7 @@
 -- What calls and looks return of the book of a handle.
-use Rattle.std.specs.Prelude.{◌≡◌, ◌≢◌, ℕ, ◌+◌, List, [], ◌∷◌, ◌++◌, drop, length, Option, Some, None, option_map, ◌⊎◌, ◌≤◌}
+use Rattle.std.specs.Prelude.{◌≡◌, ◌≢◌, ℕ, ◌+◌, List, [], ◌∷◌, ◌++◌, length, Option, Some, None, option_map, ◌⊎◌, ◌≤◌}
 use Rattle.lrc_code.specs.declared.numbers.StripeNo.{StripeNo}
 use Rattle.lrc_code.specs.declared.numbers.Fragment.{Fragment}
-use Rattle.lrc_code.specs.declared.numbers.NodeNo.{NodeNo}
 use Rattle.lrc_code.specs.declared.numbers.SessionNo.{SessionNo}
 use Rattle.lrc_topology.specs.declared.NodeInfo.{NodeInfo}
 use Rattle.lrc_topology.specs.declared.error.TopologyError.{TopologyError}
@@ -12,16 +11,12 @@ use Rattle.lrc_rules.specs.declared.entry.Entry.{Entry}
 use Rattle.lrc_rules.specs.Alike.{AreAlike}
 use Rattle.lrc_rules.specs.Futures.{HaveSameGrants}
 use Rattle.lrc_rules.specs.Histories.{World, first_world, outcome_in}
-use Rattle.lrc_images.specs.declared.image.Image.{Image}
-use Rattle.lrc_images.specs.Rows.{IsImageOf}
-use Rattle.lrc_image_text.specs.Texts.{image_text}
 use Rattle.lrc_book.specs.Books.{BookView, world_of, state_of}
 use Rattle.lrc_records.specs.declared.command.LrcCommand.{LrcCommand}
 use Rattle.lrc_records.specs.declared.reply.LrcReply.{LrcReply}
-use Rattle.lrc_records.specs.declared.risk.LrcRisk.{LrcRisk}
 use Rattle.lrc_records.specs.Commands.{IsCommand}
 use Rattle.lrc_records.specs.Replies.{encoded_reply}
-use Rattle.lrc_embed.specs.Looks.{topology_status}
+use Rattle.lrc_embed.specs.Statuses.{topology_status}
 
 -- there is a book, and this holds of it
 abbrev pub Of : Option BookView → (BookView → Type 0) → Type 0
@@ -31,6 +26,10 @@ Of (Some b) P = P b
 -- what a failed call leaves as it was; the room that was made for later is not part of it
 abbrev pub contents : Option BookView → Option (List NodeInfo × ℕ × List Entry × World × ℕ)
 contents book = option_map (λ b. (b.nodes, b.limit, b.history, b.base, b.before)) book
+
+-- the number of entries that the store has made
+abbrev pub entry_count : BookView → ℕ
+entry_count b = b.before + length b.history
 
 -- a book of the text's nodes that begins empty, with no entry yet
 abbrev pub IsNew : List ℕ → BookView → Type 0
@@ -68,11 +67,6 @@ IsForgotten b after =
     × HaveSameGrants (b.base.past ++ b.history) after.base.past
     × (after.nodes ≡ b.nodes) × (after.limit ≡ b.limit)
 
--- the text is that of the image of the book's state, after all entries of the store so far
-abbrev pub IsImageText : BookView → List ℕ → Type 0
-IsImageText b text =
-    (i : Image) × IsImageOf b.nodes (b.base.past ++ b.history) (state_of b) (b.before + length b.history) i × (text ≡ image_text i)
-
 -- the stripe of a number that is in its range
 abbrev pub AtStripe : ℕ → (StripeNo → Type 0) → Type 0
 AtStripe number P = (s : StripeNo) × (s.value ≡ number) × P s
@@ -96,14 +90,6 @@ pub record IsLook {T : Type 0} (Outside : Type 0) (Shows : BookView → Option T
 -- a look at the stripe of a number
 abbrev pub IsStripeLook : {T : Type 0} → ℕ → (BookView → StripeNo → Option T) → Option BookView → Option BookView → ℕ → T → T → Type 0
 IsStripeLook number shown = IsLook (4096 ≤ number) (λ b found. AtStripe number (λ s. shown b s ≡ found))
-
--- these are the first rows, `count` in number, and the rows after them are as before
-abbrev pub AreFirstRows : List LrcRisk → ℕ → List LrcRisk → List LrcRisk → Type 0
-AreFirstRows rows count before after = (count ≡ length rows) × (after ≡ rows ++ drop count before)
-
--- the node of a number
-abbrev pub node_no : ℕ → NodeNo
-node_no number = record { value = number }
 
 -- no session has this number
 abbrev pub IsOutside : ℕ → Type 0

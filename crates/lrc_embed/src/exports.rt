@@ -2,10 +2,15 @@
 //! `lrc_embed_open`, `lrc_embed_open_image` and `lrc_embed_replay` may write where a text or an entry was refused.
 
 mod call;
+mod forecast;
 mod forget;
 mod history;
 mod image;
 mod looks;
+mod names;
 mod open;
 mod open_image;
+mod place;
 mod replay;
+mod risk;
+mod walks;

@@ -2,7 +2,6 @@
 //! records that they read and write.
 #![tactic(auto)]
 
-mod error;
 mod exports;
 mod handle;
 mod loose;

@@ -18,6 +18,8 @@ pub(crate) const OUT_OF_MEMORY: u32 = 6;
 pub(crate) const SHORT: u32 = 7;
 /// The reply is not that of the entry.
 pub(crate) const DIFFERENT: u32 = 8;
+/// The history has grown otherwise since the caller last saw it.
+pub(crate) const MOVED: u32 = 9;
 /// The text is not TOML 1.1 in UTF-8.
 pub(crate) const SYNTAX: u32 = 16;
 /// The text lists no nodes.

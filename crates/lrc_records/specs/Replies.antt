@@ -12,6 +12,7 @@ use Rattle.lrc_rules.specs.declared.entry.Entry.{Entry}
 use Rattle.lrc_records.specs.Commands.{encoded_command}
 use Rattle.lrc_records.specs.declared.seat.LrcSeat.{LrcSeat}
 use Rattle.lrc_records.specs.declared.lease.LrcLease.{LrcLease}
+use Rattle.lrc_records.specs.declared.repair.LrcRepairPlan.{LrcRepairPlan}
 use Rattle.lrc_records.specs.declared.reply.LrcReply.{LrcReply}
 use Rattle.lrc_records.specs.declared.entry.LrcEntry.{LrcEntry}
 
@@ -38,6 +39,10 @@ encoded_repair (Local sources) = (1, map (λ f. f.value) sources)
 encoded_repair Global = (2, replicate 6 0)
 encoded_repair Move = (3, replicate 6 0)
 encoded_repair (Local3 sources) = (4, map (λ f. f.value) sources ++ replicate 3 0)
+
+-- the struct of a kind of repair
+abbrev pub repair_plan : Kind → LrcRepairPlan
+repair_plan k = record { repair = (encoded_repair k).0; sources = (encoded_repair k).1; reserved = 0 }
 
 -- the number of a refusal, and the number that it names, or 0
 abbrev pub encoded_refusal : Refusal → ℕ × ℕ

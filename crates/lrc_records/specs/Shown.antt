@@ -1,17 +1,26 @@
 -- The structs of what a book shows.
 use Rattle.std.specs.Prelude.{ℕ, Bool, if◌then◌else◌, List, map, replicate, Option, Some, None}
+use Rattle.lrc_code.specs.declared.codes.Code.{Code}
+use Rattle.lrc_code.specs.declared.codes.Code.TheVariants.{Wide, Narrow}
+use Rattle.lrc_code.specs.declared.losses.LossMask.{LossMask}
 use Rattle.lrc_code.specs.declared.numbers.StripeNo.{StripeNo}
+use Rattle.lrc_topology.specs.declared.NodeInfo.{NodeInfo}
 use Rattle.lrc_topology.specs.declared.seat.Seat.{Seat}
 use Rattle.lrc_terms.specs.declared.level.Level.{Level}
 use Rattle.lrc_terms.specs.declared.level.Level.TheVariants as level
 use Rattle.lrc_terms.specs.declared.mode.Mode.{Mode}
 use Rattle.lrc_terms.specs.declared.mode.Mode.TheVariants.{Active, Draining, Gone}
+use Rattle.lrc_terms.specs.Stripes.{StripeFragment, StripeLevel}
 use Rattle.lrc_records.specs.Replies.{encoded_seat, no_seat}
 use Rattle.lrc_records.specs.declared.home.LrcHome.{LrcHome}
 use Rattle.lrc_records.specs.declared.home.LrcHomes.{LrcHomes}
 use Rattle.lrc_records.specs.declared.level.LrcLevel.{LrcLevel}
 use Rattle.lrc_records.specs.declared.mode.LrcMode.{LrcMode}
 use Rattle.lrc_records.specs.declared.risk.LrcRisk.{LrcRisk}
+use Rattle.lrc_records.specs.declared.fragment.LrcFragment.{LrcFragment}
+use Rattle.lrc_records.specs.declared.stripe.LrcStripe.{LrcStripe}
+use Rattle.lrc_records.specs.declared.node.LrcNode.{LrcNode}
+use Rattle.lrc_records.specs.declared.outlook.LrcOutlook.{LrcOutlook}
 
 -- 1 for true
 abbrev pub flag : Bool → ℕ
@@ -31,7 +40,7 @@ encoded_level (level.AtRisk m) = record { kind = 2; margin = m; reserved = repli
 encoded_level level.Unavailable = record { kind = 3; margin = 0; reserved = replicate 2 0 }
 encoded_level level.Lost = record { kind = 4; margin = 0; reserved = replicate 2 0 }
 
-abbrev pub encoded_risk : StripeNo × Level → LrcRisk
+abbrev pub encoded_risk : StripeLevel → LrcRisk
 encoded_risk row = record { stripe = row.0.value; reserved = replicate 2 0; level = encoded_level row.1 }
 
 -- the number of a mode
@@ -42,3 +51,40 @@ mode_number Gone = 3
 
 abbrev pub encoded_mode : Mode × Bool → LrcMode
 encoded_mode shown = record { mode = mode_number shown.0; is_online = flag shown.1; reserved = replicate 2 0 }
+
+-- the number of a code
+abbrev pub encoded_code : Code → ℕ
+encoded_code Wide = 1
+encoded_code Narrow = 2
+
+abbrev pub encoded_fragment : StripeFragment → LrcFragment
+encoded_fragment p = record { stripe = p.0.value; fragment = p.1.value; reserved = 0 }
+
+abbrev pub encoded_stripe : StripeNo → Code → LossMask → Level → LrcStripe
+encoded_stripe s code missing l =
+    record { stripe = s.value; missing = missing.bits; code = encoded_code code; reserved = replicate 3 0; level = encoded_level l }
+
+-- a node, with its mode and whether it is online, whether it is down, and its load
+abbrev pub encoded_node : NodeInfo → Mode × Bool → Bool → ℕ → LrcNode
+encoded_node n shown is_down load = record {
+  number = n.number.value;
+  slots = n.slots;
+  load = load;
+  fault = n.fault.value;
+  upgrade = n.upgrade.value;
+  mode = mode_number shown.0;
+  is_online = flag shown.1;
+  is_down = flag is_down;
+  reserved = replicate 3 0;
+}
+
+-- what becomes of a stripe from one level to another, with these missing fragments
+abbrev pub encoded_outlook : StripeNo → Code → LossMask → Level → Level → LrcOutlook
+encoded_outlook s code missing before after = record {
+  stripe = s.value;
+  missing = missing.bits;
+  code = encoded_code code;
+  reserved = replicate 3 0;
+  before = encoded_level before;
+  after = encoded_level after;
+}

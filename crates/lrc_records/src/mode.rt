@@ -1,5 +1,5 @@
 ghost use Rattle.std.specs.Prelude.{◌≡◌};
-ghost use Rattle.lrc_records.specs.Shown.{encoded_mode};
+ghost use Rattle.lrc_records.specs.Shown.{flag, mode_number, encoded_mode};
 
 use lrc_rules::Mode;
 
@@ -18,15 +18,28 @@ impl LrcMode {
         ensures { result ≡ encoded_mode found }
     {
         let (mode, is_online) = found;
-        let mode = match mode {
-            Mode::Active => 1,
-            Mode::Draining => 2,
-            Mode::Gone => 3,
-        };
         LrcMode {
-            mode,
-            is_online: if is_online { 1 } else { 0 },
+            mode: mode_number(mode),
+            is_online: flag(is_online),
             reserved: [0; 2],
         }
     }
+}
+
+/// The number of a mode.
+pub(crate) fn mode_number(mode: Mode) -> u8
+    ensures { result ≡ mode_number mode }
+{
+    match mode {
+        Mode::Active => 1,
+        Mode::Draining => 2,
+        Mode::Gone => 3,
+    }
+}
+
+/// 1 for true, 0 for false.
+pub fn flag(value: bool) -> u8
+    ensures { result ≡ flag value }
+{
+    if value { 1 } else { 0 }
 }

@@ -1,11 +1,11 @@
-ghost use Rattle.std.specs.Prelude.{◌≡◌, ◌↔◌, ◌-◌, ◌≤◌, ◌++◌, true, length, map, replicate};
-ghost use Rattle.lrc_records.specs.Replies.{encoded_repair, encoded_refusal, encoded_reply};
+ghost use Rattle.std.specs.Prelude.{◌≡◌, ◌↔◌, true};
+ghost use Rattle.lrc_records.specs.Replies.{encoded_refusal, encoded_reply};
 
+use crate::repair::repair_of;
 use crate::{LrcLease, LrcSeat};
-use lrc_code::Fragment;
-use lrc_rules::{Kind, Refusal, Reply};
+use lrc_rules::{Refusal, Reply};
 
-/// A reply. `set` has the kinds, and `set_repair` those of a repair. A field that the kind does not use is 0.
+/// A reply. `set` has the kinds, and `repair_of` those of a repair. A field that the kind does not use is 0.
 #[repr(C)]
 #[derive(Clone, Copy, PartialEq, Eq)]
 pub struct LrcReply {
@@ -60,7 +60,7 @@ impl LrcReply {
             Reply::Granted(lease, kind) => {
                 self.kind = 3;
                 self.lease = LrcLease::in_reply(lease);
-                self.set_repair(kind);
+                (self.repair, self.sources) = repair_of(kind);
             }
             Reply::Idle => self.kind = 4,
             Reply::Ended => self.kind = 5,
@@ -88,37 +88,6 @@ impl LrcReply {
     {
         LrcReply::of(reply) == *self
     }
-
-    /// Writes the number of a kind of repair, and the fragments that it reads. The sources are still 0.
-    fn set_repair(&mut self, kind: &Kind)
-        requires { self.old.sources ≡ replicate 6 0 }
-        ensures { self.new ≡ record self.old { repair = (encoded_repair kind.now).0; sources = (encoded_repair kind.now).1 } }
-    {
-        match kind {
-            Kind::Local(sources) => {
-                self.repair = 1;
-                self.sources = numbers_of(sources);
-            }
-            Kind::Global => self.repair = 2,
-            Kind::Move => self.repair = 3,
-            Kind::Local3(sources) => {
-                self.repair = 4;
-                self.sources = numbers_of(sources);
-            }
-        }
-    }
-}
-
-/// The numbers of the fragments, and 0 after them.
-fn numbers_of(fragments: &[Fragment]) -> [u8; 6]
-    requires few { length fragments.now ≤ 6 }
-    ensures { result ≡ map (λ f. f.value) fragments.now ++ replicate (6 - length fragments.now) 0 }
-{
-    let mut numbers = [0; 6];
-    for (i, fragment) in fragments.iter().enumerate() {
-        numbers[i] = fragment.value;
-    }
-    numbers
 }
 
 /// The number of a refusal, and the number that it names, or 0.

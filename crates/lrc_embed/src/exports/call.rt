@@ -95,7 +95,12 @@ fn decide(book: &Book, session: SessionNo, command: Command, reply: &mut LrcRepl
 }
 
 /// Makes one step, and writes its reply.
-fn step(book: &mut Book, session: SessionNo, command: Command, reply: &mut LrcReply) -> u32
+pub(super) fn step(
+    book: &mut Book,
+    session: SessionNo,
+    command: Command,
+    reply: &mut LrcReply,
+) -> u32
     ensures done { (result ≡ 0) → IsStepOf book.old session command reply.new book.new }
     ensures unchanged { (result ≢ 0) → contents (Some book.new) ≡ contents (Some book.old) }
     ensures full { (result ≡ 5) ↔ (length book.old.history ≡ book.old.limit) }

@@ -5,8 +5,8 @@ ghost use Rattle.lrc_embed.specs.Calls.{Of, IsLook};
 use crate::LrcHandle;
 use crate::exports::looks::look;
 use crate::status::{DONE, IS_CLOSED};
-use lrc_book::{Book, Entry};
 use lrc_records::LrcEntry;
+use lrc_walks::entry_at;
 use std::alloc::Global;
 
 /// The number of entries of the history.
@@ -42,12 +42,4 @@ pub extern "C" fn lrc_embed_entry(
         entry,
         |book| Some(LrcEntry::of(&entry_at(book, index)?)),
     )
-}
-
-/// The entry of a book's history at an index, if there is one.
-fn entry_at(book: &Book, index: usize) -> Option<Entry>
-    ensures { result ≡ slice_get book.now.history index }
-{
-    let record = book.history().get(index)?;
-    Some(record.entry())
 }

@@ -1,13 +1,13 @@
-ghost use Rattle.std.specs.Prelude.{◌≡◌, ◌≢◌, ◌≤◌, ◌<◌, ◌+◌, ◌++◌, ◌⊎◌, ◌↔◌, List, ℕ, true, is_some, None, length, drop, IfOk, IsErrOf};
-ghost use Rattle.lrc_code.specs.declared.fault.Fault.TheVariants as fault;
+ghost use Rattle.std.specs.Prelude.{◌≡◌, ◌≢◌, ◌<◌, ◌++◌, ◌⊎◌, ◌↔◌, List, ℕ, true, is_some, None, length, drop};
 ghost use Rattle.lrc_book.specs.Books.{IsSpent};
-ghost use Rattle.lrc_embed.specs.Calls.{Of, IsImageText};
+ghost use Rattle.lrc_openings.specs.ImageTexts.{IsImageText};
+ghost use Rattle.lrc_embed.specs.Calls.{Of};
 
 use crate::LrcHandle;
 use crate::status::{DONE, FULL, IS_CLOSED, OUT_OF_MEMORY, SHORT};
 use lrc_book::Book;
 use lrc_code::Fault;
-use lrc_image_text::push_image;
+use lrc_openings::image_text;
 use std::alloc::Global;
 
 /// The image of the book as a text. It fills the first `length` bytes. If there is less room, nothing is written but
@@ -55,7 +55,7 @@ fn write_image(alloc: Global, book: &Book, text: &mut [u8], needed: &mut usize) 
 }
 
 /// Writes a text into the first bytes of a buffer, if it has room for it, and the length of the text.
-fn put_text(image: &[u8], text: &mut [u8], needed: &mut usize) -> u32
+pub(super) fn put_text(image: &[u8], text: &mut [u8], needed: &mut usize) -> u32
     ensures needed { needed.new ≡ length image.now }
     ensures done { (result ≡ 0) → text.new ≡ image.now ++ drop (length image.now) text.old }
     ensures short { (result ≡ 7) → (text.new ≡ text.old) × (length text.old < length image.now) }
@@ -67,15 +67,4 @@ fn put_text(image: &[u8], text: &mut [u8], needed: &mut usize) -> u32
     }
     text[..image.len()].copy_from_slice(image);
     DONE
-}
-
-/// The text of the image of a book.
-fn image_text(alloc: Global, book: &Book) -> Result<Vec<u8>, Fault>
-    ensures value { IfOk result (λ text. IsImageText book.now text.items) }
-    ensures full { IsErrOf result fault.HistoryFull ↔ IsSpent book.now }
-{
-    let image = book.image(alloc)?;
-    let mut text = Vec::new(alloc);
-    push_image(&mut text, &image)?;
-    Ok(text)
 }

@@ -1,18 +1,19 @@
-ghost use Rattle.std.specs.Prelude.{◌≡◌, ◌≢◌, ◌≤◌, ◌<◌, ◌⊎◌, true, is_some, None, option_map, length, map};
+ghost use Rattle.std.specs.Prelude.{◌≡◌, ◌≢◌, ◌≤◌, ◌⊎◌, None, option_map};
 ghost use Rattle.std.specs.Fn.{FnOnceReturnsAt};
 ghost use Rattle.lrc_book.specs.Books.{state_of};
 ghost use Rattle.lrc_rules.specs.States.{code_shown, homes_shown, level_shown, missing_shown, lease_of, load_shown, mode_shown};
-ghost use Rattle.lrc_rules.specs.Urgency.{risk};
-ghost use Rattle.lrc_records.specs.Replies.{encoded_lease};
-ghost use Rattle.lrc_records.specs.Shown.{encoded_homes, encoded_level, encoded_risk, encoded_mode};
-ghost use Rattle.lrc_embed.specs.Calls.{Of, AtFragment, IsLook, IsStripeLook, AreFirstRows, node_no};
-ghost use Rattle.lrc_embed.specs.Looks.{encoded_code};
+ghost use Rattle.lrc_book.specs.Looks.{down_shown, kind_shown};
+ghost use Rattle.lrc_records.specs.Replies.{encoded_lease, repair_plan};
+ghost use Rattle.lrc_records.specs.Shown.{flag, encoded_code, encoded_homes, encoded_level, encoded_mode};
+ghost use Rattle.lrc_images.specs.Rows.{node_no};
+ghost use Rattle.lrc_embed.specs.Calls.{Of, AtFragment, IsLook, IsStripeLook};
 
 use crate::LrcHandle;
-use crate::status::{DONE, IS_CLOSED, OUT_OF_MEMORY, OUT_OF_RANGE, SHORT, UNKNOWN};
-use lrc_book::{Book, Level};
-use lrc_code::{Code, Fragment, NodeNo, StripeNo};
-use lrc_records::{LrcHomes, LrcLease, LrcLevel, LrcMode, LrcRisk};
+use crate::status::{DONE, IS_CLOSED, OUT_OF_RANGE, UNKNOWN};
+use lrc_book::Book;
+use lrc_code::{Fragment, NodeNo, StripeNo};
+use lrc_records::{LrcHomes, LrcLease, LrcLevel, LrcMode, LrcRepairPlan, code_number};
+use lrc_walks::{down_of, mode_of};
 use std::alloc::Global;
 
 /// Writes what is found in the book of an open handle, if something is.
@@ -119,18 +120,8 @@ pub extern "C" fn lrc_embed_code(
         alloc,
         handle,
         code,
-        |book| Some(number_of(book.code(stripe)?)),
+        |book| Some(code_number(book.code(stripe)?)),
     )
-}
-
-/// The number of a code.
-fn number_of(code: Code) -> u8
-    ensures { result ≡ encoded_code code }
-{
-    match code {
-        Code::Wide => 1,
-        Code::Narrow => 2,
-    }
 }
 
 /// The live lease of a fragment of a stripe.
@@ -155,6 +146,31 @@ pub extern "C" fn lrc_embed_lease(
         handle,
         lease,
         |book| Some(LrcLease::of(&book.lease(stripe, fragment)?)),
+    )
+}
+
+/// How a fragment that needs a lease is rebuilt, whether or not it has one.
+#[unsafe(no_mangle)]
+pub extern "C" fn lrc_embed_repair(
+    alloc: Global,
+    handle: &mut LrcHandle,
+    stripe: u16,
+    fragment: u8,
+    plan: &mut LrcRepairPlan,
+) -> u32
+    ensures { IsLook ((4096 ≤ stripe) ⊎ (16 ≤ fragment)) (λ b found. AtFragment stripe fragment (λ s f. option_map repair_plan (kind_shown b.nodes (state_of b) s f) ≡ found)) handle.old.owned.book handle.new.owned.book result plan.old plan.new }
+{
+    let Some(stripe) = StripeNo::new(stripe) else {
+        return OUT_OF_RANGE;
+    };
+    let Some(fragment) = Fragment::new(fragment) else {
+        return OUT_OF_RANGE;
+    };
+    look(
+        alloc,
+        handle,
+        plan,
+        |book| Some(LrcRepairPlan::of(&book.kind(stripe, fragment)?)),
     )
 }
 
@@ -194,11 +210,30 @@ pub extern "C" fn lrc_embed_mode(
     )
 }
 
-/// The mode of a node, if there is such a node.
-fn mode_of(book: &Book, node: NodeNo) -> Option<LrcMode>
-    ensures { result ≡ option_map encoded_mode (mode_shown book.now.nodes (state_of book.now) node) }
+/// Whether a node is down: 1 if it is, else 0.
+#[unsafe(no_mangle)]
+pub extern "C" fn lrc_embed_is_down(
+    alloc: Global,
+    handle: &mut LrcHandle,
+    node: u16,
+    is_down: &mut u8,
+) -> u32
+    ensures { IsLook ⊥ (λ b found. option_map flag (down_shown b.nodes (state_of b) (node_no node)) ≡ found) handle.old.owned.book handle.new.owned.book result is_down.old is_down.new }
 {
-    Some(LrcMode::of(book.mode(node)?))
+    look(
+        alloc,
+        handle,
+        is_down,
+        |book| down_of(book, NodeNo { value: node }),
+    )
+}
+
+/// The upgrade domain that is upgrading, if one is.
+#[unsafe(no_mangle)]
+pub extern "C" fn lrc_embed_upgrading(alloc: Global, handle: &mut LrcHandle, domain: &mut u8) -> u32
+    ensures { IsLook ⊥ (λ b found. option_map (λ u. u.value) (state_of b).upgrading ≡ found) handle.old.owned.book handle.new.owned.book result domain.old domain.new }
+{
+    look(alloc, handle, domain, |book| Some(book.upgrading()?.value))
 }
 
 /// The number of ticks. A live lease ends when the clock reaches its expiry.
@@ -216,48 +251,4 @@ pub extern "C" fn lrc_embed_clock(alloc: Global, handle: &mut LrcHandle, clock: 
     *clock = book.clock();
     handle.put(book);
     DONE
-}
-
-/// The stripes that are not whole, with their levels, in the order of repair: by rank, and by number. They fill the first
-/// `count` rows.
-#[unsafe(no_mangle)]
-pub extern "C" fn lrc_embed_risk(
-    alloc: Global,
-    handle: &mut LrcHandle,
-    rows: &mut [LrcRisk],
-    count: &mut usize,
-) -> u32
-    ensures same { handle.new.owned.book ≡ handle.old.owned.book }
-    ensures rows { (result ≡ 0) → Of handle.old.owned.book (λ b. AreFirstRows (map encoded_risk (risk b.nodes (state_of b))) count.new rows.old rows.new) }
-    ensures short { (result ≡ 7) → Of handle.old.owned.book (λ b. length rows.old < length (risk b.nodes (state_of b))) }
-    ensures closed { (result ≡ 1) → handle.old.owned.book ≡ None }
-    // A closed handle returns 1, without a request for memory.
-    ensures memory { (result ≡ 6) → is_some handle.old.owned.book ≡ true }
-    ensures statuses { (result ≡ 0) ⊎ (result ≡ 1) ⊎ (result ≡ 6) ⊎ (result ≡ 7) }
-    ensures unwritten { (result ≢ 0) → (rows.new ≡ rows.old) × (count.new ≡ count.old) }
-{
-    let Some(book) = handle.take(alloc) else {
-        return IS_CLOSED;
-    };
-    let risk = book.risk(alloc);
-    handle.put(book);
-    match risk {
-        Ok(risk) if risk.len() <= rows.len() => {
-            put_rows(risk.as_slice(), rows);
-            *count = risk.len();
-            DONE
-        }
-        Ok(_) => SHORT,
-        Err(_) => OUT_OF_MEMORY,
-    }
-}
-
-/// Writes the stripes at risk into the first rows.
-fn put_rows(risk: &[(StripeNo, Level)], rows: &mut [LrcRisk])
-    requires room { length risk.now ≤ length rows.old }
-    ensures { AreFirstRows (map encoded_risk risk.now) (length risk.now) rows.old rows.new }
-{
-    for (i, row) in risk.iter().enumerate() {
-        rows[i] = LrcRisk::of(*row);
-    }
 }

@@ -1,6 +1,6 @@
 ghost use Rattle.std.specs.Prelude.{◌≡◌, ◌≢◌, ◌≤◌, ◌<◌, ◌↔◌, ◌⊎◌, None, true, is_some};
 ghost use Rattle.lrc_embed.specs.Calls.{Of, IsNew, IsRefused};
-ghost use Rattle.lrc_embed.specs.Looks.{topology_status};
+ghost use Rattle.lrc_embed.specs.Statuses.{topology_status};
 
 use crate::LrcHandle;
 use crate::status::{
@@ -20,6 +20,18 @@ pub extern "C" fn lrc_embed_version() -> u32
     ensures { result ≡ 1 }
 {
     VERSION
+}
+
+/// The version of the rules: of what each command returns and changes.
+const RULES: u32 = 1;
+
+/// The version of the rules, which changes with what a command returns or changes. The same entries replay alike in all
+/// libraries of one version, and may differ in those of another.
+#[unsafe(no_mangle)]
+pub extern "C" fn lrc_embed_rules_version() -> u32
+    ensures { result ≡ 1 }
+{
+    RULES
 }
 
 /// Opens a closed handle with a book of the nodes of the text. Statuses 16 to 21 are the refusals of the text; `detail` is

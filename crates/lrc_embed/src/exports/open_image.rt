@@ -1,27 +1,19 @@
-ghost use Rattle.std.specs.Prelude.{◌≡◌, ◌≢◌, ◌≤◌, ◌<◌, ◌^◌, ◌↔◌, ◌⊎◌, [], None, true, is_some, IfOk, IfErr, IsOk};
+ghost use Rattle.std.specs.Prelude.{◌≡◌, ◌≢◌, ◌≤◌, ◌<◌, ◌↔◌, ◌⊎◌, true, is_some};
 ghost use Rattle.lrc_topology.specs.declared.error.TopologyError.{TopologyError};
 ghost use Rattle.lrc_images.specs.declared.cause.Cause.{Cause};
-ghost use Rattle.lrc_images.specs.Images.{image_world};
-ghost use Rattle.lrc_images.specs.Causes.{first_cause};
-ghost use Rattle.lrc_images.specs.Cuts.{row_count};
 ghost use Rattle.lrc_images.specs.CauseNumbers.{row_cause_number};
-ghost use Rattle.lrc_restore.specs.Stages.{IsRefusedBy};
 ghost use Rattle.lrc_image_text.specs.declared.error.ImageTextError.TheVariants.{BadLine};
-ghost use Rattle.lrc_image_text.specs.Texts.{row_line};
+ghost use Rattle.lrc_openings.specs.declared.error.OpenError.TheVariants.{Nodes, Text, Line};
+ghost use Rattle.lrc_openings.specs.Begun.{IsBegun, IsBadImage, IsInvalidImage};
 ghost use Rattle.lrc_embed.specs.Calls.{Of, IsRefused};
-ghost use Rattle.lrc_embed.specs.Begun.{IsBegun, IsBadImage, IsInvalidImage};
-ghost use Rattle.lrc_embed.specs.Looks.{topology_status};
-ghost use Rattle.lrc_embed.specs.Unopened.{IsUnopened};
-ghost use Rattle.lrc_embed.specs.declared.error.OpenError.TheVariants.{Nodes, Text, Line};
+ghost use Rattle.lrc_embed.specs.Statuses.{topology_status};
 
 use crate::LrcHandle;
-use crate::error::OpenError;
 use crate::exports::open::refusal_of;
 use crate::status::{BAD_LINE, DONE, INVALID_IMAGE, IS_OPEN, OUT_OF_MEMORY};
-use lrc_book::{BeginError, Book, Cause, Image};
-use lrc_code::UpgradeNo;
-use lrc_image_text::{ImageTextError, read_image, row_line};
-use lrc_topology::{Topology, TopologyError};
+use lrc_image_text::ImageTextError;
+use lrc_openings::{OpenError, begin};
+use lrc_topology::TopologyError;
 use std::alloc::Global;
 
 /// Opens a closed handle with a book over the nodes of one text that begins in the image of the other. Statuses 16 to 21
@@ -56,50 +48,6 @@ pub extern "C" fn lrc_embed_open_image(
         }
         Err(error) => report(error, detail, cause),
     }
-}
-
-/// Begins a book over the nodes of one text in the image of the other.
-fn begin(alloc: Global, nodes: &[u8], text: &[u8]) -> Result<Box<Book>, OpenError>
-    ensures begun { IfOk result (λ b. IsBegun nodes.now text.now b.value) }
-    ensures refused { IfErr result (IsUnopened nodes.now text.now) }
-{
-    let topology = Topology::read(alloc, nodes)?;
-    let image = read_image(alloc, text)?;
-    let upgrading = upgrading_in(&image);
-    match begin_boxed(alloc, topology, image) {
-        Ok(book) => Ok(book),
-        Err(BeginError::Refused(position, cause)) => {
-            Err(OpenError::Line(line_of(upgrading, position, cause), cause))
-        }
-        Err(BeginError::OutOfMemory) => Err(OpenError::OutOfMemory),
-    }
-}
-
-/// Begins a book in an image, in a box.
-fn begin_boxed(alloc: Global, topology: Topology, image: Image) -> Result<Box<Book>, BeginError>
-    ensures value { IfOk result (λ b. (b.value.nodes ≡ topology) × (b.value.limit ≡ 1000000) × (b.value.history ≡ []) × (b.value.base ≡ image_world image) × (b.value.before ≡ image.before)) }
-    ensures lawful { IsOk result → first_cause topology image ≡ None }
-    ensures refused { IfErr result (IsRefusedBy (first_cause topology image)) }
-{
-    let book = Book::begin(alloc, topology, image)?;
-    Ok(Box::new(alloc, book)?)
-}
-
-/// The upgrade domain that is upgrading in an image. The rows of an image in memory are few.
-fn upgrading_in(image: &Image) -> Option<UpgradeNo>
-    requires room { row_count image.now < 2 ^ 63 }
-    ensures value { result ≡ image.now.upgrading }
-    ensures room { row_count image.now < 2 ^ 63 }
-{
-    image.upgrading
-}
-
-/// The line at the position of a cause.
-fn line_of(upgrading: Option<UpgradeNo>, position: usize, cause: Cause) -> usize
-    requires room { position < 2 ^ 63 }
-    ensures { result ≡ row_line upgrading position cause }
-{
-    row_line(upgrading, position, cause) as usize
 }
 
 /// Writes why no book began, and returns the status.

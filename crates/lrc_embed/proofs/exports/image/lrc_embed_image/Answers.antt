@@ -1,6 +1,6 @@
-use Rattle.std.proofs.Common.{◌≡◌, ◌↔◌, ◌++◌, ◌<◌, List, ℕ, length, drop, subst}
+use Rattle.std.proofs.Common.{◌≡◌, ◌↔◌, subst}
 use Rattle.lrc_book.specs.Books.{BookView, IsSpent}
-use Rattle.lrc_embed.specs.Calls.{IsImageText}
+use Rattle.lrc_openings.specs.ImageTexts.{IsImageText}
 use Rattle.lrc_embed.proofs.OfLemmas.{of_some}
 use Rattle.lrc_embed.proofs.exports.image.lrc_embed_image.Goals as goal
 

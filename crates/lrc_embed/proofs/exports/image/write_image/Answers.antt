@@ -1,5 +1,5 @@
 use Rattle.std.proofs.Common.{sym, subst}
-use Rattle.lrc_embed.specs.Calls.{IsImageText}
+use Rattle.lrc_openings.specs.ImageTexts.{IsImageText}
 use Rattle.lrc_embed.proofs.exports.image.write_image.Goals as goal
 
 pub returns-in-Ok-clause-done : goal.returns-in-Ok-clause-done

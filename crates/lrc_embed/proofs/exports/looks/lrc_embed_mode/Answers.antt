@@ -2,7 +2,7 @@ use Rattle.std.proofs.Common.{◌≡◌, option_map, subst, rules}
 use Rattle.lrc_book.specs.Books.{BookView, state_of}
 use Rattle.lrc_rules.specs.States.{mode_shown}
 use Rattle.lrc_records.specs.Shown.{encoded_mode}
-use Rattle.lrc_embed.specs.Calls.{node_no}
+use Rattle.lrc_images.specs.Rows.{node_no}
 use Rattle.lrc_embed.proofs.LookLemmas.{look_by}
 use Rattle.lrc_embed.proofs.exports.looks.lrc_embed_mode.Goals as goal
 

@@ -1,0 +1,4 @@
+pub mod FoundLemmas
+pub mod PlaceLemmas
+pub mod RowLemmas
+pub mod WalkLemmas

@@ -1,0 +1,10 @@
+pub use Rattle.lrc_topology.specs.Nodes
+pub use Rattle.lrc_rules.specs.States
+pub use Rattle.lrc_images.specs.Rows
+pub use Rattle.lrc_book.specs.Books
+pub use Rattle.lrc_book.specs.Looks
+pub use Rattle.lrc_forecast.specs.Forecasts
+pub use Rattle.lrc_records.specs.Replies
+pub use Rattle.lrc_records.specs.Shown
+pub mod Outages
+pub mod Walks
