@@ -1,0 +1,82 @@
+// What the stores in C++ share: calls that have to be done, commands, nodes as a text, and a history that is never full.
+#ifndef CALLS_H
+#define CALLS_H
+
+#include "lrc_embed.h"
+
+#include <stdexcept>
+#include <string>
+
+// A status of the library other than LRC_DONE.
+struct Fault : std::runtime_error {
+    Fault(const char *what, std::uint32_t status)
+        : std::runtime_error(std::string(what) + ": status " + std::to_string(status)) {}
+};
+inline void expect_done(const char *what, std::uint32_t status) {
+    if (status != LRC_DONE) throw Fault(what, status);
+}
+
+inline lrc_command of_kind(lrc_command_kind kind) {
+    lrc_command command{};
+    command.kind = static_cast<std::uint8_t>(kind);
+    return command;
+}
+inline lrc_command of_stripe(lrc_command_kind kind, std::uint16_t stripe) {
+    auto command = of_kind(kind);
+    command.stripe = stripe;
+    return command;
+}
+inline lrc_command of_node(lrc_command_kind kind, std::uint16_t node) {
+    auto command = of_kind(kind);
+    command.node = node;
+    return command;
+}
+inline lrc_command of_domain(lrc_command_kind kind, std::uint8_t domain) {
+    auto command = of_kind(kind);
+    command.domain = domain;
+    return command;
+}
+inline lrc_command report_of(const lrc_lease &lease) {
+    auto command = of_stripe(LRC_REPORT, lease.stripe);
+    command.fragment = lease.fragment;
+    command.epoch = lease.epoch;
+    return command;
+}
+
+// The text of one node of the list.
+inline std::string node_text(std::size_t number, std::size_t fault, std::size_t upgrade, std::size_t slots) {
+    return "[[node]]\nnumber = " + std::to_string(number) + "\nfault = " + std::to_string(fault) +
+           "\nupgrade = " + std::to_string(upgrade) + "\nslots = " + std::to_string(slots) + "\n";
+}
+
+inline void open_book(lrc_handle *handle, const std::string &nodes) {
+    std::size_t detail = 0;
+    auto text = reinterpret_cast<const std::uint8_t *>(nodes.data());
+    expect_done("open", lrc_embed_open(handle, text, nodes.size(), &detail));
+}
+inline lrc_reply call_book(lrc_handle *handle, std::uint8_t session, const lrc_command &command) {
+    lrc_reply reply{};
+    expect_done("call", lrc_embed_call(handle, session, &command, &reply));
+    return reply;
+}
+inline lrc_reply peek_book(lrc_handle *handle, std::uint8_t session, const lrc_command &command) {
+    lrc_reply reply{};
+    expect_done("peek", lrc_embed_peek(handle, session, &command, &reply));
+    return reply;
+}
+// The entry of the last call, for the log.
+inline lrc_entry last_entry(lrc_handle *handle) {
+    std::size_t count = 0;
+    lrc_entry entry{};
+    expect_done("count", lrc_embed_count(handle, &count));
+    expect_done("entry", lrc_embed_entry(handle, count - 1, &entry));
+    return entry;
+}
+// Forgets the history long before it is full. The caller has the entries.
+inline void forget_in_time(lrc_handle *handle) {
+    std::size_t count = 0;
+    expect_done("count", lrc_embed_count(handle, &count));
+    if (count >= LRC_HISTORY_LIMIT / 2) expect_done("forget", lrc_embed_forget(handle));
+}
+
+#endif

@@ -1,0 +1,159 @@
+"""What the tests of the stores share: requests with the replies of the model in tests/rules.py, and stores that run."""
+import os
+import shutil
+import signal
+import subprocess
+import sys
+import threading
+import time
+import zlib
+
+import draws
+import harness
+import rules
+from comparing import STRIPES, Differs, compare
+from library import FIELDS, command_of, lrc_embed
+
+sys.path.append(os.path.join(harness.TOP, "bench"))
+import store  # the model with indexes, so that thousands of calls take seconds
+
+STORES = os.path.join(harness.EXAMPLES, "stores")
+INCLUDE = f"{harness.TOP}/crates/lrc_embed/include"
+CXX = os.environ.get("CXX", "c++")
+NODES = harness.nodes_in_order(20, 16)
+TOPOLOGY = harness.topology_of(NODES)
+
+
+def left_out(what, why):
+    print(f"{what}: {why}, left out", flush=True)
+
+
+def compile_store(count, source, folder, program, *flags):
+    """Compiles a store in C++ with the library, and returns the program; None if that fails, or there is no compiler."""
+    if not shutil.which(CXX):
+        left_out(source, f"no {CXX} on this machine")
+        return None
+    warnings = ["-Wall", "-Wextra", "-Wpedantic", "-Wconversion", "-Werror"]
+    files = ["-o", program, f"{STORES}/{source}", f"{folder}/liblrc_embed.a"]
+    compiled = count.run(source, CXX, "-std=c++17", "-O2", *warnings, f"-I{INCLUDE}", *files, *flags)
+    return program if compiled is not None else None
+
+
+def line_of(command):
+    """The line of a command, as scripts have it."""
+    kind = lrc_embed.CommandKind(command.kind)
+    word = "done" if kind is kind.REPORT else kind.name.lower()
+    return " ".join([word, *(str(getattr(command, name)) for name in FIELDS.get(word, ["node"]))])
+
+
+def model_of(nodes, entries):
+    """The model after the calls of entries, which are bytes, and a line for each reply that is not the model's."""
+    model, wrong = store.Store(nodes), []
+    for number, entry in enumerate(map(lrc_embed.Entry.from_buffer_copy, entries), 1):
+        line = line_of(entry.command)
+        right = model.call(entry.session, line)
+        if str(entry.reply) != right:
+            wrong.append(f"entry {number}, `{line}` by {entry.session}: {entry.reply}, and not {right}")
+    return model, wrong
+
+
+class Requests:
+    """Requests in the order in which they are sent, and what has to come of them if each is made once and none is lost."""
+
+    def __init__(self, seed, count):
+        self.model, row = rules.Store(NODES), draws.numbers(seed)
+        within = draws.Range(STRIPES, [*NODES, 65535], range(12))
+        self.calls = []  # the session, the command and the reply of each
+        for _ in range(count):
+            session, line = draws.drawn_call(self.model, row, within)
+            self.calls.append((session, line, self.model.call(session, line)))
+
+    def sent(self, begin, end):
+        """The text of requests. Each has a token of its own."""
+        calls = enumerate(self.calls[begin:end], begin)
+        return "".join(f"r{at} {session} {line}\n" for at, (session, line, _) in calls)
+
+    def told(self, begin, end):
+        """The lines that answer them."""
+        return [f"r{at} {at + 1} {reply}" for at, (_, _, reply) in enumerate(self.calls[begin:end], begin)]
+
+    def check_log(self, count, name, library, rows):
+        """A log has each call once, in order: rows of number, token, bytes of the entry, checksum. Its replay gives the state
+        of the model, in all that a book reports."""
+        wrong = []
+        for at, ((number, token, data, checksum), (session, line, reply)) in enumerate(zip(rows, self.calls)):
+            entry = lrc_embed.Entry.from_buffer_copy(data)
+            found = number, token, entry.session, bytes(entry.command), str(entry.reply), checksum
+            if found != (at + 1, f"r{at}", session, bytes(command_of(line)), reply, zlib.crc32(data)):
+                wrong.append(f"{name}: record {at + 1}: {found}")
+        count.check(f"{name}: {len(rows)} records of {len(self.calls)} calls", len(rows) == len(self.calls))
+        count.add(len(rows) - len(wrong), wrong)
+        try:
+            with lrc_embed.Book(library, TOPOLOGY, b"".join(row[2] for row in rows)) as book:
+                compare(book, self.model, len(self.calls))
+            count.passed += 1
+        except (Differs, lrc_embed.Fault) as differs:
+            count.check(f"{name}: the replay: {differs}", False)
+
+
+class Running:
+    """A store that runs as a process of its own, with its input and output. One that hangs is killed after a while."""
+
+    def __init__(self, *words, seconds=120, **how):
+        self.process = subprocess.Popen(list(map(str, words)), stdin=subprocess.PIPE, stdout=subprocess.PIPE,
+                                        stderr=subprocess.PIPE, text=True, **how)
+        self.guard = threading.Timer(seconds, self.process.kill)
+        self.guard.daemon = True
+        self.guard.start()
+
+    def send(self, text):
+        try:
+            self.process.stdin.write(text)
+            self.process.stdin.flush()
+        except BrokenPipeError:
+            pass  # it has ended, which is seen by what it prints
+
+    def lines(self, most):
+        """The next lines, at most so many. A line that was cut off was told to nobody."""
+        lines = []
+        while len(lines) < most and (line := self.process.stdout.readline()).endswith("\n"):
+            lines.append(line[:-1])
+        return lines
+
+    def line(self):
+        return next(iter(self.lines(1)), None)
+
+    def answers(self, requests, begin, end):
+        """The lines that answer requests. They are sent some hundred at a time, so that neither pipe is ever full."""
+        lines = []
+        for at in range(begin, end, 200):
+            last = min(at + 200, end)
+            self.send(requests.sent(at, last))
+            lines += self.lines(last - at)
+        return lines
+
+    def ask(self, text):
+        """The line that answers a line."""
+        self.send(text + "\n")
+        return self.line()
+
+    def kill(self, by=signal.SIGKILL):
+        """Kills it, and returns the lines that it had printed."""
+        self.process.send_signal(by)
+        return self.end()[0]
+
+    def end(self):
+        """Ends its input, and returns what is left of its output, its status, and the text of its errors."""
+        try:
+            self.process.stdin.close()
+        except BrokenPipeError:
+            pass
+        lines, errors = self.lines(sys.maxsize), self.process.stderr.read()
+        status = self.process.wait()
+        self.guard.cancel()
+        return lines, status, errors
+
+
+def pause(row, most):
+    """Waits for a drawn time, at most so many milliseconds."""
+    time.sleep(next(row) % 1000 / 1000 * most / 1000)

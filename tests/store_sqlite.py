@@ -1,0 +1,136 @@
+"""The store over SQLite, killed at drawn points, with a full disk, and with a log that was changed."""
+import ctypes
+import os
+import resource
+import shutil
+import sqlite3
+import sys
+from contextlib import closing
+from itertools import count as numbers_from
+
+import draws
+from store_requests import STORES, TOPOLOGY, Requests, Running, pause
+
+STORE = os.path.join(STORES, "sqlite", "store.py")
+
+
+class Place:
+    """A folder with the database of a store, and the words that run it."""
+
+    def __init__(self, library, room, name):
+        self.folder = os.path.join(room, name)
+        os.mkdir(self.folder)
+        self.database, nodes = f"{self.folder}/store.sqlite", f"{self.folder}/nodes.toml"
+        with open(nodes, "w", encoding="utf-8") as file:
+            file.write(TOPOLOGY)
+        self.words = [sys.executable, STORE, self.database, library, nodes]
+
+    def run(self, **how):
+        return Running(*self.words, **how)
+
+    def log(self):
+        return self.execute("SELECT number, token, entry, checksum FROM log ORDER BY number")
+
+    def copy(self, name):
+        """The same with a copy of its folder."""
+        other = Place.__new__(Place)
+        other.folder = f"{self.folder}-{name}"
+        shutil.copytree(self.folder, other.folder)
+        other.database = f"{other.folder}/store.sqlite"
+        other.words = [*self.words[:2], other.database, *self.words[3:]]
+        return other
+
+    def execute(self, command):
+        with closing(sqlite3.connect(self.database, isolation_level=None)) as database:
+            return database.execute(command).fetchall()
+
+
+def test_kills(count, library, place, requests, kills):
+    """The store is killed again and again while it makes the requests. Whoever was told nothing asks again. In the end each
+    call was made once, and each line that was told is the one of the model."""
+    row, told, killed = draws.numbers(3), 0, 0
+    for at in numbers_from():
+        store = place.run()
+        if at % 8 == 7:
+            pause(row, 150)  # while it starts, or replays
+        else:
+            kept = (store.line() or "ready -1").split()
+            count.check(f"sqlite: {kept} entries after a kill, and {told} were told", int(kept[1]) - told in (0, 1))
+            sent = min(told + 500, len(requests.calls))
+            store.send(requests.sent(told, sent))
+            lines = store.lines(min(next(row) % 200, sent - told))
+            check_told(count, requests, told, lines)
+            told += len(lines)
+            pause(row, 3)
+        lines = store.kill()
+        lines = [line for line in lines if not line.startswith("ready")]
+        check_told(count, requests, told, lines)
+        told, killed = told + len(lines), killed + 1
+        if killed >= kills or told >= len(requests.calls):
+            break
+    store = place.run()
+    store.line()
+    check_told(count, requests, told, store.answers(requests, told, len(requests.calls)))
+    _, status, errors = store.end()
+    count.check(f"sqlite: status {status}: {errors}", status == 0)
+    requests.check_log(count, "sqlite", ctypes.CDLL(library), place.log())
+    print(f"sqlite: {killed} kills, {len(requests.calls)} calls")
+
+
+def check_told(count, requests, begin, lines):
+    right = requests.told(begin, begin + len(lines))
+    wrong = [f"sqlite: told `{line}`, and not `{other}`" for line, other in zip(lines, right) if line != other]
+    count.add(len(lines) - len(wrong), wrong)
+
+
+def test_disk_full(count, library, place, requests):
+    """Files may not grow past a size. The store refuses, tells why, and has the same book as before; with more room it makes
+    the request that it refused."""
+    size = 200_000
+    limits = lambda: resource.setrlimit(resource.RLIMIT_FSIZE, (size, resource.RLIM_INFINITY))
+    # (without the signal that a file has come to its limit, as on a full disk)
+    store = place.run(preexec_fn=limits, restore_signals=False)
+    store.line()
+    told = refused = 0
+    while told < len(requests.calls):
+        line = store.ask(requests.sent(told, told + 1)[:-1])
+        if line.startswith(f"r{told} not kept: "):
+            refused += 1
+            if refused % 3 == 0:
+                size += 50_000
+                resource.prlimit(store.process.pid, resource.RLIMIT_FSIZE, (size, resource.RLIM_INFINITY))
+        else:
+            check_told(count, requests, told, [line])
+            told += 1
+    _, status, errors = store.end()
+    count.check(f"sqlite: {refused} requests were refused, status {status}: {errors}", refused >= 6 and status == 0)
+    requests.check_log(count, "sqlite with a full disk", ctypes.CDLL(library), place.log())
+    print(f"sqlite: {refused} requests were refused while the disk was full")
+
+
+def test_others(count, place):
+    """A second process may not run; a request that is none is answered; a log that was changed is not taken."""
+    store = place.run()
+    store.line()
+    for bad in ("x 1 jump 1", "x 9 next", "x 1 place 4096", "x 1 place 1 1", "next"):
+        count.check(f"sqlite: `{bad}`", (store.ask(bad) or "").startswith("not a request: "))
+    second = place.run().end()
+    count.check(f"sqlite: a second process: {second}", second[1] == 1 and "locked" in second[2])
+    count.check("sqlite: the first process goes on", store.end()[1] == 0)
+    for name, command, why in [
+            ("changed", "UPDATE log SET entry = CAST(x'03' || substr(entry, 2) AS BLOB) WHERE number = 100", "record 100"),
+            ("missing", "DELETE FROM log WHERE number = 100", "record 100"),
+            ("renumbered", "UPDATE log SET number = 0 WHERE number = 1", "record 1"),
+            ("other nodes", "UPDATE store SET nodes = nodes || ' '", "other nodes")]:
+        other = place.copy(name.replace(" ", "-"))
+        other.execute(command)
+        _, status, errors = other.run().end()
+        count.check(f"sqlite: {name}: status {status}: {errors}", status == 1 and why in errors)
+
+
+def test(count, folder, room, is_long):
+    library = f"{folder}/liblrc_embed.so"
+    place = Place(library, room, "killed")
+    test_kills(count, library, place, Requests(5, 20_000 if is_long else 3_000), 400 if is_long else 30)
+    test_disk_full(count, library, Place(library, room, "full"), Requests(6, 1_000))
+    test_others(count, place)
