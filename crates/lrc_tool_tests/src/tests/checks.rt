@@ -76,7 +76,7 @@ fn is_warned(alloc: Global, failure: Failure, fails_at: usize) -> bool {
     } else {
         result == Ok(Status::Done) && !errors.failed()
     };
-    let taken = (fails_at - 1).min(all);
+    let taken = fails_at.saturating_sub(1).min(all);
     is_ended
         && sink.inner.as_slice() == b"ok nodes 1 scripts 1 commands 1\n".as_slice()
         && errors.inner.taken.as_slice() == &ONE_NODE_WARNINGS[..taken]
