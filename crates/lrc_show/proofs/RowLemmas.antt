@@ -12,7 +12,7 @@ use Rattle.lrc_code.specs.declared.codes.Class.TheVariants.{A, B, G}
 use Rattle.lrc_code.specs.declared.losses.LossMask.{LossMask}
 use Rattle.lrc_code.specs.declared.numbers.StripeNo.{StripeNo}
 use Rattle.lrc_code.specs.declared.numbers.Fragment.{Fragment}
-use Rattle.lrc_code.specs.Codes.{fragments, fragment_count, has_fragment}
+use Rattle.lrc_code.specs.Codes.{fragments, fragment_count, has_fragment, code_name}
 use Rattle.lrc_code.specs.Losses.{FragmentSet, losses_in, margin_of, is_recoverable, bits_set, bits_of}
 use Rattle.lrc_code.proofs.BitsLemmas.{bits_set-bits_of}
 use Rattle.lrc_code.proofs.LossesLemmas.{losses_in-within}
@@ -24,7 +24,7 @@ use Rattle.lrc_terms.specs.Levels.{Homes, homes_of, homeless_in}
 use Rattle.lrc_rules.specs.States.{State, has_stripe, code_of, missing, code_shown, homes_shown, level_shown, missing_shown}
 use Rattle.lrc_rules.specs.Repairs.{is_safe}
 use Rattle.lrc_text.specs.Tables.{level_text, margin_field}
-use Rattle.lrc_show.specs.Shown.{code_text, hex_field, fragments_field, members_of, home_field, home_fields, stripe_line, stripe_row}
+use Rattle.lrc_show.specs.Shown.{hex_field, fragments_field, members_of, home_field, home_fields, stripe_line, stripe_row}
 use Rattle.lrc_book.specs.Looks.{stripes_of}
 use Rattle.lrc_show.proofs.FieldLemmas.{members-all}
 use Rattle.lrc_book.proofs.StripeLemmas.{stripes_below, code-told, level-told, mask-told, stripes-all}
@@ -83,7 +83,7 @@ joined old n c l g hx ms hh hm rest comma end = simp append_assoc
 
 module _ (s : StripeNo) (code : Code) (l : Level) (m : FragmentSet) (of : Homes) (old : List ℕ) where
   abbrev head : List ℕ
-  head = decimal s.value ++ codes "," ++ code_text code ++ codes "," ++ level_text l ++ codes ","
+  head = decimal s.value ++ codes "," ++ code_name code ++ codes "," ++ level_text l ++ codes ","
 
   abbrev two : ℕ → List Fragment → List ℕ
   two bits fs = codes "," ++ hex_field bits ++ codes "," ++ fragments_field fs
@@ -112,7 +112,7 @@ module _ (s : StripeNo) (code : Code) (l : Level) (m : FragmentSet) (of : Homes)
       ∙ ap (λ ns. written (margin_of code m) (bits_of code m) (members_of code m) (bits_of code h) ns rest) (same-members code h)
       ∙ ap (λ (hs : List (Option Seat)). written (margin_of code m) (bits_of code m) (members_of code m) (bits_of code h) (members_of code h)
       (flat_map (λ f. codes "," ++ home_field code f (get_or hs f.value None)) (fragments Wide))) homed
-      ∙ joined old (decimal s.value) (code_text code) (level_text l) (margin_field (margin_of code m)) (hex_field (bits_of code m)) (fragments_field (members_of code m))
+      ∙ joined old (decimal s.value) (code_name code) (level_text l) (margin_field (margin_of code m)) (hex_field (bits_of code m)) (fragments_field (members_of code m))
       (hex_field (bits_of code h)) (fragments_field (members_of code h)) (flat_map (λ f. codes "," ++ f) (home_fields code of)) (codes ",") (codes "\n")
 
 -- ---- the row of a stripe, from what the book returns

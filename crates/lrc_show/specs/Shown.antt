@@ -1,13 +1,13 @@
 -- What `lrcman show` prints of a state: one table of comma-separated fields.
 use Rattle.std.specs.Prelude.{ℕ, Bool, true, false, if◌then◌else◌, nat_eq, List, [], ◌∷◌, ◌++◌, codes, decimal, length, map, filter, flat_map, count_by, sum_by, Option, Some, None, option_to_list}
 use Rattle.lrc_code.specs.declared.codes.Code.{Code}
-use Rattle.lrc_code.specs.declared.codes.Code.TheVariants.{Wide, Narrow}
+use Rattle.lrc_code.specs.declared.codes.Code.TheVariants.{Wide}
 use Rattle.lrc_code.specs.declared.numbers.StripeNo.{StripeNo}
 use Rattle.lrc_code.specs.declared.numbers.NodeNo.{NodeNo}
 use Rattle.lrc_code.specs.declared.numbers.UpgradeNo.{UpgradeNo}
 use Rattle.lrc_code.specs.declared.numbers.Fragment.{Fragment}
 use Rattle.lrc_code.specs.Numbers.{same_node}
-use Rattle.lrc_code.specs.Codes.{fragments, has_fragment}
+use Rattle.lrc_code.specs.Codes.{fragments, has_fragment, code_name}
 use Rattle.lrc_code.specs.Losses.{FragmentSet, margin_of, bits_of, bits_set, size_of}
 use Rattle.lrc_topology.specs.declared.NodeInfo.{NodeInfo}
 use Rattle.lrc_topology.specs.declared.seat.Seat.{Seat}
@@ -29,11 +29,6 @@ use Rattle.lrc_show.specs.declared.view.View.{View}
 use Rattle.lrc_show.specs.declared.view.View.TheVariants as view
 
 -- ---- fields
-
--- the word for a code
-abbrev pub code_text : Code → List ℕ
-code_text Wide = codes "wide"
-code_text Narrow = codes "narrow"
 
 -- a mask that no program takes for a number: `0x` and four hexadecimal digits
 abbrev pub hex_field : ℕ → List ℕ
@@ -70,7 +65,7 @@ home_fields code of = map (λ f. home_field code f (of f.value)) (fragments Wide
 -- the row of a stripe with this code and level, these missing fragments, and these homes
 unfoldable pub stripe_line : StripeNo → Code → Level → FragmentSet → Homes → List ℕ
 stripe_line s code l m of =
-    row_line (decimal s.value ∷ code_text code ∷ level_text l ∷ margin_field (margin_of code m) ∷ set_fields code m ++ set_fields code (homeless_in code of) ++ home_fields code of)
+    row_line (decimal s.value ∷ code_name code ∷ level_text l ∷ margin_field (margin_of code m) ∷ set_fields code m ++ set_fields code (homeless_in code of) ++ home_fields code of)
 
 -- the row of a stripe
 abbrev pub stripe_row : List NodeInfo → State → StripeNo → List ℕ
@@ -237,7 +232,7 @@ margin_at Lost = None
 -- the row of a stripe
 unfoldable pub forecast_row : Outlook → List ℕ
 forecast_row o =
-    row_line (decimal o.stripe.value ∷ code_text o.code ∷ level_text o.before ∷ margin_field (margin_at o.before) ∷ level_text o.after ∷ margin_field (margin_at o.after)
+    row_line (decimal o.stripe.value ∷ code_name o.code ∷ level_text o.before ∷ margin_field (margin_at o.before) ∷ level_text o.after ∷ margin_field (margin_at o.after)
     ∷ hex_field o.missing.bits ∷ fragments_field (members_of o.code (bits_set o.missing.bits)) ∷ [])
 
 -- a row for each stripe

@@ -2,11 +2,12 @@
 
 ghost use Rattle.std.specs.Prelude.{◌≡◌, ◌++◌, codes, decimal, string_bytes, IfOk, IfErr, OnOk};
 ghost use Rattle.lrc_code.specs.declared.fault.Fault.TheVariants as fault;
+ghost use Rattle.lrc_code.specs.Codes.{code_name};
 ghost use Rattle.lrc_code.specs.Losses.{bits_set};
 ghost use Rattle.lrc_text.specs.Tables.{level_text, margin_field};
-ghost use Rattle.lrc_show.specs.Shown.{code_text, hex_field, fragments_field, members_of, margin_at, forecast_row, forecast_text};
+ghost use Rattle.lrc_show.specs.Shown.{hex_field, fragments_field, members_of, margin_at, forecast_row, forecast_text};
 
-use crate::words::{code_word, push_margin, push_mask, push_members};
+use crate::words::{push_margin, push_mask, push_members};
 use lrc_book::Level;
 use lrc_code::{Code, Fault, StripeNo};
 use lrc_forecast::Outlook;
@@ -50,10 +51,10 @@ fn push_outlook(out: &mut String, row: Outlook) -> Result<(), AllocError>
 
 /// Adds the number of a stripe and its code, with a comma behind each.
 fn push_name(out: &mut String, stripe: StripeNo, code: Code) -> Result<(), AllocError>
-    ensures { OnOk result (string_bytes out.new ≡ string_bytes out.old ++ (decimal stripe.value ++ codes "," ++ code_text code ++ codes ",")) }
+    ensures { OnOk result (string_bytes out.new ≡ string_bytes out.old ++ (decimal stripe.value ++ codes "," ++ code_name code ++ codes ",")) }
 {
     let number = stripe.value;
-    let code_name = code_word(code);
+    let code_name = code.name();
     write!(out, "{number},{code_name},")
 }
 

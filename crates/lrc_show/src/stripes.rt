@@ -3,15 +3,15 @@
 ghost use Rattle.std.specs.Prelude.{◌≡◌, ◌++◌, if◌then◌else◌, [], codes, decimal, flat_map, map, get_or, None, string_bytes, OnOk, IfErr};
 ghost use Rattle.lrc_code.specs.declared.fault.Fault.TheVariants as fault;
 ghost use Rattle.lrc_code.specs.declared.codes.Code.TheVariants.{Wide};
-ghost use Rattle.lrc_code.specs.Codes.{fragments};
+ghost use Rattle.lrc_code.specs.Codes.{fragments, code_name};
 ghost use Rattle.lrc_code.specs.Losses.{FragmentSet, bits_set, bits_of};
 ghost use Rattle.lrc_terms.specs.Levels.{Homes};
 ghost use Rattle.lrc_rules.specs.States.{has_stripe};
 ghost use Rattle.lrc_book.specs.Books.{state_of};
 ghost use Rattle.lrc_text.specs.Tables.{level_text};
-ghost use Rattle.lrc_show.specs.Shown.{code_text, hex_field, fragments_field, members_of, home_field, stripe_line, stripe_row, stripes_table};
+ghost use Rattle.lrc_show.specs.Shown.{hex_field, fragments_field, members_of, home_field, stripe_line, stripe_row, stripes_table};
 
-use crate::words::{code_word, push_margin, push_mask, push_members};
+use crate::words::{push_margin, push_mask, push_members};
 use lrc_book::{Book, Level, Seat, homeless_of};
 use lrc_code::{Code, FRAGMENTS, Fault, Fragment, LossMask, STRIPES, StripeNo};
 use lrc_text::level_word;
@@ -74,10 +74,10 @@ fn push_row(
 
 /// Adds the first three fields of a row, with a comma behind each.
 fn push_head(out: &mut String, stripe: StripeNo, code: Code, level: Level) -> Result<(), AllocError>
-    ensures { OnOk result (string_bytes out.new ≡ string_bytes out.old ++ (decimal stripe.value ++ codes "," ++ code_text code ++ codes "," ++ level_text level ++ codes ",")) }
+    ensures { OnOk result (string_bytes out.new ≡ string_bytes out.old ++ (decimal stripe.value ++ codes "," ++ code_name code ++ codes "," ++ level_text level ++ codes ",")) }
 {
     let number = stripe.value;
-    let code_name = code_word(code);
+    let code_name = code.name();
     let level_name = level_word(level);
     write!(out, "{number},{code_name},{level_name},")
 }

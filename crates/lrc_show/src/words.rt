@@ -4,20 +4,10 @@ ghost use Rattle.std.specs.Prelude.{◌≡◌, ◌&&◌, ◌++◌, if◌then◌e
 ghost use Rattle.lrc_code.specs.Codes.{has_fragment};
 ghost use Rattle.lrc_code.specs.Losses.{bits_set};
 ghost use Rattle.lrc_text.specs.Tables.{margin_field};
-ghost use Rattle.lrc_show.specs.Shown.{code_text, hex_field, fragments_field, members_of};
+ghost use Rattle.lrc_show.specs.Shown.{hex_field, fragments_field, members_of};
 
 use lrc_code::{Code, Fragment, LossMask};
 use std::alloc::AllocError;
-
-/// The word for a code.
-pub(crate) fn code_word(code: Code) -> &'static str
-    ensures { result.now ≡ code_text code }
-{
-    match code {
-        Code::Wide => "wide",
-        Code::Narrow => "narrow",
-    }
-}
 
 /// Adds a margin, or a dash where there is none.
 pub(crate) fn push_margin(out: &mut String, margin: Option<u8>) -> Result<(), AllocError>

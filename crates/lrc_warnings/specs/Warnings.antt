@@ -4,7 +4,7 @@ use Rattle.std.specs.Set.{distinct_count}
 use Rattle.lrc_code.specs.declared.codes.Code.{Code}
 use Rattle.lrc_code.specs.declared.codes.Code.TheVariants.{Wide, Narrow}
 use Rattle.lrc_code.specs.declared.codes.Class.TheVariants.{A, B, G}
-use Rattle.lrc_code.specs.Codes.{fragment_count, members}
+use Rattle.lrc_code.specs.Codes.{fragment_count, code_name, members}
 use Rattle.lrc_topology.specs.declared.NodeInfo.{NodeInfo}
 use Rattle.lrc_warnings.specs.declared.domains.Domains.{Domains}
 
@@ -20,11 +20,6 @@ needed_domains code = record { faults = fragment_count code; upgrades = max (len
 -- a stripe of the code needs more domains than these
 abbrev pub are_too_few : Code → Domains → Bool
 are_too_few code domains = nat_lt domains.faults (needed_domains code).faults || nat_lt domains.upgrades (needed_domains code).upgrades
-
--- the name of a code
-abbrev pub code_name : Code → List ℕ
-code_name Wide = codes "wide"
-code_name Narrow = codes "narrow"
 
 -- the line that says of a code that there are too few domains, for its name, the domains that there are and those that a stripe needs
 abbrev pub shortage_line : List ℕ → Domains → Domains → List ℕ

@@ -1,7 +1,8 @@
 //! The lines for codes of which no stripe can be placed.
 
 ghost use Rattle.std.specs.Prelude.{◌≡◌, ◌++◌, string_bytes, IfOk, OnOk};
-ghost use Rattle.lrc_warnings.specs.Warnings.{needed_domains, are_too_few, code_name, shortage_line, warning, warnings};
+ghost use Rattle.lrc_code.specs.Codes.{code_name};
+ghost use Rattle.lrc_warnings.specs.Warnings.{needed_domains, are_too_few, shortage_line, warning, warnings};
 
 use crate::domains::{Domains, count_domains};
 use lrc_code::{Code, FRAGMENTS, NARROW_FRAGMENTS};
@@ -33,7 +34,7 @@ fn push_warning(out: &mut String, code: Code, domains: Domains) -> Result<(), Al
     if domains.faults >= needed.faults && domains.upgrades >= needed.upgrades {
         return Ok(());
     }
-    push_shortage(out, code_name(code), domains, needed)
+    push_shortage(out, code.name(), domains, needed)
 }
 
 /// Adds the line for a code of this name.
@@ -52,15 +53,6 @@ fn push_shortage(
         out,
         "lrcman: no {name} stripe can be placed: {faults} of {fault_need} fault domains, {upgrades} of {upgrade_need} upgrade domains\n"
     )
-}
-
-fn code_name(code: Code) -> &'static str
-    ensures { result.now ≡ code_name code }
-{
-    match code {
-        Code::Wide => "wide",
-        Code::Narrow => "narrow",
-    }
 }
 
 /// How many domains a stripe of the code needs: a fault domain for each fragment, and an upgrade domain for each fragment
