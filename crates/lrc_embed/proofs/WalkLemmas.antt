@@ -1,7 +1,7 @@
 -- A walk over the book of an open handle, from the rows that it writes.
 use Rattle.std.proofs.Common.{◌≡◌, ℕ, List, take, length, Option, Some, inl, refl, sym, ◌∙◌, subst, arith}
 use Rattle.lrc_book.specs.Books.{BookView}
-use Rattle.lrc_walks.specs.Walks.{AreFirstRows}
+use Rattle.lrc_walks.specs.WalkRows.{AreFirstRows}
 use Rattle.lrc_embed.specs.Walks.{IsWalk}
 use Rattle.lrc_embed.proofs.OfLemmas.{of_some}
 

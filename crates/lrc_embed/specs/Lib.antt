@@ -9,11 +9,11 @@ pub use Rattle.lrc_openings.specs.Begun
 pub use Rattle.lrc_openings.specs.ImageTexts
 pub use Rattle.lrc_forecast.specs.Forecasts
 pub use Rattle.lrc_records.specs.Commands
-pub use Rattle.lrc_records.specs.Names as Words
+pub use Rattle.lrc_records.specs.Words
 pub use Rattle.lrc_records.specs.Replies
 pub use Rattle.lrc_records.specs.Shown
 pub use Rattle.lrc_walks.specs.Outages
-pub use Rattle.lrc_walks.specs.Walks as WalkRows
+pub use Rattle.lrc_walks.specs.WalkRows
 pub mod Handles
 pub mod Statuses
 pub mod Calls

@@ -1,7 +1,7 @@
 -- What a walk over the book of a handle writes.
 use Rattle.std.specs.Prelude.{◌≡◌, ◌≢◌, ℕ, List, take, length, Option, None, ◌⊎◌}
 use Rattle.lrc_book.specs.Books.{BookView}
-use Rattle.lrc_walks.specs.Walks.{AreFirstRows}
+use Rattle.lrc_walks.specs.WalkRows.{AreFirstRows}
 use Rattle.lrc_embed.specs.Calls.{Of}
 
 -- A walk changes nothing. With status 0 the first rows are the first of this list, as many as there is room for; else

@@ -1,4 +1,4 @@
 pub mod Commands
-pub mod Names
+pub mod Words
 pub mod Replies
 pub mod Shown

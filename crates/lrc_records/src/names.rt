@@ -1,7 +1,7 @@
 //! The words for the numbers of statuses, replies and refusals.
 
 ghost use Rattle.std.specs.Prelude.{◌≡◌, option_map};
-ghost use Rattle.lrc_records.specs.Names.{status_name, reply_name, refusal_name};
+ghost use Rattle.lrc_records.specs.Words.{status_name, reply_name, refusal_name};
 
 /// The word for a status of the library; `None` if no status has this number.
 pub fn status_name(status: u32) -> Option<&'static str>

@@ -8,7 +8,7 @@ use Rattle.std.proofs.lemmas.List.Elements.{filter_map-append}
 use Rattle.std.proofs.lemmas.List.FromFn.{map-range_with_len_more}
 use Rattle.std.proofs.lemmas.Option.{slice_get_cases}
 use Rattle.std.proofs.Math.Seq.{take-append_seam}
-use Rattle.lrc_walks.specs.Walks.{AreFirstRows}
+use Rattle.lrc_walks.specs.WalkRows.{AreFirstRows}
 
 -- ---- ranges
 

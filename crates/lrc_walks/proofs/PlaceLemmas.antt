@@ -15,7 +15,7 @@ use Rattle.lrc_code.proofs.NumbersLemmas.{equal_stripes, equal_fragments}
 use Rattle.lrc_terms.specs.Stripes.{StripeFragment, stripe_at}
 use Rattle.lrc_terms.proofs.CodeListLemmas.{fragment-number}
 use Rattle.lrc_book.specs.Looks.{places}
-use Rattle.lrc_walks.specs.Walks.{is_from, place_at}
+use Rattle.lrc_walks.specs.WalkRows.{is_from, place_at}
 use Rattle.lrc_walks.proofs.FoundLemmas.{range-split}
 
 first : Fragment

@@ -18,7 +18,7 @@ use Rattle.lrc_rules.specs.States.{State, has_stripe, code_of, code_shown, level
 use Rattle.lrc_rules.proofs.NodeLemmas.{node_at-member}
 use Rattle.lrc_records.specs.declared.stripe.LrcStripe.{LrcStripe}
 use Rattle.lrc_records.specs.Shown.{encoded_stripe}
-use Rattle.lrc_walks.specs.Walks.{stripe_row}
+use Rattle.lrc_walks.specs.WalkRows.{stripe_row}
 
 -- ---- stripes
 

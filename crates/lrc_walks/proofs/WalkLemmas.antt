@@ -15,7 +15,7 @@ use Rattle.lrc_records.specs.declared.lease.LrcLease.{LrcLease}
 use Rattle.lrc_records.specs.declared.fragment.LrcFragment.{LrcFragment}
 use Rattle.lrc_records.specs.Shown.{encoded_fragment}
 use Rattle.lrc_records.specs.Replies.{encoded_lease}
-use Rattle.lrc_walks.specs.Walks.{is_from, place_at, stripe_row, stripes_from, leases_from}
+use Rattle.lrc_walks.specs.WalkRows.{is_from, place_at, stripe_row, stripes_from, leases_from}
 use Rattle.lrc_walks.proofs.FoundLemmas.{found-part, found-from, found-map, found-each, found-passing, found-tested, passing-both}
 use Rattle.lrc_walks.proofs.PlaceLemmas.{places-are, place-early}
 

@@ -7,4 +7,4 @@ pub use Rattle.lrc_forecast.specs.Forecasts
 pub use Rattle.lrc_records.specs.Replies
 pub use Rattle.lrc_records.specs.Shown
 pub mod Outages
-pub mod Walks
+pub mod WalkRows

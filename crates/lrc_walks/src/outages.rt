@@ -1,10 +1,11 @@
 //! What becomes of the stripes if nodes stop or are lost.
 
-ghost use Rattle.std.specs.Prelude.{◌≡◌, ◌≤◌, is_some, length, map, IfOk};
+ghost use Rattle.std.specs.Prelude.{◌≡◌, ◌≤◌, is_some, length, map, IfOk, IfErr};
+ghost use Rattle.lrc_code.specs.declared.fault.Fault.TheVariants as fault;
 ghost use Rattle.lrc_topology.specs.Nodes.{node_at};
 ghost use Rattle.lrc_images.specs.Rows.{node_no};
 ghost use Rattle.lrc_walks.specs.Outages.{outage_of, are_nodes, outlooks_of, outlook_row};
-ghost use Rattle.lrc_walks.specs.Walks.{AreFirstRows};
+ghost use Rattle.lrc_walks.specs.WalkRows.{AreFirstRows};
 
 use lrc_book::Book;
 use lrc_code::{Fault, NodeNo};
@@ -44,7 +45,8 @@ pub fn outlooks(
     outage: Outage,
     nodes: &[u16],
 ) -> Result<Vec<Outlook>, Fault>
-    ensures { IfOk result (λ rows. rows.items ≡ outlooks_of book.now outage nodes.now) }
+    ensures value { IfOk result (λ rows. rows.items ≡ outlooks_of book.now outage nodes.now) }
+    ensures err { IfErr result (λ e. e ≡ fault.OutOfMemory) }
 {
     let nodes = numbered(alloc, nodes)?;
     forecast(alloc, book, outage, nodes.as_slice())

@@ -1,6 +1,6 @@
 ghost use Rattle.std.specs.Prelude.{◌≤◌, length, map};
 ghost use Rattle.lrc_records.specs.Shown.{encoded_risk};
-ghost use Rattle.lrc_walks.specs.Walks.{AreFirstRows};
+ghost use Rattle.lrc_walks.specs.WalkRows.{AreFirstRows};
 
 use lrc_book::Level;
 use lrc_code::StripeNo;

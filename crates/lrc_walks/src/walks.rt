@@ -9,7 +9,7 @@ ghost use Rattle.lrc_rules.specs.States.{has_stripe, lease_of};
 ghost use Rattle.lrc_book.specs.Books.{state_of};
 ghost use Rattle.lrc_records.specs.Replies.{encoded_lease, encoded_entry};
 ghost use Rattle.lrc_records.specs.Shown.{encoded_fragment};
-ghost use Rattle.lrc_walks.specs.Walks.{AreFirstRows, is_from, place_at, stripe_row, stripes_from, node_row, nodes_from, leases_from, entries_from};
+ghost use Rattle.lrc_walks.specs.WalkRows.{AreFirstRows, is_from, place_at, stripe_row, stripes_from, node_row, nodes_from, leases_from, entries_from};
 
 use lrc_book::{Book, Entry};
 use lrc_code::{FRAGMENTS, Fragment, STRIPES, StripeNo};

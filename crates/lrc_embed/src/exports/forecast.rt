@@ -5,7 +5,7 @@ ghost use Rattle.lrc_forecast.specs.declared.outlook.Outage.{Outage as AnyOutage
 ghost use Rattle.lrc_forecast.specs.Forecasts.{is_safe};
 ghost use Rattle.lrc_records.specs.Shown.{flag};
 ghost use Rattle.lrc_walks.specs.Outages.{outage_of, are_nodes, outlooks_of, outlook_row};
-ghost use Rattle.lrc_walks.specs.Walks.{AreFirstRows};
+ghost use Rattle.lrc_walks.specs.WalkRows.{AreFirstRows};
 ghost use Rattle.lrc_embed.specs.Calls.{Of};
 
 use crate::LrcHandle;

@@ -2,7 +2,7 @@ ghost use Rattle.std.specs.Prelude.{◌≡◌, ◌≢◌, ◌<◌, ◌⊎◌, tr
 ghost use Rattle.lrc_book.specs.Books.{state_of};
 ghost use Rattle.lrc_rules.specs.Urgency.{risk};
 ghost use Rattle.lrc_records.specs.Shown.{encoded_risk};
-ghost use Rattle.lrc_walks.specs.Walks.{AreFirstRows};
+ghost use Rattle.lrc_walks.specs.WalkRows.{AreFirstRows};
 ghost use Rattle.lrc_embed.specs.Calls.{Of, IsLook};
 
 use crate::LrcHandle;

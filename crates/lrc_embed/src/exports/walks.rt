@@ -3,7 +3,7 @@
 ghost use Rattle.std.specs.Prelude.{◌≡◌, ◌≢◌, ◌⊎◌, true, is_some, None, take, length};
 ghost use Rattle.lrc_topology.specs.Nodes.{node_at};
 ghost use Rattle.lrc_images.specs.Rows.{node_no};
-ghost use Rattle.lrc_walks.specs.Walks.{AreFirstRows, stripes_from, nodes_from, leases_from, homes_from, entries_from};
+ghost use Rattle.lrc_walks.specs.WalkRows.{AreFirstRows, stripes_from, nodes_from, leases_from, homes_from, entries_from};
 ghost use Rattle.lrc_embed.specs.Calls.{Of};
 ghost use Rattle.lrc_embed.specs.Walks.{IsWalk};
 

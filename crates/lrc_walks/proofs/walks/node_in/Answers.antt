@@ -3,7 +3,7 @@ use Rattle.std.specs.Prelude.{slice_get}
 use Rattle.lrc_topology.specs.declared.NodeInfo.{NodeInfo}
 use Rattle.lrc_topology.specs.Nodes.{AreNodes}
 use Rattle.lrc_book.specs.Books.{state_of}
-use Rattle.lrc_walks.specs.Walks.{node_row}
+use Rattle.lrc_walks.specs.WalkRows.{node_row}
 use Rattle.lrc_walks.proofs.RowLemmas.{node-known}
 use Rattle.lrc_walks.proofs.walks.node_in.Goals as goal
 

@@ -4,7 +4,7 @@ use Rattle.std.specs.List.{filter_map, range_with_len}
 use Rattle.lrc_rules.specs.declared.entry.Entry.{Entry}
 use Rattle.lrc_records.specs.declared.entry.LrcEntry.{LrcEntry}
 use Rattle.lrc_records.specs.Replies.{encoded_entry}
-use Rattle.lrc_walks.specs.Walks.{AreFirstRows}
+use Rattle.lrc_walks.specs.WalkRows.{AreFirstRows}
 use Rattle.lrc_walks.proofs.WalkLemmas.{rows-found}
 use Rattle.lrc_walks.proofs.walks.put_entries.Goals as goal
 

@@ -3,7 +3,7 @@ use Rattle.std.specs.Prelude.{slice_get}
 use Rattle.std.specs.Option.{option_flatten}
 use Rattle.lrc_records.specs.declared.fragment.LrcFragment.{LrcFragment}
 use Rattle.lrc_records.specs.Shown.{encoded_fragment}
-use Rattle.lrc_walks.specs.Walks.{AreFirstRows, is_from}
+use Rattle.lrc_walks.specs.WalkRows.{AreFirstRows, is_from}
 use Rattle.lrc_walks.proofs.WalkLemmas.{homes-found}
 use Rattle.lrc_walks.proofs.walks.put_homes.Goals as goal
 

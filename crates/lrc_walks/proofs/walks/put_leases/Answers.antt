@@ -1,6 +1,6 @@
 use Rattle.std.proofs.Common.{List, take, length, subst, rules}
 use Rattle.lrc_records.specs.declared.lease.LrcLease.{LrcLease}
-use Rattle.lrc_walks.specs.Walks.{AreFirstRows, place_at}
+use Rattle.lrc_walks.specs.WalkRows.{AreFirstRows, place_at}
 use Rattle.lrc_walks.proofs.WalkLemmas.{lease_found, leases-found}
 use Rattle.lrc_walks.proofs.walks.put_leases.Goals as goal
 

@@ -4,7 +4,7 @@ use Rattle.std.specs.List.{filter_map, range_with_len}
 use Rattle.lrc_topology.specs.declared.NodeInfo.{NodeInfo}
 use Rattle.lrc_book.specs.Books.{state_of}
 use Rattle.lrc_records.specs.declared.node.LrcNode.{LrcNode}
-use Rattle.lrc_walks.specs.Walks.{AreFirstRows, node_row}
+use Rattle.lrc_walks.specs.WalkRows.{AreFirstRows, node_row}
 use Rattle.lrc_walks.proofs.WalkLemmas.{rows-found}
 use Rattle.lrc_walks.proofs.walks.put_nodes.Goals as goal
 

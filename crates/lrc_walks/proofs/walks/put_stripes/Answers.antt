@@ -1,7 +1,7 @@
 use Rattle.std.proofs.Common.{List, take, length, subst, rules}
 use Rattle.lrc_terms.specs.Stripes.{stripe_at}
 use Rattle.lrc_records.specs.declared.stripe.LrcStripe.{LrcStripe}
-use Rattle.lrc_walks.specs.Walks.{AreFirstRows}
+use Rattle.lrc_walks.specs.WalkRows.{AreFirstRows}
 use Rattle.lrc_walks.proofs.WalkLemmas.{stripe_found, stripes-found, stripe-told}
 use Rattle.lrc_walks.proofs.walks.put_stripes.Goals as goal
 

@@ -5,7 +5,7 @@ use Rattle.lrc_code.proofs.NumbersLemmas.{equal_stripes}
 use Rattle.lrc_terms.specs.Stripes.{stripe_at}
 use Rattle.lrc_rules.specs.States.{has_stripe}
 use Rattle.lrc_book.specs.Books.{state_of}
-use Rattle.lrc_walks.specs.Walks.{stripe_row}
+use Rattle.lrc_walks.specs.WalkRows.{stripe_row}
 use Rattle.lrc_walks.proofs.walks.stripe_numbered.Goals as goal
 
 pub returns : goal.returns

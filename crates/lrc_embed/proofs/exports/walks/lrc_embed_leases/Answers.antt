@@ -1,4 +1,4 @@
-use Rattle.lrc_walks.specs.Walks.{leases_from}
+use Rattle.lrc_walks.specs.WalkRows.{leases_from}
 use Rattle.lrc_embed.proofs.WalkLemmas.{walk-done}
 use Rattle.lrc_embed.proofs.exports.walks.lrc_embed_leases.Goals as goal
 

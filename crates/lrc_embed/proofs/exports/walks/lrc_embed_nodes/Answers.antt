@@ -1,4 +1,4 @@
-use Rattle.lrc_walks.specs.Walks.{nodes_from}
+use Rattle.lrc_walks.specs.WalkRows.{nodes_from}
 use Rattle.lrc_embed.proofs.WalkLemmas.{walk-done}
 use Rattle.lrc_embed.proofs.exports.walks.lrc_embed_nodes.Goals as goal
 
