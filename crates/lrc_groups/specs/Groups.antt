@@ -44,3 +44,9 @@ abbrev pub lacking_line : Lacking → List ℕ
 lacking_line (lacking.Node n) = named_line (codes "node") n.value
 lacking_line (lacking.Fault d) = named_line (codes "fault") d.value
 lacking_line (lacking.Upgrade u) = named_line (codes "upgrade") u.value
+
+-- what is lacking, in words
+abbrev pub lacking_words : Lacking → List ℕ
+lacking_words (lacking.Node _) = codes "there is no such node"
+lacking_words (lacking.Fault _) = codes "no node is in this fault domain"
+lacking_words (lacking.Upgrade _) = codes "no node is in this upgrade domain"

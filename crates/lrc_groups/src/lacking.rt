@@ -1,5 +1,5 @@
 ghost use Rattle.std.specs.Prelude.{◌≡◌, ◌++◌, string_bytes, OnOk};
-ghost use Rattle.lrc_groups.specs.Groups.{named_line, lacking_line};
+ghost use Rattle.lrc_groups.specs.Groups.{named_line, lacking_line, lacking_words};
 
 use lrc_code::{FaultNo, NodeNo, UpgradeNo};
 use std::alloc::AllocError;
@@ -32,7 +32,9 @@ impl Lacking {
     }
 
     /// Returns what is lacking, in words.
-    pub fn reason(self) -> &'static str {
+    pub fn reason(self) -> &'static str
+        ensures { result.now ≡ lacking_words self }
+    {
         match self {
             Lacking::Node(_) => "there is no such node",
             Lacking::Fault(_) => "no node is in this fault domain",

@@ -11,7 +11,8 @@ use Rattle.lrc_script.specs.Bundles.{Script, scripts_of, topology_of}
 use Rattle.lrc_tool.specs.declared.status.Status.{Status}
 use Rattle.lrc_tool.specs.declared.status.Status.TheVariants as ended
 use Rattle.lrc_tool.specs.Limits.{script_limit}
-use Rattle.lrc_tool.specs.Refusals.{topology_line, bad_line_text}
+use Rattle.lrc_refusals.specs.Refusals.{topology_line}
+use Rattle.lrc_tool.specs.RefusedInputs.{bad_line_text}
 use Rattle.lrc_tool.specs.Outputs.{early_refusal_over, Reads, first_bad_of, Ending, Judging, IsAnsweredOver, IsAnsweredAfter, IsAnsweredUnless, IsAnsweredIn, run_judging, AreCommandsOf, IsPlayed, ArePrinted, IsOutput}
 use Rattle.lrc_tool.specs.Checks.{counted_line, AreCounted, IsCheck}
 use Rattle.lrc_tool.proofs.CommandLemmas.{as_many_lists, same_lists, some_lists}

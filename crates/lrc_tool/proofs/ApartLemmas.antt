@@ -4,8 +4,9 @@ use Rattle.lrc_tool.specs.declared.sequel.Goal.{Goal}
 use Rattle.lrc_tool.specs.declared.status.Status.{Status}
 use Rattle.lrc_tool.specs.Limits.{sequel_limit}
 use Rattle.lrc_streams.specs.Reads.{IsReadUpTo}
+use Rattle.lrc_tool.specs.RefusedInputs.{is_answer}
 use Rattle.lrc_tool.specs.Sequels.{going_to, IsSequelOutput}
-use Rattle.lrc_tool.specs.Apart.{is_answer, Written, AreWrittenApart, ArePartlyWrittenApart, WritesApart, WritesPartApart}
+use Rattle.lrc_tool.specs.Apart.{Written, AreWrittenApart, ArePartlyWrittenApart, WritesApart, WritesPartApart}
 use Rattle.lrc_tool.proofs.ReadLemmas.{told_to_read}
 use Rattle.lrc_tool.proofs.SequelLemmas.{sequels_alike}
 

@@ -14,7 +14,7 @@ use Rattle.lrc_warnings.specs.Warnings.{warnings}
 use Rattle.lrc_tool.specs.declared.status.Status.{Status}
 use Rattle.lrc_tool.specs.declared.status.Status.TheVariants as ended
 use Rattle.lrc_tool.specs.Limits.{bundle_limit, script_limit}
-use Rattle.lrc_tool.specs.Refusals.{bad_line_text}
+use Rattle.lrc_tool.specs.RefusedInputs.{bad_line_text}
 use Rattle.lrc_tool.specs.Apart.{Written}
 use Rattle.lrc_tool.specs.Outputs.{early_refusal, first_bad_of, AreCommandsOf, IsAnsweredOver, IsAnsweredAfter, IsAnsweredUnless, IsAnswered}
 use Rattle.lrc_tool.specs.Judged.{lists_of, NoEnding, IsRefusalIn, IsAccepted}

@@ -21,7 +21,7 @@ use Rattle.lrc_script.proofs.SizeLemmas.{few_in_bundle}
 use Rattle.lrc_tool.specs.declared.status.Status.{Status}
 use Rattle.lrc_tool.specs.declared.status.Status.TheVariants as ended
 use Rattle.lrc_tool.specs.Limits.{bundle_limit, script_limit}
-use Rattle.lrc_tool.specs.Refusals.{bad_line_text, bad_line_text_behind}
+use Rattle.lrc_tool.specs.RefusedInputs.{bad_line_text, bad_line_text_behind}
 use Rattle.lrc_tool.specs.declared.judging.Judged.{Judged}
 use Rattle.lrc_tool.specs.Outputs.{early_refusal_over, first_bad_of, AreCommandsOf, Judging, Answer, IsAnsweredUnless, IsAnsweredOver, IsAnsweredIn, run_judging, IsAnswered, RunsSeveral}
 use Rattle.lrc_tool.proofs.CommandLemmas.{as_many_lists}

@@ -20,7 +20,7 @@ use Rattle.lrc_tool.specs.declared.sequel.Goal.{Goal}
 use Rattle.lrc_tool.specs.declared.sequel.Goal.TheVariants as to
 use Rattle.lrc_tool.specs.declared.status.Status.{Status}
 use Rattle.lrc_tool.specs.Limits.{sequel_limit}
-use Rattle.lrc_tool.specs.Refusals.{bad_image_text}
+use Rattle.lrc_tool.specs.RefusedInputs.{bad_image_text}
 use Rattle.lrc_tool.specs.Outputs.{IsAnsweredIn}
 use Rattle.lrc_tool.specs.Sequels.{image_part, bundle_part, lines_before, ReadsImage, Start, start_in, Going, IsBegunUnless, sequel_judging, IsToldAfter, IsToldUnless, IsTold, IsImaged, IsTable, IsForecast, IsMadeFrom, IsForecastUnless, IsReached, going_to, IsSequelOutput}
 use Rattle.lrc_tool.proofs.CommandLemmas.{as_many_lists, same_lists}

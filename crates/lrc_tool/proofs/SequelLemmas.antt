@@ -20,11 +20,6 @@ use Rattle.lrc_script.specs.Scripts.{lines_of}
 use Rattle.lrc_script.specs.Bundles.{Script, scripts_of}
 use Rattle.lrc_script.specs.Cuts.{IsCut}
 use Rattle.lrc_script.proofs.CutLemmas.{pieces_behind, slice_split-cut}
-use Rattle.lrc_forecast.specs.declared.outlook.Outage.{Outage}
-use Rattle.lrc_groups.specs.declared.group.Group.{Group}
-use Rattle.lrc_groups.specs.declared.lacking.Lacking.{Lacking}
-use Rattle.lrc_groups.specs.Groups.{lacking_in, lacking_line}
-use Rattle.lrc_show.specs.declared.view.View.{View}
 use Rattle.lrc_tool.specs.declared.status.Status.{Status}
 use Rattle.lrc_tool.specs.declared.status.Status.TheVariants as ended
 use Rattle.lrc_tool.specs.declared.sequel.Goal.{Goal}
@@ -32,10 +27,10 @@ use Rattle.lrc_tool.specs.declared.sequel.Goal.TheVariants as to
 use Rattle.lrc_tool.specs.declared.begin.Begun.{Begun}
 use Rattle.lrc_tool.specs.declared.begin.Begun.TheVariants.{Refused, Good}
 use Rattle.lrc_tool.specs.Limits.{sequel_limit}
-use Rattle.lrc_tool.specs.Refusals.{bad_line_text_behind, bad_image_text}
+use Rattle.lrc_tool.specs.RefusedInputs.{bad_line_text_behind, bad_image_text}
 use Rattle.lrc_tool.specs.Outputs.{IsAnsweredIn}
 use Rattle.lrc_tool.specs.Judged.{lists_of, NoEnding, IsRefusalIn, IsAccepted}
-use Rattle.lrc_tool.specs.Sequels.{bytes_to_end, is_end, image_part, bundle_part, lines_before, ReadsImage, Start, start_in, Going, IsBegunUnless, sequel_judging, IsToldAfter, IsToldUnless, IsTold, IsImaged, IsTable, IsForecast, IsMadeFrom, IsForecastUnless, IsReached, going_to, IsSequelOutput}
+use Rattle.lrc_tool.specs.Sequels.{bytes_to_end, is_end, image_part, bundle_part, lines_before, ReadsImage, Start, start_in, Going, IsBegunUnless, sequel_judging, IsToldAfter, IsToldUnless, IsTold, IsImaged, IsMadeFrom, IsReached, going_to, IsSequelOutput}
 use Rattle.lrc_tool.specs.Begun.{IsBadImage, IsBegunOver, NotGoing, IsGoodIn, IsBegunIn, IsGoodSequel, IsBegunBy}
 use Rattle.lrc_tool.proofs.JudgedLemmas.{good_to_end, few_scripts, lists_many}
 use Rattle.lrc_tool.proofs.AnswerLemmas.{ends_other}
@@ -208,25 +203,6 @@ made_from b after scripts over base before legal made only =
       made = subst (λ n. commands_of_each n after.history ≡ lists) (sym many) made;
       only = subst (λ n. All (λ e. e.session.value ≤ n) after.history) (sym many) only;
     }
-
-pub tabled_by : (view : View) (text : List ℕ) (status : Status) (b after : BookView) (scripts : List (Vec Command Global)) → after.nodes ≡ b.nodes → after.base ≡ b.base → after.before ≡ b.before
-    → IsLegalFrom b.nodes b.base after.history → commands_of_each (length scripts) after.history ≡ lists_of scripts → All (λ e. e.session.value ≤ length scripts) after.history
-    → IsTable view after text status → IsReached (to.Table view) b.nodes b.base b.before (lists_of scripts) text status
-tabled_by view text status b after scripts over base before legal made only h = (after, made_from b after scripts over base before legal made only, h)
-
-pub forecast_by : (outage : Outage) (group : Group) (text : List ℕ) (status : Status) (b after : BookView) (scripts : List (Vec Command Global)) → lacking_in b.nodes group ≡ None
-    → after.nodes ≡ b.nodes → after.base ≡ b.base → after.before ≡ b.before → IsLegalFrom b.nodes b.base after.history → commands_of_each (length scripts) after.history ≡ lists_of scripts
-    → All (λ e. e.session.value ≤ length scripts) after.history → IsForecast outage group after text status
-    → IsForecastUnless (lacking_in b.nodes group) outage group b.nodes b.base b.before (lists_of scripts) text status
-forecast_by outage group text status b after scripts all over base before legal made only h =
-    subst (λ (o : Option Lacking). IsForecastUnless o outage group b.nodes b.base b.before (lists_of scripts) text status) (sym all)
-    (after, made_from b after scripts over base before legal made only, h)
-
--- the nodes lack some of the group
-pub lacking_by : (lacking : Lacking) (outage : Outage) (group : Group) (text : List ℕ) (status : Status) (b : BookView) (lists : List (List Command)) → lacking_in b.nodes group ≡ Some lacking
-    → text ≡ lacking_line lacking → status ≡ ended.Refused → IsForecastUnless (lacking_in b.nodes group) outage group b.nodes b.base b.before lists text status
-lacking_by lacking outage group text status b lists some told end =
-    subst (λ (o : Option Lacking). IsForecastUnless o outage group b.nodes b.base b.before lists text status) (sym some) (told, end)
 
 pub imaged_by : (text : List ℕ) (status : Status) (b after : BookView) (scripts : List (Vec Command Global)) → after.nodes ≡ b.nodes → after.base ≡ b.base → after.before ≡ b.before
     → IsLegalFrom b.nodes b.base after.history → commands_of_each (length scripts) after.history ≡ lists_of scripts → All (λ e. e.session.value ≤ length scripts) after.history

@@ -25,7 +25,9 @@ use Rattle.lrc_tool.specs.declared.sequel.Goal.TheVariants as to
 use Rattle.lrc_tool.specs.declared.status.Status.{Status}
 use Rattle.lrc_tool.specs.declared.status.Status.TheVariants as ended
 use Rattle.lrc_tool.specs.Limits.{sequel_limit}
-use Rattle.lrc_tool.specs.Refusals.{bad_image_text, refused_row_text, full_image_text}
+use Rattle.lrc_refusals.specs.declared.refusal.InputRefusal.TheVariants as refusal
+use Rattle.lrc_refusals.specs.Refusals.{refusal_line}
+use Rattle.lrc_tool.specs.RefusedInputs.{bad_image_text, refused_row_text}
 use Rattle.lrc_tool.specs.Outputs.{first_bad_of}
 use Rattle.lrc_tool.specs.Sequels.{image_size, image_part, bundle_part, lines_before, ReadsImage, Start, start_in, IsBegunUnless, sequel_judging, IsToldAfter, IsToldUnless, IsImaged, safety_status, forecast_of, IsMadeFrom, IsForecastUnless, IsReached, going_to, IsSequelOutput}
 use Rattle.lrc_tool.proofs.CommandLemmas.{as_many_lists, some_lists}
@@ -55,7 +57,7 @@ decide-spent b = elim (decide-counts most_grants (λ s f. grants (b.base.past ++
 
 some-imaged : (b : BookView) → (text : List ℕ) × (status : Status) × IsImaged b text status
 some-imaged b = elim (decide-spent b) [
-  | inl spent ↦ (full_image_text, ended.Refused, inl (spent, refl, refl))
+  | inl spent ↦ (refusal_line refusal.FullImage, ended.Refused, inl (spent, refl, refl))
   | inr free ↦
       let (i, is) = state-image b.nodes (b.base.past ++ b.history) (state_of b) (b.before + length b.history) in
       (image_text i, ended.Done, inr (free, refl, i, is, refl))

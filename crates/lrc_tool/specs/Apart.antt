@@ -1,37 +1,29 @@
 -- What is written where refusals are told apart from answers, in words.
-use Rattle.std.specs.Prelude.{◌≡◌, ℕ, Bool, true, false, List, ◌++◌, codes, Option}
+use Rattle.std.specs.Prelude.{◌≡◌, ℕ, Bool, true, false, List, Option}
 use Rattle.std.specs.Io.KnownBytes.{Appends, Keeps}
 use Rattle.lrc_tool.specs.declared.sequel.Goal.{Goal}
 use Rattle.lrc_tool.specs.declared.status.Status.{Status}
-use Rattle.lrc_tool.specs.declared.status.Status.TheVariants as ended
 use Rattle.lrc_streams.specs.Streams.{AppendsPart}
+use Rattle.lrc_refusals.specs.declared.refusal.InputRefusal.{InputRefusal}
+use Rattle.lrc_refusals.specs.Refusals.{refusal_line, refusal_text}
+use Rattle.lrc_tool.specs.RefusedInputs.{is_answer}
 use Rattle.lrc_tool.specs.Sequels.{IsSequelOutput}
-
--- the input was answered, not refused
-abbrev pub is_answer : Status → Bool
-is_answer ended.Done = true
-is_answer ended.BadLine = false
-is_answer ended.Refused = false
-is_answer ended.Unsafe = true
-
--- a refusal in words, and behind them its line
-abbrev pub refusal_text : List ℕ → List ℕ → List ℕ
-refusal_text words line = codes "lrcman: " ++ words ++ codes ": " ++ line
 
 -- what was written before and after to one of two sinks
 pub record Written : Type 0 where
   pub old : Option (List ℕ)
   pub new : Option (List ℕ)
 
--- the answer was written to the first sink, whole, and nothing to the second; or the refusal to the second, and nothing to the first
+-- The answer was written to the first sink, whole, and nothing to the second; or the refusal was written to the second, behind its
+-- words, and nothing to the first.
 abbrev pub AreWrittenApart : Bool → List ℕ → Written → Written → Type 0
 AreWrittenApart true text sink errors = Appends sink.old sink.new text × Keeps errors.old errors.new
-AreWrittenApart false text sink errors = Keeps sink.old sink.new × (words : List ℕ) × Appends errors.old errors.new (refusal_text words text)
+AreWrittenApart false text sink errors = Keeps sink.old sink.new × (r : InputRefusal) × (text ≡ refusal_line r) × Appends errors.old errors.new (refusal_text r)
 
 -- the same of a prefix
 abbrev pub ArePartlyWrittenApart : Bool → List ℕ → Written → Written → Type 0
 ArePartlyWrittenApart true text sink errors = AppendsPart sink.old sink.new text × Keeps errors.old errors.new
-ArePartlyWrittenApart false text sink errors = Keeps sink.old sink.new × (words : List ℕ) × AppendsPart errors.old errors.new (refusal_text words text)
+ArePartlyWrittenApart false text sink errors = Keeps sink.old sink.new × (r : InputRefusal) × (text ≡ refusal_line r) × AppendsPart errors.old errors.new (refusal_text r)
 
 -- what was written to was flushed after its last write
 abbrev pub IsFlushedApart : Bool → Bool → Bool → Type 0

@@ -13,7 +13,7 @@ use Rattle.lrc_tool.specs.declared.status.Status.TheVariants as ended
 use Rattle.lrc_tool.specs.declared.begin.Begun.{Begun}
 use Rattle.lrc_tool.specs.declared.begin.Begun.TheVariants.{Refused, Good}
 use Rattle.lrc_tool.specs.Limits.{sequel_limit}
-use Rattle.lrc_tool.specs.Refusals.{refused_row_text}
+use Rattle.lrc_tool.specs.RefusedInputs.{refused_row_text}
 use Rattle.lrc_tool.specs.Outputs.{IsAnsweredIn}
 use Rattle.lrc_tool.specs.Judged.{IsAccepted}
 use Rattle.lrc_tool.specs.Sequels.{image_part, bundle_part, ReadsImage, Start, start_in, Going, sequel_judging, IsTold}

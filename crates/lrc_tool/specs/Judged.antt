@@ -13,7 +13,7 @@ use Rattle.lrc_tool.specs.declared.status.Status.{Status}
 use Rattle.lrc_tool.specs.declared.judging.Judged.{Judged}
 use Rattle.lrc_tool.specs.declared.judging.Judged.TheVariants.{Refused, Good}
 use Rattle.lrc_tool.specs.Limits.{script_limit}
-use Rattle.lrc_tool.specs.Refusals.{bad_line_text, bad_line_text_behind}
+use Rattle.lrc_tool.specs.RefusedInputs.{bad_line_text, bad_line_text_behind}
 use Rattle.lrc_tool.specs.Outputs.{early_refusal_over, first_bad_of, AreCommandsOf, Ending, IsAnsweredIn}
 
 -- ---- scripts

@@ -8,8 +8,9 @@ pub use Rattle.lrc_text.specs.Texts
 pub use Rattle.lrc_text.specs.Tables
 pub use Rattle.lrc_text.specs.Masks
 pub use Rattle.lrc_streams.specs.Streams
+pub use Rattle.lrc_refusals.specs.Refusals
 pub mod Limits
-pub mod Refusals
+pub mod RefusedInputs
 pub mod Faults
 pub mod Outputs
 pub mod Plays

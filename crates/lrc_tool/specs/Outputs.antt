@@ -16,7 +16,8 @@ use Rattle.lrc_script.specs.Scripts.{IsScript, BadLine, or_else, first_bad}
 use Rattle.lrc_script.specs.Bundles.{Script, scripts_of, topology_of}
 use Rattle.lrc_tool.specs.Limits.{bundle_limit, script_limit}
 use Rattle.lrc_text.specs.Texts.{output_text_from}
-use Rattle.lrc_tool.specs.Refusals.{topology_line, bad_line_text}
+use Rattle.lrc_refusals.specs.Refusals.{topology_line}
+use Rattle.lrc_tool.specs.RefusedInputs.{bad_line_text}
 
 -- ---- checks
 

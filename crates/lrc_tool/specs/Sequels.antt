@@ -27,7 +27,9 @@ use Rattle.lrc_tool.specs.declared.sequel.Goal.TheVariants as to
 use Rattle.lrc_tool.specs.declared.status.Status.{Status}
 use Rattle.lrc_tool.specs.declared.status.Status.TheVariants as ended
 use Rattle.lrc_tool.specs.Limits.{sequel_limit}
-use Rattle.lrc_tool.specs.Refusals.{bad_line_text_behind, bad_image_text, refused_row_text, full_image_text}
+use Rattle.lrc_refusals.specs.declared.refusal.InputRefusal.TheVariants as refusal
+use Rattle.lrc_refusals.specs.Refusals.{refusal_line}
+use Rattle.lrc_tool.specs.RefusedInputs.{bad_line_text_behind, bad_image_text, refused_row_text}
 use Rattle.lrc_tool.specs.Outputs.{Judging, IsAnsweredIn, AreCommandsOf, IsPlayedFrom, WritesTold, WritesPartOfTold}
 
 -- ---- the parts of a sequel
@@ -117,7 +119,7 @@ IsTold going sequel text status = IsToldUnless going (nat_lt sequel_limit (lengt
 -- the text of the image of a book's state, unless no book can begin in it
 abbrev pub IsImaged : BookView → List ℕ → Status → Type 0
 IsImaged b text status =
-    (IsSpent b × (text ≡ full_image_text) × (status ≡ ended.Refused))
+    (IsSpent b × (text ≡ refusal_line refusal.FullImage) × (status ≡ ended.Refused))
     ⊎ ((IsSpent b → ⊥) × (status ≡ ended.Done) × (i : Image) × IsImageOfBook b i × (text ≡ image_text i))
 
 -- the table of a book's state that is asked for

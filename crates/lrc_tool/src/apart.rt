@@ -3,13 +3,16 @@
 ghost use Rattle.std.specs.Prelude.{◌≡◌, ◌≢◌, ◌||◌, ◌⊎◌, ◌+◌, OnOk, IfOk, IfErr, IfSome, IsErrOf};
 ghost use Rattle.std.specs.Io.KnownBytes.{Keeps};
 ghost use Rattle.lrc_streams.specs.Streams.{is_read_fault, is_write_fault, ConsumesAtMost};
-ghost use Rattle.lrc_tool.specs.Apart.{is_answer, refusal_text, AreWrittenApart, ArePartlyWrittenApart, IsFlushedApart, WritesApart, WritesPartApart};
+ghost use Rattle.lrc_refusals.specs.Refusals.{refusal_text};
+ghost use Rattle.lrc_tool.specs.RefusedInputs.{is_answer};
+ghost use Rattle.lrc_tool.specs.Apart.{AreWrittenApart, ArePartlyWrittenApart, IsFlushedApart, WritesApart, WritesPartApart};
 ghost use Rattle.lrc_streams.specs.declared.streams.RunFault.TheVariants as fault;
 
 use crate::limits::SEQUEL_LIMIT;
 use crate::output::Output;
 use crate::sequel::{Goal, sequel_output};
 use crate::status::Status;
+use lrc_refusals::InputRefusal;
 use lrc_streams::{RunFault, Sink, Source, read_all, write_all};
 use std::alloc::{AllocError, Global};
 
@@ -68,21 +71,20 @@ fn write_apart<W: Sink, E: Sink>(
     ensures write { (W.has_failed sink.new || E.has_failed errors.new) ≡ ((W.has_failed sink.old || E.has_failed errors.old) || is_write_fault result) }
     ensures err { IfErr result (λ e. (e ≡ fault.OutOfMemory) ⊎ (e ≡ fault.Write)) }
 {
-    if output.status.is_answer() {
-        return write_all(sink, output.text.as_slice());
+    match output.refusal {
+        None => write_all(sink, output.text.as_slice()),
+        Some(refusal) => {
+            let told = refusal_text(alloc, refusal)?;
+            write_all(errors, told.as_slice())
+        }
     }
-    let told = refusal_line(alloc, output)?;
-    write_all(errors, told.as_slice())
 }
 
-/// The text of a refusal, with words before its line.
-fn refusal_line(alloc: Global, output: &Output) -> Result<Vec<u8>, AllocError>
-    ensures { IfOk result (λ told. told.items ≡ refusal_text output.now.reason.now output.now.text.items) }
+/// The text of a refusal: its words, and its line behind them.
+fn refusal_text(alloc: Global, refusal: InputRefusal) -> Result<Vec<u8>, AllocError>
+    ensures { IfOk result (λ told. told.items ≡ refusal_text refusal) }
 {
-    let mut told = Vec::new(alloc);
-    told.extend_from_slice(b"lrcman: ")?;
-    told.extend_from_slice(output.reason.as_bytes())?;
-    told.extend_from_slice(b": ")?;
-    told.extend_from_slice(output.text.as_slice())?;
-    Ok(told)
+    let mut told = String::new(alloc);
+    refusal.push_text(&mut told)?;
+    Ok(told.into_bytes())
 }

@@ -11,11 +11,11 @@ ghost use Rattle.lrc_streams.specs.declared.streams.RunFault.TheVariants as faul
 
 use crate::judging::{Judged, judge_behind};
 use crate::limits::SEQUEL_LIMIT;
-use crate::output::{Output, bad_image, refused, refused_row};
+use crate::output::Output;
 use lrc_book::{BeginError, Book, Command, Image};
 use lrc_code::UpgradeNo;
-use lrc_image_text::{ImageTextError, read_image};
-use lrc_reasons::TOO_LONG;
+use lrc_image_text::{ImageTextError, read_image, row_line};
+use lrc_refusals::InputRefusal;
 use lrc_streams::RunFault;
 use lrc_topology::Topology;
 use memchr::memchr;
@@ -40,13 +40,16 @@ pub(crate) fn begin(alloc: Global, sequel: &[u8]) -> Result<Begun, RunFault>
     ensures err { IfErr result (λ e. e ≡ fault.OutOfMemory) }
 {
     if sequel.len() > SEQUEL_LIMIT {
-        return Ok(Begun::Refused(refused(alloc, "bundle 1\n", TOO_LONG)?));
+        return Ok(Begun::Refused(Output::refused(alloc, InputRefusal::TooLong)?));
     }
     let size = image_size(sequel);
     let text = &sequel[..size];
     match read_start(alloc, text) {
         Ok(image) => begin_in(alloc, image, &sequel[size..], count_lines(text)),
-        Err(ImageTextError::BadLine(line)) => Ok(Begun::Refused(bad_image(alloc, line)?)),
+        Err(ImageTextError::BadLine(line)) => {
+            let bad_image = Output::refused(alloc, InputRefusal::ImageLine(line))?;
+            Ok(Begun::Refused(bad_image))
+        }
         Err(ImageTextError::OutOfMemory) => Err(RunFault::OutOfMemory),
     }
 }
@@ -140,9 +143,10 @@ fn begin_over(
     let upgrading = upgrading_in(&image);
     match new_book(alloc, topology, image) {
         Ok(book) => Ok(Begun::Good { book, scripts }),
-        Err(BeginError::Refused(position, cause)) => Ok(Begun::Refused(refused_row(
-            alloc, upgrading, position, cause,
-        )?)),
+        Err(BeginError::Refused(position, cause)) => {
+            let refusal = InputRefusal::Row(row_line(upgrading, position, cause), cause);
+            Ok(Begun::Refused(Output::refused(alloc, refusal)?))
+        }
         Err(BeginError::OutOfMemory) => Err(RunFault::OutOfMemory),
     }
 }

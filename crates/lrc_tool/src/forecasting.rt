@@ -1,11 +1,11 @@
 //! What would become of the stripes if nodes were stopped or lost, after the script of a sequel.
 
-ghost use Rattle.std.specs.Prelude.{◌≡◌, ◌≤◌, [], length, IfOk, IfErr};
+ghost use Rattle.std.specs.Prelude.{◌≡◌, ◌≤◌, true, [], length, IfOk, IfErr};
 ghost use Rattle.lrc_images.specs.Causes.{most_entries};
-ghost use Rattle.lrc_groups.specs.Groups.{lacking_in, lacking_line};
+ghost use Rattle.lrc_groups.specs.Groups.{lacking_in};
+ghost use Rattle.lrc_tool.specs.RefusedInputs.{is_answer};
 ghost use Rattle.lrc_tool.specs.Judged.{lists_of, AreFew};
 ghost use Rattle.lrc_tool.specs.Sequels.{safety_status, IsForecast, IsForecastUnless};
-ghost use Rattle.lrc_tool.specs.declared.status.Status.TheVariants as ended;
 ghost use Rattle.lrc_streams.specs.declared.streams.RunFault.TheVariants as fault;
 
 use crate::output::Output;
@@ -13,7 +13,8 @@ use crate::play::make_scripts;
 use crate::status::Status;
 use lrc_book::{Book, Command, HISTORY_LIMIT};
 use lrc_forecast::{Outage, forecast, is_safe};
-use lrc_groups::{Group, Lacking};
+use lrc_groups::Group;
+use lrc_refusals::InputRefusal;
 use lrc_show::shown_forecast;
 use lrc_streams::RunFault;
 use std::alloc::Global;
@@ -35,7 +36,7 @@ pub(crate) fn forecast_after(
     ensures err { IfErr result (λ e. e ≡ fault.OutOfMemory) }
 {
     match group.lacking_in(book.topology()) {
-        Some(lacking) => lacking_output(alloc, lacking),
+        Some(lacking) => Output::refused(alloc, InputRefusal::Lacking(lacking)),
         None => {
             make_scripts(book, scripts)?;
             forecast_output(alloc, book, outage, group)
@@ -62,22 +63,12 @@ fn forecast_output(
 
 /// How a forecast ends.
 fn safety_status(is_safe: bool) -> Status
-    ensures { result ≡ safety_status is_safe }
+    ensures status { result ≡ safety_status is_safe }
+    ensures answer { is_answer result ≡ true }
 {
     if is_safe {
         Status::Done
     } else {
         Status::Unsafe
     }
-}
-
-/// The output for nodes that the topology lacks.
-fn lacking_output(alloc: Global, lacking: Lacking) -> Result<Output, RunFault>
-    ensures text { IfOk result (λ o. o.text.items ≡ lacking_line lacking) }
-    ensures status { IfOk result (λ o. o.status ≡ ended.Refused) }
-    ensures err { IfErr result (λ e. e ≡ fault.OutOfMemory) }
-{
-    let mut text = String::new(alloc);
-    lacking.push_line(&mut text)?;
-    Ok(Output::refusal(text, Status::Refused, lacking.reason()))
 }

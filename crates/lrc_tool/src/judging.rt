@@ -6,9 +6,9 @@ ghost use Rattle.lrc_tool.specs.Judged.{lists_of, first_bad_in, shifted, ArePars
 ghost use Rattle.lrc_streams.specs.declared.streams.RunFault.TheVariants as fault;
 
 use crate::limits::{BUNDLE_LIMIT, SCRIPT_LIMIT, SEQUEL_LIMIT};
-use crate::output::{Output, bad_line, refused, refused_topology};
+use crate::output::Output;
 use lrc_book::Command;
-use lrc_reasons::{TOO_LONG, TOO_MANY_SCRIPTS};
+use lrc_refusals::InputRefusal;
 use lrc_script::{BundleError, ScriptError, ScriptText, parse_script, split_bundle};
 use lrc_streams::RunFault;
 use lrc_topology::{Topology, TopologyError};
@@ -48,24 +48,27 @@ pub(crate) fn judge_behind(
     ensures err { IfErr result (λ e. e ≡ fault.OutOfMemory) }
 {
     if bundle.len() > BUNDLE_LIMIT {
-        return Ok(Judged::Refused(refused(alloc, "bundle 1\n", TOO_LONG)?));
+        return Ok(Judged::Refused(Output::refused(alloc, InputRefusal::TooLong)?));
     }
     let parts = match split_bundle(alloc, bundle, most) {
         Ok(parts) => parts,
         Err(BundleError::TooManyScripts) => {
-            return Ok(Judged::Refused(refused(alloc, "bundle 2\n", TOO_MANY_SCRIPTS)?));
+            return Ok(Judged::Refused(Output::refused(alloc, InputRefusal::TooManyScripts)?));
         }
         Err(BundleError::OutOfMemory) => return Err(RunFault::OutOfMemory),
     };
     let topology = match Topology::read(alloc, parts.topology) {
         Ok(topology) => topology,
         Err(TopologyError::OutOfMemory) => return Err(RunFault::OutOfMemory),
-        Err(error) => return Ok(Judged::Refused(refused_topology(alloc, error)?)),
+        Err(error) => {
+            return Ok(Judged::Refused(Output::refused(alloc, InputRefusal::Topology(error))?));
+        }
     };
     match parse_scripts(alloc, parts.scripts.as_slice(), passed) {
         Ok(scripts) => Ok(Judged::Good { topology, scripts }),
         Err(ScriptError::Bad { line, cause }) => {
-            Ok(Judged::Refused(bad_line(alloc, line, cause)?))
+            let bad_line = Output::refused(alloc, InputRefusal::Line(line, cause))?;
+            Ok(Judged::Refused(bad_line))
         }
         Err(ScriptError::OutOfMemory) => Err(RunFault::OutOfMemory),
     }

@@ -4,17 +4,15 @@ ghost use Rattle.std.specs.Prelude.{◌≡◌, ◌≢◌, ◌||◌, ◌⊎◌, t
 ghost use Rattle.std.specs.Io.KnownBytes.{Appends, Keeps};
 ghost use Rattle.lrc_code.specs.declared.codes.Code.TheVariants.{Wide, Narrow};
 ghost use Rattle.lrc_streams.specs.Streams.{is_write_fault, AppendsPart};
-ghost use Rattle.lrc_text.specs.Masks.{recovery_text};
-ghost use Rattle.lrc_tool.specs.Recoveries.{recovery_status};
+ghost use Rattle.lrc_text.specs.Masks.{mask_text, recovery_text};
+ghost use Rattle.lrc_tool.specs.Recoveries.{mask_status, recovery_status};
 ghost use Rattle.lrc_streams.specs.declared.streams.RunFault.TheVariants as fault;
 
-use crate::output::Output;
 use crate::status::Status;
 use lrc_code::Code;
-use lrc_reasons::BAD_MASK;
 use lrc_streams::{RunFault, Sink, write_all};
 use lrc_text::{parse_mask, push_mask_line};
-use std::alloc::Global;
+use std::alloc::{AllocError, Global};
 
 /// Writes how many fragments of each class are lost and how many more losses can be recovered, or that the losses are not
 /// recoverable. The mask is of a stripe of the code `Wide`: four hexadecimal digits in either case, with fragment f as
@@ -82,22 +80,27 @@ fn recover_in<W: Sink>(
     ensures err { IfErr result (λ e. (e ≡ fault.OutOfMemory) ⊎ (e ≡ fault.Write)) }
     ensures write { W.has_failed sink.new ≡ (W.has_failed sink.old || is_write_fault result) }
 {
-    let output = recovery_of(alloc, code, mask)?;
-    write_all(sink, output.text.as_slice())?;
-    Ok(output.status)
+    let losses = parse_mask(code, mask);
+    let line = mask_line(alloc, code, losses)?;
+    write_all(sink, line.as_slice())?;
+    Ok(mask_status(losses))
 }
 
-/// The output for this word.
-fn recovery_of(alloc: Global, code: Code, word: &str) -> Result<Output, RunFault>
-    ensures text { IfOk result (λ o. o.text.items ≡ recovery_text code word.now) }
-    ensures status { IfOk result (λ o. o.status ≡ recovery_status code word.now) }
-    ensures err { IfErr result (λ e. e ≡ fault.OutOfMemory) }
+/// The line for a mask, or for a word that is none.
+fn mask_line(alloc: Global, code: Code, mask: Option<u16>) -> Result<Vec<u8>, AllocError>
+    ensures { IfOk result (λ line. line.items ≡ mask_text code mask) }
 {
-    let mask = parse_mask(code, word);
-    let mut text = String::new(alloc);
-    push_mask_line(&mut text, code, mask)?;
-    Ok(match mask {
-        Some(_) => Output::done(text.into_bytes()),
-        None => Output::refusal(text, Status::Refused, BAD_MASK),
-    })
+    let mut line = String::new(alloc);
+    push_mask_line(&mut line, code, mask)?;
+    Ok(line.into_bytes())
+}
+
+/// How a recovery ends.
+fn mask_status(mask: Option<u16>) -> Status
+    ensures { result ≡ mask_status mask }
+{
+    match mask {
+        Some(_) => Status::Done,
+        None => Status::Refused,
+    }
 }

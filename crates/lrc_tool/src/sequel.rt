@@ -11,7 +11,7 @@ ghost use Rattle.lrc_streams.specs.declared.streams.RunFault.TheVariants as faul
 use crate::begin::{Begun, begin};
 use crate::forecasting::forecast_after;
 use crate::limits::SEQUEL_LIMIT;
-use crate::output::{Output, refused};
+use crate::output::Output;
 use crate::play::{make_scripts, play_on};
 use crate::status::Status;
 use lrc_book::{Book, Command, HISTORY_LIMIT};
@@ -19,6 +19,7 @@ use lrc_code::Fault;
 use lrc_forecast::Outage;
 use lrc_groups::Group;
 use lrc_image_text::push_image;
+use lrc_refusals::InputRefusal;
 use lrc_show::{View, shown};
 use lrc_streams::{RunFault, Sink, Source, read_all, write_all};
 use std::alloc::Global;
@@ -129,11 +130,7 @@ fn image_output(alloc: Global, book: &Book) -> Result<Output, RunFault>
             push_image(&mut text, &image)?;
             Ok(Output::done(text))
         }
-        Err(Fault::HistoryFull) => refused(
-            alloc,
-            "image full\n",
-            "a number of the state is at its end",
-        ),
+        Err(Fault::HistoryFull) => Output::refused(alloc, InputRefusal::FullImage),
         Err(Fault::OutOfMemory) => Err(RunFault::OutOfMemory),
     }
 }

@@ -1,6 +1,3 @@
-ghost use Rattle.std.specs.Prelude.{◌≡◌};
-ghost use Rattle.lrc_tool.specs.Apart.{is_answer};
-
 /// How a call of the program ended. The numbers are the program's exit statuses.
 #[derive(Clone, Copy, Debug, PartialEq, Eq)]
 pub enum Status {
@@ -12,16 +9,4 @@ pub enum Status {
     Refused = 2,
     /// An outage is not safe: its forecast was told, and a stripe becomes unavailable or lost.
     Unsafe = 4,
-}
-
-impl Status {
-    /// Whether the input was answered, and not refused.
-    pub(crate) fn is_answer(self) -> bool
-        ensures { result ≡ is_answer self }
-    {
-        match self {
-            Status::Done | Status::Unsafe => true,
-            Status::BadLine | Status::Refused => false,
-        }
-    }
 }

@@ -1,6 +1,6 @@
 use Rattle.std.proofs.Common.{arith, ◌-◌, length, take, drop, refl, ap, ◌∙◌, length-drop}
 use Rattle.std.proofs.lemmas.List.{take_all}
-use Rattle.lrc_tool.specs.Refusals.{bad_image_text}
+use Rattle.lrc_tool.specs.RefusedInputs.{bad_image_text}
 use Rattle.lrc_tool.specs.Sequels.{bundle_part}
 use Rattle.lrc_tool.proofs.JudgedLemmas.{IfOk-map}
 use Rattle.lrc_tool.proofs.SequelLemmas.{begun_by, bad_image_told}
@@ -20,6 +20,6 @@ pub returns-in_ok-bad_image-in-Err-BadLine-clause-begun : goal.returns-in_ok-bad
 returns-in_ok-bad_image-in-Err-BadLine-clause-begun c =
     let sequel = c.args.sequel.now in
     let read = rw c.in-Err-BadLine.field-0-is at c.in-Err-BadLine.ensures.refused in
-    let output = c.in_ok-bad_image-in-Err-BadLine.field-0 in
+    let output = c.in_ok-bad_image-in-Err-BadLine.bad_image in
     bad_image_told sequel _ (bundle_part sequel) _ c.if-sequel-gt-SEQUEL_LIMIT.false (ap (λ n. take n sequel) c.image_size-size.ensures) refl refl c.in-Err-BadLine.line output.text.items output.status read
     (c.in_ok-bad_image-in-Err-BadLine.ensures.text ∙ ap bad_image_text c.in-Err-BadLine.line-is) c.in_ok-bad_image-in-Err-BadLine.ensures.status

@@ -1,32 +1,27 @@
-//! Why an input is refused, in words.
-#![tactic(auto)]
+ghost use Rattle.std.specs.Prelude.{◌≡◌};
+ghost use Rattle.lrc_refusals.specs.Refusals.{line_words, topology_words, row_words};
 
 use lrc_images::Cause as RowCause;
-use lrc_script::Cause;
+use lrc_script::Cause as LineCause;
 use lrc_topology::TopologyError;
 
-/// Why an input is refused that is too long.
-pub const TOO_LONG: &str = "the input has too many bytes";
-
-/// Why an input is refused that has too many scripts.
-pub const TOO_MANY_SCRIPTS: &str = "the input has too many scripts";
-
-/// Why a mask is refused.
-pub const BAD_MASK: &str = "the mask is not four hexadecimal digits of fragments of the code";
-
 /// Why a line of a script is bad.
-pub fn line_reason(cause: Cause) -> &'static str {
+pub(crate) fn line_words(cause: LineCause) -> &'static str
+    ensures { result.now ≡ line_words cause }
+{
     match cause {
-        Cause::UnknownWord => "the first word is not a command",
-        Cause::WordCount => "the command takes another number of words",
-        Cause::NotANumber => "an argument is not a number",
-        Cause::OutOfRange => "a number is out of its range",
-        Cause::TooLong => "the line has more than 1024 bytes",
+        LineCause::UnknownWord => "the first word is not a command",
+        LineCause::WordCount => "the command takes another number of words",
+        LineCause::NotANumber => "an argument is not a number",
+        LineCause::OutOfRange => "a number is out of its range",
+        LineCause::TooLong => "the line has more than 1024 bytes",
     }
 }
 
 /// Why a topology is refused.
-pub fn topology_reason(error: TopologyError) -> &'static str {
+pub(crate) fn topology_words(error: TopologyError) -> &'static str
+    ensures { result.now ≡ topology_words error }
+{
     match error {
         TopologyError::Syntax => "the topology is not TOML in UTF-8",
         TopologyError::NoNodes => "the topology has no nodes",
@@ -40,7 +35,9 @@ pub fn topology_reason(error: TopologyError) -> &'static str {
 }
 
 /// Why a row of an image is refused.
-pub fn row_reason(cause: RowCause) -> &'static str {
+pub(crate) fn row_words(cause: RowCause) -> &'static str
+    ensures { result.now ≡ row_words cause }
+{
     match cause {
         RowCause::UnknownDomain => "no node is in the upgrading domain",
         RowCause::TooManyEntries => "the number of entries is too high",
