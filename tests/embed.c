@@ -4,8 +4,8 @@
 // Usage: embed [images | full | alone | onward]. It prints how many requests for memory there were. With `images` books also
 // begin in images that are wrong or have the largest numbers, and with `full` a history is filled besides. With `alone` each
 // request is refused in a copy of the process that made those before it, and with `onward` it and all that follow: it is
-// reported which copies did not end as they have to. To see one of them again, with REFUSE=N in the environment the Nth
-// request is refused, from 1, and with REFUSE_FROM=N the Nth and all later ones.
+// reported which copies did not end as they have to. With REFUSE_EACH=N in the environment every Nth request has a copy. To
+// see one of them again, with REFUSE=N the Nth request is refused, from 1, and with REFUSE_FROM=N the Nth and all later ones.
 #define _POSIX_C_SOURCE 200809L
 #include "lrc_embed.h"
 
@@ -25,7 +25,7 @@ void *__wrap_realloc(void *, size_t);
 void __wrap_free(void *);
 
 static long held;
-static unsigned long requests, refuse, refuse_from, wrong_copies;
+static unsigned long requests, refuse, refuse_from, refuse_each, wrong_copies;
 // Which of `refuse` and `refuse_from` a copy of the process sets at each request, if there are to be copies.
 static unsigned long *set_in_copy;
 static bool is_copy;
@@ -49,7 +49,7 @@ static void refuse_in_copy(void) {
 static bool refuses_this(void) {
     if (is_looking) return false;
     requests++;
-    if (set_in_copy) refuse_in_copy();
+    if (set_in_copy && requests % refuse_each == 0) refuse_in_copy();
     return requests == refuse || (refuse_from != 0 && requests >= refuse_from);
 }
 
@@ -1083,7 +1083,8 @@ static unsigned long asked(const char *name) {
 int main(int argc, char **argv) {
     const char *word = argc > 1 ? argv[1] : "";
     bool is_full = strcmp(word, "full") == 0;
-    refuse = asked("REFUSE"), refuse_from = asked("REFUSE_FROM");
+    refuse = asked("REFUSE"), refuse_from = asked("REFUSE_FROM"), refuse_each = asked("REFUSE_EACH");
+    if (refuse_each == 0) refuse_each = 1;
     if (strcmp(word, "alone") == 0) set_in_copy = &refuse;
     if (strcmp(word, "onward") == 0) set_in_copy = &refuse_from;
     WANT(lrc_embed_version() == LRC_EMBED_VERSION && lrc_embed_rules_version() == LRC_RULES_VERSION);
