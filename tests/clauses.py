@@ -1,0 +1,200 @@
+"""What callers of a crate can read of it, as text: the clauses of its public functions, its public types, its definitions.
+
+A sum over these tells tests/edits whether a statement has changed since wrong bodies were tried. So bodies, private
+functions, comments, imports, attributes and layout are left out."""
+import functools
+import hashlib
+import os
+import re
+
+from harness import TOP
+
+TOKEN = re.compile(r"""//[^\n]*|b?"(?:\\.|[^"\\])*"|b?'(?:\\[^']+|[^'\\])'|[A-Za-z_]\w*|\d\w*|\s+|.""", re.S)
+CLAUSE = re.compile(r"\b(?:ensures|requires)(?: \w+)?\Z|\bghost \w+ [:=]\Z")
+WORD = re.compile(r"[A-Za-z_][\w'-]*")
+DEFINES = re.compile(r"(?:(?:abbrev|unfoldable|opaque|pub|data|record) )+(?!mod |use )([^\s:(){},]+)")
+
+
+def files_below(folder, ending):
+    for at, folders, names in os.walk(folder):
+        folders.sort()
+        yield from (f"{at}/{name}" for name in sorted(names) if name.endswith(ending))
+
+
+def text_of(path):
+    with open(path, encoding="utf-8") as file:
+        return file.read()
+
+
+@functools.cache
+def crates():
+    """The crates of the repository, each with those of its libraries that are the repository's too."""
+    lines = [line.split("#")[0] for line in text_of(f"{TOP}/crates.txt").splitlines()]
+    pairs = [line.partition(":")[::2] for line in lines if ":" in line]
+    named = {head.split()[0]: libraries.split() for head, libraries in pairs}
+    return {name: [it for it in libraries if it in named] for name, libraries in named.items()}
+
+
+def crates_below(name):
+    found = []
+    for library in crates()[name]:
+        found += [it for it in [*crates_below(library), library] if it not in found]
+    return found
+
+
+# Sources.
+
+
+def is_kept(token):
+    return not (token.isspace() or token.startswith("//"))
+
+
+def closing(tokens, at):
+    """The place behind the bracket that closes the one at a place."""
+    depth = 0
+    while at < len(tokens):
+        depth += (tokens[at] in "([{") - (tokens[at] in ")]}")
+        at += 1
+        if not depth:
+            return at
+    return at
+
+
+def without_attributes(tokens):
+    kept, at = [], 0
+    while at < len(tokens):
+        if tokens[at] == "#" and tokens[at + 1 : at + 2] in (["["], ["!"]):
+            at = closing(tokens, at + 1 + (tokens[at + 1] == "!"))
+        else:
+            kept.append(tokens[at])
+            at += 1
+    return kept
+
+
+def public_fields(tokens):
+    """The fields of a struct that its callers see."""
+    fields, field, depth = [], [], 0
+    for token in [*tokens, ","]:
+        if token == "," and not depth:
+            if "ghost" in field or field[:1] == ["pub"] and field[1:2] != ["("]:
+                fields.append(" ".join(field))
+            field = []
+        else:
+            depth += (token in "([{<") - (token in ")]}>")
+            field.append(token)
+    return " , ".join(fields)
+
+
+def behind_generics(words):
+    """The place of the type in the head of an impl."""
+    at, depth = 1, 0
+    while at < len(words) - 1 and (depth or words[at] == "<"):
+        depth += (words[at] == "<") - (words[at] == ">")
+        at += 1
+    return at
+
+
+def public_items(tokens, around="", is_open=False):
+    """The public items of a source: of each the name by which definitions may know it, and its text without a body."""
+    head, at = [], 0
+    while at < len(tokens):
+        token = tokens[at]
+        at += 1
+        if token != "{" and token != ";":
+            head.append(token)
+            continue
+        text = " ".join(head)
+        is_public = is_open or head[:1] == ["pub"] and head[1:2] != ["("]
+        after = at if token == ";" else closing(tokens, at - 1)
+        inside = tokens[at : after - 1] if token == "{" else []
+        words = [it for it in head if it not in ("pub", "const", "unsafe", "extern") and it[:1] != '"']
+        if token == "{" and (CLAUSE.search(text) or "use" in head[:3]):
+            head += ["{", *inside, "}"]
+            at = after
+            continue
+        kind = words[0] if words else ""
+        name = words[1] if len(words) > 1 else ""
+        if "fn" in words and kind not in ("impl", "trait"):
+            name = words[words.index("fn") + 1]
+            if is_public:
+                yield around or name, f"{around} {text}"
+        elif kind == "impl":
+            of_trait = "for" in words
+            subject = words[words.index("for") + 1] if of_trait else words[behind_generics(words)]
+            yield from public_items(inside, subject, of_trait)
+        elif kind == "trait":
+            yield name, text
+            yield from public_items(inside, name, True)
+        elif kind == "mod" and inside:
+            yield from public_items(inside, around, is_open)
+        elif kind == "use" or words[:2] == ["ghost", "use"]:
+            pass
+        elif kind == "ghost":
+            yield around, f"{around} {text}"
+        elif kind in ("struct", "enum", "type") and is_public:
+            fields = public_fields(inside) if kind == "struct" else " ".join(inside)
+            yield name, f"{text} {fields}"
+        elif is_public and kind not in ("mod", "macro_rules"):
+            yield name or kind, text
+        head, at = [], after
+
+
+@functools.cache
+def sources(crate):
+    """The public items of a crate's sources."""
+    found = []
+    for path in files_below(f"{TOP}/crates/{crate}/src", ".rt"):
+        tokens = [it for it in TOKEN.findall(text_of(path)) if is_kept(it)]
+        found += public_items(without_attributes(tokens))
+    return found
+
+
+@functools.cache
+def definitions(crate):
+    """The definitions of a crate's specs: of each the name and the text, without comments."""
+    found = []
+    for path in files_below(f"{TOP}/crates/{crate}/specs", ".antt"):
+        lines = [re.sub(r"(^|\s)--.*", "", line).rstrip() for line in text_of(path).splitlines()]
+        block = []
+        for line in [*(it for it in lines if it), "use end"]:
+            if DEFINES.match(line) or line.startswith(("use ", "pub use ", "pub mod ", "mod ")):
+                if block:
+                    found.append((DEFINES.match(block[0])[1], "\n".join(block)))
+                block = []
+            if block or DEFINES.match(line):
+                block.append(line)
+    return found
+
+
+# Sums.
+
+
+def sum_of(texts):
+    return hashlib.sha256("\n".join(texts).encode()).hexdigest()[:16]
+
+
+def statements(crate):
+    """What the clauses and the definitions of a crate say."""
+    return [f"{name} = {text}" for name, text in [*sources(crate), *definitions(crate)]]
+
+
+def named_below(crate):
+    """The definitions and types of the crates below that the statements name, and those that these name in turn."""
+    known = {}
+    for library in crates_below(crate):
+        for name, text in [*sources(library), *definitions(library)]:
+            if " fn " not in text[: text.find("(")]:
+                known.setdefault(name, []).append(f"{library} {name} = {text}")
+    found, new = set(), set(WORD.findall("\n".join(statements(crate))))
+    while new:
+        texts = [text for word in new for text in known.pop(word, [])]
+        found.update(texts)
+        new = set(WORD.findall("\n".join(texts))) & known.keys()
+    return sorted(found)
+
+
+def sums(crate):
+    """Sums of what a crate says, of what it names below it, of its sources and of its proofs."""
+    parts = {part: f"{TOP}/crates/{crate}/{part}" for part in ("src", "proofs")}
+    whole = {part: sum_of(text_of(path) for path in files_below(folder, "")) for part, folder in parts.items()}
+    return {"statements": sum_of(statements(crate)), "below": sum_of(named_below(crate)), "sources": whole["src"], "proofs": whole["proofs"]}
