@@ -11,7 +11,7 @@ mod stores;
 use lrc_topology::{Topology, TopologyError};
 pub use seats::{first_seats, second_seats};
 use std::alloc::Global;
-pub use stores::{Layout, mixed_number, nodes, push_node, text};
+pub use stores::{mixed_nodes, mixed_number};
 
 const TWENTY_NODES: &str = "\
 node = [

@@ -1,5 +1,15 @@
-//! Tests of a published book and of the sessions of a manager.
+//! Tests of the codes, of texts of errors, of slots, of a book, of sessions, and of scripts on threads.
 #![tactic(auto)]
 
 #[cfg(test)]
-mod tests;
+mod book;
+#[cfg(test)]
+mod code;
+#[cfg(test)]
+mod errors;
+#[cfg(test)]
+mod runs;
+#[cfg(test)]
+mod sessions;
+#[cfg(test)]
+mod slots;

@@ -1,4 +1,4 @@
-//! Streams that fail, bundles that are split, and single lines of scripts. The files under `examples` test what whole runs
+//! Streams that fail, and bundles that are cut anywhere. The files under `examples` test lines, topologies, what whole runs
 //! print, and the texts of refusals.
 
 mod bundles;
@@ -6,9 +6,7 @@ mod checks;
 mod errors;
 mod fakes;
 mod recoveries;
-mod scripts;
 mod several;
-mod splitting;
 mod streams;
 
 /// One node with four slots, on which a stripe is to be placed.

@@ -1,4 +1,4 @@
-//! Which sessions end their manager, and one that calls between two others.
+//! Which sessions end their manager.
 
 use super::scenes::{Scene, expect_scene};
 use super::{ONE, S1, S2, TWO, call, expect_fronts, expect_numbers, finish, meet, put, take};
@@ -84,29 +84,5 @@ pub(super) fn keep_one<N: Naming, R: Wait + Abort>(
     let only = take(rt, &mut sessions);
     let (manager, mut sessions) = expect_out(rt, manager, sessions, 0);
     put(rt, &mut sessions, only);
-    finish(rt, manager, sessions)
-}
-
-#[test]
-fn two_sessions_meet_at_the_call_of_a_third(rt: HostRuntime) -> Result<(), Fail> {
-    let made = [(S1, 0), (S2, 0), (SessionNo { value: 3 }, 1)];
-    expect_scene(&rt, rt.alloc(), Scene::MeetAtACall, &made)
-}
-
-/// Two sessions that have seen nothing meet after the call of a third, and have then seen it.
-pub(super) fn meet_at_a_call<N: Naming, R: Wait + Abort>(
-    rt: &R,
-    manager: Manager<N>,
-    mut sessions: Vec<Session<N>>,
-) -> Closing {
-    let mut third = take(rt, &mut sessions);
-    let mut second = take(rt, &mut sessions);
-    let mut first = take(rt, &mut sessions);
-    call(rt, &manager, &mut third, Command::Place(ONE));
-    expect_fronts(rt, &first, &second, (0, 0));
-    meet(rt, &manager, &mut first, &mut second, 1);
-    put(rt, &mut sessions, first);
-    put(rt, &mut sessions, second);
-    put(rt, &mut sessions, third);
     finish(rt, manager, sessions)
 }

@@ -9,7 +9,6 @@ mod limits;
 mod looks;
 mod managers;
 mod scenes;
-mod ticks;
 
 use lrc_book::Command;
 use lrc_code::{Fault, SessionNo, StripeNo};

@@ -3,10 +3,8 @@
 ghost use Rattle.std.specs.Prelude.{◌≡◌};
 
 use super::{
-    ONE, S1, S2, TWO, call, close, expect_made, finish, leases, limits, looks, managers, parts,
-    put, take, ticks,
+    S1, S2, close, expect_made, finish, leases, limits, looks, managers, parts, put, take,
 };
-use lrc_book::Command;
 use lrc_code::SessionNo;
 use lrc_sessions::{Closing, Manager, Naming, Parts, Session};
 use std::alloc::Global;
@@ -14,7 +12,7 @@ use std::marker::Brand;
 use std::process::Abort;
 use std::sync::Wait;
 use std::test::Fail;
-use std::thread::{Threads, join};
+use std::thread::Threads;
 
 /// What the sessions of a manager do.
 #[derive(Clone, Copy)]
@@ -23,8 +21,6 @@ pub(super) enum Scene {
     PlaceInTurn,
     /// The only session comes back late.
     KeepOne,
-    /// Two of three meet after the call of the third.
-    MeetAtACall,
     /// Two do this, and come back in the other order.
     Pair(Pair),
 }
@@ -32,24 +28,16 @@ pub(super) enum Scene {
 /// What two sessions of a manager do.
 #[derive(Clone, Copy)]
 pub(super) enum Pair {
-    /// Each places a stripe, on a thread of its own.
-    PlaceAtOnce,
     /// One makes calls, and the other looks on a thread of its own until it has seen them.
     Watch,
     /// Each places a stripe, and both look.
     LookAround,
-    /// One places a narrow stripe and the other a wide one, and both look.
-    LookAtBothCodes,
     /// One makes many calls before the other looks.
     LookFromBehind,
     /// One makes the only call that the history has room for.
     MeetFullHistory,
-    /// The history has room for no call.
-    CallWithoutRoom,
     /// One takes a lease over from the other.
     TakeOver,
-    /// The ticks of one end a lease of the other.
-    LoseLease,
 }
 
 impl Pair {
@@ -62,15 +50,11 @@ impl Pair {
         second: &mut Session<N>,
     ) {
         match self {
-            Pair::PlaceAtOnce => place_at_once(rt, manager, first, second),
             Pair::Watch => looks::watch(rt, manager, first, second),
             Pair::LookAround => looks::look_around(rt, alloc, manager, first, second),
-            Pair::LookAtBothCodes => looks::look_at_both_codes(rt, alloc, manager, first, second),
             Pair::LookFromBehind => looks::look_from_behind(rt, manager, first, second),
             Pair::MeetFullHistory => limits::meet_a_full_history(rt, manager, first, second),
-            Pair::CallWithoutRoom => limits::call_without_room(rt, manager, first, second),
             Pair::TakeOver => leases::take_over(rt, manager, first, second),
-            Pair::LoseLease => ticks::lose_lease(rt, manager, first, second),
         }
     }
 }
@@ -104,7 +88,6 @@ fn play<N: Naming + Send + Sync, R: Threads + Wait + Abort + Sync>(
     match scene {
         Scene::PlaceInTurn => managers::place_in_turn(rt, manager, sessions),
         Scene::KeepOne => managers::keep_one(rt, manager, sessions),
-        Scene::MeetAtACall => managers::meet_at_a_call(rt, manager, sessions),
         Scene::Pair(pair) => by_two(rt, alloc, manager, sessions, pair),
     }
 }
@@ -151,26 +134,4 @@ pub(super) fn expect_pair<R: Threads + Wait + Abort + Sync>(
         Scene::Pair(pair),
         &[(S1, calls.0), (S2, calls.1)],
     )
-}
-
-#[test]
-fn sessions_on_two_threads_make_one_history(rt: HostRuntime) -> Result<(), Fail> {
-    expect_pair(&rt, rt.alloc(), Pair::PlaceAtOnce, (1, 1))
-}
-
-fn place_at_once<N: Naming + Send + Sync, R: Threads + Wait + Abort + Sync>(
-    rt: &R,
-    manager: &Manager<N>,
-    first: &mut Session<N>,
-    second: &mut Session<N>,
-) {
-    join(
-        rt,
-        || {
-            call(rt, manager, first, Command::Place(ONE));
-        },
-        || {
-            call(rt, manager, second, Command::Place(TWO));
-        },
-    );
 }

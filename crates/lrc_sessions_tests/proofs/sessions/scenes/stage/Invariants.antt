@@ -1,4 +1,4 @@
-use Rattle.lrc_sessions_tests.proofs.tests.scenes.stage.Given as goal
+use Rattle.lrc_sessions_tests.proofs.sessions.scenes.stage.Given as goal
 
 abbrev pub ghosts-play-N-Naming : goal.ghosts-play-N-Naming
 ghosts-play-N-Naming g a = record { count = a.parts.count }

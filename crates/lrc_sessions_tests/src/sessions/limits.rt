@@ -71,23 +71,6 @@ fn expect_full<N: Naming, R: Wait + Abort>(rt: &R, manager: &Manager<N>, session
     assert!(rt; called.err() == Some(Fault::HistoryFull));
 }
 
-#[test]
-fn a_history_without_room_is_full_at_once(rt: HostRuntime) -> Result<(), Fail> {
-    expect_limited(&rt, rt.alloc(), Pair::CallWithoutRoom, 0)
-}
-
-/// Neither session makes a call.
-pub(super) fn call_without_room<N: Naming, R: Wait + Abort>(
-    rt: &R,
-    manager: &Manager<N>,
-    first: &mut Session<N>,
-    second: &mut Session<N>,
-) {
-    expect_full(rt, manager, first);
-    expect_full(rt, manager, second);
-    expect_fronts(rt, first, second, (0, 0));
-}
-
 /// Plays what two sessions do with this limit of the history, and expects that the first session made all its entries.
 fn expect_limited<R: Threads + Wait + Abort + Sync>(
     rt: &R,

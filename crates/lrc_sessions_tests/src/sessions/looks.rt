@@ -93,48 +93,6 @@ pub(super) fn look_around<N: Naming, R: Wait + Abort>(
     expect_both_placed(rt, alloc, first);
 }
 
-#[test]
-fn looks_tell_the_codes_apart(rt: HostRuntime) -> Result<(), Fail> {
-    expect_pair(&rt, rt.alloc(), Pair::LookAtBothCodes, (2, 2))
-}
-
-/// One session places a narrow stripe and the other a wide one, and each reports that a node with a fragment of both failed.
-pub(super) fn look_at_both_codes<N: Naming, R: Wait + Abort>(
-    rt: &R,
-    alloc: Global,
-    manager: &Manager<N>,
-    first: &mut Session<N>,
-    second: &mut Session<N>,
-) {
-    call(rt, manager, first, Command::Place6(ONE));
-    call(rt, manager, second, Command::Place(TWO));
-    call(rt, manager, first, fail(0));
-    call(rt, manager, second, fail(3));
-    meet(rt, manager, first, second, 4);
-    expect_both_at_risk(rt, alloc, first);
-    expect_both_at_risk(rt, alloc, second);
-}
-
-fn fail(number: u16) -> Command {
-    Command::Fail(NodeNo { value: number })
-}
-
-/// The narrow stripe has lost a fragment of each local group, and the wide one two fragments of one group, so that it
-/// survives one loss less and is repaired first.
-fn expect_both_at_risk<N: Naming>(rt: &impl Abort, alloc: Global, session: &mut Session<N>) {
-    assert!(rt; level_of(rt, session, ONE) == (4, Some(Level::AtRisk(2))));
-    assert!(rt; level_of(rt, session, TWO) == (4, Some(Level::AtRisk(1))));
-    assert!(rt; load_of(rt, session, NodeNo { value: 1 }) == (4, Some(2)));
-    assert!(rt; load_of(rt, session, NodeNo { value: 9 }) == (4, Some(1)));
-    let wanted = [(TWO, Level::AtRisk(1)), (ONE, Level::AtRisk(2))];
-    match session.risk(alloc) {
-        Ok(seen) => {
-            assert!(rt; seen.front == 4 && seen.value.as_slice() == wanted.as_slice());
-        }
-        Err(_) => panic!(rt; "room and a view"),
-    }
-}
-
 /// Expects that a session sees `front` entries, and this stripe whole.
 fn expect_whole<N: Naming>(
     rt: &impl Abort,
