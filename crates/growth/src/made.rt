@@ -33,18 +33,34 @@ fn try_once(rt: &impl Host, call: &str, text: &str) -> Result<bool, Stop> {
 
 /// The same for a value that is made of a text or of the nodes of a store. It is dropped before the second mark.
 fn make_once(rt: &impl Host, call: &str, text: &str) -> Result<bool, Stop> {
-    let alloc = rt.alloc();
-    let nodes = twenty_nodes(alloc)?;
+    match call {
+        "Topology::read" => {
+            begin(rt);
+            end(rt, &Topology::read(rt.alloc(), text.as_bytes()).and(Ok(())))
+        }
+        "parse_script" => {
+            begin(rt);
+            end(rt, &parse_script(rt.alloc(), text.as_bytes(), 1))
+        }
+        _ => make_of_nodes(rt, call, twenty_nodes(rt.alloc())?),
+    }
+}
+
+fn make_of_nodes(rt: &impl Host, call: &str, nodes: Topology) -> Result<bool, Stop> {
     begin(rt);
     match call {
-        "Topology::read" => end(rt, &Topology::read(alloc, text.as_bytes()).and(Ok(()))),
-        "parse_script" => end(rt, &parse_script(alloc, text.as_bytes(), 1)),
-        "SlotTable::new" => end(rt, &SlotTable::new(alloc, &nodes).and(Ok(()))),
-        "Stripes::new" => end(rt, &Stripes::new(alloc, &nodes).and(Ok(()))),
-        "Book::new" => end(rt, &Book::new(alloc, nodes).and(Ok(()))),
-        "Book::with_limit" => end(rt, &Book::with_limit(alloc, nodes, 2).and(Ok(()))),
-        "Parts::new" => end(rt, &Parts::new(alloc, nodes, 2).and(Ok(()))),
-        "Parts::with_limit" => end(rt, &Parts::with_limit(alloc, nodes, 2, 2).and(Ok(()))),
+        "SlotTable::new" => end(rt, &SlotTable::new(rt.alloc(), &nodes).and(Ok(()))),
+        "Stripes::new" => end(rt, &Stripes::new(rt.alloc(), &nodes).and(Ok(()))),
+        "Book::new" => end(rt, &Book::new(rt.alloc(), nodes).and(Ok(()))),
+        "Book::with_limit" => end(rt, &Book::with_limit(rt.alloc(), nodes, 2).and(Ok(()))),
+        _ => make_parts(rt, call, nodes),
+    }
+}
+
+fn make_parts(rt: &impl Host, call: &str, nodes: Topology) -> Result<bool, Stop> {
+    match call {
+        "Parts::new" => end(rt, &Parts::new(rt.alloc(), nodes, 2).and(Ok(()))),
+        "Parts::with_limit" => end(rt, &Parts::with_limit(rt.alloc(), nodes, 2, 2).and(Ok(()))),
         _ => Err(Stop),
     }
 }

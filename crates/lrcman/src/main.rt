@@ -34,22 +34,24 @@ enum Request<'a> {
     Recover6 { mask: &'a str },
 }
 
-/// The command lines that the program takes. Most steps hand their only command on, so that none is let go between.
+/// The command lines that the program takes. Each step hands the only command on, so that none is dropped between.
 fn command_line<'a>(alloc: Global) -> Result<Command<'a>, AllocError> {
-    let recover = of_word(alloc, "recover", "mask")?;
-    let command = Command::new(alloc, "lrcman").subcommand(recover)?;
-    let recover6 = of_word(alloc, "recover6", "mask")?;
-    let command = command.subcommand(recover6)?;
-    let command = command.subcommand(Command::new(alloc, "run"))?;
+    let command = Command::new(alloc, "lrcman").subcommand(Command::new(alloc, "run"))?;
     let command = command.subcommand(Command::new(alloc, "check"))?;
     let command = command.subcommand(Command::new(alloc, "image"))?;
     let command = command.subcommand(Command::new(alloc, "resume"))?;
-    let show = of_word(alloc, "show", "what")?;
-    let command = command.subcommand(show)?;
-    let stop = of_words(alloc, "may-stop", "nodes")?;
-    let command = command.subcommand(stop)?;
-    let lose = of_words(alloc, "may-lose", "nodes")?;
-    command.subcommand(lose)
+    let command = with_one(command, of_word(alloc, "recover", "mask"))?;
+    let command = with_one(command, of_word(alloc, "recover6", "mask"))?;
+    let command = with_one(command, of_word(alloc, "show", "what"))?;
+    let command = with_one(command, of_words(alloc, "may-stop", "nodes"))?;
+    with_one(command, of_words(alloc, "may-lose", "nodes"))
+}
+
+fn with_one<'a>(
+    command: Command<'a>,
+    one: Result<Command<'a>, AllocError>,
+) -> Result<Command<'a>, AllocError> {
+    command.subcommand(one?)
 }
 
 /// The command line of a word and one argument or more.
@@ -74,20 +76,21 @@ fn parse_request<'a>(alloc: Global, words: &'a [String]) -> Result<Request<'a>, 
 
 /// The request that the words were matched with.
 fn request_in<'a>(alloc: Global, matches: &ArgMatches<'a>) -> Result<Request<'a>, Stop> {
-    match matches.subcommand() {
-        Some(("run", _)) => Ok(Request::Run),
-        Some(("check", _)) => Ok(Request::Check),
-        Some(("image", _)) => Ok(Request::Image),
-        Some(("resume", _)) => Ok(Request::Resume),
-        Some(("recover", found)) => Ok(Request::Recover {
+    let (word, found) = matches.subcommand().ok_or(Stop::Usage)?;
+    match word {
+        "run" => Ok(Request::Run),
+        "check" => Ok(Request::Check),
+        "image" => Ok(Request::Image),
+        "resume" => Ok(Request::Resume),
+        "recover" => Ok(Request::Recover {
             mask: mask_in(found)?,
         }),
-        Some(("recover6", found)) => Ok(Request::Recover6 {
+        "recover6" => Ok(Request::Recover6 {
             mask: mask_in(found)?,
         }),
-        Some(("show", found)) => Ok(Request::Show(view_in(found)?)),
-        Some(("may-stop", found)) => Ok(Request::Forecast(Outage::Stop, named_in(alloc, found)?)),
-        Some(("may-lose", found)) => Ok(Request::Forecast(Outage::Lose, named_in(alloc, found)?)),
+        "show" => Ok(Request::Show(view_in(found)?)),
+        "may-stop" => Ok(Request::Forecast(Outage::Stop, named_in(alloc, found)?)),
+        "may-lose" => Ok(Request::Forecast(Outage::Lose, named_in(alloc, found)?)),
         _ => Err(Stop::Usage),
     }
 }
