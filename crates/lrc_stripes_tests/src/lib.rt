@@ -1,5 +1,0 @@
-//! Tests of stripes.
-#![tactic(auto)]
-
-#[cfg(test)]
-mod stripes;
