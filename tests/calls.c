@@ -15,6 +15,7 @@
 //                    output and standard error, and the case; and then these bytes. All three streams have to be ordinary files
 //                    that can be read. While there are threads nothing is tried: a fork copies only the one that calls.
 //   KINDS=..         which kinds of calls CASES tries: words of MEMORY INPUT OUTPUT ERRORS
+//   EACH=N           of each kind only the first call is tried, and each Nth after it
 #define _GNU_SOURCE
 #include <errno.h>
 #include <fcntl.h>
@@ -47,7 +48,7 @@ struct stream {
   unsigned long calls, failing, error, shortened;
 };
 static struct stream streams[STREAMS];
-static unsigned long requests, refuse, refuse_from, is_short;
+static unsigned long requests, refuse, refuse_from, is_short, each;
 // Whether requests are counted: from the start on, or between the marks, of which each counts once.
 static int is_counting, is_begun, is_ended;
 static const char *counts, *kinds;
@@ -74,6 +75,7 @@ __attribute__((constructor)) static void begin(void) {
   counts = getenv("COUNTS"), kinds = getenv("KINDS");
   const char *name = getenv("CASES");
   if (name && kinds) {
+    each = asked("EACH", "", &none);
     cases = open(name, O_WRONLY | O_CREAT | O_TRUNC, 0600);
     for (int file = OUTPUT; file < STREAMS; file++) outputs[file] = memfd_create(names[file], 0);
   }
@@ -110,9 +112,10 @@ static void copy(int to, int from) {
     if (sendfile(to, from, &at, size - at) <= 0) abort();
 }
 
-static int is_tried(const char *kind) {
+static int is_tried(const char *kind, unsigned long nth) {
+  if (cases < 0 || !strstr(kinds, kind) || (each && (nth - 1) % each)) return 0;
   struct stat it; // (the folder has a link for each thread, and two of its own)
-  return cases >= 0 && strstr(kinds, kind) && stat("/proc/self/task", &it) == 0 && it.st_nlink == 3;
+  return stat("/proc/self/task", &it) == 0 && it.st_nlink == 3;
 }
 
 // A child has streams of its own, which begin where those of its parent are.
@@ -146,7 +149,7 @@ static int is_child(const char *name, const char *stream, unsigned long nth, con
 }
 
 static void try_request(unsigned long nth) {
-  if (!is_tried("MEMORY")) return;
+  if (!is_tried("MEMORY", nth)) return;
   if (is_child("REFUSE", "", nth, ""))
     refuse = nth;
   else if (is_child("REFUSE_FROM", "", nth, ""))
@@ -155,7 +158,7 @@ static void try_request(unsigned long nth) {
 
 static void try_call(int file, struct stream *it) {
   char how[16];
-  if (!is_tried(names[file])) return;
+  if (!is_tried(names[file], it->calls)) return;
   for (size_t i = 0; i < sizeof errors / sizeof *errors; i++) {
     if (file == INPUT && !errors[i]) continue;
     snprintf(how, sizeof how, ":%lu", errors[i]);
