@@ -9,10 +9,9 @@ mod runs;
 mod trial;
 
 use crate::stop::Stop;
-use lrc_script::parse_script;
 use std::thread::Threads;
+use trial::Call;
 pub(crate) use trial::Host;
-use trial::{Call, Trial};
 
 /// Tries the call with this name. It takes the text that the call reads, or a script that ends with the call's command.
 pub(crate) fn try_call<R: Host + Threads + Sync>(
@@ -20,36 +19,20 @@ pub(crate) fn try_call<R: Host + Threads + Sync>(
     name: &str,
     text: &str,
 ) -> Result<(), Stop> {
-    let Some(call) = call_of(name) else {
-        return made::try_call(rt, name, text);
-    };
-    let trial = trial_of(rt, call, text)?;
     match name {
-        "Book::call" | "Book::decide" | "Book::prepare" | "Book::risk" => {
-            books::try_call(rt, &trial)
-        }
-        "Keeper::apply" | "Viewer::risk" | "Viewer::level_of" => keepers::try_call(rt, &trial),
-        "run_sessions" => runs::try_call(rt, trial),
-        _ => managers::try_call(rt, &trial),
+        "Book::call" => books::try_call(rt, Call::Command, text),
+        "Book::decide" => books::try_call(rt, Call::Decide, text),
+        "Book::prepare" => books::try_call(rt, Call::Prepare, text),
+        "Book::risk" => books::try_call(rt, Call::Risk, text),
+        "Keeper::apply" => keepers::try_call(rt, Call::Command, text),
+        "Viewer::risk" => keepers::try_call(rt, Call::Risk, text),
+        "Viewer::level_of" => keepers::try_call(rt, Call::Looks, text),
+        "Manager::call" => managers::try_call(rt, Call::Command, text),
+        "Session::risk" => managers::try_call(rt, Call::Risk, text),
+        "Session::level_of" => managers::try_call(rt, Call::Looks, text),
+        "Manager::meet" => managers::try_call(rt, Call::Meet, text),
+        "Manager::finish" => managers::try_call(rt, Call::Finish, text),
+        "run_sessions" => runs::try_call(rt, text),
+        _ => made::try_call(rt, name, text),
     }
-}
-
-/// What is tried on a value, or `None` for a call that makes a value or reserves memory.
-fn call_of(name: &str) -> Option<Call> {
-    match name {
-        "Book::call" | "Keeper::apply" | "Manager::call" | "run_sessions" => Some(Call::Command),
-        "Book::decide" => Some(Call::Decide),
-        "Book::prepare" => Some(Call::Prepare),
-        "Book::risk" | "Viewer::risk" | "Session::risk" => Some(Call::Risk),
-        "Viewer::level_of" | "Session::level_of" => Some(Call::Looks),
-        "Manager::meet" => Some(Call::Meet),
-        "Manager::finish" => Some(Call::Finish),
-        _ => None,
-    }
-}
-
-fn trial_of(rt: &impl Host, call: Call, text: &str) -> Result<Trial, Stop> {
-    let mut before = parse_script(rt.alloc(), text.as_bytes(), 1)?;
-    let last = before.pop().ok_or(Stop::Failed)?;
-    Ok(Trial { call, before, last })
 }

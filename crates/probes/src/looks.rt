@@ -10,7 +10,7 @@ mod task;
 mod worker;
 
 use crate::stop::Stop;
-use crate::store::{close_book, new_book};
+use crate::store::new_book;
 use concurrent::{Ran, run_concurrently};
 use lrc_code::StripeNo;
 use lrc_samples::twenty_nodes;
@@ -30,6 +30,18 @@ const MOST_CALLS: u64 = 1_000_000;
 
 /// The most sessions that look while another makes calls.
 const MOST_READERS: u8 = 7;
+
+/// What each session of a run is printed as, with what it does.
+const NAMES: [&str; 8] = [
+    "session 1 calls",
+    "session 2 looks",
+    "session 3 looks",
+    "session 4 looks",
+    "session 5 looks",
+    "session 6 looks",
+    "session 7 looks",
+    "session 8 looks",
+];
 
 /// How many sessions look, and what each session does.
 #[derive(Clone, Copy)]
@@ -66,7 +78,7 @@ pub(crate) fn measure<T: Threads + Wait + Clock + CpuClock + Sync>(
 {
     let start = Moment::now(rt).ok_or(Stop::NoClock)?;
     let alone = run_alone(rt, rt.alloc(), request.plan)?;
-    report(rt, "book", "calls", start, &alone)?;
+    report(rt, "book calls", start, &alone)?;
     let ran = run_all(threads, rt.alloc(), request.readers, request.plan)?;
     report_all(rt, start, &ran)
 }
@@ -75,7 +87,7 @@ pub(crate) fn measure<T: Threads + Wait + Clock + CpuClock + Sync>(
 fn run_alone<R: Clock + CpuClock>(rt: &R, alloc: Global, plan: Plan) -> Result<Done, Stop> {
     let mut book = new_book(alloc)?;
     let done = time_book(rt, &mut book, plan.stripe, plan.calls);
-    close_book(book);
+    drop(book);
     Ok(done)
 }
 
@@ -96,27 +108,19 @@ fn run_all<R: Threads + Wait + Clock + CpuClock + Sync>(
 
 /// Prints what each session did, and the number of entries of the history.
 fn report_all(rt: &HostRuntime, start: Moment, ran: &Ran) -> Result<(), Stop> {
-    for (i, done) in ran.done.iter().enumerate() {
-        let what = if i == 0 { "calls" } else { "looks" };
-        let name = format!(in rt.alloc(); "session {}", i + 1)?;
-        report(rt, name.as_str(), what, start, done)?;
+    for (name, done) in NAMES.iter().zip(ran.done.iter()) {
+        report(rt, name, start, done)?;
     }
     println!(rt; "entries {}", ran.entries)?;
     Ok(())
 }
 
 /// Prints how much one thread did, and when, in nanoseconds from the start.
-fn report(
-    rt: &HostRuntime,
-    name: &str,
-    what: &str,
-    start: Moment,
-    done: &Done,
-) -> Result<(), Stop> {
-    println!(rt; "{name} {what} {}", done.count)?;
+fn report(rt: &HostRuntime, name: &str, start: Moment, done: &Done) -> Result<(), Stop> {
+    println!(rt; "{name} {}", done.count)?;
     let span = done.span.ok_or(Stop::NoClock)?;
     eprintln!(rt;
-        "{name} {what} begun {} ended {} processor {} whole {}",
+        "{name} begun {} ended {} processor {} whole {}",
         span.begun(start),
         span.ended(start),
         span.processor(),

@@ -1,7 +1,7 @@
 use std::error::Error;
 
 /// Why the program ends early.
-#[derive(Clone, Copy, Debug)]
+#[derive(Clone, Copy)]
 pub(crate) enum Stop {
     /// The command line is wrong.
     Usage,

@@ -1,4 +1,4 @@
-//! The book that calls are tried on, and the ends of books and managers.
+//! The book that calls are made on, and the end of a manager.
 
 ghost use Rattle.std.specs.Prelude.{◌≡◌, [], IfOk};
 ghost use Rattle.lrc_rules.specs.Histories.{first_world};
@@ -22,9 +22,6 @@ pub(crate) fn new_book(alloc: Global) -> Result<Book, Stop>
     }
 }
 
-/// Drops a book. A function of its own, so that the drop is proved once.
-pub(crate) fn close_book(_book: Book) {}
-
 /// Ends a manager, given all its sessions.
 pub(crate) fn finish<N: Naming, R: Wait>(
     rt: &R,
@@ -38,6 +35,3 @@ pub(crate) fn finish<N: Naming, R: Wait>(
         Err(FinishError::SessionsOut(_manager, _sessions)) => unreachable!(),
     }
 }
-
-/// Drops what is left of a manager. A function of its own, so that the drop is proved once.
-pub(crate) fn close(_closing: Closing) {}

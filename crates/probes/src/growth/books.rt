@@ -2,7 +2,7 @@
 
 use crate::growth::trial::{Call, FIRST, Host, Trial, begin, end};
 use crate::stop::Stop;
-use crate::store::{close_book, new_book};
+use crate::store::new_book;
 use lrc_book::{Book, Command};
 use lrc_code::{Fragment, NodeNo, StripeNo};
 
@@ -39,10 +39,11 @@ fn look_at_stripe(rt: &impl Host, book: &Book, stripe: StripeNo) -> Result<(), S
 }
 
 /// Tries a call of a new book.
-pub(crate) fn try_call(rt: &impl Host, trial: &Trial) -> Result<(), Stop> {
+pub(crate) fn try_call(rt: &impl Host, call: Call, text: &str) -> Result<(), Stop> {
+    let trial = Trial::read(rt.alloc(), call, text)?;
     let mut book = new_book(rt.alloc())?;
-    let told = try_on(rt, &mut book, trial);
-    close_book(book);
+    let told = try_on(rt, &mut book, &trial);
+    drop(book);
     told
 }
 

@@ -6,7 +6,7 @@ ghost use Rattle.lrc_rules.specs.Histories.{first_world};
 use crate::growth::books::look;
 use crate::growth::trial::{Call, FIRST, Host, Looked, NODE, ONE, Risk, Trial, begin, end};
 use crate::stop::Stop;
-use crate::store::{close_book, new_book};
+use crate::store::new_book;
 use lrc_board::{Keeper, LookError, NewLog, OpenError, ViewNaming, Viewer};
 use lrc_book::Book;
 use lrc_code::{NodeNo, StripeNo};
@@ -24,8 +24,9 @@ fn open_over<N: ViewNaming, R: Host>(rt: &R, book: Book, log: NewLog) -> Result<
 {
     begin(rt);
     match Keeper::<N>::open(rt.alloc(), rt, book, log, 2) {
-        Ok((keeper, _viewers)) => {
-            close_book(keeper.into_book(rt));
+        Ok((keeper, viewers)) => {
+            drop(viewers);
+            drop(keeper.into_book(rt));
             end(rt, &Ok::<(), OpenError>(()))
         }
         Err(error) => end(rt, &Err::<(), OpenError>(error)),
@@ -33,9 +34,10 @@ fn open_over<N: ViewNaming, R: Host>(rt: &R, book: Book, log: NewLog) -> Result<
 }
 
 /// Tries a call of a new keeper.
-pub(crate) fn try_call<R: Host>(rt: &R, trial: &Trial) -> Result<(), Stop> {
+pub(crate) fn try_call<R: Host>(rt: &R, call: Call, text: &str) -> Result<(), Stop> {
+    let trial = Trial::read(rt.alloc(), call, text)?;
     let book = new_book(rt.alloc())?;
-    try_over::<Brand, _>(rt, book, NewLog::new(), trial)
+    try_over::<Brand, _>(rt, book, NewLog::new(), &trial)
 }
 
 fn try_over<N: ViewNaming, R: Host>(
@@ -47,25 +49,26 @@ fn try_over<N: ViewNaming, R: Host>(
     requires book { (book.history ≡ []) × (book.nodes ≡ N.topology) × (book.limit ≡ N.limit) × (book.base ≡ first_world) }
     requires log { (log.prefix.book ≡ N.log) × (log.permit.nib.key ≡ N.start) }
 {
-    let (mut keeper, viewers) = Keeper::<N>::open(rt.alloc(), rt, book, log, 1)?;
-    let told = try_on(rt, &mut keeper, viewers, trial);
-    close_book(keeper.into_book(rt));
+    let (mut keeper, mut viewers) = Keeper::<N>::open(rt.alloc(), rt, book, log, 1)?;
+    let told = try_on(rt, &mut keeper, viewers.as_mut_slice(), trial);
+    drop(viewers);
+    drop(keeper.into_book(rt));
     told
 }
 
 fn try_on<N: ViewNaming, R: Host>(
     rt: &R,
     keeper: &mut Keeper<N>,
-    mut viewers: Vec<Viewer<N>>,
+    viewers: &mut [Viewer<N>],
     trial: &Trial,
 ) -> Result<(), Stop> {
-    let mut viewer = viewers.pop().ok_or(Stop::Failed)?;
+    let viewer = viewers.first_mut().ok_or(Stop::Failed)?;
     for command in trial.before.as_slice() {
         keeper.apply(rt, FIRST, *command)?;
     }
-    look_at(rt, keeper, &mut viewer, trial)?;
-    if try_once(rt, keeper, &mut viewer, trial)? {
-        try_once(rt, keeper, &mut viewer, trial)?;
+    look_at(rt, keeper, viewer, trial)?;
+    if try_once(rt, keeper, viewer, trial)? {
+        try_once(rt, keeper, viewer, trial)?;
     }
     Ok(())
 }

@@ -5,7 +5,7 @@ ghost use Rattle.std.specs.Prelude.{◌≡◌};
 use crate::growth::books::look as look_at_book;
 use crate::growth::trial::{Call, Host, Looked, NODE, ONE, Risk, Trial, begin, end};
 use crate::stop::Stop;
-use crate::store::{close, finish};
+use crate::store::finish;
 use lrc_code::Fault;
 use lrc_samples::twenty_nodes;
 use lrc_sessions::{Closing, LookError, Manager, Naming, OpenError, Parts, Session};
@@ -24,7 +24,7 @@ fn open_of<N: Naming, R: Host>(rt: &R, parts: Parts) -> Result<bool, Stop>
     begin(rt);
     match Manager::<N>::open(rt.alloc(), rt, parts) {
         Ok((manager, sessions)) => {
-            close(finish(rt, manager, sessions));
+            drop(finish(rt, manager, sessions));
             end(rt, &Ok::<(), OpenError>(()))
         }
         Err(error) => end(rt, &Err::<(), OpenError>(error)),
@@ -40,9 +40,10 @@ pub(crate) fn tell_end(rt: &impl Host, closing: &Closing) -> Result<(), Stop> {
 }
 
 /// Tries a call of a new manager, after the commands of its first session.
-pub(crate) fn try_call<R: Host>(rt: &R, trial: &Trial) -> Result<(), Stop> {
+pub(crate) fn try_call<R: Host>(rt: &R, call: Call, text: &str) -> Result<(), Stop> {
+    let trial = Trial::read(rt.alloc(), call, text)?;
     let parts = Parts::new(rt.alloc(), twenty_nodes(rt.alloc())?, 2)?;
-    try_of::<Brand, _>(rt, parts, trial)
+    try_of::<Brand, _>(rt, parts, &trial)
 }
 
 fn try_of<N: Naming, R: Host>(rt: &R, parts: Parts, trial: &Trial) -> Result<(), Stop>
@@ -59,7 +60,7 @@ fn try_of<N: Naming, R: Host>(rt: &R, parts: Parts, trial: &Trial) -> Result<(),
     begin(rt);
     let closing = finish(rt, manager, sessions);
     let ended = tell_end(rt, &closing);
-    close(closing);
+    drop(closing);
     told.and(ended)
 }
 

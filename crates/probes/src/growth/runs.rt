@@ -4,12 +4,13 @@ ghost use Rattle.std.specs.Prelude.{◌≡◌, ℕ, length, IfOk};
 ghost use Rattle.lrc_sessions.specs.Counts.{AreAll};
 
 use crate::growth::managers::tell_end;
-use crate::growth::trial::{Host, Trial, begin, end};
+use crate::growth::trial::{Host, begin, end};
 use crate::stop::Stop;
-use crate::store::{close, finish};
+use crate::store::finish;
 use lrc_book::Command;
 use lrc_code::Fault;
 use lrc_samples::twenty_nodes;
+use lrc_script::parse_script;
 use lrc_sessions::{Manager, Naming, OpenGate, Parts, Session, Track, run_sessions};
 use std::alloc::Global;
 use std::marker::Brand;
@@ -19,10 +20,9 @@ use std::thread::Threads;
 type Made = Result<usize, Stop>;
 
 /// Runs a script, and then the rest of it if an allocation failed.
-pub(crate) fn try_call<R: Host + Threads + Sync>(rt: &R, trial: Trial) -> Result<(), Stop> {
+pub(crate) fn try_call<R: Host + Threads + Sync>(rt: &R, text: &str) -> Result<(), Stop> {
+    let script = parse_script(rt.alloc(), text.as_bytes(), 1)?;
     let parts = Parts::new(rt.alloc(), twenty_nodes(rt.alloc())?, 1)?;
-    let mut script = trial.before;
-    script.push(trial.last)?;
     try_of::<Brand, _>(rt, parts, script.as_slice())
 }
 
@@ -41,7 +41,7 @@ fn try_of<N: Naming + Send + Sync, R: Host + Threads + Sync>(
     begin(rt);
     let closing = finish(rt, manager, sessions);
     let ended = tell_end(rt, &closing);
-    close(closing);
+    drop(closing);
     all.and(ended)
 }
 
@@ -69,7 +69,7 @@ fn run_once<N: Naming + Send + Sync, R: Host + Threads + Sync>(
                 left.as_slice(),
                 &OpenGate,
             );
-            let made = tell_run(rt, ran, back.as_slice());
+            let made = tell_run(rt, &ran, back.as_slice());
             (back, made)
         }
         Err(stop) => (sessions, Err(stop)),
@@ -92,13 +92,13 @@ fn rest(alloc: Global, script: &[Command], made: Made) -> Result<Vec<Vec<Command
 /// Prints how a run ended and how much the session has seen, and returns the number of calls.
 fn tell_run<N: Naming>(
     rt: &impl Host,
-    ran: Result<Vec<Track>, Fault>,
+    ran: &Result<Vec<Track>, Fault>,
     sessions: &[Session<N>],
 ) -> Made {
     let made = match ran {
         Ok(tracks) => tell_tracks(rt, tracks.as_slice())?,
         Err(fault) => {
-            end(rt, &Err::<(), Fault>(fault))?;
+            end(rt, &Err::<(), Fault>(*fault))?;
             0
         }
     };

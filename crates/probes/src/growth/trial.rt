@@ -3,6 +3,8 @@
 use crate::stop::Stop;
 use lrc_book::{Command, Level};
 use lrc_code::{NodeNo, SessionNo, StripeNo};
+use lrc_script::parse_script;
+use std::alloc::Global;
 use std::fmt::Debug;
 use std::sync::Wait;
 
@@ -31,6 +33,15 @@ pub(crate) struct Trial {
     pub(crate) call: Call,
     pub(crate) before: Vec<Command>,
     pub(crate) last: Command,
+}
+
+impl Trial {
+    /// Reads the script of a trial, whose last command is that of the call.
+    pub(crate) fn read(alloc: Global, call: Call, text: &str) -> Result<Trial, Stop> {
+        let mut before = parse_script(alloc, text.as_bytes(), 1)?;
+        let last = before.pop().ok_or(Stop::Failed)?;
+        Ok(Trial { call, before, last })
+    }
 }
 
 /// The session that makes the calls.

@@ -7,7 +7,7 @@ use crate::looks::run_buffers::RunBuffers;
 use crate::looks::task::Done;
 use crate::looks::worker::{Plan, Worker, assign_sessions, collect_results};
 use crate::stop::Stop;
-use crate::store::{close, finish};
+use crate::store::finish;
 use lrc_sessions::{Manager, Naming, Parts, Session};
 use std::alloc::Global;
 use std::rt::Clock;
@@ -40,7 +40,7 @@ pub(crate) fn run_concurrently<
     match RunBuffers::new(alloc, count) {
         Ok(buffers) => Ok(run_in(rt, manager, sessions, buffers, plan)),
         Err(_) => {
-            close(finish(rt, manager, sessions));
+            drop(finish(rt, manager, sessions));
             Err(Stop::Failed)
         }
     }
@@ -69,7 +69,7 @@ fn run_in<N: Naming + Send + Sync, R: Threads + Wait + Clock + CpuClock + Sync>(
     collect_results(workers, &mut sessions, &mut done);
     let closing = finish(rt, manager, sessions);
     let entries = closing.book.history().len();
-    close(closing);
+    drop(closing);
     Ran { entries, done }
 }
 

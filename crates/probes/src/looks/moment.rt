@@ -2,7 +2,7 @@ use std::rt::Clock;
 use std::time::{CpuClock, Duration};
 
 /// The wall clock and the processor time of the current thread at one moment.
-#[derive(Clone, Copy, Debug, PartialEq, Eq)]
+#[derive(Clone, Copy)]
 pub(crate) struct Moment {
     wall: Duration,
     processor: Duration,
@@ -19,7 +19,7 @@ impl Moment {
 }
 
 /// The moments at which a thread began and ended a task.
-#[derive(Clone, Copy, Debug, PartialEq, Eq)]
+#[derive(Clone, Copy)]
 pub(crate) struct Span {
     begun: Moment,
     ended: Moment,

@@ -22,9 +22,9 @@ impl<N: Naming> RunBuffers<N> {
     {
         let count = usize::from(count);
         Ok(RunBuffers {
-            workers: Vec::with_capacity(alloc, count)?,
-            sessions: Vec::with_capacity(alloc, count)?,
             done: Vec::with_capacity(alloc, count)?,
+            sessions: Vec::with_capacity(alloc, count)?,
+            workers: Vec::with_capacity(alloc, count)?,
         })
     }
 }

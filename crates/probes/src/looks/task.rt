@@ -11,7 +11,7 @@ use std::sync::Wait;
 use std::time::CpuClock;
 
 /// How much of a task was done, and when.
-#[derive(Clone, Copy, Debug, PartialEq, Eq)]
+#[derive(Clone, Copy)]
 pub(crate) struct Done {
     /// The calls that placed or dropped the stripe, or the looks that had a view.
     pub(crate) count: u64,

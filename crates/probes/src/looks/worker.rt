@@ -8,7 +8,7 @@ use std::sync::Wait;
 use std::time::CpuClock;
 
 /// The plan of a run: the first session makes the calls, and each other makes the looks.
-#[derive(Clone, Copy, Debug, PartialEq, Eq)]
+#[derive(Clone, Copy)]
 pub(crate) struct Plan {
     pub(crate) stripe: StripeNo,
     pub(crate) looks: u64,
