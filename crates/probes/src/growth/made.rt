@@ -12,6 +12,7 @@ use lrc_sessions::Parts;
 use lrc_slots::SlotTable;
 use lrc_stripes::Stripes;
 use lrc_topology::Topology;
+use std::alloc::Global;
 
 /// Makes the value of a call, and makes it again if an allocation failed.
 pub(crate) fn try_call(rt: &impl Host, call: &str, text: &str) -> Result<(), Stop> {
@@ -50,18 +51,22 @@ fn make_once(rt: &impl Host, call: &str, text: &str) -> Result<bool, Stop> {
 fn make_of_nodes(rt: &impl Host, call: &str, nodes: Topology) -> Result<bool, Stop> {
     begin(rt);
     match call {
-        "SlotTable::new" => end(rt, &SlotTable::new(rt.alloc(), &nodes).and(Ok(()))),
-        "Stripes::new" => end(rt, &Stripes::new(rt.alloc(), &nodes).and(Ok(()))),
         "Book::new" => end(rt, &Book::new(rt.alloc(), nodes).and(Ok(()))),
         "Book::with_limit" => end(rt, &Book::with_limit(rt.alloc(), nodes, 2).and(Ok(()))),
-        _ => make_parts(rt, call, nodes),
+        "Parts::new" => end(rt, &Parts::new(rt.alloc(), nodes, 2).and(Ok(()))),
+        "Parts::with_limit" => end(rt, &Parts::with_limit(rt.alloc(), nodes, 2, 2).and(Ok(()))),
+        _ => {
+            let is_refused = make_table(rt, call, &nodes);
+            drop(nodes);
+            is_refused
+        }
     }
 }
 
-fn make_parts(rt: &impl Host, call: &str, nodes: Topology) -> Result<bool, Stop> {
+fn make_table(rt: &impl Host, call: &str, nodes: &Topology) -> Result<bool, Stop> {
     match call {
-        "Parts::new" => end(rt, &Parts::new(rt.alloc(), nodes, 2).and(Ok(()))),
-        "Parts::with_limit" => end(rt, &Parts::with_limit(rt.alloc(), nodes, 2, 2).and(Ok(()))),
+        "SlotTable::new" => end(rt, &SlotTable::new(rt.alloc(), nodes).and(Ok(()))),
+        "Stripes::new" => end(rt, &Stripes::new(rt.alloc(), nodes).and(Ok(()))),
         _ => Err(Stop::Failed),
     }
 }
@@ -79,14 +84,18 @@ fn begin_book(rt: &impl Host, text: &str) -> Result<bool, Stop> {
 
 /// Reserves memory for stripes beside one without homes, and returns whether an allocation failed.
 fn make_room(rt: &impl Host) -> Result<bool, Stop> {
-    let nodes = twenty_nodes(rt.alloc())?;
-    let mut stripes = Stripes::new(rt.alloc(), &nodes)?;
+    let mut stripes = new_stripes(rt.alloc())?;
     let is_refused = make_room_in(rt, &mut stripes);
-    close(stripes);
+    drop(stripes);
     is_refused
 }
 
-fn close(_stripes: Stripes) {}
+fn new_stripes(alloc: Global) -> Result<Stripes, Stop> {
+    let nodes = twenty_nodes(alloc)?;
+    let made = Stripes::new(alloc, &nodes);
+    drop(nodes);
+    Ok(made?)
+}
 
 fn make_room_in(rt: &impl Host, stripes: &mut Stripes) -> Result<bool, Stop> {
     stripes.reserve(2)?;
