@@ -149,21 +149,23 @@ def sources(crate):
     return found
 
 
+def definitions_in(path):
+    """The definitions of a file: of each the name and the text, without comments."""
+    lines = [re.sub(r"(^|\s)--.*", "", line).rstrip() for line in text_of(path).splitlines()]
+    block = []
+    for line in [*(it for it in lines if it), "use end"]:
+        if DEFINES.match(line) or line.startswith(("use ", "pub use ", "pub mod ", "mod ")):
+            if block:
+                yield DEFINES.match(block[0])[1], "\n".join(block)
+            block = []
+        if block or DEFINES.match(line):
+            block.append(line)
+
+
 @functools.cache
 def definitions(crate):
-    """The definitions of a crate's specs: of each the name and the text, without comments."""
-    found = []
-    for path in files_below(f"{TOP}/crates/{crate}/specs", ".antt"):
-        lines = [re.sub(r"(^|\s)--.*", "", line).rstrip() for line in text_of(path).splitlines()]
-        block = []
-        for line in [*(it for it in lines if it), "use end"]:
-            if DEFINES.match(line) or line.startswith(("use ", "pub use ", "pub mod ", "mod ")):
-                if block:
-                    found.append((DEFINES.match(block[0])[1], "\n".join(block)))
-                block = []
-            if block or DEFINES.match(line):
-                block.append(line)
-    return found
+    """The definitions of a crate's specs."""
+    return [it for path in files_below(f"{TOP}/crates/{crate}/specs", ".antt") for it in definitions_in(path)]
 
 
 # Sums.
