@@ -125,14 +125,20 @@ def nodes_of(store, words):
     return list(map(int, words))
 
 
-def forecast(word, store, nodes):
-    """The table of the stripes that are not whole after a report of each node, and whether none becomes unavailable or lost."""
-    later, is_safe, rows = copy.deepcopy(store), True, []
-    for node in nodes:
-        later.call(1, f"{REPORTS[word]} {node}")
+def outlook(store, later):
+    """The table of the stripes that are not whole later, and whether none becomes unavailable or lost."""
+    is_safe, rows = True, []
     for stripe in sorted(store.stripes):
         before, after = level_of(store, stripe), level_of(later, stripe)
         is_safe = is_safe and (after[0] == before[0] or after[0] not in ("unavailable", "lost"))
         if after[0] != "whole":
             rows.append([stripe, store.stripes[stripe].name, *before, *after, *mask(later.missing(stripe))])
     return text_of(FORECAST, rows), is_safe
+
+
+def forecast(word, store, nodes):
+    """The outlook after a report of each node."""
+    later = copy.deepcopy(store)
+    for node in nodes:
+        later.call(1, f"{REPORTS[word]} {node}")
+    return outlook(store, later)

@@ -91,13 +91,16 @@ def after_outage(store, outage, nodes):
     return after
 
 
-def forecast_in_model(store, outage, nodes):
-    """The rows of a forecast, and whether no stripe is harmed."""
-    after = after_outage(store, outage, nodes)
+def outlook(store, after):
+    """The rows of a forecast for what is after an outage, and whether no stripe is harmed."""
     rows = [(stripe, code.name, after.missing(stripe), level_in_model(store, stripe), level_in_model(after, stripe))
             for stripe, code in sorted(store.stripes.items()) if after.level(stripe)]
     harmed = [stripe for stripe, _, _, before, then in rows if then[0] in ("unavailable", "lost") and then != before]
     return rows, not harmed
+
+
+def forecast_in_model(store, outage, nodes):
+    return outlook(store, after_outage(store, outage, nodes))
 
 
 def forecast_in_book(book, outage, nodes):
