@@ -6,7 +6,7 @@ mod keepers;
 mod made;
 mod managers;
 mod runs;
-mod trial;
+pub mod trial;
 
 use crate::stop::Stop;
 use std::thread::Threads;
