@@ -20,7 +20,8 @@ use Rattle.lrc_rules.specs.Outcomes.{Outcome}
 use Rattle.lrc_rules.specs.Leases.{is_grant, is_tick, ticks, term, tick_outcome}
 use Rattle.lrc_rules.specs.Steps.{step}
 use Rattle.lrc_rules.specs.Histories.{World, first_world, outcome_in, next_world, world_from, state_from, world_after, state_after, IsLegalFrom, IsLegal}
-use Rattle.lrc_rules.specs.Endings.{CanEnd, IsLeftAlone}
+use Rattle.lrc_rules.specs.Endings.{CanEnd, IsRefusedIn, IsLeftAlone}
+use Rattle.lrc_rules.proofs.StepLemmas.{refused-keeps}
 use Rattle.lrc_rules.proofs.ClockLemmas.{tick-is, step-clock, other-clock, worlds-clock}
 use Rattle.lrc_rules.proofs.EndingLemmas.{lease-lasts-by}
 use Rattle.lrc_rules.proofs.LeaseCountLemmas.{Follows, step-follows}
@@ -58,10 +59,12 @@ module _ (nodes : List NodeInfo) (l : LeaseRecord) where
   abbrev IsLive : World → Type 0
   IsLive w = lease_of w.state l.stripe l.fragment ≡ Some l
 
-  -- an entry that cannot end the lease keeps it, if the clock does not reach its expiry
-  step-lives : (w : World) (e : Entry) → IsTrue (is_tick e.command) ⊎ (¬ (CanEnd w.state l e.command)) → (next_world nodes w e).state.clock < l.expiry → IsLive w
-      → IsLive (next_world nodes w e)
-  step-lives w e (inr other) before live = lease-lasts-by w.state l.stripe l.fragment l live nodes w.past e.session e.command other
+  -- an entry that does not end the lease keeps it, if the clock does not reach its expiry
+  step-lives : (w : World) (e : Entry) → IsTrue (is_tick e.command) ⊎ (¬ (CanEnd w.state l e.command)) ⊎ IsRefusedIn nodes w e
+      → (next_world nodes w e).state.clock < l.expiry → IsLive w → IsLive (next_world nodes w e)
+  step-lives w e (inr (inr late)) before live =
+      subst (λ (st : State). lease_of st l.stripe l.fragment ≡ Some l) (sym (refused-keeps nodes w.past w.state e.session e.command late.0 late.1)) live
+  step-lives w e (inr (inl other)) before live = lease-lasts-by w.state l.stripe l.fragment l live nodes w.past e.session e.command other
   step-lives w e (inl tick) before live =
       let moved = step-clock nodes w.past w.state e.session e.command in
       let other : ends_at (w.state.clock + 1) l ≢ true = λ hit. absurd (omega (arith, eqb-true l.expiry (w.state.clock + 1) hit, before, moved, ap (λ (b : Bool). cond {A = ℕ} b 1 0) tick)) in
@@ -76,6 +79,21 @@ module _ (nodes : List NodeInfo) (l : LeaseRecord) where
       lives now es alone.1 before (step-lives w e alone.0 (omega (arith, before, worlds-clock nodes now es)) live)
 
 -- ---- histories
+
+-- a lease that is live in a good world is live as long as the clock is below its expiry
+pub live-from : (nodes : List NodeInfo) → AreNodes nodes → (base : World) → IsGoodIn nodes base → (es : List Entry) → IsLegalFrom nodes base es
+    → (l : LeaseRecord) → lease_of base.state l.stripe l.fragment ≡ Some l → IsLeftAlone nodes l base es
+    → (lease_of (state_from nodes base es) l.stripe l.fragment ≡ Some l) ↔ (base.state.clock + ticks es < l.expiry)
+live-from nodes known base good es legal l live alone =
+    let ok = state_from-good nodes known base es legal good in
+    let now = state_from nodes base es in
+    let moved = worlds-clock nodes base es in (
+      (λ still.
+          let here = leases_in-contains now.leases l.stripe l.fragment.value l still in
+          let runs = All-contains (λ (m : LeaseRecord). now.clock < m.expiry) now.leases l ok.running here in
+          omega (arith, moved, runs)),
+      (λ few. lives nodes l base es alone (omega (arith, moved, few)) live),
+    )
 
 -- an entry of a legal history has the reply that the rules give
 legal-at : (nodes : List NodeInfo) (w : World) (es : List Entry) (e : Entry) (fs : List Entry) → IsLegalFrom nodes w (es ++ e ∷ fs)

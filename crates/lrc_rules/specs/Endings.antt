@@ -10,10 +10,12 @@ use Rattle.lrc_terms.specs.declared.lease.Lease.{Lease as LeaseRecord}
 use Rattle.lrc_terms.specs.Leased.{ends_at}
 use Rattle.lrc_rules.specs.declared.command.Command.{Command}
 use Rattle.lrc_rules.specs.declared.command.Command.TheVariants.{Done, Abandon, Revoke, Drop, Fail, Tick}
+use Rattle.lrc_rules.specs.declared.refusal.Refusal.{Refusal}
+use Rattle.lrc_rules.specs.declared.reply.Reply.TheVariants.{Refused}
 use Rattle.lrc_rules.specs.declared.entry.Entry.{Entry}
 use Rattle.lrc_rules.specs.States.{State, lease_of}
 use Rattle.lrc_rules.specs.Leases.{is_tick}
-use Rattle.lrc_rules.specs.Histories.{World, next_world}
+use Rattle.lrc_rules.specs.Histories.{World, outcome_in, next_world}
 use Rattle.lrc_rules.specs.Steps.{hangs_on, node_command}
 
 -- the command can end the lease: Done, Abandon or Revoke of its fragment, Drop of its stripe, Fail of the node of its
@@ -27,10 +29,15 @@ CanEnd st l (Fail n) = IsTrue (hangs_on st n l)
 CanEnd st l Tick = IsTrue (ends_at (st.clock + 1) l)
 CanEnd st l _ = ⊥
 
--- no entry from this world on can end the lease, apart from ticks
+-- the command of the entry is refused in this world
+abbrev pub IsRefusedIn : List NodeInfo → World → Entry → Type 0
+IsRefusedIn nodes w e = (r : Refusal) × ((outcome_in nodes w e.session e.command).0 ≡ Refused r)
+
+-- no entry from this world on ends the lease, apart from ticks: each is a tick, or cannot end it, or is refused
 abbrev pub IsLeftAlone : List NodeInfo → LeaseRecord → World → List Entry → Type 0
 IsLeftAlone nodes l w [] = Unit {0}
-IsLeftAlone nodes l w (e ∷ es) = (IsTrue (is_tick e.command) ⊎ (¬ (CanEnd w.state l e.command))) × IsLeftAlone nodes l (next_world nodes w e) es
+IsLeftAlone nodes l w (e ∷ es) =
+    (IsTrue (is_tick e.command) ⊎ (¬ (CanEnd w.state l e.command)) ⊎ IsRefusedIn nodes w e) × IsLeftAlone nodes l (next_world nodes w e) es
 
 -- the command can remove this home: Done of its fragment, Drop of its stripe, or Fail of its node
 abbrev pub CanMove : StripeNo → Fragment → Seat → Command → Type 0

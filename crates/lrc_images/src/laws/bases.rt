@@ -121,12 +121,17 @@ pub fn ticks_count_from_any_base()
 {}
 
 /// A lease that was granted in an entry of a legal history from a base, and that no command but Tick
-/// ends, is live until the third tick after its grant, and no longer.
+/// ends, is live until the third tick after its grant, and no longer. A lease of the base that no command
+/// but Tick ends is live until the ticks since bring the clock to its expiry, and no longer.
 pub fn leases_last_three_ticks_from_any_base()
-    ensures { (nodes : List NodeInfo) (base : World) (history : List Entry) (e : Entry) (es : List Entry) (l : LeaseRecord) (k : Kind)
+    ensures since { (nodes : List NodeInfo) (base : World) (history : List Entry) (e : Entry) (es : List Entry) (l : LeaseRecord) (k : Kind)
         → AreNodes nodes → IsBase nodes base → IsLegalFrom nodes base (history ++ e ∷ es) → e.reply ≡ Granted l k
         → IsLeftAlone nodes l (world_from nodes base (history ++ e ∷ [])) es
         → (lease_of (state_from nodes base (history ++ e ∷ es)) l.stripe l.fragment ≡ Some l) ↔ (ticks es < 3) }
+    ensures before { (nodes : List NodeInfo) (base : World) (history : List Entry) (l : LeaseRecord)
+        → AreNodes nodes → IsBase nodes base → IsLegalFrom nodes base history
+        → lease_of base.state l.stripe l.fragment ≡ Some l → IsLeftAlone nodes l base history
+        → (lease_of (state_from nodes base history) l.stripe l.fragment ≡ Some l) ↔ (base.state.clock + ticks history < l.expiry) }
 {}
 
 /// A base leaves room for a history of 1,000,000 entries. Up to its end no fragment has been granted

@@ -202,7 +202,8 @@ pub fn ticks_in_words()
 
 /// The clock is the number of ticks so far, and only Tick changes it. A lease expires at the clock of its grant plus
 /// 3, whichever command granted it. If no other command ends it, it is live until the third tick after its grant, and
-/// no longer, whatever else happens in between.
+/// no longer, whatever else happens in between. A refused command ends no lease, so a late worker's report under an
+/// older epoch does not shorten it.
 pub fn leases_last_three_ticks()
     ensures clock { (nodes : List NodeInfo) (history : List Entry) → (state_after nodes history).clock ≡ ticks history }
     ensures others { (nodes : List NodeInfo) (past : List Entry) (st : State) (session : SessionNo) (command : Command)
