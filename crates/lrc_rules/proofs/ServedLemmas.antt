@@ -16,6 +16,7 @@ use Rattle.lrc_rules.proofs.GoodLemmas.{state_after-good}
 pub good-sound : (nodes : List NodeInfo) (history : List Entry) (st : State) → IsGood nodes history st → IsSound nodes history st
 good-sound nodes history st good = record {
   lawful = good.seated.lawful;
+  standing = good.seated.standing;
   single = good.seated.one_lease;
   apart = good.seated.single;
   current = good.current;

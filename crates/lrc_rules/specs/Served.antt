@@ -18,13 +18,15 @@ use Rattle.lrc_rules.specs.declared.entry.Entry.{Entry}
 use Rattle.lrc_rules.specs.States.{State, code_of, seats_of, taken_seats, homeless, level}
 use Rattle.lrc_rules.specs.Leases.{grants, term}
 use Rattle.lrc_rules.specs.Histories.{IsLegal, state_after}
-use Rattle.lrc_rules.specs.Goodness.{KeepApart}
+use Rattle.lrc_rules.specs.Goodness.{IsStanding, KeepApart}
 
 -- what is promised of the state after these entries
 pub record IsSound (nodes : List NodeInfo) (history : List Entry) (st : State) : Type 0 where
   -- "every placement is lawful": held seats of different fragments of one stripe are on nodes of different fault
   -- domains, and of different upgrade domains if the fragments share a class
   pub lawful : AllPairs (KeepApart nodes st) (seats_of st)
+  -- and each of them is a slot of a node that is in the store and not gone
+  pub standing : All (IsStanding nodes st) (taken_seats st)
   -- "every lease single": a fragment has at most one live lease, and no seat is held twice
   pub single : AreOneEach st.leases
   pub apart : AllPairs (λ a b. a ≢ b) (taken_seats st)
