@@ -23,13 +23,17 @@ use Rattle.lrc_rules.specs.States.{State, has_stripe, held_by, seats_of}
 use Rattle.lrc_rules.specs.Changes.{held_at}
 use Rattle.lrc_rules.specs.Goodness.{AreSeated}
 use Rattle.lrc_bars.specs.Ties.{with_homes, bars_fault, bars_upgrade, bars_in, with_held, with_seat}
-use Rattle.lrc_bars.specs.Planning.{with_node}
 use Rattle.lrc_rules.specs.Placement.{is_beside}
 use Rattle.lrc_rules.proofs.MemberLemmas.{list_any-member, member-list_any}
 use Rattle.lrc_rules.proofs.ChoiceLemmas.{same_stripe}
 use Rattle.lrc_rules.proofs.SeatingLemmas.{fragments-distinct}
 use Rattle.lrc_rules.proofs.SeatedLemmas.{not_there}
 use Rattle.lrc_bars.proofs.TableLemmas.{pairs-before}
+
+-- what is barred, with the fault domain of one more node, and its upgrade domain where the classes are one
+abbrev with_node : Bool → Barred → NodeInfo → Barred
+with_node true b n = with_upgrade (with_fault b n.fault) n.upgrade
+with_node false b n = with_fault b n.fault
 
 pub or_none : (b : Bool) → b ≡ (b || false)
 or_none true = refl

@@ -23,8 +23,12 @@ use Rattle.lrc_slots.specs.BarredNodes.{AreBarredNodes}
 use Rattle.lrc_bars.specs.declared.class_bars.ClassBars.{ClassBars}
 use Rattle.lrc_rules.specs.Placement.{is_beside}
 use Rattle.lrc_bars.specs.Ties.{bars_fault, bars_upgrade, bars_in, closed}
-use Rattle.lrc_bars.specs.Planning.{is_in_fault, is_in_upgrade, bars_for, fault_bars, upgrade_bars, AreBarsOf, index_of_class, upgrades_for}
+use Rattle.lrc_bars.specs.Planning.{is_in_fault, is_in_upgrade, fault_bars, upgrade_bars, AreBarsOf, index_of_class, upgrades_for}
 use Rattle.lrc_bars.proofs.BarLemmas.{or_none, or_last, same_bars}
+
+-- the domains that these seats bar for the other fragments of the stripe that are of the class
+abbrev pub bars_for : List NodeInfo → Code → Class → List Held → Barred
+bars_for nodes code c seats = record { faults = λ d. list_any (is_in_fault nodes d) seats; upgrades = λ d. list_any (is_in_upgrade nodes code c d) seats }
 
 -- at first nothing is barred
 pub none-barred : (nodes : List NodeInfo) (code : Code) (f a b g : List Bool) → AreBarredNodes nodes no_bars f → AreBarredNodes nodes no_bars a

@@ -18,11 +18,15 @@ use Rattle.lrc_slots.specs.Tables as slot_tables
 use Rattle.lrc_slots.specs.Tables.{slots_of}
 use Rattle.lrc_rules.specs.States.{State}
 use Rattle.lrc_bars.specs.Ties.{table_of, next_seat, kept_table, closed}
-use Rattle.lrc_bars.specs.Planning.{fault_bars, upgrade_bars, bars_for, open_seat, row_seat}
-use Rattle.lrc_bars.proofs.ClassBarLemmas.{joined-bars, closed-joined}
+use Rattle.lrc_bars.specs.Planning.{fault_bars, upgrade_bars, row_seat}
+use Rattle.lrc_bars.proofs.ClassBarLemmas.{bars_for, joined-bars, closed-joined}
 use Rattle.lrc_bars.proofs.ClosedLemmas.{closed-next}
 use Rattle.lrc_rules.proofs.MemberLemmas.{filter-member}
 use Rattle.lrc_rules.proofs.NodeLemmas.{node_at-member}
+
+-- the seat that a node and its least free slot are
+abbrev pub open_seat : OpenNode → Seat
+open_seat o = record { node = o.node.number; slot = o.slot }
 
 -- the seat of a node of this number
 abbrev slot_at : Slots → NodeNo → Option Seat

@@ -1,5 +1,5 @@
 -- The domains that are barred for the fragments of each class, while the seats of a stripe are planned.
-use Rattle.std.specs.Prelude.{◌≡◌, ℕ, Bool, true, false, ◌&&◌, List, [], length, get_or, Option, Some}
+use Rattle.std.specs.Prelude.{◌≡◌, ℕ, Bool, false, ◌&&◌, List, [], length, get_or, Option, Some}
 use Rattle.std.specs.List.{list_any}
 use Rattle.std.specs.Option.{option_map_or}
 use Rattle.lrc_code.specs.declared.codes.Class.{Class}
@@ -13,9 +13,8 @@ use Rattle.lrc_topology.specs.declared.NodeInfo.{NodeInfo}
 use Rattle.lrc_topology.specs.declared.seat.Seat.{Seat}
 use Rattle.lrc_topology.specs.declared.seat.Held.{Held}
 use Rattle.lrc_topology.specs.Nodes.{node_at}
-use Rattle.lrc_slots.specs.Barred.{Barred, with_fault, with_upgrade}
+use Rattle.lrc_slots.specs.Barred.{Barred}
 use Rattle.lrc_slots.specs.BarredNodes.{AreBarredNodes}
-use Rattle.lrc_slots.specs.declared.open_node.OpenNode.{OpenNode}
 use Rattle.lrc_slots.specs.declared.open_node.OpenRow.{OpenRow}
 use Rattle.lrc_bars.specs.declared.class_bars.ClassBars.{ClassBars}
 use Rattle.lrc_bars.specs.Ties.{closed}
@@ -30,11 +29,6 @@ index_of_class G = 2
 abbrev pub upgrades_for : ClassBars → Class → List Bool
 upgrades_for b c = get_or b.upgrades (index_of_class c) []
 
--- what is barred, with the fault domain of one more node, and its upgrade domain where the classes are one
-abbrev pub with_node : Bool → Barred → NodeInfo → Barred
-with_node true b n = with_upgrade (with_fault b n.fault) n.upgrade
-with_node false b n = with_fault b n.fault
-
 -- the seat is on a node of the fault domain
 abbrev pub is_in_fault : List NodeInfo → FaultNo → Held → Bool
 is_in_fault nodes d h = option_map_or (λ m. same_fault d m.fault) (node_at nodes h.seat.node) false
@@ -44,15 +38,11 @@ abbrev pub is_in_upgrade : List NodeInfo → Code → Class → UpgradeNo → He
 is_in_upgrade nodes code c d h =
     option_map_or (λ m. are_one_class (class_of code h.fragment.value) (Some c) && same_upgrade d m.upgrade) (node_at nodes h.seat.node) false
 
--- the domains that these seats bar for the other fragments of the stripe that are of the class
-abbrev pub bars_for : List NodeInfo → Code → Class → List Held → Barred
-bars_for nodes code c seats = record { faults = λ d. list_any (is_in_fault nodes d) seats; upgrades = λ d. list_any (is_in_upgrade nodes code c d) seats }
-
--- the fault domains among them
+-- the fault domains that these seats bar for the other fragments of the stripe
 abbrev pub fault_bars : List NodeInfo → List Held → Barred
 fault_bars nodes seats = record { faults = λ d. list_any (is_in_fault nodes d) seats; upgrades = λ d. false }
 
--- the upgrade domains among them
+-- the upgrade domains that they bar for the other fragments that are of the class
 abbrev pub upgrade_bars : List NodeInfo → Code → Class → List Held → Barred
 upgrade_bars nodes code c seats = record { faults = λ d. false; upgrades = λ d. list_any (is_in_upgrade nodes code c d) seats }
 
@@ -63,10 +53,6 @@ pub record AreBarsOf (nodes : List NodeInfo) (code : Code) (upgrading : Option U
   pub upgrades : (c : Class) → AreBarredNodes nodes (upgrade_bars nodes code c seats) (upgrades_for b c)
   pub classes : length b.upgrades ≡ 3
 
--- the seat that a node and its least free slot are
-abbrev pub open_seat : OpenNode → Seat
-open_seat o = record { node = o.node.number; slot = o.slot }
-
--- the same where the node is lent by the table
+-- the seat that a node lent by the table and its least free slot are
 abbrev pub row_seat : OpenRow → Seat
 row_seat o = record { node = o.node.now.number; slot = o.slot }

@@ -21,11 +21,15 @@ use Rattle.lrc_homes.specs.declared.losses.Losses.{Losses}
 use Rattle.lrc_terms.specs.Levels.{rank_by}
 use Rattle.lrc_rows.specs.NodeStates.{NodeStates}
 use Rattle.lrc_rows.specs.Listed.{rows_in}
-use Rattle.lrc_rows.specs.Kept.{row_has_work, IsKept, Covers, is_row_on, fresh, freshened, queued}
+use Rattle.lrc_rows.specs.Kept.{row_has_work, IsKept, is_row_on, fresh, freshened, queued}
 use Rattle.lrc_homes.specs.Homes.{sits_on, is_missing}
 use Rattle.lrc_homes.specs.Masks.{IsMaskOf, AreLosses, AreKept, missing_of, renewed, rank_of, work_rank, risk_rank}
 use Rattle.lrc_ranks.specs.Ranks.{is_at}
 use Rattle.lrc_homes.proofs.MaskLemmas.{has-low}
+
+-- each stripe of the queue is in the set
+abbrev pub Covers : (StripeNo → Bool) → (ℕ → StripeNo → Bool) → Type 0
+Covers set queue = (k : ℕ) (s : StripeNo) → set s ≡ false → queue k s ≡ false
 
 -- the mask of the missing fragments has them
 pub mask-is : (code : Code) (online : NodeNo → Bool) (homes : List (Option Seat)) (f : ℕ) → bits_set (bits_of code (missing_of code online homes)) f ≡ (has_fragment code f && is_missing online (get_or homes f None))

@@ -97,12 +97,6 @@ pub record IsToMoveOn (online : NodeNo → Bool) (n : NodeNo) (are_to_move : Boo
   pub missing : after.losses.missing ≡ (renewed online before.homes before.losses).missing
   pub needs : IsPutOn n are_to_move before.homes before.losses.needs after.losses.needs
 
--- ---- the stripes in the order of repair
-
--- each stripe of the queue is in the set
-abbrev pub Covers : (StripeNo → Bool) → (ℕ → StripeNo → Bool) → Type 0
-Covers set queue = (k : ℕ) (s : StripeNo) → set s ≡ false → queue k s ≡ false
-
 -- ---- the rows
 
 -- the stripes of each rank, by the ranks of their rows' masks

@@ -15,7 +15,7 @@ ghost use Rattle.lrc_terms.specs.Levels.{Homes, homeless_in, missing_in, SomeMis
 
 /// The lease that is found for a fragment is one in the list. If the list has at most one lease per fragment, each of
 /// its leases is found.
-pub fn leases_are_found_by_their_fragment()
+pub fn leases_are_found_in_their_list()
     ensures own { (leases : List Lease) (s : StripeNo) (f : ℕ) (l : Lease)
         → leases_in leases s f ≡ Some l → Contains leases l × (l.stripe ≡ s) × (l.fragment.value ≡ f) }
     ensures each { (leases : List Lease) (l : Lease) → AreOneEach leases → Contains leases l ↔ (leases_in leases l.stripe l.fragment.value ≡ Some l) }
@@ -39,7 +39,7 @@ pub fn lists_change_as_leases_do()
 /// A stripe is Lost exactly if its homeless fragments are not recoverable. Otherwise it is Unavailable exactly if its
 /// missing fragments are not recoverable; otherwise AtRisk, with its margin of at most 2, exactly if a fragment is
 /// missing; otherwise Whole.
-pub fn levels_in_words()
+pub fn levels_of_sets_in_words()
     ensures lost { (code : Code) (homeless missing : FragmentSet) → (level_by code homeless missing ≡ Lost) ↔ (¬ IsRecoverable code homeless) }
     ensures unavailable { (code : Code) (homeless missing : FragmentSet) → (level_by code homeless missing ≡ Unavailable) ↔ (IsRecoverable code homeless × (¬ IsRecoverable code missing)) }
     ensures at_risk { (code : Code) (homeless missing : FragmentSet) (t : ℕ) → (level_by code homeless missing ≡ AtRisk t) ↔ (IsRecoverable code homeless × IsMargin code missing t × SomeMissing code missing) }
@@ -48,7 +48,7 @@ pub fn levels_in_words()
 {}
 
 /// The rank of a stripe's level is the rank of its missing fragments.
-pub fn levels_show_ranks()
+pub fn levels_of_sets_show_ranks()
     ensures sets { (code : Code) (homeless missing : FragmentSet) → ((f : ℕ) → f < fragment_count code → IsTrue (homeless f) → IsTrue (missing f)) → rank_at (level_by code homeless missing) ≡ rank_by code missing }
     ensures homes { (code : Code) (online : NodeNo → Bool) (homes : Homes) → rank_at (level_by code (homeless_in code homes) (missing_in code online homes)) ≡ rank_by code (missing_in code online homes) }
 {}

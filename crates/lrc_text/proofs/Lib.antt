@@ -3,6 +3,7 @@ pub mod PairLemmas
 pub mod FieldLemmas
 pub mod TableLemmas
 pub mod MaskLemmas
+pub mod WholeTexts
 pub mod Rows
 mod RowsOfPlacing
 mod RowsOfNodes

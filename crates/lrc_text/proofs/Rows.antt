@@ -13,7 +13,7 @@ use Rattle.lrc_rules.specs.declared.command.Command.{Command}
 use Rattle.lrc_rules.specs.declared.command.Command.TheVariants as command
 use Rattle.lrc_rules.specs.States.{missing}
 use Rattle.lrc_rules.specs.Histories.{World, first_world, outcome_in, next_world}
-use Rattle.lrc_text.specs.Texts.{replies_text}
+use Rattle.lrc_text.proofs.WholeTexts.{replies_text}
 
 -- ---- commands
 

@@ -10,7 +10,7 @@ use Rattle.lrc_rules.specs.Placement.{chosen, placed}
 use Rattle.lrc_rules.specs.Leases.{lease_outcome, next_outcome, done_outcome, tick_outcome}
 use Rattle.lrc_rules.specs.Steps.{place_outcome, drop_outcome, node_outcome, would_lose, upgrade_outcome, upgraded_outcome}
 use Rattle.lrc_text.specs.Tables.{mask_field, risk_line, risk_table, load_line, load_row, load_table}
-use Rattle.lrc_text.specs.Texts.{output_text}
+use Rattle.lrc_text.proofs.WholeTexts.{output_text}
 use Rattle.lrc_text.proofs.Rows.{node, place, remove, lease, next, done, fail, down, up, join, drain, undrain, retire, upgrade, upgraded, tick, ten_domains, played}
 
 -- the risk table after a script

@@ -10,7 +10,7 @@ use Rattle.lrc_rules.specs.declared.reply.Reply.{Reply}
 use Rattle.lrc_rules.specs.declared.reply.Reply.TheVariants.{Placed, Placed6, Dropped, Granted, Idle, Ended, Changed, Refused, Ticked}
 use Rattle.lrc_rules.specs.declared.refusal.Refusal.{Refusal}
 use Rattle.lrc_rules.specs.declared.refusal.Refusal.TheVariants as refusal
-use Rattle.lrc_rules.specs.Histories.{World, first_world, state_from}
+use Rattle.lrc_rules.specs.Histories.{World, state_from}
 use Rattle.lrc_rules.specs.Sessions.{NumberedEntry, numbered_from, is_of, sessions}
 use Rattle.lrc_text.specs.Tables.{tables_text}
 
@@ -96,14 +96,3 @@ replies_text_behind before count history = flat_map (script_text_behind before h
 -- the same, and then the tables of the state of these nodes after the history, which begins in this world
 abbrev pub output_text_from : List NodeInfo → World → ℕ → ℕ → List Entry → List ℕ
 output_text_from nodes base before count history = replies_text_behind before count history ++ tables_text nodes (state_from nodes base history)
-
--- ---- the same for a history of a store that was empty
-
-abbrev pub script_text : List Entry → ℕ → List ℕ
-script_text history script = script_text_behind 0 history script
-
-abbrev pub replies_text : ℕ → List Entry → List ℕ
-replies_text count history = replies_text_behind 0 count history
-
-abbrev pub output_text : List NodeInfo → ℕ → List Entry → List ℕ
-output_text nodes count history = output_text_from nodes first_world 0 count history

@@ -31,7 +31,8 @@ use Rattle.lrc_sessions.proofs.RunLemmas.{some_of}
 use Rattle.lrc_sessions.proofs.StandingLemmas.{prefix_long, standing_on}
 use Rattle.lrc_tool.specs.Judged.{lists_of}
 use Rattle.lrc_tool.specs.Faults.{stop_fault, first_fault}
-use Rattle.lrc_text.specs.Texts.{reply_line, script_line, script_text, replies_text}
+use Rattle.lrc_text.specs.Texts.{reply_line, script_line}
+use Rattle.lrc_text.proofs.WholeTexts.{script_text, replies_text}
 use Rattle.lrc_tool.specs.Plays.{AreMade, receipts_text, track_text, tracks_text}
 
 -- ---- the entries of one script

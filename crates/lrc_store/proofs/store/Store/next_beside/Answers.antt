@@ -1,8 +1,7 @@
 use Rattle.std.proofs.Common.{sym, ap, ◌∙◌, option_map}
 use Rattle.lrc_slots.specs.Tables.{slots_of}
 use Rattle.lrc_bars.specs.Neighbouring.{barred_by}
-use Rattle.lrc_bars.specs.Planning.{open_seat}
-use Rattle.lrc_bars.proofs.OpenLemmas.{open-next}
+use Rattle.lrc_bars.proofs.OpenLemmas.{open_seat, open-next}
 use Rattle.lrc_store.proofs.store.Store.next_beside.Goals as goal
 
 pub returns : goal.returns

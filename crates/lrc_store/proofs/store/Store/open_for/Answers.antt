@@ -3,9 +3,9 @@ use Rattle.lrc_topology.specs.Nodes.{node_at}
 use Rattle.lrc_slots.specs.Slots.{Slots, least_free_at}
 use Rattle.lrc_slots.specs.BarredNodes.{AreBarredNodes}
 use Rattle.lrc_bars.specs.Ties.{table_of, next_seat}
-use Rattle.lrc_bars.specs.Planning.{upgrade_bars, bars_for}
+use Rattle.lrc_bars.specs.Planning.{upgrade_bars}
 use Rattle.lrc_bars.proofs.BarLemmas.{planned-alone}
-use Rattle.lrc_bars.proofs.ClassBarLemmas.{bars_for-beside}
+use Rattle.lrc_bars.proofs.ClassBarLemmas.{bars_for, bars_for-beside}
 use Rattle.lrc_bars.proofs.PlanLemmas.{beside-chosen}
 use Rattle.lrc_bars.proofs.OpenLemmas.{open-next, open-known, open-outside, opened, opened-node, opened-seat, to-opened, of-opened}
 use Rattle.lrc_store.proofs.store.Store.open_for.Goals as goal

@@ -1,5 +1,5 @@
 use Rattle.lrc_terms.proofs.LeaseLemmas.{leases_in-own, leases_in-contains, contains-leases_in}
-use Rattle.lrc_terms.proofs.laws.leases_are_found_by_their_fragment.Goals as goal
+use Rattle.lrc_terms.proofs.laws.leases_are_found_in_their_list.Goals as goal
 
 pub returns : goal.returns
 returns c = record {

@@ -1,6 +1,6 @@
 use Rattle.lrc_terms.specs.Levels.{homeless_in, missing_in}
 use Rattle.lrc_terms.proofs.LevelLemmas.{law_rank, homeless-missing}
-use Rattle.lrc_terms.proofs.laws.levels_show_ranks.Goals as goal
+use Rattle.lrc_terms.proofs.laws.levels_of_sets_show_ranks.Goals as goal
 
 pub returns : goal.returns
 returns c = record {
