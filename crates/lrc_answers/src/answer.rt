@@ -1,11 +1,14 @@
-ghost use Rattle.std.specs.Prelude.{◌≡◌, false, take, IsSome};
+ghost use Rattle.std.specs.Prelude.{◌≡◌, false, List, take, IsSome};
 ghost use Rattle.lrc_code.specs.declared.numbers.StripeNo.{StripeNo};
 ghost use Rattle.lrc_code.specs.declared.numbers.Fragment.{Fragment};
+ghost use Rattle.lrc_code.specs.declared.numbers.SessionNo.{SessionNo};
+ghost use Rattle.lrc_topology.specs.declared.NodeInfo.{NodeInfo};
 ghost use Rattle.lrc_rules.specs.declared.command.Command.{Command};
+ghost use Rattle.lrc_rules.specs.declared.entry.Entry.{Entry};
 ghost use Rattle.lrc_rules.specs.States.{State};
 ghost use Rattle.lrc_answers.specs.Answers.{told, lent};
-ghost use Rattle.lrc_rules.specs.Changes.{changed_by};
 ghost use Rattle.lrc_rules.specs.Leases.{is_grant};
+ghost use Rattle.lrc_rules.specs.Steps.{step};
 
 use crate::ReplyRef;
 use lrc_code::{FRAGMENTS, NARROW_FRAGMENTS, NodeNo};
@@ -63,9 +66,10 @@ impl Answer {
         }
     }
 
-    /// Whether the store may change after it.
+    /// Whether the state may change by a command with this reply.
     pub fn changes(&self) -> bool
-        ensures same { result ≡ false → (st : State) (command : Command) → changed_by st command (told self.now) ≡ st }
+        ensures same { result ≡ false → (nodes : List NodeInfo) (past : List Entry) (st : State) (session : SessionNo) (command : Command)
+            → (step nodes past st session command).0 ≡ told self.now → (step nodes past st session command).1 ≡ st }
         ensures none { result ≡ false → (s : StripeNo) (f : Fragment) → is_grant s f (told self.now) ≡ false }
     {
         match self {

@@ -1,6 +1,10 @@
 //! The answer to each command, and its change.
 
-ghost use Rattle.std.specs.Prelude.{◌≡◌, ◌<◌, true, false, IsSome, List};
+ghost use Rattle.std.specs.Prelude.{◌≡◌, ◌≢◌, ◌<◌, true, false, IsSome, List};
+ghost use Rattle.lrc_code.specs.declared.numbers.SessionNo.{SessionNo};
+ghost use Rattle.lrc_terms.specs.declared.lease.Lease.{Lease};
+ghost use Rattle.lrc_rules.specs.declared.kind.Kind.{Kind};
+ghost use Rattle.lrc_answers.specs.declared.answer.Answer.TheVariants.{Granted};
 ghost use Rattle.lrc_rules.specs.declared.entry.Entry.{Entry};
 ghost use Rattle.lrc_rules.specs.States.{State};
 ghost use Rattle.lrc_rules.specs.Steps.{step};
@@ -89,9 +93,26 @@ impl Store {
     }
 
     /// Makes the change of a command after any answer but a grant. Requires that the answer is the
-    /// one in this state, and that there is room, so nothing fails.
-    #[inline(never)] // a step that changes nothing then saves fewer registers
+    /// one in this state, and that there is room, so nothing fails. The store is then that of the
+    /// state after the command.
+    #[inline(always)] // so that the change itself is the only call
     pub fn make_change(&mut self, command: &Command, answer: &Answer)
+        ghost st: { State }
+        requires kept { IsOf st self.old }
+        requires room { has_room self.old ≡ true }
+        requires told { (past : List Entry) × (session : SessionNo) × ((step self.old.topology past st session command.now).0 ≡ told answer.now) }
+        requires other { (lease : Lease) (kind : Kind) → answer.now ≢ Granted lease kind }
+        requires early { self.old.clock.value < 4294967292 }
+        ensures nodes { self.new.topology ≡ self.old.topology }
+        ensures kept { (past : List Entry) (session : SessionNo) → (step self.old.topology past st session command.now).0 ≡ told answer.now
+            → IsOf (step self.old.topology past st session command.now).1 self.new }
+    {
+        self.change_by(command, answer);
+    }
+
+    /// Makes the change that a command and its answer tell, as `make_change`.
+    #[inline(never)] // a step that changes nothing then saves fewer registers
+    fn change_by(&mut self, command: &Command, answer: &Answer)
         ghost st: { State }
         requires kept { IsOf st self.old }
         requires room { has_room self.old ≡ true }

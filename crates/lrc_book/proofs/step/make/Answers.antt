@@ -13,7 +13,7 @@ use Rattle.lrc_answers.specs.Answers.{told}
 use Rattle.lrc_rules.specs.declared.entry.Entry.{Entry}
 use Rattle.lrc_book.proofs.WorldLemmas.{kept_push}
 use Rattle.lrc_book.proofs.CountedLemmas.{counted-none}
-use Rattle.lrc_answers.proofs.AnswerLemmas.{other-answer}
+use Rattle.lrc_rules.proofs.StepLemmas.{step-changed}
 use Rattle.lrc_book.proofs.GrantedLemmas.{granted-told, kept-granted}
 use Rattle.lrc_rules.proofs.MostUrgentLemmas.{granted-urgent}
 use Rattle.lrc_store.proofs.CursorLemmas.{cursor-leased, cursor-granted}
@@ -39,15 +39,8 @@ make_change-requires g c =
       (
         c.requires.1.1.1.0,
         (
-          record {
-            past = past;
-            session = made.session;
-            told = subst (λ (st : State). (step_of nodes past st made.session made.command).0 ≡ told made.answer) c.requires.0 step;
-          },
-          (
-            other-answer made.command made.answer c.in_default.not-Granted,
-            c.requires.1.1.1.1.1,
-          ),
+          (past, made.session, subst (λ (st : State). (step_of nodes past st made.session made.command).0 ≡ told made.answer) c.requires.0 step),
+          (c.in_default.not-Granted, c.requires.1.1.1.1.1),
         ),
       ),
     )
@@ -59,8 +52,10 @@ returns-then-not-changes-clause-kept g c = λ limit was below.
     let made = c.made.inside in
     let e : Entry = record { session = made.session; command = made.command; reply = told made.answer } in
     let step = rw (← c.made.view_is) at c.requires.1.1.1.1.0 in
-    let same : changed_by (state_from nodes (base_world c.args.base.now) past) e.command e.reply ≡ state_from nodes (base_world c.args.base.now) past =
-    c.changes.ensures.same c.if-not-changes.true (state_from nodes (base_world c.args.base.now) past) e.command in
+    let w = world_from nodes (base_world c.args.base.now) past in
+    let same : changed_by w.state e.command e.reply ≡ w.state =
+    sym (step-changed nodes w.past w.state e.session e.command ∙ ap (changed_by w.state e.command) step)
+    ∙ c.changes.ensures.same c.if-not-changes.true nodes w.past w.state e.session e.command step in
     rw (← c.made.view_is)
     (kept_push c.args.store.now c.args.store.now c.args.grants.now c.args.grants.now c.args.cursor.now c.args.cursor.now limit (base_world c.args.base.now) past e was below step
     refl (subst (λ (st : State). IsOf st c.args.store.now) (sym same) was.store_is)
@@ -108,7 +103,12 @@ returns-in_default-clause-kept g c = λ limit was below.
     let made = c.made.inside in
     let e : Entry = record { session = made.session; command = made.command; reply = told made.answer } in
     let step = rw (← c.made.view_is) at c.requires.1.1.1.1.0 in
+    let w = world_from nodes (base_world c.args.base.now) past in
+    let now : IsOf (step_of nodes w.past w.state e.session e.command).1 c.make_change.new.self =
+    subst (λ (st : State). (step_of nodes w.past st e.session e.command).0 ≡ e.reply → IsOf (step_of nodes w.past st e.session e.command).1 c.make_change.new.self) (sym c.requires.0)
+    (c.make_change.ensures.kept w.past e.session) step in
     rw (← c.made.view_is)
     (kept_push c.args.store.now c.make_change.new.self c.args.grants.now c.count_grant.new.counts c.args.cursor.now None limit (base_world c.args.base.now) past e was below step
-    c.make_change.ensures.nodes (subst (λ (st : State). IsOf (changed_by st e.command e.reply) c.make_change.new.self) (sym c.requires.0) c.make_change.ensures.kept)
+    c.make_change.ensures.nodes
+    (subst (λ (st : State). IsOf st c.make_change.new.self) (step-changed nodes w.past w.state e.session e.command ∙ ap (changed_by w.state e.command) step) now)
     (c.count_grant.ensures ((base_world c.args.base.now).past ++ past) e refl was.counted) tt)
