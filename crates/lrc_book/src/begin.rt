@@ -3,7 +3,7 @@
 ghost use Rattle.std.specs.Prelude.{◌≡◌, [], None, IfOk, IfErr, IsOk};
 ghost use Rattle.lrc_images.specs.Images.{image_world};
 ghost use Rattle.lrc_images.specs.Causes.{first_cause};
-ghost use Rattle.lrc_restore.specs.Stages.{IsRefusedBy};
+ghost use Rattle.lrc_restore.specs.Refused.{IsRefusedBy};
 
 use crate::{Book, HISTORY_LIMIT};
 use lrc_images::Image;

@@ -2,7 +2,7 @@ ghost use Rattle.std.specs.Prelude.{◌≡◌, ◌<◌, ◌^◌, [], None, IfOk,
 ghost use Rattle.lrc_images.specs.Images.{image_world};
 ghost use Rattle.lrc_images.specs.Causes.{first_cause};
 ghost use Rattle.lrc_images.specs.Cuts.{row_count};
-ghost use Rattle.lrc_restore.specs.Stages.{IsRefusedBy};
+ghost use Rattle.lrc_restore.specs.Refused.{IsRefusedBy};
 ghost use Rattle.lrc_image_text.specs.Texts.{row_line};
 ghost use Rattle.lrc_openings.specs.Begun.{IsBegun};
 ghost use Rattle.lrc_openings.specs.Unopened.{IsUnopened};

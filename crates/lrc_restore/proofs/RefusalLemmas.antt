@@ -1,5 +1,5 @@
 -- The first row of an image with a cause refuses it.
-use Rattle.std.proofs.Common.{◌≡◌, ◌∙◌, refl, sym, ap, ℕ, Bool, true, false, List, Option, Some, None, option_map}
+use Rattle.std.proofs.Common.{◌≡◌, ◌∙◌, refl, ap, ℕ, Bool, true, false, List, Option, Some, None}
 use Rattle.std.specs.Prelude.{Result, Ok, Err, IfErr}
 use Rattle.std.specs.Option.{option_or}
 use Rattle.lrc_topology.specs.declared.NodeInfo.{NodeInfo}
@@ -8,7 +8,8 @@ use Rattle.lrc_images.specs.declared.image.Image.{Image}
 use Rattle.lrc_images.specs.Causes.{cause_if, first_cause}
 use Rattle.lrc_restore.specs.declared.error.BeginError.{BeginError}
 use Rattle.lrc_restore.specs.declared.error.BeginError.TheVariants.{Refused, OutOfMemory}
-use Rattle.lrc_restore.specs.Stages.{head_refusal, nodes_refusal, stripes_refusal, grants_refusal, leases_refusal, IsRefusedBy, IsRefusedAt}
+use Rattle.lrc_restore.specs.Stages.{head_refusal, nodes_refusal, stripes_refusal, grants_refusal, leases_refusal}
+use Rattle.lrc_restore.specs.Refused.{IsRefusedBy}
 
 -- ---- the tests of a row
 
@@ -19,15 +20,6 @@ skip true c next miss = absurd (let never : true ≡ false = miss in cc)
 pub stop : (met : Bool) (c : Cause) (next : Option Cause) → met ≡ true → cause_if met c next ≡ Some c
 stop true c next hit = refl
 stop false c next hit = absurd (let never : false ≡ true = hit in cc)
-
--- ---- a row
-
--- the cause of the row is the first
-pub refused-here : (o : Option Cause) (rest : Option (ℕ × Cause)) (here position : ℕ) (e : BeginError) → position ≡ here
-    → IsRefusedAt position o e → IsRefusedBy (option_or (option_map (λ c. (here, c)) o) rest) e
-refused-here o rest here position OutOfMemory same by = tt
-refused-here None rest here position (Refused p cause) same by = absurd (cc)
-refused-here (Some c) rest here position (Refused p cause) same by = ap (λ k. Some (k, c)) (sym same) ∙ by
 
 -- ---- a part of the image
 
@@ -44,7 +36,7 @@ pub later-refused : (first later : Found) (e : BeginError) → first ≡ None �
 later-refused first later OutOfMemory none refused = tt
 later-refused first later (Refused position cause) none refused = ap (λ (o : Found). option_or o later) none ∙ refused
 
-pub if-err : {T : Type 0} (r : Result T BeginError) (P Q : BeginError → Type 0) → ((e : BeginError) → P e → Q e) → IfErr r P → IfErr r Q
+pub if-err : {T E : Type 0} (r : Result T E) (P Q : E → Type 0) → ((e : E) → P e → Q e) → IfErr r P → IfErr r Q
 if-err (Ok t) P Q so p = tt
 if-err (Err e) P Q so p = so e p
 

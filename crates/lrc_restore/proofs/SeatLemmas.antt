@@ -1,7 +1,7 @@
 -- A seat that a fragment may hold: its slot is free, and the store with it is that of the state with one more home.
-use Rattle.std.proofs.Common.{◌≡◌, ◌≢◌, ◌<◌, Bool, true, false, not, nat_lt, List, map, Option, Some, None, option_map, IsSomeAnd, IsTrue, refl, sym, ap, ap₂, ◌∙◌, subst}
+use Rattle.std.proofs.Common.{◌≡◌, ◌≢◌, ◌<◌, Bool, true, false, nat_lt, List, map, Option, Some, None, option_map, IsSomeAnd, IsTrue, refl, sym, ap, ap₂, ◌∙◌, subst}
 use Rattle.std.specs.Option.{option_map_or}
-use Rattle.std.specs.List.{All, Contains, list_any}
+use Rattle.std.specs.List.{Contains, list_any}
 use Rattle.std.proofs.lemmas.Bool.{lt-ltb}
 use Rattle.std.proofs.lemmas.List.Elements.{All-contains, Contains-append_left}
 use Rattle.lrc_code.specs.declared.numbers.StripeNo.{StripeNo}

@@ -1,6 +1,7 @@
+-- Internal: no public clause reaches these definitions.
 -- The state of a store that has taken some rows of an image's nodes, and which row of each part of the image is refused
 -- first.
-use Rattle.std.specs.Prelude.{◌≡◌, ℕ, ◌+◌, List, [], length, Option, Some, option_map}
+use Rattle.std.specs.Prelude.{ℕ, ◌+◌, List, [], length, Option, option_map}
 use Rattle.lrc_topology.specs.declared.NodeInfo.{NodeInfo}
 use Rattle.lrc_terms.specs.Modes.{is_draining, is_gone}
 use Rattle.lrc_rules.specs.States.{State, opening}
@@ -9,8 +10,6 @@ use Rattle.lrc_images.specs.declared.image.NodeRow.{NodeRow}
 use Rattle.lrc_images.specs.declared.image.Image.{Image}
 use Rattle.lrc_images.specs.Images.{nodes_where}
 use Rattle.lrc_images.specs.Causes.{first_answer, at_place, head_cause, node_cause, stripe_cause, grant_cause, lease_cause}
-use Rattle.lrc_restore.specs.declared.error.BeginError.{BeginError}
-use Rattle.lrc_restore.specs.declared.error.BeginError.TheVariants.{Refused, OutOfMemory}
 
 -- the state of the image with these of its nodes, and no stripes
 abbrev pub with_nodes : Image → List NodeRow → State
@@ -50,12 +49,3 @@ grants_refusal i = first_answer (at_place (grants_from i) grant_cause) [] i.gran
 
 abbrev pub leases_refusal : List NodeInfo → Image → Option (ℕ × Cause)
 leases_refusal nodes i = first_answer (at_place (leases_from i) (lease_cause nodes i)) [] i.leases.items
-
--- this row and this cause are the first; of want of memory nothing is said
-abbrev pub IsRefusedBy : Option (ℕ × Cause) → BeginError → Type 0
-IsRefusedBy first OutOfMemory = Unit {0}
-IsRefusedBy first (Refused position cause) = first ≡ Some (position, cause)
-
--- the same of a row at this position, by the first cause of the row
-abbrev pub IsRefusedAt : ℕ → Option Cause → BeginError → Type 0
-IsRefusedAt position cause e = IsRefusedBy (option_map (λ c. (position, c)) cause) e

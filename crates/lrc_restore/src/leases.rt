@@ -1,4 +1,4 @@
-ghost use Rattle.std.specs.Prelude.{◌≡◌, ◌+◌, ◌&&◌, nat_lt, nat_le, List, [], None, IfErr, OnOk, IsOk};
+ghost use Rattle.std.specs.Prelude.{◌≡◌, ◌+◌, ◌&&◌, nat_lt, nat_le, List, [], Some, None, IfErr, OnOk, IsOk};
 ghost use Rattle.lrc_rules.specs.Leases.{term};
 ghost use Rattle.lrc_images.specs.declared.image.Image.{Image};
 ghost use Rattle.lrc_images.specs.Images.{earlier, image_state, row_lease};
@@ -6,9 +6,9 @@ ghost use Rattle.lrc_images.specs.Rising.{lease_first, IsRising};
 ghost use Rattle.lrc_images.specs.Causes.{lease_cause, with_leases};
 ghost use Rattle.lrc_rules.specs.declared.entry.Entry.{Entry};
 ghost use Rattle.lrc_store.specs.Stores.{IsOf, IsTied, AreGrantsOf};
-ghost use Rattle.lrc_restore.specs.Stages.{leases_refusal, IsRefusedBy};
+ghost use Rattle.lrc_restore.specs.Stages.{leases_refusal};
 
-use crate::BeginError;
+use crate::error::RefusedRow;
 use crate::order::{Ordered, is_out_of_order};
 use crate::position::leases_from;
 use crate::seats::seat_refusal;
@@ -22,21 +22,22 @@ pub(crate) fn restore_leases(
     store: &mut Store,
     grants: &Grants,
     image: &Image,
-) -> Result<(), BeginError>
+) -> Result<(), RefusedRow>
     requires kept { IsOf (with_leases image.now []) store.old }
     requires grants { AreGrantsOf (earlier image.now.grants.items) grants.now }
     ensures nodes { store.new.topology ≡ store.old.topology }
     ensures kept { OnOk result (IsOf (image_state image.now) store.new) }
     ensures lawful { IsOk result → leases_refusal store.old.topology image.now ≡ None }
-    ensures refused { IfErr result (IsRefusedBy (leases_refusal store.old.topology image.now)) }
+    ensures refused { IfErr result (λ r. leases_refusal store.old.topology image.now ≡ Some (r.position, r.cause)) }
 {
     let rows = image.leases.as_slice();
     for (index, row) in rows.iter().enumerate() {
         if let Some(cause) = lease_cause(store, grants, &rows[..index], row) {
             let position = leases_from(image) + index;
-            return Err(BeginError::Refused(position, cause));
+            return Err(RefusedRow { position, cause });
         }
-        store.reserve()?;
+        // A store has the memory of all its leases from the start, so this can't fail.
+        store.reserve().unwrap();
         store.add_lease(&lease_of(grants, row));
     }
     Ok(())

@@ -1,12 +1,13 @@
-ghost use Rattle.std.specs.Prelude.{◌≡◌, None, IfOk, IfErr, OnOk, IsOk};
+ghost use Rattle.std.specs.Prelude.{◌≡◌, Some, None, IfOk, IfErr, OnOk, IsOk};
 ghost use Rattle.lrc_leases.specs.Granted.{none_granted, granted_in};
 ghost use Rattle.lrc_rules.specs.States.{opening};
 ghost use Rattle.lrc_images.specs.Images.{earlier, image_state};
 ghost use Rattle.lrc_images.specs.Causes.{first_cause};
 ghost use Rattle.lrc_store.specs.Stores.{IsOf, AreGrantsOf};
-ghost use Rattle.lrc_restore.specs.Stages.{IsRefusedBy};
+ghost use Rattle.lrc_restore.specs.Refused.{IsRefusedBy};
 
 use crate::BeginError;
+use crate::error::RefusedRow;
 use crate::grants::restore_grants;
 use crate::head::restore_head;
 use crate::leases::restore_leases;
@@ -42,14 +43,14 @@ pub fn restore(
 }
 
 /// Takes the rows of an image into the store of an empty state.
-fn restore_rows(store: &mut Store, grants: &mut Grants, image: &Image) -> Result<(), BeginError>
+fn restore_rows(store: &mut Store, grants: &mut Grants, image: &Image) -> Result<(), RefusedRow>
     requires opening { IsOf opening store.old }
     requires ungranted { granted_in grants.old ≡ none_granted }
     ensures nodes { store.new.topology ≡ store.old.topology }
     ensures store { OnOk result (IsOf (image_state image.now) store.new) }
     ensures grants { OnOk result (AreGrantsOf (earlier image.now.grants.items) grants.new) }
     ensures lawful { IsOk result → first_cause store.old.topology image.now ≡ None }
-    ensures refused { IfErr result (IsRefusedBy (first_cause store.old.topology image.now)) }
+    ensures refused { IfErr result (λ r. first_cause store.old.topology image.now ≡ Some (r.position, r.cause)) }
 {
     restore_head(store, image)?;
     restore_nodes(store, image)?;

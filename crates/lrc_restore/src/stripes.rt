@@ -11,9 +11,9 @@ ghost use Rattle.lrc_images.specs.Images.{row_homes};
 ghost use Rattle.lrc_images.specs.Rising.{stripe_first, IsRising};
 ghost use Rattle.lrc_images.specs.Causes.{first_answer, seat_cause, stripe_cause, with_homes};
 ghost use Rattle.lrc_store.specs.Stores.{IsOf, IsTied};
-ghost use Rattle.lrc_restore.specs.Stages.{stripes_refusal, IsRefusedBy, IsRefusedAt};
+ghost use Rattle.lrc_restore.specs.Stages.{stripes_refusal};
 
-use crate::BeginError;
+use crate::error::RefusedRow;
 use crate::order::{Ordered, is_out_of_order};
 use crate::position::stripes_from;
 use crate::seats::seat_refusal;
@@ -23,12 +23,12 @@ use lrc_store::Store;
 use lrc_topology::Seat;
 
 /// Adds the stripes of an image, with their homes.
-pub(crate) fn restore_stripes(store: &mut Store, image: &Image) -> Result<(), BeginError>
+pub(crate) fn restore_stripes(store: &mut Store, image: &Image) -> Result<(), RefusedRow>
     requires { IsOf (with_homes image.now [] []) store.old }
     ensures nodes { store.new.topology ≡ store.old.topology }
     ensures kept { OnOk result (IsOf (with_homes image.now image.now.stripes.items (flat_map row_homes image.now.stripes.items)) store.new) }
     ensures lawful { IsOk result → stripes_refusal store.old.topology image.now ≡ None }
-    ensures refused { IfErr result (IsRefusedBy (stripes_refusal store.old.topology image.now)) }
+    ensures refused { IfErr result (λ r. stripes_refusal store.old.topology image.now ≡ Some (r.position, r.cause)) }
 {
     let rows = image.stripes.as_slice();
     for (i, row) in rows.iter().enumerate() {
@@ -44,7 +44,7 @@ fn restore_stripe(
     before: &[StripeRow],
     row: &StripeRow,
     position: usize,
-) -> Result<(), BeginError>
+) -> Result<(), RefusedRow>
     requires kept { (i : AnyImage) × IsOf (with_homes i before.now (flat_map row_homes before.now)) store.old }
     requires rising { IsRising stripe_first before.now }
     ensures nodes { store.new.topology ≡ store.old.topology }
@@ -52,16 +52,18 @@ fn restore_stripe(
         → IsOf (with_homes i (before.now ++ row.now ∷ []) (flat_map row_homes (before.now ++ row.now ∷ []))) store.new) }
     ensures lawful { IsOk result → (i : AnyImage) → IsOf (with_homes i before.now (flat_map row_homes before.now)) store.old
         → stripe_cause store.old.topology i before.now row.now ≡ None }
-    ensures refused { IfErr result (λ e. (i : AnyImage) → IsOf (with_homes i before.now (flat_map row_homes before.now)) store.old
-        → IsRefusedAt position (stripe_cause store.old.topology i before.now row.now) e) }
+    ensures position { IfErr result (λ r. r.position ≡ position) }
+    ensures refused { IfErr result (λ r. (i : AnyImage) → IsOf (with_homes i before.now (flat_map row_homes before.now)) store.old
+        → stripe_cause store.old.topology i before.now row.now ≡ Some r.cause) }
 {
     if is_out_of_order(before, row) {
-        return Err(BeginError::Refused(position, Cause::OutOfOrder));
+        let cause = Cause::OutOfOrder;
+        return Err(RefusedRow { position, cause });
     }
-    add_stripe(store, row.code, row.stripe)?;
+    add_stripe(store, row.code, row.stripe);
     match restore_homes(store, row) {
         Ok(()) => Ok(()),
-        Err(cause) => Err(BeginError::Refused(position, cause)),
+        Err(cause) => Err(RefusedRow { position, cause }),
     }
 }
 
@@ -79,21 +81,20 @@ impl Ordered for StripeRow {
 }
 
 /// Adds a stripe without homes. The store must not have it.
-fn add_stripe(store: &mut Store, code: Code, stripe: StripeNo) -> Result<(), BeginError>
+fn add_stripe(store: &mut Store, code: Code, stripe: StripeNo)
     requires tied { IsTied store.old }
     requires absent { IsFalse ((stored_in store.old.stripes).stripes stripe) }
     ensures nodes { store.new.topology ≡ store.old.topology }
-    ensures kept { OnOk result ((st : State) → IsOf st store.old → IsOf (with_stripe st code stripe) store.new) }
-    ensures there { OnOk result (IsTrue ((stored_in store.new.stripes).stripes stripe)) }
-    ensures bare { OnOk result ((f : ℕ) → (stored_in store.new.stripes).homes stripe f ≡ None) }
-    ensures refused { IfErr result (IsRefusedBy None) }
+    ensures kept { (st : State) → IsOf st store.old → IsOf (with_stripe st code stripe) store.new }
+    ensures there { IsTrue ((stored_in store.new.stripes).stripes stripe) }
+    ensures bare { (f : ℕ) → (stored_in store.new.stripes).homes stripe f ≡ None }
 {
-    store.stripes.reserve(1)?;
+    // A store has the memory of all its stripes from the start, so this can't fail.
+    store.stripes.reserve(1).unwrap();
     match code {
         Code::Wide => store.stripes.add(stripe),
         Code::Narrow => store.stripes.add_narrow(stripe),
     }
-    Ok(())
 }
 
 /// Gives the fragments of a row their homes. The store must have the stripe, without homes.

@@ -51,17 +51,19 @@ impl Store {
         })
     }
 
-    /// Makes room for one more command of any kind, and changes nothing else.
+    /// Makes room for one more command of any kind, and changes nothing else. Today this allocates nothing: `new` allocates
+    /// for all stripes and leases.
     ///
     /// # Errors
     ///
-    /// Only `Fault::OutOfMemory`, and not where there is room already.
+    /// None today. Tables that grow would return `Fault::OutOfMemory`.
     pub fn reserve(&mut self) -> Result<(), Fault>
         ensures nodes { self.new.topology ≡ self.old.topology }
         ensures same { (st : State) → IsOf st self.old → IsOf st self.new }
         ensures ok { OnOk result (has_room self.new ≡ true) }
         ensures kept { has_room self.old ≡ true → has_room self.new ≡ true }
         ensures enough { has_room self.old ≡ true → IsOk result }
+        ensures always { IsOk result }
         ensures err { IfErr result (λ e. e ≡ fault.OutOfMemory) }
     {
         if self.has_room() {

@@ -1,7 +1,7 @@
 //! The checks of a sequel, which are made before its first command, and the book that begins where it says.
 
 ghost use Rattle.std.specs.Prelude.{◌≡◌, ◌≤◌, nat_eq, count_by, take, drop, length, None, Ok, IfOk, IfErr, IsOk};
-ghost use Rattle.lrc_restore.specs.Stages.{IsRefusedBy};
+ghost use Rattle.lrc_restore.specs.Refused.{IsRefusedBy};
 ghost use Rattle.lrc_tool.specs.Limits.{sequel_limit};
 ghost use Rattle.lrc_script.specs.Scripts.{lines_of};
 ghost use Rattle.lrc_script.specs.Cuts.{IsCut};

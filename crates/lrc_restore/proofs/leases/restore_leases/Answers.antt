@@ -26,9 +26,9 @@ add_lease-requires-clause-may c =
     let kept = c.loop-index.invariant.kept in
     let none = sym (c.lease_cause.ensures image kept c.requires.grants) ∙ c.in_default.is in (
       st,
-      c.in_ok-reserve.ensures.same st kept,
+      c.reserve.ensures.same st kept,
       subst (λ (l : Lease). MayLease c.reserve.new.self.topology st l) (sym (c.lease_of.ensures past c.requires.grants))
-          (subst (λ (ns : List NodeInfo). MayLease ns st (row_lease past row)) (sym c.in_ok-reserve.ensures.nodes)
+          (subst (λ (ns : List NodeInfo). MayLease ns st (row_lease past row)) (sym c.reserve.ensures.nodes)
           (row-may c.loop-index.store.topology image before row none)),
     )
 
@@ -72,9 +72,9 @@ loop-index-preserved c =
     let here : lease_cause nodes image before (get_or rows i row) ≡ None = ap (lease_cause nodes image before) (sym is) ∙ none in
     let lease = c.lease_of.ensures past c.requires.grants in
     let may = subst (λ (l : Lease). MayLease c.reserve.new.self.topology st l) (sym lease)
-    (subst (λ (ns : List NodeInfo). MayLease ns st (row_lease past row)) (sym c.in_ok-reserve.ensures.nodes) (row-may c.loop-index.store.topology image before row now)) in
+    (subst (λ (ns : List NodeInfo). MayLease ns st (row_lease past row)) (sym c.reserve.ensures.nodes) (row-may c.loop-index.store.topology image before row now)) in
     record {
-      nodes = c.add_lease.ensures.nodes ∙ c.in_ok-reserve.ensures.nodes ∙ was.nodes;
+      nodes = c.add_lease.ensures.nodes ∙ c.reserve.ensures.nodes ∙ was.nodes;
       from = from-next (at_place place (lease_cause nodes image)) rows i row within
           (none-map (λ (k : Cause). (place + length before, k)) (lease_cause nodes image before (get_or rows i row)) here) was.from;
       rising = rising-next lease_first rows i row within was.rising (lease-ordered nodes image before (get_or rows i row) here);
@@ -82,5 +82,5 @@ loop-index-preserved c =
           (ap (λ (r : LeaseRow). before ++ r ∷ []) is ∙ sym (take_more rows i row within))
           (subst (λ (s : State). IsOf s c.add_lease.new.self) (row-more nodes image before row)
           (subst (λ (l : Lease). IsOf (with_lease st l) c.add_lease.new.self) lease
-          (c.add_lease.ensures.kept st (c.in_ok-reserve.ensures.same st was.kept) may)));
+          (c.add_lease.ensures.kept st (c.reserve.ensures.same st was.kept) may)));
     }

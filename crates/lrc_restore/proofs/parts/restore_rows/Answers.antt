@@ -1,8 +1,10 @@
-use Rattle.std.proofs.Common.{◌≡◌, List, None, refl, subst, ◌∙◌}
+use Rattle.std.proofs.Common.{◌≡◌, List, Some, None, refl, subst, ◌∙◌}
 use Rattle.std.proofs.lemmas.Result.{err_from_is_err_and}
 use Rattle.lrc_topology.specs.declared.NodeInfo.{NodeInfo}
 use Rattle.lrc_restore.specs.declared.error.BeginError.TheVariants.{Refused}
-use Rattle.lrc_restore.specs.Stages.{nodes_refusal, stripes_refusal, leases_refusal, IsRefusedBy}
+use Rattle.lrc_restore.specs.declared.error.RefusedRow.{RefusedRow}
+use Rattle.lrc_restore.specs.Stages.{nodes_refusal, stripes_refusal, leases_refusal}
+use Rattle.lrc_restore.specs.Refused.{IsRefusedBy}
 use Rattle.lrc_images.specs.Causes.{first_cause}
 use Rattle.lrc_restore.proofs.RefusalLemmas.{head-first, nodes-first, stripes-first, grants-first, leases-first, all-lawful, if-err}
 use Rattle.lrc_restore.proofs.parts.restore_rows.Goals as goal
@@ -36,7 +38,8 @@ returns-in_err-restore_stripes-clause-refused c =
     let node_rows = subst (λ (ns : List NodeInfo). nodes_refusal ns i ≡ None) one (c.in_ok-restore_nodes.ensures.lawful refl) in
     let two = c.restore_nodes.ensures.nodes ∙ one in
     let p = err_from_is_err_and c.from_residual-in_err-restore_stripes.result c.from_residual-in_err-restore_stripes.ensures.1 in
-    let e = c.in_err-restore_stripes.field-0.0 in
+    let row = c.in_err-restore_stripes.field-0.0 in
+    let e = Refused row.position row.cause in
     rw (p.1, p.2) (stripes-first nodes i head node_rows e (subst (λ (ns : List NodeInfo). IsRefusedBy (stripes_refusal ns i) e) two c.in_err-restore_stripes.ensures.refused))
 
 pub returns-in_err-restore_grants-clause-refused : goal.returns-in_err-restore_grants-clause-refused
@@ -77,6 +80,8 @@ returns-clause-refused c =
     let stripe_rows = subst (λ (ns : List NodeInfo). stripes_refusal ns i ≡ None) two (c.in_ok-restore_stripes.ensures.lawful refl) in
     let grant_rows = c.in_ok-restore_grants.ensures.lawful refl in
     let three = c.restore_stripes.ensures.nodes ∙ two in
-    if-err c.restore_leases.result (IsRefusedBy (leases_refusal c.restore_stripes.new.store.topology i)) (IsRefusedBy (first_cause nodes i))
-    (λ e refused. leases-first nodes i head node_rows stripe_rows grant_rows e (subst (λ (ns : List NodeInfo). IsRefusedBy (leases_refusal ns i) e) three refused))
+    if-err c.restore_leases.result (λ (r : RefusedRow). leases_refusal c.restore_stripes.new.store.topology i ≡ Some (r.position, r.cause))
+    (λ (r : RefusedRow). first_cause nodes i ≡ Some (r.position, r.cause))
+    (λ r refused. leases-first nodes i head node_rows stripe_rows grant_rows (Refused r.position r.cause)
+    (subst (λ (ns : List NodeInfo). leases_refusal ns i ≡ Some (r.position, r.cause)) three refused))
     c.restore_leases.ensures.refused

@@ -1,4 +1,4 @@
-use Rattle.std.proofs.Common.{[], ◌≡◌, ◌∷◌, ◌++◌, ◌+◌, ℕ, List, length, take, get_or, flat_map, Option, None, refl, sym, subst, ◌∙◌, arith}
+use Rattle.std.proofs.Common.{[], ◌≡◌, ◌∷◌, ◌++◌, ◌+◌, List, length, take, get_or, flat_map, Some, None, option_map, refl, sym, ap, subst, ◌∙◌, arith}
 use Rattle.std.proofs.lemmas.List.{take_more, length-take-le}
 use Rattle.std.proofs.lemmas.Result.{err_from_is_err_and}
 use Rattle.lrc_topology.specs.declared.NodeInfo.{NodeInfo}
@@ -10,9 +10,8 @@ use Rattle.lrc_images.specs.Rising.{stripe_first}
 use Rattle.lrc_images.specs.Causes.{first_answer, at_place, is_out_of_order, homes_cause, stripe_cause, with_homes}
 use Rattle.lrc_images.proofs.AnswerLemmas.{if-none, none-map}
 use Rattle.lrc_store.specs.Stores.{IsOf}
-use Rattle.lrc_restore.specs.Stages.{stripes_from, IsRefusedBy, IsRefusedAt}
-use Rattle.lrc_restore.proofs.WalkLemmas.{from-here, from-next, rising-next}
-use Rattle.lrc_restore.proofs.RefusalLemmas.{refused-here}
+use Rattle.lrc_restore.specs.Stages.{stripes_from}
+use Rattle.lrc_restore.proofs.WalkLemmas.{from-found, from-next, rising-next}
 use Rattle.lrc_restore.proofs.stripes.restore_stripes.Goals as goal
 
 pub returns-in_err-restore_stripe-clause-refused : goal.returns-in_err-restore_stripe-clause-refused
@@ -26,18 +25,16 @@ returns-in_err-restore_stripe-clause-refused c =
     let image = c.args.image.now in
     let place = stripes_from image in
     let ask = at_place place (stripe_cause nodes image) in
-    let e = c.in_err-restore_stripe.field-0.0 in
-    let long = length-take-le i rows (omega arith) in
-    let position = c.stripes_from.result + i in
-    let same : position ≡ place + length (take i rows) = omega (arith, long, c.stripes_from.ensures.is) in
+    let before = take i rows in
+    let r = c.in_err-restore_stripe.field-0.0 in
+    let here : stripe_cause nodes image before (get_or rows i d) ≡ Some r.cause = subst (λ (ns : List NodeInfo). stripe_cause ns image before (get_or rows i d) ≡ Some r.cause) so_far.nodes
+    (subst (λ (row : StripeRow). stripe_cause c.loop-i.store.topology image before row ≡ Some r.cause) c.index-rows-i.is (c.in_err-restore_stripe.ensures.refused image so_far.kept)) in
+    let some : ask before (get_or rows i d) ≡ Some (place + i, r.cause) =
+    ap (option_map (λ (k : Cause). (place + length before, k))) here ∙ ap (λ n. Some (place + n, r.cause)) (length-take-le i rows (omega (arith, within))) in
+    let same : place + i ≡ r.position = ap (λ n. n + i) (sym c.stripes_from.ensures.is) ∙ sym c.in_err-restore_stripe.ensures.position in
     let p = err_from_is_err_and c.from_residual.result c.from_residual.ensures.1 in
     rw (p.1, p.2)
-    (subst (λ (xs : List StripeRow). IsRefusedBy (first_answer ask [] xs) e) c.as_slice-rows.ensures.value
-    (subst (λ (o : Option (ℕ × Cause)). IsRefusedBy o e) (sym (from-here ask rows i d within so_far.clear))
-    (refused-here (stripe_cause nodes image (take i rows) (get_or rows i d)) _ (place + length (take i rows)) position e same
-    (subst (λ (ns : List NodeInfo). IsRefusedAt position (stripe_cause ns image (take i rows) (get_or rows i d)) e) so_far.nodes
-    (subst (λ (r : StripeRow). IsRefusedAt position (stripe_cause c.loop-i.store.topology image (take i rows) r) e) c.index-rows-i.is
-    (c.in_err-restore_stripe.ensures.refused image so_far.kept))))))
+    (sym (ap (first_answer ask []) c.as_slice-rows.ensures.value) ∙ from-found ask rows i d within (place + i, r.cause) some so_far.clear ∙ ap (λ n. Some (n, r.cause)) same)
 
 pub loop-i-preserved : goal.loop-i-preserved
 loop-i-preserved c =
