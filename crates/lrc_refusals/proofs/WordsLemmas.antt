@@ -1,9 +1,12 @@
 -- The words can be told from the line.
-use Rattle.std.proofs.Common.{◌≡◌, ℕ, ◌^◌, ◌<◌, Bool, true, false, ◌&&◌, if◌then◌else◌, nat_eq, List, [], ◌∷◌, ◌++◌, get_or, drop, codes, decimal, refl, ap, ◌∙◌, ◌≤◌, ◌+◌, ◌/◌, ◌%◌, append_assoc, arith}
+use Rattle.std.proofs.Common.{◌≡◌, ℕ, zero, suc, ◌^◌, ◌<◌, ◌==◌, inl, inr, Bool, true, false, ◌&&◌, if◌then◌else◌, nat_eq, List, [], ◌∷◌, ◌++◌, get_or, drop, codes, decimal, refl, ap, ◌∙◌, ◌≤◌, ◌+◌, ◌/◌, ◌%◌, append_assoc, arith}
 use Rattle.std.specs.List.{list_all}
 use Rattle.std.specs.Char.{is_ascii_digit}
-use Rattle.std.proofs.lemmas.Fmt.{digits_decimal, decimal_digit, decimal_step}
-use Rattle.lrc_front.proofs.DigitLemmas.{own}
+use Rattle.std.specs.Fmt.{digit_glyph, digits_onto, digits}
+use Rattle.std.proofs.Math.Nat.{mod-lt}
+use Rattle.std.proofs.lemmas.Bool.{cases_Bool}
+use Rattle.std.proofs.lemmas.Bool.Decides.{nat_tests}
+use Rattle.std.proofs.lemmas.Fmt.{decimal_digit, decimal_step}
 use Rattle.lrc_topology.specs.declared.error.TopologyError.{TopologyError}
 use Rattle.lrc_topology.specs.declared.error.TopologyError.TheVariants as topology
 use Rattle.lrc_images.specs.declared.cause.Cause.{Cause as RowCause}
@@ -15,7 +18,7 @@ use Rattle.lrc_groups.specs.declared.lacking.Lacking.{Lacking}
 use Rattle.lrc_groups.specs.declared.lacking.Lacking.TheVariants as lacking
 use Rattle.lrc_refusals.specs.declared.refusal.InputRefusal.{InputRefusal}
 use Rattle.lrc_refusals.specs.declared.refusal.InputRefusal.TheVariants as refusal
-use Rattle.lrc_refusals.specs.Refusals.{cause_number, refusal_line, topology_words, line_words, row_words, refusal_words, HasSmallNumber}
+use Rattle.lrc_refusals.specs.Refusals.{cause_number, refusal_line, topology_words, line_words, row_words, refusal_words}
 
 -- ---- what stands behind a number
 
@@ -32,8 +35,26 @@ unfolding past_digits
 past-all [] rest all = refl
 past-all (d ∷ ds) rest all = let parts = both (is_ascii_digit d) (list_all is_ascii_digit ds) all in rw parts.0 (past-all ds rest parts.1)
 
-past-decimal : (n : ℕ) (rest : List ℕ) → n < 2 ^ 64 → past_digits (decimal n ++ rest) ≡ past_digits rest
-past-decimal n rest small = past-all (decimal n) rest (digits_decimal own n small)
+digit-glyph : (d : ℕ) → d < 10 → is_ascii_digit (digit_glyph false d) ≡ true
+digit-glyph d low = grind (arith, nat_tests)
+
+-- a number of any size is written in digits
+digits-own : (k n : ℕ) (acc : List ℕ) → list_all is_ascii_digit acc ≡ true → list_all is_ascii_digit (digits_onto k 10 false n acc) ≡ true
+digits-own zero n acc all = all
+digits-own (suc k) n acc all =
+    let digit = digit-glyph (n % 10) (mod-lt n (omega arith)) in
+    let more : list_all is_ascii_digit (digit_glyph false (n % 10) ∷ acc) ≡ true = rw (digit, all) refl in
+    elim (cases_Bool (n / 10 == 0)) [
+      | inl last ↦ rw last more
+      | inr next ↦ rw next (digits-own k (n / 10) (digit_glyph false (n % 10) ∷ acc) more)
+    ]
+
+decimal-own : (n : ℕ) → list_all is_ascii_digit (decimal n) ≡ true
+unfolding digits
+decimal-own n = digits-own 64 n [] refl
+
+past-decimal : (n : ℕ) (rest : List ℕ) → past_digits (decimal n ++ rest) ≡ past_digits rest
+past-decimal n rest = past-all (decimal n) rest (decimal-own n)
 
 -- ---- the words of a line
 
@@ -156,17 +177,17 @@ three a b c = simp append_assoc
 five : (a b c d e : List ℕ) → a ++ b ++ c ++ d ++ e ≡ a ++ (b ++ (c ++ d ++ e))
 five a b c d e = simp append_assoc
 
-pub words-told : (r : InputRefusal) → HasSmallNumber r → words_at (refusal_line r) ≡ refusal_words r
-words-told refusal.TooLong small = refl
-words-told refusal.TooManyScripts small = refl
-words-told (refusal.Topology e) small = topology-told e
-words-told (refusal.Line n c) small =
+pub words-told : (r : InputRefusal) → words_at (refusal_line r) ≡ refusal_words r
+words-told refusal.TooLong = refl
+words-told refusal.TooManyScripts = refl
+words-told (refusal.Topology e) = topology-told e
+words-told (refusal.Line n c) =
     let rest = codes " cause " ++ decimal (cause_number c) ++ codes "\n" in
-    ap words_at (five (codes "line ") (decimal n) (codes " cause ") (decimal (cause_number c)) (codes "\n")) ∙ at-line (decimal n ++ rest) ∙ ap (λ behind. line_words_at (at behind 7)) (past-decimal n rest small) ∙ line-cause c
-words-told (refusal.ImageLine n) small =
-    ap words_at (three (codes "image ") (decimal n) (codes "\n")) ∙ at-image (decimal n ++ codes "\n") ∙ ap image_words_at (past-decimal n (codes "\n") small) ∙ at-end
-words-told (refusal.Row n c) small =
+    ap words_at (five (codes "line ") (decimal n) (codes " cause ") (decimal (cause_number c)) (codes "\n")) ∙ at-line (decimal n ++ rest) ∙ ap (λ behind. line_words_at (at behind 7)) (past-decimal n rest) ∙ line-cause c
+words-told (refusal.ImageLine n) =
+    ap words_at (three (codes "image ") (decimal n) (codes "\n")) ∙ at-image (decimal n ++ codes "\n") ∙ ap image_words_at (past-decimal n (codes "\n")) ∙ at-end
+words-told (refusal.Row n c) =
     let rest = codes " cause " ++ decimal (row_cause_number c) ++ codes "\n" in
-    ap words_at (five (codes "image ") (decimal n) (codes " cause ") (decimal (row_cause_number c)) (codes "\n")) ∙ at-image (decimal n ++ rest) ∙ ap image_words_at (past-decimal n rest small) ∙ row-cause c
-words-told refusal.FullImage small = at-image (codes "full\n") ∙ at-full
-words-told (refusal.Lacking l) small = lacking-told l
+    ap words_at (five (codes "image ") (decimal n) (codes " cause ") (decimal (row_cause_number c)) (codes "\n")) ∙ at-image (decimal n ++ rest) ∙ ap image_words_at (past-decimal n rest) ∙ row-cause c
+words-told refusal.FullImage = at-image (codes "full\n") ∙ at-full
+words-told (refusal.Lacking l) = lacking-told l

@@ -1,5 +1,5 @@
 -- The line for each refusal, and the words that say why.
-use Rattle.std.specs.Prelude.{ℕ, ◌^◌, ◌<◌, List, [], ◌++◌, codes, decimal}
+use Rattle.std.specs.Prelude.{ℕ, List, [], ◌++◌, codes, decimal}
 use Rattle.lrc_topology.specs.declared.error.TopologyError.{TopologyError}
 use Rattle.lrc_topology.specs.declared.error.TopologyError.TheVariants as topology
 use Rattle.lrc_images.specs.declared.cause.Cause.{Cause as RowCause}
@@ -41,17 +41,6 @@ refusal_line (refusal.ImageLine line) = codes "image " ++ decimal line ++ codes 
 refusal_line (refusal.Row line cause) = codes "image " ++ decimal line ++ codes " cause " ++ decimal (row_cause_number cause) ++ codes "\n"
 refusal_line refusal.FullImage = codes "image full\n"
 refusal_line (refusal.Lacking lacking) = lacking_line lacking
-
--- the number of the line, where it has one, is below 2^64
-abbrev pub HasSmallNumber : InputRefusal → Type 0
-HasSmallNumber refusal.TooLong = Unit {0}
-HasSmallNumber refusal.TooManyScripts = Unit {0}
-HasSmallNumber (refusal.Topology _) = Unit {0}
-HasSmallNumber (refusal.Line line _) = line < 2 ^ 64
-HasSmallNumber (refusal.ImageLine line) = line < 2 ^ 64
-HasSmallNumber (refusal.Row line _) = line < 2 ^ 64
-HasSmallNumber refusal.FullImage = Unit {0}
-HasSmallNumber (refusal.Lacking _) = Unit {0}
 
 -- ---- words
 
