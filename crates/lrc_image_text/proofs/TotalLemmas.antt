@@ -5,7 +5,7 @@ use Rattle.std.proofs.lemmas.Bool.{cases_Bool, cases_eq, true≢false}
 use Rattle.std.proofs.lemmas.List.Sums.{fold-append}
 use Rattle.std.proofs.lemmas.List.Elements.{All-nil, All-push}
 use Rattle.lrc_image_text.specs.Lines.{Line, lines_text, IsReadable}
-use Rattle.lrc_image_text.specs.Texts.{next_section, may_come, after_line, after_lines, IsImageText, IsBadLine}
+use Rattle.lrc_image_text.specs.Texts.{next_section, may_come, after_line, after_lines, HasImageLines, IsBadLine}
 use Rattle.lrc_image_text.specs.Fronts.{line_on, HasNone}
 use Rattle.lrc_image_text.proofs.LineLemmas.{lines_on, line_longer, line_on-text, bad_line}
 use Rattle.lrc_image_text.proofs.ReachLemmas.{later-may_come}
@@ -14,7 +14,7 @@ use Rattle.lrc_image_text.proofs.OnceLemmas.{once}
 use Rattle.lrc_image_text.proofs.DecideLineLemmas.{IsInFront, decide_line}
 
 abbrev Judged : List ℕ → Type 0
-Judged text = IsImageText text ⊎ ((n : ℕ) × IsBadLine text n)
+Judged text = HasImageLines text ⊎ ((n : ℕ) × IsBadLine text n)
 
 -- the text starts with these lines, and this is left
 record IsJudgedTo (text : List ℕ) (lines : List Line) (left : List ℕ) (first : ℕ) : Type 0 where
@@ -71,5 +71,5 @@ judge (suc most) text lines left first few so_far = elim (cases_eq first 9) [
   ]
 ]
 
-pub judged : (text : List ℕ) → IsImageText text ⊎ ((n : ℕ) × IsBadLine text n)
+pub judged : (text : List ℕ) → HasImageLines text ⊎ ((n : ℕ) × IsBadLine text n)
 judged text = judge (length text + 1) text [] text 0 (omega arith) (record { text_is = refl; readable = All-nil IsReadable; begins = refl })

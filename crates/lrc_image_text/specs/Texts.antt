@@ -131,7 +131,7 @@ pub record HaveSameRows (i j : Image) : Type 0 where
   pub leases : i.leases.items ≡ j.leases.items
 
 -- the text consists of lines that can be read, and they are all that an image has
-pub record IsImageText (text : List ℕ) : Type 0 where
+pub record HasImageLines (text : List ℕ) : Type 0 where
   pub lines : List Line
   pub readable : All IsReadable lines
   pub whole : after_lines (Some 0) lines ≡ Some 9

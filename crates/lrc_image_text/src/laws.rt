@@ -4,7 +4,7 @@ ghost use Rattle.std.specs.Prelude.{◌≡◌, ℕ, ◌+◌, ◌⊎◌, List, []
 ghost use Rattle.lrc_images.specs.declared.cause.Cause.{Cause};
 ghost use Rattle.lrc_images.specs.declared.image.Image.{Image};
 ghost use Rattle.lrc_image_text.specs.Lines.{End};
-ghost use Rattle.lrc_image_text.specs.Texts.{image_lines, image_text, lines_of_rows, row_line, IsWritten, IsImageText, IsBadLine, HaveSameRows};
+ghost use Rattle.lrc_image_text.specs.Texts.{image_lines, image_text, lines_of_rows, row_line, IsWritten, HasImageLines, IsBadLine, HaveSameRows};
 
 /// A text stands for one image: two images that can be read have the same rows if they have the
 /// same text.
@@ -20,7 +20,7 @@ pub fn one_bad_line()
 
 /// Each text consists of the lines of an image or has a bad line.
 pub fn every_text()
-    ensures { (text : List ℕ) → IsImageText text ⊎ ((n : ℕ) × IsBadLine text n) }
+    ensures { (text : List ℕ) → HasImageLines text ⊎ ((n : ℕ) × IsBadLine text n) }
 {}
 
 /// A row at a position from 1 on has a line of its own: the one of the number `row_line`. From it on

@@ -28,8 +28,8 @@ pub record IsBegun (nodes text : List ℕ) (b : BookView) : Type 0 where
 -- ---- refusals
 
 -- The text of the nodes can be read, and the line of this number is the first bad one of the image's text.
-abbrev pub IsBadImage : List ℕ → List ℕ → ℕ → Type 0
-IsBadImage nodes text line = ((topology : List NodeInfo) × IsTopologyOf nodes topology) × IsBadLine text line
+abbrev pub IsBadImageText : List ℕ → List ℕ → ℕ → Type 0
+IsBadImageText nodes text line = ((topology : List NodeInfo) × IsTopologyOf nodes topology) × IsBadLine text line
 
 -- Both texts can be read. The line of this number is at the first position of the image that the nodes or the rows before
 -- it do not allow, for this cause.

@@ -6,6 +6,6 @@ use Rattle.lrc_image_text.specs.Texts.{image_text}
 use Rattle.lrc_book.specs.Books.{BookView, state_of}
 
 -- the text is that of the image of the book's state, after all entries of the store so far
-abbrev pub IsImageText : BookView → List ℕ → Type 0
-IsImageText b text =
+abbrev pub IsTextOfBook : BookView → List ℕ → Type 0
+IsTextOfBook b text =
     (i : Image) × IsImageOf b.nodes (b.base.past ++ b.history) (state_of b) (b.before + length b.history) i × (text ≡ image_text i)

@@ -26,7 +26,7 @@ use Rattle.lrc_images.specs.declared.image.Image.{Image}
 use Rattle.lrc_images.specs.Rows.{rows_below, node_no, node_row, node_rows, stripe_row, stripe_rows, grant_row, grant_rows, lease_row, stripe_leases, lease_rows, IsImageOf}
 use Rattle.lrc_images.proofs.RowLemmas.{own-number}
 use Rattle.lrc_image_text.specs.Lines.{Line, Version, Before, Clock, Upgrading, Node, Stripe, Grants, Lease, End, first_word, other_words, spaced, line_text, lines_text, IsReadable}
-use Rattle.lrc_image_text.specs.Texts.{after_lines, upgrading_lines, image_lines, image_text, IsWritten, IsImageText}
+use Rattle.lrc_image_text.specs.Texts.{after_lines, upgrading_lines, image_lines, image_text, IsWritten, HasImageLines}
 
 -- ---- vectors of lists
 
@@ -181,7 +181,7 @@ module _ (lines : List Line) (whole : Whole lines) (few : length lines < 9223372
       (sym (append_assoc (upgrading_lines whole.upgrading) (map Node own.nodes ++ (map Stripe own.stripes ++ (map Grants own.grants ++ map Lease own.leases))) (End ∷ [])))
 
 -- a text of the lines of an image is that of an image
-pub read-text : (text : List ℕ) → IsImageText text → length text < 9223372036854775808 → (i : Image) × IsWritten i × (text ≡ image_text i)
+pub read-text : (text : List ℕ) → HasImageLines text → length text < 9223372036854775808 → (i : Image) × IsWritten i × (text ≡ image_text i)
 read-text text is short =
     let whole = from-start is.lines is.whole in
     let few : length is.lines < 9223372036854775808 = omega (arith, few-lines is.lines, ap length is.text_is, short) in

@@ -1,6 +1,6 @@
 ghost use Rattle.std.specs.Prelude.{◌≡◌, ◌≢◌, ◌<◌, ◌++◌, ◌⊎◌, ◌↔◌, List, ℕ, true, is_some, None, length, drop};
 ghost use Rattle.lrc_book.specs.Books.{IsSpent};
-ghost use Rattle.lrc_openings.specs.ImageTexts.{IsImageText};
+ghost use Rattle.lrc_openings.specs.ImageTexts.{IsTextOfBook};
 ghost use Rattle.lrc_embed.specs.Calls.{Of};
 
 use crate::LrcHandle;
@@ -20,8 +20,8 @@ pub extern "C" fn lrc_embed_image(
     needed: &mut usize,
 ) -> u32
     ensures same { handle.new.owned.book ≡ handle.old.owned.book }
-    ensures done { (result ≡ 0) → Of handle.old.owned.book (λ b. (image : List ℕ) × IsImageText b image × (needed.new ≡ length image) × (text.new ≡ image ++ drop (length image) text.old)) }
-    ensures short { (result ≡ 7) → Of handle.old.owned.book (λ b. (image : List ℕ) × IsImageText b image × (needed.new ≡ length image) × (length text.old < length image)) }
+    ensures done { (result ≡ 0) → Of handle.old.owned.book (λ b. (image : List ℕ) × IsTextOfBook b image × (needed.new ≡ length image) × (text.new ≡ image ++ drop (length image) text.old)) }
+    ensures short { (result ≡ 7) → Of handle.old.owned.book (λ b. (image : List ℕ) × IsTextOfBook b image × (needed.new ≡ length image) × (length text.old < length image)) }
     ensures full { (result ≢ 1) → Of handle.old.owned.book (λ b. (result ≡ 5) ↔ IsSpent b) }
     ensures closed { (result ≡ 1) → handle.old.owned.book ≡ None }
     // A closed handle returns 1, without a request for memory.
@@ -40,8 +40,8 @@ pub extern "C" fn lrc_embed_image(
 
 /// Writes the text of the image of a book into the first bytes of a buffer, if it has room for it.
 fn write_image(alloc: Global, book: &Book, text: &mut [u8], needed: &mut usize) -> u32
-    ensures done { (result ≡ 0) → (image : List ℕ) × IsImageText book.now image × (needed.new ≡ length image) × (text.new ≡ image ++ drop (length image) text.old) }
-    ensures short { (result ≡ 7) → (image : List ℕ) × IsImageText book.now image × (needed.new ≡ length image) × (length text.old < length image) }
+    ensures done { (result ≡ 0) → (image : List ℕ) × IsTextOfBook book.now image × (needed.new ≡ length image) × (text.new ≡ image ++ drop (length image) text.old) }
+    ensures short { (result ≡ 7) → (image : List ℕ) × IsTextOfBook book.now image × (needed.new ≡ length image) × (length text.old < length image) }
     ensures full { (result ≡ 5) ↔ IsSpent book.now }
     ensures statuses { (result ≡ 0) ⊎ (result ≡ 5) ⊎ (result ≡ 6) ⊎ (result ≡ 7) }
     ensures unwritten { (result ≢ 0) → text.new ≡ text.old }

@@ -4,7 +4,7 @@ ghost use Rattle.lrc_images.specs.declared.cause.Cause.{Cause};
 ghost use Rattle.lrc_images.specs.CauseNumbers.{row_cause_number};
 ghost use Rattle.lrc_image_text.specs.declared.error.ImageTextError.TheVariants.{BadLine};
 ghost use Rattle.lrc_openings.specs.declared.error.OpenError.TheVariants.{Nodes, Text, Line};
-ghost use Rattle.lrc_openings.specs.Begun.{IsBegun, IsBadImage, IsInvalidImage};
+ghost use Rattle.lrc_openings.specs.Begun.{IsBegun, IsBadImageText, IsInvalidImage};
 ghost use Rattle.lrc_embed.specs.Calls.{Of, IsRefused};
 ghost use Rattle.lrc_embed.specs.Statuses.{topology_status};
 
@@ -31,7 +31,7 @@ pub extern "C" fn lrc_embed_open_image(
     ensures opened { (result ≡ 0) → Of handle.new.owned.book (IsBegun nodes.now image.now) }
     ensures unchanged { (result ≢ 0) → handle.new.owned.book ≡ handle.old.owned.book }
     ensures refused { (16 ≤ result) → (result ≤ 21) → IsRefused nodes.now result detail.new }
-    ensures bad_line { (result ≡ 22) → IsBadImage nodes.now image.now detail.new }
+    ensures bad_line { (result ≡ 22) → IsBadImageText nodes.now image.now detail.new }
     ensures invalid { (result ≡ 23) → IsInvalidImage nodes.now image.now detail.new cause.new }
     ensures open { (result ≡ 2) ↔ (is_some handle.old.owned.book ≡ true) }
     ensures statuses { (result ≡ 0) ⊎ (result ≡ 2) ⊎ (result ≡ 6) ⊎ ((16 ≤ result) × (result ≤ 23)) }
