@@ -14,4 +14,5 @@ pub mod ImageLemmas
 pub mod DecideLemmas
 pub mod DecideLineLemmas
 pub mod TotalLemmas
+pub mod WrittenLemmas
 mod Rows
