@@ -33,13 +33,13 @@ impl<N: ViewNaming> Model for Keeper<N> {
     ghost view = { λ k. k.book };
 
     // the log has the entries of the history, and so has the published board
-    ghost invariant = { λ k. (k.book.nodes ≡ N.topology) × (k.book.limit ≡ N.limit) × (k.log ≡ k.book.history) × (k.publisher ≡ k.book.history) × (k.book.base ≡ first_world) };
+    ghost invariant = { λ k. (k.book.nodes ≡ N.topology) × (k.book.limit ≡ N.limit) × (k.log ≡ k.book.history) × (k.publisher ≡ k.book.history) × (k.book.base ≡ first_world) × (k.book.before ≡ 0) };
 }
 
 impl<N: ViewNaming> Keeper<N> {
-    /// Makes the keeper of a book that began empty and has no entry.
+    /// Makes the keeper of a book that began empty, with no entry before it, and has no entry.
     pub(crate) fn new(book: Book, log: Log<N>, publisher: Publisher<N>) -> Keeper<N>
-        requires book { (book.history ≡ []) × (book.nodes ≡ N.topology) × (book.limit ≡ N.limit) × (book.base ≡ first_world) }
+        requires book { (book.history ≡ []) × (book.nodes ≡ N.topology) × (book.limit ≡ N.limit) × (book.base ≡ first_world) × (book.before ≡ 0) }
         requires log { log ≡ [] }
         requires publisher { publisher ≡ [] }
         ensures { result ≡ book }
@@ -54,7 +54,7 @@ impl<N: ViewNaming> Keeper<N> {
     /// Returns the book.
     pub fn book(&self) -> &Book
         ensures value { result.now ≡ self.now }
-        ensures named { (self.now.nodes ≡ N.topology) × (self.now.limit ≡ N.limit) × (self.now.base ≡ first_world) }
+        ensures named { (self.now.nodes ≡ N.topology) × (self.now.limit ≡ N.limit) × (self.now.base ≡ first_world) × (self.now.before ≡ 0) }
     {
         &self.book
     }
@@ -74,7 +74,7 @@ impl<N: ViewNaming> Keeper<N> {
         ensures reply { IfOk result (λ r. r.reply ≡ (outcome_in self.old.nodes (world_of self.old) session command).0) }
         ensures place { IfOk result (λ r. r.place ≡ length self.new.history) }
         ensures entry { IfOk result (λ r. self.new.history ≡ self.old.history ++ record { session = session; command = command; reply = r.reply } ∷ []) }
-        ensures same { (self.new.nodes ≡ self.old.nodes) × (self.new.limit ≡ self.old.limit) × (self.new.base ≡ self.old.base) }
+        ensures same { (self.new.nodes ≡ self.old.nodes) × (self.new.limit ≡ self.old.limit) × (self.new.base ≡ self.old.base) × (self.new.before ≡ self.old.before) }
         ensures full { IsErrOf result fault.HistoryFull ↔ (length self.old.history ≡ self.old.limit) }
         ensures fault { IfErr result (FaultFits self.old) }
         ensures enough { self.old.ready ≡ true → length self.old.history < self.old.limit → IsOk result }

@@ -76,9 +76,9 @@ fn writer_of<N: ViewNaming, R: Wait>(
     Ok(put_spare(rt, writer, second))
 }
 
-/// Makes the keeper of a book that began empty and has no entry.
+/// Makes the keeper of a book that began empty, with no entry before it, and has no entry.
 fn keeper_of<N: ViewNaming>(book: Book, log: NewLog, writer: BoardWriter<N>) -> Keeper<N>
-    requires book { (book.history ≡ []) × (book.nodes ≡ N.topology) × (book.limit ≡ N.limit) × (book.base ≡ first_world) }
+    requires book { (book.history ≡ []) × (book.nodes ≡ N.topology) × (book.limit ≡ N.limit) × (book.base ≡ first_world) × (book.before ≡ 0) }
     requires log { (log.prefix.book ≡ N.log) × (log.permit.nib.key ≡ N.start) }
     requires shown { writer.desk.shown.value ≡ empty_board N.topology N.log }
     requires spare { writer.desk.spare.value ≡ empty_board N.topology N.log }
@@ -102,10 +102,10 @@ impl<N: ViewNaming> Keeper<N> {
         log: NewLog,
         readers: u8,
     ) -> Result<(Keeper<N>, Vec<Viewer<N>>), OpenError>
-        requires book { (book.history ≡ []) × (book.nodes ≡ N.topology) × (book.limit ≡ N.limit) × (book.base ≡ first_world) }
+        requires book { (book.history ≡ []) × (book.nodes ≡ N.topology) × (book.limit ≡ N.limit) × (book.base ≡ first_world) × (book.before ≡ 0) }
         requires log { (log.prefix.book ≡ N.log) × (log.permit.nib.key ≡ N.start) }
         requires readers { (1 ≤ readers) × (readers ≤ 8) }
-        ensures book { IfOk result (λ r. (r.0.nodes ≡ book.nodes) × (r.0.limit ≡ book.limit) × (r.0.history ≡ []) × (r.0.ready ≡ book.ready) × (r.0.base ≡ first_world)) }
+        ensures book { IfOk result (λ r. (r.0.nodes ≡ book.nodes) × (r.0.limit ≡ book.limit) × (r.0.history ≡ []) × (r.0.ready ≡ book.ready) × (r.0.base ≡ first_world) × (r.0.before ≡ 0)) }
         ensures viewers { IfOk result (λ r. r.1.items ≡ replicate readers []) }
         ensures err { IfErr result (λ e. e ≢ error.BadCount) }
     {

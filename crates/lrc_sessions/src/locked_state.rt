@@ -37,7 +37,7 @@ impl<N: Naming> Model for LockedState<N> {
 impl<N: Naming> LockedState<N> {
     /// Makes the state before the first call.
     pub(crate) fn new(keeper: Keeper<N>, tally: Tally<N>, rest: Share<N>) -> LockedState<N>
-        requires book { (keeper.nodes ≡ N.topology) × (keeper.limit ≡ N.limit) × (keeper.history ≡ []) × (keeper.base ≡ first_world) }
+        requires book { (keeper.nodes ≡ N.topology) × (keeper.limit ≡ N.limit) × (keeper.history ≡ []) × (keeper.base ≡ first_world) × (keeper.before ≡ 0) }
         requires tally { tally.total ≡ 0 }
         requires rest { (rest.parts + N.count ≡ 8) × (rest.amount ≡ 0) }
         ensures { result ≡ keeper }

@@ -37,7 +37,7 @@ impl Model for Parts {
     } };
 
     ghost invariant = { λ p. (p.book.history ≡ []) × (p.book.limit ≤ 1000000) × (p.tally.parts ≡ 8)
-        × (1 ≤ p.count) × (p.count ≤ 8) × (p.book.base ≡ first_world) };
+        × (1 ≤ p.count) × (p.count ≤ 8) × (p.book.base ≡ first_world) × (p.book.before ≡ 0) };
 }
 
 impl Parts {

@@ -14,7 +14,7 @@ use std::sync::Wait;
 use std::test::Fail;
 
 fn book(alloc: Global) -> Result<Book, Fail>
-    ensures { IfOk result (λ b. (b.history ≡ []) × (b.base ≡ first_world)) }
+    ensures { IfOk result (λ b. (b.history ≡ []) × (b.base ≡ first_world) × (b.before ≡ 0)) }
 {
     Ok(Book::new(alloc, nodes(alloc)?)?)
 }
@@ -28,7 +28,7 @@ fn a_viewer_sees_what_it_was_shown(rt: HostRuntime) -> Result<(), Fail> {
 
 /// Of two viewers one is shown two calls, and the other nothing.
 fn watch<N: ViewNaming, R: Wait + Abort>(rt: &R, alloc: Global, book: Book, log: NewLog)
-    requires book { (book.history ≡ []) × (book.nodes ≡ N.topology) × (book.limit ≡ N.limit) × (book.base ≡ first_world) }
+    requires book { (book.history ≡ []) × (book.nodes ≡ N.topology) × (book.limit ≡ N.limit) × (book.base ≡ first_world) × (book.before ≡ 0) }
     requires log { (log.prefix.book ≡ N.log) × (log.permit.nib.key ≡ N.start) }
 {
     let Ok((mut keeper, mut viewers)) = Keeper::<N>::open(alloc, rt, book, log, 2) else {

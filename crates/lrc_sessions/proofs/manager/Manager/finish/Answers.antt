@@ -36,6 +36,7 @@ returns g c =
       subst (λ k. made ≡ counts_in k book.history) n (same ∙ ap (λ (b : BookView). counts_in count b.history) (sym out)),
       subst (λ (b : BookView). All (λ s. IsPrefix s.seen b.history) ss) (sym out) begin,
       ap (λ (b : BookView). b.base) out ∙ parts.locked.7,
+      ap (λ (b : BookView). b.before) out ∙ parts.locked.8,
     )
 
 pub returns-then-not-are_all : goal.returns-then-not-are_all
