@@ -13,6 +13,8 @@ use Rattle.lrc_images.specs.Images.{image_world, image_state}
 use Rattle.lrc_images.specs.Rows.{IsImageOf}
 use Rattle.lrc_images.proofs.OneImageLemmas.{alike-image}
 use Rattle.lrc_book.specs.Books.{BookView, state_of, IsBook, IsImageOfBook, HasBegun}
+use Rattle.lrc_book.specs.SameLooks.{HaveSameLooks}
+use Rattle.lrc_book.proofs.AlikeLookLemmas.{alike-looks}
 use Rattle.lrc_book.proofs.ForgetLemmas.{reached-good, imaged-grants, imaged-alike}
 
 module _ (b c : BookView) (i : Image) (book : IsBook b) (is : IsImageOfBook b i) (begun : HasBegun b.nodes i c) where
@@ -37,6 +39,14 @@ module _ (b c : BookView) (i : Image) (book : IsBook b) (is : IsImageOfBook b i)
 
   pub begun-grants : HaveSameGrants (b.base.past ++ b.history) (c.base.past ++ c.history)
   begun-grants s f = same s f ∙ ap (λ (past : List Entry). grants past s f) (sym past-begun)
+
+  pub begun-looks : IsBook c → HaveSameLooks b.nodes (state_of b) (state_of c)
+  begun-looks book' =
+      let old = (reached-good b.nodes book.nodes b.base b.history book.based book.legal).seated in
+      let new : AreSeated b.nodes (state_of c) =
+      subst (λ (ns : List NodeInfo). AreSeated ns (state_of c)) begun.nodes_are
+      (reached-good c.nodes book'.nodes c.base c.history book'.based book'.legal).seated in
+      alike-looks b.nodes (state_of b) (state_of c) begun-alike old new
 
   pub begun-image : IsBook c → IsImageOfBook c i
   begun-image book' =

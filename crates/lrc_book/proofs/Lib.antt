@@ -6,5 +6,6 @@ pub mod ForgetLemmas
 pub mod ImagedLemmas
 pub mod BeginLemmas
 pub mod LookLemmas
+pub mod AlikeLookLemmas
 pub mod StripeLemmas
 pub mod MaskLemmas

@@ -5,3 +5,4 @@ pub use Rattle.lrc_answers.specs.Answers
 pub mod Books
 pub mod Kept
 pub mod Looks
+pub mod SameLooks
