@@ -5,3 +5,4 @@ pub mod RowLemmas
 pub mod SafeLemmas
 pub mod RefusedLemmas
 pub mod ExampleLemmas
+pub mod AlikeForecastLemmas

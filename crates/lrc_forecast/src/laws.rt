@@ -1,5 +1,7 @@
 //! Laws of forecasts. The functions do nothing. Their contracts are theorems about the states of a store.
 
+pub mod alike;
+
 ghost use Rattle.std.specs.Prelude.{◌≡◌, ◌↔◌, ℕ, ◌||◌, IsTrue, IsFalse, List, [], ◌∷◌, Contains};
 ghost use Rattle.lrc_code.specs.declared.numbers.StripeNo.{StripeNo};
 ghost use Rattle.lrc_code.specs.declared.numbers.NodeNo.{NodeNo};
