@@ -4,6 +4,7 @@
 
 mod error;
 mod image;
+pub mod laws;
 mod opening;
 
 pub use error::OpenError;
