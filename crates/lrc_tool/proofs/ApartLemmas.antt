@@ -1,14 +1,13 @@
 -- What was told apart of a sequel that was read.
 use Rattle.std.proofs.Common.{◌≡◌, ℕ, List, Option, Some, None, IfSome, subst}
-use Rattle.lrc_tool.specs.declared.sequel.Goal.{Goal}
-use Rattle.lrc_tool.specs.declared.status.Status.{Status}
-use Rattle.lrc_tool.specs.Limits.{sequel_limit}
+use Rattle.lrc_outputs.specs.declared.sequel.Goal.{Goal}
+use Rattle.lrc_outputs.specs.declared.status.Status.{Status}
+use Rattle.lrc_outputs.specs.Limits.{sequel_limit}
 use Rattle.lrc_streams.specs.Reads.{IsReadUpTo}
-use Rattle.lrc_tool.specs.RefusedInputs.{is_answer}
-use Rattle.lrc_tool.specs.Sequels.{going_to, IsSequelOutput}
+use Rattle.lrc_outputs.specs.RefusedInputs.{is_answer}
+use Rattle.lrc_outputs.specs.Sequels.{going_to, IsSequelOutput}
 use Rattle.lrc_tool.specs.Apart.{Written, AreWrittenApart, ArePartlyWrittenApart, WritesApart, WritesPartApart}
-use Rattle.lrc_tool.proofs.ReadLemmas.{told_to_read}
-use Rattle.lrc_tool.proofs.SequelLemmas.{sequels_alike}
+use Rattle.lrc_tool.proofs.ReadLemmas.{sequels_alike, told_to_read}
 
 module _ (goal : Goal) (after : Option (List ℕ)) (read read' text : List ℕ) (status : Status) (sink errors : Written) (same : read' ≡ read) where
   answered : (input : List ℕ) → IsReadUpTo sequel_limit (Some input) after read → IsSequelOutput goal read' text status → IsSequelOutput goal input text status

@@ -1,18 +1,4 @@
-pub mod CommandLemmas
-pub mod SessionLemmas
-pub mod HistoryLemmas
-pub mod TurnLemmas
-pub mod PlayLemmas
-pub mod TrackLemmas
-pub mod JudgedLemmas
-pub mod AnswerLemmas
 pub mod ReadLemmas
-pub mod CheckLemmas
-mod RowsOfSessions
+pub mod WarnedLemmas
 mod RowsOfMasks
-pub mod SequelLemmas
-pub mod ImageSameLemmas
-pub mod OneSequelLemmas
-pub mod SomeImageLemmas
-pub mod SomeSequelLemmas
 pub mod ApartLemmas

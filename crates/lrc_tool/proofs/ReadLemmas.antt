@@ -1,12 +1,15 @@
 -- What was read has the same output as the input.
-use Rattle.std.proofs.Common.{◌≡◌, ℕ, ◌<◌, inl, inr, List, ◌++◌, length, Option, Some, None, IfSome, codes, sym, ap, subst, ◌∙◌, arith, length-append, append-nil, refl}
+use Rattle.std.proofs.Common.{◌≡◌, ℕ, ◌<◌, Bool, inl, inr, List, ◌++◌, length, Option, Some, None, IfSome, codes, sym, ap, subst, ◌∙◌, arith, length-append, append-nil, refl}
 use Rattle.std.proofs.lemmas.Bool.{lt-ltb}
 use Rattle.std.specs.Io.KnownBytes.{Appends}
-use Rattle.lrc_tool.specs.declared.status.Status.{Status}
-use Rattle.lrc_tool.specs.Limits.{bundle_limit}
+use Rattle.lrc_outputs.specs.declared.status.Status.{Status}
+use Rattle.lrc_outputs.specs.Limits.{bundle_limit, sequel_limit}
 use Rattle.lrc_streams.specs.Streams.{AppendsPart}
 use Rattle.lrc_streams.specs.Reads.{IsReadUpTo}
-use Rattle.lrc_tool.specs.Outputs.{early_refusal, Answer, run_judging, IsAnsweredUnless, IsAnswered, Telling, WritesTold, WritesPartOfTold}
+use Rattle.lrc_outputs.specs.Outputs.{early_refusal, Answer, run_judging, IsAnsweredUnless, IsAnswered}
+use Rattle.lrc_outputs.specs.Sequels.{Going, IsToldUnless, IsTold}
+use Rattle.lrc_outputs.proofs.SequelLemmas.{told_long}
+use Rattle.lrc_tool.specs.Sinks.{Telling, WritesTold, WritesPartOfTold}
 
 -- all inputs with more bytes than the limit are told the same
 abbrev pub TellsAlike : ℕ → Telling → Type 0
@@ -21,6 +24,11 @@ pub bundles_alike : (answer : Answer) → TellsAlike bundle_limit (IsAnswered an
 bundles_alike answer a b text status p q h =
     subst (λ (o : Option (List ℕ)). IsAnsweredUnless (run_judging answer) o b text status) (sym (too_long b q))
     (subst (λ (o : Option (List ℕ)). IsAnsweredUnless (run_judging answer) o a text status) (too_long a p) h)
+
+-- sequels that are too long have one answer
+pub sequels_alike : (going : Going) → TellsAlike sequel_limit (IsTold going)
+sequels_alike going a b text status long long' h =
+    told_long going b text status long' (subst (λ (x : Bool). IsToldUnless going x a text status) (lt-ltb sequel_limit (length a) long) h)
 
 module _ (told : Telling) (limit : ℕ) (alike : TellsAlike limit told) where
   pub told_to_read : (input read text : List ℕ) (status : Status) (left : Option (List ℕ)) → IsReadUpTo limit (Some input) left read → told read text status → told input text status

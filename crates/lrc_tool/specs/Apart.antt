@@ -1,13 +1,13 @@
 -- What is written where refusals are told apart from answers, in words.
 use Rattle.std.specs.Prelude.{◌≡◌, ℕ, Bool, true, false, List, Option}
 use Rattle.std.specs.Io.KnownBytes.{Appends, Keeps}
-use Rattle.lrc_tool.specs.declared.sequel.Goal.{Goal}
-use Rattle.lrc_tool.specs.declared.status.Status.{Status}
+use Rattle.lrc_outputs.specs.declared.sequel.Goal.{Goal}
+use Rattle.lrc_outputs.specs.declared.status.Status.{Status}
 use Rattle.lrc_streams.specs.Streams.{AppendsPart}
 use Rattle.lrc_refusals.specs.declared.refusal.InputRefusal.{InputRefusal}
 use Rattle.lrc_refusals.specs.Refusals.{refusal_line, refusal_text}
-use Rattle.lrc_tool.specs.RefusedInputs.{is_answer}
-use Rattle.lrc_tool.specs.Sequels.{IsSequelOutput}
+use Rattle.lrc_outputs.specs.RefusedInputs.{is_answer}
+use Rattle.lrc_outputs.specs.Sequels.{IsSequelOutput}
 
 -- what was written before and after to one of two sinks
 pub record Written : Type 0 where

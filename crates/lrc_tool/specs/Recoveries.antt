@@ -2,8 +2,8 @@
 use Rattle.std.specs.Prelude.{ℕ, List, Option, Some, None}
 use Rattle.lrc_code.specs.declared.codes.Code.{Code}
 use Rattle.lrc_text.specs.Masks.{mask_of}
-use Rattle.lrc_tool.specs.declared.status.Status.{Status}
-use Rattle.lrc_tool.specs.declared.status.Status.TheVariants as ended
+use Rattle.lrc_outputs.specs.declared.status.Status.{Status}
+use Rattle.lrc_outputs.specs.declared.status.Status.TheVariants as ended
 
 -- how it ends for a mask, and for a word that is none
 abbrev pub mask_status : Option ℕ → Status

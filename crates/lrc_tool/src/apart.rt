@@ -4,14 +4,11 @@ ghost use Rattle.std.specs.Prelude.{◌≡◌, ◌≢◌, ◌||◌, ◌⊎◌, �
 ghost use Rattle.std.specs.Io.KnownBytes.{Keeps};
 ghost use Rattle.lrc_streams.specs.Streams.{is_read_fault, is_write_fault, ConsumesAtMost};
 ghost use Rattle.lrc_refusals.specs.Refusals.{refusal_text};
-ghost use Rattle.lrc_tool.specs.RefusedInputs.{is_answer};
+ghost use Rattle.lrc_outputs.specs.RefusedInputs.{is_answer};
 ghost use Rattle.lrc_tool.specs.Apart.{AreWrittenApart, ArePartlyWrittenApart, IsFlushedApart, WritesApart, WritesPartApart};
 ghost use Rattle.lrc_streams.specs.declared.streams.RunFault.TheVariants as fault;
 
-use crate::limits::SEQUEL_LIMIT;
-use crate::output::Output;
-use crate::sequel::{Goal, sequel_output};
-use crate::status::Status;
+use lrc_outputs::{Goal, Output, SEQUEL_LIMIT, Status, sequel_output};
 use lrc_refusals::InputRefusal;
 use lrc_streams::{RunFault, Sink, Source, read_all, write_all};
 use std::alloc::{AllocError, Global};

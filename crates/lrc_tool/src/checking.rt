@@ -1,31 +1,14 @@
 //! Checking a bundle, from the bytes of the source to those of the sinks.
 
-ghost use Rattle.std.specs.Prelude.{◌≡◌, ◌≢◌, ◌||◌, ◌⊎◌, ◌+◌, ◌++◌, true, length, sum_by, string_bytes, OnOk, OnErr, IfOk, IfErr, IfSome, IsErrOf, is_err};
+ghost use Rattle.std.specs.Prelude.{◌≡◌, ◌≢◌, ◌||◌, ◌⊎◌, ◌+◌, true, OnOk, OnErr, IfOk, IfErr, IfSome, IsErrOf, is_err};
 ghost use Rattle.std.specs.Io.KnownBytes.{Appends, Keeps};
 ghost use Rattle.lrc_streams.specs.Streams.{is_read_fault, is_write_fault, AppendsPart, ConsumesAtMost};
-ghost use Rattle.lrc_warnings.specs.Warnings.{warnings};
-ghost use Rattle.lrc_tool.specs.Judged.{AreFew};
-ghost use Rattle.lrc_tool.specs.Checks.{counts_line, IsCheck, IsWarned, WritesCheck, WritesWarnings, WritesPartOfCheck};
-ghost use Rattle.lrc_tool.specs.declared.status.Status.TheVariants as ended;
+ghost use Rattle.lrc_tool.specs.Sinks.{WritesCheck, WritesWarnings, WritesPartOfCheck};
 ghost use Rattle.lrc_streams.specs.declared.streams.RunFault.TheVariants as fault;
 
-use crate::judging::{Judged, judge};
-use crate::limits::BUNDLE_LIMIT;
-use crate::output::Output;
-use crate::status::Status;
-use lrc_book::Command;
+use lrc_outputs::{BUNDLE_LIMIT, Status, check_of};
 use lrc_streams::{RunFault, Sink, Source, read_all, write_all};
-use lrc_topology::Topology;
-use lrc_warnings::warnings_of;
-use std::alloc::{AllocError, Global};
-
-/// What a check writes.
-#[derive(Drop)]
-struct Checked {
-    output: Output,
-    /// What it warns of; empty where the bundle is refused.
-    warnings: Vec<u8>,
-}
+use std::alloc::Global;
 
 /// Checks the bundle that the source holds, as a run does before its first command, and runs nothing. It writes the
 /// numbers of nodes, scripts and commands, or why a run would refuse the bundle. If the bundle passes all checks, it then
@@ -80,59 +63,4 @@ fn write_some<E: Sink>(sink: &mut E, bytes: &[u8]) -> Result<(), RunFault>
         return Ok(());
     }
     write_all(sink, bytes)
-}
-
-/// What a check of this bundle writes.
-fn check_of(alloc: Global, bundle: &[u8]) -> Result<Checked, RunFault>
-    ensures line { IfOk result (λ c. IsCheck bundle.now (c.output.text.items) c.output.status) }
-    ensures warned { IfOk result (λ c. IsWarned bundle.now (c.warnings.items) c.output.status) }
-    ensures err { IfErr result (λ e. e ≡ fault.OutOfMemory) }
-{
-    match judge(alloc, bundle)? {
-        Judged::Refused(output) => Ok(Checked {
-            output,
-            warnings: Vec::new(alloc),
-        }),
-        Judged::Good { topology, scripts } => passed(alloc, &topology, scripts.as_slice()),
-    }
-}
-
-/// What a check writes of a bundle with these nodes and scripts, which passes.
-fn passed(alloc: Global, topology: &Topology, scripts: &[Vec<Command>]) -> Result<Checked, RunFault>
-    requires { AreFew scripts.now }
-    ensures line { IfOk result (λ c. c.output.text.items ≡ counts_line (length topology.now) (length scripts.now) (sum_by (λ script. length script.items) scripts.now)) }
-    ensures status { IfOk result (λ c. c.output.status ≡ ended.Done) }
-    ensures warned { IfOk result (λ c. c.warnings.items ≡ warnings topology.now) }
-    ensures err { IfErr result (λ e. e ≡ fault.OutOfMemory) }
-{
-    let warnings = warnings_of(alloc, topology)?;
-    let output = counted(alloc, topology.len(), scripts)?;
-    Ok(Checked { output, warnings })
-}
-
-/// The output for this number of nodes, and for these scripts.
-fn counted(alloc: Global, nodes: usize, scripts: &[Vec<Command>]) -> Result<Output, RunFault>
-    requires { AreFew scripts.now }
-    ensures line { IfOk result (λ o. o.text.items ≡ counts_line nodes (length scripts.now) (sum_by (λ script. length script.items) scripts.now)) }
-    ensures status { IfOk result (λ o. o.status ≡ ended.Done) }
-    ensures err { IfErr result (λ e. e ≡ fault.OutOfMemory) }
-{
-    let commands = scripts.iter().map(|script| script.len()).sum();
-    let mut text = String::new(alloc);
-    push_counts(&mut text, nodes, scripts.len(), commands)?;
-    Ok(Output::done(text.into_bytes()))
-}
-
-fn push_counts(
-    out: &mut String,
-    nodes: usize,
-    scripts: usize,
-    commands: usize,
-) -> Result<(), AllocError>
-    ensures { OnOk result (string_bytes out.new ≡ string_bytes out.old ++ counts_line nodes scripts commands) }
-{
-    write!(
-        out,
-        "ok nodes {nodes} scripts {scripts} commands {commands}\n"
-    )
 }

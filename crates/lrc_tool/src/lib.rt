@@ -2,28 +2,19 @@
 #![tactic(auto)]
 
 mod apart;
-mod begin;
 mod checking;
-mod forecasting;
-mod judging;
-pub mod laws;
-mod limits;
-mod output;
-mod play;
 mod program;
 mod recovery;
 mod sequel;
-mod status;
-mod together;
 
 pub use apart::ask;
 pub use checking::check;
 pub use lrc_forecast::Outage;
 pub use lrc_groups::Group;
+pub use lrc_outputs::{Goal, Status};
 pub use lrc_script::{Cause, ScriptError, parse_script};
 pub use lrc_show::View;
 pub use lrc_streams::{Plain, RunFault, Sink, Source};
 pub use program::run;
 pub use recovery::{recover, recover_narrow};
-pub use sequel::{Goal, go_on};
-pub use status::Status;
+pub use sequel::go_on;

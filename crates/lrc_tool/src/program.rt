@@ -1,21 +1,14 @@
 //! Running a bundle, from the bytes of the source to those of the sink.
 
-ghost use Rattle.std.specs.Prelude.{◌≡◌, ◌≢◌, ◌||◌, ◌⊎◌, ◌+◌, ◌<◌, true, [], length, OnOk, IfOk, IfErr, IfSome, IsErrOf};
+ghost use Rattle.std.specs.Prelude.{◌≡◌, ◌≢◌, ◌||◌, ◌+◌, true, OnOk, IfOk, IfErr, IfSome, IsErrOf};
 ghost use Rattle.std.specs.Io.KnownBytes.{Keeps};
 ghost use Rattle.lrc_streams.specs.Streams.{is_read_fault, is_write_fault, ConsumesAtMost};
-ghost use Rattle.lrc_tool.specs.Judged.{lists_of, AreFew};
-ghost use Rattle.lrc_tool.specs.Outputs.{RunsSeveral, IsPlayed, IsOutput, WritesOutput, WritesPartOfOutput};
+ghost use Rattle.lrc_outputs.specs.Outputs.{RunsSeveral};
+ghost use Rattle.lrc_tool.specs.Sinks.{WritesOutput, WritesPartOfOutput};
 ghost use Rattle.lrc_streams.specs.declared.streams.RunFault.TheVariants as fault;
 
-use crate::judging::{Judged, judge};
-use crate::limits::BUNDLE_LIMIT;
-use crate::output::Output;
-use crate::play::play;
-use crate::status::Status;
-use crate::together::play_together;
-use lrc_book::Command;
+use lrc_outputs::{BUNDLE_LIMIT, Status, output_of};
 use lrc_streams::{RunFault, Sink, Source, read_all, write_all};
-use lrc_topology::Topology;
 use std::alloc::Global;
 use std::sync::Wait;
 use std::thread::Threads;
@@ -58,51 +51,4 @@ pub fn run<R: Source, W: Sink, T: Threads + Wait + Sync>(
     let output = output_of(rt, alloc, bundle)?;
     write_all(sink, output.text.as_slice())?;
     Ok(output.status)
-}
-
-/// The output of a run of this bundle. The output of one script reuses the bundle's memory.
-fn output_of<T: Threads + Wait + Sync>(
-    rt: &T,
-    alloc: Global,
-    bundle: Vec<u8>,
-) -> Result<Output, RunFault>
-    ensures output { IfOk result (λ o. IsOutput bundle.items (o.text.items) o.status) }
-    ensures err { IfErr result (λ e. (e ≡ fault.OutOfMemory) ⊎ ((e ≡ fault.NoReader) × RunsSeveral bundle.items)) }
-{
-    match judge(alloc, bundle.as_slice())? {
-        Judged::Refused(output) => Ok(output),
-        Judged::Good { topology, scripts } => {
-            let room = emptied(bundle);
-            let text = play_all(rt, alloc, topology, scripts.as_slice(), room)?;
-            Ok(Output::done(text))
-        }
-    }
-}
-
-/// Removes all bytes, and keeps their memory.
-fn emptied(bytes: Vec<u8>) -> Vec<u8>
-    ensures { result.items ≡ [] }
-{
-    let mut room = bytes;
-    room.clear();
-    room
-}
-
-/// Runs the scripts on a new book over these nodes, and returns the output: the replies and both tables.
-fn play_all<T: Threads + Wait + Sync>(
-    rt: &T,
-    alloc: Global,
-    topology: Topology,
-    scripts: &[Vec<Command>],
-    room: Vec<u8>,
-) -> Result<Vec<u8>, RunFault>
-    requires few { AreFew scripts.now }
-    requires empty { room.items ≡ [] }
-    ensures played { IfOk result (λ text. IsPlayed topology (lists_of scripts.now) text.items) }
-    ensures err { IfErr result (λ e. (e ≡ fault.OutOfMemory) ⊎ ((e ≡ fault.NoReader) × (1 < length scripts.now))) }
-{
-    if scripts.len() > 1 {
-        return play_together(rt, alloc, topology, scripts);
-    }
-    play(alloc, topology, scripts, room)
 }

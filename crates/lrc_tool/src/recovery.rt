@@ -8,8 +8,8 @@ ghost use Rattle.lrc_text.specs.Masks.{mask_text, recovery_text};
 ghost use Rattle.lrc_tool.specs.Recoveries.{mask_status, recovery_status};
 ghost use Rattle.lrc_streams.specs.declared.streams.RunFault.TheVariants as fault;
 
-use crate::status::Status;
 use lrc_code::Code;
+use lrc_outputs::Status;
 use lrc_streams::{RunFault, Sink, write_all};
 use lrc_text::{parse_mask, push_mask_line};
 use std::alloc::{AllocError, Global};

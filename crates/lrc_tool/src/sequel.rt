@@ -1,41 +1,14 @@
-//! Going on from an image: the script of a sequel, and what is written after it.
+//! Going on from an image, from the bytes of the source to those of the sink.
 
-ghost use Rattle.std.specs.Prelude.{◌≡◌, ◌≢◌, ◌||◌, ◌⊎◌, ◌+◌, ◌≤◌, true, [], length, OnOk, IfOk, IfErr, IfSome, IsErrOf};
+ghost use Rattle.std.specs.Prelude.{◌≡◌, ◌≢◌, ◌||◌, ◌⊎◌, ◌+◌, true, OnOk, IfOk, IfErr, IfSome, IsErrOf};
 ghost use Rattle.std.specs.Io.KnownBytes.{Keeps};
-ghost use Rattle.lrc_images.specs.Causes.{most_entries};
 ghost use Rattle.lrc_streams.specs.Streams.{is_read_fault, is_write_fault, ConsumesAtMost};
-ghost use Rattle.lrc_tool.specs.Judged.{lists_of, AreFew};
-ghost use Rattle.lrc_tool.specs.Sequels.{IsImaged, IsReached, IsSequelOutput, WritesSequelOutput, WritesPartOfSequelOutput};
+ghost use Rattle.lrc_tool.specs.Sinks.{WritesSequelOutput, WritesPartOfSequelOutput};
 ghost use Rattle.lrc_streams.specs.declared.streams.RunFault.TheVariants as fault;
 
-use crate::begin::{Begun, begin};
-use crate::forecasting::forecast_after;
-use crate::limits::SEQUEL_LIMIT;
-use crate::output::Output;
-use crate::play::{make_scripts, play_on};
-use crate::status::Status;
-use lrc_book::{Book, Command, HISTORY_LIMIT};
-use lrc_code::Fault;
-use lrc_forecast::Outage;
-use lrc_groups::Group;
-use lrc_image_text::push_image;
-use lrc_refusals::InputRefusal;
-use lrc_show::{View, shown};
+use lrc_outputs::{Goal, SEQUEL_LIMIT, Status, sequel_output};
 use lrc_streams::{RunFault, Sink, Source, read_all, write_all};
 use std::alloc::Global;
-
-/// What is written for a sequel that passes all checks.
-#[derive(Clone, Copy, Debug, PartialEq, Eq)]
-pub enum Goal<'a> {
-    /// The replies to its script and both tables, as `run` writes them.
-    Replies,
-    /// The image of the state after its script.
-    Image,
-    /// A table of the state after its script.
-    Table(View),
-    /// What would become of the stripes of that state if this happened to all nodes of the group at once.
-    Forecast(Outage, Group<'a>),
-}
 
 /// Runs the script of the sequel that the source holds, from its image on: reads it, runs the script, and then writes the whole
 /// output: what the goal says, or why the sequel is refused.
@@ -71,66 +44,4 @@ pub fn go_on<R: Source, W: Sink>(
     let output = sequel_output(alloc, goal, sequel.as_slice())?;
     write_all(sink, output.text.as_slice())?;
     Ok(output.status)
-}
-
-/// The output of `go_on` for this sequel.
-pub(crate) fn sequel_output(
-    alloc: Global,
-    goal: Goal<'_>,
-    sequel: &[u8],
-) -> Result<Output, RunFault>
-    ensures output { IfOk result (λ o. IsSequelOutput goal.entry sequel.now (o.text.items) o.status) }
-    ensures err { IfErr result (λ e. e ≡ fault.OutOfMemory) }
-{
-    match begin(alloc, sequel)? {
-        Begun::Refused(output) => Ok(output),
-        Begun::Good { mut book, scripts } => reach(alloc, goal, &mut book, scripts.as_slice()),
-    }
-}
-
-/// The output for the only script, if there is one, on a book without entries.
-fn reach(
-    alloc: Global,
-    goal: Goal<'_>,
-    book: &mut Book,
-    scripts: &[Vec<Command>],
-) -> Result<Output, RunFault>
-    requires fresh { (book.old.history ≡ []) × (book.old.limit ≡ HISTORY_LIMIT) × (book.old.before ≤ most_entries) }
-    requires few { AreFew scripts.now }
-    requires alone { length scripts.now ≤ 1 }
-    ensures output { IfOk result (λ o. IsReached goal.entry book.old.nodes book.old.base book.old.before (lists_of scripts.now) (o.text.items) o.status) }
-    ensures err { IfErr result (λ e. e ≡ fault.OutOfMemory) }
-{
-    match goal {
-        Goal::Replies => {
-            let text = play_on(alloc, book, scripts, Vec::new(alloc))?;
-            Ok(Output::done(text))
-        }
-        Goal::Image => {
-            make_scripts(book, scripts)?;
-            image_output(alloc, book)
-        }
-        Goal::Table(view) => {
-            make_scripts(book, scripts)?;
-            let text = shown(alloc, book, view)?;
-            Ok(Output::done(text))
-        }
-        Goal::Forecast(outage, group) => forecast_after(alloc, book, scripts, outage, group),
-    }
-}
-
-/// The output with the image of a book's state.
-fn image_output(alloc: Global, book: &Book) -> Result<Output, RunFault>
-    ensures output { IfOk result (λ o. IsImaged book.now (o.text.items) o.status) }
-    ensures err { IfErr result (λ e. e ≡ fault.OutOfMemory) }
-{
-    match book.image(alloc) {
-        Ok(image) => {
-            let mut text = Vec::new(alloc);
-            push_image(&mut text, &image)?;
-            Ok(Output::done(text))
-        }
-        Err(Fault::HistoryFull) => Output::refused(alloc, InputRefusal::FullImage),
-        Err(Fault::OutOfMemory) => Err(RunFault::OutOfMemory),
-    }
 }

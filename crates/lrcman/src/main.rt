@@ -2,7 +2,7 @@
 #![tactic(auto)]
 
 ghost use Rattle.std.specs.Prelude.{◌≡◌, Ok, Err};
-ghost use Rattle.lrc_tool.specs.declared.status.Status.TheVariants as status;
+ghost use Rattle.lrc_outputs.specs.declared.status.Status.TheVariants as status;
 ghost use Rattle.lrc_streams.specs.declared.streams.RunFault.{RunFault};
 ghost use Rattle.lrcman.specs.declared.stop.Stop.TheVariants as stop;
 

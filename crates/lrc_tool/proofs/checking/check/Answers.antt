@@ -1,8 +1,8 @@
-use Rattle.lrc_tool.specs.Limits.{bundle_limit}
-use Rattle.lrc_tool.specs.Outputs.{IsAnswered}
-use Rattle.lrc_tool.specs.Checks.{AreCounted, IsWarned}
+use Rattle.lrc_outputs.specs.Limits.{bundle_limit}
+use Rattle.lrc_outputs.specs.Outputs.{IsAnswered}
+use Rattle.lrc_outputs.specs.Checks.{AreCounted, IsWarned}
 use Rattle.lrc_tool.proofs.ReadLemmas.{bundles_alike, writes}
-use Rattle.lrc_tool.proofs.CheckLemmas.{warned_alike, part_of_line, part_of_warnings}
+use Rattle.lrc_tool.proofs.WarnedLemmas.{warned_alike, part_of_line, part_of_warnings}
 use Rattle.lrc_tool.proofs.checking.check.Goals as goal
 
 pub returns-in_err-write_all-clause-part : goal.returns-in_err-write_all-clause-part

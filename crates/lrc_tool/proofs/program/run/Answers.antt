@@ -1,6 +1,6 @@
 use Rattle.std.proofs.Common.{refl}
-use Rattle.lrc_tool.specs.Limits.{bundle_limit}
-use Rattle.lrc_tool.specs.Outputs.{IsAnswered, ArePrinted}
+use Rattle.lrc_outputs.specs.Limits.{bundle_limit}
+use Rattle.lrc_outputs.specs.Outputs.{IsAnswered, ArePrinted}
 use Rattle.lrc_tool.proofs.ReadLemmas.{bundles_alike, writes, writes_part}
 use Rattle.lrc_tool.proofs.program.run.Goals as goal
 

@@ -1,7 +1,6 @@
-use Rattle.lrc_tool.specs.Limits.{sequel_limit}
-use Rattle.lrc_tool.specs.Sequels.{going_to, IsSequelOutput}
-use Rattle.lrc_tool.proofs.ReadLemmas.{writes, writes_part}
-use Rattle.lrc_tool.proofs.SequelLemmas.{sequels_alike}
+use Rattle.lrc_outputs.specs.Limits.{sequel_limit}
+use Rattle.lrc_outputs.specs.Sequels.{going_to, IsSequelOutput}
+use Rattle.lrc_tool.proofs.ReadLemmas.{sequels_alike, writes, writes_part}
 use Rattle.lrc_tool.proofs.sequel.go_on.Goals as goal
 
 pub returns-in_err-write_all-clause-part : goal.returns-in_err-write_all-clause-part

@@ -1,0 +1,10 @@
+use Rattle.lrc_outputs.proofs.SequelLemmas.{imaged_by}
+use Rattle.lrc_outputs.proofs.JudgedLemmas.{IfOk-map}
+use Rattle.lrc_outputs.proofs.sequel.reach.Goals as goal
+
+pub returns-in_ok-make_scripts-in-Image-clause-output : goal.returns-in_ok-make_scripts-in-Image-clause-output
+returns-in_ok-make_scripts-in-Image-clause-output c =
+    let made = c.in_ok-make_scripts-in-Image.ensures in
+    IfOk-map c.image_output.result _ _
+    (λ o h. rw c.in-Image.is (imaged_by o.text.items o.status c.args.book.now c.make_scripts.new.book c.args.scripts.now made.same.0 made.same.1 made.same.2 made.legal made.made made.only h))
+    c.image_output.ensures.output

@@ -1,0 +1,69 @@
+//! What a run of a bundle writes.
+
+ghost use Rattle.std.specs.Prelude.{◌≡◌, ◌⊎◌, ◌<◌, [], length, IfOk, IfErr};
+ghost use Rattle.lrc_outputs.specs.Judged.{lists_of, AreFew};
+ghost use Rattle.lrc_outputs.specs.Outputs.{RunsSeveral, IsPlayed, IsOutput};
+ghost use Rattle.lrc_streams.specs.declared.streams.RunFault.TheVariants as fault;
+
+use crate::judging::{Judged, judge};
+use crate::output::Output;
+use crate::play::play;
+use crate::together::play_together;
+use lrc_book::Command;
+use lrc_streams::RunFault;
+use lrc_topology::Topology;
+use std::alloc::Global;
+use std::sync::Wait;
+use std::thread::Threads;
+
+/// Runs the scripts of a bundle, and returns the output. The output of one script reuses the bundle's memory.
+///
+/// # Errors
+///
+/// `OutOfMemory`; `NoReader` if the bundle passes all checks and has two scripts or more, and a session gets no reader of the
+/// published view.
+pub fn output_of<T: Threads + Wait + Sync>(
+    rt: &T,
+    alloc: Global,
+    bundle: Vec<u8>,
+) -> Result<Output, RunFault>
+    ensures output { IfOk result (λ o. IsOutput bundle.items (o.text.items) o.status) }
+    ensures err { IfErr result (λ e. (e ≡ fault.OutOfMemory) ⊎ ((e ≡ fault.NoReader) × RunsSeveral bundle.items)) }
+{
+    match judge(alloc, bundle.as_slice())? {
+        Judged::Refused(output) => Ok(output),
+        Judged::Good { topology, scripts } => {
+            let room = emptied(bundle);
+            let text = play_all(rt, alloc, topology, scripts.as_slice(), room)?;
+            Ok(Output::done(text))
+        }
+    }
+}
+
+/// Removes all bytes, and keeps their memory.
+fn emptied(bytes: Vec<u8>) -> Vec<u8>
+    ensures { result.items ≡ [] }
+{
+    let mut room = bytes;
+    room.clear();
+    room
+}
+
+/// Runs the scripts on a new book over these nodes, and returns the output: the replies and both tables.
+fn play_all<T: Threads + Wait + Sync>(
+    rt: &T,
+    alloc: Global,
+    topology: Topology,
+    scripts: &[Vec<Command>],
+    room: Vec<u8>,
+) -> Result<Vec<u8>, RunFault>
+    requires few { AreFew scripts.now }
+    requires empty { room.items ≡ [] }
+    ensures played { IfOk result (λ text. IsPlayed topology (lists_of scripts.now) text.items) }
+    ensures err { IfErr result (λ e. (e ≡ fault.OutOfMemory) ⊎ ((e ≡ fault.NoReader) × (1 < length scripts.now))) }
+{
+    if scripts.len() > 1 {
+        return play_together(rt, alloc, topology, scripts);
+    }
+    play(alloc, topology, scripts, room)
+}

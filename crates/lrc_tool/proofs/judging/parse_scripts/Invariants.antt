@@ -1,6 +1,0 @@
-use Rattle.std.proofs.Common.{take}
-use Rattle.lrc_tool.specs.Judged.{lists_of, AreParsed}
-use Rattle.lrc_tool.proofs.judging.parse_scripts.Given as goal
-
-abbrev pub invariant-loop-script : goal.invariant-loop-script
-invariant-loop-script l = AreParsed (take l.script-index l.scripts) (lists_of l.parsed.items)

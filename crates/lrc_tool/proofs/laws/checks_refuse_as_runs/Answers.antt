@@ -1,5 +1,0 @@
-use Rattle.lrc_tool.proofs.AnswerLemmas.{refused_alike}
-use Rattle.lrc_tool.proofs.laws.checks_refuse_as_runs.Goals as goal
-
-pub returns : goal.returns
-returns c = refused_alike

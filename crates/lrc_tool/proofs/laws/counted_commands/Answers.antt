@@ -1,5 +1,0 @@
-use Rattle.lrc_tool.proofs.CheckLemmas.{counted_commands}
-use Rattle.lrc_tool.proofs.laws.counted_commands.Goals as goal
-
-pub returns : goal.returns
-returns c = counted_commands

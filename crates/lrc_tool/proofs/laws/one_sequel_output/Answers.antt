@@ -1,5 +1,0 @@
-use Rattle.lrc_tool.proofs.OneSequelLemmas.{one_sequel_output}
-use Rattle.lrc_tool.proofs.laws.one_sequel_output.Goals as goal
-
-pub returns : goal.returns
-returns c = one_sequel_output

@@ -1,5 +1,0 @@
-use Rattle.lrc_tool.proofs.SomeSequelLemmas.{some_sequel_output}
-use Rattle.lrc_tool.proofs.laws.some_sequel_output.Goals as goal
-
-pub returns : goal.returns
-returns c = some_sequel_output

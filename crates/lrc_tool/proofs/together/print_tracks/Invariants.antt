@@ -1,7 +1,0 @@
-use Rattle.std.proofs.Common.{◌≡◌, ◌+◌, ◌++◌, drop}
-use Rattle.lrc_tool.specs.Plays.{tracks_text}
-use Rattle.lrc_tool.proofs.together.print_tracks.Given as goal
-
--- what was printed so far, and what is printed of the tracks that are left, are all
-abbrev pub invariant-loop-index : goal.invariant-loop-index
-invariant-loop-index l = l.text.items ++ tracks_text (l.index + 1) (drop l.index l.tracks) ≡ tracks_text 1 l.tracks
