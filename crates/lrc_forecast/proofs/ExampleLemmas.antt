@@ -1,6 +1,6 @@
 -- A store in which two outages are each safe, and both together are not. It has a narrow stripe on ten nodes, the last
 -- two of which are down, and with them the global parities.
-use Rattle.std.proofs.Common.{◌≡◌, ℕ, ◌<◌, Bool, true, false, List, [], ◌∷◌, get_or, map, refl, sym, ap, ◌∙◌, subst, inl, inr, arith, lit<, lit≤, zero-add}
+use Rattle.std.proofs.Common.{◌≡◌, ℕ, ◌<◌, ◌&&◌, ◌||◌, Bool, true, false, not, nat_eq, List, [], ◌∷◌, get_or, map, refl, sym, ap, ◌∙◌, subst, inl, inr, arith, lit<, lit≤, zero-add}
 use Rattle.std.specs.List.{range_with_len}
 use Rattle.std.proofs.lemmas.Bool.{false_from_ne_true}
 use Rattle.std.proofs.lemmas.List.{get_or-map}
@@ -28,9 +28,10 @@ use Rattle.lrc_rules.specs.Changes.{held_at}
 use Rattle.lrc_rules.specs.Histories.{IsLegal, state_after}
 use Rattle.lrc_rules.proofs.MemberLemmas.{Contains-here, Contains-cases, not-Contains-nil}
 use Rattle.lrc_forecast.specs.declared.outlook.Outage.{Outage}
+use Rattle.lrc_forecast.specs.declared.outlook.Outlook.{Outlook}
 use Rattle.lrc_forecast.specs.declared.outlook.Outage.TheVariants.{Stop, Lose}
-use Rattle.lrc_forecast.specs.Forecasts.{state_with, is_harm, forecast, is_safe}
-use Rattle.lrc_forecast.proofs.SafeLemmas.{safe-words}
+use Rattle.lrc_forecast.specs.Forecasts.{state_with, outlook, is_unrecoverable, is_level, is_harmed, forecast, is_safe}
+use Rattle.lrc_forecast.proofs.SafeLemmas.{safe-harmless}
 
 -- ---- the store
 
@@ -111,17 +112,26 @@ both-is Lose = refl
 
 -- ---- forecasts
 
-harm-is : (outage : Outage) (ns : List NodeNo) (l : Level) → level ten_nodes (state_with outage two_down ns) stripe ≡ l
-    → is_harm (level ten_nodes two_down stripe) (level ten_nodes (state_with outage two_down ns) stripe) ≡ is_harm (AtRisk 1) l
-harm-is outage ns l is =
-    ap (λ (before : Level). is_harm before (level ten_nodes (state_with outage two_down ns) stripe)) before-is ∙ ap (is_harm (AtRisk 1)) is
+at_risk : (before after : Level) (more : Bool) → after ≡ AtRisk 0 → (is_unrecoverable after && (not (is_level before after) || more)) ≡ false
+at_risk before after more is = rw is refl
+
+unavailable : (before after : Level) (more : Bool) → before ≡ AtRisk 1 → after ≡ Unavailable → (is_unrecoverable after && (not (is_level before after) || more)) ≡ true
+unavailable before after more was is = rw (is, was) refl
+
+-- what becomes of the stripe
+abbrev outlook_with : Outage → List NodeNo → Outlook
+outlook_with outage ns = outlook ten_nodes two_down (state_with outage two_down ns) stripe
+
+abbrev more_harm : Outlook → Bool
+more_harm o = not (nat_eq o.newly_missing.bits 0) || not (nat_eq o.leases_ended 0)
 
 -- a forecast in which the only stripe is at risk is safe
 safe-by : (outage : Outage) (ns : List NodeNo) → level ten_nodes (state_with outage two_down ns) stripe ≡ AtRisk 0
     → is_safe (forecast ten_nodes two_down outage ns) ≡ true
-safe-by outage ns is = (safe-words ten_nodes two_down (state_with outage two_down ns)).1 (λ s there. elim (Contains-cases stripe s [] there) [
+safe-by outage ns is = (safe-harmless ten_nodes two_down (state_with outage two_down ns)).1 (λ s there. elim (Contains-cases stripe s [] there) [
   | inl same ↦
-      subst (λ (r : StripeNo). is_harm (level ten_nodes two_down r) (level ten_nodes (state_with outage two_down ns) r) ≡ false) same (harm-is outage ns (AtRisk 0) is)
+      subst (λ (r : StripeNo). is_harmed (outlook ten_nodes two_down (state_with outage two_down ns) r) ≡ false) same
+      (at_risk (level ten_nodes two_down stripe) (level ten_nodes (state_with outage two_down ns) stripe) (more_harm (outlook_with outage ns)) is)
   | inr none ↦ absurd (not-Contains-nil s none)
 ])
 
@@ -129,8 +139,10 @@ safe-by outage ns is = (safe-words ten_nodes two_down (state_with outage two_dow
 unsafe-by : (outage : Outage) (ns : List NodeNo) → level ten_nodes (state_with outage two_down ns) stripe ≡ Unavailable
     → is_safe (forecast ten_nodes two_down outage ns) ≡ false
 unsafe-by outage ns is = false_from_ne_true (is_safe (forecast ten_nodes two_down outage ns)) (λ safe.
-    let none = (safe-words ten_nodes two_down (state_with outage two_down ns)).0 safe stripe (Contains-here stripe []) in
-    let both : true ≡ false = sym (harm-is outage ns Unavailable is) ∙ none in cc)
+    let none = (safe-harmless ten_nodes two_down (state_with outage two_down ns)).0 safe stripe (Contains-here stripe []) in
+    let hit : is_harmed (outlook_with outage ns) ≡ true =
+    unavailable (level ten_nodes two_down stripe) (level ten_nodes (state_with outage two_down ns) stripe) (more_harm (outlook_with outage ns)) before-is is in
+    let both : true ≡ false = sym hit ∙ none in cc)
 
 module _ (outage : Outage) where
   abbrev IsForecast : List NodeNo → Bool → Type 0

@@ -1,4 +1,5 @@
 pub mod OutageLemmas
+pub mod LeaseLemmas
 pub mod OutlookLemmas
 pub mod SetLemmas
 pub mod RowLemmas

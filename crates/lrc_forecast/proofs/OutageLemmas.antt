@@ -29,7 +29,7 @@ use Rattle.lrc_forecast.specs.Hits.{HaveOneHome}
 use Rattle.lrc_forecast.specs.declared.outlook.Outage.{Outage}
 use Rattle.lrc_forecast.specs.declared.outlook.Outage.TheVariants.{Stop, Lose}
 
-or_false : (b : Bool) → (b || false) ≡ b
+pub or_false : (b : Bool) → (b || false) ≡ b
 or_false true = refl
 or_false false = refl
 
@@ -169,11 +169,11 @@ spared ns None = None
 spared ns (Some seat) = if has_number ns seat.node then None else Some seat
 
 -- the home of a fragment after one node is lost
-abbrev if_spared : NodeNo → Option Seat → Option Seat
+abbrev pub if_spared : NodeNo → Option Seat → Option Seat
 if_spared n None = None
 if_spared n (Some seat) = if same_node n seat.node then None else Some seat
 
-single-of : (s : StripeNo) (f : ℕ) (homes : List Held) → AllPairs (λ h g. h.stripe ≡ g.stripe → h.fragment ≢ g.fragment) homes
+pub single-of : (s : StripeNo) (f : ℕ) (homes : List Held) → AllPairs (λ h g. h.stripe ≡ g.stripe → h.fragment ≢ g.fragment) homes
     → AllPairs (λ h g. is_of s f h ≡ true → is_of s f g ≡ false) homes
 single-of s f homes single i j d below within = apart (get_or homes i d) (get_or homes j d) (single i j d below within) where
   apart : (h g : Held) → (h.stripe ≡ g.stripe → h.fragment ≢ g.fragment) → is_of s f h ≡ true → is_of s f g ≡ false
@@ -183,7 +183,7 @@ single-of s f homes single i j d below within = apart (get_or homes i d) (get_or
       other (equal_stripes h.stripe g.stripe (eqb-true _ _ one.0 ∙ sym (eqb-true _ _ two.0)))
       (equal_fragments h.fragment g.fragment (eqb-true _ _ one.1 ∙ sym (eqb-true _ _ two.1))))
 
-homes-one : (st : State) (n : NodeNo) (s : StripeNo) (f : ℕ) → HaveOneHome st
+pub homes-one : (st : State) (n : NodeNo) (s : StripeNo) (f : ℕ) → HaveOneHome st
     → homes_of (emptied st n).homes s f ≡ if_spared n (homes_of st.homes s f)
 unfolding kept-by
 homes-one st n s f single =
@@ -196,6 +196,10 @@ homes-one st n s f single =
       | inr off ↦ rw off refl
     ]
 
+-- each fragment still has one home at most
+pub homes-kept : (st : State) (n : NodeNo) → HaveOneHome st → HaveOneHome (changed_on (report_of Lose) st n)
+homes-kept st n single = AllPairs-filter (λ h g. h.stripe ≡ g.stripe → h.fragment ≢ g.fragment) (λ h. not (stands_on n h)) st.homes single
+
 -- a node that is lost takes its homes along
 pub homes-lost : (st : State) (ns : List NodeNo) (s : StripeNo) (f : ℕ) → HaveOneHome st → homes_of (state_with Lose st ns).homes s f ≡ spared ns (homes_of st.homes s f)
 homes-lost st [] s f single = by (homes_of st.homes s f) where
@@ -203,7 +207,7 @@ homes-lost st [] s f single = by (homes_of st.homes s f) where
   by None = refl
   by (Some seat) = refl
 homes-lost st (n ∷ ns) s f single =
-    homes-lost (changed_on (report_of Lose) st n) ns s f (AllPairs-filter (λ h g. h.stripe ≡ g.stripe → h.fragment ≢ g.fragment) (λ h. not (stands_on n h)) st.homes single)
+    homes-lost (changed_on (report_of Lose) st n) ns s f (homes-kept st n single)
     ∙ ap (spared ns) (homes-one st n s f single) ∙ by (homes_of st.homes s f)
   where
     by : (o : Option Seat) → spared ns (if_spared n o) ≡ spared (n ∷ ns) o

@@ -1,5 +1,5 @@
 -- What becomes of a stripe, from the sets of its fragments.
-use Rattle.std.proofs.Common.{◌≡◌, ℕ, ◌≤◌, ◌&&◌, ◌||◌, Bool, List, Option, Some, None, refl, sym, ap, ◌∙◌}
+use Rattle.std.proofs.Common.{◌≡◌, ℕ, ◌≤◌, ◌&&◌, ◌||◌, Bool, not, List, length, Option, Some, None, refl, sym, ap, ◌∙◌}
 use Rattle.lrc_code.specs.declared.codes.Code.{Code}
 use Rattle.lrc_code.specs.declared.numbers.StripeNo.{StripeNo}
 use Rattle.lrc_code.specs.declared.numbers.NodeNo.{NodeNo}
@@ -15,7 +15,7 @@ use Rattle.lrc_book.proofs.MaskLemmas.{mask-is, mask-set}
 use Rattle.lrc_forecast.specs.declared.outlook.Outage.{Outage}
 use Rattle.lrc_forecast.specs.declared.outlook.Outage.TheVariants.{Stop, Lose}
 use Rattle.lrc_forecast.specs.declared.outlook.Outlook.{Outlook}
-use Rattle.lrc_forecast.specs.Forecasts.{state_with, is_on_any, hit_in, outlook}
+use Rattle.lrc_forecast.specs.Forecasts.{state_with, is_on_any, hit_in, newly_missing, ended_leases, outlook}
 use Rattle.lrc_forecast.specs.Hits.{IsSetOf, HaveOneHome, is_on_set}
 use Rattle.lrc_forecast.proofs.OutageLemmas.{code-after, missing-after, homeless-stopped, homeless-lost}
 
@@ -57,14 +57,32 @@ module _ (nodes : List NodeInfo) (st : State) (ns : List NodeNo) (s : StripeNo) 
         joined f ∙ ap (λ (b : Bool). b || bits_set hit f) (bare-is f) ∙ ap (λ (b : Bool). homeless st s f || b) (hit-is f)
         ∙ sym (homeless-lost nodes st ns s f single)
 
-    abbrev made : Code → Level → Level → ℕ → Outlook
-    made c before after bits = record { stripe = s; code = c; before = before; after = after; missing = record { bits = bits } }
+    -- the fragments that are missing then and not now
+    fresh-is : (outage : Outage) (lacking fresh : ℕ) → ((f : ℕ) → bits_set lacking f ≡ (bits_set now f || bits_set hit f))
+        → ((f : ℕ) → bits_set fresh f ≡ (bits_set lacking f && not (bits_set now f)))
+        → fresh ≡ bits_of (code_of st s) (newly_missing nodes st (state_with outage st ns) s)
+    fresh-is outage lacking fresh joined less =
+        let later = state_with outage st ns in
+        let same : code_of later s ≡ code_of st s = code-after outage st ns s in
+        mask-is (code_of st s) (newly_missing nodes st later s)
+        (λ g past.
+        let p : fragment_count (code_of later s) ≤ g = rw same past in
+        ap (λ (b : Bool). b && not (missing nodes st s g)) (none-beyond nodes later s g p).1)
+        fresh
+        (λ f.
+        less f ∙ ap (λ (b : Bool). b && not (bits_set now f)) (missing-set outage lacking joined f)
+        ∙ ap (λ (b : Bool). missing nodes later s f && not b) (now-is f))
 
-    pub outlook-told : (outage : Outage) (lacking gone : ℕ) (before after : Level) → before ≡ level nodes st s
+    abbrev made : Code → Level → Level → ℕ → ℕ → ℕ → Outlook
+    made c before after bits fresh ended =
+        record { stripe = s; code = c; before = before; after = after; missing = record { bits = bits }; newly_missing = record { bits = fresh }; leases_ended = ended }
+
+    pub outlook-told : (outage : Outage) (lacking gone fresh ended : ℕ) (before after : Level) → before ≡ level nodes st s
         → ((f : ℕ) → bits_set lacking f ≡ (bits_set now f || bits_set hit f)) → ((f : ℕ) → bits_set gone f ≡ homeless (state_with outage st ns) s f)
-        → after ≡ level_by code (bits_set gone) (bits_set lacking)
-        → made code before after lacking ≡ outlook nodes st (state_with outage st ns) s
-    outlook-told outage lacking gone before after first joined bared levelled =
+        → after ≡ level_by code (bits_set gone) (bits_set lacking) → ((f : ℕ) → bits_set fresh f ≡ (bits_set lacking f && not (bits_set now f)))
+        → ended ≡ length (ended_leases st (state_with outage st ns) s)
+        → made code before after lacking fresh ended ≡ outlook nodes st (state_with outage st ns) s
+    outlook-told outage lacking gone fresh ended before after first joined bared levelled less counted =
         let later = state_with outage st ns in
         let same : code_of later s ≡ code_of st s = code-after outage st ns s in
         let lacks = missing-set outage lacking joined in
@@ -74,5 +92,8 @@ module _ (nodes : List NodeInfo) (st : State) (ns : List NodeNo) (s : StripeNo) 
         let bits : lacking ≡ bits_of (code_of st s) (missing nodes later s) =
         mask-is (code_of st s) (missing nodes later s)
         (λ g past. (none-beyond nodes later s g (let p : fragment_count (code_of later s) ≤ g = rw same past in p)).1) lacking lacks in
-        ap (λ (c : Code). made c before after lacking) own ∙ ap (λ (l : Level). made (code_of st s) l after lacking) first
-        ∙ ap (λ (l : Level). made (code_of st s) (level nodes st s) l lacking) last ∙ ap (made (code_of st s) (level nodes st s) (level nodes later s)) bits
+        ap (λ (c : Code). made c before after lacking fresh ended) own ∙ ap (λ (l : Level). made (code_of st s) l after lacking fresh ended) first
+        ∙ ap (λ (l : Level). made (code_of st s) (level nodes st s) l lacking fresh ended) last
+        ∙ ap (λ (b : ℕ). made (code_of st s) (level nodes st s) (level nodes later s) b fresh ended) bits
+        ∙ ap (λ (b : ℕ). made (code_of st s) (level nodes st s) (level nodes later s) (bits_of (code_of st s) (missing nodes later s)) b ended) (fresh-is outage lacking fresh joined less)
+        ∙ ap (made (code_of st s) (level nodes st s) (level nodes later s) (bits_of (code_of st s) (missing nodes later s)) (bits_of (code_of st s) (newly_missing nodes st later s))) counted

@@ -2,12 +2,13 @@ ghost use Rattle.std.specs.Prelude.{◌≡◌, true, List, IfOk, IfErr, length};
 ghost use Rattle.std.specs.List.{list_any};
 ghost use Rattle.lrc_code.specs.declared.fault.Fault.TheVariants as fault;
 ghost use Rattle.lrc_code.specs.declared.numbers.NodeNo.{NodeNo as AnyNode};
+ghost use Rattle.lrc_terms.specs.Leased.{AreOneEach};
 ghost use Rattle.lrc_rules.specs.States.{has_stripe};
 ghost use Rattle.lrc_book.specs.Books.{state_of};
 ghost use Rattle.lrc_forecast.specs.Forecasts.{state_with, outlook, forecast, is_harmed, is_safe};
 ghost use Rattle.lrc_forecast.specs.Hits.{IsSetOf, HaveOneHome};
 
-use crate::hits::{NodeSet, fragments_on, joined, level_of, set_of};
+use crate::hits::{NodeSet, fragments_on, joined, leases_on, level_of, set_of, without};
 use crate::{Outage, Outlook};
 use lrc_book::{Book, homeless_of};
 use lrc_code::{Fault, NodeNo, StripeNo};
@@ -29,7 +30,7 @@ pub fn forecast(
     ensures value { IfOk result (λ rows. rows.items ≡ forecast book.now.nodes (state_of book.now) outage nodes.now) }
     ensures err { IfErr result (λ e. e ≡ fault.OutOfMemory) }
 {
-    book.history(); // so that its contract tells that each fragment has one home at most
+    book.history(); // so that its contract tells that each fragment has one home and one lease at most
     let stripes = book.stripes(alloc)?;
     let hit_nodes = set_of(nodes);
     let mut rows = Vec::new(alloc);
@@ -42,14 +43,14 @@ pub fn forecast(
     Ok(rows)
 }
 
-/// Whether no stripe becomes unavailable or lost.
+/// Whether no stripe is harmed.
 pub fn is_safe(rows: &[Outlook]) -> bool
     ensures { result ≡ is_safe rows.now }
 {
     !is_any_harmed(rows)
 }
 
-/// Whether a stripe becomes unavailable or lost.
+/// Whether a stripe is harmed.
 fn is_any_harmed(rows: &[Outlook]) -> bool
     ensures { result ≡ list_any is_harmed rows.now }
 {
@@ -60,6 +61,7 @@ fn is_any_harmed(rows: &[Outlook]) -> bool
 fn outlook_of(book: &Book, stripe: StripeNo, outage: Outage, hit_nodes: &NodeSet) -> Outlook
     requires there { has_stripe (state_of book.now) stripe ≡ true }
     requires single { HaveOneHome (state_of book.now) }
+    requires leased { AreOneEach (state_of book.now).leases }
     requires long { length hit_nodes.now ≡ 65536 }
     ensures { (ns : List AnyNode) → IsSetOf ns hit_nodes.now
         → result ≡ outlook book.now.nodes (state_of book.now) (state_with outage (state_of book.now) ns) stripe }
@@ -67,11 +69,16 @@ fn outlook_of(book: &Book, stripe: StripeNo, outage: Outage, hit_nodes: &NodeSet
     let code = book.code(stripe).unwrap();
     let homes = book.homes(stripe).unwrap();
     let hit = fragments_on(code, &homes, hit_nodes);
-    let missing = joined(book.missing(stripe).unwrap(), hit);
+    let missing_now = book.missing(stripe).unwrap();
+    let missing = joined(missing_now, hit);
     let homeless = homeless_of(code, &homes);
     let homeless = match outage {
         Outage::Stop => homeless,
         Outage::Lose => joined(homeless, hit),
+    };
+    let leases_ended = match outage {
+        Outage::Stop => 0,
+        Outage::Lose => leases_on(book, stripe, &homes, hit_nodes),
     };
     Outlook {
         stripe,
@@ -79,5 +86,7 @@ fn outlook_of(book: &Book, stripe: StripeNo, outage: Outage, hit_nodes: &NodeSet
         before: book.level(stripe).unwrap(),
         after: level_of(code, homeless, missing),
         missing,
+        newly_missing: without(missing, missing_now),
+        leases_ended,
     }
 }

@@ -1,15 +1,18 @@
-//! The fragments with a home on one of some nodes.
+//! The fragments with a home on one of some nodes, and the leases that end with these.
 
-ghost use Rattle.std.specs.Prelude.{◌≡◌, ℕ, ◌&&◌, ◌||◌, map, length};
+ghost use Rattle.std.specs.Prelude.{◌≡◌, ℕ, false, not, ◌&&◌, ◌||◌, map, count_by, length, Some};
+ghost use Rattle.std.specs.Option.{option_map_or};
 ghost use Rattle.lrc_code.specs.declared.codes.Code.TheVariants.{Wide};
 ghost use Rattle.lrc_code.specs.Codes.{fragments, has_fragment};
 ghost use Rattle.lrc_code.specs.Losses.{bits_set};
 ghost use Rattle.lrc_terms.specs.Levels.{Homes, level_by};
-ghost use Rattle.lrc_forecast.specs.Hits.{IsSetOf, is_on_set};
+ghost use Rattle.lrc_rules.specs.States.{lease_of};
+ghost use Rattle.lrc_book.specs.Books.{state_of};
+ghost use Rattle.lrc_forecast.specs.Hits.{IsSetOf, is_on_set, has_lease_on_set};
 
 use lrc_bits::BitSet;
-use lrc_book::{Level, Seat};
-use lrc_code::{Code, FRAGMENTS, Fragment, LossMask, NodeNo};
+use lrc_book::{Book, Level, Seat};
+use lrc_code::{Code, FRAGMENTS, Fragment, LossMask, NodeNo, StripeNo};
 use lrc_homes::{Losses, masks};
 
 /// A set of node numbers, one bit for each `u16`.
@@ -57,11 +60,61 @@ fn is_on(home: Option<Seat>, nodes: &NodeSet) -> bool
     }
 }
 
+/// How many live leases of a stripe have their target or a home of their fragment on a node of the set.
+pub(crate) fn leases_on(
+    book: &Book,
+    stripe: StripeNo,
+    homes: &[Option<Seat>; FRAGMENTS],
+    nodes: &NodeSet,
+) -> u8
+    requires long { length nodes.now ≡ 65536 }
+    ensures { (of : Homes) → homes.now ≡ map (λ f. of f.value) (fragments Wide)
+        → result ≡ count_by (has_lease_on_set nodes.now (state_of book.now) stripe of) (fragments Wide) }
+{
+    let mut count = 0;
+    for fragment in Fragment::all() {
+        if has_lease_on(
+            book,
+            stripe,
+            fragment,
+            homes[fragment.value as usize],
+            nodes,
+        ) {
+            count += 1;
+        }
+    }
+    count
+}
+
+/// Whether the fragment, with this home, has a live lease that has its target or the home on a node of the set.
+fn has_lease_on(
+    book: &Book,
+    stripe: StripeNo,
+    fragment: Fragment,
+    home: Option<Seat>,
+    nodes: &NodeSet,
+) -> bool
+    requires long { length nodes.now ≡ 65536 }
+    ensures { result ≡ option_map_or (λ l. is_on_set nodes.now (Some l.target) || is_on_set nodes.now home) (lease_of (state_of book.now) stripe fragment) false }
+{
+    match book.lease(stripe, fragment) {
+        Some(lease) => is_on(Some(lease.target), nodes) || is_on(home, nodes),
+        None => false,
+    }
+}
+
 /// The fragments of both sets.
 pub(crate) fn joined(set: LossMask, more: LossMask) -> LossMask
     ensures { (f : ℕ) → bits_set result.bits f ≡ (bits_set set.bits f || bits_set more.bits f) }
 {
     masks::put(set, more, true)
+}
+
+/// The fragments of the first set that are not in the second.
+pub(crate) fn without(set: LossMask, less: LossMask) -> LossMask
+    ensures { (f : ℕ) → bits_set result.bits f ≡ (bits_set set.bits f && not (bits_set less.bits f)) }
+{
+    masks::put(set, less, false)
 }
 
 /// The level of a stripe of the code with these homeless and these missing fragments.

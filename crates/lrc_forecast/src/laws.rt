@@ -8,20 +8,23 @@ ghost use Rattle.lrc_code.specs.declared.numbers.NodeNo.{NodeNo};
 ghost use Rattle.lrc_code.specs.declared.numbers.SessionNo.{SessionNo};
 ghost use Rattle.lrc_topology.specs.declared.NodeInfo.{NodeInfo};
 ghost use Rattle.lrc_topology.specs.Nodes.{AreNodes};
+ghost use Rattle.lrc_terms.specs.declared.lease.Lease.{Lease};
+ghost use Rattle.lrc_terms.specs.Levels.{homes_of};
 ghost use Rattle.lrc_rules.specs.declared.command.Command.TheVariants.{Down, Fail};
 ghost use Rattle.lrc_rules.specs.declared.reply.Reply.TheVariants.{Changed, Refused};
 ghost use Rattle.lrc_rules.specs.declared.refusal.Refusal.{Refusal};
 ghost use Rattle.lrc_rules.specs.declared.entry.Entry.{Entry};
-ghost use Rattle.lrc_rules.specs.States.{State, homeless, missing, level};
+ghost use Rattle.lrc_rules.specs.States.{State, has_number, homeless, missing};
 ghost use Rattle.lrc_rules.specs.Steps.{step};
 ghost use Rattle.lrc_rules.specs.Histories.{IsLegal, state_after};
 ghost use Rattle.lrc_rules.specs.Goodness.{AreSeated};
 ghost use Rattle.lrc_forecast.specs.declared.outlook.Outage.{Outage};
 ghost use Rattle.lrc_forecast.specs.declared.outlook.Outage.TheVariants.{Stop, Lose};
-ghost use Rattle.lrc_forecast.specs.Forecasts.{state_with, hit_in, HasSameLosses, is_harm, forecast, is_safe};
+ghost use Rattle.lrc_forecast.specs.Forecasts.{state_with, is_on_any, hit_in, HasSameLosses, ended_leases, forecast, is_safe, IsUnrecoverable, LosesNothing};
 
 /// Where the store takes the command `Down` or `Fail`, it comes to the state with the outage of this node. Where it
-/// refuses the command, each stripe has the same level and the same missing fragments with the outage as without.
+/// refuses the command, each stripe has the same level, the same missing fragments and the same leases with the outage as
+/// without.
 pub fn outages_are_what_commands_leave()
     ensures stop { (nodes : List NodeInfo) (past : List Entry) (st : State) (session : SessionNo) (n : NodeNo)
         → (step nodes past st session (Down n)).0 ≡ Changed
@@ -48,11 +51,25 @@ pub fn an_outage_in_words()
         → AreSeated nodes st → homeless (state_with Lose st ns) s f ≡ (homeless st s f || hit_in st ns s f) }
 {}
 
-/// A forecast is safe exactly if no stripe of the store becomes unavailable or lost.
+/// With the outage of nodes that stop, each stripe keeps its live leases. With the outage of nodes that are lost, exactly those
+/// of its live leases end that have their target on one of the nodes, or whose fragment has its home on one.
+pub fn leases_end_in_words()
+    ensures stopped { (st : State) (ns : List NodeNo) (s : StripeNo) → ended_leases st (state_with Stop st ns) s ≡ [] }
+    ensures lost { (nodes : List NodeInfo) (st : State) (ns : List NodeNo) (s : StripeNo) (l : Lease)
+        → AreSeated nodes st → Contains (ended_leases st (state_with Lose st ns) s) l
+        ↔ (Contains st.leases l × (l.stripe ≡ s) × IsTrue (has_number ns l.target.node || is_on_any ns (homes_of st.homes s l.fragment.value))) }
+    ensures others { (nodes : List NodeInfo) (st : State) (outage : Outage) (ns : List NodeNo) (l : Lease)
+        → AreSeated nodes st → Contains (state_with outage st ns).leases l
+        ↔ (Contains st.leases l × ¬ (Contains (ended_leases st (state_with outage st ns) l.stripe) l)) }
+{}
+
+/// A forecast is safe exactly if each stripe of the store that is unavailable or lost with the outage loses nothing by it: it
+/// has the same level without, each fragment that is missing is missing without, and each that has a live lease without has
+/// one.
 pub fn safe_in_words()
     ensures { (nodes : List NodeInfo) (st : State) (outage : Outage) (ns : List NodeNo)
         → IsTrue (is_safe (forecast nodes st outage ns))
-        ↔ ((s : StripeNo) → Contains st.stripes s → IsFalse (is_harm (level nodes st s) (level nodes (state_with outage st ns) s))) }
+        ↔ ((s : StripeNo) → Contains st.stripes s → IsUnrecoverable nodes (state_with outage st ns) s → LosesNothing nodes st (state_with outage st ns) s) }
 {}
 
 /// The outage of one node can be safe, that of another node too, and the outage of both not: this holds of some nodes

@@ -24,16 +24,22 @@ pub struct Outlook {
     pub after: Level,
     /// The fragments that are missing then.
     pub missing: LossMask,
+    /// Those of them that are not missing now.
+    pub newly_missing: LossMask,
+    /// How many live leases of the stripe end by the outage.
+    pub leases_ended: u8,
 }
 
 impl Outlook {
-    /// Whether the stripe becomes unavailable or lost by the outage. A stripe that is unavailable now is harmed where it
-    /// becomes lost.
+    /// Whether the outage harms the stripe: it is unavailable or lost then, and has another level now, or a fragment of it
+    /// is missing then that is not missing now, or a live lease of it ends.
     pub fn is_harmed(self) -> bool
         ensures { result ≡ is_harmed self }
     {
         match self.after {
-            Level::Unavailable | Level::Lost => self.before != self.after,
+            Level::Unavailable | Level::Lost => self.before != self.after
+                || self.newly_missing.bits() != 0
+                || self.leases_ended != 0,
             Level::Whole | Level::AtRisk(_) => false,
         }
     }

@@ -1,51 +1,40 @@
 ghost use Rattle.std.specs.Prelude.{◌≡◌, map, IfOk};
 ghost use Rattle.lrc_topology.specs.Nodes.{nodes_in};
-ghost use Rattle.lrc_groups.specs.Groups.{nodes_in_fault, has_fault, numbers_in, first_unknown, lacking_in};
+ghost use Rattle.lrc_groups.specs.Groups.{nodes_in_fault, has_fault, numbers_of, numbers_in, has_named, first_lacking};
 
-use crate::Lacking;
+use crate::Named;
 use lrc_code::{FaultNo, NodeNo, UpgradeNo};
 use lrc_topology::Topology;
 use std::alloc::{AllocError, Global};
 
-/// Nodes that are named together.
-#[derive(Clone, Copy, Debug, PartialEq, Eq)]
-pub enum Group<'a> {
-    /// The nodes of these numbers.
-    Nodes(&'a [NodeNo]),
-    /// All nodes of a fault domain.
-    Fault(FaultNo),
-    /// All nodes of an upgrade domain.
-    Upgrade(UpgradeNo),
+/// The numbers of all nodes that are named, one after the other; those of a domain are in file order.
+///
+/// # Errors
+///
+/// Only for want of memory.
+pub fn numbers_in(
+    alloc: Global,
+    topology: &Topology,
+    named: &[Named],
+) -> Result<Vec<NodeNo>, AllocError>
+    ensures { IfOk result (λ numbers. numbers.items ≡ numbers_in topology.now named.now) }
+{
+    let mut numbers = Vec::new(alloc);
+    for one in named {
+        let more = numbers_of(alloc, topology, *one)?;
+        numbers.extend_from_slice(more.as_slice())?;
+    }
+    Ok(numbers)
 }
 
-impl<'a> Group<'a> {
-    /// Returns the numbers of the nodes: those that are given, or those of the domain, in file order.
-    ///
-    /// # Errors
-    ///
-    /// Only for want of memory.
-    pub fn numbers_in(self, alloc: Global, topology: &Topology) -> Result<Vec<NodeNo>, AllocError>
-        ensures { IfOk result (λ numbers. numbers.items ≡ numbers_in topology.now self.entry) }
-    {
-        match self {
-            Group::Nodes(numbers) => numbers.iter().copied().collect(alloc),
-            Group::Fault(domain) => numbers_in_fault(alloc, topology, domain),
-            Group::Upgrade(domain) => numbers_in_upgrade(alloc, topology, domain),
-        }
-    }
-
-    /// Returns the first of the numbers that no node has, or the domain if no node is in it; `None` if there is all.
-    pub fn lacking_in(self, topology: &Topology) -> Option<Lacking>
-        ensures { result ≡ lacking_in topology.now self.entry }
-    {
-        match self {
-            Group::Nodes(numbers) => first_unknown(topology, numbers).map(Lacking::Node),
-            Group::Fault(domain) if !has_fault(topology, domain) => Some(Lacking::Fault(domain)),
-            Group::Upgrade(domain) if !topology.has_upgrade_domain(domain) => {
-                Some(Lacking::Upgrade(domain))
-            }
-            _ => None,
-        }
+/// The number of a node that is named, or those of the nodes of a domain that is.
+fn numbers_of(alloc: Global, topology: &Topology, named: Named) -> Result<Vec<NodeNo>, AllocError>
+    ensures { IfOk result (λ numbers. numbers.items ≡ numbers_of topology.now named) }
+{
+    match named {
+        Named::Node(number) => [number].iter().copied().collect(alloc),
+        Named::Fault(domain) => numbers_in_fault(alloc, topology, domain),
+        Named::Upgrade(domain) => numbers_in_upgrade(alloc, topology, domain),
     }
 }
 
@@ -73,18 +62,29 @@ fn numbers_in_upgrade(
     nodes.iter().map(|node| node.number).collect(alloc)
 }
 
+/// The first that no node has: the number of no node, or a domain that no node is in.
+pub fn first_lacking(topology: &Topology, named: &[Named]) -> Option<Named>
+    ensures { result ≡ first_lacking topology.now named.now }
+{
+    named
+        .iter()
+        .copied()
+        .find(|one| !has_named(topology, *one))
+}
+
+/// Whether a node has the number, or is in the domain.
+fn has_named(topology: &Topology, named: Named) -> bool
+    ensures { result ≡ has_named topology.now named }
+{
+    match named {
+        Named::Node(number) => topology.node(number).is_some(),
+        Named::Fault(domain) => has_fault(topology, domain),
+        Named::Upgrade(domain) => topology.has_upgrade_domain(domain),
+    }
+}
+
 fn has_fault(topology: &Topology, domain: FaultNo) -> bool
     ensures { result ≡ has_fault topology.now domain }
 {
     topology.nodes().any(|node| node.fault == domain)
-}
-
-/// The first of these numbers that no node has.
-fn first_unknown(topology: &Topology, numbers: &[NodeNo]) -> Option<NodeNo>
-    ensures { result ≡ first_unknown topology.now numbers.now }
-{
-    numbers
-        .iter()
-        .copied()
-        .find(|number| topology.node(*number).is_none())
 }

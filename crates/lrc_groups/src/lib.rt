@@ -1,8 +1,8 @@
-//! Nodes that are named together: some by their numbers, or all of a domain.
+//! Nodes that are named together, by their numbers and by domains.
 #![tactic(auto)]
 
 mod group;
-mod lacking;
+mod named;
 
-pub use group::Group;
-pub use lacking::Lacking;
+pub use group::{first_lacking, numbers_in};
+pub use named::Named;

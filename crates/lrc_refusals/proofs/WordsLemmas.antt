@@ -14,8 +14,8 @@ use Rattle.lrc_images.specs.declared.cause.Cause.TheVariants as row
 use Rattle.lrc_images.specs.CauseNumbers.{row_cause_number}
 use Rattle.lrc_script.specs.declared.script.Cause.{Cause as LineCause}
 use Rattle.lrc_script.specs.declared.script.Cause.TheVariants as cause
-use Rattle.lrc_groups.specs.declared.lacking.Lacking.{Lacking}
-use Rattle.lrc_groups.specs.declared.lacking.Lacking.TheVariants as lacking
+use Rattle.lrc_groups.specs.declared.named.Named.{Named}
+use Rattle.lrc_groups.specs.declared.named.Named.TheVariants as named
 use Rattle.lrc_refusals.specs.declared.refusal.InputRefusal.{InputRefusal}
 use Rattle.lrc_refusals.specs.declared.refusal.InputRefusal.TheVariants as refusal
 use Rattle.lrc_refusals.specs.Refusals.{cause_number, refusal_line, topology_words, line_words, row_words, refusal_words}
@@ -107,9 +107,9 @@ words_at line =
     else (if nat_eq (at line 0) 116 then topology_words_at (at line 9)
     else (if nat_eq (at line 0) 108 then line_words_at (at (past_digits (drop 5 line)) 7)
     else (if nat_eq (at line 0) 105 then image_words_at (past_digits (drop 6 line))
-    else (if nat_eq (at line 0) 110 then refusal_words (refusal.Lacking (lacking.Node (record { value = 0 })))
-    else (if nat_eq (at line 0) 102 then refusal_words (refusal.Lacking (lacking.Fault (record { value = 0 })))
-    else (if nat_eq (at line 0) 117 then refusal_words (refusal.Lacking (lacking.Upgrade (record { value = 0 }))) else topology_words topology.OutOfMemory))))))
+    else (if nat_eq (at line 0) 110 then refusal_words (refusal.Lacking (named.Node (record { value = 0 })))
+    else (if nat_eq (at line 0) 102 then refusal_words (refusal.Lacking (named.Fault (record { value = 0 })))
+    else (if nat_eq (at line 0) 117 then refusal_words (refusal.Lacking (named.Upgrade (record { value = 0 }))) else topology_words topology.OutOfMemory))))))
 
 two-digits : (n : ℕ) → 10 ≤ n → n < 20 → decimal n ≡ 49 ∷ (48 + n % 10) ∷ []
 two-digits n low high =
@@ -152,10 +152,10 @@ topology-told (topology.DoubleNode _) = refl
 topology-told topology.TooMany = refl
 topology-told topology.OutOfMemory = refl
 
-lacking-told : (l : Lacking) → words_at (refusal_line (refusal.Lacking l)) ≡ refusal_words (refusal.Lacking l)
-lacking-told (lacking.Node _) = refl
-lacking-told (lacking.Fault _) = refl
-lacking-told (lacking.Upgrade _) = refl
+lacking-told : (n : Named) → words_at (refusal_line (refusal.Lacking n)) ≡ refusal_words (refusal.Lacking n)
+lacking-told (named.Node _) = refl
+lacking-told (named.Fault _) = refl
+lacking-told (named.Upgrade _) = refl
 
 at-line : (rest : List ℕ) → words_at (codes "line " ++ rest) ≡ line_words_at (at (past_digits rest) 7)
 at-line rest = refl
@@ -190,4 +190,4 @@ words-told (refusal.Row n c) =
     let rest = codes " cause " ++ decimal (row_cause_number c) ++ codes "\n" in
     ap words_at (five (codes "image ") (decimal n) (codes " cause ") (decimal (row_cause_number c)) (codes "\n")) ∙ at-image (decimal n ++ rest) ∙ ap image_words_at (past-decimal n rest) ∙ row-cause c
 words-told refusal.FullImage = at-image (codes "full\n") ∙ at-full
-words-told (refusal.Lacking l) = lacking-told l
+words-told (refusal.Lacking n) = lacking-told n

@@ -40,7 +40,7 @@ refusal_line (refusal.Line line cause) = codes "line " ++ decimal line ++ codes 
 refusal_line (refusal.ImageLine line) = codes "image " ++ decimal line ++ codes "\n"
 refusal_line (refusal.Row line cause) = codes "image " ++ decimal line ++ codes " cause " ++ decimal (row_cause_number cause) ++ codes "\n"
 refusal_line refusal.FullImage = codes "image full\n"
-refusal_line (refusal.Lacking lacking) = lacking_line lacking
+refusal_line (refusal.Lacking named) = lacking_line named
 
 -- ---- words
 
@@ -90,7 +90,7 @@ refusal_words (refusal.Line _ cause) = line_words cause
 refusal_words (refusal.ImageLine _) = codes "this line can't stand here in an image"
 refusal_words (refusal.Row _ cause) = row_words cause
 refusal_words refusal.FullImage = codes "a number of the state is at its end"
-refusal_words (refusal.Lacking lacking) = lacking_words lacking
+refusal_words (refusal.Lacking named) = lacking_words named
 
 -- the words and the line
 abbrev pub refusal_text : InputRefusal → List ℕ

@@ -3,7 +3,7 @@ ghost use Rattle.lrc_refusals.specs.Refusals.{refusal_line, refusal_words, refus
 
 use crate::lines::{push_bad_line, push_image_line, push_row, push_topology};
 use crate::words::{line_words, row_words, topology_words};
-use lrc_groups::Lacking;
+use lrc_groups::Named;
 use lrc_images::Cause as RowCause;
 use lrc_script::Cause as LineCause;
 use lrc_topology::TopologyError;
@@ -26,8 +26,8 @@ pub enum InputRefusal {
     Row(u128, RowCause),
     /// A number of the state is at its end, so the state has no image.
     FullImage,
-    /// The topology lacks a node or a domain that was named.
-    Lacking(Lacking),
+    /// No node has this number, or is in this domain.
+    Lacking(Named),
 }
 
 impl InputRefusal {
@@ -47,7 +47,7 @@ impl InputRefusal {
             InputRefusal::ImageLine(line) => push_image_line(out, line),
             InputRefusal::Row(line, cause) => push_row(out, line, cause),
             InputRefusal::FullImage => out.push_str("image full\n"),
-            InputRefusal::Lacking(lacking) => lacking.push_line(out),
+            InputRefusal::Lacking(named) => named.push_line(out),
         }
     }
 
@@ -63,7 +63,7 @@ impl InputRefusal {
             InputRefusal::ImageLine(_) => "this line can't stand here in an image",
             InputRefusal::Row(_, cause) => row_words(cause),
             InputRefusal::FullImage => "a number of the state is at its end",
-            InputRefusal::Lacking(lacking) => lacking.reason(),
+            InputRefusal::Lacking(named) => named.words(),
         }
     }
 

@@ -4,19 +4,19 @@ ghost use Rattle.lrc_groups.specs.Groups.{named_line, lacking_line, lacking_word
 use lrc_code::{FaultNo, NodeNo, UpgradeNo};
 use std::alloc::AllocError;
 
-/// What a topology lacks.
+/// A node, or all nodes of a domain.
 #[derive(Clone, Copy, Debug, PartialEq, Eq)]
-pub enum Lacking {
+pub enum Named {
     /// The node of this number.
     Node(NodeNo),
-    /// A node of this fault domain.
+    /// All nodes of this fault domain.
     Fault(FaultNo),
-    /// A node of this upgrade domain.
+    /// All nodes of this upgrade domain.
     Upgrade(UpgradeNo),
 }
 
-impl Lacking {
-    /// Adds the line that names it.
+impl Named {
+    /// Adds the line that says that no node has it.
     ///
     /// # Errors
     ///
@@ -25,20 +25,20 @@ impl Lacking {
         ensures { OnOk result (string_bytes out.new ≡ string_bytes out.old ++ lacking_line self) }
     {
         match self {
-            Lacking::Node(number) => push_named(out, "node", u64::from(number.value)),
-            Lacking::Fault(domain) => push_named(out, "fault", u64::from(domain.value)),
-            Lacking::Upgrade(domain) => push_named(out, "upgrade", u64::from(domain.value)),
+            Named::Node(number) => push_named(out, "node", u64::from(number.value)),
+            Named::Fault(domain) => push_named(out, "fault", u64::from(domain.value)),
+            Named::Upgrade(domain) => push_named(out, "upgrade", u64::from(domain.value)),
         }
     }
 
-    /// Returns what is lacking, in words.
-    pub fn reason(self) -> &'static str
+    /// Returns the words that say so.
+    pub fn words(self) -> &'static str
         ensures { result.now ≡ lacking_words self }
     {
         match self {
-            Lacking::Node(_) => "there is no such node",
-            Lacking::Fault(_) => "no node is in this fault domain",
-            Lacking::Upgrade(_) => "no node is in this upgrade domain",
+            Named::Node(_) => "there is no such node",
+            Named::Fault(_) => "no node is in this fault domain",
+            Named::Upgrade(_) => "no node is in this upgrade domain",
         }
     }
 }
