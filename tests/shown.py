@@ -16,7 +16,8 @@ HEADS = {
 }
 
 REPORTS = {"may-stop": "down", "may-lose": "fail"}
-FORECAST = ["stripe", "code", "level_before", "margin_before", "level_after", "margin_after", "missing_after", "missing_fragments_after"]
+FORECAST = ["stripe", "code", "level_before", "margin_before", "level_after", "margin_after", "missing_after", "missing_fragments_after",
+            "leases_ended", "harmed"]
 
 
 def yes(flag):
@@ -119,26 +120,53 @@ def shown(view, store, entries):
 
 
 def nodes_of(store, words):
-    """The nodes that the words after `may-stop` or `may-lose` name."""
-    if words[0] in ("fault", "upgrade"):
-        return [number for number, node in store.nodes.items() if getattr(node, words[0]) == int(words[1])]
-    return list(map(int, words))
+    """The nodes that the words after `may-stop` or `may-lose` name, one after the other."""
+    nodes, domain = [], None
+    for word in words:
+        if word in ("fault", "upgrade"):
+            domain = word
+        elif domain:
+            nodes += [number for number, node in store.nodes.items() if getattr(node, domain) == int(word)]
+        else:
+            nodes.append(int(word))
+    return nodes
+
+
+def harm_of(store, later, stripe, leases):
+    """Why a stripe, of which so many leases end, is harmed from one state to the other: none, or some of its level, a fragment
+    and a lease."""
+    before, after = level_of(store, stripe), level_of(later, stripe)
+    if after[0] not in ("unavailable", "lost"):
+        return []
+    harm = {"level": after != before, "fragment": later.missing(stripe) & ~store.missing(stripe), "lease": leases}
+    return [word for word, is_met in harm.items() if is_met]
+
+
+def ended(store, later):
+    """How many leases of each stripe are live in the one state and not in the other."""
+    return Counter(key[0] for key in store.leases if key not in later.leases)
+
+
+def after_reports(word, store, nodes):
+    """The store after a report of each node; one that is refused changes nothing."""
+    later = copy.deepcopy(store)
+    for node in nodes:
+        later.call(1, f"{REPORTS[word]} {node}")
+    return later
 
 
 def outlook(store, later):
-    """The table of the stripes that are not whole later, and whether none becomes unavailable or lost."""
-    is_safe, rows = True, []
+    """The table of the stripes that are not whole later, and why each is harmed."""
+    rows, harms, leases = [], [], ended(store, later)
     for stripe in sorted(store.stripes):
-        before, after = level_of(store, stripe), level_of(later, stripe)
-        is_safe = is_safe and (after[0] == before[0] or after[0] not in ("unavailable", "lost"))
+        before, after, harm = level_of(store, stripe), level_of(later, stripe), harm_of(store, later, stripe, leases[stripe])
         if after[0] != "whole":
-            rows.append([stripe, store.stripes[stripe].name, *before, *after, *mask(later.missing(stripe))])
-    return text_of(FORECAST, rows), is_safe
+            fields = store.stripes[stripe].name, *before, *after, *mask(later.missing(stripe))
+            rows.append([stripe, *fields, leases[stripe], yes(harm)])
+            harms.append(harm)
+    return text_of(FORECAST, rows), [harm for harm in harms if harm]
 
 
 def forecast(word, store, nodes):
     """The outlook after a report of each node."""
-    later = copy.deepcopy(store)
-    for node in nodes:
-        later.call(1, f"{REPORTS[word]} {node}")
-    return outlook(store, later)
+    return outlook(store, after_reports(word, store, nodes))

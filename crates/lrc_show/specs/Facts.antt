@@ -14,7 +14,8 @@ use Rattle.lrc_book.specs.Looks.{homes_on}
 use Rattle.lrc_text.specs.Tables.{row_line, mode_text, online_text}
 use Rattle.lrc_show.specs.declared.nodes.NodeFacts.{NodeFacts}
 use Rattle.lrc_show.specs.declared.stripe_facts.StripeFacts.{StripeFacts}
-use Rattle.lrc_show.specs.Shown.{is_level, value_row}
+use Rattle.lrc_forecast.specs.Forecasts.{is_level}
+use Rattle.lrc_show.specs.Shown.{value_row}
 
 -- ---- stripes
 

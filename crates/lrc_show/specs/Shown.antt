@@ -23,6 +23,7 @@ use Rattle.lrc_rules.specs.Repairs.{needs, kind, is_beyond_repair}
 use Rattle.lrc_rules.specs.Urgency.{work, is_grantable}
 use Rattle.lrc_book.specs.Looks.{stripes_of, homes_on}
 use Rattle.lrc_forecast.specs.declared.outlook.Outlook.{Outlook}
+use Rattle.lrc_forecast.specs.Forecasts.{is_level, is_harmed}
 use Rattle.lrc_text.specs.Tables.{row_line, level_text, margin_field, mask_field, mode_text, online_text}
 use Rattle.lrc_text.specs.Texts.{seat_text, spaced}
 use Rattle.lrc_show.specs.declared.view.View.{View}
@@ -155,14 +156,6 @@ work_table nodes st = codes "stripe,fragment,kind,sources,standing,holder,epoch\
 
 -- ---- status
 
--- levels are the same
-abbrev pub is_level : Level → Level → Bool
-is_level Whole Whole = true
-is_level (AtRisk m) (AtRisk n) = nat_eq m n
-is_level Unavailable Unavailable = true
-is_level Lost Lost = true
-is_level _ _ = false
-
 -- how many stripes have this level
 abbrev pub level_count : List NodeInfo → State → Level → ℕ
 level_count nodes st l = count_by (λ s. is_level l (level nodes st s)) (stripes_of st)
@@ -233,12 +226,12 @@ margin_at Lost = None
 unfoldable pub forecast_row : Outlook → List ℕ
 forecast_row o =
     row_line (decimal o.stripe.value ∷ code_name o.code ∷ level_text o.before ∷ margin_field (margin_at o.before) ∷ level_text o.after ∷ margin_field (margin_at o.after)
-    ∷ hex_field o.missing.bits ∷ fragments_field (members_of o.code (bits_set o.missing.bits)) ∷ [])
+    ∷ hex_field o.missing.bits ∷ fragments_field (members_of o.code (bits_set o.missing.bits)) ∷ decimal o.leases_ended ∷ online_text (is_harmed o) ∷ [])
 
 -- a row for each stripe
 abbrev pub forecast_text : List Outlook → List ℕ
 forecast_text rows =
-    codes "stripe,code,level_before,margin_before,level_after,margin_after,missing_after,missing_fragments_after\n" ++ flat_map forecast_row rows
+    codes "stripe,code,level_before,margin_before,level_after,margin_after,missing_after,missing_fragments_after,leases_ended,harmed\n" ++ flat_map forecast_row rows
 
 -- ---- the table that is asked for
 

@@ -4,19 +4,20 @@ ghost use Rattle.std.specs.Prelude.{◌≡◌, ◌++◌, codes, decimal, string_
 ghost use Rattle.lrc_code.specs.declared.fault.Fault.TheVariants as fault;
 ghost use Rattle.lrc_code.specs.Codes.{code_name};
 ghost use Rattle.lrc_code.specs.Losses.{bits_set};
-ghost use Rattle.lrc_text.specs.Tables.{level_text, margin_field};
+ghost use Rattle.lrc_forecast.specs.Forecasts.{is_harmed};
+ghost use Rattle.lrc_text.specs.Tables.{level_text, margin_field, online_text};
 ghost use Rattle.lrc_show.specs.Shown.{hex_field, fragments_field, members_of, margin_at, forecast_row, forecast_text};
 
 use crate::words::{push_margin, push_mask, push_members};
 use lrc_book::Level;
 use lrc_code::{Code, Fault, StripeNo};
 use lrc_forecast::Outlook;
-use lrc_text::level_word;
+use lrc_text::{level_word, online_word};
 use std::alloc::{AllocError, Global};
 
 /// The heads of the columns.
 const HEADS: &str =
-    "stripe,code,level_before,margin_before,level_after,margin_after,missing_after,missing_fragments_after\n";
+    "stripe,code,level_before,margin_before,level_after,margin_after,missing_after,missing_fragments_after,leases_ended,harmed\n";
 
 /// The table of a forecast: a line of heads and a line for each stripe, of fields with commas between them.
 ///
@@ -45,8 +46,7 @@ fn push_outlook(out: &mut String, row: Outlook) -> Result<(), AllocError>
     push_mask(out, row.missing)?;
     out.push_str(",")?;
     push_members(out, row.code, row.missing)?;
-    out.push_str("\n")?;
-    Ok(())
+    push_harm(out, row)
 }
 
 /// Adds the number of a stripe and its code, with a comma behind each.
@@ -66,6 +66,15 @@ fn push_level(out: &mut String, level: Level) -> Result<(), AllocError>
     out.push_str(",")?;
     push_margin(out, margin_at(level))?;
     out.push_str(",")
+}
+
+/// Adds how many leases of a stripe end, and whether it is harmed, with a comma before each.
+fn push_harm(out: &mut String, row: Outlook) -> Result<(), AllocError>
+    ensures { OnOk result (string_bytes out.new ≡ string_bytes out.old ++ (codes "," ++ decimal row.leases_ended ++ codes "," ++ online_text (is_harmed row) ++ codes "\n")) }
+{
+    let leases_ended = row.leases_ended;
+    let harmed = online_word(row.is_harmed());
+    write!(out, ",{leases_ended},{harmed}\n")
 }
 
 /// How many more losses a stripe of this level survives, whichever fragments are lost.
