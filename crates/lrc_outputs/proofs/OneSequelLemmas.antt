@@ -11,9 +11,8 @@ use Rattle.lrc_image_text.proofs.OnceLemmas.{one_bad}
 use Rattle.lrc_image_text.proofs.ImageLemmas.{no_bad, same_rows}
 use Rattle.lrc_book.specs.Books.{BookView, state_of}
 use Rattle.lrc_forecast.specs.declared.outlook.Outage.{Outage}
-use Rattle.lrc_groups.specs.declared.group.Group.{Group}
-use Rattle.lrc_groups.specs.declared.lacking.Lacking.{Lacking}
-use Rattle.lrc_groups.specs.Groups.{lacking_in}
+use Rattle.lrc_groups.specs.declared.named.Named.{Named}
+use Rattle.lrc_groups.specs.Groups.{first_lacking}
 use Rattle.lrc_show.specs.declared.view.View.{View}
 use Rattle.lrc_script.specs.Bundles.{Script}
 use Rattle.lrc_outputs.specs.declared.sequel.Goal.{Goal}
@@ -85,10 +84,10 @@ same-table view b c nodes base before history t s h =
     subst (λ (v : BookView). IsTable view v t s) (λ k. book_of (nodes k) (base k) (before k) (history k)) h
 
 -- and each forecast
-same-forecast : (outage : Outage) (group : Group) (b c : BookView) → b.nodes ≡ c.nodes → b.base ≡ c.base → b.before ≡ c.before → b.history ≡ c.history → (t : List ℕ) (s : Status) → IsForecast outage group b t s
-    → IsForecast outage group c t s
-same-forecast outage group b c nodes base before history t s h =
-    subst (λ (v : BookView). IsForecast outage group v t s) (λ k. book_of (nodes k) (base k) (before k) (history k)) h
+same-forecast : (outage : Outage) (named : List Named) (b c : BookView) → b.nodes ≡ c.nodes → b.base ≡ c.base → b.before ≡ c.before → b.history ≡ c.history → (t : List ℕ) (s : Status) → IsForecast outage named b t s
+    → IsForecast outage named c t s
+same-forecast outage named b c nodes base before history t s h =
+    subst (λ (v : BookView). IsForecast outage named v t s) (λ k. book_of (nodes k) (base k) (before k) (history k)) h
 
 imaged-one : (b : BookView) (t u : List ℕ) (s r : Status) → IsImaged b t s → IsImaged b u r → (t ≡ u) × (s ≡ r)
 imaged-one b t u s r (inl (spent, p, e)) (inl (spent', q, f)) = (p ∙ sym q, e ∙ sym f)
@@ -105,11 +104,11 @@ module _ (nodes : List NodeInfo) (base : World) (before : ℕ) (lists : List (Li
       let legal' : IsLegalFrom nodes base c.history = subst (λ (w : World). IsLegalFrom nodes w c.history) q.begun (subst (λ (ns : List NodeInfo). IsLegalFrom ns c.base c.history) q.over q.legal) in
       only_history nodes base lists few b.history c.history legal legal' p.made q.made p.only q.only
 
-  forecast-one : (found : Option Lacking) (outage : Outage) (group : Group) (t u : List ℕ) (s r : Status) → IsForecastUnless found outage group nodes base before lists t s
-      → IsForecastUnless found outage group nodes base before lists u r → (t ≡ u) × (s ≡ r)
-  forecast-one (Some lacking) outage group t u s r h k = (h.0 ∙ sym k.0, h.1 ∙ sym k.1)
-  forecast-one None outage group t u s r (b, p, h) (c, q, k) =
-      let same = same-forecast outage group b c (p.over ∙ sym q.over) (p.begun ∙ sym q.begun) (p.before_is ∙ sym q.before_is) (same-history b c p q) t s h in
+  forecast-one : (found : Option Named) (outage : Outage) (named : List Named) (t u : List ℕ) (s r : Status) → IsForecastUnless found outage named nodes base before lists t s
+      → IsForecastUnless found outage named nodes base before lists u r → (t ≡ u) × (s ≡ r)
+  forecast-one (Some lacks) outage named t u s r h k = (h.0 ∙ sym k.0, h.1 ∙ sym k.1)
+  forecast-one None outage named t u s r (b, p, h) (c, q, k) =
+      let same = same-forecast outage named b c (p.over ∙ sym q.over) (p.begun ∙ sym q.begun) (p.before_is ∙ sym q.before_is) (same-history b c p q) t s h in
       (same.0 ∙ sym k.0, same.1 ∙ sym k.1)
 
   reached-one : (goal : Goal) (t u : List ℕ) (s r : Status) → IsReached goal nodes base before lists t s → IsReached goal nodes base before lists u r → (t ≡ u) × (s ≡ r)
@@ -119,7 +118,7 @@ module _ (nodes : List NodeInfo) (base : World) (before : ℕ) (lists : List (Li
   reached-one (to.Table view) t u s r (b, p, h) (c, q, k) =
       let same = same-table view b c (p.over ∙ sym q.over) (p.begun ∙ sym q.begun) (p.before_is ∙ sym q.before_is) (same-history b c p q) t s h in
       (same.0 ∙ sym k.0, same.1 ∙ sym k.1)
-  reached-one (to.Forecast outage group) t u s r h k = forecast-one (lacking_in nodes group) outage group t u s r h k
+  reached-one (to.Forecast outage named) t u s r h k = forecast-one (first_lacking nodes named) outage named t u s r h k
 
 going-one : (goal : Goal) → IsOneGoing (going_to goal)
 going-one goal nodes start scripts t u s r few (lists, are, h) (others, too, k) =

@@ -15,9 +15,8 @@ use Rattle.lrc_image_text.proofs.TotalLemmas.{judged}
 use Rattle.lrc_book.specs.Books.{BookView, state_of, IsSpent}
 use Rattle.lrc_forecast.specs.declared.outlook.Outage.{Outage}
 use Rattle.lrc_forecast.specs.Forecasts.{is_safe}
-use Rattle.lrc_groups.specs.declared.group.Group.{Group}
-use Rattle.lrc_groups.specs.declared.lacking.Lacking.{Lacking}
-use Rattle.lrc_groups.specs.Groups.{lacking_in, lacking_line}
+use Rattle.lrc_groups.specs.declared.named.Named.{Named}
+use Rattle.lrc_groups.specs.Groups.{first_lacking, lacking_line}
 use Rattle.lrc_show.specs.Shown.{view_text, forecast_text}
 use Rattle.lrc_script.specs.Bundles.{Script}
 use Rattle.lrc_outputs.specs.declared.sequel.Goal.{Goal}
@@ -80,12 +79,12 @@ some-book nodes base before lists few =
     let b : BookView = record { nodes = nodes; base = base; before = before; limit = 0; history = history; ready = false } in
     (b, record { over = refl; begun = refl; before_is = refl; legal = made.legal; made = made.made; only = made.alone })
 
-some-forecast : (found : Option Lacking) (outage : Outage) (group : Group) (nodes : List NodeInfo) (base : World) (before : ℕ) (lists : List (List Command)) → length lists ≤ 8
-    → (text : List ℕ) × (status : Status) × IsForecastUnless found outage group nodes base before lists text status
-some-forecast (Some lacking) outage group nodes base before lists few = (lacking_line lacking, ended.Refused, (refl, refl))
-some-forecast None outage group nodes base before lists few =
+some-forecast : (found : Option Named) (outage : Outage) (named : List Named) (nodes : List NodeInfo) (base : World) (before : ℕ) (lists : List (List Command)) → length lists ≤ 8
+    → (text : List ℕ) × (status : Status) × IsForecastUnless found outage named nodes base before lists text status
+some-forecast (Some lacks) outage named nodes base before lists few = (lacking_line lacks, ended.Refused, (refl, refl))
+some-forecast None outage named nodes base before lists few =
     let (b, from) = some-book nodes base before lists few in
-    (forecast_text (forecast_of outage group b), safety_status (is_safe (forecast_of outage group b)), (b, from, (refl, refl)))
+    (forecast_text (forecast_of outage named b), safety_status (is_safe (forecast_of outage named b)), (b, from, (refl, refl)))
 
 some-reached : (goal : Goal) (nodes : List NodeInfo) (base : World) (before : ℕ) (lists : List (List Command)) → length lists ≤ 8 → (text : List ℕ) × (status : Status) × IsReached goal nodes base before lists text status
 some-reached to.Replies nodes base before lists few = let one = some_play nodes base before lists few in (one.0, ended.Done, (one.1, refl))
@@ -96,7 +95,7 @@ some-reached to.Image nodes base before lists few =
 some-reached (to.Table view) nodes base before lists few =
     let (b, from) = some-book nodes base before lists few in
     (view_text view b.nodes (state_of b) (b.before + length b.history), ended.Done, (b, from, (refl, refl)))
-some-reached (to.Forecast outage group) nodes base before lists few = some-forecast (lacking_in nodes group) outage group nodes base before lists few
+some-reached (to.Forecast outage named) nodes base before lists few = some-forecast (first_lacking nodes named) outage named nodes base before lists few
 
 module _ (goal : Goal) where
   some-going : (nodes : List NodeInfo) (start : Start) (scripts : List Script) → length scripts ≤ 1 → first_bad_of scripts ≡ None → (text : List ℕ) × (status : Status) × going_to goal nodes start scripts text status

@@ -15,9 +15,8 @@ use Rattle.lrc_book.specs.Books.{BookView, state_of, IsSpent, IsImageOfBook}
 use Rattle.lrc_forecast.specs.declared.outlook.Outage.{Outage}
 use Rattle.lrc_forecast.specs.declared.outlook.Outlook.{Outlook}
 use Rattle.lrc_forecast.specs.Forecasts.{forecast, is_safe}
-use Rattle.lrc_groups.specs.declared.group.Group.{Group}
-use Rattle.lrc_groups.specs.declared.lacking.Lacking.{Lacking}
-use Rattle.lrc_groups.specs.Groups.{numbers_in, lacking_in, lacking_line}
+use Rattle.lrc_groups.specs.declared.named.Named.{Named}
+use Rattle.lrc_groups.specs.Groups.{numbers_in, first_lacking, lacking_line}
 use Rattle.lrc_show.specs.declared.view.View.{View}
 use Rattle.lrc_show.specs.Shown.{view_text, forecast_text}
 use Rattle.lrc_script.specs.Scripts.{lines_of, same_text}
@@ -131,14 +130,14 @@ abbrev pub safety_status : Bool → Status
 safety_status true = ended.Done
 safety_status false = ended.Unsafe
 
--- what would become of the stripes in a book's state if this happened to the nodes of the group
-abbrev pub forecast_of : Outage → Group → BookView → List Outlook
-forecast_of outage group b = forecast b.nodes (state_of b) outage (numbers_in b.nodes group)
+-- what would become of the stripes in a book's state if this happened to all nodes that are named
+abbrev pub forecast_of : Outage → List Named → BookView → List Outlook
+forecast_of outage named b = forecast b.nodes (state_of b) outage (numbers_in b.nodes named)
 
 -- the table of that, and whether it is safe
-abbrev pub IsForecast : Outage → Group → BookView → List ℕ → Status → Type 0
-IsForecast outage group b text status =
-    let rows = forecast_of outage group b in ((text ≡ forecast_text rows) × (status ≡ safety_status (is_safe rows)))
+abbrev pub IsForecast : Outage → List Named → BookView → List ℕ → Status → Type 0
+IsForecast outage named b text status =
+    let rows = forecast_of outage named b in ((text ≡ forecast_text rows) × (status ≡ safety_status (is_safe rows)))
 
 -- the book began here, and in its history the sessions made the commands of their scripts, in order, and it has no other entries
 pub record IsMadeFrom (nodes : List NodeInfo) (base : World) (before : ℕ) (scripts : List (List Command)) (b : BookView) : Type 0 where
@@ -149,11 +148,11 @@ pub record IsMadeFrom (nodes : List NodeInfo) (base : World) (before : ℕ) (scr
   pub made : commands_of_each (length scripts) b.history ≡ scripts
   pub only : All (λ e. e.session.value ≤ length scripts) b.history
 
--- What is written of a forecast after scripts with these commands: that the nodes lack some of the group, or the table of the
+-- What is written of a forecast after scripts with these commands: that no node has one of those named, or the table of the
 -- forecast.
-abbrev pub IsForecastUnless : Option Lacking → Outage → Group → List NodeInfo → World → ℕ → List (List Command) → List ℕ → Status → Type 0
-IsForecastUnless (Some lacking) outage group nodes base before lists text status = (text ≡ lacking_line lacking) × (status ≡ ended.Refused)
-IsForecastUnless None outage group nodes base before lists text status = (b : BookView) × IsMadeFrom nodes base before lists b × IsForecast outage group b text status
+abbrev pub IsForecastUnless : Option Named → Outage → List Named → List NodeInfo → World → ℕ → List (List Command) → List ℕ → Status → Type 0
+IsForecastUnless (Some lacks) outage named nodes base before lists text status = (text ≡ lacking_line lacks) × (status ≡ ended.Refused)
+IsForecastUnless None outage named nodes base before lists text status = (b : BookView) × IsMadeFrom nodes base before lists b × IsForecast outage named b text status
 
 -- What is written of scripts with these commands, from this world on, before which the store had `before` entries: what `run`
 -- writes, with places after those entries and the tables after the last command; or the image, or a table, or a forecast, of
@@ -162,7 +161,7 @@ abbrev pub IsReached : Goal → List NodeInfo → World → ℕ → List (List C
 IsReached to.Replies nodes base before lists text status = IsPlayedFrom nodes base before lists text × (status ≡ ended.Done)
 IsReached to.Image nodes base before lists text status = (b : BookView) × IsMadeFrom nodes base before lists b × IsImaged b text status
 IsReached (to.Table view) nodes base before lists text status = (b : BookView) × IsMadeFrom nodes base before lists b × IsTable view b text status
-IsReached (to.Forecast outage group) nodes base before lists text status = IsForecastUnless (lacking_in nodes group) outage group nodes base before lists text status
+IsReached (to.Forecast outage named) nodes base before lists text status = IsForecastUnless (first_lacking nodes named) outage named nodes base before lists text status
 
 -- the same of scripts with these lines, in a book that begins here
 abbrev pub going_to : Goal → Going

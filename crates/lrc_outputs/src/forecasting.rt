@@ -2,7 +2,7 @@
 
 ghost use Rattle.std.specs.Prelude.{◌≡◌, ◌≤◌, true, [], length, IfOk, IfErr};
 ghost use Rattle.lrc_images.specs.Causes.{most_entries};
-ghost use Rattle.lrc_groups.specs.Groups.{lacking_in};
+ghost use Rattle.lrc_groups.specs.Groups.{first_lacking};
 ghost use Rattle.lrc_outputs.specs.RefusedInputs.{is_answer};
 ghost use Rattle.lrc_outputs.specs.Judged.{lists_of, AreFew};
 ghost use Rattle.lrc_outputs.specs.Sequels.{safety_status, IsForecast, IsForecastUnless};
@@ -13,33 +13,33 @@ use crate::play::make_scripts;
 use crate::status::Status;
 use lrc_book::{Book, Command, HISTORY_LIMIT};
 use lrc_forecast::{Outage, forecast, is_safe};
-use lrc_groups::Group;
+use lrc_groups::{Named, first_lacking, numbers_in};
 use lrc_refusals::InputRefusal;
 use lrc_show::shown_forecast;
 use lrc_streams::RunFault;
 use std::alloc::Global;
 
-/// The output of the forecast after the only script, if there is one, on a book without entries; or the refusal of a group
-/// of which the topology lacks some.
+/// The output of the forecast after the only script, if there is one, on a book without entries; or the refusal of the first
+/// that is named and that no node has.
 pub(crate) fn forecast_after(
     alloc: Global,
     book: &mut Book,
     scripts: &[Vec<Command>],
     outage: Outage,
-    group: Group<'_>,
+    named: &[Named],
 ) -> Result<Output, RunFault>
     requires fresh { (book.old.history ≡ []) × (book.old.limit ≡ HISTORY_LIMIT) × (book.old.before ≤ most_entries) }
     requires few { AreFew scripts.now }
     requires alone { length scripts.now ≤ 1 }
-    ensures output { IfOk result (λ o. IsForecastUnless (lacking_in book.old.nodes group.entry) outage group.entry
+    ensures output { IfOk result (λ o. IsForecastUnless (first_lacking book.old.nodes named.now) outage named.now
         book.old.nodes book.old.base book.old.before (lists_of scripts.now) (o.text.items) o.status) }
     ensures err { IfErr result (λ e. e ≡ fault.OutOfMemory) }
 {
-    match group.lacking_in(book.topology()) {
+    match first_lacking(book.topology(), named) {
         Some(lacking) => Output::refused(alloc, InputRefusal::Lacking(lacking)),
         None => {
             make_scripts(book, scripts)?;
-            forecast_output(alloc, book, outage, group)
+            forecast_output(alloc, book, outage, named)
         }
     }
 }
@@ -49,12 +49,12 @@ fn forecast_output(
     alloc: Global,
     book: &Book,
     outage: Outage,
-    group: Group<'_>,
+    named: &[Named],
 ) -> Result<Output, RunFault>
-    ensures output { IfOk result (λ o. IsForecast outage group.entry book.now (o.text.items) o.status) }
+    ensures output { IfOk result (λ o. IsForecast outage named.now book.now (o.text.items) o.status) }
     ensures err { IfErr result (λ e. e ≡ fault.OutOfMemory) }
 {
-    let nodes = group.numbers_in(alloc, book.topology())?;
+    let nodes = numbers_in(alloc, book.topology(), named)?;
     let rows = forecast(alloc, book, outage, nodes.as_slice())?;
     let text = shown_forecast(alloc, rows.as_slice())?;
     let status = safety_status(is_safe(rows.as_slice()));

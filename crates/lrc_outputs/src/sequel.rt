@@ -13,7 +13,7 @@ use crate::play::{make_scripts, play_on};
 use lrc_book::{Book, Command, HISTORY_LIMIT};
 use lrc_code::Fault;
 use lrc_forecast::Outage;
-use lrc_groups::Group;
+use lrc_groups::Named;
 use lrc_image_text::push_image;
 use lrc_refusals::InputRefusal;
 use lrc_show::{View, shown};
@@ -29,8 +29,8 @@ pub enum Goal<'a> {
     Image,
     /// A table of the state after its script.
     Table(View),
-    /// What would become of the stripes of that state if this happened to all nodes of the group at once.
-    Forecast(Outage, Group<'a>),
+    /// What would become of the stripes of that state if this happened to all these nodes at once.
+    Forecast(Outage, &'a [Named]),
 }
 
 /// Runs the script of a sequel, from its image on, and returns the output.
@@ -75,7 +75,7 @@ fn reach(
             let text = shown(alloc, book, view)?;
             Ok(Output::done(text))
         }
-        Goal::Forecast(outage, group) => forecast_after(alloc, book, scripts, outage, group),
+        Goal::Forecast(outage, named) => forecast_after(alloc, book, scripts, outage, named),
     }
 }
 

@@ -10,7 +10,7 @@ mod sequel;
 pub use apart::ask;
 pub use checking::check;
 pub use lrc_forecast::Outage;
-pub use lrc_groups::Group;
+pub use lrc_groups::Named;
 pub use lrc_outputs::{Goal, Status};
 pub use lrc_script::{Cause, ScriptError, parse_script};
 pub use lrc_show::View;
