@@ -9,11 +9,12 @@ ghost use Rattle.lrcman.specs.declared.stop.Stop.TheVariants as stop;
 mod named;
 mod stop;
 
-use crate::named::Named;
+use crate::named::parse_named;
 use crate::stop::Stop;
 use clap::{Arg, ArgAction, ArgMatches, Command};
 use lrc_tool::{
-    Goal, Outage, Plain, RunFault, Status, View, ask, check, go_on, recover, recover_narrow, run,
+    Goal, Named, Outage, Plain, RunFault, Status, View, ask, check, go_on, recover, recover_narrow,
+    run,
 };
 use std::alloc::{AllocError, Global};
 use std::process::ExitCode;
@@ -29,7 +30,7 @@ enum Request<'a> {
     Resume,
     Image,
     Show(View),
-    Forecast(Outage, Named),
+    Forecast(Outage, Vec<Named>),
     Recover { mask: &'a str },
     Recover6 { mask: &'a str },
 }
@@ -99,8 +100,8 @@ fn mask_in<'a>(matches: &ArgMatches<'a>) -> Result<&'a str, Stop> {
     matches.get_str("mask").ok_or(Stop::Usage)
 }
 
-fn named_in(alloc: Global, matches: &ArgMatches<'_>) -> Result<Named, Stop> {
-    Named::parse(alloc, matches.get_strs("nodes").ok_or(Stop::Usage)?)
+fn named_in(alloc: Global, matches: &ArgMatches<'_>) -> Result<Vec<Named>, Stop> {
+    parse_named(alloc, matches.get_strs("nodes").ok_or(Stop::Usage)?)
 }
 
 fn view_in(matches: &ArgMatches<'_>) -> Result<View, Stop> {
@@ -133,7 +134,7 @@ fn serve<T: Threads + Wait + Sync>(
         Request::Image => go_on_input(rt, Goal::Image),
         Request::Show(view) => ask_input(rt, Goal::Table(*view)),
         Request::Forecast(outage, named) => {
-            ask_input(rt, Goal::Forecast(*outage, named.group()))
+            ask_input(rt, Goal::Forecast(*outage, named.as_slice()))
         }
         Request::Recover { mask } => recover(rt.alloc(), mask, &mut Plain::new(io::writer(rt))),
         Request::Recover6 { mask } => {

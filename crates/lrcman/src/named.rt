@@ -1,54 +1,66 @@
-//! Nodes that are named on the command line.
+//! Nodes and domains that are named on the command line.
 
 use crate::stop::Stop;
 use lrc_code::{FaultNo, NodeNo, UpgradeNo};
-use lrc_tool::Group;
+use lrc_tool::Named;
 use std::alloc::Global;
 
-/// Nodes that are named on the command line.
-#[derive(Drop)]
-pub(crate) enum Named {
-    Nodes(Vec<NodeNo>),
-    Fault(FaultNo),
-    Upgrade(UpgradeNo),
+/// What a number on the command line is of.
+#[derive(Clone, Copy)]
+enum Kind {
+    Node,
+    Fault,
+    Upgrade,
 }
 
-impl Named {
-    /// Reads `fault F`, `upgrade U` or the numbers of nodes.
-    pub(crate) fn parse(alloc: Global, words: &[&str]) -> Result<Named, Stop> {
-        match words {
-            ["fault", word] => Ok(Named::Fault(FaultNo {
-                value: parse_domain(word)?,
-            })),
-            ["upgrade", word] => Ok(Named::Upgrade(UpgradeNo {
-                value: parse_domain(word)?,
-            })),
-            _ => Ok(Named::Nodes(parse_nodes(alloc, words)?)),
-        }
-    }
-
-    /// The group that they are.
-    pub(crate) fn group(&self) -> Group<'_> {
-        match self {
-            Named::Nodes(numbers) => Group::Nodes(numbers.as_slice()),
-            Named::Fault(domain) => Group::Fault(*domain),
-            Named::Upgrade(domain) => Group::Upgrade(*domain),
-        }
-    }
-}
-
-fn parse_nodes(alloc: Global, words: &[&str]) -> Result<Vec<NodeNo>, Stop> {
-    let mut numbers = Vec::new(alloc);
+/// Reads the numbers of nodes, and behind each word `fault` or `upgrade` the numbers of domains, one at least.
+pub(crate) fn parse_named(alloc: Global, words: &[&str]) -> Result<Vec<Named>, Stop> {
+    let mut named = Vec::new(alloc);
+    let mut kind = Kind::Node;
+    let mut wants_number = false;
     for word in words {
-        let value = parse_number(word).ok_or(Stop::Usage)?;
-        numbers.push(NodeNo { value })?;
+        match keyword(word) {
+            Some(_) if wants_number => return Err(Stop::Usage),
+            Some(next) => {
+                kind = next;
+                wants_number = true;
+            }
+            None => {
+                named.push(parse_one(kind, word)?)?;
+                wants_number = false;
+            }
+        }
     }
-    Ok(numbers)
+    if wants_number {
+        return Err(Stop::Usage);
+    }
+    Ok(named)
 }
 
-/// Reads the number of a domain, from 0 to 255.
-fn parse_domain(word: &str) -> Result<u8, Stop> {
+/// What the numbers behind the word are of.
+fn keyword(word: &str) -> Option<Kind> {
+    match word {
+        "fault" => Some(Kind::Fault),
+        "upgrade" => Some(Kind::Upgrade),
+        _ => None,
+    }
+}
+
+fn parse_one(kind: Kind, word: &str) -> Result<Named, Stop> {
     let number = parse_number(word).ok_or(Stop::Usage)?;
+    match kind {
+        Kind::Node => Ok(Named::Node(NodeNo { value: number })),
+        Kind::Fault => Ok(Named::Fault(FaultNo {
+            value: domain(number)?,
+        })),
+        Kind::Upgrade => Ok(Named::Upgrade(UpgradeNo {
+            value: domain(number)?,
+        })),
+    }
+}
+
+/// The number of a domain, from 0 to 255.
+fn domain(number: u16) -> Result<u8, Stop> {
     u8::try_from(number).map_err(|_| Stop::Usage)
 }
 

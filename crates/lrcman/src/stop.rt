@@ -18,8 +18,8 @@ pub(crate) enum Stop {
   lrcman resume < SEQUEL            run a script from an image on
   lrcman image < SEQUEL             print the image after it
   lrcman show WHAT < SEQUEL         print a table of the state after it: status, stripes, nodes, leases or work
-  lrcman may-stop NODE.. < SEQUEL   would any stripe be unavailable if these nodes stopped? (or: fault F, upgrade U)
-  lrcman may-lose NODE.. < SEQUEL   the same if they were lost
+  lrcman may-stop WHO.. < SEQUEL    may these nodes stop at once? WHO is NODE.., fault F.. or upgrade U.., or several of them
+  lrcman may-lose WHO.. < SEQUEL    the same if they were lost
   lrcman recover MASK               can these losses of a wide stripe be recovered? (four hexadecimal digits)
   lrcman recover6 MASK              the same of a narrow stripe
 status: 0 done, 1 a line of a script is bad, 2 input or command line refused, 3 fault, 4 not safe
