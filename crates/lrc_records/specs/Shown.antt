@@ -78,13 +78,17 @@ encoded_node n shown is_down load = record {
   reserved = replicate 3 0;
 }
 
--- what becomes of a stripe from one level to another, with these missing fragments
-abbrev pub encoded_outlook : StripeNo → Code → LossMask → Level → Level → LrcOutlook
-encoded_outlook s code missing before after = record {
+-- what becomes of a stripe: its missing fragments, those that are not missing before, whether it is harmed, how many of its
+-- leases end, and its level before and after
+abbrev pub encoded_outlook : StripeNo → Code → LossMask → LossMask → Bool → ℕ → Level × Level → LrcOutlook
+encoded_outlook s code missing newly_missing is_harmed leases_ended levels = record {
   stripe = s.value;
   missing = missing.bits;
+  newly_missing = newly_missing.bits;
   code = encoded_code code;
+  is_harmed = flag is_harmed;
+  leases_ended = leases_ended;
   reserved = replicate 3 0;
-  before = encoded_level before;
-  after = encoded_level after;
+  before = encoded_level levels.0;
+  after = encoded_level levels.1;
 }

@@ -18,6 +18,7 @@ pub fn status_name(status: u32) -> Option<&'static str>
         7 => Some("short buffer"),
         8 => Some("different reply"),
         9 => Some("moved"),
+        10 => Some("forgotten"),
         16 => Some("not TOML"),
         17 => Some("no nodes"),
         18 => Some("bad field"),
