@@ -11,6 +11,15 @@ static void stop(const char *what, uint32_t status) {
     exit(1);
 }
 
+// The library has to have the interface of the header: with another one, structs and calls may mean something else.
+static void expect_version(void) {
+    unsigned found = (unsigned)lrc_embed_version();
+    if (found == LRC_EMBED_VERSION) return;
+    fprintf(stderr, "late_worker: the library has version %u of its interface, and the header is for version %u\n", found,
+            (unsigned)LRC_EMBED_VERSION);
+    exit(1);
+}
+
 // Twenty nodes with four slots, each in a fault domain of its own, in ten upgrade domains.
 static size_t write_nodes(char *text, size_t room) {
     size_t length = 0;
@@ -72,7 +81,7 @@ static void print_reply(const lrc_reply *reply) {
 }
 
 int main(void) {
-    if (lrc_embed_version() != LRC_EMBED_VERSION) stop("version", lrc_embed_version());
+    expect_version();
     static const lrc_command script[] = {
         {.kind = LRC_PLACE, .stripe = 1},
         {.kind = LRC_FAIL, .node = 3},

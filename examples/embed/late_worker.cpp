@@ -16,6 +16,14 @@ template <class Name, class Number> static std::string word_for(Name name, Numbe
     return name(number, text, sizeof text, &length) == LRC_DONE ? std::string(text, text + length) : "no word";
 }
 
+// The library is not that of the header: structs and calls may mean something else in it.
+class OtherVersion : public std::runtime_error {
+  public:
+    OtherVersion()
+        : std::runtime_error("the library has version " + std::to_string(lrc_embed_version()) +
+                             " of its interface, and the header is for version " + std::to_string(LRC_EMBED_VERSION)) {}
+};
+
 // A status other than LRC_DONE, the position or line of the fault in the input, and the lrc_cause of LRC_INVALID_IMAGE.
 class Fault : public std::runtime_error {
   public:
@@ -27,10 +35,18 @@ class Fault : public std::runtime_error {
     const std::uint32_t cause;
 };
 
-// A book. It may be moved and not copied, and one thread at a time may use it.
+// The words for the numbers of a reply.
+inline std::string reply_name(std::uint8_t kind) { return word_for(lrc_embed_reply_name, kind); }
+inline std::string refusal_name(std::uint8_t refusal) { return word_for(lrc_embed_refusal_name, refusal); }
+
+// The version of the library's rules, which is kept with each log and each image.
+inline std::uint32_t rules_version() { return lrc_embed_rules_version(); }
+
+// A book. It may be moved and not copied, and one thread at a time may use it. It is made only by a library of the header's
+// version.
 class Book {
   public:
-    explicit Book(const std::string &nodes) {
+    explicit Book(const std::string &nodes) : Book() {
         std::size_t detail = 0;
         auto status = lrc_embed_open(&handle, bytes_of(nodes), nodes.size(), &detail);
         if (status != LRC_DONE) throw Fault("open", status, detail);
@@ -146,13 +162,17 @@ class Book {
             return lrc_embed_homes_on(&handle, node, last ? rows.back().stripe : 0, behind(rows), to, room, count);
         });
     }
-    std::vector<lrc_entry> entries(std::size_t from = 0) {
+    // The entries of the store from a place on, which is the number of those before it. It throws, with LRC_FORGOTTEN, where
+    // the book has forgotten some of them.
+    std::vector<lrc_entry> entries(std::uint64_t place) {
         return walk<lrc_entry>("entries", [&](auto &rows, auto, auto to, auto room, auto count) {
-            return lrc_embed_entries(&handle, from + rows.size(), to, room, count);
+            return lrc_embed_entries(&handle, place + rows.size(), to, room, count);
         });
     }
+    // All entries that the book has.
+    std::vector<lrc_entry> entries() { return entries(before()); }
 
-    // The stripes that would not be whole after an outage of these nodes, and whether none becomes unavailable or lost.
+    // The stripes that would not be whole after an outage of these nodes, and whether none is harmed.
     std::pair<std::vector<lrc_outlook>, bool> forecast(lrc_outage outage, const std::vector<std::uint16_t> &nodes) {
         std::vector<lrc_outlook> rows(LRC_STRIPES);
         std::size_t count = 0;
@@ -187,7 +207,9 @@ class Book {
     template <class Row> static std::uint8_t behind(const std::vector<Row> &rows) {
         return rows.empty() ? 0 : std::uint8_t(rows.back().fragment + 1);
     }
-    Book() = default;
+    Book() {
+        if (lrc_embed_version() != LRC_EMBED_VERSION) throw OtherVersion();
+    }
     static const std::uint8_t *bytes_of(const std::string &text) {
         return reinterpret_cast<const std::uint8_t *>(text.data());
     }
@@ -236,7 +258,7 @@ static std::string text_of(const lrc_reply &reply) {
     case LRC_ENDED: return "ended";
     case LRC_CHANGED: return "changed";
     case LRC_REFUSED: return "refused " + std::to_string(reply.refusal);
-    default: return "?";
+    default: return reply_name(reply.kind);
     }
 }
 
@@ -272,6 +294,7 @@ int main() {
     if (!book.homes_on(3).empty() || book.homes_on(17).size() != 1 || book.first_risk() || book.repair(1, 3)) return 1;
     auto outlook = book.forecast(LRC_LOSE, {0, 1, 2, 4});
     if (outlook.first.size() != 1 || outlook.first[0].before.kind != LRC_WHOLE) return 1;
+    if (refusal_name(LRC_STALE) != "stale" || rules_version() != LRC_RULES_VERSION) return 1;
     // another call in the place of the last one is refused
     try {
         book.call_at(book.before() + log.size() - 1, 1, next);

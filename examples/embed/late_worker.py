@@ -6,7 +6,7 @@ import ctypes
 import sys
 
 sys.dont_write_bytecode = True
-from lrc_embed import Book, Command, CommandKind, Entry, Fault, ReplyKind
+from lrc_embed import Book, Command, CommandKind, Entry, Fault, OtherVersion, ReplyKind
 
 
 def main(library):
@@ -49,4 +49,7 @@ def main(library):
         print(fault.status.name.lower(), "at", fault.position)
 
 
-main(*sys.argv[1:])
+try:
+    main(*sys.argv[1:])
+except OtherVersion as why:
+    sys.exit(f"late_worker: {why}")

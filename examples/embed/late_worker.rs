@@ -1,8 +1,9 @@
 // The late worker of late_worker.c from Rust, by a type that owns the handle.
 use std::ffi::c_void;
 use std::fmt::{self, Display, Formatter};
+use std::process::ExitCode;
 
-const VERSION: u32 = 1;
+const VERSION: u32 = 2;
 const DONE: u32 = 0;
 const DIFFERENT: u32 = 8;
 const IDLE: u8 = 4;
@@ -98,6 +99,7 @@ struct Risk {
 
 unsafe extern "C" {
     safe fn lrc_embed_version() -> u32;
+    safe fn lrc_embed_rules_version() -> u32;
     fn lrc_embed_open(handle: &mut Handle, text: *const u8, length: usize, detail: &mut usize) -> u32;
     fn lrc_embed_call(handle: &mut Handle, session: u8, command: &Command, reply: &mut Reply) -> u32;
     fn lrc_embed_peek(handle: &mut Handle, session: u8, command: &Command, reply: &mut Reply) -> u32;
@@ -108,15 +110,34 @@ unsafe extern "C" {
     fn lrc_embed_close(handle: &mut Handle) -> u32;
 }
 
-/// A status other than done, and the position of the fault in the input.
-#[derive(Debug)]
-struct Fault {
-    status: u32,
-    position: usize,
+/// Why a call is not done.
+enum Fault {
+    /// A status other than done, and the position of the fault in the input.
+    Status { status: u32, position: usize },
+    /// The log is of this version of the rules, and the library of another one.
+    OtherRules(u32),
+}
+
+impl Display for Fault {
+    fn fmt(&self, f: &mut Formatter) -> fmt::Result {
+        match self {
+            Fault::Status { status, position } => write!(f, "status {status} at {position}"),
+            Fault::OtherRules(rules) => {
+                let own = lrc_embed_rules_version();
+                write!(f, "the log is of version {rules} of the rules, and the library of version {own}")
+            }
+        }
+    }
 }
 
 fn done(status: u32, position: usize) -> Result<(), Fault> {
-    if status == DONE { Ok(()) } else { Err(Fault { status, position }) }
+    if status == DONE { Ok(()) } else { Err(Fault::Status { status, position }) }
+}
+
+/// What a store saves: the version of the rules, and the entries.
+struct Log {
+    rules: u32,
+    entries: Vec<Entry>,
 }
 
 /// A book. The handle is written by the library alone.
@@ -134,11 +155,16 @@ impl Book {
         done(status, detail).map(|()| book)
     }
 
-    fn replay(nodes: &str, log: &[Entry]) -> Result<Book, Fault> {
+    /// A book after the calls of a log, if its replies are those of the library's rules.
+    fn replay(nodes: &str, log: &Log) -> Result<Book, Fault> {
+        if log.rules != lrc_embed_rules_version() {
+            return Err(Fault::OtherRules(log.rules));
+        }
         let mut book = Book::open(nodes)?;
         let mut position = 0;
+        let entries = &log.entries;
         // SAFETY: as above.
-        let status = unsafe { lrc_embed_replay(&mut book.0, log.as_ptr(), log.len(), &mut position) };
+        let status = unsafe { lrc_embed_replay(&mut book.0, entries.as_ptr(), entries.len(), &mut position) };
         done(status, position).map(|()| book)
     }
 
@@ -212,8 +238,22 @@ fn of_fragment(kind: Kind, epoch: u32) -> Command {
     Command { kind: kind as u8, stripe: 1, fragment: 3, epoch, ..Command::default() }
 }
 
-fn main() -> Result<(), Fault> {
-    assert_eq!(lrc_embed_version(), VERSION);
+fn main() -> ExitCode {
+    let found = lrc_embed_version();
+    if found != VERSION {
+        eprintln!("late_worker: the library has version {found} of its interface, and this program is for version {VERSION}");
+        return ExitCode::FAILURE;
+    }
+    match run() {
+        Ok(()) => ExitCode::SUCCESS,
+        Err(fault) => {
+            eprintln!("late_worker: {fault}");
+            ExitCode::FAILURE
+        }
+    }
+}
+
+fn run() -> Result<(), Fault> {
     let nodes: String = (0..20)
         .map(|i| format!("[[node]]\nnumber = {i}\nfault = {i}\nupgrade = {}\nslots = 4\n", i % 10))
         .collect();
@@ -237,7 +277,8 @@ fn main() -> Result<(), Fault> {
     // nothing is left to repair, and a worker that asks by a peek adds no entry
     let next = Command { kind: Kind::Next as u8, ..Command::default() };
     assert_eq!(book.peek(1, &next)?.kind, IDLE);
-    let mut log = (0..book.count()?).map(|i| book.entry(i)).collect::<Result<Vec<Entry>, Fault>>()?;
+    let entries = (0..book.count()?).map(|i| book.entry(i)).collect::<Result<Vec<Entry>, Fault>>()?;
+    let mut log = Log { rules: lrc_embed_rules_version(), entries };
 
     // a book may go to another thread
     let mut again = Book::replay(&nodes, &log)?;
@@ -245,10 +286,12 @@ fn main() -> Result<(), Fault> {
     let (count, at_risk) = ended.join().unwrap()?;
     assert_eq!(at_risk, 0);
     println!("replayed {count}");
-    log[4].reply.lease.epoch = 1;
+    log.entries[4].reply.lease.epoch = 1;
     match Book::replay(&nodes, &log) {
-        Err(Fault { status: DIFFERENT, position }) => println!("different at {position}"),
+        Err(Fault::Status { status: DIFFERENT, position }) => println!("different at {position}"),
         other => other.map(drop)?,
     }
+    log.rules += 1;
+    assert!(matches!(Book::replay(&nodes, &log), Err(Fault::OtherRules(rules)) if rules == log.rules));
     Ok(())
 }

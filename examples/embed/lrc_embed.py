@@ -5,12 +5,13 @@ from ctypes import c_bool, c_size_t, c_uint8, c_uint16, c_uint32, c_uint64, c_vo
 from enum import IntEnum
 from operator import index as whole
 
-VERSION, RULES_VERSION, STRIPES, FRAGMENTS, NARROW_FRAGMENTS, SESSIONS, HISTORY_LIMIT = 1, 1, 4096, 16, 10, 8, 1_000_000
+VERSION, RULES_VERSION, STRIPES, FRAGMENTS, NARROW_FRAGMENTS, SESSIONS, HISTORY_LIMIT = 2, 1, 4096, 16, 10, 8, 1_000_000
 NODES, SLOTS = 512, 256
 
 
 class Status(IntEnum):
-    DONE, IS_CLOSED, IS_OPEN, OUT_OF_RANGE, UNKNOWN, FULL, OUT_OF_MEMORY, SHORT, DIFFERENT, MOVED = range(10)
+    DONE, IS_CLOSED, IS_OPEN, OUT_OF_RANGE, UNKNOWN, FULL, OUT_OF_MEMORY, SHORT = range(8)
+    DIFFERENT, MOVED, FORGOTTEN = range(8, 11)
     SYNTAX, NO_NODES, BAD_FIELD, NODE_OUT_OF_RANGE, DOUBLE_NODE, TOO_MANY, BAD_LINE, INVALID_IMAGE = range(16, 24)
 
 
@@ -68,7 +69,8 @@ SOURCES = {Repair.LOCAL: 6, Repair.LOCAL3: 3}
 # The least and the greatest number of each name that is passed.
 RANGES = {"session": (1, SESSIONS), "kind": (1, len(CommandKind)), "stripe": (0, STRIPES - 1),
           "fragment": (0, FRAGMENTS - 1), "node": (0, 2**16 - 1), "domain": (0, 2**8 - 1), "epoch": (0, 2**32 - 1),
-          "index": (0, 2**64 - 1), "place": (0, 2**64 - 1), "outage": (1, len(Outage))}
+          "index": (0, 2**64 - 1), "place": (0, 2**64 - 1), "outage": (1, len(Outage)),
+          "status": (0, 2**32 - 1), "reply": (0, 2**8 - 1), "refusal": (0, 2**8 - 1)}
 
 
 def within(name, number):
@@ -180,8 +182,9 @@ class Node(ctypes.Structure):
 
 
 class Outlook(ctypes.Structure):
-    _fields_ = [("stripe", c_uint16), ("missing", c_uint16), ("code", c_uint8), ("reserved", c_uint8 * 3),
-                ("before", Level), ("after", Level)]
+    _fields_ = [("stripe", c_uint16), ("missing", c_uint16), ("newly_missing", c_uint16), ("code", c_uint8),
+                ("is_harmed", c_uint8), ("leases_ended", c_uint8), ("reserved", c_uint8 * 3), ("before", Level),
+                ("after", Level)]
 
 
 def behind(_, row):
@@ -207,9 +210,25 @@ class Fault(Exception):
 def name_of(library, table, number):
     """The word for a number: of a `status`, of the kind of a `reply`, or of a `refusal`. None if it has none."""
     text, length = (c_uint8 * 24)(), c_size_t()
-    call = getattr(library, f"lrc_embed_{table}_name")
+    call, number = getattr(library, f"lrc_embed_{table}_name"), within(table, number)
     status = (call((c_uint32 if table == "status" else c_uint8)(number), text, c_size_t(len(text)), ctypes.byref(length)))
     return bytes(text[:length.value]).decode() if status == Status.DONE else None
+
+
+class OtherVersion(RuntimeError):
+    """The library is not the one that this module is for."""
+
+
+def expect_version(library):
+    """The library has to have the interface of this module: with another one, structs and calls may mean something else."""
+    found = library.lrc_embed_version()
+    if found != VERSION:
+        raise OtherVersion(f"the library has version {found} of its interface, and this module is for version {VERSION}")
+
+
+def rules_version(library):
+    """The version of the library's rules, which is kept with each log and each image."""
+    return library.lrc_embed_rules_version()
 
 
 class Book:
@@ -218,9 +237,8 @@ class Book:
     `close`, or when nothing refers to it any more."""
 
     def __init__(self, library, nodes, log=(), image=None):
+        expect_version(library)
         self.library, self.handle = library, Handle()
-        if library.lrc_embed_version() != VERSION:
-            raise RuntimeError("another version of liblrc_embed")
         # A closed handle stays closed, so this may come again. At the end of the program its memory goes anyway.
         self.finalizer = weakref.finalize(self, library.lrc_embed_close, ctypes.byref(self.handle))
         self.finalizer.atexit = False
@@ -353,13 +371,14 @@ class Book:
         return self.walk("homes_on", Fragment, room, (number, c_uint16(0), c_uint8(0)),
                          lambda place, row: (place[0], *behind(place, row)))
 
-    def entries(self, start=0, room=256):
-        """The entries of the history from an index on."""
-        first = (c_size_t(within("index", start)),)
-        return self.walk("entries", Entry, room, first, lambda place, _: (c_size_t(place[0].value + room),))
+    def entries(self, place=None, room=256):
+        """The entries of the store from a place on, which is the number of those before it; by default all that the book has.
+        Where the book forgets them first, a fault with the status FORGOTTEN."""
+        first = (c_uint64(self.before() if place is None else within("place", place)),)
+        return self.walk("entries", Entry, room, first, lambda place, _: (c_uint64(place[0].value + room),))
 
     def forecast(self, outage, nodes):
-        """The stripes that would not be whole after an outage of these nodes, and whether none becomes unavailable or lost."""
+        """The stripes that would not be whole after an outage of these nodes, and whether none is harmed."""
         rows, count, is_safe = (Outlook * STRIPES)(), c_size_t(), c_uint8()
         numbers = (c_uint16 * len(nodes))(*(within("node", node) for node in nodes))
         self.done("forecast", c_uint8(within("outage", outage)), numbers, c_size_t(len(nodes)), rows, c_size_t(STRIPES),

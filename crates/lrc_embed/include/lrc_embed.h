@@ -7,15 +7,17 @@
 //
 // Every function but lrc_embed_version and lrc_embed_rules_version returns a status. It writes its results only if the
 // status is LRC_DONE. lrc_embed_open, lrc_embed_open_image and lrc_embed_replay also write where they stopped, and the
-// functions that return LRC_SHORT write how much room they need, as their comments say. Nothing else is written.
+// functions that return LRC_SHORT write how much room they need, and lrc_embed_forecast `is_safe` then too, as their comments
+// say. Nothing else is written.
 //
 // What the caller owes, since nothing checks C:
+// - The library is that of this header. Compare lrc_embed_version() with LRC_EMBED_VERSION before any other call.
 // - A handle begins as LRC_CLOSED. After that only these functions write it. Do not copy an open handle, since two copies
 //   would own one book. It may be moved as a whole.
 // - One call at a time on one handle, looks included. A lock, or a thread's start or join, orders the calls of several
 //   threads. Two handles share nothing.
-// - No pointer is null, except that of a text, of entries or of rows if its length is 0; this is tested, not proved. Each
-//   other pointer is aligned and points to initialized memory of the whole struct, also for results. What a call writes
+// - No pointer is null, except that of a text, of entries, of nodes or of rows if its length is 0; this is tested, not proved.
+//   Each other pointer is aligned and points to initialized memory of the whole struct, also for results. What a call writes
 //   overlaps nothing else that it is given. What it reads does not change while it runs.
 // - malloc, realloc and free belong to one allocator, which aligns a block to every power of two up to 16 that divides its
 //   size.
@@ -33,12 +35,14 @@
 extern "C" {
 #endif
 
-// The version of this header. lrc_embed_version() returns that of the library: compare them once. New commands are new
-// kinds, and new numbers of replies use reserved fields, so that no struct changes its size.
-#define LRC_EMBED_VERSION 1
+// The version of the interface, which rises with every change of what this header declares: with each function, struct, field
+// and number that is new or means something else. lrc_embed_version() returns that of the library. Compare them at the start,
+// and go on only if they are the same. An lrc_entry has one layout in all versions, so that saved ones stay readable.
+#define LRC_EMBED_VERSION 2
 
 // The version of the rules: of what each command returns and changes. lrc_embed_rules_version() returns that of the library.
-// A log replays alike in all libraries of one version of the rules. In those of another one a reply may differ.
+// A log replays alike in all libraries of one version of the rules. In those of another one a reply may differ, and an image may
+// be refused or be of another state. So keep this number with each log and each image, and refuse another one.
 #define LRC_RULES_VERSION 1
 
 // The number of stripe numbers, which are 0 to 4095. No table of stripes has more rows.
@@ -63,12 +67,14 @@ enum lrc_status {
     LRC_IS_OPEN = 2,       // the handle to be opened is open
     LRC_OUT_OF_RANGE = 3,  // a session, a kind of command, a stripe, a fragment or an outage is out of its range
     LRC_UNKNOWN = 4,       // there is no such stripe, lease, node, entry or name, or nothing of what is asked for
-    LRC_FULL = 5,          // the history has LRC_HISTORY_LIMIT entries; of lrc_embed_forget: a number is at its end
+    LRC_FULL = 5,          // the history has LRC_HISTORY_LIMIT entries; of lrc_embed_forget and lrc_embed_image: a number is
+                           // at its end
     LRC_OUT_OF_MEMORY = 6, // memory was refused, and the history is as it was: the call may be repeated (but a replay
                            // has closed the handle)
     LRC_SHORT = 7,         // the buffer has no room for all rows, or for the whole text
     LRC_DIFFERENT = 8,     // lrc_embed_replay: a call has another reply than its entry
     LRC_MOVED = 9,         // lrc_embed_call_at: the store has made more or fewer entries than expected
+    LRC_FORGOTTEN = 10,    // lrc_embed_entries: the place is before the history, so what stands there is forgotten
 
     // lrc_embed_open and lrc_embed_open_image: why the text is not a list of nodes
     LRC_SYNTAX = 16,            // not TOML 1.1 in UTF-8
@@ -318,14 +324,127 @@ enum lrc_outage {
 // What becomes of a stripe.
 typedef struct {
     uint16_t stripe;
-    uint16_t missing; // the fragments that are missing then; fragment f is bit f
-    uint8_t code;     // an lrc_code
+    uint16_t missing;       // the fragments that are missing then; fragment f is bit f
+    uint16_t newly_missing; // those of them that are not missing now
+    uint8_t code;           // an lrc_code
+    uint8_t is_harmed;      // 0 or 1: it is unavailable or lost then; and its level is another one now, a fragment is newly
+                            // missing, or a lease of it ends
+    uint8_t leases_ended;   // how many leases of it end by the outage
     uint8_t reserved[3];
     lrc_level before; // its level now
     lrc_level after;  // its level then
 } lrc_outlook;
 
-// The version of the library, and that of its rules.
+// The layout that the library has of each struct: its size and alignment, and the place of each field. A compiler that has
+// another one, or has it by a `#pragma pack` around this header, is refused here. Before C11 and C++11 nothing is checked.
+#if defined(__cplusplus) && __cplusplus >= 201103L
+#define LRC_EMBED_STRUCT(type, size, alignment)                                                                             \
+    static_assert(sizeof(type) == size && alignof(type) == alignment, "the library has another layout of " #type);
+#define LRC_EMBED_FIELD(type, field, place)                                                                                 \
+    static_assert(offsetof(type, field) == place, "the library has another place of " #type "." #field);
+#elif !defined(__cplusplus) && defined(__STDC_VERSION__) && __STDC_VERSION__ >= 201112L
+#define LRC_EMBED_STRUCT(type, size, alignment)                                                                             \
+    _Static_assert(sizeof(type) == size && _Alignof(type) == alignment, "the library has another layout of " #type);
+#define LRC_EMBED_FIELD(type, field, place)                                                                                 \
+    _Static_assert(offsetof(type, field) == place, "the library has another place of " #type "." #field);
+#else
+#define LRC_EMBED_STRUCT(type, size, alignment)
+#define LRC_EMBED_FIELD(type, field, place)
+#endif
+LRC_EMBED_STRUCT(lrc_handle, 16, 8)
+LRC_EMBED_FIELD(lrc_handle, is_open, 0)
+LRC_EMBED_FIELD(lrc_handle, at, 8)
+LRC_EMBED_STRUCT(lrc_command, 16, 4)
+LRC_EMBED_FIELD(lrc_command, kind, 0)
+LRC_EMBED_FIELD(lrc_command, fragment, 1)
+LRC_EMBED_FIELD(lrc_command, domain, 2)
+LRC_EMBED_FIELD(lrc_command, reserved, 3)
+LRC_EMBED_FIELD(lrc_command, epoch, 8)
+LRC_EMBED_FIELD(lrc_command, stripe, 12)
+LRC_EMBED_FIELD(lrc_command, node, 14)
+LRC_EMBED_STRUCT(lrc_seat, 4, 2)
+LRC_EMBED_FIELD(lrc_seat, node, 0)
+LRC_EMBED_FIELD(lrc_seat, slot, 2)
+LRC_EMBED_STRUCT(lrc_lease, 16, 4)
+LRC_EMBED_FIELD(lrc_lease, stripe, 0)
+LRC_EMBED_FIELD(lrc_lease, fragment, 2)
+LRC_EMBED_FIELD(lrc_lease, holder, 3)
+LRC_EMBED_FIELD(lrc_lease, target, 4)
+LRC_EMBED_FIELD(lrc_lease, epoch, 8)
+LRC_EMBED_FIELD(lrc_lease, expiry, 12)
+LRC_EMBED_STRUCT(lrc_repair_plan, 8, 1)
+LRC_EMBED_FIELD(lrc_repair_plan, repair, 0)
+LRC_EMBED_FIELD(lrc_repair_plan, sources, 1)
+LRC_EMBED_FIELD(lrc_repair_plan, reserved, 7)
+LRC_EMBED_STRUCT(lrc_reply, 108, 4)
+LRC_EMBED_FIELD(lrc_reply, kind, 0)
+LRC_EMBED_FIELD(lrc_reply, refusal, 1)
+LRC_EMBED_FIELD(lrc_reply, repair, 2)
+LRC_EMBED_FIELD(lrc_reply, sources, 3)
+LRC_EMBED_FIELD(lrc_reply, reserved, 9)
+LRC_EMBED_FIELD(lrc_reply, detail, 12)
+LRC_EMBED_FIELD(lrc_reply, clock, 16)
+LRC_EMBED_FIELD(lrc_reply, ended, 20)
+LRC_EMBED_FIELD(lrc_reply, reserved_number, 24)
+LRC_EMBED_FIELD(lrc_reply, lease, 28)
+LRC_EMBED_FIELD(lrc_reply, seats, 44)
+LRC_EMBED_STRUCT(lrc_entry, 128, 4)
+LRC_EMBED_FIELD(lrc_entry, session, 0)
+LRC_EMBED_FIELD(lrc_entry, reserved, 1)
+LRC_EMBED_FIELD(lrc_entry, command, 4)
+LRC_EMBED_FIELD(lrc_entry, reply, 20)
+LRC_EMBED_STRUCT(lrc_home, 8, 2)
+LRC_EMBED_FIELD(lrc_home, seat, 0)
+LRC_EMBED_FIELD(lrc_home, is_there, 4)
+LRC_EMBED_FIELD(lrc_home, reserved, 5)
+LRC_EMBED_STRUCT(lrc_homes, 128, 2)
+LRC_EMBED_FIELD(lrc_homes, homes, 0)
+LRC_EMBED_STRUCT(lrc_level, 4, 1)
+LRC_EMBED_FIELD(lrc_level, kind, 0)
+LRC_EMBED_FIELD(lrc_level, margin, 1)
+LRC_EMBED_FIELD(lrc_level, reserved, 2)
+LRC_EMBED_STRUCT(lrc_risk, 8, 2)
+LRC_EMBED_FIELD(lrc_risk, stripe, 0)
+LRC_EMBED_FIELD(lrc_risk, reserved, 2)
+LRC_EMBED_FIELD(lrc_risk, level, 4)
+LRC_EMBED_STRUCT(lrc_stripe, 12, 2)
+LRC_EMBED_FIELD(lrc_stripe, stripe, 0)
+LRC_EMBED_FIELD(lrc_stripe, missing, 2)
+LRC_EMBED_FIELD(lrc_stripe, code, 4)
+LRC_EMBED_FIELD(lrc_stripe, reserved, 5)
+LRC_EMBED_FIELD(lrc_stripe, level, 8)
+LRC_EMBED_STRUCT(lrc_fragment, 4, 2)
+LRC_EMBED_FIELD(lrc_fragment, stripe, 0)
+LRC_EMBED_FIELD(lrc_fragment, fragment, 2)
+LRC_EMBED_FIELD(lrc_fragment, reserved, 3)
+LRC_EMBED_STRUCT(lrc_mode, 4, 1)
+LRC_EMBED_FIELD(lrc_mode, mode, 0)
+LRC_EMBED_FIELD(lrc_mode, is_online, 1)
+LRC_EMBED_FIELD(lrc_mode, reserved, 2)
+LRC_EMBED_STRUCT(lrc_node, 16, 4)
+LRC_EMBED_FIELD(lrc_node, number, 0)
+LRC_EMBED_FIELD(lrc_node, slots, 2)
+LRC_EMBED_FIELD(lrc_node, load, 4)
+LRC_EMBED_FIELD(lrc_node, fault, 8)
+LRC_EMBED_FIELD(lrc_node, upgrade, 9)
+LRC_EMBED_FIELD(lrc_node, mode, 10)
+LRC_EMBED_FIELD(lrc_node, is_online, 11)
+LRC_EMBED_FIELD(lrc_node, is_down, 12)
+LRC_EMBED_FIELD(lrc_node, reserved, 13)
+LRC_EMBED_STRUCT(lrc_outlook, 20, 2)
+LRC_EMBED_FIELD(lrc_outlook, stripe, 0)
+LRC_EMBED_FIELD(lrc_outlook, missing, 2)
+LRC_EMBED_FIELD(lrc_outlook, newly_missing, 4)
+LRC_EMBED_FIELD(lrc_outlook, code, 6)
+LRC_EMBED_FIELD(lrc_outlook, is_harmed, 7)
+LRC_EMBED_FIELD(lrc_outlook, leases_ended, 8)
+LRC_EMBED_FIELD(lrc_outlook, reserved, 9)
+LRC_EMBED_FIELD(lrc_outlook, before, 12)
+LRC_EMBED_FIELD(lrc_outlook, after, 16)
+#undef LRC_EMBED_STRUCT
+#undef LRC_EMBED_FIELD
+
+// The version of the library's interface, and that of its rules.
 uint32_t lrc_embed_version(void);
 uint32_t lrc_embed_rules_version(void);
 
@@ -347,7 +466,9 @@ uint32_t lrc_embed_call(lrc_handle *handle, uint8_t session, const lrc_command *
 
 // The same, if the store has made `place` entries so far: if lrc_embed_before plus lrc_embed_count is `place`, so that the entry
 // becomes number `place` + 1 of the store. Else MOVED, and nothing changes. So a caller that decided by what it read at
-// `place` makes the call only if nothing came between. Otherwise as lrc_embed_call.
+// `place` makes the call only if nothing came between. Otherwise as lrc_embed_call. The place counts entries, and to open
+// a handle is none: once it was closed and opened again, over other nodes say, what was read before may be old at the same
+// `place`, so read again.
 uint32_t lrc_embed_call_at(lrc_handle *handle, uint64_t place, uint8_t session, const lrc_command *command, lrc_reply *reply);
 
 // Returns the reply that lrc_embed_call would get now. Nothing changes, and no memory is requested. DONE, also if the reply
@@ -364,8 +485,8 @@ uint32_t lrc_embed_replay(lrc_handle *handle, const lrc_entry *entries, size_t c
 
 // Forgets the entries: the history is empty then, and takes LRC_HISTORY_LIMIT more. The looks return what they returned
 // before, but for those at the history; epochs go on where they were. DONE, IS_CLOSED, OUT_OF_MEMORY; or FULL, if a
-// fragment was leased 4,293,967,295 times, the clock is 4,293,967,292, or the log has more than 9,223,372,036,854,775,808
-// entries. With another status than DONE nothing changes.
+// fragment was leased 4,293,967,295 times or more, the clock is 4,293,967,292 or more, or the store has made more than
+// 9,223,372,036,854,775,808 entries. With another status than DONE nothing changes.
 // Forget only what the log has, since an entry that is forgotten can't be read any more.
 uint32_t lrc_embed_forget(lrc_handle *handle);
 
@@ -414,7 +535,8 @@ uint32_t lrc_embed_entry(lrc_handle *handle, size_t index, lrc_entry *entry);
 // The walks. Each writes `*count` rows from the start of the buffer: the first rows of its table from a place on, as many as
 // there is room for, whatever the numbers of the place are. If `*count` is less than `length`, the table ends there; else go
 // on from the place after the last row. DONE or IS_CLOSED, and no memory is requested, but by lrc_embed_homes_on. What
-// a walk tells holds until the next entry; a walk that goes on after one may miss a row or tell an old one.
+// a walk tells holds until the next entry; a walk that goes on after one may miss a row or tell an old one. That over entries
+// goes on whatever comes between: their places stay.
 // The stripes from the number `from` on, in rising order.
 uint32_t lrc_embed_stripes(lrc_handle *handle, uint16_t from, lrc_stripe *rows, size_t length, size_t *count);
 // The nodes from a position on, in the order of the text; the first is at 0.
@@ -427,15 +549,18 @@ uint32_t lrc_embed_leases(lrc_handle *handle, uint16_t from_stripe, uint8_t from
 // has LRC_SLOTS of them at most.
 uint32_t lrc_embed_homes_on(lrc_handle *handle, uint16_t node, uint16_t from_stripe, uint8_t from_fragment,
                             lrc_fragment *rows, size_t length, size_t *count);
-// The entries of the history from an index on.
-uint32_t lrc_embed_entries(lrc_handle *handle, size_t from, lrc_entry *rows, size_t length, size_t *count);
+// The entries of the store from a place on, which is the number of those before it: entry number `place` + 1 is the first
+// row. So lrc_embed_before is the first place that the book still has. FORGOTTEN exactly if the place is before that, and
+// then nothing is written.
+uint32_t lrc_embed_entries(lrc_handle *handle, uint64_t place, lrc_entry *rows, size_t length, size_t *count);
 
 // What would become of the stripes if all these nodes stopped at once, or were lost: `outage` is an lrc_outage. The rows are
 // the stripes that would not be whole then, in rising order, also those that are not whole now. `*is_safe` is 1 if no stripe
-// becomes unavailable or lost by it, else 0. A node that is offline changes nothing where it stops; where it is lost, its
-// homes are. Nothing changes. DONE, IS_CLOSED, OUT_OF_MEMORY; OUT_OF_RANGE if it is no outage; UNKNOWN if there is no such
-// node; or SHORT if there are more rows than `length`, which cannot be with LRC_STRIPES rows, and then only `count`, the rows
-// that it needs, and `is_safe` are written.
+// is harmed, else 0. So it is 0 too where a stripe that is unavailable now would lose more fragments, or a lease that repairs
+// it. A node that is offline changes nothing where it stops; where it is lost, its homes are. Nothing changes. DONE,
+// IS_CLOSED, OUT_OF_MEMORY; OUT_OF_RANGE if it is no outage; UNKNOWN if there is no such node; or SHORT if there are more rows
+// than `length`, which cannot be with LRC_STRIPES rows, and then only `count`, the rows that it needs, and `is_safe` are
+// written.
 uint32_t lrc_embed_forecast(lrc_handle *handle, uint8_t outage, const uint16_t *nodes, size_t nodes_length,
                             lrc_outlook *rows, size_t length, size_t *count, uint8_t *is_safe);
 

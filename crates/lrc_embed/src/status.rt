@@ -20,6 +20,8 @@ pub(crate) const SHORT: u32 = 7;
 pub(crate) const DIFFERENT: u32 = 8;
 /// The history has grown otherwise since the caller last saw it.
 pub(crate) const MOVED: u32 = 9;
+/// The entries at this place are forgotten, or were never in this book.
+pub(crate) const FORGOTTEN: u32 = 10;
 /// The text is not TOML 1.1 in UTF-8.
 pub(crate) const SYNTAX: u32 = 16;
 /// The text lists no nodes.

@@ -7,7 +7,7 @@ use Rattle.lrc_book.specs.Books.{BookView, state_of}
 use Rattle.lrc_forecast.specs.declared.outlook.Outage.{Outage}
 use Rattle.lrc_forecast.specs.declared.outlook.Outage.TheVariants.{Stop, Lose}
 use Rattle.lrc_forecast.specs.declared.outlook.Outlook.{Outlook}
-use Rattle.lrc_forecast.specs.Forecasts.{forecast}
+use Rattle.lrc_forecast.specs.Forecasts.{forecast, is_harmed}
 use Rattle.lrc_records.specs.declared.outlook.LrcOutlook.{LrcOutlook}
 use Rattle.lrc_records.specs.Shown.{encoded_outlook}
 
@@ -25,4 +25,4 @@ outlooks_of b outage nodes = forecast b.nodes (state_of b) outage (map node_no n
 
 -- the row of an outlook
 abbrev pub outlook_row : Outlook → LrcOutlook
-outlook_row o = encoded_outlook o.stripe o.code o.missing o.before o.after
+outlook_row o = encoded_outlook o.stripe o.code o.missing o.newly_missing (is_harmed o) o.leases_ended (o.before, o.after)

@@ -1,5 +1,5 @@
 -- The rows of what a book has, from a place on.
-use Rattle.std.specs.Prelude.{◌≡◌, ℕ, ◌/◌, ◌%◌, Bool, ◌&&◌, ◌||◌, nat_lt, nat_le, nat_eq, List, ◌++◌, drop, length, map, filter, option_map}
+use Rattle.std.specs.Prelude.{◌≡◌, ℕ, ◌-◌, ◌/◌, ◌%◌, Bool, ◌&&◌, ◌||◌, nat_lt, nat_le, nat_eq, List, ◌++◌, drop, length, map, filter, option_map}
 use Rattle.std.specs.List.{filter_map}
 use Rattle.std.proofs.Common.{lit<}
 use Rattle.std.proofs.lemmas.Nat.{mod_below}
@@ -55,6 +55,6 @@ leases_from b stripe fragment = filter_map (λ p. option_map encoded_lease (leas
 abbrev pub homes_from : BookView → NodeNo → ℕ → ℕ → List LrcFragment
 homes_from b n stripe fragment = map encoded_fragment (filter (is_from stripe fragment) (homes_on (state_of b) n))
 
--- the entries of the history from an index on
+-- the entries of the store from a place on, as far as the book has them; the place is the number of those before it
 abbrev pub entries_from : BookView → ℕ → List LrcEntry
-entries_from b from = map encoded_entry (drop from b.history)
+entries_from b place = map encoded_entry (drop (place - b.before) b.history)

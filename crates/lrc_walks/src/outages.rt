@@ -81,7 +81,9 @@ fn row_of(outlook: Outlook) -> LrcOutlook
         outlook.stripe,
         outlook.code,
         outlook.missing,
-        outlook.before,
-        outlook.after,
+        outlook.newly_missing,
+        outlook.is_harmed(),
+        outlook.leases_ended,
+        (outlook.before, outlook.after),
     )
 }

@@ -1,6 +1,6 @@
 //! The first rows of what a book has, as many as a buffer takes.
 
-ghost use Rattle.std.specs.Prelude.{◌≡◌, ℕ, ◌-◌, ◌<◌, ◌≤◌, if◌then◌else◌, Option, Some, None, option_map, take, length, map, filter, slice_get};
+ghost use Rattle.std.specs.Prelude.{◌≡◌, ℕ, ◌-◌, ◌<◌, ◌≤◌, if◌then◌else◌, Option, Some, None, option_map, take, drop, length, map, filter, slice_get};
 ghost use Rattle.std.specs.List.{filter_map, range_with_len};
 ghost use Rattle.std.specs.Option.{option_flatten};
 ghost use Rattle.lrc_topology.specs.Nodes.{node_at};
@@ -173,9 +173,17 @@ fn home_at(
     Some(LrcFragment::of((stripe, fragment)))
 }
 
-/// Writes the first entries from an index on.
-pub fn put_entries(book: &Book, from: usize, rows: &mut [LrcEntry]) -> usize
-    ensures { AreFirstRows (take (length rows.old) (entries_from book.now from)) result rows.old rows.new }
+/// Writes the first of the store's entries from a place on, which is the number of those before it.
+pub fn put_entries(book: &Book, place: u64, rows: &mut [LrcEntry]) -> usize
+    requires remembered { book.now.before ≤ place }
+    ensures { AreFirstRows (take (length rows.old) (entries_from book.now place)) result rows.old rows.new }
+{
+    put_history(book, (place - book.before()) as usize, rows)
+}
+
+/// Writes the first entries of the history from an index on.
+fn put_history(book: &Book, from: usize, rows: &mut [LrcEntry]) -> usize
+    ensures { AreFirstRows (take (length rows.old) (map encoded_entry (drop from book.now.history))) result rows.old rows.new }
 {
     let end = book.history().len();
     put_found(from, end, rows, |index| encoded_at(book, index))

@@ -1,6 +1,6 @@
 //! Walks over what the book has, a buffer of rows at a time.
 
-ghost use Rattle.std.specs.Prelude.{◌≡◌, ◌≢◌, ◌⊎◌, true, is_some, None, take, length};
+ghost use Rattle.std.specs.Prelude.{◌≡◌, ◌≢◌, ◌<◌, ◌↔◌, ◌⊎◌, true, is_some, None, take, length};
 ghost use Rattle.lrc_topology.specs.Nodes.{node_at};
 ghost use Rattle.lrc_images.specs.Rows.{node_no};
 ghost use Rattle.lrc_walks.specs.WalkRows.{AreFirstRows, stripes_from, nodes_from, leases_from, homes_from, entries_from};
@@ -8,7 +8,7 @@ ghost use Rattle.lrc_embed.specs.Calls.{Of};
 ghost use Rattle.lrc_embed.specs.Walks.{IsWalk};
 
 use crate::LrcHandle;
-use crate::status::{DONE, IS_CLOSED, OUT_OF_MEMORY, UNKNOWN};
+use crate::status::{DONE, FORGOTTEN, IS_CLOSED, OUT_OF_MEMORY, UNKNOWN};
 use lrc_book::Book;
 use lrc_code::NodeNo;
 use lrc_records::{LrcEntry, LrcFragment, LrcLease, LrcNode, LrcStripe};
@@ -138,21 +138,41 @@ fn put_homes_on(
     }
 }
 
-/// The entries of the history from an index on.
+/// The store's entries from a place on, which is the number of those before it. The place may not be before the history:
+/// what stands there is forgotten, or was never in this book.
 #[unsafe(no_mangle)]
 pub extern "C" fn lrc_embed_entries(
     alloc: Global,
     handle: &mut LrcHandle,
-    from: usize,
+    place: u64,
     rows: &mut [LrcEntry],
     count: &mut usize,
 ) -> u32
-    ensures { IsWalk (λ b. entries_from b from) handle.old.owned.book handle.new.owned.book result rows.old rows.new count.old count.new }
+    ensures same { handle.new.owned.book ≡ handle.old.owned.book }
+    ensures done { (result ≡ 0) → Of handle.old.owned.book (λ b. AreFirstRows (take (length rows.old) (entries_from b place)) count.new rows.old rows.new) }
+    ensures forgotten { (result ≢ 1) → Of handle.old.owned.book (λ b. (result ≡ 10) ↔ (place < b.before)) }
+    ensures closed { (result ≡ 1) → handle.old.owned.book ≡ None }
+    ensures statuses { (result ≡ 0) ⊎ (result ≡ 1) ⊎ (result ≡ 10) }
+    ensures unwritten { (result ≢ 0) → (rows.new ≡ rows.old) × (count.new ≡ count.old) }
 {
     let Some(book) = handle.take(alloc) else {
         return IS_CLOSED;
     };
-    *count = put_entries(&book, from, rows);
+    let status = put_remembered(&book, place, rows, count);
     handle.put(book);
+    status
+}
+
+/// Writes the first entries from a place on, if none of them is forgotten.
+fn put_remembered(book: &Book, place: u64, rows: &mut [LrcEntry], count: &mut usize) -> u32
+    ensures done { (result ≡ 0) → AreFirstRows (take (length rows.old) (entries_from book.now place)) count.new rows.old rows.new }
+    ensures forgotten { (result ≡ 10) ↔ (place < book.now.before) }
+    ensures statuses { (result ≡ 0) ⊎ (result ≡ 10) }
+    ensures unwritten { (result ≢ 0) → (rows.new ≡ rows.old) × (count.new ≡ count.old) }
+{
+    if place < book.before() {
+        return FORGOTTEN;
+    }
+    *count = put_entries(book, place, rows);
     DONE
 }

@@ -6,7 +6,7 @@ use Rattle.lrc_records.specs.declared.entry.LrcEntry.{LrcEntry}
 use Rattle.lrc_records.specs.Replies.{encoded_entry}
 use Rattle.lrc_walks.specs.WalkRows.{AreFirstRows}
 use Rattle.lrc_walks.proofs.WalkLemmas.{rows-found}
-use Rattle.lrc_walks.proofs.walks.put_entries.Goals as goal
+use Rattle.lrc_walks.proofs.walks.put_history.Goals as goal
 
 pub returns : goal.returns
 returns c =
