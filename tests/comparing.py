@@ -78,8 +78,12 @@ def compare(book, store, count):
         expect(name, rows, right)
     outage = walked.drawn_outage(store, count)
     expect(f"forecast {outage}", walked.forecast_in_book(book, *outage), walked.forecast_in_model(store, *outage))
-    last = range(max(0, book.count() - 5), book.count())
-    expect("the last entries", [bytes(entry) for entry in book.entries(last.start, 2)], [bytes(book.entry(i)) for i in last])
+    last, before = range(max(0, book.count() - 5), book.count()), book.before()
+    found = [bytes(entry) for entry in book.entries(before + last.start, 2)]
+    expect("the last entries", found, [bytes(book.entry(i)) for i in last])
+    expect("the entries after the last", list(book.entries(count + 1)), [])
+    if before:
+        expect("the entries that are forgotten", status_of(lambda: list(book.entries(before - 1))), lrc_embed.Status.FORGOTTEN)
 
 
 def compare_code(found, right):
@@ -95,9 +99,10 @@ def compare_code(found, right):
     expect("after the sources", list(found.sources[sources:]), [0] * (len(found.sources) - sources))
 
 
-def status_of_call_at(book, place, session, command):
+def status_of(call):
+    """The status of a call of the library."""
     try:
-        book.call_at(place, session, command)
+        call()
     except lrc_embed.Fault as fault:
         return fault.status
     return lrc_embed.Status.DONE
@@ -109,7 +114,8 @@ def make(book, store, session, line, count, looks=False):
     command = library.command_of(line)
     peeked = book.peek(session, command)
     if looks:
-        expect("a call elsewhere", status_of_call_at(book, count + 1, session, command), lrc_embed.Status.MOVED)
+        elsewhere = status_of(lambda: book.call_at(count + 1, session, command))
+        expect("a call elsewhere", elsewhere, lrc_embed.Status.MOVED)
         compare(book, store, count)
     # (in turn by the two ways of a call)
     found = book.call_at(book.before() + book.count(), session, command) if looks else book.call(session, command)

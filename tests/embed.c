@@ -119,7 +119,7 @@ static void agree(const looks_of_book *it) {
     WANT(lrc_embed_stripes(&handle, 0, walked.stripes, STRIPES, &walked.stripe_count) == LRC_DONE);
     WANT(lrc_embed_nodes(&handle, 0, walked.nodes, NODES, &walked.node_count) == LRC_DONE);
     WANT(lrc_embed_leases(&handle, 0, 0, walked.leases, STRIPES * LRC_FRAGMENTS, &walked.lease_count) == LRC_DONE);
-    WANT(lrc_embed_entries(&handle, 0, walked.entries, ENTRIES, &walked.entry_count) == LRC_DONE);
+    WANT(lrc_embed_entries(&handle, it->before, walked.entries, ENTRIES, &walked.entry_count) == LRC_DONE);
     for (uint16_t s = 0; s < STRIPES; s++) {
         lrc_stripe row = {.stripe = s, .missing = it->missing[s], .code = it->codes[s], .level = it->levels[s]};
         if (it->codes[s] == 0) continue;
@@ -583,13 +583,14 @@ static void walks(void) {
     }
     for (size_t from = 0; from <= after.count + 1; from++) {
         size_t left = from < after.count ? after.count - from : 0;
-        WANT(lrc_embed_entries(&handle, from, entries, 2, &count) == LRC_DONE && count == (left < 2 ? left : 2));
+        WANT(lrc_embed_entries(&handle, after.before + from, entries, 2, &count) == LRC_DONE);
+        WANT(count == (left < 2 ? left : 2));
         if (count) WANT(memcmp(entries, after.entries + from, count * sizeof *entries) == 0);
     }
     WANT(lrc_embed_stripes(&handle, 0, 0, 0, &count) == LRC_DONE && count == 0);
     WANT(lrc_embed_nodes(&handle, SIZE_MAX, 0, 0, &count) == LRC_DONE && count == 0);
     WANT(lrc_embed_leases(&handle, 65535, 255, 0, 0, &count) == LRC_DONE && count == 0);
-    WANT(lrc_embed_entries(&handle, SIZE_MAX, entries, 3, &count) == LRC_DONE && count == 0);
+    WANT(lrc_embed_entries(&handle, UINT64_MAX, entries, 3, &count) == LRC_DONE && count == 0);
     WANT(requests == requested); // none of these requests memory
     count = 99;
     memcpy(fragments, marked, sizeof marked);
@@ -639,8 +640,10 @@ static void forecasts(void) {
             lrc_outlook row = {.stripe = s, .missing = after.missing[s], .code = after.codes[s], .before = now.levels[s],
                                .after = after.levels[s]};
             if (row.code == 0 || row.after.kind == LRC_WHOLE) continue;
+            row.newly_missing = after.missing[s] & (uint16_t)~now.missing[s];
+            row.is_harmed = row.after.kind != LRC_AT_RISK && (row.before.kind != row.after.kind || row.newly_missing != 0);
             WANT(found < count && memcmp(&row, &rows[found++], sizeof row) == 0);
-            if (row.after.kind != LRC_AT_RISK) is_harmed = true;
+            if (row.is_harmed) is_harmed = true;
         }
         WANT(found == count && is_safe == !is_harmed);
         for (size_t i = 0; i < n; i++) WANT(MAKE(1, .kind = LRC_UP, .node = stopped[i]).kind == LRC_CHANGED);
@@ -649,6 +652,30 @@ static void forecasts(void) {
         STATUS(status, lrc_embed_forecast(&handle, LRC_STOP, stopped, n, rows, room, &count, &is_safe));
         WANT(status == LRC_SHORT && count == found && is_safe == !is_harmed && rows[0].stripe == 0xa5a5);
     }
+}
+
+// Where a node is lost, the leases end whose target is on it. The book is that of image_of_leased: fragment 3 of stripe 1 is
+// leased, with its target on node 17, and fragment 1 of stripe 2 is there; nodes 7, 8 and 18 are offline.
+static void forecast_of_leases(void) {
+    const lrc_outlook wanted[2] = {
+        {.stripe = 1, .missing = 0x0188, .code = LRC_WIDE, .leases_ended = 1, .before = {.kind = LRC_AT_RISK, .margin = 1},
+         .after = {.kind = LRC_AT_RISK, .margin = 1}},
+        {.stripe = 2, .missing = 0x0086, .newly_missing = 0x0002, .code = LRC_NARROW,
+         .before = {.kind = LRC_AT_RISK, .margin = 2}, .after = {.kind = LRC_AT_RISK, .margin = 1}},
+    };
+    // Without node 9 too, four fragments of stripe 1 are missing, and its margin is 0; without node 10 too it is unavailable.
+    static const uint16_t lost[3] = {17, 9, 10};
+    lrc_outlook rows[STRIPES];
+    size_t count = 99;
+    uint8_t is_safe = 99;
+    uint32_t status;
+    STATUS(status, lrc_embed_forecast(&handle, LRC_LOSE, lost, 1, rows, STRIPES, &count, &is_safe));
+    WANT(status == LRC_DONE && count == 2 && is_safe == 1 && memcmp(rows, wanted, sizeof wanted) == 0);
+    STATUS(status, lrc_embed_forecast(&handle, LRC_LOSE, lost, 2, rows, STRIPES, &count, &is_safe));
+    WANT(status == LRC_DONE && count == 2 && is_safe == 1 && rows[0].after.margin == 0 && rows[0].is_harmed == 0);
+    STATUS(status, lrc_embed_forecast(&handle, LRC_LOSE, lost, 3, rows, STRIPES, &count, &is_safe));
+    WANT(status == LRC_DONE && count == 2 && is_safe == 0 && rows[0].is_harmed == 1 && rows[1].is_harmed == 0);
+    WANT(rows[0].newly_missing == (1 << 9 | 1 << 10) && rows[0].leases_ended == 1);
 }
 
 // A call is made only at the place that is expected.
@@ -697,7 +724,7 @@ static uint32_t refusal_name(uint32_t refusal, uint8_t *text, size_t room, size_
 static void names(void) {
     static const char *const statuses[] = {
         "done", "closed handle", "open handle", "out of range", "unknown", "full", "out of memory", "short buffer",
-        "different reply", "moved", 0, 0, 0, 0, 0, 0, "not TOML", "no nodes", "bad field", "node out of range",
+        "different reply", "moved", "forgotten", 0, 0, 0, 0, 0, "not TOML", "no nodes", "bad field", "node out of range",
         "double node", "too many nodes", "bad line", "invalid image", 0};
     static const char *const replies[] = {0, "placed", "dropped", "granted", "idle", "ended", "changed", "refused",
                                           "ticked", "placed", 0};
@@ -814,6 +841,18 @@ static void replays(void) {
     WANT(replay(entries, count, &position) == LRC_OUT_OF_RANGE && position == 2);
 }
 
+// There is no entry before this place, which the book remembers, and none after it.
+static void begins_at(uint64_t place) {
+    lrc_entry row, marked;
+    size_t count = 99;
+    memset(&marked, 0xa5, sizeof marked);
+    row = marked;
+    for (uint64_t earlier = 0; earlier < place; earlier++)
+        WANT(lrc_embed_entries(&handle, earlier, &row, 1, &count) == LRC_FORGOTTEN && count == 99);
+    WANT(memcmp(&row, &marked, sizeof row) == 0);
+    WANT(lrc_embed_entries(&handle, place, &row, 1, &count) == LRC_DONE && count == 0);
+}
+
 // A book forgets its entries: the looks are as before, but for the count, the entries, and the number of those before them.
 static void forget(void) {
     uint32_t status;
@@ -821,6 +860,7 @@ static void forget(void) {
     WANT(status == LRC_DONE);
     look(&after);
     WANT(after.count == 0 && after.before == before.before + before.count);
+    begins_at(after.before);
     after.count = before.count, after.before = before.before;
     memcpy(after.entries, before.entries, sizeof after.entries);
     WANT(memcmp(&before, &after, sizeof before) == 0);
@@ -914,6 +954,8 @@ static void begins(void) {
     image(image_of_leased);
     look(&after);
     WANT(after.before == 8 && after.count == 0 && after.clock == 1);
+    begins_at(8);
+    forecast_of_leases();
     WANT(lrc_embed_lease(&handle, 1, 3, &lease) == LRC_DONE && lease.epoch == 1 && lease.holder == 2 && lease.expiry == 4);
     forget();
     image(image_of_leased);

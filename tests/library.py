@@ -1,11 +1,31 @@
 """Commands for a book of the library, and what it reports, as the texts of the model in tests/rules.py."""
 import os
 import sys
+from collections import namedtuple
 
-from harness import EXAMPLES
+from harness import CC, EXAMPLES
 
 sys.path.append(os.path.join(EXAMPLES, "stores"))
 from commands import FIELDS, command_of, lrc_embed  # noqa: F401
+
+
+# A library of another version, which has nothing else: the shared library, its folder, and the words by which a program that is
+# linked with the library itself calls the other version.
+Other = namedtuple("Other", ["shared", "folder", "links"])
+
+
+def of_version(count, room, version):
+    """Makes a library of another version."""
+    folder = os.path.join(room, f"of-version-{version}")
+    os.makedirs(folder, exist_ok=True)
+    own, wrapped = "uint32_t lrc_embed_version(void)", "uint32_t __wrap_lrc_embed_version(void)"
+    for name, call in (("shared", own), ("wrapped", wrapped)):
+        with open(f"{folder}/{name}.c", "w", encoding="utf-8") as file:
+            file.write(f"#include <stdint.h>\n{call};\n{call} {{ return {version}; }}\n")
+    shared = f"{folder}/liblrc_embed.so.{lrc_embed.VERSION}"  # (as the program finds it)
+    count.run("another library", CC, "-shared", "-fPIC", "-o", shared, f"{folder}/shared.c")
+    count.run("another version", CC, "-fPIC", "-c", "-o", f"{folder}/wrapped.o", f"{folder}/wrapped.c")
+    return Other(shared, folder, ["-Wl,--wrap=lrc_embed_version", f"{folder}/wrapped.o"])
 
 
 def code_word(code):

@@ -1,6 +1,6 @@
-"""What the Python module of examples/embed does beside the calls: it refuses numbers that a field would cut down, closes a
-book that nothing refers to, replays a log in pieces, from entries and from bytes, also one that an earlier library saved,
-and reports why a book does not begin in an image."""
+"""What the Python module of examples/embed does beside the calls: it refuses numbers that a field would cut down and a library
+of another version, closes a book that nothing refers to, replays a log in pieces, from entries and from bytes, also one that
+an earlier library saved, walks over entries while the book forgets them, and reports why a book does not begin in an image."""
 import ctypes
 import gc
 import struct
@@ -8,7 +8,8 @@ from itertools import islice
 
 from harness import nodes_in_order, topology_of
 from library import command_of
-from lrc_embed import Book, Cause, Code, Command, CommandKind, Entry, Fault, ModeKind, Outage, Status
+from lrc_embed import (RULES_VERSION, VERSION, Book, Cause, Code, Command, CommandKind, Entry, Fault, ModeKind, OtherVersion,
+                       Outage, Status, name_of, rules_version)
 
 TWENTY = topology_of(nodes_in_order(20, 4))
 SCRIPT = ("place 1", "place 2", "fail 3", "next", "lease 2 7", "done 1 3 1", "next", "upgrade 0", "upgraded 0")
@@ -18,7 +19,8 @@ SAVED = struct.Struct("<B3x BBB5xIHH BBB6s3xIII4x HBBHHI4x 32H")
 # As the header has them; an index is a size_t.
 RANGES = {"session": (1, 8), "kind": (1, 18), "stripe": (0, 4095), "fragment": (0, 15), "node": (0, 65535),
           "domain": (0, 255), "epoch": (0, 4294967295), "index": (0, 18446744073709551615),
-          "place": (0, 18446744073709551615), "outage": (1, 2)}
+          "place": (0, 18446744073709551615), "outage": (1, 2), "status": (0, 4294967295), "reply": (0, 255),
+          "refusal": (0, 255)}
 
 
 def done_or_fault(call):
@@ -49,9 +51,11 @@ def ways_of(book):
                  lambda n: done_or_fault(lambda: book.forecast(Outage.STOP, [n]))],
         "domain": [*made_of(CommandKind.UPGRADE, "domain")],
         "epoch": [*made_of(CommandKind.REPORT, "epoch")],
-        "index": [book.entry, lambda n: list(book.entries(n))],
-        "place": [lambda n: done_or_fault(lambda: book.call_at(n, 1, Command(CommandKind.NEXT)))],
+        "index": [book.entry],
+        "place": [lambda n: done_or_fault(lambda: book.call_at(n, 1, Command(CommandKind.NEXT))),
+                  lambda n: list(book.entries(n))],
         "outage": [lambda n: book.forecast(n, [0])],
+        **{table: [lambda n, table=table: name_of(book.library, table, n)] for table in ("status", "reply", "refusal")},
     }
 
 
@@ -88,6 +92,41 @@ def test_numbers(count, library):
         count.check("the module: a number out of its range is nobody's", modes == [ModeKind.ACTIVE] * 20)
         called = [book.entry(index).session for index in range(book.count())]
         count.check(f"the module: the sessions that called: {called}", called == [1, 8])
+
+
+def test_forgotten(count, library):
+    """A walk over entries is told where the book forgets those that it has not come to. One that begins behind them goes on."""
+    up = Command(CommandKind.UP, node=1)  # (refused, and an entry like any other)
+    with Book(library, TWENTY) as book:
+        for _ in range(100):
+            book.call(1, up)
+        rows, behind = book.entries(room=64), book.entries(100, room=64)
+        read = sum(1 for _ in islice(rows, 64))
+        book.forget()
+        book.call(2, up)
+        found = read, status_of(lambda: next(rows))
+        count.check(f"the module: a walk over entries that are forgotten: {found}", found == (64, (Status.FORGOTTEN, None)))
+        sessions = [[entry.session for entry in entries] for entries in (behind, book.entries(), book.entries(101))]
+        count.check(f"the module: walks over the entries that are left: {sessions}", sessions == [[2], [2], []])
+
+
+def test_versions(count, library):
+    """The module takes no library of another interface, and reports which rules the library has."""
+    class Other:
+        """A library of the version after this one, which may be called nothing else."""
+
+        @staticmethod
+        def lrc_embed_version():
+            return VERSION + 1
+
+    try:
+        Book(Other, TWENTY)
+        found = "a book"
+    except OtherVersion as why:
+        found = str(why)
+    right = f"the library has version {VERSION + 1} of its interface, and this module is for version {VERSION}"
+    count.check(f"the module: another library: {found}", found == right)
+    count.check("the module: the version of the rules", rules_version(library) == RULES_VERSION)
 
 
 def opened(library, **how):
@@ -243,7 +282,9 @@ def test_faults(count, library):
 
 
 def test(count, library):
+    test_versions(count, library)
     test_faults(count, library)
+    test_forgotten(count, library)
     test_numbers(count, library)
     test_dropped(count, library)
     test_pieces(count, library)

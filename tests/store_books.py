@@ -9,19 +9,19 @@ from collections import Counter
 
 import harness
 from library import lrc_embed
-from store_requests import Running, compile_store, left_out, model_of
+from store_requests import Running, check_other_version, compile_store, left_out, model_of, next_version
 
 HEADERS = ("/usr/include/postgresql", "/usr/include")
 SLOTS = 10240  # of each node, shared out among the books
 MODELLED = 2_500  # the most entries of a book that are compared with the model
 
 
-def compile_books(count, library, room):
+def compile_books(count, library, room, name="books", links=()):
     folder = next((folder for folder in HEADERS if os.path.exists(f"{folder}/libpq-fe.h")), None)
     if folder is None:
         left_out("books", "libpq-fe.h is not on this machine")
         return None
-    return compile_store(count, "books/main.cpp", library, f"{room}/books", f"-I{folder}", "-lpq")
+    return compile_store(count, "books/main.cpp", library, f"{room}/{name}", f"-I{folder}", "-lpq", *links)
 
 
 class Cluster:
@@ -159,6 +159,22 @@ def child_of(running):
     return int(harness.read(f"/proc/{running.process.pid}/task/{running.process.pid}/children").split()[0])
 
 
+def test_versions(count, cluster, other):
+    """A library of another interface does not run, and a log of other rules is not taken: it stays as it is."""
+    check_other_version(count, "books", [other, *cluster.words[1:]])
+    own, logs = lrc_embed.RULES_VERSION, [cluster.entries(book) for book in range(cluster.books)]
+    cluster.connection.rows("UPDATE book SET rules = $1 WHERE book = 1", own + 1)
+    _, status, errors = cluster.run().end()
+    right = f"book 1: the log is of version {own + 1} of the rules, and the library of version {own}"
+    count.check(f"books: other rules: status {status}: {errors}", status == 1 and right in errors)
+    cluster.connection.rows("UPDATE book SET rules = $1", own)
+    is_kept = logs == [cluster.entries(book) for book in range(cluster.books)]
+    count.check("books: logs of other rules stay as they are", is_kept)
+    running = cluster.run()
+    expect(count, running, None, "ready")
+    count.check("books: it ends well", running.end()[1] == 0)
+
+
 def test_one_process(count, cluster):
     """While a process of the run before still has its books, no other one takes them."""
     running = cluster.run()
@@ -200,6 +216,8 @@ def test(count, folder, room, is_long, server):
     test_orders(count, orders)
     test_kills(count, orders, 20 if is_long else 4)
     test_one_process(count, orders)
+    other = compile_books(count, folder, room, "books-other", next_version(count, room).links)
+    test_versions(count, orders, other)
     test_log(count, orders, library)
     books, nodes, stripes, seconds = (64, 512, 4096, 20) if is_long else (8, 64, 64, 1)
     one = speed(count, Cluster(server, program, "one", 1, nodes, 1), stripes, seconds)

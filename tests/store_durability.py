@@ -8,7 +8,7 @@ from xml.etree import ElementTree
 
 import harness
 import rules
-from store_requests import STORES, compile_store
+from store_requests import STORES, check_other_version, compile_store, next_version
 
 FOLDER = os.path.join(STORES, "durability")
 sys.path.append(FOLDER)
@@ -93,5 +93,8 @@ def test(count, folder, room, is_long):
     test_closed_form(count)
     simulate = compile_store(count, "durability/simulate.cpp", folder, f"{room}/simulate")
     if simulate is not None:
+        links = next_version(count, room).links
+        other = compile_store(count, "durability/simulate.cpp", folder, f"{room}/simulate-other", *links)
+        check_other_version(count, "durability", [other, "wide", 1000, 80, 0, 1, 1])
         test_simulation(count, simulate, LONG if is_long else SHORT)
         test_table(count, simulate)

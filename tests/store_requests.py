@@ -12,7 +12,7 @@ import draws
 import harness
 import rules
 from comparing import STRIPES, Differs, compare
-from library import FIELDS, command_of, lrc_embed
+from library import FIELDS, command_of, lrc_embed, of_version
 
 sys.path.append(os.path.join(harness.TOP, "bench"))
 import store  # the model with indexes, so that thousands of calls take seconds
@@ -37,6 +37,20 @@ def compile_store(count, source, folder, program, *flags):
     files = ["-o", program, f"{STORES}/{source}", f"{folder}/liblrc_embed.a"]
     compiled = count.run(source, CXX, "-std=c++17", "-O2", *warnings, f"-I{INCLUDE}", *files, *flags)
     return program if compiled is not None else None
+
+
+def check_other_version(count, name, words):
+    """A store ends at once with a library of another version, and says which it is, and its own."""
+    ended = subprocess.run(list(map(str, words)), stdin=subprocess.DEVNULL, capture_output=True, text=True, timeout=60)
+    said, own = ended.stderr.strip(), lrc_embed.VERSION
+    right = f"the library has version {own + 1} of its interface, and "
+    is_told = ended.returncode == 1 and not ended.stdout and right in said and said.endswith(f" is for version {own}")
+    count.check(f"{name} with another library: status {ended.returncode}: {said}", is_told)
+
+
+def next_version(count, room):
+    """A library of the version after this one."""
+    return of_version(count, room, lrc_embed.VERSION + 1)
 
 
 def line_of(command):

@@ -9,7 +9,8 @@ from contextlib import closing
 from itertools import count as numbers_from
 
 import draws
-from store_requests import STORES, TOPOLOGY, Requests, Running, pause
+from library import lrc_embed
+from store_requests import STORES, TOPOLOGY, Requests, Running, check_other_version, next_version, pause
 
 STORE = os.path.join(STORES, "sqlite", "store.py")
 
@@ -128,9 +129,27 @@ def test_others(count, place):
         count.check(f"sqlite: {name}: status {status}: {errors}", status == 1 and why in errors)
 
 
+def test_versions(count, room, place):
+    """A library of another interface makes no database, and a log of other rules is not taken: it stays as it is."""
+    words, other = list(place.words), next_version(count, room)
+    words[2:4] = f"{room}/none.sqlite", other.shared
+    check_other_version(count, "sqlite", words)
+    count.check("sqlite: another library makes nothing", not os.path.exists(words[2]))
+    log, own = place.log(), lrc_embed.RULES_VERSION
+    place.execute(f"UPDATE store SET rules = {own + 1}")
+    _, status, errors = place.run().end()
+    right = f"the log is of version {own + 1} of the rules, and the library of version {own}"
+    count.check(f"sqlite: other rules: status {status}: {errors}", status == 1 and right in errors)
+    count.check("sqlite: a log of other rules stays as it is", place.log() == log)
+    place.execute(f"UPDATE store SET rules = {own}")
+    store = place.run()
+    count.check("sqlite: the log is taken again", store.line() == f"ready {len(log)}" and store.end()[1] == 0)
+
+
 def test(count, folder, room, is_long):
     library = f"{folder}/liblrc_embed.so"
     place = Place(library, room, "killed")
     test_kills(count, library, place, Requests(5, 20_000 if is_long else 3_000), 400 if is_long else 30)
     test_disk_full(count, library, Place(library, room, "full"), Requests(6, 1_000))
     test_others(count, place)
+    test_versions(count, room, place)

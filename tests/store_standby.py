@@ -11,7 +11,7 @@ from statistics import median
 
 import draws
 from library import command_of, lrc_embed
-from store_requests import STORES, TOPOLOGY, Requests, Running, pause
+from store_requests import STORES, TOPOLOGY, Requests, Running, check_other_version, next_version, pause
 
 STORE = os.path.join(STORES, "standby", "store.py")
 EPOCH = lrc_embed.Entry.reply.offset + lrc_embed.Reply.lease.offset + lrc_embed.Lease.epoch.offset
@@ -34,11 +34,11 @@ class Cluster:
 
     def __init__(self, count, server, library, room, name):
         self.count, self.library = count, library
-        self.words = server.new_database(name)
+        self.words, self.room = server.new_database(name), room
         self.connection = server.connect(name)
         with open(f"{room}/{name}.toml", "w", encoding="utf-8") as file:
             file.write(TOPOLOGY)
-        count.run("standby: begin", sys.executable, STORE, "begin", self.words, f"{room}/{name}.toml")
+        count.run("standby: begin", sys.executable, STORE, "begin", self.words, library, f"{room}/{name}.toml")
 
     def replica(self):
         return Running(sys.executable, STORE, "run", self.words, self.library)
@@ -134,6 +134,26 @@ def test_refused(count, cluster):
     cluster.end(primary, "the log has grown otherwise")
 
 
+def test_versions(count, cluster):
+    """A library of another interface neither makes tables nor runs, and a log of other rules is not taken: it stays as it is."""
+    primary = cluster.replica()
+    cluster.lead(primary, 1)
+    told = [primary.ask(f"t{at} 1 {line}") for at, line in enumerate(("place 1", "fail 3", "next"))]
+    count.check(f"standby: {told}", None not in told and primary.end()[1] == 0)
+    other = next_version(count, cluster.room).shared
+    for words in (["begin", cluster.words, other, f"{cluster.room}/versions.toml"], ["run", cluster.words, other]):
+        check_other_version(count, f"standby: {words[0]}", [sys.executable, STORE, *words])
+    log, own = cluster.log(), lrc_embed.RULES_VERSION
+    cluster.connection.rows("UPDATE lead SET rules = $1", own + 1)
+    cluster.end(cluster.replica(), f"the log is of version {own + 1} of the rules, and the library of version {own}")
+    cluster.connection.rows("UPDATE lead SET rules = $1", own)
+    count.check("standby: a log of other rules stays as it is", len(log) == len(told) and cluster.log() == log)
+    replica = cluster.replica()
+    found = replica.line()
+    count.check(f"standby: the log is taken again: {found}", found == f"lead 2 {len(log)}")
+    count.check("standby: it ends well", replica.end()[1] == 0)
+
+
 def test_append_under_way(count, cluster):
     """While an append is not committed yet, no new term begins. Then the next primary has its entry."""
     standby_store = module_of(STORE, "standby_store")
@@ -162,4 +182,5 @@ def test(count, folder, room, is_long, server):
     requests = Requests(8, 20_000 if is_long else 1_500)
     test_takeovers(count, Cluster(count, server, library, room, "takeovers"), requests, 150 if is_long else 15)
     test_refused(count, Cluster(count, server, library, room, "refused"))
+    test_versions(count, Cluster(count, server, library, room, "versions"))
     test_append_under_way(count, Cluster(count, server, library, room, "under_way"))

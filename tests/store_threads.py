@@ -12,7 +12,8 @@ import draws
 import rules
 from harness import read, topology_of
 from library import lrc_embed
-from store_requests import CXX, Running, compile_store, left_out, model_of, pause
+from store_requests import (CXX, Running, check_other_version, compile_store, left_out, model_of, next_version,
+                            pause)
 
 HEADER, RECORD = struct.Struct("<QII"), struct.Struct("<QQ128sII")
 REPLY = lrc_embed.Entry.reply.offset
@@ -129,6 +130,26 @@ def test_damage(count, program, folder):
     count.check(f"threads: other nodes: status {status}: {errors}", status == 1 and "other nodes" in errors)
 
 
+def test_versions(count, program, other, folder):
+    """A library of another interface makes no log, and a log of other rules is not taken: it stays as it is."""
+    check_other_version(count, "threads", [other, folder, 0.1, 1, 1])
+    kept, own, entries = read(f"{folder}/log"), lrc_embed.RULES_VERSION, len(whole_records(folder))
+    magic, rules_of_log, nodes = HEADER.unpack(kept[:HEADER.size])
+    count.check("threads: the log has the version of the rules", rules_of_log == own)
+    for head, why in {(magic, own + 1, nodes): f"the log is of version {own + 1} of the rules, and the library of version {own}",
+                      (magic + 1, own, nodes): "the file is no log of this store"}.items():
+        changed = HEADER.pack(*head) + kept[HEADER.size:]
+        with open(f"{folder}/log", "wb") as log:
+            log.write(changed)
+        _, status, errors = start(program, folder, 0.1).end()
+        count.check(f"threads: another head: status {status}: {errors}", status == 1 and why in errors)
+        count.check("threads: a log with another head stays as it is", read(f"{folder}/log") == changed)
+    with open(f"{folder}/log", "wb") as log:
+        log.write(kept)
+    store = start(program, folder, 0.1)
+    count.check("threads: the log is taken again", store.line() == f"ready {entries}" and store.end()[1] == 0)
+
+
 def test_disk_full(count, program, folder):
     """The log may not grow past a size: the store tells nothing that is not in it, and ends. With more room it goes on."""
     told = Told(count, folder)
@@ -189,6 +210,9 @@ def test(count, library, room, is_long):
     killed = new_folder(room, "threads-killed")
     test_kills(count, program, killed, 200 if is_long else 20)
     test_damage(count, program, killed)
+    links = next_version(count, room).links
+    other = compile_store(count, "threads/main.cpp", library, f"{room}/threads-other", "-pthread", *links)
+    test_versions(count, program, other, killed)
     test_disk_full(count, program, new_folder(room, "threads-full"))
     test_model(count, program, new_folder(room, "threads-model"))
     test_sanitizers(count, library, room, 10 if is_long else 1)

@@ -1,6 +1,7 @@
 """What the walks of a book of the library return, and the looks beside them, as rows; and the same rows of a model in
 tests/rules.py."""
 import copy
+from collections import Counter
 
 import library
 from library import lrc_embed
@@ -81,22 +82,33 @@ def after_outage(store, outage, nodes):
     """A copy of the model in which the nodes are stopped or lost, whether or not a command would be refused."""
     after = copy.copy(store)
     after.homes, after.mode, after.down = dict(store.homes), dict(store.mode), set(store.down)
+    after.leases = dict(store.leases)
     for node in nodes:
         if outage == lrc_embed.Outage.STOP:
             after.down.add(node)
             continue
+        for key in {*after.targets_on(node), *after.homes_on(node)}:
+            after.leases.pop(key, None)
         for key in after.homes_on(node):
             del after.homes[key]
         after.mode[node] = "gone"
     return after
 
 
+def outlook_in_model(store, after, stripe, ended):
+    """The row of a stripe of which so many leases end, from one state to another: also whether it is harmed, which is where it
+    is not recoverable then, and has another level, another missing fragment, or a lease less than before."""
+    before, then, missing = level_in_model(store, stripe), level_in_model(after, stripe), after.missing(stripe)
+    newly = missing & ~store.missing(stripe)
+    is_harmed = then[0] in ("unavailable", "lost") and (then != before or newly != 0 or ended != 0)
+    return stripe, store.stripes[stripe].name, missing, newly, is_harmed, ended, before, then
+
+
 def outlook(store, after):
     """The rows of a forecast for what is after an outage, and whether no stripe is harmed."""
-    rows = [(stripe, code.name, after.missing(stripe), level_in_model(store, stripe), level_in_model(after, stripe))
-            for stripe, code in sorted(store.stripes.items()) if after.level(stripe)]
-    harmed = [stripe for stripe, _, _, before, then in rows if then[0] in ("unavailable", "lost") and then != before]
-    return rows, not harmed
+    ended = Counter(key[0] for key in store.leases.keys() - after.leases.keys())
+    rows = [outlook_in_model(store, after, stripe, ended[stripe]) for stripe in sorted(store.stripes) if after.level(stripe)]
+    return rows, not any(is_harmed for _, _, _, _, is_harmed, *_ in rows)
 
 
 def forecast_in_model(store, outage, nodes):
@@ -106,5 +118,5 @@ def forecast_in_model(store, outage, nodes):
 def forecast_in_book(book, outage, nodes):
     """The same by the library."""
     rows, is_safe = book.forecast(outage, nodes)
-    return [(row.stripe, word(lrc_embed.Code, row.code), row.missing, library.level_words(row.before),
-             library.level_words(row.after)) for row in rows], is_safe
+    return [(row.stripe, word(lrc_embed.Code, row.code), row.missing, row.newly_missing, row.is_harmed == 1, row.leases_ended,
+             library.level_words(row.before), library.level_words(row.after)) for row in rows], is_safe

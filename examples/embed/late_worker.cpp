@@ -270,7 +270,7 @@ static std::string twenty_nodes() {
     return text;
 }
 
-int main() {
+static int run() {
     const std::vector<lrc_command> script = {
         of_stripe(LRC_PLACE, 1),           of_node(LRC_FAIL, 3),
         of_fragment(LRC_LEASE, 1, 3),      of_fragment(LRC_REVOKE, 1, 3),
@@ -317,4 +317,13 @@ int main() {
         std::printf("%s at %zu\n", fault.status == LRC_DIFFERENT ? "different" : fault.what(), fault.position);
     }
     return moved.risk().empty() ? 0 : 1;
+}
+
+int main() {
+    try {
+        return run();
+    } catch (const std::exception &why) {
+        std::fprintf(stderr, "late_worker: %s\n", why.what());
+        return 1;
+    }
 }

@@ -1,4 +1,5 @@
-// What the stores in C++ share: calls that have to be done, commands, nodes as a text, and a history that is never full.
+// What the stores in C++ share: the library's versions, calls that have to be done, commands, nodes as a text, and a history
+// that is never full.
 #ifndef CALLS_H
 #define CALLS_H
 
@@ -6,6 +7,15 @@
 
 #include <stdexcept>
 #include <string>
+
+// The library has to have the interface of the header: with another one, structs and calls may mean something else. Each store
+// asks before it makes any other call, and before it opens its log.
+inline void expect_version() {
+    auto found = lrc_embed_version();
+    if (found != LRC_EMBED_VERSION)
+        throw std::runtime_error("the library has version " + std::to_string(found) +
+                                 " of its interface, and the header is for version " + std::to_string(LRC_EMBED_VERSION));
+}
 
 // A status of the library other than LRC_DONE.
 struct Fault : std::runtime_error {

@@ -1,4 +1,4 @@
-"""The module of the library, commands from their words, and nodes as a text: what the stores in Python share."""
+"""The module of the library, the rules of logs, and commands from their words: what the stores in Python share."""
 import os
 import sys
 
@@ -12,6 +12,13 @@ FIELDS = {
     "done": ["stripe", "fragment", "epoch"], "abandon": ["stripe", "fragment", "epoch"], "revoke": ["stripe", "fragment"],
     "upgrade": ["domain"], "upgraded": ["domain"], "tick": [],
 }
+
+
+def refusal_of(rules, library):
+    """Why a log of this version of the rules is not taken; None if it is. By other rules a replay stops at the first reply that
+    differs, and until then it is of another history."""
+    own = lrc_embed.rules_version(library)
+    return None if rules == own else f"the log is of version {rules} of the rules, and the library of version {own}"
 
 
 def command_of(line):

@@ -56,20 +56,22 @@ class Log {
 
     void make_tables() {
         execute("SET client_min_messages = warning");
-        execute("CREATE TABLE IF NOT EXISTS book (book int8 PRIMARY KEY, nodes text NOT NULL, version int8 NOT NULL)");
+        execute("CREATE TABLE IF NOT EXISTS book (book int8 PRIMARY KEY, nodes text NOT NULL, rules int8 NOT NULL)");
         execute("CREATE TABLE IF NOT EXISTS log (book int8, number int8, entry bytea NOT NULL CHECK (length(entry) = 128),"
                 " checksum int8 NOT NULL, PRIMARY KEY (book, number))");
         execute("CREATE TABLE IF NOT EXISTS upgrade (domain int8 PRIMARY KEY, has_begun boolean NOT NULL)");
     }
     // Takes a book for this connection, once no other one has it. Returns the text of its nodes: that which it had before,
-    // or else this one.
+    // or else this one. Its log has to be of the rules of the library.
     std::string take(std::uint32_t book, const std::string &nodes) {
         if (Rows(send("SELECT pg_advisory_lock($1)", {std::to_string(book)}, 0)).status() != PGRES_TUPLES_OK) fail("lock");
-        auto number = std::to_string(book), version = std::to_string(LRC_EMBED_VERSION);
-        execute("INSERT INTO book VALUES ($1, $2, $3) ON CONFLICT DO NOTHING", {number, nodes, version});
-        Rows rows(send("SELECT nodes FROM book WHERE book = $1 AND version = $2", {number, version}, 0));
-        if (rows.status() != PGRES_TUPLES_OK || rows.count() != 1)
-            throw std::runtime_error("the book is of another version");
+        auto number = std::to_string(book), rules = std::to_string(lrc_embed_rules_version());
+        execute("INSERT INTO book VALUES ($1, $2, $3) ON CONFLICT DO NOTHING", {number, nodes, rules});
+        Rows rows(send("SELECT nodes, rules FROM book WHERE book = $1", {number}, 0));
+        if (rows.status() != PGRES_TUPLES_OK || rows.count() != 1) fail("select");
+        if (rows.text(0, 1) != rules)
+            throw std::runtime_error("book " + number + ": the log is of version " + rows.text(0, 1) +
+                                     " of the rules, and the library of version " + rules);
         return rows.text(0, 0);
     }
     // The entries of a book after so many, at most some thousand at a time.

@@ -192,6 +192,7 @@ class Coordinator {
 int main(int count, char **words) {
     if (count != 5) return std::fprintf(stderr, "usage: books CONNECTION BOOKS NODES PROCESSES\n"), 2;
     try {
+        expect_version();
         Coordinator coordinator(words[1], {std::stoul(words[2]), std::stoul(words[3])}, std::stoul(words[4]));
         std::cout << "ready" << std::endl;
         for (std::string line; std::getline(std::cin, line);) {

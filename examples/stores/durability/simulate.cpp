@@ -138,6 +138,7 @@ int main(int count, char **words) {
     Setting setting{std::string(words[1]) == "wide" ? LRC_PLACE : LRC_PLACE6, std::atof(words[2]), std::atof(words[3]),
                     std::strtoull(words[4], nullptr, 10), std::atof(words[5]), std::strtoull(words[6], nullptr, 10)};
     try {
+        expect_version();
         Simulation simulation(setting);
         simulation.run();
         simulation.print();

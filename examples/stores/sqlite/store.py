@@ -15,12 +15,12 @@ import zlib
 
 sys.dont_write_bytecode = True
 sys.path.append(os.path.join(os.path.dirname(os.path.abspath(__file__)), os.pardir))
-from commands import lrc_embed, request_of
+from commands import lrc_embed, refusal_of, request_of
 
 PIECE = 10_000  # the most records that are replayed at a time
 
 TABLES = """
-CREATE TABLE IF NOT EXISTS store (nodes TEXT NOT NULL, version INTEGER NOT NULL);
+CREATE TABLE IF NOT EXISTS store (nodes TEXT NOT NULL, rules INTEGER NOT NULL);
 CREATE TABLE IF NOT EXISTS log (
     number INTEGER PRIMARY KEY,
     token TEXT NOT NULL UNIQUE,
@@ -36,16 +36,18 @@ class Damaged(Exception):
 
 class Store:
     def __init__(self, path, library, nodes):
+        lrc_embed.expect_version(library)
         self.library, self.nodes, self.book = library, nodes, None
         self.database = sqlite3.connect(path, isolation_level=None)
         # One process decides: a second one finds the database locked. FULL waits for the disk at each commit.
         for pragma in ("locking_mode = EXCLUSIVE", "journal_mode = WAL", "synchronous = FULL"):
             self.database.execute(f"PRAGMA {pragma}")
         self.database.executescript(TABLES)
-        mine = nodes, lrc_embed.VERSION
+        mine = nodes, lrc_embed.rules_version(library)
         self.database.execute("INSERT INTO store SELECT ?, ? WHERE NOT EXISTS (SELECT * FROM store)", mine)
-        if self.database.execute("SELECT nodes, version FROM store").fetchall() != [mine]:
-            raise Damaged("the store has other nodes, or was made by another version of the library")
+        (kept, rules), = self.database.execute("SELECT nodes, rules FROM store").fetchall()
+        if why := refusal_of(rules, library) or ("the store has other nodes" if kept != nodes else None):
+            raise Damaged(why)
         self.begin()
 
     def begin(self):
@@ -109,5 +111,5 @@ if __name__ == "__main__":
         sys.exit(__doc__)
     try:
         main(*sys.argv[1:])
-    except (Damaged, lrc_embed.Fault, sqlite3.Error) as why:
+    except (Damaged, lrc_embed.Fault, lrc_embed.OtherVersion, sqlite3.Error) as why:
         sys.exit(f"store: {why}")

@@ -1,8 +1,8 @@
 #!/usr/bin/env python3
 """A primary and its standbys over PostgreSQL: the log is a table, and each process has a book of its own.
 
-Usage: store.py begin CONNECTION NODES     makes the tables, for the nodes of a file
-       store.py run CONNECTION LIBRARY     runs a standby, which leads when it can
+Usage: store.py begin CONNECTION LIBRARY NODES     makes the tables, for the nodes of a file and the rules of the library
+       store.py run CONNECTION LIBRARY             runs a standby, which leads when it can
 
 CONNECTION is as libpq takes it, LIBRARY is liblrc_embed.so. A standby follows the log, and its book compares each reply with
 the one that was kept. It leads once the primary's connection has gone, or at the line `lead` of its input; then it prints
@@ -20,14 +20,14 @@ sys.dont_write_bytecode = True
 HERE = os.path.dirname(os.path.abspath(__file__))
 sys.path += [HERE, os.path.join(HERE, os.pardir)]
 import pq
-from commands import lrc_embed, request_of
+from commands import lrc_embed, refusal_of, request_of
 
 LOCKS = 0x6C7263  # the first number of the advisory locks; the second is a term
 PIECE = 10_000  # the most records that are replayed at a time
 PAUSE = 0.005  # seconds between two looks at the log
 
 TABLES = (
-    "CREATE TABLE lead (nodes text NOT NULL, version int8 NOT NULL, term int8 NOT NULL)",
+    "CREATE TABLE lead (nodes text NOT NULL, rules int8 NOT NULL, term int8 NOT NULL)",
     """CREATE TABLE log (
         number int8 PRIMARY KEY,
         term int8 NOT NULL,
@@ -42,18 +42,18 @@ class Ended(Exception):
     """This process may not go on; the text says why."""
 
 
-def begin(connection, nodes):
+def begin(connection, library, nodes):
     for table in TABLES:
         connection.rows(table)
-    connection.rows("INSERT INTO lead VALUES ($1, $2, 0)", nodes, lrc_embed.VERSION)
+    connection.rows("INSERT INTO lead VALUES ($1, $2, 0)", nodes, lrc_embed.rules_version(library))
 
 
 class Replica:
     def __init__(self, connection, library):
         self.connection = connection
-        (nodes, version, _), = connection.rows("SELECT nodes, version, term FROM lead")
-        if version != lrc_embed.VERSION:
-            raise Ended("the log is of another version of the library")
+        (nodes, rules), = connection.rows("SELECT nodes, rules FROM lead")
+        if why := refusal_of(rules, library):
+            raise Ended(why)
         self.book = lrc_embed.Book(library, nodes)
         self.term = None  # the term in which this process leads
 
@@ -160,19 +160,21 @@ def run(connection, library):
                 print("not a request:", why, flush=True)
 
 
-def main(what, words, path):
+def main(words, path, nodes=None):
+    library = ctypes.CDLL(path)
+    lrc_embed.expect_version(library)
     connection = pq.Connection(words)
-    if what == "begin":
-        with open(path, encoding="utf-8") as file:
-            begin(connection, file.read())
+    if nodes is None:
+        run(connection, library)
     else:
-        run(connection, ctypes.CDLL(path))
+        with open(nodes, encoding="utf-8") as file:
+            begin(connection, library, file.read())
 
 
 if __name__ == "__main__":
-    if len(sys.argv) != 4 or sys.argv[1] not in ("begin", "run"):
+    if (len(sys.argv), *sys.argv[1:2]) not in ((5, "begin"), (4, "run")):
         sys.exit(__doc__)
     try:
-        main(*sys.argv[1:])
-    except (Ended, lrc_embed.Fault, pq.Error) as why:
+        main(*sys.argv[2:])
+    except (Ended, lrc_embed.Fault, lrc_embed.OtherVersion, pq.Error) as why:
         sys.exit(f"store: {why}")

@@ -17,8 +17,8 @@
 // What the file begins with.
 struct Header {
     std::uint64_t magic;
-    std::uint32_t version; // LRC_EMBED_VERSION
-    std::uint32_t nodes;   // the checksum of the text of the nodes
+    std::uint32_t rules; // their version, of which the replies are
+    std::uint32_t nodes; // the checksum of the text of the nodes
 };
 constexpr std::uint64_t MAGIC = 0x31474F4C43524C2E; // ".LRCLOG1"
 
@@ -53,7 +53,7 @@ class Log {
         if (file < 0) throw LogFailed("open", errno);
         struct stat about {};
         if (fstat(file, &about)) throw LogFailed("fstat", errno);
-        const Header mine{MAGIC, LRC_EMBED_VERSION, nodes};
+        const Header mine{MAGIC, lrc_embed_rules_version(), nodes};
         if (static_cast<std::size_t>(about.st_size) < sizeof(Header)) { // made, and nothing was told yet
             cut(0);
             write_whole(&mine, sizeof mine);
@@ -62,7 +62,7 @@ class Log {
         } else {
             Header found{};
             read_at(0, &found, sizeof found);
-            if (std::memcmp(&found, &mine, sizeof mine)) throw LogFailed("the log has other nodes or another version");
+            expect_same(found, mine);
         }
     }
     Log(const Log &) = delete;
@@ -96,6 +96,16 @@ class Log {
 
   private:
     static constexpr std::size_t PIECE = 10000;
+
+    // By other rules, or over other nodes, a replay would stop at the first reply that differs, and until then be of another
+    // history.
+    static void expect_same(const Header &found, const Header &mine) {
+        if (found.magic != MAGIC) throw LogFailed("the file is no log of this store");
+        if (found.rules != mine.rules)
+            throw LogFailed("the log is of version " + std::to_string(found.rules) +
+                            " of the rules, and the library of version " + std::to_string(mine.rules));
+        if (found.nodes != mine.nodes) throw LogFailed("the log has other nodes");
+    }
 
     static off_t place_of(std::uint64_t records) { return static_cast<off_t>(sizeof(Header) + records * sizeof(Record)); }
     static bool is_next(const Record &record, std::uint64_t number) {
