@@ -41,6 +41,8 @@ def compile_store(count, source, folder, program, *flags):
 
 def check_other_version(count, name, words):
     """A store ends at once with a library of another version, and says which it is, and its own."""
+    if words[0] is None:
+        return  # (it was not compiled, which is counted)
     ended = subprocess.run(list(map(str, words)), stdin=subprocess.DEVNULL, capture_output=True, text=True, timeout=60)
     said, own = ended.stderr.strip(), lrc_embed.VERSION
     right = f"the library has version {own + 1} of its interface, and "

@@ -36,7 +36,6 @@ class Damaged(Exception):
 
 class Store:
     def __init__(self, path, library, nodes):
-        lrc_embed.expect_version(library)
         self.library, self.nodes, self.book = library, nodes, None
         self.database = sqlite3.connect(path, isolation_level=None)
         # One process decides: a second one finds the database locked. FULL waits for the disk at each commit.
@@ -92,8 +91,10 @@ class Store:
 
 
 def main(path, library, nodes):
+    library = ctypes.CDLL(library)
+    lrc_embed.expect_version(library)
     with open(nodes, encoding="utf-8") as file:
-        store = Store(path, ctypes.CDLL(library), file.read())
+        store = Store(path, library, file.read())
     print("ready", store.count(), flush=True)
     for line in sys.stdin:
         try:
