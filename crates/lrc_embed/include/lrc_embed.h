@@ -41,8 +41,8 @@ extern "C" {
 #define LRC_EMBED_VERSION 2
 
 // The version of the rules: of what each command returns and changes. lrc_embed_rules_version() returns that of the library.
-// A log replays alike in all libraries of one version of the rules. In those of another one a reply may differ, and an image may
-// be refused or be of another state. So keep this number with each log and each image, and refuse another one.
+// A log replays alike in all libraries of one version of the rules. In those of another one a reply may differ, and an image
+// may be refused or be of another state. So keep this number with each log and each image, and refuse another one.
 #define LRC_RULES_VERSION 1
 
 // The number of stripe numbers, which are 0 to 4095. No table of stripes has more rows.
@@ -464,8 +464,8 @@ uint32_t lrc_embed_open_image(lrc_handle *handle, const uint8_t *nodes, size_t n
 // from lrc_embed_entry, at the count less 1: the command that was passed may differ from it in bytes.
 uint32_t lrc_embed_call(lrc_handle *handle, uint8_t session, const lrc_command *command, lrc_reply *reply);
 
-// The same, if the store has made `place` entries so far: if lrc_embed_before plus lrc_embed_count is `place`, so that the entry
-// becomes number `place` + 1 of the store. Else MOVED, and nothing changes. So a caller that decided by what it read at
+// The same, if the store has made `place` entries so far: if lrc_embed_before plus lrc_embed_count is `place`, so that the
+// entry becomes number `place` + 1 of the store. Else MOVED, and nothing changes. So a caller that decided by what it read at
 // `place` makes the call only if nothing came between. Otherwise as lrc_embed_call. The place counts entries, and to open
 // a handle is none: once it was closed and opened again, over other nodes say, what was read before may be old at the same
 // `place`, so read again.
@@ -534,9 +534,9 @@ uint32_t lrc_embed_entry(lrc_handle *handle, size_t index, lrc_entry *entry);
 
 // The walks. Each writes `*count` rows from the start of the buffer: the first rows of its table from a place on, as many as
 // there is room for, whatever the numbers of the place are. If `*count` is less than `length`, the table ends there; else go
-// on from the place after the last row. DONE or IS_CLOSED, and no memory is requested, but by lrc_embed_homes_on. What
-// a walk tells holds until the next entry; a walk that goes on after one may miss a row or tell an old one. That over entries
-// goes on whatever comes between: their places stay.
+// on from the place after the last row. DONE, IS_CLOSED, or what stands at the walk; and no memory is requested, but by
+// lrc_embed_homes_on. What a walk tells holds until the next entry; a walk that goes on after one may miss a row or tell an old
+// one. That over entries goes on whatever comes between: their places stay.
 // The stripes from the number `from` on, in rising order.
 uint32_t lrc_embed_stripes(lrc_handle *handle, uint16_t from, lrc_stripe *rows, size_t length, size_t *count);
 // The nodes from a position on, in the order of the text; the first is at 0.
