@@ -17,7 +17,7 @@ use lrc_walks::{are_nodes, outage_numbered, outlooks, put_outlooks};
 use std::alloc::Global;
 
 /// The stripes that would not be whole if all these nodes went offline (`outage` 1) or were lost (2), in rising order. They
-/// fill the first `count` rows. `safe` is 1 if no stripe becomes unavailable or lost, else 0. If there are fewer rows,
+/// fill the first `count` rows. `safe` is 1 if no stripe is harmed, else 0. If there are fewer rows,
 /// nothing is written but `safe` and the `count` that it needs.
 #[unsafe(no_mangle)]
 pub extern "C" fn lrc_embed_forecast(
