@@ -19,8 +19,8 @@ SAVED = struct.Struct("<B3x BBB5xIHH BBB6s3xIII4x HBBHHI4x 32H")
 # As the header has them; an index is a size_t.
 RANGES = {"session": (1, 8), "kind": (1, 18), "stripe": (0, 4095), "fragment": (0, 15), "node": (0, 65535),
           "domain": (0, 255), "epoch": (0, 4294967295), "index": (0, 18446744073709551615),
-          "place": (0, 18446744073709551615), "outage": (1, 2), "status": (0, 4294967295), "reply": (0, 255),
-          "refusal": (0, 255)}
+          "place": (0, 18446744073709551615), "outage": (1, 2),
+          "status number": (0, 4294967295), "reply number": (0, 255), "refusal number": (0, 255)}
 
 
 def done_or_fault(call):
@@ -55,7 +55,7 @@ def ways_of(book):
         "place": [lambda n: done_or_fault(lambda: book.call_at(n, 1, Command(CommandKind.NEXT))),
                   lambda n: list(book.entries(n))],
         "outage": [lambda n: book.forecast(n, [0])],
-        **{table: [lambda n, table=table: name_of(book.library, table, n)] for table in ("status", "reply", "refusal")},
+        **{f"{table} number": [lambda n, table=table: name_of(book.library, table, n)] for table in ("status", "reply", "refusal")},
     }
 
 

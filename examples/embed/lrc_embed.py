@@ -70,7 +70,7 @@ SOURCES = {Repair.LOCAL: 6, Repair.LOCAL3: 3}
 RANGES = {"session": (1, SESSIONS), "kind": (1, len(CommandKind)), "stripe": (0, STRIPES - 1),
           "fragment": (0, FRAGMENTS - 1), "node": (0, 2**16 - 1), "domain": (0, 2**8 - 1), "epoch": (0, 2**32 - 1),
           "index": (0, 2**64 - 1), "place": (0, 2**64 - 1), "outage": (1, len(Outage)),
-          "status": (0, 2**32 - 1), "reply": (0, 2**8 - 1), "refusal": (0, 2**8 - 1)}
+          "status number": (0, 2**32 - 1), "reply number": (0, 2**8 - 1), "refusal number": (0, 2**8 - 1)}
 
 
 def within(name, number):
@@ -210,7 +210,7 @@ class Fault(Exception):
 def name_of(library, table, number):
     """The word for a number: of a `status`, of the kind of a `reply`, or of a `refusal`. None if it has none."""
     text, length = (c_uint8 * 24)(), c_size_t()
-    call, number = getattr(library, f"lrc_embed_{table}_name"), within(table, number)
+    call, number = getattr(library, f"lrc_embed_{table}_name"), within(f"{table} number", number)
     status = (call((c_uint32 if table == "status" else c_uint8)(number), text, c_size_t(len(text)), ctypes.byref(length)))
     return bytes(text[:length.value]).decode() if status == Status.DONE else None
 
