@@ -66,10 +66,7 @@ fn numbers_in_upgrade(
 pub fn first_lacking(topology: &Topology, named: &[Named]) -> Option<Named>
     ensures { result ≡ first_lacking topology.now named.now }
 {
-    named
-        .iter()
-        .copied()
-        .find(|one| !has_named(topology, *one))
+    named.iter().copied().find(|one| !has_named(topology, *one))
 }
 
 /// Whether a node has the number, or is in the domain.
