@@ -18,7 +18,8 @@ use lrc_store::{Store, count_grant};
 use std::alloc::{AllocError, Global};
 
 impl Book {
-    /// Returns the entry that a call would add. Nothing changes.
+    /// Returns the entry that a call would add. Nothing changes. The laws `levels_change_by_these_alone` and
+    /// `loads_change_by_these_alone` say which levels and loads the entry can change.
     ///
     /// # Errors
     ///
