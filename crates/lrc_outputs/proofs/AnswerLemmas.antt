@@ -1,5 +1,5 @@
 -- Each bundle has an output, and only one.
-use Rattle.std.proofs.Common.{arith, ◌≡◌, ◌≢◌, ℕ, ◌≤◌, ◌↔◌, inl, inr, List, length, Option, Some, None, Result, Ok, Err, refl, sym, ap, subst, ◌∙◌}
+use Rattle.std.proofs.Common.{arith, ◌≡◌, ℕ, ◌≤◌, inl, inr, List, length, Option, Some, None, Result, Ok, Err, refl, sym, ap, subst, ◌∙◌}
 use Rattle.lrc_topology.specs.declared.NodeInfo.{NodeInfo}
 use Rattle.lrc_topology.specs.declared.error.TopologyError.{TopologyError}
 use Rattle.lrc_topology.proofs.AnswerLemmas.{one_topology, topology_or_refusal, one_refusal}
@@ -12,9 +12,7 @@ use Rattle.lrc_outputs.specs.declared.status.Status.{Status}
 use Rattle.lrc_outputs.specs.declared.status.Status.TheVariants as ended
 use Rattle.lrc_outputs.specs.Limits.{script_limit}
 use Rattle.lrc_refusals.specs.Refusals.{topology_line}
-use Rattle.lrc_outputs.specs.RefusedInputs.{bad_line_text}
 use Rattle.lrc_outputs.specs.Outputs.{early_refusal_over, Reads, first_bad_of, Ending, Judging, IsAnsweredOver, IsAnsweredAfter, IsAnsweredUnless, IsAnsweredIn, run_judging, AreCommandsOf, IsPlayed, ArePrinted, IsOutput}
-use Rattle.lrc_outputs.specs.Checks.{counted_line, AreCounted, IsCheck}
 use Rattle.lrc_outputs.proofs.CommandLemmas.{as_many_lists, same_lists, some_lists}
 use Rattle.lrc_outputs.proofs.HistoryLemmas.{same_play}
 use Rattle.lrc_outputs.proofs.TurnLemmas.{some_play}
@@ -69,10 +67,6 @@ pub one_output : (bundle text other : List ℕ) (status another : Status) → le
 one_output bundle text other status another few h k =
     one_answer (run_judging ArePrinted) 1 (λ nodes scripts t u s r short p q. (same_printed nodes scripts t u short p.0 q.0, p.1 ∙ sym q.1)) bundle text other status another (λ early. few) h k
 
-pub one_check : (bundle text other : List ℕ) (status another : Status) → IsCheck bundle text status → IsCheck bundle other another → (text ≡ other) × (status ≡ another)
-one_check bundle text other status another h k =
-    one_answer (run_judging AreCounted) (length (scripts_of bundle)) (λ nodes scripts t u s r few p q. (p.0 ∙ sym q.0, p.1 ∙ sym q.1)) bundle text other status another (λ early. omega arith) h k
-
 -- ---- at least one output
 
 -- nodes and scripts that are not too many and have no bad line have an ending
@@ -110,9 +104,6 @@ some_output =
     some_answer (run_judging ArePrinted)
     (λ nodes scripts few good. let made = some_lists scripts good in let one = some_printed nodes scripts made.0 few made.1 in (one.0, ended.Done, (one.1, refl)))
 
-pub some_check : (bundle : List ℕ) → (text : List ℕ) × (status : Status) × IsCheck bundle text status
-some_check = some_answer (run_judging AreCounted) (λ nodes scripts few good. (counted_line (length nodes) scripts, ended.Done, (refl, refl)))
-
 -- ---- refusals
 
 -- an answer that ends in another way than one judging's ending does, is that of any judging
@@ -137,9 +128,3 @@ module _ (most : ℕ) (bad_text : BadLine → List ℕ) (a b : Ending) (text : L
 
   pub ends_other : (bundle : List ℕ) → IsAnsweredIn first bundle text status → IsAnsweredIn second bundle text status
   ends_other bundle h = unless_other (early_refusal_over most bundle) bundle h
-
-pub refused_alike : (bundle text : List ℕ) (status : Status) → status ≢ ended.Done → IsCheck bundle text status ↔ IsOutput bundle text status
-refused_alike bundle text status refused = (
-  ends_other script_limit bad_line_text (run_judging AreCounted).ending (run_judging ArePrinted).ending text status (λ nodes scripts h. absurd (refused h.1)) bundle,
-  ends_other script_limit bad_line_text (run_judging ArePrinted).ending (run_judging AreCounted).ending text status (λ nodes scripts h. absurd (refused h.1)) bundle,
-)

@@ -242,6 +242,14 @@ few_scripts most bundle early =
     let none = not_many (nat_lt bundle_limit (length bundle)) (nat_lt most (length (scripts_of bundle))) _ _ early in
     ltb-false most (length (scripts_of bundle)) none
 
+-- nor is it too long
+not_long : (long many : Bool) (first second : List ℕ) → (if long then Some first else (if many then Some second else None)) ≡ None → long ≡ false
+not_long true many first second e = absurd (cc)
+not_long false many first second e = refl
+
+pub short_bundle : (most : ℕ) (bundle : List ℕ) → early_refusal_over most bundle ≡ None → length bundle ≤ bundle_limit
+short_bundle most bundle early = ltb-false bundle_limit (length bundle) (not_long (nat_lt bundle_limit (length bundle)) (nat_lt most (length (scripts_of bundle))) _ _ early)
+
 -- a fault of a run on several scripts
 pub several_or : {Z : Type 0} (A B : Type 0) (bundle : List ℕ) (nodes : List NodeInfo) (lists : List (Vec Command Z)) → IsAccepted script_limit bundle nodes lists
     → A ⊎ (B × (1 < length lists)) → A ⊎ (B × RunsSeveral bundle)

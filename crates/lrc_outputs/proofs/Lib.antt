@@ -6,6 +6,7 @@ pub mod PlayLemmas
 pub mod TrackLemmas
 pub mod JudgedLemmas
 pub mod AnswerLemmas
+pub mod EndLemmas
 pub mod CheckLemmas
 mod RowsOfSessions
 pub mod SequelLemmas
@@ -13,3 +14,4 @@ pub mod ImageSameLemmas
 pub mod OneSequelLemmas
 pub mod SomeImageLemmas
 pub mod SomeSequelLemmas
+pub mod CheckAnswerLemmas

@@ -31,7 +31,7 @@ use Rattle.lrc_outputs.proofs.ImageSameLemmas.{same-start, one-image, some-text}
 -- ---- whatever follows the checks
 
 -- these nodes, this start and at most one script have one ending
-abbrev IsOneGoing : Going → Type 0
+abbrev pub IsOneGoing : Going → Type 0
 IsOneGoing going =
     (nodes : List NodeInfo) (start : Start) (scripts : List Script) (t u : List ℕ) (s r : Status) → length scripts ≤ 1 → going nodes start scripts t s → going nodes start scripts u r → (t ≡ u) × (s ≡ r)
 
@@ -65,7 +65,7 @@ module _ (going : Going) (one : IsOneGoing going) where
   unless-one true sequel t u s r h k = (h.0 ∙ sym k.0, h.1 ∙ sym k.1)
   unless-one false sequel t u s r (o, read, h) (p, read', k) = after-one o p sequel t u s r read read' h k
 
-  one-told : (sequel t u : List ℕ) (s r : Status) → IsTold going sequel t s → IsTold going sequel u r → (t ≡ u) × (s ≡ r)
+  pub one-told : (sequel t u : List ℕ) (s r : Status) → IsTold going sequel t s → IsTold going sequel u r → (t ≡ u) × (s ≡ r)
   one-told sequel t u s r h k = unless-one (nat_lt sequel_limit (length sequel)) sequel t u s r h k
 
 -- ---- the goals

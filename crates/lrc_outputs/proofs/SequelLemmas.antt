@@ -75,26 +75,31 @@ pub refused_in : (going : Going) (start : Start) (passed : ℕ) (bundle text : L
 refused_in going start passed bundle text status h =
     ends_other 1 (bad_line_text_behind passed) NoEnding (sequel_judging going start passed).ending text status (λ nodes scripts never. absurd never) bundle h
 
-unless_going : (going : Going) (found : Option (ℕ × Cause)) (nodes : List NodeInfo) (start : Start) (scripts : List Script) (text : List ℕ) (status : Status)
-    → IsBegunUnless NotGoing found nodes start scripts text status → IsBegunUnless going found nodes start scripts text status
-unless_going going (Some found) nodes start scripts text status h = h
-unless_going going None nodes start scripts text status h = absurd h
+-- an answer that ends in another way than one going does, is that of any going
+module _ (a b : Going) (text : List ℕ) (status : Status) (other : (nodes : List NodeInfo) (start : Start) (scripts : List Script) → a nodes start scripts text status → b nodes start scripts text status) where
+  unless_other : (found : Option (ℕ × Cause)) (nodes : List NodeInfo) (start : Start) (scripts : List Script) → IsBegunUnless a found nodes start scripts text status
+      → IsBegunUnless b found nodes start scripts text status
+  unless_other (Some found) nodes start scripts h = h
+  unless_other None nodes start scripts h = other nodes start scripts h
 
-after_going : (going : Going) (outcome : Result (Option Image) ℕ) (sequel text : List ℕ) (status : Status) → IsToldAfter NotGoing outcome sequel text status → IsToldAfter going outcome sequel text status
-after_going going (Err line) sequel text status h = h
-after_going going (Ok image) sequel text status h =
-    let start = start_in image in
-    let passed = lines_before sequel in
-    ends_other 1 (bad_line_text_behind passed) (sequel_judging NotGoing start passed).ending (sequel_judging going start passed).ending text status
-    (λ nodes scripts. unless_going going (start.cause_over nodes) nodes start scripts text status) (bundle_part sequel) h
+  after_other : (outcome : Result (Option Image) ℕ) (sequel : List ℕ) → IsToldAfter a outcome sequel text status → IsToldAfter b outcome sequel text status
+  after_other (Err line) sequel h = h
+  after_other (Ok image) sequel h =
+      let start = start_in image in
+      let passed = lines_before sequel in
+      ends_other 1 (bad_line_text_behind passed) (sequel_judging a start passed).ending (sequel_judging b start passed).ending text status
+      (λ nodes scripts. unless_other (start.cause_over nodes) nodes start scripts) (bundle_part sequel) h
 
-told_unless : (going : Going) (long : Bool) (sequel text : List ℕ) (status : Status) → IsToldUnless NotGoing long sequel text status → IsToldUnless going long sequel text status
-told_unless going true sequel text status h = h
-told_unless going false sequel text status (outcome, read, h) = (outcome, read, after_going going outcome sequel text status h)
+  told_other : (long : Bool) (sequel : List ℕ) → IsToldUnless a long sequel text status → IsToldUnless b long sequel text status
+  told_other true sequel h = h
+  told_other false sequel (outcome, read, h) = (outcome, read, after_other outcome sequel h)
+
+  pub tells_other : (sequel : List ℕ) → IsTold a sequel text status → IsTold b sequel text status
+  tells_other sequel h = told_other (nat_lt sequel_limit (length sequel)) sequel h
 
 -- a refusal is the answer, whatever is written where all checks pass
 pub refused_going : (going : Going) (sequel text : List ℕ) (status : Status) → IsTold NotGoing sequel text status → IsTold going sequel text status
-refused_going going sequel text status h = told_unless going (nat_lt sequel_limit (length sequel)) sequel text status h
+refused_going going sequel text status h = tells_other NotGoing going text status (λ nodes start scripts never. absurd never) sequel h
 
 -- ---- sequels that are too long
 

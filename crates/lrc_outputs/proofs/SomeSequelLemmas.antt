@@ -28,7 +28,7 @@ use Rattle.lrc_refusals.specs.declared.refusal.InputRefusal.TheVariants as refus
 use Rattle.lrc_refusals.specs.Refusals.{refusal_line}
 use Rattle.lrc_outputs.specs.RefusedInputs.{bad_image_text, refused_row_text}
 use Rattle.lrc_outputs.specs.Outputs.{first_bad_of}
-use Rattle.lrc_outputs.specs.Sequels.{image_size, image_part, bundle_part, lines_before, ReadsImage, Start, start_in, IsBegunUnless, sequel_judging, IsToldAfter, IsToldUnless, IsImaged, safety_status, forecast_of, IsMadeFrom, IsForecastUnless, IsReached, going_to, IsSequelOutput}
+use Rattle.lrc_outputs.specs.Sequels.{image_size, image_part, bundle_part, lines_before, ReadsImage, Start, start_in, Going, IsBegunUnless, sequel_judging, IsToldAfter, IsToldUnless, IsTold, IsImaged, safety_status, forecast_of, IsMadeFrom, IsForecastUnless, IsReached, going_to, IsSequelOutput}
 use Rattle.lrc_outputs.proofs.CommandLemmas.{as_many_lists, some_lists}
 use Rattle.lrc_outputs.proofs.TurnLemmas.{some_made, some_play}
 use Rattle.lrc_outputs.proofs.AnswerLemmas.{some_answer}
@@ -97,25 +97,33 @@ some-reached (to.Table view) nodes base before lists few =
     (view_text view b.nodes (state_of b) (b.before + length b.history), ended.Done, (b, from, (refl, refl)))
 some-reached (to.Forecast outage named) nodes base before lists few = some-forecast (first_lacking nodes named) outage named nodes base before lists few
 
-module _ (goal : Goal) where
-  some-going : (nodes : List NodeInfo) (start : Start) (scripts : List Script) → length scripts ≤ 1 → first_bad_of scripts ≡ None → (text : List ℕ) × (status : Status) × going_to goal nodes start scripts text status
-  some-going nodes start scripts few good =
-      let (lists, are) = some_lists scripts good in
-      let (text, status, is) = some-reached goal nodes start.base start.before lists (omega (arith, few, as_many_lists scripts lists are)) in
-      (text, status, (lists, are, is))
+some-going : (goal : Goal) (nodes : List NodeInfo) (start : Start) (scripts : List Script) → length scripts ≤ 1 → first_bad_of scripts ≡ None
+    → (text : List ℕ) × (status : Status) × going_to goal nodes start scripts text status
+some-going goal nodes start scripts few good =
+    let (lists, are) = some_lists scripts good in
+    let (text, status, is) = some-reached goal nodes start.base start.before lists (omega (arith, few, as_many_lists scripts lists are)) in
+    (text, status, (lists, are, is))
 
+-- ---- whatever follows the checks
+
+-- nodes, a start and at most one script without a bad line have an ending
+abbrev pub IsSomeGoing : Going → Type 0
+IsSomeGoing going =
+    (nodes : List NodeInfo) (start : Start) (scripts : List Script) → length scripts ≤ 1 → first_bad_of scripts ≡ None → (text : List ℕ) × (status : Status) × going nodes start scripts text status
+
+module _ (going : Going) (some : IsSomeGoing going) where
   some-begun : (found : Option (ℕ × Cause)) (nodes : List NodeInfo) (start : Start) (scripts : List Script) → length scripts ≤ 1 → first_bad_of scripts ≡ None
-      → (text : List ℕ) × (status : Status) × IsBegunUnless (going_to goal) found nodes start scripts text status
+      → (text : List ℕ) × (status : Status) × IsBegunUnless going found nodes start scripts text status
   some-begun (Some found) nodes start scripts few good = (refused_row_text start.upgrading found, ended.Refused, (refl, refl))
-  some-begun None nodes start scripts few good = some-going nodes start scripts few good
+  some-begun None nodes start scripts few good = some nodes start scripts few good
 
-  some-after : (outcome : Result (Option Image) ℕ) (sequel : List ℕ) → (text : List ℕ) × (status : Status) × IsToldAfter (going_to goal) outcome sequel text status
+  some-after : (outcome : Result (Option Image) ℕ) (sequel : List ℕ) → (text : List ℕ) × (status : Status) × IsToldAfter going outcome sequel text status
   some-after (Err line) sequel = (bad_image_text line, ended.Refused, (refl, refl))
   some-after (Ok image) sequel =
       let start = start_in image in
-      some_answer (sequel_judging (going_to goal) start (lines_before sequel)) (λ nodes scripts few good. some-begun (start.cause_over nodes) nodes start scripts few good) (bundle_part sequel)
+      some_answer (sequel_judging going start (lines_before sequel)) (λ nodes scripts few good. some-begun (start.cause_over nodes) nodes start scripts few good) (bundle_part sequel)
 
-  some-unless : (long : Bool) (sequel : List ℕ) → nat_lt sequel_limit (length sequel) ≡ long → (text : List ℕ) × (status : Status) × IsToldUnless (going_to goal) long sequel text status
+  some-unless : (long : Bool) (sequel : List ℕ) → nat_lt sequel_limit (length sequel) ≡ long → (text : List ℕ) × (status : Status) × IsToldUnless going long sequel text status
   some-unless true sequel is = (codes "bundle 1\n", ended.Refused, (refl, refl))
   some-unless false sequel is =
       let short : length (image_part sequel) < 9223372036854775808 = omega (arith, length-take (image_size sequel) sequel, ltb-false sequel_limit (length sequel) is) in
@@ -123,5 +131,8 @@ module _ (goal : Goal) where
       let (text, status, told) = some-after outcome sequel in
       (text, status, (outcome, read, told))
 
-  pub some_sequel_output : (sequel : List ℕ) → (text : List ℕ) × (status : Status) × IsSequelOutput goal sequel text status
-  some_sequel_output sequel = some-unless (nat_lt sequel_limit (length sequel)) sequel refl
+  pub some-told : (sequel : List ℕ) → (text : List ℕ) × (status : Status) × IsTold going sequel text status
+  some-told sequel = some-unless (nat_lt sequel_limit (length sequel)) sequel refl
+
+pub some_sequel_output : (goal : Goal) (sequel : List ℕ) → (text : List ℕ) × (status : Status) × IsSequelOutput goal sequel text status
+some_sequel_output goal = some-told (going_to goal) (some-going goal)

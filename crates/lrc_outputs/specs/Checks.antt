@@ -1,13 +1,17 @@
--- What a check of a bundle writes, and how it ends.
-use Rattle.std.specs.Prelude.{◌≡◌, ℕ, not, List, [], ◌++◌, length, map, sum, filter, codes, decimal, None}
+-- What a check of a bundle or of a sequel writes, and how it ends.
+use Rattle.std.specs.Prelude.{◌≡◌, ℕ, ◌≤◌, Bool, true, false, not, ◌&&◌, if◌then◌else◌, nat_lt, List, [], ◌++◌, length, map, sum, filter, codes, decimal, Option, None, Ok, unwrap_or}
+use Rattle.std.specs.List.{last_or}
 use Rattle.lrc_topology.specs.declared.NodeInfo.{NodeInfo}
 use Rattle.lrc_topology.specs.Documents.{IsTopologyOf}
+use Rattle.lrc_images.specs.declared.image.Image.{Image}
 use Rattle.lrc_outputs.specs.declared.status.Status.{Status}
 use Rattle.lrc_outputs.specs.declared.status.Status.TheVariants as ended
-use Rattle.lrc_script.specs.Scripts.{is_passed_over}
-use Rattle.lrc_script.specs.Bundles.{Script, scripts_of, topology_of}
+use Rattle.lrc_script.specs.Scripts.{lines_of, is_passed_over}
+use Rattle.lrc_script.specs.Bundles.{Script, is_parting, scripts_of, topology_of}
 use Rattle.lrc_warnings.specs.Warnings.{warnings}
-use Rattle.lrc_outputs.specs.Outputs.{early_refusal, first_bad_of, Answer, IsAnswered}
+use Rattle.lrc_outputs.specs.Limits.{script_limit, sequel_limit}
+use Rattle.lrc_outputs.specs.Outputs.{early_refusal_over, first_bad_of, Answer, IsAnswered}
+use Rattle.lrc_outputs.specs.Sequels.{has_image, image_part, bundle_part, ReadsImage, start_in, Going, IsTold}
 
 -- how many commands a script without a bad line has: one for each line that is not skipped
 abbrev pub command_count : Script → ℕ
@@ -25,21 +29,60 @@ counted_line nodes scripts = counts_line nodes (length scripts) (sum (map comman
 abbrev pub AreCounted : Answer
 AreCounted nodes scripts text = text ≡ counted_line (length nodes) scripts
 
--- a check of this bundle writes this text and ends with this status; it refuses what a run refuses, in the same way
+-- the same behind an image, and how it ends
+abbrev pub counting : Going
+counting nodes start scripts text status = AreCounted nodes scripts text × (status ≡ ended.Done)
+
+-- what is written for an input that has an image or has none, and how it ends
+abbrev pub IsCheckIn : Bool → List ℕ → List ℕ → Status → Type 0
+IsCheckIn true sequel text status = IsTold counting sequel text status
+IsCheckIn false bundle text status = IsAnswered AreCounted bundle text status
+
+-- A check of this input writes this text and ends with this status. Behind an image it refuses what going on from the image
+-- refuses, and else what a run refuses, in the same way.
 abbrev pub IsCheck : List ℕ → List ℕ → Status → Type 0
-IsCheck bundle text status = IsAnswered AreCounted bundle text status
+IsCheck input text status = IsCheckIn (has_image input) input text status
 
 -- ---- warnings
 
--- the bundle passes all checks, and has these nodes
-pub record Passes (bundle : List ℕ) (nodes : List NodeInfo) : Type 0 where
-  pub early : early_refusal bundle ≡ None
-  pub read : IsTopologyOf (topology_of bundle) nodes
-  pub no_bad : first_bad_of (scripts_of bundle) ≡ None
+-- the most scripts of a bundle behind an image, or of one that stands alone
+abbrev pub most_scripts : Bool → ℕ
+most_scripts true = 1
+most_scripts false = script_limit
 
--- this is what the check of a bundle warns of, if it ends with this status: nothing, unless the bundle passes all checks
+-- the input passes all checks, those of its image too if it has one, and has these nodes
+pub record Passes (input : List ℕ) (nodes : List NodeInfo) : Type 0 where
+  pub short : length input ≤ sequel_limit
+  pub image : Option Image
+  pub image_read : ReadsImage (image_part input) (Ok image)
+  pub early : early_refusal_over (most_scripts (has_image input)) (bundle_part input) ≡ None
+  pub read : IsTopologyOf (topology_of (bundle_part input)) nodes
+  pub no_bad : first_bad_of (scripts_of (bundle_part input)) ≡ None
+  pub rows : (start_in image).cause_over nodes ≡ None
+
+-- what stands behind the last LF of a text, or the whole text if it has none
+abbrev pub last_line : List ℕ → List ℕ
+last_line text = unwrap_or (last_or None (lines_of text)) []
+
+-- there is something behind the last LF, and it is not the line that begins a script
+abbrev pub has_open_end : List ℕ → Bool
+has_open_end text = nat_lt 0 (length (last_line text)) && not (is_parting (last_line text))
+
+-- the line that says so
+abbrev pub open_end_line : List ℕ
+open_end_line = codes "lrcman: the last line has no end: is the file whole?\n"
+
+-- what is warned of the end of a bundle with so many scripts: that line, if the last line of the last script has no LF
+abbrev pub end_warning : ℕ → List ℕ → List ℕ
+end_warning scripts bundle = if nat_lt 0 scripts && has_open_end bundle then open_end_line else []
+
+-- what is warned of these nodes and this bundle
+abbrev pub warned_of : List NodeInfo → List ℕ → List ℕ
+warned_of nodes bundle = warnings nodes ++ end_warning (length (scripts_of bundle)) bundle
+
+-- this is what the check of an input warns of, if it ends with this status: nothing, unless the input passes all checks
 abbrev pub IsWarned : List ℕ → List ℕ → Status → Type 0
-IsWarned bundle text ended.Done = (nodes : List NodeInfo) × Passes bundle nodes × (text ≡ warnings nodes)
-IsWarned bundle text ended.BadLine = text ≡ []
-IsWarned bundle text ended.Refused = text ≡ []
-IsWarned bundle text ended.Unsafe = text ≡ []
+IsWarned input text ended.Done = (nodes : List NodeInfo) × Passes input nodes × (text ≡ warned_of nodes (bundle_part input))
+IsWarned input text ended.BadLine = text ≡ []
+IsWarned input text ended.Refused = text ≡ []
+IsWarned input text ended.Unsafe = text ≡ []

@@ -13,6 +13,6 @@ pub mod Faults
 pub mod Outputs
 pub mod Plays
 pub mod Judged
-pub mod Checks
 pub mod Sequels
+pub mod Checks
 pub mod Begun

@@ -1,6 +1,7 @@
 -- What is written for a sequel, and how it ends: an image of a state, or none, and a bundle behind it.
-use Rattle.std.specs.Prelude.{◌≡◌, ◌≢◌, ◌⊎◌, ℕ, ◌+◌, ◌≤◌, min, Bool, true, false, if◌then◌else◌, nat_lt, nat_eq, List, [], ◌∷◌, length, take, drop, count_by, All, codes, Option, Some, None, Result, Ok, Err}
+use Rattle.std.specs.Prelude.{◌≡◌, ◌≢◌, ◌⊎◌, ℕ, ◌+◌, ◌≤◌, min, Bool, true, false, ◌&&◌, if◌then◌else◌, nat_lt, nat_eq, List, [], ◌∷◌, length, take, drop, count_by, All, slice_index, codes, Option, Some, None, Result, Ok, Err}
 use Rattle.std.specs.List.{starts_with}
+use Rattle.std.specs.Char.{is_ascii_digit}
 use Rattle.lrc_code.specs.declared.numbers.UpgradeNo.{UpgradeNo}
 use Rattle.lrc_topology.specs.declared.NodeInfo.{NodeInfo}
 use Rattle.lrc_rules.specs.declared.command.Command.{Command}
@@ -42,10 +43,14 @@ abbrev pub bytes_to_end : List (List ℕ) → ℕ
 bytes_to_end [] = 0
 bytes_to_end (line ∷ lines) = length line + 1 + (if is_end line then 0 else bytes_to_end lines)
 
--- How many bytes of a sequel are the text of its image: none if it does not begin with `image `, and else all up to its first
--- line `end`, that line included, or the whole sequel if it has no such line.
+-- A sequel has an image if it begins with `image ` and a digit, as no topology does. (A byte that is not there counts as 0.)
+abbrev pub has_image : List ℕ → Bool
+has_image sequel = starts_with nat_eq sequel (codes "image ") && is_ascii_digit (slice_index sequel 6)
+
+-- How many bytes of a sequel are the text of its image: none if it has none, and else all up to its first line `end`, that line
+-- included, or the whole sequel if it has no such line.
 abbrev pub image_size : List ℕ → ℕ
-image_size sequel = if starts_with nat_eq sequel (codes "image ") then min (bytes_to_end (lines_of sequel)) (length sequel) else 0
+image_size sequel = if has_image sequel then min (bytes_to_end (lines_of sequel)) (length sequel) else 0
 
 -- the text of its image
 abbrev pub image_part : List ℕ → List ℕ

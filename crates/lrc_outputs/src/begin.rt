@@ -5,7 +5,7 @@ ghost use Rattle.lrc_restore.specs.Refused.{IsRefusedBy};
 ghost use Rattle.lrc_outputs.specs.Limits.{sequel_limit};
 ghost use Rattle.lrc_script.specs.Scripts.{lines_of};
 ghost use Rattle.lrc_script.specs.Cuts.{IsCut};
-ghost use Rattle.lrc_outputs.specs.Sequels.{bytes_to_end, image_size, ReadsImage, start_in};
+ghost use Rattle.lrc_outputs.specs.Sequels.{has_image, bytes_to_end, image_size, bundle_part, ReadsImage, start_in};
 ghost use Rattle.lrc_outputs.specs.Begun.{IsBadImage, IsFresh, IsBegunOver, IsBegunIn, IsBegunBy};
 ghost use Rattle.lrc_streams.specs.declared.streams.RunFault.TheVariants as fault;
 
@@ -54,12 +54,27 @@ pub(crate) fn begin(alloc: Global, sequel: &[u8]) -> Result<Begun, RunFault>
     }
 }
 
+/// Whether a sequel begins with an image: no topology begins with `image ` and a digit.
+pub(crate) fn has_image(sequel: &[u8]) -> bool
+    ensures { result ≡ has_image sequel.now }
+{
+    sequel.len() > 6 && sequel.starts_with(b"image ") && sequel[6].is_ascii_digit()
+}
+
+/// The bundle of a sequel, which stands behind its image.
+pub(crate) fn bundle_of(sequel: &[u8]) -> &[u8]
+    requires { length sequel.now ≤ sequel_limit }
+    ensures { result.now ≡ bundle_part sequel.now }
+{
+    &sequel[image_size(sequel)..]
+}
+
 /// The number of bytes of the image's text.
 fn image_size(sequel: &[u8]) -> usize
     requires { length sequel.now ≤ sequel_limit }
     ensures { result ≡ image_size sequel.now }
 {
-    if !sequel.starts_with(b"image ") {
+    if !has_image(sequel) {
         return 0;
     }
     bytes_to_end(sequel).min(sequel.len())

@@ -1,6 +1,6 @@
 //! Laws of the definitions. Each is the contract of a function that does nothing.
 
-ghost use Rattle.std.specs.Prelude.{◌≡◌, ◌≢◌, ◌↔◌, ◌≤◌, ℕ, List, length};
+ghost use Rattle.std.specs.Prelude.{◌≡◌, ◌≢◌, ◌↔◌, ◌≤◌, ℕ, true, false, List, length};
 ghost use Rattle.lrc_rules.specs.declared.command.Command.{Command};
 ghost use Rattle.lrc_script.specs.Scripts.{IsScript};
 ghost use Rattle.lrc_script.specs.Bundles.{Script, scripts_of};
@@ -9,7 +9,8 @@ ghost use Rattle.lrc_outputs.specs.declared.status.Status.TheVariants.{Done};
 ghost use Rattle.lrc_outputs.specs.Outputs.{IsOutput};
 ghost use Rattle.lrc_outputs.specs.Checks.{command_count, IsCheck};
 ghost use Rattle.lrc_outputs.specs.declared.sequel.Goal.{Goal};
-ghost use Rattle.lrc_outputs.specs.Sequels.{IsSequelOutput};
+ghost use Rattle.lrc_outputs.specs.declared.sequel.Goal.TheVariants.{Replies};
+ghost use Rattle.lrc_outputs.specs.Sequels.{has_image, IsSequelOutput};
 
 /// Each bundle has an output of a run.
 pub fn some_output()
@@ -22,21 +23,27 @@ pub fn one_output()
         → IsOutput bundle text status → IsOutput bundle other another → (text ≡ other) × (status ≡ another) }
 {}
 
-/// Each bundle has a line of a check.
+/// Each input has a line of a check.
 pub fn some_check()
-    ensures { (bundle : List ℕ) → (text : List ℕ) × (status : Status) × IsCheck bundle text status }
+    ensures { (input : List ℕ) → (text : List ℕ) × (status : Status) × IsCheck input text status }
 {}
 
-/// Each bundle has one line of a check.
+/// Each input has one line of a check.
 pub fn one_check()
-    ensures { (bundle text other : List ℕ) (status another : Status)
-        → IsCheck bundle text status → IsCheck bundle other another → (text ≡ other) × (status ≡ another) }
+    ensures { (input text other : List ℕ) (status another : Status)
+        → IsCheck input text status → IsCheck input other another → (text ≡ other) × (status ≡ another) }
 {}
 
-/// A check refuses what a run refuses, and nothing else, in the same words.
+/// A check of a bundle without an image refuses what a run refuses, and nothing else, in the same words.
 pub fn checks_refuse_as_runs()
-    ensures { (bundle text : List ℕ) (status : Status)
+    ensures { (bundle text : List ℕ) (status : Status) → has_image bundle ≡ false
         → status ≢ Done → IsCheck bundle text status ↔ IsOutput bundle text status }
+{}
+
+/// A check of a sequel with an image refuses what going on from the image refuses, and nothing else, in the same words.
+pub fn checks_refuse_as_sequels()
+    ensures { (sequel text : List ℕ) (status : Status) → has_image sequel ≡ true
+        → status ≢ Done → IsCheck sequel text status ↔ IsSequelOutput Replies sequel text status }
 {}
 
 /// A script has one command for each line that is not skipped.

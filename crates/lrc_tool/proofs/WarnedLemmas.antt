@@ -1,46 +1,58 @@
--- What was warned of a bundle that was read.
-use Rattle.std.proofs.Common.{◌≡◌, inl, inr, List, ℕ, codes, Option, Some, None, IfSome, refl, sym, subst, ◌∙◌}
-use Rattle.std.specs.Io.KnownBytes.{Appends, Keeps}
+-- What was checked and warned of an input that was read.
+use Rattle.std.proofs.Common.{◌≡◌, ℕ, ◌<◌, Bool, true, false, List, length, codes, Option, Some, None, IfSome, sym, subst, arith}
+use Rattle.std.proofs.lemmas.Bool.{lt-ltb}
+use Rattle.std.proofs.lemmas.List.{take_all}
+use Rattle.std.specs.Io.KnownBytes.{Appends}
 use Rattle.lrc_streams.specs.Streams.{AppendsPart}
 use Rattle.lrc_streams.specs.Reads.{IsReadUpTo}
 use Rattle.lrc_outputs.specs.declared.status.Status.{Status}
 use Rattle.lrc_outputs.specs.declared.status.Status.TheVariants as ended
-use Rattle.lrc_outputs.specs.Limits.{bundle_limit}
-use Rattle.lrc_outputs.specs.Outputs.{IsAnswered}
-use Rattle.lrc_outputs.specs.Checks.{AreCounted, IsCheck, IsWarned}
-use Rattle.lrc_tool.specs.Apart.{Written}
-use Rattle.lrc_tool.specs.Sinks.{WritesPartOfCheck}
-use Rattle.lrc_tool.proofs.ReadLemmas.{TellsAlike, too_long, bundles_alike, told_to_read, writes, writes_part}
+use Rattle.lrc_outputs.specs.Limits.{sequel_limit}
+use Rattle.lrc_outputs.specs.Outputs.{run_judging, IsAnsweredUnless}
+use Rattle.lrc_outputs.specs.Sequels.{has_image, IsToldUnless}
+use Rattle.lrc_outputs.specs.Checks.{AreCounted, counting, IsCheckIn, IsCheck, IsWarned}
+use Rattle.lrc_tool.specs.Sinks.{WritesWarnings}
+use Rattle.lrc_tool.proofs.ReadLemmas.{TellsAlike, too_long, told_to_read}
 
--- bundles that are too long are warned of the same
-pub warned_alike : TellsAlike bundle_limit IsWarned
-warned_alike a b text ended.Done p q h = absurd (let no : None ≡ Some (codes "bundle 1\n") = sym h.1.early ∙ too_long a p in cc)
+-- ---- inputs that are too long
+
+-- they are refused with this line
+abbrev IsTooLong : List ℕ → Status → Type 0
+IsTooLong text status = (text ≡ codes "bundle 1\n") × (status ≡ ended.Refused)
+
+long_told : (is : Bool) (input text : List ℕ) (status : Status) → sequel_limit < length input → IsCheckIn is input text status → IsTooLong text status
+long_told true input text status long h = subst (λ (b : Bool). IsToldUnless counting b input text status) (lt-ltb sequel_limit (length input) long) h
+long_told false input text status long h =
+    subst (λ (o : Option (List ℕ)). IsAnsweredUnless (run_judging AreCounted) o input text status) (too_long input (omega (arith, long))) h
+
+told_long : (is : Bool) (input text : List ℕ) (status : Status) → sequel_limit < length input → IsTooLong text status → IsCheckIn is input text status
+told_long true input text status long h = subst (λ (b : Bool). IsToldUnless counting b input text status) (sym (lt-ltb sequel_limit (length input) long)) h
+told_long false input text status long h =
+    subst (λ (o : Option (List ℕ)). IsAnsweredUnless (run_judging AreCounted) o input text status) (sym (too_long input (omega (arith, long)))) h
+
+pub checked_alike : TellsAlike sequel_limit IsCheck
+checked_alike a b text status p q h = told_long (has_image b) b text status q (long_told (has_image a) a text status p h)
+
+pub warned_alike : TellsAlike sequel_limit IsWarned
+warned_alike a b text ended.Done p q h = absurd (omega (arith, p, h.1.short))
 warned_alike a b text ended.BadLine p q h = h
 warned_alike a b text ended.Refused p q h = h
 warned_alike a b text ended.Unsafe p q h = h
 
-keeps_itself : (bytes : Option (List ℕ)) → Keeps bytes bytes
-keeps_itself None = tt
-keeps_itself (Some x) = refl
+-- ---- warnings
 
-module _ (after : Option (List ℕ)) (read read' text text' : List ℕ) (status : Status) (sink : Written) (same_read : read' ≡ read) (same_text : text' ≡ text) where
-  -- a prefix of the line was written
-  pub part_of_line : (errors before : Option (List ℕ)) → IsReadUpTo bundle_limit before after read → IsCheck read' text status → AppendsPart sink.old sink.new text'
-      → IfSome before (λ input. WritesPartOfCheck sink (record { old = errors; new = errors }) input)
-  part_of_line errors None taken line part = tt
-  part_of_line errors (Some input) taken line part =
-      inl
-      (writes_part (IsAnswered AreCounted) bundle_limit (bundles_alike AreCounted) after read read' text text' status sink.old sink.new same_read same_text (Some input) taken line part, keeps_itself errors)
+-- what was written whole is a beginning too
+pub whole_part : (old new : Option (List ℕ)) (bytes : List ℕ) → Appends old new bytes → AppendsPart old new bytes
+whole_part old new bytes written = record { count = length bytes; within = omega arith; written = subst (Appends old new) (sym (take_all (length bytes) bytes (omega arith))) written }
 
-  -- the line was written whole, and a prefix of what is warned of
-  pub part_of_warnings : (warned warned' : List ℕ) (errors : Written) → warned' ≡ warned → (before : Option (List ℕ)) → IsReadUpTo bundle_limit before after read → IsCheck read' text status
-      → Appends sink.old sink.new text' → IsWarned read' warned status → AppendsPart errors.old errors.new warned' → IfSome before (λ input. WritesPartOfCheck sink errors input)
-  part_of_warnings warned warned' errors same None taken line written told part = tt
-  part_of_warnings warned warned' errors same (Some input) taken line written told part =
-      inr (record {
-        status = status;
-        line = writes (IsAnswered AreCounted) bundle_limit (bundles_alike AreCounted) after read read' text text' status sink.old sink.new same_read same_text (Some input) taken line written;
-        text = warned;
-        warned = told_to_read IsWarned bundle_limit warned_alike input read warned status after taken (subst (λ (b : List ℕ). IsWarned b warned status) same_read told);
-        part = subst (AppendsPart errors.old errors.new) same part;
-      })
+-- what stands in the code's own names: the bytes that were read, and what is warned of
+pub warns : (failed : Bool) (after : Option (List ℕ)) (read read' warned warned' : List ℕ) (status : Status) (old new : Option (List ℕ)) → read' ≡ read → warned' ≡ warned
+    → (before : Option (List ℕ)) → IsReadUpTo sequel_limit before after read → IsWarned read' warned status → AppendsPart old new warned' → (failed ≡ false → Appends old new warned')
+    → IfSome before (λ input. WritesWarnings failed old new input status)
+warns failed after read read' warned warned' status old new same_read same None taken told part whole = tt
+warns failed after read read' warned warned' status old new same_read same (Some input) taken told part whole = record {
+  text = warned;
+  warned = told_to_read IsWarned sequel_limit warned_alike input read warned status after taken (subst (λ (b : List ℕ). IsWarned b warned status) same_read told);
+  part = subst (AppendsPart old new) same part;
+  whole = λ well. subst (Appends old new) same (whole well);
+}

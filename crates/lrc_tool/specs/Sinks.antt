@@ -1,13 +1,12 @@
 -- What of an output was written to a sink, after what was written before.
-use Rattle.std.specs.Prelude.{ℕ, ◌≤◌, ◌⊎◌, List, length, take, Option}
-use Rattle.std.specs.Io.KnownBytes.{Appends, Keeps}
+use Rattle.std.specs.Prelude.{◌≡◌, ℕ, ◌≤◌, Bool, false, List, length, take, Option}
+use Rattle.std.specs.Io.KnownBytes.{Appends}
 use Rattle.lrc_streams.specs.Streams.{AppendsPart}
 use Rattle.lrc_outputs.specs.declared.sequel.Goal.{Goal}
 use Rattle.lrc_outputs.specs.declared.status.Status.{Status}
 use Rattle.lrc_outputs.specs.Outputs.{Answer, IsAnswered, ArePrinted}
-use Rattle.lrc_outputs.specs.Checks.{AreCounted, IsWarned}
+use Rattle.lrc_outputs.specs.Checks.{IsCheck, IsWarned}
 use Rattle.lrc_outputs.specs.Sequels.{IsSequelOutput}
-use Rattle.lrc_tool.specs.Apart.{Written}
 
 -- which text is written for an input, and how it ends
 abbrev pub Telling : Type 1
@@ -58,24 +57,17 @@ WritesPartOfSequelOutput goal old new sequel = WritesPartOfTold (IsSequelOutput 
 
 -- ---- the line of a check, and what it warns of
 
--- the line of the check of this bundle was written, whole, after what was written before
+-- the line of the check of this input was written, whole, after what was written before
 abbrev pub WritesCheck : Option (List ℕ) → Option (List ℕ) → List ℕ → Status → Type 0
-WritesCheck old new bundle status = Writes AreCounted old new bundle status
+WritesCheck old new input status = WritesTold IsCheck old new input status
 
--- what it warns of was written, whole, after what was written before
-abbrev pub WritesWarnings : Option (List ℕ) → Option (List ℕ) → List ℕ → Status → Type 0
-WritesWarnings old new bundle status = WritesTold IsWarned old new bundle status
+-- a prefix of that line was written after what was written before
+abbrev pub WritesPartOfCheck : Option (List ℕ) → Option (List ℕ) → List ℕ → Type 0
+WritesPartOfCheck old new input = WritesPartOfTold IsCheck old new input
 
--- ---- what was written of a check before a write failed
-
--- the line was written, whole, and a prefix of what is warned of
-pub record WritesPartOfWarnings (sink errors : Written) (bundle : List ℕ) : Type 0 where
-  pub status : Status
-  pub line : WritesCheck sink.old sink.new bundle status
+-- A prefix of what it warns of was written after what was written before, and all of it unless a write has failed.
+pub record WritesWarnings (failed : Bool) (old new : Option (List ℕ)) (input : List ℕ) (status : Status) : Type 0 where
   pub text : List ℕ
-  pub warned : IsWarned bundle text status
-  pub part : AppendsPart errors.old errors.new text
-
--- a prefix of the line, or the line and a prefix of what is warned of, was written after what was written before
-abbrev pub WritesPartOfCheck : Written → Written → List ℕ → Type 0
-WritesPartOfCheck sink errors bundle = (WritesPart AreCounted sink.old sink.new bundle × Keeps errors.old errors.new) ⊎ WritesPartOfWarnings sink errors bundle
+  pub warned : IsWarned input text status
+  pub part : AppendsPart old new text
+  pub whole : failed ≡ false → Appends old new text

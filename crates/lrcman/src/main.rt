@@ -131,7 +131,7 @@ fn serve<T: Threads + Wait + Sync>(
         Request::Run => run_input(rt, threads),
         Request::Check => check_input(rt),
         Request::Resume => go_on_input(rt, Goal::Replies),
-        Request::Image => go_on_input(rt, Goal::Image),
+        Request::Image => ask_input(rt, Goal::Image),
         Request::Show(view) => ask_input(rt, Goal::Table(*view)),
         Request::Forecast(outage, named) => {
             ask_input(rt, Goal::Forecast(*outage, named.as_slice()))

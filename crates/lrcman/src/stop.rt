@@ -14,7 +14,7 @@ pub(crate) enum Stop {
     /// The command line is refused.
     #[error("usage:
   lrcman run < BUNDLE               run the scripts; print replies, stripes at risk and nodes
-  lrcman check < BUNDLE             check topology and scripts, and run nothing
+  lrcman check < SEQUEL             check image, topology and scripts, and run nothing
   lrcman resume < SEQUEL            run a script from an image on
   lrcman image < SEQUEL             print the image after it
   lrcman show WHAT < SEQUEL         print a table of the state after it: status, stripes, nodes, leases or work
