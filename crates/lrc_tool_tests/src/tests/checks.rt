@@ -2,7 +2,7 @@
 
 use crate::tests::fakes::{Dribble, Failure};
 use crate::tests::{ONE_NODE, ONE_NODE_WARNINGS};
-use lrc_tool::{Plain, RunFault, Sink, Status, check};
+use lrc_tool::{Plain, Sink, Status, check};
 use std::alloc::Global;
 
 /// Returns whether a check of such streams, or of fresh ones, ends with this status, writes this line, and warns of both
@@ -30,7 +30,7 @@ fn is_told(alloc: Global, bundle: &str, line: &str, status: Status, failed: bool
 fn streams_that_failed_are_read_and_written_like_fresh_ones(rt: HostRuntime) {
     let rows = [
         (
-            "node = [{number = 1, fault = 0, upgrade = 0, slots = 1}]\n%%\nplace 1\n# no command\n\nplace 1\ndrop 7",
+            "node = [{number = 1, fault = 0, upgrade = 0, slots = 1}]\n%%\nplace 1\n# no command\n\nplace 1\ndrop 7\n",
             "ok nodes 1 scripts 1 commands 3\n",
             Status::Done,
         ),
@@ -58,7 +58,7 @@ fn streams_that_failed_are_read_and_written_like_fresh_ones(rt: HostRuntime) {
     }
 }
 
-/// Returns whether a check is right whose second sink fails at this call: the line was written whole, and before it
+/// Returns whether a check is right whose second sink fails at this call: it ends as without, the line was written whole, and
 /// nothing of the warnings but what the sink took.
 fn is_warned(alloc: Global, failure: Failure, fails_at: usize) -> bool {
     let mut source = Plain::new(ONE_NODE);
@@ -71,19 +71,15 @@ fn is_warned(alloc: Global, failure: Failure, fails_at: usize) -> bool {
     });
     let result = check(alloc, &mut source, &mut sink, &mut errors);
     let all = ONE_NODE_WARNINGS.len();
-    let is_ended = if fails_at <= all + 1 {
-        result == Err(RunFault::Write) && errors.failed()
-    } else {
-        result == Ok(Status::Done) && !errors.failed()
-    };
     let taken = fails_at.saturating_sub(1).min(all);
-    is_ended
+    result == Ok(Status::Done)
+        && errors.failed() == (fails_at <= all + 1)
         && sink.inner.as_slice() == b"ok nodes 1 scripts 1 commands 1\n".as_slice()
         && errors.inner.taken.as_slice() == &ONE_NODE_WARNINGS[..taken]
 }
 
 #[test]
-fn the_line_is_written_before_the_warnings(rt: HostRuntime) {
+fn a_warning_that_fails_changes_neither_line_nor_status(rt: HostRuntime) {
     let all = ONE_NODE_WARNINGS.len();
     for fails_at in [1, 2, 85, all, all + 1, all + 2] {
         assert!(rt;
