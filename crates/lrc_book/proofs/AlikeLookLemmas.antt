@@ -1,5 +1,5 @@
 -- Alike states show the same to every look.
-use Rattle.std.proofs.Common.{◌≡◌, Bool, not, ◌&&◌, if◌then◌else◌, false, List, filter, Option, Some, None, option_map, is_none, is_some}
+use Rattle.std.proofs.Common.{◌≡◌, not, ◌&&◌, if◌then◌else◌, false, List, filter, Some, None, option_map, is_none, is_some}
 use Rattle.std.specs.Option.{option_map_or}
 use Rattle.std.proofs.Math.Path.{fun_ext}
 use Rattle.lrc_code.specs.declared.numbers.StripeNo.{StripeNo}
@@ -11,7 +11,6 @@ use Rattle.lrc_topology.specs.declared.seat.Seat.{Seat}
 use Rattle.lrc_topology.specs.Nodes.{node_at}
 use Rattle.lrc_terms.specs.Stripes.{StripeFragment}
 use Rattle.lrc_rules.specs.States.{State}
-use Rattle.lrc_rules.specs.Urgency.{is_grantable}
 use Rattle.lrc_rules.specs.Alike.{AreAlike}
 use Rattle.lrc_rules.specs.Goodness.{AreSeated}
 use Rattle.lrc_rules.proofs.AlikeReadLemmas.{alike-there, alike-down, alike-homes, alike-leases, alike-needs, alike-kind, alike-beyond}
