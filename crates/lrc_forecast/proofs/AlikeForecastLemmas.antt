@@ -1,19 +1,25 @@
 -- Alike states have the same forecasts.
-use Rattle.std.proofs.Common.{◌≡◌, not, ◌&&◌, ◌||◌, List, map, filter, sym, ◌∙◌}
+use Rattle.std.specs.Prelude.{option_to_list}
+use Rattle.std.proofs.Common.{◌≡◌, not, is_none, length, flat_map, ◌&&◌, ◌||◌, List, map, filter, sym, ◌∙◌}
+use Rattle.std.proofs.lemmas.Map.Entries.{option_filter}
 use Rattle.std.proofs.Math.Path.{fun_ext}
+use Rattle.lrc_code.specs.declared.codes.Code.TheVariants.{Wide}
 use Rattle.lrc_code.specs.declared.numbers.NodeNo.{NodeNo}
-use Rattle.lrc_code.specs.Codes.{has_fragment}
+use Rattle.lrc_code.specs.declared.numbers.Fragment.{Fragment}
+use Rattle.lrc_code.specs.Codes.{fragments, has_fragment}
 use Rattle.lrc_code.specs.Losses.{bits_of}
 use Rattle.lrc_topology.specs.declared.NodeInfo.{NodeInfo}
+use Rattle.lrc_terms.specs.declared.lease.Lease.{Lease}
 use Rattle.lrc_terms.specs.Levels.{homeless_in, missing_in, level_by, is_whole}
-use Rattle.lrc_rules.specs.States.{State, code_of, homeless, missing, level}
+use Rattle.lrc_rules.specs.States.{State, code_of, lease_of, homeless, missing, level}
 use Rattle.lrc_rules.specs.Alike.{AreAlike}
 use Rattle.lrc_rules.specs.Goodness.{AreSeated}
-use Rattle.lrc_rules.proofs.AlikeReadLemmas.{alike-code, alike-online_at, alike-homes}
+use Rattle.lrc_rules.proofs.AlikeReadLemmas.{alike-code, alike-online_at, alike-homes, alike-leases}
 use Rattle.lrc_book.proofs.AlikeLookLemmas.{alike-looks}
 use Rattle.lrc_forecast.specs.declared.outlook.Outage.{Outage}
 use Rattle.lrc_forecast.specs.declared.outlook.Outage.TheVariants.{Stop, Lose}
-use Rattle.lrc_forecast.specs.Forecasts.{state_with, is_on_any, hit_in, outlook, forecast}
+use Rattle.lrc_forecast.specs.Forecasts.{state_with, is_on_any, hit_in, stripe_leases, outlook, forecast}
+use Rattle.lrc_forecast.proofs.LeaseLemmas.{is_hit, lease-stopped, lease-lost}
 use Rattle.lrc_forecast.proofs.OutageLemmas.{code-after, missing-after, homeless-stopped, homeless-lost}
 
 module _ (nodes : List NodeInfo) (w v : State) (alike : AreAlike w v) (seated : AreSeated nodes w) (seated' : AreSeated nodes v) where
@@ -63,6 +69,17 @@ module _ (nodes : List NodeInfo) (w v : State) (alike : AreAlike w v) (seated : 
       let hit = same-hit Lose ns in
       homeless-lost nodes w ns s f seated.one_home ∙ (λ i. homeless i s f || hit i s f) ∙ sym (homeless-lost nodes v ns s f seated'.one_home)))
 
+  lease-then : (outage : Outage) (ns : List NodeNo) → lease_of (state_with outage w ns) ≡ lease_of (state_with outage v ns)
+  lease-then Stop ns = fun_ext (λ s. fun_ext (λ f.
+      let lease = alike-leases nodes w v alike seated seated' in
+      lease-stopped w ns s f ∙ (λ i. lease i s f.value) ∙ sym (lease-stopped v ns s f)))
+  lease-then Lose ns = fun_ext (λ s. fun_ext (λ f.
+      let lease = alike-leases nodes w v alike seated seated' in
+      let homes = alike-homes nodes w v alike seated seated' in
+      lease-lost w ns s f seated.one_home seated.one_lease
+      ∙ (λ i. option_filter (λ (l : Lease). not (is_hit ns l.target (homes i l.stripe l.fragment.value))) (lease i s f.value))
+      ∙ sym (lease-lost v ns s f seated'.one_home seated'.one_lease)))
+
   module _ (outage : Outage) (ns : List NodeNo) where
     level-then : level nodes (state_with outage w ns) ≡ level nodes (state_with outage v ns)
     level-then =
@@ -71,12 +88,24 @@ module _ (nodes : List NodeInfo) (w v : State) (alike : AreAlike w v) (seated : 
         let missing = missing-then outage ns in λ i s. level_by (code i s) (homeless i s) (missing i s)
 
     same-outlook : outlook nodes w (state_with outage w ns) ≡ outlook nodes v (state_with outage v ns)
+    unfolding stripe_leases
     same-outlook =
         let code = alike-code w v alike in
         let before = same-level in
         let after = level-then in
+        let now = same-missing in
         let missing = missing-then outage ns in
-        λ i s. record { stripe = s; code = code i s; before = before i s; after = after i s; missing = record { bits = bits_of (code i s) (missing i s) } }
+        let lease = alike-leases nodes w v alike seated seated' in
+        let later = lease-then outage ns in
+        λ i s. record {
+          stripe = s;
+          code = code i s;
+          before = before i s;
+          after = after i s;
+          missing = record { bits = bits_of (code i s) (missing i s) };
+          newly_missing = record { bits = bits_of (code i s) (λ f. missing i s f && not (now i s f)) };
+          leases_ended = length (filter (λ (l : Lease). is_none (later i l.stripe l.fragment)) (flat_map (λ (f : Fragment). option_to_list (lease i s f.value)) (fragments Wide)));
+        }
 
     pub alike-forecast : forecast nodes w outage ns ≡ forecast nodes v outage ns
     alike-forecast =
