@@ -13,7 +13,7 @@ use std::sync::Wait;
 
 /// Makes a book over twenty nodes.
 pub(crate) fn new_book(alloc: Global) -> Result<Book, Stop>
-    ensures { IfOk result (λ b. (b.history ≡ []) × (b.base ≡ first_world)) }
+    ensures { IfOk result (λ b. (b.history ≡ []) × (b.base ≡ first_world) × (b.before ≡ 0)) }
 {
     let nodes = twenty_nodes(alloc)?;
     match Book::new(alloc, nodes) {

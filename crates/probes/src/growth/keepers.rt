@@ -19,7 +19,7 @@ pub(crate) fn open_once(rt: &impl Host) -> Result<bool, Stop> {
 }
 
 fn open_over<N: ViewNaming, R: Host>(rt: &R, book: Book, log: NewLog) -> Result<bool, Stop>
-    requires book { (book.history ≡ []) × (book.nodes ≡ N.topology) × (book.limit ≡ N.limit) × (book.base ≡ first_world) }
+    requires book { (book.history ≡ []) × (book.nodes ≡ N.topology) × (book.limit ≡ N.limit) × (book.base ≡ first_world) × (book.before ≡ 0) }
     requires log { (log.prefix.book ≡ N.log) × (log.permit.nib.key ≡ N.start) }
 {
     begin(rt);
@@ -46,7 +46,7 @@ fn try_over<N: ViewNaming, R: Host>(
     log: NewLog,
     trial: &Trial,
 ) -> Result<(), Stop>
-    requires book { (book.history ≡ []) × (book.nodes ≡ N.topology) × (book.limit ≡ N.limit) × (book.base ≡ first_world) }
+    requires book { (book.history ≡ []) × (book.nodes ≡ N.topology) × (book.limit ≡ N.limit) × (book.base ≡ first_world) × (book.before ≡ 0) }
     requires log { (log.prefix.book ≡ N.log) × (log.permit.nib.key ≡ N.start) }
 {
     let (mut keeper, mut viewers) = Keeper::<N>::open(rt.alloc(), rt, book, log, 1)?;
