@@ -118,7 +118,7 @@ module _ (nodes : List NodeInfo) (base : World) (before : ℕ) (lists : List (Li
   reached-one (to.Table view) t u s r (b, p, h) (c, q, k) =
       let same = same-table view b c (p.over ∙ sym q.over) (p.begun ∙ sym q.begun) (p.before_is ∙ sym q.before_is) (same-history b c p q) t s h in
       (same.0 ∙ sym k.0, same.1 ∙ sym k.1)
-  reached-one (to.Forecast outage named) t u s r h k = forecast-one (first_lacking nodes named) outage named t u s r h k
+  reached-one (to.Forecast outage named) t u s r h k = forecast-one (first_lacking nodes named.now) outage named.now t u s r h k
 
 going-one : (goal : Goal) → IsOneGoing (going_to goal)
 going-one goal nodes start scripts t u s r few (lists, are, h) (others, too, k) =

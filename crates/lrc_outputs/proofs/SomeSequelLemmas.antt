@@ -95,7 +95,7 @@ some-reached to.Image nodes base before lists few =
 some-reached (to.Table view) nodes base before lists few =
     let (b, from) = some-book nodes base before lists few in
     (view_text view b.nodes (state_of b) (b.before + length b.history), ended.Done, (b, from, (refl, refl)))
-some-reached (to.Forecast outage named) nodes base before lists few = some-forecast (first_lacking nodes named) outage named nodes base before lists few
+some-reached (to.Forecast outage named) nodes base before lists few = some-forecast (first_lacking nodes named.now) outage named.now nodes base before lists few
 
 some-going : (goal : Goal) (nodes : List NodeInfo) (start : Start) (scripts : List Script) → length scripts ≤ 1 → first_bad_of scripts ≡ None
     → (text : List ℕ) × (status : Status) × going_to goal nodes start scripts text status

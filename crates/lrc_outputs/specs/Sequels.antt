@@ -166,7 +166,7 @@ abbrev pub IsReached : Goal → List NodeInfo → World → ℕ → List (List C
 IsReached to.Replies nodes base before lists text status = IsPlayedFrom nodes base before lists text × (status ≡ ended.Done)
 IsReached to.Image nodes base before lists text status = (b : BookView) × IsMadeFrom nodes base before lists b × IsImaged b text status
 IsReached (to.Table view) nodes base before lists text status = (b : BookView) × IsMadeFrom nodes base before lists b × IsTable view b text status
-IsReached (to.Forecast outage named) nodes base before lists text status = IsForecastUnless (first_lacking nodes named) outage named nodes base before lists text status
+IsReached (to.Forecast outage named) nodes base before lists text status = IsForecastUnless (first_lacking nodes named.now) outage named.now nodes base before lists text status
 
 -- the same of scripts with these lines, in a book that begins here
 abbrev pub going_to : Goal → Going
