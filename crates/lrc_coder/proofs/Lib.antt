@@ -1,0 +1,3 @@
+pub mod ProductLemmas
+pub mod SumLemmas
+pub mod StripeLemmas

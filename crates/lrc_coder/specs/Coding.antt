@@ -1,0 +1,46 @@
+-- What is encoded and rebuilt, and which buffers are refused.
+use Rattle.std.specs.Prelude.{◌≡◌, ◌≢◌, ℕ, ◌<◌, List, length, ◌++◌, get_or, IsTrue}
+use Rattle.lrc_code.specs.declared.codes.Code.{Code}
+use Rattle.lrc_code.specs.Codes.{fragment_count}
+use Rattle.lrc_code.specs.Losses.{FragmentSet}
+use Rattle.lrc_field.specs.Stripes.{Bytes, IsStripe, data_count}
+use Rattle.lrc_field.specs.Recipes.{IsRecipe, read_by}
+use Rattle.lrc_coder.specs.Buffers.{buffer_at, bytes_at, each_of, AreLong, IsSum}
+use Rattle.lrc_coder.specs.declared.error.CodingError.{CodingError}
+use Rattle.lrc_coder.specs.declared.error.CodingError.TheVariants.{Count, Length}
+
+-- the buffers are as many as the data fragments and the parities of a stripe
+abbrev pub AreCounted : Code → List (List ℕ) → List (List ℕ) → Type 0
+AreCounted code sources parities = (length sources ≡ data_count code) × (length parities ≡ 4)
+
+-- each of the first `n` buffers is as long as the first
+abbrev pub AreEven : List (List ℕ) → ℕ → Type 0
+AreEven buffers n = (f : ℕ) → f < n → length (buffer_at buffers f) ≡ length (buffer_at buffers 0)
+
+-- why buffers are not encoded: their number, or else the first one of another length than the first
+abbrev pub IsEncodeRefusal : Code → List (List ℕ) → List (List ℕ) → CodingError → Type 0
+IsEncodeRefusal code sources parities Count = AreCounted code sources parities → ⊥
+IsEncodeRefusal code sources parities (Length f) =
+    AreCounted code sources parities × (f.value < fragment_count code)
+    × (length (buffer_at (sources ++ parities) f.value) ≢ length (buffer_at sources 0)) × AreEven (sources ++ parities) f.value
+
+-- why a fragment is not rebuilt: the number of buffers, or else the first one that is read and not as long as the result
+abbrev pub IsRebuildRefusal : Code → List ℕ → List (List ℕ) → ℕ → CodingError → Type 0
+IsRebuildRefusal code coefficients fragments long Count = length fragments ≢ fragment_count code
+IsRebuildRefusal code coefficients fragments long (Length f) =
+    (length fragments ≡ fragment_count code) × (f.value < fragment_count code) × (each_of coefficients f.value ≢ 0)
+    × (length (buffer_at fragments f.value) ≢ long) × AreLong coefficients fragments f.value long
+
+-- The parities were made of the data: at each position the bytes are a stripe, in which the data are what they were.
+pub record IsEncoded (code : Code) (sources before after : List (List ℕ)) : Type 0 where
+  pub counted : AreCounted code sources before
+  pub even : AreEven (sources ++ before) (fragment_count code)
+  pub stripe : (i : ℕ) → i < length (buffer_at sources 0) → IsStripe code (bytes_at (sources ++ after) i)
+
+-- At each position there is the sum of the fragments' bytes, each times its coefficient. If the recipe is one of a fragment, and what it reads are bytes of a stripe, then that is the fragment's byte.
+pub record IsRebuilt (code : Code) (coefficients : List ℕ) (fragments : List (List ℕ)) (before after : List ℕ) : Type 0 where
+  pub counted : length fragments ≡ fragment_count code
+  pub lengths : AreLong coefficients fragments (fragment_count code) (length before)
+  pub sum : IsSum coefficients fragments (fragment_count code) before after
+  pub exact : (missing : FragmentSet) (f i : ℕ) (v : Bytes) → IsRecipe code missing f (each_of coefficients) → IsStripe code v →
+      ((g : ℕ) → IsTrue (read_by (each_of coefficients) g) → bytes_at fragments i g ≡ v g) → i < length before → get_or after i 0 ≡ v f

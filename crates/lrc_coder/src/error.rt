@@ -1,0 +1,13 @@
+use lrc_code::Fragment;
+use thiserror::Error;
+
+/// Why buffers are refused. Nothing has been written then.
+#[derive(Clone, Copy, Debug, PartialEq, Eq, Error)]
+pub enum CodingError {
+    /// The buffers are not as many as the code has fragments.
+    #[error("the buffers are not as many as the fragments of the code")]
+    Count,
+    /// The buffer of this fragment has another length than the others.
+    #[error("the buffer of fragment {0:?} has another length")]
+    Length(Fragment),
+}

@@ -1,0 +1,4 @@
+pub mod NumberLemmas
+pub mod AnswerLemmas
+pub mod LineLemmas
+pub mod LawLemmas

@@ -1,0 +1,3 @@
+pub mod LevelByteLemmas
+pub mod SourceLemmas
+pub mod LeaseByteLemmas

@@ -1,0 +1,344 @@
+-- The recipe that weights give.
+use Rattle.std.proofs.Common.{◌≡◌, ◌≢◌, ℕ, ◌+◌, ◌<◌, ◌≤◌, Bool, true, false, cond, if◌then◌else◌, not, ◌&&◌, ◌||◌, eqb, nat_eq, List, length, get_or, count_by, lit<, refl, sym, ap, ◌∙◌, inl, inr, arith}
+use Rattle.std.specs.Option.{option_map_or}
+use Rattle.std.proofs.lemmas.Bool.{cases_Bool, cases_lt, eqb-true, eq-eqb, ne_eqb, le-ltb, or_cases, or_left, or_right, and_parts, and_from, not-true, not-false, agree_below, agree_below_at}
+use Rattle.std.proofs.lemmas.List.{get_or_past}
+use Rattle.lrc_code.specs.declared.codes.Code.{Code}
+use Rattle.lrc_code.specs.declared.codes.Code.TheVariants.{Wide, Narrow}
+use Rattle.lrc_code.specs.declared.numbers.Fragment.{Fragment}
+use Rattle.lrc_code.specs.Numbers.{same_fragment}
+use Rattle.lrc_code.specs.Codes.{fragment_count, class_of, are_one_class, share_class, is_local_class, other_count}
+use Rattle.lrc_code.specs.Losses.{FragmentSet, IsRecoverable, size_of, joined, is_local}
+use Rattle.lrc_code.proofs.SizeLemmas.{recoverable_part}
+use Rattle.lrc_field.specs.Stripes.{Bytes, IsStripe, data_count, numbers_of, sum_of, outside, Determines}
+use Rattle.lrc_field.specs.Recipes.{read_by, readable, IsRecipe}
+use Rattle.lrc_field.specs.Weights.{Weights, value_at, in_equation, coefficient_by, weights_for, local_weights}
+use Rattle.lrc_field.proofs.FieldLemmas.{times_zero}
+use Rattle.lrc_field.proofs.MemberLemmas.{only, fragments_below, at_most_sixteen, size_of-outside, four_parities}
+use Rattle.lrc_field.proofs.ValueLemmas.{rebuilt}
+use Rattle.lrc_field.proofs.SumLemmas.{sum_of-agree}
+use Rattle.lrc_field.proofs.CountLemmas.{listed_count}
+use Rattle.lrc_field.proofs.LeftOutLemmas.{four}
+use Rattle.lrc_field.proofs.ZeroLemmas.{is_out}
+use Rattle.lrc_field.proofs.NearLemmas.{is_beside, IsAlone, alone_from, SomeNear, near_from}
+use Rattle.lrc_field.proofs.DecodableLemmas.{Rebuilds, LeavesOut, rebuilds_near, rebuilds_local, local_value, determined, except}
+use Rattle.lrc_field.proofs.DeterminedLemmas.{recoverable_near, size_of-within, many_known}
+
+-- ---- numbers that the code lacks
+
+no_equation : (code : Code) (j f : ℕ) → j < 4 → fragment_count code ≤ f → in_equation code j f ≡ 0
+no_equation code j f few past =
+    let parities = four_parities code in
+    rw (le-ltb f (data_count code) (omega (arith, past, parities)), ne_eqb f (data_count code + j) (omega (arith, few, past, parities))) refl
+
+-- a fragment that the code lacks gets 0
+pub no_value : (code : Code) (w : Weights) (f : ℕ) → fragment_count code ≤ f → value_at code w f ≡ 0
+unfolding value_at
+no_value code w f past =
+    rw (no_equation code 0 f (lit< tt) past, no_equation code 1 f (lit< tt) past, no_equation code 2 f (lit< tt) past, no_equation code 3 f (lit< tt) past, times_zero w.local_a, times_zero w.local_b, times_zero w.global, times_zero w.square) refl
+
+-- the coefficients are those of the weights, for all sixteen numbers
+pub record AreOf (code : Code) (f : ℕ) (w : Weights) (c : ℕ → ℕ) : Type 0 where
+  pub by : (g : ℕ) → g < 16 → c g ≡ coefficient_by code f w g
+  pub past : (g : ℕ) → 16 ≤ g → c g ≡ 0
+
+-- the others of a set that determines the fragment
+module _ (code : Code) (c : ℕ → ℕ) (g : ℕ) where
+  pub unread : c g ≡ 0 → read_by c g ≡ false
+  unread none = rw none refl
+
+  pub read_none : read_by c g ≡ false → c g ≡ 0
+  read_none out = eqb-true (c g) 0 (not-false (eqb (c g) 0) out)
+
+  pub read_some : read_by c g ≡ true → c g ≢ 0
+  read_some reads none = let e : read_by c g ≡ false = unread none in let k : true ≡ false = sym reads ∙ e in cc
+
+module _ (code : Code) (m o : FragmentSet) (f : ℕ) (w : Weights) (c : ℕ → ℕ) (within : f < fragment_count code) (out : o f ≡ false) (others : (g : ℕ) → o g ≡ (not (eqb g f) && m g)) (rebuilds : Rebuilds code o f w) (are : AreOf code f w c) where
+  own : c f ≡ 0
+  own = are.by f (let sixteen = at_most_sixteen code in omega (arith, within, sixteen)) ∙ rw (eq-eqb f f refl) refl
+
+  lacking : (g : ℕ) → fragment_count code ≤ g → c g ≡ 0
+  lacking g past = elim (cases_lt g 16) [
+    | inr high ↦ are.past g high
+    | inl low ↦ are.by g low ∙ rw (ne_eqb g f (omega (arith, within, past))) (no_value code w g past)
+  ]
+
+  by_weights : (g : ℕ) → g < fragment_count code → c g ≡ coefficient_by code f w g
+  by_weights g few = are.by g (let sixteen = at_most_sixteen code in omega (arith, few, sixteen))
+
+  lost : (g : ℕ) → g < fragment_count code → o g ≡ true → c g ≡ 0
+  lost g few hit = elim (cases_Bool (eqb g f)) [
+    | inl here ↦ by_weights g few ∙ rw here refl
+    | inr other ↦ by_weights g few ∙ rw other (rebuilds.none g few hit)
+  ]
+
+  pub reads_within : (g : ℕ) → read_by c g ≡ true → g < fragment_count code
+  reads_within g reads = elim (cases_lt g (fragment_count code)) [
+    | inl few ↦ few
+    | inr past ↦ absurd (read_some code c g reads (lacking g past))
+  ]
+
+  pub reads_readable : (g : ℕ) → read_by c g ≡ true → readable m f g ≡ true
+  reads_readable g reads =
+      let few = reads_within g reads in
+      elim (cases_Bool (eqb g f)) [
+        | inl here ↦ absurd (read_some code c g reads (ap c (eqb-true g f here) ∙ own))
+        | inr other ↦ elim (cases_Bool (m g)) [
+          | inr stands ↦ rw (stands, other) refl
+          | inl missing ↦ absurd (read_some code c g reads (lost g few (others g ∙ rw (other, missing) refl)))
+        ]
+      ]
+
+  pub exact : (v : Bytes) → IsStripe code v → v f ≡ sum_of c v (numbers_of code)
+  exact v stripe = rebuilt code w rebuilds.small f within rebuilds.one v stripe ∙ sym (sum_of-agree c (coefficient_by code f w) v (fragment_count code) by_weights (numbers_of code) (fragments_below code))
+
+  pub readable_determines : Determines code (readable m f) f
+  readable_determines = determined code o (readable m f) f w within rebuilds (λ g unknown other. others g ∙ turned (m g) (eqb g f) unknown other) where
+    turned : (missing here : Bool) → (not missing && not here) ≡ false → here ≡ false → (not here && missing) ≡ true
+    turned true true e h = absurd (let k : true ≡ false = h in cc)
+    turned true false e h = refl
+    turned false true e h = absurd (let k : true ≡ false = h in cc)
+    turned false false e h = absurd (let k : true ≡ false = e in cc)
+
+  zero_outside : (g : ℕ) → g < fragment_count code → except (outside (read_by c)) f g ≡ true → value_at code w g ≡ 0
+  zero_outside g few h =
+      let parts = and_parts (not (read_by c g)) (not (eqb g f)) h in
+      let same : c g ≡ value_at code w g = by_weights g few ∙ rw (not-true (eqb g f) parts.1) refl in
+      sym same ∙ read_none code c g (not-true (read_by c g) parts.0)
+
+  -- the fragments that are read determine it
+  pub read_determines : Determines code (read_by c) f
+  read_determines =
+      determined code (except (outside (read_by c)) f) (read_by c) f w within (record { small = rebuilds.small; one = rebuilds.one; none = zero_outside })
+      (λ g unread_g other. and_from (not (read_by c g)) (not (eqb g f)) (rw unread_g refl) (rw other refl))
+
+-- ---- all that is said of a recipe
+
+pub record Made (code : Code) (m : FragmentSet) (f : Fragment) (c : ℕ → ℕ) : Type 0 where
+  pub recipe : IsRecipe code m f.value c
+  pub determines : Determines code (readable m f.value) f.value
+  pub reads : size_of code (read_by c) ≡ (if is_local code m f then other_count code else data_count code)
+  pub local : is_local code m f ≡ true → (g : Fragment) → c g.value ≡ (if share_class code f g && not (same_fragment f g) then 1 else 0)
+
+-- the others of a set, as the program has them
+abbrev pub others_of : FragmentSet → ℕ → FragmentSet
+others_of m f g = not (eqb g f) && m g
+
+pub others_of-self : (m : FragmentSet) (f : ℕ) → others_of m f f ≡ false
+others_of-self m f = rw (eq-eqb f f refl) refl
+
+unknown_self : (code : Code) (m known : FragmentSet) (f : ℕ) → f < fragment_count code → ((g : ℕ) → g < fragment_count code → known g ≡ true → readable m f g ≡ true) → known f ≡ false
+unknown_self code m known f within inside = elim (cases_Bool (known f)) [
+  | inr unknown ↦ unknown
+  | inl knows ↦ absurd (let e : not (eqb f f) ≡ true = (and_parts (not (m f)) (not (eqb f f)) (inside f within knows)).1 in let k : not true ≡ true = rw (eq-eqb f f refl) at e in cc)
+]
+
+unknown_missing : (code : Code) (m known : FragmentSet) (f : ℕ) → ((g : ℕ) → g < fragment_count code → known g ≡ true → readable m f g ≡ true) → (g : ℕ) → g < fragment_count code → m g ≡ true → eqb g f ≡ false → except (outside known) f g ≡ true
+unknown_missing code m known f inside g few missing apart = and_from (outside known g) (not (eqb g f)) (elim (cases_Bool (known g)) [
+  | inr unknown ↦ rw unknown refl
+  | inl knows ↦ absurd (let e : not (m g) ≡ true = (and_parts (not (m g)) (not (eqb g f)) (inside g few knows)).0 in let k : not true ≡ true = rw missing at e in cc)
+]) (rw apart refl)
+
+-- ---- the recipe of a fragment that its group rebuilds
+
+own_size : Code → ℕ → Bool
+own_size code f = not (option_map_or is_local_class (class_of code f) false) || eqb (size_of code (is_beside code f)) (other_count code)
+
+all_sizes : (code : Code) → agree_below (own_size code) (λ _. true) (fragment_count code) ≡ true
+unfolding own_size
+all_sizes Wide = refl
+all_sizes Narrow = refl
+
+group_count : (code : Code) (f : ℕ) → f < fragment_count code → option_map_or is_local_class (class_of code f) false ≡ true → size_of code (is_beside code f) ≡ other_count code
+unfolding own_size
+group_count code f within grouped = elim (or_cases (not (option_map_or is_local_class (class_of code f) false)) (eqb (size_of code (is_beside code f)) (other_count code)) (agree_below_at (own_size code) (λ _. true) (fragment_count code) f (all_sizes code) within)) [
+  | inl outside_of ↦ absurd (let e : not true ≡ true = rw grouped at outside_of in cc)
+  | inr is ↦ eqb-true _ _ is
+]
+
+fewer_others : (code : Code) → other_count code ≤ data_count code
+fewer_others Wide = omega arith
+fewer_others Narrow = omega arith
+
+equal_both : (a b : ℕ) → a ≤ b → b ≤ a → a ≡ b
+equal_both a b le ge = omega (arith, le, ge)
+
+module _ (code : Code) (m : FragmentSet) (f : Fragment) (c : ℕ → ℕ) (within : f.value < fragment_count code) (local : is_local code m f ≡ true) (are : AreOf code f.value (local_weights code f.value) c) where
+  alone : IsAlone code m f.value
+  alone = alone_from code m f local
+
+  rebuilds : Rebuilds code (others_of m f.value) f.value (local_weights code f.value)
+  rebuilds = rebuilds_local code m (others_of m f.value) f.value within (others_of-self m f.value) (λ g h. (and_parts (not (eqb g f.value)) (m g) h).1) alone
+
+  -- the coefficients of the group are 1, and all others 0
+  ones : (g : ℕ) → g < 16 → c g ≡ cond (is_beside code f.value g) 1 0
+  ones g low = are.by g low ∙ (elim (cases_Bool (eqb g f.value)) [
+    | inl here ↦ rw (here, eq-eqb f.value g (sym (eqb-true g f.value here))) (none (are_one_class (class_of code f.value) (class_of code g)))
+    | inr other ↦ rw other (local_value code f.value g within low alone.grouped ∙ rw (apart other) (one (are_one_class (class_of code f.value) (class_of code g))))
+  ]) where
+    apart : eqb g f.value ≡ false → nat_eq f.value g ≡ false
+    apart other = elim (cases_Bool (nat_eq f.value g)) [
+      | inr differ ↦ differ
+      | inl same ↦ absurd (let e : true ≡ false = sym (eq-eqb g f.value (sym (eqb-true f.value g same))) ∙ other in cc)
+    ]
+
+    none : (b : Bool) → ◌≡◌ {A = ℕ} 0 (cond (b && not true) 1 0)
+    none true = refl
+    none false = refl
+
+    one : (b : Bool) → ◌≡◌ {A = ℕ} (cond b 1 0) (cond (b && not false) 1 0)
+    one true = refl
+    one false = refl
+
+  one_if : (b : Bool) (n : ℕ) → n ≡ cond b 1 0 → not (eqb n 0) ≡ b
+  one_if true n is = rw is refl
+  one_if false n is = rw is refl
+
+  read_group : (g : ℕ) → g < fragment_count code → read_by c g ≡ is_beside code f.value g
+  read_group g few = one_if (is_beside code f.value g) (c g) (ones g (let sixteen = at_most_sixteen code in omega (arith, few, sixteen)))
+
+  count : size_of code (read_by c) ≡ other_count code
+  count = equal_both (size_of code (read_by c)) (size_of code (is_beside code f.value)) (size_of-within code (is_beside code f.value) (read_by c) (λ g few h. sym (read_group g few) ∙ h)) (size_of-within code (read_by c) (is_beside code f.value) (λ g few h. read_group g few ∙ h)) ∙ group_count code f.value within alone.grouped
+
+  fewest : (known : FragmentSet) → ((g : ℕ) → g < fragment_count code → known g ≡ true → readable m f.value g ≡ true) → Determines code known f.value → size_of code (read_by c) ≤ size_of code known
+  fewest known inside determines = elim (cases_Bool (is_local code (outside known) f)) [
+    | inl all_known ↦
+        let group = alone_from code (outside known) f all_known in
+        size_of-within code known (read_by c) (λ g few h. not-false (known g) (group.none g few (sym (read_group g few) ∙ h)))
+    | inr lacking ↦
+        let k = near_from code (outside known) (except (outside known) f.value) f within (λ g few h apart. and_from (outside known g) (not (eqb g f.value)) h (rw apart refl)) lacking in
+        let many = many_known code known f.value k.p within (unknown_self code m known f.value within inside) k.near determines in
+        let fewer = fewer_others code in
+        let is = count in
+        omega (arith, many, fewer, is)
+  ]
+
+  pub local_recipe : Made code m f c
+  local_recipe = record {
+    recipe = record {
+      within = reads_within code m (others_of m f.value) f.value (local_weights code f.value) c within (others_of-self m f.value) (λ g. refl) rebuilds are;
+      standing = reads_readable code m (others_of m f.value) f.value (local_weights code f.value) c within (others_of-self m f.value) (λ g. refl) rebuilds are;
+      exact = exact code m (others_of m f.value) f.value (local_weights code f.value) c within (others_of-self m f.value) (λ g. refl) rebuilds are;
+      fewest = fewest;
+    };
+    determines = readable_determines code m (others_of m f.value) f.value (local_weights code f.value) c within (others_of-self m f.value) (λ g. refl) rebuilds are;
+    reads = count ∙ rw local refl;
+    local = λ _ g. ones g.value g.in_range;
+  }
+
+-- ---- the recipe of another
+
+few_read : (read unread all most : ℕ) → unread + read ≡ all → all ≡ most + 4 → 4 ≤ unread → read ≤ most
+few_read read unread all most both count four = omega (arith, both, count, four)
+
+module _ (code : Code) (m o : FragmentSet) (f : Fragment) (c : ℕ → ℕ) (within : f.value < fragment_count code) (others : (g : ℕ) → o g ≡ others_of m f.value g) (absent : is_local code m f ≡ false) where
+  out : o f.value ≡ false
+  out = others f.value ∙ others_of-self m f.value
+
+  near : SomeNear code o f.value
+  near = near_from code m o f within (λ g few missing apart. others g ∙ rw (apart, missing) refl) absent
+
+  rejoined : (lost : FragmentSet) → ((g : ℕ) → lost g ≡ (eqb g f.value || m g)) → (g : ℕ) → joined o (only f.value) g ≡ true → lost g ≡ true
+  rejoined lost are g h = are g ∙ (elim (or_cases (o g) (eqb g f.value) h) [
+    | inl other ↦ or_right (eqb g f.value) (m g) (and_parts (not (eqb g f.value)) (m g) (sym (others g) ∙ other)).1
+    | inr here ↦ or_left (eqb g f.value) (m g) here
+  ])
+
+  joined_again : (lost : FragmentSet) → ((g : ℕ) → lost g ≡ (eqb g f.value || m g)) → (g : ℕ) → lost g ≡ true → joined o (only f.value) g ≡ true
+  joined_again lost are g h = elim (cases_Bool (eqb g f.value)) [
+    | inl here ↦ or_right (o g) (eqb g f.value) here
+    | inr apart ↦ or_left (o g) (eqb g f.value) (others g ∙ and_from (not (eqb g f.value)) (m g) (rw apart refl) (let e = sym (are g) ∙ h in later (eqb g f.value) (m g) apart e))
+  ] where
+    later : (a b : Bool) → a ≡ false → (a || b) ≡ true → b ≡ true
+    later true b out h = absurd (let e : true ≡ false = out in cc)
+    later false b out h = h
+
+  -- a set that is not recoverable with the fragment does not leave it determined
+  pub no_recipe : (lost : FragmentSet) → ((g : ℕ) → lost g ≡ (eqb g f.value || m g)) → Determines code (readable m f.value) f.value → IsRecoverable code lost
+  no_recipe lost are determines =
+      let unknown : readable m f.value f.value ≡ false = unknown_self code m (readable m f.value) f.value within (λ g few h. h) in
+      let part : (g : ℕ) → o g ≡ true → readable m f.value g ≡ false = λ g h. (let missing = (and_parts (not (eqb g f.value)) (m g) (sym (others g) ∙ h)).1 in rw missing refl) in
+      recoverable_part code (joined o (only f.value)) lost (λ g few h. joined_again lost are g h)
+      (recoverable_near code o f.value near.p within out near.near (readable m f.value) unknown part determines)
+
+  module _ (lost : FragmentSet) (are_lost : (g : ℕ) → lost g ≡ (eqb g f.value || m g)) (good : IsRecoverable code lost) (are : AreOf code f.value (weights_for code o f.value) c) where
+    weights : Rebuilds code o f.value (weights_for code o f.value) × LeavesOut code f.value (weights_for code o f.value)
+    weights = rebuilds_near code o f.value near.p within out near.near (recoverable_part code lost (joined o (only f.value)) (λ g few h. rejoined lost are_lost g h) good)
+
+    at_four : (g : ℕ) → g < fragment_count code → four f.value weights.1.x weights.1.y weights.1.z g ≡ true → outside (read_by c) g ≡ true
+    at_four g few h = zero_unread (c g) (are.by g (let sixteen = at_most_sixteen code in omega (arith, few, sixteen)) ∙ (elim (cases_Bool (eqb g f.value)) [
+      | inl here ↦ rw here refl
+      | inr other ↦ rw other (weights.1.none g few (later (eqb g f.value) (is_out weights.1.x weights.1.y weights.1.z g) other h))
+    ])) where
+      zero_unread : (n : ℕ) → n ≡ 0 → not (not (eqb n 0)) ≡ true
+      zero_unread n none = rw none refl
+
+      later : (a b : Bool) → a ≡ false → (a || b) ≡ true → b ≡ true
+      later true b out h = absurd (let e : true ≡ false = out in cc)
+      later false b out h = h
+
+    few : size_of code (read_by c) ≤ data_count code
+    few =
+        let least = size_of-within code (outside (read_by c)) (four f.value weights.1.x weights.1.y weights.1.z) at_four in
+        let is = weights.1.count in
+        few_read (size_of code (read_by c)) (size_of code (outside (read_by c))) (fragment_count code) (data_count code) (size_of-outside code (read_by c)) (four_parities code) (omega (arith, least, is))
+
+    many : (known : FragmentSet) → ((g : ℕ) → g < fragment_count code → known g ≡ true → readable m f.value g ≡ true) → Determines code known f.value → data_count code ≤ size_of code known
+    many known inside determines =
+        let k = near_from code m (except (outside known) f.value) f within (unknown_missing code m known f.value inside) absent in
+        many_known code known f.value k.p within (unknown_self code m known f.value within inside) k.near determines
+
+    reads : (g : ℕ) → read_by c g ≡ true → readable m f.value g ≡ true
+    reads = reads_readable code m o f.value (weights_for code o f.value) c within out others weights.0 are
+
+    pub near_recipe : Made code m f c
+    near_recipe = record {
+      recipe = record {
+        within = reads_within code m o f.value (weights_for code o f.value) c within out others weights.0 are;
+        standing = reads;
+        exact = exact code m o f.value (weights_for code o f.value) c within out others weights.0 are;
+        fewest = λ known inside determines. (let least = many known inside determines in let most = few in omega (arith, least, most));
+      };
+      determines = readable_determines code m o f.value (weights_for code o f.value) c within out others weights.0 are;
+      reads = equal_both (size_of code (read_by c)) (data_count code) few (many (read_by c) (λ g _ h. reads g h) (read_determines code m o f.value (weights_for code o f.value) c within out others weights.0 are)) ∙ rw absent refl;
+      local = λ is. absurd (let e : true ≡ false = sym is ∙ absent in cc);
+    }
+
+-- ---- coefficients in a list of sixteen
+
+pub record Listed (code : Code) (m : FragmentSet) (f : Fragment) (xs : List ℕ) : Type 0 where
+  pub recipe : IsRecipe code m f.value (λ g. get_or xs g 0)
+  pub determines : Determines code (readable m f.value) f.value
+  pub reads : count_by (λ c. not (eqb c 0)) xs ≡ (if is_local code m f then other_count code else data_count code)
+  pub local : is_local code m f ≡ true → (g : Fragment) → get_or xs g.value 0 ≡ (if share_class code f g && not (same_fragment f g) then 1 else 0)
+
+none_past : (code : Code) (m : FragmentSet) (f : ℕ) (c : ℕ → ℕ) → IsRecipe code m f c → (g : ℕ) → fragment_count code ≤ g → c g ≡ 0
+none_past code m f c recipe g past = elim (cases_Bool (eqb (c g) 0)) [
+  | inl none ↦ eqb-true (c g) 0 none
+  | inr some ↦ absurd (let few = recipe.within g (rw some refl) in omega (arith, few, past))
+]
+
+listed : (code : Code) (m : FragmentSet) (f : Fragment) (xs : List ℕ) → length xs ≡ 16 → Made code m f (λ g. get_or xs g 0) → Listed code m f xs
+listed code m f xs long made = record {
+  recipe = made.recipe;
+  determines = made.determines;
+  reads = listed_count code xs long (none_past code m f.value (λ g. get_or xs g 0) made.recipe) ∙ made.reads;
+  local = made.local;
+}
+
+are_of : (code : Code) (f : ℕ) (w u : Weights) (xs : List ℕ) → length xs ≡ 16 → w ≡ u → ((g : ℕ) → g < 16 → get_or xs g 0 ≡ coefficient_by code f w g) → AreOf code f u (λ g. get_or xs g 0)
+are_of code f w u xs long same given = record {
+  by = λ g low. given g low ∙ ap (λ w. coefficient_by code f w g) same;
+  past = λ g high. get_or_past xs g 0 (omega (arith, long, high));
+}
+
+pub local_list : (code : Code) (m : FragmentSet) (f : Fragment) (xs : List ℕ) (w : Weights) → f.value < fragment_count code → is_local code m f ≡ true → length xs ≡ 16 → w ≡ local_weights code f.value
+    → ((g : ℕ) → g < 16 → get_or xs g 0 ≡ coefficient_by code f.value w g) → Listed code m f xs
+local_list code m f xs w within local long same given =
+    listed code m f xs long (local_recipe code m f (λ g. get_or xs g 0) within local (are_of code f.value w (local_weights code f.value) xs long same given))
+
+pub near_list : (code : Code) (m o lost : FragmentSet) (f : Fragment) (xs : List ℕ) (w : Weights) → f.value < fragment_count code → ((g : ℕ) → o g ≡ others_of m f.value g) → is_local code m f ≡ false
+    → ((g : ℕ) → lost g ≡ (eqb g f.value || m g)) → IsRecoverable code lost → length xs ≡ 16 → w ≡ weights_for code o f.value
+    → ((g : ℕ) → g < 16 → get_or xs g 0 ≡ coefficient_by code f.value w g) → Listed code m f xs
+near_list code m o lost f xs w within others absent are_lost good long same given =
+    listed code m f xs long (near_recipe code m o f (λ g. get_or xs g 0) within others absent lost are_lost good (are_of code f.value w (weights_for code o f.value) xs long same given))
