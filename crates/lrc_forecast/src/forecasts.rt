@@ -8,10 +8,11 @@ ghost use Rattle.lrc_book.specs.Books.{state_of};
 ghost use Rattle.lrc_forecast.specs.Forecasts.{state_with, outlook, forecast, is_harmed, is_safe};
 ghost use Rattle.lrc_forecast.specs.Hits.{IsSetOf, HaveOneHome};
 
-use crate::hits::{NodeSet, fragments_on, joined, leases_on, level_of, set_of, without};
+use crate::hits::{NodeSet, fragments_on, joined, leases_on, set_of, without};
 use crate::{Outage, Outlook};
 use lrc_book::{Book, homeless_of};
 use lrc_code::{Fault, NodeNo, StripeNo};
+use lrc_homes::level_by;
 use std::alloc::Global;
 
 /// The stripes that would not be whole if this happened to all these nodes at once, in rising order; also those that
@@ -84,7 +85,7 @@ fn outlook_of(book: &Book, stripe: StripeNo, outage: Outage, hit_nodes: &NodeSet
         stripe,
         code,
         before: book.level(stripe).unwrap(),
-        after: level_of(code, homeless, missing),
+        after: level_by(code, homeless, missing),
         missing,
         newly_missing: without(missing, missing_now),
         leases_ended,

@@ -5,15 +5,15 @@ ghost use Rattle.std.specs.Option.{option_map_or};
 ghost use Rattle.lrc_code.specs.declared.codes.Code.TheVariants.{Wide};
 ghost use Rattle.lrc_code.specs.Codes.{fragments, has_fragment};
 ghost use Rattle.lrc_code.specs.Losses.{bits_set};
-ghost use Rattle.lrc_terms.specs.Levels.{Homes, level_by};
+ghost use Rattle.lrc_terms.specs.Levels.{Homes};
 ghost use Rattle.lrc_rules.specs.States.{lease_of};
 ghost use Rattle.lrc_book.specs.Books.{state_of};
 ghost use Rattle.lrc_forecast.specs.Hits.{IsSetOf, is_on_set, has_lease_on_set};
 
 use lrc_bits::BitSet;
-use lrc_book::{Book, Level, Seat};
+use lrc_book::{Book, Seat};
 use lrc_code::{Code, FRAGMENTS, Fragment, LossMask, NodeNo, StripeNo};
-use lrc_homes::{Losses, masks};
+use lrc_homes::masks;
 
 /// A set of node numbers, one bit for each `u16`.
 pub(crate) type NodeSet = BitSet<1024>;
@@ -115,15 +115,4 @@ pub(crate) fn without(set: LossMask, less: LossMask) -> LossMask
     ensures { (f : ℕ) → bits_set result.bits f ≡ (bits_set set.bits f && not (bits_set less.bits f)) }
 {
     masks::put(set, less, false)
-}
-
-/// The level of a stripe of the code with these homeless and these missing fragments.
-pub(crate) fn level_of(code: Code, homeless: LossMask, missing: LossMask) -> Level
-    ensures { result ≡ level_by code (bits_set homeless.bits) (bits_set missing.bits) }
-{
-    // No level depends on what needs a lease.
-    let mut losses = Losses::none(code);
-    losses.homeless = homeless;
-    losses.missing = missing;
-    losses.level()
 }

@@ -9,4 +9,4 @@ pub mod masks;
 
 pub use home_domains::HomeDomains;
 pub use homes::Homes;
-pub use losses::Losses;
+pub use losses::{Losses, level_by};

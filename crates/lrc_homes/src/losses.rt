@@ -90,7 +90,7 @@ impl Losses {
     pub fn level(self) -> Level
         ensures { result ≡ level_of self }
     {
-        level_with(self.code, self.homeless, self.missing)
+        level_by(self.code, self.homeless, self.missing)
     }
 
     /// The rank; `None` without work.
@@ -126,8 +126,8 @@ impl Losses {
     }
 }
 
-/// The level of a stripe of the code with these homeless and missing fragments.
-fn level_with(code: Code, homeless: LossMask, missing: LossMask) -> Level
+/// The level of a stripe of the code with these homeless and these missing fragments.
+pub fn level_by(code: Code, homeless: LossMask, missing: LossMask) -> Level
     ensures { result ≡ level_by code (bits_set homeless.bits) (bits_set missing.bits) }
 {
     if !homeless.recoverable_in(code) {

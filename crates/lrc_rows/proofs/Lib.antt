@@ -7,3 +7,5 @@ pub mod ClearLemmas
 pub mod DomainLemmas
 pub mod ShortLemmas
 pub mod RenewLemmas
+pub mod OfflineLemmas
+pub mod UpgradingLemmas

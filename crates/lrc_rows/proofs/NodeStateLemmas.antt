@@ -8,8 +8,7 @@ use Rattle.std.proofs.lemmas.List.{get_or_past, get_or_default}
 use Rattle.std.proofs.lemmas.List.Folds.{list_any_more, list_any_at}
 use Rattle.lrc_code.specs.declared.numbers.NodeNo.{NodeNo}
 use Rattle.lrc_code.specs.declared.numbers.StripeNo.{StripeNo}
-use Rattle.lrc_code.specs.declared.numbers.UpgradeNo.{UpgradeNo}
-use Rattle.lrc_code.specs.Numbers.{same_node, same_stripe, same_upgrade}
+use Rattle.lrc_code.specs.Numbers.{same_node, same_stripe}
 use Rattle.lrc_code.proofs.NumbersLemmas.{equal_nodes}
 use Rattle.lrc_topology.specs.declared.NodeInfo.{NodeInfo}
 use Rattle.lrc_topology.specs.declared.seat.Seat.{Seat}
@@ -240,23 +239,10 @@ module _ (z : NodeStates) (test : NodeState → Bool) (xs : List NodeState) (i :
   some-same miss = before ∙ fun_ext (λ s.
       sym (one-more s ∙ ap (λ (b : Bool). on_some z test (take i xs) s || (b && z.on here.node.number s)) miss ∙ or-false (on_some z test (take i xs) s)))
 
--- ---- those of an upgrade domain
-
--- the node is in the domain
-abbrev pub in_domain : UpgradeNo → NodeState → Bool
-in_domain u x = same_upgrade x.node.upgrade u
-
+-- a test of what a function gives
 pub any-map : {X Y : Type 0} (p : Y → Bool) (f : X → Y) (xs : List X) → list_any (λ x. p (f x)) xs ≡ list_any p (map f xs)
 any-map p f [] = refl
 any-map p f (x ∷ xs) = ap (λ b. p (f x) || b) (any-map p f xs)
-
-pub domain-nodes : (states : List NodeState) (sets : List (List Bool)) (t : NodeLists) (view : ◌≡◌ {A = NodeLists} (record { list = states; stripes = sets }) t) (u : UpgradeNo)
-    → on_some (states_in t) (in_domain u) states ≡ (λ s. list_any (λ n. same_upgrade n.upgrade u && (states_in t).on n.number s) (states_in t).nodes)
-unfolding states_in
-domain-nodes states sets t view u =
-    subst (λ (y : NodeLists). on_some (states_in y) (in_domain u) states ≡ (λ s. list_any (λ n. same_upgrade n.upgrade u && (states_in y).on n.number s) (states_in y).nodes)) view
-    (let now : NodeStates = states_in (record { list = states; stripes = sets }) in
-    fun_ext (λ s. any-map (λ (n : NodeInfo). same_upgrade n.upgrade u && now.on n.number s) (λ (x : NodeState). x.node) states))
 
 -- ---- those of the nodes that are not online
 

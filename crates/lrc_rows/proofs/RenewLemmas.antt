@@ -1,9 +1,9 @@
 -- What is kept where a node's stripes have their rows renewed.
-use Rattle.std.proofs.Common.{◌≡◌, ◌≢◌, ℕ, ◌<◌, ◌+◌, inl, inr, Bool, true, false, not, ◌&&◌, ◌||◌, cond, if◌then◌else◌, nat_lt, nat_eq, List, [], length, take, get_or, Option, Some, None, is_none, IsSome, arith, refl, sym, ap, ◌∙◌, subst}
+use Rattle.std.proofs.Common.{◌≡◌, ◌≢◌, ℕ, ◌<◌, inl, inr, Bool, true, false, not, ◌&&◌, cond, if◌then◌else◌, nat_lt, nat_eq, List, [], ◌∷◌, length, get_or, Option, Some, None, is_none, IsSome, arith, refl, sym, ap, ◌∙◌, subst}
 use Rattle.std.proofs.Math.Path.{fun_ext}
 use Rattle.std.specs.List.{list_any}
 use Rattle.std.proofs.lemmas.Bool.{cases_Bool, cases_eq, eq-eqb, ne_eqb, lt-ltb}
-use Rattle.std.proofs.lemmas.List.Folds.{list_any_at, list_any_more}
+use Rattle.std.proofs.lemmas.List.Folds.{list_any_at}
 use Rattle.std.proofs.lemmas.Option.{same_Some}
 use Rattle.lrc_code.specs.declared.codes.Code.{Code}
 use Rattle.lrc_code.specs.declared.losses.LossMask.{LossMask}
@@ -20,13 +20,13 @@ use Rattle.lrc_terms.specs.declared.mode.Mode.{Mode}
 use Rattle.lrc_terms.specs.Modes.{is_draining}
 use Rattle.lrc_nodes.specs.declared.node_state.NodeState.{NodeState}
 use Rattle.lrc_nodes.specs.States.{infos_in, state_at, online_in, draining_in, with_state, with_upgrading_in}
-use Rattle.lrc_nodes.proofs.SetLemmas.{AreSameNodes, same-state, online-state, draining-state, same-upgrading, draining-upgrading, is_of_domain, online-upgrading}
+use Rattle.lrc_nodes.proofs.SetLemmas.{AreSameNodes, same-state, online-state, draining-state, same-upgrading, draining-upgrading, online-upgraded}
 use Rattle.lrc_ranks.specs.Sets.{has}
 use Rattle.lrc_homes.specs.declared.home_domains.HomeDomains.{HomeDomains}
 use Rattle.lrc_homes.specs.HomeArrays.{AreDomainsKept}
 use Rattle.lrc_rows.specs.declared.row.Row.{Row}
 use Rattle.lrc_terms.specs.Levels.{Homes}
-use Rattle.lrc_rows.specs.NodeStates.{NodeLists, NodeStates, states_in}
+use Rattle.lrc_rows.specs.NodeStates.{NodeLists, NodeStates, states_in, is_in_domain, AreAlikeOutside}
 use Rattle.lrc_homes.specs.Homes.{sits_on, is_missing, is_to_move}
 use Rattle.lrc_rows.specs.Listed.{row_homes}
 use Rattle.lrc_homes.specs.Masks.{IsMaskOf, AreWithin, IsPutOn, AreKept}
@@ -69,7 +69,7 @@ module _ (code : Code) (n : NodeNo) (b : Bool) (test after : Option Seat → Boo
 
 module _ (on : StripeNo → Bool) (R : Row → Row → Type 0) (before after : StripeNo → Option Row) (renewed : AreRenewed on R before after) where
   -- what depends on the homes alone stays
-  same-of : {Z : Type 0} (P : Option Row → Z) → ((q r : Row) → R q r → P (Some r) ≡ P (Some q)) → (x : StripeNo) → P (after x) ≡ P (before x)
+  pub same-of : {Z : Type 0} (P : Option Row → Z) → ((q r : Row) → R q r → P (Some r) ≡ P (Some q)) → (x : StripeNo) → P (after x) ≡ P (before x)
   same-of P same x = elim (cases_Bool (on x)) [
     | inl there ↦ by (before x) refl (renewed.listed x there)
     | inr miss ↦ ap P (renewed.others x miss)
@@ -79,7 +79,7 @@ module _ (on : StripeNo → Bool) (R : Row → Row → Type 0) (before after : S
     by (Some q) e (r, to, holds) = ap P to ∙ (same q r holds ∙ ap P (sym e))
 
   -- a property of rows that a renewal gives, and that the others have already
-  each-of : (P Q : Row → Type 0) → ((x : StripeNo) (q : Row) → before x ≡ Some q → P q) → ((q r : Row) → R q r → P q → Q r)
+  pub each-of : (P Q : Row → Type 0) → ((x : StripeNo) (q : Row) → before x ≡ Some q → P q) → ((q r : Row) → R q r → P q → Q r)
       → ((x : StripeNo) (q : Row) → on x ≡ false → before x ≡ Some q → P q → Q q) → (x : StripeNo) (r : Row) → after x ≡ Some r → Q r
   each-of P Q had gives stays x r there = elim (cases_Bool (on x)) [
     | inl hit ↦ by (before x) refl (renewed.listed x hit)
@@ -206,30 +206,6 @@ told-follows z n was rows kept =
       | inr other ↦ rw (ne_eqb _ _ other, ne_eqb _ _ (λ e. other (sym e))) refl
     ])) refl refl kept
 
--- the nodes of a domain so far, and one more
-module _ (z : NodeStates) (u : UpgradeNo) (online : NodeNo → Bool) where
-  abbrev told : List NodeInfo → NodeNo → Bool
-  told nodes m = if list_any (is_of_domain u m) nodes then z.online m else online m
-
-  pub more-follow : (i : ℕ) (d : NodeInfo) (rows : StripeNo → Option Row) → i < length z.nodes
-      → IsKept (record z { online = λ m. if is_of_domain u m (get_or z.nodes i d) then z.online m else told (take i z.nodes) m }) rows → IsKept (record z { online = told (take (i + 1) z.nodes) }) rows
-  more-follow i d rows within kept =
-      kept-as (record z { online = λ m. if is_of_domain u m (get_or z.nodes i d) then z.online m else told (take i z.nodes) m }) (record z { online = told (take (i + 1) z.nodes) }) rows
-      (fun_ext (λ m. rw (list_any_more (is_of_domain u m) z.nodes i d within) (either (list_any (is_of_domain u m) (take i z.nodes)) (is_of_domain u m (get_or z.nodes i d)) (z.online m) (online m)))) refl refl kept where
-        either : (before here x y : Bool) → (if before || here then x else y) ≡ (if here then x else (if before then x else y))
-        either true true x y = refl
-        either true false x y = refl
-        either false true x y = refl
-        either false false x y = refl
-
-  pub all-follow : (rows : StripeNo → Option Row) → ((m : NodeNo) → list_any (is_of_domain u m) z.nodes ≡ false → online m ≡ z.online m) → IsKept (record z { online = told z.nodes }) rows → IsKept z rows
-  all-follow rows outside kept =
-      kept-as (record z { online = told z.nodes }) z rows
-      (fun_ext (λ m. elim (cases_Bool (list_any (is_of_domain u m) z.nodes)) [
-        | inl among ↦ rw among refl
-        | inr none ↦ rw none (sym (outside m none))
-      ])) refl refl kept
-
 -- ---- a state set, in the lists
 
 -- the stripes on each node stay where the nodes do
@@ -261,13 +237,33 @@ kept-upgrading t u b rows kept =
     let new : NodeStates = states_in (record t { list = with_upgrading_in t.list u b }) in
     kept-as (states_in t) (record new { online = (states_in t).online }) rows refl (draining-upgrading t.list u b) (on-stays t (with_upgrading_in t.list u b) (same-upgrading t.list u b)) kept
 
--- the nodes that are in no such domain are online as before
-pub online-outside : (t : NodeLists) (u : UpgradeNo) (b : Bool) (m : NodeNo)
-    → list_any (λ n. same_node m n.number && same_upgrade n.upgrade u) (states_in (record t { list = with_upgrading_in t.list u b })).nodes ≡ false
-    → (states_in t).online m ≡ (states_in (record t { list = with_upgrading_in t.list u b })).online m
+-- a node outside the domain is online as before
+online-out : (u : UpgradeNo) (b : Bool) (m : NodeNo) (states : List NodeState) → is_in_domain (infos_in states) u m ≡ false → online_in states m ≡ online_in (with_upgrading_in states u b) m
+online-out u b m [] none = refl
+online-out u b m (x ∷ states) none = elim (cases_Bool (nat_eq m.value x.node.number.value)) [
+  | inl here ↦ let out : same_upgrade x.node.upgrade u ≡ false = rw here at none in rw (out, here) refl
+  | inr later ↦
+      let rest = online-out u b m states (rw later at none) in
+      elim (cases_Bool (same_upgrade x.node.upgrade u)) [
+        | inl of ↦ rw (of, later) rest
+        | inr out ↦ rw (out, later) rest
+      ]
+]
+
+pub online-outside : (t : NodeLists) (u : UpgradeNo) (b : Bool) → AreAlikeOutside (states_in (record t { list = with_upgrading_in t.list u b })).nodes u (states_in t).online (states_in (record t { list = with_upgrading_in t.list u b })).online
 unfolding states_in
-online-outside t u b m none =
-    sym (online-upgrading u b m t.list (ap (list_any (λ (n : NodeInfo). same_node m n.number && same_upgrade n.upgrade u)) (sym (same-upgrading t.list u b).nodes) ∙ none))
+online-outside t u b m none = online-out u b m t.list (ap (λ (ns : List NodeInfo). is_in_domain ns u m) (sym (same-upgrading t.list u b).nodes) ∙ none)
+
+-- where the domain is upgrading, each of its nodes is offline
+pub offline-within : (t : NodeLists) (u : UpgradeNo) (m : NodeNo) → is_in_domain (states_in (record t { list = with_upgrading_in t.list u true })).nodes u m ≡ true
+    → (states_in (record t { list = with_upgrading_in t.list u true })).online m ≡ false
+unfolding states_in
+offline-within t u m hit =
+    let own : is_in_domain (infos_in t.list) u m ≡ true = ap (λ (ns : List NodeInfo). is_in_domain ns u m) (sym (same-upgrading t.list u true).nodes) ∙ hit in
+    online-upgraded t.list u m ∙ (ap (λ (b : Bool). online_in t.list m && not b) own ∙ bare (online_in t.list m)) where
+      bare : (b : Bool) → (b && not true) ≡ false
+      bare true = refl
+      bare false = refl
 
 -- the domains of the homes stay where the nodes do
 pub domains-stay : (t : NodeLists) (list : List NodeState) (rows rows' : StripeNo → Option Row) (domains : List HomeDomains) → AreSameNodes t.list list → AreSameStripes rows rows'

@@ -1,8 +1,8 @@
 -- Rows by the stripes' numbers, and the queues that follow from them.
-use Rattle.std.proofs.Common.{◌≡◌, ◌≢◌, not, ℕ, zero, suc, ◌<◌, inl, inr, Bool, true, false, cond, ◌&&◌, nat_lt, List, length, get_or, set, replicate, Option, Some, None, is_some, option_and_then, arith, refl, sym, ap, ◌∙◌, subst, nat_eq}
+use Rattle.std.proofs.Common.{◌≡◌, ◌≢◌, not, ℕ, zero, suc, ◌<◌, inl, inr, Bool, true, false, cond, ◌&&◌, ◌||◌, nat_lt, List, length, get_or, set, replicate, Option, Some, None, is_some, option_and_then, arith, refl, sym, ap, ◌∙◌, subst, nat_eq}
 use Rattle.std.proofs.Math.Path.{fun_ext}
 use Rattle.std.proofs.Math.ListN.{length-set}
-use Rattle.std.proofs.lemmas.Bool.{cases_eq, eq-eqb, ne_eqb, eqb-true, cases_Bool, lt-ltb}
+use Rattle.std.proofs.lemmas.Bool.{cases_eq, eq-eqb, ne_eqb, eqb-true, cases_Bool, lt-ltb, and_parts, not-false}
 use Rattle.std.proofs.lemmas.List.{length-replicate, get_or-set_same, get_or-set_other, get_or_default}
 use Rattle.lrc_code.specs.declared.losses.LossMask.{LossMask}
 use Rattle.lrc_code.specs.declared.numbers.NodeNo.{NodeNo}
@@ -18,7 +18,7 @@ use Rattle.lrc_homes.specs.Homes.{sits_on}
 use Rattle.lrc_rows.specs.Listed.{rows_in}
 use Rattle.lrc_homes.specs.Masks.{work_rank, renewed}
 use Rattle.lrc_ranks.specs.Ranks.{is_at}
-use Rattle.lrc_rows.specs.Kept.{AreQueued, needs_of, AreRenewed, IsRenewed, IsWithLosses, IsWithMissing, IsMissingOn, IsRehomed, IsToMoveOn, queued, is_row_on}
+use Rattle.lrc_rows.specs.Kept.{AreQueued, needs_of, AreRenewed, IsRenewed, IsWithLosses, IsWithMissing, IsMissingOn, IsRehomed, IsToMoveOn, queued, is_row_on, row_has_work}
 use Rattle.std.specs.List.{list_any}
 use Rattle.std.proofs.lemmas.List.Folds.{list_any_at, list_any_none}
 use Rattle.std.proofs.lemmas.Nat.Bits.{bit_at-zero}
@@ -228,6 +228,44 @@ missing_on-put n are_in fragments r q on is = record {
 pub missing_on-idle : (n : NodeNo) (are_in : Bool) (r : Row) → r.losses.needs.bits ≡ 0 → IsMissingOn n are_in r r
 missing_on-idle n are_in r idle = record { homes = refl; code = refl; homeless = refl; missing = λ some. absurd (some idle); needs = refl }
 
+-- a change of the rows of a part of a set, where it leaves the others of the set as they are
+renewed-wider : (part whole : StripeNo → Bool) (R : Row → Row → Type 0) (before after : StripeNo → Option Row) → ((s : StripeNo) → part s ≡ true → whole s ≡ true)
+    → ((s : StripeNo) (r : Row) → whole s ≡ true → part s ≡ false → before s ≡ Some r → R r r) → AreRenewed part R before after → AreRenewed whole R before after
+renewed-wider part whole R before after inside same renewed = record {
+  listed = λ s there. elim (cases_Bool (part s)) [
+    | inl hit ↦ renewed.listed s hit
+    | inr miss ↦ subst (λ (o : Option Row). IsRenewed R (before s) o) (sym (renewed.others s miss)) (by s there miss (before s) refl)
+  ];
+  others = λ s lacks. elim (cases_Bool (part s)) [
+    | inl hit ↦ absurd (let clash : true ≡ false = sym (inside s hit) ∙ lacks in cc)
+    | inr miss ↦ renewed.others s miss
+  ];
+} where
+  by : (s : StripeNo) → whole s ≡ true → part s ≡ false → (o : Option Row) → before s ≡ o → IsRenewed R o o
+  by s there miss None none = refl
+  by s there miss (Some r) is = (r, refl, same s r there miss is)
+
+-- the masks put in those rows of a set that have work
+pub missing_on-work : (n : NodeNo) (are_in : Bool) (stripes work empty common : StripeNo → Bool) (before after : StripeNo → Option Row) → empty ≡ (λ s. false)
+    → common ≡ (λ s. empty s || (stripes s && work s)) → ((s : StripeNo) → work s ≡ false → row_has_work (before s) ≡ false)
+    → AreRenewed common (IsMissingOn n are_in) before after → AreRenewed stripes (IsMissingOn n are_in) before after
+missing_on-work n are_in stripes work empty common before after none joined idle renewed =
+    renewed-wider common stripes (IsMissingOn n are_in) before after inside same renewed where
+      at : (s : StripeNo) → common s ≡ (stripes s && work s)
+      at s = ap (λ (f : StripeNo → Bool). f s) joined ∙ ap (λ (f : StripeNo → Bool). f s || (stripes s && work s)) none
+
+      inside : (s : StripeNo) → common s ≡ true → stripes s ≡ true
+      inside s hit = (and_parts (stripes s) (work s) (sym (at s) ∙ hit)).0
+
+      second : (a b : Bool) → a ≡ true → (a && b) ≡ false → b ≡ false
+      second true b is e = e
+      second false b is e = absurd (let clash : false ≡ true = is in cc)
+
+      same : (s : StripeNo) (r : Row) → stripes s ≡ true → common s ≡ false → before s ≡ Some r → IsMissingOn n are_in r r
+      same s r there miss is =
+          let no_work : not (nat_eq r.losses.needs.bits 0) ≡ false = sym (ap row_has_work is) ∙ idle s (second (stripes s) (work s) there (sym (at s) ∙ miss)) in
+          missing_on-idle n are_in r (eqb-true _ _ (not-false (nat_eq r.losses.needs.bits 0) no_work))
+
 pub to_move_on-put : (online : NodeNo → Bool) (n : NodeNo) (are_in : Bool) (fragments : LossMask) (losses : Losses) (r q : Row)
     → ((f : ℕ) → bits_set fragments.bits f ≡ (nat_lt f 16 && sits_on n (get_or r.homes f None))) → losses.code ≡ r.losses.code → losses.homeless ≡ r.losses.homeless
     → losses.missing ≡ (renewed online r.homes r.losses).missing
@@ -314,14 +352,11 @@ module _ (set_of : StripeNo → Bool) (R : Row → Row → Type 0) (before : Str
         let was : before s ≡ None = sym (so_far.waiting s taken.there) ∙ none in
         renewed-next left after now now s taken so_far (λ t other. refl) (subst (λ (o : Option Row). IsRenewed R o (now s)) (sym was) none)
 
-    -- it stays as it is, if it is there
-    pub renewed-same : ((r : Row) → now s ≡ Some r → R r r) → AreRenewedBut after now
-    renewed-same same =
-        let was : before s ≡ now s = sym (so_far.waiting s taken.there) in
-        renewed-next left after now now s taken so_far (λ t other. refl) (subst (λ (o : Option Row). IsRenewed R o (now s)) (sym was) (by (now s) refl)) where
-          by : (o : Option Row) → now s ≡ o → IsRenewed R o o
-          by None none = refl
-          by (Some r) there = (r, refl, same r there)
+    -- it stays, and counts as one that has become another
+    pub renewed-same : (r : Row) → now s ≡ Some r → R r r → AreRenewedBut after now
+    renewed-same r there gives =
+        let was : before s ≡ Some r = sym (so_far.waiting s taken.there) ∙ there in
+        renewed-next left after now now s taken so_far (λ t other. refl) (subst (λ (o : Option Row). IsRenewed R o (now s)) (sym was) (r, there, gives))
 
   -- none is left
   pub renewed-all : (left : StripeNo → Bool) (now : StripeNo → Option Row) → ((t : StripeNo) → left t ≡ false) → AreRenewedBut left now → AreRenewed set_of R before now

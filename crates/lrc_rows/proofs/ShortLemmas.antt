@@ -1,5 +1,5 @@
 -- Which stripes are short: those that have work, and those with homes on several nodes that are not online.
-use Rattle.std.proofs.Common.{◌≡◌, ◌≢◌, ℕ, ◌+◌, ◌<◌, zero, suc, cond, inl, inr, Bool, true, false, not, ◌&&◌, ◌||◌, nat_lt, nat_eq, ◌≤◌, List, [], ◌∷◌, length, map, take, get_or, Option, Some, None, is_none, option_and_then, arith, refl, sym, ap, ap₂, ◌∙◌, subst}
+use Rattle.std.proofs.Common.{◌≡◌, ◌≢◌, ℕ, ◌+◌, ◌-◌, ◌<◌, zero, suc, cond, inl, inr, Bool, true, false, not, ◌&&◌, ◌||◌, nat_lt, nat_eq, ◌≤◌, List, [], ◌∷◌, length, map, take, get_or, Option, Some, None, is_none, option_and_then, arith, refl, sym, ap, ap₂, ◌∙◌, subst}
 use Rattle.std.proofs.Math.Path.{fun_ext}
 use Rattle.std.specs.List.{list_any, count_by, AllPairs}
 use Rattle.std.proofs.lemmas.Bool.{and_parts, cases_Bool, cases_lt, eq-eqb, eqb-true, lt-ltb, le-ltb}
@@ -21,8 +21,8 @@ use Rattle.lrc_homes.specs.Masks.{work_rank, rank_of}
 use Rattle.lrc_ranks.specs.Ranks.{is_at}
 use Rattle.lrc_rows.specs.Kept.{AreQueued, row_has_work}
 use Rattle.lrc_homes.proofs.RankLemmas.{rank_by-few}
-use Rattle.lrc_nodes.proofs.StateLemmas.{online-own}
-use Rattle.lrc_rows.proofs.NodeStateLemmas.{or-false, offline-all}
+use Rattle.lrc_nodes.proofs.StateLemmas.{no_state, online-own}
+use Rattle.lrc_rows.proofs.NodeStateLemmas.{not-not, or-false, offline-all}
 
 -- one of the sets has what any has
 any-found : (p : List Bool → Bool) (sets : List (List Bool)) → list_any p sets ≡ true → (k : ℕ) × (p (get_or sets k []) ≡ true)
@@ -139,6 +139,10 @@ module _ (z : NodeStates) (xs : List NodeState) (i : ℕ) (d : NodeState) (withi
     | inr miss ↦ count_by_more_no (is_off z s) xs i d within miss ∙ ap (λ b. cond b (counted z s (take i xs) + 1) (counted z s (take i xs))) (sym miss)
   ]
 
+  -- a node that is online is not counted
+  count-same : z.online here.node.number ≡ true → (s : StripeNo) → counted z s (take i xs) ≡ counted z s (take (i + 1) xs)
+  count-same on s = sym (count-next s ∙ ap (λ b. cond (not b && z.on here.node.number s) (counted z s (take i xs) + 1) (counted z s (take i xs))) on)
+
   module _ (once twice : List Bool) (one : has once ≡ λ s. nat_lt 0 (counted z s (take i xs))) (two : has twice ≡ λ s. nat_lt 1 (counted z s (take i xs))) where
     own : z.online here.node.number ≡ false → (s : StripeNo) → counted z s (take (i + 1) xs) ≡ cond (z.on here.node.number s) (counted z s (take i xs) + 1) (counted z s (take i xs))
     own off s = count-next s ∙ ap (λ b. cond (not b && z.on here.node.number s) (counted z s (take i xs) + 1) (counted z s (take i xs))) off
@@ -155,15 +159,6 @@ module _ (z : NodeStates) (xs : List NodeState) (i : ℕ) (d : NodeState) (withi
         ap (λ (f : StripeNo → Bool). f s || (has once s && z.on here.node.number s)) two
         ∙ (ap (λ (f : StripeNo → Bool). nat_lt 1 (counted z s (take i xs)) || (f s && z.on here.node.number s)) one
         ∙ twice-more (counted z s (take i xs)) (counted z s (take (i + 1) xs)) (z.on here.node.number s) (own off s)))
-
-    same : z.online here.node.number ≡ true → (s : StripeNo) → counted z s (take i xs) ≡ counted z s (take (i + 1) xs)
-    same on s = sym (count-next s ∙ ap (λ b. cond (not b && z.on here.node.number s) (counted z s (take i xs) + 1) (counted z s (take i xs))) on)
-
-    pub once-same : z.online here.node.number ≡ true → has once ≡ λ s. nat_lt 0 (counted z s (take (i + 1) xs))
-    once-same on = one ∙ fun_ext (λ s. ap (nat_lt 0) (same on s))
-
-    pub twice-same : z.online here.node.number ≡ true → has twice ≡ λ s. nat_lt 1 (counted z s (take (i + 1) xs))
-    twice-same on = two ∙ fun_ext (λ s. ap (nat_lt 1) (same on s))
 
 count-map : {X Y : Type 0} (p : Y → Bool) (f : X → Y) (xs : List X) → count_by (λ x. p (f x)) xs ≡ count_by p (map f xs)
 count-map p f [] = refl
@@ -185,6 +180,31 @@ unfolding states_in
 online-there states sets t view apart i d within =
     subst (λ (y : NodeLists). (states_in y).online (get_or states i d).node.number ≡ is_node_online (get_or states i d)) view
     (online-own states i d within apart)
+
+-- where none of the nodes between is offline
+module _ (states : List NodeState) (sets : List (List Bool)) (t : NodeLists) (view : ◌≡◌ {A = NodeLists} (record { list = states; stripes = sets }) t)
+    (apart : AllPairs (λ (m n : NodeNo). m.value ≢ n.value) (map (λ x. x.node.number) states)) where
+  -- a node is online or not, as the search has found
+  pub online-bit : (i : ℕ) (off : Bool) → i < length states → get_or (map is_node_offline states) i false ≡ off → (states_in t).online (get_or states i no_state).node.number ≡ not off
+  online-bit i off within is =
+      online-there states sets t view apart i no_state within
+      ∙ (sym (not-not (is_node_online (get_or states i no_state))) ∙ ap not (sym (get_or-map is_node_offline states i no_state false within) ∙ is))
+
+  counted-past : (s : StripeNo) (from gap : ℕ) → from + gap ≤ length states → ((i : ℕ) → from ≤ i → i < from + gap → get_or (map is_node_offline states) i false ≡ false)
+      → counted (states_in t) s (take from states) ≡ counted (states_in t) s (take (from + gap) states)
+  counted-past s from zero within none = ap (λ (n : ℕ). counted (states_in t) s (take n states)) (let same : from ≡ from + 0 = omega arith in same)
+  counted-past s from (suc gap) within none =
+      counted-past s from gap (omega (arith, within)) (λ i low high. none i low (omega (arith, high)))
+      ∙ (count-same (states_in t) states (from + gap) no_state (omega (arith, within)) (online-bit (from + gap) false (omega (arith, within)) (none (from + gap) (omega arith) (omega arith))) s
+      ∙ ap (λ (n : ℕ). counted (states_in t) s (take n states)) (let same : from + gap + 1 ≡ from + suc gap = omega arith in same))
+
+  -- a set of the stripes with homes on so many offline nodes stays the same
+  pub set-past : (k : ℕ) (set : List Bool) (from p : ℕ) → from ≤ p → p ≤ length states → ((i : ℕ) → from ≤ i → i < p → get_or (map is_node_offline states) i false ≡ false)
+      → has set ≡ (λ s. nat_lt k (counted (states_in t) s (take from states))) → has set ≡ λ s. nat_lt k (counted (states_in t) s (take p states))
+  set-past k set from p later within none is =
+      let all : from + (p - from) ≡ p = omega (arith, later) in
+      is ∙ fun_ext (λ s. ap (λ (n : ℕ). nat_lt k n) (counted-past s from (p - from) (omega (arith, later, within)) (λ i low high. none i low (omega (arith, high, later)))
+      ∙ ap (λ (n : ℕ). counted (states_in t) s (take n states)) all))
 
 -- what passes one test passes another: as many or more pass that one
 count-within : (p q : NodeState → Bool) (xs : List NodeState) → ((i : ℕ) (d : NodeState) → i < length xs → p (get_or xs i d) ≡ true → q (get_or xs i d) ≡ true)

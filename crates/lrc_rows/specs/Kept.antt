@@ -4,6 +4,7 @@ use Rattle.std.specs.Option.{option_map_or}
 use Rattle.std.specs.List.{list_any}
 use Rattle.lrc_code.specs.declared.numbers.StripeNo.{StripeNo}
 use Rattle.lrc_code.specs.declared.numbers.NodeNo.{NodeNo}
+use Rattle.lrc_code.specs.declared.numbers.UpgradeNo.{UpgradeNo}
 use Rattle.lrc_code.specs.Losses.{bits_set}
 use Rattle.lrc_code.specs.declared.losses.LossMask.{LossMask}
 use Rattle.lrc_topology.specs.declared.seat.Seat.{Seat}
@@ -16,7 +17,7 @@ use Rattle.lrc_homes.specs.Homes.{sits_on, is_on_seat, is_missing, is_to_move}
 use Rattle.lrc_homes.specs.Masks.{IsPutOn, AreKept, renewed, work_rank, level_of, IsPut}
 use Rattle.lrc_ranks.specs.Ranks.{is_at}
 use Rattle.lrc_ranks.specs.Sets.{at_rank, has}
-use Rattle.lrc_rows.specs.NodeStates.{NodeStates}
+use Rattle.lrc_rows.specs.NodeStates.{NodeStates, AreAlikeOutside, AreFollowing}
 use Rattle.lrc_rows.specs.Listed.{rows_in, row_code, row_homes}
 
 -- the masks where one fragment has this home
@@ -88,6 +89,15 @@ pub record IsMissingOn (n : NodeNo) (are_missing : Bool) (before after : Row) : 
   pub homeless : after.losses.homeless ≡ before.losses.homeless
   pub missing : before.losses.needs.bits ≢ 0 → IsPutOn n are_missing before.homes before.losses.missing after.losses.missing
   pub needs : after.losses.needs ≡ before.losses.needs
+
+-- the row with such losses
+pub record IsFollowing (states : NodeStates) (u : UpgradeNo) (before after : Row) : Type 0 where
+  pub homes : after.homes ≡ before.homes
+  pub losses : AreFollowing states u before.homes before.losses after.losses
+
+-- the masks were kept before the nodes of a domain came online or went offline
+abbrev pub WereKept : NodeStates → UpgradeNo → (StripeNo → Option Row) → Type 0
+WereKept states u rows = (online : NodeNo → Bool) × AreAlikeOutside states.nodes u online states.online × IsKept (record states { online = online }) rows
 
 -- the row where the fragments with a home on the node need a lease or not, as given
 pub record IsToMoveOn (online : NodeNo → Bool) (n : NodeNo) (are_to_move : Bool) (before after : Row) : Type 0 where

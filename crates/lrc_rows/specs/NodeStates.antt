@@ -1,17 +1,32 @@
 -- The stored nodes, and the stripes with a home on each.
-use Rattle.std.specs.Prelude.{◌≡◌, ◌≢◌, ℕ, ◌<◌, ◌≤◌, Bool, false, List, [], map, get_or, length, Option, Some, None, is_some, not, ◌&&◌, nat_lt, count_by}
-use Rattle.std.specs.List.{AllPairs}
+use Rattle.std.specs.Prelude.{◌≡◌, ◌≢◌, ℕ, ◌<◌, ◌≤◌, Bool, true, false, List, [], map, get_or, length, Option, Some, None, is_some, not, ◌&&◌, nat_lt, count_by}
+use Rattle.std.specs.List.{AllPairs, list_any}
 use Rattle.lrc_code.specs.declared.numbers.StripeNo.{StripeNo}
 use Rattle.lrc_code.specs.declared.numbers.NodeNo.{NodeNo}
 use Rattle.lrc_topology.specs.declared.NodeInfo.{NodeInfo}
 use Rattle.lrc_nodes.specs.declared.node_state.NodeState.{NodeState}
 use Rattle.lrc_nodes.specs.States.{first_state, infos_in, numbers_in, node_position, online_in, draining_in}
 use Rattle.lrc_ranks.specs.Sets.{has}
+use Rattle.lrc_topology.specs.declared.seat.Seat.{Seat}
 use Rattle.lrc_topology.specs.Nodes.{node_at}
+use Rattle.lrc_homes.specs.declared.losses.Losses.{Losses}
+use Rattle.lrc_homes.specs.Homes.{is_missing}
+use Rattle.lrc_homes.specs.Masks.{IsMaskOf}
+use Rattle.lrc_code.specs.declared.numbers.UpgradeNo.{UpgradeNo}
+use Rattle.lrc_code.specs.Numbers.{same_node, same_upgrade}
+use Rattle.std.specs.Option.{option_map_or}
 
 -- one of the nodes has the number
 abbrev pub has_node : List NodeInfo → NodeNo → Bool
 has_node nodes n = is_some (node_at nodes n)
+
+-- the node of this number is in the upgrade domain
+abbrev pub is_in_domain : List NodeInfo → UpgradeNo → NodeNo → Bool
+is_in_domain nodes u n = option_map_or (λ m. same_upgrade m.upgrade u) (node_at nodes n) false
+
+-- the nodes outside the domain are online as before
+abbrev pub AreAlikeOutside : List NodeInfo → UpgradeNo → (NodeNo → Bool) → (NodeNo → Bool) → Type 0
+AreAlikeOutside nodes u before after = (n : NodeNo) → is_in_domain nodes u n ≡ false → before n ≡ after n
 
 -- The nodes in the order of the file with their states; the nodes alone, those that are online and those that are draining, which
 -- follow from it; and the stripes with a home on each.
@@ -58,3 +73,17 @@ offline_in states s nodes = count_by (λ n. not (states.online n.number) && stat
 -- several nodes are not online and have a home of the stripe
 abbrev pub is_on_several_offline : NodeStates → StripeNo → Bool
 is_on_several_offline states s = nat_lt 1 (offline_in states s states.nodes)
+
+-- these are offline nodes, and all of them that have a home of a stripe
+pub record AreOffline (states : NodeStates) (numbers : List NodeNo) : Type 0 where
+  pub offline : (n : NodeNo) → list_any (same_node n) numbers ≡ true → states.online n ≡ false
+  pub all : (n : NodeNo) (s : StripeNo) → states.online n ≡ false → states.on n s ≡ true → list_any (same_node n) numbers ≡ true
+
+-- The losses of a row with these homes, whose mask of the missing fragments is exact now, if it was so before the nodes of a
+-- domain came online or went offline.
+pub record AreFollowing (states : NodeStates) (u : UpgradeNo) (homes : List (Option Seat)) (before after : Losses) : Type 0 where
+  pub code : after.code ≡ before.code
+  pub homeless : after.homeless ≡ before.homeless
+  pub missing : (online : NodeNo → Bool) → AreAlikeOutside states.nodes u online states.online → IsMaskOf before.code (is_missing online) homes before.missing
+      → IsMaskOf before.code (is_missing states.online) homes after.missing
+  pub needs : after.needs ≡ before.needs

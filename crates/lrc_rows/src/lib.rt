@@ -3,9 +3,11 @@
 #![tactic(auto)]
 
 mod node_table;
+mod offline_nodes;
 mod row;
 mod rows;
 
 pub use node_table::NodeTable;
+pub use offline_nodes::OfflineNodes;
 pub use row::Row;
 pub use rows::Rows;

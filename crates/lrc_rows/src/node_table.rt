@@ -285,20 +285,6 @@ impl NodeTable {
         self.stripes[position].first_from(from)
     }
 
-    /// The stripes with a home on a node of the upgrade domain.
-    pub fn stripes_in(&self, domain: UpgradeNo) -> StripeSet
-        ensures { has result ≡ λ s. list_any (λ n. same_upgrade n.upgrade domain && (states_in self.now).on n.number s) (states_in self.now).nodes }
-    {
-        let mut found = StripeSet::new();
-        for position in 0..self.nodes.len() {
-            let node = self.nodes.node_at(position);
-            if node.upgrade == domain {
-                self.join(node.number, &mut found);
-            }
-        }
-        found
-    }
-
     /// Adds the stripes with a home on the node to a set.
     fn join(&self, number: NodeNo, set: &mut StripeSet)
         ensures { has set.new ≡ λ s. has set.old s || (states_in self.now).on number s }

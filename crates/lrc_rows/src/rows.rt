@@ -177,24 +177,31 @@ impl Rows {
         }
     }
 
-    /// Sets whether the fragments on the node are missing, in the stripes that have work.
-    fn renew_missing(&mut self, node_table: &NodeTable, node: NodeNo, are_missing: bool)
+    /// Sets whether the fragments on the node are missing, in the stripes that have work, all of which are in the set.
+    fn renew_missing(
+        &mut self,
+        node_table: &NodeTable,
+        work: &StripeSet,
+        node: NodeNo,
+        are_missing: bool,
+    )
+        requires { (s : AnyStripe) → has work.now s ≡ false → row_has_work (rows_in self.old s) ≡ false }
         ensures { AreRenewed ((states_in node_table.now).on node) (IsMissingOn node are_missing) (rows_in self.old) (rows_in self.new) }
     {
         if let Some(stripes) = node_table.stripes_on(node) {
-            self.renew_missing_in(stripes, node, are_missing);
+            let mut common = StripeSet::new();
+            common.insert_common(stripes, work);
+            self.renew_missing_in(&common, node, are_missing);
         }
     }
 
-    /// Does the same for a set of stripes, with or without a home on the node.
+    /// Does the same for a set of stripes, with or without work and a home on the node.
     fn renew_missing_in(&mut self, stripes: &StripeSet, node: NodeNo, are_missing: bool)
         ensures { AreRenewed (has stripes.now) (IsMissingOn node are_missing) (rows_in self.old) (rows_in self.new) }
     {
         let mut left = stripes.members();
         while let Some(stripe) = left.next_stripe() {
-            if self.needs(stripe).bits != 0 {
-                self.renew_missing_of(stripe, node, are_missing);
-            }
+            self.renew_missing_of(stripe, node, are_missing);
         }
     }
 
@@ -276,6 +283,15 @@ impl Rows {
         ensures some { result ≡ true → (s : AnyStripe) × (row_has_work (rows_in self.now s) ≡ true) }
     {
         !self.work.is_empty()
+    }
+
+    /// The set of the stripes that have work.
+    fn work_set(&self) -> StripeSet
+        ensures { has result ≡ λ s. row_has_work (rows_in self.now s) }
+    {
+        let mut set = StripeSet::new();
+        self.join_work(&mut set);
+        set
     }
 
     /// Adds the stripes that have work to a set.

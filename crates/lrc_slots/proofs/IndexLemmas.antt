@@ -17,7 +17,7 @@ use Rattle.lrc_topology.specs.Nodes.{AreNodes}
 use Rattle.lrc_slots.specs.Slots.{least_free, taken_count}
 use Rattle.lrc_slots.specs.Barred.{Barred}
 use Rattle.lrc_slots.specs.Tables.{Row, Table, Bars, barred, row_at}
-use Rattle.lrc_slots.specs.Rows.{alone, is_open, precedes}
+use Rattle.lrc_slots.specs.Rows.{alone, row_load, is_open, precedes}
 use Rattle.lrc_slots.specs.Indexes.{listed, is_listed, is_in_fault, is_in_upgrade, ordinals_of, AreOrdinals, AreIndexed, Shows, IsJoined, IsLeastOutside}
 use Rattle.lrc_slots.proofs.MarkLemmas.{or-true}
 use Rattle.lrc_slots.proofs.LeastLemmas.{filter-none}
@@ -199,8 +199,8 @@ module _ {rows : Table} {ordinals at : List ℕ} {faults upgrades : List (List B
 
 -- ---- replacing a row by another of the same node
 
-module _ {rows : Table} {numbers : List NodeNo} {ordinals at : List ℕ} {loads faults upgrades : List (List Bool)}
-    (h : AreIndexed rows numbers ordinals at loads faults upgrades) where
+module _ {rows : Table} {numbers : List NodeNo} {ordinals at counts : List ℕ} {loads faults upgrades : List (List Bool)}
+    (h : AreIndexed rows numbers ordinals at counts loads faults upgrades) where
   module _ (i : ℕ) (y : Row) (d : Row) (within : i < length rows) (stays : y.node ≡ (get_or rows i d).node) where
     -- each row keeps its node
     node-kept : (j : ℕ) (e : Row) → j < length rows → (get_or (set rows i y) j e).node ≡ (get_or rows j e).node
@@ -275,13 +275,14 @@ module _ {rows : Table} {numbers : List NodeNo} {ordinals at : List ℕ} {loads 
     }
 
     -- the row is replaced, and its ordinal is listed with the new load
-    pub indexed-set : (new : List (List Bool))
+    pub indexed-set : (anew : List ℕ) (new : List (List Bool)) → anew ≡ map row_load (set rows i y)
         → ((k r : ℕ) → listed new k r ≡ cond (eqb (get_or ordinals i 0) r) (is_listed y k) (listed loads k r))
-        → AreIndexed (set rows i y) numbers ordinals at new faults upgrades
-    indexed-set new moved = record {
+        → AreIndexed (set rows i y) numbers ordinals at anew new faults upgrades
+    indexed-set anew new counted moved = record {
       nodes = rw nodes-kept h.nodes;
       numbered = h.numbered ∙ sym numbers-kept;
       by_ordinal = ordinals-kept;
+      counted = counted;
       by_load = loads-kept new moved;
       by_fault = domains-kept is_in_fault faults (λ r s k e. ap (λ (n : NodeInfo). eqb n.fault.value k) e) h.by_fault;
       by_upgrade = domains-kept is_in_upgrade upgrades (λ r s k e. ap (λ (n : NodeInfo). eqb n.upgrade.value k) e) h.by_upgrade;

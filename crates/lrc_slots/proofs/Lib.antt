@@ -16,3 +16,4 @@ pub mod WalkLemmas
 pub mod WriteLemmas
 pub mod OrdinalWordLemmas
 pub mod OpenSlotLemmas
+pub mod LoadLemmas

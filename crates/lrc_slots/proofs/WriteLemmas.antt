@@ -1,16 +1,21 @@
 -- The row that is read at the position of its node, its ordinal, and what a write to it changes.
-use Rattle.std.proofs.Common.{◌≡◌, ℕ, ◌<◌, Bool, true, false, cond, eqb, List, length, get_or, set, Some, IsSomeAnd, sym, ap, ◌∙◌, subst}
-use Rattle.std.proofs.lemmas.List.{get_or_default}
+use Rattle.std.proofs.Common.{◌≡◌, ℕ, ◌<◌, Bool, true, false, cond, eqb, List, length, get_or, map, set, Some, IsSomeAnd, sym, ap, ap₂, ◌∙◌, subst}
+use Rattle.std.proofs.lemmas.List.{get_or_default, get_or-map, length-map, map-set}
+use Rattle.std.proofs.Math.Seq.{map-set_same}
 use Rattle.lrc_code.specs.declared.numbers.NodeNo.{NodeNo}
 use Rattle.lrc_topology.specs.declared.NodeInfo.{NodeInfo}
 use Rattle.lrc_topology.specs.Nodes.{node_at}
 use Rattle.lrc_slots.specs.declared.listing.Listing.{Listing}
 use Rattle.lrc_slots.specs.Slots.{least_free, least_free_at, with_taken, with_free, with_eligible}
 use Rattle.lrc_slots.specs.Tables.{Row, Table, row_at, is_marked, slots_of}
-use Rattle.lrc_slots.specs.Rows.{position_of, alone}
+use Rattle.lrc_slots.specs.Rows.{position_of, alone, row_load}
 use Rattle.lrc_slots.specs.Indexes.{listed, is_listing_of, is_listed, AreIndexed}
 use Rattle.lrc_slots.proofs.TableLemmas.{row_at-position, row-position_of, least_free-alone, node-alone, taken-alone, taken-within, slots_of-taken, slots_of-free, slots_of-eligible}
 use Rattle.lrc_slots.proofs.IndexLemmas.{indexed-set}
+
+-- the position of a row is within the loads
+pub load-inside : {rows now : Table} {counts : List ℕ} (i : ℕ) → rows ≡ now → counts ≡ map row_load rows → i < length now → i < length counts
+load-inside i view counted within = rw (counted, length-map, view) within
 
 module _ {rows now : Table} (view : rows ≡ now) (n : NodeNo) (i : ℕ) (is_at : position_of now n ≡ Some i)
     (x : Row) (here : x ≡ get_or rows i x) where
@@ -65,8 +70,23 @@ module _ {rows now : Table} (view : rows ≡ now) (n : NodeNo) (i : ℕ) (is_at 
   pub eligible-written : (b : Bool) → slots_of (set rows i (record x { eligible = b })) ≡ with_eligible (slots_of now) n b
   eligible-written b = rw (← view) (slots_of-eligible rows n x i found own b)
 
-  module _ {numbers : List NodeNo} {ordinals at : List ℕ} {loads faults upgrades : List (List Bool)}
-      (h : AreIndexed rows numbers ordinals at loads faults upgrades) (ordinal : ℕ) (read : ordinal ≡ get_or ordinals i ordinal) where
+  module _ {numbers : List NodeNo} {ordinals at counts : List ℕ} {loads faults upgrades : List (List Bool)}
+      (h : AreIndexed rows numbers ordinals at counts loads faults upgrades) where
+    -- the load that was read is that of the row
+    pub load-read : (load : ℕ) → load ≡ get_or counts i load → load ≡ row_load x
+    load-read load read =
+        read ∙ (ap (λ xs. get_or xs i load) h.counted ∙ (get_or-map row_load rows i x load inside ∙ ap row_load (sym here)))
+
+    -- the load of the row is written
+    pub load-written : (y : Row) (load : ℕ) → load ≡ row_load y → set counts i load ≡ map row_load (set rows i y)
+    load-written y load is = ap₂ (λ xs k. set xs i k) h.counted is ∙ sym (map-set row_load rows i y)
+
+    -- the row keeps its load
+    pub load-kept : (y : Row) → row_load y ≡ row_load x → counts ≡ map row_load (set rows i y)
+    load-kept y same = h.counted ∙ sym (map-set_same row_load rows i y x (same ∙ ap row_load here))
+
+  module _ {numbers : List NodeNo} {ordinals at counts : List ℕ} {loads faults upgrades : List (List Bool)}
+      (h : AreIndexed rows numbers ordinals at counts loads faults upgrades) (ordinal : ℕ) (read : ordinal ≡ get_or ordinals i ordinal) where
     -- the ordinal that was read is that of the row
     ordinal-is : ordinal ≡ get_or ordinals i 0
     ordinal-is = read ∙ get_or_default ordinals i ordinal 0 (rw h.by_ordinal.complete inside)
@@ -82,10 +102,11 @@ module _ {rows now : Table} (view : rows ≡ now) (n : NodeNo) (i : ℕ) (is_at 
         ∙ (h.by_load.shown i k x inside ∙ (ap (λ (y : Row). is_listed y k) (sym here) ∙ sym (listing k)))
 
     -- the row is replaced by one of the same node, and its ordinal is listed with the new load
-    pub row-replaced : (y : Row) (new : List (List Bool)) (after : Listing) → y.node ≡ x.node
+    pub row-replaced : (y : Row) (anew : List ℕ) (new : List (List Bool)) (after : Listing) → y.node ≡ x.node
+        → anew ≡ map row_load (set rows i y)
         → ((k r : ℕ) → listed new k r ≡ cond (eqb ordinal r) (is_listing_of after k) (listed loads k r))
         → ((k : ℕ) → is_listing_of after k ≡ is_listed y k)
-        → AreIndexed (set rows i y) numbers ordinals at new faults upgrades
-    row-replaced y new after stays moved listing =
-        indexed-set h i y x inside (stays ∙ ap (λ (z : Row). z.node) here) new
+        → AreIndexed (set rows i y) numbers ordinals at anew new faults upgrades
+    row-replaced y anew new after stays counted moved listing =
+        indexed-set h i y x inside (stays ∙ ap (λ (z : Row). z.node) here) anew new counted
         (λ k r. rw (← ordinal-is, ← listing k) (moved k r))

@@ -1,6 +1,6 @@
 -- Internal: no public clause reaches these definitions.
--- The indexes of a table: rows by node number and by ordinal; ordinals by load, by fault domain and by upgrade
--- domain.
+-- The indexes of a table: rows by node number and by ordinal; the load of each row; ordinals by load, by fault domain
+-- and by upgrade domain.
 use Rattle.std.specs.Prelude.{◌≡◌, ℕ, ◌/◌, ◌<◌, ◌≤◌, ◌⊎◌, Bool, true, false, ◌&&◌, ◌||◌, nat_eq, List, [], length, get_or, map, is_some, Option, Some, None}
 use Rattle.std.specs.List.{All}
 use Rattle.lrc_code.specs.declared.numbers.NodeNo.{NodeNo}
@@ -11,7 +11,7 @@ use Rattle.lrc_slots.specs.Barred.{Barred}
 use Rattle.lrc_slots.specs.declared.listing.Listing.{Listing}
 use Rattle.lrc_slots.specs.declared.load_key.LoadKey.{LoadKey}
 use Rattle.lrc_slots.specs.Tables.{Row, Table}
-use Rattle.lrc_slots.specs.Rows.{alone}
+use Rattle.lrc_slots.specs.Rows.{alone, row_load}
 use Rattle.lrc_slots.specs.BarredNodes.{ordinal_of}
 
 -- the node with this ordinal is listed with this load
@@ -136,10 +136,11 @@ abbrev pub is_in_upgrade : Row → ℕ → Bool
 is_in_upgrade r d = nat_eq r.node.upgrade.value d
 
 -- the indexes of a table belong to its rows
-pub record AreIndexed (rows : Table) (numbers : List NodeNo) (ordinals at : List ℕ) (loads faults upgrades : List (List Bool)) : Type 0 where
+pub record AreIndexed (rows : Table) (numbers : List NodeNo) (ordinals at counts : List ℕ) (loads faults upgrades : List (List Bool)) : Type 0 where
   pub nodes : AreNodes (map (λ r. r.node) rows)
   pub numbered : numbers ≡ map (λ r. r.node.number) rows
   pub by_ordinal : AreOrdinals rows ordinals at
+  pub counted : counts ≡ map row_load rows
   pub by_load : Shows rows ordinals at is_listed loads
   pub by_fault : Shows rows ordinals at is_in_fault faults
   pub by_upgrade : Shows rows ordinals at is_in_upgrade upgrades

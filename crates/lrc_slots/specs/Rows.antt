@@ -1,7 +1,7 @@
 -- Internal: no public clause reaches these definitions.
 -- The rows of a table, and what one row says by itself.
-use Rattle.std.specs.Prelude.{◌≡◌, ℕ, ◌≤◌, Bool, true, false, List, [], ◌∷◌, length, take, get_or, replicate, count_by, Option}
-use Rattle.std.specs.List.{position, range_with_len}
+use Rattle.std.specs.Prelude.{◌≡◌, ℕ, ◌≤◌, Bool, true, false, List, [], ◌∷◌, length, take, replicate, Option}
+use Rattle.std.specs.List.{position}
 use Rattle.lrc_code.specs.declared.numbers.NodeNo.{NodeNo}
 use Rattle.lrc_topology.specs.declared.NodeInfo.{NodeInfo}
 use Rattle.lrc_topology.specs.Seats.{is_lighter}
@@ -18,11 +18,10 @@ position_of rows n = position (is_of n) rows
 abbrev pub row_of : NodeInfo → Bool → List Bool → Row
 row_of node eligible marks = record { node = node; eligible = eligible; taken = take node.slots marks }
 
--- marks of a node's slots, `load` of them taken; marks after the last slot do not count
-pub record AreMarks (node : NodeInfo) (load : ℕ) (marks : List Bool) : Type 0 where
+-- marks of a node's slots; marks after the last slot do not count
+pub record AreMarks (node : NodeInfo) (marks : List Bool) : Type 0 where
   pub few : node.slots ≤ 256
   pub all : length marks ≡ 256
-  pub counted : load ≡ count_by (λ k. get_or (take node.slots marks) k false) (range_with_len 0 node.slots)
 
 -- the row of an eligible node with all slots free
 abbrev pub fresh_row : NodeInfo → Row
@@ -31,6 +30,10 @@ fresh_row node = record { node = node; eligible = true; taken = replicate node.s
 -- one row as a table of its own
 abbrev pub alone : Row → Slots
 alone r = record { nodes = r.node ∷ []; eligible = λ n. r.eligible; taken = λ n k. is_marked r k }
+
+-- the load of a row: the number of its taken slots
+abbrev pub row_load : Row → ℕ
+row_load r = taken_count (alone r) r.node
 
 -- the row's node may take a seat
 abbrev pub is_open : Barred → Row → Bool

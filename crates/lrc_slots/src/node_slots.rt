@@ -1,8 +1,8 @@
-ghost use Rattle.std.specs.Prelude.{◌≡◌, ℕ, ◌≤◌, ◌<◌, length, true, false, IsTrue, IsSome, IfSome, Some, slice_set};
+ghost use Rattle.std.specs.Prelude.{◌≡◌, ℕ, ◌+◌, ◌≤◌, ◌<◌, length, true, false, IsTrue, IsSome, IfSome, Some, slice_set};
 ghost use Rattle.lrc_slots.specs.Indexes.{is_listing_of, is_listed};
-ghost use Rattle.lrc_slots.specs.Slots.{least_free, taken_count};
+ghost use Rattle.lrc_slots.specs.Slots.{least_free};
 ghost use Rattle.lrc_slots.specs.Tables.{is_marked};
-ghost use Rattle.lrc_slots.specs.Rows.{fresh_row, alone};
+ghost use Rattle.lrc_slots.specs.Rows.{fresh_row, alone, row_load};
 
 use crate::listing::Listing;
 use crate::{OpenNode, OpenRow};
@@ -11,12 +11,11 @@ use lrc_code::NodeNo;
 use lrc_topology::NodeInfo;
 use std::marker::Model;
 
-/// A node of the table: whether it is eligible, which of its slots are taken, and how many.
+/// A node of the table: whether it is eligible, and which of its slots are taken. The table has its load.
 #[derive(Drop)]
 pub(crate) struct NodeSlots {
     node: NodeInfo,
     eligible: bool,
-    load: u16,
     marks: BitSet<4>,
 }
 
@@ -28,7 +27,7 @@ impl Model for NodeSlots {
 
     ghost view = { λ s. row_of s.node s.eligible s.marks };
 
-    ghost invariant = { λ s. AreMarks s.node s.load s.marks };
+    ghost invariant = { λ s. AreMarks s.node s.marks };
 }
 
 impl NodeSlots {
@@ -40,7 +39,6 @@ impl NodeSlots {
         NodeSlots {
             node,
             eligible: true,
-            load: 0,
             marks: BitSet::new(),
         }
     }
@@ -121,34 +119,25 @@ impl NodeSlots {
         self.marks.first_absent().unwrap() as u16
     }
 
-    /// Returns the number of taken slots, at most 256.
-    pub(crate) fn load(&self) -> u32
-        ensures value { result ≡ taken_count (alone self.now) self.now.node }
-        ensures few { result ≤ self.now.node.slots }
-    {
-        self.load as u32
-    }
-
-    /// Returns the load, and whether the node takes seats: it is eligible and has a free slot.
+    /// Returns the node's load, and whether the node takes seats: it is eligible and has a free slot.
     #[inline(always)]
-    pub(crate) fn listing(&self) -> Listing
+    pub(crate) fn listing(&self, load: u16) -> Listing
+        requires { load ≡ row_load self.now }
         ensures value { (k : ℕ) → is_listing_of result k ≡ is_listed self.now k }
         ensures few { IsTrue result.is_open → result.load < 256 }
     {
-        Listing {
-            load: self.load,
-            is_open: self.eligible && self.load < self.node.slots,
-        }
+        let is_open = self.eligible && load < self.node.slots;
+        Listing { load, is_open }
     }
 
     /// Returns the same as `listing`, for a node with a free slot; this saves the test for one.
     #[inline(always)]
-    pub(crate) fn listing_with_room(&self) -> Listing
-        requires { IsSome (least_free (alone self.now) self.now.node) }
+    pub(crate) fn listing_with_room(&self, load: u16) -> Listing
+        requires load { load ≡ row_load self.now }
+        requires room { IsSome (least_free (alone self.now) self.now.node) }
         ensures value { (k : ℕ) → is_listing_of result k ≡ is_listed self.now k }
         ensures few { IsTrue result.is_open → result.load < 256 }
     {
-        let load = self.load;
         Listing {
             load,
             is_open: self.eligible,
@@ -161,9 +150,10 @@ impl NodeSlots {
         requires free { is_marked self.old slot ≡ false }
         ensures within { slot < length self.old.taken }
         ensures taken { self.new ≡ record self.old { taken = slice_set self.old.taken slot true } }
+        ensures load { row_load self.new ≡ row_load self.old + 1 }
+        ensures few { row_load self.new ≤ 256 }
     {
         self.marks.insert(slot as usize);
-        self.load += 1;
     }
 
     /// Frees the slot, which must be taken.
@@ -171,10 +161,10 @@ impl NodeSlots {
         requires within { slot < length self.old.taken }
         requires taken { is_marked self.old slot ≡ true }
         ensures freed { self.new ≡ record self.old { taken = slice_set self.old.taken slot false } }
+        ensures load { row_load self.old ≡ row_load self.new + 1 }
         ensures room { IsSome (least_free (alone self.new) self.new.node) }
     {
         self.marks.remove(slot as usize);
-        self.load -= 1;
     }
 
     /// Sets whether the node is eligible for new seats.

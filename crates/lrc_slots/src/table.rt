@@ -30,6 +30,8 @@ pub struct SlotTable {
     ordinals: Vec<u16>,
     /// The position of the row with each ordinal.
     pub(crate) order: Vec<u16>,
+    /// The load of each row: the number of its taken slots.
+    loads: Vec<u16>,
     /// The nodes that take seats, by load: those that are eligible and have a free slot.
     pub(crate) by_load: OrdinalSets,
     /// All nodes, by fault domain.
@@ -46,7 +48,7 @@ impl Model for SlotTable {
 
     ghost view = { λ t. t.rows.items };
 
-    ghost invariant = { λ t. AreIndexed t.rows.items t.index t.ordinals.items t.order.items t.by_load t.by_fault t.by_upgrade };
+    ghost invariant = { λ t. AreIndexed t.rows.items t.index t.ordinals.items t.order.items t.loads.items t.by_load t.by_fault t.by_upgrade };
 }
 
 impl SlotTable {
@@ -92,6 +94,7 @@ impl SlotTable {
             index,
             ordinals,
             order,
+            loads,
             by_load,
             by_fault,
             by_upgrade,
@@ -134,10 +137,13 @@ impl SlotTable {
         ensures { slots_of self.new ≡ with_taken (slots_of self.old) node (Some slot) }
     {
         let position = self.known_position(node);
+        let load = self.loads[position];
         let row = &mut self.rows[position];
-        let lighter = row.listing_with_room();
+        let lighter = row.listing_with_room(load);
         row.take(slot);
-        let heavier = row.listing();
+        let more = load + 1;
+        let heavier = row.listing(more);
+        self.loads[position] = more;
         let ordinal = self.ordinals[position] as usize;
         self.by_load.relist(ordinal, lighter, heavier);
     }
@@ -149,10 +155,13 @@ impl SlotTable {
         ensures { slots_of self.new ≡ with_free (slots_of self.old) node slot }
     {
         let position = self.known_position(node);
+        let load = self.loads[position];
         let row = &mut self.rows[position];
-        let heavier = row.listing();
+        let heavier = row.listing(load);
         row.free(slot);
-        let lighter = row.listing_with_room();
+        let less = load - 1;
+        let lighter = row.listing_with_room(less);
+        self.loads[position] = less;
         let ordinal = self.ordinals[position] as usize;
         self.by_load.relist(ordinal, heavier, lighter);
     }
@@ -163,8 +172,15 @@ impl SlotTable {
         ensures value { result ≡ load_at (slots_of self.now) node }
         ensures few { result ≤ 256 }
     {
-        let row = &self.rows[self.known_position(node)];
-        row.load()
+        self.loads[self.known_position(node)] as u32
+    }
+
+    /// Returns the load of each node, in file order.
+    pub fn loads(&self) -> &[u16]
+        ensures value { result.now ≡ map (λ n. load_at (slots_of self.now) n.number) (slots_of self.now).nodes }
+        ensures few { All (λ load. load ≤ 256) result.now }
+    {
+        self.loads.as_slice()
     }
 
     /// Sets whether a node is eligible for new seats.
@@ -173,10 +189,11 @@ impl SlotTable {
         ensures { slots_of self.new ≡ with_eligible (slots_of self.old) node eligible }
     {
         let position = self.known_position(node);
+        let load = self.loads[position];
         let row = &mut self.rows[position];
-        let before = row.listing();
+        let before = row.listing(load);
         row.set_eligible(eligible);
-        let after = row.listing();
+        let after = row.listing(load);
         let ordinal = self.ordinals[position] as usize;
         self.by_load.relist(ordinal, before, after);
     }

@@ -1,23 +1,15 @@
 -- Which stripes become unrecoverable while an upgrade domain is offline.
-use Rattle.std.specs.Prelude.{ℕ, ◌<◌, Bool, true, false, not, ◌&&◌, ◌||◌, nat_lt, IsTrue, IsFalse, List, count_by}
+use Rattle.std.specs.Prelude.{ℕ, ◌<◌, Bool, true, not, ◌&&◌, ◌||◌, nat_lt, nat_le, IsTrue, IsFalse, count_by}
 use Rattle.std.specs.List.{list_any}
-use Rattle.std.specs.Option.{option_map_or}
 use Rattle.lrc_code.specs.declared.codes.Code.TheVariants.{Wide}
 use Rattle.lrc_code.specs.declared.numbers.StripeNo.{StripeNo}
 use Rattle.lrc_code.specs.declared.numbers.NodeNo.{NodeNo}
 use Rattle.lrc_code.specs.declared.numbers.UpgradeNo.{UpgradeNo}
-use Rattle.lrc_code.specs.Numbers.{same_upgrade}
 use Rattle.lrc_code.specs.Codes.{fragments}
-use Rattle.lrc_code.specs.Losses.{is_recoverable}
-use Rattle.lrc_topology.specs.declared.NodeInfo.{NodeInfo}
-use Rattle.lrc_topology.specs.Nodes.{node_at}
+use Rattle.lrc_code.specs.Losses.{size_of, is_recoverable}
 use Rattle.lrc_terms.specs.Levels.{missing_in}
 use Rattle.lrc_nodes.specs.States.{infos_in, online_in}
 use Rattle.lrc_stripes.specs.Stored.{Stored, with_upgrading_in, is_home_on, has_work}
-
--- the node of this number is in the upgrade domain
-abbrev pub is_in_domain : List NodeInfo → UpgradeNo → NodeNo → Bool
-is_in_domain nodes u n = option_map_or (λ m. same_upgrade m.upgrade u) (node_at nodes n) false
 
 -- the domain is upgrading
 abbrev pub with_upgrade : Stored → UpgradeNo → Stored
@@ -39,9 +31,13 @@ is_stripe_on t n s = list_any (λ f. is_home_on t n (s, f)) (fragments Wide)
 abbrev pub offline_count : Stored → StripeNo → ℕ
 offline_count t s = count_by (λ n. not (online_in t.nodes n.number) && is_stripe_on t n.number s) (infos_in t.nodes)
 
--- its homes are on several nodes that are not online, or one of its fragments needs a lease
+-- several of its fragments are missing
+abbrev pub misses_several : Stored → StripeNo → Bool
+misses_several t s = nat_le 2 (size_of (t.code s) (missing_in (t.code s) (online_in t.nodes) (t.homes s)))
+
+-- its homes are on several nodes that are not online, or one of its fragments needs a lease; and several are missing
 unfoldable pub is_short : Stored → StripeNo → Bool
-is_short t s = nat_lt 1 (offline_count t s) || has_work t s
+is_short t s = (nat_lt 1 (offline_count t s) || has_work t s) && misses_several t s
 
 -- it is short, and lost to the domain
 abbrev pub is_short_lost_to : Stored → UpgradeNo → StripeNo → Bool

@@ -192,6 +192,7 @@ impl Stripes {
         ensures { stored_in self.new ≡ with_upgrading_in (stored_in self.old) domain is_upgrading }
     {
         self.node_table.set_upgrading_in(domain, is_upgrading);
-        self.rows.follow_upgrade(&self.node_table, domain);
+        self.rows
+            .follow_upgrade(&self.node_table, &self.domains, domain, is_upgrading);
     }
 }

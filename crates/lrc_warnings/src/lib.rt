@@ -1,4 +1,4 @@
-//! What the check of a bundle warns of: codes of which no stripe can be placed on its nodes.
+//! What the check of a bundle warns of: codes for which its nodes are in too few domains.
 #![tactic(auto)]
 
 mod domains;

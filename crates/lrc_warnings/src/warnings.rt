@@ -1,4 +1,4 @@
-//! The lines for codes of which no stripe can be placed.
+//! The lines for codes for which the nodes are in too few domains.
 
 ghost use Rattle.std.specs.Prelude.{◌≡◌, ◌++◌, string_bytes, IfOk, OnOk};
 ghost use Rattle.lrc_code.specs.Codes.{code_name};
@@ -9,9 +9,9 @@ use lrc_code::{Code, FRAGMENTS, NARROW_FRAGMENTS};
 use lrc_topology::Topology;
 use std::alloc::{AllocError, Global};
 
-/// Returns a line for each code of which no stripe can be placed on the nodes, the wide one first: how many different fault
-/// and upgrade domains the nodes are in, and how many a stripe needs. A code without a line may lack slots, or nodes that
-/// are fit; that depends on the state.
+/// Returns a line for each code for which the nodes are in too few fault or upgrade domains, the wide one first: how many
+/// different ones they are in, and how many a stripe needs. No stripe of such a code can be placed. A code without a line may
+/// lack slots, or nodes that are fit; that depends on the state.
 ///
 /// # Errors
 ///
@@ -26,7 +26,7 @@ pub fn warnings_of(alloc: Global, topology: &Topology) -> Result<Vec<u8>, AllocE
     Ok(text.into_bytes())
 }
 
-/// Adds the line for a code, if no stripe of it can be placed on nodes with these domains.
+/// Adds the line for a code, if these domains are too few for it.
 fn push_warning(out: &mut String, code: Code, domains: Domains) -> Result<(), AllocError>
     ensures { OnOk result (string_bytes out.new ≡ string_bytes out.old ++ warning code domains) }
 {

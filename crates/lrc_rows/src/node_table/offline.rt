@@ -1,12 +1,13 @@
 //! The stripes with homes on offline nodes.
 
-ghost use Rattle.std.specs.Prelude.{◌≡◌, ◌&&◌, ◌||◌, true, false, get_or, []};
+ghost use Rattle.std.specs.Prelude.{◌≡◌, ◌&&◌, ◌||◌, true, false, get_or, [], IfSome};
 ghost use Rattle.lrc_code.specs.declared.numbers.NodeNo.{NodeNo as AnyNode};
 ghost use Rattle.lrc_code.specs.declared.numbers.StripeNo.{StripeNo as AnyStripe};
 ghost use Rattle.lrc_ranks.specs.Sets.{has};
-ghost use Rattle.lrc_rows.specs.NodeStates.{states_in, is_on_several_offline};
+ghost use Rattle.lrc_rows.specs.NodeStates.{states_in, is_on_several_offline, AreOffline};
 
 use crate::node_table::NodeTable;
+use crate::offline_nodes::OfflineNodes;
 use lrc_code::{NodeNo, StripeNo};
 use lrc_ranks::StripeSet;
 
@@ -74,6 +75,22 @@ impl NodeTable {
         }
     }
 
+    /// The offline nodes, if they are few.
+    pub fn few_offline(&self) -> Option<OfflineNodes>
+        ensures { IfSome result (λ o. AreOffline (states_in self.now) o) }
+    {
+        let mut few = OfflineNodes::new();
+        let mut from = 0;
+        while let Some(position) = self.nodes.first_offline_from(from) {
+            if few.is_full() {
+                return None;
+            }
+            few.push(self.nodes.node_at(position).number);
+            from = position + 1;
+        }
+        Some(few)
+    }
+
     /// Whether at most one node is offline. Then no stripe has homes on several offline nodes.
     pub fn are_few_offline(&self) -> bool
         ensures { result ≡ true → (s : AnyStripe) → is_on_several_offline (states_in self.now) s ≡ false }
@@ -93,10 +110,10 @@ impl NodeTable {
         }
         let mut once = StripeSet::new();
         let mut twice = StripeSet::new();
-        for position in 0..self.nodes.len() {
-            if self.nodes.is_offline_at(position) {
-                self.count(self.nodes.node_at(position).number, &mut once, &mut twice);
-            }
+        let mut from = 0;
+        while let Some(position) = self.nodes.first_offline_from(from) {
+            self.count(self.nodes.node_at(position).number, &mut once, &mut twice);
+            from = position + 1;
         }
         twice
     }

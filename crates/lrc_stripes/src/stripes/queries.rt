@@ -9,7 +9,7 @@ ghost use Rattle.lrc_code.specs.Codes.{has_fragment};
 ghost use Rattle.lrc_code.specs.Losses.{bits_set};
 ghost use Rattle.lrc_nodes.specs.States.{infos_in, state_at, down_in, online_in};
 ghost use Rattle.lrc_stripes.specs.Tables.{stored_in};
-ghost use Rattle.lrc_stripes.specs.Upgrades.{is_lost_to, is_short_lost_to, IsFirstLostTo, IsFirstShortLostTo};
+ghost use Rattle.lrc_stripes.specs.Upgrades.{is_short_lost_to, IsFirstShortLostTo};
 
 use crate::stripes::Stripes;
 use crate::{AtRisk, HomeDomains, HomesOn, Level, Seat, Work, upgrades};
@@ -101,24 +101,15 @@ impl Stripes {
         Some(row.losses_kept(&self.node_table, stripe).level())
     }
 
-    /// The lowest-numbered stripe that is recoverable now, and would not be with the nodes of this upgrade domain offline;
-    /// `None` without such a stripe.
-    pub fn would_lose(&self, domain: UpgradeNo) -> Option<StripeNo>
-        ensures found { IfSome result (IsFirstLostTo (stored_in self.now) domain) }
-        ensures none { IfNone result ((s : StripeNo) → IsFalse (is_lost_to (stored_in self.now) domain s)) }
-    {
-        upgrades::first_lost(&self.node_table, &self.rows, domain)
-    }
-
     /// The lowest-numbered short stripe that is recoverable now, and would not be with the nodes of this upgrade domain
-    /// offline; `None` without such a stripe. A stripe is short if one of its fragments needs a lease, or if it has homes on
-    /// several offline nodes. If the homes of each stripe are in different fault domains, and those of each class in
-    /// different upgrade domains, an upgrade can make no other stripe unrecoverable.
+    /// offline; `None` without such a stripe. A stripe is short if several of its fragments are missing, and it has homes on
+    /// several offline nodes or a fragment that needs a lease. If the homes of each stripe are in different fault domains,
+    /// and those of each class in different upgrade domains, an upgrade can make no other stripe unrecoverable.
     pub fn would_lose_short(&self, domain: UpgradeNo) -> Option<StripeNo>
         ensures found { IfSome result (IsFirstShortLostTo (stored_in self.now) domain) }
         ensures none { IfNone result ((s : StripeNo) → IsFalse (is_short_lost_to (stored_in self.now) domain s)) }
     {
-        upgrades::first_short(&self.node_table, &self.rows, domain)
+        upgrades::first_short(&self.node_table, &self.rows, &self.domains, domain)
     }
 
     /// The fragments with a home on a node, in rising order of stripe and fragment.

@@ -63,5 +63,5 @@ returns c = λ ns are.
           ∙ ap (λ (o : Outage). length (ended_leases st (state_with o st ns) s)) (sym w.in-Lose-outage.is)
     ] in
     outlook-told nodes st ns s c.args.hit_nodes.now are code own hit now bare hits misses unhomed c.requires.single c.args.outage c.joined-missing.result.bits
-    c.match-outage.homeless.bits c.without.result.bits c.match-outage-2.leases_ended c.unwrap.result c.level_of.result first c.joined-missing.ensures bared c.level_of.ensures
+    c.match-outage.homeless.bits c.without.result.bits c.match-outage-2.leases_ended c.unwrap.result c.level_by.result first c.joined-missing.ensures bared c.level_by.ensures
     c.without.ensures ended

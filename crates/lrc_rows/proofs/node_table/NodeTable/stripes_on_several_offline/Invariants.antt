@@ -1,4 +1,4 @@
-use Rattle.std.proofs.Common.{◌≡◌, take, nat_lt}
+use Rattle.std.proofs.Common.{◌≡◌, ◌≤◌, ◌-◌, length, take, nat_lt}
 use Rattle.lrc_ranks.specs.Sets.{has}
 use Rattle.lrc_rows.specs.NodeStates.{states_in}
 use Rattle.lrc_rows.proofs.ShortLemmas.{counted}
@@ -7,6 +7,10 @@ use Rattle.lrc_rows.proofs.node_table.NodeTable.stripes_on_several_offline.Given
 -- the sets have the stripes with homes on one, and on two, of the nodes so far that are not online
 abbrev pub invariant-loop-position : goal.invariant-loop-position
 invariant-loop-position l = record {
-  one : has l.once ≡ λ s. nat_lt 0 (counted (states_in l.self) s (take l.position l.self-inside.nodes));
-  two : has l.twice ≡ λ s. nat_lt 1 (counted (states_in l.self) s (take l.position l.self-inside.nodes));
+  within : l.from ≤ length l.self-inside.nodes;
+  one : has l.once ≡ λ s. nat_lt 0 (counted (states_in l.self) s (take l.from l.self-inside.nodes));
+  two : has l.twice ≡ λ s. nat_lt 1 (counted (states_in l.self) s (take l.from l.self-inside.nodes));
 }
+
+abbrev pub decreases-loop-position : goal.decreases-loop-position
+decreases-loop-position l = length l.self-inside.nodes - l.from

@@ -1,41 +1,16 @@
-use Rattle.std.proofs.Common.{◌<◌, List, if◌then◌else◌, length, take, arith, subst}
-use Rattle.std.specs.List.{list_any}
-use Rattle.std.proofs.lemmas.List.{take_all}
-use Rattle.lrc_topology.specs.declared.NodeInfo.{NodeInfo}
-use Rattle.lrc_nodes.proofs.SetLemmas.{is_of_domain}
-use Rattle.lrc_nodes.proofs.StateLemmas.{no_state}
-use Rattle.lrc_rows.specs.Kept.{IsKept}
+use Rattle.std.proofs.Common.{Bool, sym, ap, ◌∙◌}
+use Rattle.lrc_code.specs.declared.numbers.StripeNo.{StripeNo}
+use Rattle.lrc_ranks.specs.Sets.{has}
 use Rattle.lrc_rows.specs.NodeStates.{states_in}
 use Rattle.lrc_rows.specs.Listed.{rows_in}
-use Rattle.lrc_rows.proofs.RenewLemmas.{same-stripes, same-then, more-follow, all-follow}
+use Rattle.lrc_rows.proofs.UpgradingLemmas.{kept-following, kept-idle}
 use Rattle.lrc_rows.proofs.rows.Rows.follow_upgrade.Goals as goal
 
-pub loop-position-init : goal.loop-position-init
-loop-position-init c = (λ online kept. kept, same-stripes (rows_in c.args.self.now))
+pub returns-then-has_work-clause-kept : goal.returns-then-has_work-clause-kept
+returns-then-has_work-clause-kept c =
+    let e = c.follow_among.ensures in
+    kept-following (states_in c.args.node_table.now) c.args.domain (has c.work_set-work.result) (rows_in c.args.self.now) (rows_in c.follow_among.new.self) c.requires.kept
+    (record { listed = e.listed; others = e.others }) (λ s none. sym (ap (λ (f : StripeNo → Bool). f s) c.work_set-work.ensures) ∙ none)
 
-pub follow_at-requires : goal.follow_at-requires
-follow_at-requires c = omega (arith, c.len-position-end.ensures, c.loop-position-test.true)
-
-pub loop-position-preserved : goal.loop-position-preserved
-loop-position-preserved c =
-    let z = states_in c.args.node_table.now in
-    let i = c.loop-position.position in
-    let d = no_state.node in
-    let before = c.loop-position.invariant in
-    let within : i < length z.nodes = omega (arith, c.len-position-end.ensures, c.loop-position-test.true) in (
-      λ online kept.
-          more-follow z c.args.domain online i d (rows_in c.follow_at.new.self) within
-          (c.follow_at.ensures.kept d (λ m. if list_any (is_of_domain c.args.domain m) (take i z.nodes) then z.online m else online m) (before.0 online kept)),
-      same-then _ _ _ before.1 c.follow_at.ensures.same,
-    )
-
-pub returns-after-loop-position-clause-kept : goal.returns-after-loop-position-clause-kept
-returns-after-loop-position-clause-kept c = λ online outside kept.
-    let z = states_in c.args.node_table.now in
-    let whole = take_all c.loop-position.position z.nodes (omega (arith, c.len-position-end.ensures, c.loop-position-test.false)) in
-    all-follow z c.args.domain online (rows_in c.loop-position.self) outside
-    (subst (λ (nodes : List NodeInfo). IsKept (record z { online = λ m. if list_any (is_of_domain c.args.domain m) nodes then z.online m else online m }) (rows_in c.loop-position.self)) whole
-    (c.loop-position.invariant.0 online kept))
-
-pub returns-after-loop-position-clause-same : goal.returns-after-loop-position-clause-same
-returns-after-loop-position-clause-same c = c.loop-position.invariant.1
+pub returns-else-has_work-clause-kept : goal.returns-else-has_work-clause-kept
+returns-else-has_work-clause-kept c = kept-idle (states_in c.args.node_table.now) c.args.domain (rows_in c.args.self.now) c.requires.kept (c.has_work.ensures.none c.if-has_work.false)

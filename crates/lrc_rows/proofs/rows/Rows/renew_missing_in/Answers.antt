@@ -1,23 +1,13 @@
-use Rattle.std.proofs.Common.{arith, ap, sym, ◌∙◌}
+use Rattle.std.proofs.Common.{arith}
 use Rattle.lrc_ranks.specs.Sets.{has}
 use Rattle.lrc_rows.specs.Listed.{rows_in}
-use Rattle.lrc_rows.specs.Kept.{IsMissingOn, needs_of}
-use Rattle.lrc_rows.proofs.RowsLemmas.{renewed-first, renewed-more, renewed-same, missing_on-idle, renewed-all}
+use Rattle.lrc_rows.specs.Kept.{IsMissingOn}
+use Rattle.lrc_rows.proofs.RowsLemmas.{renewed-first, renewed-more, renewed-all}
 use Rattle.lrc_ranks.proofs.StripeSetLemmas.{has-taken}
 use Rattle.lrc_rows.proofs.rows.Rows.renew_missing_in.Goals as goal
 
 pub loop-stripe-init : goal.loop-stripe-init
 loop-stripe-init c = rw c.members-left.ensures (renewed-first (has c.args.stripes.now) (IsMissingOn c.args.node c.args.are_missing) (rows_in c.args.self.now))
-
-pub loop-stripe-preserved-then-needs-ne0 : goal.loop-stripe-preserved-then-needs-ne0
-loop-stripe-preserved-then-needs-ne0 c =
-    let left = c.loop-stripe.left in
-    let after = c.next_stripe.new.self in
-    let s = c.in-Some.stripe in
-    let there = c.in-Some.ensures.first.has in
-    let e = c.renew_missing_of.ensures in
-    renewed-more (has c.args.stripes.now) (IsMissingOn c.args.node c.args.are_missing) (rows_in c.args.self.now) (has left) (has after) (rows_in c.loop-stripe.self) (rows_in c.renew_missing_of.new.self)
-    s (record { there = there; rest = has-taken left after s there c.in-Some.ensures.left }) c.loop-stripe.invariant (record { listed = e.listed; others = e.others })
 
 pub loop-stripe-preserved : goal.loop-stripe-preserved
 loop-stripe-preserved c =
@@ -25,9 +15,9 @@ loop-stripe-preserved c =
     let after = c.next_stripe.new.self in
     let s = c.in-Some.stripe in
     let there = c.in-Some.ensures.first.has in
-    renewed-same (has c.args.stripes.now) (IsMissingOn c.args.node c.args.are_missing) (rows_in c.args.self.now) (has left) (has after) (rows_in c.loop-stripe.self)
-    s (record { there = there; rest = has-taken left after s there c.in-Some.ensures.left }) c.loop-stripe.invariant
-    (λ r is. missing_on-idle c.args.node c.args.are_missing r (sym (c.needs.ensures.value ∙ ap needs_of is) ∙ c.if-needs-ne0.false))
+    let e = c.renew_missing_of.ensures in
+    renewed-more (has c.args.stripes.now) (IsMissingOn c.args.node c.args.are_missing) (rows_in c.args.self.now) (has left) (has after) (rows_in c.loop-stripe.self) (rows_in c.renew_missing_of.new.self)
+    s (record { there = there; rest = has-taken left after s there c.in-Some.ensures.left }) c.loop-stripe.invariant (record { listed = e.listed; others = e.others })
 
 pub returns : goal.returns
 returns c =

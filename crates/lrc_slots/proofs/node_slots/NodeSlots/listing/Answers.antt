@@ -6,7 +6,8 @@ use Rattle.lrc_slots.proofs.node_slots.NodeSlots.listing.Goals as goal
 pub returns-then-self-clause-value : goal.returns-then-self-clause-value
 returns-then-self-clause-value c =
     let s = c.self.inside in
-    λ k. rw (← c.self.view_is, c.if-self.true) (elim (cases_lt s.load s.node.slots) [
-      | inl room ↦ rw (lt-ltb _ _ room) (listed-room s.node s.load s.marks c.self.invariant room k)
-      | inr full ↦ rw (le-ltb _ _ full) (listed-full s.node s.load s.marks c.self.invariant true full k)
+    let counted = rw (← c.self.view_is) at c.requires in
+    λ k. rw (← c.self.view_is, c.if-self.true) (elim (cases_lt c.args.load s.node.slots) [
+      | inl room ↦ rw (lt-ltb _ _ room) (listed-room s.node c.args.load s.marks c.self.invariant counted room k)
+      | inr full ↦ rw (le-ltb _ _ full) (listed-full s.node c.args.load s.marks c.self.invariant counted true full k)
     ])

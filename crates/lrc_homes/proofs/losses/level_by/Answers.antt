@@ -2,7 +2,7 @@ use Rattle.std.proofs.Common.{◌≡◌, ◌∙◌, sym, refl, true, false, Some
 use Rattle.lrc_code.specs.Losses.{bits_set, margin_of}
 use Rattle.lrc_terms.specs.Levels.{has_some}
 use Rattle.lrc_terms.proofs.LevelLemmas.{margin-none, margin-some, level_by-lost, level_by-held}
-use Rattle.lrc_homes.proofs.losses.level_with.Goals as goal
+use Rattle.lrc_homes.proofs.losses.level_by.Goals as goal
 
 pub returns-then-not-recoverable_in : goal.returns-then-not-recoverable_in
 returns-then-not-recoverable_in c =
