@@ -7,24 +7,25 @@ use Rattle.lrc_rules.specs.Histories.{first_world, state_from, IsLegal, state_af
 use Rattle.lrc_rules.specs.Boards.{Loads, loads_of}
 use Rattle.lrc_book.specs.Books.{BookView, state_of}
 use Rattle.lrc_board.specs.declared.line.Line.{Line}
-use Rattle.lrc_board.specs.declared.changed_levels.ChangedLevels.{ChangedLevels}
+use Rattle.lrc_board.specs.declared.changes.Changes.{Changes}
 use Rattle.lrc_board.specs.Lines.{written}
 use Rattle.lrc_board.specs.Views.{BoardView, IsBoard, published}
-use Rattle.lrc_board.specs.Refreshed.{LevelsStay, AreBoards, IsWhole, refreshed, renewed}
-use Rattle.lrc_board.proofs.RefreshLemmas.{levels-long, loads-whole, twice-refreshed}
+use Rattle.lrc_board.specs.Refreshed.{OthersStay, AreBoards, IsWhole, rows_refreshed, online_refreshed, renewed}
+use Rattle.lrc_board.proofs.HomesLemmas.{rows-long, online-long}
+use Rattle.lrc_board.proofs.RefreshLemmas.{loads-whole, twice-rows, twice-online}
 
 pub board-whole : (book : Book) (start : ℕ) (nodes : List NodeInfo) (x : BoardView) → IsBoard book start nodes x → IsWhole nodes x
 board-whole book start nodes x is =
     let st = state_after nodes (published start x) in (
-      ap length is.shows.0 ∙ levels-long nodes st,
+      (ap length is.shows.0.0 ∙ rows-long st, ap length is.shows.0.1 ∙ online-long nodes st),
       ap (λ (rows : Loads). map (λ row. row.0) rows) is.shows.1 ∙ loads-whole nodes (load st),
     )
 
-pub board-renewed : (book : Book) (start : ℕ) (nodes : List NodeInfo) (last now : ChangedLevels) (shown spare : BoardView)
+pub board-renewed : (book : Book) (start : ℕ) (nodes : List NodeInfo) (last now : Changes) (shown spare : BoardView)
     (b : BookView) (count : ℕ) (lines : List Line)
     → AreBoards book start nodes last shown spare → b.nodes ≡ nodes → b.history ≡ written start lines → b.base ≡ first_world
     → count ≡ length (written start lines) → IsLegal nodes (written start lines)
-    → LevelsStay nodes now (state_after nodes (published start shown)) (state_after nodes (written start lines))
+    → OthersStay nodes now (state_after nodes (published start shown)) (state_after nodes (written start lines))
     → IsBoard book start nodes (renewed spare b last now count lines)
 board-renewed book start nodes last now shown spare b count lines are same written_is began counted legal stay =
     let first = state_after nodes (published start spare) in
@@ -35,8 +36,12 @@ board-renewed book start nodes last now shown spare b count lines are same writt
       named = are.spare_is.named;
       count_is = counted;
       shows = (
-        (λ i. refreshed (same i) (is i) now (refreshed (same i) (is i) last (are.spare_is.shows.0 i)))
-            ∙ twice-refreshed nodes first second third last now are.between stay,
+        (
+          (λ i. rows_refreshed (is i) now.stripes (rows_refreshed (is i) last.stripes (are.spare_is.shows.0.0 i)))
+              ∙ twice-rows nodes first second third last now are.between stay,
+          (λ i. online_refreshed (same i) (is i) now.nodes (online_refreshed (same i) (is i) last.nodes (are.spare_is.shows.0.1 i)))
+              ∙ twice-online nodes first second third last now are.between stay,
+        ),
         λ i. loads_of (same i) (is i),
       );
       legal = legal;

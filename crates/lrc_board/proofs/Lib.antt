@@ -1,5 +1,10 @@
 pub mod BoardLemmas
+pub mod ChangesLemmas
 pub mod EmptyLemmas
+pub mod HomesLemmas
+pub mod LevelListLemmas
+pub mod LoadLemmas
+pub mod ModeLemmas
 pub mod PrefixLemmas
 pub mod RefreshLemmas
 pub mod RiskLemmas

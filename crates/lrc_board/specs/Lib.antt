@@ -1,13 +1,15 @@
 pub use Rattle.lrc_code.specs.Numbers
+pub use Rattle.lrc_code.specs.Codes
+pub use Rattle.lrc_code.specs.Losses
 pub use Rattle.lrc_topology.specs.Nodes
 pub use Rattle.lrc_terms.specs.Levels
 pub use Rattle.lrc_rules.specs.States
 pub use Rattle.lrc_rules.specs.Urgency
 pub use Rattle.lrc_rules.specs.Histories
 pub use Rattle.lrc_rules.specs.Boards
-pub use Rattle.lrc_rules.specs.Touching
 pub use Rattle.lrc_book.specs.Books
 pub mod Lines
+pub mod Looks
 pub mod Refreshed
 pub mod Risks
 pub mod Views

@@ -1,48 +1,122 @@
 -- Internal: no public clause reaches these definitions.
--- The levels that a step may have changed, and the update of a board from a book.
-use Rattle.std.specs.Prelude.{◌≡◌, ℕ, Bool, true, false, IsFalse, List, length, map, unwrap_or}
+-- What a step may have changed of what levels follow from, and the update of a board from a book.
+use Rattle.std.specs.Prelude.{◌≡◌, ℕ, Bool, false, IsFalse, if◌then◌else◌, List, length, map, fold, get_or, slice_set, Option, None}
+use Rattle.std.specs.List.{list_any, range_with_len}
+use Rattle.std.specs.Option.{option_map_or}
 use Rattle.logbook.specs.Pages.{Book}
+use Rattle.lrc_code.specs.declared.codes.Code.TheVariants.{Wide}
 use Rattle.lrc_code.specs.declared.numbers.StripeNo.{StripeNo}
 use Rattle.lrc_code.specs.declared.numbers.NodeNo.{NodeNo}
-use Rattle.lrc_code.specs.Numbers.{same_stripe}
+use Rattle.lrc_code.specs.Numbers.{same_stripe, same_node}
 use Rattle.lrc_topology.specs.declared.NodeInfo.{NodeInfo}
-use Rattle.lrc_rules.specs.States.{State, load_shown, level_shown}
+use Rattle.lrc_topology.specs.Nodes.{nodes_in}
+use Rattle.lrc_terms.specs.Levels.{has_some}
+use Rattle.lrc_terms.specs.Stripes.{stripe_at}
+use Rattle.lrc_homes.specs.Homes.{sits_on}
+use Rattle.lrc_rules.specs.declared.command.Command.{Command}
+use Rattle.lrc_rules.specs.declared.command.Command.TheVariants.{Place, Place6, Drop, Done, Fail, Down, Up, Retire, Join, Upgrade, Upgraded}
+use Rattle.lrc_rules.specs.States.{State, online_at}
 use Rattle.lrc_rules.specs.Histories.{state_after}
+use Rattle.lrc_rules.specs.Boards.{loads_of}
 use Rattle.lrc_book.specs.Books.{BookView, state_of}
-use Rattle.lrc_rules.specs.Boards.{Levels, levels_of, put_level, loads_of}
 use Rattle.lrc_board.specs.declared.line.Line.{Line}
-use Rattle.lrc_board.specs.declared.changed_levels.ChangedLevels.{ChangedLevels}
-use Rattle.lrc_board.specs.declared.changed_levels.ChangedLevels.TheVariants.{Nothing, Stripe, All}
-use Rattle.lrc_board.specs.Views.{BoardView, IsBoard, published}
+use Rattle.lrc_board.specs.declared.stripe_homes.StripeHomes.{StripeHomes}
+use Rattle.lrc_board.specs.declared.changes.ChangedStripes.{ChangedStripes}
+use Rattle.lrc_board.specs.declared.changes.ChangedStripes.TheVariants.{NoStripe, Stripe, AllOn}
+use Rattle.lrc_board.specs.declared.changes.ChangedNodes.{ChangedNodes}
+use Rattle.lrc_board.specs.declared.changes.ChangedNodes.TheVariants.{NoNode, Node, AllIn}
+use Rattle.lrc_board.specs.declared.changes.Changes.{Changes}
+use Rattle.lrc_board.specs.Views.{Rows, BoardView, IsBoard, published, homes_row}
 
--- the level of the stripe may have changed
-abbrev pub is_changed : ChangedLevels → StripeNo → Bool
-is_changed Nothing s = false
-is_changed (Stripe r) s = same_stripe r s
-is_changed All s = true
+-- ---- what a step may have changed
 
--- all other levels are the same in both states
-abbrev pub LevelsStay : List NodeInfo → ChangedLevels → State → State → Type 0
-LevelsStay nodes changed was now = (s : StripeNo) → IsFalse (is_changed changed s) → level_shown nodes was s ≡ level_shown nodes now s
+-- a fragment has its home on the node
+unfoldable pub is_seated_on : NodeNo → StripeHomes → Bool
+is_seated_on n row = has_some Wide (λ f. sits_on n (get_or row.homes f None))
 
--- the levels, where those that may have changed are those of the state
-abbrev pub refreshed : List NodeInfo → State → ChangedLevels → Levels → Levels
-refreshed nodes st Nothing levels = levels
-refreshed nodes st (Stripe r) levels = put_level levels (r, level_shown nodes st r)
-refreshed nodes st All levels = levels_of nodes st
+-- the same of a stripe that may not be there
+abbrev pub is_row_on : NodeNo → Option StripeHomes → Bool
+is_row_on n row = option_map_or (is_seated_on n) row false
 
--- the node of a row, with its load in a state
-abbrev pub row_shown : List NodeInfo → State → NodeNo × ℕ → NodeNo × ℕ
-row_shown nodes st row = (row.0, unwrap_or (load_shown nodes st row.0) 0)
+-- the row of the stripe may have changed, if it was this one
+abbrev pub is_stripe_changed : ChangedStripes → StripeNo → Option StripeHomes → Bool
+is_stripe_changed NoStripe s row = false
+is_stripe_changed (Stripe r) s row = same_stripe r s
+is_stripe_changed (AllOn n) s row = is_row_on n row
 
--- the board has a level for each stripe number and a load for each node
+-- the node may have come online or gone offline
+abbrev pub is_node_changed : List NodeInfo → ChangedNodes → NodeNo → Bool
+is_node_changed nodes NoNode n = false
+is_node_changed nodes (Node m) n = same_node n m
+is_node_changed nodes (AllIn u) n = list_any (λ m. same_node n m.number) (nodes_in nodes u)
+
+-- All other rows, and whether all other nodes are online, are the same in both states.
+pub record OthersStay (nodes : List NodeInfo) (changes : Changes) (was now : State) : Type 0 where
+  pub rows : (s : StripeNo) → IsFalse (is_stripe_changed changes.stripes s (homes_row was s)) → homes_row now s ≡ homes_row was s
+  pub online : (n : NodeNo) → IsFalse (is_node_changed nodes changes.nodes n) → online_at nodes now n ≡ online_at nodes was n
+
+abbrev pub no_changes : Changes
+no_changes = record { stripes = NoStripe; nodes = NoNode }
+
+-- the stripes whose code or homes a command can change
+abbrev pub stripes_changed_by : Command → ChangedStripes
+stripes_changed_by (Place s) = Stripe s
+stripes_changed_by (Place6 s) = Stripe s
+stripes_changed_by (Drop s) = Stripe s
+stripes_changed_by (Done s f e) = Stripe s
+stripes_changed_by (Fail n) = AllOn n
+stripes_changed_by _ = NoStripe
+
+-- the nodes that a command can bring online or take offline
+abbrev pub nodes_changed_by : Command → ChangedNodes
+nodes_changed_by (Fail n) = Node n
+nodes_changed_by (Down n) = Node n
+nodes_changed_by (Up n) = Node n
+nodes_changed_by (Retire n) = Node n
+nodes_changed_by (Join n) = Node n
+nodes_changed_by (Upgrade u) = AllIn u
+nodes_changed_by (Upgraded u) = AllIn u
+nodes_changed_by _ = NoNode
+
+-- ---- updates
+
+-- the row of a stripe; that of the state if it may have changed
+abbrev pub row_anew : State → ChangedStripes → StripeNo → Option StripeHomes → Option StripeHomes
+row_anew st changed s row = if is_stripe_changed changed s row then homes_row st s else row
+
+-- the rows, where those with a home on the node are those of the state
+unfoldable pub rows_anew_on : State → NodeNo → Rows → Rows
+rows_anew_on st n rows = map (λ k. row_anew st (AllOn n) (stripe_at k) (get_or rows k None)) (range_with_len 0 4096)
+
+-- the rows, where those that may have changed are those of the state
+abbrev pub rows_refreshed : State → ChangedStripes → Rows → Rows
+rows_refreshed st NoStripe rows = rows
+rows_refreshed st (Stripe s) rows = slice_set rows s.value (homes_row st s)
+rows_refreshed st (AllOn n) rows = rows_anew_on st n rows
+
+-- whether a node is online; as in the state if it may have changed
+abbrev pub flag_anew : List NodeInfo → State → ChangedNodes → NodeNo → Bool → Bool
+flag_anew nodes st changed n flag = if is_node_changed nodes changed n then online_at nodes st n else flag
+
+-- the flags, where those of the numbers of these nodes are as the test says
+abbrev pub put_flags : (NodeNo → Bool) → List Bool → List NodeInfo → List Bool
+put_flags test flags nodes = fold (λ fs m. slice_set fs m.number.value (test m.number)) flags nodes
+
+-- the nodes that are online, where those that may have changed are as in the state
+abbrev pub online_refreshed : List NodeInfo → State → ChangedNodes → List Bool → List Bool
+online_refreshed nodes st NoNode flags = flags
+online_refreshed nodes st (Node n) flags = slice_set flags n.value (online_at nodes st n)
+online_refreshed nodes st (AllIn u) flags = put_flags (online_at nodes st) flags (nodes_in nodes u)
+
+-- the board has a row for each stripe number, a flag for each node number, and a load for each node
 abbrev pub IsWhole : List NodeInfo → BoardView → Type 0
-IsWhole nodes x = (length x.levels ≡ 4096) × (map (λ row. row.0) x.loads ≡ map (λ m. m.number) nodes)
+IsWhole nodes x = ((length x.rows ≡ 4096) × (length x.online ≡ 65536)) × (map (λ row. row.0) x.loads ≡ map (λ m. m.number) nodes)
 
--- the board after it is updated from a book: the levels that one of two steps may have changed, and all loads
-abbrev pub renewed : BoardView → BookView → ChangedLevels → ChangedLevels → ℕ → List Line → BoardView
+-- the board after it is updated from a book: what one of two steps may have changed, and all loads
+abbrev pub renewed : BoardView → BookView → Changes → Changes → ℕ → List Line → BoardView
 renewed x b last now count lines = record {
-  levels = refreshed b.nodes (state_of b) now (refreshed b.nodes (state_of b) last x.levels);
+  rows = rows_refreshed (state_of b) now.stripes (rows_refreshed (state_of b) last.stripes x.rows);
+  online = online_refreshed b.nodes (state_of b) now.nodes (online_refreshed b.nodes (state_of b) last.nodes x.online);
   loads = loads_of b.nodes (state_of b);
   count = count;
   book = x.book;
@@ -50,7 +124,7 @@ renewed x b last now count lines = record {
 }
 
 -- The two boards of one log: the published one, and the spare one, which lacks the last step.
-pub record AreBoards (book : Book) (start : ℕ) (nodes : List NodeInfo) (last : ChangedLevels) (shown spare : BoardView) : Type 0 where
+pub record AreBoards (book : Book) (start : ℕ) (nodes : List NodeInfo) (last : Changes) (shown spare : BoardView) : Type 0 where
   pub shown_is : IsBoard book start nodes shown
   pub spare_is : IsBoard book start nodes spare
-  pub between : LevelsStay nodes last (state_after nodes (published start spare)) (state_after nodes (published start shown))
+  pub between : OthersStay nodes last (state_after nodes (published start spare)) (state_after nodes (published start shown))

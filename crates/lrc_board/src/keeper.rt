@@ -4,13 +4,13 @@ ghost use Rattle.lrc_code.specs.declared.fault.Fault.TheVariants as fault;
 ghost use Rattle.lrc_book.specs.Books.{FaultFits, world_of};
 ghost use Rattle.lrc_rules.specs.Histories.{IsLegal, first_world, outcome_in};
 
-use crate::changed_levels::ChangedLevels;
+use crate::changes::Changes;
 use crate::log::Log;
 use crate::naming::ViewNaming;
 use crate::publisher::Publisher;
 use crate::receipt::Receipt;
 use crate::viewer::Viewer;
-use lrc_book::{Book, Command};
+use lrc_book::{Book, Command, Entry};
 use lrc_code::{Fault, SessionNo};
 use std::marker::Model;
 use std::sync::Wait;
@@ -80,12 +80,14 @@ impl<N: ViewNaming> Keeper<N> {
         ensures enough { self.old.ready ≡ true → length self.old.history < self.old.limit → IsOk result }
         ensures err { OnErr result (self.new.history ≡ self.old.history) }
     {
-        let entry = self.book.decide(session, command)?;
-        self.book.prepare()?;
-        self.log.add(entry);
-        let reply = self.book.commit(entry);
+        let reply = self.book.call(session, command)?;
+        self.log.add(Entry {
+            session,
+            command,
+            reply,
+        });
         let place = self.book.history().len() as u64;
-        let changed = ChangedLevels::by(command, &reply);
+        let changed = Changes::by(command, &reply);
         self.publisher
             .publish(rt, &self.book, changed, place, &self.log.prefix());
         Ok(Receipt { place, reply })

@@ -1,14 +1,15 @@
-//! The published view of a book: a log of its entries, which only its keeper can append to, and two boards of levels and loads,
-//! which viewers read without a lock.
+//! The published view of a book: a log of its entries, which only its keeper can append to, and two boards, from which viewers read
+//! levels and loads without a lock.
 #![tactic(auto)]
 
 mod board;
-mod changed_levels;
+mod changes;
 mod error;
 mod keeper;
 mod line;
 mod log;
 mod naming;
+mod node_loads;
 mod open;
 mod open_error;
 mod publisher;
@@ -16,6 +17,7 @@ mod question;
 mod receipt;
 mod rule;
 mod steps;
+mod stripe_homes;
 mod viewer;
 
 pub use board::{Board, NoOperation};

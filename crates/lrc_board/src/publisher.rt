@@ -2,9 +2,9 @@ ghost use Rattle.std.specs.Prelude.{◌≡◌, [], length, None, Some};
 ghost use Rattle.lrc_rules.specs.Histories.{IsLegal, first_world, state_after};
 ghost use Rattle.lrc_board.specs.Lines.{written};
 ghost use Rattle.lrc_board.specs.Views.{IsBoard, empty_board};
-ghost use Rattle.lrc_board.specs.Refreshed.{LevelsStay, IsWhole, renewed};
+ghost use Rattle.lrc_board.specs.Refreshed.{OthersStay, IsWhole, renewed};
 
-use crate::changed_levels::ChangedLevels;
+use crate::changes::Changes;
 use crate::line::LogPrefix;
 use crate::naming::ViewNaming;
 use crate::rule::{BoardWriter, Sees};
@@ -12,10 +12,10 @@ use lrc_book::Book;
 use std::marker::Model;
 use std::sync::Wait;
 
-/// The writer's half of the published view, and which levels its spare board still lacks. Its model is the published entries. It is
-/// not `Drop`; `end` ends it.
+/// The writer's half of the published view, and what its spare board still lacks. Its model is the published entries. It is not
+/// `Drop`; `end` ends it.
 pub(crate) struct Publisher<N: ViewNaming> {
-    last: ChangedLevels,
+    last: Changes,
     /// `None` only within a call.
     writer: Option<BoardWriter<N>>,
 }
@@ -51,8 +51,8 @@ fn show<N: ViewNaming, R: Wait>(
     rt: &R,
     writer: BoardWriter<N>,
     book: &Book,
-    last: ChangedLevels,
-    now: ChangedLevels,
+    last: Changes,
+    now: Changes,
     count: u64,
     prefix: &LogPrefix,
 ) -> BoardWriter<N>
@@ -78,7 +78,7 @@ impl<N: ViewNaming> Publisher<N> {
         ensures { result ≡ [] }
     {
         Publisher {
-            last: ChangedLevels::Nothing,
+            last: Changes::none(),
             writer: Some(writer),
         }
     }
@@ -88,7 +88,7 @@ impl<N: ViewNaming> Publisher<N> {
         &mut self,
         rt: &R,
         book: &Book,
-        changed: ChangedLevels,
+        changed: Changes,
         count: u64,
         prefix: &LogPrefix,
     )
@@ -96,7 +96,7 @@ impl<N: ViewNaming> Publisher<N> {
         requires book { (book.now.nodes ≡ N.topology) × (book.now.history ≡ written N.start prefix.now.log) × (book.now.base ≡ first_world) }
         requires count { count ≡ length (written N.start prefix.now.log) }
         requires legal { IsLegal N.topology (written N.start prefix.now.log) }
-        requires changed { LevelsStay N.topology changed (state_after N.topology self.old) (state_after N.topology (written N.start prefix.now.log)) }
+        requires changed { OthersStay N.topology changed (state_after N.topology self.old) (state_after N.topology (written N.start prefix.now.log)) }
         ensures { self.new ≡ written N.start prefix.now.log }
     {
         let writer = self.writer.take().unwrap();

@@ -148,7 +148,8 @@ impl<N: ViewNaming> Viewer<N> {
         self.look(LoadOf { node })
     }
 
-    /// Returns the published stripes at risk with their levels, in the order of repair. It allocates 4,096 rows before it looks.
+    /// Returns the published stripes at risk with their levels, in the order of repair. It allocates 4,096 rows and as
+    /// many levels before it looks.
     ///
     /// # Errors
     ///

@@ -1,6 +1,7 @@
 -- The counters of grants, as entries are added.
 use Rattle.std.proofs.Common.{[], ◌≡◌, ℕ, ◌+◌, ◌<◌, ◌≤◌, cond, Bool, false, List, ◌∷◌, ◌++◌, length, Option, arith, sym, ap, ◌∙◌}
 use Rattle.std.proofs.lemmas.List.Sums.{count_by-le-length, sum_by-append}
+use Rattle.lrc_store.specs.declared.cursor.RepairCursor.{RepairCursor}
 use Rattle.lrc_code.specs.declared.numbers.StripeNo.{StripeNo}
 use Rattle.lrc_code.specs.declared.numbers.Fragment.{Fragment}
 use Rattle.lrc_rules.specs.declared.entry.Entry.{Entry}
@@ -19,7 +20,7 @@ grants-low past s f = count_by-le-length (λ (e : Entry). is_grant s f e.reply) 
 pub grants-both : (past history : List Entry) (s : StripeNo) (f : Fragment) → grants (past ++ history) s f ≡ grants past s f + grants history s f
 grants-both past history s f = sum_by-append (λ (x : Entry). cond (is_grant s f x.reply) 1 0) past history
 
-pub few-grants : (store : Store) (counts : List ℕ) (cursor : Option StripeNo) (limit : ℕ) (base : World) (history : List Entry) → IsKept store counts cursor limit base history
+pub few-grants : (store : Store) (counts : List ℕ) (cursor : RepairCursor) (limit : ℕ) (base : World) (history : List Entry) → IsKept store counts cursor limit base history
     → length history < limit → AreFew counts
 few-grants store counts cursor limit base history kept room = λ s f.
     let low = grants-low history s f in

@@ -1,7 +1,9 @@
 -- The image of a book, and a book that forgets its history into it.
-use Rattle.std.proofs.Common.{[], ◌≡◌, ◌<◌, ◌≤◌, ◌↔◌, ◌+◌, ℕ, inl, inr, List, ◌++◌, length, Option, None, append-nil, sym, ap, subst, ◌∙◌, arith}
+use Rattle.std.proofs.Common.{[], ◌≡◌, ◌<◌, ◌≤◌, ◌↔◌, ◌+◌, ℕ, inl, inr, List, ◌++◌, length, Option, None, append-nil, refl, sym, ap, subst, ◌∙◌, arith}
 use Rattle.std.specs.Prelude.{IsNone}
 use Rattle.std.proofs.lemmas.Bool.{cases_order}
+use Rattle.lrc_store.specs.declared.cursor.RepairCursor.{RepairCursor}
+use Rattle.lrc_store.specs.declared.cursor.RepairCursor.TheVariants.{First}
 use Rattle.lrc_code.specs.declared.numbers.StripeNo.{StripeNo}
 use Rattle.lrc_code.specs.declared.numbers.Fragment.{Fragment}
 use Rattle.lrc_rules.specs.declared.entry.Entry.{Entry}
@@ -70,12 +72,12 @@ module _ (b : BookView) where
 
 -- the store of an image and its counts are what such a book keeps
 pub begun : (k : Store) (counts : List ℕ) (limit : ℕ) (i : Image) → IsOf (image_state i) k → AreGrantsOf (image_world i).past counts → first_cause k.topology i ≡ None
-    → limit ≤ 1000000 → IsKept k counts None limit (image_world i) []
+    → limit ≤ 1000000 → IsKept k counts First limit (image_world i) []
 begun k counts limit i store_is counted taken limited = record {
   based = lawful-base k.topology store_is.known i (cause-lawful k.topology i taken);
   store_is = store_is;
   counted = λ s f. counted s f ∙ ap (λ (past : List Entry). grants past s f) (sym (append-nil (image_world i).past));
-  cursor_is = tt;
+  cursor_is = refl;
   legal = tt;
   few = omega arith;
   limited = limited;
@@ -112,7 +114,7 @@ module _ (nodes : List NodeInfo) (known : AreNodes nodes) (base : World) (h : Li
         (alike-base nodes (record { past = base.past ++ h; state = reached }) i (reached-base few early) imaged-rising imaged-alike imaged-grants)
         (subst (λ (n : ℕ). n ≤ most_entries) (sym is.before_is) entries)
 
-module _ (k : Store) (counts : List ℕ) (cursor : Option StripeNo) (limit : ℕ) (base : World) (h : List Entry) (kept : IsKept k counts cursor limit base h) where
+module _ (k : Store) (counts : List ℕ) (cursor : RepairCursor) (limit : ℕ) (base : World) (h : List Entry) (kept : IsKept k counts cursor limit base h) where
   abbrev st : State
   st = state_from k.topology base h
 
@@ -135,7 +137,7 @@ module _ (k : Store) (counts : List ℕ) (cursor : Option StripeNo) (limit : ℕ
 
   -- what the book keeps is kept after an empty history from the image on
   pub forgotten : (i : Image) → AreAlike st (image_state i) → HaveSameGrants (base.past ++ h) (image_world i).past → first_cause k.topology i ≡ None
-      → IsKept k counts None limit (image_world i) []
+      → IsKept k counts First limit (image_world i) []
   forgotten i alike same taken =
       let based = lawful-base k.topology kept.store_is.known i (cause-lawful k.topology i taken) in
       begun k counts limit i (alike-kept st (image_state i) k alike based.good.seated kept.store_is) (λ s f. kept.counted s f ∙ same s f) taken kept.limited

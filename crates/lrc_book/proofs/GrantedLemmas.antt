@@ -15,6 +15,7 @@ use Rattle.lrc_rules.specs.Changes.{changed_by}
 use Rattle.lrc_rules.specs.Steps.{step}
 use Rattle.lrc_rules.specs.Histories.{World, outcome_in, world_from, state_from}
 use Rattle.lrc_store.specs.Stores.{IsOf, IsGrant, AreGrantsOf}
+use Rattle.lrc_store.specs.declared.cursor.RepairCursor.{RepairCursor}
 use Rattle.lrc_store.specs.Repairing.{IsRepairCursor}
 use Rattle.lrc_book.specs.Kept.{IsKept}
 use Rattle.lrc_rules.proofs.EarnedLemmas.{asked}
@@ -35,7 +36,7 @@ module _ (nodes : List NodeInfo) (past : List Entry) (st : State) (session : Ses
   ]
 
 -- a grant that is made and recorded keeps what is kept, where the new cursor is one of the state with the lease
-pub kept-granted : (k next : Store) (counts counts_next : List ℕ) (cursor cursor_next : Option StripeNo) (limit : ℕ) (base : World) (h : List Entry) (e : Entry) (l : LeaseRecord) (kind : Kind)
+pub kept-granted : (k next : Store) (counts counts_next : List ℕ) (cursor cursor_next : RepairCursor) (limit : ℕ) (base : World) (h : List Entry) (e : Entry) (l : LeaseRecord) (kind : Kind)
     → e.reply ≡ Granted l kind → IsKept k counts cursor limit base h → length h < limit → (outcome_in k.topology (world_from k.topology base h) e.session e.command).0 ≡ e.reply
     → next.topology ≡ k.topology → IsOf (with_lease (state_from k.topology base h) l) next → AreGrantsOf ((base.past ++ h) ++ e ∷ []) counts_next
     → IsRepairCursor k.topology (with_lease (state_from k.topology base h) l) cursor_next → IsKept next counts_next cursor_next limit base (h ++ e ∷ [])

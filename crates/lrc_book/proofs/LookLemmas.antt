@@ -1,5 +1,5 @@
 -- What a book shows besides what commands need, read off what it keeps.
-use Rattle.std.proofs.Common.{◌≡◌, ◌≢◌, ℕ, ◌<◌, ◌≤◌, Bool, true, false, not, ◌&&◌, if◌then◌else◌, List, map, filter, length, get_or, Option, Some, None, is_some, unwrap_or, option_map, refl, sym, ap, ap₂, ◌∙◌, subst, arith, zero-add}
+use Rattle.std.proofs.Common.{[], ◌∷◌, ◌≡◌, ◌≢◌, ℕ, ◌<◌, ◌≤◌, Bool, true, false, not, ◌&&◌, if◌then◌else◌, List, map, filter, length, get_or, Option, Some, None, is_some, unwrap_or, option_map, refl, sym, ap, ap₂, ◌∙◌, subst, arith, zero-add}
 use Rattle.std.specs.List.{AllPairs, Contains, range_with_len, slice_get}
 use Rattle.std.specs.Iterator.{YieldsFirst}
 use Rattle.std.proofs.Math.Nat.{mod-eq_of_lt}
@@ -15,6 +15,8 @@ use Rattle.lrc_code.specs.Codes.{fragments, fragment_count}
 use Rattle.lrc_code.specs.Losses.{bits_set, bits_of}
 use Rattle.lrc_topology.specs.declared.NodeInfo.{NodeInfo}
 use Rattle.lrc_topology.specs.Nodes.{node_at}
+use Rattle.lrc_slots.specs.Slots.{Slots, load_at}
+use Rattle.lrc_slots.specs.Tables.{slots_of}
 use Rattle.lrc_terms.specs.Levels.{homes_of, needs_in, needs_if, has_some, comes_first}
 use Rattle.lrc_terms.specs.Stripes.{StripeFragment, StripeLevel, stripe_at}
 use Rattle.lrc_terms.proofs.LevelLemmas.{has_some-true}
@@ -22,12 +24,12 @@ use Rattle.lrc_terms.proofs.CodeListLemmas.{code-fragments, few-fragments}
 use Rattle.lrc_nodes.specs.States.{down_in}
 use Rattle.lrc_rules.specs.declared.kind.Kind.{Kind}
 use Rattle.lrc_rules.specs.declared.kind.Kind.TheVariants.{Local, Local3, Global, Move}
-use Rattle.lrc_rules.specs.States.{State, opening, has_stripe, code_of, is_down, drains_at, rank}
+use Rattle.lrc_rules.specs.States.{State, load, opening, has_stripe, code_of, is_down, drains_at, rank}
 use Rattle.lrc_rules.specs.Repairs.{needs, kind, is_global, is_safe}
 use Rattle.lrc_rules.specs.Urgency.{has_work, work, is_grantable, is_repaired_before}
-use Rattle.lrc_rules.proofs.NodeLemmas.{member-node_at}
+use Rattle.lrc_rules.proofs.NodeLemmas.{member-node_at, node_at-member}
 use Rattle.lrc_rules.proofs.LookUpLemmas.{stripe-there}
-use Rattle.lrc_rules.proofs.MemberLemmas.{filter-member, member-filter, list_any-member}
+use Rattle.lrc_rules.proofs.MemberLemmas.{filter-member, member-filter, list_any-member, Contains-here, Contains-later}
 use Rattle.lrc_rules.proofs.RisingLemmas.{IsStrict, strict-same, strict-in_order}
 use Rattle.lrc_rules.proofs.UrgencyLemmas.{stripe-order, stripe-ties, fragment-order, fragment-ties, fragments-from}
 use Rattle.lrc_stripes.specs.Stored.{Stored, needs_shown, AreWork, AreHomesOn}
@@ -36,6 +38,7 @@ use Rattle.lrc_store.specs.declared.store.Store.{Store}
 use Rattle.lrc_store.specs.Stores.{IsOf, node_state, stored_of, repair_of}
 use Rattle.lrc_store.proofs.NodeStateLemmas.{down-known, rank-kept, needs-kept, work-kept}
 use Rattle.lrc_store.proofs.RepairLemmas.{needs-set}
+use Rattle.lrc_store.proofs.ShownLemmas.{load-kept}
 use Rattle.lrc_store.proofs.WorkLemmas.{has-work, fragments-strict}
 use Rattle.lrc_book.proofs.StripeLemmas.{every-number}
 use Rattle.lrc_book.specs.Looks.{down_shown, kind_shown, is_granted_now, stripe_numbers, places, is_home_on, homes_on}
@@ -49,6 +52,20 @@ down-shown nodes st n m found =
     ap Some (down-known nodes st n (ap is_some found))
     ∙ ap (λ (k : NodeNo). Some (is_down st k)) (member-node_at nodes n m found).1
     ∙ sym (ap (option_map (λ (x : NodeInfo). is_down st x.number)) found)
+
+module _ (st : State) (k : Store) (kept : IsOf st k) where
+  loads-among : (some : List NodeInfo) → ((m : NodeInfo) → Contains some m → Contains k.topology m)
+      → map (λ m. load_at (slots_of k.table) m.number) some ≡ map (λ m. load st m.number) some
+  loads-among [] among = refl
+  loads-among (m ∷ ms) among =
+      let there = ap is_some (node_at-member k.topology kept.known m (among m (Contains-here m ms))) in
+      ap₂ (λ (load : ℕ) (loads : List ℕ). load ∷ loads) (load-kept st k kept m.number there)
+      (loads-among ms (λ x here. among x (Contains-later m x ms here)))
+
+  -- the loads that the slot table lists are those of the nodes
+  pub loads-kept : map (λ n. load_at (slots_of k.table) n.number) (slots_of k.table).nodes ≡ map (λ m. load st m.number) k.topology
+  loads-kept = ap (map (λ (n : NodeInfo). load_at (slots_of k.table) n.number)) (ap (λ (t : Slots). t.nodes) kept.table_is)
+      ∙ loads-among k.topology (λ m here. here)
 
 -- ---- the repair of a fragment
 

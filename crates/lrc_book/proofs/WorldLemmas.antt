@@ -6,6 +6,7 @@ use Rattle.lrc_topology.specs.declared.NodeInfo.{NodeInfo}
 use Rattle.lrc_rules.specs.declared.entry.Entry.{Entry}
 use Rattle.lrc_rules.specs.States.{State}
 use Rattle.lrc_rules.specs.Histories.{World, outcome_in, world_from, state_from, IsLegalFrom}
+use Rattle.lrc_store.specs.declared.cursor.RepairCursor.{RepairCursor}
 use Rattle.lrc_store.specs.Repairing.{IsRepairCursor}
 use Rattle.lrc_images.specs.Bases.{IsBase}
 use Rattle.lrc_book.specs.Kept.{IsKept}
@@ -26,7 +27,7 @@ state_push nodes base h e is =
     ap (λ (w : World). w.state) (world_from-append nodes base h (e ∷ [])) ∙ step-changed nodes (world_from nodes base h).past (state_from nodes base h) e.session e.command ∙ ap (changed_by (state_from nodes base h) e.command) is
 
 -- a step that is made and recorded keeps what is kept
-pub kept_push : (k next : Store) (counts counts_next : List ℕ) (cursor cursor_next : Option StripeNo) (limit : ℕ) (base : World) (h : List Entry) (e : Entry)
+pub kept_push : (k next : Store) (counts counts_next : List ℕ) (cursor cursor_next : RepairCursor) (limit : ℕ) (base : World) (h : List Entry) (e : Entry)
     → IsKept k counts cursor limit base h → length h < limit → (outcome_in k.topology (world_from k.topology base h) e.session e.command).0 ≡ e.reply
     → next.topology ≡ k.topology → IsOf (changed_by (state_from k.topology base h) e.command e.reply) next → AreGrantsOf ((base.past ++ h) ++ e ∷ []) counts_next
     → IsRepairCursor k.topology (changed_by (state_from k.topology base h) e.command e.reply) cursor_next → IsKept next counts_next cursor_next limit base (h ++ e ∷ [])
@@ -43,7 +44,7 @@ kept_push k next counts counts_next cursor cursor_next limit base h e kept room 
 }
 
 -- and so does more room
-pub kept_room : (k next : Store) (counts : List ℕ) (cursor : Option StripeNo) (limit : ℕ) (base : World) (h same_h : List Entry) → IsKept k counts cursor limit base h
+pub kept_room : (k next : Store) (counts : List ℕ) (cursor : RepairCursor) (limit : ℕ) (base : World) (h same_h : List Entry) → IsKept k counts cursor limit base h
     → same_h ≡ h → next.topology ≡ k.topology → ((st : State) → IsOf st k → IsOf st next) → IsKept next counts cursor limit base same_h
 kept_room k next counts cursor limit base h same_h kept entries same rest =
     subst (λ (xs : List Entry). IsKept next counts cursor limit base xs) (sym entries) (record {
@@ -57,7 +58,7 @@ kept_room k next counts cursor limit base h same_h kept entries same rest =
     })
 
 -- the clock of a book with room can still be moved on
-pub clock-early : (store : Store) (counts : List ℕ) (cursor : Option StripeNo) (limit : ℕ) (base : World) (h : List Entry) → IsKept store counts cursor limit base h
+pub clock-early : (store : Store) (counts : List ℕ) (cursor : RepairCursor) (limit : ℕ) (base : World) (h : List Entry) → IsKept store counts cursor limit base h
     → length h < limit → store.clock.value < 4294967292
 clock-early store counts cursor limit base h kept room =
     omega (arith, kept.store_is.clock_is, worlds-clock store.topology base h, kept.based.ticks, count_by-le-length (λ (e : Entry). is_tick e.command) h, room, kept.limited)

@@ -7,11 +7,12 @@ use Rattle.lrc_store.specs.Stores.{IsOf, AreGrantsOf}
 use Rattle.lrc_rules.specs.declared.entry.Entry.{Entry}
 use Rattle.lrc_rules.specs.Histories.{World, state_from, IsLegalFrom}
 use Rattle.lrc_images.specs.Bases.{IsBase}
+use Rattle.lrc_store.specs.declared.cursor.RepairCursor.{RepairCursor}
 use Rattle.lrc_store.specs.Repairing.{IsRepairCursor}
 
 -- What a book keeps is the store of the state after its history, the counts of the grants up to then, and a repair cursor. It began in a base;
 -- the history is legal and not longer than the limit.
-pub record IsKept (store : Store) (counts : List ℕ) (cursor : Option StripeNo) (limit : ℕ) (base : World) (history : List Entry) : Type 0 where
+pub record IsKept (store : Store) (counts : List ℕ) (cursor : RepairCursor) (limit : ℕ) (base : World) (history : List Entry) : Type 0 where
   pub based : IsBase store.topology base
   pub store_is : IsOf (state_from store.topology base history) store
   pub counted : AreGrantsOf (base.past ++ history) counts

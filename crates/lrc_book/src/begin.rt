@@ -8,6 +8,7 @@ ghost use Rattle.lrc_restore.specs.Refused.{IsRefusedBy};
 use crate::{Book, HISTORY_LIMIT};
 use lrc_images::Image;
 use lrc_restore::{BeginError, restore};
+use lrc_store::RepairCursor;
 use lrc_topology::Topology;
 use std::alloc::Global;
 
@@ -27,7 +28,7 @@ impl Book {
         Ok(Book {
             store,
             grants,
-            repair_cursor: None,
+            repair_cursor: RepairCursor::First,
             history: Vec::new(alloc),
             seats: None,
             limit: HISTORY_LIMIT as usize,

@@ -1,7 +1,7 @@
-ghost use Rattle.std.specs.Prelude.{◌≡◌, ◌↔◌, ◌<◌, ◌≤◌, ◌++◌, ◌∷◌, [], true, IfOk, OnOk, IfErr, OnErr, IsOk, IsErrOf, length};
+ghost use Rattle.std.specs.Prelude.{◌≡◌, ◌↔◌, ◌<◌, ◌≤◌, ◌++◌, ◌∷◌, [], true, map, IfOk, OnOk, IfErr, OnErr, IsOk, IsErrOf, length};
 ghost use Rattle.lrc_code.specs.declared.fault.Fault.TheVariants as fault;
 ghost use Rattle.lrc_topology.specs.Nodes.{AreNodes};
-ghost use Rattle.lrc_rules.specs.States.{code_shown, homes_shown, load_shown, level_shown, missing_shown, lease_of, mode_shown};
+ghost use Rattle.lrc_rules.specs.States.{load, code_shown, homes_shown, load_shown, level_shown, missing_shown, lease_of, mode_shown};
 ghost use Rattle.lrc_rules.specs.Urgency.{risk};
 ghost use Rattle.lrc_rules.specs.Histories.{first_world, outcome_in, IsLegalFrom};
 ghost use Rattle.lrc_rules.specs.Goodness.{IsGood};
@@ -14,7 +14,7 @@ use crate::{Command, Lease, Level, Mode, Record, Reply, Seat};
 use lrc_code::{Code, FRAGMENTS, Fault, Fragment, LossMask, NodeNo, SessionNo, StripeNo};
 use lrc_images::Image;
 use lrc_leases::Grants;
-use lrc_store::Store;
+use lrc_store::{RepairCursor, Store};
 use lrc_topology::Topology;
 use std::alloc::Global;
 use std::marker::Model;
@@ -30,7 +30,7 @@ pub struct Book {
     pub(crate) store: Box<Store>,
     pub(crate) grants: Grants,
     /// A stripe with work before which nothing is grantable, if one is known: the search for the next repair begins there.
-    pub(crate) repair_cursor: Option<StripeNo>,
+    pub(crate) repair_cursor: RepairCursor,
     pub(crate) history: Vec<Record>,
     /// Room for the seats of the next stripe that is placed.
     pub(crate) seats: Option<Box<[Seat; FRAGMENTS]>>,
@@ -86,7 +86,7 @@ impl Book {
         Ok(Book {
             store: Box::new(alloc, store)?,
             grants: Grants::new(alloc)?,
-            repair_cursor: None,
+            repair_cursor: RepairCursor::First,
             history: Vec::new(alloc),
             seats: None,
             limit: limit as usize,
@@ -157,6 +157,13 @@ impl Book {
             Some(_) => Some(store.table.load(node)),
             None => None,
         }
+    }
+
+    /// The number of seats on each node, in file order.
+    pub fn loads(&self) -> &[u16]
+        ensures { result.now ≡ map (λ m. load (state_of self.now) m.number) self.now.nodes }
+    {
+        self.store().table.loads()
     }
 
     /// How far a stripe is from loss; `None` where there is no such stripe.

@@ -25,7 +25,7 @@ use lrc_images::{
     GrantRow, Image, LeaseRow, MOST_ENTRIES, MOST_GRANTS, MOST_TICKS, NodeRow, StripeRow,
 };
 use lrc_leases::Grants;
-use lrc_store::Store;
+use lrc_store::{RepairCursor, Store};
 use std::alloc::Global;
 
 /// The number of stripe numbers.
@@ -75,7 +75,7 @@ impl Book {
         let image = self.image(alloc)?;
         let base = Box::new(alloc, image)?;
         self.base = Some(base);
-        self.repair_cursor = None;
+        self.repair_cursor = RepairCursor::First;
         self.history.clear();
         Ok(())
     }

@@ -1,20 +1,23 @@
 //! A step of the book. It is decided over the store, then room is made for it, and then it is committed, which can't fail.
 
-ghost use Rattle.std.specs.Prelude.{◌≡◌, ◌<◌, ◌+◌, ◌++◌, ◌∷◌, [], ℕ, true, IfOk, IfErr, OnOk, IsOk, length, vec_len, vec_capacity};
+ghost use Rattle.std.specs.Prelude.{◌≡◌, ◌<◌, ◌+◌, ◌++◌, ◌∷◌, [], ℕ, List, true, IfOk, IfErr, OnOk, IsOk, length, vec_len, vec_capacity};
 ghost use Rattle.lrc_code.specs.declared.fault.Fault.TheVariants as fault;
+ghost use Rattle.lrc_topology.specs.declared.NodeInfo.{NodeInfo};
+ghost use Rattle.lrc_rules.specs.declared.entry.Entry.{Entry as AnyEntry};
 ghost use Rattle.lrc_rules.specs.States.{State};
 ghost use Rattle.lrc_rules.specs.Steps.{step};
 ghost use Rattle.lrc_rules.specs.Histories.{world_from, state_from, outcome_in};
 ghost use Rattle.lrc_book.specs.Books.{IsStep, world_of, base_world};
 ghost use Rattle.lrc_store.specs.Stores.{IsOf, AreFew, has_room};
+ghost use Rattle.lrc_store.specs.Repairing.{IsRepairCursor};
 ghost use Rattle.lrc_book.specs.Kept.{IsKept};
 
 use crate::{Book, Command, Entry, Record, Reply, Seat};
 use lrc_answers::{Answer, NO_SEAT};
-use lrc_code::{FRAGMENTS, Fault, SessionNo, StripeNo};
+use lrc_code::{FRAGMENTS, Fault, SessionNo};
 use lrc_images::Image;
 use lrc_leases::Grants;
-use lrc_store::{Store, count_grant};
+use lrc_store::{RepairCursor, Store, count_grant};
 use std::alloc::{AllocError, Global};
 
 impl Book {
@@ -115,7 +118,7 @@ impl Book {
 fn enter(
     store: &mut Store,
     grants: &mut Grants,
-    cursor: &mut Option<StripeNo>,
+    cursor: &mut RepairCursor,
     base: &Option<Box<Image>>,
     history: &mut Vec<Record>,
     made: Record,
@@ -131,8 +134,10 @@ fn enter(
     ensures kept { (limit : ℕ) → IsKept store.old grants.old cursor.old limit (base_world base.now) history.old.items → length history.old.items < limit
         → IsKept store.new grants.new cursor.new limit (base_world base.now) history.new.items }
 {
-    make(store, grants, cursor, base, history, &made);
+    // The change is made from the record in its place, so that no copy of it is built before.
     history.push_reserved(made);
+    let (last, past) = history.as_slice().split_last().unwrap();
+    make(store, grants, cursor, base, past, last);
 }
 
 /// Makes the change of the entry `made`, which comes next after the entries `past`. There must be room for it.
@@ -140,7 +145,7 @@ fn enter(
 fn make(
     store: &mut Store,
     grants: &mut Grants,
-    cursor: &mut Option<StripeNo>,
+    cursor: &mut RepairCursor,
     base: &Option<Box<Image>>,
     past: &[Record],
     made: &Record,
@@ -157,6 +162,7 @@ fn make(
         → IsKept store.new grants.new cursor.new limit (base_world base.now) (past.now ++ made.now ∷ []) }
 {
     if !made.answer.changes() {
+        *cursor = cursor_after(*cursor, made);
         return;
     }
     count_grant(grants, &made.answer);
@@ -164,14 +170,28 @@ fn make(
         Answer::Granted(lease, _) => {
             store.grant(lease);
             if let Command::Next = made.command {
-                *cursor = Some(lease.stripe);
+                *cursor = RepairCursor::At(lease.stripe);
             }
         }
         _ => {
             store.make_change(&made.command, &made.answer);
-            *cursor = None;
+            *cursor = RepairCursor::First;
         }
     }
+}
+
+/// The repair cursor after an entry that changes no state: at the end, if `next` was idle.
+#[inline(always)] // as `make`
+fn cursor_after(cursor: RepairCursor, made: &Record) -> RepairCursor
+    ensures { (nodes : List NodeInfo) (past : List AnyEntry) (st : State) → (step nodes past st made.now.session made.now.command).0 ≡ made.now.reply
+        → IsRepairCursor nodes st cursor → IsRepairCursor nodes st result }
+{
+    if let Command::Next = made.command {
+        if let Answer::Idle = made.answer {
+            return RepairCursor::End;
+        }
+    }
+    cursor
 }
 
 /// Room for the seats of a stripe.

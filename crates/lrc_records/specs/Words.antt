@@ -9,7 +9,8 @@ word_in (row ∷ rows) n = if nat_eq n row.0 then Some row.1 else word_in rows n
 abbrev pub status_name : ℕ → Option (List ℕ)
 status_name =
     word_in ((0, codes "done") ∷ (1, codes "closed handle") ∷ (2, codes "open handle") ∷ (3, codes "out of range") ∷ (4, codes "unknown") ∷ (5, codes "full")
-    ∷ (6, codes "out of memory") ∷ (7, codes "short buffer") ∷ (8, codes "different reply") ∷ (9, codes "moved") ∷ (10, codes "forgotten") ∷ (16, codes "not TOML") ∷ (17, codes "no nodes")
+    ∷ (6, codes "out of memory") ∷ (7, codes "short buffer") ∷ (8, codes "different reply") ∷ (9, codes "moved") ∷ (10, codes "forgotten") ∷ (11, codes "not determined")
+    ∷ (12, codes "miscounted buffers") ∷ (13, codes "uneven buffers") ∷ (16, codes "not TOML") ∷ (17, codes "no nodes")
     ∷ (18, codes "bad field") ∷ (19, codes "node out of range") ∷ (20, codes "double node") ∷ (21, codes "too many nodes") ∷ (22, codes "bad line") ∷ (23, codes "invalid image") ∷ [])
 
 -- by the kind of the reply; those of the two codes have one word

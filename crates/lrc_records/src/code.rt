@@ -1,4 +1,5 @@
-ghost use Rattle.std.specs.Prelude.{◌≡◌};
+ghost use Rattle.std.specs.Prelude.{◌≡◌, ◌≢◌, None, IfSome};
+ghost use Rattle.lrc_code.specs.declared.codes.Code.{Code as AnyCode};
 ghost use Rattle.lrc_records.specs.Shown.{encoded_code};
 
 use lrc_code::Code;
@@ -10,5 +11,17 @@ pub fn code_number(code: Code) -> u8
     match code {
         Code::Wide => 1,
         Code::Narrow => 2,
+    }
+}
+
+/// The code of a number, or `None` if no code has it.
+pub fn code_of(number: u8) -> Option<Code>
+    ensures some { IfSome result (λ code. encoded_code code ≡ number) }
+    ensures none { (result ≡ None) → (code : AnyCode) → encoded_code code ≢ number }
+{
+    match number {
+        1 => Some(Code::Wide),
+        2 => Some(Code::Narrow),
+        _ => None,
     }
 }

@@ -7,6 +7,7 @@ use Rattle.lrc_rules.specs.Steps.{step as step_of}
 use Rattle.lrc_rules.specs.Histories.{world_from, state_from}
 use Rattle.lrc_rules.specs.Changes.{changed_by}
 use Rattle.lrc_store.specs.Stores.{IsOf}
+use Rattle.lrc_store.specs.declared.cursor.RepairCursor.TheVariants.{First, At}
 use Rattle.lrc_store.specs.Repairing.{IsRepairCursor}
 use Rattle.lrc_book.specs.Books.{base_world}
 use Rattle.lrc_answers.specs.Answers.{told}
@@ -57,10 +58,10 @@ returns-then-not-changes-clause-kept g c = λ limit was below.
     sym (step-changed nodes w.past w.state e.session e.command ∙ ap (changed_by w.state e.command) step)
     ∙ c.changes.ensures.same c.if-not-changes.true nodes w.past w.state e.session e.command step in
     rw (← c.made.view_is)
-    (kept_push c.args.store.now c.args.store.now c.args.grants.now c.args.grants.now c.args.cursor.now c.args.cursor.now limit (base_world c.args.base.now) past e was below step
+    (kept_push c.args.store.now c.args.store.now c.args.grants.now c.args.grants.now c.args.cursor.now c.cursor_after.result limit (base_world c.args.base.now) past e was below step
     refl (subst (λ (st : State). IsOf st c.args.store.now) (sym same) was.store_is)
     (counted-none ((base_world c.args.base.now).past ++ past) e c.args.grants.now was.counted (c.changes.ensures.none c.if-not-changes.true))
-    (subst (λ (st : State). IsRepairCursor nodes st c.args.cursor.now) (sym same) was.cursor_is))
+    (subst (λ (st : State). IsRepairCursor nodes st c.cursor_after.result) (sym same) (c.cursor_after.ensures nodes w.past w.state c.requires.1.1.1.1.0 was.cursor_is)))
 
 pub returns-in-Next-clause-kept : goal.returns-in-Next-clause-kept
 returns-in-Next-clause-kept g c = λ limit was below.
@@ -75,7 +76,7 @@ returns-in-Next-clause-kept g c = λ limit was below.
     let most = granted-urgent nodes w.past w.state made.session l k
     (subst (λ (command : Command). (step_of nodes w.past w.state made.session command).0 ≡ Granted l k) c.in-Next.is (step ∙ ap told c.in-Granted.is)) in
     rw (← c.made.view_is)
-    (kept-granted c.args.store.now c.grant.new.self c.args.grants.now c.count_grant.new.counts c.args.cursor.now (Some l.stripe) limit (base_world c.args.base.now) past e l k
+    (kept-granted c.args.store.now c.grant.new.self c.args.grants.now c.count_grant.new.counts c.args.cursor.now (At l.stripe) limit (base_world c.args.base.now) past e l k
     (ap told c.in-Granted.is) was below step c.grant.ensures.nodes
     (subst (λ (st : State). IsOf (with_lease st l) c.grant.new.self) (sym c.requires.0) c.grant.ensures.kept) (c.count_grant.ensures ((base_world c.args.base.now).past ++ past) e refl was.counted)
     (cursor-granted nodes w.state l (l.stripe, l.fragment) most))
@@ -108,7 +109,7 @@ returns-in_default-clause-kept g c = λ limit was below.
     subst (λ (st : State). (step_of nodes w.past st e.session e.command).0 ≡ e.reply → IsOf (step_of nodes w.past st e.session e.command).1 c.make_change.new.self) (sym c.requires.0)
     (c.make_change.ensures.kept w.past e.session) step in
     rw (← c.made.view_is)
-    (kept_push c.args.store.now c.make_change.new.self c.args.grants.now c.count_grant.new.counts c.args.cursor.now None limit (base_world c.args.base.now) past e was below step
+    (kept_push c.args.store.now c.make_change.new.self c.args.grants.now c.count_grant.new.counts c.args.cursor.now First limit (base_world c.args.base.now) past e was below step
     c.make_change.ensures.nodes
     (subst (λ (st : State). IsOf st c.make_change.new.self) (step-changed nodes w.past w.state e.session e.command ∙ ap (changed_by w.state e.command) step) now)
-    (c.count_grant.ensures ((base_world c.args.base.now).past ++ past) e refl was.counted) tt)
+    (c.count_grant.ensures ((base_world c.args.base.now).past ++ past) e refl was.counted) refl)

@@ -1,4 +1,5 @@
 use Rattle.std.proofs.Common.{[], ◌≡◌, ◌++◌, None, sym, ap, subst, ◌∙◌}
+use Rattle.lrc_store.specs.declared.cursor.RepairCursor.TheVariants.{First}
 use Rattle.lrc_rules.specs.Leases.{grants}
 use Rattle.lrc_rules.specs.Alike.{AreAlike}
 use Rattle.lrc_rules.specs.Futures.{HaveSameGrants}
@@ -18,7 +19,7 @@ invariant_of-self c =
     let same = subst (λ (v : BookView). HaveSameGrants (v.base.past ++ v.history) (image_world image).past) (sym c.self.view_is) c.in_ok-image.ensures.counts in
     let taken = subst (λ (v : BookView). first_cause v.nodes image ≡ None) (sym c.self.view_is) c.in_ok-image.ensures.taken in
     rw c.clear.ensures.items
-    (subst (λ (i : Image). IsKept b.store.value b.grants None b.limit (image_world i) []) (sym c.in_ok-base.ensures.ok)
+    (subst (λ (i : Image). IsKept b.store.value b.grants First b.limit (image_world i) []) (sym c.in_ok-base.ensures.ok)
     (forgotten b.store.value b.grants b.repair_cursor b.limit (base_world b.base) b.history.items c.self.invariant image alike same taken))
 
 pub returns-clause-counts : goal.returns-clause-counts
